@@ -1,0 +1,11 @@
+//! The code of NAVTEX: words of seven elements, the signals that they stand for, the characters that
+//! the signals print, and the spelling of a text.
+#![tactic(auto)]
+
+mod signals;
+mod table;
+mod words;
+
+pub use signals::{Comb, Signal};
+pub use table::{signal_of, word_of};
+pub use words::{ELEMENTS, Word, check_bits};
