@@ -1,2 +1,3 @@
 mod TableLemmas
 mod WordLemmas
+pub mod ReadingLemmas
