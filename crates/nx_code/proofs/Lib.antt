@@ -1,4 +1,4 @@
 mod CharacterLemmas
-mod TableLemmas
-mod WordLemmas
 pub mod ReadingLemmas
+mod TableLemmas
+pub mod WordLemmas

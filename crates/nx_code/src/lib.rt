@@ -2,6 +2,7 @@
 //! the signals print, and the spelling of a text.
 #![tactic(auto)]
 
+pub mod laws;
 mod printing;
 mod shifts;
 mod signals;
