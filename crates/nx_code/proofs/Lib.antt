@@ -1,4 +1,5 @@
-mod CharacterLemmas
+pub mod CharacterLemmas
 pub mod ReadingLemmas
+pub mod SpellingLemmas
 mod TableLemmas
 pub mod WordLemmas
