@@ -19,10 +19,10 @@ use Rattle.nx_code.proofs.CharacterLemmas.{if_some, if_some-at, place_for, place
 
 -- ---- what prints is no shift, no carriage return and no blank
 
-abbrev not_mark : ℕ → Bool
+abbrev pub not_mark : ℕ → Bool
 not_mark n = not (eqb n 27) && (not (eqb n 29) && (not (eqb n 30) && not (eqb n 32)))
 
-abbrev not_silent : ℕ → Bool
+abbrev pub not_silent : ℕ → Bool
 not_silent n = not (eqb n 4) && (not (eqb n 6) && (not (eqb n 7) && (not (eqb n 8) && not (eqb n 10))))
 
 printed-mark : (shift : Shift) (n : ℕ) → n < 33 → if_some (λ c. not_mark n) (printed n shift) ≡ true
@@ -35,13 +35,13 @@ unfolding printed table
 printed-silent n h = agree_below_at (λ k. if_some (λ c. not_silent k) (printed k Figures)) (λ _. true) 33 n refl h
 
 -- what is no mark, and in figures not silent, prints
-printed-some : (shift : Shift) (n : ℕ) → n < 33 → (eqb n 0 || (is_some (printed n Letters) || not (not_mark n))) && (eqb n 0 || (is_some (printed n Figures) || (not (not_mark n) || not (not_silent n)))) ≡ true
+pub printed-some : (shift : Shift) (n : ℕ) → n < 33 → (eqb n 0 || (is_some (printed n Letters) || not (not_mark n))) && (eqb n 0 || (is_some (printed n Figures) || (not (not_mark n) || not (not_silent n)))) ≡ true
 unfolding printed table
 printed-some shift n h =
     agree_below_at (λ k. (eqb k 0 || (is_some (printed k Letters) || not (not_mark k))) && (eqb k 0 || (is_some (printed k Figures) || (not (not_mark k) || not (not_silent k))))) (λ _. true) 33 n refl h
 
 -- only the line feed prints a newline
-printed-newline : (shift : Shift) (n : ℕ) → n < 33 → if_some (λ c. not (eqb c 10) || eqb n 28) (printed n shift) ≡ true
+pub printed-newline : (shift : Shift) (n : ℕ) → n < 33 → if_some (λ c. not (eqb c 10) || eqb n 28) (printed n shift) ≡ true
 unfolding printed table
 printed-newline Letters n h = agree_below_at (λ k. if_some (λ c. not (eqb c 10) || eqb k 28) (printed k Letters)) (λ _. true) 33 n refl h
 printed-newline Figures n h = agree_below_at (λ k. if_some (λ c. not (eqb c 10) || eqb k 28) (printed k Figures)) (λ _. true) 33 n refl h
@@ -116,7 +116,7 @@ chosen true b s h = let e : Letters ≡ s = cc in inl (refl, sym e)
 chosen false true s h = let e : Figures ≡ s = cc in inr (refl, sym e)
 chosen false false s h = cc
 
-number_of_shift-set : (k : ℕ) (s : Shift) → shift_set (combination k) ≡ Some s → k ≡ number_of_shift s
+pub number_of_shift-set : (k : ℕ) (s : Shift) → shift_set (combination k) ≡ Some s → k ≡ number_of_shift s
 number_of_shift-set k s h =
     elim (chosen (eqb k 29) (eqb k 30) s h) [
       | inl e ↦ eqb-true k 29 e.0 ∙ sym (ap number_of_shift e.1)
@@ -127,17 +127,17 @@ not_number_of_shift : (s : Shift) → number_of_shift s ≢ 28
 not_number_of_shift Letters e = omega arith
 not_number_of_shift Figures e = omega arith
 
-shift_set-number : (s : Shift) → shift_set (combination (number_of_shift s)) ≡ Some s
+pub shift_set-number : (s : Shift) → shift_set (combination (number_of_shift s)) ≡ Some s
 shift_set-number Letters = refl
 shift_set-number Figures = refl
 
 -- neither a carriage return nor a shift prints
-printed-return : (shift : Shift) → printed 27 shift ≡ None
+pub printed-return : (shift : Shift) → printed 27 shift ≡ None
 unfolding printed table
 printed-return Letters = refl
 printed-return Figures = refl
 
-printed-shift : (s shift : Shift) → printed (number_of_shift s) shift ≡ None
+pub printed-shift : (s shift : Shift) → printed (number_of_shift s) shift ≡ None
 unfolding printed table
 printed-shift Letters Letters = refl
 printed-shift Letters Figures = refl
@@ -149,7 +149,7 @@ unfolding printed
 printed-line_feed shift = refl
 
 -- a character that is no newline is of no line feed
-not_line_feed : (shift : Shift) (n c : ℕ) → printed n shift ≡ Some c → c ≢ 10 → n ≢ 28
+pub not_line_feed : (shift : Shift) (n c : ℕ) → printed n shift ≡ Some c → c ≢ 10 → n ≢ 28
 not_line_feed shift n c h no_newline e =
     let f : Some c ≡ Some 10 = sym h ∙ ap (λ k. printed k shift) e ∙ printed-line_feed shift in
     let g : c ≡ 10 = cc in
