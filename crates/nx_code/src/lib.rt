@@ -16,3 +16,6 @@ pub use signals::{Comb, Signal};
 pub use spelling::{SpellFault, spell};
 pub use table::{signal_of, word_of};
 pub use words::{ELEMENTS, Word, check_bits};
+
+#[cfg(test)]
+mod tests;
