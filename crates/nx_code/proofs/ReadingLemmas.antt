@@ -1,7 +1,7 @@
 -- The text of more positions.
 use Rattle.std.proofs.Common.{◌≡◌, ℕ, List, [], ◌∷◌, ◌++◌, Option, Some, None, inl, inr, refl, sym, ap, ◌∙◌, append_assoc, append-nil, unwrap_or}
 use Rattle.std.specs.Option.{option_to_list}
-use Rattle.nx_code.specs.Reading.{Reception, IsLastSet, IsShiftAfter, SetsNone, prints, shift_set, shift_after, shift_after_all, text}
+use Rattle.nx_code.specs.Reading.{Reception, IsShiftAfter, SetsNone, prints, shift_set, shift_after, shift_after_all, text}
 use Rattle.nx_code.specs.declared.shifts.Shift.{Shift}
 use Rattle.nx_code.specs.declared.shifts.Shift.TheVariants.{Letters}
 

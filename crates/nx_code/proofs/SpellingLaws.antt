@@ -1,16 +1,16 @@
 -- A text of characters of the code has one spelling, and no other text has any.
-use Rattle.std.proofs.Common.{◌≡◌, ◌≢◌, ◌⊎◌, ℕ, ◌+◌, ◌-◌, ◌<◌, ◌≤◌, zero, suc, Bool, true, false, cond, ◌&&◌, ◌||◌, not, eqb, List, [], ◌∷◌, ◌++◌, length, map, Option, Some, None, inl, inr, refl, sym, ap, ◌∙◌, subst, arith}
-use Rattle.std.specs.Option.{is_some, IsSome, option_to_list}
+use Rattle.std.proofs.Common.{◌≡◌, ◌≢◌, ℕ, ◌+◌, ◌-◌, ◌<◌, ◌≤◌, zero, suc, Bool, true, false, cond, ◌||◌, not, eqb, List, [], ◌∷◌, ◌++◌, length, map, Option, Some, None, inl, inr, refl, sym, ap, ◌∙◌, subst, arith}
+use Rattle.std.specs.Option.{is_some, option_to_list}
 use Rattle.std.specs.List.{list_all}
-use Rattle.std.proofs.lemmas.Bool.{and_parts, and_from, or_cases, eqb-true, eq-eqb, ne_eqb, cases_eq, false≢true, both_ways, cond-true, cond-false, not-true}
+use Rattle.std.proofs.lemmas.Bool.{and_parts, and_from, or_cases, eqb-true, eq-eqb, ne_eqb, cases_eq, false≢true, both_ways, not-true}
 use Rattle.nx_code.specs.Reading.{combination, printed, shift_set, shift_after, shift_after_all, text}
 use Rattle.nx_code.specs.Shifts.{other}
 use Rattle.nx_code.specs.Characters.{is_in_code}
 use Rattle.nx_code.specs.Spelling.{first, IsOnlyIn, Fits, EachFits, Spells}
 use Rattle.nx_code.specs.declared.shifts.Shift.{Shift}
 use Rattle.nx_code.specs.declared.shifts.Shift.TheVariants.{Letters, Figures}
-use Rattle.nx_code.proofs.CharacterLemmas.{Prints, in_code-prints, in_code-printed, if_some-at, place_for, place_for-Some, place_for-printed, both-printed}
-use Rattle.nx_code.proofs.SpellingLemmas.{Spells-nil, Spells-append, spells_newline, spells_here, spells_there, differs-other, other-differs, other-other, number_of_shift, shift_set-number, after_shift, after_character, printed-line_feed, printed-return, printed-shift, printed-newline, printed-some, not_mark, not_silent}
+use Rattle.nx_code.proofs.CharacterLemmas.{in_code-prints, in_code-printed, if_some-at, place_for, place_for-Some, place_for-printed, both-printed}
+use Rattle.nx_code.proofs.SpellingLemmas.{Spells-nil, Spells-append, spells_newline, spells_here, spells_there, differs-other, other-other, number_of_shift, shift_set-number, after_shift, printed-line_feed, printed-return, printed-shift, printed-newline, printed-some, not_mark, not_silent}
 
 -- ---- each text of the code has a spelling
 

@@ -1,12 +1,12 @@
 -- Spellings of more characters, and that a text has one spelling.
-use Rattle.std.proofs.Common.{◌≡◌, ◌≢◌, ◌⊎◌, ℕ, ◌+◌, ◌-◌, ◌<◌, ◌≤◌, zero, suc, Bool, true, false, cond, ◌&&◌, ◌||◌, not, eqb, List, [], ◌∷◌, ◌++◌, length, get_or, map, take, Option, Some, None, inl, inr, refl, sym, ap, ◌∙◌, subst, arith, append_assoc, append-nil}
+use Rattle.std.proofs.Common.{◌≡◌, ◌≢◌, ◌⊎◌, ℕ, ◌<◌, ◌≤◌, Bool, true, false, cond, ◌&&◌, ◌||◌, not, eqb, List, [], ◌∷◌, ◌++◌, length, get_or, map, Some, None, inl, inr, refl, sym, ap, ◌∙◌, subst, arith}
 use Rattle.std.specs.List.{position, position_or_len}
 use Rattle.std.proofs.lemmas.List.Sums.{fails_before_first}
 use Rattle.std.proofs.lemmas.List.{map-append}
-use Rattle.std.specs.Option.{is_some, IsSome, option_to_list}
-use Rattle.std.proofs.lemmas.Bool.{agree_below_at, and_parts, or_cases, eqb-true, ne_eqb, cases_eq, false≢true, not-true, both_ways, eq-eqb, cases_lt, lt-ltb, cond-true}
+use Rattle.std.specs.Option.{is_some}
+use Rattle.std.proofs.lemmas.Bool.{agree_below_at, and_parts, eqb-true, ne_eqb, false≢true, not-true, both_ways, eq-eqb, cases_lt, lt-ltb, cond-true}
 use Rattle.nx_code.specs.Table.{table}
-use Rattle.nx_code.specs.Reading.{Reception, combination, printed, prints, shift_set, shift_after, shift_after_all, text}
+use Rattle.nx_code.specs.Reading.{combination, printed, shift_set, shift_after, shift_after_all, text}
 use Rattle.nx_code.specs.Characters.{holds_in}
 use Rattle.nx_code.specs.declared.shifts.Case.{Case}
 use Rattle.nx_code.specs.declared.shifts.Case.TheVariants as cases
@@ -15,7 +15,7 @@ use Rattle.nx_code.specs.Spelling.{first, IsOnlyIn, Fits, EachFits, Spells}
 use Rattle.nx_code.specs.declared.shifts.Shift.{Shift}
 use Rattle.nx_code.specs.declared.shifts.Shift.TheVariants.{Letters, Figures}
 use Rattle.nx_code.proofs.ReadingLemmas.{text-append, shift_after_all-append}
-use Rattle.nx_code.proofs.CharacterLemmas.{if_some, if_some-at, place_for, place_for-Some, place_for-printed, both-printed}
+use Rattle.nx_code.proofs.CharacterLemmas.{if_some, if_some-at}
 
 -- ---- what prints is no shift, no carriage return and no blank
 

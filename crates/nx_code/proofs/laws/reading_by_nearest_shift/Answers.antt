@@ -1,4 +1,4 @@
-use Rattle.std.proofs.Common.{refl, sym, ◌∙◌}
+use Rattle.std.proofs.Common.{sym, ◌∙◌}
 use Rattle.nx_code.proofs.ReadingLemmas.{text-nearest, nearest, shift_after_all-nearest}
 use Rattle.nx_code.proofs.laws.reading_by_nearest_shift.Goals as goal
 
