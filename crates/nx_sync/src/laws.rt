@@ -1,0 +1,2 @@
+//! Laws.
+ghost use Rattle.nx_sync.proofs.OneBit.{hunts_on};
