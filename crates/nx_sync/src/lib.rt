@@ -5,6 +5,8 @@
 pub mod laws;
 mod step;
 mod synchroniser;
+#[cfg(test)]
+mod tests;
 
 pub use step::{Change, Role, Step};
 pub use synchroniser::Synchroniser;
