@@ -5,3 +5,6 @@ pub mod Patterns
 pub mod Marks
 pub mod Unique
 pub mod Pushes
+pub mod Going
+pub mod Releases
+pub mod Phasing

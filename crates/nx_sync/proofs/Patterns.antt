@@ -55,7 +55,7 @@ which w = elim (cases_Bool (pointwise beq w before_dx)) [
 ]
 
 -- the word before the bit count t is the last of the 28 bits before it
-last_word-window : (bits : List Bool) (t : ℕ) → 28 ≤ t → t ≤ length bits → take 7 (drop (t - 7) bits) ≡ drop 21 (last_28 bits t)
+pub last_word-window : (bits : List Bool) (t : ℕ) → 28 ≤ t → t ≤ length bits → take 7 (drop (t - 7) bits) ≡ drop 21 (last_28 bits t)
 last_word-window bits t low h =
     let e : t - 28 + 21 ≡ t - 7 = omega arith in
     ap (λ i. take 7 (drop i bits)) (sym e) ∙ (ap (take 7) (sym (drop-drop 21 (t - 28) bits)) ∙ sym (drop-take 21 7 (drop (t - 28) bits)))

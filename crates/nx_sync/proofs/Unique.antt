@@ -2,12 +2,7 @@
 use Rattle.std.proofs.Common.{◌≡◌, ℕ, suc, ◌+◌, ◌-◌, ◌*◌, ◌<◌, ◌≤◌, ◌⊎◌, List, [], ◌∷◌, ◌++◌, length, Bool, refl, sym, ap, subst, ◌∙◌, inl, inr, arith, Some, None}
 use Rattle.std.proofs.lemmas.Bool.{cases_order}
 use Rattle.nx_sync.specs.declared.step.Change.{Change}
-use Rattle.nx_sync.specs.Locks.{IsPattern, Finds, FindsNone, release, IsReleased, Holds, Lock, IsPast, Past, Now, hunting, locked, IsHunting, IsLocked, IsNow}
-
--- the later list has the older one as its oldest part
-pub data Extends : List Lock → List Lock → Type 0 where
-  same : {ls : List Lock} → Extends ls ls
-  newer : {l : Lock} {ls ks : List Lock} → Extends ls ks → Extends (l ∷ ls) ks
+use Rattle.nx_sync.specs.Locks.{IsPattern, Finds, FindsNone, release, IsReleased, Holds, Lock, IsPast, Past, Now, hunting, locked, IsHunting, IsLocked, IsNow, Extends, same, newer}
 
 pub Extends-nil : (ls : List Lock) → Extends ls []
 Extends-nil [] = same
@@ -20,8 +15,8 @@ pub data NextLock (ls ks : List Lock) : Type 0 where
 
 pub next_lock : {ls ks : List Lock} → Extends ls ks → NextLock ls ks
 next_lock same = equal refl
-next_lock (newer {l} {ls} {ks} e) = elim (next_lock e) [
-  | equal h ↦ next l (subst (λ xs. Extends (l ∷ ls) (l ∷ xs)) h same)
+next_lock (newer {lock} {locks} {older} e) = elim (next_lock e) [
+  | equal h ↦ next lock (subst (λ xs. Extends (lock ∷ locks) (lock ∷ xs)) h same)
   | next x f ↦ next x (newer f)
 ]
 
@@ -73,7 +68,7 @@ module _ (bits : List Bool) where
   pub Past-part : {ls ks : List Lock} → Extends ls ks → (p : ℕ) → Past bits ls p → (q : ℕ) × Past bits ks q
   unfolding Past
   Past-part same p past = (p, past)
-  Past-part (newer {l} {ls} {ks} e) p past = Past-part e l.from past.1
+  Past-part (newer {lock} {locks} {older} e) p past = Past-part e lock.from past.1
 
   -- of two lists of past locks one has the other as its oldest part
   pub compare : (ls ks : List Lock) (p q : ℕ) → Past bits ls p → Past bits ks q → Extends ls ks ⊎ Extends ks ls

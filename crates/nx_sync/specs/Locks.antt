@@ -101,6 +101,30 @@ unfoldable pub change_at : Role → (ℕ → ℕ) → ℕ → Option Change
 change_at first words k =
     if ends_at first words k then Some Ended else (if nat_le 40 (wrong_until words k) then Some LostLock else None)
 
+-- The lock ends with word k, a DX word, at least word 2: it and the DX word before it are both phasing signal 1. The
+-- word that releases it is then word k + 3.
+pub record IsEnd (first : Role) (words : ℕ → ℕ) (k : ℕ) : Type 0 where
+  pub two : 2 ≤ k
+  pub dx : role_of first k ≡ Dx
+  pub this : words k ≡ phasing_1
+  pub before : words (k - 2) ≡ phasing_1
+
+-- Ended at word w: after word k + 3 for the least k with which the lock ends.
+pub record EndedAt (first : Role) (words : ℕ → ℕ) (w : ℕ) : Type 0 where
+  pub late : 3 ≤ w
+  pub here : IsEnd first words (w - 3)
+  pub least : (k : ℕ) → k < w - 3 → IsEnd first words k → ⊥
+
+-- Lost at word w: the least word with at least 40 wrong ones among the words max(0, w - 63) to w.
+pub record LostAt (words : ℕ → ℕ) (w : ℕ) : Type 0 where
+  pub here : 40 ≤ wrong_until words w
+  pub least : (k : ℕ) → k < w → wrong_until words k < 40
+
+-- Word w is the earlier of the word of Ended and the word of Lost; where they are the same, it is Ended.
+pub data IsEarlier (first : Role) (words : ℕ → ℕ) (w : ℕ) : Change → Type 0 where
+  ended : EndedAt first words w → ((v : ℕ) → LostAt words v → w ≤ v) → IsEarlier first words w Ended
+  lost : LostAt words w → ((v : ℕ) → EndedAt first words v → w < v) → IsEarlier first words w LostLock
+
 -- which change word k would bring to the lock at t
 abbrev pub release : List Bool → ℕ → ℕ → Option Change
 release bits t k = change_at (first_role bits t) (word_at bits t) k
@@ -153,6 +177,48 @@ pub record IsLocked (bits : List Bool) (locks : List Lock) (p t : ℕ) : Type 0 
 abbrev pub IsNow : List Bool → List Lock → Now → Type 0
 IsNow bits locks (hunting p) = IsHunting bits locks p
 IsNow bits locks (locked p t) = IsLocked bits locks p t
+
+-- what stands after these bits, together
+pub record Standing (bits : List Bool) : Type 0 where
+  pub locks : List Lock
+  pub now : Now
+  pub stands : IsNow bits locks now
+
+-- these past locks are the older ones with, perhaps, newer ones before them in the list
+pub data Extends : List Lock → List Lock → Type 0 where
+  same : {locks : List Lock} → Extends locks locks
+  newer : {lock : Lock} {locks older : List Lock} → Extends locks older → Extends (lock ∷ locks) older
+
+-- How what stood goes on when more bits come: hunting, a lock that is found, a lock that still stands; or else the
+-- search, or the lock, that stood led to the next past lock.
+pub data GoesOn : List Lock → Now → List Lock → Now → Type 0 where
+  hunts_on : {locks : List Lock} {p : ℕ} → GoesOn locks (hunting p) locks (hunting p)
+  finds_one : {locks : List Lock} {p t : ℕ} → GoesOn locks (hunting p) locks (locked p t)
+  stands_still : {locks : List Lock} {p t : ℕ} → GoesOn locks (locked p t) locks (locked p t)
+  found_and_past : {older locks : List Lock} {p : ℕ} {now : Now} (lock : Lock) → lock.from ≡ p → Extends locks (lock ∷ older) → GoesOn older (hunting p) locks now
+  is_past : {older locks : List Lock} {p t : ℕ} {now : Now} (lock : Lock) → lock.from ≡ p → lock.at ≡ t → Extends locks (lock ∷ older) → GoesOn older (locked p t) locks now
+
+-- what stood after these bits, where these locks and this state stand after more
+pub record Stood (bits : List Bool) (locks : List Lock) (now : Now) : Type 0 where
+  pub older : List Lock
+  pub was : Now
+  pub stood : IsNow bits older was
+  pub goes_on : GoesOn older was locks now
+
+-- P2 P1, so many times: phasing as it is sent (M.476, M.625)
+unfoldable pub phasing : ℕ → List Bool
+phasing zero = []
+phasing (suc n) = elements_of_2 ++ elements_of_1 ++ phasing n
+
+-- A lock stands after these bits, they end with a word of the lock, and the next one is a DX word.
+pub record LockedBeforeDx (bits : List Bool) : Type 0 where
+  pub locks : List Lock
+  pub p : ℕ
+  pub t : ℕ
+  pub stands : IsLocked bits locks p t
+  pub whole : ℕ
+  pub limit : length bits ≡ t + 7 * whole
+  pub dx : role_of (first_role bits t) whole ≡ Dx
 
 -- a lock stands after these bits
 pub record LockStands (bits : List Bool) : Type 0 where
