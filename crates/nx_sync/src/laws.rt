@@ -65,3 +65,10 @@ pub fn a_good_lock_is_kept()
     }
 {
 }
+
+/// 48 phasing words as sent (P2 P1, 24 times) leave a lock on their word limits and with P2 as DX, whatever bits came
+/// before them.
+pub fn phasing_locks()
+    ensures { (earlier : List Bool) → LockedBeforeDx (earlier ++ phasing 24) }
+{
+}
