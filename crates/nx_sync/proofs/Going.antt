@@ -3,7 +3,7 @@ use Rattle.std.proofs.Common.{◌≡◌, ℕ, zero, suc, ◌+◌, ◌-◌, ◌*�
 use Rattle.std.proofs.lemmas.List.{length_push}
 use Rattle.std.proofs.lemmas.Bool.{cases_lt, cases_eq}
 use Rattle.nx_sync.specs.declared.step.Change.{Change}
-use Rattle.nx_sync.specs.Locks.{before_dx, before_rx, last_28, IsPattern, FindsNone, release, Lock, Past, Now, hunting, locked, IsHunting, IsLocked, IsNow, Standing, Extends, same, newer, GoesOn, hunts_on, finds_one, stands_still, found_and_past, is_past, Stood}
+use Rattle.nx_sync.specs.Locks.{before_dx, before_rx, last_28, IsPattern, FindsNone, release, Lock, Past, Now, hunting, locked, IsHunting, IsLocked, IsNow, Standing, Extends, same, newer, GoesOn, hunts_on, finds_one, stands_still, found_and_past, is_past, Stood, OneMore, still_hunts, now_finds, still_stands, now_over}
 use Rattle.nx_sync.proofs.Patterns.{IsNeither, Which, dx, rx, neither, which}
 use Rattle.nx_sync.proofs.Unique.{locks-unique, now-unique}
 use Rattle.nx_sync.proofs.OneBit as one
@@ -31,48 +31,68 @@ word_or_not n t =
       | inr ne ↦ inr (λ j h. ne (let d : (n - t) / 7 ≡ j + 1 = omega arith in omega arith))
     ]
 
--- what stood goes on to what stands after these bits
-record From (locks : List Lock) (now : Now) (bits : List Bool) : Type 0 where
-  pub standing : Standing bits
-  pub goes : GoesOn locks now standing.locks standing.now
+-- what one bit more makes of what stood
+record Onward (bits : List Bool) (locks : List Lock) (now : Now) : Type 0 where
+  standing : Standing bits
+  one : OneMore bits locks now standing.locks standing.now
 
-from_locked : (bits : List Bool) (b : Bool) (locks : List Lock) (p t k : ℕ) → IsLocked bits locks p t → length bits + 1 ≡ t + 7 * (k + 1) → (how : Option Change) → release (bits ++ b ∷ []) t k ≡ how → From locks (locked p t) (bits ++ b ∷ [])
-from_locked bits b locks p t k now e (Some how) h = record {
-  standing = record {
-    locks = record { from = p; at = t; last = k; how = how } ∷ locks;
-    now = hunting (length bits + 1);
-    stands = one.ends_now bits b locks p t k how now e h;
-  };
-  goes = is_past (record { from = p; at = t; last = k; how = how }) refl refl same;
-}
-from_locked bits b locks p t k now e None h = record {
+onward_locked : (bits : List Bool) (b : Bool) (locks : List Lock) (p t k : ℕ) → IsLocked bits locks p t → length bits + 1 ≡ t + 7 * (k + 1) → (how : Option Change) → release (bits ++ b ∷ []) t k ≡ how → Onward (bits ++ b ∷ []) locks (locked p t)
+onward_locked bits b locks p t k now e (Some how) h =
+    let lock : Lock = record { from = p; at = t; last = k; how = how } in
+    record {
+      standing = record {
+        locks = lock ∷ locks;
+        now = hunting (length bits + 1);
+        stands = one.ends_now bits b locks p t k how now e h;
+      };
+      one = now_over lock refl refl (length_push bits b);
+    }
+onward_locked bits b locks p t k now e None h = record {
   standing = record {
     locks = locks;
     now = locked p t;
     stands = one.stands_on bits b locks p t now (λ j f. let d : j ≡ k = omega arith in ap (release (bits ++ b ∷ []) t) d ∙ h);
   };
-  goes = stands_still;
+  one = still_stands;
 }
 
--- one more bit
-one_more : (bits : List Bool) (b : Bool) (locks : List Lock) (now : Now) → IsNow bits locks now → From locks now (bits ++ b ∷ [])
-one_more bits b locks (hunting p) n = elim (pattern_or_not (bits ++ b ∷ []) (length bits + 1)) [
+onward : (bits : List Bool) (b : Bool) (locks : List Lock) (now : Now) → IsNow bits locks now → Onward (bits ++ b ∷ []) locks now
+onward bits b locks (hunting p) n = elim (pattern_or_not (bits ++ b ∷ []) (length bits + 1)) [
   | inl here ↦ record {
       standing = record { locks = locks; now = locked p (length bits + 1); stands = one.locks_now bits b locks p n here };
-      goes = finds_one;
+      one = now_finds (length_push bits b);
     }
   | inr absent ↦ record {
       standing = record { locks = locks; now = hunting p; stands = one.hunts_on bits b locks p n absent };
-      goes = hunts_on;
+      one = still_hunts;
     }
 ]
-one_more bits b locks (locked p t) n = elim (word_or_not (length bits + 1) t) [
-  | inl w ↦ from_locked bits b locks p t w.0 n w.1 (release (bits ++ b ∷ []) t w.0) refl
+onward bits b locks (locked p t) n = elim (word_or_not (length bits + 1) t) [
+  | inl w ↦ onward_locked bits b locks p t w.0 n w.1 (release (bits ++ b ∷ []) t w.0) refl
   | inr none ↦ record {
       standing = record { locks = locks; now = locked p t; stands = one.stands_on bits b locks p t n (λ k e. absurd (none k e)) };
-      goes = stands_still;
+      one = still_stands;
     }
 ]
+
+-- what one more bit makes of what stood, for whatever stands after it
+pub one_more : (bits : List Bool) (b : Bool) (ls ks : List Lock) (m n : Now) → IsNow bits ls m → IsNow (bits ++ b ∷ []) ks n → OneMore (bits ++ b ∷ []) ls m ks n
+one_more bits b ls ks m n a c =
+    let way = onward bits b ls m a in
+    let locks = locks-unique (bits ++ b ∷ []) way.standing.locks ks way.standing.now n way.standing.stands c in
+    let now = now-unique (bits ++ b ∷ []) way.standing.locks ks way.standing.now n way.standing.stands c in
+    subst₂ (λ ks n. OneMore (bits ++ b ∷ []) ls m ks n) locks now way.one
+
+pub GoesOn-one : (bits : List Bool) {ls ks : List Lock} {m n : Now} → OneMore bits ls m ks n → GoesOn ls m ks n
+GoesOn-one bits still_hunts = hunts_on
+GoesOn-one bits (now_finds e) = finds_one
+GoesOn-one bits still_stands = stands_still
+GoesOn-one bits (now_over lock e f g) = is_past lock e f same
+
+-- what stood goes on to what stands after these bits
+record From (locks : List Lock) (now : Now) (bits : List Bool) : Type 0 where
+  standing : Standing bits
+  goes : GoesOn locks now standing.locks standing.now
 
 pub Extends-trans : {a b c : List Lock} → Extends a b → Extends b c → Extends a c
 Extends-trans same f = f
@@ -106,11 +126,11 @@ more_bits [] bits locks now n =
       goes = GoesOn-same locks now;
     })
 more_bits (b ∷ more) bits locks now n =
-    let step = one_more bits b locks now n in
+    let step = onward bits b locks now n in
     let rest = more_bits more (bits ++ b ∷ []) step.standing.locks step.standing.now step.standing.stands in
     subst (From locks now) (append_assoc bits (b ∷ []) more) (record {
       standing = rest.standing;
-      goes = GoesOn-trans step.goes rest.goes;
+      goes = GoesOn-trans (GoesOn-one (bits ++ b ∷ []) step.one) rest.goes;
     })
 
 -- hunting stands at the beginning

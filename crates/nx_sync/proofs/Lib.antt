@@ -8,3 +8,4 @@ pub mod Pushes
 pub mod Going
 pub mod Releases
 pub mod Phasing
+pub mod Counts

@@ -54,7 +54,7 @@ three_turns Rx = refl
 role_of-three : (first : Role) (k : ℕ) → 3 ≤ k → is_dx (role_of first (k - 3)) ≡ not (is_dx (role_of first k))
 unfolding role_of
 role_of-three first k h = let e : k ≡ suc (suc (suc (k - 3))) = omega arith in
-  three_turns (role_of first (k - 3)) ∙ ap (λ j. not (is_dx (role_of first j))) (sym e)
+    three_turns (role_of first (k - 3)) ∙ ap (λ j. not (is_dx (role_of first j))) (sym e)
 
 and_no : (b : Bool) → (b && false) ≡ false
 and_no true = refl

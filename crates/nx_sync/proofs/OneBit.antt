@@ -11,12 +11,14 @@ module _ (bits : List Bool) (b : Bool) where
   pub hunts_on : (locks : List Lock) (p : ℕ) → IsHunting bits locks p → (IsPattern (bits ++ b ∷ []) (length bits + 1) → ⊥) → IsHunting (bits ++ b ∷ []) locks p
   hunts_on locks p now absent = record {
     past = Past-more bits (b ∷ []) locks p now.past;
-    none = record { never = λ s after here. elim (cases_lt (length bits) s) [
-      | inl new ↦
-          let e : s ≡ length bits + 1 = omega (arith, here.heard, length_push bits b) in
-          absent (subst (λ x. IsPattern (bits ++ b ∷ []) x) e here)
-      | inr old ↦ now.none.never s after (IsPattern-less bits (b ∷ []) s old here)
-    ] };
+    none = record {
+      never = λ s after here. elim (cases_lt (length bits) s) [
+        | inl new ↦
+            let e : s ≡ length bits + 1 = omega (arith, here.heard, length_push bits b) in
+            absent (subst (λ x. IsPattern (bits ++ b ∷ []) x) e here)
+        | inr old ↦ now.none.never s after (IsPattern-less bits (b ∷ []) s old here)
+      ];
+    };
   }
 
   -- a lock is found where a pattern ends with the bit
@@ -36,10 +38,12 @@ module _ (bits : List Bool) (b : Bool) where
   stands_on locks p t now quiet = record {
     past = Past-more bits (b ∷ []) locks p now.past;
     found = Finds-more bits (b ∷ []) p t now.found;
-    holds = record { never = λ k h. elim (cases_lt (length bits) (t + 7 * (k + 1))) [
-      | inl new ↦ quiet k (omega (arith, length_push bits b))
-      | inr old ↦ release-more bits (b ∷ []) t k now.found.here.enough old ∙ now.holds.never k old
-    ] };
+    holds = record {
+      never = λ k h. elim (cases_lt (length bits) (t + 7 * (k + 1))) [
+        | inl new ↦ quiet k (omega (arith, length_push bits b))
+        | inr old ↦ release-more bits (b ∷ []) t k now.found.here.enough old ∙ now.holds.never k old
+      ];
+    };
   }
 
   -- a lock is released where the word that the bit completes brings a change

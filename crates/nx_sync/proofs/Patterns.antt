@@ -48,9 +48,9 @@ which w = elim (cases_Bool (pointwise beq w before_dx)) [
   | inr nd ↦ elim (cases_Bool (pointwise beq w before_rx)) [
     | inl r ↦ rx ((same_bits w before_rx).0 r) (sym (role_after-rx w _ _ refl nd refl r))
     | inr nr ↦ neither (record {
-        not_dx = λ e. both_ways _ nd ((same_bits w before_dx).1 e);
-        not_rx = λ e. both_ways _ nr ((same_bits w before_rx).1 e);
-      }) (sym (role_after-none w _ _ refl nd refl nr))
+      not_dx = λ e. both_ways _ nd ((same_bits w before_dx).1 e);
+      not_rx = λ e. both_ways _ nr ((same_bits w before_rx).1 e);
+    }) (sym (role_after-none w _ _ refl nd refl nr))
   ]
 ]
 

@@ -8,6 +8,7 @@ use Rattle.nx_sync.specs.declared.step.Role.TheVariants.{Dx, Rx}
 use Rattle.nx_sync.specs.declared.step.Change.{Change}
 use Rattle.nx_sync.specs.declared.step.Change.TheVariants.{Locked, Ended, LostLock}
 use Rattle.nx_sync.specs.Locks.{phasing_1, phasing_2, before_dx, before_rx, last_28, IsPattern, phasing, other, is_wrong, one_if, word_at, first_role, role_of, wrong_in, wrong_until, ends_at, change_at, release, IsEnd, Lock, Past, Now, hunting, locked, IsHunting, IsLocked, IsNow, LockedBeforeDx}
+use Rattle.nx_sync.proofs.Counts.{wrong_in-add, wrong_in-all, wrong_in-none, wrong_in-le, role_of-even}
 use Rattle.nx_sync.proofs.Patterns.{last_word-window}
 use Rattle.nx_sync.proofs.Releases.{IsEnd-from, IsEnd-to, at_none, at_ended, at_lost, ByTests, by_end, by_loss, by_none, by_tests}
 use Rattle.nx_sync.proofs.Going.{standing_after}
@@ -84,51 +85,6 @@ length-phasing (suc n) = omega (arith, length-phasing n)
 ends_with_pattern : take 28 (drop 308 (phasing 24)) ≡ before_dx
 unfolding phasing before_dx
 ends_with_pattern = refl
-
--- counts of wrong words
-wrong_in-add : (f : ℕ → ℕ) (i a b : ℕ) → wrong_in f i (a + b) ≡ wrong_in f i a + wrong_in f (i + a) b
-unfolding wrong_in
-wrong_in-add f i a zero = let e : a + 0 ≡ a = omega arith in ap (wrong_in f i) e ∙ omega arith
-wrong_in-add f i a (suc b) =
-    let e : a + suc b ≡ suc (a + b) = omega arith in
-    let g : i + (a + b) ≡ i + a + b = omega arith in
-    let w : one_if (is_wrong (f (i + (a + b)))) ≡ one_if (is_wrong (f (i + a + b))) = ap (λ j. one_if (is_wrong (f j))) g in
-    ap (wrong_in f i) e ∙ omega (arith, wrong_in-add f i a b, w)
-
-wrong_in-all : (f : ℕ → ℕ) (i n : ℕ) → ((j : ℕ) → j < n → is_wrong (f (i + j)) ≡ true) → wrong_in f i n ≡ n
-unfolding wrong_in
-wrong_in-all f i zero all = refl
-wrong_in-all f i (suc n) all =
-    let w : one_if (is_wrong (f (i + n))) ≡ 1 = ap one_if (all n (omega arith)) in
-    omega (arith, wrong_in-all f i n (λ j h. all j (omega arith)), w)
-
-wrong_in-none : (f : ℕ → ℕ) (i n : ℕ) → ((j : ℕ) → j < n → is_wrong (f (i + j)) ≡ false) → wrong_in f i n ≡ 0
-unfolding wrong_in
-wrong_in-none f i zero all = refl
-wrong_in-none f i (suc n) all =
-    let w : one_if (is_wrong (f (i + n))) ≡ 0 = ap one_if (all n (omega arith)) in
-    omega (arith, wrong_in-none f i n (λ j h. all j (omega arith)), w)
-
-one_if-le : (b : Bool) → one_if b ≤ 1
-one_if-le true = omega arith
-one_if-le false = omega arith
-
-wrong_in-le : (f : ℕ → ℕ) (i n : ℕ) → wrong_in f i n ≤ n
-unfolding wrong_in
-wrong_in-le f i zero = omega arith
-wrong_in-le f i (suc n) = omega (arith, wrong_in-le f i n, one_if-le (is_wrong (f (i + n))))
-
--- an even number of words on, the role is the same
-role_of-even : (first : Role) (g j : ℕ) → role_of first (g + 2 * j) ≡ role_of first g
-unfolding role_of
-role_of-even first g zero = let e : g + 2 * 0 ≡ g = omega arith in ap (role_of first) e
-role_of-even first g (suc j) =
-    let e : g + 2 * suc j ≡ suc (suc (g + 2 * j)) = omega arith in
-    ap (role_of first) e ∙ (turned_twice (role_of first (g + 2 * j)) ∙ role_of-even first g j)
-  where
-    turned_twice : (role : Role) → other (other role) ≡ role
-    turned_twice Dx = refl
-    turned_twice Rx = refl
 
 -- What a lock at t is, seen from the phasing that begins at the bit count n: word g of it is a DX word, and begins with
 -- pair a of the phasing; either that is the first pair, or at most one word of the lock comes before.
@@ -219,19 +175,19 @@ module _ (earlier : List Bool) where
       let right : is_wrong (phase 24 i) ≡ false = ap is_wrong (sym w) ∙ right_by _ (before_pattern t here) in
       elim (limit-false (i % 14) (sym kind.wrong ∙ right)) [
         | inl z ↦ record {
-            g = 1;
-            a = (t + 7 - length earlier) / 14;
-            place = omega arith;
-            dx = ap other (first_role-second t (w ∙ kind.second z));
-            early = inr (omega arith);
-          }
+          g = 1;
+          a = (t + 7 - length earlier) / 14;
+          place = omega arith;
+          dx = ap other (first_role-second t (w ∙ kind.second z));
+          early = inr (omega arith);
+        }
         | inr s ↦ record {
-            g = 0;
-            a = (t - length earlier) / 14;
-            place = omega arith;
-            dx = first_role-first t (w ∙ kind.first s);
-            early = inr (omega arith);
-          }
+          g = 0;
+          a = (t - length earlier) / 14;
+          place = omega arith;
+          dx = first_role-first t (w ∙ kind.first s);
+          early = inr (omega arith);
+        }
       ]
 
   -- A lock that began before the phasing, or in its first seven bits, and that no word before the end has released: word
@@ -243,9 +199,9 @@ module _ (earlier : List Bool) where
         let f : ℕ → ℕ = word_at (earlier ++ phasing 24) t in
         let w : ℕ = k + 39 in
         let all : (j : ℕ) → j < 40 → is_wrong (f (k + j)) ≡ true = λ j h.
-            let i : ℕ = o + 7 * j in
-            let kind = phase_at 24 i (omega arith) in
-            ap is_wrong (word_in t (k + j) i (omega arith)) ∙ (kind.wrong ∙ limit-true (i % 14) (λ z. omega arith) (λ s. omega arith)) in
+        let i : ℕ = o + 7 * j in
+        let kind = phase_at 24 i (omega arith) in
+        ap is_wrong (word_in t (k + j) i (omega arith)) ∙ (kind.wrong ∙ limit-true (i % 14) (λ z. omega arith) (λ s. omega arith)) in
         let few = (at_none (first_role (earlier ++ phasing 24) t) f w (quiet w (omega arith))).1 in
         let b : ℕ = w - 63 in
         let split : w + 1 - b ≡ k - b + 40 = omega arith in
@@ -314,10 +270,10 @@ module _ (earlier : List Bool) where
         let f : ℕ → ℕ = word_at (earlier ++ phasing 24) t in
         let i : ℕ = w - 63 in
         let right : (j : ℕ) → x.g ≤ j → j < w + 1 → is_wrong (f j) ≡ false = λ j from below.
-            let c : ℕ = 14 * x.a + 7 * (j - x.g) in
-            let at : t + 7 * j ≡ length earlier + c = omega (arith, x.place) in
-            let kind = phase_at 24 c (omega arith) in
-            ap is_wrong (word_in t j c at) ∙ (kind.wrong ∙ limit-zero (c % 14) (elim (cases_eq (c % 14) 0) [ inl z ↦ inl z | inr n ↦ inr (omega arith) ])) in
+        let c : ℕ = 14 * x.a + 7 * (j - x.g) in
+        let at : t + 7 * j ≡ length earlier + c = omega (arith, x.place) in
+        let kind = phase_at 24 c (omega arith) in
+        ap is_wrong (word_in t j c at) ∙ (kind.wrong ∙ limit-zero (c % 14) (elim (cases_eq (c % 14) 0) [ inl z ↦ inl z | inr n ↦ inr (omega arith) ])) in
         elim (cases_lt i x.g) [
           | inl before ↦
               let at : i + (x.g - i) ≡ x.g = omega arith in

@@ -21,11 +21,10 @@ use Rattle.nx_sync.proofs.Unique.{now-unique}
 
 -- whether a track is there says whether a lock stands
 track_iff : (bits : List Bool) (locks : List Lock) (now : Now) (wrong : List Bool) (track : Option Track) → IsNow bits locks now → Tracks bits now wrong track → (is_some track ≡ true → LockStands bits) × (LockStands bits → is_some track ≡ true)
-track_iff bits locks (hunting p) wrong track n t =
-    (
-      λ h. let e : is_some track ≡ false = ap is_some t in cc,
-      λ l. let e : hunting p ≡ locked l.p l.t = now-unique bits locks l.locks (hunting p) (locked l.p l.t) n l.stands in cc,
-    )
+track_iff bits locks (hunting p) wrong track n t = (
+  λ h. let e : is_some track ≡ false = ap is_some t in cc,
+  λ l. let e : hunting p ≡ locked l.p l.t = now-unique bits locks l.locks (hunting p) (locked l.p l.t) n l.stands in cc,
+)
 track_iff bits locks (locked p t) wrong track n f =
     (λ h. record { locks = locks; p = p; t = t; stands = n }, λ l. ap is_some f.is)
 

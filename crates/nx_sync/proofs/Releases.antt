@@ -39,8 +39,7 @@ module _ (first : Role) (words : ℕ → ℕ) where
       let q = and_parts _ _ p.0 in
       let r = and_parts _ _ q.0 in
       let five : 5 ≤ k = leb-true 5 k r.0 in
-      let e : k - 3 - 2 ≡ k - 5 = omega arith in
-      (
+      let e : k - 3 - 2 ≡ k - 5 = omega arith in (
         five,
         record {
           two = omega arith;
@@ -146,16 +145,14 @@ module _ (first : Role) (words : ℕ → ℕ) where
 
   pub earlier-to : (w : ℕ) (how : Change) → IsEarlier first words w how → (change_at first words w ≡ Some how) × ((j : ℕ) → j < w → change_at first words j ≡ None)
   earlier-to w Locked h = elim h [ ]
-  earlier-to w Ended (ended at after) =
-      (
-        change-ended w (IsEnd-to w at.late at.here),
-        λ j below. change-none j
+  earlier-to w Ended (ended at after) = (
+    change-ended w (IsEnd-to w at.late at.here),
+    λ j below. change-none j
         (false_from_ne_true _ (λ t. let end = IsEnd-from j t in at.least (j - 3) (omega (arith, end.0)) end.1))
         (no_loss_before w after j below),
-      )
+  )
   earlier-to w LostLock (lost at after) =
-      let none : (j : ℕ) → j < w + 1 → ends_at first words j ≡ false = no_end_before (w + 1) (λ v e. omega (arith, after v e)) in
-      (
+      let none : (j : ℕ) → j < w + 1 → ends_at first words j ≡ false = no_end_before (w + 1) (λ v e. omega (arith, after v e)) in (
         change-lost w (none w (omega arith)) at.here,
         λ j below. change-none j (none j (omega arith)) (at.least j below),
       )
@@ -168,14 +165,16 @@ pub stands_longer : (bits more : List Bool) (locks : List Lock) (p t : ℕ) → 
 stands_longer bits more locks p t now few goes = record {
   past = Past-more bits more locks p now.past;
   found = Finds-more bits more p t now.found;
-  holds = record { never = λ k heard. elim (cases_lt (length bits) (t + 7 * (k + 1))) [
-    | inl new ↦ change-none (first_role (bits ++ more) t) (word_at (bits ++ more) t) k
-      (false_from_ne_true _ (λ e.
+  holds = record {
+    never = λ k heard. elim (cases_lt (length bits) (t + 7 * (k + 1))) [
+      | inl new ↦ change-none (first_role (bits ++ more) t) (word_at (bits ++ more) t) k
+          (false_from_ne_true _ (λ e.
           let end = IsEnd-from (first_role (bits ++ more) t) (word_at (bits ++ more) t) k e in
           goes (k - 3) (omega (arith, end.0)) (omega (arith, end.0)) end.1))
-      (few k new heard)
-    | inr old ↦ release-more bits more t k now.found.here.enough old ∙ now.holds.never k old
-  ] };
+          (few k new heard)
+      | inr old ↦ release-more bits more t k now.found.here.enough old ∙ now.holds.never k old
+    ];
+  };
 }
 
 -- two words on, the role is the same
@@ -192,12 +191,14 @@ unfolding role_of
 kept bits locks p t past found few apart = record {
   past = past;
   found = found;
-  holds = record { never = λ k heard.
-      change-none (first_role bits t) (word_at bits t) k
-      (false_from_ne_true _ (λ e.
-          let end = IsEnd-from (first_role bits t) (word_at bits t) k e in
-          let at : k - 3 ≡ suc (suc (k - 3 - 2)) = omega (arith, end.0) in
-          let at' : k - 3 - 2 + 2 ≡ k - 3 = omega (arith, end.0) in
-          apart (k - 3 - 2) (omega (arith, end.0)) (two_turns (role_of (first_role bits t) (k - 3 - 2)) (sym (ap (role_of (first_role bits t)) at) ∙ end.1.dx)) end.1.before (ap (word_at bits t) at' ∙ end.1.this)))
-      (few (k - 63) (k + 1 - (k - 63)) (omega arith) (omega arith)) };
+  holds = record {
+    never = λ k heard.
+        change-none (first_role bits t) (word_at bits t) k
+        (false_from_ne_true _ (λ e.
+        let end = IsEnd-from (first_role bits t) (word_at bits t) k e in
+        let at : k - 3 ≡ suc (suc (k - 3 - 2)) = omega (arith, end.0) in
+        let at' : k - 3 - 2 + 2 ≡ k - 3 = omega (arith, end.0) in
+        apart (k - 3 - 2) (omega (arith, end.0)) (two_turns (role_of (first_role bits t) (k - 3 - 2)) (sym (ap (role_of (first_role bits t)) at) ∙ end.1.dx)) end.1.before (ap (word_at bits t) at' ∙ end.1.this)))
+        (few (k - 63) (k + 1 - (k - 63)) (omega arith) (omega arith));
+  };
 }

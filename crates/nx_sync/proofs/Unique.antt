@@ -106,7 +106,6 @@ module _ (bits : List Bool) where
       let some : release bits t x.last ≡ Some x.how = r.here in
       cc
 
-
   pub IsNow-past : (ls : List Lock) (now : Now) → IsNow bits ls now → (p : ℕ) × Past bits ls p
   IsNow-past ls (hunting p) n = (p, n.past)
   IsNow-past ls (locked p t) n = (p, n.past)

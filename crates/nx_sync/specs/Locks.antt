@@ -205,6 +205,14 @@ pub record Stood (bits : List Bool) (locks : List Lock) (now : Now) : Type 0 whe
   pub stood : IsNow bits older was
   pub goes_on : GoesOn older was locks now
 
+-- What the last of these bits makes of what stood before it: hunting goes on; a lock is found at it; the lock still
+-- stands; or the lock is over, and hunting begins after it.
+pub data OneMore (bits : List Bool) : List Lock → Now → List Lock → Now → Type 0 where
+  still_hunts : {locks : List Lock} {p : ℕ} → OneMore bits locks (hunting p) locks (hunting p)
+  now_finds : {locks : List Lock} {p t : ℕ} → length bits ≡ t → OneMore bits locks (hunting p) locks (locked p t)
+  still_stands : {locks : List Lock} {p t : ℕ} → OneMore bits locks (locked p t) locks (locked p t)
+  now_over : {older : List Lock} {p t q : ℕ} (lock : Lock) → lock.from ≡ p → lock.at ≡ t → length bits ≡ q → OneMore bits older (locked p t) (lock ∷ older) (hunting q)
+
 -- P2 P1, so many times: phasing as it is sent (M.476, M.625)
 unfoldable pub phasing : ℕ → List Bool
 phasing zero = []

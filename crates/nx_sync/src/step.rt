@@ -16,7 +16,7 @@ pub enum Role {
 
 impl Role {
     /// The other role: roles alternate.
-    pub fn other(self) -> Role
+    pub(crate) fn other(self) -> Role
         ensures { result ≡ other self }
     {
         match self {
@@ -48,7 +48,7 @@ pub struct Step {
 
 impl Step {
     /// The step of an element that completes no word and changes nothing.
-    pub const NOTHING: Step = Step {
+    pub(crate) const NOTHING: Step = Step {
         word: None,
         change: None,
     };

@@ -1,18 +1,17 @@
 //! The synchroniser. It keeps the last 28 elements and, where a lock stands, a few facts on its last words.
 
-ghost use Rattle.std.specs.Prelude.{◌≡◌, ◌+◌, ◌<◌, ◌≤◌, ◌↔◌, List, Bool, [], ◌∷◌, ◌++◌, drop, length, min, count_by, IsTrue, IfOk, is_some, if◌then◌else◌};
+ghost use Rattle.std.specs.Prelude.{◌≡◌, ◌+◌, ◌<◌, ◌≤◌, ◌↔◌, List, Bool, [], ◌∷◌, ◌++◌, drop, length, min, count_by, IsTrue, IfOk, IsSome};
 ghost use Rattle.nx_code.specs.Word.{number_of};
 ghost use Rattle.circular_buffer.specs.Buffer.{keep_last, buffer};
 ghost use Rattle.nx_sync.specs.Locks.{is_wrong, other, is_dx, step, LockStands, IsStep};
 ghost use Rattle.nx_sync.specs.Synchroniser as spec;
 ghost use Rattle.nx_sync.specs.Synchroniser.{track_from, track_after, is_end, StandsAfter, Completes};
 
+use crate::step::{Change, Role, Step};
 use circular_buffer::HeapCircularBuffer;
 use nx_code::{ELEMENTS, Word, check_bits};
 use std::alloc::{AllocError, Global};
 use std::marker::Model;
-
-use crate::step::{Change, Role, Step};
 
 /// How many elements the patterns that give a lock have: four words (this profile).
 const PATTERN: usize = 28;
@@ -26,6 +25,9 @@ const LOST: usize = 40;
 /// The number of phasing signal 1, which is idle signal alpha (M.476, M.625).
 const PHASING_1: u8 = 0x0F;
 
+/// How many words back from the word that is being filled an end is looked for (this profile).
+const LOOK_BACK: usize = 5;
+
 /// The elements of P2 P1 P2 P1, after which a DX word follows.
 const BEFORE_DX: [bool; PATTERN] = [
     false, true, true, false, false, true, true, true, true, true, true, false, false, false,
@@ -34,8 +36,8 @@ const BEFORE_DX: [bool; PATTERN] = [
 
 /// The elements of P1 P2 P1 P2, after which an RX word follows.
 const BEFORE_RX: [bool; PATTERN] = [
-    true, true, true, true, false, false, false, false, true, true, false, false, true, true,
-    true, true, true, true, false, false, false, false, true, true, false, false, true, true,
+    true, true, true, true, false, false, false, false, true, true, false, false, true, true, true,
+    true, true, true, false, false, false, false, true, true, false, false, true, true,
 ];
 
 /// How a lock is followed: the role of the word that is being filled, how many of its elements were heard,
@@ -45,18 +47,18 @@ const BEFORE_RX: [bool; PATTERN] = [
 struct Track {
     role: Role,
     filled: usize,
-    was_p1: [bool; 5],
+    was_p1: [bool; LOOK_BACK],
 }
 
 impl Track {
     /// The track of a lock whose first word has this role.
-    fn from(role: Role) -> Track
+    fn begin(role: Role) -> Track
         ensures { result ≡ track_from role }
     {
         Track {
             role,
             filled: 0,
-            was_p1: [false; 5],
+            was_p1: [false; LOOK_BACK],
         }
     }
 
@@ -66,7 +68,7 @@ impl Track {
     {
         let mut was_p1 = self.was_p1;
         was_p1.rotate_left(1);
-        was_p1[4] = word.number() == PHASING_1;
+        was_p1[LOOK_BACK - 1] = word.number() == PHASING_1;
         Track {
             role: self.role.other(),
             filled: 0,
@@ -79,7 +81,7 @@ impl Track {
     fn ends(self) -> bool
         ensures { result ≡ is_end self }
     {
-        self.role == Role::Rx && self.was_p1[2] && self.was_p1[0]
+        self.role == Role::Rx && self.was_p1[LOOK_BACK - 3] && self.was_p1[LOOK_BACK - 5]
     }
 }
 
@@ -121,7 +123,8 @@ impl Synchroniser {
 
     /// Whether a lock stands.
     pub fn is_locked(&self) -> bool
-        ensures { (bits : List Bool) → StandsAfter self.now bits → (IsTrue result ↔ LockStands bits) }
+        ensures stands { (bits : List Bool) → StandsAfter self.now bits → (IsTrue result ↔ LockStands bits) }
+        ensures held { IsTrue result ↔ IsSome self.now.track }
     {
         self.track.is_some()
     }
@@ -160,7 +163,7 @@ impl Synchroniser {
             None => Step::NOTHING,
             Some(role) => {
                 self.wrong.clear();
-                self.track = Some(Track::from(role));
+                self.track = Some(Track::begin(role));
                 Step {
                     word: None,
                     change: Some(Change::Locked),
