@@ -52,4 +52,3 @@ role_of-even first g zero = let e : g + 2 * 0 ≡ g = omega arith in ap (role_of
 role_of-even first g (suc j) =
     let e : g + 2 * suc j ≡ suc (suc (g + 2 * j)) = omega arith in
     ap (role_of first) e ∙ (turned_twice (role_of first (g + 2 * j)) ∙ role_of-even first g j)
-

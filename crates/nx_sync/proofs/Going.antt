@@ -1,10 +1,10 @@
 -- Something stands after every list of bits, and how it goes on when more bits come.
-use Rattle.std.proofs.Common.{◌≡◌, ℕ, zero, suc, ◌+◌, ◌-◌, ◌*◌, ◌/◌, ◌%◌, ◌<◌, ◌≤◌, ◌⊎◌, List, [], ◌∷◌, ◌++◌, length, Bool, refl, sym, ap, subst, subst₂, ◌∙◌, inl, inr, arith, Some, None, Option, append_assoc, append-nil}
+use Rattle.std.proofs.Common.{◌≡◌, ℕ, ◌+◌, ◌-◌, ◌*◌, ◌/◌, ◌⊎◌, List, [], ◌∷◌, ◌++◌, length, Bool, refl, sym, ap, subst, subst₂, ◌∙◌, inl, inr, arith, Some, None, Option, append_assoc, append-nil}
 use Rattle.std.proofs.lemmas.List.{length_push}
 use Rattle.std.proofs.lemmas.Bool.{cases_lt, cases_eq}
 use Rattle.nx_sync.specs.declared.step.Change.{Change}
-use Rattle.nx_sync.specs.Locks.{before_dx, before_rx, last_28, IsPattern, FindsNone, release, Lock, Past, Now, hunting, locked, IsHunting, IsLocked, IsNow, Standing, Extends, same, newer, GoesOn, hunts_on, finds_one, stands_still, found_and_past, is_past, Stood, OneMore, still_hunts, now_finds, still_stands, now_over}
-use Rattle.nx_sync.proofs.Patterns.{IsNeither, Which, dx, rx, neither, which}
+use Rattle.nx_sync.specs.Locks.{last_28, IsPattern, release, Lock, Past, Now, hunting, locked, IsLocked, IsNow, Standing, Extends, same, newer, GoesOn, hunts_on, finds_one, stands_still, found_and_past, is_past, Stood, OneMore, still_hunts, now_finds, still_stands, now_over}
+use Rattle.nx_sync.proofs.Patterns.{dx, rx, neither, which}
 use Rattle.nx_sync.proofs.Unique.{locks-unique, now-unique}
 use Rattle.nx_sync.proofs.OneBit as one
 
@@ -59,20 +59,20 @@ onward_locked bits b locks p t k now e None h = record {
 onward : (bits : List Bool) (b : Bool) (locks : List Lock) (now : Now) → IsNow bits locks now → Onward (bits ++ b ∷ []) locks now
 onward bits b locks (hunting p) n = elim (pattern_or_not (bits ++ b ∷ []) (length bits + 1)) [
   | inl here ↦ record {
-      standing = record { locks = locks; now = locked p (length bits + 1); stands = one.locks_now bits b locks p n here };
-      one = now_finds (length_push bits b);
-    }
+    standing = record { locks = locks; now = locked p (length bits + 1); stands = one.locks_now bits b locks p n here };
+    one = now_finds (length_push bits b);
+  }
   | inr absent ↦ record {
-      standing = record { locks = locks; now = hunting p; stands = one.hunts_on bits b locks p n absent };
-      one = still_hunts;
-    }
+    standing = record { locks = locks; now = hunting p; stands = one.hunts_on bits b locks p n absent };
+    one = still_hunts;
+  }
 ]
 onward bits b locks (locked p t) n = elim (word_or_not (length bits + 1) t) [
   | inl w ↦ onward_locked bits b locks p t w.0 n w.1 (release (bits ++ b ∷ []) t w.0) refl
   | inr none ↦ record {
-      standing = record { locks = locks; now = locked p t; stands = one.stands_on bits b locks p t n (λ k e. absurd (none k e)) };
-      one = still_stands;
-    }
+    standing = record { locks = locks; now = locked p t; stands = one.stands_on bits b locks p t n (λ k e. absurd (none k e)) };
+    one = still_stands;
+  }
 ]
 
 -- what one more bit makes of what stood, for whatever stands after it

@@ -1,8 +1,8 @@
 -- What lies before the end of the bits is the same when more bits come.
-use Rattle.std.proofs.Common.{◌≡◌, ℕ, zero, suc, ◌+◌, ◌-◌, ◌*◌, ◌<◌, ◌≤◌, ◌==◌, nat_le, ◌⊎◌, List, [], ◌∷◌, ◌++◌, length, take, drop, Bool, refl, sym, ap, ap₂, ◌∙◌, inl, inr, arith, length-append, Some, None}
+use Rattle.std.proofs.Common.{◌≡◌, ℕ, zero, suc, ◌+◌, ◌-◌, ◌*◌, ◌<◌, ◌≤◌, List, [], ◌∷◌, ◌++◌, length, Bool, refl, sym, ap, ap₂, ◌∙◌, inl, inr, arith, length-append}
 use Rattle.nx_code.specs.Word.{number_of}
 use Rattle.nx_sync.specs.declared.step.Role.{Role}
-use Rattle.nx_sync.specs.Locks.{phasing_1, last_28, IsPattern, Finds, FindsNone, word_at, first_role, role_of, is_wrong, one_if, wrong_in, wrong_until, ends_at, change_at, release, IsReleased, Holds, Lock, IsPast, Past}
+use Rattle.nx_sync.specs.Locks.{last_28, IsPattern, Finds, word_at, first_role, is_wrong, one_if, wrong_in, ends_at, change_at, release, IsReleased, Lock, IsPast, Past}
 use Rattle.nx_sync.proofs.Lists.{part-append}
 
 -- a count looks at its words alone

@@ -1,9 +1,9 @@
 -- What stands after one more bit.
-use Rattle.std.proofs.Common.{◌≡◌, ℕ, suc, ◌+◌, ◌-◌, ◌*◌, ◌<◌, ◌≤◌, ◌⊎◌, List, [], ◌∷◌, ◌++◌, length, Bool, refl, sym, ap, subst, ◌∙◌, inl, inr, arith, length-append, Some, None}
+use Rattle.std.proofs.Common.{◌≡◌, ℕ, ◌+◌, ◌*◌, List, [], ◌∷◌, ◌++◌, length, Bool, subst, ◌∙◌, inl, inr, arith, Some, None}
 use Rattle.std.proofs.lemmas.List.{length_push}
 use Rattle.std.proofs.lemmas.Bool.{cases_lt}
 use Rattle.nx_sync.specs.declared.step.Change.{Change}
-use Rattle.nx_sync.specs.Locks.{IsPattern, Finds, FindsNone, release, IsReleased, Holds, Lock, IsPast, Past, IsHunting, IsLocked}
+use Rattle.nx_sync.specs.Locks.{IsPattern, release, Lock, Past, IsHunting, IsLocked}
 use Rattle.nx_sync.proofs.More.{release-more, IsPattern-less, Finds-more, Past-more, Past-within}
 
 module _ (bits : List Bool) (b : Bool) where

@@ -1,5 +1,5 @@
 -- The two patterns: which one stands, and what role the first word has after it.
-use Rattle.std.proofs.Common.{◌≡◌, ℕ, ◌+◌, ◌-◌, ◌≤◌, ◌⊎◌, List, [], ◌∷◌, ◌++◌, length, take, drop, replicate, Bool, true, false, refl, sym, ap, ◌∙◌, inl, inr, arith, Some, None, length-drop, take_all, drop-drop}
+use Rattle.std.proofs.Common.{◌≡◌, ℕ, ◌+◌, ◌-◌, ◌≤◌, List, ◌++◌, length, take, drop, replicate, Bool, true, false, refl, sym, ap, ◌∙◌, inl, inr, arith, Some, None, length-drop, take_all, drop-drop}
 use Rattle.std.specs.Bool.{beq, Decides}
 use Rattle.std.specs.Cmp.{booleans_Decides}
 use Rattle.std.specs.Cmp.Lexicographic.{pointwise}
@@ -8,9 +8,8 @@ use Rattle.std.proofs.lemmas.List.{drop-take}
 use Rattle.std.proofs.lemmas.Slice.Eq.{slice_eq-Decides}
 use Rattle.circular_buffer.specs.Buffer.{keep_last}
 use Rattle.nx_code.specs.Word.{number_of}
-use Rattle.nx_sync.specs.declared.step.Role.{Role}
 use Rattle.nx_sync.specs.declared.step.Role.TheVariants.{Dx, Rx}
-use Rattle.nx_sync.specs.Locks.{phasing_1, before_dx, before_rx, last_28, IsPattern, first_role}
+use Rattle.nx_sync.specs.Locks.{before_dx, before_rx, last_28, first_role}
 use Rattle.nx_sync.specs.Synchroniser.{role_after}
 use Rattle.nx_sync.proofs.Lists.{keep_last-padded}
 

@@ -1,16 +1,16 @@
 -- 48 phasing words as sent leave a lock on their word limits and roles, whatever came before.
-use Rattle.std.proofs.Common.{◌≡◌, ℕ, zero, suc, ◌+◌, ◌-◌, ◌*◌, ◌/◌, ◌%◌, ◌<◌, ◌≤◌, ◌==◌, nat_le, ◌⊎◌, List, [], ◌∷◌, ◌++◌, length, take, drop, Bool, true, false, not, ◌||◌, eqb, cond, refl, sym, ap, ap₂, subst, ◌∙◌, inl, inr, arith, Some, None, Option, drop-drop, length-append, le-leb}
+use Rattle.std.proofs.Common.{◌≡◌, ℕ, zero, suc, ◌+◌, ◌-◌, ◌*◌, ◌/◌, ◌%◌, ◌<◌, ◌≤◌, ◌⊎◌, List, [], ◌∷◌, ◌++◌, length, take, drop, Bool, true, false, not, ◌||◌, eqb, refl, sym, ap, ap₂, subst, ◌∙◌, inl, inr, arith, Some, None, drop-drop, length-append}
 use Rattle.std.proofs.Math.Seq.{drop-append-add}
-use Rattle.std.proofs.lemmas.Bool.{cases_lt, cases_eq, both_ways, agree_below_at, eq-eqb, ne_eqb}
+use Rattle.std.proofs.lemmas.Bool.{cases_lt, cases_eq, both_ways, agree_below_at, ne_eqb}
 use Rattle.nx_code.specs.Word.{number_of, weight, elements, elements_from}
 use Rattle.nx_sync.specs.declared.step.Role.{Role}
 use Rattle.nx_sync.specs.declared.step.Role.TheVariants.{Dx, Rx}
 use Rattle.nx_sync.specs.declared.step.Change.{Change}
 use Rattle.nx_sync.specs.declared.step.Change.TheVariants.{Locked, Ended, LostLock}
-use Rattle.nx_sync.specs.Locks.{phasing_1, phasing_2, before_dx, before_rx, last_28, IsPattern, phasing, other, is_wrong, one_if, word_at, first_role, role_of, wrong_in, wrong_until, ends_at, change_at, release, IsEnd, Lock, Past, Now, hunting, locked, IsHunting, IsLocked, IsNow, LockedBeforeDx}
+use Rattle.nx_sync.specs.Locks.{phasing_1, phasing_2, before_dx, before_rx, IsPattern, phasing, other, is_wrong, word_at, first_role, role_of, wrong_in, wrong_until, ends_at, release, IsEnd, Lock, Past, Now, hunting, locked, IsLocked, IsNow, LockedBeforeDx}
 use Rattle.nx_sync.proofs.Counts.{wrong_in-add, wrong_in-all, wrong_in-none, wrong_in-le, role_of-even}
 use Rattle.nx_sync.proofs.Patterns.{last_word-window}
-use Rattle.nx_sync.proofs.Releases.{IsEnd-from, IsEnd-to, at_none, at_ended, at_lost, ByTests, by_end, by_loss, by_none, by_tests}
+use Rattle.nx_sync.proofs.Releases.{IsEnd-from, IsEnd-to, at_none, ByTests, by_end, by_loss, by_tests}
 use Rattle.nx_sync.proofs.Going.{standing_after}
 
 -- the word that begins at place i of n phasing pairs

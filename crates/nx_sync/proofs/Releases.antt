@@ -1,11 +1,11 @@
 -- What releases a lock, and what keeps it.
-use Rattle.std.proofs.Common.{◌≡◌, ℕ, zero, suc, ◌+◌, ◌-◌, ◌*◌, ◌<◌, ◌≤◌, ◌==◌, nat_le, ◌⊎◌, List, [], ◌∷◌, ◌++◌, length, Bool, true, false, not, ◌&&◌, cond, refl, sym, ap, subst, ◌∙◌, inl, inr, arith, Some, None, Option, eqb-true, eq-eqb}
-use Rattle.std.proofs.lemmas.Bool.{cases_lt, cases_Bool, both_ways, and_parts, and_from, le-leb, lt-leb, leb-true, leb-false, false_from_ne_true, true≢false}
+use Rattle.std.proofs.Common.{◌≡◌, ℕ, zero, suc, ◌+◌, ◌-◌, ◌*◌, ◌<◌, ◌≤◌, nat_le, List, ◌++◌, length, Bool, true, false, refl, sym, ap, subst, ◌∙◌, inl, inr, arith, Some, None, Option, eqb-true, eq-eqb}
+use Rattle.std.proofs.lemmas.Bool.{cases_lt, cases_Bool, both_ways, and_parts, and_from, le-leb, lt-leb, leb-true, leb-false, false_from_ne_true}
 use Rattle.nx_sync.specs.declared.step.Role.{Role}
 use Rattle.nx_sync.specs.declared.step.Role.TheVariants.{Dx, Rx}
 use Rattle.nx_sync.specs.declared.step.Change.{Change}
 use Rattle.nx_sync.specs.declared.step.Change.TheVariants.{Locked, Ended, LostLock}
-use Rattle.nx_sync.specs.Locks.{phasing_1, other, is_dx, role_of, wrong_in, wrong_until, ends_at, change_at, IsEnd, EndedAt, LostAt, IsEarlier, ended, lost, word_at, first_role, release, IsReleased, Holds, Finds, Lock, Past, IsLocked}
+use Rattle.nx_sync.specs.Locks.{phasing_1, other, is_dx, role_of, wrong_in, wrong_until, ends_at, change_at, IsEnd, EndedAt, LostAt, IsEarlier, ended, lost, word_at, first_role, Finds, Lock, Past, IsLocked}
 use Rattle.nx_sync.proofs.More.{release-more, Finds-more, Past-more}
 
 -- the least number that passes a test, if one below n does

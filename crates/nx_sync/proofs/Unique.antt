@@ -1,8 +1,8 @@
 -- What stands after a list of bits is unique.
-use Rattle.std.proofs.Common.{◌≡◌, ℕ, suc, ◌+◌, ◌-◌, ◌*◌, ◌<◌, ◌≤◌, ◌⊎◌, List, [], ◌∷◌, ◌++◌, length, Bool, refl, sym, ap, subst, ◌∙◌, inl, inr, arith, Some, None}
+use Rattle.std.proofs.Common.{◌≡◌, ℕ, ◌⊎◌, List, [], ◌∷◌, Bool, refl, sym, ap, subst, ◌∙◌, inl, inr, Some, None}
 use Rattle.std.proofs.lemmas.Bool.{cases_order}
 use Rattle.nx_sync.specs.declared.step.Change.{Change}
-use Rattle.nx_sync.specs.Locks.{IsPattern, Finds, FindsNone, release, IsReleased, Holds, Lock, IsPast, Past, Now, hunting, locked, IsHunting, IsLocked, IsNow, Extends, same, newer}
+use Rattle.nx_sync.specs.Locks.{Finds, release, IsReleased, Lock, Past, Now, hunting, locked, IsNow, Extends, same, newer}
 
 pub Extends-nil : (ls : List Lock) → Extends ls []
 Extends-nil [] = same

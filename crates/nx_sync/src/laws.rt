@@ -44,8 +44,7 @@ pub fn what_stood_goes_on()
 /// One more bit leaves the past locks as they are, or adds the lock that it releases.
 pub fn one_bit_more()
     ensures { (bits : List Bool) (bit : Bool) (older locks : List Lock) (was now : Now) → IsNow bits older was → IsNow (bits ++ bit ∷ []) locks now → OneMore (bits ++ bit ∷ []) older was locks now }
-{
-}
+{}
 
 /// A lock that stands goes on standing where each later word leaves fewer than 40 of the last 64 words wrong and
 /// releases nothing three words after an end.

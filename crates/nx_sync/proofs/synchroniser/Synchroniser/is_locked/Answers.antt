@@ -1,4 +1,4 @@
-use Rattle.std.proofs.Common.{◌≡◌, is_some, true, ap, ◌∙◌, sym}
+use Rattle.std.proofs.Common.{◌≡◌, is_some, ap, ◌∙◌, sym}
 use Rattle.nx_sync.proofs.Pushes.{locked_iff}
 use Rattle.nx_sync.proofs.synchroniser.Synchroniser.is_locked.Goals as goal
 

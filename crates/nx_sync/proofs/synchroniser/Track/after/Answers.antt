@@ -1,4 +1,4 @@
-use Rattle.std.proofs.Common.{ap, ◌∙◌, arith, refl}
+use Rattle.std.proofs.Common.{arith, refl}
 use Rattle.nx_sync.proofs.Lists.{set_turned}
 use Rattle.nx_sync.proofs.synchroniser.Track.after.Goals as goal
 
