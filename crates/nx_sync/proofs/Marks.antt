@@ -8,7 +8,8 @@ use Rattle.nx_sync.specs.declared.step.Role.{Role}
 use Rattle.nx_sync.specs.declared.step.Role.TheVariants.{Dx, Rx}
 use Rattle.nx_sync.specs.declared.synchroniser.Track.{Track}
 use Rattle.nx_sync.specs.Locks.{phasing_1, other, is_dx, is_wrong, one_if, role_of, wrong_in, wrong_until, ends_at, change_at}
-use Rattle.nx_sync.specs.Synchroniser.{wrong_marks, was_p1, p1_marks, is_end, change_of}
+use Rattle.nx_sync.specs.Synchroniser.{wrong_marks, was_p1, p1_marks}
+use Rattle.nx_sync.specs.Parts.{is_end, change_of}
 use Rattle.nx_sync.proofs.Lists.{keep_last-push}
 
 -- marks look at their words alone

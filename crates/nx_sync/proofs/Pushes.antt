@@ -11,7 +11,8 @@ use Rattle.nx_sync.specs.declared.step.Change.TheVariants.{Locked}
 use Rattle.nx_sync.specs.declared.step.Step.{Step}
 use Rattle.nx_sync.specs.declared.synchroniser.Track.{Track}
 use Rattle.nx_sync.specs.Locks.{phasing_1, before_dx, before_rx, other, is_wrong, last_28, IsPattern, word_at, first_role, role_of, release, Lock, Now, hunting, locked, IsHunting, IsLocked, IsNow, LockStands, step, found, word, inside, over, hunts, IsStep}
-use Rattle.nx_sync.specs.Synchroniser.{Held, role_after, track_from, track_after, Completes, wrong_marks, p1_marks, Follows, Tracks, StandsAfter}
+use Rattle.nx_sync.specs.Synchroniser.{Held, wrong_marks, p1_marks, Follows, Tracks, StandsAfter}
+use Rattle.nx_sync.specs.Parts.{role_after, track_from, track_after, Completes}
 use Rattle.nx_sync.proofs.Lists.{padded-push}
 use Rattle.nx_sync.proofs.More.{word_at-more, first_role-more, Past-within}
 use Rattle.nx_sync.proofs.OneBit.{hunts_on, locks_now, stands_on, ends_now}

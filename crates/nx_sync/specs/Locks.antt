@@ -35,13 +35,13 @@ before_rx = elements_of_1 ++ elements_of_2 ++ elements_of_1 ++ elements_of_2
 abbrev pub last_28 : List Bool → ℕ → List Bool
 last_28 bits t = take 28 (drop (t - 28) bits)
 
--- the 28 bits before the bit count t are there, and are one of the two patterns
+-- the 28 bits before the bit count t are there, and are one of the two patterns (this profile)
 pub record IsPattern (bits : List Bool) (t : ℕ) : Type 0 where
   pub enough : 28 ≤ t
   pub heard : t ≤ length bits
   pub pattern : (last_28 bits t ≡ before_dx) ⊎ (last_28 bits t ≡ before_rx)
 
--- A search from p finds t: the least bit count greater than p with a pattern before it.
+-- A search from p finds t: the least bit count greater than p with a pattern before it (this profile).
 pub record Finds (bits : List Bool) (p t : ℕ) : Type 0 where
   pub after : p < t
   pub here : IsPattern bits t
@@ -51,11 +51,12 @@ pub record Finds (bits : List Bool) (p t : ℕ) : Type 0 where
 pub record FindsNone (bits : List Bool) (p : ℕ) : Type 0 where
   pub never : (s : ℕ) → p < s → IsPattern bits s → ⊥
 
--- the number of word k of the lock at t, the bits t + 7k to t + 7k + 6
+-- the number of word k of the lock at t, the bits t + 7k to t + 7k + 6 (seven elements a word: M.476, M.625)
 unfoldable pub word_at : List Bool → ℕ → ℕ → ℕ
 word_at bits t k = number_of (take 7 (drop (t + 7 * k) bits))
 
--- the role of word 0 of the lock at t: DX where the pattern ended with phasing signal 1, else RX
+-- the role of word 0 of the lock at t: DX where the pattern ended with phasing signal 1, else RX (in M.625's mode B
+-- phasing signal 2 is sent as DX and phasing signal 1 as RX)
 unfoldable pub first_role : List Bool → ℕ → Role
 first_role bits t = if number_of (take 7 (drop (t - 7) bits)) == phasing_1 then Dx else Rx
 
@@ -63,7 +64,7 @@ abbrev pub other : Role → Role
 other Dx = Rx
 other Rx = Dx
 
--- The role of word k where word 0 has the role `first`: roles alternate.
+-- The role of word k where word 0 has the role `first`: roles alternate (M.625, mode B).
 unfoldable pub role_of : Role → ℕ → Role
 role_of first zero = first
 role_of first (suc k) = other (role_of first k)
@@ -102,7 +103,7 @@ change_at first words k =
     if ends_at first words k then Some Ended else (if nat_le 40 (wrong_until words k) then Some LostLock else None)
 
 -- The lock ends with word k, a DX word, at least word 2: it and the DX word before it are both phasing signal 1. The
--- word that releases it is then word k + 3.
+-- word that releases it is then word k + 3 (this profile).
 pub record IsEnd (first : Role) (words : ℕ → ℕ) (k : ℕ) : Type 0 where
   pub two : 2 ≤ k
   pub dx : role_of first k ≡ Dx
@@ -115,12 +116,12 @@ pub record EndedAt (first : Role) (words : ℕ → ℕ) (w : ℕ) : Type 0 where
   pub here : IsEnd first words (w - 3)
   pub least : (k : ℕ) → k < w - 3 → IsEnd first words k → ⊥
 
--- Lost at word w: the least word with at least 40 wrong ones among the words max(0, w - 63) to w.
+-- Lost at word w: the least word with at least 40 wrong ones among the words max(0, w - 63) to w (this profile).
 pub record LostAt (words : ℕ → ℕ) (w : ℕ) : Type 0 where
   pub here : 40 ≤ wrong_until words w
   pub least : (k : ℕ) → k < w → wrong_until words k < 40
 
--- Word w is the earlier of the word of Ended and the word of Lost; where they are the same, it is Ended.
+-- Word w is the earlier of the word of Ended and the word of Lost; where they are the same, it is Ended (this profile).
 pub data IsEarlier (first : Role) (words : ℕ → ℕ) (w : ℕ) : Change → Type 0 where
   ended : EndedAt first words w → ((v : ℕ) → LostAt words v → w ≤ v) → IsEarlier first words w Ended
   lost : LostAt words w → ((v : ℕ) → EndedAt first words v → w < v) → IsEarlier first words w LostLock
@@ -154,7 +155,7 @@ pub record IsPast (bits : List Bool) (lock : Lock) (p : ℕ) : Type 0 where
   pub next : p ≡ lock.at + 7 * (lock.last + 1)
 
 -- The locks that were released, the newest first, and the bit count p from which is searched after them. The first
--- search is from 0.
+-- search is from 0, each other one from the bit count after the word that released the lock before (this profile).
 unfoldable pub Past : List Bool → List Lock → ℕ → Type 0
 Past bits [] p = p ≡ 0
 Past bits (lock ∷ older) p = IsPast bits lock p × Past bits older lock.from

@@ -4,8 +4,9 @@ ghost use Rattle.std.specs.Prelude.{◌≡◌, ◌+◌, ◌<◌, ◌≤◌, ◌�
 ghost use Rattle.nx_code.specs.Word.{number_of};
 ghost use Rattle.circular_buffer.specs.Buffer.{keep_last, buffer};
 ghost use Rattle.nx_sync.specs.Locks.{is_wrong, other, is_dx, step, LockStands, IsStep};
-ghost use Rattle.nx_sync.specs.Synchroniser as spec;
-ghost use Rattle.nx_sync.specs.Synchroniser.{track_from, track_after, is_end, StandsAfter, Completes};
+ghost use Rattle.nx_sync.specs.Parts as spec;
+ghost use Rattle.nx_sync.specs.Parts.{track_from, track_after, is_end, Completes};
+ghost use Rattle.nx_sync.specs.Synchroniser.{StandsAfter};
 
 use crate::step::{Change, Role, Step};
 use circular_buffer::HeapCircularBuffer;
