@@ -1,2 +1,6 @@
+pub mod CharacterLemmas
+pub mod ReadingLemmas
+mod SpellingLaws
+pub mod SpellingLemmas
 mod TableLemmas
-mod WordLemmas
+pub mod WordLemmas

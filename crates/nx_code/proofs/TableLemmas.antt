@@ -1,5 +1,5 @@
 -- What holds over the whole table, by one computation each.
-use Rattle.std.proofs.Common.{◌≡◌, ℕ, ◌-◌, ◌<◌, ◌≤◌, refl, sym, ap, ◌∙◌, subst, Bool, true, false, eqb, ltb, Option, Some, None, List, length, map, get_or, arith, lit<}
+use Rattle.std.proofs.Common.{◌≡◌, ℕ, ◌+◌, ◌<◌, ◌≤◌, refl, sym, ap, ◌∙◌, subst, Bool, true, false, eqb, ltb, Option, Some, None, map, get_or, arith}
 use Rattle.std.specs.Option.{is_some}
 use Rattle.std.specs.List.{position}
 use Rattle.std.proofs.lemmas.Bool.{agree_below_at, eqb-true, ltb-true}
@@ -15,6 +15,10 @@ use Rattle.nx_code.specs.declared.signals.Signal.TheVariants.{Traffic, Alpha, Be
 use Rattle.nx_code.specs.Word.{weight, elements, elements_from}
 use Rattle.nx_code.specs.Table.{table, words, place_of}
 use Rattle.nx_code.specs.Signal.{place, number_of_signal}
+use Rattle.nx_code.specs.Reading.{printed}
+use Rattle.nx_code.specs.declared.shifts.Shift.TheVariants.{Letters, Figures}
+use Rattle.std.specs.List.{range_with_len}
+use Rattle.std.proofs.lemmas.List.FromFn.{get_or-map-range_with_len}
 
 -- a word has weight four exactly where it is in the table
 pub weight-place_of : (word : ℕ) → word < 128 → eqb (weight word) 4 ≡ is_some (place_of word)
@@ -53,11 +57,11 @@ place_of-Some word at h =
     let found = position-Some (λ n. eqb n word) words at 0 h in
     (found.0, eqb-true (get_or words at 0) word found.1)
 
-abbrev is_at : Option ℕ → ℕ → Bool
+abbrev pub is_at : Option ℕ → ℕ → Bool
 is_at None at = false
 is_at (Some other) at = eqb other at
 
-Some-is_at : (found : Option ℕ) (at : ℕ) → is_at found at ≡ true → found ≡ Some at
+pub Some-is_at : (found : Option ℕ) (at : ℕ) → is_at found at ≡ true → found ≡ Some at
 Some-is_at None at h = cc
 Some-is_at (Some other) at h = ap Some (eqb-true other at h)
 
@@ -115,3 +119,20 @@ not_nowhere signal word h none =
 
 abbrev pub number_of_place : ℕ → ℕ
 number_of_place at = get_or words at 0
+
+-- the columns of the code's table are what the combinations print
+column-TABLE : map (λ (row : Row). row.letter) TABLE ≡ map (λ k. printed (k + 1) Letters) (range_with_len 0 35)
+unfolding table printed
+column-TABLE = refl
+
+figures-TABLE : map (λ (row : Row). row.figure) TABLE ≡ map (λ k. printed (k + 1) Figures) (range_with_len 0 35)
+unfolding table printed
+figures-TABLE = refl
+
+pub letter-TABLE : (at : ℕ) (row : Row) → at < 35 → (get_or TABLE at row).letter ≡ printed (at + 1) Letters
+letter-TABLE at row h =
+    sym (get_or-map (λ (r : Row). r.letter) TABLE at row None h) ∙ ap (λ l. get_or l at None) column-TABLE ∙ get_or-map-range_with_len (λ k. printed (k + 1) Letters) 0 35 at at None h (omega arith)
+
+pub figure-TABLE : (at : ℕ) (row : Row) → at < 35 → (get_or TABLE at row).figure ≡ printed (at + 1) Figures
+figure-TABLE at row h =
+    sym (get_or-map (λ (r : Row). r.figure) TABLE at row None h) ∙ ap (λ l. get_or l at None) figures-TABLE ∙ get_or-map-range_with_len (λ k. printed (k + 1) Figures) 0 35 at at None h (omega arith)

@@ -1,10 +1,12 @@
 //! The one table of the code, from which all calls answer (M.476, M.625).
 
-ghost use Rattle.std.specs.Prelude.{◌≡◌, ◌==◌, ◌<◌, ◌↔◌, IsSome, IfSome, position, slice_index};
+ghost use Rattle.std.specs.Prelude.{◌≡◌, ◌+◌, ◌==◌, ◌<◌, ◌↔◌, IsSome, IfSome, position, slice_index};
 ghost use Rattle.nx_code.specs.Word.{weight};
 ghost use Rattle.nx_code.specs.Table.{place_of, words};
 ghost use Rattle.nx_code.specs.Signal.{place, number_of_signal};
+ghost use Rattle.nx_code.specs.Reading.{printed};
 ghost use Rattle.nx_code.specs.declared.signals.Signal.{Signal};
+ghost use Rattle.nx_code.specs.declared.shifts.Shift.TheVariants.{Letters, Figures};
 
 use crate::signals::{Comb, Signal};
 use crate::words::Word;
@@ -82,10 +84,12 @@ fn place_of(number: u8) -> Option<usize>
 }
 
 /// The row at a place of the table.
-fn row_at(place: usize) -> Row
+pub(crate) fn row_at(place: usize) -> Row
     requires { place < ROWS }
     ensures word { result.word ≡ slice_index words place }
     ensures range { result.word < 128 }
+    ensures letter { result.letter ≡ printed (place + 1) Letters }
+    ensures figure { result.figure ≡ printed (place + 1) Figures }
 {
     TABLE[place]
 }
