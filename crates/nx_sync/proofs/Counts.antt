@@ -1,0 +1,54 @@
+-- Counts of wrong words, and roles of later words.
+use Rattle.std.proofs.Common.{◌≡◌, ℕ, zero, suc, ◌+◌, ◌*◌, ◌<◌, ◌≤◌, Bool, true, false, refl, ap, ◌∙◌, arith}
+use Rattle.nx_sync.specs.declared.step.Role.{Role}
+use Rattle.nx_sync.specs.declared.step.Role.TheVariants.{Dx, Rx}
+use Rattle.nx_sync.specs.Locks.{other, is_wrong, one_if, role_of, wrong_in}
+
+-- a run of words in two parts
+pub wrong_in-add : (f : ℕ → ℕ) (i a b : ℕ) → wrong_in f i (a + b) ≡ wrong_in f i a + wrong_in f (i + a) b
+unfolding wrong_in
+wrong_in-add f i a zero = let e : a + 0 ≡ a = omega arith in ap (wrong_in f i) e ∙ omega arith
+wrong_in-add f i a (suc b) =
+    let e : a + suc b ≡ suc (a + b) = omega arith in
+    let g : i + (a + b) ≡ i + a + b = omega arith in
+    let w : one_if (is_wrong (f (i + (a + b)))) ≡ one_if (is_wrong (f (i + a + b))) = ap (λ j. one_if (is_wrong (f j))) g in
+    ap (wrong_in f i) e ∙ omega (arith, wrong_in-add f i a b, w)
+
+-- all wrong
+pub wrong_in-all : (f : ℕ → ℕ) (i n : ℕ) → ((j : ℕ) → j < n → is_wrong (f (i + j)) ≡ true) → wrong_in f i n ≡ n
+unfolding wrong_in
+wrong_in-all f i zero all = refl
+wrong_in-all f i (suc n) all =
+    let w : one_if (is_wrong (f (i + n))) ≡ 1 = ap one_if (all n (omega arith)) in
+    omega (arith, wrong_in-all f i n (λ j h. all j (omega arith)), w)
+
+-- none wrong
+pub wrong_in-none : (f : ℕ → ℕ) (i n : ℕ) → ((j : ℕ) → j < n → is_wrong (f (i + j)) ≡ false) → wrong_in f i n ≡ 0
+unfolding wrong_in
+wrong_in-none f i zero all = refl
+wrong_in-none f i (suc n) all =
+    let w : one_if (is_wrong (f (i + n))) ≡ 0 = ap one_if (all n (omega arith)) in
+    omega (arith, wrong_in-none f i n (λ j h. all j (omega arith)), w)
+
+one_if-le : (b : Bool) → one_if b ≤ 1
+one_if-le true = omega arith
+one_if-le false = omega arith
+
+-- no more than there are
+pub wrong_in-le : (f : ℕ → ℕ) (i n : ℕ) → wrong_in f i n ≤ n
+unfolding wrong_in
+wrong_in-le f i zero = omega arith
+wrong_in-le f i (suc n) = omega (arith, wrong_in-le f i n, one_if-le (is_wrong (f (i + n))))
+
+-- two words on, the role is the same
+turned_twice : (role : Role) → other (other role) ≡ role
+turned_twice Dx = refl
+turned_twice Rx = refl
+
+-- an even number of words on, the role is the same
+pub role_of-even : (first : Role) (g j : ℕ) → role_of first (g + 2 * j) ≡ role_of first g
+unfolding role_of
+role_of-even first g zero = let e : g + 2 * 0 ≡ g = omega arith in ap (role_of first) e
+role_of-even first g (suc j) =
+    let e : g + 2 * suc j ≡ suc (suc (g + 2 * j)) = omega arith in
+    ap (role_of first) e ∙ (turned_twice (role_of first (g + 2 * j)) ∙ role_of-even first g j)

@@ -1,0 +1,11 @@
+pub mod Lists
+pub mod More
+pub mod OneBit
+pub mod Patterns
+pub mod Marks
+pub mod Unique
+pub mod Pushes
+pub mod Going
+pub mod Releases
+pub mod Phasing
+pub mod Counts

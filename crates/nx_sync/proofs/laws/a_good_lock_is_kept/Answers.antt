@@ -1,0 +1,5 @@
+use Rattle.nx_sync.proofs.Releases.{kept}
+use Rattle.nx_sync.proofs.laws.a_good_lock_is_kept.Goals as goal
+
+pub returns : goal.returns
+returns c = kept

@@ -1,0 +1,5 @@
+use Rattle.nx_sync.proofs.Releases.{stands_longer}
+use Rattle.nx_sync.proofs.laws.a_lock_stands_on.Goals as goal
+
+pub returns : goal.returns
+returns c = stands_longer

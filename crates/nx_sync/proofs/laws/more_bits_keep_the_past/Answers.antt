@@ -1,0 +1,12 @@
+use Rattle.nx_sync.proofs.More.{Past-more, Finds-more, IsReleased-more, word_at-more, first_role-more, release-more}
+use Rattle.nx_sync.proofs.laws.more_bits_keep_the_past.Goals as goal
+
+pub returns : goal.returns
+returns c = record {
+  past = Past-more;
+  found = Finds-more;
+  released = λ bits more t w how here r. IsReleased-more bits more t w here.enough r;
+  words = word_at-more;
+  roles = λ bits more t here. first_role-more bits more t here.enough here.heard;
+  changes = λ bits more t k here h. release-more bits more t k here.enough h;
+}

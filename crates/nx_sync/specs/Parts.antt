@@ -1,0 +1,53 @@
+-- What the parts of a push answer, for the contracts of the synchroniser's private functions. The contract of `push`
+-- itself speaks of the locks over all bits.
+use Rattle.std.specs.Prelude.{◌≡◌, ℕ, ◌==◌, nat_le, Bool, false, not, ◌&&◌, List, [], ◌∷◌, ◌++◌, drop, get_or, count_by, replicate, Option, Some, None, if◌then◌else◌}
+use Rattle.std.specs.Cmp.Lexicographic.{pointwise}
+use Rattle.std.specs.Bool.{beq}
+use Rattle.circular_buffer.specs.Buffer.{keep_last}
+use Rattle.nx_code.specs.Word.{number_of}
+use Rattle.nx_sync.specs.declared.synchroniser.Track.{Track}
+use Rattle.nx_sync.specs.declared.step.Step.{Step}
+use Rattle.nx_sync.specs.declared.step.Role.{Role}
+use Rattle.nx_sync.specs.declared.step.Role.TheVariants.{Dx, Rx}
+use Rattle.nx_sync.specs.declared.step.Change.{Change}
+use Rattle.nx_sync.specs.declared.step.Change.TheVariants.{Ended, LostLock}
+use Rattle.nx_sync.specs.Locks.{phasing_1, before_dx, before_rx, other, is_dx, is_wrong}
+use Rattle.nx_sync.specs.Synchroniser.{Held}
+
+-- the role of the word that follows these 28 bits, where they are one of the two patterns
+unfoldable pub role_after : List Bool → Option Role
+role_after window =
+    if pointwise beq window before_dx then Some Dx else (if pointwise beq window before_rx then Some Rx else None)
+
+-- the track of a lock whose first word has the role
+abbrev pub track_from : Role → Track
+track_from role = record { role = role; filled = 0; was_p1 = replicate 5 false }
+
+-- the track after a word
+abbrev pub track_after : Track → ℕ → Track
+track_after track word = record {
+  role = other track.role;
+  filled = 0;
+  was_p1 = drop 1 track.was_p1 ++ (word == phasing_1) ∷ [];
+}
+
+-- whether a lock ends with the word that the track fills: it is an RX word, and the words three and five before it
+-- are phasing signal 1
+abbrev pub is_end : Track → Bool
+is_end track = not (is_dx track.role) && get_or track.was_p1 2 false && get_or track.was_p1 0 false
+
+-- which change a word brings, by the track before it and the marks of the last words with its own
+abbrev pub change_of : Track → List Bool → Option Change
+change_of track wrong =
+    if is_end track then Some Ended else (if nat_le 40 (count_by (λ b. b) wrong) then Some LostLock else None)
+
+-- A word is complete: its number is that of the last seven bits, its mark is added, and the track goes on, or there is
+-- none any more where the word brings a change.
+pub record Completes (old : Held) (track : Track) (new : Held) (s : Step) : Type 0 where
+  pub recent : new.recent ≡ old.recent
+  pub seen : new.seen ≡ old.seen
+  pub marks : new.wrong ≡ keep_last 64 (old.wrong ++ is_wrong (number_of (drop 21 old.recent)) ∷ [])
+  pub change : s.change ≡ change_of track new.wrong
+  pub word : s.word ≡ Some (number_of (drop 21 old.recent), track.role)
+  pub goes_on : s.change ≡ None → new.track ≡ Some (track_after track (number_of (drop 21 old.recent)))
+  pub over : (how : Change) → s.change ≡ Some how → new.track ≡ None

@@ -1,0 +1,55 @@
+-- What a synchroniser holds, and after which bits: the layer contract. How it is held is this profile's.
+use Rattle.std.specs.Prelude.{◌≡◌, ℕ, zero, suc, ◌+◌, ◌-◌, ◌*◌, ◌<◌, ◌==◌, nat_le, min, Bool, false, ◌&&◌, List, [], ◌∷◌, ◌++◌, length, replicate, Option, Some, None}
+use Rattle.circular_buffer.specs.Buffer.{keep_last}
+use Rattle.nx_sync.specs.declared.synchroniser.Track.{Track}
+use Rattle.nx_sync.specs.Locks.{phasing_1, is_wrong, word_at, first_role, role_of, Lock, Now, hunting, locked, IsNow}
+
+-- what contracts see of a synchroniser: the last bits, how many of them were heard, the word that is being filled
+-- where a lock stands, and whether each of the last words of the lock was wrong
+pub record Held : Type 0 where
+  pub recent : List Bool
+  pub seen : ℕ
+  pub track : Option Track
+  pub wrong : List Bool
+
+-- whether each of the first n words is wrong
+unfoldable pub wrong_marks : (ℕ → ℕ) → ℕ → List Bool
+wrong_marks words zero = []
+wrong_marks words (suc n) = wrong_marks words n ++ is_wrong (words n) ∷ []
+
+-- whether word i - 5 is there and is phasing signal 1
+abbrev pub was_p1 : (ℕ → ℕ) → ℕ → Bool
+was_p1 words i = nat_le 5 i && (words (i - 5) == phasing_1)
+
+-- whether each of the five words before word n is phasing signal 1
+unfoldable pub p1_marks : (ℕ → ℕ) → ℕ → List Bool
+p1_marks words n =
+    was_p1 words n ∷ was_p1 words (n + 1) ∷ was_p1 words (n + 2) ∷ was_p1 words (n + 3) ∷ was_p1 words (n + 4) ∷ []
+
+-- the track follows the lock at t: `whole` words are complete, and `filled` bits of the next one were heard
+pub record Follows (bits : List Bool) (t : ℕ) (wrong : List Bool) (track : Track) : Type 0 where
+  pub whole : ℕ
+  pub place : length bits ≡ t + (7 * whole + track.filled)
+  pub short : track.filled < 7
+  pub role : track.role ≡ role_of (first_role bits t) whole
+  pub phasing : track.was_p1 ≡ p1_marks (word_at bits t) whole
+  pub marks : wrong ≡ keep_last 64 (wrong_marks (word_at bits t) whole)
+
+pub record IsFollowed (bits : List Bool) (t : ℕ) (wrong : List Bool) (track : Option Track) : Type 0 where
+  pub one : Track
+  pub is : track ≡ Some one
+  pub follows : Follows bits t wrong one
+
+abbrev pub Tracks : List Bool → Now → List Bool → Option Track → Type 0
+Tracks bits (hunting p) wrong track = track ≡ None
+Tracks bits (locked p t) wrong track = IsFollowed bits t wrong track
+
+-- The layer contract: this is what a synchroniser holds after these bits. `locks` and `now` are what stands then by
+-- the definition of the locks.
+pub record StandsAfter (held : Held) (bits : List Bool) : Type 0 where
+  pub locks : List Lock
+  pub now : Now
+  pub stands : IsNow bits locks now
+  pub recent : held.recent ≡ keep_last 28 (replicate 28 false ++ bits)
+  pub seen : held.seen ≡ min 28 (length bits)
+  pub tracks : Tracks bits now held.wrong held.track

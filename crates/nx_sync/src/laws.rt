@@ -1,0 +1,78 @@
+//! Laws of the locks, over whole lists of bits. Each function does nothing; its contract is the law. They show
+//! that the definition says what a receiver needs, and the crates above build on them.
+
+ghost use Rattle.std.specs.Prelude.{◌≡◌, ℕ, ◌+◌, ◌-◌, ◌*◌, ◌<◌, ◌≤◌, List, Bool, false, [], ◌∷◌, ◌++◌, length};
+ghost use Rattle.nx_sync.specs.declared.step.Change.{Change as How};
+ghost use Rattle.nx_sync.specs.declared.step.Role.{Role as RoleOf};
+ghost use Rattle.nx_code.specs.Word.{number_of};
+ghost use Rattle.nx_code.specs.Signal.{number_of_signal};
+ghost use Rattle.nx_code.specs.declared.signals.Signal.{Signal};
+ghost use Rattle.nx_sync.specs.Locks.{phasing_1, phasing_2, elements_of_1, elements_of_2, is_wrong, IsPattern, Finds, word_at, first_role, role_of, wrong_in, wrong_until, IsEnd, IsEarlier, release, IsReleased, Lock, Past, Now, IsLocked, IsNow, Standing, GoesOn, Stood, OneMore, phasing, LockedBeforeDx};
+
+/// The elements and the numbers of the phasing signals are those of the code table, and both have the right weight.
+pub fn phasing_signals_are_in_the_table()
+    ensures first { (number_of elements_of_1 ≡ phasing_1) × (number_of_signal Signal.Alpha ≡ phasing_1) }
+    ensures second { (number_of elements_of_2 ≡ phasing_2) × (number_of_signal Signal.Repeat ≡ phasing_2) }
+    ensures right { (is_wrong phasing_1 ≡ false) × (is_wrong phasing_2 ≡ false) }
+{}
+
+/// After every list of bits something stands, and only one thing: the past locks, and hunting or a lock.
+pub fn what_stands_is_unique()
+    ensures stands { (bits : List Bool) → Standing bits }
+    ensures locks { (bits : List Bool) (locks others : List Lock) (now was : Now) → IsNow bits locks now → IsNow bits others was → locks ≡ others }
+    ensures now { (bits : List Bool) (locks others : List Lock) (now was : Now) → IsNow bits locks now → IsNow bits others was → now ≡ was }
+{}
+
+/// More bits don't change what is past: the past locks, where a lock was found, and the words that were heard
+/// whole, their roles and what they bring.
+pub fn more_bits_keep_the_past()
+    ensures past { (bits more : List Bool) (locks : List Lock) (p : ℕ) → Past bits locks p → Past (bits ++ more) locks p }
+    ensures found { (bits more : List Bool) (p t : ℕ) → Finds bits p t → Finds (bits ++ more) p t }
+    ensures released { (bits more : List Bool) (t w : ℕ) (how : How) → IsPattern bits t → IsReleased bits t w how → IsReleased (bits ++ more) t w how }
+    ensures words { (bits more : List Bool) (t k : ℕ) → t + 7 * (k + 1) ≤ length bits → word_at (bits ++ more) t k ≡ word_at bits t k }
+    ensures roles { (bits more : List Bool) (t : ℕ) → IsPattern bits t → first_role (bits ++ more) t ≡ first_role bits t }
+    ensures changes { (bits more : List Bool) (t k : ℕ) → IsPattern bits t → t + 7 * (k + 1) ≤ length bits → release (bits ++ more) t k ≡ release bits t k }
+{}
+
+/// What stands after more bits comes from what stood: hunting goes on, finds a lock, or led to the next past
+/// lock; a lock that stood still stands, or is the next past lock.
+pub fn what_stood_goes_on()
+    ensures stood { (bits more : List Bool) (locks : List Lock) (now : Now) → IsNow (bits ++ more) locks now → Stood bits locks now }
+    ensures goes_on { (bits more : List Bool) (older locks : List Lock) (was now : Now) → IsNow bits older was → IsNow (bits ++ more) locks now → GoesOn older was locks now }
+{}
+
+/// One more bit leaves the past locks as they are, or adds the lock that it releases.
+pub fn one_bit_more()
+    ensures { (bits : List Bool) (bit : Bool) (older locks : List Lock) (was now : Now) → IsNow bits older was → IsNow (bits ++ bit ∷ []) locks now → OneMore (bits ++ bit ∷ []) older was locks now }
+{}
+
+/// A lock that stands goes on standing where each later word leaves fewer than 40 of the last 64 words wrong and
+/// releases nothing three words after an end.
+pub fn a_lock_stands_on()
+    ensures { (bits more : List Bool) (locks : List Lock) (p t : ℕ) → IsLocked bits locks p t
+        → ((k : ℕ) → length bits < t + 7 * (k + 1) → t + 7 * (k + 1) ≤ length (bits ++ more) → wrong_until (word_at (bits ++ more) t) k < 40)
+        → ((k : ℕ) → length bits < t + 7 * (k + 4) → t + 7 * (k + 4) ≤ length (bits ++ more) → IsEnd (first_role (bits ++ more) t) (word_at (bits ++ more) t) k → ⊥)
+        → IsLocked (bits ++ more) locks p t }
+{}
+
+/// A lock is released after the earlier of two words, the least word of Ended and the least word of Lost, as Ended
+/// where they are the same.
+pub fn the_earlier_releases()
+    ensures earlier { (bits : List Bool) (t w : ℕ) (how : How) → IsReleased bits t w how → IsEarlier (first_role bits t) (word_at bits t) w how }
+    ensures released { (bits : List Bool) (t w : ℕ) (how : How) → t + 7 * (w + 1) ≤ length bits → IsEarlier (first_role bits t) (word_at bits t) w how → IsReleased bits t w how }
+{}
+
+/// A lock is not released while each run of at most 64 of its words has fewer than 40 wrong ones and no two DX words
+/// in a row are phasing signal 1.
+pub fn a_good_lock_is_kept()
+    ensures { (bits : List Bool) (locks : List Lock) (p t : ℕ) → Past bits locks p → Finds bits p t
+        → ((i n : ℕ) → n ≤ 64 → t + 7 * (i + n) ≤ length bits → wrong_in (word_at bits t) i n < 40)
+        → ((k : ℕ) → t + 7 * (k + 3) ≤ length bits → role_of (first_role bits t) k ≡ RoleOf.Dx → word_at bits t k ≡ phasing_1 → word_at bits t (k + 2) ≡ phasing_1 → ⊥)
+        → IsLocked bits locks p t }
+{}
+
+/// 48 phasing words as sent (P2 P1, 24 times) leave a lock on their word limits and with P2 as DX, whatever bits came
+/// before them.
+pub fn phasing_locks()
+    ensures { (earlier : List Bool) → LockedBeforeDx (earlier ++ phasing 24) }
+{}

@@ -1,0 +1,12 @@
+//! The synchroniser of a NAVTEX receiver: it hears one element after the other, finds the limits of the words and
+//! their roles from the phasing, and says when a lock is over.
+#![tactic(auto)]
+
+pub mod laws;
+mod step;
+mod synchroniser;
+#[cfg(test)]
+mod tests;
+
+pub use step::{Change, Role, Step};
+pub use synchroniser::Synchroniser;
