@@ -1,2 +1,3 @@
 pub mod Identity
 pub mod Letter
+pub mod Moment

@@ -3,6 +3,8 @@
 
 mod identity;
 mod letter;
+mod moment;
 
 pub use identity::Identity;
 pub use letter::Letter;
+pub use moment::{CIVIL_LEN, LAST_MOMENT, civil};
