@@ -1,1 +1,2 @@
 pub mod CivilTimes
+pub mod Words

@@ -1,3 +1,6 @@
 pub mod Identity
 pub mod Letter
+pub mod Marker
+pub mod Message
+pub mod MessageView
 pub mod Moment

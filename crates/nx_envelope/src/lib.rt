@@ -3,8 +3,10 @@
 
 mod identity;
 mod letter;
+mod message;
 mod moment;
 
 pub use identity::Identity;
 pub use letter::Letter;
+pub use message::{END_MARKER, MAX_LINE, MAX_TEXT, Message, MessageFault, START_MARKER};
 pub use moment::{CIVIL_LEN, LAST_MOMENT, civil};

@@ -1,0 +1,3 @@
+mod TableLemmas
+mod WordLemmas
+pub mod ReadingLemmas
