@@ -1,2 +1,3 @@
 pub mod CivilTimes
+pub mod Lines
 pub mod Words

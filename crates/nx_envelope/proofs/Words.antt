@@ -1,8 +1,8 @@
 -- A word that stands somewhere in a text, by the places at which the rest of the text begins with it.
-use Rattle.std.proofs.Common.{◌≡◌, ℕ, ◌+◌, ◌<◌, refl, Bool, true, false, List, [], ◌∷◌, ◌++◌, map, get_or, length, take, drop, eqb, sym, subst, ap, ◌∙◌, arith, append_assoc, length-append}
+use Rattle.std.proofs.Common.{◌≡◌, ℕ, ◌+◌, ◌<◌, refl, Bool, true, false, List, ◌++◌, length, take, drop, eqb, sym, subst, ap, ◌∙◌, arith, append_assoc, length-append}
 use Rattle.std.specs.List.{starts_with}
 use Rattle.std.proofs.lemmas.Bool.Decides.{Decides-eqb}
-use Rattle.std.proofs.lemmas.List.{take-append-drop, drop_at, map_push, map_more, take-map}
+use Rattle.std.proofs.lemmas.List.{take-append-drop, drop_at}
 use Rattle.std.proofs.lemmas.Slice.Eq.{starts_is}
 use Rattle.nx_envelope.specs.Marker.{HoldsWord}
 
@@ -29,13 +29,4 @@ holds_none text word some none h =
     let long : length text ≡ length h.front + length word + length h.back = ap length h.spelled ∙ simp length-append in
     let yes = begins_at text word h in
     let no = none (length h.front) (omega arith) in
-    cc
-
--- one more item of two lists that are alike under what they show
-pub map_more_alike : {V W : Type 0} (f : V → List ℕ) (g : W → List ℕ) (kept : List V) (lines : List W) (i : ℕ) (d : W) (x : V) → i < length lines → map f kept ≡ take i (map g lines) → f x ≡ g (get_or lines i d) → map f (kept ++ x ∷ []) ≡ take (i + 1) (map g lines)
-map_more_alike f g kept lines i d x lt same new =
-    let pushed = map_push f kept x in
-    let more = map_more g lines i d lt in
-    let here = take-map g i lines in
-    let there = take-map g (i + 1) lines in
     cc

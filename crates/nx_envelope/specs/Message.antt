@@ -1,14 +1,19 @@
 -- This profile: the lines and the text of a message (the text between the header and the end of ITU-R M.540), and
 -- what is wrong with lines that make none.
-use Rattle.std.specs.Prelude.{◌≡◌, ◌≢◌, ℕ, ◌+◌, ◌<◌, ◌≤◌, ◌⊎◌, List, [], ◌∷◌, ◌++◌, length, take, All, slice_index, slice_index_or}
+use Rattle.std.specs.Prelude.{◌≡◌, ◌≢◌, ℕ, ◌+◌, ◌<◌, ◌≤◌, ◌⊎◌, List, [], ◌∷◌, ◌++◌, length, take, All, IsTrue, slice_index, slice_index_or}
 use Rattle.std.specs.List.{flat_map}
+use Rattle.nx_code.specs.Characters.{is_in_code}
 use Rattle.nx_envelope.specs.Marker.{HoldsWord, start_marker, end_marker}
 use Rattle.nx_envelope.specs.declared.message.MessageFault.{MessageFault}
 use Rattle.nx_envelope.specs.declared.message.MessageFault.TheVariants.{LongLine, BadCharacter, Reserved, LongText, Memory}
 
+-- the byte that ends a line of a text
+abbrev pub newline : ℕ
+newline = 10
+
 -- a byte that a line may hold: it is in the code and no newline
 abbrev pub IsLineByte : ℕ → Type 0
-IsLineByte b = (32 ≤ b) × (b ≤ 90)
+IsLineByte b = IsTrue (is_in_code b) × (b ≢ newline)
 
 -- one of the two markers stands in the line
 abbrev pub HasReservedWord : List ℕ → Type 0
@@ -22,7 +27,7 @@ pub record IsLine (line : List ℕ) : Type 0 where
 
 -- the text of a message: its lines, each followed by a newline
 abbrev pub text_of : List (List ℕ) → List ℕ
-text_of = flat_map (λ line. line ++ 10 ∷ [])
+text_of = flat_map (λ line. line ++ newline ∷ [])
 
 -- the lines of a message: lines of which each is good, and together at most 4,096 characters of text
 pub record AreLines (lines : List (List ℕ)) : Type 0 where

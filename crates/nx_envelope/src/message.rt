@@ -5,11 +5,10 @@ ghost use Rattle.std.specs.Option.{option_copied};
 ghost use Rattle.nx_envelope.specs.Marker.{HoldsWord};
 ghost use Rattle.nx_envelope.specs.MessageView.{MessageView};
 
+use crate::identity::Identity;
 use std::alloc::{AllocError, Global};
 use std::marker::Model;
 use thiserror::Error;
-
-use crate::identity::Identity;
 
 /// The most characters of a line.
 pub const MAX_LINE: usize = 69;
@@ -22,6 +21,11 @@ pub const START_MARKER: [u8; 4] = *b"ZCZC";
 
 /// The letters that end a message.
 pub const END_MARKER: [u8; 4] = *b"NNNN";
+
+const CHARACTERS: [u8; 49] = *b"ABCDEFGHIJKLMNOPQRSTUVWXYZ0123456789 -?:().,'=+/\n";
+
+/// The byte that ends a line of a text.
+const NEWLINE: u8 = b'\n';
 
 /// Why lines make no message.
 #[derive(Debug, PartialEq, Eq, Drop, Error)]
@@ -120,7 +124,7 @@ impl Message {
 fn is_line_byte(byte: u8) -> bool
     ensures { IsTrue result ↔ IsLineByte byte }
 {
-    (32..=90).contains(&byte)
+    byte != NEWLINE && CHARACTERS.contains(&byte)
 }
 
 /// Whether the word stands somewhere in the line.

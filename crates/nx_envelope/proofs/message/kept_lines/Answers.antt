@@ -1,5 +1,5 @@
 use Rattle.std.proofs.Common.{◌≡◌, ◌<◌, length, arith, refl}
-use Rattle.nx_envelope.proofs.Words.{map_more_alike}
+use Rattle.nx_envelope.proofs.Lines.{map_more_alike}
 use Rattle.nx_envelope.proofs.message.kept_lines.Goals as goal
 
 pub loop-line-preserved : goal.loop-line-preserved
