@@ -1,3 +1,4 @@
+mod CharacterLemmas
 mod TableLemmas
 mod WordLemmas
 pub mod ReadingLemmas

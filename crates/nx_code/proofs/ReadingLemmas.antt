@@ -25,5 +25,5 @@ pub reading_push : (xs : List Reception) (x : Reception) (old new : Shift) (resu
     → (new ≡ shift_after_all (xs ++ x ∷ []) Letters) × (text (xs ++ x ∷ []) Letters ≡ text xs Letters ++ option_to_list result)
 reading_push xs x old new result printed after stands = (
   after ∙ ap (shift_after x) stands ∙ sym (shift_after_all-append xs (x ∷ []) Letters),
-  text-push xs x Letters ∙ ap (λ o. text xs Letters ++ option_to_list o) (sym (printed ∙ ap (prints x) stands))
+  text-push xs x Letters ∙ ap (λ o. text xs Letters ++ option_to_list o) (sym (printed ∙ ap (prints x) stands)),
 )
