@@ -6,6 +6,7 @@ ghost use Rattle.nx_envelope.specs.Marker.{HoldsWord};
 ghost use Rattle.nx_envelope.specs.MessageView.{MessageView};
 
 use crate::identity::Identity;
+use nx_code::char_to_code;
 use std::alloc::{AllocError, Global};
 use std::marker::Model;
 use thiserror::Error;
@@ -21,8 +22,6 @@ pub const START_MARKER: [u8; 4] = *b"ZCZC";
 
 /// The letters that end a message.
 pub const END_MARKER: [u8; 4] = *b"NNNN";
-
-const CHARACTERS: [u8; 49] = *b"ABCDEFGHIJKLMNOPQRSTUVWXYZ0123456789 -?:().,'=+/\n";
 
 /// The byte that ends a line of a text.
 const NEWLINE: u8 = b'\n';
@@ -124,7 +123,7 @@ impl Message {
 fn is_line_byte(byte: u8) -> bool
     ensures { IsTrue result ↔ IsLineByte byte }
 {
-    byte != NEWLINE && CHARACTERS.contains(&byte)
+    byte != NEWLINE && char_to_code(byte).is_some()
 }
 
 /// Whether the word stands somewhere in the line.
