@@ -1,3 +1,5 @@
 pub mod CivilTimes
+pub mod Headers
 pub mod Lines
+pub mod Stages
 pub mod Words

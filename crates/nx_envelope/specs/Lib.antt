@@ -1,6 +1,9 @@
+pub mod Digits
+pub mod Header
 pub mod Identity
 pub mod Letter
 pub mod Marker
 pub mod Message
 pub mod MessageView
 pub mod Moment
+pub mod Stage

@@ -1,7 +1,8 @@
 -- This profile: a moment is a count of whole seconds since 1970-01-01 00:00:00 UTC, and is printed as the civil
 -- date and time of the Gregorian calendar.
-use Rattle.std.specs.Prelude.{◌≡◌, ℕ, ◌+◌, ◌*◌, ◌/◌, ◌%◌, ◌<◌, List, [], ◌∷◌, ◌++◌, ℤ, pos, ◌+ℤ◌, ◌*ℤ◌}
+use Rattle.std.specs.Prelude.{◌≡◌, ℕ, ◌+◌, ◌*◌, ◌/◌, ◌%◌, ◌<◌, List, ◌∷◌, ◌++◌, ℤ, pos, ◌+ℤ◌, ◌*ℤ◌}
 use Rattle.jiff_core.specs.Calendar.{IsCivilDate, days_from_civil}
+use Rattle.nx_envelope.specs.Digits.{two_digits}
 use Rattle.nx_envelope.specs.declared.moment.CivilTime.{CivilTime}
 
 -- the calendar has this day, and a clock shows this time
@@ -22,10 +23,6 @@ day_number t = days_from_civil (pos t.year) t.month t.day
 -- 86,400 times the day number and the second of the day are the moment
 abbrev pub IsMomentOf : CivilTime → ℕ → Type 0
 IsMomentOf t moment = day_number t *ℤ pos 86400 +ℤ pos (second_of_day t) ≡ pos moment
-
--- the two decimal digits of a number below 100
-abbrev pub two_digits : ℕ → List ℕ
-two_digits n = (48 + n / 10) ∷ (48 + n % 10) ∷ []
 
 -- the text YYYY-MM-DD HH:MM:SS, where 45 is a hyphen, 32 a space and 58 a colon
 abbrev pub civil_text : CivilTime → List ℕ

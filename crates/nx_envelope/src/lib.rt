@@ -1,10 +1,12 @@
 //! Identities and messages of NAVTEX (ITU-R M.540), and the copies of messages in a received text.
 #![tactic(auto)]
 
+mod digit;
 mod identity;
 mod letter;
 mod message;
 mod moment;
+mod stage;
 
 pub use identity::Identity;
 pub use letter::Letter;

@@ -1,7 +1,8 @@
 //! Moments, and the civil time that they are printed as.
 
 ghost use Rattle.std.specs.Prelude.{◌≡◌, ◌↔◌, ◌<◌, ◌≤◌, IfSome, IsNone};
-ghost use Rattle.nx_envelope.specs.Moment.{IsCivilTime, IsMomentOf, IsShownAs, civil_text, two_digits as digits_of};
+ghost use Rattle.nx_envelope.specs.Moment.{IsCivilTime, IsMomentOf, IsShownAs, civil_text};
+ghost use Rattle.nx_envelope.specs.Digits.{two_digits as digits_of};
 
 use jiff::Timestamp;
 use jiff::tz::Offset;

@@ -1,0 +1,106 @@
+-- The stage of a header one byte later.
+use Rattle.std.proofs.Common.{◌≡◌, ◌≢◌, ℕ, ◌+◌, ◌*◌, ◌≤◌, ◌==◌, ◌&&◌, ◌||◌, if◌then◌else◌, Bool, true, false, Option, Some, None, List, ◌∷◌, refl, sym, ap, subst, ◌∙◌, arith}
+use Rattle.std.proofs.lemmas.Bool.Decides.{nat_tests}
+use Rattle.std.proofs.Props.{props}
+use Rattle.nx_envelope.specs.Header.{letter_of, digit_of, both, ends_in, identity_of, identity_with, header_back}
+use Rattle.nx_envelope.specs.Marker.{start_marker}
+use Rattle.nx_envelope.specs.Stage.{IsStageOf, is_spaces, station_in, subject_in, tens_in}
+use Rattle.nx_envelope.specs.declared.digit.Digit.{Digit}
+use Rattle.nx_envelope.specs.declared.identity.Identity.{Identity}
+use Rattle.nx_envelope.specs.declared.letter.Letter.{Letter}
+use Rattle.nx_envelope.specs.declared.stage.Stage.{Stage}
+use Rattle.nx_envelope.specs.declared.stage.Stage.TheVariants.{Nowhere, Spaces, Station, Subject, Tens}
+use Rattle.nx_envelope.proofs.Headers.{stage_parts, both-none, letter_of-space, digit_of-space}
+
+-- a stage stands at the back and a flag tells whether it ends with ZCZC
+pub record Stands (stage : Stage) (start : Bool) (back : List ℕ) : Type 0 where
+  pub is : IsStageOf stage back
+  pub flag : start ≡ ends_in start_marker back
+
+abbrev pub next_spaces : Stage → Bool → ℕ → Bool
+next_spaces stage start b = (b == 32) && (start || is_spaces stage)
+
+abbrev pub next_station : Stage → ℕ → Option Letter
+next_station stage b = if is_spaces stage then letter_of b else None
+
+stage_is : (stage result : Stage) (start : Bool) (b : ℕ) (back : List ℕ) → Stands stage start back → next_spaces stage start b ≡ is_spaces result → next_station stage b ≡ station_in result → both (station_in stage) (letter_of b) ≡ subject_in result → both (subject_in stage) (digit_of b) ≡ tens_in result → IsStageOf result (b ∷ back)
+stage_is stage result start b back h spaces station subject tens =
+    let p = stage_parts stage start b back h.is h.flag in
+    record { spaces = rw p.spaces spaces; station = rw p.station station; subject = rw p.subject subject; tens = rw p.tens tens }
+
+other : (b : ℕ) (rest : Bool) → b ≢ 32 → ((b == 32) && rest) ≡ false
+other b rest apart = let e : (b == 32) ≡ false = grind (arith, nat_tests) in rw e
+
+pub to_station : (l : Letter) (start : Bool) (b : ℕ) (back : List ℕ) → b ≢ 32 → Some l ≡ letter_of b → Stands Spaces start back → IsStageOf (Station l) (b ∷ back)
+to_station l start b back apart e h =
+    stage_is Spaces (Station l) start b back h (other b _ apart) (sym e) refl refl
+
+pub from_spaces : (start : Bool) (b : ℕ) (back : List ℕ) → b ≢ 32 → None ≡ letter_of b → Stands Spaces start back → IsStageOf Nowhere (b ∷ back)
+from_spaces start b back apart e h =
+    stage_is Spaces Nowhere start b back h (other b _ apart) (sym e) refl refl
+
+pub to_subject : (l m : Letter) (start : Bool) (b : ℕ) (back : List ℕ) → b ≢ 32 → Some m ≡ letter_of b → Stands (Station l) start back → IsStageOf (Subject l m) (b ∷ back)
+to_subject l m start b back apart e h =
+    stage_is (Station l) (Subject l m) start b back h (other b _ apart) refl (rw (← e) refl) refl
+
+pub from_station : (l : Letter) (start : Bool) (b : ℕ) (back : List ℕ) → b ≢ 32 → None ≡ letter_of b → Stands (Station l) start back → IsStageOf Nowhere (b ∷ back)
+from_station l start b back apart e h =
+    stage_is (Station l) Nowhere start b back h (other b _ apart) refl (rw (← e) refl) refl
+
+pub to_tens : (l m : Letter) (d : Digit) (start : Bool) (b : ℕ) (back : List ℕ) → b ≢ 32 → Some d ≡ digit_of b → Stands (Subject l m) start back → IsStageOf (Tens l m d) (b ∷ back)
+to_tens l m d start b back apart e h =
+    stage_is (Subject l m) (Tens l m d) start b back h (other b _ apart) refl refl (rw (← e) refl)
+
+pub from_subject : (l m : Letter) (start : Bool) (b : ℕ) (back : List ℕ) → b ≢ 32 → None ≡ digit_of b → Stands (Subject l m) start back → IsStageOf Nowhere (b ∷ back)
+from_subject l m start b back apart e h =
+    stage_is (Subject l m) Nowhere start b back h (other b _ apart) refl refl (rw (← e) refl)
+
+pub from_tens : (l m : Letter) (d : Digit) (start : Bool) (b : ℕ) (back : List ℕ) → b ≢ 32 → Stands (Tens l m d) start back → IsStageOf Nowhere (b ∷ back)
+from_tens l m d start b back apart h =
+    stage_is (Tens l m d) Nowhere start b back h (other b _ apart) refl refl refl
+
+pub from_nowhere : (start : Bool) (b : ℕ) (back : List ℕ) → b ≢ 32 → Stands Nowhere start back → IsStageOf Nowhere (b ∷ back)
+from_nowhere start b back apart h =
+    stage_is Nowhere Nowhere start b back h (other b _ apart) refl refl refl
+
+no_letter : (stage : Stage) → next_station stage 32 ≡ None
+no_letter Nowhere = refl
+no_letter Spaces = letter_of-space
+no_letter (Station l) = refl
+no_letter (Subject l m) = refl
+no_letter (Tens l m d) = refl
+
+pub with_space : (stage result : Stage) (start : Bool) (back : List ℕ) → (start || is_spaces stage) ≡ is_spaces result → station_in result ≡ None → subject_in result ≡ None → tens_in result ≡ None → Stands stage start back → IsStageOf result (32 ∷ back)
+with_space stage result start back e station subject tens h =
+    stage_is stage result start 32 back h e (no_letter stage ∙ sym station) (rw letter_of-space (both-none (station_in stage) ∙ sym subject)) (rw digit_of-space (both-none (subject_in stage) ∙ sym tens))
+
+-- the header that a byte completes
+pub header_is : (stage : Stage) (b : ℕ) (back : List ℕ) → IsStageOf stage back → header_back (b ∷ back) ≡ identity_with (both (tens_in stage) (digit_of b))
+header_is stage b back h = (stage_parts stage (ends_in start_marker back) b back h refl).header
+
+pub not_spaces : (stage : Stage) → stage ≢ Spaces → is_spaces stage ≡ false
+not_spaces Nowhere apart = refl
+not_spaces Spaces apart = absurd (apart refl)
+not_spaces (Station l) apart = refl
+not_spaces (Subject l m) apart = refl
+not_spaces (Tens l m d) apart = refl
+
+-- only behind the first digit can a byte complete a header
+pub not_tens : (stage : Stage) → ((l m : Letter) (d : Digit) → stage ≢ Tens l m d) → tens_in stage ≡ None
+not_tens Nowhere apart = refl
+not_tens Spaces apart = refl
+not_tens (Station l) apart = refl
+not_tens (Subject l m) apart = refl
+not_tens (Tens l m d) apart = absurd (apart l m d refl)
+
+abbrev pub identity_at : Letter → Letter → (n : ℕ) → n ≤ 99 → Identity
+identity_at l m n p = record { b1 = l; b2 = m; number = n; two_digits = p }
+
+same_identity_at : (l m : Letter) (x y : ℕ) (e : x ≡ y) (p : x ≤ 99) (q : y ≤ 99) → identity_at l m x p ≡ identity_at l m y q
+same_identity_at l m x y e =
+    let alike : IsProp (x ≤ 99) = hlevel props in
+    let P : ℕ → Type 0 = λ (z : ℕ). (p : x ≤ 99) (q : z ≤ 99) → identity_at l m x p ≡ identity_at l m z q in
+    subst P e (λ p q. ap (identity_at l m x) (alike p q))
+
+pub identity_is : (l m : Letter) (t u : Digit) (p : t.value * 10 + u.value ≤ 99) → identity_at l m (t.value * 10 + u.value) p ≡ identity_of l m t u
+identity_is l m t u p = same_identity_at l m _ _ refl p _
