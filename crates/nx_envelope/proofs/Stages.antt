@@ -104,3 +104,16 @@ same_identity_at l m x y e =
 
 pub identity_is : (l m : Letter) (t u : Digit) (p : t.value * 10 + u.value ≤ 99) → identity_at l m (t.value * 10 + u.value) p ≡ identity_of l m t u
 identity_is l m t u p = same_identity_at l m _ _ refl p _
+
+and_false : (c : Bool) → (c && false) ≡ false
+and_false true = refl
+and_false false = refl
+
+-- where no header has begun, none goes on
+pub quiet_more : (b : ℕ) (back : List ℕ) → Stands Nowhere false back → IsStageOf Nowhere (b ∷ back)
+quiet_more b back h = stage_is Nowhere Nowhere false b back h (and_false (b == 32)) refl refl refl
+
+pub no_header : (b : ℕ) (back : List ℕ) → IsStageOf Nowhere back → header_back (b ∷ back) ≡ None
+no_header b back h = header_is Nowhere b back h
+
+-- behind a second digit no header has begun

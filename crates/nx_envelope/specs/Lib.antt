@@ -1,4 +1,7 @@
+pub mod Copies
 pub mod Digits
+pub mod Finding
+pub mod Found
 pub mod Header
 pub mod Identity
 pub mod Letter
@@ -6,4 +9,5 @@ pub mod Marker
 pub mod Message
 pub mod MessageView
 pub mod Moment
+pub mod Newline
 pub mod Stage

@@ -4,12 +4,9 @@ use Rattle.std.specs.Prelude.{◌≡◌, ◌≢◌, ℕ, ◌+◌, ◌<◌, ◌�
 use Rattle.std.specs.List.{flat_map}
 use Rattle.nx_code.specs.Characters.{is_in_code}
 use Rattle.nx_envelope.specs.Marker.{HoldsWord, start_marker, end_marker}
+use Rattle.nx_envelope.specs.Newline.{newline}
 use Rattle.nx_envelope.specs.declared.message.MessageFault.{MessageFault}
 use Rattle.nx_envelope.specs.declared.message.MessageFault.TheVariants.{LongLine, BadCharacter, Reserved, LongText, Memory}
-
--- the byte that ends a line of a text
-abbrev pub newline : ℕ
-newline = 10
 
 -- a byte that a line may hold: it is in the code and no newline
 abbrev pub IsLineByte : ℕ → Type 0

@@ -2,13 +2,17 @@
 #![tactic(auto)]
 
 mod digit;
+mod finder;
+mod found;
 mod identity;
 mod letter;
 mod message;
 mod moment;
 mod stage;
 
+pub use finder::Finder;
+pub use found::{FinderStep, Found, How, MAX_FOUND};
 pub use identity::Identity;
 pub use letter::Letter;
-pub use message::{END_MARKER, MAX_LINE, MAX_TEXT, Message, MessageFault, START_MARKER};
+pub use message::{END_MARKER, MAX_LINE, MAX_TEXT, Message, MessageFault, NEWLINE, START_MARKER};
 pub use moment::{CIVIL_LEN, LAST_MOMENT, civil};

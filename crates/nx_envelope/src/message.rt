@@ -24,7 +24,7 @@ pub const START_MARKER: [u8; 4] = *b"ZCZC";
 pub const END_MARKER: [u8; 4] = *b"NNNN";
 
 /// The byte that ends a line of a text.
-const NEWLINE: u8 = b'\n';
+pub const NEWLINE: u8 = b'\n';
 
 /// Why lines make no message.
 #[derive(Debug, PartialEq, Eq, Drop, Error)]
