@@ -1,6 +1,7 @@
 pub mod Beginnings
 pub mod CivilTimes
 pub mod Headers
+pub mod Hearing
 pub mod Lines
 pub mod Parts
 pub mod Raw

@@ -1,8 +1,9 @@
 -- The stage of a header one byte later.
-use Rattle.std.proofs.Common.{◌≡◌, ◌≢◌, ℕ, ◌+◌, ◌*◌, ◌≤◌, ◌==◌, ◌&&◌, ◌||◌, if◌then◌else◌, Bool, true, false, Option, Some, None, List, ◌∷◌, refl, sym, ap, subst, ◌∙◌, arith}
-use Rattle.std.proofs.lemmas.Bool.Decides.{nat_tests}
+use Rattle.std.proofs.Common.{◌≡◌, ◌≢◌, ℕ, ◌+◌, ◌*◌, ◌≤◌, ◌==◌, ◌&&◌, ◌||◌, inl, inr, if◌then◌else◌, Bool, true, false, Option, Some, None, List, [], ◌∷◌, refl, sym, ap, subst, ◌∙◌, arith}
+use Rattle.std.proofs.lemmas.Bool.Decides.{leb_tells, nat_tests}
 use Rattle.std.proofs.Props.{props}
-use Rattle.nx_envelope.specs.Header.{letter_of, digit_of, both, ends_in, identity_of, identity_with, header_back}
+use Rattle.nx_envelope.specs.Digits.{IsDigit}
+use Rattle.nx_envelope.specs.Header.{letter_of, digit_of, both, ends_in, identity_of, identity_with, spaces_back, station_back, subject_back, tens_back, header_back}
 use Rattle.nx_envelope.specs.Marker.{start_marker}
 use Rattle.nx_envelope.specs.Stage.{IsStageOf, is_spaces, station_in, subject_in, tens_in}
 use Rattle.nx_envelope.specs.declared.digit.Digit.{Digit}
@@ -10,7 +11,8 @@ use Rattle.nx_envelope.specs.declared.identity.Identity.{Identity}
 use Rattle.nx_envelope.specs.declared.letter.Letter.{Letter}
 use Rattle.nx_envelope.specs.declared.stage.Stage.{Stage}
 use Rattle.nx_envelope.specs.declared.stage.Stage.TheVariants.{Nowhere, Spaces, Station, Subject, Tens}
-use Rattle.nx_envelope.proofs.Headers.{stage_parts, both-none, letter_of-space, digit_of-space}
+use Rattle.nx_envelope.proofs.Headers.{stage_parts, both-none, letter_of-none, digit_of-none, letter_of-space, digit_of-space}
+use Rattle.nx_envelope.proofs.Raw.{IsPlain}
 
 -- a stage stands at the back and a flag tells whether it ends with ZCZC
 pub record Stands (stage : Stage) (start : Bool) (back : List ℕ) : Type 0 where
@@ -116,4 +118,73 @@ quiet_more b back h = stage_is Nowhere Nowhere false b back h (and_false (b == 3
 pub no_header : (b : ℕ) (back : List ℕ) → IsStageOf Nowhere back → header_back (b ∷ back) ≡ None
 no_header b back h = header_is Nowhere b back h
 
--- behind a second digit no header has begun
+both_first : {A B : Type 0} (o : Option A) (p : Option B) (q : A × B) → both o p ≡ Some q → o ≡ Some q.0
+both_first None p q e = absurd (let contra : None ≡ Some q = e in cc)
+both_first (Some a) None q e = absurd (let contra : None ≡ Some q = e in cc)
+both_first (Some a) (Some b) q e = let same : (a, b) ≡ q = cc in ap (λ z. Some z.0) same
+
+both_second : {A B : Type 0} (o : Option A) (p : Option B) (q : A × B) → both o p ≡ Some q → p ≡ Some q.1
+both_second None p q e = absurd (let contra : None ≡ Some q = e in cc)
+both_second (Some a) None q e = absurd (let contra : None ≡ Some q = e in cc)
+both_second (Some a) (Some b) q e = let same : (a, b) ≡ q = cc in ap (λ z. Some z.1) same
+
+pub record IsWith (o : Option (((Letter × Letter) × Digit) × Digit)) : Type 0 where
+  pub found : ((Letter × Letter) × Digit) × Digit
+  pub is : o ≡ Some found
+
+identity_some : (o : Option (((Letter × Letter) × Digit) × Digit)) (i : Identity) → identity_with o ≡ Some i → IsWith o
+identity_some None i e = absurd (cc)
+identity_some (Some found) i e = record { found = found; is = refl }
+
+-- the digit of a byte says that it is one
+pub digit_of-some : (b : ℕ) (d : Digit) → digit_of b ≡ Some d → IsDigit b
+digit_of-some b d e =
+    elim (leb_tells 48 b) [
+      | inl p ↦ elim (leb_tells b 57) [
+        | inl q ↦ (p.1, q.1)
+        | inr q ↦ absurd (let none = digit_of-none b (λ h. absurd (omega (arith, q.1))) in cc)
+      ]
+      | inr p ↦ absurd (let none = digit_of-none b (λ h. absurd (omega (arith, p.1))) in cc)
+    ]
+
+pub digit_is_plain : (b : ℕ) → IsDigit b → IsPlain b
+digit_is_plain b h = record { no_n = λ e. omega arith; no_z = λ e. omega arith; no_c = λ e. omega arith }
+
+digit_no_letter : (b : ℕ) → IsDigit b → letter_of b ≡ None
+digit_no_letter b h = letter_of-none b (λ l. absurd (omega arith))
+
+if-same : {A : Type 0} (c : Bool) (x : A) → (if c then x else x) ≡ x
+if-same true x = refl
+if-same false x = refl
+
+-- behind a digit there is no subject
+no_subject : (back : List ℕ) (found : (Letter × Letter) × Digit) → tens_back back ≡ Some found → subject_back back ≡ None
+unfolding tens_back subject_back
+no_subject [] found e = refl
+no_subject (t ∷ back) found e =
+    let digit = digit_of-some t found.1 (both_second (subject_back back) (digit_of t) found e) in
+    rw (digit_no_letter t digit) (both-none (station_back back))
+
+-- behind a second digit no header has begun, and the digit is no letter of a marker
+pub record AfterHeader (b : ℕ) (back : List ℕ) : Type 0 where
+  pub plain : IsPlain b
+  pub stage : IsStageOf Nowhere (b ∷ back)
+
+pub after_header : (b : ℕ) (back : List ℕ) (i : Identity) → header_back (b ∷ back) ≡ Some i → AfterHeader b back
+unfolding header_back spaces_back station_back subject_back tens_back
+after_header b back i e =
+    let w = identity_some (both (tens_back back) (digit_of b)) i e in
+    let digit = digit_of-some b w.found.1 (both_second (tens_back back) (digit_of b) w.found w.is) in
+    let tens = both_first (tens_back back) (digit_of b) w.found w.is in
+    let letter = digit_no_letter b digit in
+    let none = no_subject back w.found.0 tens in
+    let apart : b ≢ 32 = λ h. omega arith in
+    record {
+      plain = digit_is_plain b digit;
+      stage = record {
+        spaces = other b _ apart;
+        station = rw letter (if-same (spaces_back back) None);
+        subject = rw letter (both-none (station_back back));
+        tens = rw none refl;
+      };
+    }

@@ -1,18 +1,17 @@
 //! The finder of copies, which sees a received text byte by byte.
 
-ghost use Rattle.std.specs.Prelude.{◌≡◌, ◌<◌, ◌∷◌, ◌++◌, [], ℕ, List};
+ghost use Rattle.std.specs.Prelude.{◌≡◌, ◌<◌, ◌==◌, ◌&&◌, ◌∷◌, ◌++◌, [], ℕ, List};
 ghost use Rattle.arrayvec.specs.ArrayVec.{array_vec_len};
 ghost use Rattle.nx_envelope.specs.Copies.{marker_back};
 ghost use Rattle.nx_envelope.specs.Found.{IsFoundOf};
 ghost use Rattle.nx_envelope.specs.Header.{last_four};
 
-use arrayvec::ArrayVec;
-use std::mem;
-
 use crate::found::{FinderStep, Found, How, MAX_FOUND};
 use crate::identity::Identity;
 use crate::message::{END_MARKER, NEWLINE, START_MARKER};
 use crate::stage::Stage;
+use arrayvec::ArrayVec;
+use std::mem;
 
 /// The length of a marker.
 const MARKER_LEN: usize = 4;
@@ -99,11 +98,10 @@ impl Finder {
         let Some(identity) = self.current else {
             return self.begin(header);
         };
-        if self.fresh {
-            self.fresh = false;
-            if byte == NEWLINE {
-                return Event::Nothing;
-            }
+        let dropped = is_dropped(self.fresh, byte);
+        self.fresh = false;
+        if dropped {
+            return Event::Nothing;
         }
         if let Some(how) = marker_of(self.recent) {
             self.current = None;
@@ -162,6 +160,13 @@ fn found_of(identity: Identity, how: How, text: ArrayVec<u8, MAX_FOUND>) -> Foun
         errors: errors as u16,
         how,
     }
+}
+
+/// Whether the byte is a newline directly behind a header, which is no part of the found text.
+fn is_dropped(fresh: bool, byte: u8) -> bool
+    ensures { result ≡ (fresh && (byte == 10)) }
+{
+    fresh && byte == NEWLINE
 }
 
 /// How the copy ends whose text has these last four bytes, if they are a marker.

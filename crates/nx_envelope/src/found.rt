@@ -1,8 +1,7 @@
 //! What the finder hands out.
 
-use arrayvec::ArrayVec;
-
 use crate::identity::Identity;
+use arrayvec::ArrayVec;
 
 /// The most characters of a found text.
 pub const MAX_FOUND: usize = 4100;
