@@ -11,10 +11,10 @@ use Rattle.nx_envelope.specs.declared.digit.Digit.{Digit}
 use Rattle.nx_envelope.specs.declared.letter.Letter.{Letter}
 use Rattle.nx_envelope.specs.declared.stage.Stage.{Stage}
 
-abbrev letter_at : (x : ℕ) → IsLetter x → Letter
+abbrev pub letter_at : (x : ℕ) → IsLetter x → Letter
 letter_at x p = record { byte = x; in_range = p }
 
-abbrev digit_at : (x : ℕ) → x ≤ 9 → Digit
+abbrev pub digit_at : (x : ℕ) → x ≤ 9 → Digit
 digit_at x p = record { value = x; below_ten = p }
 
 same_letter_at : (x y : ℕ) (e : x ≡ y) (p : IsLetter x) (q : IsLetter y) → letter_at x p ≡ letter_at y q

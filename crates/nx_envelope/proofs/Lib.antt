@@ -5,5 +5,6 @@ pub mod Hearing
 pub mod Lines
 pub mod Parts
 pub mod Raw
+pub mod Spelled
 pub mod Stages
 pub mod Words

@@ -7,6 +7,7 @@ use Rattle.std.proofs.lemmas.List.{append-nil, drop_all, map-append, reverse-app
 use Rattle.std.proofs.lemmas.List.Elements.{filter_map-append, filter-append}
 use Rattle.nx_envelope.specs.Copies.{Header, Ending, Copy, beginnings, header_at_end, headers, raw_text, marker_back, ending_of, copy_with, ended_copy, ended_copies, is_open, open_headers, closed_copy, copies}
 use Rattle.nx_envelope.specs.Finding.{Keeps, Begins, Ends, is_empty, found_text}
+use Rattle.nx_envelope.specs.Laws.{Grows}
 use Rattle.nx_envelope.specs.Header.{digit_of, ends_in, header_back}
 use Rattle.nx_envelope.specs.Marker.{start_marker}
 use Rattle.nx_envelope.specs.Stage.{IsStageOf}
@@ -287,10 +288,6 @@ open_headers-nil = rw headers-nil refl
 parts-nil : Parts []
 parts-nil = inl open_headers-nil
 
-parts_none : (text : List ℕ) (b : ℕ) (o : Option Identity) → header_back (b ∷ reverse text) ≡ o → open_headers text ≡ [] → Parts (text ++ b ∷ [])
-parts_none text b None is none = inl ((still_none text b none is).still_open ∙ none)
-parts_none text b (Some i) is none = inr (opens text b i none is).one
-
 raw_is_short : (text : List ℕ) (o : OneOpen text) → length (raw_text text o.header) < 4100
 unfolding ending_of
 raw_is_short text o = open_is_short 4100 (raw_text text o.header) o.unended
@@ -301,28 +298,67 @@ is_ten b e = grind (arith, nat_tests)
 not_ten : (b : ℕ) → (b == 10) ≡ false → b ≢ 10
 not_ten b e is = absurd (grind (arith, nat_tests))
 
-parts_added : (text : List ℕ) (b : ℕ) (o : OneOpen text) (m : Option How) → marker_back (b ∷ reverse text) ≡ m → (is_empty (drop o.header.behind text) ≡ true → b ≢ 10) → Parts (text ++ b ∷ [])
-parts_added text b o (Some how) mark apart = inl (ends_marked text b o how apart mark).none
-parts_added text b o None mark apart =
+-- one byte later, and what it adds to the copies that have ended
+pub record Stepped (text : List ℕ) (b : ℕ) : Type 0 where
+  pub next : Parts (text ++ b ∷ [])
+  pub later : List Copy
+  pub grows : ended_copies (text ++ b ∷ []) ≡ ended_copies text ++ later
+
+kept_all : (text : List ℕ) (b : ℕ) → ended_copies (text ++ b ∷ []) ≡ ended_copies text → Parts (text ++ b ∷ []) → Stepped text b
+kept_all text b same next = record { next = next; later = []; grows = same ∙ sym (append-nil (ended_copies text)) }
+
+step_none : (text : List ℕ) (b : ℕ) (o : Option Identity) → header_back (b ∷ reverse text) ≡ o → open_headers text ≡ [] → Stepped text b
+step_none text b None is none =
+    let k = still_none text b none is in
+    kept_all text b k.ended (inl (k.still_open ∙ none))
+step_none text b (Some i) is none =
+    let p = opens text b i none is in
+    kept_all text b p.begins.ended (inr p.one)
+
+ended_by : (text : List ℕ) (b : ℕ) (copy : Copy) → Ends text b copy → Stepped text b
+ended_by text b copy e = record { next = inl e.none; later = copy ∷ []; grows = e.ended }
+
+step_added : (text : List ℕ) (b : ℕ) (o : OneOpen text) (m : Option How) → marker_back (b ∷ reverse text) ≡ m → (is_empty (drop o.header.behind text) ≡ true → b ≢ 10) → Stepped text b
+step_added text b o (Some how) mark apart = ended_by text b _ (ends_marked text b o how apart mark)
+step_added text b o None mark apart =
     elim (leb_tells 4100 (length (raw_text text o.header) + 1)) [
-      | inl p ↦ inl (ends_long text b o apart mark (omega (arith, p.1, raw_is_short text o))).none
-      | inr p ↦ inr (adds text b o apart mark p.1).one
+      | inl p ↦ ended_by text b _ (ends_long text b o apart mark (omega (arith, p.1, raw_is_short text o)))
+      | inr p ↦ let g = adds text b o apart mark p.1 in kept_all text b g.keeps.ended (inr g.one)
     ]
 
-parts_one : (text : List ℕ) (b : ℕ) (o : OneOpen text) (fresh newline : Bool) → is_empty (drop o.header.behind text) ≡ fresh → (b == 10) ≡ newline → Parts (text ++ b ∷ [])
-parts_one text b o true true is n = inr (drops_newline text b o is (is_ten b n)).one
-parts_one text b o true false is n = parts_added text b o _ refl (λ e. not_ten b n)
-parts_one text b o false newline is n = parts_added text b o _ refl (λ e. absurd (let contra : true ≡ false = sym e ∙ is in cc))
+step_one : (text : List ℕ) (b : ℕ) (o : OneOpen text) (fresh newline : Bool) → is_empty (drop o.header.behind text) ≡ fresh → (b == 10) ≡ newline → Stepped text b
+step_one text b o true true is n =
+    let g = drops_newline text b o is (is_ten b n) in
+    kept_all text b g.keeps.ended (inr g.one)
+step_one text b o true false is n = step_added text b o _ refl (λ e. not_ten b n)
+step_one text b o false newline is n =
+    step_added text b o _ refl (λ e. absurd (let contra : true ≡ false = sym e ∙ is in cc))
+
+step : (text : List ℕ) (b : ℕ) → Parts text → Stepped text b
+step text b (inl none) = step_none text b _ refl none
+step text b (inr o) = step_one text b o _ _ refl refl
 
 parts_back : (back : List ℕ) → Parts (reverse back)
 parts_back [] = parts-nil
 parts_back (b ∷ back) =
     let whole : reverse (b ∷ back) ≡ reverse back ++ b ∷ [] = reverse-append (b ∷ []) back in
-    rw whole (elim (parts_back back) [ inl none ↦ parts_none (reverse back) b _ refl none | inr o ↦ parts_one (reverse back) b o _ _ refl refl ])
+    rw whole (step (reverse back) b (parts_back back)).next
 
 -- at most one copy is open, and it is the last
 pub parts : (text : List ℕ) → Parts text
 parts text = rw (← reverse-reverse text) (parts_back (reverse text))
+
+-- the copies that have ended stay, and others come behind them
+pub grown : (text more : List ℕ) → Grows text more
+grown text [] = record { later = []; grows = ap ended_copies (append-nil text) ∙ sym (append-nil (ended_copies text)) }
+grown text (b ∷ more) =
+    let s = step text b (parts text) in
+    let r = grown (text ++ b ∷ []) more in
+    let whole = append_assoc text (b ∷ []) more in
+    record {
+      later = s.later ++ r.later;
+      grows = ap ended_copies (sym whole) ∙ r.grows ∙ ap (λ (cs : List Copy). cs ++ r.later) s.grows ∙ append_assoc (ended_copies text) s.later r.later;
+    }
 
 -- The copies of a text at its end.
 
@@ -354,3 +390,18 @@ copies_one text o =
     let is = ended_with text o.header None o.unended in
     let over = copies_over text o.earlier o.over in
     parted ∙ rw (is, over, ended_before text o) refl
+
+-- so the copies of a text are those that have ended and the open one, closed
+pub copies_parts : (text : List ℕ) → copies text ≡ ended_copies text ++ map (closed_copy text) (open_headers text)
+copies_parts text =
+    elim (parts text) [
+      | inl none ↦ copies_none text none ∙ sym (append-nil (ended_copies text)) ∙ ap (λ (hs : List Header). ended_copies text ++ map (closed_copy text) hs) (sym none)
+      | inr o ↦ copies_one text o ∙ ap (λ (hs : List Header). ended_copies text ++ map (closed_copy text) hs) (sym (open_headers-one text o))
+    ]
+
+pub one_at_most : (text : List ℕ) → length (open_headers text) ≤ 1
+one_at_most text =
+    elim (parts text) [
+      | inl none ↦ rw none (omega arith)
+      | inr o ↦ rw (open_headers-one text o) (omega arith)
+    ]

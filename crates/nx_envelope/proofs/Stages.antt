@@ -98,7 +98,7 @@ not_tens (Tens l m d) apart = absurd (apart l m d refl)
 abbrev pub identity_at : Letter → Letter → (n : ℕ) → n ≤ 99 → Identity
 identity_at l m n p = record { b1 = l; b2 = m; number = n; two_digits = p }
 
-same_identity_at : (l m : Letter) (x y : ℕ) (e : x ≡ y) (p : x ≤ 99) (q : y ≤ 99) → identity_at l m x p ≡ identity_at l m y q
+pub same_identity_at : (l m : Letter) (x y : ℕ) (e : x ≡ y) (p : x ≤ 99) (q : y ≤ 99) → identity_at l m x p ≡ identity_at l m y q
 same_identity_at l m x y e =
     let alike : IsProp (x ≤ 99) = hlevel props in
     let P : ℕ → Type 0 = λ (z : ℕ). (p : x ≤ 99) (q : z ≤ 99) → identity_at l m x p ≡ identity_at l m z q in
@@ -118,12 +118,12 @@ quiet_more b back h = stage_is Nowhere Nowhere false b back h (and_false (b == 3
 pub no_header : (b : ℕ) (back : List ℕ) → IsStageOf Nowhere back → header_back (b ∷ back) ≡ None
 no_header b back h = header_is Nowhere b back h
 
-both_first : {A B : Type 0} (o : Option A) (p : Option B) (q : A × B) → both o p ≡ Some q → o ≡ Some q.0
+pub both_first : {A B : Type 0} (o : Option A) (p : Option B) (q : A × B) → both o p ≡ Some q → o ≡ Some q.0
 both_first None p q e = absurd (let contra : None ≡ Some q = e in cc)
 both_first (Some a) None q e = absurd (let contra : None ≡ Some q = e in cc)
 both_first (Some a) (Some b) q e = let same : (a, b) ≡ q = cc in ap (λ z. Some z.0) same
 
-both_second : {A B : Type 0} (o : Option A) (p : Option B) (q : A × B) → both o p ≡ Some q → p ≡ Some q.1
+pub both_second : {A B : Type 0} (o : Option A) (p : Option B) (q : A × B) → both o p ≡ Some q → p ≡ Some q.1
 both_second None p q e = absurd (let contra : None ≡ Some q = e in cc)
 both_second (Some a) None q e = absurd (let contra : None ≡ Some q = e in cc)
 both_second (Some a) (Some b) q e = let same : (a, b) ≡ q = cc in ap (λ z. Some z.1) same
@@ -132,7 +132,7 @@ pub record IsWith (o : Option (((Letter × Letter) × Digit) × Digit)) : Type 0
   pub found : ((Letter × Letter) × Digit) × Digit
   pub is : o ≡ Some found
 
-identity_some : (o : Option (((Letter × Letter) × Digit) × Digit)) (i : Identity) → identity_with o ≡ Some i → IsWith o
+pub identity_some : (o : Option (((Letter × Letter) × Digit) × Digit)) (i : Identity) → identity_with o ≡ Some i → IsWith o
 identity_some None i e = absurd (cc)
 identity_some (Some found) i e = record { found = found; is = refl }
 

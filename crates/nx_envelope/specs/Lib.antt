@@ -4,6 +4,7 @@ pub mod Finding
 pub mod Found
 pub mod Header
 pub mod Identity
+pub mod Laws
 pub mod Letter
 pub mod Marker
 pub mod Message
