@@ -1,3 +1,4 @@
+pub mod Anywhere
 pub mod Beginnings
 pub mod CivilTimes
 pub mod Headers

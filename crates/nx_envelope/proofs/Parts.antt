@@ -277,7 +277,7 @@ ends_long text b o apart mark full =
 abbrev pub Parts : List ℕ → Type 0
 Parts text = (open_headers text ≡ []) ⊎ OneOpen text
 
-headers-nil : headers [] ≡ []
+pub headers-nil : headers [] ≡ []
 unfolding headers beginnings header_at_end header_back
 headers-nil = refl
 
@@ -348,16 +348,24 @@ parts_back (b ∷ back) =
 pub parts : (text : List ℕ) → Parts text
 parts text = rw (← reverse-reverse text) (parts_back (reverse text))
 
--- the copies that have ended stay, and others come behind them
+-- headers and the copies that have ended stay, and others come behind them
 pub grown : (text more : List ℕ) → Grows text more
-grown text [] = record { later = []; grows = ap ended_copies (append-nil text) ∙ sym (append-nil (ended_copies text)) }
+grown text [] = record {
+  later_headers = [];
+  headers = ap headers (append-nil text) ∙ sym (append-nil (headers text));
+  later_copies = [];
+  ended = ap ended_copies (append-nil text) ∙ sym (append-nil (ended_copies text));
+}
 grown text (b ∷ more) =
     let s = step text b (parts text) in
     let r = grown (text ++ b ∷ []) more in
     let whole = append_assoc text (b ∷ []) more in
+    let last = option_to_list (header_at_end (text ++ b ∷ [])) in
     record {
-      later = s.later ++ r.later;
-      grows = ap ended_copies (sym whole) ∙ r.grows ∙ ap (λ (cs : List Copy). cs ++ r.later) s.grows ∙ append_assoc (ended_copies text) s.later r.later;
+      later_headers = last ++ r.later_headers;
+      headers = ap headers (sym whole) ∙ r.headers ∙ ap (λ (hs : List Header). hs ++ r.later_headers) (headers-push text b) ∙ append_assoc (headers text) last r.later_headers;
+      later_copies = s.later ++ r.later_copies;
+      ended = ap ended_copies (sym whole) ∙ r.ended ∙ ap (λ (cs : List Copy). cs ++ r.later_copies) s.grows ∙ append_assoc (ended_copies text) s.later r.later_copies;
     }
 
 -- The copies of a text at its end.

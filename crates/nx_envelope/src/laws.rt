@@ -1,9 +1,9 @@
 //! Laws of headers and copies: each holds by its contract alone, and the call does nothing.
 
-ghost use Rattle.std.specs.Prelude.{◌≡◌, ◌↔◌, ◌≤◌, ◌++◌, ℕ, List, IsTrue, Some, length, map, reverse};
-ghost use Rattle.nx_envelope.specs.Copies.{closed_copy, copies, ended_copies, open_headers};
+ghost use Rattle.std.specs.Prelude.{◌≡◌, ◌↔◌, ◌≤◌, ◌++◌, ℕ, Contains, List, IsTrue, Some, length, map, reverse};
+ghost use Rattle.nx_envelope.specs.Copies.{Header, closed_copy, copies, headers, ended_copies, open_headers};
 ghost use Rattle.nx_envelope.specs.Header.{EndsWith, EndsWithHeader, ends_in, header_back};
-ghost use Rattle.nx_envelope.specs.Laws.{Grows};
+ghost use Rattle.nx_envelope.specs.Laws.{Grows, StandsIn};
 ghost use Rattle.nx_envelope.specs.Marker.{end_marker, start_marker};
 ghost use Rattle.nx_envelope.specs.declared.identity.Identity.{Identity};
 
@@ -20,6 +20,12 @@ pub fn copies_come_in_order()
         copies text ≡ ended_copies text ++ map (closed_copy text) (open_headers text) }
     ensures ended_stay { (text more : List ℕ) → Grows text more }
 {}
+
+/// The headers of a text are those that stand in it, at any index.
+pub fn headers_stand_anywhere()
+    ensures { (text : List ℕ) (header : Header) → Contains (headers text) header ↔ StandsIn text header }
+{
+}
 
 /// A text ends with a header, as it is read from its end, exactly where it is spelled `ZCZC`, one or more spaces, two
 /// letters and two digits.

@@ -563,6 +563,7 @@ fn identities_are_in_range(rt: HostRuntime) {
     assert!(rt; Identity::new(b'e', b'A', 1).is_none());
     assert!(rt; Letter::new(b'[').is_none());
     header_is_spelled();
+    headers_stand_anywhere();
     markers_are_spelled();
     copies_come_in_order();
 }
