@@ -1,8 +1,8 @@
 -- What holds of the characters of the table, by one computation each.
-use Rattle.std.proofs.Common.{◌≡◌, ℕ, ◌+◌, ◌-◌, ◌<◌, ◌≤◌, refl, sym, ap, ◌∙◌, subst, Bool, true, false, ◌&&◌, ◌||◌, not, eqb, ltb, leb, Option, Some, None, List, [], ◌∷◌, inl, inr, length, get_or, arith}
+use Rattle.std.proofs.Common.{◌≡◌, ℕ, ◌+◌, ◌-◌, ◌<◌, ◌≤◌, refl, sym, ap, ◌∙◌, subst, Bool, true, false, ◌||◌, not, eqb, ltb, Option, Some, None, List, [], ◌∷◌, inl, inr, get_or, arith}
 use Rattle.std.specs.Option.{is_some}
 use Rattle.std.specs.List.{position, list_any, list_all}
-use Rattle.std.proofs.lemmas.Bool.{agree_below_at, eqb-true, leb-true, and_parts, or_parts, or_cases, cases_Bool, both_ways, cases_lt, ne_eqb, false≢true, ltb-true}
+use Rattle.std.proofs.lemmas.Bool.{agree_below_at, eqb-true, and_parts, or_cases, ne_eqb, false≢true, ltb-true}
 use Rattle.std.proofs.lemmas.List.Quantifiers.{position-Some}
 use Rattle.nx_code.specs.declared.table.Row.{Row}
 use Rattle.nx_code.specs.declared.table.TheConstants.{TABLE}
@@ -18,7 +18,7 @@ abbrev pub if_some : (ℕ → Bool) → Option ℕ → Bool
 if_some test None = true
 if_some test (Some c) = test c
 
-if_some-at : (test : ℕ → Bool) (o : Option ℕ) (c : ℕ) → if_some test o ≡ true → o ≡ Some c → test c ≡ true
+pub if_some-at : (test : ℕ → Bool) (o : Option ℕ) (c : ℕ) → if_some test o ≡ true → o ≡ Some c → test c ≡ true
 if_some-at test o c h e = subst (λ p. if_some test p ≡ true) e h
 
 -- the columns of the code's table, searched for a character

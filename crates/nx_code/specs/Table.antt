@@ -1,5 +1,5 @@
 -- The table of the signals (ITU-R M.476 and M.625; the numbering of the words is this project's own).
-use Rattle.std.specs.Prelude.{◌≡◌, ℕ, ◌==◌, List, [], ◌∷◌, Option, codes, map, position}
+use Rattle.std.specs.Prelude.{ℕ, ◌==◌, List, [], ◌∷◌, Option, codes, map, position}
 
 -- A row: the number of the word, and what stands in the columns Letter and Figure. One character stands for
 -- itself; a longer text in capitals is a name, and `none` says that the figure prints nothing.

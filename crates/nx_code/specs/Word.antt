@@ -1,5 +1,5 @@
 -- Words and their elements (ITU-R M.476 and M.625: seven elements, each B or Y; four B and three Y in a signal).
-use Rattle.std.specs.Prelude.{◌≡◌, ℕ, ◌+◌, ◌*◌, ◌/◌, ◌%◌, ◌==◌, Bool, true, false, List, [], ◌∷◌, sum_by, zero, suc, if◌then◌else◌}
+use Rattle.std.specs.Prelude.{ℕ, ◌+◌, ◌*◌, ◌/◌, ◌%◌, ◌==◌, Bool, true, false, List, [], ◌∷◌, sum_by, zero, suc}
 
 -- the lowest elements of a number, so many of them, in the order of sending: the least place first, 1 is B
 unfoldable pub elements_from : ℕ → ℕ → List Bool

@@ -1,10 +1,9 @@
-use Rattle.std.proofs.Common.{◌≡◌, ℕ, true, Some, None, refl, sym, ap, ◌∙◌}
+use Rattle.std.proofs.Common.{◌≡◌, true, Some, refl, sym, ap, ◌∙◌}
 use Rattle.std.proofs.lemmas.Bool.{false≢true}
 use Rattle.nx_code.specs.Reading.{printed}
-use Rattle.nx_code.specs.Characters.{is_in_code}
 use Rattle.nx_code.specs.declared.shifts.Shift.{Shift}
 use Rattle.nx_code.specs.declared.shifts.Shift.TheVariants.{Letters, Figures}
-use Rattle.nx_code.proofs.CharacterLemmas.{Prints, in_code-printed, in_code-prints, both-printed}
+use Rattle.nx_code.proofs.CharacterLemmas.{in_code-printed, in_code-prints, both-printed}
 use Rattle.nx_code.proofs.shifts.char_to_code.Goals as goal
 
 pub returns-in-Some-figure_of-clause-in_code : goal.returns-in-Some-figure_of-clause-in_code

@@ -1,6 +1,6 @@
-use Rattle.std.proofs.Common.{◌≡◌, ℕ, ◌<◌, true, false, eqb, Some, None, refl, sym, ap, subst, ◌∙◌, arith, eq-eqb}
+use Rattle.std.proofs.Common.{◌≡◌, ◌<◌, false, eqb, Some, None, refl, sym, ap, subst, ◌∙◌, eq-eqb}
 use Rattle.std.specs.Option.{is_some}
-use Rattle.std.proofs.lemmas.Bool.{eqb-true, false≢true, both_ways}
+use Rattle.std.proofs.lemmas.Bool.{eqb-true, both_ways}
 use Rattle.nx_code.specs.Word.{weight}
 use Rattle.nx_code.specs.Table.{place_of}
 use Rattle.nx_code.proofs.TableLemmas.{weight-place_of, place_of-Some, same_place, place-of_word, not_nowhere, number_of_place}

@@ -1,4 +1,4 @@
-use Rattle.std.proofs.Common.{Some, None, refl}
+use Rattle.std.proofs.Common.{Some, None}
 use Rattle.nx_code.specs.Taken.{meaning}
 use Rattle.nx_code.proofs.ReadingLemmas.{reading_push}
 use Rattle.nx_code.proofs.printing.Printer.step.Goals as goal

@@ -1,5 +1,4 @@
 use Rattle.std.proofs.Common.{◌≡◌, ◌≤◌, ◌-◌, false, get_or, length, arith}
-use Rattle.nx_code.specs.Word.{value_of}
 use Rattle.nx_code.proofs.WordLemmas.{number_of-drop, number_of-drop_all, twice-lt, value_of-bool_byte, value_of-le}
 use Rattle.nx_code.proofs.words.Word.from_elements.Goals as goal
 
