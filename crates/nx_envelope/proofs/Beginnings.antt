@@ -1,16 +1,14 @@
 -- The beginnings of a text, its headers and the end of a raw text, when one more byte comes.
-use Rattle.std.proofs.Common.{◌≡◌, ◌≢◌, ℕ, ◌+◌, ◌-◌, ◌<◌, ◌≤◌, ◌==◌, nat_le, Bool, true, false, ◌⊎◌, inl, inr, if◌then◌else◌, Option, Some, None, List, [], ◌∷◌, ◌++◌, length, take, drop, map, reverse, refl, sym, ap, subst, ◌∙◌, arith, length-append, append_assoc}
-use Rattle.std.specs.List.{filter, filter_map}
-use Rattle.std.specs.Option.{option_map, option_or, option_to_list, is_none}
+use Rattle.std.proofs.Common.{◌≡◌, ◌≢◌, ℕ, ◌+◌, ◌<◌, ◌≤◌, nat_le, false, inl, inr, Option, Some, None, List, [], ◌∷◌, ◌++◌, length, take, map, reverse, refl, sym, ap, ◌∙◌, arith, length-append}
+use Rattle.std.specs.List.{filter_map}
+use Rattle.std.specs.Option.{option_map, option_or, option_to_list}
 use Rattle.std.proofs.lemmas.Bool.{le-leb}
 use Rattle.std.proofs.lemmas.Bool.Decides.{leb_tells}
-use Rattle.std.proofs.lemmas.List.{append-nil, map_push, reverse-append, take_all, take-append-le, drop-append-le, drop_all}
+use Rattle.std.proofs.lemmas.List.{map_push, reverse-append, take_all, take-append-le}
 use Rattle.std.proofs.lemmas.List.Elements.{filter_map-append}
-use Rattle.nx_envelope.specs.Copies.{Header, Ending, Copy, beginnings, header_at_end, headers, less_newline, raw_text, marked, first_of, long_within, ending_within, ending_of, copy_with, ended_copy, is_open}
+use Rattle.nx_envelope.specs.Copies.{Header, Ending, beginnings, header_at_end, headers, marked, first_of, long_within, ending_within}
 use Rattle.nx_envelope.specs.Header.{header_back}
-use Rattle.nx_envelope.specs.declared.found.How.{How}
-use Rattle.nx_envelope.specs.declared.found.How.TheVariants.{Full, Cut, Long}
-use Rattle.nx_envelope.specs.declared.identity.Identity.{Identity}
+use Rattle.nx_envelope.specs.declared.found.How.TheVariants.{Long}
 
 -- the back of a text with one more byte
 pub reverse-push : (text : List ℕ) (b : ℕ) → reverse (text ++ b ∷ []) ≡ b ∷ reverse text

@@ -1,5 +1,5 @@
 -- Letters, digits and the header that they spell, read from the back of a text.
-use Rattle.std.proofs.Common.{◌≡◌, ℕ, ◌+◌, ◌-◌, ◌≤◌, ◌==◌, ◌&&◌, ◌||◌, if◌then◌else◌, List, ◌∷◌, nat_le, Bool, true, false, Option, Some, None, refl, sym, subst, ap, arith, rules}
+use Rattle.std.proofs.Common.{◌≡◌, ℕ, ◌-◌, ◌≤◌, ◌==◌, ◌&&◌, ◌||◌, if◌then◌else◌, List, ◌∷◌, nat_le, Bool, true, false, Option, Some, None, refl, sym, subst, ap, arith}
 use Rattle.std.proofs.lemmas.Bool.Decides.{nat_tests}
 use Rattle.std.proofs.Props.{props}
 use Rattle.nx_envelope.specs.Digits.{IsDigit}

@@ -4,8 +4,8 @@ use Rattle.std.specs.Prelude.{slice_index_or}
 use Rattle.std.specs.Str.{bytes_eq}
 use Rattle.std.proofs.lemmas.Bool.Decides.{nat_tests}
 use Rattle.std.proofs.lemmas.List.{drop-append-le}
-use Rattle.nx_envelope.specs.Copies.{Header, raw_text, marker_back, open_headers, ended_copies, closed_copy, copies}
-use Rattle.nx_envelope.specs.Finding.{Keeps, Begins, Ends, BringsHeader, BringsCopy, EndsOpen, Hears, HoldsOpen, HoldsOpenIf, IsBegun, ClosesCopy, ClosesNone, is_empty, found_text}
+use Rattle.nx_envelope.specs.Copies.{Header, raw_text, marker_back, open_headers, closed_copy}
+use Rattle.nx_envelope.specs.Finding.{BringsCopy, EndsOpen, Hears, HoldsOpen, HoldsOpenIf, IsBegun, ClosesCopy, ClosesNone, is_empty, found_text}
 use Rattle.nx_envelope.specs.Found.{IsFoundOf}
 use Rattle.nx_envelope.specs.Header.{last_four, ends_in, header_back, spaces_back, station_back, subject_back, tens_back}
 use Rattle.nx_envelope.specs.Marker.{start_marker}

@@ -1,5 +1,5 @@
 -- At each byte a text has at most one open copy, which is its last: the cases that a byte can be.
-use Rattle.std.proofs.Common.{◌≡◌, ◌≢◌, ℕ, ◌+◌, ◌-◌, ◌<◌, ◌≤◌, ◌==◌, ◌&&◌, Bool, true, false, ◌⊎◌, inl, inr, if◌then◌else◌, Option, Some, None, List, [], ◌∷◌, ◌++◌, length, take, drop, map, reverse, refl, sym, ap, ◌∙◌, arith, length-append, append_assoc}
+use Rattle.std.proofs.Common.{◌≡◌, ◌≢◌, ℕ, ◌+◌, ◌<◌, ◌≤◌, ◌==◌, Bool, true, false, ◌⊎◌, inl, inr, if◌then◌else◌, Option, Some, None, List, [], ◌∷◌, ◌++◌, length, drop, map, reverse, refl, sym, ap, ◌∙◌, arith, length-append, append_assoc}
 use Rattle.std.specs.List.{filter, filter_map}
 use Rattle.std.specs.Option.{option_map, option_to_list, is_none, unwrap_or}
 use Rattle.std.proofs.lemmas.Bool.Decides.{leb_tells, nat_tests}
@@ -8,16 +8,16 @@ use Rattle.std.proofs.lemmas.List.Elements.{filter_map-append, filter-append}
 use Rattle.nx_envelope.specs.Copies.{Header, Ending, Copy, beginnings, header_at_end, headers, raw_text, marker_back, ending_of, copy_with, ended_copy, ended_copies, is_open, open_headers, closed_copy, copies}
 use Rattle.nx_envelope.specs.Finding.{Keeps, Begins, Ends, is_empty, found_text}
 use Rattle.nx_envelope.specs.Laws.{Grows}
-use Rattle.nx_envelope.specs.Header.{digit_of, ends_in, header_back}
+use Rattle.nx_envelope.specs.Header.{ends_in, header_back}
 use Rattle.nx_envelope.specs.Marker.{start_marker}
 use Rattle.nx_envelope.specs.Stage.{IsStageOf}
 use Rattle.nx_envelope.specs.declared.found.How.{How}
-use Rattle.nx_envelope.specs.declared.found.How.TheVariants.{Full, Cut, Long}
+use Rattle.nx_envelope.specs.declared.found.How.TheVariants.{Long}
 use Rattle.nx_envelope.specs.declared.identity.Identity.{Identity}
 use Rattle.nx_envelope.specs.declared.stage.Stage.TheVariants.{Nowhere}
 use Rattle.nx_envelope.proofs.Beginnings.{reverse-push, headers-push, header_at_end-push, open_is_short}
 use Rattle.nx_envelope.proofs.Raw.{IsPlain, raw-push, raw-newline, raw-none, ending_of-nil, ended_stays, marker_apart, no_start, ending-marker, ending-long, ending-open}
-use Rattle.nx_envelope.proofs.Stages.{Stands, quiet_more, no_header, AfterHeader, after_header}
+use Rattle.nx_envelope.proofs.Stages.{quiet_more, no_header, after_header}
 
 -- Copies that have ended.
 
@@ -99,10 +99,6 @@ no_more_headers : (text : List ℕ) (b : ℕ) → header_back (b ∷ reverse tex
 no_more_headers text b none =
     let last = header_at_end-push text b in
     headers-push text b ∙ rw (last, none) (append-nil (headers text))
-
--- the header that is completed
-header_at : List ℕ → Identity → Header
-header_at text identity = record { identity = identity; behind = length text + 1 }
 
 one_more_header : (text : List ℕ) (b : ℕ) (i : Identity) → header_back (b ∷ reverse text) ≡ Some i → headers (text ++ b ∷ []) ≡ headers text ++ record { identity = i; behind = length text + 1 } ∷ []
 one_more_header text b i is =

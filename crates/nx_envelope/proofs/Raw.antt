@@ -1,15 +1,15 @@
 -- What stands behind a header when one more byte comes, and the markers in it.
-use Rattle.std.proofs.Common.{◌≡◌, ◌≢◌, ℕ, ◌+◌, ◌-◌, ◌<◌, ◌≤◌, ◌==◌, ◌&&◌, Bool, true, false, inl, inr, if◌then◌else◌, Option, Some, None, List, [], ◌∷◌, ◌++◌, length, take, drop, reverse, refl, sym, ap, ◌∙◌, arith, length-append, append_assoc}
+use Rattle.std.proofs.Common.{◌≡◌, ◌≢◌, ℕ, ◌+◌, ◌-◌, ◌<◌, ◌≤◌, ◌==◌, ◌&&◌, Bool, true, false, inl, inr, if◌then◌else◌, Some, None, List, [], ◌∷◌, ◌++◌, length, take, drop, reverse, refl, sym, ap, ◌∙◌, arith, length-append, append_assoc}
 use Rattle.std.specs.Prelude.{slice_index}
 use Rattle.std.proofs.lemmas.Bool.Decides.{leb_tells, nat_tests}
 use Rattle.std.proofs.lemmas.List.{reverse-append, take-append-le, take_all, drop-append-le, drop_all}
-use Rattle.nx_envelope.specs.Copies.{Header, Ending, less_newline, raw_text, marker_back, marked, beginnings, first_of, long_within, ending_within, ending_of}
+use Rattle.nx_envelope.specs.Copies.{Header, Ending, less_newline, raw_text, marker_back, marked, beginnings, ending_within, ending_of}
 use Rattle.nx_envelope.specs.Finding.{is_empty, found_text}
 use Rattle.nx_envelope.specs.Header.{ends_in}
 use Rattle.nx_envelope.specs.Marker.{start_marker, end_marker}
 use Rattle.nx_envelope.specs.declared.found.How.{How}
 use Rattle.nx_envelope.specs.declared.found.How.TheVariants.{Full, Cut, Long}
-use Rattle.nx_envelope.proofs.Beginnings.{reverse-push, long_at, not_long, ending-push, ending_stays, ending-short, open_is_short}
+use Rattle.nx_envelope.proofs.Beginnings.{long_at, not_long, ending-push, ending_stays, ending-short, open_is_short}
 
 pub empty_is : (xs : List ℕ) → is_empty xs ≡ true → xs ≡ []
 empty_is [] e = refl

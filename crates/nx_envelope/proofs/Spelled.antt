@@ -1,10 +1,9 @@
 -- A header and a marker at the back of a text, and as they are spelled.
-use Rattle.std.proofs.Common.{◌≡◌, ◌≢◌, ℕ, zero, suc, ◌+◌, ◌-◌, ◌*◌, ◌/◌, ◌%◌, ◌≤◌, ◌==◌, ◌&&◌, ◌||◌, Bool, true, false, inl, inr, if◌then◌else◌, Option, Some, None, List, [], ◌∷◌, ◌++◌, length, drop, reverse, refl, sym, ap, subst, ◌∙◌, arith, add-one, append_assoc}
+use Rattle.std.proofs.Common.{◌≡◌, ◌≢◌, ℕ, zero, suc, ◌+◌, ◌-◌, ◌*◌, ◌/◌, ◌%◌, ◌≤◌, ◌==◌, ◌&&◌, ◌||◌, Bool, true, false, inl, inr, if◌then◌else◌, Option, Some, None, List, [], ◌∷◌, ◌++◌, drop, reverse, refl, sym, ap, subst, ◌∙◌, arith, add-one}
 use Rattle.std.specs.Prelude.{replicate}
 use Rattle.std.proofs.lemmas.Bool.Decides.{leb_tells, nat_tests}
-use Rattle.std.proofs.lemmas.List.{reverse-append, reverse-reverse, replicate_more, append-nil}
-use Rattle.nx_envelope.specs.Digits.{IsDigit, two_digits}
-use Rattle.nx_envelope.specs.Letter.{IsLetter}
+use Rattle.std.proofs.lemmas.List.{reverse-append, reverse-reverse, replicate_more}
+use Rattle.nx_envelope.specs.Digits.{two_digits}
 use Rattle.nx_envelope.specs.Header.{EndsWith, EndsWithHeader, letter_of, digit_of, both, ends_in, identity_of, identity_with, spaces_back, station_back, subject_back, tens_back, header_back}
 use Rattle.nx_envelope.specs.Marker.{start_marker, end_marker}
 use Rattle.nx_envelope.specs.declared.digit.Digit.{Digit}

@@ -1,5 +1,5 @@
 -- What one more byte does to the copies of a text, and what its end does.
-use Rattle.std.specs.Prelude.{◌≡◌, ℕ, ◌+◌, ◌-◌, Bool, true, false, Option, Some, None, List, [], ◌∷◌, ◌++◌, length, take, drop, map, reverse}
+use Rattle.std.specs.Prelude.{◌≡◌, ℕ, ◌+◌, ◌-◌, Bool, true, false, Option, Some, None, List, [], ◌∷◌, ◌++◌, length, take, drop, reverse}
 use Rattle.nx_envelope.specs.Copies.{Header, Copy, headers, ended_copies, open_headers, raw_text, closed_copy, copies}
 use Rattle.nx_envelope.specs.Found.{IsFoundOf}
 use Rattle.nx_envelope.specs.Header.{last_four}

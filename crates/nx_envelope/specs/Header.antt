@@ -1,11 +1,11 @@
 -- ITU-R M.540: a message begins with the letters ZCZC, a space, the station, the subject and a number of two digits;
 -- that more than one space may stand there is this profile's.
-use Rattle.std.specs.Prelude.{◌≡◌, ℕ, ◌+◌, ◌*◌, ◌-◌, ◌≤◌, ◌==◌, ◌&&◌, ◌||◌, nat_le, Bool, true, false, if◌then◌else◌, Option, Some, None, List, [], ◌∷◌, ◌++◌, reverse, replicate, slice_index, refl}
+use Rattle.std.specs.Prelude.{◌≡◌, ℕ, ◌+◌, ◌*◌, ◌-◌, ◌==◌, ◌&&◌, ◌||◌, nat_le, Bool, true, false, if◌then◌else◌, Option, Some, None, List, [], ◌∷◌, ◌++◌, replicate, slice_index, refl}
 use Rattle.std.specs.Str.{bytes_eq}
 use Rattle.std.proofs.Math.Nat.{add-le-add, mul-le-mul_right}
 use Rattle.std.proofs.lemmas.Bool.{leb-true}
 use Rattle.nx_envelope.specs.Digits.{two_digits}
-use Rattle.nx_envelope.specs.Marker.{start_marker, end_marker}
+use Rattle.nx_envelope.specs.Marker.{start_marker}
 use Rattle.nx_envelope.specs.declared.digit.Digit.{Digit}
 use Rattle.nx_envelope.specs.declared.identity.Identity.{Identity}
 use Rattle.nx_envelope.specs.declared.letter.Letter.{Letter}

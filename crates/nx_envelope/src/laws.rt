@@ -24,8 +24,7 @@ pub fn copies_come_in_order()
 /// The headers of a text are those that stand in it, at any index.
 pub fn headers_stand_anywhere()
     ensures { (text : List ℕ) (header : Header) → Contains (headers text) header ↔ StandsIn text header }
-{
-}
+{}
 
 /// A text ends with a header, as it is read from its end, exactly where it is spelled `ZCZC`, one or more spaces, two
 /// letters and two digits.

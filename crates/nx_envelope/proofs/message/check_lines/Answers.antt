@@ -1,8 +1,8 @@
-use Rattle.std.proofs.Common.{◌≡◌, ◌<◌, List, ℕ, [], length, map, get_or, take, arith, refl}
+use Rattle.std.proofs.Common.{◌<◌, List, ℕ, [], length, map, arith}
 use Rattle.std.proofs.lemmas.List.{get_or-map, length-map}
 use Rattle.std.proofs.lemmas.List.Elements.{All-more}
 use Rattle.std.proofs.lemmas.Result.{err_from_is_err_and}
-use Rattle.nx_envelope.specs.Message.{IsLine, IsMessageFault}
+use Rattle.nx_envelope.specs.Message.{IsLine}
 use Rattle.nx_envelope.proofs.Lines.{first_fault, text_more}
 use Rattle.nx_envelope.proofs.message.check_lines.Goals as goal
 

@@ -1,4 +1,4 @@
-use Rattle.std.proofs.Common.{◌≡◌, ◌<◌, true, drop, length, eqb, arith, refl, sym}
+use Rattle.std.proofs.Common.{◌≡◌, true, drop, eqb, arith, refl, sym}
 use Rattle.std.specs.List.{starts_with}
 use Rattle.std.proofs.lemmas.List.{take_rest}
 use Rattle.nx_envelope.proofs.Words.{holds_at, holds_none}

@@ -1,4 +1,4 @@
-use Rattle.std.proofs.Common.{◌≡◌, ◌<◌, length, arith, refl}
+use Rattle.std.proofs.Common.{◌<◌, length, arith}
 use Rattle.nx_envelope.proofs.Lines.{map_more_alike}
 use Rattle.nx_envelope.proofs.message.kept_lines.Goals as goal
 

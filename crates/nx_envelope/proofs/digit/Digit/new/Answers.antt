@@ -1,4 +1,4 @@
-use Rattle.std.proofs.Common.{◌≡◌, refl, sym, arith, rules}
+use Rattle.std.proofs.Common.{refl, sym, rules}
 use Rattle.nx_envelope.proofs.Headers.{digit_of-value, digit_of-none}
 use Rattle.nx_envelope.proofs.digit.Digit.new.Goals as goal
 

@@ -1,4 +1,4 @@
-use Rattle.std.proofs.Common.{◌≡◌, None, Some, sym, refl, ap, ◌∙◌}
+use Rattle.std.proofs.Common.{◌≡◌, None, Some, sym, ap, ◌∙◌}
 use Rattle.nx_envelope.proofs.Hearing.{closes_none, closes_copy}
 use Rattle.nx_envelope.proofs.finder.Finder.end.Goals as goal
 

@@ -1,4 +1,4 @@
-use Rattle.std.proofs.Common.{◌≡◌, refl}
+use Rattle.std.proofs.Common.{refl}
 use Rattle.nx_envelope.proofs.Hearing.{stage-nil, none-nil}
 use Rattle.nx_envelope.proofs.finder.Finder.new.Goals as goal
 

@@ -1,4 +1,4 @@
-use Rattle.std.proofs.Common.{◌≡◌, refl, sym, arith, rules}
+use Rattle.std.proofs.Common.{sym, rules}
 use Rattle.nx_envelope.proofs.Headers.{letter_of-byte, letter_of-none}
 use Rattle.nx_envelope.proofs.letter.Letter.new.Goals as goal
 

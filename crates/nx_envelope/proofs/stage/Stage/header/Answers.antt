@@ -1,5 +1,4 @@
-use Rattle.std.proofs.Common.{◌≡◌, Some, None, ap, sym, refl, ◌∙◌}
-use Rattle.nx_envelope.specs.Header.{digit_of}
+use Rattle.std.proofs.Common.{Some, ap, sym, refl, ◌∙◌}
 use Rattle.nx_envelope.proofs.Stages.{header_is, not_tens, identity_is}
 use Rattle.nx_envelope.proofs.stage.Stage.header.Goals as goal
 

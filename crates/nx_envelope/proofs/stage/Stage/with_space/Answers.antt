@@ -1,5 +1,4 @@
-use Rattle.std.proofs.Common.{◌≡◌, Bool, true, false, ◌||◌, sym, refl, ◌∙◌}
-use Rattle.nx_envelope.specs.Stage.{is_spaces}
+use Rattle.std.proofs.Common.{refl}
 use Rattle.nx_envelope.proofs.Stages.{with_space, not_spaces}
 use Rattle.nx_envelope.proofs.stage.Stage.with_space.Goals as goal
 
