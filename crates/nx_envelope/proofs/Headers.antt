@@ -1,0 +1,104 @@
+-- Letters, digits and the header that they spell, read from the back of a text.
+use Rattle.std.proofs.Common.{◌≡◌, ℕ, ◌-◌, ◌≤◌, ◌==◌, ◌&&◌, ◌||◌, if◌then◌else◌, List, ◌∷◌, nat_le, Bool, true, false, Option, Some, None, refl, sym, subst, ap, arith}
+use Rattle.std.proofs.lemmas.Bool.Decides.{nat_tests}
+use Rattle.std.proofs.Props.{props}
+use Rattle.nx_envelope.specs.Digits.{IsDigit}
+use Rattle.nx_envelope.specs.Letter.{IsLetter}
+use Rattle.nx_envelope.specs.Header.{letter_from, letter_of, digit_from, digit_of, both, ends_in, identity_with, spaces_back, station_back, subject_back, tens_back, header_back}
+use Rattle.nx_envelope.specs.Marker.{start_marker}
+use Rattle.nx_envelope.specs.Stage.{IsStageOf, is_spaces, station_in, subject_in, tens_in}
+use Rattle.nx_envelope.specs.declared.digit.Digit.{Digit}
+use Rattle.nx_envelope.specs.declared.letter.Letter.{Letter}
+use Rattle.nx_envelope.specs.declared.stage.Stage.{Stage}
+
+abbrev pub letter_at : (x : ℕ) → IsLetter x → Letter
+letter_at x p = record { byte = x; in_range = p }
+
+abbrev pub digit_at : (x : ℕ) → x ≤ 9 → Digit
+digit_at x p = record { value = x; below_ten = p }
+
+same_letter_at : (x y : ℕ) (e : x ≡ y) (p : IsLetter x) (q : IsLetter y) → letter_at x p ≡ letter_at y q
+same_letter_at x y e =
+    let alike : IsProp (IsLetter x) = hlevel props in
+    let P : ℕ → Type 0 = λ (z : ℕ). (p : IsLetter x) (q : IsLetter z) → letter_at x p ≡ letter_at z q in
+    subst P e (λ p q. ap (letter_at x) (alike p q))
+
+pub same_letter : (a b : Letter) → a.byte ≡ b.byte → a ≡ b
+same_letter a b e = same_letter_at a.byte b.byte e a.in_range b.in_range
+
+same_digit_at : (x y : ℕ) (e : x ≡ y) (p : x ≤ 9) (q : y ≤ 9) → digit_at x p ≡ digit_at y q
+same_digit_at x y e =
+    let alike : IsProp (x ≤ 9) = hlevel props in
+    let P : ℕ → Type 0 = λ (z : ℕ). (p : x ≤ 9) (q : z ≤ 9) → digit_at x p ≡ digit_at z q in
+    subst P e (λ p q. ap (digit_at x) (alike p q))
+
+pub same_digit : (a b : Digit) → a.value ≡ b.value → a ≡ b
+same_digit a b e = same_digit_at a.value b.value e a.below_ten b.below_ten
+
+letter_from-byte : (l : Letter) (low high : Bool) (p : nat_le 65 l.byte ≡ low) (q : nat_le l.byte 90 ≡ high) → letter_from l.byte low high p q ≡ Some l
+unfolding letter_from
+letter_from-byte l true true p q = ap Some (same_letter _ l refl)
+letter_from-byte l true false p q = absurd (grind (arith, nat_tests))
+letter_from-byte l false high p q = absurd (grind (arith, nat_tests))
+
+pub letter_of-byte : (l : Letter) → letter_of l.byte ≡ Some l
+unfolding letter_of
+letter_of-byte l = letter_from-byte l _ _ refl refl
+
+letter_from-none : (b : ℕ) (low high : Bool) (p : nat_le 65 b ≡ low) (q : nat_le b 90 ≡ high) → ¬ IsLetter b → letter_from b low high p q ≡ None
+unfolding letter_from
+letter_from-none b true true p q not_so = absurd (not_so (grind (arith, nat_tests)))
+letter_from-none b true false p q not_so = refl
+letter_from-none b false high p q not_so = refl
+
+pub letter_of-none : (b : ℕ) → ¬ IsLetter b → letter_of b ≡ None
+unfolding letter_of
+letter_of-none b not_so = letter_from-none b _ _ refl refl not_so
+
+digit_from-value : (b : ℕ) (d : Digit) (low high : Bool) (p : nat_le 48 b ≡ low) (q : nat_le (b - 48) 9 ≡ high) → 48 ≤ b → d.value ≡ b - 48 → digit_from b low high p q ≡ Some d
+unfolding digit_from
+digit_from-value b d true true p q at e = ap Some (same_digit _ d (sym e))
+digit_from-value b d true false p q at e = absurd (grind (arith, nat_tests, d.below_ten))
+digit_from-value b d false high p q at e = absurd (grind (arith, nat_tests))
+
+pub digit_of-value : (b : ℕ) (d : Digit) → 48 ≤ b → d.value ≡ b - 48 → digit_of b ≡ Some d
+unfolding digit_of
+digit_of-value b d at e = digit_from-value b d _ _ refl refl at e
+
+digit_from-none : (b : ℕ) (low high : Bool) (p : nat_le 48 b ≡ low) (q : nat_le (b - 48) 9 ≡ high) → ¬ IsDigit b → digit_from b low high p q ≡ None
+unfolding digit_from
+digit_from-none b true true p q not_so = absurd (not_so (grind (arith, nat_tests)))
+digit_from-none b true false p q not_so = refl
+digit_from-none b false high p q not_so = refl
+
+pub digit_of-none : (b : ℕ) → ¬ IsDigit b → digit_of b ≡ None
+unfolding digit_of
+digit_of-none b not_so = digit_from-none b _ _ refl refl not_so
+
+-- what the back of a text is one byte later, at the stage that it stood at
+pub record StageParts (stage : Stage) (start : Bool) (b : ℕ) (back : List ℕ) : Type 0 where
+  pub spaces : spaces_back (b ∷ back) ≡ ((b == 32) && (start || is_spaces stage))
+  pub station : station_back (b ∷ back) ≡ (if is_spaces stage then letter_of b else None)
+  pub subject : subject_back (b ∷ back) ≡ both (station_in stage) (letter_of b)
+  pub tens : tens_back (b ∷ back) ≡ both (subject_in stage) (digit_of b)
+  pub header : header_back (b ∷ back) ≡ identity_with (both (tens_in stage) (digit_of b))
+
+pub stage_parts : (stage : Stage) (start : Bool) (b : ℕ) (back : List ℕ) → IsStageOf stage back → start ≡ ends_in start_marker back → StageParts stage start b back
+unfolding spaces_back station_back subject_back tens_back header_back
+stage_parts stage start b back h e = record {
+  spaces = rw (← e, h.spaces) refl;
+  station = rw h.spaces refl;
+  subject = rw h.station refl;
+  tens = rw h.subject refl;
+  header = rw h.tens refl;
+}
+
+pub both-none : {A B : Type 0} (o : Option A) → both {B = B} o None ≡ None
+both-none None = refl
+both-none (Some a) = refl
+
+pub letter_of-space : letter_of 32 ≡ None
+letter_of-space = letter_of-none 32 (λ h. absurd (omega arith))
+
+pub digit_of-space : digit_of 32 ≡ None
+digit_of-space = digit_of-none 32 (λ h. absurd (omega arith))

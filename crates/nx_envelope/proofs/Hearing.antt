@@ -1,0 +1,169 @@
+-- What the finder holds, and what it notes of a byte.
+use Rattle.std.proofs.Common.{◌≡◌, ◌≢◌, ℕ, ◌+◌, ◌<◌, ◌==◌, ◌&&◌, Bool, true, false, inl, inr, Option, Some, None, List, [], ◌∷◌, ◌++◌, length, drop, reverse, refl, sym, ap, ◌∙◌, arith}
+use Rattle.std.specs.Prelude.{slice_index_or}
+use Rattle.std.specs.Str.{bytes_eq}
+use Rattle.std.proofs.lemmas.Bool.Decides.{nat_tests}
+use Rattle.std.proofs.lemmas.List.{drop-append-le}
+use Rattle.nx_envelope.specs.Copies.{Header, raw_text, marker_back, open_headers, closed_copy}
+use Rattle.nx_envelope.specs.Finding.{BringsCopy, EndsOpen, Hears, HoldsOpen, HoldsOpenIf, IsBegun, ClosesCopy, ClosesNone, is_empty, found_text}
+use Rattle.nx_envelope.specs.Found.{IsFoundOf}
+use Rattle.nx_envelope.specs.Header.{last_four, ends_in, header_back, spaces_back, station_back, subject_back, tens_back}
+use Rattle.nx_envelope.specs.Marker.{start_marker}
+use Rattle.nx_envelope.specs.Stage.{IsStageOf}
+use Rattle.nx_envelope.specs.declared.finder.Event.{Event}
+use Rattle.nx_envelope.specs.declared.finder.Event.TheVariants as events
+use Rattle.nx_envelope.specs.declared.found.Found.{Found}
+use Rattle.nx_envelope.specs.declared.found.How.{How}
+use Rattle.nx_envelope.specs.declared.found.How.TheVariants.{Cut, Long}
+use Rattle.nx_envelope.specs.declared.identity.Identity.{Identity}
+use Rattle.nx_envelope.specs.declared.stage.Stage.{Stage}
+use Rattle.nx_envelope.specs.declared.stage.Stage.TheVariants.{Nowhere}
+use Rattle.nx_envelope.proofs.Beginnings.{reverse-push}
+use Rattle.nx_envelope.proofs.Parts.{OneOpen, open_headers-one, open_headers-nil, parts, still_none, opens, drops_newline, adds, ends_marked, ends_long, copies_none, copies_one}
+use Rattle.nx_envelope.proofs.Raw.{empty_is, raw-push, raw-newline, raw-none}
+
+pub stage-nil : IsStageOf Nowhere []
+unfolding spaces_back station_back subject_back tens_back
+stage-nil = record { spaces = refl; station = refl; subject = refl; tens = refl }
+
+pub none-nil : open_headers [] ≡ []
+none-nil = open_headers-nil
+
+-- the last four bytes, one byte later
+pub recent_more : (recent text : List ℕ) (b : ℕ) → recent ≡ last_four (reverse text) → (slice_index_or recent 1 0 ∷ slice_index_or recent 2 0 ∷ slice_index_or recent 3 0 ∷ b ∷ []) ≡ last_four (reverse (text ++ b ∷ []))
+recent_more recent text b e = rw (e, reverse-push text b) refl
+
+-- the stage, one byte later
+pub stage_more : (text : List ℕ) (b : ℕ) (stage : Stage) → IsStageOf stage (b ∷ reverse text) → IsStageOf stage (reverse (text ++ b ∷ []))
+stage_more text b stage h = rw (reverse-push text b) h
+
+-- the test on the last four bytes
+pub flag_is : (recent text : List ℕ) (flag : Bool) → recent ≡ last_four (reverse text) → flag ≡ bytes_eq recent start_marker → flag ≡ ends_in start_marker (reverse text)
+flag_is recent text flag e f = f ∙ ap (λ (r : List ℕ). bytes_eq r start_marker) e
+
+-- the same bytes at the back
+pub recent_back : (recent text : List ℕ) (b : ℕ) → recent ≡ last_four (reverse text) → (slice_index_or recent 1 0 ∷ slice_index_or recent 2 0 ∷ slice_index_or recent 3 0 ∷ b ∷ []) ≡ last_four (b ∷ reverse text)
+recent_back recent text b e = rw e refl
+
+-- What is held of an open copy.
+
+pub record Held (is_fresh : Bool) (kept text : List ℕ) (identity : Identity) : Type 0 where
+  pub one : OneOpen text
+  pub named : one.header.identity ≡ identity
+  pub raw : kept ≡ raw_text text one.header
+  pub fresh : is_fresh ≡ is_empty (drop one.header.behind text)
+
+held_one : (fresh : Bool) (kept text : List ℕ) (identity : Identity) (h : HoldsOpen fresh kept text identity) (o : OneOpen text) → o.header ≡ h.header → Held fresh kept text identity
+held_one fresh kept text identity h o same = record {
+  one = o;
+  named = rw same h.named;
+  raw = rw same h.raw;
+  fresh = rw same h.fresh;
+}
+
+pub held : (fresh : Bool) (kept text : List ℕ) (identity : Identity) → HoldsOpen fresh kept text identity → Held fresh kept text identity
+held fresh kept text identity h =
+    elim (parts text) [
+      | inl none ↦ absurd (let both : h.header ∷ [] ≡ [] = sym h.stands_open ∙ none in cc)
+      | inr o ↦ let both : o.header ∷ [] ≡ h.header ∷ [] = sym (open_headers-one text o) ∙ h.stands_open in held_one fresh kept text identity h o (cc)
+    ]
+
+-- what stands open in a text that has this header open
+holds : (fresh : Bool) (kept text : List ℕ) (header : Header) (o : OneOpen text) → o.header ≡ header → kept ≡ raw_text text header → fresh ≡ is_empty (drop header.behind text) → HoldsOpen fresh kept text header.identity
+holds fresh kept text header o same raw is = record {
+  header = header;
+  stands_open = open_headers-one text o ∙ ap (λ (h : Header). h ∷ []) same;
+  named = refl;
+  raw = raw;
+  fresh = is;
+}
+
+-- no copy is open
+
+pub record Heard (kept : List ℕ) (fresh : Bool) (text : List ℕ) (b : ℕ) (event : Event) (current : Option Identity) : Type 0 where
+  pub brings : Hears kept text b event
+  pub now : HoldsOpenIf fresh kept (text ++ b ∷ []) current
+
+pub begin_none : (text : List ℕ) (b : ℕ) (o : Option Identity) (event : Event) (was current : Option Identity) (fresh : Bool) (kept : List ℕ) → header_back (b ∷ reverse text) ≡ o → was ≡ None → (o ≡ None → (event ≡ events.Nothing) × (current ≡ was)) → ((i : Identity) → o ≡ Some i → IsBegun event current fresh kept i) → open_headers text ≡ [] → Heard kept fresh text b event current
+begin_none text b None event was current fresh kept is nothing none begun shut =
+    let e = none refl in
+    let keeps = still_none text b shut is in
+    record { brings = rw e.0 keeps; now = rw (e.1, nothing) (keeps.still_open ∙ shut) }
+begin_none text b (Some i) event was current fresh kept is nothing none begun shut =
+    let e = begun i refl in
+    let p = opens text b i shut is in
+    let h : Header = record { identity = i; behind = length text + 1 } in
+    let now = holds fresh kept (text ++ b ∷ []) h p.one p.is (e.raw ∙ sym p.raw) (e.fresh ∙ ap is_empty (sym p.fresh)) in
+    record { brings = rw e.event (record { header = h; named = refl; begins = p.begins }); now = rw e.current now }
+
+-- a copy is open
+
+is_ten : (b : ℕ) → (b == 10) ≡ true → b ≡ 10
+is_ten b e = grind (arith, nat_tests)
+
+both_true : (fresh newline : Bool) → (fresh && newline) ≡ true → (fresh ≡ true) × (newline ≡ true)
+both_true true newline e = (refl, e)
+both_true false newline e = absurd (cc)
+
+ten_is : (b : ℕ) → b ≡ 10 → (b == 10) ≡ true
+ten_is b e = rw e refl
+
+apart : (fresh : Bool) (xs : List ℕ) (b : ℕ) → fresh ≡ is_empty xs → (fresh && (b == 10)) ≡ false → is_empty xs ≡ true → b ≢ 10
+apart true xs b is none e ten = let yes = ten_is b ten in cc
+apart false xs b is none e ten = cc
+
+not_empty : (xs : List ℕ) (b : ℕ) → is_empty (xs ++ b ∷ []) ≡ false
+not_empty [] b = refl
+not_empty (x ∷ xs) b = refl
+
+no_longer_fresh : (text : List ℕ) (b : ℕ) (h : Header) → h.behind < length text + 1 → false ≡ is_empty (drop h.behind (text ++ b ∷ []))
+no_longer_fresh text b h within =
+    sym (ap is_empty (drop-append-le h.behind text (b ∷ []) (omega arith)) ∙ not_empty (drop h.behind text) b)
+
+pub goes_newline : (fresh : Bool) (kept text : List ℕ) (b : ℕ) (identity : Identity) → HoldsOpen fresh kept text identity → (fresh && (b == 10)) ≡ true → Heard kept false text b events.Nothing (Some identity)
+goes_newline fresh kept text b identity h dropped =
+    let g = held fresh kept text identity h in
+    let both = both_true fresh (b == 10) dropped in
+    let ten = is_ten b both.1 in
+    let empty : is_empty (drop g.one.header.behind text) ≡ true = sym g.fresh ∙ both.0 in
+    let d = drops_newline text b g.one empty ten in
+    let none = raw-none text g.one.header (empty_is (drop g.one.header.behind text) empty) in
+    let raw : kept ≡ raw_text (text ++ b ∷ []) g.one.header = g.raw ∙ none ∙ sym (raw-newline text b g.one.header g.one.within empty ten) in
+    let now = holds false kept (text ++ b ∷ []) g.one.header d.one d.is raw (no_longer_fresh text b g.one.header (omega (arith, g.one.within))) in
+    record { brings = d.keeps; now = rw (← g.named) now }
+
+pub goes_on : (fresh : Bool) (kept text : List ℕ) (b : ℕ) (identity : Identity) → HoldsOpen fresh kept text identity → (fresh && (b == 10)) ≡ false → marker_back (b ∷ reverse text) ≡ None → length kept + 1 < 4100 → Heard (kept ++ b ∷ []) false text b events.Nothing (Some identity)
+goes_on fresh kept text b identity h none mark short =
+    let g = held fresh kept text identity h in
+    let far = apart fresh (drop g.one.header.behind text) b g.fresh none in
+    let d = adds text b g.one far mark (rw (← g.raw) short) in
+    let raw : kept ++ b ∷ [] ≡ raw_text (text ++ b ∷ []) g.one.header = rw (raw-push text b g.one.header g.one.within far, ← g.raw) refl in
+    let now = holds false (kept ++ b ∷ []) (text ++ b ∷ []) g.one.header d.one d.is raw (no_longer_fresh text b g.one.header (omega (arith, g.one.within))) in
+    record { brings = d.keeps; now = rw (← g.named) now }
+
+pub ends_by : (fresh : Bool) (kept text : List ℕ) (b : ℕ) (identity : Identity) (how : How) → HoldsOpen fresh kept text identity → (fresh && (b == 10)) ≡ false → marker_back (b ∷ reverse text) ≡ Some how → EndsOpen kept text b identity how
+ends_by fresh kept text b identity how h none mark =
+    let g = held fresh kept text identity h in
+    let far = apart fresh (drop g.one.header.behind text) b g.fresh none in
+    record { copy = record { header = g.one.header; how = how; text = found_text how (raw_text text g.one.header) b }; named = g.named; how = refl; text = ap (λ (xs : List ℕ). found_text how xs b) (sym g.raw); ends = ends_marked text b g.one how far mark }
+
+pub ends_full : (fresh : Bool) (kept text : List ℕ) (b : ℕ) (identity : Identity) → HoldsOpen fresh kept text identity → (fresh && (b == 10)) ≡ false → marker_back (b ∷ reverse text) ≡ None → length kept + 1 ≡ 4100 → EndsOpen kept text b identity Long
+ends_full fresh kept text b identity h none mark full =
+    let g = held fresh kept text identity h in
+    let far = apart fresh (drop g.one.header.behind text) b g.fresh none in
+    record { copy = record { header = g.one.header; how = Long; text = raw_text text g.one.header ++ b ∷ [] }; named = g.named; how = refl; text = ap (λ (xs : List ℕ). xs ++ b ∷ []) (sym g.raw); ends = ends_long text b g.one far mark (rw (← g.raw) full) }
+
+-- the copy that is handed out
+pub hands_out : (kept text : List ℕ) (b : ℕ) (identity : Identity) (how : How) (found : Found) → EndsOpen kept text b identity how → IsFoundOf identity how (found_text how kept b) found → BringsCopy text b found
+hands_out kept text b identity how found e f =
+    record { copy = e.copy; is_found = rw (e.named, e.how, e.text) f; ends = e.ends }
+
+-- the end of the text
+pub closes_none : (text : List ℕ) → open_headers text ≡ [] → ClosesNone text
+closes_none text none = record { none = none; whole = copies_none text none }
+
+pub closes_copy : (fresh : Bool) (kept text : List ℕ) (identity : Identity) (found : Found) → HoldsOpen fresh kept text identity → IsFoundOf identity Cut kept found → ClosesCopy text found
+unfolding closed_copy
+closes_copy fresh kept text identity found h f =
+    let g = held fresh kept text identity h in
+    record { header = g.one.header; was_open = open_headers-one text g.one; is_found = rw (g.named, ← g.raw) f; whole = copies_one text g.one }

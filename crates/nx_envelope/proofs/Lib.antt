@@ -1,0 +1,11 @@
+pub mod Anywhere
+pub mod Beginnings
+pub mod CivilTimes
+pub mod Headers
+pub mod Hearing
+pub mod Lines
+pub mod Parts
+pub mod Raw
+pub mod Spelled
+pub mod Stages
+pub mod Words

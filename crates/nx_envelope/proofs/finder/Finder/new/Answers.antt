@@ -1,0 +1,6 @@
+use Rattle.std.proofs.Common.{refl}
+use Rattle.nx_envelope.proofs.Hearing.{stage-nil, none-nil}
+use Rattle.nx_envelope.proofs.finder.Finder.new.Goals as goal
+
+pub returns : goal.returns
+returns c = record { recent = refl; stage = stage-nil; current = none-nil }

@@ -1,0 +1,13 @@
+-- A copy of a message as it is handed out.
+use Rattle.std.specs.Prelude.{◌≡◌, ℕ, List}
+use Rattle.nx_envelope.specs.Copies.{errors_of}
+use Rattle.nx_envelope.specs.declared.found.Found.{Found}
+use Rattle.nx_envelope.specs.declared.found.How.{How}
+use Rattle.nx_envelope.specs.declared.identity.Identity.{Identity}
+
+-- the found has this identity, end and text, and the errors of the text
+pub record IsFoundOf (name : Identity) (end : How) (spelled : List ℕ) (found : Found) : Type 0 where
+  pub identity : found.identity ≡ name
+  pub how : found.how ≡ end
+  pub text : found.text.items ≡ spelled
+  pub errors : found.errors ≡ errors_of spelled

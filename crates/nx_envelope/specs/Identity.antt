@@ -1,0 +1,7 @@
+-- ITU-R M.540: a message is named by its station, its subject and its number.
+use Rattle.std.specs.Prelude.{Bool, ◌==◌, ◌&&◌}
+use Rattle.nx_envelope.specs.declared.identity.Identity.{Identity}
+
+-- the two name one message: the same station, the same subject and the same number
+abbrev pub same_identity : Identity → Identity → Bool
+same_identity a b = (a.b1.byte == b.b1.byte) && (a.b2.byte == b.b2.byte) && (a.number == b.number)

@@ -1,0 +1,14 @@
+pub mod Copies
+pub mod Digits
+pub mod Finding
+pub mod Found
+pub mod Header
+pub mod Identity
+pub mod Laws
+pub mod Letter
+pub mod Marker
+pub mod Message
+pub mod MessageView
+pub mod Moment
+pub mod Newline
+pub mod Stage

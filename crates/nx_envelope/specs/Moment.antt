@@ -1,0 +1,39 @@
+-- This profile: a moment is a count of whole seconds since 1970-01-01 00:00:00 UTC, and is printed as the civil
+-- date and time of the Gregorian calendar.
+use Rattle.std.specs.Prelude.{◌≡◌, ℕ, ◌+◌, ◌*◌, ◌/◌, ◌%◌, ◌<◌, List, ◌∷◌, ◌++◌, ℤ, pos, ◌+ℤ◌, ◌*ℤ◌}
+use Rattle.jiff_core.specs.Calendar.{IsCivilDate, days_from_civil}
+use Rattle.nx_envelope.specs.Digits.{two_digits}
+use Rattle.nx_envelope.specs.declared.moment.CivilTime.{CivilTime}
+
+-- the calendar has this day, and a clock shows this time
+pub record IsCivilTime (t : CivilTime) : Type 0 where
+  pub date : IsCivilDate (pos t.year) t.month t.day
+  pub hour : t.hour < 24
+  pub minute : t.minute < 60
+  pub second : t.second < 60
+
+-- the seconds since midnight
+abbrev pub second_of_day : CivilTime → ℕ
+second_of_day t = t.hour * 3600 + t.minute * 60 + t.second
+
+-- the day number of the date, 0 for 1970-01-01
+abbrev pub day_number : CivilTime → ℤ
+day_number t = days_from_civil (pos t.year) t.month t.day
+
+-- 86,400 times the day number and the second of the day are the moment
+abbrev pub IsMomentOf : CivilTime → ℕ → Type 0
+IsMomentOf t moment = day_number t *ℤ pos 86400 +ℤ pos (second_of_day t) ≡ pos moment
+
+-- the text YYYY-MM-DD HH:MM:SS, where 45 is a hyphen, 32 a space and 58 a colon
+abbrev pub civil_text : CivilTime → List ℕ
+civil_text t =
+    two_digits (t.year / 100) ++ two_digits (t.year % 100)
+    ++ 45 ∷ two_digits t.month ++ 45 ∷ two_digits t.day
+    ++ 32 ∷ two_digits t.hour ++ 58 ∷ two_digits t.minute ++ 58 ∷ two_digits t.second
+
+-- the text shows the moment
+pub record IsShownAs (moment : ℕ) (text : List ℕ) : Type 0 where
+  pub time : CivilTime
+  pub is_civil : IsCivilTime time
+  pub is_moment : IsMomentOf time moment
+  pub is_text : text ≡ civil_text time

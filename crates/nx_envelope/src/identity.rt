@@ -1,0 +1,71 @@
+//! The identity of a message: its station, its subject and its number.
+
+ghost use Rattle.std.specs.Prelude.{◌≡◌, ◌↔◌, ◌≤◌, IfSome, IsSome};
+ghost use Rattle.nx_envelope.specs.Letter.{IsLetter};
+
+use crate::letter::Letter;
+
+/// The greatest number of a message.
+pub const MAX_NUMBER: u8 = 99;
+
+/// The identity of a message (ITU-R M.540): station B1, subject B2 and a number of two digits.
+#[derive(Clone, Copy, PartialEq, Eq, Debug)]
+pub struct Identity {
+    /// The station, B1.
+    pub b1: Letter,
+    /// The subject, B2.
+    pub b2: Letter,
+    /// The number, from 0 to 99.
+    pub number: u8,
+    pub ghost two_digits: { number ≤ 99 },
+}
+
+impl Identity {
+    /// The identity of two letters and a number, `None` where `b1` or `b2` isn't A to Z or `number` is above 99.
+    pub fn new(b1: u8, b2: u8, number: u8) -> Option<Identity>
+        ensures in_range { IsSome result ↔ (IsLetter b1 × IsLetter b2 × (number ≤ 99)) }
+        ensures station { IfSome result (λ identity. identity.b1.byte ≡ b1) }
+        ensures subject { IfSome result (λ identity. identity.b2.byte ≡ b2) }
+        ensures number { IfSome result (λ identity. identity.number ≡ number) }
+    {
+        if number > MAX_NUMBER {
+            return None;
+        }
+        let b1 = Letter::new(b1)?;
+        let b2 = Letter::new(b2)?;
+        Some(Identity { b1, b2, number })
+    }
+
+    /// The station, B1.
+    pub fn b1(self) -> Letter
+        ensures { result ≡ self.b1 }
+    {
+        self.b1
+    }
+
+    /// The subject, B2.
+    pub fn b2(self) -> Letter
+        ensures { result ≡ self.b2 }
+    {
+        self.b2
+    }
+
+    /// The number, from 0 to 99.
+    pub fn number(self) -> u8
+        ensures value { result ≡ self.number }
+        ensures in_range { result ≤ 99 }
+    {
+        self.number
+    }
+
+    ghost use Rattle.std.specs.Prelude.{IsTrue};
+    ghost use Rattle.nx_envelope.specs.Identity.{same_identity};
+
+    /// Whether the other has the same station, subject and number, which is what `==` says of identities.
+    pub fn is_same(self, other: Identity) -> bool
+        ensures same { result ≡ same_identity self other }
+        ensures equal { IsTrue result ↔ (self ≡ other) }
+    {
+        self == other
+    }
+}

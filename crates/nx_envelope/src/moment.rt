@@ -1,0 +1,88 @@
+//! Moments, and the civil time that they are printed as.
+
+ghost use Rattle.std.specs.Prelude.{◌≡◌, ◌↔◌, ◌<◌, ◌≤◌, IfSome, IsNone};
+ghost use Rattle.nx_envelope.specs.Moment.{IsCivilTime, IsMomentOf, IsShownAs, civil_text};
+ghost use Rattle.nx_envelope.specs.Digits.{two_digits as digits_of};
+
+use jiff::Timestamp;
+use jiff::tz::Offset;
+
+/// The last moment, 2999-12-31 23:59:59, in seconds since 1970-01-01 00:00:00 UTC.
+pub const LAST_MOMENT: u64 = 32_503_679_999;
+
+/// The bytes of a civil time as it is printed, `YYYY-MM-DD HH:MM:SS`.
+pub const CIVIL_LEN: usize = 19;
+
+/// A date of the Gregorian calendar and a time of day, in UTC.
+#[derive(Clone, Copy, Debug)]
+pub struct CivilTime {
+    /// The year, to 9999.
+    pub year: u16,
+    /// The month, from 1.
+    pub month: u8,
+    /// The day of the month, from 1.
+    pub day: u8,
+    /// The hour, to 23.
+    pub hour: u8,
+    /// The minute, to 59.
+    pub minute: u8,
+    /// The second, to 59.
+    pub second: u8,
+}
+
+/// The two decimal digits of a number.
+fn two_digits(number: u8) -> [u8; 2]
+    requires { number < 100 }
+    ensures { result ≡ digits_of number }
+{
+    [b'0' + number / 10, b'0' + number % 10]
+}
+
+/// The civil time of a moment.
+fn civil_time(moment: u64) -> Option<CivilTime>
+    ensures none { IsNone result ↔ (LAST_MOMENT < moment) }
+    ensures civil { IfSome result IsCivilTime }
+    ensures moment { IfSome result (λ time. IsMomentOf time moment) }
+{
+    if moment > LAST_MOMENT {
+        return None;
+    }
+    let Ok(timestamp) = Timestamp::from_second(moment as i64) else {
+        return None;
+    };
+    let datetime = Offset::UTC.to_datetime(timestamp).to_plain();
+    Some(CivilTime {
+        year: datetime.date.year as u16,
+        month: datetime.date.month,
+        day: datetime.date.day,
+        hour: datetime.time.hour,
+        minute: datetime.time.minute,
+        second: datetime.time.second,
+    })
+}
+
+/// The text of a civil time, `YYYY-MM-DD HH:MM:SS`.
+fn text_of(time: CivilTime) -> [u8; CIVIL_LEN]
+    requires { IsCivilTime time }
+    ensures { result ≡ civil_text time }
+{
+    let [y1, y2] = two_digits((time.year / 100) as u8);
+    let [y3, y4] = two_digits((time.year % 100) as u8);
+    let [n1, n2] = two_digits(time.month);
+    let [d1, d2] = two_digits(time.day);
+    let [h1, h2] = two_digits(time.hour);
+    let [m1, m2] = two_digits(time.minute);
+    let [s1, s2] = two_digits(time.second);
+    [
+        y1, y2, y3, y4, b'-', n1, n2, b'-', d1, d2, b' ', h1, h2, b':', m1, m2, b':', s1, s2,
+    ]
+}
+
+/// The civil time of a moment in UTC, as `2025-01-01 00:40:00`; `None` exactly above the last moment.
+pub fn civil(moment: u64) -> Option<[u8; CIVIL_LEN]>
+    ensures none { IsNone result ↔ (LAST_MOMENT < moment) }
+    ensures shown { IfSome result (IsShownAs moment) }
+{
+    let time = civil_time(moment)?;
+    Some(text_of(time))
+}

@@ -1,0 +1,84 @@
+//! How far the header at the end of a text has come.
+
+ghost use Rattle.std.specs.Prelude.{◌≡◌, ◌∷◌, ℕ, List};
+ghost use Rattle.nx_envelope.specs.Header.{ends_in, header_back};
+ghost use Rattle.nx_envelope.specs.Marker.{start_marker};
+ghost use Rattle.nx_envelope.specs.Stage.{IsStageOf};
+
+use crate::digit::Digit;
+use crate::identity::Identity;
+use crate::letter::Letter;
+
+/// The space between `ZCZC` and the station.
+const SPACE: u8 = b' ';
+
+/// What the end of a text has of a header.
+#[derive(Clone, Copy, Debug)]
+pub enum Stage {
+    /// Not even a space behind `ZCZC`.
+    Nowhere,
+    /// `ZCZC` and one or more spaces.
+    Spaces,
+    /// These and the station.
+    Station(Letter),
+    /// These and the subject.
+    Subject(Letter, Letter),
+    /// These and the first digit.
+    Tens(Letter, Letter, Digit),
+}
+
+impl Stage {
+    /// The stage one byte later; `after_start` says that the text before the byte ends with `ZCZC`.
+    pub fn next(self, after_start: bool, byte: u8) -> Stage
+        ensures { (back : List ℕ) → IsStageOf self back → after_start ≡ ends_in start_marker back
+            → IsStageOf result (byte ∷ back) }
+    {
+        if byte == SPACE {
+            return self.with_space(after_start);
+        }
+        match self {
+            Stage::Spaces => match Letter::new(byte) {
+                Some(station) => Stage::Station(station),
+                None => Stage::Nowhere,
+            },
+            Stage::Station(station) => match Letter::new(byte) {
+                Some(subject) => Stage::Subject(station, subject),
+                None => Stage::Nowhere,
+            },
+            Stage::Subject(station, subject) => match Digit::new(byte) {
+                Some(tens) => Stage::Tens(station, subject, tens),
+                None => Stage::Nowhere,
+            },
+            Stage::Nowhere | Stage::Tens(_, _, _) => Stage::Nowhere,
+        }
+    }
+
+    /// The stage one space later.
+    fn with_space(self, after_start: bool) -> Stage
+        ensures { (back : List ℕ) → IsStageOf self back → after_start ≡ ends_in start_marker back
+            → IsStageOf result (SPACE ∷ back) }
+    {
+        if after_start {
+            return Stage::Spaces;
+        }
+        match self {
+            Stage::Spaces => Stage::Spaces,
+            _ => Stage::Nowhere,
+        }
+    }
+
+    /// The identity whose header the byte completes, if it completes one.
+    pub fn header(self, byte: u8) -> Option<Identity>
+        ensures { (back : List ℕ) → IsStageOf self back → result ≡ header_back (byte ∷ back) }
+    {
+        let Stage::Tens(b1, b2, tens) = self else {
+            return None;
+        };
+        let units = Digit::new(byte)?;
+        Some(Identity {
+            b1,
+            b2,
+            number: tens.value * 10 + units.value,
+        })
+    }
+}
