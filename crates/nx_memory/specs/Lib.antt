@@ -1,0 +1,5 @@
+pub mod Letters
+pub mod Memory
+pub mod Refused
+pub mod Selection
+pub mod Vital
