@@ -1,4 +1,5 @@
 pub mod Letters
+pub mod Live
 pub mod Memory
 pub mod Refused
 pub mod Selection
