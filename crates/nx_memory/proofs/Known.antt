@@ -49,7 +49,7 @@ found p (x ∷ xs) e =
     elim (p x) as (λ b. p x ≡ b → (b || list_any p xs) ≡ true → Found p (x ∷ xs)) [
       | true ↦ λ passes _. record { before = []; it = x; after = xs; whole = refl; passes = passes }
       | false ↦ λ _ others. let rest = found p xs others in
-        record { before = x ∷ rest.before; it = rest.it; after = rest.after; whole = ap (λ ys. x ∷ ys) rest.whole; passes = rest.passes }
+          record { before = x ∷ rest.before; it = rest.it; after = rest.after; whole = ap (λ ys. x ∷ ys) rest.whole; passes = rest.passes }
     ] refl e
 
 any_from : {A : Type 0} (p : A → Bool) (before after : List A) (x : A) → p x ≡ true → list_any p (before ++ x ∷ after) ≡ true
@@ -69,9 +69,9 @@ live_from_known identity moment entries known =
       entry = it.it;
       after = it.after;
       made =
-        sym (take-append-drop n entries)
-        ∙ ap (λ ys. take n entries ++ ys) it.whole
-        ∙ sym (append_assoc (take n entries) it.before (it.it ∷ it.after));
+          sym (take-append-drop n entries)
+          ∙ ap (λ ys. take n entries ++ ys) it.whole
+          ∙ sym (append_assoc (take n entries) it.before (it.it ∷ it.after));
       same = same_identity-true it.it.identity identity parts.0;
       recent = omega arith;
       few_after = omega (arith, length-drop n entries);

@@ -1,7 +1,7 @@
 -- A set of letters kept as one flag for each of A, B, C and so on.
 use Rattle.std.proofs.Common.{◌≡◌, ◌≢◌, ℕ, ◌+◌, ◌-◌, ◌<◌, ◌≤◌, Bool, true, false, not, ◌&&◌, ◌||◌, List, [], ◌∷◌, length, get_or, replicate, nat_eq, eqb, zero, suc, refl, sym, ap, ◌∙◌, inl, inr, arith, rules}
 use Rattle.std.proofs.Math.ListN.{set}
-use Rattle.std.proofs.lemmas.Bool.{cases_lt, cases_eq, ne_eqb, eq-eqb}
+use Rattle.std.proofs.lemmas.Bool.{cases_lt, cases_eq, ne_eqb, eq-eqb, or_left}
 use Rattle.std.proofs.lemmas.Bool.Decides.{nat_tests}
 use Rattle.std.proofs.lemmas.List.{get_or-set_same, get_or-set_other}
 use Rattle.std.specs.Ordering.{nat_cmp, eq_by_cmp}
@@ -57,18 +57,18 @@ letters_of-set_true flags i letter at within =
     same : (q : ℕ) → finite.contains (letters_of (set flags i true)) q ≡ finite.contains (finite.insert (letters_of flags) letter) q
     same q = elim (cases_lt q 65) [
       | inl below ↦
-        not_below (set flags i true) q below
-        ∙ sym (contains-insert (letters_of flags) letter q ∙ rw (ne_eqb q letter (λ e. omega arith), not_below flags q below))
+          not_below (set flags i true) q below
+          ∙ sym (contains-insert (letters_of flags) letter q ∙ rw (ne_eqb q letter (λ e. omega arith), not_below flags q below))
       | inr above ↦ elim (cases_eq q letter) [
         | inl here ↦
-          contains-letters_of (set flags i true) i q (omega arith)
-          ∙ get_or-set_same flags i true false within
-          ∙ sym (contains-insert (letters_of flags) letter q ∙ rw (eq-eqb q letter here))
+            contains-letters_of (set flags i true) i q (omega arith)
+            ∙ get_or-set_same flags i true false within
+            ∙ sym (contains-insert (letters_of flags) letter q ∙ rw (eq-eqb q letter here))
         | inr there ↦
-          contains-letters_of (set flags i true) (q - 65) q (omega arith)
-          ∙ get_or-set_other flags i (q - 65) true false (λ e. there (omega arith))
-          ∙ sym (contains-letters_of flags (q - 65) q (omega arith))
-          ∙ sym (contains-insert (letters_of flags) letter q ∙ rw (ne_eqb q letter there))
+            contains-letters_of (set flags i true) (q - 65) q (omega arith)
+            ∙ get_or-set_other flags i (q - 65) true false (λ e. there (omega arith))
+            ∙ sym (contains-letters_of flags (q - 65) q (omega arith))
+            ∙ sym (contains-insert (letters_of flags) letter q ∙ rw (ne_eqb q letter there))
       ]
     ]
 
@@ -80,18 +80,18 @@ letters_of-set_false flags i letter at within =
     same : (q : ℕ) → finite.contains (letters_of (set flags i false)) q ≡ finite.contains (finite.remove (letters_of flags) letter) q
     same q = elim (cases_lt q 65) [
       | inl below ↦
-        not_below (set flags i false) q below
-        ∙ sym (contains-remove (letters_of flags) letter q ∙ rw (ne_eqb q letter (λ e. omega arith), not_below flags q below))
+          not_below (set flags i false) q below
+          ∙ sym (contains-remove (letters_of flags) letter q ∙ rw (ne_eqb q letter (λ e. omega arith), not_below flags q below))
       | inr above ↦ elim (cases_eq q letter) [
         | inl here ↦
-          contains-letters_of (set flags i false) i q (omega arith)
-          ∙ get_or-set_same flags i false false within
-          ∙ sym (contains-remove (letters_of flags) letter q ∙ rw (eq-eqb q letter here))
+            contains-letters_of (set flags i false) i q (omega arith)
+            ∙ get_or-set_same flags i false false within
+            ∙ sym (contains-remove (letters_of flags) letter q ∙ rw (eq-eqb q letter here))
         | inr there ↦
-          contains-letters_of (set flags i false) (q - 65) q (omega arith)
-          ∙ get_or-set_other flags i (q - 65) false false (λ e. there (omega arith))
-          ∙ sym (contains-letters_of flags (q - 65) q (omega arith))
-          ∙ sym (contains-remove (letters_of flags) letter q ∙ rw (ne_eqb q letter there))
+            contains-letters_of (set flags i false) (q - 65) q (omega arith)
+            ∙ get_or-set_other flags i (q - 65) false false (λ e. there (omega arith))
+            ∙ sym (contains-letters_of flags (q - 65) q (omega arith))
+            ∙ sym (contains-remove (letters_of flags) letter q ∙ rw (ne_eqb q letter there))
       ]
     ]
 
@@ -103,3 +103,22 @@ none_from first (suc n) = none_from (first + 1) n
 pub letters_of-none : letters_of (replicate 26 false) ≡ finite.empty
 unfolding letters_of
 letters_of-none = none_from 65 26
+
+-- to add what is there, and to take out what isn't, changes nothing
+pub insert_again : (s : finite.FinSet nat_cmp) (k : ℕ) → finite.contains s k ≡ true → finite.insert s k ≡ s
+insert_again s k there = finite.same_set nat_cmp_total finite.nat_cmp-IsAntisymmetric _ _ (λ q. same q)
+  where
+    same : (q : ℕ) → finite.contains (finite.insert s k) q ≡ finite.contains s q
+    same q = elim (cases_eq q k) [
+      | inl here ↦ contains-insert s k q ∙ or_left (eqb q k) (finite.contains s q) (eq-eqb q k here) ∙ sym (ap (finite.contains s) here ∙ there)
+      | inr other ↦ contains-insert s k q ∙ ap (λ b. b || finite.contains s q) (ne_eqb q k other)
+    ]
+
+pub remove_again : (s : finite.FinSet nat_cmp) (k : ℕ) → finite.contains s k ≡ false → finite.remove s k ≡ s
+remove_again s k absent = finite.same_set nat_cmp_total finite.nat_cmp-IsAntisymmetric _ _ (λ q. same q)
+  where
+    same : (q : ℕ) → finite.contains (finite.remove s k) q ≡ finite.contains s q
+    same q = elim (cases_eq q k) [
+      | inl here ↦ contains-remove s k q ∙ ap (λ b. not b && finite.contains s q) (eq-eqb q k here) ∙ sym (ap (finite.contains s) here ∙ absent)
+      | inr other ↦ contains-remove s k q ∙ ap (λ b. not b && finite.contains s q) (ne_eqb q k other)
+    ]

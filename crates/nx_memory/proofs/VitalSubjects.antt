@@ -18,5 +18,5 @@ pub IsWithoutVital-insert : (s : finite.FinSet nat_cmp) (letter : ℕ) → is_vi
 IsWithoutVital-insert s letter plain without = λ subject vital.
     contains-insert s letter subject
     ∙ or_from (eqb subject letter) (finite.contains s subject)
-      (ne_eqb subject letter (λ e. both_ways (is_vital letter) plain (ap is_vital (sym e) ∙ vital)))
-      (without subject vital)
+    (ne_eqb subject letter (λ e. both_ways (is_vital letter) plain (ap is_vital (sym e) ∙ vital)))
+    (without subject vital)

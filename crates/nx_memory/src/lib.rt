@@ -14,3 +14,6 @@ pub use laws::{known_is_live, last_of_goes_on};
 pub use plain::PlainRecall;
 pub use recall::{CAPACITY, LIFETIME, Recall, enter_unless_known};
 pub use selection::{Selection, Vital};
+
+#[cfg(test)]
+mod tests;

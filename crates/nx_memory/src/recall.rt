@@ -13,7 +13,7 @@ pub const CAPACITY: usize = 200;
 pub const LIFETIME: u64 = 237_600;
 
 /// A memory of the last 200 identities entered. Moments are whole seconds since 1970-01-01 00:00:00 UTC.
-pub trait Recall {
+pub trait Recall: Drop {
     /// The last 200 entries made, oldest first.
     ghost content: { Self → List MemoryEntry };
 
@@ -41,11 +41,9 @@ pub fn enter_unless_known<M: Recall>(memory: &mut M, identity: Identity, moment:
     requires not_before { newest_moment (M.content memory.old) ≤ moment }
     requires numbered { 0 < identity.number }
     ensures entered { result ≡ not (is_known identity moment (M.content memory.old)) }
-    ensures content {
-        MatchBool result
-          (M.content memory.new ≡ last_of CAPACITY (M.content memory.old ++ record { identity = identity; moment = moment } ∷ []))
-          (M.content memory.new ≡ M.content memory.old)
-    }
+    ensures content { MatchBool result
+        (M.content memory.new ≡ last_of CAPACITY (M.content memory.old ++ record { identity = identity; moment = moment } ∷ []))
+        (M.content memory.new ≡ M.content memory.old) }
     ensures not_before { newest_moment (M.content memory.new) ≤ moment }
     ensures known { is_known identity moment (M.content memory.new) ≡ true }
 {

@@ -1,6 +1,6 @@
 //! Which stations and subjects a receiver prints.
 
-ghost use Rattle.std.specs.Prelude.{◌≡◌, ◌↔◌, not, IsTrue, IsErr, IfErr, OnOk, OnErr};
+ghost use Rattle.std.specs.Prelude.{◌≡◌, ◌↔◌, false, not, IsTrue, IsErr, IfErr, OnOk, OnErr};
 ghost use Rattle.std.specs.FinSet as set;
 ghost use Rattle.nx_memory.specs.Vital.{is_vital};
 ghost use Rattle.nx_memory.specs.Selection.{admits};
@@ -50,34 +50,37 @@ impl Selection {
         }
     }
 
-    /// Refuses the station, for all its subjects.
+    /// Refuses the station, for all its subjects. To refuse it again changes nothing.
     pub fn refuse_station(&mut self, station: Letter)
-        ensures { self.new ≡ record self.old { stations = set.insert self.old.stations station.byte } }
+        ensures refused { self.new ≡ record self.old { stations = set.insert self.old.stations station.byte } }
+        ensures again { IsTrue (set.contains self.old.stations station.byte) → self.new ≡ self.old }
     {
         self.refused_stations.insert(station);
     }
 
-    /// Refuses the station no longer.
+    /// Refuses the station no longer. Where it wasn't refused nothing changes.
     pub fn accept_station(&mut self, station: Letter)
-        ensures { self.new ≡ record self.old { stations = set.remove self.old.stations station.byte } }
+        ensures accepted { self.new ≡ record self.old { stations = set.remove self.old.stations station.byte } }
+        ensures again { set.contains self.old.stations station.byte ≡ false → self.new ≡ self.old }
     {
         self.refused_stations.remove(station);
     }
 
-    /// Refuses the subject no longer.
+    /// Refuses the subject no longer. Where it wasn't refused nothing changes.
     pub fn accept_subject(&mut self, subject: Letter)
-        ensures { self.new ≡ record self.old { subjects = set.remove self.old.subjects subject.byte } }
+        ensures accepted { self.new ≡ record self.old { subjects = set.remove self.old.subjects subject.byte } }
+        ensures again { set.contains self.old.subjects subject.byte ≡ false → self.new ≡ self.old }
     {
         self.refused_subjects.remove(subject);
     }
 
-    /// Refuses the subject, of all stations. `Vital` where it is A, B, D or L; the selection then stays as it was.
+    /// Refuses the subject, of all stations. To refuse it again changes nothing. `Vital` where it is A, B, D or L; the
+    /// selection then stays as it was.
     pub fn refuse_subject(&mut self, subject: Letter) -> Result<(), Vital>
         ensures vital { IsErr result ↔ IsTrue (is_vital subject.byte) }
         ensures fault { IfErr result (λ vital. vital.subject ≡ subject) }
-        ensures refused {
-            OnOk result (self.new ≡ record self.old { subjects = set.insert self.old.subjects subject.byte })
-        }
+        ensures refused { OnOk result (self.new ≡ record self.old { subjects = set.insert self.old.subjects subject.byte }) }
+        ensures again { OnOk result (IsTrue (set.contains self.old.subjects subject.byte) → self.new ≡ self.old) }
         ensures unchanged { OnErr result (self.new ≡ self.old) }
     {
         if is_vital_subject(subject) {
@@ -90,9 +93,7 @@ impl Selection {
     /// Whether neither the station nor the subject is refused. A vital subject never is.
     pub fn admits(&self, identity: &Identity) -> bool
         ensures selected { result ≡ admits self.now identity.now }
-        ensures vital {
-            IsTrue (is_vital identity.now.b2.byte) → result ≡ not (set.contains self.now.stations identity.now.b1.byte)
-        }
+        ensures vital { IsTrue (is_vital identity.now.b2.byte) → result ≡ not (set.contains self.now.stations identity.now.b1.byte) }
     {
         !self.refused_stations.contains(identity.b1) && !self.refused_subjects.contains(identity.b2)
     }
