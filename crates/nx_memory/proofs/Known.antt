@@ -13,7 +13,7 @@ use Rattle.nx_envelope.specs.Identity.{same_identity}
 use Rattle.nx_memory.specs.declared.entry.MemoryEntry.{MemoryEntry}
 use Rattle.nx_memory.specs.declared.recall.TheConstants.{CAPACITY, LIFETIME}
 use Rattle.nx_memory.specs.Live.{IsLive}
-use Rattle.nx_memory.specs.Memory.{is_live, is_known, last_of}
+use Rattle.nx_memory.specs.Memory.{is_recent, is_known, last_of}
 
 -- letters with one byte are one letter, and identities of equal parts one identity
 same_letter : (a b : Letter) → a.byte ≡ b.byte → a ≡ b
@@ -59,7 +59,7 @@ any_from p before after x passes =
 -- of all the entries made so far, one among the last 200 that makes the identity known is live
 pub live_from_known : (identity : Identity) (moment : ℕ) (entries : List MemoryEntry) → is_known identity moment (last_of CAPACITY entries) ≡ true → IsLive identity moment entries
 live_from_known identity moment entries known =
-    let it = found (is_live identity moment) (last_of CAPACITY entries) known in
+    let it = found (is_recent identity moment) (last_of CAPACITY entries) known in
     let parts = and_parts _ _ it.passes in
     let n : ℕ = length entries - CAPACITY in
     let lengths : length (drop n entries) ≡ length it.before + (1 + length it.after) = ap length it.whole ∙ length-append it.before (it.it ∷ it.after) ∙ omega arith in
@@ -85,5 +85,5 @@ known_from_live identity moment entries live =
     let kept : drop n entries ≡ drop n live.before ++ live.entry ∷ live.after = ap (drop n) live.made ∙ drop-append-le n live.before (live.entry ∷ live.after) (omega arith) in
     let same : same_identity live.entry.identity identity ≡ true = subst (λ (it : Identity). same_identity it identity ≡ true) (sym live.same) (same_itself identity) in
     let recent : ltb (moment - live.entry.moment) LIFETIME ≡ true = lt-ltb (moment - live.entry.moment) LIFETIME (omega arith) in
-    ap (list_any (is_live identity moment)) kept
-    ∙ any_from (is_live identity moment) (drop n live.before) live.after live.entry (and_from _ _ same recent)
+    ap (list_any (is_recent identity moment)) kept
+    ∙ any_from (is_recent identity moment) (drop n live.before) live.after live.entry (and_from _ _ same recent)

@@ -15,7 +15,8 @@ pub struct MemoryEntry {
 
 /// Fills the places of a fixed array that hold no entry yet: AA00 at moment 0.
 impl Default for MemoryEntry {
-    ghost is_default = { λ entry. (entry.identity.b1.byte ≡ 65) × (entry.identity.b2.byte ≡ 65) × (entry.identity.number ≡ 0) × (entry.moment ≡ 0) };
+    ghost is_default = { λ entry. (entry.identity.b1.byte ≡ 65) × (entry.identity.b2.byte ≡ 65)
+        × (entry.identity.number ≡ 0) × (entry.moment ≡ 0) };
 
     fn default() -> Self {
         let Some(identity) = Identity::new(b'A', b'A', 0) else {

@@ -8,7 +8,7 @@ use arrayvec::ArrayVec;
 use nx_envelope::Identity;
 use std::marker::Model;
 
-/// A memory that looks through its entries, of which it holds at most 200. Contracts see it as their list, oldest first.
+/// A memory that looks through all its entries. Contracts see it as their list, oldest first.
 #[derive(Drop)]
 pub struct PlainRecall {
     entries: ArrayVec<MemoryEntry, CAPACITY>,
@@ -31,6 +31,15 @@ impl PlainRecall {
         PlainRecall {
             entries: ArrayVec::new(),
         }
+    }
+}
+
+/// A memory with no entry.
+impl Default for PlainRecall {
+    ghost is_default = { λ memory. memory ≡ [] };
+
+    fn default() -> Self {
+        PlainRecall::new()
     }
 }
 

@@ -79,7 +79,8 @@ impl Selection {
     pub fn refuse_subject(&mut self, subject: Letter) -> Result<(), Vital>
         ensures vital { IsErr result ↔ IsTrue (is_vital subject.byte) }
         ensures fault { IfErr result (λ vital. vital.subject ≡ subject) }
-        ensures refused { OnOk result (self.new ≡ record self.old { subjects = set.insert self.old.subjects subject.byte }) }
+        ensures refused { OnOk result (
+            self.new ≡ record self.old { subjects = set.insert self.old.subjects subject.byte }) }
         ensures again { OnOk result (IsTrue (set.contains self.old.subjects subject.byte) → self.new ≡ self.old) }
         ensures unchanged { OnErr result (self.new ≡ self.old) }
     {
@@ -93,7 +94,8 @@ impl Selection {
     /// Whether neither the station nor the subject is refused. A vital subject never is.
     pub fn admits(&self, identity: &Identity) -> bool
         ensures selected { result ≡ admits self.now identity.now }
-        ensures vital { IsTrue (is_vital identity.now.b2.byte) → result ≡ not (set.contains self.now.stations identity.now.b1.byte) }
+        ensures vital { IsTrue (is_vital identity.now.b2.byte)
+            → result ≡ not (set.contains self.now.stations identity.now.b1.byte) }
     {
         !self.refused_stations.contains(identity.b1) && !self.refused_subjects.contains(identity.b2)
     }
