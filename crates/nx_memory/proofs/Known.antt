@@ -1,7 +1,7 @@
 -- Which entries make an identity known.
 use mathlib.Core.HLevel.{is_prop→PathP, ×_prop}
 use native.Mathlib.Bridge.{le_prop}
-use Rattle.std.proofs.Common.{◌≡◌, ℕ, ◌+◌, ◌-◌, ◌<◌, ◌≤◌, Bool, true, false, ◌&&◌, ◌||◌, List, [], ◌∷◌, ◌++◌, length, take, drop, ltb, refl, sym, ap, ◌∙◌, subst, inl, inr, arith}
+use Rattle.std.proofs.Common.{◌≡◌, ℕ, ◌+◌, ◌-◌, ◌<◌, ◌≤◌, Bool, true, false, ◌||◌, List, [], ◌∷◌, ◌++◌, length, take, drop, ltb, refl, sym, ap, ◌∙◌, subst, arith}
 use Rattle.std.specs.List.{list_any}
 use Rattle.std.proofs.lemmas.Bool.{and_parts, and_from, or_left, or_right, eqb-true, eq-eqb, ltb-true, lt-ltb}
 use Rattle.std.proofs.lemmas.List.{take-append-drop, drop-append-le, length-drop, length-append, append_assoc}
@@ -60,9 +60,9 @@ any_from p before after x passes =
 pub live_from_known : (identity : Identity) (moment : ℕ) (entries : List MemoryEntry) → is_known identity moment (last_of CAPACITY entries) ≡ true → IsLive identity moment entries
 live_from_known identity moment entries known =
     let it = found (is_recent identity moment) (last_of CAPACITY entries) known in
-    let parts = and_parts _ _ it.passes in
     let n : ℕ = length entries - CAPACITY in
     let lengths : length (drop n entries) ≡ length it.before + (1 + length it.after) = ap length it.whole ∙ length-append it.before (it.it ∷ it.after) ∙ omega arith in
+    let parts = and_parts _ _ it.passes in
     let age : moment - it.it.moment < LIFETIME = ltb-true _ _ parts.1 in
     record {
       before = take n entries ++ it.before;

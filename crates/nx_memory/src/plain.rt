@@ -51,8 +51,9 @@ impl Recall for PlainRecall {
     }
 
     fn knows(&self, identity: &Identity, moment: u64) -> bool {
-        self.entries.as_slice().iter().any(|entry| entry.identity == *identity
-            && moment.saturating_sub(entry.moment) < LIFETIME)
+        self.entries.as_slice().iter().any(|entry| {
+            entry.identity == *identity && moment.saturating_sub(entry.moment) < LIFETIME
+        })
     }
 
     fn enter(&mut self, identity: Identity, moment: u64) {

@@ -1,12 +1,12 @@
-use Rattle.nx_memory.proofs.Letters.{insert_again}
-use Rattle.std.proofs.Common.{◌≡◌, false, sym, ◌∙◌}
+use Rattle.std.proofs.Common.{◌≡◌, false}
 use Rattle.nx_memory.specs.Vital.{is_vital}
+use Rattle.nx_memory.proofs.Letters.{insert_again}
 use Rattle.nx_memory.proofs.VitalSubjects.{IsWithoutVital-insert}
 use Rattle.nx_memory.proofs.selection.Selection.refuse_subject.Goals as goal
 
 pub invariant_of-self : goal.invariant_of-self
 invariant_of-self c =
-    let other : is_vital c.args.subject.byte ≡ false = sym c.is_vital_subject.ensures ∙ c.if-is_vital_subject.false in
+    let other : is_vital c.args.subject.byte ≡ false = cc in
     rw c.insert.ensures (IsWithoutVital-insert c.self.inside.refused_subjects c.args.subject.byte other c.self.invariant)
 
 pub returns-clause-again : goal.returns-clause-again
