@@ -8,6 +8,10 @@ use Rattle.std.specs.Cmp.{nat_cmp_total, unsigned_tied}
 use Rattle.std.specs.FinSet as finite
 use Rattle.nx_memory.specs.Letters.{letters_from, letters_of}
 
+-- the empty set of numbers has none
+pub contains-none : (q : ℕ) → finite.contains (finite.empty {R = nat_cmp}) q ≡ false
+contains-none q = finite.contains-empty nat_cmp q
+
 -- whether a set of numbers has a number, after one is added
 pub contains-insert : (s : finite.FinSet nat_cmp) (k q : ℕ) → finite.contains (finite.insert s k) q ≡ (eqb q k || finite.contains s q)
 contains-insert s k q = finite.contains-insert nat_cmp_total s k q ∙ ap (λ b. b || finite.contains s q) (unsigned_tied q k)
@@ -121,3 +125,6 @@ remove_again s k absent = finite.same_set nat_cmp_total finite.nat_cmp-IsAntisym
       | inl here ↦ contains-remove s k q ∙ ap (λ b. not b && finite.contains s q) (eq-eqb q k here) ∙ sym (ap (finite.contains s) here ∙ absent)
       | inr other ↦ contains-remove s k q ∙ ap (λ b. not b && finite.contains s q) (ne_eqb q k other)
     ]
+
+-- what a changed set has, and where a change changes nothing
+pub ruleset changes = (contains-none, contains-insert, contains-remove, insert_again, remove_again)

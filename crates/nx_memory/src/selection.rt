@@ -38,6 +38,7 @@ impl Model for Selection {
     ghost invariant = { λ s. IsWithoutVital s.refused_subjects };
 }
 
+#[tactic(auto, using(crate::proofs::Letters::changes))]
 impl Selection {
     /// Everything is selected.
     pub fn all() -> Self
