@@ -1,0 +1,63 @@
+-- The definitions of the memory, evaluated on worked examples.
+use Rattle.std.specs.Prelude.{◌≡◌, ℕ, true, false, [], ◌∷◌, Some, None, refl}
+use Rattle.std.proofs.Common.{lit≤}
+use Rattle.nx_envelope.specs.declared.identity.Identity.{Identity}
+use Rattle.nx_memory.specs.declared.entry.MemoryEntry.{MemoryEntry}
+use Rattle.nx_memory.specs.Memory.{last_of, content_after, newest_of, is_known}
+use Rattle.nx_memory.specs.Vital.{is_vital}
+
+-- the message 01 of station E (69) and subject A (65), and the message 02
+abbrev pub ea01 : Identity
+ea01 = record {
+  b1 = record { byte = 69; in_range = (lit≤ tt, lit≤ tt) };
+  b2 = record { byte = 65; in_range = (lit≤ tt, lit≤ tt) };
+  number = 1;
+  two_digits = lit≤ tt;
+}
+
+abbrev pub ea02 : Identity
+ea02 = record {
+  b1 = record { byte = 69; in_range = (lit≤ tt, lit≤ tt) };
+  b2 = record { byte = 65; in_range = (lit≤ tt, lit≤ tt) };
+  number = 2;
+  two_digits = lit≤ tt;
+}
+
+abbrev pub entry_at : Identity → ℕ → MemoryEntry
+entry_at identity moment = record { identity = identity; moment = moment }
+
+pub last_two : last_of {A = ℕ} 2 (5 ∷ 6 ∷ 7 ∷ []) ≡ 6 ∷ 7 ∷ []
+last_two = refl
+
+pub all_of_two : last_of {A = ℕ} 3 (6 ∷ 7 ∷ []) ≡ 6 ∷ 7 ∷ []
+all_of_two = refl
+
+-- entered at 0: known to the last second before 66 hours have passed, and no longer
+pub known_below_66_hours : is_known ea01 237599 (content_after [] ea01 0) ≡ true
+known_below_66_hours = refl
+
+pub unknown_at_66_hours : is_known ea01 237600 (content_after [] ea01 0) ≡ false
+unknown_at_66_hours = refl
+
+pub another_unknown : is_known ea02 0 (content_after [] ea01 0) ≡ false
+another_unknown = refl
+
+-- entered again, it is known by the later entry
+pub known_again : is_known ea01 237600 (content_after (content_after [] ea01 0) ea01 237600) ≡ true
+known_again = refl
+
+pub newest_is_last : newest_of (content_after (content_after [] ea01 5) ea02 9) ≡ Some 9
+newest_is_last = refl
+
+pub newest_of_none : newest_of [] ≡ None
+newest_of_none = refl
+
+-- D (68) and L (76) are vital, C (67) isn't
+pub d_is_vital : is_vital 68 ≡ true
+d_is_vital = refl
+
+pub l_is_vital : is_vital 76 ≡ true
+l_is_vital = refl
+
+pub c_is_not_vital : is_vital 67 ≡ false
+c_is_not_vital = refl

@@ -1,0 +1,7 @@
+pub mod Examples
+pub mod Letters
+pub mod Live
+pub mod Memory
+pub mod Refused
+pub mod Selection
+pub mod Vital

@@ -1,0 +1,15 @@
+-- Which entries count (this profile), said of all the entries made so far.
+use Rattle.std.specs.Prelude.{◌≡◌, ℕ, ◌+◌, ◌<◌, List, ◌∷◌, ◌++◌, length}
+use Rattle.nx_envelope.specs.declared.identity.Identity.{Identity}
+use Rattle.nx_memory.specs.declared.entry.MemoryEntry.{MemoryEntry}
+use Rattle.nx_memory.specs.declared.recall.TheConstants.{CAPACITY, LIFETIME}
+
+-- an entry of the identity is live at the moment: it is less than 66 hours old, and fewer than 200 entries came after it
+pub record IsLive (identity : Identity) (moment : ℕ) (entries : List MemoryEntry) : Type 0 where
+  pub before : List MemoryEntry
+  pub entry : MemoryEntry
+  pub after : List MemoryEntry
+  pub made : entries ≡ before ++ entry ∷ after
+  pub same : entry.identity ≡ identity
+  pub recent : moment < entry.moment + LIFETIME
+  pub few_after : length after < CAPACITY

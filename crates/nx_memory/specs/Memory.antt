@@ -1,0 +1,34 @@
+-- The memory of identities (this profile: the last 200 entered, each for 66 hours).
+use Rattle.std.specs.Prelude.{ℕ, ◌-◌, Bool, ◌&&◌, nat_lt, List, [], ◌∷◌, ◌++◌, length, drop, slice_get, Option, unwrap_or}
+use Rattle.std.specs.Option.{option_map}
+use Rattle.std.specs.List.{list_any}
+use Rattle.nx_envelope.specs.declared.identity.Identity.{Identity}
+use Rattle.nx_envelope.specs.Identity.{same_identity}
+use Rattle.nx_memory.specs.declared.entry.MemoryEntry.{MemoryEntry}
+use Rattle.nx_memory.specs.declared.recall.TheConstants.{CAPACITY, LIFETIME}
+
+-- the last n of a list, or all of it where there are no more
+abbrev pub last_of : {A : Type 0} → ℕ → List A → List A
+last_of n xs = drop (length xs - n) xs
+
+-- what a memory holds, oldest first, after one more entry: the last 200 of its entries and the new one
+abbrev pub content_after : List MemoryEntry → Identity → ℕ → List MemoryEntry
+content_after content identity moment =
+    last_of CAPACITY (content ++ record { identity = identity; moment = moment } ∷ [])
+
+-- the moment of the entry made last
+abbrev pub newest_of : List MemoryEntry → Option ℕ
+newest_of content = option_map (λ entry. entry.moment) (slice_get content (length content - 1))
+
+-- the same, and 0 where there is none: no moment is before that
+abbrev pub newest_moment : List MemoryEntry → ℕ
+newest_moment content = unwrap_or (newest_of content) 0
+
+-- the entry bears the identity, and is less than 66 hours old at the moment
+abbrev pub is_recent : Identity → ℕ → MemoryEntry → Bool
+is_recent identity moment entry =
+    same_identity entry.identity identity && nat_lt (moment - entry.moment) LIFETIME
+
+-- the identity is known at the moment: one of the entries bears it and is less than 66 hours old
+abbrev pub is_known : Identity → ℕ → List MemoryEntry → Bool
+is_known identity moment content = list_any (is_recent identity moment) content

@@ -1,0 +1,15 @@
+-- What a selection refuses.
+use Rattle.std.specs.Prelude.{refl}
+use Rattle.std.specs.Ordering.{nat_cmp}
+use Rattle.std.specs.FinSet as set
+use Rattle.std.specs.Coded.{Coded, code_by, coded×, coded_ℕ}
+
+-- two sets of refused letters, each letter by its byte, A (65) to Z (90)
+pub record Refused : Type 0 where
+  pub stations : set.FinSet nat_cmp
+  pub subjects : set.FinSet nat_cmp
+
+-- the two sets are stored as their pair
+abbrev pub refused_code : Coded Refused
+refused_code =
+    code_by (set.FinSet nat_cmp × set.FinSet nat_cmp) (coded× (set.code coded_ℕ) (set.code coded_ℕ)) (λ r. (r.stations, r.subjects)) (λ p. record { stations = p.0; subjects = p.1 }) (λ _. refl)

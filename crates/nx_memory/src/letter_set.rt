@@ -1,0 +1,69 @@
+//! A set of letters.
+
+ghost use Rattle.std.specs.Prelude.{◌≡◌, ◌+◌, ◌<◌};
+ghost use Rattle.std.specs.FinSet as set;
+
+use nx_envelope::Letter;
+use std::marker::Model;
+
+/// How many letters there are, A to Z.
+const LETTERS: usize = 26;
+
+/// A set of letters, with a flag for each. Contracts see it as the set of their bytes.
+#[derive(Drop)]
+pub struct LetterSet {
+    flags: [bool; LETTERS],
+}
+
+impl Model for LetterSet {
+    ghost use Rattle.std.specs.Ordering.{nat_cmp};
+    ghost use Rattle.std.specs.Coded.{coded_ℕ};
+    ghost use Rattle.std.specs.FinSet as set;
+    ghost use Rattle.nx_memory.specs.Letters.{letters_of};
+
+    ghost Value = { set.FinSet nat_cmp };
+
+    ghost coded = { set.code coded_ℕ };
+
+    ghost view = { λ s. letters_of s.flags };
+}
+
+impl LetterSet {
+    /// The set without a letter.
+    pub fn new() -> Self
+        ensures { result ≡ set.empty }
+    {
+        LetterSet {
+            flags: [false; LETTERS],
+        }
+    }
+
+    /// Whether the letter is in the set.
+    pub fn contains(&self, letter: Letter) -> bool
+        ensures { result ≡ set.contains self.now letter.byte }
+    {
+        self.flags[place_of(letter)]
+    }
+
+    /// Adds the letter, where it isn't in the set already.
+    pub fn insert(&mut self, letter: Letter)
+        ensures { self.new ≡ set.insert self.old letter.byte }
+    {
+        self.flags[place_of(letter)] = true;
+    }
+
+    /// Takes the letter out, where it is in the set.
+    pub fn remove(&mut self, letter: Letter)
+        ensures { self.new ≡ set.remove self.old letter.byte }
+    {
+        self.flags[place_of(letter)] = false;
+    }
+}
+
+/// The place of a letter in the alphabet, 0 for A.
+fn place_of(letter: Letter) -> usize
+    ensures place { result + 65 ≡ letter.byte }
+    ensures within { result < LETTERS }
+{
+    usize::from(letter.byte() - b'A')
+}

@@ -1,0 +1,95 @@
+//! The worked examples of selection and memory. Those of a memory run over any `Recall`.
+
+ghost use Rattle.std.specs.Prelude.{◌≡◌, ◌≤◌, []};
+ghost use Rattle.nx_memory.specs.Memory.{newest_moment};
+
+use super::*;
+use nx_envelope::{Identity, Letter};
+use std::process::Abort;
+use std::test::Fail;
+
+/// 2025-01-01 00:40:00 UTC, the start of a slot of station E.
+const SLOT_START: u64 = 1_735_692_000;
+
+fn letter(rt: &impl Abort, byte: u8) -> Letter {
+    Letter::new(byte).expect(rt, "a letter")
+}
+
+/// Enters the messages 01 to `last` of a station and a subject, and says whether none was known.
+fn enter_numbers<M: Recall>(memory: &mut M, station: u8, subject: u8, last: u8, moment: u64) -> bool
+    requires { newest_moment (M.content memory.old) ≤ moment }
+    ensures { newest_moment (M.content memory.new) ≤ moment }
+{
+    let mut unknown = true;
+    for number in 1..=last {
+        if let Some(identity) = Identity::new(station, subject, number) {
+            unknown = enter_unless_known(memory, identity, moment) && unknown;
+        }
+    }
+    unknown
+}
+
+/// 199 entries later EA01 is still known, and no longer after one more.
+fn check_forgetting<M: Recall>(rt: &impl Abort, memory: &mut M, moment: u64)
+    requires { newest_moment (M.content memory.old) ≤ moment }
+{
+    let warning = Identity::new(b'E', b'A', 1).expect(rt, "EA01");
+    let next = Identity::new(b'B', b'C', 2).expect(rt, "BC02");
+    assert!(rt; enter_unless_known(memory, warning, moment));
+    assert!(rt; enter_numbers(memory, b'B', b'A', 99, moment));
+    assert!(rt; enter_numbers(memory, b'B', b'B', 99, moment));
+    assert!(rt; enter_numbers(memory, b'B', b'C', 1, moment));
+    assert!(rt; memory.knows(&warning, moment));
+    assert!(rt; enter_unless_known(memory, next, moment));
+    assert!(rt; !memory.knows(&warning, moment));
+}
+
+#[test]
+fn forgets_the_oldest_of_200(rt: HostRuntime) {
+    let mut memory = PlainRecall::new();
+    assert_eq!(rt; memory.newest(), None);
+    check_forgetting(&rt, &mut memory, SLOT_START);
+    assert_eq!(rt; memory.newest(), Some(SLOT_START));
+}
+
+#[test]
+fn an_identity_entered_again_is_kept_by_its_later_entry(rt: HostRuntime) {
+    let mut memory = PlainRecall::new();
+    let warning = Identity::new(b'E', b'A', 1).expect(&rt, "EA01");
+    memory.enter(warning, 0);
+    assert!(rt; memory.knows(&warning, LIFETIME - 1));
+    assert!(rt; !memory.knows(&warning, LIFETIME));
+    check_forgetting(&rt, &mut memory, LIFETIME);
+}
+
+#[test]
+fn refuses_what_is_not_vital(rt: HostRuntime) -> Result<(), Fail> {
+    let mut selection = Selection::all();
+    let ice = Identity::new(b'E', b'C', 5).expect(&rt, "EC05");
+    let warning = Identity::new(b'E', b'L', 6).expect(&rt, "EL06");
+    selection.refuse_subject(letter(&rt, b'C'))?;
+    assert!(rt; !selection.admits(&ice));
+    assert!(rt; selection.admits(&warning));
+    for vital in *b"ABDL" {
+        let subject = letter(&rt, vital);
+        assert_eq!(rt; selection.refuse_subject(subject), Err(Vital { subject }));
+    }
+    assert!(rt; selection.admits(&warning));
+    selection.refuse_station(letter(&rt, b'E'));
+    assert!(rt; !selection.admits(&warning));
+    selection.accept_station(letter(&rt, b'E'));
+    assert!(rt; selection.admits(&warning) && !selection.admits(&ice));
+    selection.accept_subject(letter(&rt, b'C'));
+    assert!(rt; selection.admits(&ice));
+    Ok(())
+}
+
+#[test]
+fn names_the_vital_subject(rt: HostRuntime) -> Result<(), Fail> {
+    let refusal = Vital {
+        subject: letter(&rt, b'D'),
+    };
+    let text = format!(in rt.alloc(); "{refusal}")?;
+    assert_eq!(rt; text.as_str(), "subject D can't be refused");
+    Ok(())
+}
