@@ -2,5 +2,11 @@
 #![tactic(auto)]
 
 pub mod air_file;
+pub mod counting;
+pub mod fault;
+pub mod scanner;
 
 pub use air_file::{AirLine, air_line};
+pub use counting::Counting;
+pub use fault::{LineFault, RunFault, WriteFault};
+pub use scanner::Scanner;
