@@ -1,5 +1,5 @@
 -- The lines of a whole air file, its first fault, and its elements (this profile).
-use Rattle.std.specs.Prelude.{◌≡◌, ◌≢◌, ℕ, ◌+◌, ◌<◌, ◌≤◌, Bool, List, [], ◌∷◌, ◌++◌, length, Option}
+use Rattle.std.specs.Prelude.{◌≡◌, ◌≢◌, ℕ, ◌+◌, ◌<◌, ◌≤◌, Bool, List, [], ◌∷◌, ◌++◌, length, Option, ⊤}
 use Rattle.std.specs.List.{flat_map, AllByRecursion}
 use Rattle.nx_fec.specs.AirFile.{Line, moment, elements, refuse_station, accept_station, refuse_subject, accept_subject, spelling, IsLine}
 use Rattle.nx_fec.specs.declared.fault.LineFault.{LineFault}
@@ -57,6 +57,13 @@ pub record IsRefused (limit : ℕ) (bytes : List ℕ) (why : LineFault) : Type 0
   pub each : AllByRecursion IsLine lines
   pub part : IsBeginning rest
   pub cause : IsCause limit (length (file_of lines ++ rest)) lines rest more why
+
+-- the fault stands at a byte, and not at the end of the file
+abbrev pub IsAtByte : LineFault → Type 0
+IsAtByte TooLong = ⊤
+IsAtByte (LineLong line) = ⊤
+IsAtByte (LineCut line) = ⊥
+IsAtByte (BadLine line) = ⊤
 
 -- the file of these bytes is these lines
 pub record IsAirFile (limit : ℕ) (bytes : List ℕ) (lines : List Line) : Type 0 where

@@ -1,6 +1,8 @@
 -- What a run over an air file answers (this profile).
-use Rattle.std.specs.Prelude.{ℕ, List, ⊤}
-use Rattle.nx_fec.specs.Lines.{IsRefused}
+use Rattle.std.specs.Prelude.{◌≡◌, ℕ, Bool, List, ⊤}
+use Rattle.std.specs.List.{flat_map}
+use Rattle.nx_fec.specs.AirFile.{Line}
+use Rattle.nx_fec.specs.Lines.{IsRefused, Scanning, Scans, elements_of}
 use Rattle.nx_fec.specs.declared.fault.LineFault.{LineFault}
 use Rattle.nx_fec.specs.declared.fault.LineFault.TheVariants as file
 use Rattle.nx_fec.specs.declared.fault.RunFault.{RunFault}
@@ -37,3 +39,9 @@ IsOutside (Ragged bits) = ⊥
 IsOutside (NoSuchCharacter at) = ⊥
 IsOutside (Write written) = ⊥
 IsOutside (Memory error) = ⊤
+
+-- the scanner stands so after these bytes, and the elements are those of the lines that they ended
+pub record HasRead (limit : ℕ) (scanner : Scanning) (bits : List Bool) (bytes : List ℕ) : Type 0 where
+  pub lines : List Line
+  pub scans : Scans limit scanner bytes lines
+  pub joined : bits ≡ flat_map elements_of lines

@@ -4,9 +4,11 @@
 pub mod air_file;
 pub mod counting;
 pub mod fault;
+pub mod reading;
 pub mod scanner;
 
 pub use air_file::{AirLine, air_line};
 pub use counting::Counting;
 pub use fault::{LineFault, RunFault, WriteFault};
+pub use reading::{FILE_LIMIT, read_bits};
 pub use scanner::Scanner;

@@ -1,8 +1,8 @@
 //! A scanner of the lines of an air file, which takes one byte after the other.
-ghost use Rattle.std.specs.Prelude.{◌≡◌, ◌+◌, ◌-◌, ◌<◌, ◌↔◌, ℕ, List, [], ◌∷◌, ◌++◌, None, option_to_list, if◌then◌else◌, IsTrue, IfOk, OnErr, IsSome, MatchResult};
+ghost use Rattle.std.specs.Prelude.{◌≡◌, ◌+◌, ◌-◌, ◌<◌, ◌↔◌, ℕ, List, [], ◌∷◌, ◌++◌, None, option_to_list, if◌then◌else◌, IsTrue, IfOk, IfErr, OnErr, IsSome, MatchResult};
 ghost use Rattle.std.specs.Option.{option_map};
 ghost use Rattle.nx_fec.specs.AirFile.{Line, meaning};
-ghost use Rattle.nx_fec.specs.Lines.{Scans, IsRefused, IsAirFile};
+ghost use Rattle.nx_fec.specs.Lines.{Scans, IsRefused, IsAirFile, IsAtByte};
 
 use crate::air_file::{AirLine, air_line};
 use crate::fault::LineFault;
@@ -76,6 +76,7 @@ impl Scanner {
             MatchResult result
             (λ is_end. Scans limit self.new (bytes ++ byte ∷ []) (lines ++ (if is_end then option_to_list self.new.latest else [])))
             (λ why. (more : List ℕ) → IsRefused limit (bytes ++ byte ∷ more) why) }
+        ensures at_byte { IfErr result IsAtByte }
         ensures latest { IfOk result (λ is_end. IsTrue is_end → IsSome self.new.latest) }
         ensures room { IfOk result (λ _. self.new.room + 1 ≡ self.old.room) }
         ensures err { OnErr result (self.new ≡ self.old) }
