@@ -2,6 +2,7 @@
 #![tactic(auto)]
 
 pub mod air_file;
+pub mod air_laws;
 pub mod counting;
 pub mod fault;
 pub mod reading;
