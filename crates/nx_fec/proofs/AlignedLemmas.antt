@@ -39,10 +39,10 @@ third_last-early words h = grind (arith, nat_tests)
 third_last-late : (words : List Counted) → 3 ≤ length words → third_last words ≡ get_or words (length words - 3) nothing
 third_last-late words h = grind (arith, nat_tests)
 
-five_before-early : (words : List ℕ) (slot : ℕ) → slot < 5 → five_before words slot ≡ nothing
+pub five_before-early : (words : List ℕ) (slot : ℕ) → slot < 5 → five_before words slot ≡ nothing
 five_before-early words slot h = grind (arith, nat_tests)
 
-five_before-late : (words : List ℕ) (slot : ℕ) → 5 ≤ slot → five_before words slot ≡ counted (get_or words (slot - 5) 0)
+pub five_before-late : (words : List ℕ) (slot : ℕ) → 5 ≤ slot → five_before words slot ≡ counted (get_or words (slot - 5) 0)
 five_before-late words slot h = grind (arith, nat_tests)
 
 -- the third last of the DX words up to slot 2n stands five slots before slot 2n+1

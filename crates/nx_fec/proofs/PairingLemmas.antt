@@ -35,7 +35,7 @@ is_alike-true nothing idle_signal h = cc
 is_alike-true nothing nothing h = refl
 
 -- the word at a place of the table counts as that place
-counted-words : (at : ℕ) → at < 35 → counted (get_or words at 0) ≡ counted_at (Some at)
+pub counted-words : (at : ℕ) → at < 35 → counted (get_or words at 0) ≡ counted_at (Some at)
 unfolding table words place_of counted
 counted-words at h =
     is_alike-true (counted (get_or words at 0)) (counted_at (Some at)) (agree_below_at (λ k. is_alike (counted (get_or words k 0)) (counted_at (Some k))) (λ _. true) 35 at refl h)

@@ -2,6 +2,7 @@
 
 ghost use Rattle.std.specs.Prelude.{◌≡◌, [], ◌∷◌, ◌++◌, List, length, drop, ◌-◌, IfSome, option_map};
 ghost use Rattle.nx_code.specs.Taken.{meaning as taken_meaning};
+ghost use Rattle.nx_fec.specs.declared.diversity.Heard.TheVariants.{Wrong};
 ghost use Rattle.nx_fec.specs.Pairing.{Counted, IsHeardOf, IsLatest, alone, counted, meaning, pairing, third_last};
 
 use arrayvec::ArrayVec;
@@ -18,6 +19,8 @@ pub enum Heard {
 }
 
 impl Default for Heard {
+    ghost is_default = { λ heard. heard ≡ Wrong };
+
     /// A word that wasn't seen.
     fn default() -> Heard {
         Heard::Wrong
