@@ -1,3 +1,4 @@
-mod TableLemmas
-mod WordLemmas
+mod CharacterLemmas
 pub mod ReadingLemmas
+mod TableLemmas
+pub mod WordLemmas

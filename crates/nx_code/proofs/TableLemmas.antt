@@ -57,11 +57,11 @@ place_of-Some word at h =
     let found = position-Some (λ n. eqb n word) words at 0 h in
     (found.0, eqb-true (get_or words at 0) word found.1)
 
-abbrev is_at : Option ℕ → ℕ → Bool
+abbrev pub is_at : Option ℕ → ℕ → Bool
 is_at None at = false
 is_at (Some other) at = eqb other at
 
-Some-is_at : (found : Option ℕ) (at : ℕ) → is_at found at ≡ true → found ≡ Some at
+pub Some-is_at : (found : Option ℕ) (at : ℕ) → is_at found at ≡ true → found ≡ Some at
 Some-is_at None at h = cc
 Some-is_at (Some other) at h = ap Some (eqb-true other at h)
 

@@ -2,6 +2,7 @@
 use Rattle.std.proofs.Common.{◌≡◌, ℕ, ◌+◌, ◌-◌, ◌*◌, ◌^◌, ◌<◌, ◌≤◌, ◌/◌, ◌%◌, Bool, true, false, eqb, List, [], ◌∷◌, ◌++◌, length, get_or, take, drop, set, suc, refl, sym, ap, subst, ◌∙◌, arith, append_assoc, append-nil, add-one}
 use mir.Val.{bool_byte}
 use Rattle.std.proofs.Math.Nat.{pow-succ'}
+use Rattle.std.proofs.lemmas.Bool.{agree_below_at, eqb-true, eq-eqb, ne_eqb}
 use Rattle.std.proofs.Math.Seq.{drop-cons, take-suc-set}
 use Rattle.std.proofs.lemmas.List.{drop_all, take_all}
 use Rattle.nx_code.specs.Word.{elements, elements_from, number_of, value_of}
@@ -47,3 +48,25 @@ pub elements_from-all : (bits : List Bool) (place rest : ℕ) → length bits �
     → take place bits ++ elements_from (7 - place) rest ≡ bits
 unfolding elements_from
 elements_from-all bits place rest h k = rw (k, append-nil) (take_all 7 bits (omega arith))
+
+-- a word is the number of its elements
+pub number_of-elements : (word : ℕ) → word < 128 → number_of (elements word) ≡ word
+unfolding number_of elements elements_from
+number_of-elements word h =
+    eqb-true (number_of (elements word)) word (agree_below_at (λ n. eqb (number_of (elements n)) n) (λ _. true) 128 word refl h)
+
+value_of-rest : (bit : Bool) (rest : ℕ) → (eqb ((value_of bit + 2 * rest) % 2) 1 ≡ bit) × ((value_of bit + 2 * rest) / 2 ≡ rest)
+value_of-rest true rest = (eq-eqb _ _ (omega arith), omega arith)
+value_of-rest false rest = (ne_eqb _ _ (λ e. omega arith), omega arith)
+
+elements_from-number_of : (bits : List Bool) → elements_from (length bits) (number_of bits) ≡ bits
+unfolding number_of elements_from
+elements_from-number_of [] = refl
+elements_from-number_of (bit ∷ bits) =
+    let e = value_of-rest bit (number_of bits) in
+    rw (e.0, e.1) (ap (λ l. bit ∷ l) (elements_from-number_of bits))
+
+-- seven bits are the elements of their number
+pub elements-number_of : (bits : List Bool) → length bits ≡ 7 → elements (number_of bits) ≡ bits
+unfolding elements
+elements-number_of bits h = subst (λ n. elements_from n (number_of bits) ≡ bits) h (elements_from-number_of bits)
