@@ -1,24 +1,25 @@
 -- What is decoded of the elements of an emission.
-use Rattle.std.proofs.Common.{◌≡◌, ℕ, suc, zero, ◌+◌, ◌-◌, ◌*◌, ◌/◌, ◌<◌, ◌≤◌, refl, sym, ap, ◌∙◌, Bool, true, eqb, cond, List, [], ◌∷◌, ◌++◌, length, map, replicate, get_or, take, drop, arith, eq-eqb, length-append, length-take}
-use Rattle.std.specs.List.{range_with_len}
-use Rattle.std.proofs.lemmas.List.{drop-drop, get_or-take, get_or-map, length-map, take_at}
-use Rattle.std.proofs.lemmas.List.FromFn.{fill_by_all}
-use Rattle.std.proofs.lemmas.Bool.{agree_below_at, eqb-true}
+use Rattle.std.proofs.Common.{◌≡◌, ℕ, suc, zero, ◌+◌, ◌-◌, ◌*◌, ◌/◌, ◌%◌, ◌^◌, ◌<◌, ◌≤◌, refl, sym, ap, subst, ◌∙◌, Bool, true, eqb, cond, List, [], ◌∷◌, ◌++◌, length, map, replicate, get_or, take, drop, arith, eq-eqb, length-append, length-take, length-drop}
+use Rattle.std.specs.List.{flat_map, range_with_len}
+use Rattle.std.proofs.lemmas.List.{drop-drop, flat_map_more, get_or-take, get_or-map, length-map, length-take-le, map-append, take_all, take_at}
+use Rattle.std.proofs.lemmas.List.FromFn.{fill_by_all, map-range_with_len_more}
+use Rattle.std.proofs.lemmas.Nat.{pow_pos}
+use Rattle.std.proofs.Math.Nat.{pow-succ'}
+use Rattle.std.proofs.Math.Seq.{take-add}
+use Rattle.nx_code.specs.declared.signals.Comb.{Comb}
+use Rattle.nx_code.specs.declared.shifts.Shift.TheVariants.{Letters}
 use Rattle.nx_code.specs.Word.{elements, elements_from, number_of}
 use Rattle.nx_code.specs.Reading.{Reception, combination, idle, lost, text}
-use Rattle.nx_code.specs.declared.shifts.Shift.TheVariants.{Letters}
+use Rattle.nx_code.proofs.WordLemmas.{value_of-le, number_of-elements, elements-number_of}
+use Rattle.nx_fec.specs.declared.positions.Position.TheVariants.{Phasing, Traffic, End}
 use Rattle.nx_fec.specs.Pairing.{traffic, idle_signal, nothing, counted, pairing}
 use Rattle.nx_fec.specs.Aligned.{word_in, words_of, taken_at, receptions, aligned_text}
-use Rattle.nx_fec.specs.Emission.{SentPosition, phasing_position, traffic_position, end_position, dx_word, rx_word, phasing_1, phasing_2, position_at, emission, IsEmission, bits_of, AreWords, AreCombinations, IsInCode, AreInCode, reception, framed}
+use Rattle.nx_fec.specs.Emission.{SentPosition, meaning, phasing_position, traffic_position, end_position, dx_word, rx_word, phasing_1, phasing_2, position_at, emission, IsEmission, bits_of, AreWords, AreCombinations, IsInCode, AreInCode, reception, framed}
 use Rattle.nx_fec.proofs.PairingLemmas.{counted-words, counted-combination}
-use Rattle.nx_fec.proofs.AlignedLemmas.{five_before-early, five_before-late, taken_at-pairing}
+use Rattle.nx_fec.proofs.AlignedLemmas.{length-words_of, get_or-words_of, five_before-early, five_before-late, taken_at-pairing}
 use Rattle.nx_fec.proofs.EmissionLemmas.{phasing_1-words, phasing_2-words, IsEmission-emission, AreWords-emission}
 
--- a word has seven elements, and its number is theirs
-number_of-elements : (word : ℕ) → word < 128 → number_of (elements word) ≡ word
-unfolding elements elements_from number_of
-number_of-elements word h = eqb-true (number_of (elements word)) word (agree_below_at (λ n. eqb (number_of (elements n)) n) (λ _. true) 128 word refl h)
-
+-- a word has seven elements
 take-elements : (word : ℕ) (rest : List Bool) → take 7 (elements word ++ rest) ≡ elements word
 unfolding elements elements_from
 take-elements word rest = refl
@@ -56,6 +57,47 @@ words_of-bits_of sent h =
     let n = length-bits_of sent in
     let e : length sent ≡ length (bits_of sent) / 7 = omega arith in
     sym (fill_by_all (word_in (bits_of sent)) sent (length (bits_of sent) / 7) 0 e (λ k l. sym (word_in-bits_of sent k h (omega arith))))
+
+-- seven elements from a slot on
+word-elements : (bits : List Bool) (slot : ℕ) → 7 * slot + 7 ≤ length bits → elements (word_in bits slot) ≡ take 7 (drop (7 * slot) bits)
+unfolding word_in
+word-elements bits slot h =
+    elements-number_of (take 7 (drop (7 * slot) bits)) (length-take-le 7 (drop (7 * slot) bits) (omega (arith, length-drop (7 * slot) bits)))
+
+bits_of-first : (bits : List Bool) (count : ℕ) → 7 * count ≤ length bits → bits_of (map (word_in bits) (range_with_len 0 count)) ≡ take (7 * count) bits
+unfolding bits_of
+bits_of-first bits zero h = refl
+bits_of-first bits (suc count) h =
+    let more : count + 1 ≡ suc count = omega arith in
+    let seven : 7 * count + 7 ≡ 7 * suc count = omega arith in
+    ap (λ n. flat_map elements (map (word_in bits) (range_with_len 0 n))) (sym more)
+    ∙ ap (flat_map elements) (map-range_with_len_more (word_in bits) 0 count count (omega arith))
+    ∙ sym (flat_map_more elements [] (map (word_in bits) (range_with_len 0 count)) (word_in bits count))
+    ∙ ap (λ l. l ++ elements (word_in bits count)) (bits_of-first bits count (omega arith))
+    ∙ ap (λ l. take (7 * count) bits ++ l) (word-elements bits count (omega arith))
+    ∙ sym (take-add (7 * count) 7 bits)
+    ∙ ap (λ n. take n bits) seven
+
+-- the words of elements give the elements back
+pub bits_of-words_of : (bits : List Bool) → length bits % 7 ≡ 0 → bits_of (words_of bits) ≡ bits
+unfolding words_of
+bits_of-words_of bits h =
+    bits_of-first bits (length bits / 7) (omega arith) ∙ take_all (7 * (length bits / 7)) bits (omega arith)
+
+number_of-lt : (bits : List Bool) (count : ℕ) → length bits ≤ count → number_of bits < 2 ^ count
+unfolding number_of
+number_of-lt [] count h = pow_pos count
+number_of-lt (bit ∷ bits) zero h = absurd (omega arith)
+number_of-lt (bit ∷ bits) (suc count) h =
+    let b = value_of-le bit in
+    let rest = number_of-lt bits count (omega arith) in
+    rw pow-succ' (omega arith)
+
+pub AreWords-words_of : (bits : List Bool) → AreWords (words_of bits)
+unfolding word_in
+AreWords-words_of bits slot h =
+    let n = length-words_of bits in
+    subst (λ w. w < 128) (sym (get_or-words_of bits slot (omega arith))) (number_of-lt (take 7 (drop (7 * slot) bits)) 7 (omega (arith, length-take 7 (drop (7 * slot) bits))))
 
 -- the words of a position count as what is taken of it
 counted-phasing_1 : counted phasing_1 ≡ idle_signal
@@ -170,3 +212,21 @@ aligned_text-framed numbers h =
     ∙ ap (λ l. text l Letters) taken
     ∙ ap (λ l. text (idle ∷ idle ∷ map reception l) Letters) (take-framed numbers)
     ∙ ap (λ l. text l Letters) (map-reception numbers)
+
+-- combinations of the code are combinations
+pub AreCombinations-numbers : (combs : List Comb) → AreCombinations (map (λ (comb : Comb). comb.number) combs)
+AreCombinations-numbers [] i lt = absurd (omega arith)
+AreCombinations-numbers (comb ∷ combs) zero lt = (comb.from_one, comb.to_thirty_two)
+AreCombinations-numbers (comb ∷ combs) (suc i) lt = AreCombinations-numbers combs i (omega arith)
+
+meaning-traffic : (combs : List Comb) → map meaning (map (λ (comb : Comb). Traffic comb) combs) ≡ map traffic_position (map (λ (comb : Comb). comb.number) combs)
+meaning-traffic [] = refl
+meaning-traffic (comb ∷ combs) = ap (λ l. traffic_position comb.number ∷ l) (meaning-traffic combs)
+
+-- the positions by which the code sends combinations alone
+pub meaning-framed : (combs : List Comb) → map meaning (replicate 4 Phasing ++ map (λ (comb : Comb). Traffic comb) combs ++ replicate 3 End) ≡ framed (map (λ (comb : Comb). comb.number) combs)
+unfolding framed
+meaning-framed combs =
+    let front = replicate 4 Phasing ++ map (λ (comb : Comb). Traffic comb) combs in
+    map-append meaning front (replicate 3 End)
+    ∙ ap (λ l. phasing_position ∷ phasing_position ∷ phasing_position ∷ phasing_position ∷ l ++ replicate 3 end_position) (meaning-traffic combs)

@@ -59,3 +59,44 @@ pub fn decode_aligned(alloc: Global, bits: &[bool]) -> Result<Vec<u8>, AlignedFa
     }
     Ok(text)
 }
+
+#[cfg(test)]
+mod tests {
+    use super::*;
+    use std::test::Fail;
+
+    /// The elements of words by their numbers.
+    fn bits_of(alloc: Global, words: &[u8]) -> Result<Vec<bool>, Fail> {
+        let mut bits = Vec::new(alloc);
+        for word in words {
+            let word = Word::new(*word).ok_or("a word has seven elements")?;
+            bits.extend_from_slice(&word.elements())?;
+        }
+        Ok(bits)
+    }
+
+    #[test]
+    fn damaged_a(rt: HostRuntime) -> Result<(), Fail> {
+        let cases: [(u8, u8, &[u8]); 4] = [
+            (0x47, 0x47, b"A"),
+            (0x46, 0x47, b"A"),
+            (0x46, 0x46, b"*"),
+            (0x47, 0x72, b"*"),
+        ];
+        for (dx, rx, text) in cases {
+            let words = [
+                0x66, 0x0F, 0x66, 0x0F, 0x66, 0x0F, 0x66, 0x0F, dx, 0x0F, 0x0F, 0x0F, 0x0F, rx,
+                0x0F,
+            ];
+            let bits = bits_of(rt.alloc(), &words)?;
+            assert_eq!(rt; decode_aligned(rt.alloc(), &bits)?.as_slice(), text);
+        }
+        Ok(())
+    }
+
+    #[test]
+    fn no_whole_words(rt: HostRuntime) {
+        let fault = decode_aligned(rt.alloc(), &[true; 8]).err();
+        assert_eq!(rt; fault, Some(AlignedFault::Ragged { bits: 8 }));
+    }
+}

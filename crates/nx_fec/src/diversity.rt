@@ -118,3 +118,56 @@ impl Diversity {
         combine(dx, heard)
     }
 }
+
+#[cfg(test)]
+mod tests {
+    use super::*;
+    use nx_code::Comb;
+    use std::test::Fail;
+
+    #[test]
+    fn combine_cases(rt: HostRuntime) -> Result<(), Fail> {
+        let letter_a = Comb::new(1).ok_or("A")?;
+        let letter_b = Comb::new(2).ok_or("B")?;
+        let a = Heard::Intact(Signal::Traffic(letter_a));
+        let b = Heard::Intact(Signal::Traffic(letter_b));
+        let alpha = Heard::Intact(Signal::Alpha);
+        let beta = Heard::Intact(Signal::Beta);
+        let repeat = Heard::Intact(Signal::Repeat);
+        let cases = [
+            (a, a, Taken::Char(letter_a)),
+            (a, Heard::Wrong, Taken::Char(letter_a)),
+            (Heard::Wrong, a, Taken::Char(letter_a)),
+            (Heard::Wrong, Heard::Wrong, Taken::Lost),
+            (a, b, Taken::Lost),
+            (a, alpha, Taken::Lost),
+            (repeat, alpha, Taken::Idle),
+            (beta, Heard::Wrong, Taken::Idle),
+        ];
+        for (dx, rx, taken) in cases {
+            assert_eq!(rt; combine(dx, rx), taken);
+        }
+        Ok(())
+    }
+
+    #[test]
+    fn the_third_last(rt: HostRuntime) -> Result<(), Fail> {
+        let letter_a = Comb::new(1).ok_or("A")?;
+        let a = Heard::of(Word::new(0x47).ok_or("A")?);
+        let wrong = Heard::of(Word::new(0x46).ok_or("no signal")?);
+        let idle = Heard::of(Word::new(0x0F).ok_or("P1")?);
+        assert_eq!(rt;
+            (a, wrong),
+            (Heard::Intact(Signal::Traffic(letter_a)), Heard::Wrong)
+        );
+        let mut diversity = Diversity::new();
+        diversity.dx(a);
+        diversity.dx(idle);
+        assert_eq!(rt; diversity.rx(wrong), Taken::Lost);
+        diversity.dx(idle);
+        assert_eq!(rt; diversity.rx(wrong), Taken::Char(letter_a));
+        diversity.dx(idle);
+        assert_eq!(rt; diversity.rx(wrong), Taken::Idle);
+        Ok(())
+    }
+}

@@ -1,6 +1,6 @@
 //! Laws of emissions and of their decoding, each as the contract of a function that does nothing.
 
-ghost use Rattle.std.specs.Prelude.{◌≡◌, ◌-◌, ◌%◌, ◌≤◌, List, ℕ, ◌∷◌, length, map, take};
+ghost use Rattle.std.specs.Prelude.{◌≡◌, ◌-◌, ◌%◌, ◌≤◌, Bool, List, ℕ, ◌∷◌, length, map, take};
 ghost use Rattle.nx_code.specs.Reading.{combination, idle, text};
 ghost use Rattle.nx_code.specs.declared.shifts.Shift.TheVariants.{Letters};
 ghost use Rattle.nx_fec.specs.Aligned.{aligned_text, receptions, words_of};
@@ -13,10 +13,12 @@ pub fn emissions()
     ensures sound { (positions : List SentPosition) → AreWords (emission positions) }
 {}
 
-/// The elements of words give the words back.
-pub fn words_of_bits()
+/// Words and their elements give each other back.
+pub fn words_and_bits()
     ensures words { (sent : List ℕ) → AreWords sent → words_of (bits_of sent) ≡ sent }
     ensures whole { (sent : List ℕ) → length (bits_of sent) % 7 ≡ 0 }
+    ensures bits { (bits : List Bool) → length bits % 7 ≡ 0 → bits_of (words_of bits) ≡ bits }
+    ensures sound { (bits : List Bool) → AreWords (words_of bits) }
 {}
 
 /// What is taken of an emission all of whose words arrive, read from slot 0: two idle positions, whose DX words

@@ -4,11 +4,10 @@
 mod aligned;
 mod diversity;
 mod emission;
-mod laws;
+pub mod laws;
 mod positions;
 
 pub use aligned::{AlignedFault, decode_aligned};
 pub use diversity::{Diversity, Heard, combine};
 pub use emission::to_bits;
-pub use laws::{decoded_emissions, emissions, receptions_of_emissions, words_of_bits};
 pub use positions::{Position, word_at};
