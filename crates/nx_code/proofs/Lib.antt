@@ -1,0 +1,4 @@
+mod CharacterLemmas
+pub mod ReadingLemmas
+mod TableLemmas
+pub mod WordLemmas

@@ -1,0 +1,6 @@
+pub mod Word
+pub mod Table
+pub mod Signal
+pub mod Reading
+pub mod Taken
+pub mod Characters

@@ -1,0 +1,16 @@
+//! The code of NAVTEX: words of seven elements, the signals that they stand for, the characters that
+//! the signals print, and the spelling of a text.
+#![tactic(auto)]
+
+pub mod laws;
+mod printing;
+mod shifts;
+mod signals;
+mod table;
+mod words;
+
+pub use printing::{Printer, Taken};
+pub use shifts::{Case, Shift, char_to_code, code_to_char};
+pub use signals::{Comb, Signal};
+pub use table::{signal_of, word_of};
+pub use words::{ELEMENTS, Word, check_bits};
