@@ -18,7 +18,7 @@ abbrev pub if_some : (ℕ → Bool) → Option ℕ → Bool
 if_some test None = true
 if_some test (Some c) = test c
 
-if_some-at : (test : ℕ → Bool) (o : Option ℕ) (c : ℕ) → if_some test o ≡ true → o ≡ Some c → test c ≡ true
+pub if_some-at : (test : ℕ → Bool) (o : Option ℕ) (c : ℕ) → if_some test o ≡ true → o ≡ Some c → test c ≡ true
 if_some-at test o c h e = subst (λ p. if_some test p ≡ true) e h
 
 -- the columns of the code's table, searched for a character

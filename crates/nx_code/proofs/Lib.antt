@@ -1,4 +1,6 @@
-mod CharacterLemmas
+pub mod CharacterLemmas
 pub mod ReadingLemmas
+mod SpellingLaws
+pub mod SpellingLemmas
 mod TableLemmas
 pub mod WordLemmas

@@ -4,3 +4,5 @@ pub mod Signal
 pub mod Reading
 pub mod Taken
 pub mod Characters
+pub mod Spelling
+pub mod Shifts

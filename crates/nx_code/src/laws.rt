@@ -1,7 +1,10 @@
 //! Laws of the definitions, each the contract of a function that does nothing.
 
-ghost use Rattle.std.specs.Prelude.{◌≡◌, ◌<◌, ℕ, Bool, List, [], ◌∷◌, ◌++◌, length};
+ghost use Rattle.std.specs.Prelude.{◌≡◌, ◌<◌, ℕ, Bool, List, [], ◌∷◌, ◌++◌, length, IsTrue};
 ghost use Rattle.std.specs.Option.{option_to_list};
+ghost use Rattle.std.specs.List.{list_all};
+ghost use Rattle.nx_code.specs.Characters.{is_in_code};
+ghost use Rattle.nx_code.specs.Spelling.{Spells};
 ghost use Rattle.nx_code.specs.Word.{elements, number_of};
 ghost use Rattle.nx_code.specs.Reading.{Reception, IsShiftAfter, prints, text};
 ghost use Rattle.nx_code.specs.declared.shifts.Shift.{Shift};
@@ -23,4 +26,15 @@ pub fn reading_by_nearest_shift()
 pub fn words_are_their_elements()
     ensures number { (word : ℕ) → word < 128 → number_of (elements word) ≡ word }
     ensures bits { (bits : List Bool) → length bits ≡ 7 → elements (number_of bits) ≡ bits }
+{}
+
+/// A text has a spelling exactly where each of its bytes is in the code, and then it has one (M.476,
+/// M.540; which of the spellings that are read alike is sent is this profile's).
+pub fn a_text_has_one_spelling()
+    ensures some { (bytes : List ℕ) (shift : Shift) → IsTrue (list_all is_in_code bytes)
+        → (numbers : List ℕ) × Spells bytes shift numbers }
+    ensures in_code { (bytes : List ℕ) (shift : Shift) (numbers : List ℕ)
+        → Spells bytes shift numbers → IsTrue (list_all is_in_code bytes) }
+    ensures only { (bytes : List ℕ) (shift : Shift) (one two : List ℕ)
+        → Spells bytes shift one → Spells bytes shift two → one ≡ two }
 {}

@@ -7,7 +7,7 @@ ghost use Rattle.nx_code.specs.Taken.{meaning};
 ghost use Rattle.nx_code.specs.declared.shifts.Shift.TheVariants.{Letters};
 
 use crate::shifts::{Shift, code_to_char};
-use crate::signals::Comb;
+use crate::signals::{Comb, FIGURE_SHIFT, LETTER_SHIFT};
 use std::marker::Model;
 
 /// What was taken of a position from its two words.
@@ -36,11 +36,6 @@ impl Model for Printer {
 
     ghost inverse = { λ shift. record { shift = shift } };
 }
-
-/// The number of the combination that sets letters, and of the one that sets figures (M.476).
-const LETTER_SHIFT: u8 = 29;
-
-const FIGURE_SHIFT: u8 = 30;
 
 /// What a lost position prints.
 const LOST: u8 = b'*';

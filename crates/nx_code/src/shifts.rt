@@ -1,13 +1,14 @@
 //! The two shifts, letters and figures, and the characters of the combinations in each of them.
 
 ghost use Rattle.std.specs.Prelude.{◌≡◌, ℕ, ◌+◌, ◌≤◌, ◌<◌, ◌==◌, ◌↔◌, Some, IsSome, IfSome, IsSomeAnd, IsTrue, position};
-ghost use Rattle.nx_code.specs.Reading.{printed};
+ghost use Rattle.nx_code.specs.Reading.{combination, printed, shift_set};
+ghost use Rattle.nx_code.specs.Shifts.{other};
 ghost use Rattle.nx_code.specs.Characters.{holds_in, is_character, is_in_code};
 ghost use Rattle.nx_code.specs.declared.table.Row.{Row};
 ghost use Rattle.nx_code.specs.declared.shifts.Shift.{Shift};
 ghost use Rattle.nx_code.specs.declared.shifts.Shift.TheVariants.{Letters, Figures};
 
-use crate::signals::Comb;
+use crate::signals::{Comb, FIGURE_SHIFT, LETTER_SHIFT};
 use crate::table::{Row, TABLE, row_at};
 
 /// Which of its two characters a combination stands for (M.476: letter-case and figure-case).
@@ -24,6 +25,45 @@ pub enum Case {
     Figures,
     /// Newline and space print in both.
     Either,
+}
+
+impl Shift {
+    /// The shift that is not this one.
+    pub fn other(self) -> Shift
+        ensures { result ≡ other self }
+    {
+        match self {
+            Shift::Letters => Shift::Figures,
+            Shift::Figures => Shift::Letters,
+        }
+    }
+
+    /// The combination that sets this shift, 29 or 30 (M.476).
+    pub fn comb(self) -> Comb
+        ensures { shift_set (combination result.number) ≡ Some self }
+    {
+        match self {
+            Shift::Letters => Comb {
+                number: LETTER_SHIFT,
+            },
+            Shift::Figures => Comb {
+                number: FIGURE_SHIFT,
+            },
+        }
+    }
+}
+
+impl Case {
+    /// Whether a character of this case stands in a shift.
+    pub fn stands_in(self, shift: Shift) -> bool
+        ensures { result ≡ holds_in self shift }
+    {
+        match self {
+            Case::Letters => shift == Shift::Letters,
+            Case::Figures => shift == Shift::Figures,
+            Case::Either => true,
+        }
+    }
 }
 
 /// The byte that a combination prints in a shift: a letter or a figure, a newline for combination 28, a

@@ -2,6 +2,11 @@
 
 ghost use Rattle.std.specs.Prelude.{◌≡◌, ◌≤◌, ◌<◌, ◌↔◌, IsSome, IfSome};
 
+/// The number of the combination that sets letters, and of the one that sets figures (M.476).
+pub(crate) const LETTER_SHIFT: u8 = 29;
+
+pub(crate) const FIGURE_SHIFT: u8 = 30;
+
 /// A traffic combination by its number, 1 to 32 (the order of the letters, then carriage return, line
 /// feed, letter shift, figure shift, space and the unperforated tape).
 #[derive(Clone, Copy, Debug, PartialEq, Eq)]
