@@ -12,6 +12,7 @@ mod fault;
 pub mod laws;
 mod positions;
 mod reading;
+mod runs;
 mod scanner;
 mod writing;
 
@@ -23,5 +24,6 @@ pub use emission::to_bits;
 pub use fault::{LineFault, RunFault, WriteFault};
 pub use positions::{Position, word_at};
 pub use reading::{FILE_LIMIT, read_bits};
+pub use runs::decode_run;
 pub use scanner::{MAX_LINE_BYTES, Scanner};
 pub use writing::{LINE_ELEMENTS, write_bits, write_out};
