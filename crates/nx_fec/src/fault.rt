@@ -1,5 +1,6 @@
 //! The faults of air files and of runs over readers and writers.
 use crate::aligned::AlignedFault;
+use nx_code::SpellFault;
 use std::alloc::AllocError;
 use thiserror::Error;
 
@@ -105,6 +106,20 @@ impl From<AlignedFault> for RunFault {
         match fault {
             AlignedFault::Ragged { bits } => RunFault::Ragged { bits },
             AlignedFault::Memory(error) => RunFault::Memory(error),
+        }
+    }
+}
+
+impl From<SpellFault> for RunFault {
+    ghost use Rattle.std.specs.Prelude.{◌≡◌};
+    ghost use Rattle.nx_fec.specs.Runs.{spell_fault};
+
+    ghost from_gives = { λ fault made. made ≡ spell_fault fault };
+
+    fn from(fault: SpellFault) -> RunFault {
+        match fault {
+            SpellFault::NoSuchCharacter { at } => RunFault::NoSuchCharacter { at },
+            SpellFault::Memory(error) => RunFault::Memory(error),
         }
     }
 }
