@@ -27,5 +27,4 @@ pub fn decoding_of_encoding()
     ensures text { (limit : ℕ) (text file : List ℕ) (positions : ℕ) → IsEncoded text file positions
         → length file ≤ limit → IsDecoded limit file text }
     ensures only { (limit : ℕ) (file a b : List ℕ) → IsDecoded limit file a → IsDecoded limit file b → a ≡ b }
-{
-}
+{}

@@ -129,16 +129,16 @@ fn gather<R: Read>(
 {
     let mut whole = Vec::new(alloc);
     loop {
-        let Ok(count) = reader.read(buffer) else {
+        let Ok(taken) = reader.read(buffer) else {
             return Err(RunFault::Read);
         };
-        if count == 0 {
+        if taken == 0 {
             break;
         }
-        if count as u64 > FILE_LIMIT - whole.len() as u64 {
+        if taken as u64 > FILE_LIMIT - whole.len() as u64 {
             return Err(RunFault::FileTooLong);
         }
-        whole.extend_from_slice(&buffer[..count])?;
+        whole.extend_from_slice(&buffer[..taken])?;
     }
     Ok(whole)
 }

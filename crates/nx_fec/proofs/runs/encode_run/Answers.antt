@@ -13,8 +13,12 @@ pub returns-in_err-combs-clause-known : goal.returns-in_err-combs-clause-known
 returns-in_err-combs-clause-known g c =
     let p = err_from_is_err_and c.from_residual-in_err-combs.result c.from_residual-in_err-combs.ensures.1 in
     let k = c.in_ok-text.ensures.known in
-    rw p.1 (rw p.2 (k.0, k.1, spelling-explains _ 1048576 k.0 _ _ _ c.in_err-combs.field-0.0 k.2.0 k.2.1 (c.deref.ensures.value ∙ k.2.2)
-    (λ at same. (c.in_err-combs.ensures.no_such_character at).0 (ap Err same))))
+    rw p.1 (rw p.2 (
+      k.0,
+      k.1,
+      spelling-explains _ 1048576 k.0 _ _ _ c.in_err-combs.field-0.0 k.2.0 k.2.1 (c.deref.ensures.value ∙ k.2.2)
+          (λ at same. (c.in_err-combs.ensures.no_such_character at).0 (ap Err same)),
+    ))
 
 pub returns-in_err-combs-clause-file : goal.returns-in_err-combs-clause-file
 returns-in_err-combs-clause-file g c =
@@ -49,11 +53,15 @@ pub returns-clause-file : goal.returns-clause-file
 returns-clause-file g c =
     let count : length c.in_ok-positions.positions.items ≡ c.len.result = omega (arith, c.len.ensures, c.in_ok-positions.positions.ok.0) in
     IfSome-map _ (λ xs. (length xs ≤ 1048576) × (c.in_ok-text.text.items ≡ xs)) _
-    (λ xs k. (tt, k.0, file_of (bit_lines c.deref-4.result.now),
-    subst (λ n. IsEncoded xs (file_of (bit_lines c.deref-4.result.now)) n) count
-    (IsEncoded-of xs c.deref.result.now c.in_ok-combs.combs.items c.in_ok-positions.positions.items c.deref-4.result.now
-    (c.deref.ensures.value ∙ k.1) c.in_ok-combs.ensures.spelling
-    (c.in_ok-positions.ensures ∙ ap (λ l. framed (map (λ (comb : Comb). comb.number) l)) c.deref-2.ensures.value)
-    (c.deref-4.ensures.value ∙ c.in_ok-bits.ensures ∙ ap (λ l. bits_of (emission (map meaning l))) c.deref-3.ensures.value)),
-    c.in_ok-write_bits.ensures.ok))
+    (λ xs k. (
+      tt,
+      k.0,
+      file_of (bit_lines c.deref-4.result.now),
+      subst (λ n. IsEncoded xs (file_of (bit_lines c.deref-4.result.now)) n) count
+          (IsEncoded-of xs c.deref.result.now c.in_ok-combs.combs.items c.in_ok-positions.positions.items c.deref-4.result.now
+          (c.deref.ensures.value ∙ k.1) c.in_ok-combs.ensures.spelling
+          (c.in_ok-positions.ensures ∙ ap (λ l. framed (map (λ (comb : Comb). comb.number) l)) c.deref-2.ensures.value)
+          (c.deref-4.ensures.value ∙ c.in_ok-bits.ensures ∙ ap (λ l. bits_of (emission (map meaning l))) c.deref-3.ensures.value)),
+      c.in_ok-write_bits.ensures.ok,
+    ))
     c.in_ok-text.ensures.file
