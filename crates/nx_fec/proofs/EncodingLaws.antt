@@ -1,8 +1,7 @@
 -- Lemmas on what encoding answers, and that decoding gives back what was encoded.
-use Rattle.std.proofs.Common.{◌≡◌, ℕ, zero, suc, ◌+◌, ◌*◌, ◌<◌, ◌≤◌, Bool, not, List, [], ◌∷◌, ◌++◌, length, map, take, drop, get_or, position, Option, Some, refl, sym, ap, ◌∙◌, subst, append-nil, arith, add-one, add-zero}
-use Rattle.std.specs.List.{flat_map, range_with_len, AllByRecursion}
+use Rattle.std.proofs.Common.{◌≡◌, ℕ, zero, suc, ◌+◌, ◌*◌, ◌<◌, ◌≤◌, Bool, not, List, [], ◌∷◌, ◌++◌, length, map, take, drop, position, Option, Some, refl, sym, ap, ◌∙◌, subst, append-nil, arith, add-one}
+use Rattle.std.specs.List.{flat_map, AllByRecursion}
 use Rattle.std.specs.Int.{div_ceil}
-use Rattle.std.specs.Prelude.{EachIndex, slice_index}
 use Rattle.std.proofs.Math.Seq.{take-add}
 use Rattle.std.proofs.lemmas.List.{length-map, length-take, length-drop, take_all}
 use Rattle.std.proofs.lemmas.List.Concat.{flat_map-append}
@@ -16,7 +15,7 @@ use Rattle.nx_code.specs.declared.signals.Comb.{Comb}
 use Rattle.nx_code.specs.declared.spelling.SpellFault.{SpellFault}
 use Rattle.nx_code.specs.declared.spelling.SpellFault.TheVariants.{NoSuchCharacter, Memory}
 use Rattle.nx_fec.specs.AirFile.{Line, IsLine}
-use Rattle.nx_fec.specs.Lines.{file_of, elements_of, IsAirFile, IsBitFile}
+use Rattle.nx_fec.specs.Lines.{file_of, elements_of, IsBitFile}
 use Rattle.nx_fec.specs.BitLines.{bit_line, bit_lines}
 use Rattle.nx_fec.specs.Aligned.{aligned_text, words_of}
 use Rattle.nx_fec.specs.Emission.{bits_of, emission, framed, meaning, AreCombinations}

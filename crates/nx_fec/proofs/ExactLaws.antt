@@ -1,5 +1,5 @@
 -- An answer that tells the outcome of a whole file is the only one that may be given to it.
-use Rattle.std.proofs.Common.{◌≡◌, ℕ, Bool, List, [], Option, None, Some, IfSome, Result, Ok, Err, MatchResult, IsErrAnd, ◌⊎◌, inl, inr, sym, ap, ◌∙◌, refl}
+use Rattle.std.proofs.Common.{◌≡◌, ℕ, Bool, List, Option, None, Some, IfSome, Result, Ok, Err, MatchResult, IsErrAnd, ◌⊎◌, inl, inr, ap, ◌∙◌, refl}
 use Rattle.nx_fec.specs.Lines.{IsRefused, IsBitFile}
 use Rattle.nx_fec.specs.Runs.{run_fault, Explains, IsOutside}
 use Rattle.nx_fec.specs.declared.fault.LineFault.{LineFault}

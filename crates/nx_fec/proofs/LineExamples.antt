@@ -1,10 +1,10 @@
 -- Worked examples of the definitions of air files.
-use Rattle.std.proofs.Common.{◌≡◌, ◌≢◌, ◌≤◌, ◌<◌, ◌+◌, ℕ, true, false, [], ◌∷◌, ◌++◌, codes, length, refl, arith}
+use Rattle.std.proofs.Common.{◌≡◌, true, false, [], ◌∷◌, ◌++◌, codes, refl, arith}
 use Rattle.std.proofs.lemmas.Fmt.{decimal_digit}
-use Rattle.nx_fec.specs.AirFile.{Line, moment, elements, refuse_station, accept_subject, spelling, IsLine}
-use Rattle.nx_fec.specs.Lines.{file_of, IsRefused, IsAirFile, IsBitFile}
+use Rattle.nx_fec.specs.AirFile.{moment, elements, refuse_station, accept_subject, spelling}
+use Rattle.nx_fec.specs.Lines.{file_of, IsRefused, IsBitFile}
 use Rattle.nx_fec.specs.BitLines.{bit_lines}
-use Rattle.nx_fec.specs.declared.fault.LineFault.TheVariants.{TooLong, LineLong, LineCut, BadLine}
+use Rattle.nx_fec.specs.declared.fault.LineFault.TheVariants.{TooLong, LineCut}
 
 -- a line of elements, and a command
 pub elements-spelled : spelling (elements (false ∷ true ∷ true ∷ [])) ≡ codes "B 011"

@@ -1,4 +1,4 @@
-use Rattle.std.proofs.Common.{arith, rules}
+use Rattle.std.proofs.Common.{arith}
 use Rattle.nx_fec.proofs.Digits.{element_digits-none}
 use Rattle.nx_fec.proofs.air_file.elements.Goals as goal
 

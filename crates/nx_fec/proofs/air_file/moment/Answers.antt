@@ -1,4 +1,4 @@
-use Rattle.std.proofs.Common.{◌≡◌, ℕ, ◌+◌, ◌^◌, ◌≤◌, ◌<◌, get_or, arith, rules, length, sym, ◌∙◌}
+use Rattle.std.proofs.Common.{◌≡◌, ◌+◌, ◌^◌, ◌≤◌, ◌<◌, get_or, arith, rules, length, sym, ◌∙◌}
 use Rattle.std.proofs.lemmas.List.{take_all}
 use Rattle.std.proofs.Math.Nat.{pow-le-pow_right}
 use Rattle.nx_fec.proofs.Digits.{decimal-nonempty, decimal-short, decimal-leading, decimal-no_other, decimal-step, below-ten-step, positive-step}

@@ -1,4 +1,4 @@
-use Rattle.std.proofs.Common.{◌≡◌, ℕ, ◌^◌, ◌<◌, ◌≤◌, List, take, get_or, ◌≢◌}
+use Rattle.std.proofs.Common.{◌≡◌, ℕ, ◌^◌, ◌<◌, List, take, get_or, ◌≢◌}
 use Rattle.std.specs.Fmt.{decimal}
 use Rattle.nx_fec.proofs.air_file.moment.Given as goal
 

@@ -1,7 +1,4 @@
-use Rattle.std.proofs.Common.{Bool, Vec, Global, [], arith}
-use Rattle.std.proofs.lemmas.Result.{err_from_is_err_and}
-use Rattle.std.proofs.KnownBytes.{Consumes-nil}
-use Rattle.nx_fec.proofs.ReadingLaws.{IfSome-always}
+use Rattle.std.proofs.Common.{Bool, Vec, Global}
 use Rattle.nx_fec.proofs.ExactLaws.{exact-fault, exact-good}
 use Rattle.nx_fec.proofs.reading.read_bits.Goals as goal
 

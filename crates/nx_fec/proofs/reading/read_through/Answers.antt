@@ -1,7 +1,7 @@
-use Rattle.std.proofs.Common.{rules, arith, subst, sym, ap, ◌++◌, ◌-◌, [], take, drop, ◌≡◌, append-nil, ◌∙◌}
+use Rattle.std.proofs.Common.{arith, ◌++◌, [], take, ◌≡◌, ◌∙◌}
 use Rattle.std.proofs.lemmas.Result.{err_from_is_err_and}
 use Rattle.std.proofs.KnownBytes.{Consumes-nil, Consumes-trans, Consumes-kept}
-use Rattle.nx_fec.specs.Runs.{Explains, HasRead}
+use Rattle.nx_fec.specs.Runs.{Explains}
 use Rattle.nx_fec.proofs.ReadingLaws.{IfSome-always, IfSome-map, Explains-piece, Explains-fault, Consumes-end, Err-same, Explains-file, IsBitFile-file}
 use Rattle.nx_fec.proofs.reading.read_through.Goals as goal
 

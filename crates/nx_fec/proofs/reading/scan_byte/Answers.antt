@@ -1,4 +1,4 @@
-use Rattle.std.proofs.Common.{rules, arith, append-nil, sym, ap, ◌∙◌, ◌++◌, option_to_list}
+use Rattle.std.proofs.Common.{ap, ◌∙◌, ◌++◌, option_to_list}
 use Rattle.std.specs.List.{flat_map}
 use Rattle.nx_fec.specs.Lines.{elements_of}
 use Rattle.std.proofs.lemmas.Result.{err_from_is_err_and}

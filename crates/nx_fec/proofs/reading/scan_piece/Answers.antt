@@ -1,6 +1,5 @@
-use Rattle.std.proofs.Common.{rules, arith, subst, sym, ◌++◌, drop, ◌+◌, take, ◌≡◌}
+use Rattle.std.proofs.Common.{◌++◌, drop, ◌+◌, take}
 use Rattle.std.proofs.lemmas.Result.{err_from_is_err_and}
-use Rattle.nx_fec.specs.Runs.{Explains}
 use Rattle.nx_fec.proofs.ReadingLaws.{around}
 use Rattle.nx_fec.proofs.reading.scan_piece.Goals as goal
 

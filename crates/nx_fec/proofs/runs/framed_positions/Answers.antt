@@ -1,4 +1,4 @@
-use Rattle.std.proofs.Common.{◌≡◌, ◌++◌, [], ◌∷◌, map, ap, ◌∙◌, arith, replicate}
+use Rattle.std.proofs.Common.{◌++◌, [], ◌∷◌, map, ap, ◌∙◌, arith, replicate}
 use Rattle.std.proofs.lemmas.List.{take_all}
 use Rattle.nx_code.specs.declared.signals.Comb.{Comb}
 use Rattle.nx_fec.specs.Emission.{meaning}
