@@ -1,0 +1,190 @@
+//! Reading the elements of an air file from a reader.
+ghost use Rattle.std.specs.Prelude.{◌≡◌, ◌+◌, ◌-◌, ◌<◌, ◌≤◌, ◌↔◌, ℕ, List, [], ◌∷◌, ◌++◌, length, IfSome, IfOk, IfErr, OnOk, IsErrOf, IsErrAnd, MatchResult, ◌⊎◌, Bool, option_to_list, vec_len};
+ghost use Rattle.std.specs.Io.KnownBytes.{Consumes, IsAtEnd};
+ghost use Rattle.nx_fec.specs.Lines.{IsBitFile, IsRefused, elements_of};
+ghost use Rattle.nx_fec.specs.AirFile.{meaning};
+ghost use Rattle.nx_fec.specs.declared.fault.LineFault.{LineFault};
+ghost use Rattle.std.specs.List.{flat_map};
+ghost use Rattle.std.specs.Option.{option_map};
+ghost use Rattle.nx_fec.specs.Runs.{Explains, ExplainsWhole, HasRead, IsOutside, run_fault};
+
+use crate::air_file::AirLine;
+use crate::counting::Counting;
+use crate::fault::RunFault;
+use crate::scanner::Scanner;
+use std::alloc::{AllocError, Global};
+use std::io::Read;
+
+/// The most bytes of a file that is read whole.
+pub const FILE_LIMIT: u64 = 1_048_576;
+
+// How many bytes one read asks for.
+const CHUNK: usize = 65_536;
+
+/// Reads an air file to its end, and joins the elements of all its lines. The other lines are checked and skipped.
+///
+/// The fault is the first in the order of the bytes. Memory may run out at any growth.
+pub fn read_bits<R: Read>(alloc: Global, reader: &mut Counting<R>) -> Result<Vec<bool>, RunFault>
+    requires { reader.old.failures ≡ 0 }
+
+    // Whatever the reader tells of its bytes: it gave some, and the answer is that of these.
+    ensures known { (bytes : List ℕ) × Consumes (R.remaining reader.old.inner) (R.remaining reader.new.inner) bytes
+        × MatchResult result
+        (λ bits. IsAtEnd (R.remaining reader.new.inner) × IsBitFile FILE_LIMIT bytes bits.items)
+        (λ fault. Explains (IsAtEnd (R.remaining reader.new.inner)) FILE_LIMIT bytes fault) }
+
+    // Where its bytes are known, the answer is that of the whole file, however they came.
+    ensures file { IfSome (R.remaining reader.old.inner) (λ xs. MatchResult result
+        (λ bits. IsBitFile FILE_LIMIT xs bits.items)
+        (λ fault. Explains (Unit {0}) FILE_LIMIT xs fault)) }
+
+    // So a fault of the file is the answer, and so are the elements of a file without a fault, unless the reader or
+    // memory failed.
+    ensures fault { IfSome (R.remaining reader.old.inner) (λ xs. (why : LineFault) → IsRefused FILE_LIMIT xs why →
+        IsErrAnd result (λ fault. (fault ≡ run_fault why) ⊎ IsOutside fault)) }
+    ensures good { IfSome (R.remaining reader.old.inner) (λ xs. (elements : List Bool) → IsBitFile FILE_LIMIT xs elements →
+        MatchResult result (λ bits. bits.items ≡ elements) IsOutside) }
+
+    // A read that failed is the one that raised the count.
+    ensures failed { IsErrOf result RunFault.Read ↔ (reader.new.failures ≡ 1) }
+    ensures once { reader.new.failures ≤ 1 }
+{
+    let mut space = blank(alloc, CHUNK)?;
+    read_through(alloc, reader, space.as_mut_slice())
+}
+
+// Reads an air file to its end through this buffer.
+fn read_through<R: Read>(
+    alloc: Global,
+    reader: &mut Counting<R>,
+    buffer: &mut [u8],
+) -> Result<Vec<bool>, RunFault>
+    requires none { reader.old.failures ≡ 0 }
+    requires room { 0 < length buffer.old }
+    ensures known { (bytes : List ℕ) × Consumes (R.remaining reader.old.inner) (R.remaining reader.new.inner) bytes
+        × MatchResult result
+        (λ bits. IsAtEnd (R.remaining reader.new.inner) × IsBitFile FILE_LIMIT bytes bits.items)
+        (λ fault. Explains (IsAtEnd (R.remaining reader.new.inner)) FILE_LIMIT bytes fault) }
+    ensures file { IfSome (R.remaining reader.old.inner) (λ xs. MatchResult result
+        (λ bits. IsBitFile FILE_LIMIT xs bits.items)
+        (λ fault. Explains (Unit {0}) FILE_LIMIT xs fault)) }
+    ensures failed { IsErrOf result RunFault.Read ↔ (reader.new.failures ≡ 1) }
+    ensures once { reader.new.failures ≤ 1 }
+{
+    let mut scanner = Scanner::new(FILE_LIMIT);
+    let mut bits = Vec::new(alloc);
+    loop {
+        let Ok(count) = reader.read(buffer) else {
+            return Err(RunFault::Read);
+        };
+        if count == 0 {
+            break;
+        }
+        scan_piece(&buffer[..count], &mut scanner, &mut bits)?;
+    }
+    scanner.end()?;
+    Ok(bits)
+}
+
+/// Reads a file whole.
+///
+/// `Read` where a read failed, `FileTooLong` where there is a byte past the limit, and `Memory` where it ran out.
+pub fn read_whole<R: Read>(alloc: Global, reader: &mut Counting<R>) -> Result<Vec<u8>, RunFault>
+    requires { reader.old.failures ≡ 0 }
+
+    // Whatever the reader tells of its bytes: it gave some, and the answer is that of these.
+    ensures known { (bytes : List ℕ) × Consumes (R.remaining reader.old.inner) (R.remaining reader.new.inner) bytes
+        × MatchResult result
+        (λ text. IsAtEnd (R.remaining reader.new.inner) × (length bytes ≤ FILE_LIMIT) × (text.items ≡ bytes))
+        (λ fault. ExplainsWhole FILE_LIMIT bytes fault) }
+
+    // Where its bytes are known, the answer is that of the whole file, however they came.
+    ensures file { IfSome (R.remaining reader.old.inner) (λ xs. MatchResult result
+        (λ text. (length xs ≤ FILE_LIMIT) × (text.items ≡ xs))
+        (λ fault. ExplainsWhole FILE_LIMIT xs fault)) }
+    ensures failed { IsErrOf result RunFault.Read ↔ (reader.new.failures ≡ 1) }
+    ensures once { reader.new.failures ≤ 1 }
+{
+    let mut space = blank(alloc, CHUNK)?;
+    gather(alloc, reader, space.as_mut_slice())
+}
+
+// Reads a file whole through this buffer.
+fn gather<R: Read>(
+    alloc: Global,
+    reader: &mut Counting<R>,
+    buffer: &mut [u8],
+) -> Result<Vec<u8>, RunFault>
+    requires none { reader.old.failures ≡ 0 }
+    requires room { 0 < length buffer.old }
+    ensures known { (bytes : List ℕ) × Consumes (R.remaining reader.old.inner) (R.remaining reader.new.inner) bytes
+        × MatchResult result
+        (λ text. IsAtEnd (R.remaining reader.new.inner) × (length bytes ≤ FILE_LIMIT) × (text.items ≡ bytes))
+        (λ fault. ExplainsWhole FILE_LIMIT bytes fault) }
+    ensures file { IfSome (R.remaining reader.old.inner) (λ xs. MatchResult result
+        (λ text. (length xs ≤ FILE_LIMIT) × (text.items ≡ xs))
+        (λ fault. ExplainsWhole FILE_LIMIT xs fault)) }
+    ensures failed { IsErrOf result RunFault.Read ↔ (reader.new.failures ≡ 1) }
+    ensures once { reader.new.failures ≤ 1 }
+{
+    let mut whole = Vec::new(alloc);
+    loop {
+        let Ok(taken) = reader.read(buffer) else {
+            return Err(RunFault::Read);
+        };
+        if taken == 0 {
+            break;
+        }
+        if taken as u64 > FILE_LIMIT - whole.len() as u64 {
+            return Err(RunFault::FileTooLong);
+        }
+        whole.extend_from_slice(&buffer[..taken])?;
+    }
+    Ok(whole)
+}
+
+// A buffer of this many bytes.
+fn blank(alloc: Global, length: usize) -> Result<Vec<u8>, AllocError>
+    ensures { IfOk result (λ buffer. vec_len buffer ≡ length) }
+{
+    vec![in alloc; 0; length]
+}
+
+// Scans the next bytes of a file, and appends the elements of the lines that they end.
+fn scan_piece(piece: &[u8], scanner: &mut Scanner, bits: &mut Vec<bool>) -> Result<(), RunFault>
+    ensures read { (limit : ℕ) (bytes : List ℕ) → HasRead limit scanner.old bits.old.items bytes → MatchResult result
+        (λ _. HasRead limit scanner.new bits.new.items (bytes ++ piece.now))
+        (λ fault. (more : List ℕ) → Explains ⊥ limit ((bytes ++ piece.now) ++ more) fault) }
+    ensures room { OnOk result (scanner.new.room + length piece.now ≡ scanner.old.room) }
+    ensures no_read { IsErrOf result RunFault.Read → ⊥ }
+{
+    for byte in piece {
+        scan_byte(*byte, scanner, bits)?;
+    }
+    Ok(())
+}
+
+// Scans the next byte of a file.
+fn scan_byte(byte: u8, scanner: &mut Scanner, bits: &mut Vec<bool>) -> Result<(), RunFault>
+    ensures read { (limit : ℕ) (bytes : List ℕ) → HasRead limit scanner.old bits.old.items bytes → MatchResult result
+        (λ _. HasRead limit scanner.new bits.new.items (bytes ++ byte ∷ []))
+        (λ fault. (more : List ℕ) → Explains ⊥ limit (bytes ++ byte ∷ more) fault) }
+    ensures room { OnOk result (scanner.new.room + 1 ≡ scanner.old.room) }
+    ensures no_read { IsErrOf result RunFault.Read → ⊥ }
+{
+    if scanner.push(byte)? {
+        append_elements(scanner.latest(), bits)?;
+    }
+    Ok(())
+}
+
+// Appends the elements of a line, which only a line of elements has.
+fn append_elements(line: Option<&AirLine>, bits: &mut Vec<bool>) -> Result<(), AllocError>
+    ensures { OnOk result (bits.new.items
+        ≡ bits.old.items ++ flat_map elements_of (option_to_list (option_map (λ line. meaning line.now) line.entry))) }
+{
+    if let Some(AirLine::Bits(elements)) = line {
+        bits.extend_from_slice(elements)?;
+    }
+    Ok(())
+}
