@@ -1,0 +1,125 @@
+//! The words of the command line and the call that they name, read by `clap`.
+
+ghost use Rattle.std.specs.Prelude.{◌≡◌, ◌≢◌, IfNone, IfOk, IfErr, IfSome, map};
+ghost use Rattle.nx_cli.specs.Words.{Explains, IsBuiltAs, Names, Sorts, bare, leaf, navtex};
+ghost use Rattle.nx_cli.specs.Words.{word_of};
+ghost use Rattle.nx_cli.specs.declared.words.Call.{Call};
+ghost use Rattle.nx_cli.specs.declared.words.Call.TheVariants.{Decode, Encode};
+ghost use Rattle.nx_cli.specs.declared.words.WordsFault.TheVariants.{Memory};
+
+use clap::Command;
+use clap::error::ErrorKind;
+use std::alloc::{AllocError, Global};
+use std::convert::AsStr;
+use thiserror::Error;
+
+/// A call of the program, which the words of the command line name.
+#[derive(Clone, Copy, Debug, PartialEq, Eq)]
+pub enum Call {
+    /// Print the text of an air file.
+    Decode,
+    /// Write a text as an air file.
+    Encode,
+}
+
+/// Why the words name no call.
+#[derive(Debug, Drop, Error)]
+pub enum WordsFault {
+    /// The words ask for help, which is this text.
+    #[error(transparent)]
+    Help(clap::Error),
+    /// The words are not understood, as this text says.
+    #[error(transparent)]
+    Refused(clap::Error),
+    /// Memory ran out while the words were read.
+    #[error("out of memory")]
+    Memory(AllocError),
+}
+
+fn decode_command<'a>(alloc: Global) -> Command<'a>
+    ensures { IsBuiltAs (leaf Decode) result }
+{
+    Command::new(alloc, "decode")
+        .about("Print the text of an air file")
+        .long_about(
+            "Reads an air file of at most 1048576 bytes from standard input, takes its B lines as \
+             the words of one emission, the first word sent first, and prints the text to \
+             standard output. A character that is lost is printed as an asterisk.",
+        )
+}
+
+fn encode_command<'a>(alloc: Global) -> Command<'a>
+    ensures { IsBuiltAs (leaf Encode) result }
+{
+    Command::new(alloc, "encode")
+        .about("Write a text as an air file")
+        .long_about(
+            "Reads a text of at most 1048576 bytes from standard input and writes it to standard \
+             output as an air file: four phasing positions, the text, three end positions. The \
+             text is of the letters A to Z, the digits, space, newline and -?:().,'=+/.",
+        )
+}
+
+fn bare_command<'a>(alloc: Global) -> Result<Command<'a>, AllocError>
+    ensures { IfOk result (IsBuiltAs bare) }
+{
+    Command::new(alloc, "navtex")
+        .about("A NAVTEX broadcast station and receiver")
+        .after_help("Every command reads standard input and writes standard output.")
+        .disable_help_subcommand(true)
+        .subcommand_required(true)
+        .bin_name("navtex")
+}
+
+fn navtex_command<'a>(alloc: Global) -> Result<Command<'a>, AllocError>
+    ensures { IfOk result (IsBuiltAs navtex) }
+{
+    bare_command(alloc)?
+        .subcommand(decode_command(alloc))?
+        .subcommand(encode_command(alloc))
+}
+
+/// The call that the words name, of which the first is the program's name.
+pub fn call_of<S: AsStr>(alloc: Global, words: &[S]) -> Result<Call, WordsFault>
+    ensures named { IfOk result (Names (map S.text words.now)) }
+    ensures refused { IfErr result (Explains (map S.text words.now)) }
+{
+    let command = navtex_command(alloc)?;
+    let matches = command.try_get_matches_from(words)?;
+    let name = matches.subcommand_name().unwrap();
+    Ok(Call::named(name).unwrap())
+}
+
+impl Call {
+    /// The call that the command line names by this word.
+    fn named(name: &str) -> Option<Call>
+        ensures some { IfSome result (λ call. name.now ≡ word_of call) }
+        ensures none { IfNone result ((call : Call) → name.now ≢ word_of call) }
+    {
+        match name {
+            "decode" => Some(Call::Decode),
+            "encode" => Some(Call::Encode),
+            _ => None,
+        }
+    }
+}
+
+impl From<AllocError> for WordsFault {
+    ghost from_gives = { λ want fault. fault ≡ Memory want };
+
+    fn from(want: AllocError) -> WordsFault {
+        WordsFault::Memory(want)
+    }
+}
+
+impl From<clap::Error> for WordsFault {
+    ghost from_gives = { Sorts };
+
+    fn from(error: clap::Error) -> WordsFault {
+        match error.kind() {
+            ErrorKind::DisplayHelp => WordsFault::Help(error),
+            ErrorKind::OutOfMemory => WordsFault::Memory(AllocError),
+            _ => WordsFault::Refused(error),
+        }
+    }
+}
