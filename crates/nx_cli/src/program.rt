@@ -1,0 +1,166 @@
+//! The program without its process.
+
+ghost use Rattle.std.specs.Prelude.{◌≡◌, Result, map};
+ghost use Rattle.nx_cli.specs.Program.{Ends, Performs, WritesHelp, fault_status, status_of};
+ghost use Rattle.nx_cli.specs.declared.program.Fault.{Fault};
+ghost use Rattle.nx_cli.specs.declared.program.Fault.TheVariants.{Run};
+
+use crate::stand_in::{Counting, RunFault, decode_run, write_out};
+use crate::words::{Call, WordsFault, call_of};
+use std::alloc::{AllocError, Global};
+use std::convert::AsStr;
+use std::io::{Read, Write};
+use thiserror::Error;
+
+/// The exit status of a run that did what the words ask for.
+const DONE: u8 = 0;
+/// The exit status where a device failed or memory ran out.
+const DEVICE_OR_MEMORY: u8 = 1;
+/// The exit status for a bad file, line or value.
+const BAD_INPUT: u8 = 2;
+/// The exit status for words that are not understood.
+const BAD_WORDS: u8 = 64;
+
+/// Why a run of the program failed.
+#[derive(Debug, Drop, Error)]
+pub enum Fault {
+    /// The words are not understood, as this text says.
+    #[error(transparent)]
+    Words(clap::Error),
+    /// The call that the words name failed, or the writing of help did.
+    #[error(transparent)]
+    Run(RunFault),
+}
+
+impl Fault {
+    fn status(&self) -> u8
+        ensures { result ≡ fault_status self.now }
+    {
+        match self {
+            Fault::Words(_) => BAD_WORDS,
+            Fault::Run(RunFault::Read | RunFault::Write { written: _ } | RunFault::Memory(_)) =>
+                DEVICE_OR_MEMORY,
+            Fault::Run(_) => BAD_INPUT,
+        }
+    }
+
+    /// Writes the fault as lines of standard error.
+    fn report<E: Write>(&self, faults: &mut E) -> std::io::Result<()> {
+        match self {
+            Fault::Words(answer) => write!(faults, "{answer}"),
+            Fault::Run(why) => writeln!(faults, "navtex: {why}"),
+        }
+    }
+}
+
+impl From<RunFault> for Fault {
+    ghost from_gives = { λ why fault. fault ≡ Run why };
+
+    fn from(why: RunFault) -> Fault {
+        Fault::Run(why)
+    }
+}
+
+/// Does what the call says, from the reader to the writer.
+fn perform<R: Read, W: Write>(
+    alloc: Global,
+    call: Call,
+    reader: &mut Counting<R>,
+    writer: &mut Counting<W>,
+) -> Result<u64, RunFault>
+    requires reader { reader.old.failures ≡ 0 }
+    requires writer { writer.old.failures ≡ 0 }
+    ensures { Performs call
+        (record {
+          input = R.remaining reader.old.inner;
+          input_after = R.remaining reader.new.inner;
+          output = W.contents writer.old.inner;
+          output_after = W.contents writer.new.inner;
+        })
+        result }
+{
+    match call {
+        Call::Decode => decode_run(alloc, reader, writer),
+        Call::Encode => decode_run(alloc, reader, writer),
+    }
+}
+
+/// Writes the text of help.
+fn give_help<W: Write>(
+    alloc: Global,
+    help: &clap::Error,
+    writer: &mut Counting<W>,
+) -> Result<(), RunFault>
+    requires { writer.old.failures ≡ 0 }
+    ensures { WritesHelp (W.contents writer.old.inner) (W.contents writer.new.inner) result }
+{
+    let text = help.to_string(alloc).map_err(RunFault::Memory)?;
+    match write_out(writer, text.as_bytes()) {
+        Ok(()) => Ok(()),
+        Err(fault) => Err(RunFault::Write {
+            written: fault.written,
+        }),
+    }
+}
+
+/// Reads the words and does what they ask for.
+fn obey<S: AsStr, R: Read, W: Write>(
+    alloc: Global,
+    words: &[S],
+    reader: &mut Counting<R>,
+    writer: &mut Counting<W>,
+) -> Result<(), Fault>
+    requires reader { reader.old.failures ≡ 0 }
+    requires writer { writer.old.failures ≡ 0 }
+    ensures { Ends (map S.text words.now)
+        (record {
+          input = R.remaining reader.old.inner;
+          input_after = R.remaining reader.new.inner;
+          output = W.contents writer.old.inner;
+          output_after = W.contents writer.new.inner;
+        })
+        result }
+{
+    match call_of(alloc, words) {
+        Ok(call) => {
+            perform(alloc, call, reader, writer)?;
+            Ok(())
+        }
+        Err(WordsFault::Help(help)) => {
+            give_help(alloc, &help, writer)?;
+            Ok(())
+        }
+        Err(WordsFault::Refused(answer)) => Err(Fault::Words(answer)),
+        Err(WordsFault::Memory(want)) => Err(Fault::Run(RunFault::Memory(want))),
+    }
+}
+
+/// Runs the program on its words, of which the first is its name, and answers its exit status.
+pub fn run<S: AsStr, R: Read + Drop, W: Write + Drop, E: Write + Drop>(
+    alloc: Global,
+    words: &[S],
+    input: R,
+    output: W,
+    faults: E,
+) -> u8
+    ensures { (input_after : R) × (output_after : W) × (outcome : Result (Unit {0}) Fault)
+        × Ends (map S.text words.now)
+        (record {
+          input = R.remaining input;
+          input_after = R.remaining input_after;
+          output = W.contents output;
+          output_after = W.contents output_after;
+        })
+        outcome × (result ≡ status_of outcome) }
+{
+    let mut reader = Counting::new(input);
+    let mut writer = Counting::new(output);
+    match obey(alloc, words, &mut reader, &mut writer) {
+        Ok(()) => DONE,
+        Err(fault) => {
+            let mut faults = Counting::new(faults);
+            let _ = fault.report(&mut faults.inner);
+            fault.status()
+        }
+    }
+}
