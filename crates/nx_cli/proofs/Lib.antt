@@ -1,1 +1,2 @@
+pub mod FaultKinds
 pub mod WordsLemmas

@@ -1,10 +1,12 @@
 -- Clap's reading of the program's words: the command tree is one of those that clap's clauses
 -- speak of exactly, and a command that it enters is the command of a call.
-use Rattle.std.proofs.Common.{◌≡◌, ◌≢◌, ◌∙◌, Bool, true, false, List, [], ◌∷◌, Option, Some, None, IsSome, IfNone, IfSome, find, option_map, refl, ap, cond, inl, inr, sym, subst, Box, Global}
+use Rattle.std.proofs.Common.{◌≡◌, ◌≢◌, ◌∙◌, Bool, true, false, List, [], ◌∷◌, Option, Some, None, IsSome, is_some, ◌⊎◌, IfNone, IfSome, find, if◌then◌else◌, option_map, refl, ap, cond, inl, inr, sym, subst, Box, Global}
 use Rattle.std.specs.Box.{box_value}
-use Rattle.clap.specs.Words.{App, HasKind, HasMatchesOf, IsAmong, Row, Shape, Text, built, fault_of, is_simple, is_simple_and_free, kind_of, subcommand_of, subcommand_name_of, subcommand_rows, subcommand_rows_of}
+use Rattle.clap.specs.Words.{App, HasKind, Kinds, HasMatchesOf, IsAmong, Row, Shape, Text, built, fault_of, is_simple, is_simple_and_free, kind_of, subcommand_of, subcommand_name_of, subcommand_rows, subcommand_rows_of}
 use Rattle.clap.specs.Simple.{argument_words, entered, label_of, names_of, rows_at}
-use Rattle.clap.specs.Walk.{answers_to, stop_after}
+use Rattle.clap.specs.Walk.{answers_to, nothing_held, stop_after, walk}
+use Rattle.clap.specs.Faults.{entered_fault}
+use Rattle.std.specs.Str.{bytes_eq}
 use Rattle.clap.proofs.OnLiterals.{clap_on_literals}
 use Rattle.clap.specs.declared.error.Error.{Error}
 use Rattle.clap.specs.declared.error.kind.ErrorKind.{ErrorKind}
@@ -16,7 +18,8 @@ use Rattle.nx_cli.specs.declared.words.Call.{Call}
 use Rattle.nx_cli.specs.declared.words.Call.TheVariants.{Decode, Encode}
 use Rattle.nx_cli.specs.declared.words.WordsFault.{WordsFault}
 use Rattle.nx_cli.specs.declared.words.WordsFault.TheVariants.{Help, Refused, Memory}
-use Rattle.nx_cli.specs.Words.{Explains, Sorts, navtex, word_of}
+use Rattle.nx_cli.specs.Words.{AsksForHelp, Explains, IsRefused, Names, Sorts, navtex, word_of}
+use Rattle.nx_cli.proofs.FaultKinds.{HasNoHelp, IsUniform, kinds_cases, level-nil, u-level, u-none, u-option, uniform_excludes}
 
 pub navtex-is_simple : is_simple navtex ≡ true
 unfolding clap_on_literals
@@ -107,3 +110,70 @@ is_some_of_call (Some call) name none of_call = refl
 pub word_of_found : (found : Option Call) (call : Call) (name : Text) → IfSome found (λ k. name ≡ word_of k) → found ≡ Some call → name ≡ word_of call
 word_of_found found call name some is =
     let P : Option Call → Type 0 = λ o. IfSome o (λ k. name ≡ word_of k) in subst P is some
+
+calls_without_help : Each HasNoHelp (built navtex).subs
+calls_without_help = (refl, (refl, tt))
+
+IfSome-weaker : {X : Type 0} (o : Option X) (P Q : X → Type 0) → ((x : X) → P x → Q x) → IfSome o P → IfSome o Q
+IfSome-weaker None P Q weaker some = tt
+IfSome-weaker (Some x) P Q weaker some = weaker x some
+
+u-entered : (stop : Option (Text × List Text)) → IsUniform (entered_fault (built navtex) stop)
+u-entered None = u-none
+u-entered (Some p) =
+    u-option _ _ [] (IfSome-weaker _ _ _ (λ s no. u-level s [] nothing_held p.1 false [] no u-none) (found_is HasNoHelp (λ s. answers_to p.0 (label_of s)) (built navtex).subs calls_without_help)) u-none
+
+-- clap's faults of the words are all help or all no help
+pub faults_are_uniform : (words : List Text) → IsUniform (fault_of navtex words)
+faults_are_uniform words =
+    let stop = (walk (built navtex).top.rules (names_of (built navtex)) nothing_held (argument_words navtex words)).stopped in
+    u-level (built navtex).top (names_of (built navtex)) nothing_held (argument_words navtex words) (is_some (entered (built navtex) stop))
+    (entered_fault (built navtex) stop) refl (u-entered stop)
+
+pub help_not_refused : (words : List Text) → AsksForHelp words → IsRefused words → ⊥
+help_not_refused words help refused = uniform_excludes (fault_of navtex words) refused.0 (faults_are_uniform words) help refused.2 refused.1
+
+none_among : (kinds : Kinds) (k : ErrorKind) → kinds ≡ [] → IsAmong k kinds → ⊥
+none_among [] k e among = among
+none_among (x ∷ xs) k e among = absurd (cc)
+
+pub named_not_help : (words : List Text) (call : Call) → Names words call → AsksForHelp words → ⊥
+named_not_help words call named help = none_among (fault_of navtex words) DisplayHelp named.taken help
+
+pub named_not_refused : (words : List Text) (call : Call) → Names words call → IsRefused words → ⊥
+named_not_refused words call named refused = none_among (fault_of navtex words) refused.0 named.taken refused.2
+
+-- the call of this word
+called : Text → Option Call
+called name = if bytes_eq name (word_of Decode) then Some Decode
+    else (if bytes_eq name (word_of Encode) then Some Encode else None)
+
+called-word_of : (call : Call) → called (word_of call) ≡ Some call
+unfolding called
+called-word_of Decode = refl
+called-word_of Encode = refl
+
+word_of-same : (a b : Call) → word_of a ≡ word_of b → a ≡ b
+word_of-same a b e =
+    let h : Some a ≡ Some b = sym (called-word_of a) ∙ (ap called e ∙ called-word_of b) in cc
+
+pub named_once : (words : List Text) (a b : Call) → Names words a → Names words b → a ≡ b
+named_once words a b first second =
+    word_of-same a b (let e : Some (word_of a) ≡ Some (word_of b) = sym first.command ∙ second.command in cc)
+
+enters_call : (e : Option (Text × List Row)) → is_some e ≡ true → IfSome e (λ _. EntersCall e) → EntersCall e
+enters_call None is enters = absurd (cc)
+enters_call (Some p) is enters = enters
+
+taken_is_named : (words : List Text) → fault_of navtex words ≡ [] → (call : Call) × Names words call
+taken_is_named words taken =
+    let entered = level-nil (built navtex).top (names_of (built navtex)) nothing_held (argument_words navtex words) _ _ refl taken in
+    let call = enters_call (subcommand_of navtex words) entered (entered_is_call words) in
+    (call.0, record { taken = taken; command = call.1 })
+
+-- each list of words names a call, asks for help or is refused
+pub read_as_one : (words : List Text) → ((call : Call) × Names words call) ⊎ (AsksForHelp words ⊎ IsRefused words)
+read_as_one words = elim (kinds_cases (fault_of navtex words)) [
+  | inl taken ↦ inl (taken_is_named words taken)
+  | inr fault ↦ inr fault
+]

@@ -1,7 +1,8 @@
 //! The words of the command line and the call that they name, read by `clap`.
 
-ghost use Rattle.std.specs.Prelude.{◌≡◌, ◌≢◌, IfNone, IfOk, IfErr, IfSome, map};
-ghost use Rattle.nx_cli.specs.Words.{Explains, IsBuiltAs, Names, Sorts, bare, leaf, navtex};
+ghost use Rattle.clap.specs.Words.{Text};
+ghost use Rattle.std.specs.Prelude.{◌≡◌, ◌≢◌, ◌⊎◌, List, [], ◌∷◌, codes, IfNone, IfOk, IfErr, IfSome, map};
+ghost use Rattle.nx_cli.specs.Words.{AsksForHelp, Explains, IsBuiltAs, IsRefused, Names, Sorts, bare, leaf, navtex};
 ghost use Rattle.nx_cli.specs.Words.{word_of};
 ghost use Rattle.nx_cli.specs.declared.words.Call.{Call};
 ghost use Rattle.nx_cli.specs.declared.words.Call.TheVariants.{Decode, Encode};
@@ -123,3 +124,28 @@ impl From<clap::Error> for WordsFault {
         }
     }
 }
+
+/// How `clap` reads the words: each list of words names one call, asks for help or is refused, and
+/// these exclude each other.
+pub fn words_read_as_one()
+    ensures some { (words : List Text) → ((call : Call) × Names words call) ⊎ (AsksForHelp words ⊎ IsRefused words) }
+    ensures one_call { (words : List Text) (a b : Call) → Names words a → Names words b → a ≡ b }
+    ensures named_not_help { (words : List Text) (call : Call) → Names words call → ¬ AsksForHelp words }
+    ensures named_not_refused { (words : List Text) (call : Call) → Names words call → ¬ IsRefused words }
+    ensures help_not_refused { (words : List Text) → AsksForHelp words → ¬ IsRefused words }
+{}
+
+/// What some words are read as, whatever the program's name.
+pub fn words_in_examples()
+    ensures decode { (program : Text) → Names (program ∷ codes "decode" ∷ []) Decode }
+    ensures encode { (program : Text) → Names (program ∷ codes "encode" ∷ []) Encode }
+    ensures help { (program : Text) → AsksForHelp (program ∷ codes "--help" ∷ []) }
+    ensures short_help { (program : Text) → AsksForHelp (program ∷ codes "-h" ∷ []) }
+    ensures help_of_call { (program : Text) → AsksForHelp (program ∷ codes "decode" ∷ codes "--help" ∷ []) }
+    ensures unknown { (program : Text) → IsRefused (program ∷ codes "frob" ∷ []) }
+    ensures none { (program : Text) → IsRefused (program ∷ []) }
+    ensures surplus { (program : Text) → IsRefused (program ∷ codes "decode" ∷ codes "frob" ∷ []) }
+    ensures twice { (program : Text) → IsRefused (program ∷ codes "decode" ∷ codes "decode" ∷ []) }
+    ensures option { (program : Text) → IsRefused (program ∷ codes "decode" ∷ codes "--frob" ∷ []) }
+    ensures help_command { (program : Text) → IsRefused (program ∷ codes "help" ∷ []) }
+{}
