@@ -59,6 +59,7 @@ pub record LacksMemory (d : Devices) (why : RunFault) : Type 0 where
 abbrev pub Ends : List Text → Devices → Result (Unit {0}) Fault → Type 0
 Ends words d (Ok done) = ((count : ℕ) × RunsCall words d (Ok count)) ⊎ GivesHelp words d (Ok done)
 Ends words d (Err (fault.Words answer)) = IsRefused words × IsUntouched d
+Ends words d (Err fault.NoText) = ⊥
 Ends words d (Err (fault.Run why)) = RunsCall words d (Err why) ⊎ (GivesHelp words d (Err why) ⊎ LacksMemory d why)
 
 -- the status of a fault: 1 for a device or memory, 2 for a bad file, line or value, 64 for the words
@@ -71,6 +72,7 @@ run_status (run.LineLong line) = 2
 
 abbrev pub fault_status : Fault → ℕ
 fault_status (fault.Words answer) = 64
+fault_status fault.NoText = 64
 fault_status (fault.Run why) = run_status why
 
 abbrev pub status_of : Result (Unit {0}) Fault → ℕ

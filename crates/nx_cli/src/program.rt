@@ -1,6 +1,7 @@
 //! The program without its process.
 
-ghost use Rattle.std.specs.Prelude.{◌≡◌, Result, map};
+ghost use Rattle.std.specs.IoError.{error_kind};
+ghost use Rattle.std.specs.Prelude.{◌≡◌, ◌≢◌, Result, map};
 ghost use Rattle.nx_cli.specs.Program.{Ends, Performs, WritesHelp, fault_status, status_of};
 ghost use Rattle.nx_cli.specs.declared.program.Fault.{Fault};
 ghost use Rattle.nx_cli.specs.declared.program.Fault.TheVariants.{Run};
@@ -9,7 +10,8 @@ use crate::stand_in::{Counting, RunFault, decode_run, write_out};
 use crate::words::{Call, WordsFault, call_of};
 use std::alloc::{AllocError, Global};
 use std::convert::AsStr;
-use std::io::{Read, Write};
+use std::io;
+use std::io::{ErrorKind, Read, Write};
 use thiserror::Error;
 
 /// The exit status of a run that did what the words ask for.
@@ -27,6 +29,9 @@ pub enum Fault {
     /// The words are not understood, as this text says.
     #[error(transparent)]
     Words(clap::Error),
+    /// A word of the command line is no text, so none of them was read.
+    #[error("a word of the command line is not UTF-8")]
+    NoText,
     /// The call that the words name failed, or the writing of help did.
     #[error(transparent)]
     Run(RunFault),
@@ -37,19 +42,28 @@ impl Fault {
         ensures { result ≡ fault_status self.now }
     {
         match self {
-            Fault::Words(_) => BAD_WORDS,
+            Fault::Words(_) | Fault::NoText => BAD_WORDS,
             Fault::Run(RunFault::Read | RunFault::Write { written: _ } | RunFault::Memory(_)) =>
                 DEVICE_OR_MEMORY,
             Fault::Run(_) => BAD_INPUT,
         }
     }
 
-    /// Writes the fault as lines of standard error.
-    fn report<E: Write>(&self, faults: &mut E) -> std::io::Result<()> {
+    // Writes the fault as one line of standard error, and a text of clap as it stands.
+    fn write_to<E: Write>(&self, faults: &mut E) -> io::Result<()> {
         match self {
             Fault::Words(answer) => write!(faults, "{answer}"),
-            Fault::Run(why) => writeln!(faults, "navtex: {why}"),
+            Fault::NoText | Fault::Run(_) => writeln!(faults, "navtex: {self}"),
         }
+    }
+
+    /// Reports the fault on standard error and answers its exit status, which stays the same where
+    /// the report can't be written. The device isn't called again after it failed.
+    fn report<E: Write + Drop>(self, faults: E) -> u8
+        ensures { result ≡ fault_status self }
+    {
+        let _ = self.write_to(&mut Counting::new(faults));
+        self.status()
     }
 }
 
@@ -157,10 +171,19 @@ pub fn run<S: AsStr, R: Read + Drop, W: Write + Drop, E: Write + Drop>(
     let mut writer = Counting::new(output);
     match obey(alloc, words, &mut reader, &mut writer) {
         Ok(()) => DONE,
-        Err(fault) => {
-            let mut faults = Counting::new(faults);
-            let _ = fault.report(&mut faults.inner);
-            fault.status()
-        }
+        Err(fault) => fault.report(faults),
     }
+}
+
+/// Answers for a program whose words can't be had, for this reason: one of them is no text, or
+/// memory ran out.
+pub fn refuse_words<E: Write + Drop>(reason: &io::Error, faults: E) -> u8
+    ensures memory { error_kind reason.now ≡ ErrorKind.OutOfMemory → result ≡ DEVICE_OR_MEMORY }
+    ensures words { error_kind reason.now ≢ ErrorKind.OutOfMemory → result ≡ BAD_WORDS }
+{
+    let fault = match reason.kind() {
+        ErrorKind::OutOfMemory => Fault::Run(RunFault::Memory(AllocError)),
+        _ => Fault::NoText,
+    };
+    fault.report(faults)
 }

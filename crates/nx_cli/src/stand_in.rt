@@ -65,3 +65,15 @@ pub fn write_out<W: Write>(writer: &mut Counting<W>, bytes: &[u8]) -> Result<(),
     }
     Err(WriteFault { written: 0 })
 }
+
+impl<W: Write> Write for Counting<W> {
+    ghost contents = { λ c. W.contents c.inner };
+
+    fn write(&mut self, buf: &[u8]) -> IoResult<usize> {
+        self.inner.write(buf)
+    }
+
+    fn flush(&mut self) -> IoResult<()> {
+        self.inner.flush()
+    }
+}
