@@ -78,3 +78,17 @@ fault_status (fault.Run why) = run_status why
 abbrev pub status_of : Result (Unit {0}) Fault → ℕ
 status_of (Ok done) = 0
 status_of (Err why) = fault_status why
+
+-- the program ends so on these devices, with this status
+pub record Exits (words : List Text) (d : Devices) (status : ℕ) : Type 0 where
+  pub outcome : Result (Unit {0}) Fault
+  pub ends : Ends words d outcome
+  pub status_is : status ≡ status_of outcome
+
+-- the call that the words name succeeded, or they ask for help, which was written
+abbrev pub Succeeds : List Text → Devices → Type 0
+Succeeds words d = Ends words d (Ok tt)
+
+-- the statuses: success, a device or memory, a bad file, line or value, the words
+abbrev pub IsStatus : ℕ → Type 0
+IsStatus status = (status ≡ 0) ⊎ ((status ≡ 1) ⊎ ((status ≡ 2) ⊎ (status ≡ 64)))

@@ -1,8 +1,9 @@
 //! The program without its process.
 
 ghost use Rattle.std.specs.IoError.{error_kind};
-ghost use Rattle.std.specs.Prelude.{◌≡◌, ◌≢◌, Result, map};
-ghost use Rattle.nx_cli.specs.Program.{Ends, Performs, WritesHelp, fault_status, status_of};
+ghost use Rattle.std.specs.Prelude.{◌≡◌, ◌≢◌, ◌⊎◌, map};
+ghost use Rattle.nx_cli.specs.Program.{Ends, Exits, IsStatus, Performs, Succeeds, WritesHelp, fault_status};
+ghost use Rattle.nx_cli.specs.Words.{IsRefused};
 ghost use Rattle.nx_cli.specs.declared.program.Fault.{Fault};
 ghost use Rattle.nx_cli.specs.declared.program.Fault.TheVariants.{Run};
 
@@ -157,15 +158,30 @@ pub fn run<S: AsStr, R: Read + Drop, W: Write + Drop, E: Write + Drop>(
     output: W,
     faults: E,
 ) -> u8
-    ensures { (input_after : R) × (output_after : W) × (outcome : Result (Unit {0}) Fault)
-        × Ends (map S.text words.now)
+    // How the program ended, by what its call ensures of the devices.
+    ensures exits { (input_after : R) × (output_after : W)
+        × Exits (map S.text words.now)
         (record {
           input = R.remaining input;
           input_after = R.remaining input_after;
           output = W.contents output;
           output_after = W.contents output_after;
         })
-        outcome × (result ≡ status_of outcome) }
+        result }
+    ensures status { IsStatus result }
+
+    // Success comes only from a call that succeeded, or from help that was written.
+    ensures success { result ≡ DONE → (input_after : R) × (output_after : W)
+        × Succeeds (map S.text words.now)
+        (record {
+          input = R.remaining input;
+          input_after = R.remaining input_after;
+          output = W.contents output;
+          output_after = W.contents output_after;
+        }) }
+    ensures words { result ≡ BAD_WORDS → IsRefused (map S.text words.now) }
+    ensures refused { IsRefused (map S.text words.now)
+        → (result ≡ BAD_WORDS) ⊎ (result ≡ DEVICE_OR_MEMORY) }
 {
     let mut reader = Counting::new(input);
     let mut writer = Counting::new(output);
