@@ -1,0 +1,146 @@
+-- Lemmas on what a scanner has read, and on the faults that explain why it stopped.
+use Rattle.std.proofs.Common.{◌≡◌, ℕ, ◌+◌, ◌<◌, Bool, true, false, length, take, drop, get_or, if◌then◌else◌, option_to_list, take-append-drop, List, [], ◌∷◌, ◌++◌, refl, sym, ap, ◌∙◌, subst, append_assoc, append-nil, Option, None, Some, IfSome, Result, Err}
+use Rattle.std.specs.List.{flat_map}
+use Rattle.std.specs.Io.KnownBytes.{Consumes, IsAtEnd}
+use Rattle.std.proofs.KnownBytes.{Consumes-trans}
+use Rattle.std.proofs.lemmas.List.Concat.{flat_map-append}
+use Rattle.std.proofs.lemmas.List.{drop_more}
+use Rattle.nx_fec.specs.AirFile.{Line}
+use Rattle.nx_fec.specs.Lines.{file_of, IsRefused, IsAtByte, IsCause, Scanning, Scans, elements_of, IsBitFile}
+use Rattle.nx_fec.specs.Runs.{run_fault, Explains, HasRead}
+use Rattle.nx_fec.specs.declared.fault.LineFault.{LineFault}
+use Rattle.nx_fec.specs.declared.fault.LineFault.TheVariants as file
+use Rattle.nx_fec.specs.declared.fault.RunFault.{RunFault}
+use Rattle.nx_fec.specs.declared.fault.RunFault.TheVariants.{Read, FileTooLong, LineLong, LineCut, BadLine, Ragged, NoSuchCharacter, Write, Memory}
+
+-- one more step of the scanner, over the bytes of some more lines
+pub HasRead-step : (limit : ℕ) (old new : Scanning) (bits more : List Bool) (bytes bytes' : List ℕ) (some : List Line) (h : HasRead limit old bits bytes)
+    → Scans limit new bytes' (h.lines ++ some) → more ≡ bits ++ flat_map elements_of some → HasRead limit new more bytes'
+HasRead-step limit old new bits more bytes bytes' some h scans joined = record {
+  lines = h.lines ++ some;
+  scans = scans;
+  joined = joined ∙ ap (λ l. l ++ flat_map elements_of some) h.joined ∙ sym (flat_map-append elements_of h.lines some);
+}
+
+-- a fault of the file explains the fault of the run
+pub Explains-fault : (AtEnd : Type 0) (limit : ℕ) (bytes : List ℕ) (why : LineFault) → AtEnd → IsRefused limit bytes why → Explains AtEnd limit bytes (run_fault why)
+Explains-fault AtEnd limit bytes file.TooLong end refused = refused
+Explains-fault AtEnd limit bytes (file.LineLong line) end refused = refused
+Explains-fault AtEnd limit bytes (file.LineCut line) end refused = (end, refused)
+Explains-fault AtEnd limit bytes (file.BadLine line) end refused = refused
+
+pub Explains-at_byte : (limit : ℕ) (bytes : List ℕ) (why : LineFault) → IsAtByte why → IsRefused limit bytes why → Explains ⊥ limit bytes (run_fault why)
+Explains-at_byte limit bytes file.TooLong at refused = refused
+Explains-at_byte limit bytes (file.LineLong line) at refused = refused
+Explains-at_byte limit bytes (file.LineCut line) at refused = absurd at
+Explains-at_byte limit bytes (file.BadLine line) at refused = refused
+
+pub Explains-weaker : (A B : Type 0) (limit : ℕ) (bytes : List ℕ) (fault : RunFault) → (A → B) → Explains A limit bytes fault → Explains B limit bytes fault
+Explains-weaker A B limit bytes Read f h = tt
+Explains-weaker A B limit bytes FileTooLong f h = h
+Explains-weaker A B limit bytes (LineLong line) f h = h
+Explains-weaker A B limit bytes (LineCut line) f h = (f h.0, h.1)
+Explains-weaker A B limit bytes (BadLine line) f h = h
+Explains-weaker A B limit bytes (Ragged bits) f h = h
+Explains-weaker A B limit bytes (NoSuchCharacter at) f h = h
+Explains-weaker A B limit bytes (Write written) f h = h
+Explains-weaker A B limit bytes (Memory error) f h = tt
+
+-- the same cause, with more bytes after it
+IsCause-more : (limit front : ℕ) (lines : List Line) (rest more ys : List ℕ) (why : LineFault) → IsAtByte why → IsCause limit front lines rest more why → IsCause limit front lines rest (more ++ ys) why
+IsCause-more limit front lines rest [] ys file.TooLong at h = absurd h
+IsCause-more limit front lines rest [] ys (file.LineLong line) at h = absurd h
+IsCause-more limit front lines rest [] ys (file.LineCut line) at h = absurd at
+IsCause-more limit front lines rest [] ys (file.BadLine line) at h = absurd h
+IsCause-more limit front lines rest (byte ∷ more) ys file.TooLong at h = h
+IsCause-more limit front lines rest (byte ∷ more) ys (file.LineLong line) at h = h
+IsCause-more limit front lines rest (byte ∷ more) ys (file.LineCut line) at h = absurd at
+IsCause-more limit front lines rest (byte ∷ more) ys (file.BadLine line) at h = h
+
+-- a fault at a byte stays, whatever comes after it
+pub IsRefused-more : (limit : ℕ) (bytes ys : List ℕ) (why : LineFault) → IsAtByte why → IsRefused limit bytes why → IsRefused limit (bytes ++ ys) why
+IsRefused-more limit bytes ys why at h = record {
+  lines = h.lines;
+  rest = h.rest;
+  more = h.more ++ ys;
+  whole = ap (λ l. l ++ ys) h.whole ∙ append_assoc (file_of h.lines ++ h.rest) h.more ys;
+  each = h.each;
+  part = h.part;
+  cause = IsCause-more limit _ h.lines h.rest h.more ys why at h.cause;
+}
+
+-- the fault of the bytes that were read is that of the whole file
+pub Explains-whole : (limit : ℕ) (bytes ys : List ℕ) (fault : RunFault) → Explains (ys ≡ []) limit bytes fault → Explains (Unit {0}) limit (bytes ++ ys) fault
+Explains-whole limit bytes ys Read h = tt
+Explains-whole limit bytes ys FileTooLong h = IsRefused-more limit bytes ys file.TooLong tt h
+Explains-whole limit bytes ys (LineLong line) h = IsRefused-more limit bytes ys (file.LineLong line) tt h
+Explains-whole limit bytes ys (LineCut line) h =
+    (tt, subst (λ l. IsRefused limit l (file.LineCut line)) (sym (ap (λ l. bytes ++ l) h.0 ∙ append-nil bytes)) h.1)
+Explains-whole limit bytes ys (BadLine line) h = IsRefused-more limit bytes ys (file.BadLine line) tt h
+Explains-whole limit bytes ys (Ragged bits) h = absurd h
+Explains-whole limit bytes ys (NoSuchCharacter at) h = absurd h
+Explains-whole limit bytes ys (Write written) h = absurd h
+Explains-whole limit bytes ys (Memory error) h = tt
+
+-- the same, where the reader's bytes may be unknown
+pub Explains-file : (old new : Option (List ℕ)) (limit : ℕ) (bytes : List ℕ) (fault : RunFault) → Consumes old new bytes
+    → Explains (IsAtEnd new) limit bytes fault → IfSome old (λ xs. Explains (Unit {0}) limit xs fault)
+Explains-file None new limit bytes fault consumed h = tt
+Explains-file (Some xs) None limit bytes fault consumed h = absurd consumed
+Explains-file (Some xs) (Some ys) limit bytes fault consumed h =
+    subst (λ l. Explains (Unit {0}) limit l fault) (sym consumed) (Explains-whole limit bytes ys fault h)
+
+-- and where the file was read to its end
+pub IsBitFile-file : (old new : Option (List ℕ)) (limit : ℕ) (bytes : List ℕ) (bits : List Bool) → Consumes old new bytes → IsAtEnd new
+    → IsBitFile limit bytes bits → IfSome old (λ xs. IsBitFile limit xs bits)
+IsBitFile-file None new limit bytes bits consumed end h = tt
+IsBitFile-file (Some xs) None limit bytes bits consumed end h = absurd consumed
+IsBitFile-file (Some xs) (Some ys) limit bytes bits consumed end h =
+    subst (λ l. IsBitFile limit l bits) (sym (consumed ∙ ap (λ l. bytes ++ l) end ∙ append-nil bytes)) h
+
+-- a byte that ended a line
+pub HasRead-ended : (limit : ℕ) (old new : Scanning) (bits more : List Bool) (bytes bytes' : List ℕ) (is_end : Bool) (latest : Option Line) → is_end ≡ true
+    → (h : HasRead limit old bits bytes) → Scans limit new bytes' (h.lines ++ (if is_end then option_to_list latest else []))
+    → more ≡ bits ++ flat_map elements_of (option_to_list latest) → HasRead limit new more bytes'
+HasRead-ended limit old new bits more bytes bytes' true latest e h scans joined = HasRead-step limit old new bits more bytes bytes' (option_to_list latest) h scans joined
+HasRead-ended limit old new bits more bytes bytes' false latest e h scans joined = cc
+
+-- a byte inside a line
+pub HasRead-inside : (limit : ℕ) (old new : Scanning) (bits : List Bool) (bytes bytes' : List ℕ) (is_end : Bool) (latest : Option Line) → is_end ≡ false
+    → (h : HasRead limit old bits bytes) → Scans limit new bytes' (h.lines ++ (if is_end then option_to_list latest else [])) → HasRead limit new bits bytes'
+HasRead-inside limit old new bits bytes bytes' true latest e h scans = cc
+HasRead-inside limit old new bits bytes bytes' false latest e h scans = HasRead-step limit old new bits bits bytes bytes' [] h scans (sym (append-nil bits))
+
+-- the bytes up to an index, the byte there, and those after it
+pub around : (bytes piece more : List ℕ) (at : ℕ) → at < length piece
+    → (bytes ++ piece) ++ more ≡ (bytes ++ take at piece) ++ (get_or piece at 0 ∷ (drop (at + 1) piece ++ more))
+around bytes piece more at h =
+    let parts : piece ≡ take at piece ++ (get_or piece at 0 ∷ drop (at + 1) piece) =
+    sym (take-append-drop at piece) ∙ ap (λ l. take at piece ++ l) (drop_more piece at 0 h) in
+    ap (λ l. (bytes ++ l) ++ more) parts
+    ∙ append_assoc bytes (take at piece ++ (get_or piece at 0 ∷ drop (at + 1) piece)) more
+    ∙ ap (λ l. bytes ++ l) (append_assoc (take at piece) (get_or piece at 0 ∷ drop (at + 1) piece) more)
+    ∙ sym (append_assoc bytes (take at piece) (get_or piece at 0 ∷ (drop (at + 1) piece ++ more)))
+
+pub IfSome-always : (o : Option (List ℕ)) (P : List ℕ → Type 0) → ((xs : List ℕ) → P xs) → IfSome o P
+IfSome-always None P h = tt
+IfSome-always (Some xs) P h = h xs
+
+pub IfSome-map : (o : Option (List ℕ)) (P Q : List ℕ → Type 0) → ((xs : List ℕ) → P xs → Q xs) → IfSome o P → IfSome o Q
+IfSome-map None P Q f h = tt
+IfSome-map (Some xs) P Q f h = f xs h
+
+-- a fault that stands in the bytes, whatever comes after them
+pub Explains-piece : (AtEnd : Type 0) (limit : ℕ) (bytes : List ℕ) (fault : RunFault) → ((more : List ℕ) → Explains ⊥ limit (bytes ++ more) fault) → Explains AtEnd limit bytes fault
+Explains-piece AtEnd limit bytes fault h =
+    Explains-weaker ⊥ AtEnd limit bytes fault (λ x. absurd x) (subst (λ l. Explains ⊥ limit l fault) (append-nil bytes) (h []))
+
+-- a read of no byte at the end
+pub Consumes-end : (a b c : Option (List ℕ)) (bytes buf : List ℕ) (count : ℕ) → Consumes a b bytes → Consumes b c (take count buf) → count ≡ 0 → Consumes a c bytes
+Consumes-end a b c bytes buf count first second none =
+    let nothing : Consumes b c [] = subst (λ n. Consumes b c (take n buf)) none second in
+    subst (Consumes a c) (append-nil bytes) (Consumes-trans a b c bytes [] first nothing)
+
+-- one error, at two results
+pub Err-same : {T U E : Type 0} (e f : E) → ◌≡◌ {A = Result T E} (Err e) (Err f) → ◌≡◌ {A = Result U E} (Err e) (Err f)
+Err-same {T} {U} {E} e f h = let same : e ≡ f = cc in let out : E → Result U E = λ x. Err x in ap out same

@@ -1,0 +1,4 @@
+pub mod AirFile
+pub mod Lines
+pub mod Devices
+pub mod Runs

@@ -1,0 +1,101 @@
+-- The lines of a whole air file, its first fault, and its elements (this profile).
+use Rattle.std.specs.Prelude.{◌≡◌, ◌≢◌, ℕ, ◌+◌, ◌<◌, ◌≤◌, Bool, List, [], ◌∷◌, ◌++◌, length, Option, ⊤}
+use Rattle.std.specs.List.{flat_map, AllByRecursion}
+use Rattle.nx_fec.specs.AirFile.{Line, moment, elements, refuse_station, accept_station, refuse_subject, accept_subject, spelling, IsLine}
+use Rattle.nx_fec.specs.declared.fault.LineFault.{LineFault}
+use Rattle.nx_fec.specs.declared.fault.LineFault.TheVariants.{TooLong, LineLong, LineCut, BadLine}
+
+-- the byte that ends each line
+abbrev pub line_feed : ℕ
+line_feed = 10
+
+-- the most bytes of a line before its end
+abbrev pub max_line_bytes : ℕ
+max_line_bytes = 514
+
+-- a line with its end
+abbrev pub ended : Line → List ℕ
+ended line = spelling line ++ line_feed ∷ []
+
+-- the file of these lines
+abbrev pub file_of : List Line → List ℕ
+file_of lines = flat_map ended lines
+
+-- the beginning of a line that isn't ended: no line feed, and no more bytes than a line may have
+pub record IsBeginning (rest : List ℕ) : Type 0 where
+  pub none : AllByRecursion (λ byte. byte ≢ line_feed) rest
+  pub short : length rest ≤ max_line_bytes
+
+-- the bytes are these lines, and then the beginning of one more
+pub record Splits (bytes : List ℕ) (lines : List Line) (rest : List ℕ) : Type 0 where
+  pub whole : bytes ≡ file_of lines ++ rest
+  pub each : AllByRecursion IsLine lines
+  pub part : IsBeginning rest
+
+-- After `lines` and the beginning `rest` of one more, which are `front` bytes, comes the fault: at the next byte, the
+-- first of `more`, or at the end of the file. A byte past the limit isn't looked at. The 515th byte of a line is too
+-- many. A line feed ends a line, which has to be one of the air file. At the end of the file no line is open.
+abbrev pub IsCause : ℕ → ℕ → List Line → List ℕ → List ℕ → LineFault → Type 0
+IsCause limit front lines rest [] TooLong = ⊥
+IsCause limit front lines rest [] (LineLong line) = ⊥
+IsCause limit front lines rest [] (LineCut line) = (front ≤ limit) × (0 < length rest) × (line ≡ length lines + 1)
+IsCause limit front lines rest [] (BadLine line) = ⊥
+IsCause limit front lines rest (byte ∷ more) TooLong = front ≡ limit
+IsCause limit front lines rest (byte ∷ more) (LineLong line) =
+    (front < limit) × (byte ≢ line_feed) × (length rest ≡ max_line_bytes) × (line ≡ length lines + 1)
+IsCause limit front lines rest (byte ∷ more) (LineCut line) = ⊥
+IsCause limit front lines rest (byte ∷ more) (BadLine line) =
+    (front < limit) × (byte ≡ line_feed) × ((other : Line) → IsLine other → rest ≢ spelling other) × (line ≡ length lines + 1)
+
+-- The file of these bytes has this fault. Good lines and the beginning of one more stand before it, so it is the
+-- earliest; any bytes may come after it.
+pub record IsRefused (limit : ℕ) (bytes : List ℕ) (why : LineFault) : Type 0 where
+  pub lines : List Line
+  pub rest : List ℕ
+  pub more : List ℕ
+  pub whole : bytes ≡ (file_of lines ++ rest) ++ more
+  pub each : AllByRecursion IsLine lines
+  pub part : IsBeginning rest
+  pub cause : IsCause limit (length (file_of lines ++ rest)) lines rest more why
+
+-- the fault stands at a byte, and not at the end of the file
+abbrev pub IsAtByte : LineFault → Type 0
+IsAtByte TooLong = ⊤
+IsAtByte (LineLong line) = ⊤
+IsAtByte (LineCut line) = ⊥
+IsAtByte (BadLine line) = ⊤
+
+-- the file of these bytes is these lines
+pub record IsAirFile (limit : ℕ) (bytes : List ℕ) (lines : List Line) : Type 0 where
+  pub whole : bytes ≡ file_of lines
+  pub each : AllByRecursion IsLine lines
+  pub within : length bytes ≤ limit
+
+-- the elements of a line, which only a line of elements has
+abbrev pub elements_of : Line → List Bool
+elements_of (moment n) = []
+elements_of (elements bits) = bits
+elements_of (refuse_station letter) = []
+elements_of (accept_station letter) = []
+elements_of (refuse_subject letter) = []
+elements_of (accept_subject letter) = []
+
+-- the file of these bytes has these elements, over all its lines
+pub record IsBitFile (limit : ℕ) (bytes : List ℕ) (bits : List Bool) : Type 0 where
+  pub lines : List Line
+  pub file : IsAirFile limit bytes lines
+  pub joined : bits ≡ flat_map elements_of lines
+
+-- what a scanner of lines holds: the open line, how many lines were ended, how many more bytes it may take, and the
+-- line that was ended last
+pub record Scanning : Type 0 where
+  pub part : List ℕ
+  pub lines : ℕ
+  pub room : ℕ
+  pub latest : Option Line
+
+-- a scanner stands so after these bytes, which ended these lines
+pub record Scans (limit : ℕ) (scanner : Scanning) (bytes : List ℕ) (lines : List Line) : Type 0 where
+  pub splits : Splits bytes lines scanner.part
+  pub count : scanner.lines ≡ length lines
+  pub room : scanner.room + length bytes ≡ limit

@@ -1,0 +1,105 @@
+//! Reading the elements of an air file from a reader.
+ghost use Rattle.std.specs.Prelude.{◌≡◌, ◌+◌, ◌-◌, ◌<◌, ◌≤◌, ◌↔◌, ℕ, List, [], ◌∷◌, ◌++◌, length, IfSome, IfOk, IfErr, OnOk, IsErrOf, MatchResult, option_to_list, vec_len};
+ghost use Rattle.std.specs.Io.KnownBytes.{Consumes, IsAtEnd};
+ghost use Rattle.nx_fec.specs.Lines.{IsBitFile, elements_of};
+ghost use Rattle.nx_fec.specs.AirFile.{meaning};
+ghost use Rattle.std.specs.List.{flat_map};
+ghost use Rattle.std.specs.Option.{option_map};
+ghost use Rattle.nx_fec.specs.Runs.{Explains, HasRead};
+
+use crate::air_file::AirLine;
+use crate::counting::Counting;
+use crate::fault::RunFault;
+use crate::scanner::Scanner;
+use std::alloc::{AllocError, Global};
+use std::io::Read;
+
+/// The most bytes of a file that is read whole.
+pub const FILE_LIMIT: u64 = 1_048_576;
+
+// How many bytes one read asks for.
+const CHUNK: usize = 65_536;
+
+/// Reads an air file to its end, and joins the elements of all its lines. The other lines are checked and skipped.
+///
+/// The fault is the first in the order of the bytes. Memory may run out at any growth.
+pub fn read_bits<R: Read>(alloc: Global, reader: &mut Counting<R>) -> Result<Vec<bool>, RunFault>
+    requires { reader.old.failures ≡ 0 }
+
+    // Whatever the reader tells of its bytes: it gave some, and the answer is that of these.
+    ensures known { (bytes : List ℕ) × Consumes (R.remaining reader.old.inner) (R.remaining reader.new.inner) bytes
+        × MatchResult result
+        (λ bits. IsAtEnd (R.remaining reader.new.inner) × IsBitFile FILE_LIMIT bytes bits.items)
+        (λ fault. Explains (IsAtEnd (R.remaining reader.new.inner)) FILE_LIMIT bytes fault) }
+
+    // Where its bytes are known, the answer is that of the whole file, however they came.
+    ensures file { IfSome (R.remaining reader.old.inner) (λ xs. MatchResult result
+        (λ bits. IsBitFile FILE_LIMIT xs bits.items)
+        (λ fault. Explains (Unit {0}) FILE_LIMIT xs fault)) }
+
+    // A read that failed is the one that raised the count.
+    ensures failed { IsErrOf result RunFault.Read ↔ (reader.new.failures ≡ 1) }
+    ensures once { reader.new.failures ≤ 1 }
+{
+    let mut space = blank(alloc, CHUNK)?;
+    let buffer = space.as_mut_slice();
+    let mut scanner = Scanner::new(FILE_LIMIT);
+    let mut bits = Vec::new(alloc);
+    loop {
+        let Ok(count) = reader.read(buffer) else {
+            return Err(RunFault::Read);
+        };
+        if count == 0 {
+            break;
+        }
+        scan_piece(&buffer[..count], &mut scanner, &mut bits)?;
+    }
+    scanner.end()?;
+    Ok(bits)
+}
+
+// A buffer of this many bytes.
+fn blank(alloc: Global, length: usize) -> Result<Vec<u8>, AllocError>
+    ensures { IfOk result (λ buffer. vec_len buffer ≡ length) }
+{
+    vec![in alloc; 0; length]
+}
+
+// Scans the next bytes of a file, and appends the elements of the lines that they end.
+fn scan_piece(piece: &[u8], scanner: &mut Scanner, bits: &mut Vec<bool>) -> Result<(), RunFault>
+    ensures read { (limit : ℕ) (bytes : List ℕ) → HasRead limit scanner.old bits.old.items bytes → MatchResult result
+        (λ _. HasRead limit scanner.new bits.new.items (bytes ++ piece.now))
+        (λ fault. (more : List ℕ) → Explains ⊥ limit ((bytes ++ piece.now) ++ more) fault) }
+    ensures room { OnOk result (scanner.new.room + length piece.now ≡ scanner.old.room) }
+    ensures no_read { IsErrOf result RunFault.Read → ⊥ }
+{
+    for byte in piece {
+        scan_byte(*byte, scanner, bits)?;
+    }
+    Ok(())
+}
+
+// Scans the next byte of a file.
+fn scan_byte(byte: u8, scanner: &mut Scanner, bits: &mut Vec<bool>) -> Result<(), RunFault>
+    ensures read { (limit : ℕ) (bytes : List ℕ) → HasRead limit scanner.old bits.old.items bytes → MatchResult result
+        (λ _. HasRead limit scanner.new bits.new.items (bytes ++ byte ∷ []))
+        (λ fault. (more : List ℕ) → Explains ⊥ limit (bytes ++ byte ∷ more) fault) }
+    ensures room { OnOk result (scanner.new.room + 1 ≡ scanner.old.room) }
+    ensures no_read { IsErrOf result RunFault.Read → ⊥ }
+{
+    if scanner.push(byte)? {
+        append_elements(scanner.latest(), bits)?;
+    }
+    Ok(())
+}
+
+// Appends the elements of a line, which only a line of elements has.
+fn append_elements(line: Option<&AirLine>, bits: &mut Vec<bool>) -> Result<(), AllocError>
+    ensures { OnOk result (bits.new.items
+        ≡ bits.old.items ++ flat_map elements_of (option_to_list (option_map (λ line. meaning line.now) line.entry))) }
+{
+    if let Some(AirLine::Bits(elements)) = line {
+        bits.extend_from_slice(elements)?;
+    }
+    Ok(())
+}

@@ -1,0 +1,121 @@
+//! A scanner of the lines of an air file, which takes one byte after the other.
+ghost use Rattle.std.specs.Prelude.{◌≡◌, ◌+◌, ◌-◌, ◌<◌, ◌↔◌, ℕ, List, [], ◌∷◌, ◌++◌, None, option_to_list, if◌then◌else◌, IsTrue, IfOk, IfErr, OnErr, IsSome, MatchResult};
+ghost use Rattle.std.specs.Option.{option_map};
+ghost use Rattle.nx_fec.specs.AirFile.{Line, meaning};
+ghost use Rattle.nx_fec.specs.Lines.{Scans, IsRefused, IsAirFile, IsAtByte};
+
+use crate::air_file::{AirLine, air_line};
+use crate::fault::LineFault;
+use arrayvec::ArrayVec;
+use std::marker::Model;
+
+/// The most bytes of a line before its end.
+pub const MAX_LINE_BYTES: usize = 514;
+
+const LINE_FEED: u8 = b'\n';
+
+/// Reads the lines of an air file byte by byte: it holds the line that is open, the line that was ended last, how many
+/// lines were ended, and how many more bytes it may take.
+#[derive(Drop)]
+pub struct Scanner {
+    open: ArrayVec<u8, MAX_LINE_BYTES>,
+    latest: Option<AirLine>,
+    lines: u64,
+    room: u64,
+}
+
+impl Model for Scanner {
+    ghost use Rattle.std.specs.Prelude.{◌+◌, ◌^◌, ◌<◌, length};
+    ghost use Rattle.std.specs.Option.{option_map};
+    ghost use Rattle.nx_fec.specs.AirFile.{meaning};
+    ghost use Rattle.nx_fec.specs.Lines.{Scanning};
+
+    ghost Value = { Scanning };
+
+    ghost view = { λ s. record {
+      part = s.open.items;
+      lines = s.lines;
+      room = s.room;
+      latest = option_map meaning s.latest;
+    } };
+
+    ghost invariant = { λ s. s.lines + length s.open.items + s.room < 2 ^ 64 };
+}
+
+impl Scanner {
+    /// A scanner before the first byte, for a file of at most `limit` bytes.
+    pub fn new(limit: u64) -> Self
+        ensures { Scans limit result [] [] }
+    {
+        Scanner {
+            open: ArrayVec::new(),
+            latest: None,
+            lines: 0,
+            room: limit,
+        }
+    }
+
+    /// How many lines were ended.
+    pub fn lines(&self) -> u64
+        ensures { result ≡ self.now.lines }
+    {
+        self.lines
+    }
+
+    /// The line that was ended last, if there is one.
+    pub fn latest(&self) -> Option<&AirLine>
+        ensures { option_map (λ line. meaning line.now) result ≡ self.now.latest }
+    {
+        self.latest.as_ref()
+    }
+
+    /// Takes the next byte, and says whether it ended a line, which then is the latest. After a fault, which is the
+    /// file's first whatever bytes follow, the scanner is unchanged.
+    pub fn push(&mut self, byte: u8) -> Result<bool, LineFault>
+        ensures bytes { (limit : ℕ) (bytes : List ℕ) (lines : List Line) → Scans limit self.old bytes lines →
+            MatchResult result
+            (λ is_end. Scans limit self.new (bytes ++ byte ∷ []) (lines ++ (if is_end then option_to_list self.new.latest else [])))
+            (λ why. (more : List ℕ) → IsRefused limit (bytes ++ byte ∷ more) why) }
+        ensures at_byte { IfErr result IsAtByte }
+        ensures latest { IfOk result (λ is_end. IsTrue is_end → IsSome self.new.latest) }
+        ensures room { IfOk result (λ _. self.new.room + 1 ≡ self.old.room) }
+        ensures err { OnErr result (self.new ≡ self.old) }
+    {
+        if self.room == 0 {
+            return Err(LineFault::TooLong);
+        }
+        if byte != LINE_FEED {
+            if self.open.is_full() {
+                return Err(LineFault::LineLong {
+                    line: self.lines + 1,
+                });
+            }
+            self.open.push(byte);
+            self.room -= 1;
+            return Ok(false);
+        }
+        let Some(line) = air_line(&self.open) else {
+            return Err(LineFault::BadLine {
+                line: self.lines + 1,
+            });
+        };
+        self.latest = Some(line);
+        self.open.clear();
+        self.lines += 1;
+        self.room -= 1;
+        Ok(true)
+    }
+
+    /// What the end of the file says: the lines so far are all of it, or the open line is cut.
+    pub fn end(&self) -> Result<(), LineFault>
+        ensures { (limit : ℕ) (bytes : List ℕ) (lines : List Line) → Scans limit self.now bytes lines →
+            MatchResult result (λ _. IsAirFile limit bytes lines) (λ why. IsRefused limit bytes why) }
+    {
+        if self.open.is_empty() {
+            return Ok(());
+        }
+        Err(LineFault::LineCut {
+            line: self.lines + 1,
+        })
+    }
+}
