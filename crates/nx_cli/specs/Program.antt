@@ -7,8 +7,8 @@ use Rattle.nx_cli.specs.declared.words.Call.{Call}
 use Rattle.nx_cli.specs.declared.words.Call.TheVariants.{Decode, Encode}
 use Rattle.nx_cli.specs.declared.program.Fault.{Fault}
 use Rattle.nx_cli.specs.declared.program.Fault.TheVariants as fault
-use Rattle.nx_cli.specs.declared.stand_in.RunFault.{RunFault}
-use Rattle.nx_cli.specs.declared.stand_in.RunFault.TheVariants as run
+use Rattle.nx_fec.specs.declared.fault.RunFault.{RunFault}
+use Rattle.nx_fec.specs.declared.fault.RunFault.TheVariants as run
 use Rattle.nx_cli.specs.Words.{AsksForHelp, IsRefused, Names}
 use Rattle.nx_cli.specs.StandIn.{Decodes}
 
@@ -69,6 +69,10 @@ run_status (run.Write written) = 1
 run_status (run.Memory want) = 1
 run_status run.FileTooLong = 2
 run_status (run.LineLong line) = 2
+run_status (run.LineCut line) = 2
+run_status (run.BadLine line) = 2
+run_status (run.Ragged bits) = 2
+run_status (run.NoSuchCharacter at) = 2
 
 abbrev pub fault_status : Fault → ℕ
 fault_status (fault.Words answer) = 64

@@ -1,14 +1,17 @@
 //! The program without its process.
 
 ghost use Rattle.std.specs.IoError.{error_kind};
-ghost use Rattle.std.specs.Prelude.{◌≡◌, ◌≢◌, ◌⊎◌, map};
-ghost use Rattle.nx_cli.specs.Program.{Ends, Exits, IsStatus, Performs, Succeeds, WritesHelp, fault_status};
-ghost use Rattle.nx_cli.specs.Words.{IsRefused};
+ghost use Rattle.std.specs.Prelude.{◌≡◌, ◌≢◌, ◌⊎◌, ℕ, List, map};
+ghost use Rattle.nx_cli.specs.Program.{Devices, Ends, Exits, IsStatus, Performs, Succeeds, WritesHelp, fault_status};
+ghost use Rattle.nx_cli.specs.Words.{IsRefused, Names};
+ghost use Rattle.clap.specs.Words.{Text};
+ghost use Rattle.nx_cli.specs.declared.words.Call.{Call};
 ghost use Rattle.nx_cli.specs.declared.program.Fault.{Fault};
 ghost use Rattle.nx_cli.specs.declared.program.Fault.TheVariants.{Run};
 
-use crate::stand_in::{Counting, RunFault, decode_run, write_out};
+use crate::stand_in::{decode_run, write_out};
 use crate::words::{Call, WordsFault, call_of};
+use nx_fec::{Counting, RunFault};
 use std::alloc::{AllocError, Global};
 use std::convert::AsStr;
 use std::io;
@@ -203,3 +206,9 @@ pub fn refuse_words<E: Write + Drop>(reason: &io::Error, faults: E) -> u8
     };
     fault.report(faults)
 }
+
+/// A success of words that name a call is the success of that call.
+pub fn success_is_of_the_named_call()
+    ensures { (words : List Text) (devices : Devices) (call : Call) → Names words call
+        → Succeeds words devices → (count : ℕ) × Performs call devices (Ok count) }
+{}
