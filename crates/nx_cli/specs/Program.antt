@@ -3,6 +3,7 @@
 use Rattle.std.specs.Prelude.{◌≡◌, ◌<◌, ◌⊎◌, ℕ, List, Option, Result, Ok, Err, alloc_error, length}
 use Rattle.std.specs.Io.KnownBytes.{Appends, Keeps}
 use Rattle.clap.specs.Words.{Text}
+use Rattle.nx_fec.specs.Devices.{Counted, WroteSome}
 use Rattle.nx_cli.specs.declared.words.Call.{Call}
 use Rattle.nx_cli.specs.declared.words.Call.TheVariants.{Decode, Encode}
 use Rattle.nx_cli.specs.declared.program.Fault.{Fault}
@@ -12,18 +13,36 @@ use Rattle.nx_fec.specs.declared.fault.RunFault.TheVariants as run
 use Rattle.nx_cli.specs.Words.{AsksForHelp, IsRefused, Names}
 use Rattle.nx_cli.specs.StandIn.{Decodes}
 
--- the bytes that are left to read and the bytes that are written, before and after a run, where
--- the devices let them be known
+-- what a run did on its devices: the bytes left to read and the bytes written, before and after it,
+-- where the devices let them be known, and how many calls on them failed
 pub record Devices : Type 0 where
   pub input : Option (List ℕ)
   pub input_after : Option (List ℕ)
+  pub read_failures : ℕ
   pub output : Option (List ℕ)
   pub output_after : Option (List ℕ)
+  pub write_failures : ℕ
 
--- nothing was read and nothing written
-pub record IsUntouched (d : Devices) : Type 0 where
+-- what was done on these devices, where `remaining` and `contents` tell their bytes
+abbrev pub devices : {R W : Type 0} → (R → Option (List ℕ)) → (W → Option (List ℕ)) → R → Counted R → W → Counted W → Devices
+devices remaining contents input reader output writer = record {
+  input = remaining input;
+  input_after = remaining reader.inner;
+  read_failures = reader.failures;
+  output = contents output;
+  output_after = contents writer.inner;
+  write_failures = writer.failures;
+}
+
+-- nothing was read
+pub record IsUnread (d : Devices) : Type 0 where
   pub unread : Keeps d.input d.input_after
+  pub failures : d.read_failures ≡ 0
+
+-- nothing was written
+pub record IsUnwritten (d : Devices) : Type 0 where
   pub unwritten : Keeps d.output d.output_after
+  pub failures : d.write_failures ≡ 0
 
 -- the call did on the devices what its outcome says
 abbrev pub Performs : Call → Devices → Result ℕ RunFault → Type 0
@@ -36,29 +55,31 @@ pub record RunsCall (words : List Text) (d : Devices) (outcome : Result ℕ RunF
   pub named : Names words call
   pub performed : Performs call d outcome
 
--- a text of help was written whole, or as far as the fault says
-abbrev pub WritesHelp : Option (List ℕ) → Option (List ℕ) → Result (Unit {0}) RunFault → Type 0
-WritesHelp output output_after (Ok done) = (text : List ℕ) × Appends output output_after text
-WritesHelp output output_after (Err (run.Write written)) =
-    (text : List ℕ) × (written ≡ length text) × Appends output output_after text
-WritesHelp output output_after (Err (run.Memory want)) = Keeps output output_after
-WritesHelp output output_after (Err _) = ⊥
+-- a text was written whole, or as far as the fault says, and so many writes failed
+abbrev pub WritesText : Option (List ℕ) → Option (List ℕ) → ℕ → Result (Unit {0}) RunFault → Type 0
+WritesText old new failures (Ok done) =
+    (text : List ℕ) × Appends old new text × (failures ≡ 0)
+WritesText old new failures (Err (run.Write written)) =
+    (text : List ℕ) × WroteSome old new text written × (failures ≡ 1)
+WritesText old new failures (Err (run.Memory want)) = Keeps old new × (failures ≡ 0)
+WritesText old new failures (Err _) = ⊥
 
--- the words ask for help
+-- the words ask for help, whose text was written so
 pub record GivesHelp (words : List Text) (d : Devices) (outcome : Result (Unit {0}) RunFault) : Type 0 where
   pub asked : AsksForHelp words
-  pub unread : Keeps d.input d.input_after
-  pub written : WritesHelp d.output d.output_after outcome
+  pub unread : IsUnread d
+  pub written : WritesText d.output d.output_after d.write_failures outcome
 
 -- memory ran out before a device was touched
 pub record LacksMemory (d : Devices) (why : RunFault) : Type 0 where
-  pub untouched : IsUntouched d
+  pub unread : IsUnread d
+  pub unwritten : IsUnwritten d
   pub memory : why ≡ run.Memory alloc_error
 
 -- how the program ends
 abbrev pub Ends : List Text → Devices → Result (Unit {0}) Fault → Type 0
 Ends words d (Ok done) = ((count : ℕ) × RunsCall words d (Ok count)) ⊎ GivesHelp words d (Ok done)
-Ends words d (Err (fault.Words answer)) = IsRefused words × IsUntouched d
+Ends words d (Err (fault.Words answer)) = IsRefused words × IsUnread d × IsUnwritten d
 Ends words d (Err fault.NoText) = ⊥
 Ends words d (Err (fault.Run why)) = RunsCall words d (Err why) ⊎ (GivesHelp words d (Err why) ⊎ LacksMemory d why)
 

@@ -2,9 +2,10 @@
 
 ghost use Rattle.std.specs.IoError.{error_kind};
 ghost use Rattle.std.specs.Prelude.{◌≡◌, ◌≢◌, ◌⊎◌, ℕ, List, map};
-ghost use Rattle.nx_cli.specs.Program.{Devices, Ends, Exits, IsStatus, Performs, Succeeds, WritesHelp, fault_status};
+ghost use Rattle.nx_cli.specs.Program.{Devices, Ends, Exits, IsStatus, Performs, Succeeds, WritesText, devices, fault_status};
 ghost use Rattle.nx_cli.specs.Words.{IsRefused, Names};
 ghost use Rattle.clap.specs.Words.{Text};
+ghost use Rattle.nx_fec.specs.Devices.{Counted};
 ghost use Rattle.nx_cli.specs.declared.words.Call.{Call};
 ghost use Rattle.nx_cli.specs.declared.program.Fault.{Fault};
 ghost use Rattle.nx_cli.specs.declared.program.Fault.TheVariants.{Run};
@@ -89,12 +90,7 @@ fn perform<R: Read, W: Write>(
     requires reader { reader.old.failures ≡ 0 }
     requires writer { writer.old.failures ≡ 0 }
     ensures { Performs call
-        (record {
-          input = R.remaining reader.old.inner;
-          input_after = R.remaining reader.new.inner;
-          output = W.contents writer.old.inner;
-          output_after = W.contents writer.new.inner;
-        })
+        (devices R.remaining W.contents reader.old.inner reader.new writer.old.inner writer.new)
         result }
 {
     match call {
@@ -110,15 +106,12 @@ fn give_help<W: Write>(
     writer: &mut Counting<W>,
 ) -> Result<(), RunFault>
     requires { writer.old.failures ≡ 0 }
-    ensures { WritesHelp (W.contents writer.old.inner) (W.contents writer.new.inner) result }
+    ensures { WritesText (W.contents writer.old.inner) (W.contents writer.new.inner)
+        writer.new.failures result }
 {
-    let text = help.to_string(alloc).map_err(RunFault::Memory)?;
-    match write_out(writer, text.as_bytes()) {
-        Ok(()) => Ok(()),
-        Err(fault) => Err(RunFault::Write {
-            written: fault.written,
-        }),
-    }
+    let text = help.to_string(alloc)?;
+    write_out(writer, text.as_bytes())?;
+    Ok(())
 }
 
 /// Reads the words and does what they ask for.
@@ -131,12 +124,7 @@ fn obey<S: AsStr, R: Read, W: Write>(
     requires reader { reader.old.failures ≡ 0 }
     requires writer { writer.old.failures ≡ 0 }
     ensures { Ends (map S.text words.now)
-        (record {
-          input = R.remaining reader.old.inner;
-          input_after = R.remaining reader.new.inner;
-          output = W.contents writer.old.inner;
-          output_after = W.contents writer.new.inner;
-        })
+        (devices R.remaining W.contents reader.old.inner reader.new writer.old.inner writer.new)
         result }
 {
     match call_of(alloc, words) {
@@ -162,26 +150,16 @@ pub fn run<S: AsStr, R: Read + Drop, W: Write + Drop, E: Write + Drop>(
     faults: E,
 ) -> u8
     // How the program ended, by what its call ensures of the devices.
-    ensures exits { (input_after : R) × (output_after : W)
+    ensures exits { (reader : Counted R) × (writer : Counted W)
         × Exits (map S.text words.now)
-        (record {
-          input = R.remaining input;
-          input_after = R.remaining input_after;
-          output = W.contents output;
-          output_after = W.contents output_after;
-        })
+        (devices R.remaining W.contents input reader output writer)
         result }
     ensures status { IsStatus result }
 
     // Success comes only from a call that succeeded, or from help that was written.
-    ensures success { result ≡ DONE → (input_after : R) × (output_after : W)
+    ensures success { result ≡ DONE → (reader : Counted R) × (writer : Counted W)
         × Succeeds (map S.text words.now)
-        (record {
-          input = R.remaining input;
-          input_after = R.remaining input_after;
-          output = W.contents output;
-          output_after = W.contents output_after;
-        }) }
+        (devices R.remaining W.contents input reader output writer) }
     ensures words { result ≡ BAD_WORDS → IsRefused (map S.text words.now) }
     ensures refused { IsRefused (map S.text words.now)
         → (result ≡ BAD_WORDS) ⊎ (result ≡ DEVICE_OR_MEMORY) }

@@ -26,8 +26,12 @@ pub fn write_out<W: Write>(writer: &mut Counting<W>, bytes: &[u8]) -> Result<(),
     ensures err { IfErr result (λ e. (e.written < length bytes.now)
         × Appends (W.contents writer.old.inner) (W.contents writer.new.inner) (take e.written bytes.now)) }
 {
-    if bytes.is_empty() {
-        return Ok(());
+    let mut at = 0;
+    while at < bytes.len() {
+        let Ok(count) = writer.write(&bytes[at..]) else {
+            return Err(WriteFault { written: at as u64 });
+        };
+        at += count;
     }
-    Err(WriteFault { written: 0 })
+    Ok(())
 }

@@ -37,36 +37,53 @@ pub enum WordsFault {
     Memory(AllocError),
 }
 
+const DECODE_HELP: &str = "Print the text of an air file.
+
+Reads an air file of at most 1048576 bytes from standard input. The elements of its B lines, \
+joined, are the words of one emission, the first sent word first. Its other lines are checked and \
+skipped.
+
+Writes the text to standard output and nothing else. A lost character is an asterisk.";
+
 fn decode_command<'a>(alloc: Global) -> Command<'a>
     ensures { IsBuiltAs (leaf Decode) result }
 {
     Command::new(alloc, "decode")
         .about("Print the text of an air file")
-        .long_about(
-            "Reads an air file of at most 1048576 bytes from standard input, takes its B lines as \
-             the words of one emission, the first word sent first, and prints the text to \
-             standard output. A character that is lost is printed as an asterisk.",
-        )
+        .long_about(DECODE_HELP)
 }
+
+const ENCODE_HELP: &str = "Write a text as an air file.
+
+Reads a text of at most 1048576 bytes from standard input: the letters A to Z, the digits, space, \
+newline and -?:().,'=+/
+
+Writes an air file of B lines to standard output: four phasing positions, the text from the \
+letter shift, and three end positions.";
 
 fn encode_command<'a>(alloc: Global) -> Command<'a>
     ensures { IsBuiltAs (leaf Encode) result }
 {
     Command::new(alloc, "encode")
         .about("Write a text as an air file")
-        .long_about(
-            "Reads a text of at most 1048576 bytes from standard input and writes it to standard \
-             output as an air file: four phasing positions, the text, three end positions. The \
-             text is of the letters A to Z, the digits, space, newline and -?:().,'=+/.",
-        )
+        .long_about(ENCODE_HELP)
 }
+
+const STATUS_HELP: &str = "Each command reads standard input and writes standard output. A fault \
+is one line on standard error.
+
+Exit status:
+  0   success, or help
+  1   a device failed, or memory ran out
+  2   a bad file, line or value
+  64  words that are not understood";
 
 fn bare_command<'a>(alloc: Global) -> Result<Command<'a>, AllocError>
     ensures { IfOk result (IsBuiltAs bare) }
 {
     Command::new(alloc, "navtex")
         .about("A NAVTEX broadcast station and receiver")
-        .after_help("Every command reads standard input and writes standard output.")
+        .after_help(STATUS_HELP)
         .disable_help_subcommand(true)
         .subcommand_required(true)
         .bin_name("navtex")
