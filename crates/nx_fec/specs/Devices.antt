@@ -1,5 +1,6 @@
 -- Readers and writers whose failures are counted, and what a run answers (this profile).
-use Rattle.std.specs.Prelude.{◌≡◌, ℕ, ◌+◌, ◌-◌, ◌^◌, ◌<◌, min, Result, IfOk, IfErr, IsErr, refl, OnOk, OnErr}
+use Rattle.std.specs.Prelude.{◌≡◌, ℕ, ◌+◌, ◌-◌, ◌^◌, ◌<◌, List, length, take, min, Option, Result, IsErr, refl, OnOk, OnErr}
+use Rattle.std.specs.Io.KnownBytes.{Appends}
 use Rattle.std.specs.Coded.{Coded, code_by, coded×, coded_ℕ}
 
 -- a reader or a writer, and how many calls on it failed
@@ -18,3 +19,11 @@ pub record Counts {T R E : Type 0} (old new : Counted T) (result : Result R E) :
   pub ok : OnOk result (new.failures ≡ old.failures)
   pub err : OnErr result (new.failures ≡ min (old.failures + 1) (2 ^ 64 - 1))
   pub stopped : 0 < old.failures → IsErr result × (new.inner ≡ old.inner)
+
+-- A failed write: the writer took some first of these bytes, but not all, and `written` counts them, at most to the
+-- greatest number of 64 bits.
+pub record WroteSome (old new : Option (List ℕ)) (bytes : List ℕ) (written : ℕ) : Type 0 where
+  pub taken : ℕ
+  pub fewer : taken < length bytes
+  pub counted : written ≡ min taken (2 ^ 64 - 1)
+  pub appended : Appends old new (take taken bytes)

@@ -1,4 +1,5 @@
 pub mod AirFile
 pub mod Lines
+pub mod BitLines
 pub mod Devices
 pub mod Runs

@@ -1,0 +1,108 @@
+-- Lemmas on what a writer holds while lines of elements are written to it in batches.
+use Rattle.std.proofs.Common.{◌≡◌, ℕ, ◌+◌, ◌-◌, ◌*◌, ◌^◌, ◌<◌, ◌≤◌, min, Bool, List, [], ◌∷◌, ◌++◌, length, map, take, drop, refl, sym, ap, ◌∙◌, subst, append_assoc, append-nil, arith, Option}
+use Rattle.std.specs.List.{flat_map, range_with_len}
+use Rattle.std.specs.Int.{div_ceil}
+use Rattle.std.specs.Io.KnownBytes.{Appends}
+use Rattle.std.proofs.KnownBytes.{Appends-trans}
+use Rattle.std.proofs.Math.Seq.{take-add, take-append-add}
+use Rattle.std.proofs.lemmas.List.{take_rest, length-append, take-append-drop, map-append, take-append-le, take_min}
+use Rattle.std.proofs.lemmas.List.Concat.{flat_map-append}
+use Rattle.std.proofs.lemmas.List.FromFn.{map-range_with_len_more, take-map-range_with_len}
+use Rattle.nx_fec.specs.AirFile.{Line, elements}
+use Rattle.nx_fec.specs.Lines.{ended, file_of}
+use Rattle.nx_fec.specs.BitLines.{bit_line, bit_lines}
+use Rattle.nx_fec.specs.Devices.{WroteSome}
+
+-- the next bytes of a list, after those up to an index
+pub Appends-next : (a b c : Option (List ℕ)) (bytes : List ℕ) (at count : ℕ) → Appends a b (take at bytes)
+    → Appends b c (take count (take (length bytes - at) (drop at bytes))) → Appends a c (take (at + count) bytes)
+Appends-next a b c bytes at count first second =
+    let next : Appends b c (take count (drop at bytes)) = subst (λ l. Appends b c (take count l)) (take_rest bytes at) second in
+    subst (Appends a c) (sym (take-add at count bytes)) (Appends-trans a b c (take at bytes) (take count (drop at bytes)) first next)
+
+-- the first lines of elements
+abbrev pub first_lines : List Bool → ℕ → List Line
+first_lines bits n = map (bit_line bits) (range_with_len 0 n)
+
+-- what was written so far, and what is gathered, are the first lines
+pub record Batched (old now : Option (List ℕ)) (bits : List Bool) (index sent : ℕ) (batch : List ℕ) : Type 0 where
+  pub done : List ℕ
+  pub appended : Appends old now done
+  pub counted : sent ≡ min (length done) (2 ^ 64 - 1)
+  pub bytes : done ++ batch ≡ file_of (first_lines bits index)
+
+file_of-push : (lines : List Line) (line : Line) → file_of (lines ++ line ∷ []) ≡ file_of lines ++ ended line
+file_of-push lines line = flat_map-append ended lines (line ∷ []) ∙ ap (λ l. file_of lines ++ l) (append-nil (ended line))
+
+-- the elements of a line, as the code takes them
+pub line-is : (bits : List Bool) (i : ℕ) → let rest = take (length bits - 490 * i) (drop (490 * i) bits) in
+    elements (take (min 490 (length rest)) rest) ≡ bit_line bits i
+line-is bits i =
+    let rest = take (length bits - 490 * i) (drop (490 * i) bits) in
+    ap elements (take_min 490 rest ∙ ap (take 490) (take_rest bits (490 * i)))
+
+-- one more line
+pub Batched-more : (old now : Option (List ℕ)) (bits : List Bool) (index sent : ℕ) (batch more : List ℕ) (line : Line) → Batched old now bits index sent batch
+    → more ≡ batch ++ ended line → line ≡ bit_line bits index → Batched old now bits (index + 1) sent more
+Batched-more old now bits index sent batch more line h added same = record {
+  done = h.done;
+  appended = h.appended;
+  counted = h.counted;
+  bytes = ap (λ l. h.done ++ l) added ∙ sym (append_assoc h.done batch (ended line)) ∙ ap (λ l. l ++ ended line) h.bytes
+      ∙ ap (λ x. file_of (first_lines bits index) ++ ended x) same
+      ∙ sym (file_of-push (first_lines bits index) (bit_line bits index))
+      ∙ sym (ap file_of (map-range_with_len_more (bit_line bits) 0 index index (omega arith)));
+}
+
+-- the batch is written
+pub Batched-sent : (old now next : Option (List ℕ)) (bits : List Bool) (index sent count : ℕ) (batch piece : List ℕ) → Batched old now bits index sent batch
+    → piece ≡ batch → Appends now next piece → count ≡ min (sent + length piece) (2 ^ 64 - 1) → Batched old next bits index count []
+Batched-sent old now next bits index sent count batch piece h same wrote counted = record {
+  done = h.done ++ batch;
+  appended = Appends-trans old now next h.done batch h.appended (subst (Appends now next) same wrote);
+  counted = omega (arith, h.counted, counted, ap length same, length-append h.done batch);
+  bytes = append-nil (h.done ++ batch) ∙ h.bytes;
+}
+
+-- the first lines are a front of all
+file_of-front : (bits : List Bool) (index : ℕ) → index ≤ div_ceil (length bits) 490
+    → (more : List ℕ) × (file_of (bit_lines bits) ≡ file_of (first_lines bits index) ++ more)
+file_of-front bits index within =
+    let count = div_ceil (length bits) 490 in
+    let rest = drop index (bit_lines bits) in (
+      file_of rest,
+      ap file_of (sym (take-append-drop index (bit_lines bits))) ∙ flat_map-append ended (take index (bit_lines bits)) rest
+          ∙ ap (λ l. file_of l ++ file_of rest) (take-map-range_with_len (bit_line bits) 0 count index within),
+    )
+
+-- the batch is written in part
+pub Batched-failed : (old now next : Option (List ℕ)) (bits : List Bool) (index sent written total : ℕ) (batch piece : List ℕ) → Batched old now bits index sent batch
+    → index ≤ div_ceil (length bits) 490 → piece ≡ batch → WroteSome now next piece written → total ≡ min (sent + written) (2 ^ 64 - 1) → WroteSome old next (file_of (bit_lines bits)) total
+Batched-failed old now next bits index sent written total batch piece h within same part counted =
+    let wrote : WroteSome now next batch written = subst (λ l. WroteSome now next l written) same part in
+    let front = file_of-front bits index within in
+    let all : file_of (bit_lines bits) ≡ h.done ++ (batch ++ front.0) = front.1 ∙ ap (λ l. l ++ front.0) (sym h.bytes) ∙ append_assoc h.done batch front.0 in
+    let first : take (length h.done + wrote.taken) (file_of (bit_lines bits)) ≡ h.done ++ take wrote.taken batch =
+    ap (take (length h.done + wrote.taken)) all ∙ take-append-add h.done (batch ++ front.0) wrote.taken
+    ∙ ap (λ l. h.done ++ l) (take-append-le wrote.taken batch front.0 (omega (arith, wrote.fewer))) in
+    record {
+      taken = length h.done + wrote.taken;
+      fewer = omega (arith, wrote.fewer, ap length all, length-append h.done (batch ++ front.0), length-append batch front.0);
+      counted = omega (arith, h.counted, wrote.counted, counted);
+      appended = subst (Appends old next) (sym first) (Appends-trans old now next h.done (take wrote.taken batch) h.appended wrote.appended);
+    }
+
+-- all lines are written
+pub Batched-all : (old now next : Option (List ℕ)) (bits : List Bool) (index sent : ℕ) (batch : List ℕ) → Batched old now bits index sent batch
+    → index ≡ div_ceil (length bits) 490 → Appends now next batch → Appends old next (file_of (bit_lines bits))
+Batched-all old now next bits index sent batch h whole wrote =
+    subst (Appends old next) (h.bytes ∙ ap (λ n. file_of (first_lines bits n)) whole) (Appends-trans old now next h.done batch h.appended wrote)
+
+-- one more line, as the code takes its elements
+pub Batched-line : (old now : Option (List ℕ)) (bits : List Bool) (index sent : ℕ) (batch more : List ℕ) (count : ℕ) → Batched old now bits index sent batch
+    → count ≡ min 490 (length (take (length bits - 490 * index) (drop (490 * index) bits)))
+    → more ≡ batch ++ ended (elements (take count (take (length bits - 490 * index) (drop (490 * index) bits)))) → Batched old now bits (index + 1) sent more
+Batched-line old now bits index sent batch more count h is added =
+    let rest = take (length bits - 490 * index) (drop (490 * index) bits) in
+    Batched-more old now bits index sent batch more (elements (take count rest)) h added
+    (ap (λ n. elements (take n rest)) is ∙ line-is bits index)

@@ -1,0 +1,39 @@
+use Rattle.std.proofs.Common.{◌≡◌, ◌≤◌, ◌+◌, [], ◌∙◌, ℕ, List, length, sym, ap, subst, arith}
+use Rattle.std.proofs.lemmas.Result.{err_from_is_err_and}
+use Rattle.nx_fec.proofs.WritingLaws.{Batched, Batched-line, Batched-sent, Batched-failed}
+use Rattle.nx_fec.proofs.writing.write_bits.Goals as goal
+use Rattle.nx_fec.proofs.writing.write_bits.Goals.{then-remaining_capacity-lt-LINE_BYTES+in_ok-sent, else-remaining_capacity-lt-LINE_BYTES}
+
+pub returns-in_err-sent-clause-err : goal.returns-in_err-sent-clause-err
+returns-in_err-sent-clause-err g c =
+    let p = err_from_is_err_and c.from_residual.result c.from_residual.ensures.1 in
+    let e = c.in_err-sent.ensures.err in
+    rw p.1 (rw p.2 (Batched-failed _ _ _ _ _ _ e.0 _ _ _ c.loop-index.invariant.batched (omega (arith, c.div_ceil-index-end.ensures)) c.deref.ensures.0 e.2 e.1))
+
+pub loop-index-preserved : goal.loop-index-preserved
+loop-index-preserved g c =
+    let contents = g.W.Write.contents in
+    let before = c.loop-index.invariant in
+    let now = c.if-remaining_capacity-lt-LINE_BYTES in
+    let none : now.writer.failures ≡ 0 =
+    elim now.branch [
+      | then-remaining_capacity-lt-LINE_BYTES+in_ok-sent w ↦ ap (λ x. x.failures) w.writer-is ∙ w.in_ok-sent.ensures.none
+      | else-remaining_capacity-lt-LINE_BYTES w ↦ ap (λ x. x.failures) w.writer-is ∙ before.none
+    ] in
+    let batched : Batched (contents c.args.writer.now.inner) (contents now.writer.inner) c.args.bits.now c.loop-index.index now.sent now.batch.items =
+    elim now.branch [
+      | then-remaining_capacity-lt-LINE_BYTES+in_ok-sent w ↦
+          let empty : now.batch.items ≡ [] = ap (λ x. x.items) w.batch-is ∙ w.clear.ensures in
+          rw (w.writer-is, empty, w.sent-is) (Batched-sent _ _ _ _ _ _ _ _ _ before.batched w.deref.ensures.0 w.in_ok-sent.ensures.ok w.in_ok-sent.ensures.count)
+      | else-remaining_capacity-lt-LINE_BYTES w ↦ rw (w.writer-is, w.batch-is, w.sent-is) before.batched
+    ] in
+    record {
+      none = none;
+      batched = Batched-line _ _ _ _ _ _ _ c.min.result batched c.min.ensures c.push_line.ensures;
+    }
+
+pub returns-in_err-write_after-clause-err : goal.returns-in_err-write_after-clause-err
+returns-in_err-write_after-clause-err g c =
+    let p = err_from_is_err_and c.from_residual-in_err-write_after.result c.from_residual-in_err-write_after.ensures.1 in
+    let e = c.in_err-write_after.ensures.err in
+    rw p.1 (rw p.2 (Batched-failed _ _ _ _ _ _ e.0 _ _ _ c.loop-index.invariant.batched (omega (arith, c.div_ceil-index-end.ensures)) c.deref-2.ensures.0 e.2 e.1))

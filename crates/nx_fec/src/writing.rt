@@ -1,0 +1,106 @@
+//! Writing the elements of an air file to a writer.
+ghost use Rattle.std.specs.Prelude.{◌≡◌, ◌+◌, ◌-◌, ◌^◌, ◌<◌, ◌≤◌, ◌↔◌, ℕ, List, [], ◌∷◌, ◌++◌, length, min, IfOk, IfErr, OnOk, IsErr};
+ghost use Rattle.std.specs.Io.KnownBytes.{Appends};
+ghost use Rattle.arrayvec.specs.ArrayVec.{array_vec_len};
+ghost use Rattle.nx_fec.specs.AirFile.{elements};
+ghost use Rattle.nx_fec.specs.Lines.{ended, file_of};
+ghost use Rattle.nx_fec.specs.BitLines.{bit_lines};
+ghost use Rattle.nx_fec.specs.Devices.{WroteSome};
+
+use crate::counting::Counting;
+use crate::fault::WriteFault;
+use arrayvec::ArrayVec;
+use std::io::Write;
+
+/// How many elements a written line has, but for the last.
+pub const LINE_ELEMENTS: usize = 490;
+
+// The bytes of such a line: `B`, a space, the elements, and the line feed.
+const LINE_BYTES: usize = 493;
+
+// How many bytes are gathered for one write, which is 64 lines.
+const BATCH_BYTES: usize = 31_552;
+
+/// Writes all these bytes, by as many calls as the writer needs. It stops at the first write that fails.
+pub fn write_out<W: Write>(writer: &mut Counting<W>, bytes: &[u8]) -> Result<(), WriteFault>
+    requires { writer.old.failures ≡ 0 }
+    ensures ok { OnOk result (Appends (W.contents writer.old.inner) (W.contents writer.new.inner) bytes.now) }
+    ensures err { IfErr result (λ fault.
+        WroteSome (W.contents writer.old.inner) (W.contents writer.new.inner) bytes.now fault.written) }
+    ensures failed { IsErr result ↔ (writer.new.failures ≡ 1) }
+    ensures once { writer.new.failures ≤ 1 }
+    ensures none { OnOk result (writer.new.failures ≡ 0) }
+{
+    let mut at = 0;
+    while at < bytes.len() {
+        let Ok(count) = writer.write(&bytes[at..]) else {
+            return Err(WriteFault { written: at as u64 });
+        };
+        at += count;
+    }
+    Ok(())
+}
+
+/// Writes elements as lines of 490, the last of what is left. No elements are no line.
+///
+/// Where a write fails, the first `written` bytes of those lines were written.
+pub fn write_bits<W: Write>(writer: &mut Counting<W>, bits: &[bool]) -> Result<(), WriteFault>
+    requires { writer.old.failures ≡ 0 }
+    ensures ok { OnOk result
+        (Appends (W.contents writer.old.inner) (W.contents writer.new.inner) (file_of (bit_lines bits.now))) }
+    ensures err { IfErr result (λ fault.
+        WroteSome (W.contents writer.old.inner) (W.contents writer.new.inner) (file_of (bit_lines bits.now)) fault.written) }
+    ensures failed { IsErr result ↔ (writer.new.failures ≡ 1) }
+    ensures once { writer.new.failures ≤ 1 }
+    ensures none { OnOk result (writer.new.failures ≡ 0) }
+{
+    let mut batch = ArrayVec::new();
+    let mut sent = 0;
+    for index in 0..bits.len().div_ceil(LINE_ELEMENTS) {
+        if batch.remaining_capacity() < LINE_BYTES {
+            sent = write_after(writer, sent, &batch)?;
+            batch.clear();
+        }
+        let rest = &bits[LINE_ELEMENTS * index..];
+        push_line(&rest[..LINE_ELEMENTS.min(rest.len())], &mut batch);
+    }
+    write_after(writer, sent, &batch)?;
+    Ok(())
+}
+
+// Writes a batch after as many bytes as `sent` says, and counts on.
+fn write_after<W: Write>(
+    writer: &mut Counting<W>,
+    sent: u64,
+    batch: &[u8],
+) -> Result<u64, WriteFault>
+    requires { writer.old.failures ≡ 0 }
+    ensures ok { OnOk result (Appends (W.contents writer.old.inner) (W.contents writer.new.inner) batch.now) }
+    ensures count { IfOk result (λ count. count ≡ min (sent + length batch.now) (2 ^ 64 - 1)) }
+    ensures err { IfErr result (λ fault. (written : ℕ) × (fault.written ≡ min (sent + written) (2 ^ 64 - 1))
+        × WroteSome (W.contents writer.old.inner) (W.contents writer.new.inner) batch.now written) }
+    ensures failed { IsErr result ↔ (writer.new.failures ≡ 1) }
+    ensures once { writer.new.failures ≤ 1 }
+    ensures none { OnOk result (writer.new.failures ≡ 0) }
+{
+    match write_out(writer, batch) {
+        Ok(()) => Ok(sent.saturating_add(batch.len() as u64)),
+        Err(fault) => Err(WriteFault {
+            written: sent.saturating_add(fault.written),
+        }),
+    }
+}
+
+// Appends the line of these elements.
+fn push_line(line: &[bool], batch: &mut ArrayVec<u8, BATCH_BYTES>)
+    requires short { length line.now ≤ LINE_ELEMENTS }
+    requires room { array_vec_len batch.old + LINE_BYTES ≤ BATCH_BYTES }
+    ensures { batch.new.items ≡ batch.old.items ++ ended (elements line.now) }
+{
+    batch.push(b'B');
+    batch.push(b' ');
+    for bit in line {
+        batch.push(if *bit { b'1' } else { b'0' });
+    }
+    batch.push(b'\n');
+}
