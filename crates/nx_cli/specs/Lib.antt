@@ -1,3 +1,2 @@
 pub mod Program
-pub mod StandIn
 pub mod Words

@@ -1,7 +1,7 @@
 -- How a run of the program ends: what it leaves on its devices, by the contracts of the calls, and
 -- the status with which it exits (this profile).
 use Rattle.std.specs.Prelude.{◌≡◌, ◌<◌, ◌⊎◌, ℕ, List, Option, Result, Ok, Err, alloc_error, length}
-use Rattle.std.specs.Io.KnownBytes.{Appends, Keeps}
+use Rattle.std.specs.Io.KnownBytes.{Appends}
 use Rattle.clap.specs.Words.{Text}
 use Rattle.nx_fec.specs.Devices.{Counted, WroteSome}
 use Rattle.nx_cli.specs.declared.words.Call.{Call}
@@ -11,75 +11,75 @@ use Rattle.nx_cli.specs.declared.program.Fault.TheVariants as fault
 use Rattle.nx_fec.specs.declared.fault.RunFault.{RunFault}
 use Rattle.nx_fec.specs.declared.fault.RunFault.TheVariants as run
 use Rattle.nx_cli.specs.Words.{AsksForHelp, IsRefused, Names}
-use Rattle.nx_cli.specs.StandIn.{Decodes}
 
--- what a run did on its devices: the bytes left to read and the bytes written, before and after it,
--- where the devices let them be known, and how many calls on them failed
-pub record Devices : Type 0 where
-  pub input : Option (List ℕ)
-  pub input_after : Option (List ℕ)
-  pub read_failures : ℕ
-  pub output : Option (List ℕ)
-  pub output_after : Option (List ℕ)
-  pub write_failures : ℕ
+-- A reader and a writer, as they stand before a run and after it, and what they tell of their bytes:
+-- those that are left to read, and those that are written.
+pub record Devices (R W : Type 0) : Type 0 where
+  pub remaining : R → Option (List ℕ)
+  pub contents : W → Option (List ℕ)
+  pub reader : Counted R
+  pub reader_after : Counted R
+  pub writer : Counted W
+  pub writer_after : Counted W
 
--- what was done on these devices, where `remaining` and `contents` tell their bytes
-abbrev pub devices : {R W : Type 0} → (R → Option (List ℕ)) → (W → Option (List ℕ)) → R → Counted R → W → Counted W → Devices
-devices remaining contents input reader output writer = record {
-  input = remaining input;
-  input_after = remaining reader.inner;
-  read_failures = reader.failures;
-  output = contents output;
-  output_after = contents writer.inner;
-  write_failures = writer.failures;
+abbrev pub devices : {R W : Type 0} → (R → Option (List ℕ)) → (W → Option (List ℕ)) → Counted R → Counted R → Counted W → Counted W → Devices R W
+devices remaining contents reader reader_after writer writer_after = record {
+  remaining = remaining;
+  contents = contents;
+  reader = reader;
+  reader_after = reader_after;
+  writer = writer;
+  writer_after = writer_after;
 }
 
--- nothing was read
-pub record IsUnread (d : Devices) : Type 0 where
-  pub unread : Keeps d.input d.input_after
-  pub failures : d.read_failures ≡ 0
+-- a device on which no call has failed
+abbrev pub fresh : {T : Type 0} → T → Counted T
+fresh device = record { inner = device; failures = 0 }
 
--- nothing was written
-pub record IsUnwritten (d : Devices) : Type 0 where
-  pub unwritten : Keeps d.output d.output_after
-  pub failures : d.write_failures ≡ 0
+-- neither device was called
+pub record IsUntouched {R W : Type 0} (d : Devices R W) : Type 0 where
+  pub reader : d.reader_after ≡ d.reader
+  pub writer : d.writer_after ≡ d.writer
+
+-- stand-in
+unfoldable pub Decodes : {R W : Type 0} → Devices R W → Result ℕ RunFault → Type 0
+Decodes d outcome = Unit {0}
 
 -- the call did on the devices what its outcome says
-abbrev pub Performs : Call → Devices → Result ℕ RunFault → Type 0
-Performs Decode d outcome = Decodes d.input d.input_after d.output d.output_after outcome
-Performs Encode d outcome = Decodes d.input d.input_after d.output d.output_after outcome
+abbrev pub Performs : {R W : Type 0} → Call → Devices R W → Result ℕ RunFault → Type 0
+Performs Decode d outcome = Decodes d outcome
+Performs Encode d outcome = Decodes d outcome
 
 -- the words name a call, which had this outcome
-pub record RunsCall (words : List Text) (d : Devices) (outcome : Result ℕ RunFault) : Type 0 where
+pub record RunsCall {R W : Type 0} (words : List Text) (d : Devices R W) (outcome : Result ℕ RunFault) : Type 0 where
   pub call : Call
   pub named : Names words call
   pub performed : Performs call d outcome
 
--- a text was written whole, or as far as the fault says, and so many writes failed
-abbrev pub WritesText : Option (List ℕ) → Option (List ℕ) → ℕ → Result (Unit {0}) RunFault → Type 0
-WritesText old new failures (Ok done) =
-    (text : List ℕ) × Appends old new text × (failures ≡ 0)
-WritesText old new failures (Err (run.Write written)) =
-    (text : List ℕ) × WroteSome old new text written × (failures ≡ 1)
-WritesText old new failures (Err (run.Memory want)) = Keeps old new × (failures ≡ 0)
-WritesText old new failures (Err _) = ⊥
+-- a text was written whole, or as far as the fault says; or memory ran out before it was written
+abbrev pub WritesText : {W : Type 0} → (W → Option (List ℕ)) → Counted W → Counted W → Result (Unit {0}) RunFault → Type 0
+WritesText contents old new (Ok done) =
+    (text : List ℕ) × Appends (contents old.inner) (contents new.inner) text × (new.failures ≡ 0)
+WritesText contents old new (Err (run.Write written)) =
+    (text : List ℕ) × WroteSome (contents old.inner) (contents new.inner) text written × (new.failures ≡ 1)
+WritesText contents old new (Err (run.Memory want)) = new ≡ old
+WritesText contents old new (Err _) = ⊥
 
 -- the words ask for help, whose text was written so
-pub record GivesHelp (words : List Text) (d : Devices) (outcome : Result (Unit {0}) RunFault) : Type 0 where
+pub record GivesHelp {R W : Type 0} (words : List Text) (d : Devices R W) (outcome : Result (Unit {0}) RunFault) : Type 0 where
   pub asked : AsksForHelp words
-  pub unread : IsUnread d
-  pub written : WritesText d.output d.output_after d.write_failures outcome
+  pub unread : d.reader_after ≡ d.reader
+  pub written : WritesText d.contents d.writer d.writer_after outcome
 
--- memory ran out before a device was touched
-pub record LacksMemory (d : Devices) (why : RunFault) : Type 0 where
-  pub unread : IsUnread d
-  pub unwritten : IsUnwritten d
+-- memory ran out before a device was called
+pub record LacksMemory {R W : Type 0} (d : Devices R W) (why : RunFault) : Type 0 where
+  pub untouched : IsUntouched d
   pub memory : why ≡ run.Memory alloc_error
 
 -- how the program ends
-abbrev pub Ends : List Text → Devices → Result (Unit {0}) Fault → Type 0
+abbrev pub Ends : {R W : Type 0} → List Text → Devices R W → Result (Unit {0}) Fault → Type 0
 Ends words d (Ok done) = ((count : ℕ) × RunsCall words d (Ok count)) ⊎ GivesHelp words d (Ok done)
-Ends words d (Err (fault.Words answer)) = IsRefused words × IsUnread d × IsUnwritten d
+Ends words d (Err (fault.Words answer)) = IsRefused words × IsUntouched d
 Ends words d (Err fault.NoText) = ⊥
 Ends words d (Err (fault.Run why)) = RunsCall words d (Err why) ⊎ (GivesHelp words d (Err why) ⊎ LacksMemory d why)
 
@@ -105,13 +105,13 @@ status_of (Ok done) = 0
 status_of (Err why) = fault_status why
 
 -- the program ends so on these devices, with this status
-pub record Exits (words : List Text) (d : Devices) (status : ℕ) : Type 0 where
+pub record Exits {R W : Type 0} (words : List Text) (d : Devices R W) (status : ℕ) : Type 0 where
   pub outcome : Result (Unit {0}) Fault
   pub ends : Ends words d outcome
   pub status_is : status ≡ status_of outcome
 
 -- the call that the words name succeeded, or they ask for help, which was written
-abbrev pub Succeeds : List Text → Devices → Type 0
+abbrev pub Succeeds : {R W : Type 0} → List Text → Devices R W → Type 0
 Succeeds words d = Ends words d (Ok tt)
 
 -- the statuses: success, a device or memory, a bad file, line or value, the words

@@ -2,7 +2,7 @@
 
 ghost use Rattle.std.specs.IoError.{error_kind};
 ghost use Rattle.std.specs.Prelude.{◌≡◌, ◌≢◌, ◌⊎◌, ℕ, List, map};
-ghost use Rattle.nx_cli.specs.Program.{Devices, Ends, Exits, IsStatus, Performs, Succeeds, WritesText, devices, fault_status};
+ghost use Rattle.nx_cli.specs.Program.{Devices, Ends, Exits, IsStatus, Performs, Succeeds, WritesText, devices, fault_status, fresh};
 ghost use Rattle.nx_cli.specs.Words.{IsRefused, Names};
 ghost use Rattle.clap.specs.Words.{Text};
 ghost use Rattle.nx_fec.specs.Devices.{Counted};
@@ -90,7 +90,7 @@ fn perform<R: Read, W: Write>(
     requires reader { reader.old.failures ≡ 0 }
     requires writer { writer.old.failures ≡ 0 }
     ensures { Performs call
-        (devices R.remaining W.contents reader.old.inner reader.new writer.old.inner writer.new)
+        (devices R.remaining W.contents reader.old reader.new writer.old writer.new)
         result }
 {
     match call {
@@ -106,8 +106,7 @@ fn give_help<W: Write>(
     writer: &mut Counting<W>,
 ) -> Result<(), RunFault>
     requires { writer.old.failures ≡ 0 }
-    ensures { WritesText (W.contents writer.old.inner) (W.contents writer.new.inner)
-        writer.new.failures result }
+    ensures { WritesText W.contents writer.old writer.new result }
 {
     let text = help.to_string(alloc)?;
     write_out(writer, text.as_bytes())?;
@@ -124,7 +123,7 @@ fn obey<S: AsStr, R: Read, W: Write>(
     requires reader { reader.old.failures ≡ 0 }
     requires writer { writer.old.failures ≡ 0 }
     ensures { Ends (map S.text words.now)
-        (devices R.remaining W.contents reader.old.inner reader.new writer.old.inner writer.new)
+        (devices R.remaining W.contents reader.old reader.new writer.old writer.new)
         result }
 {
     match call_of(alloc, words) {
@@ -152,14 +151,14 @@ pub fn run<S: AsStr, R: Read + Drop, W: Write + Drop, E: Write + Drop>(
     // How the program ended, by what its call ensures of the devices.
     ensures exits { (reader : Counted R) × (writer : Counted W)
         × Exits (map S.text words.now)
-        (devices R.remaining W.contents input reader output writer)
+        (devices R.remaining W.contents (fresh input) reader (fresh output) writer)
         result }
     ensures status { IsStatus result }
 
     // Success comes only from a call that succeeded, or from help that was written.
     ensures success { result ≡ DONE → (reader : Counted R) × (writer : Counted W)
         × Succeeds (map S.text words.now)
-        (devices R.remaining W.contents input reader output writer) }
+        (devices R.remaining W.contents (fresh input) reader (fresh output) writer) }
     ensures words { result ≡ BAD_WORDS → IsRefused (map S.text words.now) }
     ensures refused { IsRefused (map S.text words.now)
         → (result ≡ BAD_WORDS) ⊎ (result ≡ DEVICE_OR_MEMORY) }
@@ -187,6 +186,6 @@ pub fn refuse_words<E: Write + Drop>(reason: &io::Error, faults: E) -> u8
 
 /// A success of words that name a call is the success of that call.
 pub fn success_is_of_the_named_call()
-    ensures { (words : List Text) (devices : Devices) (call : Call) → Names words call
-        → Succeeds words devices → (count : ℕ) × Performs call devices (Ok count) }
+    ensures { {R W : Type 0} (words : List Text) (d : Devices R W) (call : Call) → Names words call
+        → Succeeds words d → (count : ℕ) × Performs call d (Ok count) }
 {}
