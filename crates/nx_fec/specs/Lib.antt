@@ -1,5 +1,8 @@
 pub mod AirFile
-pub mod Lines
+pub mod Aligned
 pub mod BitLines
 pub mod Devices
+pub mod Emission
+pub mod Lines
+pub mod Pairing
 pub mod Runs

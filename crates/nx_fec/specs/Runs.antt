@@ -1,10 +1,15 @@
 -- What a run over an air file answers (this profile).
-use Rattle.std.specs.Prelude.{◌≡◌, ℕ, Bool, List, ⊤}
+use Rattle.std.specs.Prelude.{◌≡◌, ◌≢◌, ℕ, ◌%◌, Bool, List, length, Option, Result, Ok, Err, ⊤}
+use Rattle.std.specs.Io.KnownBytes.{Appends}
 use Rattle.std.specs.List.{flat_map}
 use Rattle.nx_fec.specs.AirFile.{Line}
-use Rattle.nx_fec.specs.Lines.{IsRefused, Scanning, Scans, elements_of}
+use Rattle.nx_fec.specs.Lines.{IsRefused, IsBitFile, Scanning, Scans, elements_of}
+use Rattle.nx_fec.specs.Aligned.{aligned_text, words_of}
+use Rattle.nx_fec.specs.Devices.{WroteSome}
 use Rattle.nx_fec.specs.declared.fault.LineFault.{LineFault}
 use Rattle.nx_fec.specs.declared.fault.LineFault.TheVariants as file
+use Rattle.nx_fec.specs.declared.aligned.AlignedFault.{AlignedFault}
+use Rattle.nx_fec.specs.declared.aligned.AlignedFault.TheVariants as words
 use Rattle.nx_fec.specs.declared.fault.RunFault.{RunFault}
 use Rattle.nx_fec.specs.declared.fault.RunFault.TheVariants.{Read, FileTooLong, LineLong, LineCut, BadLine, Ragged, NoSuchCharacter, Write, Memory}
 
@@ -14,6 +19,11 @@ run_fault file.TooLong = FileTooLong
 run_fault (file.LineLong line) = LineLong line
 run_fault (file.LineCut line) = LineCut line
 run_fault (file.BadLine line) = BadLine line
+
+-- the fault of a run that stands for the fault of its words
+abbrev pub aligned_fault : AlignedFault → RunFault
+aligned_fault (words.Ragged bits) = Ragged bits
+aligned_fault (words.Memory error) = Memory error
 
 -- What a fault of reading elements says of the bytes that were read: a fault of the file is theirs, and at the end of
 -- the file `AtEnd` holds. A read that failed and a want of memory say nothing of them, and there are no other faults.
@@ -45,3 +55,37 @@ pub record HasRead (limit : ℕ) (scanner : Scanning) (bits : List Bool) (bytes 
   pub lines : List Line
   pub scans : Scans limit scanner bytes lines
   pub joined : bits ≡ flat_map elements_of lines
+
+-- the text of a file of elements, whose first word is that of slot 0
+pub record IsDecoded (limit : ℕ) (bytes text : List ℕ) : Type 0 where
+  pub bits : List Bool
+  pub file : IsBitFile limit bytes bits
+  pub whole : length bits % 7 ≡ 0
+  pub read : text ≡ aligned_text (words_of bits)
+
+-- What a fault of decoding says: its elements are no whole words, or the text was written in part. Each other fault is
+-- one of reading elements.
+abbrev pub ExplainsDecoding : Type 0 → ℕ → List ℕ → Option (List ℕ) → Option (List ℕ) → RunFault → Type 0
+ExplainsDecoding AtEnd limit bytes old new (Ragged given) =
+    AtEnd × (bits : List Bool) × IsBitFile limit bytes bits × (given ≡ length bits) × (length bits % 7 ≢ 0)
+ExplainsDecoding AtEnd limit bytes old new (Write written) =
+    AtEnd × (text : List ℕ) × IsDecoded limit bytes text × WroteSome old new text written
+ExplainsDecoding AtEnd limit bytes old new fault = Explains AtEnd limit bytes fault
+
+-- what decoding answers of these bytes: the count of the bytes of the text, which was written, or a fault
+abbrev pub AnswersDecoding : Type 0 → ℕ → List ℕ → Option (List ℕ) → Option (List ℕ) → Result ℕ RunFault → Type 0
+AnswersDecoding AtEnd limit bytes old new (Ok count) =
+    AtEnd × (text : List ℕ) × IsDecoded limit bytes text × Appends old new text × (count ≡ length text)
+AnswersDecoding AtEnd limit bytes old new (Err fault) = ExplainsDecoding AtEnd limit bytes old new fault
+
+-- the fault is one of writing
+abbrev pub IsWriting : RunFault → Type 0
+IsWriting Read = ⊥
+IsWriting FileTooLong = ⊥
+IsWriting (LineLong line) = ⊥
+IsWriting (LineCut line) = ⊥
+IsWriting (BadLine line) = ⊥
+IsWriting (Ragged bits) = ⊥
+IsWriting (NoSuchCharacter at) = ⊥
+IsWriting (Write written) = ⊤
+IsWriting (Memory error) = ⊥

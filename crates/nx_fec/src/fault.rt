@@ -1,4 +1,5 @@
 //! The faults of air files and of runs over readers and writers.
+use crate::aligned::AlignedFault;
 use std::alloc::AllocError;
 use thiserror::Error;
 
@@ -90,6 +91,20 @@ impl From<WriteFault> for RunFault {
     fn from(fault: WriteFault) -> RunFault {
         RunFault::Write {
             written: fault.written,
+        }
+    }
+}
+
+impl From<AlignedFault> for RunFault {
+    ghost use Rattle.std.specs.Prelude.{◌≡◌};
+    ghost use Rattle.nx_fec.specs.Runs.{aligned_fault};
+
+    ghost from_gives = { λ fault made. made ≡ aligned_fault fault };
+
+    fn from(fault: AlignedFault) -> RunFault {
+        match fault {
+            AlignedFault::Ragged { bits } => RunFault::Ragged { bits },
+            AlignedFault::Memory(error) => RunFault::Memory(error),
         }
     }
 }

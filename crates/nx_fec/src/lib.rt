@@ -1,16 +1,29 @@
-//! The FEC layer of NAVTEX: positions and their two sendings, and the bit files that carry an emission.
+//! Forward error correction of collective mode B: each position is sent in two words, and received from both; and the
+//! bit files that carry an emission.
 #![tactic(auto)]
 
-pub mod air_file;
-pub mod counting;
-pub mod fault;
-pub mod reading;
-pub mod scanner;
-pub mod writing;
+mod air_file;
+pub mod air_laws;
+mod aligned;
+mod counting;
+mod diversity;
+mod emission;
+mod fault;
+pub mod laws;
+mod positions;
+mod reading;
+mod runs;
+mod scanner;
+mod writing;
 
-pub use air_file::{AirLine, air_line};
+pub use air_file::{AirLine, MAX_ELEMENTS, air_line};
+pub use aligned::{AlignedFault, decode_aligned};
 pub use counting::Counting;
+pub use diversity::{Diversity, Heard, combine};
+pub use emission::to_bits;
 pub use fault::{LineFault, RunFault, WriteFault};
+pub use positions::{Position, word_at};
 pub use reading::{FILE_LIMIT, read_bits};
-pub use scanner::Scanner;
-pub use writing::{write_bits, write_out};
+pub use runs::decode_run;
+pub use scanner::{MAX_LINE_BYTES, Scanner};
+pub use writing::{LINE_ELEMENTS, write_bits, write_out};

@@ -1,11 +1,12 @@
 //! Reading the elements of an air file from a reader.
-ghost use Rattle.std.specs.Prelude.{◌≡◌, ◌+◌, ◌-◌, ◌<◌, ◌≤◌, ◌↔◌, ℕ, List, [], ◌∷◌, ◌++◌, length, IfSome, IfOk, IfErr, OnOk, IsErrOf, MatchResult, option_to_list, vec_len};
+ghost use Rattle.std.specs.Prelude.{◌≡◌, ◌+◌, ◌-◌, ◌<◌, ◌≤◌, ◌↔◌, ℕ, List, [], ◌∷◌, ◌++◌, length, IfSome, IfOk, IfErr, OnOk, IsErrOf, IsErrAnd, MatchResult, ◌⊎◌, Bool, option_to_list, vec_len};
 ghost use Rattle.std.specs.Io.KnownBytes.{Consumes, IsAtEnd};
-ghost use Rattle.nx_fec.specs.Lines.{IsBitFile, elements_of};
+ghost use Rattle.nx_fec.specs.Lines.{IsBitFile, IsRefused, elements_of};
 ghost use Rattle.nx_fec.specs.AirFile.{meaning};
+ghost use Rattle.nx_fec.specs.declared.fault.LineFault.{LineFault};
 ghost use Rattle.std.specs.List.{flat_map};
 ghost use Rattle.std.specs.Option.{option_map};
-ghost use Rattle.nx_fec.specs.Runs.{Explains, HasRead};
+ghost use Rattle.nx_fec.specs.Runs.{Explains, HasRead, IsOutside, run_fault};
 
 use crate::air_file::AirLine;
 use crate::counting::Counting;
@@ -37,12 +38,39 @@ pub fn read_bits<R: Read>(alloc: Global, reader: &mut Counting<R>) -> Result<Vec
         (λ bits. IsBitFile FILE_LIMIT xs bits.items)
         (λ fault. Explains (Unit {0}) FILE_LIMIT xs fault)) }
 
+    // So a fault of the file is the answer, and so are the elements of a file without a fault, unless the reader or
+    // memory failed.
+    ensures fault { IfSome (R.remaining reader.old.inner) (λ xs. (why : LineFault) → IsRefused FILE_LIMIT xs why →
+        IsErrAnd result (λ fault. (fault ≡ run_fault why) ⊎ IsOutside fault)) }
+    ensures good { IfSome (R.remaining reader.old.inner) (λ xs. (elements : List Bool) → IsBitFile FILE_LIMIT xs elements →
+        MatchResult result (λ bits. bits.items ≡ elements) IsOutside) }
+
     // A read that failed is the one that raised the count.
     ensures failed { IsErrOf result RunFault.Read ↔ (reader.new.failures ≡ 1) }
     ensures once { reader.new.failures ≤ 1 }
 {
     let mut space = blank(alloc, CHUNK)?;
-    let buffer = space.as_mut_slice();
+    read_through(alloc, reader, space.as_mut_slice())
+}
+
+// Reads an air file to its end through this buffer.
+fn read_through<R: Read>(
+    alloc: Global,
+    reader: &mut Counting<R>,
+    buffer: &mut [u8],
+) -> Result<Vec<bool>, RunFault>
+    requires none { reader.old.failures ≡ 0 }
+    requires room { 0 < length buffer.old }
+    ensures known { (bytes : List ℕ) × Consumes (R.remaining reader.old.inner) (R.remaining reader.new.inner) bytes
+        × MatchResult result
+        (λ bits. IsAtEnd (R.remaining reader.new.inner) × IsBitFile FILE_LIMIT bytes bits.items)
+        (λ fault. Explains (IsAtEnd (R.remaining reader.new.inner)) FILE_LIMIT bytes fault) }
+    ensures file { IfSome (R.remaining reader.old.inner) (λ xs. MatchResult result
+        (λ bits. IsBitFile FILE_LIMIT xs bits.items)
+        (λ fault. Explains (Unit {0}) FILE_LIMIT xs fault)) }
+    ensures failed { IsErrOf result RunFault.Read ↔ (reader.new.failures ≡ 1) }
+    ensures once { reader.new.failures ≤ 1 }
+{
     let mut scanner = Scanner::new(FILE_LIMIT);
     let mut bits = Vec::new(alloc);
     loop {

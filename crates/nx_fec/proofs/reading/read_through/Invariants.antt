@@ -1,12 +1,12 @@
-use Rattle.std.proofs.Common.{◌≡◌, ◌+◌, ℕ, List, length}
+use Rattle.std.proofs.Common.{◌≡◌, ◌<◌, ℕ, List, length}
 use Rattle.std.specs.Io.KnownBytes.{Consumes}
 use Rattle.nx_fec.specs.Runs.{HasRead}
-use Rattle.nx_fec.proofs.reading.read_bits.Given as goal
+use Rattle.nx_fec.proofs.reading.read_through.Given as goal
 
 abbrev pub invariant-loop-count : goal.invariant-loop-count
 invariant-loop-count g l = record {
   none : l.reader.failures ≡ 0;
-  chunk : length l.buffer ≡ 65536;
+  chunk : 0 < length l.buffer;
   read : (bytes : List ℕ) × Consumes (g.R.Read.remaining l.initial.reader.inner) (g.R.Read.remaining l.reader.inner) bytes
       × HasRead 1048576 l.scanner l.bits.items bytes;
 }

@@ -1,0 +1,138 @@
+-- What holds over the whole table, by one computation each.
+use Rattle.std.proofs.Common.{◌≡◌, ℕ, ◌+◌, ◌-◌, ◌<◌, ◌≤◌, refl, sym, ap, ◌∙◌, subst, Bool, true, false, eqb, ltb, Option, Some, None, List, length, map, get_or, arith, lit<}
+use Rattle.std.specs.Option.{is_some}
+use Rattle.std.specs.List.{position}
+use Rattle.std.proofs.lemmas.Bool.{agree_below_at, eqb-true, ltb-true}
+use Rattle.std.proofs.lemmas.List.{get_or-map}
+use Rattle.std.proofs.lemmas.List.Quantifiers.{position-Some}
+use lib.Count.{ones, ones_in}
+use native.Mathlib.Bridge.{le_prop}
+use Rattle.nx_code.specs.declared.table.Row.{Row}
+use Rattle.nx_code.specs.declared.table.TheConstants.{TABLE}
+use Rattle.nx_code.specs.declared.signals.Comb.{Comb}
+use Rattle.nx_code.specs.declared.signals.Signal.{Signal}
+use Rattle.nx_code.specs.declared.signals.Signal.TheVariants.{Traffic, Alpha, Beta, Repeat}
+use Rattle.nx_code.specs.Word.{weight, elements, elements_from}
+use Rattle.nx_code.specs.Table.{table, words, place_of}
+use Rattle.nx_code.specs.Signal.{place, number_of_signal}
+use Rattle.nx_code.specs.Reading.{printed}
+use Rattle.nx_code.specs.declared.shifts.Shift.TheVariants.{Letters, Figures}
+use Rattle.std.specs.List.{range_with_len}
+use Rattle.std.proofs.lemmas.List.FromFn.{get_or-map-range_with_len}
+
+-- a word has weight four exactly where it is in the table
+pub weight-place_of : (word : ℕ) → word < 128 → eqb (weight word) 4 ≡ is_some (place_of word)
+unfolding weight elements elements_from table words place_of
+weight-place_of word h =
+    agree_below_at (λ n. eqb (weight n) 4) (λ n. is_some (place_of n)) 128 word refl h
+
+-- the weight is how many places hold a one
+pub weight-ones : (word : ℕ) → word < 128 → eqb (ones word) 4 ≡ eqb (weight word) 4
+unfolding weight elements elements_from ones ones_in
+weight-ones word h = agree_below_at (λ n. eqb (ones n) 4) (λ n. eqb (weight n) 4) 128 word refl h
+
+-- the words of the code's table are those of the table
+pub position-TABLE : (number : ℕ) → position (λ (row : Row). eqb row.word number) TABLE ≡ place_of number
+unfolding table words place_of
+position-TABLE number = refl
+
+words-TABLE : map (λ (row : Row). row.word) TABLE ≡ words
+unfolding table words
+words-TABLE = refl
+
+pub word-TABLE : (at : ℕ) (row : Row) → at < 35 → (get_or TABLE at row).word ≡ get_or words at 0
+word-TABLE at row h =
+    sym (get_or-map (λ (r : Row). r.word) TABLE at row 0 h) ∙ ap (λ l. get_or l at 0) words-TABLE
+
+-- each word of the table has seven elements
+pub words-lt : (at : ℕ) → at < 35 → get_or words at 0 < 128
+unfolding table words
+words-lt at h =
+    ltb-true (get_or words at 0) 128 (agree_below_at (λ k. ltb (get_or words k 0) 128) (λ _. true) 35 at refl h)
+
+-- a word that has a place stands there
+pub place_of-Some : (word at : ℕ) → place_of word ≡ Some at → (at < 35) × (get_or words at 0 ≡ word)
+unfolding table words place_of
+place_of-Some word at h =
+    let found = position-Some (λ n. eqb n word) words at 0 h in
+    (found.0, eqb-true (get_or words at 0) word found.1)
+
+abbrev pub is_at : Option ℕ → ℕ → Bool
+is_at None at = false
+is_at (Some other) at = eqb other at
+
+pub Some-is_at : (found : Option ℕ) (at : ℕ) → is_at found at ≡ true → found ≡ Some at
+Some-is_at None at h = cc
+Some-is_at (Some other) at h = ap Some (eqb-true other at h)
+
+-- no word stands in two places
+pub place_of-words : (at : ℕ) → at < 35 → place_of (get_or words at 0) ≡ Some at
+unfolding table words place_of
+place_of-words at h =
+    Some-is_at (place_of (get_or words at 0)) at (agree_below_at (λ k. is_at (place_of (get_or words k 0)) k) (λ _. true) 35 at refl h)
+
+pub place-lt : (signal : Signal) → place signal < 35
+place-lt (Traffic comb) = let h = comb.to_thirty_two in omega arith
+place-lt Alpha = omega arith
+place-lt Beta = omega arith
+place-lt Repeat = omega arith
+
+-- combinations of one number are one
+pub same_comb : (a b : Comb) → a.number ≡ b.number → a ≡ b
+same_comb a b h =
+    let P : ℕ → Type 0 = λ n. (low : 1 ≤ n) (high : n ≤ 32) → a ≡ record { number = n; from_one = low; to_thirty_two = high } in
+    subst P h (λ low high i. record { number = a.number; from_one = le_prop a.from_one low i; to_thirty_two = le_prop a.to_thirty_two high i }) b.from_one b.to_thirty_two
+
+-- signals of one place are one
+pub same_place : (a b : Signal) → place a ≡ place b → a ≡ b
+same_place (Traffic a) (Traffic b) h =
+    let low = a.from_one in
+    let high = b.from_one in
+    ap Traffic (same_comb a b (omega arith))
+same_place (Traffic a) Alpha h = let low = a.to_thirty_two in let one = a.from_one in absurd (omega arith)
+same_place (Traffic a) Beta h = let low = a.to_thirty_two in let one = a.from_one in absurd (omega arith)
+same_place (Traffic a) Repeat h = let low = a.to_thirty_two in let one = a.from_one in absurd (omega arith)
+same_place Alpha (Traffic b) h = let low = b.to_thirty_two in let one = b.from_one in absurd (omega arith)
+same_place Beta (Traffic b) h = let low = b.to_thirty_two in let one = b.from_one in absurd (omega arith)
+same_place Repeat (Traffic b) h = let low = b.to_thirty_two in let one = b.from_one in absurd (omega arith)
+same_place Alpha Alpha h = refl
+same_place Beta Beta h = refl
+same_place Repeat Repeat h = refl
+same_place Alpha Beta h = absurd (omega arith)
+same_place Alpha Repeat h = absurd (omega arith)
+same_place Beta Alpha h = absurd (omega arith)
+same_place Beta Repeat h = absurd (omega arith)
+same_place Repeat Alpha h = absurd (omega arith)
+same_place Repeat Beta h = absurd (omega arith)
+
+-- a signal whose word has a place stands there
+pub place-of_word : (signal : Signal) (word at : ℕ) → place_of word ≡ Some at → number_of_signal signal ≡ word → place signal ≡ at
+place-of_word signal word at found h =
+    let e : Some (place signal) ≡ Some at = sym (place_of-words (place signal) (place-lt signal)) ∙ ap place_of h ∙ found in
+    cc
+
+-- each signal's word has a place
+pub not_nowhere : (signal : Signal) (word : ℕ) → number_of_signal signal ≡ word → place_of word ≡ None → ⊥
+not_nowhere signal word h none =
+    let e : Some (place signal) ≡ None = sym (place_of-words (place signal) (place-lt signal)) ∙ ap place_of h ∙ none in
+    cc
+
+abbrev pub number_of_place : ℕ → ℕ
+number_of_place at = get_or words at 0
+
+-- the columns of the code's table are what the combinations print
+column-TABLE : map (λ (row : Row). row.letter) TABLE ≡ map (λ k. printed (k + 1) Letters) (range_with_len 0 35)
+unfolding table printed
+column-TABLE = refl
+
+figures-TABLE : map (λ (row : Row). row.figure) TABLE ≡ map (λ k. printed (k + 1) Figures) (range_with_len 0 35)
+unfolding table printed
+figures-TABLE = refl
+
+pub letter-TABLE : (at : ℕ) (row : Row) → at < 35 → (get_or TABLE at row).letter ≡ printed (at + 1) Letters
+letter-TABLE at row h =
+    sym (get_or-map (λ (r : Row). r.letter) TABLE at row None h) ∙ ap (λ l. get_or l at None) column-TABLE ∙ get_or-map-range_with_len (λ k. printed (k + 1) Letters) 0 35 at at None h (omega arith)
+
+pub figure-TABLE : (at : ℕ) (row : Row) → at < 35 → (get_or TABLE at row).figure ≡ printed (at + 1) Figures
+figure-TABLE at row h =
+    sym (get_or-map (λ (r : Row). r.figure) TABLE at row None h) ∙ ap (λ l. get_or l at None) figures-TABLE ∙ get_or-map-range_with_len (λ k. printed (k + 1) Figures) 0 35 at at None h (omega arith)

@@ -1,0 +1,8 @@
+use Rattle.std.proofs.Common.{◌≡◌, ◌<◌, ◌^◌, ◌-◌, drop}
+use Rattle.nx_code.specs.Word.{number_of}
+use Rattle.nx_code.proofs.words.Word.from_elements.Given as goal
+
+-- the number so far is that of the elements from here on
+abbrev pub invariant-loop-place : goal.invariant-loop-place
+invariant-loop-place l =
+    (l.number ≡ number_of (drop l.place l.bits)) × (l.number < 2 ^ (7 - l.place))

@@ -1,0 +1,61 @@
+-- The table of the signals (ITU-R M.476 and M.625; the numbering of the words is this project's own).
+use Rattle.std.specs.Prelude.{◌≡◌, ℕ, ◌==◌, List, [], ◌∷◌, Option, codes, map, position}
+
+-- A row: the number of the word, and what stands in the columns Letter and Figure. One character stands for
+-- itself; a longer text in capitals is a name, and `none` says that the figure prints nothing.
+pub record Row : Type 0 where
+  pub word : ℕ
+  pub letter : List ℕ
+  pub figure : List ℕ
+
+abbrev pub row : ℕ → List ℕ → List ℕ → Row
+row word letter figure = record { word = word; letter = letter; figure = figure }
+
+-- The 35 rows: the combinations 1 to 32, then idle alpha (phasing signal 1), idle beta and signal repetition
+-- (phasing signal 2).
+unfoldable pub table : List Row
+table =
+    row 0x47 (codes "A") (codes "-")
+    ∷ row 0x72 (codes "B") (codes "?")
+    ∷ row 0x1D (codes "C") (codes ":")
+    ∷ row 0x53 (codes "D") (codes "none")
+    ∷ row 0x56 (codes "E") (codes "3")
+    ∷ row 0x1B (codes "F") (codes "none")
+    ∷ row 0x35 (codes "G") (codes "none")
+    ∷ row 0x69 (codes "H") (codes "none")
+    ∷ row 0x4D (codes "I") (codes "8")
+    ∷ row 0x17 (codes "J") (codes "none")
+    ∷ row 0x1E (codes "K") (codes "(")
+    ∷ row 0x65 (codes "L") (codes ")")
+    ∷ row 0x39 (codes "M") (codes ".")
+    ∷ row 0x59 (codes "N") (codes ",")
+    ∷ row 0x71 (codes "O") (codes "9")
+    ∷ row 0x2D (codes "P") (codes "0")
+    ∷ row 0x2E (codes "Q") (codes "1")
+    ∷ row 0x55 (codes "R") (codes "4")
+    ∷ row 0x4B (codes "S") (codes "'")
+    ∷ row 0x74 (codes "T") (codes "5")
+    ∷ row 0x4E (codes "U") (codes "7")
+    ∷ row 0x3C (codes "V") (codes "=")
+    ∷ row 0x27 (codes "W") (codes "2")
+    ∷ row 0x3A (codes "X") (codes "/")
+    ∷ row 0x2B (codes "Y") (codes "6")
+    ∷ row 0x63 (codes "Z") (codes "+")
+    ∷ row 0x78 (codes "CR") (codes "CR")
+    ∷ row 0x6C (codes "LF") (codes "LF")
+    ∷ row 0x5A (codes "LTRS") (codes "LTRS")
+    ∷ row 0x36 (codes "FIGS") (codes "FIGS")
+    ∷ row 0x5C (codes "SPACE") (codes "SPACE")
+    ∷ row 0x6A (codes "BLANK") (codes "BLANK")
+    ∷ row 0x0F (codes "P1") (codes "P1")
+    ∷ row 0x33 (codes "BETA") (codes "BETA")
+    ∷ row 0x66 (codes "P2") (codes "P2")
+    ∷ []
+
+-- the numbers of the 35 words, in the order of the table
+unfoldable pub words : List ℕ
+words = map (λ row. row.word) table
+
+-- the place of a word in the table, from 0; None where the word is none of the 35
+unfoldable pub place_of : ℕ → Option ℕ
+place_of word = position (λ number. number == word) words

@@ -1,0 +1,25 @@
+-- Words and their elements (ITU-R M.476 and M.625: seven elements, each B or Y; four B and three Y in a signal).
+use Rattle.std.specs.Prelude.{◌≡◌, ℕ, ◌+◌, ◌*◌, ◌/◌, ◌%◌, ◌==◌, Bool, true, false, List, [], ◌∷◌, sum_by, zero, suc, if◌then◌else◌}
+
+-- the lowest elements of a number, so many of them, in the order of sending: the least place first, 1 is B
+unfoldable pub elements_from : ℕ → ℕ → List Bool
+elements_from zero number = []
+elements_from (suc count) number = (number % 2 == 1) ∷ elements_from count (number / 2)
+
+-- the seven elements of a word
+unfoldable pub elements : ℕ → List Bool
+elements number = elements_from 7 number
+
+-- what an element counts: B is 1, Y is 0
+abbrev pub value_of : Bool → ℕ
+value_of true = 1
+value_of false = 0
+
+-- the number whose elements these are
+unfoldable pub number_of : List Bool → ℕ
+number_of [] = 0
+number_of (bit ∷ bits) = value_of bit + 2 * number_of bits
+
+-- how many of a word's elements are B
+unfoldable pub weight : ℕ → ℕ
+weight number = sum_by value_of (elements number)

@@ -1,0 +1,83 @@
+//! What a receiver prints of the positions that it takes.
+
+ghost use Rattle.std.specs.Prelude.{◌≡◌, List, [], ◌∷◌, ◌++◌};
+ghost use Rattle.std.specs.Option.{option_to_list};
+ghost use Rattle.nx_code.specs.Reading.{Reception, combination, printed, prints, shift_after, shift_after_all, text};
+ghost use Rattle.nx_code.specs.Taken.{meaning};
+ghost use Rattle.nx_code.specs.declared.shifts.Shift.TheVariants.{Letters};
+
+use crate::shifts::{Shift, code_to_char};
+use crate::signals::{Comb, FIGURE_SHIFT, LETTER_SHIFT};
+use std::marker::Model;
+
+/// What was taken of a position from its two words.
+#[derive(Clone, Copy, Debug, PartialEq, Eq)]
+pub enum Taken {
+    /// A traffic combination.
+    Char(Comb),
+    /// A service signal: the position prints nothing.
+    Idle,
+    /// Neither word can be relied on: the position prints `*` (this profile).
+    Lost,
+}
+
+/// A reader of text, one position at a time. It starts in letters. Contracts see it as the shift in force.
+#[derive(Clone, Copy, Debug)]
+pub struct Printer {
+    shift: Shift,
+}
+
+impl Model for Printer {
+    ghost use Rattle.nx_code.specs.declared.shifts.Shift.{Shift};
+
+    ghost Value = { Shift };
+
+    ghost view = { λ printer. printer.shift };
+
+    ghost inverse = { λ shift. record { shift = shift } };
+}
+
+/// What a lost position prints.
+const LOST: u8 = b'*';
+
+impl Printer {
+    /// A reader that has read nothing.
+    pub fn new() -> Printer
+        ensures { result ≡ Letters }
+    {
+        Printer {
+            shift: Shift::Letters,
+        }
+    }
+
+    /// Takes the next position, and answers the byte that it prints, if any.
+    pub fn step(&mut self, taken: Taken) -> Option<u8>
+        ensures printed { result ≡ prints (meaning taken) self.old }
+        ensures shift { self.new ≡ shift_after (meaning taken) self.old }
+
+        // For the positions so far, from letters, the byte is the next of their text.
+        ensures reading { (positions : List Reception) → self.old ≡ shift_after_all positions Letters →
+            (self.new ≡ shift_after_all (positions ++ meaning taken ∷ []) Letters)
+            × (text (positions ++ meaning taken ∷ []) Letters ≡ text positions Letters ++ option_to_list result) }
+    {
+        match taken {
+            Taken::Char(comb) => self.print(comb),
+            Taken::Idle => None,
+            Taken::Lost => Some(LOST),
+        }
+    }
+
+    /// Takes a combination.
+    fn print(&mut self, comb: Comb) -> Option<u8>
+        ensures printed { result ≡ printed comb.number self.old }
+        ensures shift { self.new ≡ shift_after (combination comb.number) self.old }
+    {
+        let printed = code_to_char(comb, self.shift);
+        match comb.number {
+            LETTER_SHIFT => self.shift = Shift::Letters,
+            FIGURE_SHIFT => self.shift = Shift::Figures,
+            _ => {}
+        }
+        printed
+    }
+}

@@ -1,0 +1,122 @@
+//! Spelling: the combinations that a text is sent as.
+
+ghost use Rattle.std.specs.Prelude.{◌≡◌, ◌↔◌, ◌++◌, ◌∷◌, [], ℕ, Some, Err, IfOk, OnOk, IsTrue, map, not, position};
+ghost use Rattle.nx_code.specs.Characters.{is_in_code};
+ghost use Rattle.nx_code.specs.Reading.{combination, shift_after_all, text as reading_of};
+ghost use Rattle.nx_code.specs.Spelling.{Spells, numbers_of};
+ghost use Rattle.nx_code.specs.declared.signals.Comb.{Comb};
+
+use crate::shifts::{Shift, char_to_code};
+use crate::signals::Comb;
+use std::alloc::{AllocError, Global};
+use thiserror::Error;
+
+/// Why a text is not spelled.
+#[derive(Debug, Drop, Error)]
+pub enum SpellFault {
+    /// The least index, from 0, of a byte that is not in the code.
+    #[error("no signal for the character at {at}")]
+    NoSuchCharacter { at: u64 },
+    /// Memory ran out.
+    #[error("out of memory")]
+    Memory(AllocError),
+}
+
+impl From<AllocError> for SpellFault {
+    ghost use Rattle.std.specs.Prelude.{◌≡◌};
+    ghost use Rattle.nx_code.specs.declared.spelling.SpellFault.TheVariants.{Memory};
+
+    ghost from_gives = { λ error fault. fault ≡ Memory error };
+
+    fn from(error: AllocError) -> SpellFault {
+        SpellFault::Memory(error)
+    }
+}
+
+/// A newline, which is sent as carriage return and line feed.
+const NEWLINE: u8 = b'\n';
+
+/// The combinations of carriage return and line feed (M.476).
+const CARRIAGE_RETURN: Comb = Comb { number: 27 };
+
+const LINE_FEED: Comb = Comb { number: 28 };
+
+/// What a character is sent as: a carriage return or a shift ahead, where one is needed, and its
+/// combination; and the shift that is then in force.
+#[derive(Clone, Copy)]
+struct Piece {
+    ahead: Option<Comb>,
+    comb: Comb,
+    shift: Shift,
+}
+
+/// The index of the first byte that is not in the code.
+fn first_unknown(text: &[u8]) -> Option<usize>
+    ensures { result ≡ position (λ byte. not (is_in_code byte)) text.now }
+{
+    text.iter().position(|byte| char_to_code(*byte).is_none())
+}
+
+/// What a character of the code is sent as in a shift.
+fn piece_of(character: u8, shift: Shift) -> Piece
+    requires { IsTrue (is_in_code character) }
+    ensures spells { Spells (character ∷ []) shift (numbers_of result.ahead ++ result.comb.number ∷ []) }
+    ensures shift { result.shift
+        ≡ shift_after_all (map combination (numbers_of result.ahead ++ result.comb.number ∷ [])) shift }
+{
+    if character == NEWLINE {
+        return Piece {
+            ahead: Some(CARRIAGE_RETURN),
+            comb: LINE_FEED,
+            shift,
+        };
+    }
+    let (comb, case) = char_to_code(character).unwrap();
+    if case.stands_in(shift) {
+        return Piece {
+            ahead: None,
+            comb,
+            shift,
+        };
+    }
+    let shift = shift.other();
+    Piece {
+        ahead: Some(shift.comb()),
+        comb,
+        shift,
+    }
+}
+
+/// Writes a piece at the end.
+fn push_piece(combs: &mut Vec<Comb>, piece: Piece) -> Result<(), AllocError>
+    ensures { OnOk result (map (λ comb. comb.number) combs.new.items
+        ≡ map (λ comb. comb.number) combs.old.items ++ (numbers_of piece.ahead ++ piece.comb.number ∷ [])) }
+{
+    if let Some(ahead) = piece.ahead {
+        combs.push(ahead)?;
+    }
+    combs.push(piece.comb)?;
+    Ok(())
+}
+
+/// The spelling of a text from a shift: the one list of combinations that is read as the text and has no
+/// needless shift (M.476, M.540). A byte that is not in the code is refused before any memory is taken.
+pub fn spell(alloc: Global, text: &[u8], from: Shift) -> Result<Vec<Comb>, SpellFault>
+    ensures spelling { IfOk result (λ combs. Spells text.now from (map (λ comb. comb.number) combs.items)) }
+    ensures reading { IfOk result (λ combs.
+        reading_of (map combination (map (λ comb. comb.number) combs.items)) from ≡ text.now) }
+    ensures no_such_character { (at : ℕ) → (result ≡ Err (SpellFault.NoSuchCharacter at))
+        ↔ (position (λ byte. not (is_in_code byte)) text.now ≡ Some at) }
+{
+    if let Some(at) = first_unknown(text) {
+        return Err(SpellFault::NoSuchCharacter { at: at as u64 });
+    }
+    let mut combs = Vec::new(alloc);
+    let mut shift = from;
+    for character in text {
+        let piece = piece_of(*character, shift);
+        shift = piece.shift;
+        push_piece(&mut combs, piece)?;
+    }
+    Ok(combs)
+}

@@ -1,0 +1,113 @@
+//! Worked examples of the code.
+
+use super::*;
+use std::test::Fail;
+
+/// The combination of this number.
+fn comb(number: u8) -> Result<Comb, Fail> {
+    Ok(Comb::new(number).ok_or("a combination")?)
+}
+
+#[test]
+fn table_of_a(rt: HostRuntime) -> Result<(), Fail> {
+    let word = word_of(Signal::Traffic(comb(1)?));
+    assert_eq!(rt; word.number(), 0x47);
+    assert_eq!(rt;
+        word.elements(),
+        [true, true, true, false, false, false, true]
+    );
+    assert_eq!(rt;
+        Word::from_elements([true, true, true, false, false, false, true]),
+        word
+    );
+    assert_eq!(rt; signal_of(word), Some(Signal::Traffic(comb(1)?)));
+    assert_eq!(rt; Word::new(128), None);
+    assert_eq!(rt; comb(32)?.number(), 32);
+    Ok(())
+}
+
+#[test]
+fn service_signals(rt: HostRuntime) -> Result<(), Fail> {
+    for (number, signal) in [
+        (0x0F, Signal::Alpha),
+        (0x33, Signal::Beta),
+        (0x66, Signal::Repeat),
+    ] {
+        assert_eq!(rt; word_of(signal).number(), number);
+    }
+    Ok(())
+}
+
+#[test]
+fn weight_count(rt: HostRuntime) -> Result<(), Fail> {
+    let mut right = 0u32;
+    for number in 0..128 {
+        let word = Word::new(number).ok_or("a word")?;
+        if check_bits(word) {
+            right = right.saturating_add(1);
+        }
+    }
+    assert_eq!(rt; right, 35);
+    Ok(())
+}
+
+#[test]
+fn characters(rt: HostRuntime) -> Result<(), Fail> {
+    assert_eq!(rt; code_to_char(comb(4)?, Shift::Letters), Some(b'D'));
+    assert_eq!(rt; code_to_char(comb(4)?, Shift::Figures), None);
+    assert_eq!(rt; code_to_char(comb(28)?, Shift::Figures), Some(b'\n'));
+    assert_eq!(rt; char_to_code(b'9'), Some((comb(15)?, Case::Figures)));
+    assert_eq!(rt; char_to_code(b'Q'), Some((comb(17)?, Case::Letters)));
+    assert_eq!(rt; char_to_code(b'\n'), Some((comb(28)?, Case::Either)));
+    assert_eq!(rt; char_to_code(b' '), Some((comb(31)?, Case::Either)));
+    assert_eq!(rt; char_to_code(b'q'), None);
+    assert_eq!(rt; Shift::Letters.other(), Shift::Figures);
+    assert_eq!(rt; Shift::Figures.comb(), comb(30)?);
+    assert_eq!(rt; Case::Either.stands_in(Shift::Figures), true);
+    Ok(())
+}
+
+#[test]
+fn a_lost_position_and_a_space_leave_the_shift(rt: HostRuntime) -> Result<(), Fail> {
+    let mut printer = Printer::new();
+    let heard = [
+        (Taken::Char(comb(30)?), None),
+        (Taken::Char(comb(17)?), Some(b'1')),
+        (Taken::Lost, Some(b'*')),
+        (Taken::Char(comb(31)?), Some(b' ')),
+        (Taken::Idle, None),
+        (Taken::Char(comb(23)?), Some(b'2')),
+        (Taken::Char(comb(29)?), None),
+        (Taken::Char(comb(27)?), None),
+        (Taken::Char(comb(23)?), Some(b'W')),
+    ];
+    for (taken, printed) in heard {
+        assert_eq!(rt; printer.step(taken), printed);
+    }
+    Ok(())
+}
+
+#[test]
+fn spell_cases(rt: HostRuntime) -> Result<(), Fail> {
+    let combs = spell(rt.alloc(), b"A1 2-B\n", Shift::Letters)?;
+    let wanted = [1, 30, 17, 31, 23, 1, 29, 2, 27, 28];
+    assert_eq!(rt; combs.len(), wanted.len());
+    for (comb, number) in combs.iter().zip(wanted) {
+        assert_eq!(rt; comb.number(), number);
+    }
+    assert!(rt;
+        matches!(
+            spell(rt.alloc(), b"Ba", Shift::Letters),
+            Err(SpellFault::NoSuchCharacter { at: 1 })
+        )
+    );
+    assert_eq!(rt; spell(rt.alloc(), b"1", Shift::Figures)?.len(), 1);
+    Ok(())
+}
+
+#[test]
+fn laws_can_be_called() {
+    laws::reading_by_nearest_shift();
+    laws::words_are_their_elements();
+    laws::a_text_has_one_spelling();
+}

@@ -1,0 +1,83 @@
+-- What the words of the table count as, and the latest three of more words.
+use Rattle.std.proofs.Common.{◌≡◌, ℕ, ◌+◌, ◌-◌, ◌<◌, ◌≤◌, refl, sym, ap, ◌∙◌, subst, Bool, true, false, eqb, Option, Some, None, List, [], ◌∷◌, ◌++◌, length, get_or, drop, arith, length-append, length-drop}
+use Rattle.std.proofs.lemmas.Bool.{agree_below_at, eqb-true}
+use Rattle.std.proofs.lemmas.List.{drop-append-le, drop-drop}
+use Rattle.std.proofs.lemmas.List.Quantifiers.{position-Some}
+use Rattle.nx_code.specs.declared.signals.Signal.{Signal}
+use Rattle.nx_code.specs.declared.signals.Signal.TheVariants.{Traffic, Alpha, Beta, Repeat}
+use Rattle.nx_code.specs.Word.{weight, elements, elements_from}
+use Rattle.nx_code.specs.Table.{table, words, place_of}
+use Rattle.nx_code.specs.Signal.{number_of_signal}
+use Rattle.nx_fec.specs.declared.diversity.Heard.TheVariants.{Intact}
+use Rattle.nx_fec.specs.Pairing.{Counted, traffic, idle_signal, nothing, counted, counted_at, meaning, IsLatest}
+
+-- whether two words count alike
+abbrev is_alike : Counted → Counted → Bool
+is_alike (traffic m) (traffic n) = eqb m n
+is_alike (traffic m) idle_signal = false
+is_alike (traffic m) nothing = false
+is_alike idle_signal (traffic n) = false
+is_alike idle_signal idle_signal = true
+is_alike idle_signal nothing = false
+is_alike nothing (traffic n) = false
+is_alike nothing idle_signal = false
+is_alike nothing nothing = true
+
+is_alike-true : (a b : Counted) → is_alike a b ≡ true → a ≡ b
+is_alike-true (traffic m) (traffic n) h = ap traffic (eqb-true m n h)
+is_alike-true (traffic m) idle_signal h = cc
+is_alike-true (traffic m) nothing h = cc
+is_alike-true idle_signal (traffic n) h = cc
+is_alike-true idle_signal idle_signal h = refl
+is_alike-true idle_signal nothing h = cc
+is_alike-true nothing (traffic n) h = cc
+is_alike-true nothing idle_signal h = cc
+is_alike-true nothing nothing h = refl
+
+-- the word at a place of the table counts as that place
+pub counted-words : (at : ℕ) → at < 35 → counted (get_or words at 0) ≡ counted_at (Some at)
+unfolding table words place_of counted
+counted-words at h =
+    is_alike-true (counted (get_or words at 0)) (counted_at (Some at)) (agree_below_at (λ k. is_alike (counted (get_or words k 0)) (counted_at (Some k))) (λ _. true) 35 at refl h)
+
+-- the word of a combination counts as it
+pub counted-combination : (number : ℕ) → 1 ≤ number → number ≤ 32 → counted (get_or words (number - 1) 0) ≡ traffic number
+unfolding table words place_of counted
+counted-combination number low high =
+    let e : number - 1 + 1 ≡ number = omega arith in
+    subst (λ n. counted (get_or words (number - 1) 0) ≡ traffic n) e (is_alike-true (counted (get_or words (number - 1) 0)) (traffic (number - 1 + 1)) (agree_below_at (λ k. is_alike (counted (get_or words k 0)) (traffic (k + 1))) (λ _. true) 32 (number - 1) refl (omega arith)))
+
+-- the word of a signal counts as the signal does
+pub counted-number_of_signal : (signal : Signal) → counted (number_of_signal signal) ≡ meaning (Intact signal)
+counted-number_of_signal (Traffic comb) = counted-combination comb.number comb.from_one comb.to_thirty_two
+counted-number_of_signal Alpha = counted-words 32 (omega arith)
+counted-number_of_signal Beta = counted-words 33 (omega arith)
+counted-number_of_signal Repeat = counted-words 34 (omega arith)
+
+weight-words : (at : ℕ) → at < 35 → weight (get_or words at 0) ≡ 4
+unfolding table words weight elements elements_from
+weight-words at h = eqb-true (weight (get_or words at 0)) 4 (agree_below_at (λ k. eqb (weight (get_or words k 0)) 4) (λ _. true) 35 at refl h)
+
+-- a word that is found in the table has weight four
+weight-found : (word at : ℕ) → place_of word ≡ Some at → weight word ≡ 4
+unfolding table words place_of
+weight-found word at h =
+    let found = position-Some (λ n. eqb n word) words at 0 h in
+    subst (λ n. weight n ≡ 4) (eqb-true (get_or words at 0) word found.1) (weight-words at found.0)
+
+counted_at-none : (word : ℕ) (found : Option ℕ) → place_of word ≡ found → (weight word ≡ 4 → ⊥) → counted_at found ≡ nothing
+counted_at-none word (Some at) h wrong = absurd (wrong (weight-found word at h))
+counted_at-none word None h wrong = refl
+
+-- a word of a wrong weight counts as nothing
+pub counted-wrong : (word : ℕ) → (weight word ≡ 4 → ⊥) → counted word ≡ nothing
+unfolding counted
+counted-wrong word wrong = counted_at-none word (place_of word) refl wrong
+
+-- of the latest three and one more word the latest three are those of all words and this one
+pub IsLatest-push : (latest next words : List Counted) (x : Counted) → IsLatest latest words → IsLatest next (latest ++ x ∷ []) → IsLatest next (words ++ x ∷ [])
+IsLatest-push latest next words x old new =
+    let n : length latest ≡ length words - (length words - 3) = ap length old ∙ length-drop (length words - 3) words in
+    let e : drop (length words - 3) (words ++ x ∷ []) ≡ latest ++ x ∷ [] = drop-append-le (length words - 3) words (x ∷ []) (omega arith) ∙ ap (λ l. l ++ x ∷ []) (sym old) in
+    let k : (length words - 3) + (length (latest ++ x ∷ []) - 3) ≡ length (words ++ x ∷ []) - 3 = simp length-append (omega arith) in
+    new ∙ ap (drop (length (latest ++ x ∷ []) - 3)) (sym e) ∙ drop-drop (length (latest ++ x ∷ []) - 3) (length words - 3) (words ++ x ∷ []) ∙ ap (λ m. drop m (words ++ x ∷ [])) k

@@ -1,0 +1,11 @@
+use Rattle.nx_fec.proofs.LineLaws.{IsRefused-unique, IsAirFile-good, IsBitFile-unique}
+use Rattle.nx_fec.proofs.air_laws.one_outcome.Goals as goal
+
+pub returns-clause-fault : goal.returns-clause-fault
+returns-clause-fault c = IsRefused-unique
+
+pub returns-clause-lines : goal.returns-clause-lines
+returns-clause-lines c = IsAirFile-good
+
+pub returns-clause-elements : goal.returns-clause-elements
+returns-clause-elements c = IsBitFile-unique

@@ -1,0 +1,7 @@
+use Rattle.std.proofs.Common.{arith}
+use Rattle.std.proofs.lemmas.Grind.{common_steps}
+use Rattle.nx_fec.proofs.EmissionLemmas.{phasing_1-words, phasing_2-words}
+use Rattle.nx_fec.proofs.positions.Position.dx.Goals as goal
+
+pub returns : goal.returns
+returns c = grind (arith, common_steps, phasing_1-words, phasing_2-words)

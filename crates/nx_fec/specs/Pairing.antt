@@ -1,0 +1,65 @@
+-- Pairing (ITU-R M.625, collective mode B: each position is sent twice, as DX and, five slots later, as RX;
+-- that differing signals are lost is this profile's).
+use Rattle.std.specs.Prelude.{◌≡◌, ◌≢◌, ℕ, ◌+◌, ◌-◌, ◌==◌, nat_lt, if◌then◌else◌, List, Option, Some, None, length, drop, slice_index_or}
+use Rattle.nx_code.specs.declared.signals.Signal.TheVariants.{Traffic, Alpha, Beta, Repeat}
+use Rattle.nx_code.specs.Word.{weight}
+use Rattle.nx_code.specs.Table.{place_of}
+use Rattle.nx_code.specs.Signal.{number_of_signal}
+use Rattle.nx_code.specs.Reading.{Reception, combination, idle, lost}
+use Rattle.nx_fec.specs.declared.diversity.Heard.{Heard}
+use Rattle.nx_fec.specs.declared.diversity.Heard.TheVariants.{Intact, Wrong}
+
+-- what a word counts as: a traffic combination by its number, an idle signal (P1, P2 or beta), or nothing
+pub data Counted : Type 0 where
+  traffic : ℕ → Counted
+  idle_signal : Counted
+  nothing : Counted
+
+-- the first 32 rows of the table are the combinations, and the others the service signals
+abbrev pub counted_at : Option ℕ → Counted
+counted_at (Some place) = if nat_lt place 32 then traffic (place + 1) else idle_signal
+counted_at None = nothing
+
+-- what a word counts as, by its number; a word that isn't in the table has a wrong weight
+unfoldable pub counted : ℕ → Counted
+counted word = counted_at (place_of word)
+
+-- what is taken where one word alone counts
+abbrev pub alone : Counted → Option Reception
+alone (traffic n) = Some (combination n)
+alone idle_signal = Some idle
+alone nothing = None
+
+-- what is taken of a DX and an RX: where they count alike, or only one of them counts, that, and else nothing
+abbrev pub pairing : Counted → Counted → Reception
+pairing (traffic m) (traffic n) = if m == n then combination m else lost
+pairing (traffic m) idle_signal = lost
+pairing (traffic m) nothing = combination m
+pairing idle_signal (traffic n) = lost
+pairing idle_signal idle_signal = idle
+pairing idle_signal nothing = idle
+pairing nothing (traffic n) = combination n
+pairing nothing idle_signal = idle
+pairing nothing nothing = lost
+
+-- the DX of the RX that comes next, where these are the DX words so far, oldest first: it is the third last,
+-- or a word that wasn't seen
+abbrev pub third_last : List Counted → Counted
+third_last words = if nat_lt (length words) 3 then nothing else slice_index_or words (length words - 3) nothing
+
+-- these are the latest three of the DX words so far
+abbrev pub IsLatest : List Counted → List Counted → Type 0
+IsLatest latest words = latest ≡ drop (length words - 3) words
+
+-- what arrived of a word counts as the word does
+abbrev pub meaning : Heard → Counted
+meaning (Intact (Traffic comb)) = traffic comb.number
+meaning (Intact Alpha) = idle_signal
+meaning (Intact Beta) = idle_signal
+meaning (Intact Repeat) = idle_signal
+meaning Wrong = nothing
+
+-- this is what arrived of a word: the signal that it stands for, or none
+abbrev pub IsHeardOf : Heard → ℕ → Type 0
+IsHeardOf (Intact signal) word = number_of_signal signal ≡ word
+IsHeardOf Wrong word = weight word ≢ 4

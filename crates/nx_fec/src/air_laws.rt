@@ -1,0 +1,22 @@
+//! Laws of air files, over their definitions: each is the contract of a function that does nothing.
+ghost use Rattle.std.specs.Prelude.{◌≡◌, ℕ, Bool, List};
+ghost use Rattle.nx_fec.specs.AirFile.{Line, IsLine, spelling};
+ghost use Rattle.nx_fec.specs.Lines.{Splits, IsRefused, IsAirFile, IsBitFile};
+ghost use Rattle.nx_fec.specs.declared.fault.LineFault.{LineFault};
+
+/// Each line has a spelling of its own.
+pub fn one_spelling()
+    ensures { (a b : Line) → IsLine a → IsLine b → spelling a ≡ spelling b → a ≡ b }
+{}
+
+/// Bytes are lines and the beginning of one more in one way only.
+pub fn one_reading()
+    ensures { (bytes : List ℕ) (a b : List Line) (x y : List ℕ) → Splits bytes a x → Splits bytes b y → (a ≡ b) × (x ≡ y) }
+{}
+
+/// A file has one outcome: one fault, or no fault and one list of elements.
+pub fn one_outcome()
+    ensures fault { (limit : ℕ) (bytes : List ℕ) (a b : LineFault) → IsRefused limit bytes a → IsRefused limit bytes b → a ≡ b }
+    ensures lines { (limit : ℕ) (bytes : List ℕ) (lines : List Line) (why : LineFault) → IsAirFile limit bytes lines → IsRefused limit bytes why → ⊥ }
+    ensures elements { (limit : ℕ) (bytes : List ℕ) (a b : List Bool) → IsBitFile limit bytes a → IsBitFile limit bytes b → a ≡ b }
+{}

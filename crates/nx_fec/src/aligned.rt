@@ -1,0 +1,102 @@
+//! Decoding of words that stand in their slots from slot 0 on.
+
+ghost use Rattle.std.specs.Prelude.{◌≡◌, ◌≢◌, ◌+◌, ◌*◌, ◌%◌, ◌≤◌, length, IfOk, IfErr, OnOk};
+ghost use Rattle.nx_fec.specs.Aligned.{IsRefused, aligned_text, word_in, words_of};
+
+use crate::diversity::{Diversity, Heard};
+use nx_code::{ELEMENTS, Printer, Word};
+use std::alloc::{AllocError, Global};
+use thiserror::Error;
+
+/// Why elements can't be decoded as words from slot 0 on.
+#[derive(Clone, Copy, Debug, Drop, PartialEq, Eq, Error)]
+pub enum AlignedFault {
+    /// The count of elements is no multiple of seven.
+    #[error("{bits} elements are no whole words")]
+    Ragged {
+        /// How many elements were given.
+        bits: u64,
+    },
+    /// Memory for the text was refused.
+    #[error(transparent)]
+    Memory(AllocError),
+}
+
+/// The word in a slot of the elements.
+fn word_in(bits: &[bool], slot: usize) -> Word
+    requires { 7 * slot + 7 ≤ length bits.now }
+    ensures { result ≡ word_in bits.now slot }
+{
+    let at = ELEMENTS * slot;
+    let mut elements = [false; ELEMENTS];
+    elements.copy_from_slice(&bits[at..at + ELEMENTS]);
+    Word::from_elements(elements)
+}
+
+/// The text of the elements, whose first word is that of slot 0: each RX word is paired with the word five
+/// slots before it, or with a wrong weight where there is none, and read from letters. `Ragged` exactly where
+/// the count is no multiple of seven.
+pub fn decode_aligned(alloc: Global, bits: &[bool]) -> Result<Vec<u8>, AlignedFault>
+    ensures text { IfOk result (λ text. text.items ≡ aligned_text (words_of bits.now)) }
+    ensures whole { OnOk result (length bits.now % 7 ≡ 0) }
+    ensures refused { IfErr result (IsRefused bits.now) }
+{
+    if bits.len() % ELEMENTS != 0 {
+        return Err(AlignedFault::Ragged {
+            bits: bits.len() as u64,
+        });
+    }
+    let mut diversity = Diversity::new();
+    let mut printer = Printer::new();
+    let mut text = Vec::new(alloc);
+    for position in 0..bits.len() / (2 * ELEMENTS) {
+        diversity.dx(Heard::of(word_in(bits, 2 * position)));
+        let taken = diversity.rx(Heard::of(word_in(bits, 2 * position + 1)));
+        if let Some(byte) = printer.step(taken) {
+            text.push(byte)
+                .map_err(|_| AlignedFault::Memory(AllocError))?;
+        }
+    }
+    Ok(text)
+}
+
+#[cfg(test)]
+mod tests {
+    use super::*;
+    use std::test::Fail;
+
+    /// The elements of words by their numbers.
+    fn bits_of(alloc: Global, words: &[u8]) -> Result<Vec<bool>, Fail> {
+        let mut bits = Vec::new(alloc);
+        for word in words {
+            let word = Word::new(*word).ok_or("a word has seven elements")?;
+            bits.extend_from_slice(&word.elements())?;
+        }
+        Ok(bits)
+    }
+
+    #[test]
+    fn damaged_a(rt: HostRuntime) -> Result<(), Fail> {
+        let cases: [(u8, u8, &[u8]); 4] = [
+            (0x47, 0x47, b"A"),
+            (0x46, 0x47, b"A"),
+            (0x46, 0x46, b"*"),
+            (0x47, 0x72, b"*"),
+        ];
+        for (dx, rx, text) in cases {
+            let words = [
+                0x66, 0x0F, 0x66, 0x0F, 0x66, 0x0F, 0x66, 0x0F, dx, 0x0F, 0x0F, 0x0F, 0x0F, rx,
+                0x0F,
+            ];
+            let bits = bits_of(rt.alloc(), &words)?;
+            assert_eq!(rt; decode_aligned(rt.alloc(), &bits)?.as_slice(), text);
+        }
+        Ok(())
+    }
+
+    #[test]
+    fn no_whole_words(rt: HostRuntime) {
+        let fault = decode_aligned(rt.alloc(), &[true; 8]).err();
+        assert_eq!(rt; fault, Some(AlignedFault::Ragged { bits: 8 }));
+    }
+}

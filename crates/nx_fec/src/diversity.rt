@@ -1,0 +1,173 @@
+//! Diversity reception: a position is taken from its DX word and the RX word five slots later (M.625).
+
+ghost use Rattle.std.specs.Prelude.{◌≡◌, [], ◌∷◌, ◌++◌, List, length, drop, ◌-◌, IfSome, option_map};
+ghost use Rattle.nx_code.specs.Taken.{meaning as taken_meaning};
+ghost use Rattle.nx_fec.specs.declared.diversity.Heard.TheVariants.{Wrong};
+ghost use Rattle.nx_fec.specs.Pairing.{Counted, IsHeardOf, IsLatest, alone, counted, meaning, pairing, third_last};
+
+use arrayvec::ArrayVec;
+use nx_code::{Signal, Taken, Word, signal_of};
+use std::marker::Model;
+
+/// What arrived of a word.
+#[derive(Clone, Copy, Debug, PartialEq, Eq)]
+pub enum Heard {
+    /// The word had the weight of a signal.
+    Intact(Signal),
+    /// The word had a wrong weight, or it wasn't seen.
+    Wrong,
+}
+
+impl Default for Heard {
+    ghost is_default = { λ heard. heard ≡ Wrong };
+
+    /// A word that wasn't seen.
+    fn default() -> Heard {
+        Heard::Wrong
+    }
+}
+
+impl Heard {
+    /// What arrived of this word: the signal that it stands for, or a wrong weight.
+    pub fn of(word: Word) -> Heard
+        ensures heard { IsHeardOf result word }
+        ensures counts { meaning result ≡ counted word }
+    {
+        match signal_of(word) {
+            Some(signal) => Heard::Intact(signal),
+            None => Heard::Wrong,
+        }
+    }
+
+    /// What is taken where this word alone counts.
+    fn alone(self) -> Option<Taken>
+        ensures { option_map taken_meaning result ≡ alone (meaning self) }
+    {
+        match self {
+            Heard::Intact(Signal::Traffic(comb)) => Some(Taken::Char(comb)),
+            Heard::Intact(_) => Some(Taken::Idle),
+            Heard::Wrong => None,
+        }
+    }
+}
+
+/// Takes a position from its two words: what both count as, or the only one that counts; all else is lost.
+pub fn combine(dx: Heard, rx: Heard) -> Taken
+    ensures { taken_meaning result ≡ pairing (meaning dx) (meaning rx) }
+{
+    match (dx.alone(), rx.alone()) {
+        (Some(first), Some(second)) => { if first == second { first } else { Taken::Lost } }
+        (Some(taken), None) | (None, Some(taken)) => taken,
+        (None, None) => Taken::Lost,
+    }
+}
+
+/// How many DX words are kept: the RX of a position comes after the DX of the second next one.
+const DX_WORDS: usize = 3;
+
+/// The last three DX words, each of which waits for its RX. Contracts see what they count as, oldest first.
+#[derive(Debug, Drop)]
+pub struct Diversity {
+    latest: ArrayVec<Heard, DX_WORDS>,
+}
+
+impl Model for Diversity {
+    ghost use Rattle.std.specs.Prelude.{List, map};
+    ghost use Rattle.nx_fec.specs.Pairing.{Counted, meaning};
+
+    ghost Value = { List Counted };
+
+    ghost view = { λ diversity. map meaning diversity.latest.items };
+}
+
+impl Diversity {
+    /// No DX word was given.
+    pub fn new() -> Diversity
+        ensures { result ≡ [] }
+    {
+        Diversity {
+            latest: ArrayVec::new(),
+        }
+    }
+
+    /// Takes the next DX word.
+    pub fn dx(&mut self, heard: Heard)
+        ensures latest { IsLatest self.new (self.old ++ meaning heard ∷ []) }
+
+        // The value keeps the latest three of the DX words so far, whichever they are.
+        ensures stands { (words : List Counted) → IsLatest self.old words → IsLatest self.new (words ++ meaning heard ∷ []) }
+    {
+        if self.latest.is_full() {
+            self.latest.remove(0);
+        }
+        self.latest.push(heard);
+    }
+
+    /// Takes the next RX word, and answers the position that it completes: it is paired with the third last
+    /// DX word that was given, or with a wrong weight where fewer than three were.
+    pub fn rx(&mut self, heard: Heard) -> Taken
+        ensures paired { taken_meaning result ≡ pairing (third_last self.old) (meaning heard) }
+        ensures stands { (words : List Counted) → IsLatest self.old words → taken_meaning result ≡ pairing (third_last words) (meaning heard) }
+        ensures unchanged { self.new ≡ self.old }
+    {
+        let dx = if self.latest.is_full() {
+            self.latest[0]
+        } else {
+            Heard::Wrong
+        };
+        combine(dx, heard)
+    }
+}
+
+#[cfg(test)]
+mod tests {
+    use super::*;
+    use nx_code::Comb;
+    use std::test::Fail;
+
+    #[test]
+    fn combine_cases(rt: HostRuntime) -> Result<(), Fail> {
+        let letter_a = Comb::new(1).ok_or("A")?;
+        let letter_b = Comb::new(2).ok_or("B")?;
+        let a = Heard::Intact(Signal::Traffic(letter_a));
+        let b = Heard::Intact(Signal::Traffic(letter_b));
+        let alpha = Heard::Intact(Signal::Alpha);
+        let beta = Heard::Intact(Signal::Beta);
+        let repeat = Heard::Intact(Signal::Repeat);
+        let cases = [
+            (a, a, Taken::Char(letter_a)),
+            (a, Heard::Wrong, Taken::Char(letter_a)),
+            (Heard::Wrong, a, Taken::Char(letter_a)),
+            (Heard::Wrong, Heard::Wrong, Taken::Lost),
+            (a, b, Taken::Lost),
+            (a, alpha, Taken::Lost),
+            (repeat, alpha, Taken::Idle),
+            (beta, Heard::Wrong, Taken::Idle),
+        ];
+        for (dx, rx, taken) in cases {
+            assert_eq!(rt; combine(dx, rx), taken);
+        }
+        Ok(())
+    }
+
+    #[test]
+    fn the_third_last(rt: HostRuntime) -> Result<(), Fail> {
+        let letter_a = Comb::new(1).ok_or("A")?;
+        let a = Heard::of(Word::new(0x47).ok_or("A")?);
+        let wrong = Heard::of(Word::new(0x46).ok_or("no signal")?);
+        let idle = Heard::of(Word::new(0x0F).ok_or("P1")?);
+        assert_eq!(rt;
+            (a, wrong),
+            (Heard::Intact(Signal::Traffic(letter_a)), Heard::Wrong)
+        );
+        let mut diversity = Diversity::new();
+        diversity.dx(a);
+        diversity.dx(idle);
+        assert_eq!(rt; diversity.rx(wrong), Taken::Lost);
+        diversity.dx(idle);
+        assert_eq!(rt; diversity.rx(wrong), Taken::Char(letter_a));
+        diversity.dx(idle);
+        assert_eq!(rt; diversity.rx(wrong), Taken::Idle);
+        Ok(())
+    }
+}
