@@ -1,9 +1,11 @@
 -- How a run of the program ends: what it leaves on its devices, by the contracts of the calls, and
 -- the status with which it exits (this profile).
-use Rattle.std.specs.Prelude.{◌≡◌, ◌<◌, ◌⊎◌, ℕ, List, Option, Result, Ok, Err, alloc_error, length}
-use Rattle.std.specs.Io.KnownBytes.{Appends}
+use Rattle.std.specs.Prelude.{◌≡◌, ◌≤◌, ◌⊎◌, ◌↔◌, ℕ, List, Option, Result, Ok, Err, IfErr, IfSome, IsErrOf, alloc_error}
+use Rattle.std.specs.Io.KnownBytes.{Appends, Consumes, IsAtEnd}
 use Rattle.clap.specs.Words.{Text}
 use Rattle.nx_fec.specs.Devices.{Counted, WroteSome}
+use Rattle.nx_fec.specs.Runs.{AnswersDecoding, IsWriting}
+use Rattle.nx_fec.specs.declared.reading.TheConstants.{FILE_LIMIT}
 use Rattle.nx_cli.specs.declared.words.Call.{Call}
 use Rattle.nx_cli.specs.declared.words.Call.TheVariants.{Decode, Encode}
 use Rattle.nx_cli.specs.declared.program.Fault.{Fault}
@@ -41,14 +43,35 @@ pub record IsUntouched {R W : Type 0} (d : Devices R W) : Type 0 where
   pub reader : d.reader_after ≡ d.reader
   pub writer : d.writer_after ≡ d.writer
 
--- stand-in
-unfoldable pub Decodes : {R W : Type 0} → Devices R W → Result ℕ RunFault → Type 0
-Decodes d outcome = Unit {0}
+-- What a call says of the bytes that it read, by `known`, which may ask for the end of the input, and of the
+-- whole input where it is known, by `whole`. A call on a device that failed is the one that raised its count, and nothing
+-- was written before all else succeeded.
+pub record Transfers {R W : Type 0} (known whole : List ℕ → Type 0) (d : Devices R W) (outcome : Result ℕ RunFault) : Type 0 where
+  pub bytes : List ℕ
+  pub consumed : Consumes (d.remaining d.reader.inner) (d.remaining d.reader_after.inner) bytes
+  pub answer : known bytes
+  pub file : IfSome (d.remaining d.reader.inner) whole
+  pub read_failed : IsErrOf outcome run.Read ↔ (d.reader_after.failures ≡ 1)
+  pub read_once : d.reader_after.failures ≤ 1
+  pub write_failed : ((written : ℕ) × (outcome ≡ Err (run.Write written))) ↔ (d.writer_after.failures ≡ 1)
+  pub write_once : d.writer_after.failures ≤ 1
+  pub untouched : IfErr outcome (λ why. (IsWriting why → ⊥) → d.writer_after ≡ d.writer)
+
+-- no input is left
+abbrev pub IsReadOut : {R W : Type 0} → Devices R W → Type 0
+IsReadOut d = IsAtEnd (d.remaining d.reader_after.inner)
+
+-- what decoding answers of the bytes
+abbrev pub Decodes : {R W : Type 0} → Type 0 → Devices R W → Result ℕ RunFault → List ℕ → Type 0
+Decodes AtEnd d outcome bytes =
+    AnswersDecoding AtEnd FILE_LIMIT bytes (d.contents d.writer.inner) (d.contents d.writer_after.inner) outcome
 
 -- the call did on the devices what its outcome says
 abbrev pub Performs : {R W : Type 0} → Call → Devices R W → Result ℕ RunFault → Type 0
-Performs Decode d outcome = Decodes d outcome
-Performs Encode d outcome = Decodes d outcome
+Performs Decode d outcome =
+    Transfers (Decodes (IsReadOut d) d outcome) (Decodes (Unit {0}) d outcome) d outcome
+Performs Encode d outcome =
+    Transfers (Decodes (IsReadOut d) d outcome) (Decodes (Unit {0}) d outcome) d outcome
 
 -- the words name a call, which had this outcome
 pub record RunsCall {R W : Type 0} (words : List Text) (d : Devices R W) (outcome : Result ℕ RunFault) : Type 0 where

@@ -2,7 +2,6 @@
 #![tactic(auto)]
 
 mod program;
-mod stand_in;
 #[cfg(test)]
 mod tests;
 mod words;

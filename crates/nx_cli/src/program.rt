@@ -10,9 +10,8 @@ ghost use Rattle.nx_cli.specs.declared.words.Call.{Call};
 ghost use Rattle.nx_cli.specs.declared.program.Fault.{Fault};
 ghost use Rattle.nx_cli.specs.declared.program.Fault.TheVariants.{Run};
 
-use crate::stand_in::decode_run;
 use crate::words::{Call, WordsFault, call_of};
-use nx_fec::{Counting, RunFault, write_out};
+use nx_fec::{Counting, RunFault, decode_run, write_out};
 use std::alloc::{AllocError, Global};
 use std::convert::AsStr;
 use std::io;
