@@ -1,13 +1,20 @@
 -- What a run over an air file answers (this profile).
-use Rattle.std.specs.Prelude.{◌≡◌, ◌≢◌, ℕ, ◌%◌, Bool, List, length, Option, Result, Ok, Err, ⊤}
+use Rattle.std.specs.Prelude.{◌≡◌, ◌≢◌, ℕ, ◌%◌, ◌<◌, ◌≤◌, Bool, not, List, length, position, Option, Some, Result, Ok, Err, ⊤}
 use Rattle.std.specs.Io.KnownBytes.{Appends}
 use Rattle.std.specs.List.{flat_map}
 use Rattle.nx_fec.specs.AirFile.{Line}
-use Rattle.nx_fec.specs.Lines.{IsRefused, IsBitFile, Scanning, Scans, elements_of}
+use Rattle.nx_fec.specs.Lines.{IsRefused, IsBitFile, file_of, Scanning, Scans, elements_of}
 use Rattle.nx_fec.specs.Aligned.{aligned_text, words_of}
 use Rattle.nx_fec.specs.Devices.{WroteSome}
 use Rattle.nx_fec.specs.declared.fault.LineFault.{LineFault}
 use Rattle.nx_fec.specs.declared.fault.LineFault.TheVariants as file
+use Rattle.nx_fec.specs.BitLines.{bit_lines}
+use Rattle.nx_fec.specs.Emission.{bits_of, emission, framed}
+use Rattle.nx_code.specs.Characters.{is_in_code}
+use Rattle.nx_code.specs.Spelling.{Spells}
+use Rattle.nx_code.specs.declared.shifts.Shift.TheVariants.{Letters}
+use Rattle.nx_code.specs.declared.spelling.SpellFault.{SpellFault}
+use Rattle.nx_code.specs.declared.spelling.SpellFault.TheVariants as spelling
 use Rattle.nx_fec.specs.declared.aligned.AlignedFault.{AlignedFault}
 use Rattle.nx_fec.specs.declared.aligned.AlignedFault.TheVariants as words
 use Rattle.nx_fec.specs.declared.fault.RunFault.{RunFault}
@@ -89,3 +96,43 @@ IsWriting (Ragged bits) = ⊥
 IsWriting (NoSuchCharacter at) = ⊥
 IsWriting (Write written) = ⊤
 IsWriting (Memory error) = ⊥
+
+-- what a fault of reading a text whole says of its bytes: it is too long, or the reader or memory failed
+abbrev pub ExplainsWhole : ℕ → List ℕ → RunFault → Type 0
+ExplainsWhole limit bytes Read = ⊤
+ExplainsWhole limit bytes FileTooLong = limit < length bytes
+ExplainsWhole limit bytes (LineLong line) = ⊥
+ExplainsWhole limit bytes (LineCut line) = ⊥
+ExplainsWhole limit bytes (BadLine line) = ⊥
+ExplainsWhole limit bytes (Ragged bits) = ⊥
+ExplainsWhole limit bytes (NoSuchCharacter at) = ⊥
+ExplainsWhole limit bytes (Write written) = ⊥
+ExplainsWhole limit bytes (Memory error) = ⊤
+
+-- the fault of a run that stands for the fault of a spelling
+abbrev pub spell_fault : SpellFault → RunFault
+spell_fault (spelling.NoSuchCharacter at) = NoSuchCharacter at
+spell_fault (spelling.Memory error) = Memory error
+
+-- The file that a text is encoded as, and how many positions it has: the text is spelled from letters, with four
+-- positions of phasing before it and three of the end after it, and the bits of their emission stand in lines.
+pub record IsEncoded (text file : List ℕ) (positions : ℕ) : Type 0 where
+  pub numbers : List ℕ
+  pub spells : Spells text Letters numbers
+  pub written : file ≡ file_of (bit_lines (bits_of (emission (framed numbers))))
+  pub count : positions ≡ length (framed numbers)
+
+-- What a fault of encoding says: the text has a character that isn't in the code, the first at this index, or its file
+-- was written in part. Each other fault is one of reading a text whole.
+abbrev pub ExplainsEncoding : Type 0 → ℕ → List ℕ → Option (List ℕ) → Option (List ℕ) → RunFault → Type 0
+ExplainsEncoding AtEnd limit bytes old new (NoSuchCharacter at) =
+    AtEnd × (length bytes ≤ limit) × (position (λ byte. not (is_in_code byte)) bytes ≡ Some at)
+ExplainsEncoding AtEnd limit bytes old new (Write written) =
+    AtEnd × (length bytes ≤ limit) × (file : List ℕ) × (positions : ℕ) × IsEncoded bytes file positions × WroteSome old new file written
+ExplainsEncoding AtEnd limit bytes old new fault = ExplainsWhole limit bytes fault
+
+-- what encoding answers to a text: the count of its positions, whose file was written, or a fault
+abbrev pub AnswersEncoding : Type 0 → ℕ → List ℕ → Option (List ℕ) → Option (List ℕ) → Result ℕ RunFault → Type 0
+AnswersEncoding AtEnd limit bytes old new (Ok positions) =
+    AtEnd × (length bytes ≤ limit) × (file : List ℕ) × IsEncoded bytes file positions × Appends old new file
+AnswersEncoding AtEnd limit bytes old new (Err fault) = ExplainsEncoding AtEnd limit bytes old new fault

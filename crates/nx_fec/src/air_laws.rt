@@ -1,5 +1,6 @@
 //! Laws of air files, over their definitions: each is the contract of a function that does nothing.
-ghost use Rattle.std.specs.Prelude.{◌≡◌, ℕ, Bool, List};
+ghost use Rattle.std.specs.Prelude.{◌≡◌, ◌≤◌, ℕ, Bool, List, length};
+ghost use Rattle.nx_fec.specs.Runs.{IsEncoded, IsDecoded};
 ghost use Rattle.nx_fec.specs.AirFile.{Line, IsLine, spelling};
 ghost use Rattle.nx_fec.specs.Lines.{Splits, IsRefused, IsAirFile, IsBitFile};
 ghost use Rattle.nx_fec.specs.declared.fault.LineFault.{LineFault};
@@ -19,4 +20,11 @@ pub fn one_outcome()
     ensures fault { (limit : ℕ) (bytes : List ℕ) (a b : LineFault) → IsRefused limit bytes a → IsRefused limit bytes b → a ≡ b }
     ensures lines { (limit : ℕ) (bytes : List ℕ) (lines : List Line) (why : LineFault) → IsAirFile limit bytes lines → IsRefused limit bytes why → ⊥ }
     ensures elements { (limit : ℕ) (bytes : List ℕ) (a b : List Bool) → IsBitFile limit bytes a → IsBitFile limit bytes b → a ≡ b }
+{}
+
+/// Decoding gives back what was encoded, wherever its file keeps to the limit; and a file has one text.
+pub fn decoding_of_encoding()
+    ensures text { (limit : ℕ) (text file : List ℕ) (positions : ℕ) → IsEncoded text file positions
+        → length file ≤ limit → IsDecoded limit file text }
+    ensures only { (limit : ℕ) (file a b : List ℕ) → IsDecoded limit file a → IsDecoded limit file b → a ≡ b }
 {}

@@ -1,5 +1,6 @@
 //! The faults of air files and of runs over readers and writers.
 use crate::aligned::AlignedFault;
+use nx_code::SpellFault;
 use std::alloc::AllocError;
 use thiserror::Error;
 
@@ -17,7 +18,7 @@ pub enum LineFault {
 }
 
 /// Why a run over a reader, and a writer, ended early. Lines count from 1, characters from 0.
-#[derive(Debug, Drop, Error)]
+#[derive(Clone, Copy, Debug, Drop, PartialEq, Eq, Error)]
 pub enum RunFault {
     /// A read failed.
     #[error("read failed")]
@@ -106,5 +107,61 @@ impl From<AlignedFault> for RunFault {
             AlignedFault::Ragged { bits } => RunFault::Ragged { bits },
             AlignedFault::Memory(error) => RunFault::Memory(error),
         }
+    }
+}
+
+impl From<SpellFault> for RunFault {
+    ghost use Rattle.std.specs.Prelude.{◌≡◌};
+    ghost use Rattle.nx_fec.specs.Runs.{spell_fault};
+
+    ghost from_gives = { λ fault made. made ≡ spell_fault fault };
+
+    fn from(fault: SpellFault) -> RunFault {
+        match fault {
+            SpellFault::NoSuchCharacter { at } => RunFault::NoSuchCharacter { at },
+            SpellFault::Memory(error) => RunFault::Memory(error),
+        }
+    }
+}
+
+#[cfg(test)]
+mod tests {
+    use super::*;
+    use std::test::Fail;
+
+    #[test]
+    fn texts_of_faults(rt: HostRuntime) -> Result<(), Fail> {
+        let cases = [
+            (RunFault::Read, "read failed"),
+            (RunFault::FileTooLong, "file longer than 1048576 bytes"),
+            (
+                RunFault::LineLong { line: 2 },
+                "line 2 is longer than 514 bytes",
+            ),
+            (RunFault::LineCut { line: 3 }, "line 3 has no end"),
+            (RunFault::BadLine { line: 4 }, "line 4 is not understood"),
+            (
+                RunFault::Ragged { bits: 8 },
+                "8 elements are no whole words",
+            ),
+            (
+                RunFault::NoSuchCharacter { at: 0 },
+                "no signal for the character at 0",
+            ),
+            (
+                RunFault::Write { written: 10 },
+                "write failed after 10 bytes",
+            ),
+            (RunFault::Memory(AllocError), "out of memory"),
+        ];
+        for (fault, text) in cases {
+            assert_eq!(rt; fault.to_string(rt.alloc())?.as_str(), text);
+        }
+        let fault = WriteFault { written: 10 };
+        assert_eq!(rt;
+            fault.to_string(rt.alloc())?.as_str(),
+            "write failed after 10 bytes"
+        );
+        Ok(())
     }
 }

@@ -6,7 +6,7 @@ ghost use Rattle.nx_fec.specs.AirFile.{meaning};
 ghost use Rattle.nx_fec.specs.declared.fault.LineFault.{LineFault};
 ghost use Rattle.std.specs.List.{flat_map};
 ghost use Rattle.std.specs.Option.{option_map};
-ghost use Rattle.nx_fec.specs.Runs.{Explains, HasRead, IsOutside, run_fault};
+ghost use Rattle.nx_fec.specs.Runs.{Explains, ExplainsWhole, HasRead, IsOutside, run_fault};
 
 use crate::air_file::AirLine;
 use crate::counting::Counting;
@@ -84,6 +84,63 @@ fn read_through<R: Read>(
     }
     scanner.end()?;
     Ok(bits)
+}
+
+/// Reads a file whole.
+///
+/// `Read` where a read failed, `FileTooLong` where there is a byte past the limit, and `Memory` where it ran out.
+pub fn read_whole<R: Read>(alloc: Global, reader: &mut Counting<R>) -> Result<Vec<u8>, RunFault>
+    requires { reader.old.failures ≡ 0 }
+
+    // Whatever the reader tells of its bytes: it gave some, and the answer is that of these.
+    ensures known { (bytes : List ℕ) × Consumes (R.remaining reader.old.inner) (R.remaining reader.new.inner) bytes
+        × MatchResult result
+        (λ text. IsAtEnd (R.remaining reader.new.inner) × (length bytes ≤ FILE_LIMIT) × (text.items ≡ bytes))
+        (λ fault. ExplainsWhole FILE_LIMIT bytes fault) }
+
+    // Where its bytes are known, the answer is that of the whole file, however they came.
+    ensures file { IfSome (R.remaining reader.old.inner) (λ xs. MatchResult result
+        (λ text. (length xs ≤ FILE_LIMIT) × (text.items ≡ xs))
+        (λ fault. ExplainsWhole FILE_LIMIT xs fault)) }
+    ensures failed { IsErrOf result RunFault.Read ↔ (reader.new.failures ≡ 1) }
+    ensures once { reader.new.failures ≤ 1 }
+{
+    let mut space = blank(alloc, CHUNK)?;
+    gather(alloc, reader, space.as_mut_slice())
+}
+
+// Reads a file whole through this buffer.
+fn gather<R: Read>(
+    alloc: Global,
+    reader: &mut Counting<R>,
+    buffer: &mut [u8],
+) -> Result<Vec<u8>, RunFault>
+    requires none { reader.old.failures ≡ 0 }
+    requires room { 0 < length buffer.old }
+    ensures known { (bytes : List ℕ) × Consumes (R.remaining reader.old.inner) (R.remaining reader.new.inner) bytes
+        × MatchResult result
+        (λ text. IsAtEnd (R.remaining reader.new.inner) × (length bytes ≤ FILE_LIMIT) × (text.items ≡ bytes))
+        (λ fault. ExplainsWhole FILE_LIMIT bytes fault) }
+    ensures file { IfSome (R.remaining reader.old.inner) (λ xs. MatchResult result
+        (λ text. (length xs ≤ FILE_LIMIT) × (text.items ≡ xs))
+        (λ fault. ExplainsWhole FILE_LIMIT xs fault)) }
+    ensures failed { IsErrOf result RunFault.Read ↔ (reader.new.failures ≡ 1) }
+    ensures once { reader.new.failures ≤ 1 }
+{
+    let mut whole = Vec::new(alloc);
+    loop {
+        let Ok(taken) = reader.read(buffer) else {
+            return Err(RunFault::Read);
+        };
+        if taken == 0 {
+            break;
+        }
+        if taken as u64 > FILE_LIMIT - whole.len() as u64 {
+            return Err(RunFault::FileTooLong);
+        }
+        whole.extend_from_slice(&buffer[..taken])?;
+    }
+    Ok(whole)
 }
 
 // A buffer of this many bytes.

@@ -1,14 +1,18 @@
 //! Whole runs: from what is read to what is written.
-ghost use Rattle.std.specs.Prelude.{◌≡◌, ◌≤◌, ◌↔◌, ℕ, List, IfSome, IfErr, Err, IsErrOf};
+ghost use Rattle.std.specs.Prelude.{◌≡◌, ◌≤◌, ◌↔◌, ℕ, List, map, IfSome, IfOk, IfErr, Err, IsErrOf};
+ghost use Rattle.nx_fec.specs.Emission.{framed, meaning};
 ghost use Rattle.std.specs.Io.KnownBytes.{Consumes, IsAtEnd};
-ghost use Rattle.nx_fec.specs.Runs.{AnswersDecoding, IsWriting};
+ghost use Rattle.nx_fec.specs.Runs.{AnswersDecoding, AnswersEncoding, IsWriting};
 
 use crate::aligned::decode_aligned;
 use crate::counting::Counting;
+use crate::emission::to_bits;
 use crate::fault::RunFault;
-use crate::reading::{FILE_LIMIT, read_bits};
-use crate::writing::write_out;
-use std::alloc::Global;
+use crate::positions::Position;
+use crate::reading::{FILE_LIMIT, read_bits, read_whole};
+use crate::writing::{write_bits, write_out};
+use nx_code::{Comb, Shift, spell};
+use std::alloc::{AllocError, Global};
 use std::io::{Read, Write};
 
 /// Reads an air file to its end, decodes its elements as words from slot 0 on, and writes their text. Answers how many
@@ -44,4 +48,142 @@ pub fn decode_run<R: Read, W: Write>(
     let text = decode_aligned(alloc, &bits)?;
     write_out(writer, &text)?;
     Ok(text.len() as u64)
+}
+
+/// Reads a text whole, and writes it as an air file: the text spelled from letters, with four positions of phasing before
+/// it and three of the end after it. Answers how many positions were written.
+///
+/// `Read` and `FileTooLong` come first, then `NoSuchCharacter`, then `Write`. Nothing is written before all else
+/// succeeded. Memory may run out at any growth.
+pub fn encode_run<R: Read, W: Write>(
+    alloc: Global,
+    reader: &mut Counting<R>,
+    writer: &mut Counting<W>,
+) -> Result<u64, RunFault>
+    requires reader { reader.old.failures ≡ 0 }
+    requires writer { writer.old.failures ≡ 0 }
+
+    // Whatever the reader tells of its bytes: it gave some, and the answer is that of these.
+    ensures known { (bytes : List ℕ) × Consumes (R.remaining reader.old.inner) (R.remaining reader.new.inner) bytes
+        × AnswersEncoding (IsAtEnd (R.remaining reader.new.inner)) FILE_LIMIT bytes
+        (W.contents writer.old.inner) (W.contents writer.new.inner) result }
+
+    // Where its bytes are known, the answer is that of the whole text, however they came.
+    ensures file { IfSome (R.remaining reader.old.inner) (λ xs. AnswersEncoding (Unit {0}) FILE_LIMIT xs
+        (W.contents writer.old.inner) (W.contents writer.new.inner) result) }
+
+    // A call that failed is the one that raised its count. Before all else succeeded nothing is written.
+    ensures read_failed { IsErrOf result RunFault.Read ↔ (reader.new.failures ≡ 1) }
+    ensures read_once { reader.new.failures ≤ 1 }
+    ensures write_failed { ((written : ℕ) × (result ≡ Err (RunFault.Write written))) ↔ (writer.new.failures ≡ 1) }
+    ensures write_once { writer.new.failures ≤ 1 }
+    ensures untouched { IfErr result (λ fault. (IsWriting fault → ⊥) → writer.new ≡ writer.old) }
+{
+    let text = read_whole(alloc, reader)?;
+    let combs = spell(alloc, &text, Shift::Letters)?;
+    let positions = framed_positions(alloc, &combs)?;
+    let bits = to_bits(alloc, &positions)?;
+    write_bits(writer, &bits)?;
+    Ok(positions.len() as u64)
+}
+
+// The positions by which combinations are sent alone.
+fn framed_positions(alloc: Global, combs: &[Comb]) -> Result<Vec<Position>, AllocError>
+    ensures { IfOk result (λ positions. map meaning positions.items ≡ framed (map (λ comb. comb.number) combs.now)) }
+{
+    let mut positions = Vec::new(alloc);
+    positions.extend_from_slice(&[Position::Phasing; 4])?;
+    for comb in combs {
+        positions.push(Position::Traffic(*comb))?;
+    }
+    positions.extend_from_slice(&[Position::End; 3])?;
+    Ok(positions)
+}
+
+#[cfg(test)]
+mod tests {
+    use super::*;
+    use crate::fault::WriteFault;
+    use std::test::Fail;
+
+    /// The file of the text A.
+    const FILE_OF_A: &[u8] =
+        b"B 011001111110000110011111100001100111111000011001111110001110001111100011110001111000111100011100011111000\n";
+
+    /// The characters of the code, in both shifts.
+    const ALL: &[u8] = b"ABCDEFGHIJKLM1234567890NOPQRSTUVWXYZ -?:().,\n'=+/ Z9\n\n";
+
+    /// What decoding answers to a file, and writes.
+    fn decoded(alloc: Global, file: &[u8]) -> Result<(Result<u64, RunFault>, Vec<u8>), Fail> {
+        let mut writer = Counting::new(Vec::new(alloc));
+        let outcome = decode_run(alloc, &mut Counting::new(file), &mut writer);
+        Ok((outcome, writer.into_inner()))
+    }
+
+    /// What encoding answers to a text, and writes.
+    fn encoded(alloc: Global, text: &[u8]) -> Result<(Result<u64, RunFault>, Vec<u8>), Fail> {
+        let mut writer = Counting::new(Vec::new(alloc));
+        let outcome = encode_run(alloc, &mut Counting::new(text), &mut writer);
+        Ok((outcome, writer.into_inner()))
+    }
+
+    #[test]
+    fn decode_cases(rt: HostRuntime) -> Result<(), Fail> {
+        let cases: [(&[u8], Result<u64, RunFault>, &[u8]); 5] = [
+            (FILE_OF_A, Ok(1), b"A"),
+            (b"", Ok(0), b""),
+            (b"B 01100111\n", Err(RunFault::Ragged { bits: 8 }), b""),
+            (b"B 012\n", Err(RunFault::BadLine { line: 1 }), b""),
+            (b"T 5\nAS E\nB 0", Err(RunFault::LineCut { line: 3 }), b""),
+        ];
+        for (file, outcome, text) in cases {
+            let (answer, written) = decoded(rt.alloc(), file)?;
+            assert_eq!(rt; answer, outcome);
+            assert_eq!(rt; written.as_slice(), text);
+        }
+        Ok(())
+    }
+
+    #[test]
+    fn encode_cases(rt: HostRuntime) -> Result<(), Fail> {
+        let (answer, file) = encoded(rt.alloc(), b"A")?;
+        assert_eq!(rt; answer, Ok(8));
+        assert_eq!(rt; file.as_slice(), FILE_OF_A);
+        let (answer, file) = encoded(rt.alloc(), b"a")?;
+        assert_eq!(rt; answer, Err(RunFault::NoSuchCharacter { at: 0 }));
+        assert_eq!(rt; file.len(), 0);
+        let (answer, file) = encoded(rt.alloc(), b"")?;
+        assert_eq!(rt; answer, Ok(7));
+        assert_eq!(rt; file.len(), 94);
+        assert_eq!(rt; decoded(rt.alloc(), &file)?.1.len(), 0);
+        Ok(())
+    }
+
+    #[test]
+    fn all_characters(rt: HostRuntime) -> Result<(), Fail> {
+        let (_, file) = encoded(rt.alloc(), ALL)?;
+        let (answer, text) = decoded(rt.alloc(), &file)?;
+        assert_eq!(rt; answer, Ok(ALL.len() as u64));
+        assert_eq!(rt; text.as_slice(), ALL);
+        Ok(())
+    }
+
+    #[test]
+    fn full_writers(rt: HostRuntime) -> Result<(), Fail> {
+        let mut space = [0; 10];
+        let mut writer = Counting::new(&mut space[..]);
+        let outcome = encode_run(rt.alloc(), &mut Counting::new(&b"A"[..]), &mut writer);
+        assert_eq!(rt; outcome, Err(RunFault::Write { written: 10 }));
+        assert_eq!(rt; writer.failures(), 1);
+        assert_eq!(rt; writer.write(b"B").is_err(), true);
+        assert_eq!(rt; writer.flush().is_err(), true);
+        assert_eq!(rt; writer.failures(), 3);
+        assert_eq!(rt; space, *b"B 01100111");
+        let mut writer = Counting::new(&mut space[..]);
+        assert_eq!(rt;
+            write_out(&mut writer, b"0123456789A"),
+            Err(WriteFault { written: 10 })
+        );
+        Ok(())
+    }
 }

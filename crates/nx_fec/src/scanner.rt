@@ -119,3 +119,30 @@ impl Scanner {
         })
     }
 }
+
+#[cfg(test)]
+mod tests {
+    use super::*;
+    use std::test::Fail;
+
+    #[test]
+    fn lines_byte_by_byte(rt: HostRuntime) -> Result<(), Fail> {
+        let mut scanner = Scanner::new(20);
+        let mut ended = 0u64;
+        for byte in b"T 5\nB 01\nRS EX" {
+            if scanner.push(*byte).ok().ok_or("a good byte")? {
+                ended = ended.wrapping_add(1);
+            }
+        }
+        assert_eq!(rt; ended, 2);
+        assert_eq!(rt; scanner.lines(), 2);
+        let latest = scanner.latest().ok_or("a line")?;
+        let AirLine::Bits(bits) = latest else {
+            return Err("elements".into());
+        };
+        assert_eq!(rt; bits.as_slice(), [false, true].as_slice());
+        assert_eq!(rt; scanner.end(), Err(LineFault::LineCut { line: 3 }));
+        assert_eq!(rt; scanner.push(b'\n'), Err(LineFault::BadLine { line: 3 }));
+        Ok(())
+    }
+}

@@ -1,0 +1,60 @@
+-- Worked examples of the definitions of air files.
+use Rattle.std.proofs.Common.{◌≡◌, ◌≢◌, ◌≤◌, ◌<◌, ◌+◌, ℕ, true, false, [], ◌∷◌, ◌++◌, codes, length, refl, arith}
+use Rattle.std.proofs.lemmas.Fmt.{decimal_digit}
+use Rattle.nx_fec.specs.AirFile.{Line, moment, elements, refuse_station, accept_subject, spelling, IsLine}
+use Rattle.nx_fec.specs.Lines.{file_of, IsRefused, IsAirFile, IsBitFile}
+use Rattle.nx_fec.specs.BitLines.{bit_lines}
+use Rattle.nx_fec.specs.declared.fault.LineFault.TheVariants.{TooLong, LineLong, LineCut, BadLine}
+
+-- a line of elements, and a command
+pub elements-spelled : spelling (elements (false ∷ true ∷ true ∷ [])) ≡ codes "B 011"
+elements-spelled = refl
+
+pub refusal-spelled : spelling (refuse_station 69) ≡ codes "RS E"
+refusal-spelled = refl
+
+pub moment-spelled : spelling (moment 5) ≡ codes "T 5"
+moment-spelled = rw (decimal_digit 5 (omega arith)) refl
+
+-- two lines, each with its end
+pub two-lines : file_of (elements (true ∷ []) ∷ accept_subject 65 ∷ []) ≡ codes "B 1" ++ (10 ∷ (codes "AJ A" ++ (10 ∷ [])))
+two-lines = refl
+
+-- the elements of these lines
+pub two-lines-elements : IsBitFile 9 (codes "B 1" ++ (10 ∷ (codes "AJ A" ++ (10 ∷ [])))) (true ∷ [])
+two-lines-elements = record {
+  lines = elements (true ∷ []) ∷ accept_subject 65 ∷ [];
+  file = record { whole = refl; each = ((omega arith, omega arith), ((omega arith, omega arith), tt)); within = omega arith };
+  joined = refl;
+}
+
+-- the same file with a limit of 8 bytes is too long
+pub two-lines-too-long : IsRefused 8 (codes "B 1" ++ (10 ∷ (codes "AJ A" ++ (10 ∷ [])))) TooLong
+two-lines-too-long = record {
+  lines = elements (true ∷ []) ∷ [];
+  rest = codes "AJ A";
+  more = 10 ∷ [];
+  whole = refl;
+  each = ((omega arith, omega arith), tt);
+  part = record { none = ((λ e. absurd (omega arith)), ((λ e. absurd (omega arith)), ((λ e. absurd (omega arith)), ((λ e. absurd (omega arith)), tt)))); short = omega arith };
+  cause = refl;
+}
+
+-- a line that isn't ended
+pub cut-line : IsRefused 9 (codes "B 1" ++ (10 ∷ codes "AJ")) (LineCut 2)
+cut-line = record {
+  lines = elements (true ∷ []) ∷ [];
+  rest = codes "AJ";
+  more = [];
+  whole = refl;
+  each = ((omega arith, omega arith), tt);
+  part = record { none = ((λ e. absurd (omega arith)), ((λ e. absurd (omega arith)), tt)); short = omega arith };
+  cause = (omega arith, omega arith, refl);
+}
+
+-- no elements are no line, and two are one line
+pub no-elements : bit_lines [] ≡ []
+no-elements = refl
+
+pub two-elements : bit_lines (true ∷ false ∷ []) ≡ elements (true ∷ false ∷ []) ∷ []
+two-elements = refl
