@@ -4,7 +4,7 @@ use Rattle.std.specs.Prelude.{◌≡◌, ◌≤◌, ◌⊎◌, ◌↔◌, ℕ, L
 use Rattle.std.specs.Io.KnownBytes.{Appends, Consumes, IsAtEnd}
 use Rattle.clap.specs.Words.{Text}
 use Rattle.nx_fec.specs.Devices.{Counted, WroteSome}
-use Rattle.nx_fec.specs.Runs.{AnswersDecoding, IsWriting}
+use Rattle.nx_fec.specs.Runs.{AnswersDecoding, AnswersEncoding, IsWriting}
 use Rattle.nx_fec.specs.declared.reading.TheConstants.{FILE_LIMIT}
 use Rattle.nx_cli.specs.declared.words.Call.{Call}
 use Rattle.nx_cli.specs.declared.words.Call.TheVariants.{Decode, Encode}
@@ -66,12 +66,17 @@ abbrev pub Decodes : {R W : Type 0} → Type 0 → Devices R W → Result ℕ Ru
 Decodes AtEnd d outcome bytes =
     AnswersDecoding AtEnd FILE_LIMIT bytes (d.contents d.writer.inner) (d.contents d.writer_after.inner) outcome
 
+-- what encoding answers of the bytes
+abbrev pub Encodes : {R W : Type 0} → Type 0 → Devices R W → Result ℕ RunFault → List ℕ → Type 0
+Encodes AtEnd d outcome bytes =
+    AnswersEncoding AtEnd FILE_LIMIT bytes (d.contents d.writer.inner) (d.contents d.writer_after.inner) outcome
+
 -- the call did on the devices what its outcome says
 abbrev pub Performs : {R W : Type 0} → Call → Devices R W → Result ℕ RunFault → Type 0
 Performs Decode d outcome =
     Transfers (Decodes (IsReadOut d) d outcome) (Decodes (Unit {0}) d outcome) d outcome
 Performs Encode d outcome =
-    Transfers (Decodes (IsReadOut d) d outcome) (Decodes (Unit {0}) d outcome) d outcome
+    Transfers (Encodes (IsReadOut d) d outcome) (Encodes (Unit {0}) d outcome) d outcome
 
 -- the words name a call, which had this outcome
 pub record RunsCall {R W : Type 0} (words : List Text) (d : Devices R W) (outcome : Result ℕ RunFault) : Type 0 where

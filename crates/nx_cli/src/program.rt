@@ -11,7 +11,7 @@ ghost use Rattle.nx_cli.specs.declared.program.Fault.{Fault};
 ghost use Rattle.nx_cli.specs.declared.program.Fault.TheVariants.{Run};
 
 use crate::words::{Call, WordsFault, call_of};
-use nx_fec::{Counting, RunFault, decode_run, write_out};
+use nx_fec::{Counting, RunFault, decode_run, encode_run, write_out};
 use std::alloc::{AllocError, Global};
 use std::convert::AsStr;
 use std::io;
@@ -94,7 +94,7 @@ fn perform<R: Read, W: Write>(
 {
     match call {
         Call::Decode => decode_run(alloc, reader, writer),
-        Call::Encode => decode_run(alloc, reader, writer),
+        Call::Encode => encode_run(alloc, reader, writer),
     }
 }
 
