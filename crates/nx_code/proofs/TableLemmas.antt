@@ -40,9 +40,9 @@ words-TABLE : map (λ (row : Row). row.word) TABLE ≡ words
 unfolding table words
 words-TABLE = refl
 
-pub word-TABLE : (at : ℕ) (row : Row) → at < 35 → (get_or TABLE at row).word ≡ get_or words at 0
-word-TABLE at row h =
-    sym (get_or-map (λ (r : Row). r.word) TABLE at row 0 h) ∙ ap (λ l. get_or l at 0) words-TABLE
+pub word-TABLE : (at : ℕ) (fallback : Row) → at < 35 → (get_or TABLE at fallback).word ≡ get_or words at 0
+word-TABLE at fallback h =
+    sym (get_or-map (λ (r : Row). r.word) TABLE at fallback 0 h) ∙ ap (λ l. get_or l at 0) words-TABLE
 
 -- each word of the table has seven elements
 pub words-lt : (at : ℕ) → at < 35 → get_or words at 0 < 128
@@ -129,10 +129,10 @@ figures-TABLE : map (λ (row : Row). row.figure) TABLE ≡ map (λ k. printed (k
 unfolding table printed
 figures-TABLE = refl
 
-pub letter-TABLE : (at : ℕ) (row : Row) → at < 35 → (get_or TABLE at row).letter ≡ printed (at + 1) Letters
-letter-TABLE at row h =
-    sym (get_or-map (λ (r : Row). r.letter) TABLE at row None h) ∙ ap (λ l. get_or l at None) column-TABLE ∙ get_or-map-range_with_len (λ k. printed (k + 1) Letters) 0 35 at at None h (omega arith)
+pub letter-TABLE : (at : ℕ) (fallback : Row) → at < 35 → (get_or TABLE at fallback).letter ≡ printed (at + 1) Letters
+letter-TABLE at fallback h =
+    sym (get_or-map (λ (r : Row). r.letter) TABLE at fallback None h) ∙ ap (λ l. get_or l at None) column-TABLE ∙ get_or-map-range_with_len (λ k. printed (k + 1) Letters) 0 35 at at None h (omega arith)
 
-pub figure-TABLE : (at : ℕ) (row : Row) → at < 35 → (get_or TABLE at row).figure ≡ printed (at + 1) Figures
-figure-TABLE at row h =
-    sym (get_or-map (λ (r : Row). r.figure) TABLE at row None h) ∙ ap (λ l. get_or l at None) figures-TABLE ∙ get_or-map-range_with_len (λ k. printed (k + 1) Figures) 0 35 at at None h (omega arith)
+pub figure-TABLE : (at : ℕ) (fallback : Row) → at < 35 → (get_or TABLE at fallback).figure ≡ printed (at + 1) Figures
+figure-TABLE at fallback h =
+    sym (get_or-map (λ (r : Row). r.figure) TABLE at fallback None h) ∙ ap (λ l. get_or l at None) figures-TABLE ∙ get_or-map-range_with_len (λ k. printed (k + 1) Figures) 0 35 at at None h (omega arith)

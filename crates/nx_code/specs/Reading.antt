@@ -4,7 +4,7 @@ use Rattle.std.specs.Prelude.{◌≡◌, ◌⊎◌, ℕ, ◌-◌, ◌==◌, if�
 use Rattle.std.specs.Option.{option_to_list}
 use Rattle.nx_code.specs.declared.shifts.Shift.{Shift}
 use Rattle.nx_code.specs.declared.shifts.Shift.TheVariants.{Letters, Figures}
-use Rattle.nx_code.specs.Table.{Row, row, table}
+use Rattle.nx_code.specs.Table.{Row, table}
 
 -- a position that was taken: a traffic combination by its number, an idle signal, or one that is lost
 pub data Reception : Type 0 where
@@ -23,10 +23,14 @@ character [] = None
 character (c ∷ []) = Some c
 character (c ∷ d ∷ cs) = None
 
+-- a row that is not there: it prints nothing
+abbrev pub no_row : Row
+no_row = record { word = 0; letter = []; figure = [] }
+
 -- what a combination prints in a shift: a newline for 28, a space for 31, else the character of its row
 unfoldable pub printed : ℕ → Shift → Option ℕ
 printed number shift =
-    if number == 28 then Some 10 else (if number == 31 then Some 32 else character (cell shift (slice_index_or table (number - 1) (row 0 [] []))))
+    if number == 28 then Some 10 else (if number == 31 then Some 32 else character (cell shift (slice_index_or table (number - 1) no_row)))
 
 -- what a position prints in a shift
 abbrev pub prints : Reception → Shift → Option ℕ
