@@ -1,10 +1,9 @@
 //! The program without its process.
 
 ghost use Rattle.std.specs.IoError.{error_kind};
-ghost use Rattle.std.specs.Prelude.{◌≡◌, ◌≢◌, ◌⊎◌, ℕ, List, map};
-ghost use Rattle.nx_cli.specs.Program.{Devices, Ends, Exits, IsStatus, Performs, Succeeds, WritesText, devices, fault_status, fresh};
+ghost use Rattle.std.specs.Prelude.{◌≡◌, ◌≢◌, ◌⊎◌, ℕ, map};
+ghost use Rattle.nx_cli.specs.Program.{Ends, Exits, IsStatus, Performs, Succeeds, WritesText, devices, fault_status, fresh};
 ghost use Rattle.nx_cli.specs.Words.{IsRefused, Names};
-ghost use Rattle.clap.specs.Words.{Text};
 ghost use Rattle.nx_fec.specs.Devices.{Counted};
 ghost use Rattle.nx_cli.specs.declared.words.Call.{Call};
 ghost use Rattle.nx_cli.specs.declared.program.Fault.{Fault};
@@ -158,6 +157,13 @@ pub fn run<S: AsStr, R: Read + Drop, W: Write + Drop, E: Write + Drop>(
     ensures success { result ≡ DONE → (reader : Counted R) × (writer : Counted W)
         × Succeeds (map S.text words.now)
         (devices R.remaining W.contents (fresh input) reader (fresh output) writer) }
+
+    // A success of words that name a call is the success of that call.
+    ensures called { (call : Call) → Names (map S.text words.now) call → result ≡ DONE
+        → (reader : Counted R) × (writer : Counted W) × (count : ℕ)
+        × Performs call
+        (devices R.remaining W.contents (fresh input) reader (fresh output) writer)
+        (Ok count) }
     ensures words { result ≡ BAD_WORDS → IsRefused (map S.text words.now) }
     ensures refused { IsRefused (map S.text words.now)
         → (result ≡ BAD_WORDS) ⊎ (result ≡ DEVICE_OR_MEMORY) }
@@ -182,9 +188,3 @@ pub fn refuse_words<E: Write + Drop>(reason: &io::Error, faults: E) -> u8
     };
     fault.report(faults)
 }
-
-/// A success of words that name a call is the success of that call.
-pub fn success_is_of_the_named_call()
-    ensures { {R W : Type 0} (words : List Text) (d : Devices R W) (call : Call) → Names words call
-        → Succeeds words d → (count : ℕ) × Performs call d (Ok count) }
-{}
