@@ -1,6 +1,7 @@
 pub mod Anywhere
 pub mod Beginnings
 pub mod CivilTimes
+pub mod HandedOut
 pub mod Headers
 pub mod Hearing
 pub mod Lines

@@ -1,7 +1,13 @@
 -- What the definitions of headers and copies come to.
-use Rattle.std.specs.Prelude.{◌≡◌, ℕ, ◌≤◌, List, ◌++◌, length, take}
+use Rattle.std.specs.Prelude.{◌≡◌, ℕ, ◌≤◌, Option, Some, None, List, [], ◌∷◌, ◌++◌, length, take}
+use Rattle.std.specs.List.{filter_map}
+use Rattle.std.specs.Option.{option_to_list}
 use Rattle.nx_envelope.specs.Copies.{Copy, Header, headers, ended_copies}
+use Rattle.nx_envelope.specs.Finding.{Brings}
 use Rattle.nx_envelope.specs.Header.{EndsWithHeader}
+use Rattle.nx_envelope.specs.declared.found.FinderStep.{FinderStep}
+use Rattle.nx_envelope.specs.declared.found.FinderStep.TheVariants as steps
+use Rattle.nx_envelope.specs.declared.found.Found.{Found}
 
 -- what comes behind the text leaves the headers in it and the copies that have ended in it, and adds others behind them
 pub record Grows (text more : List ℕ) : Type 0 where
@@ -14,3 +20,21 @@ pub record Grows (text more : List ℕ) : Type 0 where
 pub record StandsIn (text : List ℕ) (header : Header) : Type 0 where
   pub within : header.behind ≤ length text
   pub spelled : EndsWithHeader (take header.behind text) header.identity
+
+-- the steps are what happens at the bytes of a text, one after the other, behind what came before it
+abbrev pub AreAnswers : List ℕ → List ℕ → List FinderStep → Type 0
+AreAnswers before [] [] = Unit {0}
+AreAnswers before [] (step ∷ answers) = ⊥
+AreAnswers before (byte ∷ text) [] = ⊥
+AreAnswers before (byte ∷ text) (step ∷ answers) =
+    Brings before byte step × AreAnswers (before ++ byte ∷ []) text answers
+
+-- the copy that a step hands out
+abbrev pub found_in : FinderStep → Option Found
+found_in steps.Nothing = None
+found_in (steps.Header identity) = None
+found_in (steps.Over found) = Some found
+
+-- the copies that steps and then the end of the text hand out
+abbrev pub handed_out : List FinderStep → Option Found → List Found
+handed_out answers last = filter_map found_in answers ++ option_to_list last

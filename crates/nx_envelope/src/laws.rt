@@ -1,10 +1,14 @@
 //! Laws of headers and copies: each holds by its contract alone, and the call does nothing.
 
-ghost use Rattle.std.specs.Prelude.{◌≡◌, ◌↔◌, ◌≤◌, ◌++◌, ℕ, Contains, List, IsTrue, Some, length, map, reverse};
+ghost use Rattle.std.specs.Prelude.{◌≡◌, ◌↔◌, ◌≤◌, ◌++◌, [], ℕ, Contains, List, Option, IsTrue, Some, length, map, reverse};
+ghost use Rattle.std.specs.List.{AllZip};
 ghost use Rattle.nx_envelope.specs.Copies.{Header, closed_copy, copies, headers, ended_copies, open_headers};
+ghost use Rattle.nx_envelope.specs.Finding.{Closes, IsFound};
 ghost use Rattle.nx_envelope.specs.Header.{EndsWith, EndsWithHeader, ends_in, header_back};
-ghost use Rattle.nx_envelope.specs.Laws.{Grows, StandsIn};
+ghost use Rattle.nx_envelope.specs.Laws.{AreAnswers, Grows, StandsIn, handed_out};
 ghost use Rattle.nx_envelope.specs.Marker.{end_marker, start_marker};
+ghost use Rattle.nx_envelope.specs.declared.found.FinderStep.{FinderStep};
+ghost use Rattle.nx_envelope.specs.declared.found.Found.{Found};
 ghost use Rattle.nx_envelope.specs.declared.identity.Identity.{Identity};
 
 /// A text ends with a marker, as it is read from its end, exactly where it is spelled so.
@@ -19,6 +23,12 @@ pub fn copies_come_in_order()
     ensures open_last { (text : List ℕ) →
         copies text ≡ ended_copies text ++ map (closed_copy text) (open_headers text) }
     ensures ended_stay { (text more : List ℕ) → Grows text more }
+{}
+
+/// Over a whole text, what a finder hands out at its bytes and then at its end are the copies of the text, in order.
+pub fn copies_are_handed_out()
+    ensures { (text : List ℕ) (answers : List FinderStep) (last : Option Found) → AreAnswers [] text answers
+        → Closes text last → AllZip IsFound (copies text) (handed_out answers last) }
 {}
 
 /// The headers of a text are those that stand in it, at any index.

@@ -565,5 +565,6 @@ fn identities_are_in_range(rt: HostRuntime) {
     header_is_spelled();
     headers_stand_anywhere();
     markers_are_spelled();
+    copies_are_handed_out();
     copies_come_in_order();
 }

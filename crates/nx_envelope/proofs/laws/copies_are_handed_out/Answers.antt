@@ -1,0 +1,5 @@
+use Rattle.nx_envelope.proofs.HandedOut.{all_handed_out}
+use Rattle.nx_envelope.proofs.laws.copies_are_handed_out.Goals as goal
+
+pub returns : goal.returns
+returns c = all_handed_out
