@@ -1,5 +1,5 @@
 -- Clap's faults of one parse are all help or all no help, for a command with no subcommand `help`.
-use Rattle.std.proofs.Common.{◌≡◌, ◌≢◌, ◌∙◌, ℕ, ◌+◌, zero, suc, ◌&&◌, Bool, true, false, not, List, [], ◌∷◌, Option, Some, None, IfSome, find, refl, ap, sym, ◌⊎◌, subst, cond, inl, inr, codes, drop, length, slice_get, encode_utf8, is_some, min, if◌then◌else◌}
+use Rattle.std.proofs.Common.{◌≡◌, ◌≢◌, ◌∙◌, ℕ, ◌+◌, zero, suc, ◌&&◌, Bool, true, false, not, List, [], ◌∷◌, Option, Some, None, IfSome, refl, ap, sym, ◌⊎◌, subst, inl, inr, codes, drop, length, slice_get, encode_utf8, is_some, min, if◌then◌else◌}
 use Rattle.std.specs.Option.{option_map_or}
 use Rattle.std.specs.List.{list_any}
 use Rattle.std.specs.Str.{bytes_eq, chars}
@@ -8,11 +8,10 @@ use Rattle.clap.specs.Facts.{explicit_source, parser_of_value, unwrap_or_range}
 use Rattle.clap.specs.Matches.{count_text}
 use Rattle.clap.specs.Walk.{arg_by_id, arg_by_index, arg_by_long, arg_by_short, attached_value, count_of, reacted, subcommand_met, walked, word_met}
 use Rattle.clap.specs.Takes.{is_given}
-use Rattle.clap.specs.Words.{App, Rule, Text, IsAmong, Kinds, Shape}
-use Rattle.clap.specs.Walk.{Held, Names, Row, Step, Waiting, Walk, action_of, answers_to, finished, most_values, settled, values_or_missing, walk, walk_from, with_default, next, trailing, subcommand, value}
-use Rattle.clap.specs.Simple.{label_of}
+use Rattle.clap.specs.Words.{Rule, Text, IsAmong, Kinds, Shape}
+use Rattle.clap.specs.Walk.{Held, Names, Row, Step, Waiting, Walk, action_of, finished, most_values, settled, values_or_missing, walk, walk_from, with_default, next, trailing, subcommand, value}
 use Rattle.clap.specs.Kinds.{check_kinds, or_else, range_kinds, request_kinds, value_kinds, values_kinds}
-use Rattle.clap.specs.Faults.{action_fault, bundle_fault, bundle_step_fault, built_fault, check_fault, count_fault, default_fault, defaults_fault, entered_fault, flag_word_fault, flags_fault, given_default_fault, level_fault, long_fault, option_fault, other_fault, positional_fault, react_fault, repeat_fault, set_fault, settle_fault, short_fault, step_fault, stray_fault, turn_fault, use_fault, values_fault, walk_fault, word_fault}
+use Rattle.clap.specs.Faults.{action_fault, bundle_step_fault, check_fault, count_fault, default_fault, defaults_fault, flag_word_fault, flags_fault, level_fault, long_fault, option_fault, other_fault, react_fault, set_fault, settle_fault, short_fault, step_fault, stray_fault, turn_fault, use_fault, walk_fault, word_fault}
 use Rattle.clap.specs.declared.builder.action.ArgAction.{ArgAction}
 use Rattle.clap.specs.declared.builder.action.ArgAction.TheVariants.{Set, Append, SetTrue, SetFalse, Count, Help, HelpShort, HelpLong, Version}
 use Rattle.clap.specs.declared.builder.value_parser.ValueParser.{ValueParser}

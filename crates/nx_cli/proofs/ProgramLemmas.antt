@@ -1,5 +1,5 @@
 -- What the outcome of a run says of its words.
-use Rattle.std.proofs.Common.{◌≡◌, ◌⊎◌, ◌∙◌, ℕ, List, Result, Ok, Err, Option, ap, ap₂, inl, inr, refl, sym, arith, subst}
+use Rattle.std.proofs.Common.{◌≡◌, ◌⊎◌, ℕ, List, Result, Ok, Err, Option, ap, ap₂, inl, inr, refl, subst}
 use Rattle.clap.specs.Words.{Text}
 use Rattle.nx_cli.specs.declared.program.Fault.{Fault}
 use Rattle.nx_cli.specs.declared.program.Fault.TheVariants as fault

@@ -2,7 +2,7 @@
 -- speak of exactly, and a command that it enters is the command of a call.
 use Rattle.std.proofs.Common.{◌≡◌, ◌≢◌, ◌∙◌, Bool, true, false, List, [], ◌∷◌, Option, Some, None, IsSome, is_some, ◌⊎◌, IfNone, IfSome, find, if◌then◌else◌, option_map, refl, ap, cond, inl, inr, sym, subst, Box, Global}
 use Rattle.std.specs.Box.{box_value}
-use Rattle.clap.specs.Words.{App, HasKind, Kinds, HasMatchesOf, IsAmong, Row, Shape, Text, built, fault_of, is_simple, is_simple_and_free, kind_of, subcommand_of, subcommand_name_of, subcommand_rows, subcommand_rows_of}
+use Rattle.clap.specs.Words.{HasKind, Kinds, IsAmong, Row, Shape, Text, built, fault_of, is_simple, is_simple_and_free, kind_of, subcommand_of, subcommand_name_of, subcommand_rows, subcommand_rows_of}
 use Rattle.clap.specs.Simple.{argument_words, entered, label_of, names_of, rows_at}
 use Rattle.clap.specs.Walk.{answers_to, nothing_held, stop_after, walk}
 use Rattle.clap.specs.Faults.{entered_fault}

@@ -1,5 +1,5 @@
 -- What the words of the command line name, by clap's own reading of them (this profile).
-use Rattle.std.specs.Prelude.{◌≡◌, ◌≢◌, ⊤, List, [], Option, Some, codes, option_map, false, true}
+use Rattle.std.specs.Prelude.{◌≡◌, ◌≢◌, ⊤, List, [], Some, codes, option_map, false, true}
 use Rattle.clap.specs.Words.{App, IsAmong, Text, app_of, fault_of, kind_of, new_app, subcommand_of}
 use Rattle.clap.specs.Words.{with_subcommand}
 use Rattle.clap.specs.Simple.{on_top}

@@ -1,7 +1,6 @@
-use Rattle.std.proofs.Common.{rules, ◌≡◌, ◌∙◌, map, ap, ap₂, refl, sym, subst, Bor, List, Option, Some, option_map, true, IfErr}
+use Rattle.std.proofs.Common.{◌∙◌, map, ap, sym, subst, Bor, Option, Some, option_map}
 use Rattle.std.proofs.lemmas.Result.{err_from_is_err_and}
-use Rattle.clap.specs.Words.{App, HasKind, Text, FailsBy, app_of, fault_of, is_simple, is_simple_and_free, subcommand_of}
-use Rattle.nx_cli.specs.Words.{Explains, Names, Sorts, navtex, word_of}
+use Rattle.clap.specs.Words.{App, HasKind, Text, fault_of, is_simple, is_simple_and_free, subcommand_of}
 use Rattle.nx_cli.proofs.WordsLemmas.{navtex-is_simple, navtex-is_simple_and_free, entered_name, explained, is_some_of_call, name_is_of_call, word_of_found}
 use Rattle.nx_cli.proofs.words.call_of.Goals as goal
 

@@ -1,9 +1,6 @@
-use Rattle.std.proofs.Common.{refl, codes, List, [], ◌∷◌, ◌≡◌, ◌≢◌, inl}
-use Rattle.clap.specs.Words.{Text}
+use Rattle.std.proofs.Common.{refl, ◌≢◌, inl}
 use Rattle.clap.proofs.OnLiterals.{clap_on_literals}
 use Rattle.clap.specs.declared.error.kind.ErrorKind.TheVariants as kind
-use Rattle.nx_cli.specs.declared.words.Call.TheVariants.{Decode, Encode}
-use Rattle.nx_cli.specs.Words.{AsksForHelp, IsRefused, Names}
 use Rattle.nx_cli.proofs.words.words_in_examples.Goals as goal
 
 unknown_is_not_help : kind.UnknownArgument ≢ kind.DisplayHelp
