@@ -8,7 +8,7 @@ use Rattle.std.proofs.lemmas.List.{length-append, length-map, same_from_push}
 use Rattle.std.proofs.lemmas.List.Concat.{flat_map-append}
 use Rattle.nx_fec.proofs.Digits.{AreDigits, decimal-digits}
 use Rattle.nx_fec.specs.AirFile.{Line, moment, elements, refuse_station, accept_station, refuse_subject, accept_subject, element_digit, spelling, IsLine}
-use Rattle.nx_fec.specs.Lines.{ended, file_of, IsBeginning, Splits, IsCause, IsRefused, IsAirFile, IsBitFile, elements_of, line_feed}
+use Rattle.nx_fec.specs.Lines.{IsAtByte, ended, file_of, IsBeginning, Splits, IsCause, IsRefused, IsAirFile, IsBitFile, elements_of, line_feed}
 use Rattle.nx_fec.specs.declared.fault.LineFault.{LineFault}
 use Rattle.nx_fec.specs.declared.fault.LineFault.TheVariants.{TooLong, LineLong, LineCut, BadLine}
 
@@ -323,6 +323,24 @@ IsRefused-unique limit bytes v w h k =
       | inl s ↦ IsRefused-same limit bytes s.0 v w h k s.1 s.2
       | inr s ↦ sym (IsRefused-same limit bytes s.0 w v k h s.1 s.2)
     ]
+
+-- no fault at a byte stands at the end
+IsCause-at_end : (limit front : ℕ) (lines : List Line) (rest more : List ℕ) (why : LineFault) → IsAtByte why → more ≡ [] → IsCause limit front lines rest more why → ⊥
+IsCause-at_end limit front lines rest [] TooLong at e h = h
+IsCause-at_end limit front lines rest [] (LineLong n) at e h = h
+IsCause-at_end limit front lines rest [] (LineCut n) at e h = at
+IsCause-at_end limit front lines rest [] (BadLine n) at e h = h
+IsCause-at_end limit front lines rest (b ∷ more) why at e h = cc
+
+-- a good beginning has no fault at a byte
+pub Splits-good : (limit : ℕ) (front : List ℕ) (lines : List Line) (rest : List ℕ) (why : LineFault) → Splits front lines rest → length front ≤ limit → IsAtByte why
+    → IsRefused limit front why → ⊥
+Splits-good limit front lines rest why s within at h =
+    let cause : IsCause limit (length (file_of h.lines ++ h.rest)) h.lines h.rest (h.more ++ []) why =
+    subst (λ l. IsCause limit (length (file_of h.lines ++ h.rest)) h.lines h.rest l why) (sym (append-nil h.more)) h.cause in
+    let nothing : h.more ≡ [] = IsRefused-last limit h.lines lines h.rest rest h.more [] why h.each h.part s.each s.part
+    (subst (λ l. length l ≤ limit) s.whole within) (sym s.whole ∙ h.whole) cause in
+    IsCause-at_end limit (length (file_of h.lines ++ h.rest)) h.lines h.rest h.more why at nothing h.cause
 
 -- a good file has no fault
 IsRefused-past : (limit : ℕ) (lines : List Line) (rest ms : List ℕ) (why : LineFault) → ms ≡ [] → rest ≡ [] → IsCause limit (length (file_of lines ++ rest)) lines rest ms why → ⊥

@@ -1,4 +1,4 @@
-use Rattle.nx_fec.proofs.LineLaws.{IsRefused-unique, IsAirFile-good, IsBitFile-unique}
+use Rattle.nx_fec.proofs.LineLaws.{IsRefused-unique, IsAirFile-good, IsBitFile-unique, Splits-good}
 use Rattle.nx_fec.proofs.air_laws.one_outcome.Goals as goal
 
 pub returns-clause-fault : goal.returns-clause-fault
@@ -9,3 +9,6 @@ returns-clause-lines c = IsAirFile-good
 
 pub returns-clause-elements : goal.returns-clause-elements
 returns-clause-elements c = IsBitFile-unique
+
+pub returns-clause-earliest : goal.returns-clause-earliest
+returns-clause-earliest c = Splits-good
