@@ -1,6 +1,5 @@
 -- What the finder holds, and what it notes of a byte.
 use Rattle.std.proofs.Common.{◌≡◌, ◌≢◌, ℕ, ◌+◌, ◌<◌, ◌==◌, ◌&&◌, Bool, true, false, inl, inr, Option, Some, None, List, [], ◌∷◌, ◌++◌, length, drop, reverse, refl, sym, ap, ◌∙◌, arith}
-use Rattle.std.specs.Prelude.{slice_index_or}
 use Rattle.std.specs.Str.{bytes_eq}
 use Rattle.std.proofs.lemmas.Bool.Decides.{nat_tests}
 use Rattle.std.proofs.lemmas.List.{drop-append-le}
@@ -30,8 +29,8 @@ pub none-nil : open_headers [] ≡ []
 none-nil = open_headers-nil
 
 -- the last four bytes, one byte later
-pub recent_more : (recent text : List ℕ) (b : ℕ) → recent ≡ last_four (reverse text) → (slice_index_or recent 1 0 ∷ slice_index_or recent 2 0 ∷ slice_index_or recent 3 0 ∷ b ∷ []) ≡ last_four (reverse (text ++ b ∷ []))
-recent_more recent text b e = rw (e, reverse-push text b) refl
+pub recent_more : (text : List ℕ) (b : ℕ) (recent : List ℕ) → recent ≡ last_four (b ∷ reverse text) → recent ≡ last_four (reverse (text ++ b ∷ []))
+recent_more text b recent e = rw (reverse-push text b) e
 
 -- the stage, one byte later
 pub stage_more : (text : List ℕ) (b : ℕ) (stage : Stage) → IsStageOf stage (b ∷ reverse text) → IsStageOf stage (reverse (text ++ b ∷ []))
@@ -40,10 +39,6 @@ stage_more text b stage h = rw (reverse-push text b) h
 -- the test on the last four bytes
 pub flag_is : (recent text : List ℕ) (flag : Bool) → recent ≡ last_four (reverse text) → flag ≡ bytes_eq recent start_marker → flag ≡ ends_in start_marker (reverse text)
 flag_is recent text flag e f = f ∙ ap (λ (r : List ℕ). bytes_eq r start_marker) e
-
--- the same bytes at the back
-pub recent_back : (recent text : List ℕ) (b : ℕ) → recent ≡ last_four (reverse text) → (slice_index_or recent 1 0 ∷ slice_index_or recent 2 0 ∷ slice_index_or recent 3 0 ∷ b ∷ []) ≡ last_four (b ∷ reverse text)
-recent_back recent text b e = rw e refl
 
 -- What is held of an open copy.
 

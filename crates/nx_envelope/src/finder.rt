@@ -93,8 +93,7 @@ impl Finder {
     {
         let header = self.stage.header(byte);
         self.stage = self.stage.next(self.recent == START_MARKER, byte);
-        let [_, third, second, last] = self.recent;
-        self.recent = [third, second, last, byte];
+        self.recent = one_later(self.recent, byte);
         let Some(identity) = self.current else {
             return self.begin(header);
         };
@@ -167,6 +166,14 @@ fn is_dropped(fresh: bool, byte: u8) -> bool
     ensures { result ≡ (fresh && (byte == 10)) }
 {
     fresh && byte == NEWLINE
+}
+
+/// The last four bytes of a text, one byte later.
+fn one_later(recent: [u8; MARKER_LEN], byte: u8) -> [u8; MARKER_LEN]
+    ensures { (back : List ℕ) → recent ≡ last_four back → result ≡ last_four (byte ∷ back) }
+{
+    let [_, third, second, last] = recent;
+    [third, second, last, byte]
 }
 
 /// How the copy ends whose text has these last four bytes, if they are a marker.
