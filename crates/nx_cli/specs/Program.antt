@@ -1,6 +1,6 @@
 -- How a run of the program ends: what it leaves on its devices, by the contracts of the calls, and
 -- the status with which it exits (this profile).
-use Rattle.std.specs.Prelude.{◌≡◌, ◌≤◌, ◌⊎◌, ◌↔◌, ℕ, List, Option, Result, Ok, Err, IfErr, IfSome, IsErrOf, alloc_error}
+use Rattle.std.specs.Prelude.{◌≡◌, ◌≤◌, ◌⊎◌, ◌↔◌, ℕ, List, Option, None, Result, Ok, Err, IfErr, IfSome, IsErrOf, alloc_error}
 use Rattle.std.specs.Io.KnownBytes.{Appends, Consumes, IsAtEnd}
 use Rattle.clap.specs.Words.{Text}
 use Rattle.nx_fec.specs.Devices.{Counted, WroteSome}
@@ -84,20 +84,24 @@ pub record RunsCall {R W : Type 0} (words : List Text) (d : Devices R W) (outcom
   pub named : Names words call
   pub performed : Performs call d outcome
 
--- a text was written whole, or as far as the fault says; or memory ran out before it was written
-abbrev pub WritesText : {W : Type 0} → (W → Option (List ℕ)) → Counted W → Counted W → Result (Unit {0}) RunFault → Type 0
-WritesText contents old new (Ok done) =
-    (text : List ℕ) × Appends (contents old.inner) (contents new.inner) text × (new.failures ≡ 0)
-WritesText contents old new (Err (run.Write written)) =
-    (text : List ℕ) × WroteSome (contents old.inner) (contents new.inner) text written × (new.failures ≡ 1)
-WritesText contents old new (Err (run.Memory want)) = new ≡ old
-WritesText contents old new (Err _) = ⊥
+-- the text is the one that is shown, where it is known which that is
+abbrev pub IsText : Option (List ℕ) → List ℕ → Type 0
+IsText shown text = IfSome shown (λ known. text ≡ known)
 
--- the words ask for help, whose text was written so
+-- a text was written whole, or as far as the fault says; or memory ran out before it was written
+abbrev pub WritesText : {W : Type 0} → Option (List ℕ) → (W → Option (List ℕ)) → Counted W → Counted W → Result (Unit {0}) RunFault → Type 0
+WritesText shown contents old new (Ok done) =
+    (text : List ℕ) × IsText shown text × Appends (contents old.inner) (contents new.inner) text × (new.failures ≡ 0)
+WritesText shown contents old new (Err (run.Write written)) =
+    (text : List ℕ) × IsText shown text × WroteSome (contents old.inner) (contents new.inner) text written × (new.failures ≡ 1)
+WritesText shown contents old new (Err (run.Memory want)) = new ≡ old
+WritesText shown contents old new (Err _) = ⊥
+
+-- the words ask for help, whose text was written so; which text that is, clap leaves open
 pub record GivesHelp {R W : Type 0} (words : List Text) (d : Devices R W) (outcome : Result (Unit {0}) RunFault) : Type 0 where
   pub asked : AsksForHelp words
   pub unread : d.reader_after ≡ d.reader
-  pub written : WritesText d.contents d.writer d.writer_after outcome
+  pub written : WritesText None d.contents d.writer d.writer_after outcome
 
 -- memory ran out before a device was called
 pub record LacksMemory {R W : Type 0} (d : Devices R W) (why : RunFault) : Type 0 where

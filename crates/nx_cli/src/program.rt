@@ -13,6 +13,7 @@ use crate::words::{Call, WordsFault, call_of};
 use nx_fec::{Counting, RunFault, decode_run, encode_run, write_out};
 use std::alloc::{AllocError, Global};
 use std::convert::AsStr;
+use std::fmt::Display;
 use std::io;
 use std::io::{ErrorKind, Read, Write};
 use thiserror::Error;
@@ -97,14 +98,14 @@ fn perform<R: Read, W: Write>(
     }
 }
 
-/// Writes the text of help.
-fn give_help<W: Write>(
+/// Writes the text of help, which is what `help` displays.
+fn give_help<D: Display, W: Write>(
     alloc: Global,
-    help: &clap::Error,
+    help: &D,
     writer: &mut Counting<W>,
 ) -> Result<(), RunFault>
     requires { writer.old.failures ≡ 0 }
-    ensures { WritesText W.contents writer.old writer.new result }
+    ensures { WritesText (D.output help.now) W.contents writer.old writer.new result }
 {
     let text = help.to_string(alloc)?;
     write_out(writer, text.as_bytes())?;
