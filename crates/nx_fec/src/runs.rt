@@ -161,7 +161,8 @@ mod tests {
 
     #[test]
     fn all_characters(rt: HostRuntime) -> Result<(), Fail> {
-        let (_, file) = encoded(rt.alloc(), ALL)?;
+        let (answer, file) = encoded(rt.alloc(), ALL)?;
+        assert_eq!(rt; answer.is_ok(), true);
         let (answer, text) = decoded(rt.alloc(), &file)?;
         assert_eq!(rt; answer, Ok(ALL.len() as u64));
         assert_eq!(rt; text.as_slice(), ALL);
