@@ -70,7 +70,7 @@ fn encode_command<'a>(alloc: Global) -> Command<'a>
 }
 
 const STATUS_HELP: &str = "Each command reads standard input and writes standard output. A fault \
-is one line on standard error.
+is one line on standard error; where words are not understood, it is a text of several lines.
 
 Exit status:
   0   success, or help

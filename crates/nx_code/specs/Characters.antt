@@ -6,7 +6,7 @@ use Rattle.nx_code.specs.declared.shifts.Case.TheVariants as cases
 use Rattle.nx_code.specs.declared.shifts.Shift.{Shift}
 use Rattle.nx_code.specs.declared.shifts.Shift.TheVariants.{Letters, Figures}
 
--- the characters that a text may have: A to Z, 0 to 9, space, twelve marks, and newline
+-- the characters that a text may have: A to Z, 0 to 9, space, eleven marks, and newline
 unfoldable pub characters : List ℕ
 characters = codes "ABCDEFGHIJKLMNOPQRSTUVWXYZ0123456789 -?:().,'=+/" ++ 10 ∷ []
 

@@ -1,6 +1,7 @@
 //! Worked examples of the code.
 
 use super::*;
+use std::alloc::AllocError;
 use std::test::Fail;
 
 /// The combination of this number.
@@ -102,6 +103,21 @@ fn spell_cases(rt: HostRuntime) -> Result<(), Fail> {
         )
     );
     assert_eq!(rt; spell(rt.alloc(), b"1", Shift::Figures)?.len(), 1);
+    Ok(())
+}
+
+#[test]
+fn texts_of_faults(rt: HostRuntime) -> Result<(), Fail> {
+    let cases = [
+        (
+            SpellFault::NoSuchCharacter { at: 1 },
+            "no signal for the character at 1",
+        ),
+        (SpellFault::Memory(AllocError), "out of memory"),
+    ];
+    for (fault, text) in cases {
+        assert_eq!(rt; fault.to_string(rt.alloc())?.as_str(), text);
+    }
     Ok(())
 }
 
