@@ -5,7 +5,7 @@ use Rattle.nx_cli.specs.declared.program.Fault.{Fault}
 use Rattle.nx_cli.specs.declared.program.Fault.TheVariants as fault
 use Rattle.nx_cli.specs.declared.words.Call.{Call}
 use Rattle.nx_cli.specs.Program.{Devices, Ends, Performs, Succeeds, devices, fresh, run_status, status_of}
-use Rattle.nx_fec.specs.Devices.{Counted}
+use Rattle.nx_fec.specs.Devices.{CountedDevice}
 use Rattle.nx_cli.specs.Words.{IsRefused, Names}
 use Rattle.nx_cli.proofs.WordsLemmas.{help_not_refused, named_not_help, named_not_refused, named_once}
 
@@ -37,17 +37,17 @@ success-named words d call named success = elim success [
 ]
 
 -- what was wrapped, with no failed call
-fresh-is : {T : Type 0} (c : Counted T) (device : T) → c.inner ≡ device → c.failures ≡ 0 → c ≡ fresh device
+fresh-is : {T : Type 0} (c : CountedDevice T) (device : T) → c.inner ≡ device → c.failures ≡ 0 → c ≡ fresh device
 fresh-is {T} c device inner none =
-    let make : T → ℕ → Counted T = λ i n. record { inner = i; failures = n } in ap₂ make inner none
+    let make : T → ℕ → CountedDevice T = λ i n. record { inner = i; failures = n } in ap₂ make inner none
 
 -- a run over devices that were wrapped is one over fresh devices
 pub ends-fresh : {R W : Type 0} (words : List Text) (remaining : R → Option (List ℕ)) (contents : W → Option (List ℕ))
-    (input : R) (reader reader_after : Counted R) (output : W) (writer writer_after : Counted W) (outcome : Result (Unit {0}) Fault)
+    (input : R) (reader reader_after : CountedDevice R) (output : W) (writer writer_after : CountedDevice W) (outcome : Result (Unit {0}) Fault)
     → reader.inner ≡ input → reader.failures ≡ 0 → writer.inner ≡ output → writer.failures ≡ 0
     → Ends words (devices remaining contents reader reader_after writer writer_after) outcome
     → Ends words (devices remaining contents (fresh input) reader_after (fresh output) writer_after) outcome
 ends-fresh {R} {W} words remaining contents input reader reader_after output writer writer_after outcome input_is unread output_is unwritten ends =
     let P : Devices R W → Type 0 = λ d. Ends words d outcome in
-    let on : Counted R → Counted W → Devices R W = λ r w. devices remaining contents r reader_after w writer_after in
+    let on : CountedDevice R → CountedDevice W → Devices R W = λ r w. devices remaining contents r reader_after w writer_after in
     subst P (ap₂ on (fresh-is reader input input_is unread) (fresh-is writer output output_is unwritten)) ends

@@ -3,9 +3,8 @@
 use Rattle.std.specs.Prelude.{◌≡◌, ◌≤◌, ◌⊎◌, ◌↔◌, ℕ, List, Option, None, Result, Ok, Err, IfErr, IfSome, IsErrOf, alloc_error}
 use Rattle.std.specs.Io.KnownBytes.{Appends, Consumes, IsAtEnd}
 use Rattle.clap.specs.Words.{Text}
-use Rattle.nx_fec.specs.Devices.{Counted, WroteSome}
-use Rattle.nx_fec.specs.Runs.{AnswersDecoding, AnswersEncoding, IsWriting}
-use Rattle.nx_fec.specs.declared.reading.TheConstants.{FILE_LIMIT}
+use Rattle.nx_fec.specs.Devices.{CountedDevice, WroteSome}
+use Rattle.nx_fec.specs.Runs.{AnswersDecoding, AnswersEncoding, IsWriting, file_limit}
 use Rattle.nx_cli.specs.declared.words.Call.{Call}
 use Rattle.nx_cli.specs.declared.words.Call.TheVariants.{Decode, Encode}
 use Rattle.nx_cli.specs.declared.program.Fault.{Fault}
@@ -19,12 +18,12 @@ use Rattle.nx_cli.specs.Words.{AsksForHelp, IsRefused, Names}
 pub record Devices (R W : Type 0) : Type 0 where
   pub remaining : R → Option (List ℕ)
   pub contents : W → Option (List ℕ)
-  pub reader : Counted R
-  pub reader_after : Counted R
-  pub writer : Counted W
-  pub writer_after : Counted W
+  pub reader : CountedDevice R
+  pub reader_after : CountedDevice R
+  pub writer : CountedDevice W
+  pub writer_after : CountedDevice W
 
-abbrev pub devices : {R W : Type 0} → (R → Option (List ℕ)) → (W → Option (List ℕ)) → Counted R → Counted R → Counted W → Counted W → Devices R W
+abbrev pub devices : {R W : Type 0} → (R → Option (List ℕ)) → (W → Option (List ℕ)) → CountedDevice R → CountedDevice R → CountedDevice W → CountedDevice W → Devices R W
 devices remaining contents reader reader_after writer writer_after = record {
   remaining = remaining;
   contents = contents;
@@ -35,7 +34,7 @@ devices remaining contents reader reader_after writer writer_after = record {
 }
 
 -- a device on which no call has failed
-abbrev pub fresh : {T : Type 0} → T → Counted T
+abbrev pub fresh : {T : Type 0} → T → CountedDevice T
 fresh device = record { inner = device; failures = 0 }
 
 -- neither device was called
@@ -64,12 +63,12 @@ IsReadOut d = IsAtEnd (d.remaining d.reader_after.inner)
 -- what decoding answers of the bytes
 abbrev pub Decodes : {R W : Type 0} → Type 0 → Devices R W → Result ℕ RunFault → List ℕ → Type 0
 Decodes AtEnd d outcome bytes =
-    AnswersDecoding AtEnd FILE_LIMIT bytes (d.contents d.writer.inner) (d.contents d.writer_after.inner) outcome
+    AnswersDecoding AtEnd file_limit bytes (d.contents d.writer.inner) (d.contents d.writer_after.inner) outcome
 
 -- what encoding answers of the bytes
 abbrev pub Encodes : {R W : Type 0} → Type 0 → Devices R W → Result ℕ RunFault → List ℕ → Type 0
 Encodes AtEnd d outcome bytes =
-    AnswersEncoding AtEnd FILE_LIMIT bytes (d.contents d.writer.inner) (d.contents d.writer_after.inner) outcome
+    AnswersEncoding AtEnd file_limit bytes (d.contents d.writer.inner) (d.contents d.writer_after.inner) outcome
 
 -- the call did on the devices what its outcome says
 abbrev pub Performs : {R W : Type 0} → Call → Devices R W → Result ℕ RunFault → Type 0
@@ -89,7 +88,7 @@ abbrev pub IsText : Option (List ℕ) → List ℕ → Type 0
 IsText shown text = IfSome shown (λ known. text ≡ known)
 
 -- a text was written whole, or as far as the fault says; or memory ran out before it was written
-abbrev pub WritesText : {W : Type 0} → Option (List ℕ) → (W → Option (List ℕ)) → Counted W → Counted W → Result (Unit {0}) RunFault → Type 0
+abbrev pub WritesText : {W : Type 0} → Option (List ℕ) → (W → Option (List ℕ)) → CountedDevice W → CountedDevice W → Result (Unit {0}) RunFault → Type 0
 WritesText shown contents old new (Ok done) =
     (text : List ℕ) × IsText shown text × Appends (contents old.inner) (contents new.inner) text × (new.failures ≡ 0)
 WritesText shown contents old new (Err (run.Write written)) =

@@ -4,7 +4,7 @@ ghost use Rattle.std.specs.IoError.{error_kind};
 ghost use Rattle.std.specs.Prelude.{◌≡◌, ◌≢◌, ◌⊎◌, ℕ, map};
 ghost use Rattle.nx_cli.specs.Program.{Ends, Exits, IsStatus, Performs, Succeeds, WritesText, devices, fault_status, fresh};
 ghost use Rattle.nx_cli.specs.Words.{IsRefused, Names};
-ghost use Rattle.nx_fec.specs.Devices.{Counted};
+ghost use Rattle.nx_fec.specs.Devices.{CountedDevice};
 ghost use Rattle.nx_cli.specs.declared.words.Call.{Call};
 ghost use Rattle.nx_cli.specs.declared.program.Fault.{Fault};
 ghost use Rattle.nx_cli.specs.declared.program.Fault.TheVariants.{Run};
@@ -53,7 +53,7 @@ impl Fault {
         }
     }
 
-    // Writes the fault as one line of standard error, and a text of clap as it stands.
+    /// Writes the fault as one line of standard error, and a text of clap as it stands.
     fn write_to<E: Write>(&self, faults: &mut E) -> io::Result<()> {
         match self {
             Fault::Words(answer) => write!(faults, "{answer}"),
@@ -148,26 +148,26 @@ pub fn run<S: AsStr, R: Read + Drop, W: Write + Drop, E: Write + Drop>(
     faults: E,
 ) -> u8
     // How the program ended, by what its call ensures of the devices.
-    ensures exits { (reader : Counted R) × (writer : Counted W)
+    ensures exits { (reader : CountedDevice R) × (writer : CountedDevice W)
         × Exits (map S.text words.now)
         (devices R.remaining W.contents (fresh input) reader (fresh output) writer)
         result }
     ensures status { IsStatus result }
 
     // Success comes only from a call that succeeded, or from help that was written.
-    ensures success { result ≡ DONE → (reader : Counted R) × (writer : Counted W)
+    ensures success { result ≡ 0 → (reader : CountedDevice R) × (writer : CountedDevice W)
         × Succeeds (map S.text words.now)
         (devices R.remaining W.contents (fresh input) reader (fresh output) writer) }
 
     // A success of words that name a call is the success of that call.
-    ensures called { (call : Call) → Names (map S.text words.now) call → result ≡ DONE
-        → (reader : Counted R) × (writer : Counted W) × (count : ℕ)
+    ensures called { (call : Call) → Names (map S.text words.now) call → result ≡ 0
+        → (reader : CountedDevice R) × (writer : CountedDevice W) × (count : ℕ)
         × Performs call
         (devices R.remaining W.contents (fresh input) reader (fresh output) writer)
         (Ok count) }
-    ensures words { result ≡ BAD_WORDS → IsRefused (map S.text words.now) }
+    ensures words { result ≡ 64 → IsRefused (map S.text words.now) }
     ensures refused { IsRefused (map S.text words.now)
-        → (result ≡ BAD_WORDS) ⊎ (result ≡ DEVICE_OR_MEMORY) }
+        → (result ≡ 64) ⊎ (result ≡ 1) }
 {
     let mut reader = Counting::new(input);
     let mut writer = Counting::new(output);
@@ -180,8 +180,8 @@ pub fn run<S: AsStr, R: Read + Drop, W: Write + Drop, E: Write + Drop>(
 /// Answers for a program whose words can't be had, for this reason: one of them is no text, or
 /// memory ran out.
 pub fn refuse_words<E: Write + Drop>(reason: &io::Error, faults: E) -> u8
-    ensures memory { error_kind reason.now ≡ ErrorKind.OutOfMemory → result ≡ DEVICE_OR_MEMORY }
-    ensures words { error_kind reason.now ≢ ErrorKind.OutOfMemory → result ≡ BAD_WORDS }
+    ensures memory { error_kind reason.now ≡ ErrorKind.OutOfMemory → result ≡ 1 }
+    ensures words { error_kind reason.now ≢ ErrorKind.OutOfMemory → result ≡ 64 }
 {
     let fault = match reason.kind() {
         ErrorKind::OutOfMemory => Fault::Run(RunFault::Memory(AllocError)),

@@ -5,8 +5,9 @@ mod devices;
 
 use crate::program::{refuse_words, run};
 use devices::{Sink, Source};
+use nx_fec::Counting;
 use std::alloc::Global;
-use std::io::{Error, ErrorKind};
+use std::io::{Error, ErrorKind, Write};
 use std::test::Fail;
 
 // The text `A` as an air file, and the empty text: four phasing positions and three end positions.
@@ -184,6 +185,23 @@ fn reads_its_words(rt: HostRuntime) {
         assert!(rt; answer.starts_with(row.answer.as_bytes()));
         assert!(rt; other.is_empty());
     }
+}
+
+#[test]
+fn passes_calls_on_until_one_fails(rt: HostRuntime) {
+    let mut sink = Sink::new(Vec::new(rt.alloc()));
+    sink.fails_at = Some(3);
+    let mut writer = Counting::new(sink);
+    assert!(rt; writer.write(b"A").is_ok());
+    assert!(rt; writer.flush().is_ok());
+    assert!(rt; writer.flush().is_err());
+    assert_eq!(rt; writer.failures(), 1);
+    assert!(rt; writer.flush().is_err());
+    assert!(rt; writer.write(b"B").is_err());
+    assert_eq!(rt; writer.failures(), 3);
+    let sink = writer.into_inner();
+    assert_eq!(rt; sink.calls, 3);
+    assert_eq!(rt; sink.taken.as_slice(), b"A".as_slice());
 }
 
 #[test]

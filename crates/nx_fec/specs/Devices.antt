@@ -4,18 +4,18 @@ use Rattle.std.specs.Io.KnownBytes.{Appends}
 use Rattle.std.specs.Coded.{Coded, code_by, coded×, coded_ℕ}
 
 -- a reader or a writer, and how many calls on it failed
-pub record Counted (T : Type 0) : Type 0 where
+pub record CountedDevice (T : Type 0) : Type 0 where
   pub inner : T
   pub failures : ℕ
 
 -- it is stored as the pair of its parts
-abbrev pub counted_code : {T : Type 0} → Coded T → Coded (Counted T)
+abbrev pub counted_code : {T : Type 0} → Coded T → Coded (CountedDevice T)
 counted_code {T} code =
     code_by (T × ℕ) (coded× code coded_ℕ) (λ c. (c.inner, c.failures)) (λ p. record { inner = p.0; failures = p.1 }) (λ _. refl)
 
 -- One call: a success leaves the count, and a failure raises it by one, up to its greatest value. Once the count is
 -- above 0, the call fails and isn't passed on.
-pub record Counts {T R E : Type 0} (old new : Counted T) (result : Result R E) : Type 0 where
+pub record Counts {T R E : Type 0} (old new : CountedDevice T) (result : Result R E) : Type 0 where
   pub ok : OnOk result (new.failures ≡ old.failures)
   pub err : OnErr result (new.failures ≡ min (old.failures + 1) (2 ^ 64 - 1))
   pub stopped : 0 < old.failures → IsErr result × (new.inner ≡ old.inner)

@@ -20,6 +20,10 @@ use Rattle.nx_fec.specs.declared.aligned.AlignedFault.TheVariants as words
 use Rattle.nx_fec.specs.declared.fault.RunFault.{RunFault}
 use Rattle.nx_fec.specs.declared.fault.RunFault.TheVariants.{Read, FileTooLong, LineLong, LineCut, BadLine, Ragged, NoSuchCharacter, Write, Memory}
 
+-- the most bytes of a file that is read whole: 2 ^ 20
+abbrev pub file_limit : ℕ
+file_limit = 1048576
+
 -- the fault of a run that stands for the fault of its file
 abbrev pub run_fault : LineFault → RunFault
 run_fault file.TooLong = FileTooLong

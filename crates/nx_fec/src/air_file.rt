@@ -54,14 +54,14 @@ pub fn air_line(line: &[u8]) -> Option<AirLine>
     None
 }
 
-// What follows the word at the front of a line, if the line begins with that word.
+/// What follows the word at the front of a line, if the line begins with that word.
 fn after<'a>(line: &'a [u8], word: &[u8]) -> Option<&'a [u8]>
     ensures { MatchOption result ((rest : List ℕ) → line.now ≢ word.now ++ rest) (λ rest. line.now ≡ word.now ++ rest.now) }
 {
     line.strip_prefix(word)
 }
 
-// One letter A to Z.
+/// One letter A to Z.
 fn letter(text: &[u8]) -> Option<u8>
     ensures found { IfSome result (λ found. IsCapital found × (text.now ≡ found ∷ [])) }
     ensures none { IfNone result ((byte : ℕ) → IsCapital byte → text.now ≢ byte ∷ []) }
@@ -72,7 +72,7 @@ fn letter(text: &[u8]) -> Option<u8>
     }
 }
 
-// 1 to 11 digits with no needless zero in front.
+/// 1 to 11 digits with no needless zero in front.
 fn moment(digits: &[u8]) -> Option<u64>
     ensures found { IfSome result (λ n. (n < 10 ^ 11) × (digits.now ≡ decimal n)) }
     ensures none { IfNone result ((n : ℕ) → n < 10 ^ 11 → digits.now ≢ decimal n) }
@@ -94,7 +94,7 @@ fn moment(digits: &[u8]) -> Option<u64>
     Some(value)
 }
 
-// 1 to 512 elements, each a digit 0 or 1.
+/// 1 to 512 elements, each a digit 0 or 1.
 fn elements(digits: &[u8]) -> Option<ArrayVec<bool, MAX_ELEMENTS>>
     ensures found { IfSome result (λ found. (0 < length found.items) × (length found.items ≤ 512)
         × (digits.now ≡ map element_digit found.items)) }

@@ -18,7 +18,7 @@ pub enum AlignedFault {
         bits: u64,
     },
     /// Memory for the text was refused.
-    #[error(transparent)]
+    #[error("out of memory")]
     Memory(AllocError),
 }
 
@@ -35,7 +35,7 @@ fn word_in(bits: &[bool], slot: usize) -> Word
 
 /// The text of the elements, whose first word is that of slot 0: each RX word is paired with the word five
 /// slots before it, or with a wrong weight where there is none, and read from letters. `Ragged` exactly where
-/// the count is no multiple of seven.
+/// the count is no multiple of seven (ITU-R M.625, mode B; that slot 0 comes first is this profile's).
 pub fn decode_aligned(alloc: Global, bits: &[bool]) -> Result<Vec<u8>, AlignedFault>
     ensures text { IfOk result (λ text. text.items ≡ aligned_text (words_of bits.now)) }
     ensures whole { OnOk result (length bits.now % 7 ≡ 0) }

@@ -1,5 +1,5 @@
 //! Readers and writers whose failed calls are counted.
-ghost use Rattle.std.specs.Prelude.{◌≡◌, [], IfOk};
+ghost use Rattle.std.specs.Prelude.{◌≡◌, ◌↔◌, ◌+◌, ◌-◌, ◌^◌, ◌<◌, [], min, IfOk, IsTrue};
 ghost use Rattle.std.specs.Io.{ReadsAtMost, WritesAtMost};
 ghost use Rattle.std.specs.Io.KnownBytes.{ReadConsumes, WriteAppends, Keeps};
 ghost use Rattle.nx_fec.specs.Devices.{Counts};
@@ -18,9 +18,9 @@ pub struct Counting<T> {
 }
 
 impl<T> Model for Counting<T> {
-    ghost use Rattle.nx_fec.specs.Devices.{Counted, counted_code};
+    ghost use Rattle.nx_fec.specs.Devices.{CountedDevice, counted_code};
 
-    ghost Value = { Counted T };
+    ghost Value = { CountedDevice T };
 
     ghost coded = { counted_code T.code };
 
@@ -50,11 +50,22 @@ impl<T> Counting<T> {
         let Counting { inner, failures: _ } = self;
         inner
     }
-}
 
-// The error of a call that isn't passed on.
-fn stopped() -> Error {
-    Error::from(ErrorKind::Other)
+    /// Whether a call failed, so that no further one is passed on.
+    fn is_stopped(&self) -> bool
+        ensures { IsTrue result ↔ (0 < self.now.failures) }
+    {
+        self.failures > 0
+    }
+
+    /// Counts a call that isn't passed on, and gives its error.
+    fn refuse(&mut self) -> Error
+        ensures inner { self.new.inner ≡ self.old.inner }
+        ensures counted { self.new.failures ≡ min (self.old.failures + 1) (2 ^ 64 - 1) }
+    {
+        self.failures = self.failures.saturating_add(1);
+        Error::from(ErrorKind::Other)
+    }
 }
 
 impl<R: Read> Read for Counting<R> {
@@ -65,9 +76,8 @@ impl<R: Read> Read for Counting<R> {
         ensures bytes { ReadConsumes (R.remaining self.old.inner) (R.remaining self.new.inner) result buf.new }
         ensures counted { Counts self.old self.new result }
     {
-        if self.failures > 0 {
-            self.failures = self.failures.saturating_add(1);
-            return Err(stopped());
+        if self.is_stopped() {
+            return Err(self.refuse());
         }
         let outcome = self.inner.read(buf);
         if outcome.is_err() {
@@ -77,7 +87,7 @@ impl<R: Read> Read for Counting<R> {
     }
 }
 
-// A write, where taking no byte of a piece that isn't empty is an error.
+/// A write, where taking no byte of a piece that isn't empty is an error.
 fn write_some<W: Write>(writer: &mut W, piece: &[u8]) -> io::Result<usize>
     ensures bound { WritesAtMost result piece.now }
     ensures bytes { WriteAppends (W.contents writer.old) (W.contents writer.new) result piece.now }
@@ -99,9 +109,8 @@ impl<W: Write> Write for Counting<W> {
         ensures counted { Counts self.old self.new result }
         ensures some { IfOk result (λ count. count ≡ 0 → buf.now ≡ []) }
     {
-        if self.failures > 0 {
-            self.failures = self.failures.saturating_add(1);
-            return Err(stopped());
+        if self.is_stopped() {
+            return Err(self.refuse());
         }
         let outcome = write_some(&mut self.inner, buf);
         if outcome.is_err() {
@@ -114,9 +123,8 @@ impl<W: Write> Write for Counting<W> {
         ensures bytes { Keeps (W.contents self.old.inner) (W.contents self.new.inner) }
         ensures counted { Counts self.old self.new result }
     {
-        if self.failures > 0 {
-            self.failures = self.failures.saturating_add(1);
-            return Err(stopped());
+        if self.is_stopped() {
+            return Err(self.refuse());
         }
         let outcome = self.inner.flush();
         if outcome.is_err() {

@@ -6,7 +6,7 @@ ghost use Rattle.nx_fec.specs.AirFile.{meaning};
 ghost use Rattle.nx_fec.specs.declared.fault.LineFault.{LineFault};
 ghost use Rattle.std.specs.List.{flat_map};
 ghost use Rattle.std.specs.Option.{option_map};
-ghost use Rattle.nx_fec.specs.Runs.{Explains, ExplainsWhole, HasRead, IsOutside, run_fault};
+ghost use Rattle.nx_fec.specs.Runs.{Explains, ExplainsWhole, HasRead, IsOutside, file_limit, run_fault};
 
 use crate::air_file::AirLine;
 use crate::counting::Counting;
@@ -18,7 +18,7 @@ use std::io::Read;
 /// The most bytes of a file that is read whole.
 pub const FILE_LIMIT: u64 = 1_048_576;
 
-// How many bytes one read asks for.
+/// How many bytes one read asks for.
 const CHUNK: usize = 65_536;
 
 /// Reads an air file to its end, and joins the elements of all its lines. The other lines are checked and skipped.
@@ -30,19 +30,19 @@ pub fn read_bits<R: Read>(alloc: Global, reader: &mut Counting<R>) -> Result<Vec
     // Whatever the reader tells of its bytes: it gave some, and the answer is that of these.
     ensures known { (bytes : List ℕ) × Consumes (R.remaining reader.old.inner) (R.remaining reader.new.inner) bytes
         × MatchResult result
-        (λ bits. IsAtEnd (R.remaining reader.new.inner) × IsBitFile FILE_LIMIT bytes bits.items)
-        (λ fault. Explains (IsAtEnd (R.remaining reader.new.inner)) FILE_LIMIT bytes fault) }
+        (λ bits. IsAtEnd (R.remaining reader.new.inner) × IsBitFile file_limit bytes bits.items)
+        (λ fault. Explains (IsAtEnd (R.remaining reader.new.inner)) file_limit bytes fault) }
 
     // Where its bytes are known, the answer is that of the whole file, however they came.
     ensures file { IfSome (R.remaining reader.old.inner) (λ xs. MatchResult result
-        (λ bits. IsBitFile FILE_LIMIT xs bits.items)
-        (λ fault. Explains (Unit {0}) FILE_LIMIT xs fault)) }
+        (λ bits. IsBitFile file_limit xs bits.items)
+        (λ fault. Explains (Unit {0}) file_limit xs fault)) }
 
     // So a fault of the file is the answer, and so are the elements of a file without a fault, unless the reader or
     // memory failed.
-    ensures fault { IfSome (R.remaining reader.old.inner) (λ xs. (why : LineFault) → IsRefused FILE_LIMIT xs why →
+    ensures fault { IfSome (R.remaining reader.old.inner) (λ xs. (why : LineFault) → IsRefused file_limit xs why →
         IsErrAnd result (λ fault. (fault ≡ run_fault why) ⊎ IsOutside fault)) }
-    ensures good { IfSome (R.remaining reader.old.inner) (λ xs. (elements : List Bool) → IsBitFile FILE_LIMIT xs elements →
+    ensures good { IfSome (R.remaining reader.old.inner) (λ xs. (elements : List Bool) → IsBitFile file_limit xs elements →
         MatchResult result (λ bits. bits.items ≡ elements) IsOutside) }
 
     // A read that failed is the one that raised the count.
@@ -53,7 +53,7 @@ pub fn read_bits<R: Read>(alloc: Global, reader: &mut Counting<R>) -> Result<Vec
     read_through(alloc, reader, space.as_mut_slice())
 }
 
-// Reads an air file to its end through this buffer.
+/// Reads an air file to its end through this buffer.
 fn read_through<R: Read>(
     alloc: Global,
     reader: &mut Counting<R>,
@@ -63,11 +63,11 @@ fn read_through<R: Read>(
     requires room { 0 < length buffer.old }
     ensures known { (bytes : List ℕ) × Consumes (R.remaining reader.old.inner) (R.remaining reader.new.inner) bytes
         × MatchResult result
-        (λ bits. IsAtEnd (R.remaining reader.new.inner) × IsBitFile FILE_LIMIT bytes bits.items)
-        (λ fault. Explains (IsAtEnd (R.remaining reader.new.inner)) FILE_LIMIT bytes fault) }
+        (λ bits. IsAtEnd (R.remaining reader.new.inner) × IsBitFile file_limit bytes bits.items)
+        (λ fault. Explains (IsAtEnd (R.remaining reader.new.inner)) file_limit bytes fault) }
     ensures file { IfSome (R.remaining reader.old.inner) (λ xs. MatchResult result
-        (λ bits. IsBitFile FILE_LIMIT xs bits.items)
-        (λ fault. Explains (Unit {0}) FILE_LIMIT xs fault)) }
+        (λ bits. IsBitFile file_limit xs bits.items)
+        (λ fault. Explains (Unit {0}) file_limit xs fault)) }
     ensures failed { IsErrOf result RunFault.Read ↔ (reader.new.failures ≡ 1) }
     ensures once { reader.new.failures ≤ 1 }
 {
@@ -95,13 +95,13 @@ pub fn read_whole<R: Read>(alloc: Global, reader: &mut Counting<R>) -> Result<Ve
     // Whatever the reader tells of its bytes: it gave some, and the answer is that of these.
     ensures known { (bytes : List ℕ) × Consumes (R.remaining reader.old.inner) (R.remaining reader.new.inner) bytes
         × MatchResult result
-        (λ text. IsAtEnd (R.remaining reader.new.inner) × (length bytes ≤ FILE_LIMIT) × (text.items ≡ bytes))
-        (λ fault. ExplainsWhole FILE_LIMIT bytes fault) }
+        (λ text. IsAtEnd (R.remaining reader.new.inner) × (length bytes ≤ file_limit) × (text.items ≡ bytes))
+        (λ fault. ExplainsWhole file_limit bytes fault) }
 
     // Where its bytes are known, the answer is that of the whole file, however they came.
     ensures file { IfSome (R.remaining reader.old.inner) (λ xs. MatchResult result
-        (λ text. (length xs ≤ FILE_LIMIT) × (text.items ≡ xs))
-        (λ fault. ExplainsWhole FILE_LIMIT xs fault)) }
+        (λ text. (length xs ≤ file_limit) × (text.items ≡ xs))
+        (λ fault. ExplainsWhole file_limit xs fault)) }
     ensures failed { IsErrOf result RunFault.Read ↔ (reader.new.failures ≡ 1) }
     ensures once { reader.new.failures ≤ 1 }
 {
@@ -109,7 +109,7 @@ pub fn read_whole<R: Read>(alloc: Global, reader: &mut Counting<R>) -> Result<Ve
     gather(alloc, reader, space.as_mut_slice())
 }
 
-// Reads a file whole through this buffer.
+/// Reads a file whole through this buffer.
 fn gather<R: Read>(
     alloc: Global,
     reader: &mut Counting<R>,
@@ -119,11 +119,11 @@ fn gather<R: Read>(
     requires room { 0 < length buffer.old }
     ensures known { (bytes : List ℕ) × Consumes (R.remaining reader.old.inner) (R.remaining reader.new.inner) bytes
         × MatchResult result
-        (λ text. IsAtEnd (R.remaining reader.new.inner) × (length bytes ≤ FILE_LIMIT) × (text.items ≡ bytes))
-        (λ fault. ExplainsWhole FILE_LIMIT bytes fault) }
+        (λ text. IsAtEnd (R.remaining reader.new.inner) × (length bytes ≤ file_limit) × (text.items ≡ bytes))
+        (λ fault. ExplainsWhole file_limit bytes fault) }
     ensures file { IfSome (R.remaining reader.old.inner) (λ xs. MatchResult result
-        (λ text. (length xs ≤ FILE_LIMIT) × (text.items ≡ xs))
-        (λ fault. ExplainsWhole FILE_LIMIT xs fault)) }
+        (λ text. (length xs ≤ file_limit) × (text.items ≡ xs))
+        (λ fault. ExplainsWhole file_limit xs fault)) }
     ensures failed { IsErrOf result RunFault.Read ↔ (reader.new.failures ≡ 1) }
     ensures once { reader.new.failures ≤ 1 }
 {
@@ -143,14 +143,14 @@ fn gather<R: Read>(
     Ok(whole)
 }
 
-// A buffer of this many bytes.
+/// A buffer of this many bytes.
 fn blank(alloc: Global, length: usize) -> Result<Vec<u8>, AllocError>
     ensures { IfOk result (λ buffer. vec_len buffer ≡ length) }
 {
     vec![in alloc; 0; length]
 }
 
-// Scans the next bytes of a file, and appends the elements of the lines that they end.
+/// Scans the next bytes of a file, and appends the elements of the lines that they end.
 fn scan_piece(piece: &[u8], scanner: &mut Scanner, bits: &mut Vec<bool>) -> Result<(), RunFault>
     ensures read { (limit : ℕ) (bytes : List ℕ) → HasRead limit scanner.old bits.old.items bytes → MatchResult result
         (λ _. HasRead limit scanner.new bits.new.items (bytes ++ piece.now))
@@ -164,7 +164,7 @@ fn scan_piece(piece: &[u8], scanner: &mut Scanner, bits: &mut Vec<bool>) -> Resu
     Ok(())
 }
 
-// Scans the next byte of a file.
+/// Scans the next byte of a file.
 fn scan_byte(byte: u8, scanner: &mut Scanner, bits: &mut Vec<bool>) -> Result<(), RunFault>
     ensures read { (limit : ℕ) (bytes : List ℕ) → HasRead limit scanner.old bits.old.items bytes → MatchResult result
         (λ _. HasRead limit scanner.new bits.new.items (bytes ++ byte ∷ []))
@@ -178,7 +178,7 @@ fn scan_byte(byte: u8, scanner: &mut Scanner, bits: &mut Vec<bool>) -> Result<()
     Ok(())
 }
 
-// Appends the elements of a line, which only a line of elements has.
+/// Appends the elements of a line, which only a line of elements has.
 fn append_elements(line: Option<&AirLine>, bits: &mut Vec<bool>) -> Result<(), AllocError>
     ensures { OnOk result (bits.new.items
         ≡ bits.old.items ++ flat_map elements_of (option_to_list (option_map (λ line. meaning line.now) line.entry))) }

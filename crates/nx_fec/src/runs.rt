@@ -2,14 +2,14 @@
 ghost use Rattle.std.specs.Prelude.{◌≡◌, ◌≤◌, ◌↔◌, ℕ, List, map, IfSome, IfOk, IfErr, Err, IsErrOf};
 ghost use Rattle.nx_fec.specs.Emission.{framed, meaning};
 ghost use Rattle.std.specs.Io.KnownBytes.{Consumes, IsAtEnd};
-ghost use Rattle.nx_fec.specs.Runs.{AnswersDecoding, AnswersEncoding, IsWriting};
+ghost use Rattle.nx_fec.specs.Runs.{AnswersDecoding, AnswersEncoding, IsWriting, file_limit};
 
 use crate::aligned::decode_aligned;
 use crate::counting::Counting;
 use crate::emission::to_bits;
 use crate::fault::RunFault;
 use crate::positions::Position;
-use crate::reading::{FILE_LIMIT, read_bits, read_whole};
+use crate::reading::{read_bits, read_whole};
 use crate::writing::{write_bits, write_out};
 use nx_code::{Comb, Shift, spell};
 use std::alloc::{AllocError, Global};
@@ -30,11 +30,11 @@ pub fn decode_run<R: Read, W: Write>(
 
     // Whatever the reader tells of its bytes: it gave some, and the answer is that of these.
     ensures known { (bytes : List ℕ) × Consumes (R.remaining reader.old.inner) (R.remaining reader.new.inner) bytes
-        × AnswersDecoding (IsAtEnd (R.remaining reader.new.inner)) FILE_LIMIT bytes
+        × AnswersDecoding (IsAtEnd (R.remaining reader.new.inner)) file_limit bytes
         (W.contents writer.old.inner) (W.contents writer.new.inner) result }
 
     // Where its bytes are known, the answer is that of the whole file, however they came.
-    ensures file { IfSome (R.remaining reader.old.inner) (λ xs. AnswersDecoding (Unit {0}) FILE_LIMIT xs
+    ensures file { IfSome (R.remaining reader.old.inner) (λ xs. AnswersDecoding (Unit {0}) file_limit xs
         (W.contents writer.old.inner) (W.contents writer.new.inner) result) }
 
     // A call that failed is the one that raised its count. Before all else succeeded nothing is written.
@@ -65,11 +65,11 @@ pub fn encode_run<R: Read, W: Write>(
 
     // Whatever the reader tells of its bytes: it gave some, and the answer is that of these.
     ensures known { (bytes : List ℕ) × Consumes (R.remaining reader.old.inner) (R.remaining reader.new.inner) bytes
-        × AnswersEncoding (IsAtEnd (R.remaining reader.new.inner)) FILE_LIMIT bytes
+        × AnswersEncoding (IsAtEnd (R.remaining reader.new.inner)) file_limit bytes
         (W.contents writer.old.inner) (W.contents writer.new.inner) result }
 
     // Where its bytes are known, the answer is that of the whole text, however they came.
-    ensures file { IfSome (R.remaining reader.old.inner) (λ xs. AnswersEncoding (Unit {0}) FILE_LIMIT xs
+    ensures file { IfSome (R.remaining reader.old.inner) (λ xs. AnswersEncoding (Unit {0}) file_limit xs
         (W.contents writer.old.inner) (W.contents writer.new.inner) result) }
 
     // A call that failed is the one that raised its count. Before all else succeeded nothing is written.
@@ -87,7 +87,7 @@ pub fn encode_run<R: Read, W: Write>(
     Ok(positions.len() as u64)
 }
 
-// The positions by which combinations are sent alone.
+/// The positions by which combinations are sent alone.
 fn framed_positions(alloc: Global, combs: &[Comb]) -> Result<Vec<Position>, AllocError>
     ensures { IfOk result (λ positions. map meaning positions.items ≡ framed (map (λ comb. comb.number) combs.now)) }
 {

@@ -1,5 +1,5 @@
 //! A scanner of the lines of an air file, which takes one byte after the other.
-ghost use Rattle.std.specs.Prelude.{◌≡◌, ◌+◌, ◌-◌, ◌<◌, ◌↔◌, ℕ, List, [], ◌∷◌, ◌++◌, None, option_to_list, if◌then◌else◌, IsTrue, IfOk, IfErr, OnErr, IsSome, MatchResult};
+ghost use Rattle.std.specs.Prelude.{◌≡◌, ◌+◌, ◌-◌, ◌<◌, ◌↔◌, ℕ, List, [], ◌∷◌, ◌++◌, None, false, option_to_list, if◌then◌else◌, IsTrue, IfOk, IfErr, OnErr, IsSome, MatchResult};
 ghost use Rattle.std.specs.Option.{option_map};
 ghost use Rattle.nx_fec.specs.AirFile.{Line, meaning};
 ghost use Rattle.nx_fec.specs.Lines.{Scans, IsRefused, IsAirFile, IsAtByte};
@@ -45,7 +45,8 @@ impl Model for Scanner {
 impl Scanner {
     /// A scanner before the first byte, for a file of at most `limit` bytes.
     pub fn new(limit: u64) -> Self
-        ensures { Scans limit result [] [] }
+        ensures stands { Scans limit result [] [] }
+        ensures no_line { result.latest ≡ None }
     {
         Scanner {
             open: ArrayVec::new(),
@@ -78,6 +79,7 @@ impl Scanner {
             (λ why. (more : List ℕ) → IsRefused limit (bytes ++ byte ∷ more) why) }
         ensures at_byte { IfErr result IsAtByte }
         ensures latest { IfOk result (λ is_end. IsTrue is_end → IsSome self.new.latest) }
+        ensures kept { IfOk result (λ is_end. is_end ≡ false → self.new.latest ≡ self.old.latest) }
         ensures room { IfOk result (λ _. self.new.room + 1 ≡ self.old.room) }
         ensures err { OnErr result (self.new ≡ self.old) }
     {

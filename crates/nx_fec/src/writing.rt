@@ -15,11 +15,11 @@ use std::io::Write;
 /// How many elements a written line has, but for the last.
 pub const LINE_ELEMENTS: usize = 490;
 
-// The bytes of such a line: `B`, a space, the elements, and the line feed.
-const LINE_BYTES: usize = 493;
+/// The bytes of such a line: `B`, a space, the elements, and the line feed.
+const LINE_BYTES: usize = LINE_ELEMENTS + 3;
 
-// How many bytes are gathered for one write, which is 64 lines.
-const BATCH_BYTES: usize = 31_552;
+/// How many bytes are gathered for one write, which is 64 lines.
+const BATCH_BYTES: usize = 64 * LINE_BYTES;
 
 /// Writes all these bytes, by as many calls as the writer needs. It stops at the first write that fails.
 pub fn write_out<W: Write>(writer: &mut Counting<W>, bytes: &[u8]) -> Result<(), WriteFault>
@@ -68,7 +68,7 @@ pub fn write_bits<W: Write>(writer: &mut Counting<W>, bits: &[bool]) -> Result<(
     Ok(())
 }
 
-// Writes a batch after as many bytes as `sent` says, and counts on.
+/// Writes a batch after as many bytes as `sent` says, and counts on.
 fn write_after<W: Write>(
     writer: &mut Counting<W>,
     sent: u64,
@@ -91,7 +91,7 @@ fn write_after<W: Write>(
     }
 }
 
-// Appends the line of these elements.
+/// Appends the line of these elements.
 fn push_line(line: &[bool], batch: &mut ArrayVec<u8, BATCH_BYTES>)
     requires short { length line.now ≤ LINE_ELEMENTS }
     requires room { array_vec_len batch.old + LINE_BYTES ≤ BATCH_BYTES }

@@ -91,6 +91,10 @@ impl Write for Sink {
     }
 
     fn flush(&mut self) -> Result<()> {
+        self.calls = self.calls.saturating_add(1);
+        if self.fails_at == Some(self.calls) {
+            return Err(Error::from(ErrorKind::Other));
+        }
         Ok(())
     }
 }

@@ -9,7 +9,7 @@ pub loop-count-init : goal.loop-count-init
 loop-count-init g c = record {
   none = c.requires.none;
   chunk = c.requires.room;
-  read = ([], Consumes-nil _, record { lines = []; scans = c.new-scanner.ensures; joined = c.new-bits.ensures.items });
+  read = ([], Consumes-nil _, record { lines = []; scans = c.new-scanner.ensures.stands; joined = c.new-bits.ensures.items });
 }
 
 pub returns-in_default-clause-known : goal.returns-in_default-clause-known
