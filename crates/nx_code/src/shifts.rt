@@ -28,7 +28,7 @@ pub enum Case {
 
 impl Shift {
     /// The shift that is not this one.
-    pub fn other(self) -> Shift
+    pub(crate) fn other(self) -> Shift
         ensures { result ≡ other self }
     {
         match self {
@@ -38,7 +38,7 @@ impl Shift {
     }
 
     /// The combination that sets this shift, 29 or 30 (M.476).
-    pub fn comb(self) -> Comb
+    pub(crate) fn comb(self) -> Comb
         ensures { shift_set (combination result.number) ≡ Some self }
     {
         match self {
@@ -54,7 +54,7 @@ impl Shift {
 
 impl Case {
     /// Whether a character of this case stands in a shift.
-    pub fn stands_in(self, shift: Shift) -> bool
+    pub(crate) fn stands_in(self, shift: Shift) -> bool
         ensures { result ≡ holds_in self shift }
     {
         match self {

@@ -16,9 +16,9 @@ use crate::words::Word;
 /// A row of the table: the number of its word, and the character that it prints in letters and in figures.
 #[derive(Clone, Copy, Debug)]
 pub(crate) struct Row {
-    pub(crate) word: u8,
-    pub(crate) letter: Option<u8>,
-    pub(crate) figure: Option<u8>,
+    word: u8,
+    letter: Option<u8>,
+    figure: Option<u8>,
 }
 
 impl Row {
