@@ -13,16 +13,20 @@ use crate::table::{Row, TABLE, row_at};
 /// Which of its two characters a combination stands for (M.476: letter-case and figure-case).
 #[derive(Clone, Copy, Debug, PartialEq, Eq)]
 pub enum Shift {
+    /// Letter-case, which combination 29 sets (M.476).
     Letters,
+    /// Figure-case, which combination 30 sets (M.476).
     Figures,
 }
 
-/// In which of the two shifts a character stands.
+/// In which of the two shifts a character stands (M.476 and M.625, conversion tables).
 #[derive(Clone, Copy, Debug, PartialEq, Eq)]
 pub enum Case {
+    /// It prints in letters alone.
     Letters,
+    /// It prints in figures alone.
     Figures,
-    /// Newline and space print in both.
+    /// Newline and space print in both (this profile).
     Either,
 }
 
@@ -66,14 +70,16 @@ impl Case {
 }
 
 /// The byte that a combination prints in a shift: a letter or a figure, a newline for combination 28, a
-/// space for 31; None where nothing is printed.
+/// space for 31; None where nothing is printed (M.476 and M.625, conversion tables; that 32 and the figures
+/// of D, F, G, H and J print nothing is this profile's).
 pub fn code_to_char(comb: Comb, shift: Shift) -> Option<u8>
     ensures { result ≡ printed comb.number shift }
 {
     row_at(usize::from(comb.number - 1)).character(shift)
 }
 
-/// The combination that prints a character, and in which shift; None for a byte that is not in the code.
+/// The combination that prints a character, and in which shift; None for a byte that is not in the code
+/// (M.476 and M.625, conversion tables; which figures are left out, and `Case::Either`, are this profile's).
 pub fn char_to_code(character: u8) -> Option<(Comb, Case)>
     ensures in_code { IsSome result ↔ IsTrue (is_in_code character) }
     ensures found { (number : ℕ) (shift : Shift) → 1 ≤ number → number ≤ 32 → printed number shift ≡ Some character

@@ -122,7 +122,7 @@ fn signal_at(at: usize) -> Signal
     }
 }
 
-/// The signal that a word stands for; None for a wrong weight.
+/// The signal that a word stands for; None for a wrong weight (M.476 and M.625, conversion tables).
 pub fn signal_of(word: Word) -> Option<Signal>
     ensures signals { IsSome result ↔ (weight word ≡ 4) }
     ensures value { IfSome result (λ signal. number_of_signal signal ≡ word) }
@@ -131,7 +131,7 @@ pub fn signal_of(word: Word) -> Option<Signal>
     Some(signal_at(place_of(word.number())?))
 }
 
-/// The word that stands for a signal.
+/// The word that stands for a signal (M.476 and M.625, conversion tables).
 pub fn word_of(signal: Signal) -> Word
     ensures { result ≡ number_of_signal signal }
 {
