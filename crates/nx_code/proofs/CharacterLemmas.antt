@@ -10,8 +10,8 @@ use Rattle.nx_code.specs.declared.shifts.Shift.{Shift}
 use Rattle.nx_code.specs.declared.shifts.Shift.TheVariants.{Letters, Figures}
 use Rattle.nx_code.specs.Table.{table}
 use Rattle.nx_code.specs.Reading.{printed}
-use Rattle.nx_code.specs.Characters.{is_character, is_in_code, characters}
-use Rattle.nx_code.proofs.TableLemmas.{is_at, Some-is_at, letter-TABLE, figure-TABLE}
+use Rattle.nx_code.specs.Characters.{character_in, is_character, is_in_code, characters}
+use Rattle.nx_code.proofs.TableLemmas.{is_at, Some-is_at, character-TABLE}
 
 -- a test of what is printed, where something is
 abbrev pub if_some : (ℕ → Bool) → Option ℕ → Bool
@@ -21,21 +21,13 @@ if_some test (Some c) = test c
 pub if_some-at : (test : ℕ → Bool) (o : Option ℕ) (c : ℕ) → if_some test o ≡ true → o ≡ Some c → test c ≡ true
 if_some-at test o c h e = subst (λ p. if_some test p ≡ true) e h
 
--- the columns of the code's table, searched for a character
-abbrev pub letter_place : ℕ → Option ℕ
-letter_place c = position (λ (row : Row). is_character row.letter c) TABLE
-
-abbrev pub figure_place : ℕ → Option ℕ
-figure_place c = position (λ (row : Row). is_character row.figure c) TABLE
-
 is_character-Some : (o : Option ℕ) (c : ℕ) → is_character o c ≡ true → o ≡ Some c
 is_character-Some None c h = cc
 is_character-Some (Some d) c h = ap Some (eqb-true d c h)
 
 -- the place of the first combination that prints a character in a shift
 abbrev pub place_for : Shift → ℕ → Option ℕ
-place_for Letters c = letter_place c
-place_for Figures c = figure_place c
+place_for shift c = position (λ (row : Row). is_character (character_in row shift) c) TABLE
 
 -- only the 32 combinations print
 printed-low : (shift : Shift) (n : ℕ) → n < 36 → if_some (λ c. ltb n 33) (printed n shift) ≡ true
@@ -47,19 +39,19 @@ printed-low Figures n h = agree_below_at (λ k. if_some (λ c. ltb k 33) (printe
 printed-place : (shift : Shift) (n : ℕ) → n < 33 → if_some (λ c. eqb n 0 || is_at (place_for shift c) (n - 1)) (printed n shift) ≡ true
 unfolding printed table
 printed-place Letters n h =
-    agree_below_at (λ k. if_some (λ c. eqb k 0 || is_at (letter_place c) (k - 1)) (printed k Letters)) (λ _. true) 33 n refl h
+    agree_below_at (λ k. if_some (λ c. eqb k 0 || is_at (place_for Letters c) (k - 1)) (printed k Letters)) (λ _. true) 33 n refl h
 printed-place Figures n h =
-    agree_below_at (λ k. if_some (λ c. eqb k 0 || is_at (figure_place c) (k - 1)) (printed k Figures)) (λ _. true) 33 n refl h
+    agree_below_at (λ k. if_some (λ c. eqb k 0 || is_at (place_for Figures c) (k - 1)) (printed k Figures)) (λ _. true) 33 n refl h
 
 -- a character of both shifts has one place
 abbrev pub same_if_some : Option ℕ → ℕ → Bool
 same_if_some None at = true
 same_if_some (Some other) at = eqb other at
 
-printed-both : (n : ℕ) → n < 33 → if_some (λ c. same_if_some (figure_place c) (n - 1)) (printed n Letters) ≡ true
+printed-both : (n : ℕ) → n < 33 → if_some (λ c. same_if_some (place_for Figures c) (n - 1)) (printed n Letters) ≡ true
 unfolding printed table
 printed-both n h =
-    agree_below_at (λ k. if_some (λ c. same_if_some (figure_place c) (k - 1)) (printed k Letters)) (λ _. true) 33 n refl h
+    agree_below_at (λ k. if_some (λ c. same_if_some (place_for Figures c) (k - 1)) (printed k Letters)) (λ _. true) 33 n refl h
 
 -- the characters of the code are those that are printed
 printed-in_code : (shift : Shift) (n : ℕ) → n < 33 → if_some is_in_code (printed n shift) ≡ true
@@ -81,23 +73,17 @@ pub in_code-low : (c : ℕ) → is_in_code c ≡ true → c < 128
 unfolding is_in_code characters
 in_code-low c h = list_any-lt characters c refl h
 
-in_code-places : (c : ℕ) → c < 128 → (not (is_in_code c) || (is_some (letter_place c) || is_some (figure_place c))) ≡ true
+in_code-places : (c : ℕ) → c < 128 → (not (is_in_code c) || (is_some (place_for Letters c) || is_some (place_for Figures c))) ≡ true
 unfolding is_in_code characters
 in_code-places c h =
-    agree_below_at (λ k. not (is_in_code k) || (is_some (letter_place k) || is_some (figure_place k))) (λ _. true) 128 c refl h
+    agree_below_at (λ k. not (is_in_code k) || (is_some (place_for Letters k) || is_some (place_for Figures k))) (λ _. true) 128 c refl h
 
 pub place_for-Some : (shift : Shift) (c at : ℕ) → place_for shift c ≡ Some at → (at < 32) × (printed (at + 1) shift ≡ Some c)
-place_for-Some Letters c at h =
+place_for-Some shift c at h =
     let row : Row = record { word = 0; letter = None; figure = None } in
-    let found = position-Some (λ (r : Row). is_character r.letter c) TABLE at row h in
-    let prints : printed (at + 1) Letters ≡ Some c = sym (letter-TABLE at row found.0) ∙ is_character-Some (get_or TABLE at row).letter c found.1 in
-    let low = ltb-true (at + 1) 33 (if_some-at (λ d. ltb (at + 1) 33) _ c (printed-low Letters (at + 1) (omega (arith, found.0))) prints) in
-    (omega (arith, low), prints)
-place_for-Some Figures c at h =
-    let row : Row = record { word = 0; letter = None; figure = None } in
-    let found = position-Some (λ (r : Row). is_character r.figure c) TABLE at row h in
-    let prints : printed (at + 1) Figures ≡ Some c = sym (figure-TABLE at row found.0) ∙ is_character-Some (get_or TABLE at row).figure c found.1 in
-    let low = ltb-true (at + 1) 33 (if_some-at (λ d. ltb (at + 1) 33) _ c (printed-low Figures (at + 1) (omega (arith, found.0))) prints) in
+    let found = position-Some (λ (r : Row). is_character (character_in r shift) c) TABLE at row h in
+    let prints : printed (at + 1) shift ≡ Some c = sym (character-TABLE shift at row found.0) ∙ is_character-Some (character_in (get_or TABLE at row) shift) c found.1 in
+    let low = ltb-true (at + 1) 33 (if_some-at (λ d. ltb (at + 1) 33) _ c (printed-low shift (at + 1) (omega (arith, found.0))) prints) in
     (omega (arith, low), prints)
 
 pub place_for-printed : (shift : Shift) (n c : ℕ) → 1 ≤ n → n ≤ 32 → printed n shift ≡ Some c → place_for shift c ≡ Some (n - 1)
@@ -110,7 +96,7 @@ place_for-printed shift n c low high h =
 pub same_place_for : (c at other : ℕ) → place_for Letters c ≡ Some at → place_for Figures c ≡ Some other → other ≡ at
 same_place_for c at other h k =
     let found = place_for-Some Letters c at h in
-    let t = if_some-at (λ d. same_if_some (figure_place d) (at + 1 - 1)) (printed (at + 1) Letters) c (printed-both (at + 1) (omega (arith, found.0))) found.1 in
+    let t = if_some-at (λ d. same_if_some (place_for Figures d) (at + 1 - 1)) (printed (at + 1) Letters) c (printed-both (at + 1) (omega (arith, found.0))) found.1 in
     let e : other ≡ at + 1 - 1 = eqb-true other (at + 1 - 1) (subst (λ o. same_if_some o (at + 1 - 1) ≡ true) k t) in
     omega arith
 
@@ -119,7 +105,7 @@ in_code-Some shift c at h =
     let found = place_for-Some shift c at h in
     if_some-at is_in_code (printed (at + 1) shift) c (printed-in_code shift (at + 1) (omega (arith, found.0))) found.1
 
-pub in_code-None : (c : ℕ) → letter_place c ≡ None → figure_place c ≡ None → is_in_code c ≡ true → ⊥
+pub in_code-None : (c : ℕ) → place_for Letters c ≡ None → place_for Figures c ≡ None → is_in_code c ≡ true → ⊥
 in_code-None c h k e =
     let t = in_code-places c (in_code-low c e) in
     false≢true (sym (rw (e, h, k) refl) ∙ t)
@@ -143,9 +129,9 @@ Prints-place shift c at h =
 -- each character of the code is printed
 pub in_code-prints : (c : ℕ) → is_in_code c ≡ true → Prints c
 in_code-prints c h =
-    elim (letter_place c) as (λ o. letter_place c ≡ o → Prints c) [
+    elim (place_for Letters c) as (λ o. place_for Letters c ≡ o → Prints c) [
       | Some at ↦ λ e. Prints-place Letters c at e
-      | None ↦ λ e. elim (figure_place c) as (λ o. figure_place c ≡ o → Prints c) [
+      | None ↦ λ e. elim (place_for Figures c) as (λ o. place_for Figures c ≡ o → Prints c) [
         | Some at ↦ λ f. Prints-place Figures c at f
         | None ↦ λ f. absurd (in_code-None c e f h)
       ] refl

@@ -16,6 +16,8 @@ use Rattle.nx_code.specs.Word.{weight, elements, elements_from}
 use Rattle.nx_code.specs.Table.{table, words, place_of}
 use Rattle.nx_code.specs.Signal.{place, number_of_signal}
 use Rattle.nx_code.specs.Reading.{printed}
+use Rattle.nx_code.specs.Characters.{character_in}
+use Rattle.nx_code.specs.declared.shifts.Shift.{Shift}
 use Rattle.nx_code.specs.declared.shifts.Shift.TheVariants.{Letters, Figures}
 use Rattle.std.specs.List.{range_with_len}
 use Rattle.std.proofs.lemmas.List.FromFn.{get_or-map-range_with_len}
@@ -121,18 +123,11 @@ abbrev pub number_of_place : ℕ → ℕ
 number_of_place at = get_or words at 0
 
 -- the columns of the code's table are what the combinations print
-column-TABLE : map (λ (row : Row). row.letter) TABLE ≡ map (λ k. printed (k + 1) Letters) (range_with_len 0 35)
+column-TABLE : (shift : Shift) → map (λ (row : Row). character_in row shift) TABLE ≡ map (λ k. printed (k + 1) shift) (range_with_len 0 35)
 unfolding table printed
-column-TABLE = refl
+column-TABLE Letters = refl
+column-TABLE Figures = refl
 
-figures-TABLE : map (λ (row : Row). row.figure) TABLE ≡ map (λ k. printed (k + 1) Figures) (range_with_len 0 35)
-unfolding table printed
-figures-TABLE = refl
-
-pub letter-TABLE : (at : ℕ) (fallback : Row) → at < 35 → (get_or TABLE at fallback).letter ≡ printed (at + 1) Letters
-letter-TABLE at fallback h =
-    sym (get_or-map (λ (r : Row). r.letter) TABLE at fallback None h) ∙ ap (λ l. get_or l at None) column-TABLE ∙ get_or-map-range_with_len (λ k. printed (k + 1) Letters) 0 35 at at None h (omega arith)
-
-pub figure-TABLE : (at : ℕ) (fallback : Row) → at < 35 → (get_or TABLE at fallback).figure ≡ printed (at + 1) Figures
-figure-TABLE at fallback h =
-    sym (get_or-map (λ (r : Row). r.figure) TABLE at fallback None h) ∙ ap (λ l. get_or l at None) figures-TABLE ∙ get_or-map-range_with_len (λ k. printed (k + 1) Figures) 0 35 at at None h (omega arith)
+pub character-TABLE : (shift : Shift) (at : ℕ) (fallback : Row) → at < 35 → character_in (get_or TABLE at fallback) shift ≡ printed (at + 1) shift
+character-TABLE shift at fallback h =
+    sym (get_or-map (λ (r : Row). character_in r shift) TABLE at fallback None h) ∙ ap (λ l. get_or l at None) (column-TABLE shift) ∙ get_or-map-range_with_len (λ k. printed (k + 1) shift) 0 35 at at None h (omega arith)

@@ -1,5 +1,5 @@
 -- What is printed of the positions that were taken (ITU-R M.476 and M.625; `*` for a lost position is this
--- profile's, as is that the figures of D, F, G, H and J print nothing).
+-- profile's, as is that 32 and the figures of D, F, G, H and J print nothing).
 use Rattle.std.specs.Prelude.{◌≡◌, ◌⊎◌, ℕ, ◌-◌, ◌==◌, if◌then◌else◌, List, [], ◌∷◌, ◌++◌, Option, Some, None, slice_index_or, unwrap_or}
 use Rattle.std.specs.Option.{option_to_list}
 use Rattle.nx_code.specs.declared.shifts.Shift.{Shift}

@@ -5,18 +5,32 @@ ghost use Rattle.nx_code.specs.Word.{weight};
 ghost use Rattle.nx_code.specs.Table.{place_of, words};
 ghost use Rattle.nx_code.specs.Signal.{place, number_of_signal};
 ghost use Rattle.nx_code.specs.Reading.{printed};
+ghost use Rattle.nx_code.specs.Characters.{character_in};
 ghost use Rattle.nx_code.specs.declared.signals.Signal.{Signal};
-ghost use Rattle.nx_code.specs.declared.shifts.Shift.TheVariants.{Letters, Figures};
+ghost use Rattle.nx_code.specs.declared.shifts.Shift.{Shift};
 
+use crate::shifts::Shift;
 use crate::signals::{Comb, Signal};
 use crate::words::Word;
 
 /// A row of the table: the number of its word, and the character that it prints in letters and in figures.
 #[derive(Clone, Copy, Debug)]
 pub(crate) struct Row {
-    pub(crate) word: u8,
-    pub(crate) letter: Option<u8>,
-    pub(crate) figure: Option<u8>,
+    word: u8,
+    letter: Option<u8>,
+    figure: Option<u8>,
+}
+
+impl Row {
+    /// The character that a row prints in a shift.
+    pub(crate) fn character(self, shift: Shift) -> Option<u8>
+        ensures { result ≡ character_in self shift }
+    {
+        match shift {
+            Shift::Letters => self.letter,
+            Shift::Figures => self.figure,
+        }
+    }
 }
 
 /// The rows of the combinations 1 to 32, and then of idle alpha, idle beta and signal repetition.
@@ -88,8 +102,7 @@ pub(crate) fn row_at(place: usize) -> Row
     requires { place < ROWS }
     ensures word { result.word ≡ slice_index words place }
     ensures range { result.word < 128 }
-    ensures letter { result.letter ≡ printed (place + 1) Letters }
-    ensures figure { result.figure ≡ printed (place + 1) Figures }
+    ensures characters { (shift : Shift) → character_in result shift ≡ printed (place + 1) shift }
 {
     TABLE[place]
 }
@@ -109,7 +122,7 @@ fn signal_at(at: usize) -> Signal
     }
 }
 
-/// The signal that a word stands for; None for a wrong weight.
+/// The signal that a word stands for; None for a wrong weight (M.476 and M.625, conversion tables).
 pub fn signal_of(word: Word) -> Option<Signal>
     ensures signals { IsSome result ↔ (weight word ≡ 4) }
     ensures value { IfSome result (λ signal. number_of_signal signal ≡ word) }
@@ -118,7 +131,7 @@ pub fn signal_of(word: Word) -> Option<Signal>
     Some(signal_at(place_of(word.number())?))
 }
 
-/// The word that stands for a signal.
+/// The word that stands for a signal (M.476 and M.625, conversion tables).
 pub fn word_of(signal: Signal) -> Word
     ensures { result ≡ number_of_signal signal }
 {
