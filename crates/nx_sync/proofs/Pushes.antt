@@ -1,4 +1,5 @@
 -- What a synchroniser holds after one more bit is what stands then.
+use Rattle.std.specs.Prelude.{◌↔◌, IsTrue, IsSome}
 use Rattle.std.proofs.Common.{◌≡◌, ℕ, suc, ◌+◌, ◌-◌, ◌*◌, ◌<◌, ◌≤◌, ◌==◌, min, ◌⊎◌, List, [], ◌∷◌, ◌++◌, length, take, drop, replicate, Bool, true, false, is_some, refl, sym, ap, ap₂, subst, subst₂, ◌∙◌, inl, inr, arith, Some, None, Option}
 use Rattle.std.proofs.lemmas.List.{length_push}
 use Rattle.std.proofs.lemmas.Bool.{cases_lt}
@@ -29,8 +30,11 @@ track_iff bits locks (hunting p) wrong track n t = (
 track_iff bits locks (locked p t) wrong track n f =
     (λ h. record { locks = locks; p = p; t = t; stands = n }, λ l. ap is_some f.is)
 
-pub locked_iff : (s : Held) (bits : List Bool) → StandsAfter s bits → (is_some s.track ≡ true → LockStands bits) × (LockStands bits → is_some s.track ≡ true)
-locked_iff s bits a = track_iff bits a.locks a.now s.wrong s.track a.stands a.tracks
+-- an answer that says whether a track is there says whether a lock stands
+pub locked_by : (s : Held) (answer : Bool) → (IsTrue answer ↔ IsSome s.track) → (bits : List Bool) → StandsAfter s bits → (IsTrue answer ↔ LockStands bits)
+locked_by s answer iff bits a =
+    let lock = track_iff bits a.locks a.now s.wrong s.track a.stands a.tracks in
+    (λ h. lock.0 (iff.0 h), λ l. iff.1 (lock.1 l))
 
 -- what is held after an element was heard, before it is looked at
 abbrev pub heard : Held → Bool → Held
