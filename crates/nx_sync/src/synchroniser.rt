@@ -1,9 +1,8 @@
 //! The synchroniser. It keeps the last 28 elements and, where a lock stands, a few facts on its last words.
 
-ghost use Rattle.std.specs.Prelude.{◌≡◌, ◌+◌, ◌<◌, ◌≤◌, ◌↔◌, List, Bool, [], ◌∷◌, ◌++◌, drop, length, min, count_by, IsTrue, IfOk, IsSome};
+ghost use Rattle.std.specs.Prelude.{◌≡◌, ◌+◌, ◌<◌, ◌≤◌, ◌↔◌, List, Bool, [], ◌∷◌, ◌++◌, drop, min, IsTrue, IfOk, IsSome};
 ghost use Rattle.nx_code.specs.Word.{number_of};
-ghost use Rattle.circular_buffer.specs.Buffer.{keep_last, buffer};
-ghost use Rattle.nx_sync.specs.Locks.{is_wrong, other, is_dx, step, LockStands, IsStep};
+ghost use Rattle.nx_sync.specs.Locks.{other, step, LockStands, IsStep};
 ghost use Rattle.nx_sync.specs.Parts as spec;
 ghost use Rattle.nx_sync.specs.Parts.{track_from, track_after, is_end, Completes};
 ghost use Rattle.nx_sync.specs.Synchroniser.{StandsAfter};
