@@ -1,4 +1,5 @@
 -- What a synchroniser holds after one more bit is what stands then.
+use Rattle.std.specs.Prelude.{◌↔◌, IsTrue, IsSome}
 use Rattle.std.proofs.Common.{◌≡◌, ℕ, suc, ◌+◌, ◌-◌, ◌*◌, ◌<◌, ◌≤◌, ◌==◌, min, ◌⊎◌, List, [], ◌∷◌, ◌++◌, length, take, drop, replicate, Bool, true, false, is_some, refl, sym, ap, ap₂, subst, subst₂, ◌∙◌, inl, inr, arith, Some, None, Option}
 use Rattle.std.proofs.lemmas.List.{length_push}
 use Rattle.std.proofs.lemmas.Bool.{cases_lt}
@@ -12,7 +13,7 @@ use Rattle.nx_sync.specs.declared.step.Step.{Step}
 use Rattle.nx_sync.specs.declared.synchroniser.Track.{Track}
 use Rattle.nx_sync.specs.Locks.{phasing_1, before_dx, before_rx, other, is_wrong, last_28, IsPattern, word_at, first_role, role_of, release, Lock, Now, hunting, locked, IsHunting, IsLocked, IsNow, LockStands, step, found, word, inside, over, hunts, IsStep}
 use Rattle.nx_sync.specs.Synchroniser.{Held, wrong_marks, p1_marks, Follows, Tracks, StandsAfter}
-use Rattle.nx_sync.specs.Parts.{role_after, track_from, track_after, Completes}
+use Rattle.nx_sync.specs.Parts.{role_after, track_from, track_after, Begins, Fills, Completes}
 use Rattle.nx_sync.proofs.Lists.{padded-push}
 use Rattle.nx_sync.proofs.More.{word_at-more, first_role-more, Past-within}
 use Rattle.nx_sync.proofs.OneBit.{hunts_on, locks_now, stands_on, ends_now}
@@ -29,8 +30,11 @@ track_iff bits locks (hunting p) wrong track n t = (
 track_iff bits locks (locked p t) wrong track n f =
     (λ h. record { locks = locks; p = p; t = t; stands = n }, λ l. ap is_some f.is)
 
-pub locked_iff : (s : Held) (bits : List Bool) → StandsAfter s bits → (is_some s.track ≡ true → LockStands bits) × (LockStands bits → is_some s.track ≡ true)
-locked_iff s bits a = track_iff bits a.locks a.now s.wrong s.track a.stands a.tracks
+-- an answer that says whether a track is there says whether a lock stands
+pub locked_by : (s : Held) (answer : Bool) → (IsTrue answer ↔ IsSome s.track) → (bits : List Bool) → StandsAfter s bits → (IsTrue answer ↔ LockStands bits)
+locked_by s answer iff bits a =
+    let lock = track_iff bits a.locks a.now s.wrong s.track a.stands a.tracks in
+    (λ h. lock.0 (iff.0 h), λ l. iff.1 (lock.1 l))
 
 -- what is held after an element was heard, before it is looked at
 abbrev pub heard : Held → Bool → Held
@@ -114,7 +118,7 @@ module _ (s : Held) (bits : List Bool) (b : Bool) (a : StandsAfter s bits) where
   -- a push while hunting, where 28 bits were heard
   hunts_at : (x : Held) (r : Step) (locks : List Lock) (p : ℕ) → s.track ≡ None → IsHunting bits locks p → p ≤ length bits → 28 ≤ length (bits ++ b ∷ [])
       → (role_after (heard s b).recent ≡ None → (x ≡ heard s b) × (r ≡ step None None))
-      → ((role : Role) → 28 ≤ (heard s b).seen → role_after (heard s b).recent ≡ Some role → (x ≡ record (heard s b) { track = Some (track_from role); wrong = [] }) × (r ≡ step None (Some Locked)))
+      → ((role : Role) → 28 ≤ (heard s b).seen → role_after (heard s b).recent ≡ Some role → Begins (heard s b) role x r)
       → Which (last_28 (bits ++ b ∷ []) (length (bits ++ b ∷ [])))
       → IsGood x (bits ++ b ∷ []) r
   hunts_at x r locks p none now within enough quiet finding (neither not e) =
@@ -140,7 +144,7 @@ module _ (s : Held) (bits : List Bool) (b : Bool) (a : StandsAfter s bits) where
   hunts_by : (x : Held) (r : Step) (locks : List Lock) (now : Now) → IsNow bits locks now → Tracks bits now s.wrong s.track → s.track ≡ None
       → ((heard s b).seen < 28 → (x ≡ heard s b) × (r ≡ step None None))
       → (role_after (heard s b).recent ≡ None → (x ≡ heard s b) × (r ≡ step None None))
-      → ((role : Role) → 28 ≤ (heard s b).seen → role_after (heard s b).recent ≡ Some role → (x ≡ record (heard s b) { track = Some (track_from role); wrong = [] }) × (r ≡ step None (Some Locked)))
+      → ((role : Role) → 28 ≤ (heard s b).seen → role_after (heard s b).recent ≡ Some role → Begins (heard s b) role x r)
       → IsGood x (bits ++ b ∷ []) r
   hunts_by x r locks (locked p t) n f none early quiet finding = let is = f.is in absurd (cc)
   hunts_by x r locks (hunting p) n f none early quiet finding =
@@ -157,7 +161,7 @@ module _ (s : Held) (bits : List Bool) (b : Bool) (a : StandsAfter s bits) where
   pub push_hunting : (x : Held) (r : Step) → s.track ≡ None
       → ((heard s b).seen < 28 → (x ≡ heard s b) × (r ≡ step None None))
       → (role_after (heard s b).recent ≡ None → (x ≡ heard s b) × (r ≡ step None None))
-      → ((role : Role) → 28 ≤ (heard s b).seen → role_after (heard s b).recent ≡ Some role → (x ≡ record (heard s b) { track = Some (track_from role); wrong = [] }) × (r ≡ step None (Some Locked)))
+      → ((role : Role) → 28 ≤ (heard s b).seen → role_after (heard s b).recent ≡ Some role → Begins (heard s b) role x r)
       → IsGood x (bits ++ b ∷ []) r
   push_hunting x r none early quiet finding = hunts_by x r a.locks a.now a.stands a.tracks none early quiet finding
 
@@ -305,7 +309,7 @@ module _ (s : Held) (bits : List Bool) (b : Bool) (a : StandsAfter s bits) where
         }
 
   follows_by : (x : Held) (r : Step) (track : Track) (locks : List Lock) (now : Now) → IsNow bits locks now → Tracks bits now s.wrong s.track → s.track ≡ Some track → track.filled < 7
-      → (track.filled + 1 < 7 → (x ≡ record (heard s b) { track = Some (record track { filled = track.filled + 1 }) }) × (r ≡ step None None))
+      → (track.filled + 1 < 7 → Fills (heard s b) track x r)
       → (track.filled ≡ 6 → Completes (heard s b) track x r)
       → IsGood x (bits ++ b ∷ []) r
   follows_by x r track locks (hunting p) n f one short inner whole = absurd (cc)
@@ -324,7 +328,7 @@ module _ (s : Held) (bits : List Bool) (b : Bool) (a : StandsAfter s bits) where
 
   -- a push while a lock stands
   pub push_locked : (x : Held) (r : Step) (track : Track) → s.track ≡ Some track → track.filled < 7
-      → (track.filled + 1 < 7 → (x ≡ record (heard s b) { track = Some (record track { filled = track.filled + 1 }) }) × (r ≡ step None None))
+      → (track.filled + 1 < 7 → Fills (heard s b) track x r)
       → (track.filled ≡ 6 → Completes (heard s b) track x r)
       → IsGood x (bits ++ b ∷ []) r
   push_locked x r track one short inner whole = follows_by x r track a.locks a.now a.stands a.tracks one short inner whole
@@ -333,11 +337,11 @@ module _ (s : Held) (bits : List Bool) (b : Bool) (a : StandsAfter s bits) where
 pub record Hunted (y x : Held) (r : Step) : Type 0 where
   pub early : y.seen < 28 → (x ≡ y) × (r ≡ step None None)
   pub quiet : role_after y.recent ≡ None → (x ≡ y) × (r ≡ step None None)
-  pub finding : (role : Role) → 28 ≤ y.seen → role_after y.recent ≡ Some role → (x ≡ record y { track = Some (track_from role); wrong = [] }) × (r ≡ step None (Some Locked))
+  pub finding : (role : Role) → 28 ≤ y.seen → role_after y.recent ≡ Some role → Begins y role x r
 
 -- what `follow` ensures, from what was held before it
 pub record Followed (y : Held) (track : Track) (x : Held) (r : Step) : Type 0 where
-  pub inner : track.filled + 1 < 7 → (x ≡ record y { track = Some (record track { filled = track.filled + 1 }) }) × (r ≡ step None None)
+  pub inner : track.filled + 1 < 7 → Fills y track x r
   pub whole : track.filled ≡ 6 → Completes y track x r
 
 pub good_hunting : (s y x : Held) (bits : List Bool) (b : Bool) (r : Step) → StandsAfter s bits → y ≡ heard s b → y.track ≡ None → Hunted y x r → IsGood x (bits ++ b ∷ []) r

@@ -1,6 +1,6 @@
 -- What the parts of a push answer, for the contracts of the synchroniser's private functions. The contract of `push`
 -- itself speaks of the locks over all bits.
-use Rattle.std.specs.Prelude.{◌≡◌, ℕ, ◌==◌, nat_le, Bool, false, not, ◌&&◌, List, [], ◌∷◌, ◌++◌, drop, get_or, count_by, replicate, Option, Some, None, if◌then◌else◌}
+use Rattle.std.specs.Prelude.{◌≡◌, ℕ, ◌+◌, ◌==◌, nat_le, Bool, false, not, ◌&&◌, List, [], ◌∷◌, ◌++◌, drop, get_or, count_by, replicate, Option, Some, None, if◌then◌else◌}
 use Rattle.std.specs.Cmp.Lexicographic.{pointwise}
 use Rattle.std.specs.Bool.{beq}
 use Rattle.circular_buffer.specs.Buffer.{keep_last}
@@ -10,8 +10,8 @@ use Rattle.nx_sync.specs.declared.step.Step.{Step}
 use Rattle.nx_sync.specs.declared.step.Role.{Role}
 use Rattle.nx_sync.specs.declared.step.Role.TheVariants.{Dx, Rx}
 use Rattle.nx_sync.specs.declared.step.Change.{Change}
-use Rattle.nx_sync.specs.declared.step.Change.TheVariants.{Ended, LostLock}
-use Rattle.nx_sync.specs.Locks.{phasing_1, before_dx, before_rx, other, is_dx, is_wrong}
+use Rattle.nx_sync.specs.declared.step.Change.TheVariants.{Locked, Ended, LostLock}
+use Rattle.nx_sync.specs.Locks.{phasing_1, before_dx, before_rx, other, is_dx, is_wrong, step}
 use Rattle.nx_sync.specs.Synchroniser.{Held}
 
 -- the role of the word that follows these 28 bits, where they are one of the two patterns
@@ -40,6 +40,17 @@ is_end track = not (is_dx track.role) && get_or track.was_p1 2 false && get_or t
 abbrev pub change_of : Track → List Bool → Option Change
 change_of track wrong =
     if is_end track then Some Ended else (if nat_le 40 (count_by (λ b. b) wrong) then Some LostLock else None)
+
+-- A lock begins: it is followed from a first word with this role, no mark is left, and the step says that a lock was
+-- found.
+abbrev pub Begins : Held → Role → Held → Step → Type 0
+Begins old role new s =
+    (new ≡ record old { track = Some (track_from role); wrong = [] }) × (s ≡ step None (Some Locked))
+
+-- An element fills a word further: the track counts it, and the step brings nothing.
+abbrev pub Fills : Held → Track → Held → Step → Type 0
+Fills old track new s =
+    (new ≡ record old { track = Some (record track { filled = track.filled + 1 }) }) × (s ≡ step None None)
 
 -- A word is complete: its number is that of the last seven bits, its mark is added, and the track goes on, or there is
 -- none any more where the word brings a change.

@@ -1,7 +1,7 @@
 //! Laws of the locks, over whole lists of bits. Each function does nothing; its contract is the law. They show
 //! that the definition says what a receiver needs, and the crates above build on them.
 
-ghost use Rattle.std.specs.Prelude.{◌≡◌, ℕ, ◌+◌, ◌-◌, ◌*◌, ◌<◌, ◌≤◌, List, Bool, false, [], ◌∷◌, ◌++◌, length};
+ghost use Rattle.std.specs.Prelude.{◌≡◌, ℕ, ◌+◌, ◌*◌, ◌<◌, ◌≤◌, List, Bool, false, [], ◌∷◌, ◌++◌, length};
 ghost use Rattle.nx_sync.specs.declared.step.Change.{Change as How};
 ghost use Rattle.nx_sync.specs.declared.step.Role.{Role as RoleOf};
 ghost use Rattle.nx_code.specs.Word.{number_of};
@@ -46,8 +46,8 @@ pub fn one_bit_more()
     ensures { (bits : List Bool) (bit : Bool) (older locks : List Lock) (was now : Now) → IsNow bits older was → IsNow (bits ++ bit ∷ []) locks now → OneMore (bits ++ bit ∷ []) older was locks now }
 {}
 
-/// A lock that stands goes on standing where each later word leaves fewer than 40 of the last 64 words wrong and
-/// releases nothing three words after an end.
+/// A lock that stands goes on standing where each later word leaves fewer than 40 of the last 64 words wrong and is
+/// not the third word after an end.
 pub fn a_lock_stands_on()
     ensures { (bits more : List Bool) (locks : List Lock) (p t : ℕ) → IsLocked bits locks p t
         → ((k : ℕ) → length bits < t + 7 * (k + 1) → t + 7 * (k + 1) ≤ length (bits ++ more) → wrong_until (word_at (bits ++ more) t) k < 40)

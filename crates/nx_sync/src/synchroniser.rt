@@ -1,11 +1,10 @@
 //! The synchroniser. It keeps the last 28 elements and, where a lock stands, a few facts on its last words.
 
-ghost use Rattle.std.specs.Prelude.{◌≡◌, ◌+◌, ◌<◌, ◌≤◌, ◌↔◌, List, Bool, [], ◌∷◌, ◌++◌, drop, length, min, count_by, IsTrue, IfOk, IsSome};
+ghost use Rattle.std.specs.Prelude.{◌≡◌, ◌+◌, ◌<◌, ◌≤◌, ◌↔◌, List, Bool, [], ◌∷◌, ◌++◌, drop, min, IsTrue, IfOk, IsSome};
 ghost use Rattle.nx_code.specs.Word.{number_of};
-ghost use Rattle.circular_buffer.specs.Buffer.{keep_last, buffer};
-ghost use Rattle.nx_sync.specs.Locks.{is_wrong, other, is_dx, step, LockStands, IsStep};
+ghost use Rattle.nx_sync.specs.Locks.{other, step, LockStands, IsStep};
 ghost use Rattle.nx_sync.specs.Parts as spec;
-ghost use Rattle.nx_sync.specs.Parts.{track_from, track_after, is_end, Completes};
+ghost use Rattle.nx_sync.specs.Parts.{track_from, track_after, is_end, Begins, Fills, Completes};
 ghost use Rattle.nx_sync.specs.Synchroniser.{StandsAfter};
 
 use crate::step::{Change, Role, Step};
@@ -155,7 +154,8 @@ impl Synchroniser {
     fn hunt_on(&mut self) -> Step
         ensures early { self.old.seen < 28 → (self.new ≡ self.old) × (result ≡ step None None) }
         ensures none { spec.role_after self.old.recent ≡ None → (self.new ≡ self.old) × (result ≡ step None None) }
-        ensures found { (role : Role) → 28 ≤ self.old.seen → spec.role_after self.old.recent ≡ Some role → (self.new ≡ record self.old { track = Some (track_from role); wrong = [] }) × (result ≡ step None (Some Change.Locked)) }
+        ensures found { (role : Role) → 28 ≤ self.old.seen → spec.role_after self.old.recent ≡ Some role
+            → Begins self.old role self.new result }
     {
         if self.seen < PATTERN {
             return Step::NOTHING;
@@ -176,7 +176,7 @@ impl Synchroniser {
     /// Adds the element that was heard last to the word that the track fills.
     fn follow(&mut self, track: Track) -> Step
         requires { track.filled < 7 }
-        ensures inside { track.filled + 1 < 7 → (self.new ≡ record self.old { track = Some (record track { filled = track.filled + 1 }) }) × (result ≡ step None None) }
+        ensures inside { track.filled + 1 < 7 → Fills self.old track self.new result }
         ensures whole { track.filled ≡ 6 → Completes self.old track self.new result }
     {
         let filled = track.filled + 1;
