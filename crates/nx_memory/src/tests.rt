@@ -57,9 +57,9 @@ fn an_identity_entered_again_is_kept_by_its_later_entry(rt: HostRuntime) {
     let mut memory = PlainRecall::new();
     let warning = Identity::new(b'E', b'A', 1).expect(&rt, "EA01");
     memory.enter(warning, 0);
-    assert!(rt; memory.knows(&warning, LIFETIME - 1));
-    assert!(rt; !memory.knows(&warning, LIFETIME));
-    check_forgetting(&rt, &mut memory, LIFETIME);
+    assert!(rt; memory.knows(&warning, 237_599));
+    assert!(rt; !memory.knows(&warning, 237_600));
+    check_forgetting(&rt, &mut memory, 237_600);
 }
 
 #[test]
