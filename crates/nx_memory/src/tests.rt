@@ -93,3 +93,9 @@ fn names_the_vital_subject(rt: HostRuntime) -> Result<(), Fail> {
     assert_eq!(rt; text.as_str(), "subject D can't be refused");
     Ok(())
 }
+
+#[test]
+fn laws_can_be_called() {
+    known_is_live();
+    last_of_goes_on();
+}
