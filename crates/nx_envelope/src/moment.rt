@@ -1,6 +1,6 @@
 //! Moments, and the civil time that they are printed as.
 
-ghost use Rattle.std.specs.Prelude.{◌≡◌, ◌↔◌, ◌<◌, ◌≤◌, IfSome, IsNone};
+ghost use Rattle.std.specs.Prelude.{◌≡◌, ◌↔◌, ◌<◌, IfSome, IsNone};
 ghost use Rattle.nx_envelope.specs.Moment.{IsCivilTime, IsMomentOf, IsShownAs, civil_text, last_moment};
 ghost use Rattle.nx_envelope.specs.Digits.{two_digits as digits_of};
 

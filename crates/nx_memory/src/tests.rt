@@ -1,6 +1,6 @@
 //! The worked examples of selection and memory. Those of a memory run over any `Recall`.
 
-ghost use Rattle.std.specs.Prelude.{◌≡◌, ◌≤◌, []};
+ghost use Rattle.std.specs.Prelude.{◌≤◌};
 ghost use Rattle.nx_memory.specs.Memory.{newest_moment};
 
 use super::*;
