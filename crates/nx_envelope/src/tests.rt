@@ -583,4 +583,5 @@ fn laws_can_be_called() {
     markers_are_spelled();
     copies_are_handed_out();
     copies_come_in_order();
+    a_moment_has_one_text();
 }
