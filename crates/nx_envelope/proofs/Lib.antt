@@ -5,6 +5,7 @@ pub mod HandedOut
 pub mod Headers
 pub mod Hearing
 pub mod Lines
+pub mod OneText
 pub mod Parts
 pub mod Raw
 pub mod Spelled

@@ -5,6 +5,10 @@ use Rattle.jiff_core.specs.Calendar.{IsCivilDate, days_from_civil}
 use Rattle.nx_envelope.specs.Digits.{two_digits}
 use Rattle.nx_envelope.specs.declared.moment.CivilTime.{CivilTime}
 
+-- the last moment that is printed, 2999-12-31 23:59:59
+abbrev pub last_moment : ℕ
+last_moment = 32503679999
+
 -- the calendar has this day, and a clock shows this time
 pub record IsCivilTime (t : CivilTime) : Type 0 where
   pub date : IsCivilDate (pos t.year) t.month t.day

@@ -57,15 +57,4 @@ impl Identity {
     {
         self.number
     }
-
-    ghost use Rattle.std.specs.Prelude.{IsTrue};
-    ghost use Rattle.nx_envelope.specs.Identity.{same_identity};
-
-    /// Whether the other has the same station, subject and number, which is what `==` says of identities.
-    pub fn is_same(self, other: Identity) -> bool
-        ensures same { result ≡ same_identity self other }
-        ensures equal { IsTrue result ↔ (self ≡ other) }
-    {
-        self == other
-    }
 }

@@ -1,4 +1,4 @@
-//! Laws of headers and copies: each holds by its contract alone, and the call does nothing.
+//! Laws of headers, copies and moments: each holds by its contract alone, and the call does nothing.
 
 ghost use Rattle.std.specs.Prelude.{◌≡◌, ◌↔◌, ◌≤◌, ◌++◌, [], ℕ, Contains, List, Option, IsTrue, Some, length, map, reverse};
 ghost use Rattle.std.specs.List.{AllZip};
@@ -7,6 +7,7 @@ ghost use Rattle.nx_envelope.specs.Finding.{Closes, IsFound};
 ghost use Rattle.nx_envelope.specs.Header.{EndsWith, EndsWithHeader, ends_in, header_back};
 ghost use Rattle.nx_envelope.specs.Laws.{AreAnswers, Grows, StandsIn, handed_out};
 ghost use Rattle.nx_envelope.specs.Marker.{end_marker, start_marker};
+ghost use Rattle.nx_envelope.specs.Moment.{IsShownAs};
 ghost use Rattle.nx_envelope.specs.declared.found.FinderStep.{FinderStep};
 ghost use Rattle.nx_envelope.specs.declared.found.Found.{Found};
 ghost use Rattle.nx_envelope.specs.declared.identity.Identity.{Identity};
@@ -41,4 +42,10 @@ pub fn headers_stand_anywhere()
 pub fn header_is_spelled()
     ensures { (text : List ℕ) (identity : Identity) →
         (header_back (reverse text) ≡ Some identity) ↔ EndsWithHeader text identity }
+{}
+
+/// A moment has one civil text: two texts that show it are the same.
+pub fn a_moment_has_one_text()
+    ensures { (moment : ℕ) (text other : List ℕ) → IsShownAs moment text → IsShownAs moment other
+        → text ≡ other }
 {}

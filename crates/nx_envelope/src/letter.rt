@@ -1,6 +1,6 @@
 //! A letter of an identity: a station or a subject.
 
-ghost use Rattle.std.specs.Prelude.{◌≡◌, ◌↔◌, ◌≤◌, IfSome, IsSome};
+ghost use Rattle.std.specs.Prelude.{◌≡◌, ◌↔◌, IfSome, IsSome};
 ghost use Rattle.nx_envelope.specs.Letter.{IsLetter};
 
 /// A letter A to Z, which names a station (B1) or a subject (B2) of ITU-R M.540.

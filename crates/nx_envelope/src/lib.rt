@@ -17,8 +17,8 @@ pub use finder::Finder;
 pub use found::{FinderStep, Found, How, MAX_FOUND};
 pub use identity::Identity;
 pub use laws::{
-    copies_are_handed_out, copies_come_in_order, header_is_spelled, headers_stand_anywhere,
-    markers_are_spelled,
+    a_moment_has_one_text, copies_are_handed_out, copies_come_in_order, header_is_spelled,
+    headers_stand_anywhere, markers_are_spelled,
 };
 pub use letter::Letter;
 pub use message::{END_MARKER, MAX_LINE, MAX_TEXT, Message, MessageFault, NEWLINE, START_MARKER};

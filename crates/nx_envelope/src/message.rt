@@ -1,6 +1,6 @@
 //! A message: its identity and its lines.
 
-ghost use Rattle.std.specs.Prelude.{◌≡◌, ◌↔◌, ◌<◌, ◌≤◌, ◌+◌, IfErr, IfOk, IsTrue, All, OnOk, length, map, ℕ, List, slice_get, MatchOption, None};
+ghost use Rattle.std.specs.Prelude.{◌≡◌, ◌↔◌, ◌<◌, ◌+◌, IfErr, IfOk, IsTrue, OnOk, length, map, slice_get};
 ghost use Rattle.std.specs.Option.{option_copied};
 ghost use Rattle.nx_envelope.specs.Marker.{HoldsWord};
 ghost use Rattle.nx_envelope.specs.MessageView.{MessageView};
@@ -77,7 +77,7 @@ impl Model for Message {
     ghost invariant = { λ m. AreLines (map (λ line. line.items) m.lines.items) };
 }
 
-ghost use Rattle.nx_envelope.specs.Message.{AreLines, IsLine, IsLineByte, IsLineFault, IsMessageFault, HasReservedWord, text_of};
+ghost use Rattle.nx_envelope.specs.Message.{AreLines, IsLine, IsLineByte, IsLineFault, IsMessageFault};
 
 impl Message {
     /// The message of an identity and lines, which are looked at in order.

@@ -1,7 +1,7 @@
 //! Moments, and the civil time that they are printed as.
 
-ghost use Rattle.std.specs.Prelude.{◌≡◌, ◌↔◌, ◌<◌, ◌≤◌, IfSome, IsNone};
-ghost use Rattle.nx_envelope.specs.Moment.{IsCivilTime, IsMomentOf, IsShownAs, civil_text};
+ghost use Rattle.std.specs.Prelude.{◌≡◌, ◌↔◌, ◌<◌, IfSome, IsNone};
+ghost use Rattle.nx_envelope.specs.Moment.{IsCivilTime, IsMomentOf, IsShownAs, civil_text, last_moment};
 ghost use Rattle.nx_envelope.specs.Digits.{two_digits as digits_of};
 
 use jiff::Timestamp;
@@ -40,7 +40,7 @@ fn two_digits(number: u8) -> [u8; 2]
 
 /// The civil time of a moment.
 fn civil_time(moment: u64) -> Option<CivilTime>
-    ensures none { IsNone result ↔ (LAST_MOMENT < moment) }
+    ensures none { IsNone result ↔ (last_moment < moment) }
     ensures civil { IfSome result IsCivilTime }
     ensures moment { IfSome result (λ time. IsMomentOf time moment) }
 {
@@ -80,7 +80,7 @@ fn text_of(time: CivilTime) -> [u8; CIVIL_LEN]
 
 /// The civil time of a moment in UTC, as `2025-01-01 00:40:00`; `None` exactly above the last moment.
 pub fn civil(moment: u64) -> Option<[u8; CIVIL_LEN]>
-    ensures none { IsNone result ↔ (LAST_MOMENT < moment) }
+    ensures none { IsNone result ↔ (last_moment < moment) }
     ensures shown { IfSome result (IsShownAs moment) }
 {
     let time = civil_time(moment)?;

@@ -1,7 +1,7 @@
 //! How far the header at the end of a text has come.
 
 ghost use Rattle.std.specs.Prelude.{◌≡◌, ◌∷◌, ℕ, List};
-ghost use Rattle.nx_envelope.specs.Header.{ends_in, header_back};
+ghost use Rattle.nx_envelope.specs.Header.{ends_in, header_back, space};
 ghost use Rattle.nx_envelope.specs.Marker.{start_marker};
 ghost use Rattle.nx_envelope.specs.Stage.{IsStageOf};
 
@@ -56,7 +56,7 @@ impl Stage {
     /// The stage one space later.
     fn with_space(self, after_start: bool) -> Stage
         ensures { (back : List ℕ) → IsStageOf self back → after_start ≡ ends_in start_marker back
-            → IsStageOf result (SPACE ∷ back) }
+            → IsStageOf result (space ∷ back) }
     {
         if after_start {
             return Stage::Spaces;

@@ -542,6 +542,18 @@ fn lines_are_refused(rt: HostRuntime) -> Result<(), Fail> {
 }
 
 #[test]
+fn texts_of_faults(rt: HostRuntime) -> Result<(), Fail> {
+    let cases = [
+        (MessageFault::LongText, "text is too long"),
+        (MessageFault::Memory(AllocError), "out of memory"),
+    ];
+    for (fault, text) in cases {
+        assert_eq!(rt; fault.to_string(rt.alloc())?.as_str(), text);
+    }
+    Ok(())
+}
+
+#[test]
 fn moments_are_printed(rt: HostRuntime) {
     let cases: [(u64, &[u8]); 5] = [
         (0, b"1970-01-01 00:00:00"),
@@ -562,9 +574,14 @@ fn identities_are_in_range(rt: HostRuntime) {
     assert!(rt; Identity::new(b'E', b'A', 100).is_none());
     assert!(rt; Identity::new(b'e', b'A', 1).is_none());
     assert!(rt; Letter::new(b'[').is_none());
+}
+
+#[test]
+fn laws_can_be_called() {
     header_is_spelled();
     headers_stand_anywhere();
     markers_are_spelled();
     copies_are_handed_out();
     copies_come_in_order();
+    a_moment_has_one_text();
 }

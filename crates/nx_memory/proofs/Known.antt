@@ -11,9 +11,8 @@ use Rattle.nx_envelope.specs.declared.identity.Identity.{Identity}
 use Rattle.nx_envelope.specs.Letter.{IsLetter}
 use Rattle.nx_envelope.specs.Identity.{same_identity}
 use Rattle.nx_memory.specs.declared.entry.MemoryEntry.{MemoryEntry}
-use Rattle.nx_memory.specs.declared.recall.TheConstants.{CAPACITY, LIFETIME}
 use Rattle.nx_memory.specs.Live.{IsLive}
-use Rattle.nx_memory.specs.Memory.{is_recent, is_known, last_of}
+use Rattle.nx_memory.specs.Memory.{most_entries, seconds_known, is_recent, is_known, last_of}
 
 -- letters with one byte are one letter, and identities of equal parts one identity
 same_letter : (a b : Letter) → a.byte ≡ b.byte → a ≡ b
@@ -57,13 +56,13 @@ any_from p before after x passes =
     list_any-append p before (x ∷ after) ∙ or_right (list_any p before) (p x || list_any p after) (or_left (p x) (list_any p after) passes)
 
 -- of all the entries made so far, one among the last 200 that makes the identity known is live
-pub live_from_known : (identity : Identity) (moment : ℕ) (entries : List MemoryEntry) → is_known identity moment (last_of CAPACITY entries) ≡ true → IsLive identity moment entries
+pub live_from_known : (identity : Identity) (moment : ℕ) (entries : List MemoryEntry) → is_known identity moment (last_of most_entries entries) ≡ true → IsLive identity moment entries
 live_from_known identity moment entries known =
-    let it = found (is_recent identity moment) (last_of CAPACITY entries) known in
-    let n : ℕ = length entries - CAPACITY in
+    let it = found (is_recent identity moment) (last_of most_entries entries) known in
+    let n : ℕ = length entries - most_entries in
     let lengths : length (drop n entries) ≡ length it.before + (1 + length it.after) = ap length it.whole ∙ length-append it.before (it.it ∷ it.after) ∙ omega arith in
     let parts = and_parts _ _ it.passes in
-    let age : moment - it.it.moment < LIFETIME = ltb-true _ _ parts.1 in
+    let age : moment - it.it.moment < seconds_known = ltb-true _ _ parts.1 in
     record {
       before = take n entries ++ it.before;
       entry = it.it;
@@ -78,12 +77,12 @@ live_from_known identity moment entries known =
     }
 
 -- a live entry is among the last 200, and makes the identity known
-pub known_from_live : (identity : Identity) (moment : ℕ) (entries : List MemoryEntry) → IsLive identity moment entries → is_known identity moment (last_of CAPACITY entries) ≡ true
+pub known_from_live : (identity : Identity) (moment : ℕ) (entries : List MemoryEntry) → IsLive identity moment entries → is_known identity moment (last_of most_entries entries) ≡ true
 known_from_live identity moment entries live =
-    let n : ℕ = length entries - CAPACITY in
+    let n : ℕ = length entries - most_entries in
     let lengths : length entries ≡ length live.before + (1 + length live.after) = ap length live.made ∙ length-append live.before (live.entry ∷ live.after) ∙ omega arith in
     let kept : drop n entries ≡ drop n live.before ++ live.entry ∷ live.after = ap (drop n) live.made ∙ drop-append-le n live.before (live.entry ∷ live.after) (omega arith) in
     let same : same_identity live.entry.identity identity ≡ true = subst (λ (it : Identity). same_identity it identity ≡ true) (sym live.same) (same_itself identity) in
-    let recent : ltb (moment - live.entry.moment) LIFETIME ≡ true = lt-ltb (moment - live.entry.moment) LIFETIME (omega arith) in
+    let recent : ltb (moment - live.entry.moment) seconds_known ≡ true = lt-ltb (moment - live.entry.moment) seconds_known (omega arith) in
     ap (list_any (is_recent identity moment)) kept
     ∙ any_from (is_recent identity moment) (drop n live.before) live.after live.entry (and_from _ _ same recent)

@@ -1,4 +1,3 @@
-pub mod Examples
 pub mod Letters
 pub mod Live
 pub mod Memory

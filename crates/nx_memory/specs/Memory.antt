@@ -5,7 +5,14 @@ use Rattle.std.specs.List.{list_any}
 use Rattle.nx_envelope.specs.declared.identity.Identity.{Identity}
 use Rattle.nx_envelope.specs.Identity.{same_identity}
 use Rattle.nx_memory.specs.declared.entry.MemoryEntry.{MemoryEntry}
-use Rattle.nx_memory.specs.declared.recall.TheConstants.{CAPACITY, LIFETIME}
+
+-- how many entries a memory keeps
+abbrev pub most_entries : ℕ
+most_entries = 200
+
+-- for how many seconds an entry makes its identity known: 66 hours
+abbrev pub seconds_known : ℕ
+seconds_known = 237600
 
 -- the last n of a list, or all of it where there are no more
 abbrev pub last_of : {A : Type 0} → ℕ → List A → List A
@@ -14,7 +21,7 @@ last_of n xs = drop (length xs - n) xs
 -- what a memory holds, oldest first, after one more entry: the last 200 of its entries and the new one
 abbrev pub content_after : List MemoryEntry → Identity → ℕ → List MemoryEntry
 content_after content identity moment =
-    last_of CAPACITY (content ++ record { identity = identity; moment = moment } ∷ [])
+    last_of most_entries (content ++ record { identity = identity; moment = moment } ∷ [])
 
 -- the moment of the entry made last
 abbrev pub newest_of : List MemoryEntry → Option ℕ
@@ -27,7 +34,7 @@ newest_moment content = unwrap_or (newest_of content) 0
 -- the entry bears the identity, and is less than 66 hours old at the moment
 abbrev pub is_recent : Identity → ℕ → MemoryEntry → Bool
 is_recent identity moment entry =
-    same_identity entry.identity identity && nat_lt (moment - entry.moment) LIFETIME
+    same_identity entry.identity identity && nat_lt (moment - entry.moment) seconds_known
 
 -- the identity is known at the moment: one of the entries bears it and is less than 66 hours old
 abbrev pub is_known : Identity → ℕ → List MemoryEntry → Bool

@@ -3,20 +3,19 @@
 ghost use Rattle.std.specs.Prelude.{◌≡◌, ℕ, ◌↔◌, List, [], ◌∷◌, ◌++◌, IsTrue};
 ghost use Rattle.nx_envelope.specs.declared.identity.Identity.{Identity};
 ghost use Rattle.nx_memory.specs.declared.entry.MemoryEntry.{MemoryEntry};
-ghost use Rattle.nx_memory.specs.declared.recall.TheConstants.{CAPACITY};
 ghost use Rattle.nx_memory.specs.Live.{IsLive};
-ghost use Rattle.nx_memory.specs.Memory.{is_known, last_of};
+ghost use Rattle.nx_memory.specs.Memory.{is_known, last_of, most_entries};
 
 /// Of all the entries made so far, those among the last 200 make an identity known exactly where one of them is live:
 /// it bears the identity, is less than 66 hours old, and fewer than 200 entries were made after it.
 pub fn known_is_live()
     ensures { (identity : Identity) (moment : ℕ) (entries : List MemoryEntry) →
-        IsTrue (is_known identity moment (last_of CAPACITY entries)) ↔ IsLive identity moment entries }
+        IsTrue (is_known identity moment (last_of most_entries entries)) ↔ IsLive identity moment entries }
 {}
 
 /// What a memory forgot makes no difference later: the last 200 of the last 200 and one more are the last 200 of all
 /// entries and that one. So the content of a memory is the last 200 of all the entries made so far.
 pub fn last_of_goes_on()
     ensures { (entries : List MemoryEntry) (entry : MemoryEntry) →
-        last_of CAPACITY (last_of CAPACITY entries ++ entry ∷ []) ≡ last_of CAPACITY (entries ++ entry ∷ []) }
+        last_of most_entries (last_of most_entries entries ++ entry ∷ []) ≡ last_of most_entries (entries ++ entry ∷ []) }
 {}

@@ -2,7 +2,7 @@
 
 ghost use Rattle.std.specs.Prelude.{◌≡◌, ◌<◌, ◌≤◌, List, length, not, true, false, MatchBool};
 ghost use Rattle.nx_memory.specs.declared.entry.MemoryEntry.{MemoryEntry};
-ghost use Rattle.nx_memory.specs.Memory.{is_known, content_after, newest_of, newest_moment};
+ghost use Rattle.nx_memory.specs.Memory.{most_entries, is_known, content_after, newest_of, newest_moment};
 
 use nx_envelope::Identity;
 
@@ -21,7 +21,7 @@ pub trait Recall: Drop {
     /// The moment of the entry made last, `None` where there is none.
     fn newest(&self) -> Option<u64>
         ensures last { result ≡ newest_of (content self.now) }
-        ensures bounded { length (content self.now) ≤ CAPACITY };
+        ensures bounded { length (content self.now) ≤ most_entries };
 
     /// Whether an entry of the identity is less than 66 hours old at the moment, which isn't before the newest.
     fn knows(&self, identity: &Identity, moment: u64) -> bool

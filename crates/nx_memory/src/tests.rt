@@ -1,6 +1,6 @@
 //! The worked examples of selection and memory. Those of a memory run over any `Recall`.
 
-ghost use Rattle.std.specs.Prelude.{◌≡◌, ◌≤◌, []};
+ghost use Rattle.std.specs.Prelude.{◌≤◌};
 ghost use Rattle.nx_memory.specs.Memory.{newest_moment};
 
 use super::*;
@@ -57,9 +57,9 @@ fn an_identity_entered_again_is_kept_by_its_later_entry(rt: HostRuntime) {
     let mut memory = PlainRecall::new();
     let warning = Identity::new(b'E', b'A', 1).expect(&rt, "EA01");
     memory.enter(warning, 0);
-    assert!(rt; memory.knows(&warning, LIFETIME - 1));
-    assert!(rt; !memory.knows(&warning, LIFETIME));
-    check_forgetting(&rt, &mut memory, LIFETIME);
+    assert!(rt; memory.knows(&warning, 237_599));
+    assert!(rt; !memory.knows(&warning, 237_600));
+    check_forgetting(&rt, &mut memory, 237_600);
 }
 
 #[test]
@@ -92,4 +92,10 @@ fn names_the_vital_subject(rt: HostRuntime) -> Result<(), Fail> {
     let text = format!(in rt.alloc(); "{refusal}")?;
     assert_eq!(rt; text.as_str(), "subject D can't be refused");
     Ok(())
+}
+
+#[test]
+fn laws_can_be_called() {
+    known_is_live();
+    last_of_goes_on();
 }
