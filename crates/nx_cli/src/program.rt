@@ -139,6 +139,27 @@ fn obey<S: AsStr, R: Read, W: Write>(
     }
 }
 
+/// Does what the words ask for, reports a fault, and answers the exit status. After the answer
+/// nothing more is read or written.
+fn exit_status<S: AsStr, R: Read, W: Write, E: Write + Drop>(
+    alloc: Global,
+    words: &[S],
+    reader: &mut Counting<R>,
+    writer: &mut Counting<W>,
+    faults: E,
+) -> u8
+    requires reader { reader.old.failures ≡ 0 }
+    requires writer { writer.old.failures ≡ 0 }
+    ensures { Exits (map S.text words.now)
+        (devices R.remaining W.contents reader.old reader.new writer.old writer.new)
+        result }
+{
+    match obey(alloc, words, reader, writer) {
+        Ok(()) => DONE,
+        Err(fault) => fault.report(faults),
+    }
+}
+
 /// Runs the program on its words, of which the first is its name, and answers its exit status.
 pub fn run<S: AsStr, R: Read + Drop, W: Write + Drop, E: Write + Drop>(
     alloc: Global,
@@ -171,10 +192,7 @@ pub fn run<S: AsStr, R: Read + Drop, W: Write + Drop, E: Write + Drop>(
 {
     let mut reader = Counting::new(input);
     let mut writer = Counting::new(output);
-    match obey(alloc, words, &mut reader, &mut writer) {
-        Ok(()) => DONE,
-        Err(fault) => fault.report(faults),
-    }
+    exit_status(alloc, words, &mut reader, &mut writer, faults)
 }
 
 /// Answers for a program whose words can't be had, for this reason: one of them is no text, or
