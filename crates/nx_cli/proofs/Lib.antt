@@ -1,3 +1,6 @@
 pub mod FaultKinds
+pub mod ArgumentsRead
+pub mod BuiltTree
+pub mod OneCall
 pub mod WordsLemmas
 pub mod ProgramLemmas

@@ -11,7 +11,7 @@ use Rattle.nx_cli.specs.declared.program.Fault.{Fault}
 use Rattle.nx_cli.specs.declared.program.Fault.TheVariants as fault
 use Rattle.nx_fec.specs.declared.fault.RunFault.{RunFault}
 use Rattle.nx_fec.specs.declared.fault.RunFault.TheVariants as run
-use Rattle.nx_cli.specs.Words.{AsksForHelp, IsRefused, Names}
+use Rattle.nx_cli.specs.Words.{AsksForHelp, IsRefusedByClap, LacksStation, Names}
 
 -- A reader and a writer, as they stand before a run and after it, and what they tell of their bytes:
 -- those that are left to read, and those that are written.
@@ -76,6 +76,7 @@ Performs Decode d outcome =
     Transfers (Decodes (IsReadOut d) d outcome) (Decodes (Unit {0}) d outcome) d outcome
 Performs Encode d outcome =
     Transfers (Encodes (IsReadOut d) d outcome) (Encodes (Unit {0}) d outcome) d outcome
+Performs _ d outcome = ⊥
 
 -- the words name a call, which had this outcome
 pub record RunsCall {R W : Type 0} (words : List Text) (d : Devices R W) (outcome : Result ℕ RunFault) : Type 0 where
@@ -110,8 +111,9 @@ pub record LacksMemory {R W : Type 0} (d : Devices R W) (why : RunFault) : Type 
 -- how the program ends
 abbrev pub Ends : {R W : Type 0} → List Text → Devices R W → Result (Unit {0}) Fault → Type 0
 Ends words d (Ok done) = ((count : ℕ) × RunsCall words d (Ok count)) ⊎ GivesHelp words d (Ok done)
-Ends words d (Err (fault.Words answer)) = IsRefused words × IsUntouched d
+Ends words d (Err (fault.Words answer)) = IsRefusedByClap words × IsUntouched d
 Ends words d (Err fault.NoText) = ⊥
+Ends words d (Err fault.Station) = LacksStation words × IsUntouched d
 Ends words d (Err (fault.Run why)) = RunsCall words d (Err why) ⊎ (GivesHelp words d (Err why) ⊎ LacksMemory d why)
 
 -- the status of a fault: 1 for a device or memory, 2 for a bad file, line or value, 64 for the words
@@ -129,6 +131,7 @@ run_status (run.NoSuchCharacter at) = 2
 abbrev pub fault_status : Fault → ℕ
 fault_status (fault.Words answer) = 64
 fault_status fault.NoText = 64
+fault_status fault.Station = 64
 fault_status (fault.Run why) = run_status why
 
 abbrev pub status_of : Result (Unit {0}) Fault → ℕ

@@ -1,6 +1,8 @@
 //! The program `navtex`: a NAVTEX broadcast station and receiver on standard input and output.
 #![tactic(auto)]
 
+mod commands;
+pub mod laws;
 mod program;
 #[cfg(test)]
 mod tests;

@@ -36,6 +36,9 @@ pub enum Fault {
     /// A word of the command line is no text, so none of them was read.
     #[error("a word of the command line is not UTF-8")]
     NoText,
+    /// The station is not one letter A to Z.
+    #[error("station must be one letter A to Z")]
+    Station,
     /// The call that the words name failed, or the writing of help did.
     #[error(transparent)]
     Run(RunFault),
@@ -46,7 +49,7 @@ impl Fault {
         ensures { result ≡ fault_status self.now }
     {
         match self {
-            Fault::Words(_) | Fault::NoText => BAD_WORDS,
+            Fault::Words(_) | Fault::NoText | Fault::Station => BAD_WORDS,
             Fault::Run(RunFault::Read | RunFault::Write { written: _ } | RunFault::Memory(_)) =>
                 DEVICE_OR_MEMORY,
             Fault::Run(_) => BAD_INPUT,
@@ -57,7 +60,7 @@ impl Fault {
     fn write_to<E: Write>(&self, faults: &mut E) -> io::Result<()> {
         match self {
             Fault::Words(answer) => write!(faults, "{answer}"),
-            Fault::NoText | Fault::Run(_) => writeln!(faults, "navtex: {self}"),
+            Fault::NoText | Fault::Station | Fault::Run(_) => writeln!(faults, "navtex: {self}"),
         }
     }
 
@@ -95,6 +98,7 @@ fn perform<R: Read, W: Write>(
     match call {
         Call::Decode => decode_run(alloc, reader, writer),
         Call::Encode => encode_run(alloc, reader, writer),
+        _ => Err(RunFault::Read),
     }
 }
 
@@ -135,6 +139,7 @@ fn obey<S: AsStr, R: Read, W: Write>(
             Ok(())
         }
         Err(WordsFault::Refused(answer)) => Err(Fault::Words(answer)),
+        Err(WordsFault::Station) => Err(Fault::Station),
         Err(WordsFault::Memory(want)) => Err(Fault::Run(RunFault::Memory(want))),
     }
 }
