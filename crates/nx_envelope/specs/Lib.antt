@@ -1,5 +1,8 @@
+pub mod Backward
 pub mod Copies
 pub mod Digits
+pub mod Ending
+pub mod Finder
 pub mod Finding
 pub mod Found
 pub mod Header

@@ -3,6 +3,7 @@
 ghost use Rattle.std.specs.Prelude.{◌≡◌, ◌↔◌, ◌≤◌, IfSome, IsSome};
 ghost use Rattle.nx_envelope.specs.Letter.{IsLetter};
 
+use crate::digit::two_digits;
 use crate::letter::Letter;
 
 /// The greatest number of a message.
@@ -21,6 +22,8 @@ pub struct Identity {
 }
 
 impl Identity {
+    ghost use Rattle.nx_envelope.specs.Identity.{identity_bytes};
+
     /// The identity of two letters and a number, `None` where `b1` or `b2` isn't A to Z or `number` is above 99.
     pub fn new(b1: u8, b2: u8, number: u8) -> Option<Identity>
         ensures in_range { IsSome result ↔ (IsLetter b1 × IsLetter b2 × (number ≤ 99)) }
@@ -56,5 +59,13 @@ impl Identity {
         ensures in_range { result ≤ 99 }
     {
         self.number
+    }
+
+    /// The identity as it is written, the letters of station and subject and then two digits, as `EA01`.
+    pub fn bytes(self) -> [u8; 4]
+        ensures { result ≡ identity_bytes self }
+    {
+        let [tens, units] = two_digits(self.number);
+        [self.b1.byte, self.b2.byte, tens, units]
     }
 }
