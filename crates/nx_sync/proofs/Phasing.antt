@@ -7,7 +7,8 @@ use Rattle.nx_sync.specs.declared.step.Role.{Role}
 use Rattle.nx_sync.specs.declared.step.Role.TheVariants.{Dx, Rx}
 use Rattle.nx_sync.specs.declared.step.Change.{Change}
 use Rattle.nx_sync.specs.declared.step.Change.TheVariants.{Locked, Ended, LostLock}
-use Rattle.nx_sync.specs.Words.{other_role, phasing_1, phasing_2, is_wrong, word_at, first_role, role_of, wrong_in, wrong_until}
+use Rattle.nx_code.specs.Phasing.{phasing_1, phasing_2}
+use Rattle.nx_sync.specs.Words.{other_role, is_wrong, word_at, first_role, role_of, wrong_in, wrong_until}
 use Rattle.nx_sync.specs.Locks.{before_dx, before_rx, IsPattern, releases_as_ended, release, Lock, Past, Now, hunting, locked, IsLocked, IsNow}
 use Rattle.nx_sync.specs.Laws.{phasing, IsSecondPhasing1, LockedBeforeDx}
 use Rattle.nx_sync.proofs.Counts.{wrong_in-add, wrong_in-all, wrong_in-none, wrong_in-le, role_of-even}

@@ -5,7 +5,8 @@ use Rattle.nx_sync.specs.declared.step.Role.{Role}
 use Rattle.nx_sync.specs.declared.step.Role.TheVariants.{Dx, Rx}
 use Rattle.nx_sync.specs.declared.step.Change.{Change}
 use Rattle.nx_sync.specs.declared.step.Change.TheVariants.{Locked, Ended, LostLock}
-use Rattle.nx_sync.specs.Words.{losing_count, other_role, phasing_1, is_dx, role_of, wrong_in, wrong_until, word_at, first_role}
+use Rattle.nx_code.specs.Phasing.{phasing_1}
+use Rattle.nx_sync.specs.Words.{losing_count, other_role, is_dx, role_of, wrong_in, wrong_until, word_at, first_role}
 use Rattle.nx_sync.specs.Locks.{releases_as_ended, change_at, Finds, Lock, Past, IsLocked}
 use Rattle.nx_sync.specs.Laws.{IsSecondPhasing1, EndedAt, LostAt, IsEarlier, ended, lost}
 use Rattle.nx_sync.proofs.More.{release-more, Finds-more, Past-more}

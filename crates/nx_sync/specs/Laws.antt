@@ -4,7 +4,8 @@ use Rattle.nx_sync.specs.declared.step.Role.{Role}
 use Rattle.nx_sync.specs.declared.step.Role.TheVariants.{Dx}
 use Rattle.nx_sync.specs.declared.step.Change.{Change}
 use Rattle.nx_sync.specs.declared.step.Change.TheVariants.{Ended, LostLock}
-use Rattle.nx_sync.specs.Words.{losing_count, phasing_1, elements_of_1, elements_of_2, first_role, role_of, wrong_until}
+use Rattle.nx_code.specs.Phasing.{phasing_1, elements_of_phasing_1, elements_of_phasing_2}
+use Rattle.nx_sync.specs.Words.{losing_count, first_role, role_of, wrong_until}
 use Rattle.nx_sync.specs.Locks.{Lock, Now, hunting, locked, IsLocked, IsNow}
 
 -- Word k is the second of two DX words in a row that are phasing signal 1: it is a DX word, at least word 2, and it and
@@ -69,7 +70,7 @@ pub data OneMore (bits : List Bool) : List Lock → Now → List Lock → Now �
 -- P2 P1, so many times: phasing as it is sent (M.476, M.625)
 unfoldable pub phasing : ℕ → List Bool
 phasing zero = []
-phasing (suc n) = elements_of_2 ++ elements_of_1 ++ phasing n
+phasing (suc n) = elements_of_phasing_2 ++ elements_of_phasing_1 ++ phasing n
 
 -- A lock stands after these bits, they end with a word of the lock, and the next one is a DX word.
 pub record LockedBeforeDx (bits : List Bool) : Type 0 where

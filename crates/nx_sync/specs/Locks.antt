@@ -4,7 +4,8 @@ use Rattle.std.specs.Prelude.{◌≡◌, ℕ, ◌+◌, ◌-◌, ◌*◌, ◌<◌
 use Rattle.nx_sync.specs.declared.step.Role.{Role}
 use Rattle.nx_sync.specs.declared.step.Change.{Change}
 use Rattle.nx_sync.specs.declared.step.Change.TheVariants.{Ended, LostLock}
-use Rattle.nx_sync.specs.Words.{losing_count, phasing_1, elements_of_1, elements_of_2, word_at, first_role, role_of, is_dx, wrong_until, words_of}
+use Rattle.nx_code.specs.Phasing.{phasing_1, elements_of_phasing_1, elements_of_phasing_2}
+use Rattle.nx_sync.specs.Words.{losing_count, word_at, first_role, role_of, is_dx, wrong_until, words_of}
 
 -- How many elements the patterns have that give a lock: four words (this profile).
 abbrev pub pattern_elements : ℕ
@@ -13,10 +14,10 @@ pattern_elements = 28
 -- The two patterns of 28 bits that give a lock: P2 P1 P2 P1, after which a DX word follows, and P1 P2 P1 P2, after
 -- which an RX word follows (this profile).
 unfoldable pub before_dx : List Bool
-before_dx = elements_of_2 ++ elements_of_1 ++ elements_of_2 ++ elements_of_1
+before_dx = elements_of_phasing_2 ++ elements_of_phasing_1 ++ elements_of_phasing_2 ++ elements_of_phasing_1
 
 unfoldable pub before_rx : List Bool
-before_rx = elements_of_1 ++ elements_of_2 ++ elements_of_1 ++ elements_of_2
+before_rx = elements_of_phasing_1 ++ elements_of_phasing_2 ++ elements_of_phasing_1 ++ elements_of_phasing_2
 
 -- the 28 bits before the bit count t
 abbrev pub last_28 : List Bool → ℕ → List Bool

@@ -11,7 +11,8 @@ use Rattle.nx_sync.specs.declared.step.Role.{Role}
 use Rattle.nx_sync.specs.declared.step.Role.TheVariants.{Dx, Rx}
 use Rattle.nx_sync.specs.declared.step.Change.{Change}
 use Rattle.nx_sync.specs.declared.step.Change.TheVariants.{Locked, Ended, LostLock}
-use Rattle.nx_sync.specs.Words.{window_words, losing_count, other_role, phasing_1, is_dx, is_wrong}
+use Rattle.nx_code.specs.Phasing.{phasing_1}
+use Rattle.nx_sync.specs.Words.{window_words, losing_count, other_role, is_dx, is_wrong}
 use Rattle.nx_sync.specs.Locks.{before_dx, before_rx}
 use Rattle.nx_sync.specs.Steps.{step}
 use Rattle.nx_sync.specs.Synchroniser.{Held}

@@ -2,7 +2,8 @@
 use Rattle.std.specs.Prelude.{◌≡◌, ℕ, zero, suc, ◌+◌, ◌-◌, ◌*◌, ◌<◌, ◌==◌, nat_le, min, Bool, false, not, is_some, ◌&&◌, List, [], ◌∷◌, ◌++◌, length, replicate, Option, Some, None}
 use Rattle.circular_buffer.specs.Buffer.{keep_last}
 use Rattle.nx_sync.specs.declared.synchroniser.Track.{Track}
-use Rattle.nx_sync.specs.Words.{window_words, phasing_1, is_wrong, word_at, first_role, role_of}
+use Rattle.nx_code.specs.Phasing.{phasing_1}
+use Rattle.nx_sync.specs.Words.{window_words, is_wrong, word_at, first_role, role_of}
 use Rattle.nx_sync.specs.Locks.{pattern_elements, Lock, Now, hunting, locked, IsNow}
 
 -- what contracts see of a synchroniser: the last bits, how many of them were heard, the word that is being filled

@@ -1,7 +1,8 @@
 -- The words of a lock: where they stand, their roles, and how many of them have the wrong weight. A bit is an element,
 -- B is true; words have seven elements (ITU-R M.476 and M.625).
 use Rattle.std.specs.Prelude.{ℕ, zero, suc, ◌+◌, ◌-◌, ◌*◌, ◌/◌, ◌==◌, Bool, true, false, not, List, [], ◌∷◌, ◌++◌, length, take, drop, if◌then◌else◌}
-use Rattle.nx_code.specs.Word.{number_of, weight}
+use Rattle.nx_code.specs.Phasing.{phasing_1}
+use Rattle.nx_code.specs.Word.{weight, word_from}
 use Rattle.nx_sync.specs.declared.step.Role.{Role}
 use Rattle.nx_sync.specs.declared.step.Role.TheVariants.{Dx, Rx}
 
@@ -13,28 +14,14 @@ window_words = 64
 abbrev pub losing_count : ℕ
 losing_count = 40
 
--- The numbers of phasing signal 1 (idle alpha) and phasing signal 2 (signal repetition), M.476 and M.625.
-abbrev pub phasing_1 : ℕ
-phasing_1 = 0x0F
-
-abbrev pub phasing_2 : ℕ
-phasing_2 = 0x66
-
--- Their elements, in the order of sending.
-abbrev pub elements_of_1 : List Bool
-elements_of_1 = true ∷ true ∷ true ∷ true ∷ false ∷ false ∷ false ∷ []
-
-abbrev pub elements_of_2 : List Bool
-elements_of_2 = false ∷ true ∷ true ∷ false ∷ false ∷ true ∷ true ∷ []
-
 -- the number of word k of the lock at t, the bits t + 7k to t + 7k + 6 (seven elements a word: M.476, M.625)
 unfoldable pub word_at : List Bool → ℕ → ℕ → ℕ
-word_at bits t k = number_of (take 7 (drop (t + 7 * k) bits))
+word_at bits t k = word_from bits (t + 7 * k)
 
 -- the role of word 0 of the lock at t: DX where the pattern ended with phasing signal 1, else RX (in M.625's mode B
 -- phasing signal 2 is sent as DX and phasing signal 1 as RX)
 unfoldable pub first_role : List Bool → ℕ → Role
-first_role bits t = if number_of (take 7 (drop (t - 7) bits)) == phasing_1 then Dx else Rx
+first_role bits t = if word_from bits (t - 7) == phasing_1 then Dx else Rx
 
 abbrev pub other_role : Role → Role
 other_role Dx = Rx

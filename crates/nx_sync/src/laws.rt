@@ -6,19 +6,11 @@ ghost use Rattle.nx_sync.specs.declared.step.Change.{Change as How};
 ghost use Rattle.nx_sync.specs.declared.step.Role.{Role as RoleOf};
 ghost use Rattle.nx_sync.specs.declared.step.Step.{Step};
 ghost use Rattle.nx_code.specs.Word.{number_of};
-ghost use Rattle.nx_code.specs.Signal.{number_of_signal};
-ghost use Rattle.nx_code.specs.declared.signals.Signal.{Signal};
-ghost use Rattle.nx_sync.specs.Words.{words_of, words_heard, heard_word, window_words, losing_count, phasing_1, phasing_2, elements_of_1, elements_of_2, is_wrong, word_at, first_role, role_of, wrong_in, wrong_until};
+ghost use Rattle.nx_code.specs.Phasing.{phasing_1};
+ghost use Rattle.nx_sync.specs.Words.{words_of, words_heard, heard_word, window_words, losing_count, word_at, first_role, role_of, wrong_in, wrong_until};
 ghost use Rattle.nx_sync.specs.Locks.{before_dx, before_rx, hunting, locked, IsHunting, words_of_past, IsPattern, Finds, release, IsReleased, Lock, Past, Now, IsLocked, IsNow};
 ghost use Rattle.nx_sync.specs.Steps.{Brings, IsStep, word_of_step};
 ghost use Rattle.nx_sync.specs.Laws.{IsSecondPhasing1, IsEarlier, Standing, GoesOn, Stood, OneMore, phasing, LockedBeforeDx};
-
-/// The elements and the numbers of the phasing signals are those of the code table, and both have the right weight.
-pub fn phasing_signals_are_in_the_table()
-    ensures first { (number_of elements_of_1 ≡ phasing_1) × (number_of_signal Signal.Alpha ≡ phasing_1) }
-    ensures second { (number_of elements_of_2 ≡ phasing_2) × (number_of_signal Signal.Repeat ≡ phasing_2) }
-    ensures right { (is_wrong phasing_1 ≡ false) × (is_wrong phasing_2 ≡ false) }
-{}
 
 /// The two patterns as numbers, their oldest element in the least place.
 pub fn patterns_have_these_numbers()
