@@ -1,6 +1,8 @@
+pub mod Lists
 pub mod Word
 pub mod Table
 pub mod Signal
+pub mod Phasing
 pub mod Reading
 pub mod Taken
 pub mod Characters

@@ -1,7 +1,7 @@
 //! The two shifts, letters and figures, and the characters of the combinations in each of them.
 
 ghost use Rattle.std.specs.Prelude.{◌≡◌, ℕ, ◌+◌, ◌≤◌, ◌<◌, ◌==◌, ◌↔◌, Some, IsSome, IfSome, IsSomeAnd, IsTrue, position};
-ghost use Rattle.nx_code.specs.Reading.{combination, printed, shift_set};
+ghost use Rattle.nx_code.specs.Reading.{combination, character_of, shift_set};
 ghost use Rattle.nx_code.specs.Shifts.{other};
 ghost use Rattle.nx_code.specs.Characters.{character_in, holds_in, is_character, is_in_code};
 ghost use Rattle.nx_code.specs.declared.table.Row.{Row};
@@ -73,7 +73,7 @@ impl Case {
 /// space for 31; None where nothing is printed (M.476 and M.625, conversion tables; that 32 and the figures
 /// of D, F, G, H and J print nothing is this profile's).
 pub fn code_to_char(comb: Comb, shift: Shift) -> Option<u8>
-    ensures { result ≡ printed comb.number shift }
+    ensures { result ≡ character_of comb.number shift }
 {
     row_at(usize::from(comb.number - 1)).character(shift)
 }
@@ -82,10 +82,10 @@ pub fn code_to_char(comb: Comb, shift: Shift) -> Option<u8>
 /// (M.476 and M.625, conversion tables; which figures are left out, and `Case::Either`, are this profile's).
 pub fn char_to_code(character: u8) -> Option<(Comb, Case)>
     ensures in_code { IsSome result ↔ IsTrue (is_in_code character) }
-    ensures found { (number : ℕ) (shift : Shift) → 1 ≤ number → number ≤ 32 → printed number shift ≡ Some character
+    ensures found { (number : ℕ) (shift : Shift) → 1 ≤ number → number ≤ 32 → character_of number shift ≡ Some character
         → IsSomeAnd result (λ code. (code.0.number ≡ number) × IsTrue (holds_in code.1 shift)) }
     ensures printed { IfSome result (λ code. (shift : Shift) → IsTrue (holds_in code.1 shift)
-        → printed code.0.number shift ≡ Some character) }
+        → character_of code.0.number shift ≡ Some character) }
 {
     match (
         comb_of(character, Shift::Letters),
@@ -100,8 +100,8 @@ pub fn char_to_code(character: u8) -> Option<(Comb, Case)>
 
 /// The combination that prints a character in a shift, if one does.
 fn comb_of(character: u8, shift: Shift) -> Option<Comb>
-    ensures printed { IfSome result (λ comb. printed comb.number shift ≡ Some character) }
-    ensures found { (number : ℕ) → 1 ≤ number → number ≤ 32 → printed number shift ≡ Some character
+    ensures printed { IfSome result (λ comb. character_of comb.number shift ≡ Some character) }
+    ensures found { (number : ℕ) → 1 ≤ number → number ≤ 32 → character_of number shift ≡ Some character
         → IsSomeAnd result (λ comb. comb.number ≡ number) }
 {
     Some(comb_at(place_of_character(&TABLE, character, shift)?))

@@ -4,7 +4,7 @@ ghost use Rattle.std.specs.Prelude.{◌≡◌, ◌+◌, ◌==◌, ◌<◌, ◌�
 ghost use Rattle.nx_code.specs.Word.{weight};
 ghost use Rattle.nx_code.specs.Table.{place_of, words};
 ghost use Rattle.nx_code.specs.Signal.{place, number_of_signal};
-ghost use Rattle.nx_code.specs.Reading.{printed};
+ghost use Rattle.nx_code.specs.Reading.{character_of};
 ghost use Rattle.nx_code.specs.Characters.{character_in};
 ghost use Rattle.nx_code.specs.declared.signals.Signal.{Signal};
 ghost use Rattle.nx_code.specs.declared.shifts.Shift.{Shift};
@@ -102,7 +102,7 @@ pub(crate) fn row_at(place: usize) -> Row
     requires { place < ROWS }
     ensures word { result.word ≡ slice_index words place }
     ensures range { result.word < 128 }
-    ensures characters { (shift : Shift) → character_in result shift ≡ printed (place + 1) shift }
+    ensures characters { (shift : Shift) → character_in result shift ≡ character_of (place + 1) shift }
 {
     TABLE[place]
 }
