@@ -8,7 +8,6 @@ pub mod Found
 pub mod Header
 pub mod Identity
 pub mod Laws
-pub mod Letter
 pub mod Marker
 pub mod Message
 pub mod MessageView

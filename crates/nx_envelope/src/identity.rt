@@ -1,7 +1,7 @@
 //! The identity of a message: its station, its subject and its number.
 
 ghost use Rattle.std.specs.Prelude.{◌≡◌, ◌↔◌, ◌≤◌, IfSome, IsSome};
-ghost use Rattle.nx_envelope.specs.Letter.{IsLetter};
+ghost use Rattle.nx_code.specs.Characters.{IsCapital};
 
 use crate::digit::two_digits;
 use crate::letter::Letter;
@@ -26,7 +26,7 @@ impl Identity {
 
     /// The identity of two letters and a number, `None` where `b1` or `b2` isn't A to Z or `number` is above 99.
     pub fn new(b1: u8, b2: u8, number: u8) -> Option<Identity>
-        ensures in_range { IsSome result ↔ (IsLetter b1 × IsLetter b2 × (number ≤ 99)) }
+        ensures in_range { IsSome result ↔ (IsCapital b1 × IsCapital b2 × (number ≤ 99)) }
         ensures station { IfSome result (λ identity. identity.b1.byte ≡ b1) }
         ensures subject { IfSome result (λ identity. identity.b2.byte ≡ b2) }
         ensures number { IfSome result (λ identity. identity.number ≡ number) }
