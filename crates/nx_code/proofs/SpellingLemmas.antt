@@ -1,5 +1,5 @@
 -- Spellings of more characters, and that a text has one spelling.
-use Rattle.std.proofs.Common.{◌≡◌, ◌≢◌, ◌⊎◌, ℕ, ◌<◌, ◌≤◌, Bool, true, false, cond, ◌&&◌, ◌||◌, not, eqb, List, [], ◌∷◌, ◌++◌, length, get_or, map, Some, None, inl, inr, refl, sym, ap, ◌∙◌, subst, arith}
+use Rattle.std.proofs.Common.{◌≡◌, ◌≢◌, ◌⊎◌, ℕ, ◌+◌, ◌<◌, ◌≤◌, Bool, true, false, cond, ◌&&◌, ◌||◌, not, eqb, List, [], ◌∷◌, ◌++◌, length, get_or, map, Some, None, inl, inr, refl, sym, ap, ◌∙◌, subst, arith, length-append}
 use Rattle.std.specs.List.{position, position_or_len}
 use Rattle.std.proofs.lemmas.List.Sums.{fails_before_first}
 use Rattle.std.proofs.lemmas.List.{map-append}
@@ -282,3 +282,23 @@ position-None p xs k d h lt =
           cc
       | inr above ↦ fails_before_first p xs k d (omega arith)
     ]
+
+-- how long the spelling of these bytes is, and the shift in force after it
+pub record Extends (bytes : List ℕ) (from : Shift) (count : ℕ) (shift : Shift) : Type 0 where
+  pub numbers : List ℕ
+  pub spells : Spells bytes from numbers
+  pub long : count ≡ length numbers
+  pub after : shift ≡ shift_after_all (map combination numbers) from
+
+pub Extends-nil : (from : Shift) → Extends [] from 0 from
+Extends-nil from = record { numbers = []; spells = Spells-nil from; long = refl; after = refl }
+
+-- one more character
+pub Extends-push : (bytes : List ℕ) (c : ℕ) (from shift after : Shift) (count : ℕ) (ys : List ℕ) → Extends bytes from count shift → Spells (c ∷ []) shift ys → after ≡ shift_after_all (map combination ys) shift
+    → Extends (bytes ++ c ∷ []) from (count + length ys) after
+Extends-push bytes c from shift after count ys h k e = record {
+  numbers = h.numbers ++ ys;
+  spells = Spells-push bytes c from shift h.numbers ys (h.numbers ++ ys) h.spells h.after k refl;
+  long = ap (λ n. n + length ys) h.long ∙ sym (length-append h.numbers ys);
+  after = shift-push from shift after h.numbers ys (h.numbers ++ ys) h.after e refl;
+}

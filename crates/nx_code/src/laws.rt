@@ -1,12 +1,12 @@
 //! Laws of the definitions, each the contract of a function that does nothing.
 
-ghost use Rattle.std.specs.Prelude.{◌≡◌, ◌<◌, ℕ, Bool, List, [], ◌∷◌, ◌++◌, length, IsTrue};
+ghost use Rattle.std.specs.Prelude.{◌≡◌, ◌<◌, ℕ, Bool, List, [], ◌∷◌, ◌++◌, length, map, IsTrue};
 ghost use Rattle.std.specs.Option.{option_to_list};
 ghost use Rattle.std.specs.List.{list_all};
 ghost use Rattle.nx_code.specs.Characters.{is_in_code};
 ghost use Rattle.nx_code.specs.Spelling.{Spells};
 ghost use Rattle.nx_code.specs.Word.{elements, number_of, weight};
-ghost use Rattle.nx_code.specs.Reading.{Reception, IsShiftAfter, byte_of, shift_after_all, text};
+ghost use Rattle.nx_code.specs.Reading.{Reception, IsShiftAfter, combination, byte_of, shift_after_all, text};
 ghost use Rattle.nx_code.specs.Signal.{number_of_signal};
 ghost use Rattle.nx_code.specs.Phasing.{phasing_1, phasing_2, elements_of_phasing_1, elements_of_phasing_2};
 ghost use Rattle.nx_code.specs.declared.signals.Signal.TheVariants as signals;
@@ -63,4 +63,16 @@ pub fn a_text_has_one_spelling()
         → Spells bytes shift numbers → IsTrue (list_all is_in_code bytes) }
     ensures only { (bytes : List ℕ) (shift : Shift) (one two : List ℕ)
         → Spells bytes shift one → Spells bytes shift two → one ≡ two }
+{}
+
+/// A spelling of a text, and then one of more text from the shift in force after it, is the spelling of
+/// the whole (M.476, M.540).
+pub fn a_spelling_goes_on()
+    ensures whole { (one two : List ℕ) (from : Shift) (earlier later : List ℕ)
+        → Spells one from earlier
+        → Spells two (shift_after_all (map combination earlier) from) later
+        → Spells (one ++ two) from (earlier ++ later) }
+    ensures shift { (from : Shift) (earlier later : List ℕ)
+        → shift_after_all (map combination (earlier ++ later)) from
+        ≡ shift_after_all (map combination later) (shift_after_all (map combination earlier) from) }
 {}

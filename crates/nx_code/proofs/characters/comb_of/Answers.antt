@@ -1,7 +1,7 @@
 use Rattle.std.proofs.Common.{◌≡◌, ◌-◌, Some, None, sym, ap, ◌∙◌, arith}
 use Rattle.nx_code.specs.Reading.{character_of}
 use Rattle.nx_code.proofs.CharacterLemmas.{place_for, place_for-Some, place_for-printed}
-use Rattle.nx_code.proofs.shifts.comb_of.Goals as goal
+use Rattle.nx_code.proofs.characters.comb_of.Goals as goal
 
 pub returns-in_err-place_of_character-clause-found : goal.returns-in_err-place_of_character-clause-found
 returns-in_err-place_of_character-clause-found c number low high h =

@@ -4,7 +4,7 @@ use Rattle.nx_code.specs.Reading.{character_of}
 use Rattle.nx_code.specs.declared.shifts.Shift.{Shift}
 use Rattle.nx_code.specs.declared.shifts.Shift.TheVariants.{Letters, Figures}
 use Rattle.nx_code.proofs.CharacterLemmas.{in_code-printed, in_code-prints, both-printed}
-use Rattle.nx_code.proofs.shifts.char_to_code.Goals as goal
+use Rattle.nx_code.proofs.characters.char_to_code.Goals as goal
 
 pub returns-in-Some-Some-clause-in_code : goal.returns-in-Some-Some-clause-in_code
 returns-in-Some-Some-clause-in_code c =
