@@ -1,12 +1,18 @@
 -- What the outcome of a run says of its words.
-use Rattle.std.proofs.Common.{◌≡◌, ◌⊎◌, ℕ, List, Result, Ok, Err, Option, ap, ap₂, inl, inr, refl, subst, sym, ◌∙◌, arith}
+use Rattle.std.proofs.Common.{◌≡◌, ◌⊎◌, ℕ, List, Result, Ok, Err, Option, IsErrAnd, ap, ap₂, inl, inr, refl, subst, sym, ◌∙◌, arith}
 use Rattle.clap.specs.Words.{Text}
-use Rattle.nx_cli.specs.declared.program.Fault.{Fault}
-use Rattle.nx_cli.specs.declared.program.Fault.TheVariants as fault
+use Rattle.nx_cli.specs.declared.fault.CallFault.{CallFault}
+use Rattle.nx_cli.specs.declared.fault.CallFault.TheVariants as call
+use Rattle.nx_cli.specs.declared.fault.Fault.{Fault}
+use Rattle.nx_cli.specs.declared.fault.Fault.TheVariants as fault
+use Rattle.nx_station.specs.declared.fault.SendRunFault.{SendRunFault}
+use Rattle.nx_station.specs.declared.fault.SendRunFault.TheVariants as send
 use Rattle.nx_cli.specs.declared.words.Call.{Call}
 use Rattle.nx_fec.specs.declared.fault.RunFault.{RunFault}
 use Rattle.nx_fec.specs.declared.fault.RunFault.TheVariants as run
-use Rattle.nx_cli.specs.Program.{Devices, Ends, Exits, IsStatus, Performs, Succeeds, devices, fault_status, fresh, run_status, status_of}
+use Rattle.nx_cli.specs.Program.{Ends, Exits, Performs, Succeeds, Tells, fresh}
+use Rattle.nx_cli.specs.Status.{IsStatus, call_status, fault_status, run_status, send_status, status_of}
+use Rattle.nx_fec.specs.Transfers.{Devices, devices}
 use Rattle.nx_fec.specs.Devices.{CountedDevice}
 use Rattle.nx_cli.specs.Words.{IsRefused, Names}
 use Rattle.nx_cli.proofs.WordsLemmas.{help_not_refused, named_not_help, named_not_refused, named_once}
@@ -39,10 +45,27 @@ run-status (run.BadLine line) = inr refl
 run-status (run.Ragged bits) = inr refl
 run-status (run.NoSuchCharacter at) = inr refl
 
+send-status : (why : SendRunFault) → (send_status why ≡ 1) ⊎ (send_status why ≡ 2)
+send-status send.Read = inl refl
+send-status (send.Write written) = inl refl
+send-status (send.Memory want) = inl refl
+send-status send.FileTooLong = inr refl
+send-status (send.BadLine line) = inr refl
+send-status (send.Text line fault) = inr refl
+send-status (send.LineCut line) = inr refl
+send-status (send.Open line) = inr refl
+send-status (send.Send why) = inr refl
+
+call-status : (why : CallFault) → (call_status why ≡ 1) ⊎ (call_status why ≡ 2)
+call-status (call.Run why) = run-status why
+call-status (call.Send why) = send-status why
+call-status call.NoSlot = inr refl
+
 fault-status : (why : Fault) → (fault_status why ≡ 1) ⊎ ((fault_status why ≡ 2) ⊎ (fault_status why ≡ 64))
 fault-status (fault.Words answer) = inr (inr refl)
 fault-status fault.NoText = inr (inr refl)
-fault-status (fault.Run why) = elim (run-status why) [ inl one ↦ inl one | inr two ↦ inr (inl two) ]
+fault-status fault.Station = inr (inr refl)
+fault-status (fault.Call why) = elim (call-status why) [ inl one ↦ inl one | inr two ↦ inr (inl two) ]
 
 outcome-status : (outcome : Result (Unit {0}) Fault) → IsStatus (status_of outcome)
 outcome-status (Ok done) = inl refl
@@ -66,9 +89,10 @@ success-exits words d status exits zero = success-ends words d exits.outcome exi
 
 words-end : {R W : Type 0} (words : List Text) (d : Devices R W) (outcome : Result (Unit {0}) Fault) → Ends words d outcome → status_of outcome ≡ 64 → IsRefused words
 words-end words d (Ok done) ends is = absurd (omega arith)
-words-end words d (Err (fault.Words answer)) ends is = ends.0
+words-end words d (Err (fault.Words answer)) ends is = inl ends.0
 words-end words d (Err fault.NoText) ends is = absurd ends
-words-end words d (Err (fault.Run why)) ends is = elim (run-status why) [ inl one ↦ absurd (omega arith) | inr two ↦ absurd (omega arith) ]
+words-end words d (Err fault.Station) ends is = inr ends.0
+words-end words d (Err (fault.Call why)) ends is = elim (call-status why) [ inl one ↦ absurd (omega arith) | inr two ↦ absurd (omega arith) ]
 
 -- status 64 is a refusal of the words
 pub words-exit : {R W : Type 0} (words : List Text) (d : Devices R W) (status : ℕ) → Exits words d status → status ≡ 64 → IsRefused words
@@ -76,16 +100,17 @@ words-exit words d status exits is = words-end words d exits.outcome exits.ends 
 
 refused-ends : {R W : Type 0} (words : List Text) (d : Devices R W) (outcome : Result (Unit {0}) Fault) → Ends words d outcome → IsRefused words → (status_of outcome ≡ 64) ⊎ (status_of outcome ≡ 1)
 refused-ends words d (Ok done) ends refused = elim ends [
-  | inl runs ↦ absurd (named_not_refused words runs.1.call runs.1.named refused)
+  | inl runs ↦ absurd (named_not_refused words runs.call runs.named refused)
   | inr help ↦ absurd (help_not_refused words help.asked refused)
 ]
 refused-ends words d (Err (fault.Words answer)) ends refused = inl refl
 refused-ends words d (Err fault.NoText) ends refused = absurd ends
-refused-ends words d (Err (fault.Run why)) ends refused = elim ends [
+refused-ends words d (Err fault.Station) ends refused = inl refl
+refused-ends words d (Err (fault.Call why)) ends refused = elim ends [
   | inl runs ↦ absurd (named_not_refused words runs.call runs.named refused)
   | inr other ↦ elim other [
     | inl help ↦ absurd (help_not_refused words help.asked refused)
-    | inr lacks ↦ inr (ap run_status lacks.memory)
+    | inr lacks ↦ inr (ap call_status lacks.memory)
   ]
 ]
 
@@ -97,12 +122,17 @@ refused-exits words d status exits refused = elim (refused-ends words d exits.ou
 ]
 
 -- a success of words that name a call is the success of that call
-pub success-named : {R W : Type 0} (words : List Text) (d : Devices R W) (call : Call) → Names words call → Succeeds words d → (count : ℕ) × Performs call d (Ok count)
+pub success-named : {R W : Type 0} (words : List Text) (d : Devices R W) (call : Call) → Names words call → Succeeds words d → Performs call d (Ok tt)
 success-named words d call named success = elim success [
-  | inl runs ↦ (
-    runs.0,
-    let P : Call → Type 0 = λ c. Performs c d (Ok runs.0) in
-        subst P (named_once words runs.1.call call runs.1.named named) runs.1.performed,
-  )
+  | inl runs ↦ let P : Call → Type 0 = λ c. Performs c d (Ok tt) in subst P (named_once words runs.call call runs.named named) runs.performed
   | inr help ↦ absurd (named_not_help words call named help.asked)
 ]
+
+-- what a run answered is told
+pub tells-ok : {N F : Type 0} (name : F → CallFault) (answers : Result N F → Type 0) (answer : N) → answers (Ok answer) → Tells name answers (Ok tt)
+tells-ok name answers answer answered = record { own = Ok answer; answered = answered; told = refl }
+
+pub tells-err : {N F : Type 0} (name : F → CallFault) (answers : Result N F → Type 0) (outcome : Result (Unit {0}) CallFault) (why : F) → answers (Err why)
+    → IsErrAnd outcome (λ fault. fault ≡ name why) → Tells name answers outcome
+tells-err name answers (Ok done) why answered is = absurd is
+tells-err name answers (Err fault) why answered is = record { own = Err why; answered = answered; told = ap (λ (f : CallFault). Err f) is }

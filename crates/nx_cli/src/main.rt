@@ -2,8 +2,10 @@
 #![tactic(auto)]
 
 mod commands;
+mod fault;
 pub mod laws;
 mod program;
+mod slots;
 #[cfg(test)]
 mod tests;
 mod words;

@@ -1,7 +1,8 @@
 use Rattle.std.proofs.Common.{List, ℕ, map}
 use Rattle.clap.specs.Words.{Text}
 use Rattle.nx_cli.proofs.ProgramLemmas.{exits-fresh, refused-exits, status-exits, success-exits, success-named, words-exit}
-use Rattle.nx_cli.specs.Program.{Devices, Exits, devices, fresh}
+use Rattle.nx_cli.specs.Program.{Exits, fresh}
+use Rattle.nx_fec.specs.Transfers.{devices}
 use Rattle.nx_cli.proofs.program.run.Goals as goal
 
 pub returns : goal.returns
@@ -16,8 +17,7 @@ returns g c =
       status = status-exits words d c.exit_status.result exits;
       success = λ is. (c.exit_status.new.reader, c.exit_status.new.writer, success-exits words d c.exit_status.result exits is);
       called = λ call named is.
-          let done = success-named words d call named (success-exits words d c.exit_status.result exits is) in
-          (c.exit_status.new.reader, c.exit_status.new.writer, done.0, done.1);
+(c.exit_status.new.reader, c.exit_status.new.writer, success-named words d call named (success-exits words d c.exit_status.result exits is));
       words = λ is. words-exit words d c.exit_status.result exits is;
       refused = λ refused. refused-exits words d c.exit_status.result exits refused;
     }

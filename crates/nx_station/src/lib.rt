@@ -1,0 +1,10 @@
+//! Temporary.
+#![tactic(auto)]
+
+mod fault;
+mod sending;
+mod slots;
+
+pub use fault::{SendFault, SendRunFault};
+pub use sending::{Sent, send, write_table};
+pub use slots::next_slot;

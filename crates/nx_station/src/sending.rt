@@ -1,0 +1,48 @@
+//! Temporary.
+ghost use Rattle.std.specs.Prelude.{◌≡◌, ◌≤◌, ◌↔◌, IfErr, OnOk, IsErr, List, [], ℕ};
+ghost use Rattle.std.specs.Io.KnownBytes.{Appends};
+ghost use Rattle.nx_fec.specs.Devices.{WroteSome};
+ghost use Rattle.nx_fec.specs.Transfers.{devices};
+ghost use Rattle.nx_station.specs.Sending.{Sends, table_text};
+use crate::fault::SendRunFault;
+use nx_envelope::Letter;
+use nx_fec::{Counting, WriteFault, write_out};
+use std::alloc::Global;
+use std::io::{Read, Write};
+
+/// Temporary.
+#[derive(Clone, Copy, Debug, PartialEq, Eq)]
+pub struct Sent {
+    pub slot: u64,
+    pub positions: u64,
+    pub messages: u64,
+}
+
+/// Temporary.
+pub fn send<R: Read, W: Write>(
+    _alloc: Global,
+    reader: &mut Counting<R>,
+    writer: &mut Counting<W>,
+    station: Letter,
+    moment: u64,
+) -> Result<Sent, SendRunFault>
+    requires reader { reader.old.failures ≡ 0 }
+    requires writer { writer.old.failures ≡ 0 }
+    ensures { Sends station.byte moment
+        (devices R.remaining W.contents reader.old reader.new writer.old writer.new) result }
+{
+    Ok(Sent { slot: 0, positions: 0, messages: 0 })
+}
+
+/// Temporary.
+pub fn write_table<W: Write>(writer: &mut Counting<W>) -> Result<(), WriteFault>
+    requires { writer.old.failures ≡ 0 }
+    ensures ok { OnOk result (Appends (W.contents writer.old.inner) (W.contents writer.new.inner) table_text) }
+    ensures err { IfErr result (λ fault.
+        WroteSome (W.contents writer.old.inner) (W.contents writer.new.inner) table_text fault.written) }
+    ensures failed { IsErr result ↔ (writer.new.failures ≡ 1) }
+    ensures once { writer.new.failures ≤ 1 }
+    ensures none { OnOk result (writer.new.failures ≡ 0) }
+{
+    write_out(writer, b"")
+}
