@@ -1,3 +1,4 @@
+pub mod Content
 pub mod Examples
 pub mod Known
 pub mod Letters

@@ -1,3 +1,4 @@
+pub mod Content
 pub mod Letters
 pub mod Live
 pub mod Memory
