@@ -16,7 +16,7 @@ All-one : {X : Type 0} (P : X → Type 0) (x : X) → P x → All P (x ∷ [])
 All-one P x h zero d below = h
 All-one P x h (suc k) d below = absurd (omega arith)
 
-All-tail : {X : Type 0} (P : X → Type 0) (x : X) (xs : List X) → All P (x ∷ xs) → All P xs
+pub All-tail : {X : Type 0} (P : X → Type 0) (x : X) (xs : List X) → All P (x ∷ xs) → All P xs
 All-tail P x xs all k d below = all (suc k) d (omega arith)
 
 -- the entries that are left when the oldest are forgotten stand in turn

@@ -30,7 +30,7 @@ same_identity-true a b e =
     (same_letter a.b2 b.b2 (eqb-true a.b2.byte b.b2.byte letters.1))
     (eqb-true a.number b.number parts.1)
 
-same_itself : (a : Identity) → same_identity a a ≡ true
+pub same_itself : (a : Identity) → same_identity a a ≡ true
 same_itself a =
     and_from _ _ (and_from _ _ (eq-eqb a.b1.byte a.b1.byte refl) (eq-eqb a.b2.byte a.b2.byte refl)) (eq-eqb a.number a.number refl)
 

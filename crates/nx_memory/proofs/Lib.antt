@@ -2,3 +2,5 @@ pub mod Content
 pub mod Examples
 pub mod Known
 pub mod Letters
+pub mod Rings
+pub mod Tables

@@ -3,5 +3,7 @@ pub mod Letters
 pub mod Live
 pub mod Memory
 pub mod Refused
+pub mod Ring
 pub mod Selection
+pub mod Table
 pub mod Vital

@@ -5,13 +5,16 @@
 mod entry;
 pub mod laws;
 mod letter_set;
+mod moment_table;
 mod plain;
 mod recall;
+mod ring;
 mod selection;
 
 pub use entry::MemoryEntry;
 pub use plain::PlainRecall;
 pub use recall::{CAPACITY, LIFETIME, Recall};
+pub use ring::RingRecall;
 pub use selection::{Selection, Vital};
 
 #[cfg(test)]

@@ -79,6 +79,14 @@ fn plain_memories_pass_the_examples(rt: HostRuntime) {
 }
 
 #[test]
+fn ring_memories_pass_the_examples(rt: HostRuntime) -> Result<(), Fail> {
+    let mut first = RingRecall::new(rt.alloc())?;
+    let mut second = RingRecall::new(rt.alloc())?;
+    check_memories(&rt, &mut first, &mut second);
+    Ok(())
+}
+
+#[test]
 fn refuses_what_is_not_vital(rt: HostRuntime) -> Result<(), Fail> {
     let mut selection = Selection::all();
     let ice = Identity::new(b'E', b'C', 5).expect(&rt, "EC05");
