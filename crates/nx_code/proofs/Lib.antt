@@ -1,6 +1,8 @@
 pub mod CharacterLemmas
+mod Examples
 pub mod ReadingLemmas
+mod SilentCombinations
 mod SpellingLaws
 pub mod SpellingLemmas
-mod TableLemmas
+pub mod TableLemmas
 pub mod WordLemmas
