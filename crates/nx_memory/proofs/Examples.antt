@@ -1,9 +1,10 @@
 -- The definitions of the memory, evaluated on worked examples.
 use Rattle.std.specs.Prelude.{◌≡◌, ℕ, true, false, [], ◌∷◌, Some, None, refl}
 use Rattle.std.proofs.Common.{lit≤}
+use Rattle.nx_code.specs.Lists.{last_of}
 use Rattle.nx_envelope.specs.declared.identity.Identity.{Identity}
 use Rattle.nx_memory.specs.declared.entry.MemoryEntry.{MemoryEntry}
-use Rattle.nx_memory.specs.Memory.{last_of, content_after, newest_of, is_known}
+use Rattle.nx_memory.specs.Memory.{content_after, newest_of, is_known}
 use Rattle.nx_memory.specs.Vital.{is_vital}
 
 -- the message 01 of station E (69) and subject A (65), and the message 02

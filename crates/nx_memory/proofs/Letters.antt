@@ -6,7 +6,7 @@ use Rattle.std.proofs.lemmas.List.{get_or-set_same, get_or-set_other}
 use Rattle.std.specs.Ordering.{nat_cmp}
 use Rattle.std.specs.Cmp.{nat_cmp_total, unsigned_tied}
 use Rattle.std.specs.FinSet as finite
-use Rattle.nx_envelope.specs.Letter.{IsLetter}
+use Rattle.nx_code.specs.Characters.{IsCapital}
 use Rattle.nx_memory.specs.Letters.{HasLettersOnly, letters_from, letters_of, flags_from, flags_of}
 use Rattle.nx_memory.specs.Vital.{is_vital, IsWithoutVital}
 
@@ -145,9 +145,9 @@ remove_again s k absent = finite.same_set nat_cmp_total finite.nat_cmp-IsAntisym
     ]
 
 -- one more letter leaves letters only, and one more subject that isn't vital no vital one
-pub letters_only-insert : (letters : finite.FinSet nat_cmp) (k : ℕ) → HasLettersOnly letters → IsLetter k → HasLettersOnly (finite.insert letters k)
+pub letters_only-insert : (letters : finite.FinSet nat_cmp) (k : ℕ) → HasLettersOnly letters → IsCapital k → HasLettersOnly (finite.insert letters k)
 letters_only-insert letters k only letter q there = elim (cases_eq q k) [
-  | inl here ↦ subst IsLetter (sym here) letter
+  | inl here ↦ subst IsCapital (sym here) letter
   | inr other ↦ only q (sym (contains-insert letters k q ∙ ap (λ b. b || finite.contains letters q) (ne_eqb q k other)) ∙ there)
 ]
 

@@ -8,25 +8,26 @@ use Rattle.std.proofs.lemmas.List.{get_or-set_same, get_or-set_other, get_or-rep
 use Rattle.std.proofs.lemmas.List.Elements.{All-head}
 use Rattle.std.proofs.lemmas.Nat.{same_from_place}
 use Rattle.std.proofs.lemmas.Option.{same_Some}
+use Rattle.nx_code.specs.Lists.{last_of}
 use Rattle.nx_envelope.specs.declared.identity.Identity.{Identity}
 use Rattle.nx_envelope.specs.Identity.{same_identity}
+use Rattle.nx_envelope.proofs.Identities.{same_identity-true, same_itself}
 use Rattle.nx_memory.specs.declared.entry.MemoryEntry.{MemoryEntry}
 use Rattle.nx_memory.specs.Content.{IsLater, AreInTurn}
-use Rattle.nx_memory.specs.Memory.{most_entries, seconds_known, last_of, is_recent, is_known}
-use Rattle.nx_memory.specs.Table.{identities, place_of, last_moment, is_recent_moment, is_moment, holds_moment, IsTableOf}
+use Rattle.nx_memory.specs.Memory.{most_entries, seconds_known, is_recent, is_known}
+use Rattle.nx_memory.specs.Table.{identities, index_of, last_moment, is_recent_moment, is_moment, holds_moment, IsTableOf}
 use Rattle.nx_memory.proofs.Content.{All-tail}
-use Rattle.nx_memory.proofs.Known.{same_identity-true, same_itself}
 
 -- each place is within the table, and two identities have two places
-pub place_within : (identity : Identity) → place_of identity < identities
-place_within identity =
+pub index_within : (identity : Identity) → index_of identity < identities
+index_within identity =
     let station = identity.b1.in_range in
     let subject = identity.b2.in_range in
     let number = identity.two_digits in
     omega (arith, station.0, station.1, subject.0, subject.1)
 
-pub same_place : (a b : Identity) → place_of a ≡ place_of b → same_identity a b ≡ true
-same_place a b places =
+pub same_index : (a b : Identity) → index_of a ≡ index_of b → same_identity a b ≡ true
+same_index a b places =
     let numbers : a.number < 100 = omega (arith, a.two_digits) in
     let others : b.number < 100 = omega (arith, b.two_digits) in
     let split = same_from_place ((a.b1.byte - 65) * 26 + (a.b2.byte - 65)) a.number ((b.b1.byte - 65) * 26 + (b.b2.byte - 65)) b.number 100 numbers others places in
@@ -91,36 +92,36 @@ last_moment-push identity (entry ∷ later) last =
 
 -- a table without a moment is that of no entry
 pub table-nil : IsTableOf [] (replicate 67600 None)
-table-nil = record { size = length-replicate {A = Option ℕ} 67600 None; last = λ identity. get_or-replicate {A = Option ℕ} 67600 (place_of identity) None None (place_within identity) }
+table-nil = record { size = length-replicate {A = Option ℕ} 67600 None; last = λ identity. get_or-replicate {A = Option ℕ} 67600 (index_of identity) None None (index_within identity) }
 
 -- a table with one more entry's moment is that with one more entry
 option_or-none : (o : Option ℕ) → option_or o None ≡ o
 option_or-none (Some n) = refl
 option_or-none None = refl
 
-other_place : (a b : Identity) → same_identity a b ≡ false → place_of b ≡ place_of a → ⊥
-other_place a b other places = true≢false (sym (same_place a b (sym places)) ∙ other)
+other_index : (a b : Identity) → same_identity a b ≡ false → index_of b ≡ index_of a → ⊥
+other_index a b other places = true≢false (sym (same_index a b (sym places)) ∙ other)
 
-pub table-push : (entries : List MemoryEntry) (last : MemoryEntry) (moments : List (Option ℕ)) → IsTableOf entries moments → IsTableOf (entries ++ last ∷ []) (set moments (place_of last.identity) (Some last.moment))
+pub table-push : (entries : List MemoryEntry) (last : MemoryEntry) (moments : List (Option ℕ)) → IsTableOf entries moments → IsTableOf (entries ++ last ∷ []) (set moments (index_of last.identity) (Some last.moment))
 table-push entries last moments is = record {
-  size = length-set moments (place_of last.identity) (Some last.moment) ∙ is.size;
+  size = length-set moments (index_of last.identity) (Some last.moment) ∙ is.size;
   last = λ identity. at identity ∙ sym (last_moment-push identity entries last);
 }
   where
-    at : (identity : Identity) → get_or (set moments (place_of last.identity) (Some last.moment)) (place_of identity) None ≡ (if same_identity last.identity identity then Some last.moment else last_moment identity entries)
-    at identity = elim (same_identity last.identity identity) as (λ b. same_identity last.identity identity ≡ b → get_or (set moments (place_of last.identity) (Some last.moment)) (place_of identity) None ≡ (if b then Some last.moment else last_moment identity entries)) [
+    at : (identity : Identity) → get_or (set moments (index_of last.identity) (Some last.moment)) (index_of identity) None ≡ (if same_identity last.identity identity then Some last.moment else last_moment identity entries)
+    at identity = elim (same_identity last.identity identity) as (λ b. same_identity last.identity identity ≡ b → get_or (set moments (index_of last.identity) (Some last.moment)) (index_of identity) None ≡ (if b then Some last.moment else last_moment identity entries)) [
       | true ↦ λ same.
-          ap (λ (it : Identity). get_or (set moments (place_of last.identity) (Some last.moment)) (place_of it) None) (sym (same_identity-true last.identity identity same))
-          ∙ get_or-set_same moments (place_of last.identity) (Some last.moment) None (subst (λ (n : ℕ). place_of last.identity < n) (sym is.size) (place_within last.identity))
+          ap (λ (it : Identity). get_or (set moments (index_of last.identity) (Some last.moment)) (index_of it) None) (sym (same_identity-true last.identity identity same))
+          ∙ get_or-set_same moments (index_of last.identity) (Some last.moment) None (subst (λ (n : ℕ). index_of last.identity < n) (sym is.size) (index_within last.identity))
       | false ↦ λ other.
-          get_or-set_other moments (place_of last.identity) (place_of identity) (Some last.moment) None (other_place last.identity identity other)
+          get_or-set_other moments (index_of last.identity) (index_of identity) (Some last.moment) None (other_index last.identity identity other)
           ∙ is.last identity
     ] refl
 
 -- an identity whose last entry is later than the oldest one has a later moment than that
 later_moment : (oldest : MemoryEntry) (later : List MemoryEntry) → All (IsLater oldest) later → (last : ℕ) → last_moment oldest.identity later ≡ Some last → oldest.moment + seconds_known ≤ last
 later_moment oldest later all = last_holds (λ n. oldest.moment + seconds_known ≤ n) oldest.identity later (λ k d below same.
-        (all k d below).apart (same_turned (slice_index_or later k d).identity oldest.identity same))
+    (all k d below).apart (same_turned (slice_index_or later k d).identity oldest.identity same))
 
 -- what stands at the place of the oldest entry's identity, and what is left there
 left_there : (oldest : MemoryEntry) (later : List MemoryEntry) → All (IsLater oldest) later → (o : Option ℕ) → last_moment oldest.identity later ≡ o → (stands : Option ℕ) → stands ≡ option_or o (Some oldest.moment) → (if is_moment oldest.moment stands then None else stands) ≡ o
@@ -132,54 +133,54 @@ left_there oldest later all None is stands stood =
     rw (stood, eq-eqb oldest.moment oldest.moment refl)
 
 -- a table without the moment of the oldest entry, where it is that one's, is that without the oldest entry
-abbrev pub cleared : List (Option ℕ) → MemoryEntry → List (Option ℕ)
-cleared moments oldest = if holds_moment moments oldest then set moments (place_of oldest.identity) None else moments
+abbrev pub table_without : List (Option ℕ) → MemoryEntry → List (Option ℕ)
+table_without moments oldest = if holds_moment moments oldest then set moments (index_of oldest.identity) None else moments
 
-cleared-size : (moments : List (Option ℕ)) (oldest : MemoryEntry) → length (cleared moments oldest) ≡ length moments
-cleared-size moments oldest = elim (holds_moment moments oldest) as (λ b. length (if b then set moments (place_of oldest.identity) None else moments) ≡ length moments) [
-  | true ↦ length-set moments (place_of oldest.identity) None
+table_without-size : (moments : List (Option ℕ)) (oldest : MemoryEntry) → length (table_without moments oldest) ≡ length moments
+table_without-size moments oldest = elim (holds_moment moments oldest) as (λ b. length (if b then set moments (index_of oldest.identity) None else moments) ≡ length moments) [
+  | true ↦ length-set moments (index_of oldest.identity) None
   | false ↦ refl
 ]
 
-cleared-other : (moments : List (Option ℕ)) (oldest : MemoryEntry) (place : ℕ) → place ≢ place_of oldest.identity → get_or (cleared moments oldest) place None ≡ get_or moments place None
-cleared-other moments oldest place other = elim (holds_moment moments oldest) as (λ b. get_or (if b then set moments (place_of oldest.identity) None else moments) place None ≡ get_or moments place None) [
-  | true ↦ get_or-set_other moments (place_of oldest.identity) place None None other
+table_without-other : (moments : List (Option ℕ)) (oldest : MemoryEntry) (place : ℕ) → place ≢ index_of oldest.identity → get_or (table_without moments oldest) place None ≡ get_or moments place None
+table_without-other moments oldest place other = elim (holds_moment moments oldest) as (λ b. get_or (if b then set moments (index_of oldest.identity) None else moments) place None ≡ get_or moments place None) [
+  | true ↦ get_or-set_other moments (index_of oldest.identity) place None None other
   | false ↦ refl
 ]
 
-cleared-there : (moments : List (Option ℕ)) (oldest : MemoryEntry) → place_of oldest.identity < length moments → get_or (cleared moments oldest) (place_of oldest.identity) None ≡ (if holds_moment moments oldest then None else get_or moments (place_of oldest.identity) None)
-cleared-there moments oldest within = elim (holds_moment moments oldest) as (λ b. get_or (if b then set moments (place_of oldest.identity) None else moments) (place_of oldest.identity) None ≡ (if b then None else get_or moments (place_of oldest.identity) None)) [
-  | true ↦ get_or-set_same moments (place_of oldest.identity) None None within
+table_without-there : (moments : List (Option ℕ)) (oldest : MemoryEntry) → index_of oldest.identity < length moments → get_or (table_without moments oldest) (index_of oldest.identity) None ≡ (if holds_moment moments oldest then None else get_or moments (index_of oldest.identity) None)
+table_without-there moments oldest within = elim (holds_moment moments oldest) as (λ b. get_or (if b then set moments (index_of oldest.identity) None else moments) (index_of oldest.identity) None ≡ (if b then None else get_or moments (index_of oldest.identity) None)) [
+  | true ↦ get_or-set_same moments (index_of oldest.identity) None None within
   | false ↦ refl
 ]
 
-pub table-drop : (oldest : MemoryEntry) (later : List MemoryEntry) (moments : List (Option ℕ)) → AreInTurn (oldest ∷ later) → IsTableOf (oldest ∷ later) moments → IsTableOf later (cleared moments oldest)
+pub table-drop : (oldest : MemoryEntry) (later : List MemoryEntry) (moments : List (Option ℕ)) → AreInTurn (oldest ∷ later) → IsTableOf (oldest ∷ later) moments → IsTableOf later (table_without moments oldest)
 table-drop oldest later moments turn is = record {
-  size = cleared-size moments oldest ∙ is.size;
+  size = table_without-size moments oldest ∙ is.size;
   last = at;
 }
   where
-    at_oldest : get_or (cleared moments oldest) (place_of oldest.identity) None ≡ last_moment oldest.identity later
+    at_oldest : get_or (table_without moments oldest) (index_of oldest.identity) None ≡ last_moment oldest.identity later
     at_oldest =
-        cleared-there moments oldest (subst (λ (n : ℕ). place_of oldest.identity < n) (sym is.size) (place_within oldest.identity))
-        ∙ left_there oldest later turn.0 (last_moment oldest.identity later) refl (get_or moments (place_of oldest.identity) None)
-            (is.last oldest.identity ∙ ap (λ b. option_or (last_moment oldest.identity later) (if b then Some oldest.moment else None)) (same_itself oldest.identity))
+        table_without-there moments oldest (subst (λ (n : ℕ). index_of oldest.identity < n) (sym is.size) (index_within oldest.identity))
+        ∙ left_there oldest later turn.0 (last_moment oldest.identity later) refl (get_or moments (index_of oldest.identity) None)
+        (is.last oldest.identity ∙ ap (λ b. option_or (last_moment oldest.identity later) (if b then Some oldest.moment else None)) (same_itself oldest.identity))
 
-    at : (identity : Identity) → get_or (cleared moments oldest) (place_of identity) None ≡ last_moment identity later
-    at identity = elim (same_identity oldest.identity identity) as (λ b. same_identity oldest.identity identity ≡ b → get_or (cleared moments oldest) (place_of identity) None ≡ last_moment identity later) [
+    at : (identity : Identity) → get_or (table_without moments oldest) (index_of identity) None ≡ last_moment identity later
+    at identity = elim (same_identity oldest.identity identity) as (λ b. same_identity oldest.identity identity ≡ b → get_or (table_without moments oldest) (index_of identity) None ≡ last_moment identity later) [
       | true ↦ λ same.
-          subst (λ (it : Identity). get_or (cleared moments oldest) (place_of it) None ≡ last_moment it later) (same_identity-true oldest.identity identity same) at_oldest
+          subst (λ (it : Identity). get_or (table_without moments oldest) (index_of it) None ≡ last_moment it later) (same_identity-true oldest.identity identity same) at_oldest
       | false ↦ λ other.
-          cleared-other moments oldest (place_of identity) (other_place oldest.identity identity other)
+          table_without-other moments oldest (index_of identity) (other_index oldest.identity identity other)
           ∙ is.last identity
           ∙ ap (λ b. option_or (last_moment identity later) (if b then Some oldest.moment else None)) other
           ∙ option_or-none (last_moment identity later)
     ] refl
 
 -- a table after an entry, where the ring gave one up or didn't
-abbrev pub cleared_by : Option MemoryEntry → List (Option ℕ) → List (Option ℕ)
-cleared_by None moments = moments
-cleared_by (Some oldest) moments = cleared moments oldest
+abbrev pub table_given_up : Option MemoryEntry → List (Option ℕ) → List (Option ℕ)
+table_given_up None moments = moments
+table_given_up (Some oldest) moments = table_without moments oldest
 
 -- so it is that of the last 200 after one more was entered
 with_room : (entries : List MemoryEntry) (last : MemoryEntry) → length entries < most_entries → last_of most_entries (entries ++ last ∷ []) ≡ entries ++ last ∷ []
@@ -192,14 +193,14 @@ without_oldest oldest last later full =
     let one : length (oldest ∷ later ++ last ∷ []) - most_entries ≡ 1 = omega (arith, length-append (oldest ∷ later) (last ∷ [])) in
     ap (λ n. drop n (oldest ∷ later ++ last ∷ [])) one
 
-table-full : (entries : List MemoryEntry) (last : MemoryEntry) (moments : List (Option ℕ)) → length entries ≡ most_entries → AreInTurn entries → IsTableOf entries moments → IsTableOf (last_of most_entries (entries ++ last ∷ [])) (set (cleared_by (slice_get (entries ++ last ∷ []) 0) moments) (place_of last.identity) (Some last.moment))
+table-full : (entries : List MemoryEntry) (last : MemoryEntry) (moments : List (Option ℕ)) → length entries ≡ most_entries → AreInTurn entries → IsTableOf entries moments → IsTableOf (last_of most_entries (entries ++ last ∷ [])) (set (table_given_up (slice_get (entries ++ last ∷ []) 0) moments) (index_of last.identity) (Some last.moment))
 table-full [] last moments full turn is = absurd (omega arith)
 table-full (oldest ∷ later) last moments full turn is =
-    subst (λ (it : List MemoryEntry). IsTableOf it (set (cleared moments oldest) (place_of last.identity) (Some last.moment)))
+    subst (λ (it : List MemoryEntry). IsTableOf it (set (table_without moments oldest) (index_of last.identity) (Some last.moment)))
     (sym (without_oldest oldest last later full))
-    (table-push later last (cleared moments oldest) (table-drop oldest later moments turn is))
+    (table-push later last (table_without moments oldest) (table-drop oldest later moments turn is))
 
-pub table-entered : (entries : List MemoryEntry) (last : MemoryEntry) (moments : List (Option ℕ)) (fallen : Option MemoryEntry) → length entries ≤ most_entries → AreInTurn entries → IsTableOf entries moments → fallen ≡ (if ltb (length entries) most_entries then None else slice_get (entries ++ last ∷ []) 0) → IsTableOf (last_of most_entries (entries ++ last ∷ [])) (set (cleared_by fallen moments) (place_of last.identity) (Some last.moment))
+pub table-entered : (entries : List MemoryEntry) (last : MemoryEntry) (moments : List (Option ℕ)) (fallen : Option MemoryEntry) → length entries ≤ most_entries → AreInTurn entries → IsTableOf entries moments → fallen ≡ (if ltb (length entries) most_entries then None else slice_get (entries ++ last ∷ []) 0) → IsTableOf (last_of most_entries (entries ++ last ∷ [])) (set (table_given_up fallen moments) (index_of last.identity) (Some last.moment))
 table-entered entries last moments fallen bounded turn is fell = elim (cases_lt (length entries) most_entries) [
   | inl room ↦
       let nothing : fallen ≡ None = fell ∙ ap (λ b. if b then None else slice_get (entries ++ last ∷ []) 0) (lt-ltb (length entries) most_entries room) in

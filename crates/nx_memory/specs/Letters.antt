@@ -2,11 +2,11 @@
 use Rattle.std.specs.Prelude.{ℕ, ◌+◌, zero, suc, Bool, true, false, List, [], ◌∷◌, IsTrue}
 use Rattle.std.specs.Ordering.{nat_cmp}
 use Rattle.std.specs.FinSet as set
-use Rattle.nx_envelope.specs.Letter.{IsLetter}
+use Rattle.nx_code.specs.Characters.{IsCapital}
 
 -- the set holds nothing but letters
 abbrev pub HasLettersOnly : set.FinSet nat_cmp → Type 0
-HasLettersOnly letters = (byte : ℕ) → IsTrue (set.contains letters byte) → IsLetter byte
+HasLettersOnly letters = (byte : ℕ) → IsTrue (set.contains letters byte) → IsCapital byte
 
 -- the letters whose flags are set, where the first flag is that of `first` and the next that of the letter after it
 abbrev pub letters_from : ℕ → List Bool → set.FinSet nat_cmp

@@ -11,8 +11,8 @@ abbrev pub identities : ℕ
 identities = 67600
 
 -- the place of an identity among all, where they stand by station, subject and number
-abbrev pub place_of : Identity → ℕ
-place_of identity = ((identity.b1.byte - 65) * 26 + (identity.b2.byte - 65)) * 100 + identity.number
+abbrev pub index_of : Identity → ℕ
+index_of identity = ((identity.b1.byte - 65) * 26 + (identity.b2.byte - 65)) * 100 + identity.number
 
 -- the moment of the last entry of an identity, where there is one
 abbrev pub last_moment : Identity → List MemoryEntry → Option ℕ
@@ -33,8 +33,8 @@ is_moment moment (Some last) = last == moment
 -- at the place of each identity stands the moment of its last entry, or that there is none
 pub record IsTableOf (content : List MemoryEntry) (moments : List (Option ℕ)) : Type 0 where
   pub size : length moments ≡ identities
-  pub last : (identity : Identity) → get_or moments (place_of identity) None ≡ last_moment identity content
+  pub last : (identity : Identity) → get_or moments (index_of identity) None ≡ last_moment identity content
 
 -- the moment that stands at the identity of an entry is the entry's own
 abbrev pub holds_moment : List (Option ℕ) → MemoryEntry → Bool
-holds_moment moments entry = is_moment entry.moment (get_or moments (place_of entry.identity) None)
+holds_moment moments entry = is_moment entry.moment (get_or moments (index_of entry.identity) None)

@@ -1,11 +1,12 @@
 //! What the words of the memory mean: laws over its definitions alone.
 
 ghost use Rattle.std.specs.Prelude.{◌≡◌, ℕ, ◌<◌, ◌≤◌, ◌↔◌, List, [], ◌∷◌, ◌++◌, IsTrue, false};
+ghost use Rattle.nx_code.specs.Lists.{last_of};
 ghost use Rattle.nx_envelope.specs.declared.identity.Identity.{Identity};
 ghost use Rattle.nx_memory.specs.declared.entry.MemoryEntry.{MemoryEntry};
 ghost use Rattle.nx_memory.specs.Content.{IsContent};
 ghost use Rattle.nx_memory.specs.Live.{IsLive};
-ghost use Rattle.nx_memory.specs.Memory.{content_after, is_known, last_of, most_entries, newest_moment};
+ghost use Rattle.nx_memory.specs.Memory.{content_after, is_known, most_entries, newest_moment};
 
 /// Of all the entries made so far, those among the last 200 make an identity known exactly where one of them is live:
 /// it bears the identity, is less than 66 hours old, and fewer than 200 entries were made after it.

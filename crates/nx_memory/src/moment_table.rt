@@ -1,7 +1,7 @@
 //! A table of moments with a place for each identity.
 
 ghost use Rattle.std.specs.Prelude.{◌≡◌, ◌<◌, Some, None, get_or, if◌then◌else◌, length, replicate, slice_set, IfOk};
-ghost use Rattle.nx_memory.specs.Table.{holds_moment, place_of as the_place_of};
+ghost use Rattle.nx_memory.specs.Table.{holds_moment, index_of as the_index_of};
 
 use crate::entry::MemoryEntry;
 use crate::letter_set::{LETTERS, place_in_alphabet};
@@ -47,25 +47,25 @@ impl MomentTable {
 
     /// The moment of the identity.
     pub(crate) fn moment_of(&self, identity: Identity) -> Option<u64>
-        ensures { result ≡ get_or self.now.items (the_place_of identity) None }
+        ensures { result ≡ get_or self.now.items (the_index_of identity) None }
     {
-        self.moments[place_of(identity)]
+        self.moments[index_of(identity)]
     }
 
     /// Sets the moment of the entry's identity to the entry's.
     pub(crate) fn set(&mut self, entry: MemoryEntry)
-        ensures { self.new.items ≡ slice_set self.old.items (the_place_of entry.identity) (Some entry.moment) }
+        ensures { self.new.items ≡ slice_set self.old.items (the_index_of entry.identity) (Some entry.moment) }
     {
-        self.moments[place_of(entry.identity)] = Some(entry.moment);
+        self.moments[index_of(entry.identity)] = Some(entry.moment);
     }
 
     /// Takes out the moment of the entry's identity, where it is the entry's: a later one stays.
     pub(crate) fn clear(&mut self, entry: MemoryEntry)
         ensures { self.new.items ≡ (if holds_moment self.old.items entry
-            then slice_set self.old.items (the_place_of entry.identity) None
+            then slice_set self.old.items (the_index_of entry.identity) None
             else self.old.items) }
     {
-        let place = place_of(entry.identity);
+        let place = index_of(entry.identity);
         if self.moments[place] == Some(entry.moment) {
             self.moments[place] = None;
         }
@@ -73,8 +73,8 @@ impl MomentTable {
 }
 
 /// The place of an identity in a table.
-fn place_of(identity: Identity) -> usize
-    ensures place { result ≡ the_place_of identity }
+fn index_of(identity: Identity) -> usize
+    ensures place { result ≡ the_index_of identity }
     ensures within { result < 67600 }
 {
     let letters = place_in_alphabet(identity.b1) * LETTERS + place_in_alphabet(identity.b2);

@@ -32,8 +32,8 @@ impl Model for RingRecall {
     ghost inverse = { λ held. record { entries = buffer held.content 200; table = held.table } };
 
     ghost inverse_ok = { λ memory is i. record {
-        entries = buffer memory.entries.items (sym is.capacity i);
-        table = memory.table;
+      entries = buffer memory.entries.items (sym is.capacity i);
+      table = memory.table;
     } };
 }
 
