@@ -6,6 +6,7 @@ ghost use Rattle.nx_envelope.specs.declared.identity.Identity.{Identity};
 ghost use Rattle.nx_memory.specs.declared.entry.MemoryEntry.{MemoryEntry};
 ghost use Rattle.nx_memory.specs.Content.{IsContent};
 ghost use Rattle.nx_memory.specs.Live.{IsLive};
+ghost use Rattle.nx_memory.specs.Table.{identities, index_of, is_recent_moment, last_moment};
 ghost use Rattle.nx_memory.specs.Memory.{content_after, is_known, most_entries, newest_moment};
 
 /// Of all the entries made so far, those among the last 200 make an identity known exactly where one of them is live:
@@ -29,4 +30,16 @@ pub fn entries_stand_in_turn()
     ensures kept { (content : List MemoryEntry) (identity : Identity) (moment : ℕ) → IsContent content
         → newest_moment content ≤ moment → is_known identity moment content ≡ false → 0 < identity.number
         → IsContent (content_after content identity moment) }
+{}
+
+/// Each identity has a place of its own in a table: its place is within the table, and no two identities share one.
+pub fn identities_have_places_of_their_own()
+    ensures within { (identity : Identity) → index_of identity < identities }
+    ensures one { (a b : Identity) → index_of a ≡ index_of b → a ≡ b }
+{}
+
+/// The last entry of an identity alone tells whether the identity is known, whatever was entered before it.
+pub fn the_last_entry_tells()
+    ensures { (content : List MemoryEntry) (identity : Identity) (moment : ℕ) → IsContent content →
+        is_known identity moment content ≡ is_recent_moment moment (last_moment identity content) }
 {}

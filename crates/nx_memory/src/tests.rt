@@ -123,4 +123,6 @@ fn laws_can_be_called() {
     laws::known_is_live();
     laws::last_of_goes_on();
     laws::entries_stand_in_turn();
+    laws::identities_have_places_of_their_own();
+    laws::the_last_entry_tells();
 }
