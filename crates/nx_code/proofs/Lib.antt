@@ -1,5 +1,7 @@
 pub mod CharacterLemmas
+mod Examples
 pub mod ReadingLemmas
+mod SilentCombinations
 mod SpellingLaws
 pub mod SpellingLemmas
 pub mod TableLemmas
