@@ -1,5 +1,6 @@
 pub mod CharacterLemmas
 mod Examples
+mod PlaceLemmas
 pub mod ReadingLemmas
 mod SilentCombinations
 mod SpellingLaws
