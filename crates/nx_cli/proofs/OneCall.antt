@@ -11,14 +11,14 @@ use Rattle.clap.specs.ValueTests.{accepts}
 use Rattle.clap.specs.declared.builder.value_parser.ValueParser.{ValueParser}
 use Rattle.clap.specs.declared.builder.value_parser.ValueParser.TheVariants as parser
 use Rattle.clap.proofs.ValueTestLemmas.{Accepts-accepts, accepts-Accepts}
-use Rattle.nx_envelope.specs.Letter.{IsLetter}
+use Rattle.nx_code.specs.Characters.{IsCapital}
 use Rattle.nx_envelope.specs.declared.letter.Letter.{Letter}
 use Rattle.nx_cli.specs.declared.words.Call.{Call}
 use Rattle.nx_cli.specs.declared.words.Call.TheVariants.{Code, Decode, Encode, Send, Slots}
 use Rattle.nx_cli.specs.Words.{HasArguments, IsMoment, IsStation, word_of}
 
 same_letter : (a b : Letter) → a.byte ≡ b.byte → a ≡ b
-same_letter a b e = λ i. record { byte = e i; in_range = is_prop→PathP (λ j. IsLetter (e j)) (λ j. ×_prop le_prop le_prop) a.in_range b.in_range i }
+same_letter a b e = λ i. record { byte = e i; in_range = is_prop→PathP (λ j. IsCapital (e j)) (λ j. ×_prop le_prop le_prop) a.in_range b.in_range i }
 
 station_once : (rows : List Row) (a b : Letter) → IsStation rows a → IsStation rows b → a ≡ b
 station_once rows a b first second =

@@ -1,5 +1,5 @@
 -- What the outcome of a run says of its words.
-use Rattle.std.proofs.Common.{◌≡◌, ◌⊎◌, ℕ, List, Result, Ok, Err, Option, IsErrAnd, ap, ap₂, inl, inr, refl, subst, sym, ◌∙◌, arith}
+use Rattle.std.proofs.Common.{◌≡◌, ◌⊎◌, ℕ, List, Result, Ok, Err, Option, ap, ap₂, inl, inr, refl, subst, sym, ◌∙◌, arith}
 use Rattle.clap.specs.Words.{Text}
 use Rattle.nx_cli.specs.declared.fault.CallFault.{CallFault}
 use Rattle.nx_cli.specs.declared.fault.CallFault.TheVariants as call
@@ -132,7 +132,10 @@ success-named words d call named success = elim success [
 pub tells-ok : {N F : Type 0} (name : F → CallFault) (answers : Result N F → Type 0) (answer : N) → answers (Ok answer) → Tells name answers (Ok tt)
 tells-ok name answers answer answered = record { own = Ok answer; answered = answered; told = refl }
 
-pub tells-err : {N F : Type 0} (name : F → CallFault) (answers : Result N F → Type 0) (outcome : Result (Unit {0}) CallFault) (why : F) → answers (Err why)
-    → IsErrAnd outcome (λ fault. fault ≡ name why) → Tells name answers outcome
-tells-err name answers (Ok done) why answered is = absurd is
-tells-err name answers (Err fault) why answered is = record { own = Err why; answered = answered; told = ap (λ (f : CallFault). Err f) is }
+pub tells-err : {N F : Type 0} (name : F → CallFault) (answers : Result N F → Type 0) (outcome : Result (Unit {0}) CallFault) (why : F) (fault : CallFault) → answers (Err why)
+    → outcome ≡ Err fault → fault ≡ name why → Tells name answers outcome
+tells-err name answers outcome why fault answered is named = record {
+  own = Err why;
+  answered = answered;
+  told = is ∙ ap (λ (f : CallFault). Err f) named;
+}

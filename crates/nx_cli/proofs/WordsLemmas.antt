@@ -20,6 +20,7 @@ use Rattle.nx_cli.specs.declared.words.Call.{Call}
 use Rattle.nx_cli.specs.declared.words.WordsFault.{WordsFault}
 use Rattle.nx_cli.specs.declared.words.WordsFault.TheVariants.{Help, Refused, Station, Memory}
 use Rattle.nx_cli.specs.Words.{AsksForHelp, Explains, HasArguments, IsRefused, LacksStation, Names, Sorts, navtex, word_of}
+use Rattle.nx_cli.proofs.EachFound.{Each, found_is}
 use Rattle.nx_cli.proofs.OneCall.{call_or_none, same_call}
 use Rattle.nx_cli.proofs.FaultKinds.{HasNoHelp, IsUniform, kinds_cases, level-nil, u-level, u-none, u-option, uniform_excludes}
 
@@ -30,19 +31,6 @@ navtex-is_simple = refl
 pub navtex-is_simple_and_free : is_simple_and_free navtex ≡ true
 unfolding clap_on_literals
 navtex-is_simple_and_free = refl
-
--- what holds of each element, by recursion
-abbrev Each : {X : Type 0} → (X → Type 0) → List X → Type 0
-Each P [] = Unit {0}
-Each P (x ∷ xs) = P x × Each P xs
-
-found_is : {X : Type 0} (P : X → Type 0) (test : X → Bool) (xs : List X) → Each P xs → IfSome (find test xs) P
-found_is P test [] each = tt
-found_is {X} P test (x ∷ xs) each =
-    elim (test x) as (λ b. IfSome (cond {A = Option X} b (Some x) (find test xs)) P) [
-      | true ↦ each.0
-      | false ↦ found_is P test xs each.1
-    ]
 
 pub explained : (words : List Text) (error : Error) (fault : WordsFault) → HasKind (fault_of navtex words) error → Sorts error fault → Explains words fault
 explained words error (Help answer) kinds sorts = elim kinds [

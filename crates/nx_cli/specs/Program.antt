@@ -7,7 +7,7 @@ use Rattle.nx_envelope.specs.Moment.{IsShownAs}
 use Rattle.std.specs.Fmt.{decimal}
 use Rattle.nx_fec.specs.Devices.{CountedDevice, WroteSome}
 use Rattle.nx_fec.specs.Runs.{Decodes, Encodes}
-use Rattle.nx_station.specs.Sending.{Sends, table_text}
+use Rattle.nx_station.specs.Runs.{Sends, table_text}
 use Rattle.nx_fec.specs.Transfers.{Devices, devices}
 use Rattle.nx_fec.specs.declared.fault.RunFault.{RunFault}
 use Rattle.nx_fec.specs.declared.fault.RunFault.TheVariants as run
@@ -75,7 +75,7 @@ Performs Decode d outcome = Tells (λ why. call.Run why) (Decodes d) outcome
 Performs Encode d outcome = Tells (λ why. call.Run why) (Encodes d) outcome
 Performs Code d outcome =
     IsUnread d × Tells (λ why. call.Run why) (WritesText (λ text. text ≡ table_text) d.contents d.writer d.writer_after) outcome
-Performs (Send station moment) d outcome = Tells (λ why. call.Send why) (Sends station.byte moment d) outcome
+Performs (Send station moment) d outcome = Tells (λ why. call.Send why) (Sends d station.byte moment) outcome
 Performs (Slots station moment) d outcome =
     IsUnread d × ShowsSlot station.byte moment d.contents d.writer d.writer_after outcome
 

@@ -7,7 +7,7 @@ ghost use Rattle.nx_cli.specs.Status.{IsStatus};
 ghost use Rattle.nx_cli.specs.Words.{IsRefused, Names};
 ghost use Rattle.nx_fec.specs.Devices.{CountedDevice};
 ghost use Rattle.nx_fec.specs.Transfers.{devices};
-ghost use Rattle.nx_station.specs.Sending.{table_text};
+ghost use Rattle.nx_station.specs.Runs.{table_text};
 ghost use Rattle.nx_cli.specs.declared.words.Call.{Call};
 
 use crate::fault::{CallFault, Fault};

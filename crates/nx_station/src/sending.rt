@@ -3,7 +3,7 @@ ghost use Rattle.std.specs.Prelude.{◌≡◌, ◌≤◌, ◌↔◌, IfErr, OnOk
 ghost use Rattle.std.specs.Io.KnownBytes.{Appends};
 ghost use Rattle.nx_fec.specs.Devices.{WroteSome};
 ghost use Rattle.nx_fec.specs.Transfers.{devices};
-ghost use Rattle.nx_station.specs.Sending.{Sends, table_text};
+ghost use Rattle.nx_station.specs.Runs.{Sends, table_text};
 use crate::fault::SendRunFault;
 use nx_envelope::Letter;
 use nx_fec::{Counting, WriteFault, write_out};
@@ -28,8 +28,7 @@ pub fn send<R: Read, W: Write>(
 ) -> Result<Sent, SendRunFault>
     requires reader { reader.old.failures ≡ 0 }
     requires writer { writer.old.failures ≡ 0 }
-    ensures { Sends station.byte moment
-        (devices R.remaining W.contents reader.old reader.new writer.old writer.new) result }
+    ensures { Sends (devices R.remaining W.contents reader.old reader.new writer.old writer.new) station.byte moment result }
 {
     Ok(Sent { slot: 0, positions: 0, messages: 0 })
 }

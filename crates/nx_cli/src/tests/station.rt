@@ -36,7 +36,10 @@ fn sends_a_message(rt: HostRuntime) {
     assert_eq!(rt; sent.output.as_slice(), AIR_FILE_OF_X);
     let decoded = run_on(alloc, &["navtex", "decode"], sent.output.as_slice());
     assert_eq!(rt; decoded.status, 0);
-    assert_eq!(rt; decoded.output.as_slice(), b"ZCZC EA01\nTEST\nNNNN\n\n".as_slice());
+    assert_eq!(rt;
+        decoded.output.as_slice(),
+        b"ZCZC EA01\nTEST\nNNNN\n\n".as_slice()
+    );
 }
 
 #[test]
@@ -64,9 +67,15 @@ fn names_each_fault_of_a_message_file(rt: HostRuntime) {
     for (input, line) in [
         (b"".as_slice(), "navtex: no messages\n"),
         (b"TEST\n".as_slice(), "navtex: line 1 is not understood\n"),
-        (b"#A01\nTEST\n".as_slice(), "navtex: message at line 1 is not ended\n"),
+        (
+            b"#A01\nTEST\n".as_slice(),
+            "navtex: message at line 1 is not ended\n",
+        ),
         (b"#A01\nTEST\n;".as_slice(), "navtex: line 3 has no end\n"),
-        (b"#A01\na\n;\n".as_slice(), "navtex: message at line 1: line 1 has no signal at 0\n"),
+        (
+            b"#A01\na\n;\n".as_slice(),
+            "navtex: message at line 1: line 1 has no signal at 0\n",
+        ),
         (
             b"#A01\n;\n#A02\nAB NNNN\n;\n".as_slice(),
             "navtex: message at line 3: line 1 has a reserved word\n",
@@ -83,13 +92,37 @@ fn names_each_fault_of_a_message_file(rt: HostRuntime) {
 fn names_each_fault_of_a_station(rt: HostRuntime) {
     let alloc = rt.alloc();
     for (words, status, line) in [
-        (["navtex", "send", "Y", "1735689600"], 2, "navtex: no slot\n"),
-        (["navtex", "send", "X", "32503679401"], 2, "navtex: no slot\n"),
+        (
+            ["navtex", "send", "Y", "1735689600"],
+            2,
+            "navtex: no slot\n",
+        ),
+        (
+            ["navtex", "send", "X", "32503679401"],
+            2,
+            "navtex: no slot\n",
+        ),
         (["navtex", "slots", "Y", "0"], 2, "navtex: no slot\n"),
-        (["navtex", "slots", "X", "32503679401"], 2, "navtex: no slot\n"),
-        (["navtex", "send", "e", "0"], 64, "navtex: station must be one letter A to Z\n"),
-        (["navtex", "slots", "EA", "0"], 64, "navtex: station must be one letter A to Z\n"),
-        (["navtex", "slots", "", "0"], 64, "navtex: station must be one letter A to Z\n"),
+        (
+            ["navtex", "slots", "X", "32503679401"],
+            2,
+            "navtex: no slot\n",
+        ),
+        (
+            ["navtex", "send", "e", "0"],
+            64,
+            "navtex: station must be one letter A to Z\n",
+        ),
+        (
+            ["navtex", "slots", "EA", "0"],
+            64,
+            "navtex: station must be one letter A to Z\n",
+        ),
+        (
+            ["navtex", "slots", "", "0"],
+            64,
+            "navtex: station must be one letter A to Z\n",
+        ),
     ] {
         let ended = run_on(alloc, &words, MESSAGE_FILE);
         assert_eq!(rt; ended.status, status, "{}", line);
@@ -130,9 +163,27 @@ fn fills_a_slot(rt: HostRuntime) -> Result<(), Fail> {
     let alloc = rt.alloc();
     for (full_lines, letters, end, empty_lines, line) in [
         (58, 0, b"".as_slice(), 35, None),
-        (57, 67, b"1".as_slice(), 36, Some("navtex: 4287 positions are too many for a slot\n")),
-        (58, 0, b"".as_slice(), 36, Some("navtex: message at line 1: text is too long\n")),
-        (0, 70, b"".as_slice(), 0, Some("navtex: message at line 1: line 1 is too long\n")),
+        (
+            57,
+            67,
+            b"1".as_slice(),
+            36,
+            Some("navtex: 4287 positions are too many for a slot\n"),
+        ),
+        (
+            58,
+            0,
+            b"".as_slice(),
+            36,
+            Some("navtex: message at line 1: text is too long\n"),
+        ),
+        (
+            0,
+            70,
+            b"".as_slice(),
+            0,
+            Some("navtex: message at line 1: line 1 is too long\n"),
+        ),
     ] {
         let file = long_file(alloc, full_lines, letters, end, empty_lines)?;
         let ended = run_on(alloc, &SEND, &file);

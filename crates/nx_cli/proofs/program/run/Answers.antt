@@ -17,7 +17,7 @@ returns g c =
       status = status-exits words d c.exit_status.result exits;
       success = λ is. (c.exit_status.new.reader, c.exit_status.new.writer, success-exits words d c.exit_status.result exits is);
       called = λ call named is.
-(c.exit_status.new.reader, c.exit_status.new.writer, success-named words d call named (success-exits words d c.exit_status.result exits is));
+          (c.exit_status.new.reader, c.exit_status.new.writer, success-named words d call named (success-exits words d c.exit_status.result exits is));
       words = λ is. words-exit words d c.exit_status.result exits is;
       refused = λ refused. refused-exits words d c.exit_status.result exits refused;
     }

@@ -4,7 +4,7 @@ use Rattle.nx_fec.specs.Transfers.{Devices}
 use Rattle.nx_station.specs.declared.sending.Sent.{Sent}
 use Rattle.nx_station.specs.declared.fault.SendRunFault.{SendRunFault}
 
-pub record Sends {R W : Type 0} (station moment : ℕ) (d : Devices R W) (outcome : Result Sent SendRunFault) : Type 0 where
+pub record Sends {R W : Type 0} (d : Devices R W) (station moment : ℕ) (outcome : Result Sent SendRunFault) : Type 0 where
   pub done : Unit {0}
 
 abbrev pub table_text : List ℕ
