@@ -1,5 +1,5 @@
 -- Where clap takes the words of a command that wants a moment, a moment stands among its arguments.
-use Rattle.std.proofs.Common.{◌≡◌, ◌∙◌, ◌⊎◌, inl, inr, ℕ, zero, suc, ◌&&◌, ◌||◌, option_map, option_and_then, ap₂, Bool, true, false, not, List, [], ◌∷◌, ◌++◌, Option, Some, None, IfSome, is_some, refl, ap, sym, subst, codes, drop, length, slice_get, encode_utf8, find, fold, cond, if◌then◌else◌}
+use Rattle.std.proofs.Common.{◌≡◌, ◌≤◌, ◌∙◌, ◌⊎◌, inl, inr, ℕ, zero, suc, ◌&&◌, ◌||◌, option_map, option_and_then, ap₂, Bool, true, false, not, List, [], ◌∷◌, ◌++◌, Option, Some, None, IfSome, is_some, refl, ap, sym, subst, codes, drop, length, slice_get, encode_utf8, find, fold, cond, if◌then◌else◌}
 use Rattle.std.specs.Option.{option_map_or}
 use Rattle.std.specs.Str.{bytes_eq, chars}
 use Rattle.clap.specs.Lexer.{long_of, short_of}
@@ -20,7 +20,9 @@ use Rattle.clap.specs.declared.error.kind.ErrorKind.TheVariants as kind
 use Rattle.clap.specs.declared.parser.matches.ValueSource.{ValueSource}
 use Rattle.clap.specs.declared.builder.action.ArgAction.TheVariants.{Set}
 use Rattle.nx_cli.proofs.EachFound.{Each, found_is}
-use Rattle.nx_cli.specs.Words.{moment_rule, navtex, station_rule}
+use Rattle.nx_cli.specs.Words.{IsMoment, moment_rule, navtex, station_rule}
+use Rattle.std.specs.Str.Parse.{digits_value, without_leading_plus}
+use Rattle.clap.proofs.ValueTestLemmas.{accepts-Accepts}
 
 -- numbers from 0 to the last moment
 abbrev moments : ValueParser
@@ -392,3 +394,12 @@ pub taken-command : (words : List Text) (name : Text) (rows : List Row) → faul
 taken-command words name rows taken is =
     let stop = (walk (built navtex).top.rules (names_of (built navtex)) nothing_held (argument_words navtex words)).stopped in
     entered-command stop (or-first _ _ (or-second _ _ taken)) name rows is
+
+-- the moment that is given, which is in its range
+pub moment-given : (rows : List Row) → GivesMoment rows → (moment : ℕ) × IsMoment rows moment × (moment ≤ 32503679999)
+moment-given rows gives =
+    let unsigned = accepts-Accepts false moments gives.text gives.passes in (
+      digits_value 10 (without_leading_plus gives.text),
+      record { text = gives.text; given = gives.given; numeral = unsigned.0; value = refl; fits = unsigned.1 },
+      unsigned.3,
+    )

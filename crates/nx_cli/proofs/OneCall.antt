@@ -25,13 +25,13 @@ station_once rows a b first second =
     let same : Some (a.byte ∷ []) ≡ Some (b.byte ∷ []) = sym first ∙ second in
     same_letter a b (cc)
 
-moment_once : (rows : List Row) (a b : ℕ) → IsMoment rows a → IsMoment rows b → a ≡ b
+pub moment_once : (rows : List Row) (a b : ℕ) → IsMoment rows a → IsMoment rows b → a ≡ b
 moment_once rows a b first second =
     let same : Some first.text ≡ Some second.text = sym first.given ∙ second.given in
     let is : first.text ≡ second.text = cc in
     first.value ∙ (ap (λ (t : Text). digits_value 10 (without_leading_plus t)) is ∙ sym second.value)
 
-differ : (a b : Text) → bytes_eq a b ≡ false → a ≡ b → ⊥
+pub differ : (a b : Text) → bytes_eq a b ≡ false → a ≡ b → ⊥
 differ a b unlike e =
     let yes : bytes_eq a b ≡ true = (bytes_eq-Decides a b).1 e in
     absurd (cc)

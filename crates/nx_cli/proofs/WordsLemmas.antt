@@ -1,6 +1,6 @@
 -- Clap's reading of the program's words: the command tree is one of those that clap's clauses
 -- speak of exactly, and a command that it enters is the command of a call.
-use Rattle.std.proofs.Common.{◌≡◌, ◌≢◌, ◌∙◌, Bool, true, false, List, [], ◌∷◌, Option, Some, None, IsSome, is_some, ◌⊎◌, IfNone, IfSome, IfOk, IfErr, Result, find, if◌then◌else◌, option_map, refl, ap, ap₂, cond, inl, inr, sym, subst, Box, Global}
+use Rattle.std.proofs.Common.{ℕ, codes, ◌≤◌, ◌≡◌, ◌≢◌, ◌∙◌, Bool, true, false, List, [], ◌∷◌, Option, Some, None, IsSome, is_some, ◌⊎◌, IfNone, IfSome, IfOk, IfErr, Result, find, if◌then◌else◌, option_map, refl, ap, ap₂, cond, inl, inr, sym, subst, Box, Global}
 use Rattle.std.specs.Box.{box_value}
 use Rattle.std.specs.Option.{ok_or}
 use Rattle.clap.specs.Words.{HasKind, Kinds, IsAmong, Row, Shape, Text, built, fault_of, is_simple, is_simple_and_free, kind_of, subcommand_of, subcommand_name_of, subcommand_rows, subcommand_rows_of}
@@ -19,9 +19,12 @@ use Rattle.clap.specs.declared.parser.matches.SubCommand.{SubCommand}
 use Rattle.nx_cli.specs.declared.words.Call.{Call}
 use Rattle.nx_cli.specs.declared.words.WordsFault.{WordsFault}
 use Rattle.nx_cli.specs.declared.words.WordsFault.TheVariants.{Help, Refused, Station, Memory}
-use Rattle.nx_cli.specs.Words.{AsksForHelp, Explains, HasArguments, IsRefused, LacksStation, Names, Sorts, navtex, word_of}
+use Rattle.nx_cli.specs.Words.{AsksForHelp, Explains, HasArguments, IsMoment, IsRefused, IsStation, LacksStation, Names, Sorts, navtex, word_of}
 use Rattle.nx_cli.proofs.EachFound.{Each, found_is}
-use Rattle.nx_cli.proofs.OneCall.{call_or_none, same_call}
+use Rattle.nx_cli.proofs.MomentGiven.{moment-given, taken-command}
+use Rattle.nx_cli.proofs.OneCall.{call_or_none, differ, moment_once, same_call}
+use Rattle.nx_envelope.specs.declared.letter.Letter.{Letter}
+use Rattle.nx_cli.specs.declared.words.Call.TheVariants.{Code, Decode, Encode, Send, Slots}
 use Rattle.nx_cli.proofs.FaultKinds.{HasNoHelp, IsUniform, kinds_cases, level-nil, u-level, u-none, u-option, uniform_excludes}
 
 pub navtex-is_simple : is_simple navtex ≡ true
@@ -97,21 +100,75 @@ help_not_refused words help (inr lacks) = none_among (fault_of navtex words) Dis
 pub named_not_help : (words : List Text) (call : Call) → Names words call → AsksForHelp words → ⊥
 named_not_help words call named help = none_among (fault_of navtex words) DisplayHelp named.taken help
 
+-- a call whose word is that of a command that wants a station has one
+has-station : (call : Call) (arguments : List Row) → (word_of call ≡ codes "send") ⊎ (word_of call ≡ codes "slots") → HasArguments call arguments
+    → (letter : Letter) × IsStation arguments letter
+has-station Decode arguments wants given = absurd (elim wants [ inl e ↦ differ _ _ refl e | inr e ↦ differ _ _ refl e ])
+has-station Encode arguments wants given = absurd (elim wants [ inl e ↦ differ _ _ refl e | inr e ↦ differ _ _ refl e ])
+has-station Code arguments wants given = absurd (elim wants [ inl e ↦ differ _ _ refl e | inr e ↦ differ _ _ refl e ])
+has-station (Send station moment) arguments wants given = (station, given.0)
+has-station (Slots station moment) arguments wants given = (station, given.0)
+
+abbrev entry : Text → List Row → Text × List Row
+entry name rows = (name, rows)
+
+named-lacks : (call : Call) (name : Text) (rows other : List Row) → (name ≡ codes "send") ⊎ (name ≡ codes "slots") → Some (entry (word_of call) rows) ≡ Some (entry name other)
+    → HasArguments call rows → ((letter : Letter) → IsStation other letter → ⊥) → ⊥
+named-lacks call name rows other wants same given none =
+    let pair : entry (word_of call) rows ≡ entry name other = cc in
+    let word = ap (λ (p : Text × List Row). p.0) pair in
+    let station = has-station call rows (elim wants [ inl e ↦ inl (word ∙ e) | inr e ↦ inr (word ∙ e) ]) given in
+    let P : List Row → Type 0 = λ r. IsStation r station.0 in
+    none station.0 (subst P (ap (λ (p : Text × List Row). p.1) pair) station.1)
+
 pub named_not_refused : (words : List Text) (call : Call) → Names words call → IsRefused words → ⊥
 named_not_refused words call named (inl refused) = none_among (fault_of navtex words) refused.0 named.taken refused.2
-named_not_refused words call named (inr lacks) = lacks.unnamed call named
+named_not_refused words call named (inr lacks) = elim lacks.entered [
+  | inl send ↦ named-lacks call _ named.arguments lacks.arguments (inl refl) (sym named.command ∙ send) named.given lacks.no_letter
+  | inr slots ↦ named-lacks call _ named.arguments lacks.arguments (inr refl) (sym named.command ∙ slots) named.given lacks.no_letter
+]
 
--- what no call has, the words lack
+-- words with no call, which clap takes, lack a station
 pub lacks_station : (words : List Text) (name : Text) (arguments : List Row) → fault_of navtex words ≡ [] → subcommand_of navtex words ≡ Some (name, arguments)
     → ((call : Call) → name ≡ word_of call → HasArguments call arguments → ⊥) → LacksStation words
-lacks_station words name arguments taken entered none = record {
-  taken = taken;
-  unnamed = λ call named.
-      let same : Some (name, arguments) ≡ Some (word_of call, named.arguments) = sym entered ∙ named.command in
-      let is : (name, arguments) ≡ (word_of call, named.arguments) = cc in
-      let P : List Row → Type 0 = λ rows. HasArguments call rows in
-      none call (ap (λ (q : Text × List Row). q.0) is) (subst P (sym (ap (λ (q : Text × List Row). q.1) is)) named.given);
-}
+lacks_station words name arguments taken entered none = elim (taken-command words name arguments taken entered) [
+  | inl decode ↦ absurd (none Decode decode tt)
+  | inr (inl encode) ↦ absurd (none Encode encode tt)
+  | inr (inr (inl code)) ↦ absurd (none Code code tt)
+  | inr (inr (inr (inl send, gives))) ↦ record {
+    taken = taken;
+    arguments = arguments;
+    entered = inl (entered ∙ ap (λ (t : Text). Some (t, arguments)) send);
+    no_letter = λ letter is.
+        let moment = moment-given arguments gives in none (Send letter moment.0) send (is, moment.1);
+  }
+  | inr (inr (inr (inr slots, gives))) ↦ record {
+    taken = taken;
+    arguments = arguments;
+    entered = inr (entered ∙ ap (λ (t : Text). Some (t, arguments)) slots);
+    no_letter = λ letter is.
+        let moment = moment-given arguments gives in none (Slots letter moment.0) slots (is, moment.1);
+  }
+]
+
+-- the moment of a call of this word is in its range
+moment-bound : (words : List Text) (name : Text) (arguments : List Row) (moment : ℕ) → fault_of navtex words ≡ [] → subcommand_of navtex words ≡ Some (name, arguments)
+    → (name ≡ codes "send") ⊎ (name ≡ codes "slots") → IsMoment arguments moment → moment ≤ 32503679999
+moment-bound words name arguments moment taken entered wants is = elim (taken-command words name arguments taken entered) [
+  | inl decode ↦ absurd (elim wants [ inl e ↦ differ _ _ refl (sym decode ∙ e) | inr e ↦ differ _ _ refl (sym decode ∙ e) ])
+  | inr (inl encode) ↦ absurd (elim wants [ inl e ↦ differ _ _ refl (sym encode ∙ e) | inr e ↦ differ _ _ refl (sym encode ∙ e) ])
+  | inr (inr (inl code)) ↦ absurd (elim wants [ inl e ↦ differ _ _ refl (sym code ∙ e) | inr e ↦ differ _ _ refl (sym code ∙ e) ])
+  | inr (inr (inr command)) ↦
+      let given = moment-given arguments command.1 in
+      let P : ℕ → Type 0 = λ n. n ≤ 32503679999 in
+      subst P (moment_once arguments given.0 moment given.1 is) given.2
+]
+
+pub send-bound : (words : List Text) (station : Letter) (moment : ℕ) → Names words (Send station moment) → moment ≤ 32503679999
+send-bound words station moment named = moment-bound words (codes "send") named.arguments moment named.taken named.command (inl refl) named.given.1
+
+pub slots-bound : (words : List Text) (station : Letter) (moment : ℕ) → Names words (Slots station moment) → moment ≤ 32503679999
+slots-bound words station moment named = moment-bound words (codes "slots") named.arguments moment named.taken named.command (inr refl) named.given.1
 
 -- where clap takes the words, they enter a command
 pub taken_enters : (words : List Text) → fault_of navtex words ≡ [] → is_some (subcommand_of navtex words) ≡ true

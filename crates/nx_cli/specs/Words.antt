@@ -93,10 +93,12 @@ AsksForHelp words = IsAmong DisplayHelp (fault_of navtex words)
 abbrev pub IsRefusedByClap : List Text → Type 0
 IsRefusedByClap words = (kind : ErrorKind) × (kind ≢ DisplayHelp) × IsAmong kind (fault_of navtex words)
 
--- clap takes the words, and they name no call: STATION is not one letter A to Z
+-- clap takes the words, which enter a command that wants a station, and STATION is not one letter A to Z
 pub record LacksStation (words : List Text) : Type 0 where
   pub taken : fault_of navtex words ≡ []
-  pub unnamed : (call : Call) → ¬ Names words call
+  pub arguments : List Row
+  pub entered : (subcommand_of navtex words ≡ Some (codes "send", arguments)) ⊎ (subcommand_of navtex words ≡ Some (codes "slots", arguments))
+  pub no_letter : (letter : Letter) → ¬ IsStation arguments letter
 
 -- the words are refused, by clap or for their station
 abbrev pub IsRefused : List Text → Type 0

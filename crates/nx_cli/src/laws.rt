@@ -1,6 +1,6 @@
 //! Laws over the definitions of the program alone.
 
-ghost use Rattle.std.specs.Prelude.{◌≡◌, ◌⊎◌, List, [], ◌∷◌, codes};
+ghost use Rattle.std.specs.Prelude.{◌≡◌, ◌⊎◌, ◌≤◌, ℕ, List, [], ◌∷◌, codes};
 ghost use Rattle.clap.specs.Words.{Text};
 ghost use Rattle.nx_envelope.specs.declared.letter.Letter.{Letter};
 ghost use Rattle.nx_cli.specs.Words.{AsksForHelp, IsRefused, LacksStation, Names};
@@ -31,6 +31,14 @@ pub fn words_in_examples()
     ensures twice { (program : Text) → IsRefused (program ∷ codes "decode" ∷ codes "decode" ∷ []) }
     ensures option { (program : Text) → IsRefused (program ∷ codes "decode" ∷ codes "--frob" ∷ []) }
     ensures help_command { (program : Text) → IsRefused (program ∷ codes "help" ∷ []) }
+{}
+
+/// The moment that words name is in its range.
+pub fn moments_are_in_range()
+    ensures send { (words : List Text) (station : Letter) (moment : ℕ)
+        → Names words (Send station moment) → moment ≤ 32503679999 }
+    ensures slots { (words : List Text) (station : Letter) (moment : ℕ)
+        → Names words (Slots station moment) → moment ≤ 32503679999 }
 {}
 
 /// What words with a station and a moment are read as, whatever the program's name.

@@ -1,7 +1,7 @@
 //! What the words of the command line are answered with.
 
 use super::{AIR_FILE_OF_A, run_on};
-use crate::laws::{slots_in_examples, words_in_examples, words_read_as_one};
+use crate::laws::{moments_are_in_range, slots_in_examples, words_in_examples, words_read_as_one};
 use crate::program::refuse_words;
 use crate::tests::devices::Sink;
 use std::io::{Error, ErrorKind};
@@ -97,5 +97,6 @@ fn answers_for_words_that_cannot_be_had(rt: HostRuntime) {
 fn states_its_laws() {
     words_read_as_one();
     words_in_examples();
+    moments_are_in_range();
     slots_in_examples();
 }
