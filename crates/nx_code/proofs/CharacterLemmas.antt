@@ -10,7 +10,8 @@ use Rattle.nx_code.specs.declared.shifts.Shift.{Shift}
 use Rattle.nx_code.specs.declared.shifts.Shift.TheVariants.{Letters, Figures}
 use Rattle.nx_code.specs.Table.{table, row_of}
 use Rattle.nx_code.specs.Reading.{character_of}
-use Rattle.nx_code.specs.Characters.{character_in, is_character, is_in_code, characters}
+use Rattle.nx_code.specs.Characters.{is_in_code, characters}
+use Rattle.nx_code.specs.Rows.{character_in}
 use Rattle.nx_code.proofs.TableLemmas.{is_at, Some-is_at, character-TABLE}
 
 -- a test of what is printed, where something is
@@ -20,6 +21,11 @@ if_some test (Some c) = test c
 
 pub if_some-at : (test : ℕ → Bool) (o : Option ℕ) (c : ℕ) → if_some test o ≡ true → o ≡ Some c → test c ≡ true
 if_some-at test o c h e = subst (λ p. if_some test p ≡ true) e h
+
+-- whether this is printed
+abbrev pub is_character : Option ℕ → ℕ → Bool
+is_character None character = false
+is_character (Some other) character = eqb other character
 
 is_character-Some : (o : Option ℕ) (c : ℕ) → is_character o c ≡ true → o ≡ Some c
 is_character-Some None c h = cc
@@ -80,7 +86,7 @@ in_code-places c h =
 
 pub place_for-Some : (shift : Shift) (c at : ℕ) → place_for shift c ≡ Some at → (at < 32) × (character_of (at + 1) shift ≡ Some c)
 place_for-Some shift c at h =
-    let row : Row = record { word = 0; letter = None; figure = None } in
+    let row : Row = record { word = 0; letter = None; figure = None; name = None } in
     let found = position-Some (λ (r : Row). is_character (character_in r shift) c) TABLE at row h in
     let prints : character_of (at + 1) shift ≡ Some c = sym (character-TABLE shift at row found.0) ∙ is_character-Some (character_in (get_or TABLE at row) shift) c found.1 in
     let low = ltb-true (at + 1) 33 (if_some-at (λ d. ltb (at + 1) 33) _ c (printed-low shift (at + 1) (omega (arith, found.0))) prints) in

@@ -1,5 +1,8 @@
 pub mod CharacterLemmas
+mod Examples
+mod PlaceLemmas
 pub mod ReadingLemmas
+mod SilentCombinations
 mod SpellingLaws
 pub mod SpellingLemmas
 pub mod TableLemmas

@@ -1,5 +1,5 @@
 -- Spellings of more characters, and that a text has one spelling.
-use Rattle.std.proofs.Common.{◌≡◌, ◌≢◌, ◌⊎◌, ℕ, ◌<◌, ◌≤◌, Bool, true, false, cond, ◌&&◌, ◌||◌, not, eqb, List, [], ◌∷◌, ◌++◌, length, get_or, map, Some, None, inl, inr, refl, sym, ap, ◌∙◌, subst, arith}
+use Rattle.std.proofs.Common.{◌≡◌, ◌≢◌, ◌⊎◌, ℕ, ◌+◌, ◌<◌, ◌≤◌, Bool, true, false, cond, ◌&&◌, ◌||◌, not, eqb, List, [], ◌∷◌, ◌++◌, length, get_or, map, Some, None, inl, inr, refl, sym, ap, ◌∙◌, subst, arith, length-append}
 use Rattle.std.specs.List.{position, position_or_len}
 use Rattle.std.proofs.lemmas.List.Sums.{fails_before_first}
 use Rattle.std.proofs.lemmas.List.{map-append}
@@ -67,7 +67,7 @@ fits_character shift n c rest low high h begins =
     record {
       from_one = low;
       to_thirty_two = high;
-      not_silent = λ none _. let clash : Some c ≡ None = sym h ∙ none in cc;
+      not_silent = λ s. let clash : Some c ≡ None = sym h ∙ s.prints_nothing in cc;
       carriage_return = (λ e. absurd (plain.return e), λ e. absurd (begins e));
       needed = λ s e. let none : Some s ≡ None = sym e ∙ shift_set-None n plain.letters plain.figures in cc;
     }
@@ -76,7 +76,7 @@ pub fits_return : (shift : Shift) (rest : List ℕ) → Fits shift 27 (28 ∷ re
 fits_return shift rest = record {
   from_one = omega arith;
   to_thirty_two = omega arith;
-  not_silent = λ _ _. refl;
+  not_silent = λ s. s.no_return refl;
   carriage_return = (λ _. refl, λ _. refl);
   needed = λ s e. cc;
 }
@@ -135,14 +135,14 @@ pub fits_shift : (s shift : Shift) (n c : ℕ) (rest : List ℕ) → s ≢ shift
 fits_shift Letters shift n c rest differs h elsewhere line = record {
   from_one = omega arith;
   to_thirty_two = omega arith;
-  not_silent = λ _ e. cc;
+  not_silent = λ s. let clash = s.sets_no_shift in cc;
   carriage_return = (λ e. absurd (omega arith), λ e. let f : n ≡ 28 = cc in absurd (line f));
   needed = λ t e. let f : Letters ≡ t = cc in subst (λ r. (r ≢ shift) × IsOnlyIn r (Some n)) f (differs, (ap is_some h, λ g. elsewhere (g ∙ h)));
 }
 fits_shift Figures shift n c rest differs h elsewhere line = record {
   from_one = omega arith;
   to_thirty_two = omega arith;
-  not_silent = λ _ e. cc;
+  not_silent = λ s. let clash = s.sets_no_shift in cc;
   carriage_return = (λ e. absurd (omega arith), λ e. let f : n ≡ 28 = cc in absurd (line f));
   needed = λ t e. let f : Figures ≡ t = cc in subst (λ r. (r ≢ shift) × IsOnlyIn r (Some n)) f (differs, (ap is_some h, λ g. elsewhere (g ∙ h)));
 }
@@ -282,3 +282,23 @@ position-None p xs k d h lt =
           cc
       | inr above ↦ fails_before_first p xs k d (omega arith)
     ]
+
+-- how long the spelling of these bytes is, and the shift in force after it
+pub record Extends (bytes : List ℕ) (from : Shift) (count : ℕ) (shift : Shift) : Type 0 where
+  pub numbers : List ℕ
+  pub spells : Spells bytes from numbers
+  pub long : count ≡ length numbers
+  pub after : shift ≡ shift_after_all (map combination numbers) from
+
+pub Extends-nil : (from : Shift) → Extends [] from 0 from
+Extends-nil from = record { numbers = []; spells = Spells-nil from; long = refl; after = refl }
+
+-- one more character
+pub Extends-push : (bytes : List ℕ) (c : ℕ) (from shift after : Shift) (count : ℕ) (ys : List ℕ) → Extends bytes from count shift → Spells (c ∷ []) shift ys → after ≡ shift_after_all (map combination ys) shift
+    → Extends (bytes ++ c ∷ []) from (count + length ys) after
+Extends-push bytes c from shift after count ys h k e = record {
+  numbers = h.numbers ++ ys;
+  spells = Spells-push bytes c from shift h.numbers ys (h.numbers ++ ys) h.spells h.after k refl;
+  long = ap (λ n. n + length ys) h.long ∙ sym (length-append h.numbers ys);
+  after = shift-push from shift after h.numbers ys (h.numbers ++ ys) h.after e refl;
+}

@@ -6,5 +6,6 @@ pub mod Phasing
 pub mod Reading
 pub mod Taken
 pub mod Characters
+pub mod Rows
 pub mod Spelling
 pub mod Shifts

@@ -4,18 +4,13 @@ use Rattle.std.specs.Prelude.{◌≡◌, ◌⊎◌, ℕ, ◌==◌, if◌then◌e
 use Rattle.std.specs.Option.{option_and_then, option_to_list}
 use Rattle.nx_code.specs.declared.shifts.Shift.{Shift}
 use Rattle.nx_code.specs.declared.shifts.Shift.TheVariants.{Letters, Figures}
-use Rattle.nx_code.specs.Table.{Row, row_of}
+use Rattle.nx_code.specs.Table.{cell, row_of}
 
 -- a position that was taken: a traffic combination by its number, an idle signal, or one that is lost
 pub data Reception : Type 0 where
   combination : ℕ → Reception
   idle : Reception
   lost : Reception
-
--- what stands in the column of a shift
-abbrev pub cell : Shift → Row → List ℕ
-cell Letters row = row.letter
-cell Figures row = row.figure
 
 -- the character that a cell holds; an empty cell has none, and a name is none
 abbrev pub character_of_cell : List ℕ → Option ℕ

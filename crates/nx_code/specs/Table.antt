@@ -1,6 +1,8 @@
 -- The table of the signals (ITU-R M.476 and M.625; the numbering of the words is this project's own).
 use Rattle.std.specs.Prelude.{ℕ, zero, suc, ◌==◌, List, [], ◌∷◌, Option, None, codes, map, position, slice_get, take}
 use Rattle.std.specs.Option.{option_map_or}
+use Rattle.nx_code.specs.declared.shifts.Shift.{Shift}
+use Rattle.nx_code.specs.declared.shifts.Shift.TheVariants.{Letters, Figures}
 
 -- A row: the number of the word, and what stands in the columns Letter and Figure. One character stands for
 -- itself, and a longer text is the name of a signal. An empty figure prints nothing.
@@ -52,6 +54,11 @@ table =
     ∷ row 0x33 (codes "BETA") (codes "BETA")
     ∷ row 0x66 (codes "P2") (codes "P2")
     ∷ []
+
+-- what stands in the column of a shift
+abbrev pub cell : Shift → Row → List ℕ
+cell Letters row = row.letter
+cell Figures row = row.figure
 
 -- the numbers of the 35 words, in the order of the table
 unfoldable pub words : List ℕ

@@ -6,7 +6,8 @@ ghost use Rattle.nx_code.specs.Reading.{Reception, combination, character_of, by
 ghost use Rattle.nx_code.specs.Taken.{reception_of};
 ghost use Rattle.nx_code.specs.declared.shifts.Shift.TheVariants.{Letters};
 
-use crate::shifts::{Shift, code_to_char};
+use crate::characters::code_to_char;
+use crate::shifts::Shift;
 use crate::signals::{Comb, FIGURE_SHIFT, LETTER_SHIFT};
 use std::marker::Model;
 
@@ -38,8 +39,8 @@ impl Model for Printer {
     ghost inverse = { λ shift. record { shift = shift } };
 }
 
-/// What a lost position prints.
-const LOST: u8 = b'*';
+/// The asterisk, which a lost position prints (this profile).
+pub const ASTERISK: u8 = b'*';
 
 impl Printer {
     /// A reader that has read nothing.
@@ -64,7 +65,7 @@ impl Printer {
         match taken {
             Taken::Char(comb) => self.print(comb),
             Taken::Idle => None,
-            Taken::Lost => Some(LOST),
+            Taken::Lost => Some(ASTERISK),
         }
     }
 
