@@ -152,7 +152,8 @@ impl Finder {
             return TextEvent::Nothing;
         }
         if let Some(how) = marker_of(self.recent) {
-            self.text.truncate(self.text.len().saturating_sub(MARKER_LEN - 1));
+            self.text
+                .truncate(self.text.len().saturating_sub(MARKER_LEN - 1));
             self.copy = HeldCopy::Ready(identity, how);
             return TextEvent::CopyOver;
         }
