@@ -1,6 +1,9 @@
 pub mod CharacterLemmas
+mod Examples
+mod PlaceLemmas
 pub mod ReadingLemmas
+mod SilentCombinations
 mod SpellingLaws
 pub mod SpellingLemmas
-mod TableLemmas
+pub mod TableLemmas
 pub mod WordLemmas

@@ -1,6 +1,7 @@
 -- The lines of an air file (this profile): what they say, and how they are spelled.
 use Rattle.std.specs.Prelude.{ℕ, ◌^◌, ◌<◌, ◌≤◌, Bool, true, false, List, [], ◌∷◌, ◌++◌, length, map, codes}
 use Rattle.std.specs.Fmt.{decimal}
+use Rattle.nx_code.specs.Characters.{IsCapital}
 use Rattle.nx_fec.specs.declared.air_file.AirLine.{AirLine}
 use Rattle.nx_fec.specs.declared.air_file.AirLine.TheVariants.{Moment, Bits, RefuseStation, AcceptStation, RefuseSubject, AcceptSubject}
 
@@ -27,10 +28,6 @@ spelling (accept_station letter) = codes "AS " ++ letter ∷ []
 spelling (refuse_subject letter) = codes "RJ " ++ letter ∷ []
 spelling (accept_subject letter) = codes "AJ " ++ letter ∷ []
 
--- a letter is one of A to Z
-abbrev pub IsCapital : ℕ → Type 0
-IsCapital byte = (65 ≤ byte) × (byte ≤ 90)
-
 -- a moment has at most 11 digits, a line of elements has 1 to 512, and a letter is one of A to Z
 abbrev pub IsLine : Line → Type 0
 IsLine (moment n) = n < 10 ^ 11
@@ -41,10 +38,10 @@ IsLine (refuse_subject letter) = IsCapital letter
 IsLine (accept_subject letter) = IsCapital letter
 
 -- what a line of the code says
-abbrev pub meaning : AirLine → Line
-meaning (Moment n) = moment n
-meaning (Bits bits) = elements bits.items
-meaning (RefuseStation letter) = refuse_station letter
-meaning (AcceptStation letter) = accept_station letter
-meaning (RefuseSubject letter) = refuse_subject letter
-meaning (AcceptSubject letter) = accept_subject letter
+abbrev pub line_of : AirLine → Line
+line_of (Moment n) = moment n
+line_of (Bits bits) = elements bits.items
+line_of (RefuseStation letter) = refuse_station letter
+line_of (AcceptStation letter) = accept_station letter
+line_of (RefuseSubject letter) = refuse_subject letter
+line_of (AcceptSubject letter) = accept_subject letter

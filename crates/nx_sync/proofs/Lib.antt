@@ -1,7 +1,10 @@
 pub mod Lists
+pub mod Numbers
 pub mod More
 pub mod OneBit
 pub mod Patterns
+pub mod Hearing
+pub mod Lanes
 pub mod Marks
 pub mod Unique
 pub mod Pushes
@@ -9,3 +12,6 @@ pub mod Going
 pub mod Releases
 pub mod Phasing
 pub mod Counts
+pub mod WordLists
+pub mod Hunting
+pub mod WholeWords
