@@ -2,7 +2,9 @@
 use Rattle.std.proofs.Common.{◌≡◌, ℕ, ◌+◌, ◌-◌, ◌*◌, ◌<◌, ◌≤◌, Bool, List, [], ◌∷◌, take, drop, cond, ◌==◌, refl, sym, ap, ◌∙◌, subst, arith, length}
 use Rattle.std.proofs.lemmas.List.{drop-take, drop-drop, take-take}
 use Rattle.nx_code.specs.Word.{number_of}
-use Rattle.nx_sync.specs.Locks.{Lock, IsLocked, Past, word_at, first_role, phasing_1}
+use Rattle.nx_code.specs.Phasing.{phasing_1}
+use Rattle.nx_sync.specs.Words.{word_at, first_role}
+use Rattle.nx_sync.specs.Locks.{Lock, IsLocked, Past}
 use Rattle.nx_sync.specs.declared.step.Role.TheVariants.{Dx, Rx}
 use Rattle.nx_receiver.specs.LockText.{lock_text, text_by}
 use Rattle.nx_receiver.specs.LawTerms.{own_bits}

@@ -9,7 +9,7 @@ use Rattle.nx_envelope.specs.Copies.{Header, Copy, Ending, headers, ended_copies
 use Rattle.nx_envelope.specs.Laws.{Grows, StandsIn}
 use Rattle.nx_envelope.proofs.Anywhere.{anywhere_both}
 use Rattle.nx_envelope.proofs.Parts.{grown, copies_parts, one_at_most}
-use Rattle.nx_sync.specs.Locks.{role_of, is_dx}
+use Rattle.nx_sync.specs.Words.{role_of, is_dx}
 use Rattle.nx_sync.specs.declared.step.Role.{Role}
 use Rattle.nx_receiver.specs.LockText.{taken_at, positions, PlacedByte, printed_after, place_of, printed_by, text_by, bytes_of}
 use Rattle.nx_receiver.specs.FoundCopies.{FoundCopy, place_in, place_of_header, found_copy, ended_in, open_in, all_in}

@@ -4,12 +4,14 @@ use Rattle.std.specs.List.{All}
 use Rattle.std.proofs.lemmas.List.{map-append, length-append, get_or_append_left}
 use Rattle.std.proofs.lemmas.List.Elements.{All-nil, All-cons, All-head, All-tail, All-append, All-weaker}
 use Rattle.std.proofs.lemmas.Bool.{cases_lt}
-use Rattle.nx_sync.specs.Locks.{Lock, Now, hunting, locked, IsNow, Past, IsPast, IsPattern, Finds, Extends, same, newer, GoesOn, hunts_on, finds_one, stands_still, found_and_past, is_past, first_role, word_at}
+use Rattle.nx_sync.specs.Words.{whole_words, first_role, word_at}
+use Rattle.nx_sync.specs.Locks.{Lock, Now, hunting, locked, IsNow, Past, IsPast, IsPattern, Finds}
+use Rattle.nx_sync.specs.Laws.{Extends, same, newer, GoesOn, hunts_on, finds_one, stands_still, found_and_past, is_past}
 use Rattle.nx_sync.proofs.Going.{goes-on, standing_after, Extends-trans}
 use Rattle.nx_sync.proofs.More.{release-more, Past-within}
 use Rattle.nx_envelope.specs.Copies.{ended_copies, open_headers, headers, beginnings, header_at_end}
 use Rattle.nx_envelope.specs.Header.{header_back}
-use Rattle.nx_receiver.specs.LockText.{PlacedByte, bytes_of, lock_text, whole_words}
+use Rattle.nx_receiver.specs.LockText.{PlacedByte, bytes_of, lock_text}
 use Rattle.nx_receiver.specs.FoundCopies.{FoundCopy, ended_in, open_in, all_in, past_text, past_copies, standing_text, ended_so_far, open_so_far, found_to_end}
 use Rattle.nx_receiver.proofs.LockTexts.{GoesOnAs, goes_on_as_is, goes_on_twice, goes_on_then, goes_on_behind, lock_text-more, text_by-grows}
 use Rattle.nx_receiver.proofs.FoundLemmas.{IsCopyIn, text_placed, ended_in_placed, all_in_placed, all_in-parts, ended_in-grows}

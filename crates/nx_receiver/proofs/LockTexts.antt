@@ -3,27 +3,28 @@ use Rattle.std.proofs.Common.{◌≡◌, ℕ, zero, suc, ◌+◌, ◌-◌, ◌*�
 use Rattle.std.specs.Option.{option_to_list, option_map}
 use Rattle.std.proofs.lemmas.List.{map-append, length-append, length-map}
 use Rattle.std.proofs.lemmas.Bool.{cases_Bool, cases_lt, ltb-false}
-use Rattle.nx_code.specs.Reading.{Reception, prints, text, shift_after_all}
+use Rattle.nx_code.specs.Reading.{Reception, byte_of, text, shift_after_all}
 use Rattle.nx_code.specs.declared.shifts.Shift.TheVariants.{Letters}
 use Rattle.nx_code.proofs.ReadingLemmas.{text-append}
-use Rattle.nx_fec.specs.Pairing.{counted, pairing, nothing}
-use Rattle.nx_sync.specs.Locks.{word_at, first_role, role_of, is_dx, IsPattern}
+use Rattle.nx_fec.specs.Pairing.{counts_as, pairing, nothing}
+use Rattle.nx_sync.specs.Words.{whole_words, word_at, first_role, role_of, is_dx}
+use Rattle.nx_sync.specs.Locks.{IsPattern}
 use Rattle.nx_sync.specs.declared.step.Role.{Role}
 use Rattle.nx_sync.proofs.More.{word_at-more, first_role-more}
-use Rattle.nx_receiver.specs.LockText.{five_before, taken_at, positions, PlacedByte, printed_after, place_of, printed_by, text_by, lock_text, whole_words, bytes_of}
+use Rattle.nx_receiver.specs.LockText.{five_before, taken_at, positions, PlacedByte, printed_after, place_of, printed_by, text_by, lock_text, bytes_of}
 
 -- words that are the same up to a word give the same text up to there
 five_before-same : (f g : ℕ → ℕ) (k : ℕ) → ((j : ℕ) → j < k → f j ≡ g j) → five_before f k ≡ five_before g k
 five_before-same f g k same =
     elim (cases_lt k 5) [
       | inl early ↦ cc (lt-ltb k 5 early)
-      | inr late ↦ ap (λ w. cond (ltb k 5) nothing (counted w)) (same (k - 5) (omega arith))
+      | inr late ↦ ap (λ w. cond (ltb k 5) nothing (counts_as w)) (same (k - 5) (omega arith))
     ]
 
 taken_at-same : (first : Role) (f g : ℕ → ℕ) (k : ℕ) → ((j : ℕ) → j < k + 1 → f j ≡ g j) → taken_at first f k ≡ taken_at first g k
 unfolding taken_at
 taken_at-same first f g k same =
-    ap (λ p. cond (is_dx (role_of first k)) [] (p ∷ [])) (ap (λ c. pairing c (counted (f k))) (five_before-same f g k (λ j h. same j (omega arith))) ∙ ap (λ w. pairing (five_before g k) (counted w)) (same k (omega arith)))
+    ap (λ p. cond (is_dx (role_of first k)) [] (p ∷ [])) (ap (λ c. pairing c (counts_as (f k))) (five_before-same f g k (λ j h. same j (omega arith))) ∙ ap (λ w. pairing (five_before g k) (counts_as w)) (same k (omega arith)))
 
 positions-same : (first : Role) (f g : ℕ → ℕ) (n : ℕ) → ((j : ℕ) → j < n → f j ≡ g j) → positions first f n ≡ positions first g n
 unfolding positions
@@ -91,7 +92,7 @@ printed-is_text before (p ∷ q ∷ more) h = absurd (omega arith)
 
 one_taken : (first : Role) (f : ℕ → ℕ) (k : ℕ) → length (taken_at first f k) ≤ 1
 unfolding taken_at
-one_taken first f k = elim (is_dx (role_of first k)) as (λ b. length (cond b [] (pairing (five_before f k) (counted (f k)) ∷ [])) ≤ 1) [ | true ↦ omega arith | false ↦ omega arith ]
+one_taken first f k = elim (is_dx (role_of first k)) as (λ b. length (cond b [] (pairing (five_before f k) (counts_as (f k)) ∷ [])) ≤ 1) [ | true ↦ omega arith | false ↦ omega arith ]
 
 pub bytes_are_reading : (first : Role) (f : ℕ → ℕ) (t n : ℕ) → bytes_of (text_by first f t n) ≡ text (positions first f n) Letters
 unfolding text_by positions printed_by bytes_of

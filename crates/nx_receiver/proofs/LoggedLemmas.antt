@@ -8,7 +8,8 @@ use Rattle.nx_sync.specs.Locks.{Lock, Now, hunting, locked, IsNow, Past}
 use Rattle.nx_sync.proofs.Going.{standing_after}
 use Rattle.nx_sync.proofs.Unique.{locks-unique, now-unique}
 use Rattle.nx_receiver.specs.Events.{Event, at_moment, element, command, Setting, Start, setting_after, bit_in, bits_of, setting_at_bit, settings, setting_after_all, setting_at, first_setting}
-use Rattle.nx_receiver.specs.LockText.{lock_text, whole_words}
+use Rattle.nx_sync.specs.Words.{whole_words}
+use Rattle.nx_receiver.specs.LockText.{lock_text}
 use Rattle.nx_receiver.specs.FoundCopies.{FoundCopy, ended_in, open_in, all_in, past_text, past_copies, standing_text, ended_so_far, open_so_far, found_to_end}
 use Rattle.nx_receiver.specs.Tagged.{TaggedCopy, tag, tagged}
 use Rattle.nx_receiver.specs.Printing.{printed, entries_after, entries_made, entry_made, if_printed}

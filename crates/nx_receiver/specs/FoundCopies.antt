@@ -7,7 +7,8 @@ use Rattle.nx_envelope.specs.Copies.{Header, Copy, ended_copies, open_headers, c
 use Rattle.nx_envelope.specs.declared.found.How.{How}
 use Rattle.nx_envelope.specs.declared.identity.Identity.{Identity}
 use Rattle.nx_sync.specs.Locks.{Lock, Now, hunting, locked}
-use Rattle.nx_receiver.specs.LockText.{PlacedByte, bytes_of, lock_text, whole_words}
+use Rattle.nx_sync.specs.Words.{whole_words}
+use Rattle.nx_receiver.specs.LockText.{PlacedByte, bytes_of, lock_text}
 
 -- a copy that is found: its identity, how it ended, its text, and its place, which is that of its second digit
 pub record FoundCopy : Type 0 where

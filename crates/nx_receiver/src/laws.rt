@@ -5,7 +5,8 @@ ghost use Rattle.std.specs.Prelude.{◌≡◌, ℕ, ◌+◌, ◌*◌, ◌<◌, �
 ghost use Rattle.nx_code.specs.Reading.{text};
 ghost use Rattle.nx_code.specs.declared.shifts.Shift.TheVariants.{Letters};
 ghost use Rattle.nx_envelope.specs.declared.identity.Identity.{Identity};
-ghost use Rattle.nx_sync.specs.Locks.{Lock, Now, IsLocked, IsNow, Past, word_at, first_role};
+ghost use Rattle.nx_sync.specs.Words.{word_at, first_role};
+ghost use Rattle.nx_sync.specs.Locks.{Lock, Now, IsLocked, IsNow, Past};
 ghost use Rattle.nx_receiver.specs.Events.{Event, Start, bits_of};
 ghost use Rattle.nx_receiver.specs.FoundCopies.{FoundCopy, ended_so_far, open_so_far, found_to_end};
 ghost use Rattle.nx_receiver.specs.LawTerms.{AreRepeats, copies_of, own_bits};

@@ -1,4 +1,4 @@
-use Rattle.nx_sync.specs.Locks.{word_at, first_role}
+use Rattle.nx_sync.specs.Words.{word_at, first_role}
 use Rattle.nx_receiver.proofs.LockTexts.{bytes_are_reading}
 use Rattle.nx_receiver.proofs.laws.a_text_is_read_of_positions.Goals as goal
 

@@ -1,4 +1,4 @@
-use Rattle.nx_sync.specs.Locks.{word_at, first_role}
+use Rattle.nx_sync.specs.Words.{word_at, first_role}
 use Rattle.nx_receiver.proofs.ApartLemmas.{own_text, apart, apart_now}
 use Rattle.nx_receiver.proofs.FoundLemmas.{text_placed}
 use Rattle.nx_receiver.proofs.laws.locks_share_nothing.Goals as goal
