@@ -5,8 +5,10 @@ use Rattle.std.specs.Option.{option_map}
 use Rattle.std.proofs.lemmas.List.{get_or_append_left, map-append, length-append, length-map, length-take}
 use Rattle.std.proofs.lemmas.List.Elements.{All-nil, All-cons, All-head, All-tail, All-append, All-map, All-weaker, All-get_or, All-filter, All-contains_itself}
 use Rattle.std.proofs.lemmas.Option.{slice_get-get_or}
-use Rattle.nx_envelope.specs.Copies.{Header, Copy, Ending, headers, ended_copies, ended_copy, open_headers, is_open, closed_copy, copies, copy_with, ending_of, raw_text}
-use Rattle.nx_envelope.specs.Laws.{Grows, StandsIn}
+use Rattle.nx_envelope.specs.Header.{Header}
+use Rattle.nx_envelope.specs.Copies.{Copy, Ending, headers, ended_copies, ended_copy, open_headers, is_open, closed_copy, copies, copy_with, ending_of, raw_text}
+use Rattle.nx_envelope.specs.Header.{StandsIn}
+use Rattle.nx_envelope.specs.Laws.{Grows}
 use Rattle.nx_envelope.proofs.Anywhere.{anywhere_both}
 use Rattle.nx_envelope.proofs.Parts.{grown, copies_parts, one_at_most}
 use Rattle.nx_sync.specs.Words.{role_of, is_dx}

@@ -10,7 +10,7 @@ use Rattle.nx_sync.specs.Laws.{Extends, same, newer, GoesOn, hunts_on, finds_one
 use Rattle.nx_sync.proofs.Going.{goes-on, standing_after, Extends-trans}
 use Rattle.nx_sync.proofs.More.{release-more, Past-within}
 use Rattle.nx_envelope.specs.Copies.{ended_copies, open_headers, headers, beginnings, header_at_end}
-use Rattle.nx_envelope.specs.Header.{header_back}
+use Rattle.nx_envelope.specs.Backward.{header_back}
 use Rattle.nx_receiver.specs.LockText.{PlacedByte, bytes_of, lock_text}
 use Rattle.nx_receiver.specs.FoundCopies.{FoundCopy, ended_in, open_in, all_in, past_text, past_copies, standing_text, ended_so_far, open_so_far, found_to_end}
 use Rattle.nx_receiver.proofs.LockTexts.{GoesOnAs, goes_on_as_is, goes_on_twice, goes_on_then, goes_on_behind, lock_text-more, text_by-grows}

@@ -6,7 +6,8 @@ use Rattle.std.proofs.lemmas.List.{drop-append-le, length-append}
 use Rattle.std.proofs.lemmas.Grind.{common_steps}
 use Rattle.nx_envelope.specs.declared.identity.Identity.{Identity}
 use Rattle.nx_memory.specs.declared.entry.MemoryEntry.{MemoryEntry}
-use Rattle.nx_memory.specs.Memory.{last_of, most_entries, is_known, content_after, newest_of, newest_moment}
+use Rattle.nx_code.specs.Lists.{last_of}
+use Rattle.nx_memory.specs.Memory.{most_entries, is_known, content_after, newest_of, newest_moment}
 use Rattle.nx_receiver.specs.Printing.{is_printed, is_entered, is_good, is_number_00, is_remembered, entry_of, entry_made}
 use Rattle.nx_receiver.specs.Tagged.{TaggedCopy}
 

@@ -8,8 +8,10 @@ use Rattle.nx_envelope.specs.declared.identity.Identity.{Identity}
 use Rattle.nx_envelope.specs.Identity.{same_identity}
 use Rattle.nx_memory.specs.declared.entry.MemoryEntry.{MemoryEntry}
 use Rattle.nx_memory.specs.Live.{IsLive}
-use Rattle.nx_memory.specs.Memory.{is_known, is_recent, last_of, most_entries, seconds_known}
-use Rattle.nx_memory.proofs.Known.{known_from_live, live_from_known, same_identity-true}
+use Rattle.nx_code.specs.Lists.{last_of}
+use Rattle.nx_memory.specs.Memory.{is_known, is_recent, most_entries, seconds_known}
+use Rattle.nx_envelope.proofs.Identities.{same_identity-true, same_itself}
+use Rattle.nx_memory.proofs.Known.{known_from_live, live_from_known}
 use Rattle.nx_receiver.specs.Tagged.{TaggedCopy}
 use Rattle.nx_receiver.specs.Printing.{is_good, is_number_00, is_remembered, is_printed, is_entered, entry_of, entry_made, entries_made, entries_after, if_printed, printed}
 use Rattle.nx_receiver.specs.LawTerms.{copies_of, AreRepeats}
@@ -87,9 +89,6 @@ before_prints identity entries (c ∷ copies) e =
       | true ↦ ap (λ b. cond b (c ∷ filter (bears identity) (printed (entries ++ entry_made entries c) copies)) (filter (bears identity) (printed (entries ++ entry_made entries c) copies))) parts.0 ∙ rest
       | false ↦ rest
     ]
-
-same_itself : (a : Identity) → same_identity a a ≡ true
-same_itself a = and_from _ _ (and_from _ _ (eq-eqb a.b1.byte a.b1.byte refl) (eq-eqb a.b2.byte a.b2.byte refl)) (eq-eqb a.number a.number refl)
 
 same_of : (a b : Identity) → a ≡ b → same_identity a b ≡ true
 same_of a b e = subst (λ (x : Identity). same_identity a x ≡ true) e (same_itself a)

@@ -3,7 +3,8 @@
 -- profile).
 use Rattle.std.specs.Prelude.{ℕ, ◌+◌, ◌-◌, Bool, List, [], ◌∷◌, ◌++◌, map, slice_get, unwrap_or}
 use Rattle.std.specs.Option.{option_map}
-use Rattle.nx_envelope.specs.Copies.{Header, Copy, ended_copies, open_headers, closed_copy, copies}
+use Rattle.nx_envelope.specs.Header.{Header}
+use Rattle.nx_envelope.specs.Copies.{Copy, ended_copies, open_headers, closed_copy, copies}
 use Rattle.nx_envelope.specs.declared.found.How.{How}
 use Rattle.nx_envelope.specs.declared.identity.Identity.{Identity}
 use Rattle.nx_sync.specs.Locks.{Lock, Now, hunting, locked}

@@ -3,7 +3,7 @@ use Rattle.std.specs.Prelude.{◌≡◌, ℕ, ◌+◌, ◌-◌, ◌==◌, Bool, 
 use Rattle.std.specs.List.{concat, AllZip}
 use Rattle.std.specs.Option.{option_map}
 use Rattle.nx_envelope.specs.Copies.{errors_of}
-use Rattle.nx_envelope.specs.Digits.{two_digits}
+use Rattle.nx_envelope.specs.Identity.{identity_bytes}
 use Rattle.nx_envelope.specs.Moment.{IsShownAs}
 use Rattle.nx_envelope.specs.Newline.{newline}
 use Rattle.nx_envelope.specs.declared.found.How.{How}
@@ -24,7 +24,7 @@ how_name Long = codes "long"
 -- characters, `]` and a newline, where 91 is the bracket, 32 a space and 47 the slash.
 unfoldable pub entry_head : TaggedCopy → List ℕ → List ℕ
 entry_head copy civil =
-    91 ∷ copy.identity.b1.byte ∷ copy.identity.b2.byte ∷ two_digits copy.identity.number ++ 32 ∷ civil
+    91 ∷ identity_bytes copy.identity ++ 32 ∷ civil
     ++ 32 ∷ how_name copy.how ++ 32 ∷ decimal (errors_of copy.text) ++ 47 ∷ decimal (length copy.text) ++ codes "]\n"
 
 -- the text is empty or ends with a newline

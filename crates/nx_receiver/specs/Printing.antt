@@ -5,7 +5,8 @@ use Rattle.nx_envelope.specs.Copies.{errors_of}
 use Rattle.nx_envelope.specs.declared.found.How.{How}
 use Rattle.nx_envelope.specs.declared.found.How.TheVariants.{Full, Cut, Long}
 use Rattle.nx_memory.specs.declared.entry.MemoryEntry.{MemoryEntry}
-use Rattle.nx_memory.specs.Memory.{is_known, last_of, most_entries}
+use Rattle.nx_code.specs.Lists.{last_of}
+use Rattle.nx_memory.specs.Memory.{is_known, most_entries}
 use Rattle.nx_receiver.specs.Tagged.{TaggedCopy}
 
 abbrev pub is_full : How → Bool

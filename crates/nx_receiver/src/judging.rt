@@ -3,7 +3,8 @@
 ghost use Rattle.std.specs.Prelude.{◌≡◌, ◌≤◌, ◌++◌, ℕ, Bool, List};
 ghost use Rattle.nx_envelope.specs.Copies.{errors_of};
 ghost use Rattle.nx_memory.specs.declared.entry.MemoryEntry.{MemoryEntry};
-ghost use Rattle.nx_memory.specs.Memory.{last_of, most_entries, newest_moment};
+ghost use Rattle.nx_code.specs.Lists.{last_of};
+ghost use Rattle.nx_memory.specs.Memory.{most_entries, newest_moment};
 ghost use Rattle.nx_receiver.specs.Printing.{is_printed, entry_made, is_good as is_good_copy};
 ghost use Rattle.nx_receiver.specs.Tagged.{tagged_found};
 
