@@ -1,5 +1,5 @@
 -- Locks share nothing.
-use Rattle.std.proofs.Common.{◌≡◌, ℕ, ◌+◌, ◌-◌, ◌*◌, ◌<◌, ◌≤◌, Bool, List, [], ◌∷◌, take, drop, cond, ◌==◌, refl, sym, ap, ◌∙◌, subst, arith, length}
+use Rattle.std.proofs.Common.{◌≡◌, ℕ, ◌+◌, ◌-◌, ◌*◌, ◌<◌, ◌≤◌, Bool, List, ◌∷◌, take, drop, cond, ◌==◌, sym, ap, ◌∙◌, arith}
 use Rattle.std.proofs.lemmas.List.{drop-take, drop-drop, take-take}
 use Rattle.nx_code.specs.Word.{number_of}
 use Rattle.nx_code.specs.Phasing.{phasing_1}

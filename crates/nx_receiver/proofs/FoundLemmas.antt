@@ -1,5 +1,5 @@
 -- The copies in the text of a lock: those that have ended stay, and each stands at a place of its lock.
-use Rattle.std.proofs.Common.{◌≡◌, ℕ, zero, suc, ◌+◌, ◌-◌, ◌*◌, ◌<◌, ◌≤◌, Bool, List, [], ◌∷◌, ◌++◌, map, filter, length, take, refl, sym, ap, ◌∙◌, subst, arith, Option, Some, None, get_or, slice_get, unwrap_or}
+use Rattle.std.proofs.Common.{◌≡◌, ℕ, zero, suc, ◌+◌, ◌-◌, ◌*◌, ◌<◌, ◌≤◌, List, [], ◌∷◌, ◌++◌, map, length, refl, sym, ap, ◌∙◌, subst, arith, Option, Some, None, get_or, unwrap_or}
 use Rattle.std.specs.List.{All, Contains, filter_map, cons_option}
 use Rattle.std.specs.Option.{option_map}
 use Rattle.std.proofs.lemmas.List.{get_or_append_left, map-append, length-append, length-map, length-take}
@@ -11,9 +11,8 @@ use Rattle.nx_envelope.specs.Header.{StandsIn}
 use Rattle.nx_envelope.specs.Laws.{Grows}
 use Rattle.nx_envelope.proofs.Anywhere.{anywhere_both}
 use Rattle.nx_envelope.proofs.Parts.{grown, copies_parts, one_at_most}
-use Rattle.nx_sync.specs.Words.{role_of, is_dx}
 use Rattle.nx_sync.specs.declared.step.Role.{Role}
-use Rattle.nx_receiver.specs.LockText.{taken_at, positions, PlacedByte, printed_after, place_of, printed_by, text_by, bytes_of}
+use Rattle.nx_receiver.specs.LockText.{PlacedByte, place_of, printed_by, text_by, bytes_of}
 use Rattle.nx_receiver.specs.FoundCopies.{FoundCopy, place_in, place_of_header, found_copy, ended_in, open_in, all_in}
 use Rattle.nx_receiver.proofs.LockTexts.{GoesOnAs, bytes_of-append}
 

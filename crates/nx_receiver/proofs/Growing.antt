@@ -1,20 +1,18 @@
 -- More bits and more events: what was found stays, and so does what was printed.
-use Rattle.std.proofs.Common.{◌≡◌, ℕ, zero, suc, ◌+◌, ◌-◌, ◌*◌, ◌/◌, ◌<◌, ◌≤◌, Bool, List, [], ◌∷◌, ◌++◌, map, length, take, refl, sym, ap, ◌∙◌, subst, arith, Option, Some, None, get_or, inl, inr, append_assoc, append-nil}
-use Rattle.std.specs.List.{All}
-use Rattle.std.proofs.lemmas.List.{map-append, length-append, get_or_append_left}
-use Rattle.std.proofs.lemmas.List.Elements.{All-nil, All-cons, All-head, All-tail, All-append, All-weaker}
+use Rattle.std.proofs.Common.{◌≡◌, ℕ, ◌+◌, ◌*◌, ◌≤◌, Bool, List, [], ◌∷◌, ◌++◌, length, refl, sym, ap, ◌∙◌, subst, arith, Some, None, inl, inr, append-nil}
+use Rattle.std.proofs.lemmas.List.{length-append}
 use Rattle.std.proofs.lemmas.Bool.{cases_lt}
 use Rattle.nx_sync.specs.Words.{whole_words, first_role, word_at}
-use Rattle.nx_sync.specs.Locks.{Lock, Now, hunting, locked, IsNow, Past, IsPast, IsPattern, Finds}
+use Rattle.nx_sync.specs.Locks.{Lock, Now, hunting, locked, IsNow, Past, IsPast, IsPattern}
 use Rattle.nx_sync.specs.Laws.{Extends, same, newer, GoesOn, hunts_on, finds_one, stands_still, found_and_past, is_past}
-use Rattle.nx_sync.proofs.Going.{goes-on, standing_after, Extends-trans}
-use Rattle.nx_sync.proofs.More.{release-more, Past-within}
+use Rattle.nx_sync.proofs.Going.{goes-on, Extends-trans}
+use Rattle.nx_sync.proofs.More.{release-more}
 use Rattle.nx_envelope.specs.Copies.{ended_copies, open_headers, headers, beginnings, header_at_end}
 use Rattle.nx_envelope.specs.Backward.{header_back}
 use Rattle.nx_receiver.specs.LockText.{PlacedByte, bytes_of, lock_text}
-use Rattle.nx_receiver.specs.FoundCopies.{FoundCopy, ended_in, open_in, all_in, past_text, past_copies, standing_text, ended_so_far, open_so_far, found_to_end}
+use Rattle.nx_receiver.specs.FoundCopies.{FoundCopy, ended_in, open_in, all_in, past_text, past_copies, standing_text, ended_so_far}
 use Rattle.nx_receiver.proofs.LockTexts.{GoesOnAs, goes_on_as_is, goes_on_twice, goes_on_then, goes_on_behind, lock_text-more, text_by-grows}
-use Rattle.nx_receiver.proofs.FoundLemmas.{IsCopyIn, text_placed, ended_in_placed, all_in_placed, all_in-parts, ended_in-grows}
+use Rattle.nx_receiver.proofs.FoundLemmas.{all_in-parts, ended_in-grows}
 
 -- more bits leave the copies of the locks that are past
 pub past_copies-more : (bits more : List Bool) (locks : List Lock) (p : ℕ) → Past bits locks p → past_copies (bits ++ more) locks ≡ past_copies bits locks
@@ -98,7 +96,7 @@ over_now bits more ls ks p n lock x now is =
     let ended = standing_more bits more lock.at (lock.last + 1) is.found.here (not_past_yet bits more ls p lock this.0 is this.1.0) in
     let all : GoesOnAs (ended_in text) (all_in whole) = subst (λ (xs : List FoundCopy). GoesOnAs (ended_in text) xs) (sym (all_in-parts whole)) (goes_on_then (ended_in text) (ended_in whole) (open_in whole) ended) in
     let here : GoesOnAs (past_copies bits ls ++ ended_in text) (past_copies (bits ++ more) (lock ∷ ls)) =
-        subst (λ (xs : List FoundCopy). GoesOnAs (xs ++ ended_in text) (past_copies (bits ++ more) (lock ∷ ls))) (past_copies-more bits more ls p is.past) (goes_on_behind (past_copies (bits ++ more) ls) (ended_in text) (all_in whole) all) in
+    subst (λ (xs : List FoundCopy). GoesOnAs (xs ++ ended_in text) (past_copies (bits ++ more) (lock ∷ ls))) (past_copies-more bits more ls p is.past) (goes_on_behind (past_copies (bits ++ more) ls) (ended_in text) (all_in whole) all) in
     goes_on_twice _ _ _ here (past_copies-newer (bits ++ more) ks (lock ∷ ls) x)
 
 ends_on : (bits more : List Bool) (ls ks : List Lock) (m n : Now) → IsNow bits ls m → IsNow (bits ++ more) ks n → GoesOn ls m ks n → GoesOnAs (ended_so_far bits ls m) (ended_so_far (bits ++ more) ks n)
@@ -118,7 +116,7 @@ ends_on bits more ls ks (hunting p) n is now (found_and_past lock e x) =
     (goes_on_then (past_copies bits ls) _ _ (past_goes_on bits more ls ks (hunting p) n is (past_copies-newer (bits ++ more) ks ls (Extends-trans x (newer same)))))
 ends_on bits more ls ks (locked p t) n is now (is_past lock e a x) =
     let over : GoesOnAs (ended_so_far bits ls (locked p t)) (past_copies (bits ++ more) ks) =
-        subst (λ (u : ℕ). IsNow bits ls (locked p u) → GoesOnAs (ended_so_far bits ls (locked p u)) (past_copies (bits ++ more) ks)) a (over_now bits more ls ks p n lock x now) is in
+    subst (λ (u : ℕ). IsNow bits ls (locked p u) → GoesOnAs (ended_so_far bits ls (locked p u)) (past_copies (bits ++ more) ks)) a (over_now bits more ls ks p n lock x now) is in
     goes_on_then _ _ _ over
 
 -- The copies that have ended stay, and later ones come behind them.

@@ -1,13 +1,13 @@
 -- What becomes of a copy, case by case.
-use Rattle.std.proofs.Common.{◌≡◌, ℕ, ◌+◌, ◌-◌, ◌≤◌, subst, Bool, true, false, not, ◌&&◌, ◌||◌, cond, List, [], ◌∷◌, ◌++◌, length, drop, slice_get, Option, Some, eqb, refl, sym, ap, ◌∙◌, arith, append-nil}
-use Rattle.std.proofs.lemmas.Bool.{and_left, and_right, and_from, or_from, or_left, or_right, not_from_true, not_from_false, eq-eqb}
+use Rattle.std.proofs.Common.{◌≡◌, ℕ, ◌+◌, ◌-◌, ◌≤◌, true, false, not, cond, List, [], ◌∷◌, ◌++◌, length, drop, slice_get, Some, refl, sym, ap, ◌∙◌, arith, append-nil}
+use Rattle.std.proofs.lemmas.Bool.{and_left, and_right, and_from, or_from, or_left, or_right, not_from_true, not_from_false}
 use Rattle.std.specs.Option.{option_map}
 use Rattle.std.proofs.lemmas.List.{drop-append-le, length-append}
 use Rattle.std.proofs.lemmas.Grind.{common_steps}
 use Rattle.nx_envelope.specs.declared.identity.Identity.{Identity}
 use Rattle.nx_memory.specs.declared.entry.MemoryEntry.{MemoryEntry}
 use Rattle.nx_code.specs.Lists.{last_of}
-use Rattle.nx_memory.specs.Memory.{most_entries, is_known, content_after, newest_of, newest_moment}
+use Rattle.nx_memory.specs.Memory.{most_entries, content_after, newest_of, newest_moment}
 use Rattle.nx_receiver.specs.Printing.{is_printed, is_entered, is_good, is_number_00, is_remembered, entry_of, entry_made}
 use Rattle.nx_receiver.specs.Tagged.{TaggedCopy}
 

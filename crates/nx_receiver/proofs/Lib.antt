@@ -6,3 +6,4 @@ pub mod LoggedLemmas
 pub mod OnceLemmas
 pub mod LogLemmas
 pub mod ApartLemmas
+pub mod ExampleLemmas

@@ -1,13 +1,12 @@
 -- The text of a lock: more bits and more words leave it as it is, and add to its end.
-use Rattle.std.proofs.Common.{◌≡◌, ℕ, zero, suc, ◌+◌, ◌-◌, ◌*◌, ◌/◌, ◌<◌, ◌≤◌, Bool, true, false, cond, ltb, List, [], ◌∷◌, ◌++◌, map, length, lt-ltb, add-suc, refl, sym, ap, ◌∙◌, subst, arith, inl, inr, append_assoc, append-nil, add_assoc, add-zero, Some, get_or, slice_get, unwrap_or}
-use Rattle.std.specs.Option.{option_to_list, option_map}
-use Rattle.std.proofs.lemmas.List.{map-append, length-append, length-map}
-use Rattle.std.proofs.lemmas.Bool.{cases_Bool, cases_lt, ltb-false}
-use Rattle.nx_code.specs.Reading.{Reception, byte_of, text, shift_after_all}
+use Rattle.std.proofs.Common.{◌≡◌, ℕ, zero, suc, ◌+◌, ◌-◌, ◌*◌, ◌<◌, ◌≤◌, Bool, true, false, cond, ltb, List, [], ◌∷◌, ◌++◌, map, length, lt-ltb, add-suc, refl, sym, ap, ◌∙◌, subst, arith, inl, inr, append_assoc, append-nil, add-zero}
+use Rattle.std.proofs.lemmas.List.{map-append}
+use Rattle.std.proofs.lemmas.Bool.{cases_lt}
+use Rattle.nx_code.specs.Reading.{Reception, text, shift_after_all}
 use Rattle.nx_code.specs.declared.shifts.Shift.TheVariants.{Letters}
 use Rattle.nx_code.proofs.ReadingLemmas.{text-append}
 use Rattle.nx_fec.specs.Pairing.{counts_as, pairing, nothing}
-use Rattle.nx_sync.specs.Words.{whole_words, word_at, first_role, role_of, is_dx}
+use Rattle.nx_sync.specs.Words.{word_at, first_role, role_of, is_dx}
 use Rattle.nx_sync.specs.Locks.{IsPattern}
 use Rattle.nx_sync.specs.declared.step.Role.{Role}
 use Rattle.nx_sync.proofs.More.{word_at-more, first_role-more}
@@ -92,7 +91,7 @@ printed-is_text before (p ∷ q ∷ more) h = absurd (omega arith)
 
 one_taken : (first : Role) (f : ℕ → ℕ) (k : ℕ) → length (taken_at first f k) ≤ 1
 unfolding taken_at
-one_taken first f k = elim (is_dx (role_of first k)) as (λ b. length (cond b [] (pairing (five_before f k) (counts_as (f k)) ∷ [])) ≤ 1) [ | true ↦ omega arith | false ↦ omega arith ]
+one_taken first f k = elim (is_dx (role_of first k)) as (λ b. length (cond b [] (pairing (five_before f k) (counts_as (f k)) ∷ [])) ≤ 1) [ true ↦ omega arith | false ↦ omega arith ]
 
 pub bytes_are_reading : (first : Role) (f : ℕ → ℕ) (t n : ℕ) → bytes_of (text_by first f t n) ≡ text (positions first f n) Letters
 unfolding text_by positions printed_by bytes_of

@@ -1,7 +1,10 @@
 -- The bytes of a log.
 use Rattle.std.proofs.Common.{◌≡◌, ℕ, ◌≤◌, List, [], ◌∷◌, ◌++◌, refl, sym, ap, ◌∙◌}
-use Rattle.std.specs.List.{concat, AllZip}
+use Rattle.std.specs.List.{All, concat, AllZip}
 use Rattle.std.proofs.lemmas.List.Folds.{concat-append}
+use Rattle.std.proofs.lemmas.List.Elements.{All-head, All-tail}
+use Rattle.nx_envelope.specs.Moment.{last_moment}
+use Rattle.nx_envelope.proofs.EveryMoment.{every_moment}
 use Rattle.nx_envelope.proofs.OneText.{one_text}
 use Rattle.nx_receiver.specs.Tagged.{TaggedCopy}
 use Rattle.nx_receiver.specs.Log.{IsEntry, IsLog, entry_with}
@@ -54,3 +57,18 @@ pub log_begins : (front back : List TaggedCopy) (bytes whole : List ℕ) → IsL
 log_begins front back bytes whole l m =
     let c = cut front back m.entries m.each in
     (concat c.right, m.joined ∙ ap concat c.whole ∙ concat-append c.left c.right ∙ ap (λ xs. xs ++ concat c.right) (ap concat (one_list front c.left l.entries c.front_each l.each) ∙ sym l.joined))
+
+-- copies whose moments are in range have a log
+pub some_log : (copies : List TaggedCopy) → All (λ (copy : TaggedCopy). copy.moment ≤ last_moment) copies → (bytes : List ℕ) × IsLog copies bytes
+some_log [] k = ([], record { entries = []; each = tt; joined = refl })
+some_log (c ∷ cs) k =
+    let shown = every_moment c.moment (All-head (λ (copy : TaggedCopy). copy.moment ≤ last_moment) c cs k) in
+    let rest = some_log cs (All-tail (λ (copy : TaggedCopy). copy.moment ≤ last_moment) c cs k) in
+    let entry : IsEntry c (entry_with c shown.text) = record { civil = shown.text; shown = shown.is_shown; spelled = refl } in (
+      entry_with c shown.text ++ rest.0,
+      record {
+        entries = entry_with c shown.text ∷ rest.1.entries;
+        each = (entry, rest.1.each);
+        joined = ap (λ bs. entry_with c shown.text ++ bs) rest.1.joined;
+      },
+    )

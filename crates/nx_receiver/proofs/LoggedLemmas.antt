@@ -1,7 +1,7 @@
 -- What more events leave of what was printed.
-use Rattle.std.proofs.Common.{◌≡◌, ℕ, zero, suc, ◌+◌, ◌-◌, ◌*◌, ◌/◌, ◌<◌, ◌≤◌, Bool, List, [], ◌∷◌, ◌++◌, map, length, refl, sym, ap, ◌∙◌, subst, arith, get_or, append_assoc, append-nil}
+use Rattle.std.proofs.Common.{◌≡◌, ℕ, suc, ◌+◌, ◌*◌, ◌<◌, Bool, List, [], ◌∷◌, ◌++◌, length, refl, sym, ap, ◌∙◌, subst, arith, get_or, append_assoc, append-nil}
 use Rattle.std.specs.List.{All}
-use Rattle.std.proofs.lemmas.List.{map-append, length-append, get_or_append_left}
+use Rattle.std.proofs.lemmas.List.{map-append, get_or_append_left}
 use Rattle.std.proofs.lemmas.List.Elements.{All-nil, All-head, All-tail, All-append, All-weaker}
 use Rattle.nx_memory.specs.declared.entry.MemoryEntry.{MemoryEntry}
 use Rattle.nx_sync.specs.Locks.{Lock, Now, hunting, locked, IsNow, Past}
@@ -14,9 +14,9 @@ use Rattle.nx_receiver.specs.FoundCopies.{FoundCopy, ended_in, open_in, all_in, 
 use Rattle.nx_receiver.specs.Tagged.{TaggedCopy, tag, tagged}
 use Rattle.nx_receiver.specs.Printing.{printed, entries_after, entries_made, entry_made, if_printed}
 use Rattle.nx_receiver.specs.Log.{printed_of, HasPrinted, PrintsToEnd}
-use Rattle.nx_receiver.proofs.LockTexts.{GoesOnAs, goes_on_as_is}
-use Rattle.nx_receiver.proofs.FoundLemmas.{IsCopyIn, text_placed, ended_in_placed, open_in_placed, all_in_placed, all_in-parts}
-use Rattle.nx_receiver.proofs.Growing.{ended_go_on, ended_in-nil, open_in-nil, whole_heard}
+use Rattle.nx_receiver.proofs.LockTexts.{GoesOnAs}
+use Rattle.nx_receiver.proofs.FoundLemmas.{IsCopyIn, text_placed, ended_in_placed, all_in_placed, all_in-parts}
+use Rattle.nx_receiver.proofs.Growing.{ended_go_on, ended_in-nil, whole_heard}
 
 pub bits_of-append : (xs ys : List Event) → bits_of (xs ++ ys) ≡ bits_of xs ++ bits_of ys
 unfolding bits_of
@@ -117,7 +117,7 @@ pub has_printed_on : (start : Start) (xs ys : List Event) (log later : List Tagg
 has_printed_on start xs ys log later h j =
     let now : IsNow (bits_of xs ++ bits_of ys) j.locks j.now = subst (λ (bits : List Bool). IsNow bits j.locks j.now) (bits_of-append xs ys) j.stands in
     let found : GoesOnAs (ended_so_far (bits_of xs) h.locks h.now) (ended_so_far (bits_of (xs ++ ys)) j.locks j.now) =
-        subst (λ (bits : List Bool). GoesOnAs (ended_so_far (bits_of xs) h.locks h.now) (ended_so_far bits j.locks j.now)) (sym (bits_of-append xs ys)) (ended_go_on (bits_of xs) (bits_of ys) h.locks j.locks h.now j.now h.stands now) in
+    subst (λ (bits : List Bool). GoesOnAs (ended_so_far (bits_of xs) h.locks h.now) (ended_so_far bits j.locks j.now)) (sym (bits_of-append xs ys)) (ended_go_on (bits_of xs) (bits_of ys) h.locks j.locks h.now j.now h.stands now) in
     let on = printed_goes_on start xs ys (ended_so_far (bits_of xs) h.locks h.now) (ended_so_far (bits_of (xs ++ ys)) j.locks j.now) found (ended_placed (bits_of xs) h.locks h.now h.stands) in
     record { rest = on.rest; whole = j.printed ∙ on.whole ∙ ap (λ l. l ++ on.rest) (sym h.printed) }
 
@@ -126,9 +126,9 @@ prints_to_end_on start xs ys log whole h j =
     let bits = bits_of (xs ++ ys) in
     let now : IsNow (bits_of xs ++ bits_of ys) j.locks j.now = subst (λ (bits : List Bool). IsNow bits j.locks j.now) (bits_of-append xs ys) j.stands in
     let found : GoesOnAs (ended_so_far (bits_of xs) h.locks h.now) (ended_so_far bits j.locks j.now) =
-        subst (λ (bits : List Bool). GoesOnAs (ended_so_far (bits_of xs) h.locks h.now) (ended_so_far bits j.locks j.now)) (sym (bits_of-append xs ys)) (ended_go_on (bits_of xs) (bits_of ys) h.locks j.locks h.now j.now h.stands now) in
+    subst (λ (bits : List Bool). GoesOnAs (ended_so_far (bits_of xs) h.locks h.now) (ended_so_far bits j.locks j.now)) (sym (bits_of-append xs ys)) (ended_go_on (bits_of xs) (bits_of ys) h.locks j.locks h.now j.now h.stands now) in
     let all : GoesOnAs (ended_so_far (bits_of xs) h.locks h.now) (found_to_end bits j.locks j.now) =
-        record { rest = found.rest ++ open_so_far bits j.now; whole = end_adds bits j.locks j.now ∙ ap (λ cs. cs ++ open_so_far bits j.now) found.whole ∙ append_assoc _ found.rest _ } in
+    record { rest = found.rest ++ open_so_far bits j.now; whole = end_adds bits j.locks j.now ∙ ap (λ cs. cs ++ open_so_far bits j.now) found.whole ∙ append_assoc _ found.rest _ } in
     let on = printed_goes_on start xs ys (ended_so_far (bits_of xs) h.locks h.now) (found_to_end bits j.locks j.now) all (ended_placed (bits_of xs) h.locks h.now h.stands) in
     record { rest = on.rest; whole = j.printed ∙ on.whole ∙ ap (λ l. l ++ on.rest) (sym h.printed) }
 

@@ -1,21 +1,20 @@
 -- The law of printing once.
-use Rattle.std.proofs.Common.{◌≡◌, ℕ, zero, suc, ◌+◌, ◌-◌, ◌<◌, ◌≤◌, Bool, true, false, not, cond, ◌&&◌, ◌||◌, List, [], ◌∷◌, ◌++◌, length, filter, refl, sym, ap, ◌∙◌, subst, arith, inl, inr, append_assoc, append-nil, IsTrue, eqb}
-use Rattle.std.specs.List.{All, Contains, list_any}
-use Rattle.std.proofs.lemmas.Bool.{cases_Bool, false_from_ne_true, and_from, true≢false, ne_eqb, eq-eqb}
-use Rattle.std.proofs.lemmas.List.{length-append}
-use Rattle.std.proofs.lemmas.List.Elements.{All-head, All-tail, All-nil, All-cons, All-append, All-contains, filter-append, Contains-append_left, Contains-append_right, Contains-get_or}
+use Rattle.std.proofs.Common.{◌≡◌, ℕ, ◌+◌, ◌<◌, Bool, true, false, cond, List, [], ◌∷◌, ◌++◌, length, filter, refl, sym, ap, ◌∙◌, subst, arith, append_assoc, append-nil, IsTrue}
+use Rattle.std.specs.List.{All, Contains}
+use Rattle.std.proofs.lemmas.Bool.{false_from_ne_true, true≢false, ne_eqb}
+use Rattle.std.proofs.lemmas.List.Elements.{All-head, All-nil, All-cons, All-append, All-contains, filter-append, Contains-append_right}
 use Rattle.nx_envelope.specs.declared.identity.Identity.{Identity}
 use Rattle.nx_envelope.specs.Identity.{same_identity}
 use Rattle.nx_memory.specs.declared.entry.MemoryEntry.{MemoryEntry}
 use Rattle.nx_memory.specs.Live.{IsLive}
 use Rattle.nx_code.specs.Lists.{last_of}
-use Rattle.nx_memory.specs.Memory.{is_known, is_recent, most_entries, seconds_known}
+use Rattle.nx_memory.specs.Memory.{is_known, most_entries, seconds_known}
 use Rattle.nx_envelope.proofs.Identities.{same_identity-true, same_itself}
 use Rattle.nx_memory.proofs.Known.{known_from_live, live_from_known}
 use Rattle.nx_receiver.specs.Tagged.{TaggedCopy}
 use Rattle.nx_receiver.specs.Printing.{is_good, is_number_00, is_remembered, is_printed, is_entered, entry_of, entry_made, entries_made, entries_after, if_printed, printed}
 use Rattle.nx_receiver.specs.LawTerms.{copies_of, AreRepeats}
-use Rattle.nx_receiver.proofs.JudgingLemmas.{unselected, always, remembered, unknown, unprinted, not_good, numbered_00, entered}
+use Rattle.nx_receiver.proofs.JudgingLemmas.{remembered, unknown, entered}
 use Rattle.nx_receiver.proofs.LoggedLemmas.{printed-append, entries_after-append}
 
 abbrev bears : Identity → TaggedCopy → Bool
@@ -97,9 +96,9 @@ same_of a b e = subst (λ (x : Identity). same_identity a x ≡ true) e (same_it
 lacks_unknown : (identity : Identity) (moment : ℕ) (entries : List MemoryEntry) → Lacks identity entries → is_known identity moment (last_of most_entries entries) ≡ false
 lacks_unknown identity moment entries k =
     false_from_ne_true _ (λ known.
-      let live = live_from_known identity moment entries known in
-      let there = All-contains (λ (entry : MemoryEntry). same_identity entry.identity identity ≡ false) entries live.entry k (subst (λ (es : List MemoryEntry). Contains es live.entry) (sym live.made) (Contains-append_right live.before (live.entry ∷ live.after) live.entry (0, omega arith, refl))) in
-      true≢false (sym (same_of live.entry.identity identity live.same) ∙ there))
+    let live = live_from_known identity moment entries known in
+    let there = All-contains (λ (entry : MemoryEntry). same_identity entry.identity identity ≡ false) entries live.entry k (subst (λ (es : List MemoryEntry). Contains es live.entry) (sym live.made) (Contains-append_right live.before (live.entry ∷ live.after) live.entry (0, omega arith, refl))) in
+    true≢false (sym (same_of live.entry.identity identity live.same) ∙ there))
 
 -- the entry of the first keeps each later copy from being printed
 record IsKept (identity : Identity) (entries : List MemoryEntry) (first : TaggedCopy) (mid : List TaggedCopy) (copy : TaggedCopy) : Type 0 where
@@ -131,8 +130,8 @@ after_prints identity entries first mid (c ∷ rest) n f k =
     let so_far = entries_after (entries ++ entry_of first ∷ []) mid in
     let next : entries_after (entries ++ entry_of first ∷ []) (mid ++ c ∷ []) ≡ so_far ++ entry_made so_far c = one_after (entries ++ entry_of first ∷ []) mid c in
     let later : filter (bears identity) (printed (so_far ++ entry_made so_far c) rest) ≡ [] =
-        ap (λ es. filter (bears identity) (printed es rest)) (sym next)
-        ∙ after_prints identity entries first (mid ++ c ∷ []) rest n f (λ more after copy e h. subst (λ (m : List TaggedCopy). IsKept identity entries first m copy) (sym (append_assoc mid (c ∷ []) more)) (k (c ∷ more) after copy (ap (λ xs. c ∷ xs) e) h)) in
+    ap (λ es. filter (bears identity) (printed es rest)) (sym next)
+    ∙ after_prints identity entries first (mid ++ c ∷ []) rest n f (λ more after copy e h. subst (λ (m : List TaggedCopy). IsKept identity entries first m copy) (sym (append_assoc mid (c ∷ []) more)) (k (c ∷ more) after copy (ap (λ xs. c ∷ xs) e) h)) in
     let not_this : bears identity c ≡ true → is_printed so_far c ≡ false = λ h. kept_back identity entries first mid c n f h (subst (λ (m : List TaggedCopy). IsKept identity entries first m c) (append-nil mid) (k [] rest c refl h)) in
     elim (is_printed so_far c) as (λ (b : Bool). is_printed so_far c ≡ b → filter (bears identity) (cond b (c ∷ []) [] ++ printed (so_far ++ entry_made so_far c) rest) ≡ []) [
       | true ↦ λ p.
@@ -146,8 +145,8 @@ there : (identity : Identity) (all repeats more after : List TaggedCopy) (first 
 unfolding copies_of
 there identity all repeats more after first copy counted e h =
     let kept : repeats ≡ filter (bears identity) more ++ copy ∷ filter (bears identity) after =
-        sym counted ∙ ap (filter (bears identity)) e ∙ filter-append (bears identity) more (copy ∷ after)
-        ∙ ap (λ b. filter (bears identity) more ++ cond b (copy ∷ filter (bears identity) after) (filter (bears identity) after)) h in
+    sym counted ∙ ap (filter (bears identity)) e ∙ filter-append (bears identity) more (copy ∷ after)
+    ∙ ap (λ b. filter (bears identity) more ++ cond b (copy ∷ filter (bears identity) after) (filter (bears identity) after)) h in
     subst (λ (xs : List TaggedCopy). Contains (first ∷ xs) copy) (sym kept)
     (Contains-append_right (first ∷ filter (bears identity) more) (copy ∷ filter (bears identity) after) copy (0, omega arith, refl))
 
@@ -166,9 +165,9 @@ once identity copies first repeats r =
     let made = entered entries first shown good numbered in
     let begun : entries_after [] (s.before ++ first ∷ []) ≡ entries ++ entry_of first ∷ [] = one_after [] s.before first ∙ ap (λ m. entries ++ m) made in
     let later = after_prints identity entries first [] s.after r.numbered s.named (λ more after copy e h. record {
-        recent = r.close copy first (there identity s.after repeats more after first copy s.rest e h) (0, omega arith, refl);
-        few = subst (λ (es : List MemoryEntry). length (entries_made es more) < most_entries) begun (r.few s.before more after copy (s.whole ∙ ap (λ xs. s.before ++ first ∷ xs) e) s.none h);
-      }) in
+      recent = r.close copy first (there identity s.after repeats more after first copy s.rest e h) (0, omega arith, refl);
+      few = subst (λ (es : List MemoryEntry). length (entries_made es more) < most_entries) begun (r.few s.before more after copy (s.whole ∙ ap (λ xs. s.before ++ first ∷ xs) e) s.none h);
+    }) in
     let rest = printed (entries ++ entry_made entries first) s.after in
     ap (λ cs. filter (bears identity) (printed [] cs)) s.whole
     ∙ ap (filter (bears identity)) (printed-append [] s.before (first ∷ s.after))

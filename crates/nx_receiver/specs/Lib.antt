@@ -5,3 +5,4 @@ pub mod Tagged
 pub mod Printing
 pub mod Log
 pub mod LawTerms
+pub mod Example

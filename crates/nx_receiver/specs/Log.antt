@@ -1,5 +1,5 @@
 -- The log: what is printed of all that a receiver was given, and its bytes (this profile).
-use Rattle.std.specs.Prelude.{◌≡◌, ℕ, ◌+◌, ◌-◌, ◌==◌, Bool, true, if◌then◌else◌, List, [], ◌∷◌, ◌++◌, length, codes, decimal, slice_get, unwrap_or}
+use Rattle.std.specs.Prelude.{◌≡◌, ℕ, ◌-◌, ◌==◌, Bool, true, if◌then◌else◌, List, [], ◌∷◌, ◌++◌, length, codes, decimal, slice_get, unwrap_or}
 use Rattle.std.specs.List.{concat, AllZip}
 use Rattle.std.specs.Option.{option_map}
 use Rattle.nx_envelope.specs.Copies.{errors_of}

@@ -4,10 +4,12 @@
 ghost use Rattle.std.specs.Prelude.{◌≡◌, ℕ, ◌+◌, ◌*◌, ◌<◌, ◌≤◌, Bool, List, [], ◌∷◌, ◌++◌, length, All};
 ghost use Rattle.nx_code.specs.Reading.{text};
 ghost use Rattle.nx_code.specs.declared.shifts.Shift.TheVariants.{Letters};
+ghost use Rattle.nx_envelope.specs.Moment.{last_moment};
 ghost use Rattle.nx_envelope.specs.declared.identity.Identity.{Identity};
 ghost use Rattle.nx_sync.specs.Words.{word_at, first_role};
 ghost use Rattle.nx_sync.specs.Locks.{Lock, Now, IsLocked, IsNow, Past};
 ghost use Rattle.nx_receiver.specs.Events.{Event, Start, bits_of};
+ghost use Rattle.nx_receiver.specs.Example.{ea01, example_copies, first_copy, repeated_copy};
 ghost use Rattle.nx_receiver.specs.FoundCopies.{FoundCopy, ended_so_far, open_so_far, found_to_end};
 ghost use Rattle.nx_receiver.specs.LawTerms.{AreRepeats, copies_of, own_bits};
 ghost use Rattle.nx_receiver.specs.LockText.{PlacedByte, bytes_of, lock_text, positions};
@@ -55,7 +57,8 @@ pub fn more_events_keep_the_log()
         → (rest : List TaggedCopy) × (whole ≡ log ++ rest) }
 {}
 
-/// All that a receiver was given has one log: one list of printed copies, and one list of bytes for it.
+/// All that a receiver was given has one log: one list of printed copies; and, where
+/// their moments are at most the last, one list of bytes for it.
 pub fn there_is_one_log()
     ensures some { (start : Start) (events : List Event) → (log : List TaggedCopy) × HasPrinted start events log }
     ensures one { (start : Start) (events : List Event) (log other : List TaggedCopy) →
@@ -64,7 +67,9 @@ pub fn there_is_one_log()
         (log : List TaggedCopy) × PrintsToEnd start events log }
     ensures one_closed { (start : Start) (events : List Event) (log other : List TaggedCopy) →
         PrintsToEnd start events log → PrintsToEnd start events other → log ≡ other }
-    ensures bytes { (copies : List TaggedCopy) (bytes others : List ℕ) →
+    ensures some_bytes { (copies : List TaggedCopy) → All (λ (copy : TaggedCopy). copy.moment ≤ last_moment) copies
+        → (bytes : List ℕ) × IsLog copies bytes }
+    ensures one_bytes { (copies : List TaggedCopy) (bytes others : List ℕ) →
         IsLog copies bytes → IsLog copies others → bytes ≡ others }
 {}
 
@@ -82,4 +87,9 @@ pub fn logs_go_on()
 pub fn repeats_are_printed_once()
     ensures { (identity : Identity) (copies : List TaggedCopy) (first : TaggedCopy) (repeats : List TaggedCopy) →
         AreRepeats identity copies first repeats → copies_of identity (printed [] copies) ≡ first ∷ [] }
+{}
+
+/// There are such repeats: EA01 is heard, then EB02 twice, and EA01 again four hours after the first.
+pub fn there_are_repeats()
+    ensures { AreRepeats ea01 example_copies first_copy (repeated_copy ∷ []) }
 {}

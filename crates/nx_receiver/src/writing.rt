@@ -55,13 +55,10 @@ fn head_of(entry: &Entry) -> ArrayVec<u8, MAX_ENTRY>
     let Some(time) = civil(entry.moment) else {
         unreachable!()
     };
-    let number = entry.identity.number();
+    let name = entry.identity.bytes();
     let mut bytes = ArrayVec::new();
     bytes.push(b'[');
-    bytes.push(entry.identity.b1().byte());
-    bytes.push(entry.identity.b2().byte());
-    bytes.push(b'0' + number / 10);
-    bytes.push(b'0' + number % 10);
+    append(&mut bytes, &name);
     bytes.push(b' ');
     append(&mut bytes, &time);
     bytes.push(b' ');
@@ -69,7 +66,10 @@ fn head_of(entry: &Entry) -> ArrayVec<u8, MAX_ENTRY>
     bytes.push(b' ');
     append(&mut bytes, Buffer::new().format(entry.errors).as_bytes());
     bytes.push(b'/');
-    append(&mut bytes, Buffer::new().format(entry.text.len()).as_bytes());
+    append(
+        &mut bytes,
+        Buffer::new().format(entry.text.len()).as_bytes(),
+    );
     append(&mut bytes, b"]\n");
     bytes
 }

@@ -1,8 +1,5 @@
-use Rattle.std.proofs.Common.{◌≡◌, ◌≤◌, ◌++◌, ℕ, Bool, List, true, false, sym, ap, ◌∙◌, refl, eq-eqb, ne_eqb}
-use Rattle.nx_code.specs.Lists.{last_of}
-use Rattle.nx_memory.specs.Memory.{most_entries, newest_moment, is_known}
-use Rattle.nx_receiver.specs.Printing.{is_printed, entry_made}
-use Rattle.nx_receiver.specs.Tagged.{tagged_found}
+use Rattle.std.proofs.Common.{sym, ap, ◌∙◌, eq-eqb, ne_eqb}
+use Rattle.nx_memory.specs.Memory.{is_known}
 use Rattle.nx_receiver.proofs.JudgingLemmas.{unselected, always, remembered, unknown, unprinted, not_good, numbered_00, entered, content_stays, content_grows, newest_is_last}
 use Rattle.nx_receiver.proofs.judging.judge.Goals as goal
 

@@ -1,6 +1,5 @@
-use Rattle.std.proofs.Common.{◌≡◌, ℕ, Bool, true, nat_eq, eqb, Option, unwrap_or, ap}
+use Rattle.std.proofs.Common.{ℕ, true, eqb, Option, unwrap_or, ap}
 use Rattle.std.specs.Option.{option_map}
-use Rattle.nx_receiver.specs.Log as spec
 use Rattle.nx_receiver.specs.Log.{is_of_lines}
 use Rattle.nx_receiver.proofs.writing.is_of_lines.Goals as goal
 
