@@ -7,7 +7,8 @@ use Rattle.nx_envelope.specs.Moment.{IsShownAs}
 use Rattle.std.specs.Fmt.{decimal}
 use Rattle.nx_fec.specs.Devices.{CountedDevice, WroteSome}
 use Rattle.nx_fec.specs.Runs.{Decodes, Encodes}
-use Rattle.nx_station.specs.Runs.{Sends, table_text}
+use Rattle.nx_fec.specs.TableText.{table_text}
+use Rattle.nx_station.specs.Runs.{Sends}
 use Rattle.nx_fec.specs.Transfers.{Devices, devices}
 use Rattle.nx_fec.specs.declared.fault.RunFault.{RunFault}
 use Rattle.nx_fec.specs.declared.fault.RunFault.TheVariants as run

@@ -7,14 +7,14 @@ ghost use Rattle.nx_cli.specs.Status.{IsStatus};
 ghost use Rattle.nx_cli.specs.Words.{IsRefused, Names};
 ghost use Rattle.nx_fec.specs.Devices.{CountedDevice};
 ghost use Rattle.nx_fec.specs.Transfers.{devices};
-ghost use Rattle.nx_station.specs.Runs.{table_text};
+ghost use Rattle.nx_fec.specs.TableText.{table_text};
 ghost use Rattle.nx_cli.specs.declared.words.Call.{Call};
 
 use crate::fault::{CallFault, Fault};
 use crate::slots::print_slot;
 use crate::words::{Call, WordsFault, call_of};
-use nx_fec::{Counting, RunFault, decode_run, encode_run, write_out};
-use nx_station::{send, write_table};
+use nx_fec::{Counting, RunFault, decode_run, encode_run, write_out, write_table};
+use nx_station::send;
 use std::alloc::{AllocError, Global};
 use std::convert::AsStr;
 use std::fmt::Display;

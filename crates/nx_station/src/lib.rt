@@ -6,5 +6,5 @@ mod sending;
 mod slots;
 
 pub use fault::{SendFault, SendRunFault};
-pub use sending::{Sent, send, write_table};
+pub use sending::{Sent, send};
 pub use slots::next_slot;

@@ -1,12 +1,10 @@
 //! Temporary.
-ghost use Rattle.std.specs.Prelude.{◌≡◌, ◌≤◌, ◌↔◌, IfErr, OnOk, IsErr, List, [], ℕ};
-ghost use Rattle.std.specs.Io.KnownBytes.{Appends};
-ghost use Rattle.nx_fec.specs.Devices.{WroteSome};
+ghost use Rattle.std.specs.Prelude.{◌≡◌};
 ghost use Rattle.nx_fec.specs.Transfers.{devices};
-ghost use Rattle.nx_station.specs.Runs.{Sends, table_text};
+ghost use Rattle.nx_station.specs.Runs.{Sends};
 use crate::fault::SendRunFault;
 use nx_envelope::Letter;
-use nx_fec::{Counting, WriteFault, write_out};
+use nx_fec::Counting;
 use std::alloc::Global;
 use std::io::{Read, Write};
 
@@ -33,15 +31,3 @@ pub fn send<R: Read, W: Write>(
     Ok(Sent { slot: 0, positions: 0, messages: 0 })
 }
 
-/// Temporary.
-pub fn write_table<W: Write>(writer: &mut Counting<W>) -> Result<(), WriteFault>
-    requires { writer.old.failures ≡ 0 }
-    ensures ok { OnOk result (Appends (W.contents writer.old.inner) (W.contents writer.new.inner) table_text) }
-    ensures err { IfErr result (λ fault.
-        WroteSome (W.contents writer.old.inner) (W.contents writer.new.inner) table_text fault.written) }
-    ensures failed { IsErr result ↔ (writer.new.failures ≡ 1) }
-    ensures once { writer.new.failures ≤ 1 }
-    ensures none { OnOk result (writer.new.failures ≡ 0) }
-{
-    write_out(writer, b"")
-}
