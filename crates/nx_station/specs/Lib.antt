@@ -1,0 +1,4 @@
+pub mod Slots
+pub mod Broadcast
+pub mod Sendable
+pub mod MessageFile

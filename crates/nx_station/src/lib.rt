@@ -1,0 +1,9 @@
+//! A broadcast station (M.540): the slots of stations, the emissions of their messages, and message files.
+#![tactic(auto)]
+
+mod fault;
+pub mod laws;
+mod slots;
+
+pub use fault::{SendFault, SendRunFault};
+pub use slots::next_slot;
