@@ -2,7 +2,7 @@
 use Rattle.std.specs.Prelude.{◌≡◌, ◌≢◌, ℕ, ◌+◌, ◌≤◌, List, [], ◌∷◌, ◌++◌, length, Option, Some, None, ⊤}
 use Rattle.std.specs.List.{flat_map, AllByRecursion}
 use Rattle.nx_envelope.specs.Digits.{two_digits}
-use Rattle.nx_envelope.specs.Letter.{IsLetter}
+use Rattle.nx_code.specs.Characters.{IsCapital}
 use Rattle.nx_envelope.specs.Message.{AreLines, IsMessageFault, text_of}
 use Rattle.nx_envelope.specs.MessageView.{MessageView}
 use Rattle.nx_envelope.specs.declared.message.MessageFault.{MessageFault}
@@ -44,7 +44,7 @@ file_of entries = flat_map spelling entries
 
 -- a subject is a letter, and a number has two digits
 pub record IsNamed (subject number : ℕ) : Type 0 where
-  pub letter : IsLetter subject
+  pub letter : IsCapital subject
   pub two_digits : number ≤ 99
 
 -- a message: its lines are those of a message
