@@ -8,9 +8,10 @@ use Rattle.nx_code.specs.declared.table.Row.{Row}
 use Rattle.nx_code.specs.declared.table.TheConstants.{TABLE}
 use Rattle.nx_code.specs.declared.shifts.Shift.{Shift}
 use Rattle.nx_code.specs.declared.shifts.Shift.TheVariants.{Letters, Figures}
-use Rattle.nx_code.specs.Table.{table}
-use Rattle.nx_code.specs.Reading.{printed}
-use Rattle.nx_code.specs.Characters.{character_in, is_character, is_in_code, characters}
+use Rattle.nx_code.specs.Table.{table, row_of}
+use Rattle.nx_code.specs.Reading.{character_of}
+use Rattle.nx_code.specs.Characters.{is_in_code, characters}
+use Rattle.nx_code.specs.Rows.{character_in, is_character}
 use Rattle.nx_code.proofs.TableLemmas.{is_at, Some-is_at, character-TABLE}
 
 -- a test of what is printed, where something is
@@ -30,34 +31,34 @@ abbrev pub place_for : Shift → ℕ → Option ℕ
 place_for shift c = position (λ (row : Row). is_character (character_in row shift) c) TABLE
 
 -- only the 32 combinations print
-printed-low : (shift : Shift) (n : ℕ) → n < 36 → if_some (λ c. ltb n 33) (printed n shift) ≡ true
-unfolding printed table
-printed-low Letters n h = agree_below_at (λ k. if_some (λ c. ltb k 33) (printed k Letters)) (λ _. true) 36 n refl h
-printed-low Figures n h = agree_below_at (λ k. if_some (λ c. ltb k 33) (printed k Figures)) (λ _. true) 36 n refl h
+printed-low : (shift : Shift) (n : ℕ) → n < 36 → if_some (λ c. ltb n 33) (character_of n shift) ≡ true
+unfolding character_of row_of table
+printed-low Letters n h = agree_below_at (λ k. if_some (λ c. ltb k 33) (character_of k Letters)) (λ _. true) 36 n refl h
+printed-low Figures n h = agree_below_at (λ k. if_some (λ c. ltb k 33) (character_of k Figures)) (λ _. true) 36 n refl h
 
 -- a character that a combination prints is found at its place
-printed-place : (shift : Shift) (n : ℕ) → n < 33 → if_some (λ c. eqb n 0 || is_at (place_for shift c) (n - 1)) (printed n shift) ≡ true
-unfolding printed table
+printed-place : (shift : Shift) (n : ℕ) → n < 33 → if_some (λ c. eqb n 0 || is_at (place_for shift c) (n - 1)) (character_of n shift) ≡ true
+unfolding character_of row_of table
 printed-place Letters n h =
-    agree_below_at (λ k. if_some (λ c. eqb k 0 || is_at (place_for Letters c) (k - 1)) (printed k Letters)) (λ _. true) 33 n refl h
+    agree_below_at (λ k. if_some (λ c. eqb k 0 || is_at (place_for Letters c) (k - 1)) (character_of k Letters)) (λ _. true) 33 n refl h
 printed-place Figures n h =
-    agree_below_at (λ k. if_some (λ c. eqb k 0 || is_at (place_for Figures c) (k - 1)) (printed k Figures)) (λ _. true) 33 n refl h
+    agree_below_at (λ k. if_some (λ c. eqb k 0 || is_at (place_for Figures c) (k - 1)) (character_of k Figures)) (λ _. true) 33 n refl h
 
 -- a character of both shifts has one place
 abbrev pub same_if_some : Option ℕ → ℕ → Bool
 same_if_some None at = true
 same_if_some (Some other) at = eqb other at
 
-printed-both : (n : ℕ) → n < 33 → if_some (λ c. same_if_some (place_for Figures c) (n - 1)) (printed n Letters) ≡ true
-unfolding printed table
+printed-both : (n : ℕ) → n < 33 → if_some (λ c. same_if_some (place_for Figures c) (n - 1)) (character_of n Letters) ≡ true
+unfolding character_of row_of table
 printed-both n h =
-    agree_below_at (λ k. if_some (λ c. same_if_some (place_for Figures c) (k - 1)) (printed k Letters)) (λ _. true) 33 n refl h
+    agree_below_at (λ k. if_some (λ c. same_if_some (place_for Figures c) (k - 1)) (character_of k Letters)) (λ _. true) 33 n refl h
 
 -- the characters of the code are those that are printed
-printed-in_code : (shift : Shift) (n : ℕ) → n < 33 → if_some is_in_code (printed n shift) ≡ true
-unfolding printed table is_in_code characters
-printed-in_code Letters n h = agree_below_at (λ k. if_some is_in_code (printed k Letters)) (λ _. true) 33 n refl h
-printed-in_code Figures n h = agree_below_at (λ k. if_some is_in_code (printed k Figures)) (λ _. true) 33 n refl h
+printed-in_code : (shift : Shift) (n : ℕ) → n < 33 → if_some is_in_code (character_of n shift) ≡ true
+unfolding character_of row_of table is_in_code characters
+printed-in_code Letters n h = agree_below_at (λ k. if_some is_in_code (character_of k Letters)) (λ _. true) 33 n refl h
+printed-in_code Figures n h = agree_below_at (λ k. if_some is_in_code (character_of k Figures)) (λ _. true) 33 n refl h
 
 -- what is found in a list of low numbers is low
 list_any-lt : (xs : List ℕ) (c : ℕ) → list_all (λ d. ltb d 128) xs ≡ true → list_any (λ d. eqb d c) xs ≡ true → c < 128
@@ -78,17 +79,17 @@ unfolding is_in_code characters
 in_code-places c h =
     agree_below_at (λ k. not (is_in_code k) || (is_some (place_for Letters k) || is_some (place_for Figures k))) (λ _. true) 128 c refl h
 
-pub place_for-Some : (shift : Shift) (c at : ℕ) → place_for shift c ≡ Some at → (at < 32) × (printed (at + 1) shift ≡ Some c)
+pub place_for-Some : (shift : Shift) (c at : ℕ) → place_for shift c ≡ Some at → (at < 32) × (character_of (at + 1) shift ≡ Some c)
 place_for-Some shift c at h =
-    let row : Row = record { word = 0; letter = None; figure = None } in
+    let row : Row = record { word = 0; letter = None; figure = None; name = None } in
     let found = position-Some (λ (r : Row). is_character (character_in r shift) c) TABLE at row h in
-    let prints : printed (at + 1) shift ≡ Some c = sym (character-TABLE shift at row found.0) ∙ is_character-Some (character_in (get_or TABLE at row) shift) c found.1 in
+    let prints : character_of (at + 1) shift ≡ Some c = sym (character-TABLE shift at row found.0) ∙ is_character-Some (character_in (get_or TABLE at row) shift) c found.1 in
     let low = ltb-true (at + 1) 33 (if_some-at (λ d. ltb (at + 1) 33) _ c (printed-low shift (at + 1) (omega (arith, found.0))) prints) in
     (omega (arith, low), prints)
 
-pub place_for-printed : (shift : Shift) (n c : ℕ) → 1 ≤ n → n ≤ 32 → printed n shift ≡ Some c → place_for shift c ≡ Some (n - 1)
+pub place_for-printed : (shift : Shift) (n c : ℕ) → 1 ≤ n → n ≤ 32 → character_of n shift ≡ Some c → place_for shift c ≡ Some (n - 1)
 place_for-printed shift n c low high h =
-    let t = if_some-at (λ d. eqb n 0 || is_at (place_for shift d) (n - 1)) (printed n shift) c (printed-place shift n (omega arith)) h in
+    let t = if_some-at (λ d. eqb n 0 || is_at (place_for shift d) (n - 1)) (character_of n shift) c (printed-place shift n (omega arith)) h in
     let zero_not : eqb n 0 ≡ false = ne_eqb n 0 (λ e. omega arith) in
     Some-is_at (place_for shift c) (n - 1) (rw zero_not at t)
 
@@ -96,21 +97,21 @@ place_for-printed shift n c low high h =
 pub same_place_for : (c at other : ℕ) → place_for Letters c ≡ Some at → place_for Figures c ≡ Some other → other ≡ at
 same_place_for c at other h k =
     let found = place_for-Some Letters c at h in
-    let t = if_some-at (λ d. same_if_some (place_for Figures d) (at + 1 - 1)) (printed (at + 1) Letters) c (printed-both (at + 1) (omega (arith, found.0))) found.1 in
+    let t = if_some-at (λ d. same_if_some (place_for Figures d) (at + 1 - 1)) (character_of (at + 1) Letters) c (printed-both (at + 1) (omega (arith, found.0))) found.1 in
     let e : other ≡ at + 1 - 1 = eqb-true other (at + 1 - 1) (subst (λ o. same_if_some o (at + 1 - 1) ≡ true) k t) in
     omega arith
 
 pub in_code-Some : (shift : Shift) (c at : ℕ) → place_for shift c ≡ Some at → is_in_code c ≡ true
 in_code-Some shift c at h =
     let found = place_for-Some shift c at h in
-    if_some-at is_in_code (printed (at + 1) shift) c (printed-in_code shift (at + 1) (omega (arith, found.0))) found.1
+    if_some-at is_in_code (character_of (at + 1) shift) c (printed-in_code shift (at + 1) (omega (arith, found.0))) found.1
 
 pub in_code-None : (c : ℕ) → place_for Letters c ≡ None → place_for Figures c ≡ None → is_in_code c ≡ true → ⊥
 in_code-None c h k e =
     let t = in_code-places c (in_code-low c e) in
     false≢true (sym (rw (e, h, k) refl) ∙ t)
 
-pub in_code-printed : (shift : Shift) (n c : ℕ) → 1 ≤ n → n ≤ 32 → printed n shift ≡ Some c → is_in_code c ≡ true
+pub in_code-printed : (shift : Shift) (n c : ℕ) → 1 ≤ n → n ≤ 32 → character_of n shift ≡ Some c → is_in_code c ≡ true
 in_code-printed shift n c low high h = in_code-Some shift c (n - 1) (place_for-printed shift n c low high h)
 
 -- what prints a character
@@ -119,7 +120,7 @@ pub record Prints (c : ℕ) : Type 0 where
   pub shift : Shift
   pub from_one : 1 ≤ number
   pub to_thirty_two : number ≤ 32
-  pub prints : printed number shift ≡ Some c
+  pub prints : character_of number shift ≡ Some c
 
 Prints-place : (shift : Shift) (c at : ℕ) → place_for shift c ≡ Some at → Prints c
 Prints-place shift c at h =
@@ -138,7 +139,7 @@ in_code-prints c h =
     ] refl
 
 -- a character that both shifts print is of one combination
-pub both-printed : (n m c : ℕ) → 1 ≤ n → n ≤ 32 → 1 ≤ m → m ≤ 32 → printed n Letters ≡ Some c → printed m Figures ≡ Some c → m ≡ n
+pub both-printed : (n m c : ℕ) → 1 ≤ n → n ≤ 32 → 1 ≤ m → m ≤ 32 → character_of n Letters ≡ Some c → character_of m Figures ≡ Some c → m ≡ n
 both-printed n m c low high from to h k =
     let e = same_place_for c (n - 1) (m - 1) (place_for-printed Letters n c low high h) (place_for-printed Figures m c from to k) in
     omega arith

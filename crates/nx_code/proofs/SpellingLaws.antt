@@ -3,14 +3,14 @@ use Rattle.std.proofs.Common.{◌≡◌, ◌≢◌, ℕ, ◌+◌, ◌-◌, ◌<�
 use Rattle.std.specs.Option.{is_some, option_to_list}
 use Rattle.std.specs.List.{list_all}
 use Rattle.std.proofs.lemmas.Bool.{and_parts, and_from, or_cases, eqb-true, eq-eqb, ne_eqb, cases_eq, false≢true, both_ways, not-true}
-use Rattle.nx_code.specs.Reading.{combination, printed, shift_set, shift_after, shift_after_all, text}
+use Rattle.nx_code.specs.Reading.{combination, character_of, shift_set, shift_after, shift_after_all, text}
 use Rattle.nx_code.specs.Shifts.{other}
 use Rattle.nx_code.specs.Characters.{is_in_code}
-use Rattle.nx_code.specs.Spelling.{first, IsOnlyIn, Fits, EachFits, Spells}
+use Rattle.nx_code.specs.Spelling.{first_of, IsOnlyIn, Fits, EachFits, Spells}
 use Rattle.nx_code.specs.declared.shifts.Shift.{Shift}
 use Rattle.nx_code.specs.declared.shifts.Shift.TheVariants.{Letters, Figures}
 use Rattle.nx_code.proofs.CharacterLemmas.{in_code-prints, in_code-printed, if_some-at, place_for, place_for-Some, place_for-printed, both-printed}
-use Rattle.nx_code.proofs.SpellingLemmas.{Spells-nil, Spells-append, spells_newline, spells_here, spells_there, differs-other, other-other, number_of_shift, shift_set-number, after_shift, printed-line_feed, printed-return, printed-shift, printed-newline, printed-some, not_mark, not_silent}
+use Rattle.nx_code.proofs.SpellingLemmas.{Spells-nil, Spells-append, spells_newline, spells_here, spells_there, differs-other, other-other, number_of_shift, shift_set-number, after_shift, printed-line_feed, printed-return, printed-shift, printed-newline, shift_set-None}
 
 -- ---- each text of the code has a spelling
 
@@ -24,8 +24,8 @@ piece-exists shift c h =
             ((at + 1) ∷ [], spells_here shift (at + 1) c (omega arith) (omega (arith, found.0)) found.1 no_newline)
         | None ↦ λ e.
             let p = in_code-prints c h in
-            let elsewhere : printed p.number shift ≢ Some c = λ f. let clash : Some (p.number - 1) ≡ None = sym (place_for-printed shift p.number c p.from_one p.to_thirty_two f) ∙ e in cc in
-            let differs : p.shift ≢ shift = λ f. elsewhere (ap (printed p.number) (sym f) ∙ p.prints) in
+            let elsewhere : character_of p.number shift ≢ Some c = λ f. let clash : Some (p.number - 1) ≡ None = sym (place_for-printed shift p.number c p.from_one p.to_thirty_two f) ∙ e in cc in
+            let differs : p.shift ≢ shift = λ f. elsewhere (ap (character_of p.number) (sym f) ∙ p.prints) in
             (number_of_shift p.shift ∷ p.number ∷ [], spells_there p.shift shift (number_of_shift p.shift) p.number c (differs-other p.shift shift differs) (shift_set-number p.shift) p.from_one p.to_thirty_two p.prints elsewhere no_newline)
       ] refl
     ]
@@ -44,7 +44,7 @@ in_code-prints_all : (shift : Shift) (numbers : List ℕ) → EachFits shift num
 in_code-prints_all shift [] h = refl
 in_code-prints_all shift (n ∷ numbers) h =
     let rest = in_code-prints_all (shift_after (combination n) shift) numbers h.1 in
-    elim (printed n shift) as (λ o. printed n shift ≡ o → list_all is_in_code (option_to_list o ++ text (map combination numbers) (shift_after (combination n) shift)) ≡ true) [
+    elim (character_of n shift) as (λ o. character_of n shift ≡ o → list_all is_in_code (option_to_list o ++ text (map combination numbers) (shift_after (combination n) shift)) ≡ true) [
       | Some c ↦ λ e. and_from _ _ (in_code-printed shift n c h.0.from_one h.0.to_thirty_two e) rest
       | None ↦ λ e. rest
     ] refl
@@ -79,13 +79,13 @@ record Step (shift : Shift) (numbers : List ℕ) : Type 0 where
   pub whole : numbers ≡ piece_for shift c ++ rest
   pub reads : text (map combination numbers) shift ≡ c ∷ text (map combination rest) (shift_after_all (map combination (piece_for shift c)) shift)
   pub fits : EachFits (shift_after_all (map combination (piece_for shift c)) shift) rest
-  pub begins : first rest ≢ Some 28
+  pub begins : first_of rest ≢ Some 28
   pub shorter : length rest < length numbers
 
 -- the same, for a piece that is shown to be the one
 Step-of : (shift : Shift) (numbers : List ℕ) (c : ℕ) (piece rest : List ℕ) → piece ≡ piece_for shift c → numbers ≡ piece ++ rest
     → text (map combination numbers) shift ≡ c ∷ text (map combination rest) (shift_after_all (map combination piece) shift)
-    → EachFits (shift_after_all (map combination piece) shift) rest → first rest ≢ Some 28 → length rest < length numbers → Step shift numbers
+    → EachFits (shift_after_all (map combination piece) shift) rest → first_of rest ≢ Some 28 → length rest < length numbers → Step shift numbers
 Step-of shift numbers c piece rest is whole reads fits begins shorter = record {
   c = c;
   rest = rest;
@@ -99,7 +99,7 @@ Step-of shift numbers c piece rest is whole reads fits begins shorter = record {
 piece_for-newline : (shift : Shift) → 27 ∷ 28 ∷ [] ≡ piece_for shift 10
 piece_for-newline shift = refl
 
-piece_for-here : (shift : Shift) (n c : ℕ) → 1 ≤ n → n ≤ 32 → printed n shift ≡ Some c → c ≢ 10 → n ∷ [] ≡ piece_for shift c
+piece_for-here : (shift : Shift) (n c : ℕ) → 1 ≤ n → n ≤ 32 → character_of n shift ≡ Some c → c ≢ 10 → n ∷ [] ≡ piece_for shift c
 piece_for-here shift n c low high h no_newline =
     let newline = ne_eqb c 10 no_newline in
     let place = place_for-printed shift n c low high h in
@@ -107,13 +107,13 @@ piece_for-here shift n c low high h no_newline =
     sym (rw (newline, place, e) refl)
 
 -- one combination prints a character in both shifts
-both_shifts : (s shift : Shift) (n m c : ℕ) → s ≡ other shift → 1 ≤ n → n ≤ 32 → 1 ≤ m → m ≤ 32 → printed n s ≡ Some c → printed m shift ≡ Some c → m ≡ n
+both_shifts : (s shift : Shift) (n m c : ℕ) → s ≡ other shift → 1 ≤ n → n ≤ 32 → 1 ≤ m → m ≤ 32 → character_of n s ≡ Some c → character_of m shift ≡ Some c → m ≡ n
 both_shifts s Letters n m c differs low high from to h k =
-    sym (both-printed m n c from to low high k (ap (printed n) (sym differs) ∙ h))
+    sym (both-printed m n c from to low high k (ap (character_of n) (sym differs) ∙ h))
 both_shifts s Figures n m c differs low high from to h k =
-    both-printed n m c low high from to (ap (printed n) (sym differs) ∙ h) k
+    both-printed n m c low high from to (ap (character_of n) (sym differs) ∙ h) k
 
-piece_for-there : (s shift : Shift) (n c : ℕ) → s ≡ other shift → 1 ≤ n → n ≤ 32 → printed n s ≡ Some c → printed n shift ≢ Some c → c ≢ 10
+piece_for-there : (s shift : Shift) (n c : ℕ) → s ≡ other shift → 1 ≤ n → n ≤ 32 → character_of n s ≡ Some c → character_of n shift ≢ Some c → c ≢ 10
     → number_of_shift s ∷ n ∷ [] ≡ piece_for shift c
 piece_for-there s shift n c differs low high h elsewhere no_newline =
     let newline = ne_eqb c 10 no_newline in
@@ -122,67 +122,25 @@ piece_for-there s shift n c differs low high h elsewhere no_newline =
       | Some at ↦ λ e.
           let found = place_for-Some shift c at e in
           let same = both_shifts s shift n (at + 1) c differs low high (omega arith) (omega (arith, found.0)) h found.1 in
-          absurd (elsewhere (ap (λ k. printed k shift) (sym same) ∙ found.1))
+          absurd (elsewhere (ap (λ k. character_of k shift) (sym same) ∙ found.1))
     ] refl in
     let place = place_for-printed s n c low high h in
     let e : n - 1 + 1 ≡ n = omega arith in
     let there : place_for (other shift) c ≡ Some (n - 1) = ap (λ t. place_for t c) (sym differs) ∙ place in
     sym (rw (newline, nowhere, there, e) (ap (λ t. number_of_shift t ∷ n ∷ []) (sym differs)))
 
-not_mark-true : (n : ℕ) → n ≢ 27 → n ≢ 29 → n ≢ 30 → n ≢ 32 → not_mark n ≡ true
-not_mark-true n a b c d =
-    let e = ne_eqb n 27 a in
-    let f = ne_eqb n 29 b in
-    let g = ne_eqb n 30 c in
-    let h = ne_eqb n 32 d in
-    rw (e, f, g, h) refl
-
-not_silent-true : (n : ℕ) → (n ≢ 4) × (n ≢ 6) × (n ≢ 7) × (n ≢ 8) × (n ≢ 10) → not_silent n ≡ true
-not_silent-true n h =
-    let a = ne_eqb n 4 h.0 in
-    let b = ne_eqb n 6 h.1 in
-    let c = ne_eqb n 7 h.2 in
-    let d = ne_eqb n 8 h.3 in
-    let e = ne_eqb n 10 h.4 in
-    rw (a, b, c, d, e) refl
-
--- of four tests the first and the last two fail, so the second passes
-second : (a b c d : Bool) → a ≡ false → c ≡ true → d ≡ true → (a || (b || (not c || not d))) ≡ true → b ≡ true
-second a true c d h k l e = refl
-second true false c d h k l e = absurd (false≢true (sym h))
-second false false true true h k l e = absurd (false≢true e)
-second false false true false h k l e = absurd (false≢true l)
-second false false false d h k l e = absurd (false≢true k)
-
--- of three tests the first and the last fail, so the second passes
-middle : (a b c : Bool) → a ≡ false → c ≡ true → (a || (b || not c)) ≡ true → b ≡ true
-middle a true c h k e = refl
-middle true false c h k e = absurd (false≢true (sym h))
-middle false false true h k e = absurd (false≢true e)
-middle false false false h k e = absurd (false≢true k)
-
 -- what fits, and is neither carriage return nor shift, prints
-prints-some : (shift : Shift) (n : ℕ) (rest : List ℕ) → Fits shift n rest → n ≢ 27 → n ≢ 29 → n ≢ 30 → (c : ℕ) × (printed n shift ≡ Some c)
-prints-some Letters n rest h a b c =
-    let low = h.from_one in
-    let high = h.to_thirty_two in
-    let t = and_parts (eqb n 0 || (is_some (printed n Letters) || not (not_mark n))) _ (printed-some Letters n (omega arith)) in
-    let mark = not_mark-true n a b c h.not_blank in
-    let zero_not = ne_eqb n 0 (λ e. omega arith) in
-    some_of (printed n Letters) (middle (eqb n 0) (is_some (printed n Letters)) (not_mark n) zero_not mark t.0)
-prints-some Figures n rest h a b c =
-    let low = h.from_one in
-    let high = h.to_thirty_two in
-    let t = and_parts (eqb n 0 || (is_some (printed n Letters) || not (not_mark n))) _ (printed-some Figures n (omega arith)) in
-    let mark = not_mark-true n a b c h.not_blank in
-    let silent = not_silent-true n (h.no_such_figure refl) in
-    let zero_not = ne_eqb n 0 (λ e. omega arith) in
-    some_of (printed n Figures) (second (eqb n 0) (is_some (printed n Figures)) (not_mark n) (not_silent n) zero_not mark silent t.1)
+prints-some : (shift : Shift) (n : ℕ) (rest : List ℕ) → Fits shift n rest → n ≢ 27 → n ≢ 29 → n ≢ 30 → (c : ℕ) × (character_of n shift ≡ Some c)
+prints-some shift n rest h no_return no_letters no_figures =
+    elim (character_of n shift) as (λ o. character_of n shift ≡ o → (c : ℕ) × (o ≡ Some c)) [
+      | Some c ↦ λ e. (c, refl)
+      | None ↦ λ e. absurd (no_return (h.not_silent e (shift_set-None n no_letters no_figures)))
+    ] refl
 
 -- only the line feed prints a newline
-newline-line_feed : (shift : Shift) (n c : ℕ) → n ≤ 32 → printed n shift ≡ Some c → n ≢ 28 → c ≢ 10
+newline-line_feed : (shift : Shift) (n c : ℕ) → n ≤ 32 → character_of n shift ≡ Some c → n ≢ 28 → c ≢ 10
 newline-line_feed shift n c high h no_line e =
-    let t = if_some-at (λ d. not (eqb d 10) || eqb n 28) (printed n shift) c (printed-newline shift n (omega arith)) h in
+    let t = if_some-at (λ d. not (eqb d 10) || eqb n 28) (character_of n shift) c (printed-newline shift n (omega arith)) h in
     elim (or_cases (not (eqb c 10)) (eqb n 28) t) [
       | inl f ↦ both_ways (eqb c 10) (not-true (eqb c 10) f) (eq-eqb c 10 e)
       | inr f ↦ no_line (eqb-true n 28 f)
@@ -196,21 +154,21 @@ Step-here shift n rest h each no_line no_return a b =
     let prints = p.1 in
     Step-of shift (n ∷ rest) c (n ∷ []) rest (piece_for-here shift n c h.from_one h.to_thirty_two prints no_newline) refl (rw prints refl) each (λ e. no_return (h.carriage_return.1 e)) (omega arith)
 
-Step-at : (s shift : Shift) (m c : ℕ) (rest : List ℕ) → s ≡ other shift → printed m s ≡ Some c → printed m shift ≢ Some c → Fits s m rest → EachFits (shift_after (combination m) s) rest
+Step-at : (s shift : Shift) (m c : ℕ) (rest : List ℕ) → s ≡ other shift → character_of m s ≡ Some c → character_of m shift ≢ Some c → Fits s m rest → EachFits (shift_after (combination m) s) rest
     → Step shift (number_of_shift s ∷ (m ∷ rest))
 Step-at s shift m c rest away_from prints elsewhere h each =
-    let no_line : m ≢ 28 = λ e. elsewhere (ap (λ k. printed k shift) e ∙ printed-line_feed shift ∙ sym (ap (λ k. printed k s) e ∙ printed-line_feed s) ∙ prints) in
+    let no_line : m ≢ 28 = λ e. elsewhere (ap (λ k. character_of k shift) e ∙ printed-line_feed shift ∙ sym (ap (λ k. character_of k s) e ∙ printed-line_feed s) ∙ prints) in
     let no_newline = newline-line_feed s m c h.to_thirty_two prints no_line in
-    let no_return : m ≢ 27 = λ e. let clash : Some c ≡ None = sym prints ∙ ap (λ k. printed k s) e ∙ printed-return s in cc in
+    let no_return : m ≢ 27 = λ e. let clash : Some c ≡ None = sym prints ∙ ap (λ k. character_of k s) e ∙ printed-return s in cc in
     Step-of shift (number_of_shift s ∷ (m ∷ rest)) c (number_of_shift s ∷ m ∷ []) rest (piece_for-there s shift m c away_from h.from_one h.to_thirty_two prints elsewhere no_newline) refl
     (rw (printed-shift s shift, after_shift s shift, prints) refl) (rw (after_shift s shift) each) (λ e. no_return (h.carriage_return.1 e)) (omega arith)
 
 Step-there : (s shift : Shift) (n m : ℕ) (rest : List ℕ) → n ≡ number_of_shift s → s ≢ shift → IsOnlyIn s (Some m) → Fits s m rest → EachFits (shift_after (combination m) s) rest → Step shift (n ∷ (m ∷ rest))
 Step-there s shift n m rest is differs only h each =
-    let p = some_of (printed m s) only.0 in
+    let p = some_of (character_of m s) only.0 in
     let away_from = differs-other s shift differs in
     let back : other s ≡ shift = ap other away_from ∙ other-other shift in
-    let elsewhere : printed m shift ≢ Some p.0 = λ e. only.1 (ap (printed m) back ∙ e ∙ sym p.1) in
+    let elsewhere : character_of m shift ≢ Some p.0 = λ e. only.1 (ap (character_of m) back ∙ e ∙ sym p.1) in
     subst (λ k. Step shift (k ∷ (m ∷ rest))) (sym is) (Step-at s shift m p.0 rest away_from p.1 elsewhere h each)
 
 -- a shift stands before one more combination
@@ -227,14 +185,14 @@ Step-return : (shift : Shift) (n : ℕ) (rest : List ℕ) → n ≡ 27 → Fits 
 Step-return shift n [] is h each = let clash = h.carriage_return.0 is in cc
 Step-return shift n (m ∷ rest) is h each =
     let line : m ≡ 28 = let e = h.carriage_return.0 is in cc in
-    let not_again : first rest ≢ Some 28 = λ e. let f = each.0.carriage_return.1 e in omega arith in
+    let not_again : first_of rest ≢ Some 28 = λ e. let f = each.0.carriage_return.1 e in omega arith in
     let later : EachFits shift rest = subst (λ k. EachFits (shift_after (combination k) shift) rest) line each.1 in
     let here : Step shift (27 ∷ (28 ∷ rest)) =
     Step-of shift (27 ∷ (28 ∷ rest)) 10 (27 ∷ 28 ∷ []) rest (piece_for-newline shift) refl
     (rw (printed-return shift, printed-line_feed shift) refl) later not_again (omega arith) in
     subst (λ k. Step shift (k ∷ (m ∷ rest))) (sym is) (subst (λ k. Step shift (27 ∷ (k ∷ rest))) (sym line) here)
 
-step : (shift : Shift) (n : ℕ) (rest : List ℕ) → EachFits shift (n ∷ rest) → first (n ∷ rest) ≢ Some 28 → Step shift (n ∷ rest)
+step : (shift : Shift) (n : ℕ) (rest : List ℕ) → EachFits shift (n ∷ rest) → first_of (n ∷ rest) ≢ Some 28 → Step shift (n ∷ rest)
 step shift n rest h begins =
     elim (cases_eq n 27) [
       | inl is ↦ Step-return shift n rest is h.0 (subst (λ k. EachFits (shift_after (combination k) shift) rest) is h.1)
@@ -247,7 +205,7 @@ step shift n rest h begins =
       ]
     ]
 
-one_upto : (size : ℕ) (shift : Shift) (xs ys : List ℕ) → length xs < size → EachFits shift xs → EachFits shift ys → first xs ≢ Some 28 → first ys ≢ Some 28
+one_upto : (size : ℕ) (shift : Shift) (xs ys : List ℕ) → length xs < size → EachFits shift xs → EachFits shift ys → first_of xs ≢ Some 28 → first_of ys ≢ Some 28
     → text (map combination xs) shift ≡ text (map combination ys) shift → xs ≡ ys
 one_upto zero shift xs ys small h k b d e = absurd (omega arith)
 one_upto (suc size) shift [] [] small h k b d e = refl

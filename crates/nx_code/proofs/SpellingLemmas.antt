@@ -1,17 +1,17 @@
 -- Spellings of more characters, and that a text has one spelling.
-use Rattle.std.proofs.Common.{◌≡◌, ◌≢◌, ◌⊎◌, ℕ, ◌<◌, ◌≤◌, Bool, true, false, cond, ◌&&◌, ◌||◌, not, eqb, List, [], ◌∷◌, ◌++◌, length, get_or, map, Some, None, inl, inr, refl, sym, ap, ◌∙◌, subst, arith}
+use Rattle.std.proofs.Common.{◌≡◌, ◌≢◌, ◌⊎◌, ℕ, ◌+◌, ◌<◌, ◌≤◌, Bool, true, false, cond, ◌&&◌, ◌||◌, not, eqb, List, [], ◌∷◌, ◌++◌, length, get_or, map, Some, None, inl, inr, refl, sym, ap, ◌∙◌, subst, arith, length-append}
 use Rattle.std.specs.List.{position, position_or_len}
 use Rattle.std.proofs.lemmas.List.Sums.{fails_before_first}
 use Rattle.std.proofs.lemmas.List.{map-append}
 use Rattle.std.specs.Option.{is_some}
 use Rattle.std.proofs.lemmas.Bool.{agree_below_at, and_parts, eqb-true, ne_eqb, false≢true, not-true, both_ways, eq-eqb, cases_lt, lt-ltb, cond-true}
-use Rattle.nx_code.specs.Table.{table}
-use Rattle.nx_code.specs.Reading.{combination, printed, shift_set, shift_after, shift_after_all, text}
+use Rattle.nx_code.specs.Table.{table, row_of}
+use Rattle.nx_code.specs.Reading.{combination, character_of, shift_set, shift_after, shift_after_all, text}
 use Rattle.nx_code.specs.Characters.{holds_in}
 use Rattle.nx_code.specs.declared.shifts.Case.{Case}
 use Rattle.nx_code.specs.declared.shifts.Case.TheVariants as cases
 use Rattle.nx_code.specs.Shifts.{other}
-use Rattle.nx_code.specs.Spelling.{first, IsOnlyIn, Fits, EachFits, Spells}
+use Rattle.nx_code.specs.Spelling.{first_of, IsOnlyIn, Fits, EachFits, Spells}
 use Rattle.nx_code.specs.declared.shifts.Shift.{Shift}
 use Rattle.nx_code.specs.declared.shifts.Shift.TheVariants.{Letters, Figures}
 use Rattle.nx_code.proofs.ReadingLemmas.{text-append, shift_after_all-append}
@@ -22,29 +22,16 @@ use Rattle.nx_code.proofs.CharacterLemmas.{if_some, if_some-at}
 abbrev pub not_mark : ℕ → Bool
 not_mark n = not (eqb n 27) && (not (eqb n 29) && (not (eqb n 30) && not (eqb n 32)))
 
-abbrev pub not_silent : ℕ → Bool
-not_silent n = not (eqb n 4) && (not (eqb n 6) && (not (eqb n 7) && (not (eqb n 8) && not (eqb n 10))))
-
-printed-mark : (shift : Shift) (n : ℕ) → n < 33 → if_some (λ c. not_mark n) (printed n shift) ≡ true
-unfolding printed table
-printed-mark Letters n h = agree_below_at (λ k. if_some (λ c. not_mark k) (printed k Letters)) (λ _. true) 33 n refl h
-printed-mark Figures n h = agree_below_at (λ k. if_some (λ c. not_mark k) (printed k Figures)) (λ _. true) 33 n refl h
-
-printed-silent : (n : ℕ) → n < 33 → if_some (λ c. not_silent n) (printed n Figures) ≡ true
-unfolding printed table
-printed-silent n h = agree_below_at (λ k. if_some (λ c. not_silent k) (printed k Figures)) (λ _. true) 33 n refl h
-
--- what is no mark, and in figures not silent, prints
-pub printed-some : (shift : Shift) (n : ℕ) → n < 33 → (eqb n 0 || (is_some (printed n Letters) || not (not_mark n))) && (eqb n 0 || (is_some (printed n Figures) || (not (not_mark n) || not (not_silent n)))) ≡ true
-unfolding printed table
-printed-some shift n h =
-    agree_below_at (λ k. (eqb k 0 || (is_some (printed k Letters) || not (not_mark k))) && (eqb k 0 || (is_some (printed k Figures) || (not (not_mark k) || not (not_silent k))))) (λ _. true) 33 n refl h
+printed-mark : (shift : Shift) (n : ℕ) → n < 33 → if_some (λ c. not_mark n) (character_of n shift) ≡ true
+unfolding character_of row_of table
+printed-mark Letters n h = agree_below_at (λ k. if_some (λ c. not_mark k) (character_of k Letters)) (λ _. true) 33 n refl h
+printed-mark Figures n h = agree_below_at (λ k. if_some (λ c. not_mark k) (character_of k Figures)) (λ _. true) 33 n refl h
 
 -- only the line feed prints a newline
-pub printed-newline : (shift : Shift) (n : ℕ) → n < 33 → if_some (λ c. not (eqb c 10) || eqb n 28) (printed n shift) ≡ true
-unfolding printed table
-printed-newline Letters n h = agree_below_at (λ k. if_some (λ c. not (eqb c 10) || eqb k 28) (printed k Letters)) (λ _. true) 33 n refl h
-printed-newline Figures n h = agree_below_at (λ k. if_some (λ c. not (eqb c 10) || eqb k 28) (printed k Figures)) (λ _. true) 33 n refl h
+pub printed-newline : (shift : Shift) (n : ℕ) → n < 33 → if_some (λ c. not (eqb c 10) || eqb n 28) (character_of n shift) ≡ true
+unfolding character_of row_of table
+printed-newline Letters n h = agree_below_at (λ k. if_some (λ c. not (eqb c 10) || eqb k 28) (character_of k Letters)) (λ _. true) 33 n refl h
+printed-newline Figures n h = agree_below_at (λ k. if_some (λ c. not (eqb c 10) || eqb k 28) (character_of k Figures)) (λ _. true) 33 n refl h
 
 not_eqb : (n m : ℕ) → not (eqb n m) ≡ true → n ≢ m
 not_eqb n m h e = both_ways (eqb n m) (not-true (eqb n m) h) (subst (λ k. eqb n k ≡ true) e (eq-eqb n n refl))
@@ -62,45 +49,34 @@ IsNoMark-not_mark n h =
     let c = and_parts (not (eqb n 30)) _ b.1 in
     record { return = not_eqb n 27 a.0; letters = not_eqb n 29 b.0; figures = not_eqb n 30 c.0; blank = not_eqb n 32 c.1 }
 
-IsNoMark-printed : (shift : Shift) (n c : ℕ) → n ≤ 32 → printed n shift ≡ Some c → IsNoMark n
+IsNoMark-printed : (shift : Shift) (n c : ℕ) → n ≤ 32 → character_of n shift ≡ Some c → IsNoMark n
 IsNoMark-printed shift n c high h =
-    IsNoMark-not_mark n (if_some-at (λ d. not_mark n) (printed n shift) c (printed-mark shift n (omega arith)) h)
+    IsNoMark-not_mark n (if_some-at (λ d. not_mark n) (character_of n shift) c (printed-mark shift n (omega arith)) h)
 
-shift_set-None : (n : ℕ) → IsNoMark n → shift_set (combination n) ≡ None
-shift_set-None n h =
-    let letters = ne_eqb n 29 h.letters in
-    let figures = ne_eqb n 30 h.figures in
+pub shift_set-None : (n : ℕ) → n ≢ 29 → n ≢ 30 → shift_set (combination n) ≡ None
+shift_set-None n no_letters no_figures =
+    let letters = ne_eqb n 29 no_letters in
+    let figures = ne_eqb n 30 no_figures in
     rw (letters, figures) refl
-
-silent-printed : (shift : Shift) (n c : ℕ) → n ≤ 32 → printed n shift ≡ Some c → shift ≡ Figures → (n ≢ 4) × (n ≢ 6) × (n ≢ 7) × (n ≢ 8) × (n ≢ 10)
-silent-printed shift n c high h e =
-    let t = if_some-at (λ d. not_silent n) (printed n Figures) c (printed-silent n (omega arith)) (ap (printed n) (sym e) ∙ h) in
-    let a = and_parts (not (eqb n 4)) _ t in
-    let b = and_parts (not (eqb n 6)) _ a.1 in
-    let d = and_parts (not (eqb n 7)) _ b.1 in
-    let f = and_parts (not (eqb n 8)) _ d.1 in
-    (not_eqb n 4 a.0, not_eqb n 6 b.0, not_eqb n 7 d.0, not_eqb n 8 f.0, not_eqb n 10 f.1)
 
 -- ---- how each kind fits
 
-pub fits_character : (shift : Shift) (n c : ℕ) (rest : List ℕ) → 1 ≤ n → n ≤ 32 → printed n shift ≡ Some c → first rest ≢ Some 28 → Fits shift n rest
+pub fits_character : (shift : Shift) (n c : ℕ) (rest : List ℕ) → 1 ≤ n → n ≤ 32 → character_of n shift ≡ Some c → first_of rest ≢ Some 28 → Fits shift n rest
 fits_character shift n c rest low high h begins =
     let plain = IsNoMark-printed shift n c high h in
     record {
       from_one = low;
       to_thirty_two = high;
-      not_blank = plain.blank;
-      no_such_figure = silent-printed shift n c high h;
+      not_silent = λ none _. let clash : Some c ≡ None = sym h ∙ none in cc;
       carriage_return = (λ e. absurd (plain.return e), λ e. absurd (begins e));
-      needed = λ s e. let none : Some s ≡ None = sym e ∙ shift_set-None n plain in cc;
+      needed = λ s e. let none : Some s ≡ None = sym e ∙ shift_set-None n plain.letters plain.figures in cc;
     }
 
 pub fits_return : (shift : Shift) (rest : List ℕ) → Fits shift 27 (28 ∷ rest)
 fits_return shift rest = record {
   from_one = omega arith;
   to_thirty_two = omega arith;
-  not_blank = λ e. omega arith;
-  no_such_figure = λ _. (λ e. omega arith, λ e. omega arith, λ e. omega arith, λ e. omega arith, λ e. omega arith);
+  not_silent = λ _ _. refl;
   carriage_return = (λ _. refl, λ _. refl);
   needed = λ s e. cc;
 }
@@ -132,43 +108,41 @@ shift_set-number Letters = refl
 shift_set-number Figures = refl
 
 -- neither a carriage return nor a shift prints
-pub printed-return : (shift : Shift) → printed 27 shift ≡ None
-unfolding printed table
+pub printed-return : (shift : Shift) → character_of 27 shift ≡ None
+unfolding character_of row_of table
 printed-return Letters = refl
 printed-return Figures = refl
 
-pub printed-shift : (s shift : Shift) → printed (number_of_shift s) shift ≡ None
-unfolding printed table
+pub printed-shift : (s shift : Shift) → character_of (number_of_shift s) shift ≡ None
+unfolding character_of row_of table
 printed-shift Letters Letters = refl
 printed-shift Letters Figures = refl
 printed-shift Figures Letters = refl
 printed-shift Figures Figures = refl
 
-pub printed-line_feed : (shift : Shift) → printed 28 shift ≡ Some 10
-unfolding printed
+pub printed-line_feed : (shift : Shift) → character_of 28 shift ≡ Some 10
+unfolding character_of
 printed-line_feed shift = refl
 
 -- a character that is no newline is of no line feed
-pub not_line_feed : (shift : Shift) (n c : ℕ) → printed n shift ≡ Some c → c ≢ 10 → n ≢ 28
+pub not_line_feed : (shift : Shift) (n c : ℕ) → character_of n shift ≡ Some c → c ≢ 10 → n ≢ 28
 not_line_feed shift n c h no_newline e =
-    let f : Some c ≡ Some 10 = sym h ∙ ap (λ k. printed k shift) e ∙ printed-line_feed shift in
+    let f : Some c ≡ Some 10 = sym h ∙ ap (λ k. character_of k shift) e ∙ printed-line_feed shift in
     let g : c ≡ 10 = cc in
     no_newline g
 
-pub fits_shift : (s shift : Shift) (n c : ℕ) (rest : List ℕ) → s ≢ shift → printed n s ≡ Some c → printed n (other s) ≢ Some c → n ≢ 28 → Fits shift (number_of_shift s) (n ∷ rest)
+pub fits_shift : (s shift : Shift) (n c : ℕ) (rest : List ℕ) → s ≢ shift → character_of n s ≡ Some c → character_of n (other s) ≢ Some c → n ≢ 28 → Fits shift (number_of_shift s) (n ∷ rest)
 fits_shift Letters shift n c rest differs h elsewhere line = record {
   from_one = omega arith;
   to_thirty_two = omega arith;
-  not_blank = λ e. omega arith;
-  no_such_figure = λ _. (λ e. omega arith, λ e. omega arith, λ e. omega arith, λ e. omega arith, λ e. omega arith);
+  not_silent = λ _ e. cc;
   carriage_return = (λ e. absurd (omega arith), λ e. let f : n ≡ 28 = cc in absurd (line f));
   needed = λ t e. let f : Letters ≡ t = cc in subst (λ r. (r ≢ shift) × IsOnlyIn r (Some n)) f (differs, (ap is_some h, λ g. elsewhere (g ∙ h)));
 }
 fits_shift Figures shift n c rest differs h elsewhere line = record {
   from_one = omega arith;
   to_thirty_two = omega arith;
-  not_blank = λ e. omega arith;
-  no_such_figure = λ _. (λ e. omega arith, λ e. omega arith, λ e. omega arith, λ e. omega arith, λ e. omega arith);
+  not_silent = λ _ e. cc;
   carriage_return = (λ e. absurd (omega arith), λ e. let f : n ≡ 28 = cc in absurd (line f));
   needed = λ t e. let f : Figures ≡ t = cc in subst (λ r. (r ≢ shift) × IsOnlyIn r (Some n)) f (differs, (ap is_some h, λ g. elsewhere (g ∙ h)));
 }
@@ -185,15 +159,15 @@ spells_newline shift = record {
   fits = (fits_return shift [], (fits_character shift 28 10 [] (omega arith) (omega arith) (printed-line_feed shift) (λ e. cc), tt));
 }
 
-pub spells_here : (shift : Shift) (n c : ℕ) → 1 ≤ n → n ≤ 32 → printed n shift ≡ Some c → c ≢ 10 → Spells (c ∷ []) shift (n ∷ [])
+pub spells_here : (shift : Shift) (n c : ℕ) → 1 ≤ n → n ≤ 32 → character_of n shift ≡ Some c → c ≢ 10 → Spells (c ∷ []) shift (n ∷ [])
 spells_here shift n c low high h no_newline = record {
   reads = rw h refl;
   begins = λ e. let f : n ≡ 28 = cc in not_line_feed shift n c h no_newline f;
   fits = (fits_character shift n c [] low high h (λ e. cc), tt);
 }
 
-pub after_character : (shift : Shift) (n c : ℕ) → n ≤ 32 → printed n shift ≡ Some c → shift_after (combination n) shift ≡ shift
-after_character shift n c high h = let none = shift_set-None n (IsNoMark-printed shift n c high h) in rw none refl
+pub after_character : (shift : Shift) (n c : ℕ) → n ≤ 32 → character_of n shift ≡ Some c → shift_after (combination n) shift ≡ shift
+after_character shift n c high h = let plain = IsNoMark-printed shift n c high h in let none = shift_set-None n plain.letters plain.figures in rw none refl
 
 pub after_shift : (s shift : Shift) → shift_after (combination (number_of_shift s)) shift ≡ s
 after_shift Letters shift = refl
@@ -213,7 +187,7 @@ differs-other Letters Figures h = refl
 differs-other Figures Letters h = refl
 differs-other Figures Figures h = absurd (h refl)
 
-pub spells_there : (s shift : Shift) (k n c : ℕ) → s ≡ other shift → shift_set (combination k) ≡ Some s → 1 ≤ n → n ≤ 32 → printed n s ≡ Some c → printed n shift ≢ Some c → c ≢ 10
+pub spells_there : (s shift : Shift) (k n c : ℕ) → s ≡ other shift → shift_set (combination k) ≡ Some s → 1 ≤ n → n ≤ 32 → character_of n s ≡ Some c → character_of n shift ≢ Some c → c ≢ 10
     → Spells (c ∷ []) shift (k ∷ n ∷ [])
 spells_there s shift k n c differs sets low high h elsewhere no_newline =
     let line = not_line_feed s n c h no_newline in
@@ -222,11 +196,11 @@ spells_there s shift k n c differs sets low high h elsewhere no_newline =
     let here : Spells (c ∷ []) shift (number_of_shift s ∷ n ∷ []) = record {
       reads = rw (printed-shift s shift, after_shift s shift, h) refl;
       begins = λ f. let g : number_of_shift s ≡ 28 = cc in not_number_of_shift s g;
-      fits = (fits_shift s shift n c [] (λ f. other-differs shift (sym differs ∙ f)) h (λ f. elsewhere (ap (printed n) (sym back) ∙ f)) line, (rw (after_shift s shift) (fits_character s n c [] low high h (λ f. cc)), tt));
+      fits = (fits_shift s shift n c [] (λ f. other-differs shift (sym differs ∙ f)) h (λ f. elsewhere (ap (character_of n) (sym back) ∙ f)) line, (rw (after_shift s shift) (fits_character s n c [] low high h (λ f. cc)), tt));
     } in
     subst (λ m. Spells (c ∷ []) shift (m ∷ n ∷ [])) (sym e) here
 
-pub after_there : (s shift : Shift) (k n c : ℕ) → shift_set (combination k) ≡ Some s → n ≤ 32 → printed n s ≡ Some c → s ≡ shift_after (combination n) (shift_after (combination k) shift)
+pub after_there : (s shift : Shift) (k n c : ℕ) → shift_set (combination k) ≡ Some s → n ≤ 32 → character_of n s ≡ Some c → s ≡ shift_after (combination n) (shift_after (combination k) shift)
 after_there s shift k n c sets high h =
     rw sets (sym (after_character s n c high h))
 
@@ -241,12 +215,11 @@ holds_in-other cases.Either shift h = absurd (false≢true (sym h))
 -- ---- spellings one after the other
 
 -- the last combination fits before whatever does not begin with a line feed
-Fits-before : (shift : Shift) (n : ℕ) (ys : List ℕ) → Fits shift n [] → first ys ≢ Some 28 → Fits shift n ys
+Fits-before : (shift : Shift) (n : ℕ) (ys : List ℕ) → Fits shift n [] → first_of ys ≢ Some 28 → Fits shift n ys
 Fits-before shift n ys fits begins = record {
   from_one = fits.from_one;
   to_thirty_two = fits.to_thirty_two;
-  not_blank = fits.not_blank;
-  no_such_figure = fits.no_such_figure;
+  not_silent = fits.not_silent;
   carriage_return = (λ e. let f = fits.carriage_return.0 e in cc, λ e. absurd (begins e));
   needed = λ s e. absurd (fits.needed s e).1;
 }
@@ -256,19 +229,18 @@ Fits-first : (shift : Shift) (n m : ℕ) (xs ys : List ℕ) → Fits shift n (m 
 Fits-first shift n m xs ys fits = record {
   from_one = fits.from_one;
   to_thirty_two = fits.to_thirty_two;
-  not_blank = fits.not_blank;
-  no_such_figure = fits.no_such_figure;
+  not_silent = fits.not_silent;
   carriage_return = fits.carriage_return;
   needed = fits.needed;
 }
 
-pub EachFits-append : (shift : Shift) (xs ys : List ℕ) → EachFits shift xs → EachFits (shift_after_all (map combination xs) shift) ys → first ys ≢ Some 28 → EachFits shift (xs ++ ys)
+pub EachFits-append : (shift : Shift) (xs ys : List ℕ) → EachFits shift xs → EachFits (shift_after_all (map combination xs) shift) ys → first_of ys ≢ Some 28 → EachFits shift (xs ++ ys)
 EachFits-append shift [] ys h k begins = k
 EachFits-append shift (x ∷ []) ys h k begins = (Fits-before shift x ys h.0 begins, k)
 EachFits-append shift (x ∷ (y ∷ xs)) ys h k begins =
     (Fits-first shift x y xs (xs ++ ys) h.0, EachFits-append (shift_after (combination x) shift) (y ∷ xs) ys h.1 k begins)
 
-begins-append : (xs ys : List ℕ) → first xs ≢ Some 28 → first ys ≢ Some 28 → first (xs ++ ys) ≢ Some 28
+begins-append : (xs ys : List ℕ) → first_of xs ≢ Some 28 → first_of ys ≢ Some 28 → first_of (xs ++ ys) ≢ Some 28
 begins-append [] ys h k = k
 begins-append (x ∷ xs) ys h k = h
 
@@ -310,3 +282,23 @@ position-None p xs k d h lt =
           cc
       | inr above ↦ fails_before_first p xs k d (omega arith)
     ]
+
+-- how long the spelling of these bytes is, and the shift in force after it
+pub record Extends (bytes : List ℕ) (from : Shift) (count : ℕ) (shift : Shift) : Type 0 where
+  pub numbers : List ℕ
+  pub spells : Spells bytes from numbers
+  pub long : count ≡ length numbers
+  pub after : shift ≡ shift_after_all (map combination numbers) from
+
+pub Extends-nil : (from : Shift) → Extends [] from 0 from
+Extends-nil from = record { numbers = []; spells = Spells-nil from; long = refl; after = refl }
+
+-- one more character
+pub Extends-push : (bytes : List ℕ) (c : ℕ) (from shift after : Shift) (count : ℕ) (ys : List ℕ) → Extends bytes from count shift → Spells (c ∷ []) shift ys → after ≡ shift_after_all (map combination ys) shift
+    → Extends (bytes ++ c ∷ []) from (count + length ys) after
+Extends-push bytes c from shift after count ys h k e = record {
+  numbers = h.numbers ++ ys;
+  spells = Spells-push bytes c from shift h.numbers ys (h.numbers ++ ys) h.spells h.after k refl;
+  long = ap (λ n. n + length ys) h.long ∙ sym (length-append h.numbers ys);
+  after = shift-push from shift after h.numbers ys (h.numbers ++ ys) h.after e refl;
+}

@@ -1,8 +1,8 @@
 -- What holds over the whole table, by one computation each.
-use Rattle.std.proofs.Common.{◌≡◌, ℕ, ◌+◌, ◌<◌, ◌≤◌, refl, sym, ap, ◌∙◌, subst, Bool, true, false, eqb, ltb, Option, Some, None, map, get_or, arith}
+use Rattle.std.proofs.Common.{◌≡◌, ℕ, ◌+◌, ◌-◌, ◌<◌, ◌≤◌, refl, sym, ap, ◌∙◌, subst, Bool, true, false, ◌||◌, eqb, ltb, Option, Some, None, [], map, get_or, arith}
 use Rattle.std.specs.Option.{is_some}
 use Rattle.std.specs.List.{position}
-use Rattle.std.proofs.lemmas.Bool.{agree_below_at, eqb-true, ltb-true}
+use Rattle.std.proofs.lemmas.Bool.{agree_below_at, eqb-true, ltb-true, ne_eqb}
 use Rattle.std.proofs.lemmas.List.{get_or-map}
 use Rattle.std.proofs.lemmas.List.Quantifiers.{position-Some}
 use lib.Count.{ones, ones_in}
@@ -13,10 +13,10 @@ use Rattle.nx_code.specs.declared.signals.Comb.{Comb}
 use Rattle.nx_code.specs.declared.signals.Signal.{Signal}
 use Rattle.nx_code.specs.declared.signals.Signal.TheVariants.{Traffic, Alpha, Beta, Repeat}
 use Rattle.nx_code.specs.Word.{weight, elements, elements_from}
-use Rattle.nx_code.specs.Table.{table, words, place_of}
+use Rattle.nx_code.specs.Table.{row, table, cell, words, place_of, row_of, traffic_word}
 use Rattle.nx_code.specs.Signal.{place, number_of_signal}
-use Rattle.nx_code.specs.Reading.{printed}
-use Rattle.nx_code.specs.Characters.{character_in}
+use Rattle.nx_code.specs.Reading.{character_of}
+use Rattle.nx_code.specs.Rows.{cell_in, character_in}
 use Rattle.nx_code.specs.declared.shifts.Shift.{Shift}
 use Rattle.nx_code.specs.declared.shifts.Shift.TheVariants.{Letters, Figures}
 use Rattle.std.specs.List.{range_with_len}
@@ -79,6 +79,17 @@ place-lt Alpha = omega arith
 place-lt Beta = omega arith
 place-lt Repeat = omega arith
 
+-- the word of a combination stands one place below its number
+traffic_word-place : (number : ℕ) → number < 33 → (eqb number 0 || eqb (traffic_word number) (get_or words (number - 1) 0)) ≡ true
+unfolding table words row_of traffic_word
+traffic_word-place number h =
+    agree_below_at (λ n. eqb n 0 || eqb (traffic_word n) (get_or words (n - 1) 0)) (λ _. true) 33 number refl h
+
+pub traffic_word-is : (number : ℕ) → 1 ≤ number → number ≤ 32 → traffic_word number ≡ get_or words (number - 1) 0
+traffic_word-is number low high =
+    let zero_not = ne_eqb number 0 (λ e. omega arith) in
+    eqb-true (traffic_word number) (get_or words (number - 1) 0) (rw zero_not at (traffic_word-place number (omega arith)))
+
 -- combinations of one number are one
 pub same_comb : (a b : Comb) → a.number ≡ b.number → a ≡ b
 same_comb a b h =
@@ -123,11 +134,22 @@ abbrev pub number_of_place : ℕ → ℕ
 number_of_place at = get_or words at 0
 
 -- the columns of the code's table are what the combinations print
-column-TABLE : (shift : Shift) → map (λ (row : Row). character_in row shift) TABLE ≡ map (λ k. printed (k + 1) shift) (range_with_len 0 35)
-unfolding table printed
+column-TABLE : (shift : Shift) → map (λ (row : Row). character_in row shift) TABLE ≡ map (λ k. character_of (k + 1) shift) (range_with_len 0 35)
+unfolding table character_of row_of
 column-TABLE Letters = refl
 column-TABLE Figures = refl
 
-pub character-TABLE : (shift : Shift) (at : ℕ) (fallback : Row) → at < 35 → character_in (get_or TABLE at fallback) shift ≡ printed (at + 1) shift
+pub character-TABLE : (shift : Shift) (at : ℕ) (fallback : Row) → at < 35 → character_in (get_or TABLE at fallback) shift ≡ character_of (at + 1) shift
 character-TABLE shift at fallback h =
-    sym (get_or-map (λ (r : Row). character_in r shift) TABLE at fallback None h) ∙ ap (λ l. get_or l at None) (column-TABLE shift) ∙ get_or-map-range_with_len (λ k. printed (k + 1) shift) 0 35 at at None h (omega arith)
+    sym (get_or-map (λ (r : Row). character_in r shift) TABLE at fallback None h) ∙ ap (λ l. get_or l at None) (column-TABLE shift) ∙ get_or-map-range_with_len (λ k. character_of (k + 1) shift) 0 35 at at None h (omega arith)
+
+-- the cells of the code's table are those of the table
+cells-TABLE : (shift : Shift) → map (λ (r : Row). cell_in r shift) TABLE ≡ map (cell shift) table
+unfolding table
+cells-TABLE Letters = refl
+cells-TABLE Figures = refl
+
+pub cell-TABLE : (shift : Shift) (at : ℕ) (fallback : Row) → at < 35 → cell_in (get_or TABLE at fallback) shift ≡ cell shift (get_or table at (row 0 [] []))
+unfolding table
+cell-TABLE shift at fallback h =
+    sym (get_or-map (λ (r : Row). cell_in r shift) TABLE at fallback [] h) ∙ ap (λ l. get_or l at []) (cells-TABLE shift) ∙ get_or-map (cell shift) table at (row 0 [] []) [] h

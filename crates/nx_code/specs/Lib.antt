@@ -1,8 +1,11 @@
+pub mod Lists
 pub mod Word
 pub mod Table
 pub mod Signal
+pub mod Phasing
 pub mod Reading
 pub mod Taken
 pub mod Characters
+pub mod Rows
 pub mod Spelling
 pub mod Shifts

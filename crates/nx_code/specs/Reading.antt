@@ -1,10 +1,10 @@
 -- What is printed of the positions that were taken (ITU-R M.476 and M.625; `*` for a lost position is this
 -- profile's, as is that 32 and the figures of D, F, G, H and J print nothing).
-use Rattle.std.specs.Prelude.{◌≡◌, ◌⊎◌, ℕ, ◌-◌, ◌==◌, if◌then◌else◌, List, [], ◌∷◌, ◌++◌, Option, Some, None, slice_index_or, unwrap_or}
-use Rattle.std.specs.Option.{option_to_list}
+use Rattle.std.specs.Prelude.{◌≡◌, ◌⊎◌, ℕ, ◌==◌, if◌then◌else◌, List, [], ◌∷◌, ◌++◌, Option, Some, None, unwrap_or}
+use Rattle.std.specs.Option.{option_and_then, option_to_list}
 use Rattle.nx_code.specs.declared.shifts.Shift.{Shift}
 use Rattle.nx_code.specs.declared.shifts.Shift.TheVariants.{Letters, Figures}
-use Rattle.nx_code.specs.Table.{Row, table}
+use Rattle.nx_code.specs.Table.{cell, row_of}
 
 -- a position that was taken: a traffic combination by its number, an idle signal, or one that is lost
 pub data Reception : Type 0 where
@@ -12,31 +12,26 @@ pub data Reception : Type 0 where
   idle : Reception
   lost : Reception
 
--- what stands in the column of a shift
-abbrev pub cell : Shift → Row → List ℕ
-cell Letters row = row.letter
-cell Figures row = row.figure
-
--- a cell of one character is that character; a name of several letters is none
-abbrev pub character : List ℕ → Option ℕ
-character [] = None
-character (c ∷ []) = Some c
-character (c ∷ d ∷ cs) = None
-
--- a row that is not there: it prints nothing
-abbrev pub no_row : Row
-no_row = record { word = 0; letter = []; figure = [] }
+-- the character that a cell holds; an empty cell has none, and a name is none
+abbrev pub character_of_cell : List ℕ → Option ℕ
+character_of_cell [] = None
+character_of_cell (c ∷ []) = Some c
+character_of_cell (c ∷ d ∷ cs) = None
 
 -- what a combination prints in a shift: a newline for 28, a space for 31, else the character of its row
-unfoldable pub printed : ℕ → Shift → Option ℕ
-printed number shift =
-    if number == 28 then Some 10 else (if number == 31 then Some 32 else character (cell shift (slice_index_or table (number - 1) no_row)))
+unfoldable pub character_of : ℕ → Shift → Option ℕ
+character_of number shift =
+    if number == 28 then Some 10 else (if number == 31 then Some 32 else option_and_then (λ row. character_of_cell (cell shift row)) (row_of number))
 
--- what a position prints in a shift
-abbrev pub prints : Reception → Shift → Option ℕ
-prints (combination number) shift = printed number shift
-prints idle shift = None
-prints lost shift = Some 42
+-- the asterisk, which a lost position prints
+abbrev pub asterisk : ℕ
+asterisk = 42
+
+-- the byte that a position prints in a shift, if any
+abbrev pub byte_of : Reception → Shift → Option ℕ
+byte_of (combination number) shift = character_of number shift
+byte_of idle shift = None
+byte_of lost shift = Some asterisk
 
 -- the shift that a position sets: letters for combination 29, figures for 30
 abbrev pub shift_set : Reception → Option Shift
@@ -51,7 +46,7 @@ shift_after position shift = unwrap_or (shift_set position) shift
 -- the bytes that positions print, in order, from a first shift
 abbrev pub text : List Reception → Shift → List ℕ
 text [] shift = []
-text (position ∷ positions) shift = option_to_list (prints position shift) ++ text positions (shift_after position shift)
+text (position ∷ positions) shift = option_to_list (byte_of position shift) ++ text positions (shift_after position shift)
 
 -- the shift in force after positions, from a first shift
 abbrev pub shift_after_all : List Reception → Shift → Shift

@@ -2,33 +2,31 @@
 -- needed, and carriage return only before a line feed, is this profile's).
 use Rattle.std.specs.Prelude.{◌≡◌, ◌≢◌, ◌≤◌, ◌↔◌, ℕ, List, [], ◌∷◌, Option, Some, None, map, IsSome}
 use Rattle.nx_code.specs.declared.shifts.Shift.{Shift}
-use Rattle.nx_code.specs.declared.shifts.Shift.TheVariants.{Figures}
 use Rattle.nx_code.specs.declared.signals.Comb.{Comb}
 use Rattle.nx_code.specs.Shifts.{other}
-use Rattle.nx_code.specs.Reading.{combination, printed, shift_set, shift_after, text}
+use Rattle.nx_code.specs.Reading.{combination, character_of, shift_set, shift_after, text}
 
 -- the first of a list
-abbrev pub first : List ℕ → Option ℕ
-first [] = None
-first (x ∷ xs) = Some x
+abbrev pub first_of : List ℕ → Option ℕ
+first_of [] = None
+first_of (x ∷ xs) = Some x
 
 -- a combination that prints in this shift a character that it does not print in the other
 abbrev pub IsOnlyIn : Shift → Option ℕ → Type 0
 IsOnlyIn shift None = ⊥
 IsOnlyIn shift (Some number) =
-    IsSome (printed number shift) × (printed number (other shift) ≢ printed number shift)
+    IsSome (character_of number shift) × (character_of number (other shift) ≢ character_of number shift)
 
 -- A combination fits where it stands: this shift is in force before it, and these follow it.
 pub record Fits (shift : Shift) (number : ℕ) (rest : List ℕ) : Type 0 where
   pub from_one : 1 ≤ number
   pub to_thirty_two : number ≤ 32
-  -- 32 does not occur, nor do the figures of D, F, G, H and J
-  pub not_blank : number ≢ 32
-  pub no_such_figure : shift ≡ Figures → (number ≢ 4) × (number ≢ 6) × (number ≢ 7) × (number ≢ 8) × (number ≢ 10)
+  -- what prints nothing in this shift, and sets no shift, is a carriage return
+  pub not_silent : character_of number shift ≡ None → shift_set (combination number) ≡ None → number ≡ 27
   -- a carriage return stands directly before each line feed, and nowhere else
-  pub carriage_return : (number ≡ 27) ↔ (first rest ≡ Some 28)
+  pub carriage_return : (number ≡ 27) ↔ (first_of rest ≡ Some 28)
   -- a shift is not the one in force, and stands directly before a character that has only that shift
-  pub needed : (s : Shift) → shift_set (combination number) ≡ Some s → (s ≢ shift) × IsOnlyIn s (first rest)
+  pub needed : (s : Shift) → shift_set (combination number) ≡ Some s → (s ≢ shift) × IsOnlyIn s (first_of rest)
 
 -- each combination fits where it stands
 abbrev pub EachFits : Shift → List ℕ → Type 0
@@ -39,7 +37,7 @@ EachFits shift (number ∷ numbers) = Fits shift number numbers × EachFits (shi
 pub record Spells (bytes : List ℕ) (shift : Shift) (numbers : List ℕ) : Type 0 where
   pub reads : text (map combination numbers) shift ≡ bytes
   -- no line feed comes before the first carriage return
-  pub begins : first numbers ≢ Some 28
+  pub begins : first_of numbers ≢ Some 28
   pub fits : EachFits shift numbers
 
 -- the number of a combination that may be there

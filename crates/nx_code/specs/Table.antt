@@ -1,8 +1,11 @@
 -- The table of the signals (ITU-R M.476 and M.625; the numbering of the words is this project's own).
-use Rattle.std.specs.Prelude.{ℕ, ◌==◌, List, [], ◌∷◌, Option, codes, map, position}
+use Rattle.std.specs.Prelude.{ℕ, zero, suc, ◌==◌, List, [], ◌∷◌, Option, None, codes, map, position, slice_get, take}
+use Rattle.std.specs.Option.{option_map_or}
+use Rattle.nx_code.specs.declared.shifts.Shift.{Shift}
+use Rattle.nx_code.specs.declared.shifts.Shift.TheVariants.{Letters, Figures}
 
 -- A row: the number of the word, and what stands in the columns Letter and Figure. One character stands for
--- itself; a longer text in capitals is a name, and `none` says that the figure prints nothing.
+-- itself, and a longer text is the name of a signal. An empty figure prints nothing.
 pub record Row : Type 0 where
   pub word : ℕ
   pub letter : List ℕ
@@ -18,13 +21,13 @@ table =
     row 0x47 (codes "A") (codes "-")
     ∷ row 0x72 (codes "B") (codes "?")
     ∷ row 0x1D (codes "C") (codes ":")
-    ∷ row 0x53 (codes "D") (codes "none")
+    ∷ row 0x53 (codes "D") []
     ∷ row 0x56 (codes "E") (codes "3")
-    ∷ row 0x1B (codes "F") (codes "none")
-    ∷ row 0x35 (codes "G") (codes "none")
-    ∷ row 0x69 (codes "H") (codes "none")
+    ∷ row 0x1B (codes "F") []
+    ∷ row 0x35 (codes "G") []
+    ∷ row 0x69 (codes "H") []
     ∷ row 0x4D (codes "I") (codes "8")
-    ∷ row 0x17 (codes "J") (codes "none")
+    ∷ row 0x17 (codes "J") []
     ∷ row 0x1E (codes "K") (codes "(")
     ∷ row 0x65 (codes "L") (codes ")")
     ∷ row 0x39 (codes "M") (codes ".")
@@ -52,6 +55,11 @@ table =
     ∷ row 0x66 (codes "P2") (codes "P2")
     ∷ []
 
+-- what stands in the column of a shift
+abbrev pub cell : Shift → Row → List ℕ
+cell Letters row = row.letter
+cell Figures row = row.figure
+
 -- the numbers of the 35 words, in the order of the table
 unfoldable pub words : List ℕ
 words = map (λ row. row.word) table
@@ -59,3 +67,12 @@ words = map (λ row. row.word) table
 -- the place of a word in the table, from 0; None where the word is none of the 35
 unfoldable pub place_of : ℕ → Option ℕ
 place_of word = position (λ number. number == word) words
+
+-- the row of a combination, by its number from 1 to 32; no other number has one
+unfoldable pub row_of : ℕ → Option Row
+row_of zero = None
+row_of (suc place) = slice_get (take 32 table) place
+
+-- the number of the word of a combination, by its number from 1 to 32; for any other number 128, which is no word's
+unfoldable pub traffic_word : ℕ → ℕ
+traffic_word number = option_map_or (λ row. row.word) (row_of number) 128

@@ -4,7 +4,7 @@ use Rattle.nx_code.specs.declared.printing.Taken.TheVariants.{Char, Idle, Lost}
 use Rattle.nx_code.specs.Reading.{Reception, combination, idle, lost}
 
 -- the position that the code has taken
-abbrev pub meaning : Taken → Reception
-meaning (Char comb) = combination comb.number
-meaning Idle = idle
-meaning Lost = lost
+abbrev pub reception_of : Taken → Reception
+reception_of (Char comb) = combination comb.number
+reception_of Idle = idle
+reception_of Lost = lost

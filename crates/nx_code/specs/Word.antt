@@ -1,5 +1,5 @@
 -- Words and their elements (ITU-R M.476 and M.625: seven elements, each B or Y; four B and three Y in a signal).
-use Rattle.std.specs.Prelude.{ℕ, ◌+◌, ◌*◌, ◌/◌, ◌%◌, ◌==◌, Bool, true, false, List, [], ◌∷◌, sum_by, zero, suc}
+use Rattle.std.specs.Prelude.{ℕ, ◌+◌, ◌*◌, ◌/◌, ◌%◌, ◌==◌, Bool, true, false, List, [], ◌∷◌, sum_by, take, drop, zero, suc}
 
 -- the lowest elements of a number, so many of them, in the order of sending: the least place first, 1 is B
 unfoldable pub elements_from : ℕ → ℕ → List Bool
@@ -23,3 +23,7 @@ number_of (bit ∷ bits) = value_of bit + 2 * number_of bits
 -- how many of a word's elements are B
 unfoldable pub weight : ℕ → ℕ
 weight number = sum_by value_of (elements number)
+
+-- the number of the word whose seven elements begin at this place of a list
+abbrev pub word_from : List Bool → ℕ → ℕ
+word_from bits place = number_of (take 7 (drop place bits))

@@ -2,7 +2,9 @@
 //! the signals print, and the spelling of a text.
 #![tactic(auto)]
 
+mod characters;
 pub mod laws;
+mod names;
 mod printing;
 mod shifts;
 mod signals;
@@ -10,11 +12,12 @@ mod spelling;
 mod table;
 mod words;
 
-pub use printing::{Printer, Taken};
-pub use shifts::{Case, Shift, char_to_code, code_to_char};
+pub use characters::{char_to_code, code_to_char};
+pub use printing::{ASTERISK, Printer, Taken};
+pub use shifts::{Case, Shift};
 pub use signals::{Comb, Signal};
-pub use spelling::{SpellFault, spell};
-pub use table::{signal_of, word_of};
+pub use spelling::{Extent, SpellFault, extent_of, spell};
+pub use table::{SIGNALS, cell_of, signal_at, signal_of, word_of};
 pub use words::{ELEMENTS, Word, check_bits};
 
 #[cfg(test)]

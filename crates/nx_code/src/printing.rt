@@ -2,11 +2,12 @@
 
 ghost use Rattle.std.specs.Prelude.{◌≡◌, List, [], ◌∷◌, ◌++◌};
 ghost use Rattle.std.specs.Option.{option_to_list};
-ghost use Rattle.nx_code.specs.Reading.{Reception, combination, printed, prints, shift_after, shift_after_all, text};
-ghost use Rattle.nx_code.specs.Taken.{meaning};
+ghost use Rattle.nx_code.specs.Reading.{Reception, combination, character_of, byte_of, shift_after, shift_after_all, text};
+ghost use Rattle.nx_code.specs.Taken.{reception_of};
 ghost use Rattle.nx_code.specs.declared.shifts.Shift.TheVariants.{Letters};
 
-use crate::shifts::{Shift, code_to_char};
+use crate::characters::code_to_char;
+use crate::shifts::Shift;
 use crate::signals::{Comb, FIGURE_SHIFT, LETTER_SHIFT};
 use std::marker::Model;
 
@@ -38,8 +39,8 @@ impl Model for Printer {
     ghost inverse = { λ shift. record { shift = shift } };
 }
 
-/// What a lost position prints.
-const LOST: u8 = b'*';
+/// The asterisk, which a lost position prints (this profile).
+pub const ASTERISK: u8 = b'*';
 
 impl Printer {
     /// A reader that has read nothing.
@@ -53,24 +54,24 @@ impl Printer {
 
     /// Takes the next position, and answers the byte that it prints, if any.
     pub fn step(&mut self, taken: Taken) -> Option<u8>
-        ensures printed { result ≡ prints (meaning taken) self.old }
-        ensures shift { self.new ≡ shift_after (meaning taken) self.old }
+        ensures printed { result ≡ byte_of (reception_of taken) self.old }
+        ensures shift { self.new ≡ shift_after (reception_of taken) self.old }
 
         // For the positions so far, from letters, the byte is the next of their text.
         ensures reading { (positions : List Reception) → self.old ≡ shift_after_all positions Letters →
-            (self.new ≡ shift_after_all (positions ++ meaning taken ∷ []) Letters)
-            × (text (positions ++ meaning taken ∷ []) Letters ≡ text positions Letters ++ option_to_list result) }
+            (self.new ≡ shift_after_all (positions ++ reception_of taken ∷ []) Letters)
+            × (text (positions ++ reception_of taken ∷ []) Letters ≡ text positions Letters ++ option_to_list result) }
     {
         match taken {
             Taken::Char(comb) => self.print(comb),
             Taken::Idle => None,
-            Taken::Lost => Some(LOST),
+            Taken::Lost => Some(ASTERISK),
         }
     }
 
     /// Takes a combination.
     fn print(&mut self, comb: Comb) -> Option<u8>
-        ensures printed { result ≡ printed comb.number self.old }
+        ensures printed { result ≡ character_of comb.number self.old }
         ensures shift { self.new ≡ shift_after (combination comb.number) self.old }
     {
         let printed = code_to_char(comb, self.shift);

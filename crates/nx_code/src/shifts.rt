@@ -1,14 +1,11 @@
-//! The two shifts, letters and figures, and the characters of the combinations in each of them.
+//! The two shifts, letters and figures, and in which of them a character stands.
 
-ghost use Rattle.std.specs.Prelude.{◌≡◌, ℕ, ◌+◌, ◌≤◌, ◌<◌, ◌==◌, ◌↔◌, Some, IsSome, IfSome, IsSomeAnd, IsTrue, position};
-ghost use Rattle.nx_code.specs.Reading.{combination, printed, shift_set};
+ghost use Rattle.std.specs.Prelude.{◌≡◌, Some};
+ghost use Rattle.nx_code.specs.Reading.{combination, shift_set};
 ghost use Rattle.nx_code.specs.Shifts.{other};
-ghost use Rattle.nx_code.specs.Characters.{character_in, holds_in, is_character, is_in_code};
-ghost use Rattle.nx_code.specs.declared.table.Row.{Row};
-ghost use Rattle.nx_code.specs.declared.shifts.Shift.{Shift};
+ghost use Rattle.nx_code.specs.Characters.{holds_in};
 
-use crate::signals::{Comb, FIGURE_SHIFT, LETTER_SHIFT};
-use crate::table::{Row, TABLE, row_at};
+use crate::signals::Comb;
 
 /// Which of its two characters a combination stands for (M.476: letter-case and figure-case).
 #[derive(Clone, Copy, Debug, PartialEq, Eq)]
@@ -31,8 +28,8 @@ pub enum Case {
 }
 
 impl Shift {
-    /// The shift that is not this one.
-    pub(crate) fn other(self) -> Shift
+    /// The other shift: figures for letters, and letters for figures.
+    pub fn other(self) -> Shift
         ensures { result ≡ other self }
     {
         match self {
@@ -42,23 +39,19 @@ impl Shift {
     }
 
     /// The combination that sets this shift, 29 or 30 (M.476).
-    pub(crate) fn comb(self) -> Comb
-        ensures { shift_set (combination result.number) ≡ Some self }
+    pub fn comb(self) -> Comb
+        ensures sets { shift_set (combination result.number) ≡ Some self }
     {
         match self {
-            Shift::Letters => Comb {
-                number: LETTER_SHIFT,
-            },
-            Shift::Figures => Comb {
-                number: FIGURE_SHIFT,
-            },
+            Shift::Letters => Comb::LETTER_SHIFT,
+            Shift::Figures => Comb::FIGURE_SHIFT,
         }
     }
 }
 
 impl Case {
-    /// Whether a character of this case stands in a shift.
-    pub(crate) fn stands_in(self, shift: Shift) -> bool
+    /// Whether a character of this case prints in a shift.
+    pub fn stands_in(self, shift: Shift) -> bool
         ensures { result ≡ holds_in self shift }
     {
         match self {
@@ -66,61 +59,5 @@ impl Case {
             Case::Figures => shift == Shift::Figures,
             Case::Either => true,
         }
-    }
-}
-
-/// The byte that a combination prints in a shift: a letter or a figure, a newline for combination 28, a
-/// space for 31; None where nothing is printed (M.476 and M.625, conversion tables; that 32 and the figures
-/// of D, F, G, H and J print nothing is this profile's).
-pub fn code_to_char(comb: Comb, shift: Shift) -> Option<u8>
-    ensures { result ≡ printed comb.number shift }
-{
-    row_at(usize::from(comb.number - 1)).character(shift)
-}
-
-/// The combination that prints a character, and in which shift; None for a byte that is not in the code
-/// (M.476 and M.625, conversion tables; which figures are left out, and `Case::Either`, are this profile's).
-pub fn char_to_code(character: u8) -> Option<(Comb, Case)>
-    ensures in_code { IsSome result ↔ IsTrue (is_in_code character) }
-    ensures found { (number : ℕ) (shift : Shift) → 1 ≤ number → number ≤ 32 → printed number shift ≡ Some character
-        → IsSomeAnd result (λ code. (code.0.number ≡ number) × IsTrue (holds_in code.1 shift)) }
-    ensures printed { IfSome result (λ code. (shift : Shift) → IsTrue (holds_in code.1 shift)
-        → printed code.0.number shift ≡ Some character) }
-{
-    match (
-        comb_of(character, Shift::Letters),
-        comb_of(character, Shift::Figures),
-    ) {
-        (Some(comb), Some(_)) => Some((comb, Case::Either)),
-        (Some(comb), None) => Some((comb, Case::Letters)),
-        (None, Some(comb)) => Some((comb, Case::Figures)),
-        (None, None) => None,
-    }
-}
-
-/// The combination that prints a character in a shift, if one does.
-fn comb_of(character: u8, shift: Shift) -> Option<Comb>
-    ensures printed { IfSome result (λ comb. printed comb.number shift ≡ Some character) }
-    ensures found { (number : ℕ) → 1 ≤ number → number ≤ 32 → printed number shift ≡ Some character
-        → IsSomeAnd result (λ comb. comb.number ≡ number) }
-{
-    Some(comb_at(place_of_character(&TABLE, character, shift)?))
-}
-
-/// The place of the first of the rows that print this character in a shift.
-fn place_of_character(rows: &[Row], character: u8, shift: Shift) -> Option<usize>
-    ensures { result ≡ position (λ row. is_character (character_in row shift) character) rows.now }
-{
-    rows.iter()
-        .position(|row| row.character(shift) == Some(character))
-}
-
-/// The combination at a place of the table.
-fn comb_at(place: usize) -> Comb
-    requires { place < 32 }
-    ensures { result.number ≡ place + 1 }
-{
-    Comb {
-        number: place as u8 + 1,
     }
 }

@@ -17,6 +17,25 @@ pub struct Comb {
 }
 
 impl Comb {
+    /// Carriage return, which prints nothing (M.476).
+    pub const CARRIAGE_RETURN: Comb = Comb { number: 27 };
+
+    /// Line feed, which prints a newline (M.476).
+    pub const LINE_FEED: Comb = Comb { number: 28 };
+
+    /// Letter shift, which sets letters (M.476).
+    pub const LETTER_SHIFT: Comb = Comb {
+        number: LETTER_SHIFT,
+    };
+
+    /// Figure shift, which sets figures (M.476).
+    pub const FIGURE_SHIFT: Comb = Comb {
+        number: FIGURE_SHIFT,
+    };
+
+    /// Space (M.476).
+    pub const SPACE: Comb = Comb { number: 31 };
+
     /// The combination of this number; None outside 1 to 32.
     pub fn new(number: u8) -> Option<Comb>
         ensures range { IsSome result ↔ ((1 ≤ number) × (number ≤ 32)) }

@@ -1,12 +1,14 @@
 //! Spelling: the combinations that a text is sent as.
 
-ghost use Rattle.std.specs.Prelude.{◌≡◌, ◌↔◌, ◌++◌, ◌∷◌, [], ℕ, Some, Err, IfOk, OnOk, IsTrue, map, not, position};
+ghost use Rattle.std.specs.Prelude.{◌≡◌, ◌↔◌, ◌++◌, ◌∷◌, [], ℕ, List, Some, Err, IsSome, IfSome, IfOk, OnOk, IsTrue, length, map, not, position};
+ghost use Rattle.std.specs.List.{list_all};
 ghost use Rattle.nx_code.specs.Characters.{is_in_code};
 ghost use Rattle.nx_code.specs.Reading.{combination, shift_after_all, text as reading_of};
 ghost use Rattle.nx_code.specs.Spelling.{Spells, numbers_of};
 ghost use Rattle.nx_code.specs.declared.signals.Comb.{Comb};
 
-use crate::shifts::{Shift, char_to_code};
+use crate::characters::char_to_code;
+use crate::shifts::Shift;
 use crate::signals::Comb;
 use std::alloc::{AllocError, Global};
 use thiserror::Error;
@@ -36,11 +38,6 @@ impl From<AllocError> for SpellFault {
 /// A newline, which is sent as carriage return and line feed.
 const NEWLINE: u8 = b'\n';
 
-/// The combinations of carriage return and line feed (M.476).
-const CARRIAGE_RETURN: Comb = Comb { number: 27 };
-
-const LINE_FEED: Comb = Comb { number: 28 };
-
 /// What a character is sent as: a carriage return or a shift ahead, where one is needed, and its
 /// combination; and the shift that is then in force.
 #[derive(Clone, Copy)]
@@ -48,6 +45,18 @@ struct Piece {
     ahead: Option<Comb>,
     comb: Comb,
     shift: Shift,
+}
+
+impl Piece {
+    /// How many combinations it has, one or two.
+    fn length(self) -> u64
+        ensures { result ≡ length (numbers_of self.ahead ++ self.comb.number ∷ []) }
+    {
+        match self.ahead {
+            Some(_) => 2,
+            None => 1,
+        }
+    }
 }
 
 /// The index of the first byte that is not in the code.
@@ -66,8 +75,8 @@ fn piece_of(character: u8, shift: Shift) -> Piece
 {
     if character == NEWLINE {
         return Piece {
-            ahead: Some(CARRIAGE_RETURN),
-            comb: LINE_FEED,
+            ahead: Some(Comb::CARRIAGE_RETURN),
+            comb: Comb::LINE_FEED,
             shift,
         };
     }
@@ -97,6 +106,39 @@ fn push_piece(combs: &mut Vec<Comb>, piece: Piece) -> Result<(), AllocError>
     }
     combs.push(piece.comb)?;
     Ok(())
+}
+
+/// How far the spelling of a text goes.
+#[derive(Clone, Copy, Debug, PartialEq, Eq)]
+pub struct Extent {
+    /// How many combinations it has.
+    pub length: u64,
+    /// The shift in force after it.
+    pub shift: Shift,
+}
+
+/// The extent of the spelling of a text from a shift; None where a byte is not in the code. It takes no
+/// memory.
+pub fn extent_of(text: &[u8], from: Shift) -> Option<Extent>
+    ensures in_code { IsSome result ↔ IsTrue (list_all is_in_code text.now) }
+    ensures length { IfSome result (λ extent. (numbers : List ℕ) → Spells text.now from numbers
+        → extent.length ≡ length numbers) }
+    ensures shift { IfSome result (λ extent. (numbers : List ℕ) → Spells text.now from numbers
+        → extent.shift ≡ shift_after_all (map combination numbers) from) }
+{
+    if first_unknown(text).is_some() {
+        return None;
+    }
+    let mut extent = Extent {
+        length: 0,
+        shift: from,
+    };
+    for character in text {
+        let piece = piece_of(*character, extent.shift);
+        extent.length += piece.length();
+        extent.shift = piece.shift;
+    }
+    Some(extent)
 }
 
 /// The spelling of a text from a shift: the one list of combinations that is read as the text and has no

@@ -107,6 +107,42 @@ fn spell_cases(rt: HostRuntime) -> Result<(), Fail> {
 }
 
 #[test]
+fn extents(rt: HostRuntime) -> Result<(), Fail> {
+    let extent = |length, shift| Some(Extent { length, shift });
+    let cases = [
+        ("", Shift::Figures, extent(0, Shift::Figures)),
+        ("A1 2-B\n", Shift::Letters, extent(10, Shift::Letters)),
+        ("A1 2-\n", Shift::Letters, extent(8, Shift::Figures)),
+        ("Ba", Shift::Letters, None),
+    ];
+    for (text, from, wanted) in cases {
+        assert_eq!(rt; extent_of(text.as_bytes(), from), wanted);
+    }
+    Ok(())
+}
+
+#[test]
+fn cells_of_the_table(rt: HostRuntime) -> Result<(), Fail> {
+    // From the table of M.476 and M.625; the names are this profile's.
+    let cases = [
+        (0, "A", "-"),
+        (3, "D", ""),
+        (25, "Z", "+"),
+        (26, "CR", "CR"),
+        (29, "FIGS", "FIGS"),
+        (31, "BLANK", "BLANK"),
+        (33, "BETA", "BETA"),
+        (34, "P2", "P2"),
+    ];
+    for (at, letter, figure) in cases {
+        let signal = signal_at(at);
+        assert_eq!(rt; cell_of(signal, Shift::Letters), letter.as_bytes());
+        assert_eq!(rt; cell_of(signal, Shift::Figures), figure.as_bytes());
+    }
+    Ok(())
+}
+
+#[test]
 fn texts_of_faults(rt: HostRuntime) -> Result<(), Fail> {
     let cases = [
         (
@@ -125,5 +161,8 @@ fn texts_of_faults(rt: HostRuntime) -> Result<(), Fail> {
 fn laws_can_be_called() {
     laws::reading_by_nearest_shift();
     laws::words_are_their_elements();
+    laws::phasing_signals_are_in_the_table();
+    laws::reading_goes_on();
     laws::a_text_has_one_spelling();
+    laws::a_spelling_goes_on();
 }

@@ -6,8 +6,9 @@ use Rattle.std.proofs.lemmas.Bool.{le-leb}
 use Rattle.std.proofs.lemmas.Bool.Decides.{leb_tells}
 use Rattle.std.proofs.lemmas.List.{map_push, reverse-append, take_all, take-append-le}
 use Rattle.std.proofs.lemmas.List.Elements.{filter_map-append}
-use Rattle.nx_envelope.specs.Copies.{Header, Ending, beginnings, header_at_end, headers, marked, first_of, long_within, ending_within}
-use Rattle.nx_envelope.specs.Header.{header_back}
+use Rattle.nx_envelope.specs.Backward.{header_back}
+use Rattle.nx_envelope.specs.Copies.{Ending, beginnings, header_at_end, headers, marked, first_of, long_within, ending_within}
+use Rattle.nx_envelope.specs.Header.{Header}
 use Rattle.nx_envelope.specs.declared.found.How.TheVariants.{Long}
 
 -- the back of a text with one more byte
@@ -29,7 +30,7 @@ or_assoc : {A : Type 0} (o p q : Option A) → option_or o (option_or p q) ≡ o
 or_assoc None p q = refl
 or_assoc (Some x) p q = refl
 
-first_of-push : {A B : Type 0} (f : A → Option B) (xs : List A) (x : A) → first_of f (xs ++ x ∷ []) ≡ option_or (first_of f xs) (f x)
+pub first_of-push : {A B : Type 0} (f : A → Option B) (xs : List A) (x : A) → first_of f (xs ++ x ∷ []) ≡ option_or (first_of f xs) (f x)
 first_of-push f [] x = or_none (f x)
 first_of-push f (y ∷ ys) x =
     ap (option_or (f y)) (first_of-push f ys x) ∙ or_assoc (f y) (first_of f ys) (f x)

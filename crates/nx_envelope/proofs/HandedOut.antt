@@ -4,7 +4,8 @@ use Rattle.std.specs.List.{AllZip, filter_map}
 use Rattle.std.specs.Option.{option_to_list}
 use Rattle.std.proofs.lemmas.List.{append-nil}
 use Rattle.nx_envelope.specs.Copies.{Copy, copies, ended_copies}
-use Rattle.nx_envelope.specs.Finding.{Brings, Closes, IsFound}
+use Rattle.nx_envelope.specs.Finder.{Brings, Closes}
+use Rattle.nx_envelope.specs.Found.{IsFound}
 use Rattle.nx_envelope.specs.Laws.{AreAnswers, found_in, handed_out}
 use Rattle.nx_envelope.specs.declared.found.FinderStep.{FinderStep}
 use Rattle.nx_envelope.specs.declared.found.FinderStep.TheVariants as steps

@@ -2,25 +2,25 @@
 use Rattle.std.proofs.Common.{◌≡◌, ℕ, ◌-◌, ◌≤◌, ◌==◌, ◌&&◌, ◌||◌, if◌then◌else◌, List, ◌∷◌, nat_le, Bool, true, false, Option, Some, None, refl, sym, subst, ap, arith}
 use Rattle.std.proofs.lemmas.Bool.Decides.{nat_tests}
 use Rattle.std.proofs.Props.{props}
+use Rattle.nx_envelope.specs.Backward.{letter_from, letter_of, digit_from, digit_of, both, ends_in, identity_with, spaces_back, station_back, subject_back, tens_back, header_back}
 use Rattle.nx_envelope.specs.Digits.{IsDigit}
-use Rattle.nx_envelope.specs.Letter.{IsLetter}
-use Rattle.nx_envelope.specs.Header.{letter_from, letter_of, digit_from, digit_of, both, ends_in, identity_with, spaces_back, station_back, subject_back, tens_back, header_back}
+use Rattle.nx_code.specs.Characters.{IsCapital}
 use Rattle.nx_envelope.specs.Marker.{start_marker}
 use Rattle.nx_envelope.specs.Stage.{IsStageOf, is_spaces, station_in, subject_in, tens_in}
 use Rattle.nx_envelope.specs.declared.digit.Digit.{Digit}
 use Rattle.nx_envelope.specs.declared.letter.Letter.{Letter}
 use Rattle.nx_envelope.specs.declared.stage.Stage.{Stage}
 
-abbrev pub letter_at : (x : ℕ) → IsLetter x → Letter
+abbrev pub letter_at : (x : ℕ) → IsCapital x → Letter
 letter_at x p = record { byte = x; in_range = p }
 
 abbrev pub digit_at : (x : ℕ) → x ≤ 9 → Digit
 digit_at x p = record { value = x; below_ten = p }
 
-same_letter_at : (x y : ℕ) (e : x ≡ y) (p : IsLetter x) (q : IsLetter y) → letter_at x p ≡ letter_at y q
+same_letter_at : (x y : ℕ) (e : x ≡ y) (p : IsCapital x) (q : IsCapital y) → letter_at x p ≡ letter_at y q
 same_letter_at x y e =
-    let alike : IsProp (IsLetter x) = hlevel props in
-    let P : ℕ → Type 0 = λ (z : ℕ). (p : IsLetter x) (q : IsLetter z) → letter_at x p ≡ letter_at z q in
+    let alike : IsProp (IsCapital x) = hlevel props in
+    let P : ℕ → Type 0 = λ (z : ℕ). (p : IsCapital x) (q : IsCapital z) → letter_at x p ≡ letter_at z q in
     subst P e (λ p q. ap (letter_at x) (alike p q))
 
 pub same_letter : (a b : Letter) → a.byte ≡ b.byte → a ≡ b
@@ -45,13 +45,13 @@ pub letter_of-byte : (l : Letter) → letter_of l.byte ≡ Some l
 unfolding letter_of
 letter_of-byte l = letter_from-byte l _ _ refl refl
 
-letter_from-none : (b : ℕ) (low high : Bool) (p : nat_le 65 b ≡ low) (q : nat_le b 90 ≡ high) → ¬ IsLetter b → letter_from b low high p q ≡ None
+letter_from-none : (b : ℕ) (low high : Bool) (p : nat_le 65 b ≡ low) (q : nat_le b 90 ≡ high) → ¬ IsCapital b → letter_from b low high p q ≡ None
 unfolding letter_from
 letter_from-none b true true p q not_so = absurd (not_so (grind (arith, nat_tests)))
 letter_from-none b true false p q not_so = refl
 letter_from-none b false high p q not_so = refl
 
-pub letter_of-none : (b : ℕ) → ¬ IsLetter b → letter_of b ≡ None
+pub letter_of-none : (b : ℕ) → ¬ IsCapital b → letter_of b ≡ None
 unfolding letter_of
 letter_of-none b not_so = letter_from-none b _ _ refl refl not_so
 

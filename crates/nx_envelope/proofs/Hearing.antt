@@ -3,10 +3,12 @@ use Rattle.std.proofs.Common.{◌≡◌, ◌≢◌, ℕ, ◌+◌, ◌<◌, ◌==
 use Rattle.std.specs.Str.{bytes_eq}
 use Rattle.std.proofs.lemmas.Bool.Decides.{nat_tests}
 use Rattle.std.proofs.lemmas.List.{drop-append-le}
-use Rattle.nx_envelope.specs.Copies.{Header, raw_text, marker_back, open_headers, closed_copy}
-use Rattle.nx_envelope.specs.Finding.{BringsCopy, EndsOpen, Hears, HoldsOpen, HoldsOpenIf, IsBegun, ClosesCopy, ClosesNone, is_empty, found_text}
+use Rattle.nx_envelope.specs.Backward.{marker_back, last_four, ends_in, header_back, spaces_back, station_back, subject_back, tens_back}
+use Rattle.nx_envelope.specs.Copies.{raw_text, open_headers, closed_copy}
+use Rattle.nx_envelope.specs.Finder.{BringsCopy, HoldsOpen, HoldsOpenIf, ClosesCopy, ClosesNone, is_empty}
+use Rattle.nx_envelope.specs.Finding.{EndsOpen, Hears, IsBegun, found_text}
 use Rattle.nx_envelope.specs.Found.{IsFoundOf}
-use Rattle.nx_envelope.specs.Header.{last_four, ends_in, header_back, spaces_back, station_back, subject_back, tens_back}
+use Rattle.nx_envelope.specs.Header.{Header}
 use Rattle.nx_envelope.specs.Marker.{start_marker}
 use Rattle.nx_envelope.specs.Stage.{IsStageOf}
 use Rattle.nx_envelope.specs.declared.finder.Event.{Event}

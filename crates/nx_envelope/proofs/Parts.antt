@@ -5,10 +5,12 @@ use Rattle.std.specs.Option.{option_map, option_to_list, is_none, unwrap_or}
 use Rattle.std.proofs.lemmas.Bool.Decides.{leb_tells, nat_tests}
 use Rattle.std.proofs.lemmas.List.{append-nil, drop_all, map-append, reverse-append, reverse-reverse}
 use Rattle.std.proofs.lemmas.List.Elements.{filter_map-append, filter-append}
-use Rattle.nx_envelope.specs.Copies.{Header, Ending, Copy, beginnings, header_at_end, headers, raw_text, marker_back, ending_of, copy_with, ended_copy, ended_copies, is_open, open_headers, closed_copy, copies}
-use Rattle.nx_envelope.specs.Finding.{Keeps, Begins, Ends, is_empty, found_text}
+use Rattle.nx_envelope.specs.Backward.{marker_back, ends_in, header_back}
+use Rattle.nx_envelope.specs.Copies.{Ending, Copy, beginnings, header_at_end, headers, raw_text, ending_of, copy_with, ended_copy, ended_copies, is_open, open_headers, closed_copy, copies}
+use Rattle.nx_envelope.specs.Finder.{Keeps, Begins, Ends, is_empty}
+use Rattle.nx_envelope.specs.Finding.{found_text}
+use Rattle.nx_envelope.specs.Header.{Header}
 use Rattle.nx_envelope.specs.Laws.{Grows}
-use Rattle.nx_envelope.specs.Header.{ends_in, header_back}
 use Rattle.nx_envelope.specs.Marker.{start_marker}
 use Rattle.nx_envelope.specs.Stage.{IsStageOf}
 use Rattle.nx_envelope.specs.declared.found.How.{How}
@@ -95,12 +97,12 @@ open_headers-one text o = open_last text o.earlier o.header None o.all o.over o.
 -- One more byte.
 
 -- no header is completed
-no_more_headers : (text : List ℕ) (b : ℕ) → header_back (b ∷ reverse text) ≡ None → headers (text ++ b ∷ []) ≡ headers text
+pub no_more_headers : (text : List ℕ) (b : ℕ) → header_back (b ∷ reverse text) ≡ None → headers (text ++ b ∷ []) ≡ headers text
 no_more_headers text b none =
     let last = header_at_end-push text b in
     headers-push text b ∙ rw (last, none) (append-nil (headers text))
 
-one_more_header : (text : List ℕ) (b : ℕ) (i : Identity) → header_back (b ∷ reverse text) ≡ Some i → headers (text ++ b ∷ []) ≡ headers text ++ record { identity = i; behind = length text + 1 } ∷ []
+pub one_more_header : (text : List ℕ) (b : ℕ) (i : Identity) → header_back (b ∷ reverse text) ≡ Some i → headers (text ++ b ∷ []) ≡ headers text ++ record { identity = i; behind = length text + 1 } ∷ []
 one_more_header text b i is =
     let last = header_at_end-push text b in
     headers-push text b ∙ rw (last, is) refl

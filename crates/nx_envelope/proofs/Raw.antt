@@ -3,9 +3,11 @@ use Rattle.std.proofs.Common.{◌≡◌, ◌≢◌, ℕ, ◌+◌, ◌-◌, ◌<�
 use Rattle.std.specs.Prelude.{slice_index}
 use Rattle.std.proofs.lemmas.Bool.Decides.{leb_tells, nat_tests}
 use Rattle.std.proofs.lemmas.List.{reverse-append, take-append-le, take_all, drop-append-le, drop_all}
-use Rattle.nx_envelope.specs.Copies.{Header, Ending, less_newline, raw_text, marker_back, marked, beginnings, ending_within, ending_of}
-use Rattle.nx_envelope.specs.Finding.{is_empty, found_text}
-use Rattle.nx_envelope.specs.Header.{ends_in}
+use Rattle.nx_envelope.specs.Backward.{marker_back, ends_in}
+use Rattle.nx_envelope.specs.Copies.{Ending, less_newline, raw_text, marked, beginnings, ending_within, ending_of}
+use Rattle.nx_envelope.specs.Finder.{is_empty}
+use Rattle.nx_envelope.specs.Finding.{found_text}
+use Rattle.nx_envelope.specs.Header.{Header}
 use Rattle.nx_envelope.specs.Marker.{start_marker, end_marker}
 use Rattle.nx_envelope.specs.declared.found.How.{How}
 use Rattle.nx_envelope.specs.declared.found.How.TheVariants.{Full, Cut, Long}

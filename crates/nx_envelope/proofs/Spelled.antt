@@ -3,9 +3,11 @@ use Rattle.std.proofs.Common.{◌≡◌, ◌≢◌, ℕ, zero, suc, ◌+◌, ◌
 use Rattle.std.specs.Prelude.{replicate}
 use Rattle.std.proofs.lemmas.Bool.Decides.{leb_tells, nat_tests}
 use Rattle.std.proofs.lemmas.List.{reverse-append, reverse-reverse, replicate_more}
+use Rattle.nx_envelope.specs.Backward.{letter_of, digit_of, both, ends_in, identity_of, identity_with, spaces_back, station_back, subject_back, tens_back, header_back}
 use Rattle.nx_envelope.specs.Digits.{two_digits}
-use Rattle.nx_envelope.specs.Header.{EndsWith, EndsWithHeader, letter_of, digit_of, both, ends_in, identity_of, identity_with, spaces_back, station_back, subject_back, tens_back, header_back}
-use Rattle.nx_envelope.specs.Marker.{start_marker, end_marker}
+use Rattle.nx_envelope.specs.Header.{EndsWithHeader}
+use Rattle.nx_envelope.specs.Identity.{identity_bytes}
+use Rattle.nx_envelope.specs.Marker.{EndsWith, start_marker, end_marker}
 use Rattle.nx_envelope.specs.declared.digit.Digit.{Digit}
 use Rattle.nx_envelope.specs.declared.identity.Identity.{Identity}
 use Rattle.nx_envelope.specs.declared.letter.Letter.{Letter}
@@ -67,10 +69,10 @@ word_back : (a b c d : ℕ) (text : List ℕ) → EndsWith text (a ∷ b ∷ c �
 word_back a b c d text h =
     ap (λ (xs : List ℕ). ends_in (a ∷ b ∷ c ∷ d ∷ []) (reverse xs)) h.spelled ∙ ap (ends_in (a ∷ b ∷ c ∷ d ∷ [])) (reverse-append h.front (a ∷ b ∷ c ∷ d ∷ [])) ∙ ends_in-is a b c d (reverse h.front)
 
-zczc_word : IsWord 90 67 90 67
+pub zczc_word : IsWord 90 67 90 67
 zczc_word = record { first = λ e. omega arith; second = λ e. omega arith; third = λ e. omega arith; fourth = λ e. omega arith }
 
-nnnn_word : IsWord 78 78 78 78
+pub nnnn_word : IsWord 78 78 78 78
 nnnn_word = record { first = λ e. omega arith; second = λ e. omega arith; third = λ e. omega arith; fourth = λ e. omega arith }
 
 pub starts_both : (text : List ℕ) → (ends_in start_marker (reverse text) ≡ true → EndsWith text start_marker) × (EndsWith text start_marker → ends_in start_marker (reverse text) ≡ true)
@@ -257,7 +259,7 @@ header_reads more rest i =
 header_converse : (text : List ℕ) (i : Identity) → EndsWithHeader text i → header_back (reverse text) ≡ Some i
 header_converse text i h =
     let X : List ℕ = header_reversed h.more_spaces (reverse h.front) i.b1.byte i.b2.byte (48 + i.number / 10) (48 + i.number % 10) in
-    let round : reverse X ≡ text = turned h.more_spaces (reverse h.front) i.b1.byte i.b2.byte (48 + i.number / 10) (48 + i.number % 10) ∙ ap (λ (xs : List ℕ). xs ++ start_marker ++ replicate (h.more_spaces + 1) 32 ++ i.b1.byte ∷ i.b2.byte ∷ two_digits i.number) (reverse-reverse h.front) ∙ sym h.spelled in
+    let round : reverse X ≡ text = turned h.more_spaces (reverse h.front) i.b1.byte i.b2.byte (48 + i.number / 10) (48 + i.number % 10) ∙ ap (λ (xs : List ℕ). xs ++ start_marker ++ replicate (h.more_spaces + 1) 32 ++ identity_bytes i) (reverse-reverse h.front) ∙ sym h.spelled in
     let back : reverse text ≡ X = ap reverse (sym round) ∙ reverse-reverse X in
     ap header_back back ∙ header_reads h.more_spaces (reverse h.front) i
 

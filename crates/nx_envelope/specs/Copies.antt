@@ -3,22 +3,16 @@
 use Rattle.std.specs.Prelude.{ℕ, ◌-◌, ◌==◌, nat_le, Bool, if◌then◌else◌, Option, Some, None, List, [], ◌∷◌, length, take, drop, map, reverse, count_by, unwrap_or}
 use Rattle.std.specs.List.{filter, filter_map}
 use Rattle.std.specs.Option.{option_map, option_or, is_none}
-use Rattle.nx_envelope.specs.Header.{ends_in, header_back}
-use Rattle.nx_envelope.specs.Marker.{start_marker, end_marker}
+use Rattle.nx_envelope.specs.Backward.{header_back, marker_back}
+use Rattle.nx_envelope.specs.Header.{Header}
 use Rattle.nx_envelope.specs.Newline.{newline}
 use Rattle.nx_envelope.specs.declared.found.How.{How}
-use Rattle.nx_envelope.specs.declared.found.How.TheVariants.{Full, Cut, Long}
-use Rattle.nx_envelope.specs.declared.identity.Identity.{Identity}
+use Rattle.nx_envelope.specs.declared.found.How.TheVariants.{Cut, Long}
 
 -- the beginnings of a text, from the empty one to the whole
 unfoldable pub beginnings : List ℕ → List (List ℕ)
 beginnings [] = [] ∷ []
 beginnings (b ∷ text) = [] ∷ map (λ p. b ∷ p) (beginnings text)
-
--- a header in a text: its identity, and the index behind its second digit
-pub record Header : Type 0 where
-  pub identity : Identity
-  pub behind : ℕ
 
 -- the header with which a text ends, if it ends with one
 unfoldable pub header_at_end : List ℕ → Option Header
@@ -43,11 +37,6 @@ pub record Ending : Type 0 where
   pub how : How
   pub text : List ℕ
 
--- how the marker with which a text ends, read from its back, ends a copy: NNNN as full, ZCZC as cut
-abbrev pub marker_back : List ℕ → Option How
-marker_back back =
-    if ends_in end_marker back then Some Full else (if ends_in start_marker back then Some Cut else None)
-
 -- a text that ends with a marker, less the marker
 unfoldable pub marked : List ℕ → Option Ending
 marked text =
@@ -69,9 +58,13 @@ unfoldable pub ending_within : ℕ → List ℕ → Option Ending
 ending_within most raw =
     option_or (first_of marked (beginnings (take most raw))) (long_within most raw)
 
+-- the most characters of a found text
+abbrev pub most_found : ℕ
+most_found = 4100
+
 -- the end within 4,100 characters
 unfoldable pub ending_of : List ℕ → Option Ending
-ending_of raw = ending_within 4100 raw
+ending_of raw = ending_within most_found raw
 
 -- a copy of a message: its header, how it ended and its found text
 pub record Copy : Type 0 where

@@ -1,101 +1,12 @@
--- What one more byte does to the copies of a text, and what its end does.
-use Rattle.std.specs.Prelude.{◌≡◌, ℕ, ◌+◌, ◌-◌, Bool, true, false, Option, Some, None, List, [], ◌∷◌, ◌++◌, length, take, drop, reverse}
-use Rattle.nx_envelope.specs.Copies.{Header, Copy, headers, ended_copies, open_headers, raw_text, closed_copy, copies}
-use Rattle.nx_envelope.specs.Found.{IsFoundOf}
-use Rattle.nx_envelope.specs.Header.{last_four}
-use Rattle.nx_envelope.specs.Stage.{IsStageOf}
+-- What the parts of a finder do, of which the layers above know nothing.
+use Rattle.std.specs.Prelude.{◌≡◌, ℕ, ◌-◌, Bool, true, Option, Some, List, [], ◌∷◌, ◌++◌, length, take}
+use Rattle.nx_envelope.specs.Copies.{Copy}
+use Rattle.nx_envelope.specs.Finder.{Keeps, Ends, BringsHeader}
 use Rattle.nx_envelope.specs.declared.finder.Event.{Event}
 use Rattle.nx_envelope.specs.declared.finder.Event.TheVariants as events
-use Rattle.nx_envelope.specs.declared.finder.Finder.{Finder}
-use Rattle.nx_envelope.specs.declared.found.FinderStep.{FinderStep}
-use Rattle.nx_envelope.specs.declared.found.FinderStep.TheVariants as steps
-use Rattle.nx_envelope.specs.declared.found.Found.{Found}
 use Rattle.nx_envelope.specs.declared.found.How.{How}
 use Rattle.nx_envelope.specs.declared.found.How.TheVariants.{Full, Cut, Long}
 use Rattle.nx_envelope.specs.declared.identity.Identity.{Identity}
-
--- the found is the copy
-abbrev pub IsFound : Copy → Found → Type 0
-IsFound copy found = IsFoundOf copy.header.identity copy.how copy.text found
-
--- the byte completes no header and ends no copy
-pub record Keeps (text : List ℕ) (byte : ℕ) : Type 0 where
-  pub headers : headers (text ++ byte ∷ []) ≡ headers text
-  pub ended : ended_copies (text ++ byte ∷ []) ≡ ended_copies text
-  pub still_open : open_headers (text ++ byte ∷ []) ≡ open_headers text
-
--- the byte completes the header, and with it the one open copy begins
-pub record Begins (text : List ℕ) (byte : ℕ) (header : Header) : Type 0 where
-  pub behind : header.behind ≡ length text + 1
-  pub headers : headers (text ++ byte ∷ []) ≡ headers text ++ header ∷ []
-  pub ended : ended_copies (text ++ byte ∷ []) ≡ ended_copies text
-  pub was_none : open_headers text ≡ []
-  pub now_open : open_headers (text ++ byte ∷ []) ≡ header ∷ []
-
--- the byte ends the one open copy as this copy
-pub record Ends (text : List ℕ) (byte : ℕ) (copy : Copy) : Type 0 where
-  pub headers : headers (text ++ byte ∷ []) ≡ headers text
-  pub ended : ended_copies (text ++ byte ∷ []) ≡ ended_copies text ++ copy ∷ []
-  pub was_open : open_headers text ≡ copy.header ∷ []
-  pub none : open_headers (text ++ byte ∷ []) ≡ []
-
--- a header of that identity is completed
-pub record BringsHeader (text : List ℕ) (byte : ℕ) (identity : Identity) : Type 0 where
-  pub header : Header
-  pub named : header.identity ≡ identity
-  pub begins : Begins text byte header
-
--- a copy ends, and this is it
-pub record BringsCopy (text : List ℕ) (byte : ℕ) (found : Found) : Type 0 where
-  pub copy : Copy
-  pub is_found : IsFound copy found
-  pub ends : Ends text byte copy
-
--- the step is what happens at that byte behind that text
-abbrev pub Brings : List ℕ → ℕ → FinderStep → Type 0
-Brings text byte steps.Nothing = Keeps text byte
-Brings text byte (steps.Header identity) = BringsHeader text byte identity
-Brings text byte (steps.Over found) = BringsCopy text byte found
-
--- the copy that the end of the text closes, which is the last one
-pub record ClosesCopy (text : List ℕ) (found : Found) : Type 0 where
-  pub header : Header
-  pub was_open : open_headers text ≡ header ∷ []
-  pub is_found : IsFound (closed_copy text header) found
-  pub whole : copies text ≡ ended_copies text ++ closed_copy text header ∷ []
-
--- no copy is open at the end of the text
-pub record ClosesNone (text : List ℕ) : Type 0 where
-  pub none : open_headers text ≡ []
-  pub whole : copies text ≡ ended_copies text
-
--- what the end of the text brings
-abbrev pub Closes : List ℕ → Option Found → Type 0
-Closes text None = ClosesNone text
-Closes text (Some found) = ClosesCopy text found
-
-abbrev pub is_empty : List ℕ → Bool
-is_empty [] = true
-is_empty (b ∷ text) = false
-
--- these are the identity and the raw text of the one open copy; `fresh` where nothing stands behind its header yet
-pub record HoldsOpen (is_fresh : Bool) (kept text : List ℕ) (identity : Identity) : Type 0 where
-  pub header : Header
-  pub stands_open : open_headers text ≡ header ∷ []
-  pub named : header.identity ≡ identity
-  pub raw : kept ≡ raw_text text header
-  pub fresh : is_fresh ≡ is_empty (drop header.behind text)
-
-abbrev pub HoldsOpenIf : Bool → List ℕ → List ℕ → Option Identity → Type 0
-HoldsOpenIf fresh raw text None = open_headers text ≡ []
-HoldsOpenIf fresh raw text (Some identity) = HoldsOpen fresh raw text identity
-
--- The finder stands after the text: it has the last four bytes, the stage of a header that is not complete, and the
--- open copy.
-pub record StandsAfter (finder : Finder) (text : List ℕ) : Type 0 where
-  pub recent : finder.recent ≡ last_four (reverse text)
-  pub stage : IsStageOf finder.stage (reverse text)
-  pub current : HoldsOpenIf finder.fresh finder.text.items text finder.current
 
 -- the found text of a raw text and the byte at which it ended
 abbrev pub found_text : How → List ℕ → ℕ → List ℕ

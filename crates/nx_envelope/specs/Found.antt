@@ -1,6 +1,6 @@
 -- A copy of a message as it is handed out.
 use Rattle.std.specs.Prelude.{◌≡◌, ℕ, List}
-use Rattle.nx_envelope.specs.Copies.{errors_of}
+use Rattle.nx_envelope.specs.Copies.{Copy, errors_of}
 use Rattle.nx_envelope.specs.declared.found.Found.{Found}
 use Rattle.nx_envelope.specs.declared.found.How.{How}
 use Rattle.nx_envelope.specs.declared.identity.Identity.{Identity}
@@ -11,3 +11,7 @@ pub record IsFoundOf (name : Identity) (end : How) (spelled : List ℕ) (found :
   pub how : found.how ≡ end
   pub text : found.text.items ≡ spelled
   pub errors : found.errors ≡ errors_of spelled
+
+-- the found is the copy
+abbrev pub IsFound : Copy → Found → Type 0
+IsFound copy found = IsFoundOf copy.header.identity copy.how copy.text found

@@ -1,14 +1,9 @@
 -- ITU-R M.540: a message begins with the letters ZCZC, a space, the station, the subject and a number of two digits;
 -- that more than one space may stand there is this profile's.
-use Rattle.std.specs.Prelude.{◌≡◌, ℕ, ◌+◌, ◌*◌, ◌-◌, ◌==◌, ◌&&◌, ◌||◌, nat_le, Bool, true, false, if◌then◌else◌, Option, Some, None, List, [], ◌∷◌, ◌++◌, replicate, slice_index, refl}
-use Rattle.std.specs.Str.{bytes_eq}
-use Rattle.std.proofs.Math.Nat.{add-le-add, mul-le-mul_right}
-use Rattle.std.proofs.lemmas.Bool.{leb-true}
-use Rattle.nx_envelope.specs.Digits.{two_digits}
+use Rattle.std.specs.Prelude.{◌≡◌, ℕ, ◌+◌, ◌≤◌, List, ◌∷◌, ◌++◌, length, take, replicate}
+use Rattle.nx_envelope.specs.Identity.{identity_bytes}
 use Rattle.nx_envelope.specs.Marker.{start_marker}
-use Rattle.nx_envelope.specs.declared.digit.Digit.{Digit}
 use Rattle.nx_envelope.specs.declared.identity.Identity.{Identity}
-use Rattle.nx_envelope.specs.declared.letter.Letter.{Letter}
 
 -- the space
 abbrev pub space : ℕ
@@ -18,80 +13,21 @@ space = 32
 pub record EndsWithHeader (text : List ℕ) (identity : Identity) : Type 0 where
   pub front : List ℕ
   pub more_spaces : ℕ
-  pub spelled : text ≡ front ++ start_marker ++ replicate (more_spaces + 1) space ++ identity.b1.byte ∷ identity.b2.byte ∷ two_digits identity.number
+  pub spelled : text ≡ front ++ start_marker ++ replicate (more_spaces + 1) space ++ identity_bytes identity
 
--- the text ends with the word
-pub record EndsWith (text word : List ℕ) : Type 0 where
-  pub front : List ℕ
-  pub spelled : text ≡ front ++ word
+-- a header in a text: its identity, and the index behind its second digit
+pub record Header : Type 0 where
+  pub identity : Identity
+  pub behind : ℕ
 
--- What follows computes the same from the back of a text, which is the text read from its end: its newest byte first.
+-- the header stands in the text: the text up to the index behind it ends with it
+pub record StandsIn (text : List ℕ) (header : Header) : Type 0 where
+  pub within : header.behind ≤ length text
+  pub spelled : EndsWithHeader (take header.behind text) header.identity
 
--- the letter of a byte, and the digit of one
-unfoldable pub letter_from : (b : ℕ) (low high : Bool) → nat_le 65 b ≡ low → nat_le b 90 ≡ high → Option Letter
-letter_from b true true l h = Some (record { byte = b; in_range = (leb-true 65 b l, leb-true b 90 h) })
-letter_from b true false l h = None
-letter_from b false high l h = None
-
-unfoldable pub letter_of : ℕ → Option Letter
-letter_of b = letter_from b (nat_le 65 b) (nat_le b 90) refl refl
-
-unfoldable pub digit_from : (b : ℕ) (low high : Bool) → nat_le 48 b ≡ low → nat_le (b - 48) 9 ≡ high → Option Digit
-digit_from b true true l h = Some (record { value = b - 48; below_ten = leb-true (b - 48) 9 h })
-digit_from b true false l h = None
-digit_from b false high l h = None
-
-unfoldable pub digit_of : ℕ → Option Digit
-digit_of b = digit_from b (nat_le 48 b) (nat_le (b - 48) 9) refl refl
-
--- the last four bytes, oldest first, with 0 where there are fewer
-abbrev pub last_four : List ℕ → List ℕ
-last_four back = slice_index back 3 ∷ slice_index back 2 ∷ slice_index back 1 ∷ slice_index back 0 ∷ []
-
--- it ends with a word of four letters
-abbrev pub ends_in : List ℕ → List ℕ → Bool
-ends_in word back = bytes_eq (last_four back) word
-
--- it ends with ZCZC and one or more spaces
-unfoldable pub spaces_back : List ℕ → Bool
-spaces_back [] = false
-spaces_back (b ∷ back) = (b == space) && (ends_in start_marker back || spaces_back back)
-
--- two things that are both there
-abbrev pub both : {A B : Type 0} → Option A → Option B → Option (A × B)
-both None b = None
-both (Some a) None = None
-both (Some a) (Some b) = Some (a, b)
-
--- it ends with these and a letter, the station
-unfoldable pub station_back : List ℕ → Option Letter
-station_back [] = None
-station_back (b ∷ back) = if spaces_back back then letter_of b else None
-
--- and with a second letter, the subject
-unfoldable pub subject_back : List ℕ → Option (Letter × Letter)
-subject_back [] = None
-subject_back (b ∷ back) = both (station_back back) (letter_of b)
-
--- and with a digit
-unfoldable pub tens_back : List ℕ → Option ((Letter × Letter) × Digit)
-tens_back [] = None
-tens_back (b ∷ back) = both (subject_back back) (digit_of b)
-
--- the identity of two letters and two digits
-abbrev pub identity_of : Letter → Letter → Digit → Digit → Identity
-identity_of b1 b2 tens units = record {
-  b1 = b1;
-  b2 = b2;
-  number = tens.value * 10 + units.value;
-  two_digits = add-le-add (mul-le-mul_right 10 tens.below_ten) units.below_ten;
-}
-
-abbrev pub identity_with : Option (((Letter × Letter) × Digit) × Digit) → Option Identity
-identity_with None = None
-identity_with (Some found) = Some (identity_of found.0.0.0 found.0.0.1 found.0.1 found.1)
-
--- and with a second digit: the identity whose header the text ends with
-unfoldable pub header_back : List ℕ → Option Identity
-header_back [] = None
-header_back (b ∷ back) = identity_with (both (tens_back back) (digit_of b))
+-- the one header comes before the other in the list
+pub record ComesBefore (headers : List Header) (earlier later : Header) : Type 0 where
+  pub front : List Header
+  pub between : List Header
+  pub back : List Header
+  pub listed : headers ≡ front ++ earlier ∷ between ++ later ∷ back

@@ -1,7 +1,12 @@
 -- ITU-R M.540: a message is named by its station, its subject and its number.
-use Rattle.std.specs.Prelude.{Bool, ◌==◌, ◌&&◌}
+use Rattle.std.specs.Prelude.{ℕ, Bool, ◌==◌, ◌&&◌, List, ◌∷◌}
+use Rattle.nx_envelope.specs.Digits.{two_digits}
 use Rattle.nx_envelope.specs.declared.identity.Identity.{Identity}
 
 -- the two name one message: the same station, the same subject and the same number
 abbrev pub same_identity : Identity → Identity → Bool
 same_identity a b = (a.b1.byte == b.b1.byte) && (a.b2.byte == b.b2.byte) && (a.number == b.number)
+
+-- the identity as it is written, the two letters and then the two digits, as EA01
+abbrev pub identity_bytes : Identity → List ℕ
+identity_bytes i = i.b1.byte ∷ i.b2.byte ∷ two_digits i.number

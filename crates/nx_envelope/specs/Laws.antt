@@ -1,10 +1,10 @@
 -- What the definitions of headers and copies come to.
-use Rattle.std.specs.Prelude.{◌≡◌, ℕ, ◌≤◌, Option, Some, None, List, [], ◌∷◌, ◌++◌, length, take}
+use Rattle.std.specs.Prelude.{◌≡◌, ℕ, Option, Some, None, List, [], ◌∷◌, ◌++◌}
 use Rattle.std.specs.List.{filter_map}
 use Rattle.std.specs.Option.{option_to_list}
-use Rattle.nx_envelope.specs.Copies.{Copy, Header, headers, ended_copies}
-use Rattle.nx_envelope.specs.Finding.{Brings}
-use Rattle.nx_envelope.specs.Header.{EndsWithHeader}
+use Rattle.nx_envelope.specs.Copies.{Copy, headers, ended_copies}
+use Rattle.nx_envelope.specs.Finder.{Brings}
+use Rattle.nx_envelope.specs.Header.{Header}
 use Rattle.nx_envelope.specs.declared.found.FinderStep.{FinderStep}
 use Rattle.nx_envelope.specs.declared.found.FinderStep.TheVariants as steps
 use Rattle.nx_envelope.specs.declared.found.Found.{Found}
@@ -15,11 +15,6 @@ pub record Grows (text more : List ℕ) : Type 0 where
   pub headers : headers (text ++ more) ≡ headers text ++ later_headers
   pub later_copies : List Copy
   pub ended : ended_copies (text ++ more) ≡ ended_copies text ++ later_copies
-
--- the header stands in the text: the text up to the index behind it ends with it
-pub record StandsIn (text : List ℕ) (header : Header) : Type 0 where
-  pub within : header.behind ≤ length text
-  pub spelled : EndsWithHeader (take header.behind text) header.identity
 
 -- the steps are what happens at the bytes of a text, one after the other, behind what came before it
 abbrev pub AreAnswers : List ℕ → List ℕ → List FinderStep → Type 0

@@ -1,11 +1,13 @@
+pub mod Backward
 pub mod Copies
 pub mod Digits
+pub mod Ending
+pub mod Finder
 pub mod Finding
 pub mod Found
 pub mod Header
 pub mod Identity
 pub mod Laws
-pub mod Letter
 pub mod Marker
 pub mod Message
 pub mod MessageView

@@ -9,6 +9,11 @@ start_marker = codes "ZCZC"
 abbrev pub end_marker : List ℕ
 end_marker = codes "NNNN"
 
+-- the text ends with the word
+pub record EndsWith (text word : List ℕ) : Type 0 where
+  pub front : List ℕ
+  pub spelled : text ≡ front ++ word
+
 -- the word stands somewhere in the text
 pub record HoldsWord (word text : List ℕ) : Type 0 where
   pub front : List ℕ

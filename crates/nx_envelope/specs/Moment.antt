@@ -41,3 +41,8 @@ pub record IsShownAs (moment : ℕ) (text : List ℕ) : Type 0 where
   pub is_civil : IsCivilTime time
   pub is_moment : IsMomentOf time moment
   pub is_text : text ≡ civil_text time
+
+-- the moment has a civil text
+pub record HasText (moment : ℕ) : Type 0 where
+  pub text : List ℕ
+  pub is_shown : IsShownAs moment text

@@ -1,7 +1,7 @@
 //! A decimal digit of a message's number.
 
-ghost use Rattle.std.specs.Prelude.{◌≡◌, ◌≤◌, ◌↔◌, ◌-◌, IfSome, IsSome};
-ghost use Rattle.nx_envelope.specs.Digits.{IsDigit};
+ghost use Rattle.std.specs.Prelude.{◌≡◌, ◌<◌, ◌≤◌, ◌↔◌, ◌-◌, IfSome, IsSome};
+ghost use Rattle.nx_envelope.specs.Digits.{IsDigit, two_digits as digits_of};
 
 /// A decimal digit.
 #[derive(Clone, Copy, PartialEq, Eq, Debug)]
@@ -12,7 +12,7 @@ pub struct Digit {
 }
 
 impl Digit {
-    ghost use Rattle.nx_envelope.specs.Header.{digit_of};
+    ghost use Rattle.nx_envelope.specs.Backward.{digit_of};
 
     /// The digit of a byte, `None` where the byte isn't 0 to 9.
     pub fn new(byte: u8) -> Option<Digit>
@@ -26,4 +26,12 @@ impl Digit {
             None
         }
     }
+}
+
+/// The two decimal digits of a number below 100.
+pub fn two_digits(number: u8) -> [u8; 2]
+    requires { number < 100 }
+    ensures { result ≡ digits_of number }
+{
+    [b'0' + number / 10, b'0' + number % 10]
 }

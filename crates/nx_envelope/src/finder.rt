@@ -2,9 +2,8 @@
 
 ghost use Rattle.std.specs.Prelude.{◌≡◌, ◌<◌, ◌==◌, ◌&&◌, ◌∷◌, ◌++◌, [], ℕ, List};
 ghost use Rattle.arrayvec.specs.ArrayVec.{array_vec_len};
-ghost use Rattle.nx_envelope.specs.Copies.{marker_back};
+ghost use Rattle.nx_envelope.specs.Backward.{marker_back, last_four};
 ghost use Rattle.nx_envelope.specs.Found.{IsFoundOf};
-ghost use Rattle.nx_envelope.specs.Header.{last_four};
 
 use crate::found::{FinderStep, Found, How, MAX_FOUND};
 use crate::identity::Identity;
@@ -44,7 +43,8 @@ pub struct Finder {
 }
 
 impl Finder {
-    ghost use Rattle.nx_envelope.specs.Finding.{Brings, Closes, Hears, IsBegun, StandsAfter, found_text};
+    ghost use Rattle.nx_envelope.specs.Finder.{Brings, Closes, StandsAfter};
+    ghost use Rattle.nx_envelope.specs.Finding.{Hears, IsBegun, found_text};
     ghost use Rattle.std.specs.Prelude.{Some, None};
     ghost use Rattle.nx_envelope.specs.declared.identity.Identity.{Identity};
 

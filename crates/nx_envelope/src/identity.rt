@@ -1,8 +1,9 @@
 //! The identity of a message: its station, its subject and its number.
 
 ghost use Rattle.std.specs.Prelude.{◌≡◌, ◌↔◌, ◌≤◌, IfSome, IsSome};
-ghost use Rattle.nx_envelope.specs.Letter.{IsLetter};
+ghost use Rattle.nx_code.specs.Characters.{IsCapital};
 
+use crate::digit::two_digits;
 use crate::letter::Letter;
 
 /// The greatest number of a message.
@@ -21,9 +22,11 @@ pub struct Identity {
 }
 
 impl Identity {
+    ghost use Rattle.nx_envelope.specs.Identity.{identity_bytes};
+
     /// The identity of two letters and a number, `None` where `b1` or `b2` isn't A to Z or `number` is above 99.
     pub fn new(b1: u8, b2: u8, number: u8) -> Option<Identity>
-        ensures in_range { IsSome result ↔ (IsLetter b1 × IsLetter b2 × (number ≤ 99)) }
+        ensures in_range { IsSome result ↔ (IsCapital b1 × IsCapital b2 × (number ≤ 99)) }
         ensures station { IfSome result (λ identity. identity.b1.byte ≡ b1) }
         ensures subject { IfSome result (λ identity. identity.b2.byte ≡ b2) }
         ensures number { IfSome result (λ identity. identity.number ≡ number) }
@@ -56,5 +59,13 @@ impl Identity {
         ensures in_range { result ≤ 99 }
     {
         self.number
+    }
+
+    /// The identity as it is written, the letters of station and subject and then two digits, as `EA01`.
+    pub fn bytes(self) -> [u8; 4]
+        ensures { result ≡ identity_bytes self }
+    {
+        let [tens, units] = two_digits(self.number);
+        [self.b1.byte, self.b2.byte, tens, units]
     }
 }

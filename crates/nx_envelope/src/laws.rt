@@ -1,13 +1,17 @@
 //! Laws of headers, copies and moments: each holds by its contract alone, and the call does nothing.
 
-ghost use Rattle.std.specs.Prelude.{◌≡◌, ◌↔◌, ◌≤◌, ◌++◌, [], ℕ, Contains, List, Option, IsTrue, Some, length, map, reverse};
+ghost use Rattle.std.specs.Prelude.{◌≡◌, ◌↔◌, ◌<◌, ◌≤◌, ◌++◌, [], ℕ, Contains, List, Option, IsTrue, None, Some, length, map, reverse};
 ghost use Rattle.std.specs.List.{AllZip};
-ghost use Rattle.nx_envelope.specs.Copies.{Header, closed_copy, copies, headers, ended_copies, open_headers};
-ghost use Rattle.nx_envelope.specs.Finding.{Closes, IsFound};
-ghost use Rattle.nx_envelope.specs.Header.{EndsWith, EndsWithHeader, ends_in, header_back};
-ghost use Rattle.nx_envelope.specs.Laws.{AreAnswers, Grows, StandsIn, handed_out};
-ghost use Rattle.nx_envelope.specs.Marker.{end_marker, start_marker};
-ghost use Rattle.nx_envelope.specs.Moment.{IsShownAs};
+ghost use Rattle.nx_envelope.specs.Backward.{ends_in, header_back};
+ghost use Rattle.nx_envelope.specs.Copies.{Ending, closed_copy, copies, headers, ended_copies, ending_of, open_headers};
+ghost use Rattle.nx_envelope.specs.Finder.{Closes};
+ghost use Rattle.nx_envelope.specs.Found.{IsFound};
+ghost use Rattle.nx_envelope.specs.Header.{ComesBefore, EndsWithHeader, Header, StandsIn};
+ghost use Rattle.nx_envelope.specs.Ending.{IsEnding, IsUnended};
+ghost use Rattle.nx_envelope.specs.Identity.{same_identity};
+ghost use Rattle.nx_envelope.specs.Laws.{AreAnswers, Grows, handed_out};
+ghost use Rattle.nx_envelope.specs.Marker.{EndsWith, end_marker, start_marker};
+ghost use Rattle.nx_envelope.specs.Moment.{HasText, IsShownAs, last_moment};
 ghost use Rattle.nx_envelope.specs.declared.found.FinderStep.{FinderStep};
 ghost use Rattle.nx_envelope.specs.declared.found.Found.{Found};
 ghost use Rattle.nx_envelope.specs.declared.identity.Identity.{Identity};
@@ -37,11 +41,34 @@ pub fn headers_stand_anywhere()
     ensures { (text : List ℕ) (header : Header) → Contains (headers text) header ↔ StandsIn text header }
 {}
 
+/// The headers of a text come in rising order, each once: one that comes later stands later.
+pub fn headers_rise()
+    ensures { (text : List ℕ) (earlier later : Header) → ComesBefore (headers text) earlier later
+        → earlier.behind < later.behind }
+{}
+
+/// A copy ends at the least place, within 4,100 characters of its raw text, where a marker ends, and is full or cut by
+/// which marker it is; it is long exactly where there is none and 4,100 characters stand there; else it has not ended.
+pub fn copies_end_at_the_least_marker()
+    ensures ended { (raw : List ℕ) (ending : Ending) → (ending_of raw ≡ Some ending) ↔ IsEnding raw ending }
+    ensures unended { (raw : List ℕ) → (ending_of raw ≡ None) ↔ IsUnended raw }
+{}
+
+/// Two identities name one message exactly where they are equal.
+pub fn same_identity_is_equality()
+    ensures { (a b : Identity) → IsTrue (same_identity a b) ↔ (a ≡ b) }
+{}
+
 /// A text ends with a header, as it is read from its end, exactly where it is spelled `ZCZC`, one or more spaces, two
 /// letters and two digits.
 pub fn header_is_spelled()
     ensures { (text : List ℕ) (identity : Identity) →
         (header_back (reverse text) ≡ Some identity) ↔ EndsWithHeader text identity }
+{}
+
+/// Every moment to the last one has a civil text.
+pub fn every_moment_has_a_text()
+    ensures { (moment : ℕ) → moment ≤ last_moment → HasText moment }
 {}
 
 /// A moment has one civil text: two texts that show it are the same.

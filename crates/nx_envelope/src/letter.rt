@@ -1,22 +1,22 @@
 //! A letter of an identity: a station or a subject.
 
 ghost use Rattle.std.specs.Prelude.{◌≡◌, ◌↔◌, IfSome, IsSome};
-ghost use Rattle.nx_envelope.specs.Letter.{IsLetter};
+ghost use Rattle.nx_code.specs.Characters.{IsCapital};
 
 /// A letter A to Z, which names a station (B1) or a subject (B2) of ITU-R M.540.
 #[derive(Clone, Copy, PartialEq, Eq, Debug)]
 pub struct Letter {
     /// Its byte, from 65 (A) to 90 (Z).
     pub byte: u8,
-    pub ghost in_range: { IsLetter byte },
+    pub ghost in_range: { IsCapital byte },
 }
 
 impl Letter {
-    ghost use Rattle.nx_envelope.specs.Header.{letter_of};
+    ghost use Rattle.nx_envelope.specs.Backward.{letter_of};
 
     /// The letter of a byte, `None` where the byte isn't A to Z.
     pub fn new(byte: u8) -> Option<Letter>
-        ensures in_range { IsSome result ↔ IsLetter byte }
+        ensures in_range { IsSome result ↔ IsCapital byte }
         ensures given { IfSome result (λ letter. letter.byte ≡ byte) }
         ensures letter { result ≡ letter_of byte }
     {
@@ -30,7 +30,7 @@ impl Letter {
     /// The byte that it was made of, 65 (A) to 90 (Z).
     pub fn byte(self) -> u8
         ensures value { result ≡ self.byte }
-        ensures in_range { IsLetter result }
+        ensures in_range { IsCapital result }
     {
         self.byte
     }

@@ -2,8 +2,8 @@
 
 ghost use Rattle.std.specs.Prelude.{◌≡◌, ◌↔◌, ◌<◌, IfSome, IsNone};
 ghost use Rattle.nx_envelope.specs.Moment.{IsCivilTime, IsMomentOf, IsShownAs, civil_text, last_moment};
-ghost use Rattle.nx_envelope.specs.Digits.{two_digits as digits_of};
 
+use crate::digit::two_digits;
 use jiff::Timestamp;
 use jiff::tz::Offset;
 
@@ -28,14 +28,6 @@ pub struct CivilTime {
     pub minute: u8,
     /// The second, to 59.
     pub second: u8,
-}
-
-/// The two decimal digits of a number.
-fn two_digits(number: u8) -> [u8; 2]
-    requires { number < 100 }
-    ensures { result ≡ digits_of number }
-{
-    [b'0' + number / 10, b'0' + number % 10]
 }
 
 /// The civil time of a moment.

@@ -1,7 +1,8 @@
 //! How far the header at the end of a text has come.
 
 ghost use Rattle.std.specs.Prelude.{◌≡◌, ◌∷◌, ℕ, List};
-ghost use Rattle.nx_envelope.specs.Header.{ends_in, header_back, space};
+ghost use Rattle.nx_envelope.specs.Backward.{ends_in, header_back};
+ghost use Rattle.nx_envelope.specs.Header.{space};
 ghost use Rattle.nx_envelope.specs.Marker.{start_marker};
 ghost use Rattle.nx_envelope.specs.Stage.{IsStageOf};
 

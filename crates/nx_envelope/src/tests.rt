@@ -574,14 +574,19 @@ fn identities_are_in_range(rt: HostRuntime) {
     assert!(rt; Identity::new(b'E', b'A', 100).is_none());
     assert!(rt; Identity::new(b'e', b'A', 1).is_none());
     assert!(rt; Letter::new(b'[').is_none());
+    assert!(rt; Identity::new(b'E', b'A', 1).is_some_and(|identity| identity.bytes() == *b"EA01"));
 }
 
 #[test]
 fn laws_can_be_called() {
-    header_is_spelled();
-    headers_stand_anywhere();
-    markers_are_spelled();
-    copies_are_handed_out();
-    copies_come_in_order();
-    a_moment_has_one_text();
+    laws::header_is_spelled();
+    laws::headers_stand_anywhere();
+    laws::headers_rise();
+    laws::markers_are_spelled();
+    laws::copies_end_at_the_least_marker();
+    laws::copies_are_handed_out();
+    laws::copies_come_in_order();
+    laws::same_identity_is_equality();
+    laws::every_moment_has_a_text();
+    laws::a_moment_has_one_text();
 }

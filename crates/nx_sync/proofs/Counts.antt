@@ -2,7 +2,7 @@
 use Rattle.std.proofs.Common.{◌≡◌, ℕ, zero, suc, ◌+◌, ◌*◌, ◌<◌, ◌≤◌, Bool, true, false, refl, ap, ◌∙◌, arith}
 use Rattle.nx_sync.specs.declared.step.Role.{Role}
 use Rattle.nx_sync.specs.declared.step.Role.TheVariants.{Dx, Rx}
-use Rattle.nx_sync.specs.Locks.{other, is_wrong, one_if, role_of, wrong_in}
+use Rattle.nx_sync.specs.Words.{other_role, is_wrong, one_if, role_of, wrong_in}
 
 -- a run of words in two parts
 pub wrong_in-add : (f : ℕ → ℕ) (i a b : ℕ) → wrong_in f i (a + b) ≡ wrong_in f i a + wrong_in f (i + a) b
@@ -41,7 +41,7 @@ wrong_in-le f i zero = omega arith
 wrong_in-le f i (suc n) = omega (arith, wrong_in-le f i n, one_if-le (is_wrong (f (i + n))))
 
 -- two words on, the role is the same
-turned_twice : (role : Role) → other (other role) ≡ role
+turned_twice : (role : Role) → other_role (other_role role) ≡ role
 turned_twice Dx = refl
 turned_twice Rx = refl
 

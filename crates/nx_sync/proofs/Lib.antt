@@ -9,3 +9,4 @@ pub mod Going
 pub mod Releases
 pub mod Phasing
 pub mod Counts
+pub mod WordLists

@@ -7,9 +7,11 @@ use Rattle.circular_buffer.specs.Buffer.{keep_last}
 use Rattle.nx_sync.specs.declared.step.Role.{Role}
 use Rattle.nx_sync.specs.declared.step.Role.TheVariants.{Dx, Rx}
 use Rattle.nx_sync.specs.declared.synchroniser.Track.{Track}
-use Rattle.nx_sync.specs.Locks.{phasing_1, other, is_dx, is_wrong, one_if, role_of, wrong_in, wrong_until, ends_at, change_at}
+use Rattle.nx_code.specs.Phasing.{phasing_1}
+use Rattle.nx_sync.specs.Words.{other_role, is_dx, is_wrong, one_if, role_of, wrong_in, wrong_until}
+use Rattle.nx_sync.specs.Locks.{releases_as_ended, change_at}
 use Rattle.nx_sync.specs.Synchroniser.{wrong_marks, was_p1, p1_marks}
-use Rattle.nx_sync.specs.Parts.{is_end, change_of}
+use Rattle.nx_sync.specs.Parts.{fills_releasing_word, change_of}
 use Rattle.nx_sync.proofs.Lists.{keep_last-push}
 
 -- marks look at their words alone
@@ -47,7 +49,7 @@ unfolding p1_marks
 p1_marks-none f = refl
 
 -- three words on, the role is the other one
-three_turns : (role : Role) → is_dx role ≡ not (is_dx (other (other (other role))))
+three_turns : (role : Role) → is_dx role ≡ not (is_dx (other_role (other_role (other_role role))))
 three_turns Dx = refl
 three_turns Rx = refl
 
@@ -62,9 +64,9 @@ and_no true = refl
 and_no false = refl
 
 -- the test of the track is the definition's
-pub is_end-ends : (first : Role) (f : ℕ → ℕ) (k : ℕ) (track : Track) → track.role ≡ role_of first k → track.was_p1 ≡ p1_marks f k → is_end track ≡ ends_at first f k
-unfolding ends_at p1_marks
-is_end-ends first f k track r m = elim (cases_lt k 5) [
+pub fills_releasing_word-is : (first : Role) (f : ℕ → ℕ) (k : ℕ) (track : Track) → track.role ≡ role_of first k → track.was_p1 ≡ p1_marks f k → fills_releasing_word track ≡ releases_as_ended first f k
+unfolding releases_as_ended p1_marks
+fills_releasing_word-is first f k track r m = elim (cases_lt k 5) [
   | inl early ↦ rw (r, m, lt-leb 5 k early) (and_no _)
   | inr late ↦
       let e : k + 2 - 5 ≡ k - 3 = omega arith in
@@ -87,10 +89,10 @@ count-marks f i (suc n) =
 
 pub count-last_marks : (f : ℕ → ℕ) (k : ℕ) → count_by (λ b. b) (keep_last 64 (wrong_marks f (k + 1))) ≡ wrong_until f k
 count-last_marks f k =
-    let e : length (wrong_marks f (k + 1)) - 64 ≡ k - 63 = omega (arith, length-wrong_marks f (k + 1)) in
-    let s : k - 63 + (k + 1 - (k - 63)) ≡ k + 1 = omega arith in
+    let e : length (wrong_marks f (k + 1)) - 64 ≡ k + 1 - 64 = omega (arith, length-wrong_marks f (k + 1)) in
+    let s : k + 1 - 64 + (k + 1 - (k + 1 - 64)) ≡ k + 1 = omega arith in
     ap (λ i. count_by (λ b. b) (drop i (wrong_marks f (k + 1)))) e
-    ∙ (ap (λ n. count_by (λ b. b) (drop (k - 63) (wrong_marks f n))) (sym s) ∙ count-marks f (k - 63) (k + 1 - (k - 63)))
+    ∙ (ap (λ n. count_by (λ b. b) (drop (k + 1 - 64) (wrong_marks f n))) (sym s) ∙ count-marks f (k + 1 - 64) (k + 1 - (k + 1 - 64)))
 
 -- the marks after one more word
 pub wrong_marks-next : (f : ℕ → ℕ) (n : ℕ) → keep_last 64 (keep_last 64 (wrong_marks f n) ++ is_wrong (f n) ∷ []) ≡ keep_last 64 (wrong_marks f (n + 1))
@@ -103,4 +105,4 @@ wrong_marks-next f n =
 pub change_of-change_at : (first : Role) (f : ℕ → ℕ) (k : ℕ) (track : Track) (wrong : List Bool) → track.role ≡ role_of first k → track.was_p1 ≡ p1_marks f k → wrong ≡ keep_last 64 (wrong_marks f (k + 1)) → change_of track wrong ≡ change_at first f k
 unfolding change_at
 change_of-change_at first f k track wrong r m w =
-    rw (is_end-ends first f k track r m, w, count-last_marks f k) refl
+    rw (fills_releasing_word-is first f k track r m, w, count-last_marks f k) refl

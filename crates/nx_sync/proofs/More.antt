@@ -2,7 +2,8 @@
 use Rattle.std.proofs.Common.{◌≡◌, ℕ, zero, suc, ◌+◌, ◌-◌, ◌*◌, ◌<◌, ◌≤◌, List, [], ◌∷◌, ◌++◌, length, Bool, refl, sym, ap, ap₂, ◌∙◌, inl, inr, arith, length-append}
 use Rattle.nx_code.specs.Word.{number_of}
 use Rattle.nx_sync.specs.declared.step.Role.{Role}
-use Rattle.nx_sync.specs.Locks.{last_28, IsPattern, Finds, word_at, first_role, is_wrong, one_if, wrong_in, ends_at, change_at, release, IsReleased, Lock, IsPast, Past}
+use Rattle.nx_sync.specs.Words.{word_at, first_role, is_wrong, one_if, wrong_in}
+use Rattle.nx_sync.specs.Locks.{last_28, IsPattern, Finds, releases_as_ended, change_at, release, IsReleased, Lock, IsPast, Past}
 use Rattle.nx_sync.proofs.Lists.{part-append}
 
 -- a count looks at its words alone
@@ -14,9 +15,9 @@ wrong_in-same f g i (suc n) same =
 
 -- what word k would bring looks at the words to k alone
 pub change_at-same : (first : Role) (f g : ℕ → ℕ) (k : ℕ) → ((j : ℕ) → j ≤ k → f j ≡ g j) → change_at first f k ≡ change_at first g k
-unfolding change_at ends_at
+unfolding change_at releases_as_ended
 change_at-same first f g k same =
-    simp (same (k - 3) (omega arith), same (k - 5) (omega arith), wrong_in-same f g (k - 63) (k + 1 - (k - 63)) (λ j h. same j (omega arith)))
+    simp (same (k - 3) (omega arith), same (k - 5) (omega arith), wrong_in-same f g (k + 1 - 64) (k + 1 - (k + 1 - 64)) (λ j h. same j (omega arith)))
 
 module _ (bits more : List Bool) where
   pub word_at-more : (t k : ℕ) → t + 7 * (k + 1) ≤ length bits → word_at (bits ++ more) t k ≡ word_at bits t k

@@ -9,7 +9,8 @@ use Rattle.std.proofs.lemmas.Slice.Eq.{slice_eq-Decides}
 use Rattle.circular_buffer.specs.Buffer.{keep_last}
 use Rattle.nx_code.specs.Word.{number_of}
 use Rattle.nx_sync.specs.declared.step.Role.TheVariants.{Dx, Rx}
-use Rattle.nx_sync.specs.Locks.{before_dx, before_rx, last_28, first_role}
+use Rattle.nx_sync.specs.Words.{first_role}
+use Rattle.nx_sync.specs.Locks.{before_dx, before_rx, last_28}
 use Rattle.nx_sync.specs.Parts.{role_after}
 use Rattle.nx_sync.proofs.Lists.{keep_last-padded}
 

@@ -7,10 +7,13 @@ use Rattle.nx_sync.specs.declared.step.Role.{Role}
 use Rattle.nx_sync.specs.declared.step.Role.TheVariants.{Dx, Rx}
 use Rattle.nx_sync.specs.declared.step.Change.{Change}
 use Rattle.nx_sync.specs.declared.step.Change.TheVariants.{Locked, Ended, LostLock}
-use Rattle.nx_sync.specs.Locks.{phasing_1, phasing_2, before_dx, before_rx, IsPattern, phasing, other, is_wrong, word_at, first_role, role_of, wrong_in, wrong_until, ends_at, release, IsEnd, Lock, Past, Now, hunting, locked, IsLocked, IsNow, LockedBeforeDx}
+use Rattle.nx_code.specs.Phasing.{phasing_1, phasing_2}
+use Rattle.nx_sync.specs.Words.{other_role, is_wrong, word_at, first_role, role_of, wrong_in, wrong_until}
+use Rattle.nx_sync.specs.Locks.{before_dx, before_rx, IsPattern, releases_as_ended, release, Lock, Past, Now, hunting, locked, IsLocked, IsNow}
+use Rattle.nx_sync.specs.Laws.{phasing, IsSecondPhasing1, LockedBeforeDx}
 use Rattle.nx_sync.proofs.Counts.{wrong_in-add, wrong_in-all, wrong_in-none, wrong_in-le, role_of-even}
 use Rattle.nx_sync.proofs.Patterns.{last_word-window}
-use Rattle.nx_sync.proofs.Releases.{IsEnd-from, IsEnd-to, at_none, ByTests, by_end, by_loss, by_tests}
+use Rattle.nx_sync.proofs.Releases.{IsSecondPhasing1-from, IsSecondPhasing1-to, at_none, ByTests, by_end, by_loss, by_tests}
 use Rattle.nx_sync.proofs.Going.{standing_after}
 
 -- the word that begins at place i of n phasing pairs
@@ -120,7 +123,7 @@ role_of-three_on : (g : ℕ) (first : Role) → role_of first g ≡ Rx → role_
 unfolding role_of
 role_of-three_on g first h =
     let e : g + 3 ≡ suc (suc (suc g)) = omega arith in
-    ap (role_of first) e ∙ ap (λ r. other (other (other r))) h
+    ap (role_of first) e ∙ ap (λ r. other_role (other_role (other_role r))) h
 
 module _ (earlier : List Bool) where
   -- the bits that begin at place i of the phasing
@@ -178,7 +181,7 @@ module _ (earlier : List Bool) where
           g = 1;
           a = (t + 7 - length earlier) / 14;
           place = omega arith;
-          dx = ap other (first_role-second t (w ∙ kind.second z));
+          dx = ap other_role (first_role-second t (w ∙ kind.second z));
           early = inr (omega arith);
         }
         | inr s ↦ record {
@@ -203,7 +206,7 @@ module _ (earlier : List Bool) where
         let kind = phase_at 24 i (omega arith) in
         ap is_wrong (word_in t (k + j) i (omega arith)) ∙ (kind.wrong ∙ limit-true (i % 14) (λ z. omega arith) (λ s. omega arith)) in
         let few = (at_none (first_role (earlier ++ phasing 24) t) f w (quiet w (omega arith))).1 in
-        let b : ℕ = w - 63 in
+        let b : ℕ = w + 1 - 64 in
         let split : w + 1 - b ≡ k - b + 40 = omega arith in
         let at : b + (k - b) ≡ k = omega arith in
         let count : wrong_in f b (w + 1 - b) ≡ wrong_in f b (k - b) + wrong_in f k 40 = ap (wrong_in f b) split ∙ (wrong_in-add f b (k - b) 40 ∙ ap (λ j. wrong_in f b (k - b) + wrong_in f j 40) at) in
@@ -218,13 +221,13 @@ module _ (earlier : List Bool) where
         let d : k + 3 - 2 ≡ k + 1 = omega arith in
         let seven = phase_at 24 7 (omega arith) in
         let twenty_one = phase_at 24 21 (omega arith) in
-        let end : IsEnd first f (k + 3) = record {
+        let end : IsSecondPhasing1 first f (k + 3) = record {
           two = omega arith;
           dx = role_of-three_on k first swapped;
           this = word_in t (k + 3) 21 (omega arith) ∙ twenty_one.first refl;
           before = ap f d ∙ (word_in t (k + 1) 7 (omega arith) ∙ seven.first refl);
         } in
-        let ends = IsEnd-to first f (k + 6) (omega arith) (subst (IsEnd first f) (sym e) end) in
+        let ends = IsSecondPhasing1-to first f (k + 6) (omega arith) (subst (IsSecondPhasing1 first f) (sym e) end) in
         both_ways _ (at_none first f (k + 6) (quiet (k + 6) (omega arith))).0 ends
 
     role_or_swapped : o ≡ 0 → (role : Role) → role_of (first_role (earlier ++ phasing 24) t) k ≡ role → IsAligned (first_role (earlier ++ phasing 24) t) (length earlier) t
@@ -268,7 +271,7 @@ module _ (earlier : List Bool) where
     few_wrong : wrong_until (word_at (earlier ++ phasing 24) t) w < 40
     few_wrong =
         let f : ℕ → ℕ = word_at (earlier ++ phasing 24) t in
-        let i : ℕ = w - 63 in
+        let i : ℕ = w + 1 - 64 in
         let right : (j : ℕ) → x.g ≤ j → j < w + 1 → is_wrong (f j) ≡ false = λ j from below.
         let c : ℕ = 14 * x.a + 7 * (j - x.g) in
         let at : t + 7 * j ≡ length earlier + c = omega (arith, x.place) in
@@ -288,9 +291,9 @@ module _ (earlier : List Bool) where
               omega (arith, none)
         ]
 
-    no_end : ends_at (first_role (earlier ++ phasing 24) t) (word_at (earlier ++ phasing 24) t) w ≡ true → ⊥
+    no_end : releases_as_ended (first_role (earlier ++ phasing 24) t) (word_at (earlier ++ phasing 24) t) w ≡ true → ⊥
     no_end h =
-        let end = IsEnd-from (first_role (earlier ++ phasing 24) t) (word_at (earlier ++ phasing 24) t) w h in
+        let end = IsSecondPhasing1-from (first_role (earlier ++ phasing 24) t) (word_at (earlier ++ phasing 24) t) w h in
         let kind = phase_at 24 308 (omega arith) in
         let five = end.0 in
         let e : word_at (earlier ++ phasing 24) t (w - 3) ≡ phasing_2 = word_in t (w - 3) 308 (omega arith) ∙ kind.second refl in

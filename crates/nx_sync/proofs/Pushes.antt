@@ -1,5 +1,5 @@
 -- What a synchroniser holds after one more bit is what stands then.
-use Rattle.std.specs.Prelude.{◌↔◌, IsTrue, IsSome}
+use Rattle.std.specs.Prelude.{◌↔◌, IsTrue}
 use Rattle.std.proofs.Common.{◌≡◌, ℕ, suc, ◌+◌, ◌-◌, ◌*◌, ◌<◌, ◌≤◌, ◌==◌, min, ◌⊎◌, List, [], ◌∷◌, ◌++◌, length, take, drop, replicate, Bool, true, false, is_some, refl, sym, ap, ap₂, subst, subst₂, ◌∙◌, inl, inr, arith, Some, None, Option}
 use Rattle.std.proofs.lemmas.List.{length_push}
 use Rattle.std.proofs.lemmas.Bool.{cases_lt}
@@ -11,7 +11,10 @@ use Rattle.nx_sync.specs.declared.step.Change.{Change}
 use Rattle.nx_sync.specs.declared.step.Change.TheVariants.{Locked}
 use Rattle.nx_sync.specs.declared.step.Step.{Step}
 use Rattle.nx_sync.specs.declared.synchroniser.Track.{Track}
-use Rattle.nx_sync.specs.Locks.{phasing_1, before_dx, before_rx, other, is_wrong, last_28, IsPattern, word_at, first_role, role_of, release, Lock, Now, hunting, locked, IsHunting, IsLocked, IsNow, LockStands, step, found, word, inside, over, hunts, IsStep}
+use Rattle.nx_code.specs.Phasing.{phasing_1}
+use Rattle.nx_sync.specs.Words.{other_role, is_wrong, word_at, first_role, role_of}
+use Rattle.nx_sync.specs.Locks.{before_dx, before_rx, last_28, IsPattern, release, Lock, Now, hunting, locked, IsHunting, IsLocked, IsNow}
+use Rattle.nx_sync.specs.Steps.{LockStands, step, found, word, inside, over, hunts, IsStep}
 use Rattle.nx_sync.specs.Synchroniser.{Held, wrong_marks, p1_marks, Follows, Tracks, StandsAfter}
 use Rattle.nx_sync.specs.Parts.{role_after, track_from, track_after, Begins, Fills, Completes}
 use Rattle.nx_sync.proofs.Lists.{padded-push}
@@ -31,10 +34,10 @@ track_iff bits locks (locked p t) wrong track n f =
     (λ h. record { locks = locks; p = p; t = t; stands = n }, λ l. ap is_some f.is)
 
 -- an answer that says whether a track is there says whether a lock stands
-pub locked_by : (s : Held) (answer : Bool) → (IsTrue answer ↔ IsSome s.track) → (bits : List Bool) → StandsAfter s bits → (IsTrue answer ↔ LockStands bits)
-locked_by s answer iff bits a =
+pub locked_by : (s : Held) (answer : Bool) → answer ≡ is_some s.track → (bits : List Bool) → StandsAfter s bits → (IsTrue answer ↔ LockStands bits)
+locked_by s answer e bits a =
     let lock = track_iff bits a.locks a.now s.wrong s.track a.stands a.tracks in
-    (λ h. lock.0 (iff.0 h), λ l. iff.1 (lock.1 l))
+    (λ h. lock.0 (sym e ∙ h), λ l. e ∙ lock.1 l)
 
 -- what is held after an element was heard, before it is looked at
 abbrev pub heard : Held → Bool → Held
@@ -275,7 +278,7 @@ module _ (s : Held) (bits : List Bool) (b : Bool) (a : StandsAfter s bits) where
                 whole = f.whole + 1;
                 place = omega (arith, place_after, length_push bits b);
                 short = omega arith;
-                role = ap other role_is ∙ ap (role_of (first_role (bits ++ b ∷ []) t)) (sym e);
+                role = ap other_role role_is ∙ ap (role_of (first_role (bits ++ b ∷ []) t)) (sym e);
                 phasing = ap₂ (λ xs w. drop 1 xs ++ (w == phasing_1) ∷ []) phasing_is number_is ∙ p1_marks-next (word_at (bits ++ b ∷ []) t) f.whole;
                 marks = marks_are;
               };

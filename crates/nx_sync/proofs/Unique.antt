@@ -2,7 +2,8 @@
 use Rattle.std.proofs.Common.{◌≡◌, ℕ, ◌⊎◌, List, [], ◌∷◌, Bool, refl, sym, ap, subst, ◌∙◌, inl, inr, Some, None}
 use Rattle.std.proofs.lemmas.Bool.{cases_order}
 use Rattle.nx_sync.specs.declared.step.Change.{Change}
-use Rattle.nx_sync.specs.Locks.{Finds, release, IsReleased, Lock, Past, Now, hunting, locked, IsNow, Extends, same, newer}
+use Rattle.nx_sync.specs.Locks.{Finds, release, IsReleased, Lock, Past, Now, hunting, locked, IsNow}
+use Rattle.nx_sync.specs.Laws.{Extends, same, newer}
 
 pub Extends-nil : (ls : List Lock) → Extends ls []
 Extends-nil [] = same

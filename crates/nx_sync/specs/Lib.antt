@@ -1,3 +1,6 @@
+pub mod Words
 pub mod Locks
+pub mod Steps
+pub mod Laws
 pub mod Synchroniser
 pub mod Parts

@@ -11,7 +11,10 @@ use Rattle.nx_sync.specs.declared.step.Role.{Role}
 use Rattle.nx_sync.specs.declared.step.Role.TheVariants.{Dx, Rx}
 use Rattle.nx_sync.specs.declared.step.Change.{Change}
 use Rattle.nx_sync.specs.declared.step.Change.TheVariants.{Locked, Ended, LostLock}
-use Rattle.nx_sync.specs.Locks.{phasing_1, before_dx, before_rx, other, is_dx, is_wrong, step}
+use Rattle.nx_code.specs.Phasing.{phasing_1}
+use Rattle.nx_sync.specs.Words.{window_words, losing_count, other_role, is_dx, is_wrong}
+use Rattle.nx_sync.specs.Locks.{before_dx, before_rx}
+use Rattle.nx_sync.specs.Steps.{step}
 use Rattle.nx_sync.specs.Synchroniser.{Held}
 
 -- the role of the word that follows these 28 bits, where they are one of the two patterns
@@ -26,20 +29,20 @@ track_from role = record { role = role; filled = 0; was_p1 = replicate 5 false }
 -- the track after a word
 abbrev pub track_after : Track → ℕ → Track
 track_after track word = record {
-  role = other track.role;
+  role = other_role track.role;
   filled = 0;
   was_p1 = drop 1 track.was_p1 ++ (word == phasing_1) ∷ [];
 }
 
--- whether a lock ends with the word that the track fills: it is an RX word, and the words three and five before it
--- are phasing signal 1
-abbrev pub is_end : Track → Bool
-is_end track = not (is_dx track.role) && get_or track.was_p1 2 false && get_or track.was_p1 0 false
+-- whether the word that the track fills releases the lock as Ended: it is an RX word, and the words three and five
+-- before it are phasing signal 1
+abbrev pub fills_releasing_word : Track → Bool
+fills_releasing_word track = not (is_dx track.role) && get_or track.was_p1 2 false && get_or track.was_p1 0 false
 
 -- which change a word brings, by the track before it and the marks of the last words with its own
 abbrev pub change_of : Track → List Bool → Option Change
 change_of track wrong =
-    if is_end track then Some Ended else (if nat_le 40 (count_by (λ b. b) wrong) then Some LostLock else None)
+    if fills_releasing_word track then Some Ended else (if nat_le losing_count (count_by (λ b. b) wrong) then Some LostLock else None)
 
 -- A lock begins: it is followed from a first word with this role, no mark is left, and the step says that a lock was
 -- found.
@@ -57,7 +60,7 @@ Fills old track new s =
 pub record Completes (old : Held) (track : Track) (new : Held) (s : Step) : Type 0 where
   pub recent : new.recent ≡ old.recent
   pub seen : new.seen ≡ old.seen
-  pub marks : new.wrong ≡ keep_last 64 (old.wrong ++ is_wrong (number_of (drop 21 old.recent)) ∷ [])
+  pub marks : new.wrong ≡ keep_last window_words (old.wrong ++ is_wrong (number_of (drop 21 old.recent)) ∷ [])
   pub change : s.change ≡ change_of track new.wrong
   pub word : s.word ≡ Some (number_of (drop 21 old.recent), track.role)
   pub goes_on : s.change ≡ None → new.track ≡ Some (track_after track (number_of (drop 21 old.recent)))

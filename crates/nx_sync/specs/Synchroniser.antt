@@ -1,8 +1,10 @@
 -- What a synchroniser holds, and after which bits: the layer contract. How it is held is this profile's.
-use Rattle.std.specs.Prelude.{◌≡◌, ℕ, zero, suc, ◌+◌, ◌-◌, ◌*◌, ◌<◌, ◌==◌, nat_le, min, Bool, false, ◌&&◌, List, [], ◌∷◌, ◌++◌, length, replicate, Option, Some, None}
+use Rattle.std.specs.Prelude.{◌≡◌, ℕ, zero, suc, ◌+◌, ◌-◌, ◌*◌, ◌<◌, ◌==◌, nat_le, min, Bool, false, not, is_some, ◌&&◌, List, [], ◌∷◌, ◌++◌, length, replicate, Option, Some, None}
 use Rattle.circular_buffer.specs.Buffer.{keep_last}
 use Rattle.nx_sync.specs.declared.synchroniser.Track.{Track}
-use Rattle.nx_sync.specs.Locks.{phasing_1, is_wrong, word_at, first_role, role_of, Lock, Now, hunting, locked, IsNow}
+use Rattle.nx_code.specs.Phasing.{phasing_1}
+use Rattle.nx_sync.specs.Words.{window_words, is_wrong, word_at, first_role, role_of}
+use Rattle.nx_sync.specs.Locks.{pattern_elements, Lock, Now, hunting, locked, IsNow}
 
 -- what contracts see of a synchroniser: the last bits, how many of them were heard, the word that is being filled
 -- where a lock stands, and whether each of the last words of the lock was wrong
@@ -11,6 +13,10 @@ pub record Held : Type 0 where
   pub seen : ℕ
   pub track : Option Track
   pub wrong : List Bool
+
+-- whether no lock stands
+abbrev pub is_hunting : Held → Bool
+is_hunting held = not (is_some held.track)
 
 -- whether each of the first n words is wrong
 unfoldable pub wrong_marks : (ℕ → ℕ) → ℕ → List Bool
@@ -33,7 +39,7 @@ pub record Follows (bits : List Bool) (t : ℕ) (wrong : List Bool) (track : Tra
   pub short : track.filled < 7
   pub role : track.role ≡ role_of (first_role bits t) whole
   pub phasing : track.was_p1 ≡ p1_marks (word_at bits t) whole
-  pub marks : wrong ≡ keep_last 64 (wrong_marks (word_at bits t) whole)
+  pub marks : wrong ≡ keep_last window_words (wrong_marks (word_at bits t) whole)
 
 pub record IsFollowed (bits : List Bool) (t : ℕ) (wrong : List Bool) (track : Option Track) : Type 0 where
   pub one : Track
@@ -50,6 +56,6 @@ pub record StandsAfter (held : Held) (bits : List Bool) : Type 0 where
   pub locks : List Lock
   pub now : Now
   pub stands : IsNow bits locks now
-  pub recent : held.recent ≡ keep_last 28 (replicate 28 false ++ bits)
-  pub seen : held.seen ≡ min 28 (length bits)
+  pub recent : held.recent ≡ keep_last pattern_elements (replicate pattern_elements false ++ bits)
+  pub seen : held.seen ≡ min pattern_elements (length bits)
   pub tracks : Tracks bits now held.wrong held.track

@@ -4,16 +4,18 @@
 ghost use Rattle.std.specs.Prelude.{◌≡◌, ℕ, ◌+◌, ◌*◌, ◌<◌, ◌≤◌, List, Bool, false, [], ◌∷◌, ◌++◌, length};
 ghost use Rattle.nx_sync.specs.declared.step.Change.{Change as How};
 ghost use Rattle.nx_sync.specs.declared.step.Role.{Role as RoleOf};
+ghost use Rattle.nx_sync.specs.declared.step.Step.{Step};
 ghost use Rattle.nx_code.specs.Word.{number_of};
-ghost use Rattle.nx_code.specs.Signal.{number_of_signal};
-ghost use Rattle.nx_code.specs.declared.signals.Signal.{Signal};
-ghost use Rattle.nx_sync.specs.Locks.{phasing_1, phasing_2, elements_of_1, elements_of_2, is_wrong, IsPattern, Finds, word_at, first_role, role_of, wrong_in, wrong_until, IsEnd, IsEarlier, release, IsReleased, Lock, Past, Now, IsLocked, IsNow, Standing, GoesOn, Stood, OneMore, phasing, LockedBeforeDx};
+ghost use Rattle.nx_code.specs.Phasing.{phasing_1};
+ghost use Rattle.nx_sync.specs.Words.{words_of, words_heard, heard_word, window_words, losing_count, word_at, first_role, role_of, wrong_in, wrong_until};
+ghost use Rattle.nx_sync.specs.Locks.{before_dx, before_rx, hunting, locked, IsHunting, words_of_past, IsPattern, Finds, release, IsReleased, Lock, Past, Now, IsLocked, IsNow};
+ghost use Rattle.nx_sync.specs.Steps.{Brings, IsStep, word_of_step};
+ghost use Rattle.nx_sync.specs.Laws.{IsSecondPhasing1, IsEarlier, Standing, GoesOn, Stood, OneMore, phasing, LockedBeforeDx};
 
-/// The elements and the numbers of the phasing signals are those of the code table, and both have the right weight.
-pub fn phasing_signals_are_in_the_table()
-    ensures first { (number_of elements_of_1 ≡ phasing_1) × (number_of_signal Signal.Alpha ≡ phasing_1) }
-    ensures second { (number_of elements_of_2 ≡ phasing_2) × (number_of_signal Signal.Repeat ≡ phasing_2) }
-    ensures right { (is_wrong phasing_1 ≡ false) × (is_wrong phasing_2 ≡ false) }
+/// The two patterns as numbers, their oldest element in the least place.
+pub fn patterns_have_these_numbers()
+    ensures before_dx { number_of before_dx ≡ 0x1F987E6 }
+    ensures before_rx { number_of before_rx ≡ 0xCC3F30F }
 {}
 
 /// After every list of bits something stands, and only one thing: the past locks, and hunting or a lock.
@@ -34,6 +36,24 @@ pub fn more_bits_keep_the_past()
     ensures changes { (bits more : List Bool) (t k : ℕ) → IsPattern bits t → t + 7 * (k + 1) ≤ length bits → release (bits ++ more) t k ≡ release bits t k }
 {}
 
+/// What an element brings is one thing.
+pub fn a_step_is_unique()
+    ensures { (bits : List Bool) (s r : Step) → IsStep bits s → IsStep bits r → s ≡ r }
+{}
+
+/// The words of a lock that were heard whole, with their roles, as a list. There are none where the lock is found. Each
+/// step appends the word that it completes, the releasing step too, and no other step changes the list; nor do bits that
+/// come later.
+pub fn a_word_is_appended()
+    ensures found { (bits : List Bool) (p t : ℕ) → Finds bits p t → length bits ≡ t → words_heard bits t ≡ [] }
+    ensures stands { (bits : List Bool) (bit : Bool) (s : Step) (locks : List Lock) (p t : ℕ) → IsLocked bits locks p t → Brings (bits ++ bit ∷ []) s locks (locked p t)
+        → words_heard (bits ++ bit ∷ []) t ≡ words_heard bits t ++ word_of_step s }
+    ensures over { (bits : List Bool) (bit : Bool) (s : Step) (lock : Lock) (older : List Lock) (p q : ℕ) → IsLocked bits older p lock.at → IsHunting (bits ++ bit ∷ []) (lock ∷ older) q → Brings (bits ++ bit ∷ []) s (lock ∷ older) (hunting q)
+        → words_of_past (bits ++ bit ∷ []) lock ≡ words_heard bits lock.at ++ word_of_step s }
+    ensures next { (bits : List Bool) (t k : ℕ) → words_of bits t (k + 1) ≡ words_of bits t k ++ heard_word bits t k ∷ [] }
+    ensures more { (bits more : List Bool) (t n : ℕ) → IsPattern bits t → t + 7 * n ≤ length bits → words_of (bits ++ more) t n ≡ words_of bits t n }
+{}
+
 /// What stands after more bits comes from what stood: hunting goes on, finds a lock, or led to the next past
 /// lock; a lock that stood still stands, or is the next past lock.
 pub fn what_stood_goes_on()
@@ -47,11 +67,11 @@ pub fn one_bit_more()
 {}
 
 /// A lock that stands goes on standing where each later word leaves fewer than 40 of the last 64 words wrong and is
-/// not the third word after an end.
+/// not the third word after a second phasing signal 1.
 pub fn a_lock_stands_on()
     ensures { (bits more : List Bool) (locks : List Lock) (p t : ℕ) → IsLocked bits locks p t
-        → ((k : ℕ) → length bits < t + 7 * (k + 1) → t + 7 * (k + 1) ≤ length (bits ++ more) → wrong_until (word_at (bits ++ more) t) k < 40)
-        → ((k : ℕ) → length bits < t + 7 * (k + 4) → t + 7 * (k + 4) ≤ length (bits ++ more) → IsEnd (first_role (bits ++ more) t) (word_at (bits ++ more) t) k → ⊥)
+        → ((k : ℕ) → length bits < t + 7 * (k + 1) → t + 7 * (k + 1) ≤ length (bits ++ more) → wrong_until (word_at (bits ++ more) t) k < losing_count)
+        → ((k : ℕ) → length bits < t + 7 * (k + 4) → t + 7 * (k + 4) ≤ length (bits ++ more) → IsSecondPhasing1 (first_role (bits ++ more) t) (word_at (bits ++ more) t) k → ⊥)
         → IsLocked (bits ++ more) locks p t }
 {}
 
@@ -66,7 +86,7 @@ pub fn the_earlier_releases()
 /// in a row are phasing signal 1.
 pub fn a_good_lock_is_kept()
     ensures { (bits : List Bool) (locks : List Lock) (p t : ℕ) → Past bits locks p → Finds bits p t
-        → ((i n : ℕ) → n ≤ 64 → t + 7 * (i + n) ≤ length bits → wrong_in (word_at bits t) i n < 40)
+        → ((i n : ℕ) → n ≤ window_words → t + 7 * (i + n) ≤ length bits → wrong_in (word_at bits t) i n < losing_count)
         → ((k : ℕ) → t + 7 * (k + 3) ≤ length bits → role_of (first_role bits t) k ≡ RoleOf.Dx → word_at bits t k ≡ phasing_1 → word_at bits t (k + 2) ≡ phasing_1 → ⊥)
         → IsLocked bits locks p t }
 {}

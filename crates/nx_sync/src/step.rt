@@ -1,7 +1,7 @@
 //! What one element brings.
 
 ghost use Rattle.std.specs.Prelude.{◌≡◌};
-ghost use Rattle.nx_sync.specs.Locks.{other};
+ghost use Rattle.nx_sync.specs.Words.{other_role};
 
 use nx_code::Word;
 
@@ -17,7 +17,7 @@ pub enum Role {
 impl Role {
     /// The other role: roles alternate.
     pub(crate) fn other(self) -> Role
-        ensures { result ≡ other self }
+        ensures { result ≡ other_role self }
     {
         match self {
             Role::Dx => Role::Rx,

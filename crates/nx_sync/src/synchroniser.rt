@@ -1,11 +1,11 @@
 //! The synchroniser. It keeps the last 28 elements and, where a lock stands, a few facts on its last words.
 
-ghost use Rattle.std.specs.Prelude.{◌≡◌, ◌+◌, ◌<◌, ◌≤◌, ◌↔◌, List, Bool, [], ◌∷◌, ◌++◌, drop, min, IsTrue, IfOk, IsSome};
+ghost use Rattle.std.specs.Prelude.{◌≡◌, ◌+◌, ◌<◌, ◌≤◌, ◌↔◌, List, Bool, [], ◌∷◌, ◌++◌, drop, min, not, IsTrue, IfOk};
 ghost use Rattle.nx_code.specs.Word.{number_of};
-ghost use Rattle.nx_sync.specs.Locks.{other, step, LockStands, IsStep};
+ghost use Rattle.nx_sync.specs.Steps.{step, LockStands, IsStep};
 ghost use Rattle.nx_sync.specs.Parts as spec;
-ghost use Rattle.nx_sync.specs.Parts.{track_from, track_after, is_end, Begins, Fills, Completes};
-ghost use Rattle.nx_sync.specs.Synchroniser.{StandsAfter};
+ghost use Rattle.nx_sync.specs.Parts.{track_from, track_after, fills_releasing_word, Begins, Fills, Completes};
+ghost use Rattle.nx_sync.specs.Synchroniser.{StandsAfter, is_hunting};
 
 use crate::step::{Change, Role, Step};
 use circular_buffer::HeapCircularBuffer;
@@ -76,10 +76,10 @@ impl Track {
         }
     }
 
-    /// Whether the lock ends with the word that is being filled: the words three and five before it, which
-    /// are DX words, are both phasing signal 1.
-    fn ends(self) -> bool
-        ensures { result ≡ is_end self }
+    /// Whether the word that is being filled releases the lock as ended: the words three and five before it,
+    /// which are DX words, are both phasing signal 1.
+    fn fills_releasing_word(self) -> bool
+        ensures { result ≡ fills_releasing_word self }
     {
         self.role == Role::Rx && self.was_p1[LOOK_BACK - 3] && self.was_p1[LOOK_BACK - 5]
     }
@@ -97,7 +97,9 @@ pub struct Synchroniser {
 
 impl Model for Synchroniser {
     ghost use Rattle.std.specs.Prelude.{◌≡◌, ◌≤◌, ◌<◌};
+    ghost use Rattle.std.proofs.Common.{sym, ap};
     ghost use Rattle.std.specs.Option.{ForSome};
+    ghost use Rattle.circular_buffer.specs.Buffer.{buffer};
     ghost use Rattle.nx_sync.specs.Synchroniser.{Held};
 
     ghost Value = { Held };
@@ -105,6 +107,11 @@ impl Model for Synchroniser {
     ghost view = { λ s. record { recent = s.recent; seen = s.seen; track = s.track; wrong = s.wrong.items } };
 
     ghost invariant = { λ s. (s.seen ≤ 28) × (s.wrong.capacity ≡ 64) × ForSome s.track (λ t. t.filled < 7) };
+
+    // Each field is given back by what contracts see, so that nothing else can be kept: no history.
+    ghost inverse = { λ h. record { recent = h.recent; seen = h.seen; track = h.track; wrong = buffer h.wrong 64 } };
+
+    ghost inverse_ok = { λ s h. ap (λ n. record s { wrong = buffer s.wrong.items n }) (sym h.1) };
 }
 
 impl Synchroniser {
@@ -124,7 +131,7 @@ impl Synchroniser {
     /// Whether a lock stands.
     pub fn is_locked(&self) -> bool
         ensures stands { (bits : List Bool) → StandsAfter self.now bits → (IsTrue result ↔ LockStands bits) }
-        ensures held { IsTrue result ↔ IsSome self.now.track }
+        ensures hunting { result ≡ not (is_hunting self.now) }
     {
         self.track.is_some()
     }
@@ -231,7 +238,7 @@ fn last_word(recent: &[bool; PATTERN]) -> Word
 fn change_of(track: Track, wrong: &HeapCircularBuffer<bool>) -> Option<Change>
     ensures { result ≡ spec.change_of track wrong.now.items }
 {
-    if track.ends() {
+    if track.fills_releasing_word() {
         Some(Change::Ended)
     } else if wrong.iter().filter(|mark| **mark).count() >= LOST {
         Some(Change::LostLock)

@@ -1,4 +1,4 @@
-use Rattle.nx_sync.specs.Locks.{first_role, word_at}
+use Rattle.nx_sync.specs.Words.{first_role, word_at}
 use Rattle.nx_sync.proofs.Releases.{earlier-from, earlier-to}
 use Rattle.nx_sync.proofs.laws.the_earlier_releases.Goals as goal
 

@@ -1,6 +1,6 @@
 -- Each way through the body: no copy is open; a newline directly behind a header; a marker; the 4,100th byte; any other.
 use Rattle.std.proofs.Common.{◌≡◌, ◌+◌, ◌<◌, ◌∷◌, length, reverse, sym, ◌∙◌, arith}
-use Rattle.nx_envelope.specs.Finding.{StandsAfter}
+use Rattle.nx_envelope.specs.Finder.{StandsAfter}
 use Rattle.nx_envelope.proofs.Hearing.{Heard, recent_more, stage_more, flag_is, begin_none, goes_newline, goes_on, ends_by, ends_full}
 use Rattle.nx_envelope.proofs.finder.Finder.hear.Goals as goal
 use Rattle.nx_envelope.proofs.finder.Finder.hear.Goals.{After-begin}

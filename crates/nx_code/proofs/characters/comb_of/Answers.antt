@@ -1,7 +1,7 @@
 use Rattle.std.proofs.Common.{◌≡◌, ◌-◌, Some, None, sym, ap, ◌∙◌, arith}
-use Rattle.nx_code.specs.Reading.{printed}
+use Rattle.nx_code.specs.Reading.{character_of}
 use Rattle.nx_code.proofs.CharacterLemmas.{place_for, place_for-Some, place_for-printed}
-use Rattle.nx_code.proofs.shifts.comb_of.Goals as goal
+use Rattle.nx_code.proofs.characters.comb_of.Goals as goal
 
 pub returns-in_err-place_of_character-clause-found : goal.returns-in_err-place_of_character-clause-found
 returns-in_err-place_of_character-clause-found c number low high h =
@@ -16,7 +16,7 @@ comb_at-requires c =
 
 pub returns-clause-printed : goal.returns-clause-printed
 returns-clause-printed c =
-    ap (λ n. printed n c.args.shift) c.comb_at.ensures ∙ (place_for-Some c.args.shift c.args.character c.in_ok-place_of_character.field-0 (sym c.in_ok-place_of_character.ensures)).1
+    ap (λ n. character_of n c.args.shift) c.comb_at.ensures ∙ (place_for-Some c.args.shift c.args.character c.in_ok-place_of_character.field-0 (sym c.in_ok-place_of_character.ensures)).1
 
 pub returns-clause-found : goal.returns-clause-found
 returns-clause-found c number low high h =

@@ -1,10 +1,10 @@
 use Rattle.std.proofs.Common.{◌≡◌, true, Some, refl, sym, ap, ◌∙◌}
 use Rattle.std.proofs.lemmas.Bool.{false≢true}
-use Rattle.nx_code.specs.Reading.{printed}
+use Rattle.nx_code.specs.Reading.{character_of}
 use Rattle.nx_code.specs.declared.shifts.Shift.{Shift}
 use Rattle.nx_code.specs.declared.shifts.Shift.TheVariants.{Letters, Figures}
 use Rattle.nx_code.proofs.CharacterLemmas.{in_code-printed, in_code-prints, both-printed}
-use Rattle.nx_code.proofs.shifts.char_to_code.Goals as goal
+use Rattle.nx_code.proofs.characters.char_to_code.Goals as goal
 
 pub returns-in-Some-Some-clause-in_code : goal.returns-in-Some-Some-clause-in_code
 returns-in-Some-Some-clause-in_code c =
@@ -19,7 +19,7 @@ returns-in-Some-Some-clause-found c number shift low high =
     let prints = rw c.in-Some-Some.is-0 at c.comb_of.ensures.printed in
     let found = rw c.in-Some-Some.is-0 at c.comb_of.ensures.found in
     let same : figure.number ≡ letter.number = both-printed letter.number figure.number c.args.character letter.from_one letter.to_thirty_two figure.from_one figure.to_thirty_two prints c.in-Some-Some.ensures.printed in
-    elim shift as (λ s. printed number s ≡ Some c.args.character → (letter.number ≡ number) × (true ≡ true)) [
+    elim shift as (λ s. character_of number s ≡ Some c.args.character → (letter.number ≡ number) × (true ≡ true)) [
       | Letters ↦ λ h. (found number low high h, refl)
       | Figures ↦ λ h. (sym same ∙ c.in-Some-Some.ensures.found number low high h, refl)
     ]
@@ -30,9 +30,9 @@ returns-in-Some-Some-clause-printed c shift _ =
     let figure = c.in-Some-Some.field-0-1 in
     let prints = rw c.in-Some-Some.is-0 at c.comb_of.ensures.printed in
     let same : figure.number ≡ letter.number = both-printed letter.number figure.number c.args.character letter.from_one letter.to_thirty_two figure.from_one figure.to_thirty_two prints c.in-Some-Some.ensures.printed in
-    elim shift as (λ s. printed letter.number s ≡ Some c.args.character) [
+    elim shift as (λ s. character_of letter.number s ≡ Some c.args.character) [
       | Letters ↦ prints
-      | Figures ↦ sym (ap (λ n. printed n Figures) same) ∙ c.in-Some-Some.ensures.printed
+      | Figures ↦ sym (ap (λ n. character_of n Figures) same) ∙ c.in-Some-Some.ensures.printed
     ]
 
 pub returns-in-Some-None-clause-in_code : goal.returns-in-Some-None-clause-in_code
@@ -52,7 +52,7 @@ returns-in-None-None-clause-in_code c = (
   λ h.
       let p = in_code-prints c.args.character h in
       let no_letter = rw c.in-None-None.is-0 at c.comb_of.ensures.found in
-      let none : (s : Shift) → printed p.number s ≡ Some c.args.character → ⊥ = λ s. elim s as (λ t. printed p.number t ≡ Some c.args.character → ⊥) [
+      let none : (s : Shift) → character_of p.number s ≡ Some c.args.character → ⊥ = λ s. elim s as (λ t. character_of p.number t ≡ Some c.args.character → ⊥) [
         | Letters ↦ no_letter p.number p.from_one p.to_thirty_two
         | Figures ↦ c.in-None-None.ensures.found p.number p.from_one p.to_thirty_two
       ] in

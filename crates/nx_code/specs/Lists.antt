@@ -1,0 +1,6 @@
+-- Words on lists that the definitions of several crates use.
+use Rattle.std.specs.Prelude.{ℕ, ◌-◌, List, length, drop}
+
+-- the last n of a list, or all where there are no more
+abbrev pub last_of : {A : Type 0} → ℕ → List A → List A
+last_of n xs = drop (length xs - n) xs

@@ -1,0 +1,68 @@
+//! The characters of the combinations, by the table.
+
+ghost use Rattle.std.specs.Prelude.{◌≡◌, ℕ, ◌+◌, ◌≤◌, ◌<◌, ◌==◌, ◌↔◌, Some, IsSome, IfSome, IsSomeAnd, IsTrue, position};
+ghost use Rattle.nx_code.specs.Reading.{character_of};
+ghost use Rattle.nx_code.specs.Characters.{holds_in, is_in_code};
+ghost use Rattle.nx_code.specs.Rows.{character_in, is_character};
+ghost use Rattle.nx_code.specs.declared.table.Row.{Row};
+ghost use Rattle.nx_code.specs.declared.shifts.Shift.{Shift};
+
+use crate::shifts::{Case, Shift};
+use crate::signals::Comb;
+use crate::table::{Row, TABLE, row_at};
+
+/// The byte that a combination prints in a shift: a letter or a figure, a newline for combination 28, a
+/// space for 31; None where nothing is printed (M.476 and M.625, conversion tables; that 32 and the figures
+/// of D, F, G, H and J print nothing is this profile's).
+pub fn code_to_char(comb: Comb, shift: Shift) -> Option<u8>
+    ensures { result ≡ character_of comb.number shift }
+{
+    row_at(usize::from(comb.number - 1)).character(shift)
+}
+
+/// The combination that prints a character, and in which shift; None for a byte that is not in the code
+/// (M.476 and M.625, conversion tables; which figures are left out, and `Case::Either`, are this profile's).
+pub fn char_to_code(character: u8) -> Option<(Comb, Case)>
+    ensures in_code { IsSome result ↔ IsTrue (is_in_code character) }
+    ensures found { (number : ℕ) (shift : Shift) → 1 ≤ number → number ≤ 32 → character_of number shift ≡ Some character
+        → IsSomeAnd result (λ code. (code.0.number ≡ number) × IsTrue (holds_in code.1 shift)) }
+    ensures printed { IfSome result (λ code. (shift : Shift) → IsTrue (holds_in code.1 shift)
+        → character_of code.0.number shift ≡ Some character) }
+{
+    match (
+        comb_of(character, Shift::Letters),
+        comb_of(character, Shift::Figures),
+    ) {
+        (Some(comb), Some(_)) => Some((comb, Case::Either)),
+        (Some(comb), None) => Some((comb, Case::Letters)),
+        (None, Some(comb)) => Some((comb, Case::Figures)),
+        (None, None) => None,
+    }
+}
+
+/// The combination that prints a character in a shift, if one does.
+fn comb_of(character: u8, shift: Shift) -> Option<Comb>
+    ensures printed { IfSome result (λ comb. character_of comb.number shift ≡ Some character) }
+    ensures found { (number : ℕ) → 1 ≤ number → number ≤ 32 → character_of number shift ≡ Some character
+        → IsSomeAnd result (λ comb. comb.number ≡ number) }
+{
+    Some(comb_at(place_of_character(&TABLE, character, shift)?))
+}
+
+/// The place of the first of the rows that print this character in a shift.
+fn place_of_character(rows: &[Row], character: u8, shift: Shift) -> Option<usize>
+    ensures { result ≡ position (λ row. is_character (character_in row shift) character) rows.now }
+{
+    rows.iter()
+        .position(|row| row.character(shift) == Some(character))
+}
+
+/// The combination at a place of the table.
+fn comb_at(place: usize) -> Comb
+    requires { place < 32 }
+    ensures { result.number ≡ place + 1 }
+{
+    Comb {
+        number: place as u8 + 1,
+    }
+}

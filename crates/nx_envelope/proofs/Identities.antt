@@ -1,0 +1,35 @@
+-- Identities that name one message are equal.
+use Rattle.std.proofs.Common.{◌≡◌, ℕ, ◌==◌, ◌&&◌, ◌≤◌, Bool, true, false, eqb, refl, ap, ◌∙◌, subst}
+use Rattle.std.proofs.lemmas.Bool.{and_parts, eq-eqb, eqb-true}
+use Rattle.nx_envelope.specs.Identity.{same_identity}
+use Rattle.nx_envelope.specs.declared.identity.Identity.{Identity}
+use Rattle.nx_envelope.specs.declared.letter.Letter.{Letter}
+use Rattle.nx_envelope.proofs.Headers.{same_letter}
+use Rattle.nx_envelope.proofs.Stages.{identity_at, same_identity_at}
+
+of_parts : (a b : Identity) → a.b1 ≡ b.b1 → a.b2 ≡ b.b2 → a.number ≡ b.number → a ≡ b
+of_parts a b station subject number =
+    ap (λ (l : Letter). identity_at l a.b2 a.number a.two_digits) station ∙ ap (λ (l : Letter). identity_at b.b1 l a.number a.two_digits) subject ∙ same_identity_at b.b1 b.b2 a.number b.number number a.two_digits b.two_digits
+
+pub same_identity-true : (a b : Identity) → same_identity a b ≡ true → a ≡ b
+same_identity-true a b e =
+    let parts = and_parts _ _ e in
+    let letters = and_parts _ _ parts.0 in
+    of_parts a b
+    (same_letter a.b1 b.b1 (eqb-true a.b1.byte b.b1.byte letters.0))
+    (same_letter a.b2 b.b2 (eqb-true a.b2.byte b.b2.byte letters.1))
+    (eqb-true a.number b.number parts.1)
+
+and_from : (a b : Bool) → a ≡ true → b ≡ true → (a && b) ≡ true
+and_from a b p q = rw (p, q) refl
+
+pub same_itself : (a : Identity) → same_identity a a ≡ true
+same_itself a =
+    and_from _ _ (and_from _ _ (eq-eqb a.b1.byte a.b1.byte refl) (eq-eqb a.b2.byte a.b2.byte refl)) (eq-eqb a.number a.number refl)
+
+same_equal : (a b : Identity) → a ≡ b → same_identity a b ≡ true
+same_equal a b e =
+    subst (λ (it : Identity). same_identity a it ≡ true) e (same_itself a)
+
+pub same_identity_both : (a b : Identity) → (same_identity a b ≡ true → a ≡ b) × (a ≡ b → same_identity a b ≡ true)
+same_identity_both a b = (same_identity-true a b, same_equal a b)

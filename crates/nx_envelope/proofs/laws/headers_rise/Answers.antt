@@ -1,0 +1,5 @@
+use Rattle.nx_envelope.proofs.Rising.{headers_rise_in}
+use Rattle.nx_envelope.proofs.laws.headers_rise.Goals as goal
+
+pub returns : goal.returns
+returns c = headers_rise_in

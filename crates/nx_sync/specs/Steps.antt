@@ -1,0 +1,42 @@
+-- What one element brings, by what stands after it: the contract of a push.
+use Rattle.std.specs.Prelude.{◌≡◌, ℕ, ◌+◌, ◌*◌, ◌<◌, Bool, List, [], ◌∷◌, length, Option, Some, None}
+use Rattle.nx_sync.specs.declared.step.Role.{Role}
+use Rattle.nx_sync.specs.declared.step.Change.{Change}
+use Rattle.nx_sync.specs.declared.step.Change.TheVariants.{Locked}
+use Rattle.nx_sync.specs.declared.step.Step.{Step}
+use Rattle.nx_sync.specs.Words.{heard_word}
+use Rattle.nx_sync.specs.Locks.{Lock, Now, hunting, locked, IsLocked, IsNow}
+
+-- a lock stands after these bits
+pub record LockStands (bits : List Bool) : Type 0 where
+  pub locks : List Lock
+  pub p : ℕ
+  pub t : ℕ
+  pub stands : IsLocked bits locks p t
+
+abbrev pub step : Option (ℕ × Role) → Option Change → Step
+step word change = record { word = word; change = change }
+
+-- What the last of these bits brought, by what stands after them: a lock just found; word k of the lock; a bit inside
+-- a word; the word that released the newest past lock; or nothing, while hunting.
+pub data Brings (bits : List Bool) (s : Step) : List Lock → Now → Type 0 where
+  found : {locks : List Lock} {p t : ℕ} → length bits ≡ t → s ≡ step None (Some Locked) → Brings bits s locks (locked p t)
+  word : {locks : List Lock} {p t : ℕ} (k : ℕ) → length bits ≡ t + 7 * (k + 1) → s ≡ step (Some (heard_word bits t k)) None → Brings bits s locks (locked p t)
+  inside : {locks : List Lock} {p t : ℕ} (k r : ℕ) → length bits ≡ t + 7 * k + r → 0 < r → r < 7 → s ≡ step None None → Brings bits s locks (locked p t)
+  over : {lock : Lock} {older : List Lock} {p : ℕ} → length bits ≡ p → s ≡ step (Some (heard_word bits lock.at lock.last)) (Some lock.how) → Brings bits s (lock ∷ older) (hunting p)
+  hunts : {locks : List Lock} {p : ℕ} → p < length bits → s ≡ step None None → Brings bits s locks (hunting p)
+
+-- s is what the last of these bits brought
+pub record IsStep (bits : List Bool) (s : Step) : Type 0 where
+  pub locks : List Lock
+  pub now : Now
+  pub stands : IsNow bits locks now
+  pub brings : Brings bits s locks now
+
+abbrev pub one_or_none : Option (ℕ × Role) → List (ℕ × Role)
+one_or_none None = []
+one_or_none (Some one) = one ∷ []
+
+-- the word that a step completed, as a list of one, or of none
+abbrev pub word_of_step : Step → List (ℕ × Role)
+word_of_step s = one_or_none s.word

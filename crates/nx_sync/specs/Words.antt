@@ -1,0 +1,70 @@
+-- The words of a lock: where they stand, their roles, and how many of them have the wrong weight. A bit is an element,
+-- B is true; words have seven elements (ITU-R M.476 and M.625).
+use Rattle.std.specs.Prelude.{ℕ, zero, suc, ◌+◌, ◌-◌, ◌*◌, ◌/◌, ◌==◌, Bool, true, false, not, List, [], ◌∷◌, ◌++◌, length, take, drop, if◌then◌else◌}
+use Rattle.nx_code.specs.Phasing.{phasing_1}
+use Rattle.nx_code.specs.Word.{weight, word_from}
+use Rattle.nx_sync.specs.declared.step.Role.{Role}
+use Rattle.nx_sync.specs.declared.step.Role.TheVariants.{Dx, Rx}
+
+-- of how many of its last words a lock counts the wrong ones (this profile)
+abbrev pub window_words : ℕ
+window_words = 64
+
+-- how many wrong ones among them lose it (this profile)
+abbrev pub losing_count : ℕ
+losing_count = 40
+
+-- the number of word k of the lock at t, the bits t + 7k to t + 7k + 6 (seven elements a word: M.476, M.625)
+unfoldable pub word_at : List Bool → ℕ → ℕ → ℕ
+word_at bits t k = word_from bits (t + 7 * k)
+
+-- the role of word 0 of the lock at t: DX where the pattern ended with phasing signal 1, else RX (in M.625's mode B
+-- phasing signal 2 is sent as DX and phasing signal 1 as RX)
+unfoldable pub first_role : List Bool → ℕ → Role
+first_role bits t = if word_from bits (t - 7) == phasing_1 then Dx else Rx
+
+abbrev pub other_role : Role → Role
+other_role Dx = Rx
+other_role Rx = Dx
+
+-- The role of word k where word 0 has the role `first`: roles alternate (M.625, mode B).
+unfoldable pub role_of : Role → ℕ → Role
+role_of first zero = first
+role_of first (suc k) = other_role (role_of first k)
+
+abbrev pub is_dx : Role → Bool
+is_dx Dx = true
+is_dx Rx = false
+
+-- a word that is no signal: not four of its seven elements are B (M.476, M.625)
+abbrev pub is_wrong : ℕ → Bool
+is_wrong word = not (weight word == 4)
+
+abbrev pub one_if : Bool → ℕ
+one_if b = if b then 1 else 0
+
+-- how many of the words i to i + n - 1 have the wrong weight
+unfoldable pub wrong_in : (ℕ → ℕ) → ℕ → ℕ → ℕ
+wrong_in words i zero = 0
+wrong_in words i (suc n) = wrong_in words i n + one_if (is_wrong (words (i + n)))
+
+-- how many of the last 64 words up to word k, or of all up to it where they are fewer, have the wrong weight
+abbrev pub wrong_until : (ℕ → ℕ) → ℕ → ℕ
+wrong_until words k = wrong_in words (k + 1 - window_words) (k + 1 - (k + 1 - window_words))
+
+-- word k of the lock at t, by its number and its role
+abbrev pub heard_word : List Bool → ℕ → ℕ → ℕ × Role
+heard_word bits t k = (word_at bits t k, role_of (first_role bits t) k)
+
+-- the first n words of the lock at t, each with its role, in order
+unfoldable pub words_of : List Bool → ℕ → ℕ → List (ℕ × Role)
+words_of bits t zero = []
+words_of bits t (suc n) = words_of bits t n ++ heard_word bits t n ∷ []
+
+-- how many words of the lock at t were heard whole
+abbrev pub whole_words : List Bool → ℕ → ℕ
+whole_words bits t = (length bits - t) / 7
+
+-- the words of the lock at t that were heard whole
+abbrev pub words_heard : List Bool → ℕ → List (ℕ × Role)
+words_heard bits t = words_of bits t (whole_words bits t)
