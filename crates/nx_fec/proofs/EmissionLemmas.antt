@@ -9,7 +9,7 @@ use Rattle.nx_code.specs.Word.{elements}
 use Rattle.std.proofs.lemmas.Bool.{agree_below_at, ltb-true, cases_lt, cases_eq}
 use Rattle.std.proofs.lemmas.Bool.Decides.{nat_tests}
 use Rattle.nx_code.specs.Table.{table, words}
-use Rattle.nx_fec.specs.Emission.{SentPosition, meaning, phasing_position, traffic_position, end_position, dx_word, rx_word, phasing_1, phasing_2, position_at, word_sent, emission, bits_of, IsEmission, AreWords}
+use Rattle.nx_fec.specs.Emission.{SentPosition, sent_position, phasing_position, traffic_position, end_position, dx_word, rx_word, phasing_1, phasing_2, position_at, word_sent, emission, bits_of, IsEmission, AreWords}
 
 -- the service signals' words stand in the table
 pub phasing_1-words : get_or words 32 0 ≡ phasing_1
@@ -154,9 +154,9 @@ slice_get-emission_none positions slot h =
     slice_get_past (emission positions) slot (omega arith)
 
 -- what the code reads at an index is the position there
-pub meaning-at : (positions : List Position) (i : ℕ) (position : Position) → i < length positions → position ≡ get_or positions i position → meaning position ≡ position_at (map meaning positions) i
-meaning-at positions i position h e =
-    ap meaning e ∙ sym (get_or-map meaning positions i position end_position h)
+pub sent_position-at : (positions : List Position) (i : ℕ) (position : Position) → i < length positions → position ≡ get_or positions i position → sent_position position ≡ position_at (map sent_position positions) i
+sent_position-at positions i position h e =
+    ap sent_position e ∙ sym (get_or-map sent_position positions i position end_position h)
 
 -- the words slot by slot, and their elements
 pub slice_get-within : (sent : List ℕ) (slot word : ℕ) → slice_get sent slot ≡ Some word → slot < length sent

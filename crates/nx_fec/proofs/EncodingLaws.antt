@@ -1,5 +1,5 @@
 -- Lemmas on what encoding answers, and that decoding gives back what was encoded.
-use Rattle.std.proofs.Common.{◌≡◌, ℕ, zero, suc, ◌+◌, ◌*◌, ◌<◌, ◌≤◌, Bool, not, List, [], ◌∷◌, ◌++◌, length, map, take, drop, position, Option, Some, refl, sym, ap, ◌∙◌, subst, append-nil, arith, add-one}
+use Rattle.std.proofs.Common.{◌≡◌, ℕ, zero, suc, ◌+◌, ◌*◌, ◌<◌, ◌≤◌, Bool, not, List, [], ◌∷◌, ◌++◌, length, map, take, drop, position, Option, Some, Result, Err, refl, sym, ap, ◌∙◌, subst, append-nil, arith, add-one}
 use Rattle.std.specs.List.{flat_map, AllByRecursion}
 use Rattle.std.specs.Int.{div_ceil}
 use Rattle.std.proofs.Math.Seq.{take-add}
@@ -18,12 +18,14 @@ use Rattle.nx_fec.specs.AirFile.{Line, IsLine}
 use Rattle.nx_fec.specs.Lines.{file_of, elements_of, IsBitFile}
 use Rattle.nx_fec.specs.BitLines.{bit_line, bit_lines}
 use Rattle.nx_fec.specs.Aligned.{aligned_text, words_of}
-use Rattle.nx_fec.specs.Emission.{bits_of, emission, framed, meaning, AreCombinations}
+use Rattle.nx_fec.specs.Emission.{bits_of, emission, framed_positions, sent_position, AreCombinations}
 use Rattle.nx_fec.specs.Runs.{IsEncoded, IsDecoded, ExplainsEncoding, spell_fault}
+use Rattle.nx_fec.specs.declared.fault.RunFault.{RunFault}
+use Rattle.nx_fec.specs.declared.fault.RunFault.TheVariants.{Read, Write}
 use Rattle.nx_fec.specs.declared.positions.Position.{Position}
 use Rattle.nx_fec.proofs.LineLaws.{IsBitFile-unique}
 use Rattle.nx_fec.proofs.WritingLaws.{first_lines}
-use Rattle.nx_fec.proofs.RoundTripLemmas.{length-bits_of, aligned_text-framed}
+use Rattle.nx_fec.proofs.RoundTripLemmas.{length-bits_of, aligned_text-framed_positions}
 
 -- a text that isn't spelled
 pub spelling-explains : (AtEnd : Type 0) (limit : ℕ) (bytes text : List ℕ) (old new : Option (List ℕ)) (e : SpellFault) → AtEnd → length bytes ≤ limit → text ≡ bytes
@@ -32,17 +34,25 @@ spelling-explains AtEnd limit bytes text old new (NoSuchCharacter at) end within
     (end, within, subst (λ l. position (λ byte. not (is_in_code byte)) l ≡ Some at) same (h at refl))
 spelling-explains AtEnd limit bytes text old new (Memory error) end within same h = tt
 
+pub spell_fault-not_read : {T : Type 0} (e : SpellFault) → ◌≡◌ {A = Result T RunFault} (Err (spell_fault e)) (Err Read) → ⊥
+spell_fault-not_read (NoSuchCharacter at) same = cc
+spell_fault-not_read (Memory error) same = cc
+
+pub spell_fault-not_write : {T : Type 0} (e : SpellFault) (written : ℕ) → ◌≡◌ {A = Result T RunFault} (Err (spell_fault e)) (Err (Write written)) → ⊥
+spell_fault-not_write (NoSuchCharacter at) written same = cc
+spell_fault-not_write (Memory error) written same = cc
+
 -- what is written is the file of the text
 pub IsEncoded-of : (bytes text : List ℕ) (combs : List Comb) (positions : List Position) (bits : List Bool) → text ≡ bytes
-    → Spells text Letters (map (λ (comb : Comb). comb.number) combs) → map meaning positions ≡ framed (map (λ (comb : Comb). comb.number) combs)
-    → bits ≡ bits_of (emission (map meaning positions)) → IsEncoded bytes (file_of (bit_lines bits)) (length positions)
-IsEncoded-of bytes text combs positions bits same spells framed-is bits-are =
+    → Spells text Letters (map (λ (comb : Comb). comb.number) combs) → map sent_position positions ≡ framed_positions (map (λ (comb : Comb). comb.number) combs)
+    → bits ≡ bits_of (emission (map sent_position positions)) → IsEncoded bytes (file_of (bit_lines bits)) (length positions)
+IsEncoded-of bytes text combs positions bits same spells framed_positions-is bits-are =
     let numbers = map (λ (comb : Comb). comb.number) combs in
     record {
       numbers = numbers;
       spells = subst (λ l. Spells l Letters numbers) same spells;
-      written = ap (λ l. file_of (bit_lines l)) (bits-are ∙ ap (λ l. bits_of (emission l)) framed-is);
-      count = sym (length-map positions meaning) ∙ ap length framed-is;
+      written = ap (λ l. file_of (bit_lines l)) (bits-are ∙ ap (λ l. bits_of (emission l)) framed_positions-is);
+      count = sym (length-map positions sent_position) ∙ ap length framed_positions-is;
     }
 
 -- ---- lines of elements are lines of an air file, and hold these elements
@@ -93,13 +103,13 @@ EachFits-combinations shift (n ∷ numbers) h (suc i) below = EachFits-combinati
 
 pub IsDecoded-encoded : (limit : ℕ) (text file : List ℕ) (positions : ℕ) → IsEncoded text file positions → length file ≤ limit → IsDecoded limit file text
 IsDecoded-encoded limit text file positions h within =
-    let bits = bits_of (emission (framed h.numbers)) in
-    let count = length-bits_of (emission (framed h.numbers)) in
+    let bits = bits_of (emission (framed_positions h.numbers)) in
+    let count = length-bits_of (emission (framed_positions h.numbers)) in
     record {
       bits = bits;
       file = subst (λ l. IsBitFile limit l bits) (sym h.written) (bit_lines-IsBitFile limit bits (subst (λ l. length l ≤ limit) h.written within));
       whole = omega (arith, count);
-      read = sym (aligned_text-framed h.numbers (EachFits-combinations Letters h.numbers h.spells.fits) ∙ h.spells.reads);
+      read = sym (aligned_text-framed_positions h.numbers (EachFits-combinations Letters h.numbers h.spells.fits) ∙ h.spells.reads);
     }
 
 pub IsDecoded-unique : (limit : ℕ) (file a b : List ℕ) → IsDecoded limit file a → IsDecoded limit file b → a ≡ b

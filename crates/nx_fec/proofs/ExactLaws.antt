@@ -1,37 +1,37 @@
 -- An answer that tells the outcome of a whole file is the only one that may be given to it.
 use Rattle.std.proofs.Common.{◌≡◌, ℕ, Bool, List, Option, None, Some, IfSome, Result, Ok, Err, MatchResult, IsErrAnd, ◌⊎◌, inl, inr, ap, ◌∙◌, refl}
-use Rattle.nx_fec.specs.Lines.{IsRefused, IsBitFile}
-use Rattle.nx_fec.specs.Runs.{run_fault, Explains, IsOutside}
+use Rattle.nx_fec.specs.Lines.{HasFault, IsBitFile}
+use Rattle.nx_fec.specs.Runs.{run_fault, ExplainsReading, IsOutside}
 use Rattle.nx_fec.specs.declared.fault.LineFault.{LineFault}
 use Rattle.nx_fec.specs.declared.fault.LineFault.TheVariants as file
 use Rattle.nx_fec.specs.declared.fault.RunFault.{RunFault}
 use Rattle.nx_fec.specs.declared.fault.RunFault.TheVariants.{Read, FileTooLong, LineLong, LineCut, BadLine, Ragged, NoSuchCharacter, Write, Memory}
-use Rattle.nx_fec.proofs.LineLaws.{IsRefused-unique, IsAirFile-good, IsBitFile-unique}
+use Rattle.nx_fec.proofs.LineLaws.{HasFault-unique, IsAirFile-good, IsBitFile-unique}
 
 -- the fault of an answer is that of the file, or from outside
-Explains-cases : (limit : ℕ) (xs : List ℕ) (fault : RunFault) → Explains (Unit {0}) limit xs fault
-    → ((why : LineFault) × (fault ≡ run_fault why) × IsRefused limit xs why) ⊎ IsOutside fault
-Explains-cases limit xs Read h = inr tt
-Explains-cases limit xs FileTooLong h = inl (file.TooLong, refl, h)
-Explains-cases limit xs (LineLong line) h = inl (file.LineLong line, refl, h)
-Explains-cases limit xs (LineCut line) h = inl (file.LineCut line, refl, h.1)
-Explains-cases limit xs (BadLine line) h = inl (file.BadLine line, refl, h)
-Explains-cases limit xs (Ragged bits) h = absurd h
-Explains-cases limit xs (NoSuchCharacter at) h = absurd h
-Explains-cases limit xs (Write written) h = absurd h
-Explains-cases limit xs (Memory error) h = inr tt
+ExplainsReading-cases : (limit : ℕ) (xs : List ℕ) (fault : RunFault) → ExplainsReading (Unit {0}) limit xs fault
+    → ((why : LineFault) × (fault ≡ run_fault why) × HasFault limit xs why) ⊎ IsOutside fault
+ExplainsReading-cases limit xs Read h = inr tt
+ExplainsReading-cases limit xs FileTooLong h = inl (file.TooLong, refl, h)
+ExplainsReading-cases limit xs (LineLong line) h = inl (file.LineLong line, refl, h)
+ExplainsReading-cases limit xs (LineCut line) h = inl (file.LineCut line, refl, h.1)
+ExplainsReading-cases limit xs (BadLine line) h = inl (file.BadLine line, refl, h)
+ExplainsReading-cases limit xs (Ragged bits) h = absurd h
+ExplainsReading-cases limit xs (NoSuchCharacter at) h = absurd h
+ExplainsReading-cases limit xs (Write written) h = absurd h
+ExplainsReading-cases limit xs (Memory error) h = inr tt
 
 module _ {V : Type 0} (items : V → List Bool) where
   -- what an answer tells of a whole file
   abbrev Tells : ℕ → Result V RunFault → List ℕ → Type 0
-  Tells limit r xs = MatchResult r (λ v. IsBitFile limit xs (items v)) (λ e. Explains (Unit {0}) limit xs e)
+  Tells limit r xs = MatchResult r (λ v. IsBitFile limit xs (items v)) (λ e. ExplainsReading (Unit {0}) limit xs e)
 
-  fault_at : (limit : ℕ) (r : Result V RunFault) (xs : List ℕ) → Tells limit r xs → (why : LineFault) → IsRefused limit xs why
+  fault_at : (limit : ℕ) (r : Result V RunFault) (xs : List ℕ) → Tells limit r xs → (why : LineFault) → HasFault limit xs why
       → IsErrAnd r (λ e. (e ≡ run_fault why) ⊎ IsOutside e)
   fault_at limit (Ok v) xs h why refused = absurd (IsAirFile-good limit xs h.lines why h.file refused)
   fault_at limit (Err e) xs h why refused =
-      elim (Explains-cases limit xs e h) [
-        | inl p ↦ inl (p.1 ∙ ap run_fault (IsRefused-unique limit xs p.0 why p.2 refused))
+      elim (ExplainsReading-cases limit xs e h) [
+        | inl p ↦ inl (p.1 ∙ ap run_fault (HasFault-unique limit xs p.0 why p.2 refused))
         | inr outside ↦ inr outside
       ]
 
@@ -39,19 +39,19 @@ module _ {V : Type 0} (items : V → List Bool) where
       → MatchResult r (λ v. items v ≡ bits) IsOutside
   good_at limit (Ok v) xs h bits good = IsBitFile-unique limit xs (items v) bits h good
   good_at limit (Err e) xs h bits good =
-      elim (Explains-cases limit xs e h) [
+      elim (ExplainsReading-cases limit xs e h) [
         | inl p ↦ absurd (IsAirFile-good limit xs good.lines p.0 good.file p.2)
         | inr outside ↦ outside
       ]
 
   pub exact-fault : (old : Option (List ℕ)) (limit : ℕ) (r : Result V RunFault)
-      → IfSome old (λ xs. MatchResult r (λ v. IsBitFile limit xs (items v)) (λ e. Explains (Unit {0}) limit xs e))
-      → IfSome old (λ xs. (why : LineFault) → IsRefused limit xs why → IsErrAnd r (λ e. (e ≡ run_fault why) ⊎ IsOutside e))
+      → IfSome old (λ xs. MatchResult r (λ v. IsBitFile limit xs (items v)) (λ e. ExplainsReading (Unit {0}) limit xs e))
+      → IfSome old (λ xs. (why : LineFault) → HasFault limit xs why → IsErrAnd r (λ e. (e ≡ run_fault why) ⊎ IsOutside e))
   exact-fault None limit r h = tt
   exact-fault (Some xs) limit r h = fault_at limit r xs h
 
   pub exact-good : (old : Option (List ℕ)) (limit : ℕ) (r : Result V RunFault)
-      → IfSome old (λ xs. MatchResult r (λ v. IsBitFile limit xs (items v)) (λ e. Explains (Unit {0}) limit xs e))
+      → IfSome old (λ xs. MatchResult r (λ v. IsBitFile limit xs (items v)) (λ e. ExplainsReading (Unit {0}) limit xs e))
       → IfSome old (λ xs. (bits : List Bool) → IsBitFile limit xs bits → MatchResult r (λ v. items v ≡ bits) IsOutside)
   exact-good None limit r h = tt
   exact-good (Some xs) limit r h = good_at limit r xs h

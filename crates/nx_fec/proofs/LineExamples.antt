@@ -2,7 +2,7 @@
 use Rattle.std.proofs.Common.{◌≡◌, true, false, [], ◌∷◌, ◌++◌, codes, refl, arith}
 use Rattle.std.proofs.lemmas.Fmt.{decimal_digit}
 use Rattle.nx_fec.specs.AirFile.{moment, elements, refuse_station, accept_subject, spelling}
-use Rattle.nx_fec.specs.Lines.{file_of, IsRefused, IsBitFile}
+use Rattle.nx_fec.specs.Lines.{file_of, HasFault, IsBitFile}
 use Rattle.nx_fec.specs.BitLines.{bit_lines}
 use Rattle.nx_fec.specs.declared.fault.LineFault.TheVariants.{TooLong, LineCut}
 
@@ -29,7 +29,7 @@ two-lines-elements = record {
 }
 
 -- the same file with a limit of 8 bytes is too long
-pub two-lines-too-long : IsRefused 8 (codes "B 1" ++ (10 ∷ (codes "AJ A" ++ (10 ∷ [])))) TooLong
+pub two-lines-too-long : HasFault 8 (codes "B 1" ++ (10 ∷ (codes "AJ A" ++ (10 ∷ [])))) TooLong
 two-lines-too-long = record {
   lines = elements (true ∷ []) ∷ [];
   rest = codes "AJ A";
@@ -41,7 +41,7 @@ two-lines-too-long = record {
 }
 
 -- a line that isn't ended
-pub cut-line : IsRefused 9 (codes "B 1" ++ (10 ∷ codes "AJ")) (LineCut 2)
+pub cut-line : HasFault 9 (codes "B 1" ++ (10 ∷ codes "AJ")) (LineCut 2)
 cut-line = record {
   lines = elements (true ∷ []) ∷ [];
   rest = codes "AJ";

@@ -8,7 +8,7 @@ use Rattle.std.proofs.lemmas.List.{length-append, length-map, same_from_push}
 use Rattle.std.proofs.lemmas.List.Concat.{flat_map-append}
 use Rattle.nx_fec.proofs.Digits.{AreDigits, decimal-digits}
 use Rattle.nx_fec.specs.AirFile.{Line, moment, elements, refuse_station, accept_station, refuse_subject, accept_subject, element_digit, spelling, IsLine}
-use Rattle.nx_fec.specs.Lines.{IsAtByte, ended, file_of, IsBeginning, Splits, IsCause, IsRefused, IsAirFile, IsBitFile, elements_of, line_feed}
+use Rattle.nx_fec.specs.Lines.{IsAtByte, line_bytes, file_of, IsBeginning, Splits, IsCause, HasFault, IsAirFile, IsBitFile, elements_of, line_end}
 use Rattle.nx_fec.specs.declared.fault.LineFault.{LineFault}
 use Rattle.nx_fec.specs.declared.fault.LineFault.TheVariants.{TooLong, LineLong, LineCut, BadLine}
 
@@ -21,29 +21,29 @@ reads_as first second rest =
     else (if nat_eq first 82 then refuse_subject (get_or rest 1 0) else accept_subject (get_or rest 1 0)))
 
 -- what bytes say, if they spell a line
-abbrev line_of : List ℕ → Line
-line_of bytes = reads_as (get_or bytes 0 0) (get_or bytes 1 0) (drop 2 bytes)
+abbrev line_read : List ℕ → Line
+line_read bytes = reads_as (get_or bytes 0 0) (get_or bytes 1 0) (drop 2 bytes)
 
 elements-read : (bits : List Bool) → map (λ d. nat_eq d 49) (map element_digit bits) ≡ bits
 elements-read [] = refl
 elements-read (true ∷ bits) = ap (λ l. true ∷ l) (elements-read bits)
 elements-read (false ∷ bits) = ap (λ l. false ∷ l) (elements-read bits)
 
-line_of-spelling : (line : Line) → IsLine line → line_of (spelling line) ≡ line
-line_of-spelling (moment n) h = ap moment (decimal_is_IsNumeral n (omega arith)).1
-line_of-spelling (elements bits) h = ap elements (elements-read bits)
-line_of-spelling (refuse_station letter) h = refl
-line_of-spelling (accept_station letter) h = refl
-line_of-spelling (refuse_subject letter) h = refl
-line_of-spelling (accept_subject letter) h = refl
+line_read-spelling : (line : Line) → IsLine line → line_read (spelling line) ≡ line
+line_read-spelling (moment n) h = ap moment (decimal_is_IsNumeral n (omega arith)).1
+line_read-spelling (elements bits) h = ap elements (elements-read bits)
+line_read-spelling (refuse_station letter) h = refl
+line_read-spelling (accept_station letter) h = refl
+line_read-spelling (refuse_subject letter) h = refl
+line_read-spelling (accept_subject letter) h = refl
 
 pub spelling-injective : (a b : Line) → IsLine a → IsLine b → spelling a ≡ spelling b → a ≡ b
-spelling-injective a b h k e = sym (line_of-spelling a h) ∙ ap line_of e ∙ line_of-spelling b k
+spelling-injective a b h k e = sym (line_read-spelling a h) ∙ ap line_read e ∙ line_read-spelling b k
 
 -- ---- a line holds no line feed, and is short
 
 abbrev pub NoFeed : List ℕ → Type 0
-NoFeed bytes = AllByRecursion (λ byte. byte ≢ line_feed) bytes
+NoFeed bytes = AllByRecursion (λ byte. byte ≢ line_end) bytes
 
 digits-no_feed : (ds : List ℕ) → AreDigits ds → NoFeed ds
 digits-no_feed [] h = tt
@@ -90,7 +90,7 @@ first_feed (a ∷ p) (b ∷ q) x y h k e =
     (cc (r.0, heads), r.1)
 
 regroup : (a : Line) (lines : List Line) (rest : List ℕ) → file_of (a ∷ lines) ++ rest ≡ spelling a ++ (10 ∷ (file_of lines ++ rest))
-regroup a lines rest = append_assoc (ended a) (file_of lines) rest ∙ append_assoc (spelling a) (10 ∷ []) (file_of lines ++ rest)
+regroup a lines rest = append_assoc (line_bytes a) (file_of lines) rest ∙ append_assoc (spelling a) (10 ∷ []) (file_of lines ++ rest)
 
 pub reading-unique : (l1 l2 : List Line) (r1 r2 : List ℕ) → AllByRecursion IsLine l1 → AllByRecursion IsLine l2 → IsBeginning r1 → IsBeginning r2
     → file_of l1 ++ r1 ≡ file_of l2 ++ r2 → (l1 ≡ l2) × (r1 ≡ r2)
@@ -193,7 +193,7 @@ All-last (a ∷ lines) line h = let r = All-last lines line h.1 in ((h.0, r.0), 
 
 file_of-last : (lines : List Line) (line : Line) → file_of (lines ++ (line ∷ [])) ≡ (file_of lines ++ spelling line) ++ (10 ∷ [])
 file_of-last lines line =
-    flat_map-append ended lines (line ∷ []) ∙ ap (λ l. file_of lines ++ l) (append-nil (ended line)) ∙ sym (append_assoc (file_of lines) (spelling line) (10 ∷ []))
+    flat_map-append line_bytes lines (line ∷ []) ∙ ap (λ l. file_of lines ++ l) (append-nil (line_bytes line)) ∙ sym (append_assoc (file_of lines) (spelling line) (10 ∷ []))
 
 -- one more byte after lines and an open line: it goes on with that line, or ends it
 record Goes (rest : List ℕ) (byte : ℕ) : Type 0 where
@@ -264,11 +264,11 @@ IsCause-within limit front lines rest (byte ∷ more) (LineCut line) h = absurd 
 IsCause-within limit front lines rest (byte ∷ more) (BadLine line) h = omega (arith, h.0)
 
 -- a fault doesn't stand before the end of a longer beginning
-IsRefused-last : (limit : ℕ) (lines ls : List Line) (rest r t more : List ℕ) (why : LineFault) → AllByRecursion IsLine lines → IsBeginning rest
+HasFault-last : (limit : ℕ) (lines ls : List Line) (rest r t more : List ℕ) (why : LineFault) → AllByRecursion IsLine lines → IsBeginning rest
     → AllByRecursion IsLine ls → IsBeginning r → length (file_of ls ++ r) ≤ limit → file_of ls ++ r ≡ (file_of lines ++ rest) ++ t
     → IsCause limit (length (file_of lines ++ rest)) lines rest (t ++ more) why → t ≡ []
-IsRefused-last limit lines ls rest r [] more why good part each begun within e h = refl
-IsRefused-last limit lines ls rest r (byte ∷ t) more why good part each begun within e h =
+HasFault-last limit lines ls rest r [] more why good part each begun within e h = refl
+HasFault-last limit lines ls rest r (byte ∷ t) more why good part each begun within e h =
     let front = file_of lines ++ rest in
     let next : (front ++ (byte ∷ [])) ++ t ≡ file_of ls ++ r = append_assoc front (byte ∷ []) t ∙ sym e in
     let b = Begins-in ls r (front ++ (byte ∷ [])) t each begun next in
@@ -302,13 +302,13 @@ pair : (a b : List Line) (x y : List ℕ) → a ≡ b → x ≡ y → ◌≡◌ 
 pair a b x y p q = cc
 
 -- two faults at one front
-IsRefused-same : (limit : ℕ) (bytes t : List ℕ) (v w : LineFault) (h : IsRefused limit bytes v) (k : IsRefused limit bytes w)
+HasFault-same : (limit : ℕ) (bytes t : List ℕ) (v w : LineFault) (h : HasFault limit bytes v) (k : HasFault limit bytes w)
     → file_of k.lines ++ k.rest ≡ (file_of h.lines ++ h.rest) ++ t → h.more ≡ t ++ k.more → v ≡ w
-IsRefused-same limit bytes t v w h k e m =
+HasFault-same limit bytes t v w h k e m =
     let within : length (file_of k.lines ++ k.rest) ≤ limit = IsCause-within limit _ k.lines k.rest k.more w k.cause in
     let cause : IsCause limit (length (file_of h.lines ++ h.rest)) h.lines h.rest (t ++ k.more) v =
     subst (λ l. IsCause limit (length (file_of h.lines ++ h.rest)) h.lines h.rest l v) m h.cause in
-    let nothing : t ≡ [] = IsRefused-last limit h.lines k.lines h.rest k.rest t k.more v h.each h.part k.each k.part within e cause in
+    let nothing : t ≡ [] = HasFault-last limit h.lines k.lines h.rest k.rest t k.more v h.each h.part k.each k.part within e cause in
     let front : file_of k.lines ++ k.rest ≡ file_of h.lines ++ h.rest = e ∙ ap (λ l. (file_of h.lines ++ h.rest) ++ l) nothing ∙ append-nil (file_of h.lines ++ h.rest) in
     let u = reading-unique h.lines k.lines h.rest k.rest h.each k.each h.part k.part (sym front) in
     let here : IsCause limit (length (file_of h.lines ++ h.rest)) h.lines h.rest k.more v =
@@ -317,11 +317,11 @@ IsRefused-same limit bytes t v w h k e m =
     subst (λ (p : List Line × List ℕ). IsCause limit (length (file_of p.0 ++ p.1)) p.0 p.1 k.more w) (pair k.lines h.lines k.rest h.rest (sym u.0) (sym u.1)) k.cause in
     IsCause-unique limit (length (file_of h.lines ++ h.rest)) h.lines h.rest k.more v w here there
 
-pub IsRefused-unique : (limit : ℕ) (bytes : List ℕ) (v w : LineFault) → IsRefused limit bytes v → IsRefused limit bytes w → v ≡ w
-IsRefused-unique limit bytes v w h k =
+pub HasFault-unique : (limit : ℕ) (bytes : List ℕ) (v w : LineFault) → HasFault limit bytes v → HasFault limit bytes w → v ≡ w
+HasFault-unique limit bytes v w h k =
     elim (split (file_of h.lines ++ h.rest) h.more (file_of k.lines ++ k.rest) k.more (sym h.whole ∙ k.whole)) [
-      | inl s ↦ IsRefused-same limit bytes s.0 v w h k s.1 s.2
-      | inr s ↦ sym (IsRefused-same limit bytes s.0 w v k h s.1 s.2)
+      | inl s ↦ HasFault-same limit bytes s.0 v w h k s.1 s.2
+      | inr s ↦ sym (HasFault-same limit bytes s.0 w v k h s.1 s.2)
     ]
 
 -- no fault at a byte stands at the end
@@ -334,27 +334,27 @@ IsCause-at_end limit front lines rest (b ∷ more) why at e h = cc
 
 -- a good beginning has no fault at a byte
 pub Splits-good : (limit : ℕ) (front : List ℕ) (lines : List Line) (rest : List ℕ) (why : LineFault) → Splits front lines rest → length front ≤ limit → IsAtByte why
-    → IsRefused limit front why → ⊥
+    → HasFault limit front why → ⊥
 Splits-good limit front lines rest why s within at h =
     let cause : IsCause limit (length (file_of h.lines ++ h.rest)) h.lines h.rest (h.more ++ []) why =
     subst (λ l. IsCause limit (length (file_of h.lines ++ h.rest)) h.lines h.rest l why) (sym (append-nil h.more)) h.cause in
-    let nothing : h.more ≡ [] = IsRefused-last limit h.lines lines h.rest rest h.more [] why h.each h.part s.each s.part
+    let nothing : h.more ≡ [] = HasFault-last limit h.lines lines h.rest rest h.more [] why h.each h.part s.each s.part
     (subst (λ l. length l ≤ limit) s.whole within) (sym s.whole ∙ h.whole) cause in
     IsCause-at_end limit (length (file_of h.lines ++ h.rest)) h.lines h.rest h.more why at nothing h.cause
 
 -- a good file has no fault
-IsRefused-past : (limit : ℕ) (lines : List Line) (rest ms : List ℕ) (why : LineFault) → ms ≡ [] → rest ≡ [] → IsCause limit (length (file_of lines ++ rest)) lines rest ms why → ⊥
-IsRefused-past limit lines rest [] TooLong e none h = h
-IsRefused-past limit lines rest [] (LineLong n) e none h = h
-IsRefused-past limit lines rest [] (LineCut n) e none h = absurd (omega (arith, h.1, ap length none))
-IsRefused-past limit lines rest [] (BadLine n) e none h = h
-IsRefused-past limit lines rest (b ∷ ms) why e none h = cc
+HasFault-past : (limit : ℕ) (lines : List Line) (rest ms : List ℕ) (why : LineFault) → ms ≡ [] → rest ≡ [] → IsCause limit (length (file_of lines ++ rest)) lines rest ms why → ⊥
+HasFault-past limit lines rest [] TooLong e none h = h
+HasFault-past limit lines rest [] (LineLong n) e none h = h
+HasFault-past limit lines rest [] (LineCut n) e none h = absurd (omega (arith, h.1, ap length none))
+HasFault-past limit lines rest [] (BadLine n) e none h = h
+HasFault-past limit lines rest (b ∷ ms) why e none h = cc
 
 nil-parts : (t m : List ℕ) → [] ≡ t ++ m → (t ≡ []) × (m ≡ [])
 nil-parts [] m e = (refl, sym e)
 nil-parts (x ∷ t) m e = cc
 
-pub IsAirFile-good : (limit : ℕ) (bytes : List ℕ) (lines : List Line) (why : LineFault) → IsAirFile limit bytes lines → IsRefused limit bytes why → ⊥
+pub IsAirFile-good : (limit : ℕ) (bytes : List ℕ) (lines : List Line) (why : LineFault) → IsAirFile limit bytes lines → HasFault limit bytes why → ⊥
 IsAirFile-good limit bytes lines why h k =
     let nothing : IsBeginning [] = record { none = tt; short = omega arith } in
     let whole : file_of lines ++ [] ≡ bytes = append-nil (file_of lines) ∙ sym h.whole in
@@ -362,11 +362,11 @@ IsAirFile-good limit bytes lines why h k =
     let front = file_of k.lines ++ k.rest in
     let here : (ms : List ℕ) → k.more ≡ ms → front ≡ file_of lines ++ [] → ms ≡ [] → ⊥ = λ ms e same none.
     let u = reading-unique k.lines lines k.rest [] k.each h.each k.part nothing same in
-    IsRefused-past limit k.lines k.rest k.more why (e ∙ none) u.1 k.cause in
+    HasFault-past limit k.lines k.rest k.more why (e ∙ none) u.1 k.cause in
     elim (split front k.more (file_of lines ++ []) [] (sym k.whole ∙ sym whole ∙ sym (append-nil (file_of lines ++ [])))) [
       | inl s ↦
           let cause : IsCause limit (length front) k.lines k.rest (s.0 ++ []) why = subst (λ l. IsCause limit (length front) k.lines k.rest l why) s.2 k.cause in
-          let none : s.0 ≡ [] = IsRefused-last limit k.lines lines k.rest [] s.0 [] why k.each k.part h.each nothing within s.1 cause in
+          let none : s.0 ≡ [] = HasFault-last limit k.lines lines k.rest [] s.0 [] why k.each k.part h.each nothing within s.1 cause in
           here k.more refl (sym (s.1 ∙ ap (λ l. front ++ l) none ∙ append-nil front)) (s.2 ∙ append-nil s.0 ∙ none)
       | inr s ↦
           let p = nil-parts s.0 k.more s.2 in

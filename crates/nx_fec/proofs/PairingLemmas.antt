@@ -9,7 +9,7 @@ use Rattle.nx_code.specs.Word.{weight, elements, elements_from}
 use Rattle.nx_code.specs.Table.{table, words, place_of}
 use Rattle.nx_code.specs.Signal.{number_of_signal}
 use Rattle.nx_fec.specs.declared.diversity.Heard.TheVariants.{Intact}
-use Rattle.nx_fec.specs.Pairing.{Counted, traffic, idle_signal, nothing, counted, counted_at, meaning, IsLatest}
+use Rattle.nx_fec.specs.Pairing.{Counted, traffic, idle_signal, nothing, counts_as, counts_at, heard_as, IsLatest}
 
 -- whether two words count alike
 abbrev is_alike : Counted → Counted → Bool
@@ -35,24 +35,24 @@ is_alike-true nothing idle_signal h = cc
 is_alike-true nothing nothing h = refl
 
 -- the word at a place of the table counts as that place
-pub counted-words : (at : ℕ) → at < 35 → counted (get_or words at 0) ≡ counted_at (Some at)
-unfolding table words place_of counted
-counted-words at h =
-    is_alike-true (counted (get_or words at 0)) (counted_at (Some at)) (agree_below_at (λ k. is_alike (counted (get_or words k 0)) (counted_at (Some k))) (λ _. true) 35 at refl h)
+pub counts_as-words : (at : ℕ) → at < 35 → counts_as (get_or words at 0) ≡ counts_at (Some at)
+unfolding table words place_of counts_as
+counts_as-words at h =
+    is_alike-true (counts_as (get_or words at 0)) (counts_at (Some at)) (agree_below_at (λ k. is_alike (counts_as (get_or words k 0)) (counts_at (Some k))) (λ _. true) 35 at refl h)
 
 -- the word of a combination counts as it
-pub counted-combination : (number : ℕ) → 1 ≤ number → number ≤ 32 → counted (get_or words (number - 1) 0) ≡ traffic number
-unfolding table words place_of counted
-counted-combination number low high =
+pub counts_as-combination : (number : ℕ) → 1 ≤ number → number ≤ 32 → counts_as (get_or words (number - 1) 0) ≡ traffic number
+unfolding table words place_of counts_as
+counts_as-combination number low high =
     let e : number - 1 + 1 ≡ number = omega arith in
-    subst (λ n. counted (get_or words (number - 1) 0) ≡ traffic n) e (is_alike-true (counted (get_or words (number - 1) 0)) (traffic (number - 1 + 1)) (agree_below_at (λ k. is_alike (counted (get_or words k 0)) (traffic (k + 1))) (λ _. true) 32 (number - 1) refl (omega arith)))
+    subst (λ n. counts_as (get_or words (number - 1) 0) ≡ traffic n) e (is_alike-true (counts_as (get_or words (number - 1) 0)) (traffic (number - 1 + 1)) (agree_below_at (λ k. is_alike (counts_as (get_or words k 0)) (traffic (k + 1))) (λ _. true) 32 (number - 1) refl (omega arith)))
 
 -- the word of a signal counts as the signal does
-pub counted-number_of_signal : (signal : Signal) → counted (number_of_signal signal) ≡ meaning (Intact signal)
-counted-number_of_signal (Traffic comb) = counted-combination comb.number comb.from_one comb.to_thirty_two
-counted-number_of_signal Alpha = counted-words 32 (omega arith)
-counted-number_of_signal Beta = counted-words 33 (omega arith)
-counted-number_of_signal Repeat = counted-words 34 (omega arith)
+pub counts_as-number_of_signal : (signal : Signal) → counts_as (number_of_signal signal) ≡ heard_as (Intact signal)
+counts_as-number_of_signal (Traffic comb) = counts_as-combination comb.number comb.from_one comb.to_thirty_two
+counts_as-number_of_signal Alpha = counts_as-words 32 (omega arith)
+counts_as-number_of_signal Beta = counts_as-words 33 (omega arith)
+counts_as-number_of_signal Repeat = counts_as-words 34 (omega arith)
 
 weight-words : (at : ℕ) → at < 35 → weight (get_or words at 0) ≡ 4
 unfolding table words weight elements elements_from
@@ -65,14 +65,14 @@ weight-found word at h =
     let found = position-Some (λ n. eqb n word) words at 0 h in
     subst (λ n. weight n ≡ 4) (eqb-true (get_or words at 0) word found.1) (weight-words at found.0)
 
-counted_at-none : (word : ℕ) (found : Option ℕ) → place_of word ≡ found → (weight word ≡ 4 → ⊥) → counted_at found ≡ nothing
-counted_at-none word (Some at) h wrong = absurd (wrong (weight-found word at h))
-counted_at-none word None h wrong = refl
+counts_at-none : (word : ℕ) (found : Option ℕ) → place_of word ≡ found → (weight word ≡ 4 → ⊥) → counts_at found ≡ nothing
+counts_at-none word (Some at) h wrong = absurd (wrong (weight-found word at h))
+counts_at-none word None h wrong = refl
 
 -- a word of a wrong weight counts as nothing
-pub counted-wrong : (word : ℕ) → (weight word ≡ 4 → ⊥) → counted word ≡ nothing
-unfolding counted
-counted-wrong word wrong = counted_at-none word (place_of word) refl wrong
+pub counts_as-wrong : (word : ℕ) → (weight word ≡ 4 → ⊥) → counts_as word ≡ nothing
+unfolding counts_as
+counts_as-wrong word wrong = counts_at-none word (place_of word) refl wrong
 
 -- of the latest three and one more word the latest three are those of all words and this one
 pub IsLatest-push : (latest next words : List Counted) (x : Counted) → IsLatest latest words → IsLatest next (latest ++ x ∷ []) → IsLatest next (words ++ x ∷ [])

@@ -1,17 +1,30 @@
 -- Lemmas on what a scanner has read, and on the faults that explain why it stopped.
-use Rattle.std.proofs.Common.{◌≡◌, ℕ, ◌+◌, ◌<◌, Bool, true, false, length, take, drop, get_or, if◌then◌else◌, option_to_list, take-append-drop, List, [], ◌∷◌, ◌++◌, sym, ap, ◌∙◌, subst, append_assoc, append-nil, Option, None, Some, IfSome, Result, Err}
+use Rattle.std.proofs.Common.{◌≡◌, ℕ, ◌+◌, ◌<◌, Bool, true, false, length, take, drop, get_or, if◌then◌else◌, option_to_list, take-append-drop, List, [], ◌∷◌, ◌++◌, sym, ap, ◌∙◌, subst, append_assoc, append-nil, Option, None, Some, IfSome, Result, Err, arith}
 use Rattle.std.specs.List.{flat_map}
 use Rattle.std.specs.Io.KnownBytes.{Consumes, IsAtEnd}
 use Rattle.std.proofs.KnownBytes.{Consumes-trans}
 use Rattle.std.proofs.lemmas.List.Concat.{flat_map-append}
-use Rattle.std.proofs.lemmas.List.{drop_more}
+use Rattle.std.proofs.lemmas.List.{drop_more, length-append}
 use Rattle.nx_fec.specs.AirFile.{Line}
-use Rattle.nx_fec.specs.Lines.{file_of, IsRefused, IsAtByte, IsCause, Scanning, Scans, elements_of, IsBitFile}
-use Rattle.nx_fec.specs.Runs.{run_fault, Explains, HasRead}
+use Rattle.nx_fec.specs.Lines.{file_of, HasFault, IsAtByte, IsCause, Scanning, Scans, Splits, elements_of, IsBitFile}
+use Rattle.nx_fec.specs.Runs.{run_fault, ExplainsReading, HasRead}
 use Rattle.nx_fec.specs.declared.fault.LineFault.{LineFault}
 use Rattle.nx_fec.specs.declared.fault.LineFault.TheVariants as file
 use Rattle.nx_fec.specs.declared.fault.RunFault.{RunFault}
 use Rattle.nx_fec.specs.declared.fault.RunFault.TheVariants.{Read, FileTooLong, LineLong, LineCut, BadLine, Ragged, NoSuchCharacter, Write, Memory}
+
+-- a cause after good lines and the beginning of one more is a fault of the file
+pub HasFault-cause : (limit : ℕ) (bytes : List ℕ) (lines : List Line) (rest more : List ℕ) (why : LineFault) → Splits bytes lines rest
+    → IsCause limit (length bytes) lines rest more why → HasFault limit (bytes ++ more) why
+HasFault-cause limit bytes lines rest more why s cause = record {
+  lines = lines;
+  rest = rest;
+  more = more;
+  whole = ap (λ l. l ++ more) s.whole;
+  each = s.each;
+  part = s.part;
+  cause = subst (λ l. IsCause limit (length l) lines rest more why) s.whole cause;
+}
 
 -- one more step of the scanner, over the bytes of some more lines
 pub HasRead-step : (limit : ℕ) (old new : Scanning) (bits more : List Bool) (bytes bytes' : List ℕ) (some : List Line) (h : HasRead limit old bits bytes)
@@ -23,28 +36,34 @@ HasRead-step limit old new bits more bytes bytes' some h scans joined = record {
 }
 
 -- a fault of the file explains the fault of the run
-pub Explains-fault : (AtEnd : Type 0) (limit : ℕ) (bytes : List ℕ) (why : LineFault) → AtEnd → IsRefused limit bytes why → Explains AtEnd limit bytes (run_fault why)
-Explains-fault AtEnd limit bytes file.TooLong end refused = refused
-Explains-fault AtEnd limit bytes (file.LineLong line) end refused = refused
-Explains-fault AtEnd limit bytes (file.LineCut line) end refused = (end, refused)
-Explains-fault AtEnd limit bytes (file.BadLine line) end refused = refused
+explains : (AtEnd : Type 0) (limit : ℕ) (bytes : List ℕ) (why : LineFault) → AtEnd → HasFault limit bytes why → ExplainsReading AtEnd limit bytes (run_fault why)
+explains AtEnd limit bytes file.TooLong end fault = fault
+explains AtEnd limit bytes (file.LineLong line) end fault = fault
+explains AtEnd limit bytes (file.LineCut line) end fault = (end, fault)
+explains AtEnd limit bytes (file.BadLine line) end fault = fault
 
-pub Explains-at_byte : (limit : ℕ) (bytes : List ℕ) (why : LineFault) → IsAtByte why → IsRefused limit bytes why → Explains ⊥ limit bytes (run_fault why)
-Explains-at_byte limit bytes file.TooLong at refused = refused
-Explains-at_byte limit bytes (file.LineLong line) at refused = refused
-Explains-at_byte limit bytes (file.LineCut line) at refused = absurd at
-Explains-at_byte limit bytes (file.BadLine line) at refused = refused
+-- and so does its cause at the end of the bytes
+pub ExplainsReading-fault : (AtEnd : Type 0) (limit : ℕ) (bytes : List ℕ) (why : LineFault) (lines : List Line) (rest : List ℕ) → AtEnd → Splits bytes lines rest
+    → IsCause limit (length bytes) lines rest [] why → ExplainsReading AtEnd limit bytes (run_fault why)
+ExplainsReading-fault AtEnd limit bytes why lines rest end splits cause =
+    explains AtEnd limit bytes why end (subst (λ l. HasFault limit l why) (append-nil bytes) (HasFault-cause limit bytes lines rest [] why splits cause))
 
-pub Explains-weaker : (A B : Type 0) (limit : ℕ) (bytes : List ℕ) (fault : RunFault) → (A → B) → Explains A limit bytes fault → Explains B limit bytes fault
-Explains-weaker A B limit bytes Read f h = tt
-Explains-weaker A B limit bytes FileTooLong f h = h
-Explains-weaker A B limit bytes (LineLong line) f h = h
-Explains-weaker A B limit bytes (LineCut line) f h = (f h.0, h.1)
-Explains-weaker A B limit bytes (BadLine line) f h = h
-Explains-weaker A B limit bytes (Ragged bits) f h = h
-Explains-weaker A B limit bytes (NoSuchCharacter at) f h = h
-Explains-weaker A B limit bytes (Write written) f h = h
-Explains-weaker A B limit bytes (Memory error) f h = tt
+pub ExplainsReading-at_byte : (limit : ℕ) (bytes : List ℕ) (why : LineFault) → IsAtByte why → HasFault limit bytes why → ExplainsReading ⊥ limit bytes (run_fault why)
+ExplainsReading-at_byte limit bytes file.TooLong at refused = refused
+ExplainsReading-at_byte limit bytes (file.LineLong line) at refused = refused
+ExplainsReading-at_byte limit bytes (file.LineCut line) at refused = absurd at
+ExplainsReading-at_byte limit bytes (file.BadLine line) at refused = refused
+
+pub ExplainsReading-weaker : (A B : Type 0) (limit : ℕ) (bytes : List ℕ) (fault : RunFault) → (A → B) → ExplainsReading A limit bytes fault → ExplainsReading B limit bytes fault
+ExplainsReading-weaker A B limit bytes Read f h = tt
+ExplainsReading-weaker A B limit bytes FileTooLong f h = h
+ExplainsReading-weaker A B limit bytes (LineLong line) f h = h
+ExplainsReading-weaker A B limit bytes (LineCut line) f h = (f h.0, h.1)
+ExplainsReading-weaker A B limit bytes (BadLine line) f h = h
+ExplainsReading-weaker A B limit bytes (Ragged bits) f h = h
+ExplainsReading-weaker A B limit bytes (NoSuchCharacter at) f h = h
+ExplainsReading-weaker A B limit bytes (Write written) f h = h
+ExplainsReading-weaker A B limit bytes (Memory error) f h = tt
 
 -- the same cause, with more bytes after it
 IsCause-more : (limit front : ℕ) (lines : List Line) (rest more ys : List ℕ) (why : LineFault) → IsAtByte why → IsCause limit front lines rest more why → IsCause limit front lines rest (more ++ ys) why
@@ -58,8 +77,8 @@ IsCause-more limit front lines rest (byte ∷ more) ys (file.LineCut line) at h 
 IsCause-more limit front lines rest (byte ∷ more) ys (file.BadLine line) at h = h
 
 -- a fault at a byte stays, whatever comes after it
-pub IsRefused-more : (limit : ℕ) (bytes ys : List ℕ) (why : LineFault) → IsAtByte why → IsRefused limit bytes why → IsRefused limit (bytes ++ ys) why
-IsRefused-more limit bytes ys why at h = record {
+pub HasFault-more : (limit : ℕ) (bytes ys : List ℕ) (why : LineFault) → IsAtByte why → HasFault limit bytes why → HasFault limit (bytes ++ ys) why
+HasFault-more limit bytes ys why at h = record {
   lines = h.lines;
   rest = h.rest;
   more = h.more ++ ys;
@@ -70,25 +89,25 @@ IsRefused-more limit bytes ys why at h = record {
 }
 
 -- the fault of the bytes that were read is that of the whole file
-pub Explains-whole : (limit : ℕ) (bytes ys : List ℕ) (fault : RunFault) → Explains (ys ≡ []) limit bytes fault → Explains (Unit {0}) limit (bytes ++ ys) fault
-Explains-whole limit bytes ys Read h = tt
-Explains-whole limit bytes ys FileTooLong h = IsRefused-more limit bytes ys file.TooLong tt h
-Explains-whole limit bytes ys (LineLong line) h = IsRefused-more limit bytes ys (file.LineLong line) tt h
-Explains-whole limit bytes ys (LineCut line) h =
-    (tt, subst (λ l. IsRefused limit l (file.LineCut line)) (sym (ap (λ l. bytes ++ l) h.0 ∙ append-nil bytes)) h.1)
-Explains-whole limit bytes ys (BadLine line) h = IsRefused-more limit bytes ys (file.BadLine line) tt h
-Explains-whole limit bytes ys (Ragged bits) h = absurd h
-Explains-whole limit bytes ys (NoSuchCharacter at) h = absurd h
-Explains-whole limit bytes ys (Write written) h = absurd h
-Explains-whole limit bytes ys (Memory error) h = tt
+pub ExplainsReading-whole : (limit : ℕ) (bytes ys : List ℕ) (fault : RunFault) → ExplainsReading (ys ≡ []) limit bytes fault → ExplainsReading (Unit {0}) limit (bytes ++ ys) fault
+ExplainsReading-whole limit bytes ys Read h = tt
+ExplainsReading-whole limit bytes ys FileTooLong h = HasFault-more limit bytes ys file.TooLong tt h
+ExplainsReading-whole limit bytes ys (LineLong line) h = HasFault-more limit bytes ys (file.LineLong line) tt h
+ExplainsReading-whole limit bytes ys (LineCut line) h =
+    (tt, subst (λ l. HasFault limit l (file.LineCut line)) (sym (ap (λ l. bytes ++ l) h.0 ∙ append-nil bytes)) h.1)
+ExplainsReading-whole limit bytes ys (BadLine line) h = HasFault-more limit bytes ys (file.BadLine line) tt h
+ExplainsReading-whole limit bytes ys (Ragged bits) h = absurd h
+ExplainsReading-whole limit bytes ys (NoSuchCharacter at) h = absurd h
+ExplainsReading-whole limit bytes ys (Write written) h = absurd h
+ExplainsReading-whole limit bytes ys (Memory error) h = tt
 
 -- the same, where the reader's bytes may be unknown
-pub Explains-file : (old new : Option (List ℕ)) (limit : ℕ) (bytes : List ℕ) (fault : RunFault) → Consumes old new bytes
-    → Explains (IsAtEnd new) limit bytes fault → IfSome old (λ xs. Explains (Unit {0}) limit xs fault)
-Explains-file None new limit bytes fault consumed h = tt
-Explains-file (Some xs) None limit bytes fault consumed h = absurd consumed
-Explains-file (Some xs) (Some ys) limit bytes fault consumed h =
-    subst (λ l. Explains (Unit {0}) limit l fault) (sym consumed) (Explains-whole limit bytes ys fault h)
+pub ExplainsReading-file : (old new : Option (List ℕ)) (limit : ℕ) (bytes : List ℕ) (fault : RunFault) → Consumes old new bytes
+    → ExplainsReading (IsAtEnd new) limit bytes fault → IfSome old (λ xs. ExplainsReading (Unit {0}) limit xs fault)
+ExplainsReading-file None new limit bytes fault consumed h = tt
+ExplainsReading-file (Some xs) None limit bytes fault consumed h = absurd consumed
+ExplainsReading-file (Some xs) (Some ys) limit bytes fault consumed h =
+    subst (λ l. ExplainsReading (Unit {0}) limit l fault) (sym consumed) (ExplainsReading-whole limit bytes ys fault h)
 
 -- and where the file was read to its end
 pub IsBitFile-file : (old new : Option (List ℕ)) (limit : ℕ) (bytes : List ℕ) (bits : List Bool) → Consumes old new bytes → IsAtEnd new
@@ -131,15 +150,22 @@ IfSome-map None P Q f h = tt
 IfSome-map (Some xs) P Q f h = f xs h
 
 -- a fault that stands in the bytes, whatever comes after them
-pub Explains-piece : (AtEnd : Type 0) (limit : ℕ) (bytes : List ℕ) (fault : RunFault) → ((more : List ℕ) → Explains ⊥ limit (bytes ++ more) fault) → Explains AtEnd limit bytes fault
-Explains-piece AtEnd limit bytes fault h =
-    Explains-weaker ⊥ AtEnd limit bytes fault (λ x. absurd x) (subst (λ l. Explains ⊥ limit l fault) (append-nil bytes) (h []))
+pub ExplainsReading-piece : (AtEnd : Type 0) (limit : ℕ) (bytes : List ℕ) (fault : RunFault) → ((more : List ℕ) → ExplainsReading ⊥ limit (bytes ++ more) fault) → ExplainsReading AtEnd limit bytes fault
+ExplainsReading-piece AtEnd limit bytes fault h =
+    ExplainsReading-weaker ⊥ AtEnd limit bytes fault (λ x. absurd x) (subst (λ l. ExplainsReading ⊥ limit l fault) (append-nil bytes) (h []))
 
--- a read of no byte at the end
-pub Consumes-end : (a b c : Option (List ℕ)) (bytes buf : List ℕ) (count : ℕ) → Consumes a b bytes → Consumes b c (take count buf) → count ≡ 0 → Consumes a c bytes
-Consumes-end a b c bytes buf count first second none =
-    let nothing : Consumes b c [] = subst (λ n. Consumes b c (take n buf)) none second in
-    subst (Consumes a c) (append-nil bytes) (Consumes-trans a b c bytes [] first nothing)
+-- a longer front of the file
+pub IfSome-longer : (old new : Option (List ℕ)) (bytes : List ℕ) (limit : ℕ) → Consumes old new bytes → limit < length bytes → IfSome old (λ xs. limit < length xs)
+IfSome-longer None new bytes limit consumed h = tt
+IfSome-longer (Some xs) None bytes limit consumed h = absurd consumed
+IfSome-longer (Some xs) (Some ys) bytes limit consumed h = omega (arith, h, ap length consumed, length-append bytes ys)
+
+-- a fault of the file is no failed read
+pub run_fault-not_read : {T : Type 0} (why : LineFault) → ◌≡◌ {A = Result T RunFault} (Err (run_fault why)) (Err Read) → ⊥
+run_fault-not_read file.TooLong e = cc
+run_fault-not_read (file.LineLong line) e = cc
+run_fault-not_read (file.LineCut line) e = cc
+run_fault-not_read (file.BadLine line) e = cc
 
 -- one error, at two results
 pub Err-same : {T U E : Type 0} (e f : E) → ◌≡◌ {A = Result T E} (Err e) (Err f) → ◌≡◌ {A = Result U E} (Err e) (Err f)

@@ -12,10 +12,10 @@ use Rattle.nx_code.specs.Word.{elements, elements_from, number_of}
 use Rattle.nx_code.specs.Reading.{Reception, combination, idle, lost, text}
 use Rattle.nx_code.proofs.WordLemmas.{value_of-le, number_of-elements, elements-number_of}
 use Rattle.nx_fec.specs.declared.positions.Position.TheVariants.{Phasing, Traffic, End}
-use Rattle.nx_fec.specs.Pairing.{traffic, idle_signal, nothing, counted, pairing}
+use Rattle.nx_fec.specs.Pairing.{traffic, idle_signal, nothing, counts_as, pairing}
 use Rattle.nx_fec.specs.Aligned.{word_in, words_of, taken_at, receptions, aligned_text}
-use Rattle.nx_fec.specs.Emission.{SentPosition, meaning, phasing_position, traffic_position, end_position, dx_word, rx_word, phasing_1, phasing_2, position_at, emission, IsEmission, bits_of, AreWords, AreCombinations, IsInCode, AreInCode, reception, framed}
-use Rattle.nx_fec.proofs.PairingLemmas.{counted-words, counted-combination}
+use Rattle.nx_fec.specs.Emission.{SentPosition, sent_position, phasing_position, traffic_position, end_position, dx_word, rx_word, phasing_1, phasing_2, position_at, emission, IsEmission, bits_of, AreWords, AreCombinations, IsInCode, AreInCode, reception, framed_positions}
+use Rattle.nx_fec.proofs.PairingLemmas.{counts_as-words, counts_as-combination}
 use Rattle.nx_fec.proofs.AlignedLemmas.{length-words_of, get_or-words_of, five_before-early, five_before-late, taken_at-pairing}
 use Rattle.nx_fec.proofs.EmissionLemmas.{phasing_1-words, phasing_2-words, IsEmission-emission, AreWords-emission}
 
@@ -100,11 +100,11 @@ AreWords-words_of bits slot h =
     subst (λ w. w < 128) (sym (get_or-words_of bits slot (omega arith))) (number_of-lt (take 7 (drop (7 * slot) bits)) 7 (omega (arith, length-take 7 (drop (7 * slot) bits))))
 
 -- the words of a position count as what is taken of it
-counted-phasing_1 : counted phasing_1 ≡ idle_signal
-counted-phasing_1 = ap counted (sym phasing_1-words) ∙ counted-words 32 (omega arith)
+counts_as-phasing_1 : counts_as phasing_1 ≡ idle_signal
+counts_as-phasing_1 = ap counts_as (sym phasing_1-words) ∙ counts_as-words 32 (omega arith)
 
-counted-phasing_2 : counted phasing_2 ≡ idle_signal
-counted-phasing_2 = ap counted (sym phasing_2-words) ∙ counted-words 34 (omega arith)
+counts_as-phasing_2 : counts_as phasing_2 ≡ idle_signal
+counts_as-phasing_2 = ap counts_as (sym phasing_2-words) ∙ counts_as-words 34 (omega arith)
 
 eqb-refl : (n : ℕ) → eqb n n ≡ true
 eqb-refl n = eq-eqb n n refl
@@ -112,29 +112,29 @@ eqb-refl n = eq-eqb n n refl
 pairing-same : (number : ℕ) → pairing (traffic number) (traffic number) ≡ combination number
 pairing-same number = ap (λ b. cond b (combination number) lost) (eqb-refl number)
 
-pairing-sent : (position : SentPosition) → IsInCode position → pairing (counted (dx_word position)) (counted (rx_word position)) ≡ reception position
-pairing-sent phasing_position h = ap (λ c. pairing c (counted phasing_1)) counted-phasing_2 ∙ ap (pairing idle_signal) counted-phasing_1
+pairing-sent : (position : SentPosition) → IsInCode position → pairing (counts_as (dx_word position)) (counts_as (rx_word position)) ≡ reception position
+pairing-sent phasing_position h = ap (λ c. pairing c (counts_as phasing_1)) counts_as-phasing_2 ∙ ap (pairing idle_signal) counts_as-phasing_1
 pairing-sent (traffic_position number) h =
-    let e = counted-combination number h.0 h.1 in
+    let e = counts_as-combination number h.0 h.1 in
     ap (λ c. pairing c c) e ∙ pairing-same number
-pairing-sent end_position h = ap (λ c. pairing c c) counted-phasing_1
+pairing-sent end_position h = ap (λ c. pairing c c) counts_as-phasing_1
 
 -- what is taken of an emission's slots
 taken_at-early : (sent : List ℕ) (n : ℕ) → n < 2 → get_or sent (2 * n + 1) 0 ≡ phasing_1 → taken_at sent (2 * n + 1) ≡ idle
 taken_at-early sent n h p =
     taken_at-pairing sent n
-    ∙ ap (λ c. pairing c (counted (get_or sent (2 * n + 1) 0))) (five_before-early sent (2 * n + 1) (omega arith))
-    ∙ ap (λ w. pairing nothing (counted w)) p
-    ∙ ap (pairing nothing) counted-phasing_1
+    ∙ ap (λ c. pairing c (counts_as (get_or sent (2 * n + 1) 0))) (five_before-early sent (2 * n + 1) (omega arith))
+    ∙ ap (λ w. pairing nothing (counts_as w)) p
+    ∙ ap (pairing nothing) counts_as-phasing_1
 
 taken_at-late : (positions : List SentPosition) (sent : List ℕ) (i : ℕ) → IsEmission positions sent → AreInCode positions → i + 3 < length positions → taken_at sent (2 * (i + 2) + 1) ≡ reception (position_at positions i)
 taken_at-late positions sent i e code h =
     let slot : 2 * (i + 2) + 1 ≡ 2 * i + 5 = omega arith in
     let five : 2 * (i + 2) + 1 - 5 ≡ 2 * i = omega arith in
     taken_at-pairing sent (i + 2)
-    ∙ ap (λ c. pairing c (counted (get_or sent (2 * (i + 2) + 1) 0))) (five_before-late sent (2 * (i + 2) + 1) (omega arith) ∙ ap (λ k. counted (get_or sent k 0)) five ∙ ap counted (e.dx i (omega arith)))
-    ∙ ap (λ k. pairing (counted (dx_word (position_at positions i))) (counted (get_or sent k 0))) slot
-    ∙ ap (λ w. pairing (counted (dx_word (position_at positions i))) (counted w)) (e.rx i (omega arith))
+    ∙ ap (λ c. pairing c (counts_as (get_or sent (2 * (i + 2) + 1) 0))) (five_before-late sent (2 * (i + 2) + 1) (omega arith) ∙ ap (λ k. counts_as (get_or sent k 0)) five ∙ ap counts_as (e.dx i (omega arith)))
+    ∙ ap (λ k. pairing (counts_as (dx_word (position_at positions i))) (counts_as (get_or sent k 0))) slot
+    ∙ ap (λ w. pairing (counts_as (dx_word (position_at positions i))) (counts_as w)) (e.rx i (omega arith))
     ∙ pairing-sent (position_at positions i) (code i (omega arith))
 
 -- the positions that are taken of an emission
@@ -166,9 +166,9 @@ receptions-IsEmission positions sent e code h =
     ∙ sym (fill_by_all (λ i. taken_at sent (2 * i + 1)) (expected positions) (length positions - 1) idle (omega arith) (λ k lt. at-expected positions sent k e code h lt))
 
 -- combinations that are sent alone
-length-framed : (numbers : List ℕ) → length (framed numbers) ≡ length numbers + 7
-unfolding framed
-length-framed numbers = simp (length-append, length-map) (omega arith)
+length-framed_positions : (numbers : List ℕ) → length (framed_positions numbers) ≡ length numbers + 7
+unfolding framed_positions
+length-framed_positions numbers = simp (length-append, length-map) (omega arith)
 
 code-traffic : (numbers : List ℕ) → AreCombinations numbers → (i : ℕ) → i < length numbers → IsInCode (position_at (map traffic_position numbers ++ replicate 3 end_position) i)
 code-traffic [] h i lt = absurd (omega arith)
@@ -183,34 +183,34 @@ code-rest [] h (suc (suc (suc i))) = tt
 code-rest (number ∷ numbers) h zero = h 0 (omega arith)
 code-rest (number ∷ numbers) h (suc i) = code-rest numbers (λ j k. h (suc j) (omega arith)) i
 
-AreInCode-framed : (numbers : List ℕ) → AreCombinations numbers → AreInCode (framed numbers)
-unfolding framed
-AreInCode-framed numbers h zero lt = tt
-AreInCode-framed numbers h (suc zero) lt = tt
-AreInCode-framed numbers h (suc (suc zero)) lt = tt
-AreInCode-framed numbers h (suc (suc (suc zero))) lt = tt
-AreInCode-framed numbers h (suc (suc (suc (suc i)))) lt = code-rest numbers h i
+AreInCode-framed_positions : (numbers : List ℕ) → AreCombinations numbers → AreInCode (framed_positions numbers)
+unfolding framed_positions
+AreInCode-framed_positions numbers h zero lt = tt
+AreInCode-framed_positions numbers h (suc zero) lt = tt
+AreInCode-framed_positions numbers h (suc (suc zero)) lt = tt
+AreInCode-framed_positions numbers h (suc (suc (suc zero))) lt = tt
+AreInCode-framed_positions numbers h (suc (suc (suc (suc i)))) lt = code-rest numbers h i
 
-take-framed : (numbers : List ℕ) → take (length (framed numbers) - 3) (framed numbers) ≡ replicate 4 phasing_position ++ map traffic_position numbers
-unfolding framed
-take-framed numbers =
+take-framed_positions : (numbers : List ℕ) → take (length (framed_positions numbers) - 3) (framed_positions numbers) ≡ replicate 4 phasing_position ++ map traffic_position numbers
+unfolding framed_positions
+take-framed_positions numbers =
     let front = replicate 4 phasing_position ++ map traffic_position numbers in
-    let n : length front ≡ length (framed numbers) - 3 = simp (length-append, length-map) (omega (arith, length-framed numbers)) in
-    take_at front (replicate 3 end_position) (length (framed numbers) - 3) n
+    let n : length front ≡ length (framed_positions numbers) - 3 = simp (length-append, length-map) (omega (arith, length-framed_positions numbers)) in
+    take_at front (replicate 3 end_position) (length (framed_positions numbers) - 3) n
 
 map-reception : (numbers : List ℕ) → map reception (map traffic_position numbers) ≡ map (λ n. combination n) numbers
 map-reception [] = refl
 map-reception (number ∷ numbers) = ap (λ l. combination number ∷ l) (map-reception numbers)
 
 -- the text of the emission of combinations that are sent alone
-pub aligned_text-framed : (numbers : List ℕ) → AreCombinations numbers → aligned_text (words_of (bits_of (emission (framed numbers)))) ≡ text (map (λ n. combination n) numbers) Letters
-aligned_text-framed numbers h =
-    let n = length-framed numbers in
-    let words = words_of-bits_of (emission (framed numbers)) (AreWords-emission (framed numbers)) in
-    let taken = receptions-IsEmission (framed numbers) (emission (framed numbers)) (IsEmission-emission (framed numbers)) (AreInCode-framed numbers h) (omega arith) in
+pub aligned_text-framed_positions : (numbers : List ℕ) → AreCombinations numbers → aligned_text (words_of (bits_of (emission (framed_positions numbers)))) ≡ text (map (λ n. combination n) numbers) Letters
+aligned_text-framed_positions numbers h =
+    let n = length-framed_positions numbers in
+    let words = words_of-bits_of (emission (framed_positions numbers)) (AreWords-emission (framed_positions numbers)) in
+    let taken = receptions-IsEmission (framed_positions numbers) (emission (framed_positions numbers)) (IsEmission-emission (framed_positions numbers)) (AreInCode-framed_positions numbers h) (omega arith) in
     ap aligned_text words
     ∙ ap (λ l. text l Letters) taken
-    ∙ ap (λ l. text (idle ∷ idle ∷ map reception l) Letters) (take-framed numbers)
+    ∙ ap (λ l. text (idle ∷ idle ∷ map reception l) Letters) (take-framed_positions numbers)
     ∙ ap (λ l. text l Letters) (map-reception numbers)
 
 -- combinations of the code are combinations
@@ -219,14 +219,14 @@ AreCombinations-numbers [] i lt = absurd (omega arith)
 AreCombinations-numbers (comb ∷ combs) zero lt = (comb.from_one, comb.to_thirty_two)
 AreCombinations-numbers (comb ∷ combs) (suc i) lt = AreCombinations-numbers combs i (omega arith)
 
-meaning-traffic : (combs : List Comb) → map meaning (map (λ (comb : Comb). Traffic comb) combs) ≡ map traffic_position (map (λ (comb : Comb). comb.number) combs)
-meaning-traffic [] = refl
-meaning-traffic (comb ∷ combs) = ap (λ l. traffic_position comb.number ∷ l) (meaning-traffic combs)
+sent_position-traffic : (combs : List Comb) → map sent_position (map (λ (comb : Comb). Traffic comb) combs) ≡ map traffic_position (map (λ (comb : Comb). comb.number) combs)
+sent_position-traffic [] = refl
+sent_position-traffic (comb ∷ combs) = ap (λ l. traffic_position comb.number ∷ l) (sent_position-traffic combs)
 
 -- the positions by which the code sends combinations alone
-pub meaning-framed : (combs : List Comb) → map meaning (replicate 4 Phasing ++ map (λ (comb : Comb). Traffic comb) combs ++ replicate 3 End) ≡ framed (map (λ (comb : Comb). comb.number) combs)
-unfolding framed
-meaning-framed combs =
+pub sent_position-framed_positions : (combs : List Comb) → map sent_position (replicate 4 Phasing ++ map (λ (comb : Comb). Traffic comb) combs ++ replicate 3 End) ≡ framed_positions (map (λ (comb : Comb). comb.number) combs)
+unfolding framed_positions
+sent_position-framed_positions combs =
     let front = replicate 4 Phasing ++ map (λ (comb : Comb). Traffic comb) combs in
-    map-append meaning front (replicate 3 End)
-    ∙ ap (λ l. phasing_position ∷ phasing_position ∷ phasing_position ∷ phasing_position ∷ l ++ replicate 3 end_position) (meaning-traffic combs)
+    map-append sent_position front (replicate 3 End)
+    ∙ ap (λ l. phasing_position ∷ phasing_position ∷ phasing_position ∷ phasing_position ∷ l ++ replicate 3 end_position) (sent_position-traffic combs)

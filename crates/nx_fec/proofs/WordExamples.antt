@@ -3,43 +3,43 @@ use Rattle.std.proofs.Common.{◌≡◌, ℕ, refl, List, [], ◌∷◌, codes}
 use Rattle.nx_code.specs.Word.{elements, elements_from, number_of}
 use Rattle.nx_code.specs.Table.{table, words, place_of}
 use Rattle.nx_code.specs.Reading.{combination, idle, lost, printed}
-use Rattle.nx_fec.specs.Pairing.{counted, pairing}
+use Rattle.nx_fec.specs.Pairing.{counts_as, pairing}
 use Rattle.nx_fec.specs.Aligned.{word_in, words_of, taken_at, receptions, aligned_text}
-use Rattle.nx_fec.specs.Emission.{word_sent, emission, bits_of, framed}
+use Rattle.nx_fec.specs.Emission.{word_sent, emission, bits_of, framed_positions}
 
 -- A and A, A and a wrong weight, a wrong weight and A are A
-pub same-taken : pairing (counted 0x47) (counted 0x47) ≡ combination 1
-unfolding counted place_of words table
+pub same-taken : pairing (counts_as 0x47) (counts_as 0x47) ≡ combination 1
+unfolding counts_as place_of words table
 same-taken = refl
 
-pub dx-taken : pairing (counted 0x47) (counted 0x46) ≡ combination 1
-unfolding counted place_of words table
+pub dx-taken : pairing (counts_as 0x47) (counts_as 0x46) ≡ combination 1
+unfolding counts_as place_of words table
 dx-taken = refl
 
-pub rx-taken : pairing (counted 0x46) (counted 0x47) ≡ combination 1
-unfolding counted place_of words table
+pub rx-taken : pairing (counts_as 0x46) (counts_as 0x47) ≡ combination 1
+unfolding counts_as place_of words table
 rx-taken = refl
 
 -- two wrong weights, A and B, A and idle alpha are lost
-pub wrong-lost : pairing (counted 0x46) (counted 0x46) ≡ lost
-unfolding counted place_of words table
+pub wrong-lost : pairing (counts_as 0x46) (counts_as 0x46) ≡ lost
+unfolding counts_as place_of words table
 wrong-lost = refl
 
-pub other-lost : pairing (counted 0x47) (counted 0x72) ≡ lost
-unfolding counted place_of words table
+pub other-lost : pairing (counts_as 0x47) (counts_as 0x72) ≡ lost
+unfolding counts_as place_of words table
 other-lost = refl
 
-pub idle-lost : pairing (counted 0x47) (counted 0x0F) ≡ lost
-unfolding counted place_of words table
+pub idle-lost : pairing (counts_as 0x47) (counts_as 0x0F) ≡ lost
+unfolding counts_as place_of words table
 idle-lost = refl
 
 -- signal repetition and idle alpha, idle beta and a wrong weight are idle
-pub phasing-idle : pairing (counted 0x66) (counted 0x0F) ≡ idle
-unfolding counted place_of words table
+pub phasing-idle : pairing (counts_as 0x66) (counts_as 0x0F) ≡ idle
+unfolding counts_as place_of words table
 phasing-idle = refl
 
-pub beta-idle : pairing (counted 0x33) (counted 0x46) ≡ idle
-unfolding counted place_of words table
+pub beta-idle : pairing (counts_as 0x33) (counts_as 0x46) ≡ idle
+unfolding counts_as place_of words table
 beta-idle = refl
 
 -- the words of the text A
@@ -47,12 +47,12 @@ abbrev pub words_of_a : List ℕ
 words_of_a =
     0x66 ∷ 0x0F ∷ 0x66 ∷ 0x0F ∷ 0x66 ∷ 0x0F ∷ 0x66 ∷ 0x0F ∷ 0x47 ∷ 0x0F ∷ 0x0F ∷ 0x0F ∷ 0x0F ∷ 0x47 ∷ 0x0F ∷ []
 
-pub emission-a : emission (framed (1 ∷ [])) ≡ words_of_a
-unfolding emission word_sent framed words table
+pub emission-a : emission (framed_positions (1 ∷ [])) ≡ words_of_a
+unfolding emission word_sent framed_positions words table
 emission-a = refl
 
 pub aligned_text-a : aligned_text words_of_a ≡ codes "A"
-unfolding receptions taken_at counted place_of printed words table
+unfolding receptions taken_at counts_as place_of printed words table
 aligned_text-a = refl
 
 -- their elements, from the first
@@ -62,18 +62,18 @@ bits_of-a = refl
 
 -- A with its DX word lost, with both lost, and with another RX word
 pub dx-damaged-a : aligned_text (0x66 ∷ 0x0F ∷ 0x66 ∷ 0x0F ∷ 0x66 ∷ 0x0F ∷ 0x66 ∷ 0x0F ∷ 0x46 ∷ 0x0F ∷ 0x0F ∷ 0x0F ∷ 0x0F ∷ 0x47 ∷ 0x0F ∷ []) ≡ codes "A"
-unfolding receptions taken_at counted place_of printed words table
+unfolding receptions taken_at counts_as place_of printed words table
 dx-damaged-a = refl
 
 pub both-damaged-a : aligned_text (0x66 ∷ 0x0F ∷ 0x66 ∷ 0x0F ∷ 0x66 ∷ 0x0F ∷ 0x66 ∷ 0x0F ∷ 0x46 ∷ 0x0F ∷ 0x0F ∷ 0x0F ∷ 0x0F ∷ 0x46 ∷ 0x0F ∷ []) ≡ codes "*"
-unfolding receptions taken_at counted place_of printed words table
+unfolding receptions taken_at counts_as place_of printed words table
 both-damaged-a = refl
 
 pub other-rx-a : aligned_text (0x66 ∷ 0x0F ∷ 0x66 ∷ 0x0F ∷ 0x66 ∷ 0x0F ∷ 0x66 ∷ 0x0F ∷ 0x47 ∷ 0x0F ∷ 0x0F ∷ 0x0F ∷ 0x0F ∷ 0x72 ∷ 0x0F ∷ []) ≡ codes "*"
-unfolding receptions taken_at counted place_of printed words table
+unfolding receptions taken_at counts_as place_of printed words table
 other-rx-a = refl
 
 -- the empty text has 13 words, of which nothing is printed
-pub emission-empty : emission (framed []) ≡ 0x66 ∷ 0x0F ∷ 0x66 ∷ 0x0F ∷ 0x66 ∷ 0x0F ∷ 0x66 ∷ 0x0F ∷ 0x0F ∷ 0x0F ∷ 0x0F ∷ 0x0F ∷ 0x0F ∷ []
-unfolding emission word_sent framed words table
+pub emission-empty : emission (framed_positions []) ≡ 0x66 ∷ 0x0F ∷ 0x66 ∷ 0x0F ∷ 0x66 ∷ 0x0F ∷ 0x66 ∷ 0x0F ∷ 0x0F ∷ 0x0F ∷ 0x0F ∷ 0x0F ∷ 0x0F ∷ []
+unfolding emission word_sent framed_positions words table
 emission-empty = refl

@@ -9,9 +9,9 @@ use Rattle.std.proofs.lemmas.List.{take_rest, length-append, take-append-drop, t
 use Rattle.std.proofs.lemmas.List.Concat.{flat_map-append}
 use Rattle.std.proofs.lemmas.List.FromFn.{map-range_with_len_more, take-map-range_with_len}
 use Rattle.nx_fec.specs.AirFile.{Line, elements}
-use Rattle.nx_fec.specs.Lines.{ended, file_of}
+use Rattle.nx_fec.specs.Lines.{line_bytes, file_of}
 use Rattle.nx_fec.specs.BitLines.{bit_line, bit_lines}
-use Rattle.nx_fec.specs.Devices.{WroteSome}
+use Rattle.nx_fec.specs.Devices.{HasWritten, WroteSome}
 
 -- the next bytes of a list, after those up to an index
 pub Appends-next : (a b c : Option (List ℕ)) (bytes : List ℕ) (at count : ℕ) → Appends a b (take at bytes)
@@ -27,12 +27,11 @@ first_lines bits n = map (bit_line bits) (range_with_len 0 n)
 -- what was written so far, and what is gathered, are the first lines
 pub record Batched (old now : Option (List ℕ)) (bits : List Bool) (index sent : ℕ) (batch : List ℕ) : Type 0 where
   pub done : List ℕ
-  pub appended : Appends old now done
-  pub counted : sent ≡ min (length done) (2 ^ 64 - 1)
+  pub written : HasWritten old now done sent
   pub bytes : done ++ batch ≡ file_of (first_lines bits index)
 
-file_of-push : (lines : List Line) (line : Line) → file_of (lines ++ line ∷ []) ≡ file_of lines ++ ended line
-file_of-push lines line = flat_map-append ended lines (line ∷ []) ∙ ap (λ l. file_of lines ++ l) (append-nil (ended line))
+file_of-push : (lines : List Line) (line : Line) → file_of (lines ++ line ∷ []) ≡ file_of lines ++ line_bytes line
+file_of-push lines line = flat_map-append line_bytes lines (line ∷ []) ∙ ap (λ l. file_of lines ++ l) (append-nil (line_bytes line))
 
 -- the elements of a line, as the code takes them
 pub line-is : (bits : List Bool) (i : ℕ) → let rest = take (length bits - 490 * i) (drop (490 * i) bits) in
@@ -43,24 +42,22 @@ line-is bits i =
 
 -- one more line
 pub Batched-more : (old now : Option (List ℕ)) (bits : List Bool) (index sent : ℕ) (batch more : List ℕ) (line : Line) → Batched old now bits index sent batch
-    → more ≡ batch ++ ended line → line ≡ bit_line bits index → Batched old now bits (index + 1) sent more
+    → more ≡ batch ++ line_bytes line → line ≡ bit_line bits index → Batched old now bits (index + 1) sent more
 Batched-more old now bits index sent batch more line h added same = record {
   done = h.done;
-  appended = h.appended;
-  counted = h.counted;
-  bytes = ap (λ l. h.done ++ l) added ∙ sym (append_assoc h.done batch (ended line)) ∙ ap (λ l. l ++ ended line) h.bytes
-      ∙ ap (λ x. file_of (first_lines bits index) ++ ended x) same
+  written = h.written;
+  bytes = ap (λ l. h.done ++ l) added ∙ sym (append_assoc h.done batch (line_bytes line)) ∙ ap (λ l. l ++ line_bytes line) h.bytes
+      ∙ ap (λ x. file_of (first_lines bits index) ++ line_bytes x) same
       ∙ sym (file_of-push (first_lines bits index) (bit_line bits index))
       ∙ sym (ap file_of (map-range_with_len_more (bit_line bits) 0 index index (omega arith)));
 }
 
 -- the batch is written
-pub Batched-sent : (old now next : Option (List ℕ)) (bits : List Bool) (index sent count : ℕ) (batch piece : List ℕ) → Batched old now bits index sent batch
-    → piece ≡ batch → Appends now next piece → count ≡ min (sent + length piece) (2 ^ 64 - 1) → Batched old next bits index count []
-Batched-sent old now next bits index sent count batch piece h same wrote counted = record {
+pub Batched-sent : (old now next : Option (List ℕ)) (bits : List Bool) (index sent count : ℕ) (batch piece : List ℕ) (h : Batched old now bits index sent batch)
+    → piece ≡ batch → HasWritten old next (h.done ++ piece) count → Batched old next bits index count []
+Batched-sent old now next bits index sent count batch piece h same wrote = record {
   done = h.done ++ batch;
-  appended = Appends-trans old now next h.done batch h.appended (subst (Appends now next) same wrote);
-  counted = omega (arith, h.counted, counted, ap length same, length-append h.done batch);
+  written = subst (λ l. HasWritten old next (h.done ++ l) count) same wrote;
   bytes = append-nil (h.done ++ batch) ∙ h.bytes;
 }
 
@@ -71,37 +68,47 @@ file_of-front bits index within =
     let count = div_ceil (length bits) 490 in
     let rest = drop index (bit_lines bits) in (
       file_of rest,
-      ap file_of (sym (take-append-drop index (bit_lines bits))) ∙ flat_map-append ended (take index (bit_lines bits)) rest
+      ap file_of (sym (take-append-drop index (bit_lines bits))) ∙ flat_map-append line_bytes (take index (bit_lines bits)) rest
           ∙ ap (λ l. file_of l ++ file_of rest) (take-map-range_with_len (bit_line bits) 0 count index within),
     )
 
+-- bytes that were written, and then some that were written in part
+pub WroteSome-after : (a b c : Option (List ℕ)) (xs ys : List ℕ) (written : ℕ) → Appends a b xs → WroteSome b c ys written
+    → WroteSome a c (xs ++ ys) (min (length xs + written) (2 ^ 64 - 1))
+WroteSome-after a b c xs ys written before part = record {
+  taken = length xs + part.taken;
+  fewer = omega (arith, part.fewer, length-append xs ys);
+  counted = omega (arith, part.counted);
+  appended = subst (Appends a c) (sym (take-append-add xs ys part.taken)) (Appends-trans a b c xs (take part.taken ys) before part.appended);
+}
+
+-- bytes that were written in part, and more that were to follow
+pub WroteSome-front : (old new : Option (List ℕ)) (xs ys : List ℕ) (written : ℕ) → WroteSome old new xs written → WroteSome old new (xs ++ ys) written
+WroteSome-front old new xs ys written part = record {
+  taken = part.taken;
+  fewer = omega (arith, part.fewer, length-append xs ys);
+  counted = part.counted;
+  appended = subst (Appends old new) (sym (take-append-le part.taken xs ys (omega (arith, part.fewer)))) part.appended;
+}
+
 -- the batch is written in part
-pub Batched-failed : (old now next : Option (List ℕ)) (bits : List Bool) (index sent written total : ℕ) (batch piece : List ℕ) → Batched old now bits index sent batch
-    → index ≤ div_ceil (length bits) 490 → piece ≡ batch → WroteSome now next piece written → total ≡ min (sent + written) (2 ^ 64 - 1) → WroteSome old next (file_of (bit_lines bits)) total
-Batched-failed old now next bits index sent written total batch piece h within same part counted =
-    let wrote : WroteSome now next batch written = subst (λ l. WroteSome now next l written) same part in
+pub Batched-failed : (old now next : Option (List ℕ)) (bits : List Bool) (index sent written : ℕ) (batch piece : List ℕ) (h : Batched old now bits index sent batch)
+    → index ≤ div_ceil (length bits) 490 → piece ≡ batch → WroteSome old next (h.done ++ piece) written → WroteSome old next (file_of (bit_lines bits)) written
+Batched-failed old now next bits index sent written batch piece h within same part =
     let front = file_of-front bits index within in
-    let all : file_of (bit_lines bits) ≡ h.done ++ (batch ++ front.0) = front.1 ∙ ap (λ l. l ++ front.0) (sym h.bytes) ∙ append_assoc h.done batch front.0 in
-    let first : take (length h.done + wrote.taken) (file_of (bit_lines bits)) ≡ h.done ++ take wrote.taken batch =
-    ap (take (length h.done + wrote.taken)) all ∙ take-append-add h.done (batch ++ front.0) wrote.taken
-    ∙ ap (λ l. h.done ++ l) (take-append-le wrote.taken batch front.0 (omega (arith, wrote.fewer))) in
-    record {
-      taken = length h.done + wrote.taken;
-      fewer = omega (arith, wrote.fewer, ap length all, length-append h.done (batch ++ front.0), length-append batch front.0);
-      counted = omega (arith, h.counted, wrote.counted, counted);
-      appended = subst (Appends old next) (sym first) (Appends-trans old now next h.done (take wrote.taken batch) h.appended wrote.appended);
-    }
+    let all : (h.done ++ piece) ++ front.0 ≡ file_of (bit_lines bits) = ap (λ l. (h.done ++ l) ++ front.0) same ∙ ap (λ l. l ++ front.0) h.bytes ∙ sym front.1 in
+    subst (λ l. WroteSome old next l written) all (WroteSome-front old next (h.done ++ piece) front.0 written part)
 
 -- all lines are written
-pub Batched-all : (old now next : Option (List ℕ)) (bits : List Bool) (index sent : ℕ) (batch : List ℕ) → Batched old now bits index sent batch
-    → index ≡ div_ceil (length bits) 490 → Appends now next batch → Appends old next (file_of (bit_lines bits))
-Batched-all old now next bits index sent batch h whole wrote =
-    subst (Appends old next) (h.bytes ∙ ap (λ n. file_of (first_lines bits n)) whole) (Appends-trans old now next h.done batch h.appended wrote)
+pub Batched-all : (old now next : Option (List ℕ)) (bits : List Bool) (index sent count : ℕ) (batch piece : List ℕ) (h : Batched old now bits index sent batch)
+    → index ≡ div_ceil (length bits) 490 → piece ≡ batch → HasWritten old next (h.done ++ piece) count → Appends old next (file_of (bit_lines bits))
+Batched-all old now next bits index sent count batch piece h whole same wrote =
+    subst (Appends old next) (ap (λ l. h.done ++ l) same ∙ h.bytes ∙ ap (λ n. file_of (first_lines bits n)) whole) wrote.appended
 
 -- one more line, as the code takes its elements
 pub Batched-line : (old now : Option (List ℕ)) (bits : List Bool) (index sent : ℕ) (batch more : List ℕ) (count : ℕ) → Batched old now bits index sent batch
     → count ≡ min 490 (length (take (length bits - 490 * index) (drop (490 * index) bits)))
-    → more ≡ batch ++ ended (elements (take count (take (length bits - 490 * index) (drop (490 * index) bits)))) → Batched old now bits (index + 1) sent more
+    → more ≡ batch ++ line_bytes (elements (take count (take (length bits - 490 * index) (drop (490 * index) bits)))) → Batched old now bits (index + 1) sent more
 Batched-line old now bits index sent batch more count h is added =
     let rest = take (length bits - 490 * index) (drop (490 * index) bits) in
     Batched-more old now bits index sent batch more (elements (take count rest)) h added

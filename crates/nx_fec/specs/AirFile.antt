@@ -41,10 +41,10 @@ IsLine (refuse_subject letter) = IsCapital letter
 IsLine (accept_subject letter) = IsCapital letter
 
 -- what a line of the code says
-abbrev pub meaning : AirLine → Line
-meaning (Moment n) = moment n
-meaning (Bits bits) = elements bits.items
-meaning (RefuseStation letter) = refuse_station letter
-meaning (AcceptStation letter) = accept_station letter
-meaning (RefuseSubject letter) = refuse_subject letter
-meaning (AcceptSubject letter) = accept_subject letter
+abbrev pub line_of : AirLine → Line
+line_of (Moment n) = moment n
+line_of (Bits bits) = elements bits.items
+line_of (RefuseStation letter) = refuse_station letter
+line_of (AcceptStation letter) = accept_station letter
+line_of (RefuseSubject letter) = refuse_subject letter
+line_of (AcceptSubject letter) = accept_subject letter

@@ -6,7 +6,7 @@ use Rattle.nx_code.specs.Reading.{Reception, text}
 use Rattle.nx_code.specs.declared.shifts.Shift.TheVariants.{Letters}
 use Rattle.nx_fec.specs.declared.aligned.AlignedFault.{AlignedFault}
 use Rattle.nx_fec.specs.declared.aligned.AlignedFault.TheVariants.{Ragged, Memory}
-use Rattle.nx_fec.specs.Pairing.{Counted, nothing, counted, pairing}
+use Rattle.nx_fec.specs.Pairing.{Counted, nothing, counts_as, pairing}
 
 -- word k of the elements: those from 7k to 7k+6
 unfoldable pub word_in : List Bool → ℕ → ℕ
@@ -18,11 +18,11 @@ words_of bits = map (word_in bits) (range_with_len 0 (length bits / 7))
 
 -- what the word five slots before counts as, where the words begin at slot 0: before that none was seen
 abbrev pub five_before : List ℕ → ℕ → Counted
-five_before words slot = if nat_lt slot 5 then nothing else counted (slice_index words (slot - 5))
+five_before words slot = if nat_lt slot 5 then nothing else counts_as (slice_index words (slot - 5))
 
 -- what is taken at an RX slot: its word is paired with the one five slots before it
 unfoldable pub taken_at : List ℕ → ℕ → Reception
-taken_at words slot = pairing (five_before words slot) (counted (slice_index words slot))
+taken_at words slot = pairing (five_before words slot) (counts_as (slice_index words slot))
 
 -- what is taken at the RX slots 1, 3, 5 and so on, in order
 unfoldable pub receptions : List ℕ → List Reception
@@ -33,6 +33,6 @@ abbrev pub aligned_text : List ℕ → List ℕ
 aligned_text words = text (receptions words) Letters
 
 -- elements are refused for their number where they are no whole words
-abbrev pub IsRefused : List Bool → AlignedFault → Type 0
-IsRefused bits (Ragged given) = (given ≡ length bits) × (length bits % 7 ≢ 0)
-IsRefused bits (Memory _) = length bits % 7 ≡ 0
+abbrev pub ExplainsAligned : List Bool → AlignedFault → Type 0
+ExplainsAligned bits (Ragged given) = (given ≡ length bits) × (length bits % 7 ≢ 0)
+ExplainsAligned bits (Memory _) = length bits % 7 ≡ 0

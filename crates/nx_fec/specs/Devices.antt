@@ -27,3 +27,8 @@ pub record WroteSome (old new : Option (List ℕ)) (bytes : List ℕ) (written :
   pub fewer : taken < length bytes
   pub counted : written ≡ min taken (2 ^ 64 - 1)
   pub appended : Appends old new (take taken bytes)
+
+-- These bytes were written, and `count` counts them, at most to the greatest number of 64 bits.
+pub record HasWritten (old new : Option (List ℕ)) (bytes : List ℕ) (count : ℕ) : Type 0 where
+  pub counted : count ≡ min (length bytes) (2 ^ 64 - 1)
+  pub appended : Appends old new bytes

@@ -14,10 +14,10 @@ pub data SentPosition : Type 0 where
   end_position : SentPosition
 
 -- the position that the code sends
-abbrev pub meaning : Position → SentPosition
-meaning Phasing = phasing_position
-meaning (Traffic comb) = traffic_position comb.number
-meaning End = end_position
+abbrev pub sent_position : Position → SentPosition
+sent_position Phasing = phasing_position
+sent_position (Traffic comb) = traffic_position comb.number
+sent_position End = end_position
 
 -- the words of phasing signal 1 (P1) and phasing signal 2 (P2)
 abbrev pub phasing_1 : ℕ
@@ -91,5 +91,5 @@ reception (traffic_position number) = combination number
 reception end_position = idle
 
 -- the positions by which combinations are sent alone: four of phasing, the combinations, three of the end
-unfoldable pub framed : List ℕ → List SentPosition
-framed numbers = replicate 4 phasing_position ++ map traffic_position numbers ++ replicate 3 end_position
+unfoldable pub framed_positions : List ℕ → List SentPosition
+framed_positions numbers = replicate 4 phasing_position ++ map traffic_position numbers ++ replicate 3 end_position

@@ -6,3 +6,4 @@ pub mod Emission
 pub mod Lines
 pub mod Pairing
 pub mod Runs
+pub mod Transfers

@@ -6,24 +6,24 @@ use Rattle.nx_fec.specs.declared.fault.LineFault.{LineFault}
 use Rattle.nx_fec.specs.declared.fault.LineFault.TheVariants.{TooLong, LineLong, LineCut, BadLine}
 
 -- the byte that ends each line
-abbrev pub line_feed : ℕ
-line_feed = 10
+abbrev pub line_end : ℕ
+line_end = 10
 
 -- the most bytes of a line before its end
 abbrev pub max_line_bytes : ℕ
 max_line_bytes = 514
 
 -- a line with its end
-abbrev pub ended : Line → List ℕ
-ended line = spelling line ++ line_feed ∷ []
+abbrev pub line_bytes : Line → List ℕ
+line_bytes line = spelling line ++ line_end ∷ []
 
 -- the file of these lines
 abbrev pub file_of : List Line → List ℕ
-file_of lines = flat_map ended lines
+file_of lines = flat_map line_bytes lines
 
 -- the beginning of a line that isn't ended: no line feed, and no more bytes than a line may have
 pub record IsBeginning (rest : List ℕ) : Type 0 where
-  pub none : AllByRecursion (λ byte. byte ≢ line_feed) rest
+  pub none : AllByRecursion (λ byte. byte ≢ line_end) rest
   pub short : length rest ≤ max_line_bytes
 
 -- the bytes are these lines, and then the beginning of one more
@@ -42,14 +42,14 @@ IsCause limit front lines rest [] (LineCut line) = (front ≤ limit) × (0 < len
 IsCause limit front lines rest [] (BadLine line) = ⊥
 IsCause limit front lines rest (byte ∷ more) TooLong = front ≡ limit
 IsCause limit front lines rest (byte ∷ more) (LineLong line) =
-    (front < limit) × (byte ≢ line_feed) × (length rest ≡ max_line_bytes) × (line ≡ length lines + 1)
+    (front < limit) × (byte ≢ line_end) × (length rest ≡ max_line_bytes) × (line ≡ length lines + 1)
 IsCause limit front lines rest (byte ∷ more) (LineCut line) = ⊥
 IsCause limit front lines rest (byte ∷ more) (BadLine line) =
-    (front < limit) × (byte ≡ line_feed) × ((other : Line) → IsLine other → rest ≢ spelling other) × (line ≡ length lines + 1)
+    (front < limit) × (byte ≡ line_end) × ((other : Line) → IsLine other → rest ≢ spelling other) × (line ≡ length lines + 1)
 
 -- The file of these bytes has this fault. Good lines and the beginning of one more stand before it, so it is the
 -- earliest; any bytes may come after it.
-pub record IsRefused (limit : ℕ) (bytes : List ℕ) (why : LineFault) : Type 0 where
+pub record HasFault (limit : ℕ) (bytes : List ℕ) (why : LineFault) : Type 0 where
   pub lines : List Line
   pub rest : List ℕ
   pub more : List ℕ

@@ -16,19 +16,19 @@ pub data Counted : Type 0 where
   nothing : Counted
 
 -- the first 32 rows of the table are the combinations, and the others the service signals
-abbrev pub counted_at : Option ℕ → Counted
-counted_at (Some place) = if nat_lt place 32 then traffic (place + 1) else idle_signal
-counted_at None = nothing
+abbrev pub counts_at : Option ℕ → Counted
+counts_at (Some place) = if nat_lt place 32 then traffic (place + 1) else idle_signal
+counts_at None = nothing
 
 -- what a word counts as, by its number; a word that isn't in the table has a wrong weight
-unfoldable pub counted : ℕ → Counted
-counted word = counted_at (place_of word)
+unfoldable pub counts_as : ℕ → Counted
+counts_as word = counts_at (place_of word)
 
 -- what is taken where one word alone counts
-abbrev pub alone : Counted → Option Reception
-alone (traffic n) = Some (combination n)
-alone idle_signal = Some idle
-alone nothing = None
+abbrev pub reception_alone : Counted → Option Reception
+reception_alone (traffic n) = Some (combination n)
+reception_alone idle_signal = Some idle
+reception_alone nothing = None
 
 -- what is taken of a DX and an RX: where they count alike, or only one of them counts, that, and else nothing
 abbrev pub pairing : Counted → Counted → Reception
@@ -52,12 +52,12 @@ abbrev pub IsLatest : List Counted → List Counted → Type 0
 IsLatest latest words = latest ≡ drop (length words - 3) words
 
 -- what arrived of a word counts as the word does
-abbrev pub meaning : Heard → Counted
-meaning (Intact (Traffic comb)) = traffic comb.number
-meaning (Intact Alpha) = idle_signal
-meaning (Intact Beta) = idle_signal
-meaning (Intact Repeat) = idle_signal
-meaning Wrong = nothing
+abbrev pub heard_as : Heard → Counted
+heard_as (Intact (Traffic comb)) = traffic comb.number
+heard_as (Intact Alpha) = idle_signal
+heard_as (Intact Beta) = idle_signal
+heard_as (Intact Repeat) = idle_signal
+heard_as Wrong = nothing
 
 -- this is what arrived of a word: the signal that it stands for, or none
 abbrev pub IsHeardOf : Heard → ℕ → Type 0

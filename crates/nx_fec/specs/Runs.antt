@@ -3,13 +3,14 @@ use Rattle.std.specs.Prelude.{◌≡◌, ◌≢◌, ℕ, ◌%◌, ◌<◌, ◌�
 use Rattle.std.specs.Io.KnownBytes.{Appends}
 use Rattle.std.specs.List.{flat_map}
 use Rattle.nx_fec.specs.AirFile.{Line}
-use Rattle.nx_fec.specs.Lines.{IsRefused, IsBitFile, file_of, Scanning, Scans, elements_of}
+use Rattle.nx_fec.specs.Lines.{HasFault, IsBitFile, file_of, Scanning, Scans, elements_of}
 use Rattle.nx_fec.specs.Aligned.{aligned_text, words_of}
 use Rattle.nx_fec.specs.Devices.{WroteSome}
+use Rattle.nx_fec.specs.Transfers.{Devices, IsReadOut, Transfers, at_the_end}
 use Rattle.nx_fec.specs.declared.fault.LineFault.{LineFault}
 use Rattle.nx_fec.specs.declared.fault.LineFault.TheVariants as file
 use Rattle.nx_fec.specs.BitLines.{bit_lines}
-use Rattle.nx_fec.specs.Emission.{bits_of, emission, framed}
+use Rattle.nx_fec.specs.Emission.{bits_of, emission, framed_positions}
 use Rattle.nx_code.specs.Characters.{is_in_code}
 use Rattle.nx_code.specs.Spelling.{Spells}
 use Rattle.nx_code.specs.declared.shifts.Shift.TheVariants.{Letters}
@@ -17,6 +18,8 @@ use Rattle.nx_code.specs.declared.spelling.SpellFault.{SpellFault}
 use Rattle.nx_code.specs.declared.spelling.SpellFault.TheVariants as spelling
 use Rattle.nx_fec.specs.declared.aligned.AlignedFault.{AlignedFault}
 use Rattle.nx_fec.specs.declared.aligned.AlignedFault.TheVariants as words
+use Rattle.nx_fec.specs.declared.fault.ReadFault.{ReadFault}
+use Rattle.nx_fec.specs.declared.fault.ReadFault.TheVariants as read
 use Rattle.nx_fec.specs.declared.fault.RunFault.{RunFault}
 use Rattle.nx_fec.specs.declared.fault.RunFault.TheVariants.{Read, FileTooLong, LineLong, LineCut, BadLine, Ragged, NoSuchCharacter, Write, Memory}
 
@@ -31,35 +34,38 @@ run_fault (file.LineLong line) = LineLong line
 run_fault (file.LineCut line) = LineCut line
 run_fault (file.BadLine line) = BadLine line
 
+-- the fault of a run that stands for the fault of reading a file whole
+abbrev pub whole_fault : ReadFault → RunFault
+whole_fault read.Read = Read
+whole_fault read.FileTooLong = FileTooLong
+whole_fault (read.Memory error) = Memory error
+
 -- the fault of a run that stands for the fault of its words
 abbrev pub aligned_fault : AlignedFault → RunFault
 aligned_fault (words.Ragged bits) = Ragged bits
 aligned_fault (words.Memory error) = Memory error
 
+-- the fault of a run that stands for the fault of a spelling
+abbrev pub spell_fault : SpellFault → RunFault
+spell_fault (spelling.NoSuchCharacter at) = NoSuchCharacter at
+spell_fault (spelling.Memory error) = Memory error
+
 -- What a fault of reading elements says of the bytes that were read: a fault of the file is theirs, and at the end of
 -- the file `AtEnd` holds. A read that failed and a want of memory say nothing of them, and there are no other faults.
-abbrev pub Explains : Type 0 → ℕ → List ℕ → RunFault → Type 0
-Explains AtEnd limit bytes Read = ⊤
-Explains AtEnd limit bytes FileTooLong = IsRefused limit bytes file.TooLong
-Explains AtEnd limit bytes (LineLong line) = IsRefused limit bytes (file.LineLong line)
-Explains AtEnd limit bytes (LineCut line) = AtEnd × IsRefused limit bytes (file.LineCut line)
-Explains AtEnd limit bytes (BadLine line) = IsRefused limit bytes (file.BadLine line)
-Explains AtEnd limit bytes (Ragged bits) = ⊥
-Explains AtEnd limit bytes (NoSuchCharacter at) = ⊥
-Explains AtEnd limit bytes (Write written) = ⊥
-Explains AtEnd limit bytes (Memory error) = ⊤
+abbrev pub ExplainsReading : Type 0 → ℕ → List ℕ → RunFault → Type 0
+ExplainsReading AtEnd limit bytes Read = ⊤
+ExplainsReading AtEnd limit bytes (Memory error) = ⊤
+ExplainsReading AtEnd limit bytes FileTooLong = HasFault limit bytes file.TooLong
+ExplainsReading AtEnd limit bytes (LineLong line) = HasFault limit bytes (file.LineLong line)
+ExplainsReading AtEnd limit bytes (LineCut line) = AtEnd × HasFault limit bytes (file.LineCut line)
+ExplainsReading AtEnd limit bytes (BadLine line) = HasFault limit bytes (file.BadLine line)
+ExplainsReading AtEnd limit bytes _ = ⊥
 
 -- the fault is of the reader or of memory, and says nothing of the file
 abbrev pub IsOutside : RunFault → Type 0
 IsOutside Read = ⊤
-IsOutside FileTooLong = ⊥
-IsOutside (LineLong line) = ⊥
-IsOutside (LineCut line) = ⊥
-IsOutside (BadLine line) = ⊥
-IsOutside (Ragged bits) = ⊥
-IsOutside (NoSuchCharacter at) = ⊥
-IsOutside (Write written) = ⊥
 IsOutside (Memory error) = ⊤
+IsOutside _ = ⊥
 
 -- the scanner stands so after these bytes, and the elements are those of the lines that they ended
 pub record HasRead (limit : ℕ) (scanner : Scanning) (bits : List Bool) (bytes : List ℕ) : Type 0 where
@@ -81,7 +87,7 @@ ExplainsDecoding AtEnd limit bytes old new (Ragged given) =
     AtEnd × (bits : List Bool) × IsBitFile limit bytes bits × (given ≡ length bits) × (length bits % 7 ≢ 0)
 ExplainsDecoding AtEnd limit bytes old new (Write written) =
     AtEnd × (text : List ℕ) × IsDecoded limit bytes text × WroteSome old new text written
-ExplainsDecoding AtEnd limit bytes old new fault = Explains AtEnd limit bytes fault
+ExplainsDecoding AtEnd limit bytes old new fault = ExplainsReading AtEnd limit bytes fault
 
 -- what decoding answers of these bytes: the count of the bytes of the text, which was written, or a fault
 abbrev pub AnswersDecoding : Type 0 → ℕ → List ℕ → Option (List ℕ) → Option (List ℕ) → Result ℕ RunFault → Type 0
@@ -89,54 +95,50 @@ AnswersDecoding AtEnd limit bytes old new (Ok count) =
     AtEnd × (text : List ℕ) × IsDecoded limit bytes text × Appends old new text × (count ≡ length text)
 AnswersDecoding AtEnd limit bytes old new (Err fault) = ExplainsDecoding AtEnd limit bytes old new fault
 
--- the fault is one of writing
-abbrev pub IsWriting : RunFault → Type 0
-IsWriting Read = ⊥
-IsWriting FileTooLong = ⊥
-IsWriting (LineLong line) = ⊥
-IsWriting (LineCut line) = ⊥
-IsWriting (BadLine line) = ⊥
-IsWriting (Ragged bits) = ⊥
-IsWriting (NoSuchCharacter at) = ⊥
-IsWriting (Write written) = ⊤
-IsWriting (Memory error) = ⊥
+-- A run that decodes: it answers so to the bytes that it read, and to the whole file, however it came; and it writes
+-- nothing before all else succeeded.
+abbrev pub Decodes : {R W : Type 0} → Devices R W → Result ℕ RunFault → Type 0
+Decodes d outcome =
+    Transfers Read (λ written. Write written) at_the_end d outcome
+    (λ bytes. AnswersDecoding (IsReadOut d) file_limit bytes (d.contents d.writer.inner) (d.contents d.writer_after.inner) outcome)
+    (λ bytes. AnswersDecoding (Unit {0}) file_limit bytes (d.contents d.writer.inner) (d.contents d.writer_after.inner) outcome)
 
 -- what a fault of reading a text whole says of its bytes: it is too long, or the reader or memory failed
-abbrev pub ExplainsWhole : ℕ → List ℕ → RunFault → Type 0
-ExplainsWhole limit bytes Read = ⊤
-ExplainsWhole limit bytes FileTooLong = limit < length bytes
-ExplainsWhole limit bytes (LineLong line) = ⊥
-ExplainsWhole limit bytes (LineCut line) = ⊥
-ExplainsWhole limit bytes (BadLine line) = ⊥
-ExplainsWhole limit bytes (Ragged bits) = ⊥
-ExplainsWhole limit bytes (NoSuchCharacter at) = ⊥
-ExplainsWhole limit bytes (Write written) = ⊥
-ExplainsWhole limit bytes (Memory error) = ⊤
-
--- the fault of a run that stands for the fault of a spelling
-abbrev pub spell_fault : SpellFault → RunFault
-spell_fault (spelling.NoSuchCharacter at) = NoSuchCharacter at
-spell_fault (spelling.Memory error) = Memory error
+abbrev pub ExplainsWhole : ℕ → List ℕ → ReadFault → Type 0
+ExplainsWhole limit bytes read.Read = ⊤
+ExplainsWhole limit bytes read.FileTooLong = limit < length bytes
+ExplainsWhole limit bytes (read.Memory error) = ⊤
 
 -- The file that a text is encoded as, and how many positions it has: the text is spelled from letters, with four
 -- positions of phasing before it and three of the end after it, and the bits of their emission stand in lines.
 pub record IsEncoded (text file : List ℕ) (positions : ℕ) : Type 0 where
   pub numbers : List ℕ
   pub spells : Spells text Letters numbers
-  pub written : file ≡ file_of (bit_lines (bits_of (emission (framed numbers))))
-  pub count : positions ≡ length (framed numbers)
+  pub written : file ≡ file_of (bit_lines (bits_of (emission (framed_positions numbers))))
+  pub count : positions ≡ length (framed_positions numbers)
 
--- What a fault of encoding says: the text has a character that isn't in the code, the first at this index, or its file
--- was written in part. Each other fault is one of reading a text whole.
+-- What a fault of encoding says: the text is too long, or it has a character that isn't in the code, the first at this
+-- index, or its file was written in part; or the reader or memory failed.
 abbrev pub ExplainsEncoding : Type 0 → ℕ → List ℕ → Option (List ℕ) → Option (List ℕ) → RunFault → Type 0
+ExplainsEncoding AtEnd limit bytes old new Read = ⊤
+ExplainsEncoding AtEnd limit bytes old new (Memory error) = ⊤
+ExplainsEncoding AtEnd limit bytes old new FileTooLong = limit < length bytes
 ExplainsEncoding AtEnd limit bytes old new (NoSuchCharacter at) =
     AtEnd × (length bytes ≤ limit) × (position (λ byte. not (is_in_code byte)) bytes ≡ Some at)
 ExplainsEncoding AtEnd limit bytes old new (Write written) =
     AtEnd × (length bytes ≤ limit) × (file : List ℕ) × (positions : ℕ) × IsEncoded bytes file positions × WroteSome old new file written
-ExplainsEncoding AtEnd limit bytes old new fault = ExplainsWhole limit bytes fault
+ExplainsEncoding AtEnd limit bytes old new _ = ⊥
 
 -- what encoding answers to a text: the count of its positions, whose file was written, or a fault
 abbrev pub AnswersEncoding : Type 0 → ℕ → List ℕ → Option (List ℕ) → Option (List ℕ) → Result ℕ RunFault → Type 0
 AnswersEncoding AtEnd limit bytes old new (Ok positions) =
     AtEnd × (length bytes ≤ limit) × (file : List ℕ) × IsEncoded bytes file positions × Appends old new file
 AnswersEncoding AtEnd limit bytes old new (Err fault) = ExplainsEncoding AtEnd limit bytes old new fault
+
+-- A run that encodes: it answers so to the bytes that it read, and to the whole text, however it came; and it writes
+-- nothing before all else succeeded.
+abbrev pub Encodes : {R W : Type 0} → Devices R W → Result ℕ RunFault → Type 0
+Encodes d outcome =
+    Transfers Read (λ written. Write written) at_the_end d outcome
+    (λ bytes. AnswersEncoding (IsReadOut d) file_limit bytes (d.contents d.writer.inner) (d.contents d.writer_after.inner) outcome)
+    (λ bytes. AnswersEncoding (Unit {0}) file_limit bytes (d.contents d.writer.inner) (d.contents d.writer_after.inner) outcome)

@@ -1,7 +1,7 @@
 //! The lines of an air file, which carries what a receiver hears: moments, elements and commands of selection.
 ghost use Rattle.std.specs.Prelude.{◌≡◌, ◌≢◌, ◌<◌, ◌≤◌, ◌^◌, ℕ, Bool, List, ◌++◌, length, map, IfSome, IfNone, MatchOption, [], ◌∷◌};
 ghost use Rattle.std.specs.Fmt.{decimal};
-ghost use Rattle.nx_fec.specs.AirFile.{Line, IsLine, IsCapital, spelling, meaning, element_digit};
+ghost use Rattle.nx_fec.specs.AirFile.{Line, IsLine, IsCapital, spelling, line_of, element_digit};
 
 use arrayvec::ArrayVec;
 
@@ -30,7 +30,7 @@ pub enum AirLine {
 
 /// Reads a line, given without its line feed. None where it is no line of an air file.
 pub fn air_line(line: &[u8]) -> Option<AirLine>
-    ensures found { IfSome result (λ found. IsLine (meaning found) × (line.now ≡ spelling (meaning found))) }
+    ensures found { IfSome result (λ found. IsLine (line_of found) × (line.now ≡ spelling (line_of found))) }
     ensures none { IfNone result ((value : Line) → IsLine value → line.now ≢ spelling value) }
 {
     if let Some(rest) = after(line, b"T ") {

@@ -3,7 +3,7 @@ ghost use Rattle.std.specs.Prelude.{◌≡◌, ◌≤◌, ℕ, Bool, List, lengt
 ghost use Rattle.nx_fec.specs.BitLines.{bit_lines};
 ghost use Rattle.nx_fec.specs.Runs.{IsEncoded, IsDecoded};
 ghost use Rattle.nx_fec.specs.AirFile.{Line, IsLine, spelling};
-ghost use Rattle.nx_fec.specs.Lines.{IsAtByte, file_of, Splits, IsRefused, IsAirFile, IsBitFile};
+ghost use Rattle.nx_fec.specs.Lines.{IsAtByte, file_of, Splits, HasFault, IsAirFile, IsBitFile};
 ghost use Rattle.nx_fec.specs.declared.fault.LineFault.{LineFault};
 
 /// Each line has a spelling of its own.
@@ -18,11 +18,11 @@ pub fn one_reading()
 
 /// A file has one outcome: one fault, or no fault and one list of elements.
 pub fn one_outcome()
-    ensures fault { (limit : ℕ) (bytes : List ℕ) (a b : LineFault) → IsRefused limit bytes a → IsRefused limit bytes b → a ≡ b }
-    ensures lines { (limit : ℕ) (bytes : List ℕ) (lines : List Line) (why : LineFault) → IsAirFile limit bytes lines → IsRefused limit bytes why → ⊥ }
+    ensures fault { (limit : ℕ) (bytes : List ℕ) (a b : LineFault) → HasFault limit bytes a → HasFault limit bytes b → a ≡ b }
+    ensures lines { (limit : ℕ) (bytes : List ℕ) (lines : List Line) (why : LineFault) → IsAirFile limit bytes lines → HasFault limit bytes why → ⊥ }
     // What stands before a fault has none at a byte of its own: so the fault is the one at the earliest byte.
     ensures earliest { (limit : ℕ) (front : List ℕ) (lines : List Line) (rest : List ℕ) (why : LineFault) → Splits front lines rest
-        → length front ≤ limit → IsAtByte why → IsRefused limit front why → ⊥ }
+        → length front ≤ limit → IsAtByte why → HasFault limit front why → ⊥ }
     ensures elements { (limit : ℕ) (bytes : List ℕ) (a b : List Bool) → IsBitFile limit bytes a → IsBitFile limit bytes b → a ≡ b }
 {}
 

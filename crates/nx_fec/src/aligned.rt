@@ -1,7 +1,7 @@
 //! Decoding of words that stand in their slots from slot 0 on.
 
 ghost use Rattle.std.specs.Prelude.{◌≡◌, ◌≢◌, ◌+◌, ◌*◌, ◌%◌, ◌≤◌, length, IfOk, IfErr, OnOk};
-ghost use Rattle.nx_fec.specs.Aligned.{IsRefused, aligned_text, word_in, words_of};
+ghost use Rattle.nx_fec.specs.Aligned.{ExplainsAligned, aligned_text, word_in, words_of};
 
 use crate::diversity::{Diversity, Heard};
 use nx_code::{ELEMENTS, Printer, Word};
@@ -39,7 +39,7 @@ fn word_in(bits: &[bool], slot: usize) -> Word
 pub fn decode_aligned(alloc: Global, bits: &[bool]) -> Result<Vec<u8>, AlignedFault>
     ensures text { IfOk result (λ text. text.items ≡ aligned_text (words_of bits.now)) }
     ensures whole { OnOk result (length bits.now % 7 ≡ 0) }
-    ensures refused { IfErr result (IsRefused bits.now) }
+    ensures refused { IfErr result (ExplainsAligned bits.now) }
 {
     if bits.len() % ELEMENTS != 0 {
         return Err(AlignedFault::Ragged {

@@ -3,7 +3,7 @@
 ghost use Rattle.std.specs.Prelude.{◌≡◌, [], ◌∷◌, ◌++◌, List, length, drop, ◌-◌, IfSome, option_map};
 ghost use Rattle.nx_code.specs.Taken.{meaning as taken_meaning};
 ghost use Rattle.nx_fec.specs.declared.diversity.Heard.TheVariants.{Wrong};
-ghost use Rattle.nx_fec.specs.Pairing.{Counted, IsHeardOf, IsLatest, alone, counted, meaning, pairing, third_last};
+ghost use Rattle.nx_fec.specs.Pairing.{Counted, IsHeardOf, IsLatest, reception_alone, counts_as, heard_as, pairing, third_last};
 
 use arrayvec::ArrayVec;
 use nx_code::{Signal, Taken, Word, signal_of};
@@ -31,7 +31,7 @@ impl Heard {
     /// What arrived of this word: the signal that it stands for, or a wrong weight.
     pub fn of(word: Word) -> Heard
         ensures heard { IsHeardOf result word }
-        ensures counts { meaning result ≡ counted word }
+        ensures counts { heard_as result ≡ counts_as word }
     {
         match signal_of(word) {
             Some(signal) => Heard::Intact(signal),
@@ -40,8 +40,8 @@ impl Heard {
     }
 
     /// What is taken where this word alone counts.
-    fn alone(self) -> Option<Taken>
-        ensures { option_map taken_meaning result ≡ alone (meaning self) }
+    fn reception_alone(self) -> Option<Taken>
+        ensures { option_map taken_meaning result ≡ reception_alone (heard_as self) }
     {
         match self {
             Heard::Intact(Signal::Traffic(comb)) => Some(Taken::Char(comb)),
@@ -53,9 +53,9 @@ impl Heard {
 
 /// Takes a position from its two words: what both count as, or the only one that counts; all else is lost.
 pub fn combine(dx: Heard, rx: Heard) -> Taken
-    ensures { taken_meaning result ≡ pairing (meaning dx) (meaning rx) }
+    ensures { taken_meaning result ≡ pairing (heard_as dx) (heard_as rx) }
 {
-    match (dx.alone(), rx.alone()) {
+    match (dx.reception_alone(), rx.reception_alone()) {
         (Some(first), Some(second)) => { if first == second { first } else { Taken::Lost } }
         (Some(taken), None) | (None, Some(taken)) => taken,
         (None, None) => Taken::Lost,
@@ -73,11 +73,11 @@ pub struct Diversity {
 
 impl Model for Diversity {
     ghost use Rattle.std.specs.Prelude.{List, map};
-    ghost use Rattle.nx_fec.specs.Pairing.{Counted, meaning};
+    ghost use Rattle.nx_fec.specs.Pairing.{Counted, heard_as};
 
     ghost Value = { List Counted };
 
-    ghost view = { λ diversity. map meaning diversity.latest.items };
+    ghost view = { λ diversity. map heard_as diversity.latest.items };
 }
 
 impl Diversity {
@@ -92,10 +92,10 @@ impl Diversity {
 
     /// Takes the next DX word.
     pub fn dx(&mut self, heard: Heard)
-        ensures latest { IsLatest self.new (self.old ++ meaning heard ∷ []) }
+        ensures latest { IsLatest self.new (self.old ++ heard_as heard ∷ []) }
 
         // The value keeps the latest three of the DX words so far, whichever they are.
-        ensures stands { (words : List Counted) → IsLatest self.old words → IsLatest self.new (words ++ meaning heard ∷ []) }
+        ensures stands { (words : List Counted) → IsLatest self.old words → IsLatest self.new (words ++ heard_as heard ∷ []) }
     {
         if self.latest.is_full() {
             self.latest.remove(0);
@@ -106,8 +106,8 @@ impl Diversity {
     /// Takes the next RX word, and answers the position that it completes: it is paired with the third last
     /// DX word that was given, or with a wrong weight where fewer than three were.
     pub fn rx(&mut self, heard: Heard) -> Taken
-        ensures paired { taken_meaning result ≡ pairing (third_last self.old) (meaning heard) }
-        ensures stands { (words : List Counted) → IsLatest self.old words → taken_meaning result ≡ pairing (third_last words) (meaning heard) }
+        ensures paired { taken_meaning result ≡ pairing (third_last self.old) (heard_as heard) }
+        ensures stands { (words : List Counted) → IsLatest self.old words → taken_meaning result ≡ pairing (third_last words) (heard_as heard) }
         ensures unchanged { self.new ≡ self.old }
     {
         let dx = if self.latest.is_full() {

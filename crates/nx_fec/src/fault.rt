@@ -49,6 +49,20 @@ pub enum RunFault {
     Memory(AllocError),
 }
 
+/// Why a file was not read whole.
+#[derive(Clone, Copy, Debug, Drop, PartialEq, Eq, Error)]
+pub enum ReadFault {
+    /// A read failed.
+    #[error("read failed")]
+    Read,
+    /// There is a byte past the limit of a file.
+    #[error("file longer than 1048576 bytes")]
+    FileTooLong,
+    /// Memory ran out.
+    #[error("out of memory")]
+    Memory(AllocError),
+}
+
 /// A write failed, after the writer took this many bytes in the call.
 #[derive(Clone, Copy, Debug, PartialEq, Eq, Error)]
 #[error("write failed after {written} bytes")]
@@ -68,6 +82,32 @@ impl From<LineFault> for RunFault {
             LineFault::LineLong { line } => RunFault::LineLong { line },
             LineFault::LineCut { line } => RunFault::LineCut { line },
             LineFault::BadLine { line } => RunFault::BadLine { line },
+        }
+    }
+}
+
+impl From<AllocError> for ReadFault {
+    ghost use Rattle.std.specs.Prelude.{◌≡◌};
+    ghost use Rattle.nx_fec.specs.declared.fault.ReadFault.TheVariants.{Memory};
+
+    ghost from_gives = { λ error made. made ≡ Memory error };
+
+    fn from(error: AllocError) -> ReadFault {
+        ReadFault::Memory(error)
+    }
+}
+
+impl From<ReadFault> for RunFault {
+    ghost use Rattle.std.specs.Prelude.{◌≡◌};
+    ghost use Rattle.nx_fec.specs.Runs.{whole_fault};
+
+    ghost from_gives = { λ fault made. made ≡ whole_fault fault };
+
+    fn from(fault: ReadFault) -> RunFault {
+        match fault {
+            ReadFault::Read => RunFault::Read,
+            ReadFault::FileTooLong => RunFault::FileTooLong,
+            ReadFault::Memory(error) => RunFault::Memory(error),
         }
     }
 }

@@ -4,7 +4,7 @@ ghost use Rattle.std.specs.Prelude.{◌≡◌, ◌-◌, ◌%◌, ◌≤◌, Bool
 ghost use Rattle.nx_code.specs.Reading.{combination, idle, text};
 ghost use Rattle.nx_code.specs.declared.shifts.Shift.TheVariants.{Letters};
 ghost use Rattle.nx_fec.specs.Aligned.{aligned_text, receptions, words_of};
-ghost use Rattle.nx_fec.specs.Emission.{AreCombinations, AreInCode, AreWords, IsEmission, SentPosition, bits_of, emission, framed, reception};
+ghost use Rattle.nx_fec.specs.Emission.{AreCombinations, AreInCode, AreWords, IsEmission, SentPosition, bits_of, emission, framed_positions, reception};
 
 /// Each list of positions has an emission, and no other.
 pub fn emissions()
@@ -31,5 +31,5 @@ pub fn receptions_of_emissions()
 /// Nothing is lost of combinations that are sent alone: the text of their emission is their text.
 pub fn decoded_emissions()
     ensures { (numbers : List ℕ) → AreCombinations numbers
-        → aligned_text (words_of (bits_of (emission (framed numbers)))) ≡ text (map combination numbers) Letters }
+        → aligned_text (words_of (bits_of (emission (framed_positions numbers)))) ≡ text (map combination numbers) Letters }
 {}

@@ -1,7 +1,7 @@
 //! Positions of an emission, and the words of its slots (M.625, collective mode B).
 
 ghost use Rattle.std.specs.Prelude.{◌≡◌, map, slice_get};
-ghost use Rattle.nx_fec.specs.Emission.{dx_word, emission, meaning, rx_word};
+ghost use Rattle.nx_fec.specs.Emission.{dx_word, emission, sent_position, rx_word};
 
 use nx_code::{Comb, Signal, Word, word_of};
 
@@ -22,7 +22,7 @@ const SPREAD: usize = 5;
 impl Position {
     /// The word that is sent first.
     fn dx(self) -> Word
-        ensures { result ≡ dx_word (meaning self) }
+        ensures { result ≡ dx_word (sent_position self) }
     {
         word_of(match self {
             Position::Phasing => Signal::Repeat,
@@ -33,7 +33,7 @@ impl Position {
 
     /// The word that is sent again.
     fn rx(self) -> Word
-        ensures { result ≡ rx_word (meaning self) }
+        ensures { result ≡ rx_word (sent_position self) }
     {
         word_of(match self {
             Position::Phasing | Position::End => Signal::Alpha,
@@ -46,7 +46,7 @@ impl Position {
 /// slot 2i and its RX word in slot 2i+5, and idle alpha in the slots 1 and 3. None past the last slot, which is
 /// that of the last DX word.
 pub fn word_at(positions: &[Position], slot: usize) -> Option<Word>
-    ensures { result ≡ slice_get (emission (map meaning positions.now)) slot }
+    ensures { result ≡ slice_get (emission (map sent_position positions.now)) slot }
 {
     if slot % 2 == 0 {
         return Some(positions.get(slot / 2)?.dx());

@@ -1,16 +1,18 @@
 //! Reading the elements of an air file from a reader.
 ghost use Rattle.std.specs.Prelude.{◌≡◌, ◌+◌, ◌-◌, ◌<◌, ◌≤◌, ◌↔◌, ℕ, List, [], ◌∷◌, ◌++◌, length, IfSome, IfOk, IfErr, OnOk, IsErrOf, IsErrAnd, MatchResult, ◌⊎◌, Bool, option_to_list, vec_len};
-ghost use Rattle.std.specs.Io.KnownBytes.{Consumes, IsAtEnd};
-ghost use Rattle.nx_fec.specs.Lines.{IsBitFile, IsRefused, elements_of};
-ghost use Rattle.nx_fec.specs.AirFile.{meaning};
+ghost use Rattle.std.specs.Io.KnownBytes.{IsAtEnd};
+ghost use Rattle.nx_fec.specs.Transfers.{Reads};
+ghost use Rattle.nx_fec.specs.Lines.{IsBitFile, HasFault, elements_of};
+ghost use Rattle.nx_fec.specs.AirFile.{line_of};
 ghost use Rattle.nx_fec.specs.declared.fault.LineFault.{LineFault};
 ghost use Rattle.std.specs.List.{flat_map};
 ghost use Rattle.std.specs.Option.{option_map};
-ghost use Rattle.nx_fec.specs.Runs.{Explains, ExplainsWhole, HasRead, IsOutside, file_limit, run_fault};
+ghost use Rattle.nx_fec.specs.Runs.{ExplainsReading, ExplainsWhole, HasRead, IsOutside, file_limit, run_fault};
 
 use crate::air_file::AirLine;
 use crate::counting::Counting;
-use crate::fault::RunFault;
+use crate::fault::{ReadFault, RunFault};
+use crate::pieces::{Piece, next_piece};
 use crate::scanner::Scanner;
 use std::alloc::{AllocError, Global};
 use std::io::Read;
@@ -27,27 +29,21 @@ const CHUNK: usize = 65_536;
 pub fn read_bits<R: Read>(alloc: Global, reader: &mut Counting<R>) -> Result<Vec<bool>, RunFault>
     requires { reader.old.failures ≡ 0 }
 
-    // Whatever the reader tells of its bytes: it gave some, and the answer is that of these.
-    ensures known { (bytes : List ℕ) × Consumes (R.remaining reader.old.inner) (R.remaining reader.new.inner) bytes
-        × MatchResult result
+    // The answer is that of the bytes that were read, and that of the whole file, however it came.
+    ensures reads { Reads R.remaining reader.old reader.new RunFault.Read result
+        (λ bytes. MatchResult result
         (λ bits. IsAtEnd (R.remaining reader.new.inner) × IsBitFile file_limit bytes bits.items)
-        (λ fault. Explains (IsAtEnd (R.remaining reader.new.inner)) file_limit bytes fault) }
-
-    // Where its bytes are known, the answer is that of the whole file, however they came.
-    ensures file { IfSome (R.remaining reader.old.inner) (λ xs. MatchResult result
-        (λ bits. IsBitFile file_limit xs bits.items)
-        (λ fault. Explains (Unit {0}) file_limit xs fault)) }
+        (λ fault. ExplainsReading (IsAtEnd (R.remaining reader.new.inner)) file_limit bytes fault))
+        (λ bytes. MatchResult result
+        (λ bits. IsBitFile file_limit bytes bits.items)
+        (λ fault. ExplainsReading (Unit {0}) file_limit bytes fault)) }
 
     // So a fault of the file is the answer, and so are the elements of a file without a fault, unless the reader or
     // memory failed.
-    ensures fault { IfSome (R.remaining reader.old.inner) (λ xs. (why : LineFault) → IsRefused file_limit xs why →
+    ensures fault { IfSome (R.remaining reader.old.inner) (λ xs. (why : LineFault) → HasFault file_limit xs why →
         IsErrAnd result (λ fault. (fault ≡ run_fault why) ⊎ IsOutside fault)) }
     ensures good { IfSome (R.remaining reader.old.inner) (λ xs. (elements : List Bool) → IsBitFile file_limit xs elements →
         MatchResult result (λ bits. bits.items ≡ elements) IsOutside) }
-
-    // A read that failed is the one that raised the count.
-    ensures failed { IsErrOf result RunFault.Read ↔ (reader.new.failures ≡ 1) }
-    ensures once { reader.new.failures ≤ 1 }
 {
     let mut space = blank(alloc, CHUNK)?;
     read_through(alloc, reader, space.as_mut_slice())
@@ -61,25 +57,22 @@ fn read_through<R: Read>(
 ) -> Result<Vec<bool>, RunFault>
     requires none { reader.old.failures ≡ 0 }
     requires room { 0 < length buffer.old }
-    ensures known { (bytes : List ℕ) × Consumes (R.remaining reader.old.inner) (R.remaining reader.new.inner) bytes
-        × MatchResult result
+    ensures { Reads R.remaining reader.old reader.new RunFault.Read result
+        (λ bytes. MatchResult result
         (λ bits. IsAtEnd (R.remaining reader.new.inner) × IsBitFile file_limit bytes bits.items)
-        (λ fault. Explains (IsAtEnd (R.remaining reader.new.inner)) file_limit bytes fault) }
-    ensures file { IfSome (R.remaining reader.old.inner) (λ xs. MatchResult result
-        (λ bits. IsBitFile file_limit xs bits.items)
-        (λ fault. Explains (Unit {0}) file_limit xs fault)) }
-    ensures failed { IsErrOf result RunFault.Read ↔ (reader.new.failures ≡ 1) }
-    ensures once { reader.new.failures ≤ 1 }
+        (λ fault. ExplainsReading (IsAtEnd (R.remaining reader.new.inner)) file_limit bytes fault))
+        (λ bytes. MatchResult result
+        (λ bits. IsBitFile file_limit bytes bits.items)
+        (λ fault. ExplainsReading (Unit {0}) file_limit bytes fault)) }
 {
     let mut scanner = Scanner::new(FILE_LIMIT);
     let mut bits = Vec::new(alloc);
     loop {
-        let Ok(count) = reader.read(buffer) else {
-            return Err(RunFault::Read);
+        let count = match next_piece(reader, buffer) {
+            Piece::Bytes(count) => count,
+            Piece::End => break,
+            Piece::Failed => return Err(RunFault::Read),
         };
-        if count == 0 {
-            break;
-        }
         scan_piece(&buffer[..count], &mut scanner, &mut bits)?;
     }
     scanner.end()?;
@@ -89,21 +82,17 @@ fn read_through<R: Read>(
 /// Reads a file whole.
 ///
 /// `Read` where a read failed, `FileTooLong` where there is a byte past the limit, and `Memory` where it ran out.
-pub fn read_whole<R: Read>(alloc: Global, reader: &mut Counting<R>) -> Result<Vec<u8>, RunFault>
+pub fn read_whole<R: Read>(alloc: Global, reader: &mut Counting<R>) -> Result<Vec<u8>, ReadFault>
     requires { reader.old.failures ≡ 0 }
 
-    // Whatever the reader tells of its bytes: it gave some, and the answer is that of these.
-    ensures known { (bytes : List ℕ) × Consumes (R.remaining reader.old.inner) (R.remaining reader.new.inner) bytes
-        × MatchResult result
+    // The answer is that of the bytes that were read, and that of the whole file, however it came.
+    ensures { Reads R.remaining reader.old reader.new ReadFault.Read result
+        (λ bytes. MatchResult result
         (λ text. IsAtEnd (R.remaining reader.new.inner) × (length bytes ≤ file_limit) × (text.items ≡ bytes))
-        (λ fault. ExplainsWhole file_limit bytes fault) }
-
-    // Where its bytes are known, the answer is that of the whole file, however they came.
-    ensures file { IfSome (R.remaining reader.old.inner) (λ xs. MatchResult result
-        (λ text. (length xs ≤ file_limit) × (text.items ≡ xs))
-        (λ fault. ExplainsWhole file_limit xs fault)) }
-    ensures failed { IsErrOf result RunFault.Read ↔ (reader.new.failures ≡ 1) }
-    ensures once { reader.new.failures ≤ 1 }
+        (λ fault. ExplainsWhole file_limit bytes fault))
+        (λ bytes. MatchResult result
+        (λ text. (length bytes ≤ file_limit) × (text.items ≡ bytes))
+        (λ fault. ExplainsWhole file_limit bytes fault)) }
 {
     let mut space = blank(alloc, CHUNK)?;
     gather(alloc, reader, space.as_mut_slice())
@@ -114,31 +103,28 @@ fn gather<R: Read>(
     alloc: Global,
     reader: &mut Counting<R>,
     buffer: &mut [u8],
-) -> Result<Vec<u8>, RunFault>
+) -> Result<Vec<u8>, ReadFault>
     requires none { reader.old.failures ≡ 0 }
     requires room { 0 < length buffer.old }
-    ensures known { (bytes : List ℕ) × Consumes (R.remaining reader.old.inner) (R.remaining reader.new.inner) bytes
-        × MatchResult result
+    ensures { Reads R.remaining reader.old reader.new ReadFault.Read result
+        (λ bytes. MatchResult result
         (λ text. IsAtEnd (R.remaining reader.new.inner) × (length bytes ≤ file_limit) × (text.items ≡ bytes))
-        (λ fault. ExplainsWhole file_limit bytes fault) }
-    ensures file { IfSome (R.remaining reader.old.inner) (λ xs. MatchResult result
-        (λ text. (length xs ≤ file_limit) × (text.items ≡ xs))
-        (λ fault. ExplainsWhole file_limit xs fault)) }
-    ensures failed { IsErrOf result RunFault.Read ↔ (reader.new.failures ≡ 1) }
-    ensures once { reader.new.failures ≤ 1 }
+        (λ fault. ExplainsWhole file_limit bytes fault))
+        (λ bytes. MatchResult result
+        (λ text. (length bytes ≤ file_limit) × (text.items ≡ bytes))
+        (λ fault. ExplainsWhole file_limit bytes fault)) }
 {
     let mut whole = Vec::new(alloc);
     loop {
-        let Ok(taken) = reader.read(buffer) else {
-            return Err(RunFault::Read);
+        let count = match next_piece(reader, buffer) {
+            Piece::Bytes(count) => count,
+            Piece::End => break,
+            Piece::Failed => return Err(ReadFault::Read),
         };
-        if taken == 0 {
-            break;
+        if count as u64 > FILE_LIMIT - whole.len() as u64 {
+            return Err(ReadFault::FileTooLong);
         }
-        if taken as u64 > FILE_LIMIT - whole.len() as u64 {
-            return Err(RunFault::FileTooLong);
-        }
-        whole.extend_from_slice(&buffer[..taken])?;
+        whole.extend_from_slice(&buffer[..count])?;
     }
     Ok(whole)
 }
@@ -154,7 +140,7 @@ fn blank(alloc: Global, length: usize) -> Result<Vec<u8>, AllocError>
 fn scan_piece(piece: &[u8], scanner: &mut Scanner, bits: &mut Vec<bool>) -> Result<(), RunFault>
     ensures read { (limit : ℕ) (bytes : List ℕ) → HasRead limit scanner.old bits.old.items bytes → MatchResult result
         (λ _. HasRead limit scanner.new bits.new.items (bytes ++ piece.now))
-        (λ fault. (more : List ℕ) → Explains ⊥ limit ((bytes ++ piece.now) ++ more) fault) }
+        (λ fault. (more : List ℕ) → ExplainsReading ⊥ limit ((bytes ++ piece.now) ++ more) fault) }
     ensures room { OnOk result (scanner.new.room + length piece.now ≡ scanner.old.room) }
     ensures no_read { IsErrOf result RunFault.Read → ⊥ }
 {
@@ -168,7 +154,7 @@ fn scan_piece(piece: &[u8], scanner: &mut Scanner, bits: &mut Vec<bool>) -> Resu
 fn scan_byte(byte: u8, scanner: &mut Scanner, bits: &mut Vec<bool>) -> Result<(), RunFault>
     ensures read { (limit : ℕ) (bytes : List ℕ) → HasRead limit scanner.old bits.old.items bytes → MatchResult result
         (λ _. HasRead limit scanner.new bits.new.items (bytes ++ byte ∷ []))
-        (λ fault. (more : List ℕ) → Explains ⊥ limit (bytes ++ byte ∷ more) fault) }
+        (λ fault. (more : List ℕ) → ExplainsReading ⊥ limit (bytes ++ byte ∷ more) fault) }
     ensures room { OnOk result (scanner.new.room + 1 ≡ scanner.old.room) }
     ensures no_read { IsErrOf result RunFault.Read → ⊥ }
 {
@@ -181,7 +167,7 @@ fn scan_byte(byte: u8, scanner: &mut Scanner, bits: &mut Vec<bool>) -> Result<()
 /// Appends the elements of a line, which only a line of elements has.
 fn append_elements(line: Option<&AirLine>, bits: &mut Vec<bool>) -> Result<(), AllocError>
     ensures { OnOk result (bits.new.items
-        ≡ bits.old.items ++ flat_map elements_of (option_to_list (option_map (λ line. meaning line.now) line.entry))) }
+        ≡ bits.old.items ++ flat_map elements_of (option_to_list (option_map (λ line. line_of line.now) line.entry))) }
 {
     if let Some(AirLine::Bits(elements)) = line {
         bits.extend_from_slice(elements)?;

@@ -1,8 +1,8 @@
 //! Whole runs: from what is read to what is written.
-ghost use Rattle.std.specs.Prelude.{◌≡◌, ◌≤◌, ◌↔◌, ℕ, List, map, IfSome, IfOk, IfErr, Err, IsErrOf};
-ghost use Rattle.nx_fec.specs.Emission.{framed, meaning};
-ghost use Rattle.std.specs.Io.KnownBytes.{Consumes, IsAtEnd};
-ghost use Rattle.nx_fec.specs.Runs.{AnswersDecoding, AnswersEncoding, IsWriting, file_limit};
+ghost use Rattle.std.specs.Prelude.{◌≡◌, map, IfOk};
+ghost use Rattle.nx_fec.specs.Emission.{framed_positions, sent_position};
+ghost use Rattle.nx_fec.specs.Runs.{Decodes, Encodes};
+ghost use Rattle.nx_fec.specs.Transfers.{devices};
 
 use crate::aligned::decode_aligned;
 use crate::counting::Counting;
@@ -28,21 +28,7 @@ pub fn decode_run<R: Read, W: Write>(
     requires reader { reader.old.failures ≡ 0 }
     requires writer { writer.old.failures ≡ 0 }
 
-    // Whatever the reader tells of its bytes: it gave some, and the answer is that of these.
-    ensures known { (bytes : List ℕ) × Consumes (R.remaining reader.old.inner) (R.remaining reader.new.inner) bytes
-        × AnswersDecoding (IsAtEnd (R.remaining reader.new.inner)) file_limit bytes
-        (W.contents writer.old.inner) (W.contents writer.new.inner) result }
-
-    // Where its bytes are known, the answer is that of the whole file, however they came.
-    ensures file { IfSome (R.remaining reader.old.inner) (λ xs. AnswersDecoding (Unit {0}) file_limit xs
-        (W.contents writer.old.inner) (W.contents writer.new.inner) result) }
-
-    // A call that failed is the one that raised its count. Before all else succeeded nothing is written.
-    ensures read_failed { IsErrOf result RunFault.Read ↔ (reader.new.failures ≡ 1) }
-    ensures read_once { reader.new.failures ≤ 1 }
-    ensures write_failed { ((written : ℕ) × (result ≡ Err (RunFault.Write written))) ↔ (writer.new.failures ≡ 1) }
-    ensures write_once { writer.new.failures ≤ 1 }
-    ensures untouched { IfErr result (λ fault. (IsWriting fault → ⊥) → writer.new ≡ writer.old) }
+    ensures { Decodes (devices R.remaining W.contents reader.old reader.new writer.old writer.new) result }
 {
     let bits = read_bits(alloc, reader)?;
     let text = decode_aligned(alloc, &bits)?;
@@ -63,21 +49,7 @@ pub fn encode_run<R: Read, W: Write>(
     requires reader { reader.old.failures ≡ 0 }
     requires writer { writer.old.failures ≡ 0 }
 
-    // Whatever the reader tells of its bytes: it gave some, and the answer is that of these.
-    ensures known { (bytes : List ℕ) × Consumes (R.remaining reader.old.inner) (R.remaining reader.new.inner) bytes
-        × AnswersEncoding (IsAtEnd (R.remaining reader.new.inner)) file_limit bytes
-        (W.contents writer.old.inner) (W.contents writer.new.inner) result }
-
-    // Where its bytes are known, the answer is that of the whole text, however they came.
-    ensures file { IfSome (R.remaining reader.old.inner) (λ xs. AnswersEncoding (Unit {0}) file_limit xs
-        (W.contents writer.old.inner) (W.contents writer.new.inner) result) }
-
-    // A call that failed is the one that raised its count. Before all else succeeded nothing is written.
-    ensures read_failed { IsErrOf result RunFault.Read ↔ (reader.new.failures ≡ 1) }
-    ensures read_once { reader.new.failures ≤ 1 }
-    ensures write_failed { ((written : ℕ) × (result ≡ Err (RunFault.Write written))) ↔ (writer.new.failures ≡ 1) }
-    ensures write_once { writer.new.failures ≤ 1 }
-    ensures untouched { IfErr result (λ fault. (IsWriting fault → ⊥) → writer.new ≡ writer.old) }
+    ensures { Encodes (devices R.remaining W.contents reader.old reader.new writer.old writer.new) result }
 {
     let text = read_whole(alloc, reader)?;
     let combs = spell(alloc, &text, Shift::Letters)?;
@@ -89,7 +61,7 @@ pub fn encode_run<R: Read, W: Write>(
 
 /// The positions by which combinations are sent alone.
 fn framed_positions(alloc: Global, combs: &[Comb]) -> Result<Vec<Position>, AllocError>
-    ensures { IfOk result (λ positions. map meaning positions.items ≡ framed (map (λ comb. comb.number) combs.now)) }
+    ensures { IfOk result (λ positions. map sent_position positions.items ≡ framed_positions (map (λ comb. comb.number) combs.now)) }
 {
     let mut positions = Vec::new(alloc);
     positions.extend_from_slice(&[Position::Phasing; 4])?;

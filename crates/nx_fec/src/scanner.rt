@@ -1,8 +1,8 @@
 //! A scanner of the lines of an air file, which takes one byte after the other.
-ghost use Rattle.std.specs.Prelude.{◌≡◌, ◌+◌, ◌-◌, ◌<◌, ◌↔◌, ℕ, List, [], ◌∷◌, ◌++◌, None, false, option_to_list, if◌then◌else◌, IsTrue, IfOk, IfErr, OnErr, IsSome, MatchResult};
+ghost use Rattle.std.specs.Prelude.{◌≡◌, ◌+◌, ◌-◌, ◌<◌, ◌↔◌, ℕ, List, [], ◌∷◌, ◌++◌, None, false, option_to_list, if◌then◌else◌, IsTrue, IfOk, IfErr, OnErr, IsSomeAnd, length, MatchResult};
 ghost use Rattle.std.specs.Option.{option_map};
-ghost use Rattle.nx_fec.specs.AirFile.{Line, meaning};
-ghost use Rattle.nx_fec.specs.Lines.{Scans, IsRefused, IsAirFile, IsAtByte};
+ghost use Rattle.nx_fec.specs.AirFile.{IsLine, Line, line_of};
+ghost use Rattle.nx_fec.specs.Lines.{Scans, IsCause, IsAirFile, IsAtByte};
 
 use crate::air_file::{AirLine, air_line};
 use crate::fault::LineFault;
@@ -27,7 +27,7 @@ pub struct Scanner {
 impl Model for Scanner {
     ghost use Rattle.std.specs.Prelude.{◌+◌, ◌^◌, ◌<◌, length};
     ghost use Rattle.std.specs.Option.{option_map};
-    ghost use Rattle.nx_fec.specs.AirFile.{meaning};
+    ghost use Rattle.nx_fec.specs.AirFile.{line_of};
     ghost use Rattle.nx_fec.specs.Lines.{Scanning};
 
     ghost Value = { Scanning };
@@ -36,7 +36,7 @@ impl Model for Scanner {
       part = s.open.items;
       lines = s.lines;
       room = s.room;
-      latest = option_map meaning s.latest;
+      latest = option_map line_of s.latest;
     } };
 
     ghost invariant = { λ s. s.lines + length s.open.items + s.room < 2 ^ 64 };
@@ -65,7 +65,7 @@ impl Scanner {
 
     /// The line that was ended last, if there is one.
     pub fn latest(&self) -> Option<&AirLine>
-        ensures { option_map (λ line. meaning line.now) result ≡ self.now.latest }
+        ensures { option_map (λ line. line_of line.now) result ≡ self.now.latest }
     {
         self.latest.as_ref()
     }
@@ -76,9 +76,9 @@ impl Scanner {
         ensures bytes { (limit : ℕ) (bytes : List ℕ) (lines : List Line) → Scans limit self.old bytes lines →
             MatchResult result
             (λ is_end. Scans limit self.new (bytes ++ byte ∷ []) (lines ++ (if is_end then option_to_list self.new.latest else [])))
-            (λ why. (more : List ℕ) → IsRefused limit (bytes ++ byte ∷ more) why) }
+            (λ why. (more : List ℕ) → IsCause limit (length bytes) lines self.old.part (byte ∷ more) why) }
         ensures at_byte { IfErr result IsAtByte }
-        ensures latest { IfOk result (λ is_end. IsTrue is_end → IsSome self.new.latest) }
+        ensures latest { IfOk result (λ is_end. IsTrue is_end → IsSomeAnd self.new.latest IsLine) }
         ensures kept { IfOk result (λ is_end. is_end ≡ false → self.new.latest ≡ self.old.latest) }
         ensures room { IfOk result (λ _. self.new.room + 1 ≡ self.old.room) }
         ensures err { OnErr result (self.new ≡ self.old) }
@@ -111,7 +111,7 @@ impl Scanner {
     /// What the end of the file says: the lines so far are all of it, or the open line is cut.
     pub fn end(&self) -> Result<(), LineFault>
         ensures { (limit : ℕ) (bytes : List ℕ) (lines : List Line) → Scans limit self.now bytes lines →
-            MatchResult result (λ _. IsAirFile limit bytes lines) (λ why. IsRefused limit bytes why) }
+            MatchResult result (λ _. IsAirFile limit bytes lines) (λ why. IsCause limit (length bytes) lines self.now.part [] why) }
     {
         if self.open.is_empty() {
             return Ok(());

@@ -1,11 +1,11 @@
 //! Writing the elements of an air file to a writer.
-ghost use Rattle.std.specs.Prelude.{◌≡◌, ◌+◌, ◌-◌, ◌^◌, ◌<◌, ◌≤◌, ◌↔◌, ℕ, List, [], ◌∷◌, ◌++◌, length, min, IfOk, IfErr, OnOk, IsErr};
+ghost use Rattle.std.specs.Prelude.{◌≡◌, ◌+◌, ◌≤◌, ◌↔◌, ℕ, List, ◌++◌, length, Option, IfErr, OnOk, IsErr, MatchResult};
 ghost use Rattle.std.specs.Io.KnownBytes.{Appends};
 ghost use Rattle.arrayvec.specs.ArrayVec.{array_vec_len};
 ghost use Rattle.nx_fec.specs.AirFile.{elements};
-ghost use Rattle.nx_fec.specs.Lines.{ended, file_of};
+ghost use Rattle.nx_fec.specs.Lines.{line_bytes, file_of};
 ghost use Rattle.nx_fec.specs.BitLines.{bit_lines};
-ghost use Rattle.nx_fec.specs.Devices.{WroteSome};
+ghost use Rattle.nx_fec.specs.Devices.{HasWritten, WroteSome};
 
 use crate::counting::Counting;
 use crate::fault::WriteFault;
@@ -58,33 +58,34 @@ pub fn write_bits<W: Write>(writer: &mut Counting<W>, bits: &[bool]) -> Result<(
     let mut sent = 0;
     for index in 0..bits.len().div_ceil(LINE_ELEMENTS) {
         if batch.remaining_capacity() < LINE_BYTES {
-            sent = write_after(writer, sent, &batch)?;
+            sent = write_on(writer, sent, &batch)?;
             batch.clear();
         }
         let rest = &bits[LINE_ELEMENTS * index..];
         push_line(&rest[..LINE_ELEMENTS.min(rest.len())], &mut batch);
     }
-    write_after(writer, sent, &batch)?;
+    write_on(writer, sent, &batch)?;
     Ok(())
 }
 
-/// Writes a batch after as many bytes as `sent` says, and counts on.
-fn write_after<W: Write>(
+/// Writes these bytes after others, of which `sent` counts how many the writer took so far. Answers the count of all,
+/// and a fault counts them too, so that the writes of a run add up.
+pub fn write_on<W: Write>(
     writer: &mut Counting<W>,
     sent: u64,
-    batch: &[u8],
+    bytes: &[u8],
 ) -> Result<u64, WriteFault>
     requires { writer.old.failures ≡ 0 }
-    ensures ok { OnOk result (Appends (W.contents writer.old.inner) (W.contents writer.new.inner) batch.now) }
-    ensures count { IfOk result (λ count. count ≡ min (sent + length batch.now) (2 ^ 64 - 1)) }
-    ensures err { IfErr result (λ fault. (written : ℕ) × (fault.written ≡ min (sent + written) (2 ^ 64 - 1))
-        × WroteSome (W.contents writer.old.inner) (W.contents writer.new.inner) batch.now written) }
+    ensures bytes { (first : Option (List ℕ)) (before : List ℕ) → HasWritten first (W.contents writer.old.inner) before sent →
+        MatchResult result
+        (λ count. HasWritten first (W.contents writer.new.inner) (before ++ bytes.now) count)
+        (λ fault. WroteSome first (W.contents writer.new.inner) (before ++ bytes.now) fault.written) }
     ensures failed { IsErr result ↔ (writer.new.failures ≡ 1) }
     ensures once { writer.new.failures ≤ 1 }
     ensures none { OnOk result (writer.new.failures ≡ 0) }
 {
-    match write_out(writer, batch) {
-        Ok(()) => Ok(sent.saturating_add(batch.len() as u64)),
+    match write_out(writer, bytes) {
+        Ok(()) => Ok(sent.saturating_add(bytes.len() as u64)),
         Err(fault) => Err(WriteFault {
             written: sent.saturating_add(fault.written),
         }),
@@ -95,7 +96,7 @@ fn write_after<W: Write>(
 fn push_line(line: &[bool], batch: &mut ArrayVec<u8, BATCH_BYTES>)
     requires short { length line.now ≤ LINE_ELEMENTS }
     requires room { array_vec_len batch.old + LINE_BYTES ≤ BATCH_BYTES }
-    ensures { batch.new.items ≡ batch.old.items ++ ended (elements line.now) }
+    ensures { batch.new.items ≡ batch.old.items ++ line_bytes (elements line.now) }
 {
     batch.push(b'B');
     batch.push(b' ');

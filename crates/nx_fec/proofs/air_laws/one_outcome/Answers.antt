@@ -1,8 +1,8 @@
-use Rattle.nx_fec.proofs.LineLaws.{IsRefused-unique, IsAirFile-good, IsBitFile-unique, Splits-good}
+use Rattle.nx_fec.proofs.LineLaws.{HasFault-unique, IsAirFile-good, IsBitFile-unique, Splits-good}
 use Rattle.nx_fec.proofs.air_laws.one_outcome.Goals as goal
 
 pub returns-clause-fault : goal.returns-clause-fault
-returns-clause-fault c = IsRefused-unique
+returns-clause-fault c = HasFault-unique
 
 pub returns-clause-lines : goal.returns-clause-lines
 returns-clause-lines c = IsAirFile-good

@@ -4,7 +4,7 @@ use Rattle.std.proofs.lemmas.Grind.{common_steps}
 use Rattle.nx_code.specs.Reading.{shift_after_all, text}
 use Rattle.nx_code.specs.Taken.{meaning as taken_meaning}
 use Rattle.nx_code.specs.declared.shifts.Shift.TheVariants.{Letters}
-use Rattle.nx_fec.specs.Pairing.{IsLatest, counted, pairing, meaning}
+use Rattle.nx_fec.specs.Pairing.{IsLatest, counts_as, pairing, heard_as}
 use Rattle.nx_fec.specs.Aligned.{words_of, five_before, taken_at}
 use Rattle.nx_fec.proofs.AlignedLemmas.{dx_words, taken_first, get_or-words_of, dx_words-more, taken_first-more, third_last-dx_words, taken_first-all, taken_at-pairing}
 use Rattle.nx_fec.proofs.aligned.decode_aligned.Goals as goal
@@ -17,12 +17,12 @@ pub loop-position-preserved : goal.loop-position-preserved
 loop-position-preserved c =
     let words = words_of c.args.bits.now in
     let n = c.loop-position.position in
-    let dx : meaning c.of.result ≡ counted (slice_index words (2 * n)) = c.of.ensures.counts ∙ ap counted (c.word_in.ensures ∙ sym (get_or-words_of c.args.bits.now (2 * n) (omega arith))) in
-    let rx : meaning c.of-in-loop-position.result ≡ counted (slice_index words (2 * n + 1)) = c.of-in-loop-position.ensures.counts ∙ ap counted (c.word_in-in-loop-position.ensures ∙ sym (get_or-words_of c.args.bits.now (2 * n + 1) (omega arith))) in
-    let given : IsLatest c.dx.new.self (dx_words words (n + 1)) = subst (IsLatest c.dx.new.self) (dx_words-more words n (meaning c.of.result) dx) (c.dx.ensures.stands (dx_words words n) c.loop-position.invariant.given) in
+    let dx : heard_as c.of.result ≡ counts_as (slice_index words (2 * n)) = c.of.ensures.counts ∙ ap counts_as (c.word_in.ensures ∙ sym (get_or-words_of c.args.bits.now (2 * n) (omega arith))) in
+    let rx : heard_as c.of-in-loop-position.result ≡ counts_as (slice_index words (2 * n + 1)) = c.of-in-loop-position.ensures.counts ∙ ap counts_as (c.word_in-in-loop-position.ensures ∙ sym (get_or-words_of c.args.bits.now (2 * n + 1) (omega arith))) in
+    let given : IsLatest c.dx.new.self (dx_words words (n + 1)) = subst (IsLatest c.dx.new.self) (dx_words-more words n (heard_as c.of.result) dx) (c.dx.ensures.stands (dx_words words n) c.loop-position.invariant.given) in
     let taken : taken_meaning c.rx-taken.result ≡ taken_at words (2 * n + 1) =
     c.rx-taken.ensures.stands (dx_words words (n + 1)) given
-    ∙ ap (λ x. pairing x (meaning c.of-in-loop-position.result)) (third_last-dx_words words n)
+    ∙ ap (λ x. pairing x (heard_as c.of-in-loop-position.result)) (third_last-dx_words words n)
     ∙ ap (pairing (five_before words (2 * n + 1))) rx
     ∙ sym (taken_at-pairing words n) in
     let more = taken_first-more words n (taken_meaning c.rx-taken.result) taken in

@@ -1,5 +1,5 @@
-use Rattle.nx_fec.proofs.RoundTripLemmas.{aligned_text-framed}
+use Rattle.nx_fec.proofs.RoundTripLemmas.{aligned_text-framed_positions}
 use Rattle.nx_fec.proofs.laws.decoded_emissions.Goals as goal
 
 pub returns : goal.returns
-returns c = aligned_text-framed
+returns c = aligned_text-framed_positions

@@ -2,13 +2,14 @@ use Rattle.std.proofs.Common.{ap, ◌∙◌, ◌++◌, option_to_list}
 use Rattle.std.specs.List.{flat_map}
 use Rattle.nx_fec.specs.Lines.{elements_of}
 use Rattle.std.proofs.lemmas.Result.{err_from_is_err_and}
-use Rattle.nx_fec.proofs.ReadingLaws.{HasRead-ended, HasRead-inside, Explains-at_byte}
+use Rattle.nx_fec.proofs.ReadingLaws.{HasFault-cause, HasRead-ended, HasRead-inside, ExplainsReading-at_byte}
 use Rattle.nx_fec.proofs.reading.scan_byte.Goals as goal
 
 pub returns-in_err-push-clause-read : goal.returns-in_err-push-clause-read
 returns-in_err-push-clause-read c = λ limit bytes h.
     let p = err_from_is_err_and c.from_residual.result c.from_residual.ensures.1 in
-    rw (p.1, p.2) (λ more. Explains-at_byte limit _ c.in_err-push.field-0.0 c.in_err-push.ensures.at_byte (c.in_err-push.ensures.bytes limit bytes h.lines h.scans more))
+    rw (p.1, p.2) (λ more. ExplainsReading-at_byte limit _ c.in_err-push.field-0.0 c.in_err-push.ensures.at_byte
+    (HasFault-cause limit bytes h.lines _ _ _ h.scans.splits (c.in_err-push.ensures.bytes limit bytes h.lines h.scans more)))
 
 pub returns-in_ok-append_elements-clause-read : goal.returns-in_ok-append_elements-clause-read
 returns-in_ok-append_elements-clause-read c = λ limit bytes h.

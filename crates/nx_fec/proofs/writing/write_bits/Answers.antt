@@ -1,14 +1,15 @@
 use Rattle.std.proofs.Common.{◌≡◌, [], ◌∙◌, ap, arith}
 use Rattle.std.proofs.lemmas.Result.{err_from_is_err_and}
-use Rattle.nx_fec.proofs.WritingLaws.{Batched, Batched-line, Batched-sent, Batched-failed}
+use Rattle.nx_fec.proofs.WritingLaws.{Batched, Batched-line, Batched-sent, Batched-failed, Batched-all}
 use Rattle.nx_fec.proofs.writing.write_bits.Goals as goal
 use Rattle.nx_fec.proofs.writing.write_bits.Goals.{then-remaining_capacity-lt-LINE_BYTES+in_ok-sent, else-remaining_capacity-lt-LINE_BYTES}
 
 pub returns-in_err-sent-clause-err : goal.returns-in_err-sent-clause-err
 returns-in_err-sent-clause-err g c =
     let p = err_from_is_err_and c.from_residual.result c.from_residual.ensures.1 in
-    let e = c.in_err-sent.ensures.err in
-    rw p.1 (rw p.2 (Batched-failed _ _ _ _ _ _ e.0 _ _ _ c.loop-index.invariant.batched (omega (arith, c.div_ceil-index-end.ensures)) c.deref.ensures.0 e.2 e.1))
+    let b = c.loop-index.invariant.batched in
+    rw p.1 (rw p.2 (Batched-failed _ _ _ _ _ _ _ _ _ b (omega (arith, c.div_ceil-index-end.ensures)) c.deref.ensures.0
+    (c.in_err-sent.ensures.bytes (g.W.Write.contents c.args.writer.now.inner) b.done b.written)))
 
 pub loop-index-preserved : goal.loop-index-preserved
 loop-index-preserved g c =
@@ -24,7 +25,9 @@ loop-index-preserved g c =
     elim now.branch [
       | then-remaining_capacity-lt-LINE_BYTES+in_ok-sent w ↦
           let empty : now.batch.items ≡ [] = ap (λ x. x.items) w.batch-is ∙ w.clear.ensures in
-          rw (w.writer-is, empty, w.sent-is) (Batched-sent _ _ _ _ _ _ _ _ _ before.batched w.deref.ensures.0 w.in_ok-sent.ensures.ok w.in_ok-sent.ensures.count)
+          let b = before.batched in
+          rw (w.writer-is, empty, w.sent-is) (Batched-sent _ _ _ _ _ _ _ _ _ b w.deref.ensures.0
+          (w.in_ok-sent.ensures.bytes (contents c.args.writer.now.inner) b.done b.written))
       | else-remaining_capacity-lt-LINE_BYTES w ↦ rw (w.writer-is, w.batch-is, w.sent-is) before.batched
     ] in
     record {
@@ -32,8 +35,15 @@ loop-index-preserved g c =
       batched = Batched-line _ _ _ _ _ _ _ c.min.result batched c.min.ensures c.push_line.ensures;
     }
 
-pub returns-in_err-write_after-clause-err : goal.returns-in_err-write_after-clause-err
-returns-in_err-write_after-clause-err g c =
-    let p = err_from_is_err_and c.from_residual-in_err-write_after.result c.from_residual-in_err-write_after.ensures.1 in
-    let e = c.in_err-write_after.ensures.err in
-    rw p.1 (rw p.2 (Batched-failed _ _ _ _ _ _ e.0 _ _ _ c.loop-index.invariant.batched (omega (arith, c.div_ceil-index-end.ensures)) c.deref-2.ensures.0 e.2 e.1))
+pub returns-in_err-write_on-clause-err : goal.returns-in_err-write_on-clause-err
+returns-in_err-write_on-clause-err g c =
+    let p = err_from_is_err_and c.from_residual-in_err-write_on.result c.from_residual-in_err-write_on.ensures.1 in
+    let b = c.loop-index.invariant.batched in
+    rw p.1 (rw p.2 (Batched-failed _ _ _ _ _ _ _ _ _ b (omega (arith, c.div_ceil-index-end.ensures)) c.deref-2.ensures.0
+    (c.in_err-write_on.ensures.bytes (g.W.Write.contents c.args.writer.now.inner) b.done b.written)))
+
+pub returns-clause-ok : goal.returns-clause-ok
+returns-clause-ok g c =
+    let b = c.loop-index.invariant.batched in
+    Batched-all _ _ _ _ _ _ c.in_ok-write_on.field-0 _ _ b (omega (arith, c.div_ceil-index-end.ensures)) c.deref-2.ensures.0
+    (c.in_ok-write_on.ensures.bytes (g.W.Write.contents c.args.writer.now.inner) b.done b.written)

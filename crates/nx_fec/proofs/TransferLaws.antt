@@ -1,0 +1,33 @@
+-- What a run says of its reader follows from what its reading said of it.
+use Rattle.std.proofs.Common.{◌≡◌, ℕ, List, Option, None, Some, IfSome, Result, Ok, Err, IsErrOf}
+use Rattle.nx_fec.specs.Devices.{CountedDevice}
+use Rattle.nx_fec.specs.Transfers.{Reads}
+use Rattle.nx_fec.specs.declared.fault.RunFault.{RunFault}
+use Rattle.nx_fec.specs.declared.fault.RunFault.TheVariants.{Read, Write}
+
+IfSome-later : (o : Option (List ℕ)) (P Q : List ℕ → Type 0) → ((xs : List ℕ) → P xs → Q xs) → IfSome o P → IfSome o Q
+IfSome-later None P Q f h = tt
+IfSome-later (Some xs) P Q f h = f xs h
+
+-- the run goes on after it read, and fails to read exactly where its reading did
+pub Reads-on : {R N M F G : Type 0} (remaining : R → Option (List ℕ)) (old new : CountedDevice R) (read : F) (run_read : G) (outcome : Result N F) (run_outcome : Result M G)
+    (known whole run_known run_whole : List ℕ → Type 0) → Reads remaining old new read outcome known whole
+    → ((bytes : List ℕ) → known bytes → run_known bytes) → ((bytes : List ℕ) → whole bytes → run_whole bytes)
+    → (IsErrOf run_outcome run_read → IsErrOf outcome read) → (IsErrOf outcome read → IsErrOf run_outcome run_read)
+    → Reads remaining old new run_read run_outcome run_known run_whole
+Reads-on remaining old new read run_read outcome run_outcome known whole run_known run_whole h k w there here = record {
+  bytes = h.bytes;
+  consumed = h.consumed;
+  answer = k h.bytes h.answer;
+  file = IfSome-later (remaining old.inner) whole run_whole w h.file;
+  failed = (λ e. h.failed.0 (there e), λ one. here (h.failed.1 one));
+  once = h.once;
+}
+
+-- a success is no error
+pub Ok-not_err : {T E : Type 0} (x : T) (e : E) → ◌≡◌ {A = Result T E} (Ok x) (Err e) → ⊥
+Ok-not_err x e same = cc
+
+-- a failed write is no failed read
+pub Write-not_read : {T : Type 0} (written : ℕ) → ◌≡◌ {A = Result T RunFault} (Err (Write written)) (Err Read) → ⊥
+Write-not_read written same = cc

@@ -1,0 +1,76 @@
+-- What a run says of its devices: of the bytes that it read and wrote, and of the calls that failed (this profile).
+use Rattle.std.specs.Prelude.{◌≡◌, ◌≢◌, ◌<◌, ◌≤◌, ◌↔◌, ℕ, List, length, take, Option, Result, Err, IfErr, IfSome, IsErrOf, ⊤}
+use Rattle.std.specs.Io.KnownBytes.{Consumes, IsAtEnd, Keeps}
+use Rattle.nx_fec.specs.Devices.{CountedDevice}
+use Rattle.nx_fec.specs.declared.pieces.Piece.{Piece}
+use Rattle.nx_fec.specs.declared.pieces.Piece.TheVariants.{End, Failed, Bytes}
+
+-- What a read gave: the end of the input, a failure, or so many bytes, at least one, at the front of the buffer.
+abbrev pub IsNextPiece : {R : Type 0} → (R → Option (List ℕ)) → CountedDevice R → CountedDevice R → List ℕ → Piece → Type 0
+IsNextPiece remaining old new buffer End =
+    Keeps (remaining old.inner) (remaining new.inner) × IsAtEnd (remaining new.inner) × (new.failures ≡ 0)
+IsNextPiece remaining old new buffer Failed =
+    Keeps (remaining old.inner) (remaining new.inner) × (new.failures ≡ 1)
+IsNextPiece remaining old new buffer (Bytes count) =
+    (0 < count) × (count ≤ length buffer) × Consumes (remaining old.inner) (remaining new.inner) (take count buffer) × (new.failures ≡ 0)
+
+-- What a run says of its reader. It read these bytes, and `known` holds of them, whatever the reader tells of its bytes.
+-- Where they are known, `whole` holds of all that was left, however it came. The count of failures rose, by one, exactly
+-- where the outcome is the fault `read`.
+pub record Reads {R N F : Type 0} (remaining : R → Option (List ℕ)) (old new : CountedDevice R) (read : F) (outcome : Result N F)
+    (known whole : List ℕ → Type 0) : Type 0 where
+  pub bytes : List ℕ
+  pub consumed : Consumes (remaining old.inner) (remaining new.inner) bytes
+  pub answer : known bytes
+  pub file : IfSome (remaining old.inner) whole
+  pub failed : IsErrOf outcome read ↔ (new.failures ≡ 1)
+  pub once : new.failures ≤ 1
+
+-- What a run says of its writer: the count of failures rose, by one, exactly where the outcome is a fault `write`.
+pub record Writes {W N F : Type 0} (new : CountedDevice W) (write : ℕ → F) (outcome : Result N F) : Type 0 where
+  pub failed : ((written : ℕ) × (outcome ≡ Err (write written))) ↔ (new.failures ≡ 1)
+  pub once : new.failures ≤ 1
+
+-- A reader and a writer, as they stand before a run and after it, and what they tell of their bytes: those that are left
+-- to read, and those that are written.
+pub record Devices (R W : Type 0) : Type 0 where
+  pub remaining : R → Option (List ℕ)
+  pub contents : W → Option (List ℕ)
+  pub reader : CountedDevice R
+  pub reader_after : CountedDevice R
+  pub writer : CountedDevice W
+  pub writer_after : CountedDevice W
+
+abbrev pub devices : {R W : Type 0} → (R → Option (List ℕ)) → (W → Option (List ℕ)) → CountedDevice R → CountedDevice R
+    → CountedDevice W → CountedDevice W → Devices R W
+devices remaining contents reader reader_after writer writer_after = record {
+  remaining = remaining;
+  contents = contents;
+  reader = reader;
+  reader_after = reader_after;
+  writer = writer;
+  writer_after = writer_after;
+}
+
+-- no input is left
+abbrev pub IsReadOut : {R W : Type 0} → Devices R W → Type 0
+IsReadOut d = IsAtEnd (d.remaining d.reader_after.inner)
+
+-- when a run writes: only after all else succeeded, or while it reads
+pub data Writing : Type 0 where
+  at_the_end : Writing
+  on_the_way : Writing
+
+-- a run that writes only at the end wrote nothing before a fault that isn't one of writing
+abbrev pub IsUnwritten : {R W N F : Type 0} → Writing → (ℕ → F) → Devices R W → Result N F → Type 0
+IsUnwritten at_the_end write d outcome =
+    IfErr outcome (λ why. ((written : ℕ) → why ≢ write written) → d.writer_after ≡ d.writer)
+IsUnwritten on_the_way write d outcome = ⊤
+
+-- What a run from a reader to a writer says of both. Its faults for a failed read and a failed write are `read` and
+-- `write`; `known` holds of the bytes that it read, and `whole` of all the input, where that is known.
+pub record Transfers {R W N F : Type 0} (read : F) (write : ℕ → F) (writing : Writing) (d : Devices R W) (outcome : Result N F)
+    (known whole : List ℕ → Type 0) : Type 0 where
+  pub reads : Reads d.remaining d.reader d.reader_after read outcome known whole
+  pub writes : Writes d.writer_after write outcome
+  pub unwritten : IsUnwritten writing write d outcome
