@@ -1,5 +1,5 @@
 -- The lists of messages that a station may send, and why another list is refused (this profile).
-use Rattle.std.specs.Prelude.{◌≡◌, ◌≢◌, ℕ, ◌<◌, ◌≤◌, ◌==◌, not, ¬◌, List, [], ◌∷◌, length, position, Option, Some, None}
+use Rattle.std.specs.Prelude.{◌≡◌, ◌≢◌, ℕ, ◌<◌, ◌≤◌, ◌==◌, not, List, [], ◌∷◌, length, position, Option, Some, None}
 use Rattle.std.specs.List.{AllByRecursion}
 use Rattle.nx_envelope.specs.Message.{AreLines}
 use Rattle.nx_envelope.specs.MessageView.{MessageView}

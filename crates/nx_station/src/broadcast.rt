@@ -1,18 +1,19 @@
 //! The emission of a list of messages (M.540, form of a message; M.625, mode B, for phasing and the end).
-ghost use Rattle.std.specs.Prelude.{◌≡◌, ◌+◌, ◌*◌, ◌<◌, ◌≤◌, ◌++◌, ℕ, List, IfOk, IfErr, OnOk, length, map, replicate};
-ghost use Rattle.std.specs.List.{AllByRecursion};
-ghost use Rattle.nx_code.specs.Reading.{combination, shift_after_all};
+ghost use Rattle.std.specs.Prelude.{◌≡◌, ◌≢◌, ◌≤◌, ◌==◌, ◌++◌, ℕ, List, [], IfOk, IfErr, OnOk, length, map, not, position, replicate};
 ghost use Rattle.nx_code.specs.Spelling.{Spells};
 ghost use Rattle.nx_code.specs.declared.shifts.Shift.TheVariants.{Figures};
 ghost use Rattle.nx_envelope.specs.Message.{AreLines, text_of};
-ghost use Rattle.nx_fec.specs.Emission.{SentPosition, meaning, phasing_position, traffic_position};
-ghost use Rattle.nx_station.specs.Broadcast.{IsBroadcast, IsSpelled, ending, head};
-ghost use Rattle.nx_station.specs.Sendable.{HavePositions, IsRefusal, IsSendable};
+ghost use Rattle.nx_envelope.specs.MessageView.{MessageView};
+ghost use Rattle.nx_fec.specs.Emission.{sent_position, traffic_position};
+ghost use Rattle.nx_station.specs.Broadcast.{IsBroadcast, IsExtent, IsSpelled, ending, phased};
+ghost use Rattle.nx_station.specs.Sendable.{AreOf, HavePositions, IsRefusal, IsSendable};
+ghost use Rattle.nx_station.specs.Slots.{HasSlots};
 
 use crate::fault::SendFault;
+use crate::heads::{ENDING, HEAD, ending_len, head_of};
 use crate::slots::has_slots;
-use nx_code::{Comb, Extent, Shift, char_to_code, extent_of, spell};
-use nx_envelope::{END_MARKER, Identity, Message, NEWLINE, START_MARKER};
+use nx_code::{Comb, Extent, Shift, SpellFault, extent_of, spell};
+use nx_envelope::{Letter, Message, NEWLINE};
 use nx_fec::Position;
 use std::alloc::{AllocError, Global};
 
@@ -28,8 +29,8 @@ const FURTHER_PHASING: usize = 36;
 /// How many positions end an emission.
 const ENDS: usize = 3;
 
-/// How many combinations the head of a message has.
-const HEAD: usize = 13;
+/// How many combinations end a line of text, carriage return and line feed.
+const LINE_END: u64 = 2;
 
 /// The emission of messages of one station, at most 4,286 positions (M.540; the counts of phasing are this profile's):
 /// 72 positions of phasing and the first message, 36 of phasing before each further message, and three of the end.
@@ -56,7 +57,6 @@ pub fn emission(alloc: Global, messages: &[Message]) -> Result<Vec<Position>, Se
 fn check_stations(messages: &[Message]) -> Result<(), SendFault>
     ensures ok { OnOk result ((station : ℕ) × AreOf station messages.now × HasSlots station) }
     ensures refused { IfErr result (IsRefusal messages.now) }
-    ensures no_memory { IfErr result (λ fault. IsMemory fault → ⊥) }
 {
     let Some(first) = messages.first() else {
         return Err(SendFault::NoMessages);
@@ -98,7 +98,7 @@ fn count_combs(message: &Message) -> u64
     ensures few { result ≤ 8213 }
 {
     let extent = extent_of_text(message);
-    HEAD as u64 + extent.length + ending_of(extent.shift).len() as u64
+    HEAD as u64 + extent.length + ending_len(extent.shift)
 }
 
 /// The extent of the spelling of a message's text, from the figure shift of its head on.
@@ -151,7 +151,18 @@ fn push_message(
     push_combs(positions, &head_of(message.identity()))?;
     let text = spelled_text(alloc, message)?;
     push_combs(positions, &text)?;
-    push_combs(positions, ending_of(extent_of_text(message).shift))
+    push_ending(positions, extent_of_text(message).shift)
+}
+
+/// Appends the end of a message, by the shift that its text leaves in force.
+fn push_ending(positions: &mut Vec<Position>, shift: Shift) -> Result<(), AllocError>
+    ensures { OnOk result (map sent_position positions.new.items
+        ≡ map sent_position positions.old.items ++ map traffic_position (ending shift)) }
+{
+    if shift == Shift::Figures {
+        positions.push(Position::Traffic(Comb::LETTER_SHIFT))?;
+    }
+    push_combs(positions, &ENDING)
 }
 
 /// The text of a message, spelled from the figure shift of its head on.

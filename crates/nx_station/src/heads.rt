@@ -1,5 +1,5 @@
 //! The combinations at the head and at the end of a message (M.540, form of a message).
-ghost use Rattle.std.specs.Prelude.{◌≡◌, ◌<◌, map};
+ghost use Rattle.std.specs.Prelude.{◌≡◌, ◌<◌, length, map};
 ghost use Rattle.nx_station.specs.Broadcast.{digit_combination, ending, head, letter_combination};
 
 use nx_code::{Comb, Shift, char_to_code};
@@ -15,9 +15,8 @@ const N: Comb = Comb { number: 14 };
 
 const Z: Comb = Comb { number: 26 };
 
-/// The end of a message behind figures. Behind letters it has no letter shift.
-static ENDING: [Comb; 8] = [
-    Comb::LETTER_SHIFT,
+/// The end of a message, where letters are in force.
+pub(crate) const ENDING: [Comb; 7] = [
     N,
     N,
     N,
@@ -50,13 +49,13 @@ pub(crate) fn head_of(identity: Identity) -> [Comb; HEAD]
     ]
 }
 
-/// The end of a message, by the shift that its text leaves in force.
-pub(crate) fn ending_of(shift: Shift) -> &'static [Comb]
-    ensures { map (λ comb. comb.number) result.now ≡ ending shift }
+/// How many combinations the end of a message has, by the shift that its text leaves in force.
+pub(crate) fn ending_len(shift: Shift) -> u64
+    ensures { result ≡ length (ending shift) }
 {
     match shift {
-        Shift::Letters => &ENDING[1..],
-        Shift::Figures => &ENDING,
+        Shift::Letters => ENDING.len() as u64,
+        Shift::Figures => ENDING.len() as u64 + 1,
     }
 }
 
