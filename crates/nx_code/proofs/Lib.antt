@@ -1,6 +1,8 @@
 pub mod CharacterLemmas
+mod Examples
 pub mod ReadingLemmas
-mod SpellingLaws
+mod SilentCombinations
+pub mod SpellingLaws
 pub mod SpellingLemmas
 pub mod TableLemmas
 pub mod WordLemmas

@@ -134,7 +134,7 @@ prints-some : (shift : Shift) (n : ℕ) (rest : List ℕ) → Fits shift n rest 
 prints-some shift n rest h no_return no_letters no_figures =
     elim (character_of n shift) as (λ o. character_of n shift ≡ o → (c : ℕ) × (o ≡ Some c)) [
       | Some c ↦ λ e. (c, refl)
-      | None ↦ λ e. absurd (no_return (h.not_silent e (shift_set-None n no_letters no_figures)))
+      | None ↦ λ e. absurd (h.not_silent (record { prints_nothing = e; sets_no_shift = shift_set-None n no_letters no_figures; no_return = no_return }))
     ] refl
 
 -- only the line feed prints a newline

@@ -67,7 +67,7 @@ fits_character shift n c rest low high h begins =
     record {
       from_one = low;
       to_thirty_two = high;
-      not_silent = λ none _. let clash : Some c ≡ None = sym h ∙ none in cc;
+      not_silent = λ s. let clash : Some c ≡ None = sym h ∙ s.prints_nothing in cc;
       carriage_return = (λ e. absurd (plain.return e), λ e. absurd (begins e));
       needed = λ s e. let none : Some s ≡ None = sym e ∙ shift_set-None n plain.letters plain.figures in cc;
     }
@@ -76,7 +76,7 @@ pub fits_return : (shift : Shift) (rest : List ℕ) → Fits shift 27 (28 ∷ re
 fits_return shift rest = record {
   from_one = omega arith;
   to_thirty_two = omega arith;
-  not_silent = λ _ _. refl;
+  not_silent = λ s. s.no_return refl;
   carriage_return = (λ _. refl, λ _. refl);
   needed = λ s e. cc;
 }
@@ -135,14 +135,14 @@ pub fits_shift : (s shift : Shift) (n c : ℕ) (rest : List ℕ) → s ≢ shift
 fits_shift Letters shift n c rest differs h elsewhere line = record {
   from_one = omega arith;
   to_thirty_two = omega arith;
-  not_silent = λ _ e. cc;
+  not_silent = λ s. let clash = s.sets_no_shift in cc;
   carriage_return = (λ e. absurd (omega arith), λ e. let f : n ≡ 28 = cc in absurd (line f));
   needed = λ t e. let f : Letters ≡ t = cc in subst (λ r. (r ≢ shift) × IsOnlyIn r (Some n)) f (differs, (ap is_some h, λ g. elsewhere (g ∙ h)));
 }
 fits_shift Figures shift n c rest differs h elsewhere line = record {
   from_one = omega arith;
   to_thirty_two = omega arith;
-  not_silent = λ _ e. cc;
+  not_silent = λ s. let clash = s.sets_no_shift in cc;
   carriage_return = (λ e. absurd (omega arith), λ e. let f : n ≡ 28 = cc in absurd (line f));
   needed = λ t e. let f : Figures ≡ t = cc in subst (λ r. (r ≢ shift) × IsOnlyIn r (Some n)) f (differs, (ap is_some h, λ g. elsewhere (g ∙ h)));
 }

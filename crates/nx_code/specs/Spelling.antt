@@ -17,12 +17,18 @@ IsOnlyIn shift None = ⊥
 IsOnlyIn shift (Some number) =
     IsSome (character_of number shift) × (character_of number (other shift) ≢ character_of number shift)
 
+-- a combination that in this shift prints nothing, sets no shift and is no carriage return (which these are, says the
+-- law `silent_combinations`)
+pub record IsSilent (shift : Shift) (number : ℕ) : Type 0 where
+  pub prints_nothing : character_of number shift ≡ None
+  pub sets_no_shift : shift_set (combination number) ≡ None
+  pub no_return : number ≢ 27
+
 -- A combination fits where it stands: this shift is in force before it, and these follow it.
 pub record Fits (shift : Shift) (number : ℕ) (rest : List ℕ) : Type 0 where
   pub from_one : 1 ≤ number
   pub to_thirty_two : number ≤ 32
-  -- what prints nothing in this shift, and sets no shift, is a carriage return
-  pub not_silent : character_of number shift ≡ None → shift_set (combination number) ≡ None → number ≡ 27
+  pub not_silent : ¬ IsSilent shift number
   -- a carriage return stands directly before each line feed, and nowhere else
   pub carriage_return : (number ≡ 27) ↔ (first_of rest ≡ Some 28)
   -- a shift is not the one in force, and stands directly before a character that has only that shift

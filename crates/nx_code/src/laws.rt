@@ -1,16 +1,17 @@
 //! Laws of the definitions, each the contract of a function that does nothing.
 
-ghost use Rattle.std.specs.Prelude.{◌≡◌, ◌<◌, ℕ, Bool, List, [], ◌∷◌, ◌++◌, length, map, IsTrue};
+ghost use Rattle.std.specs.Prelude.{◌≡◌, ◌<◌, ◌≤◌, ◌↔◌, ◌⊎◌, ℕ, Bool, List, [], ◌∷◌, ◌++◌, length, map, ◌==◌, IsTrue};
 ghost use Rattle.std.specs.Option.{option_to_list};
-ghost use Rattle.std.specs.List.{list_all};
+ghost use Rattle.std.specs.List.{list_all, list_any};
 ghost use Rattle.nx_code.specs.Characters.{is_in_code};
-ghost use Rattle.nx_code.specs.Spelling.{Spells};
+ghost use Rattle.nx_code.specs.Spelling.{IsSilent, Spells};
 ghost use Rattle.nx_code.specs.Word.{elements, number_of, weight};
 ghost use Rattle.nx_code.specs.Reading.{Reception, IsShiftAfter, combination, byte_of, shift_after_all, text};
 ghost use Rattle.nx_code.specs.Signal.{number_of_signal};
 ghost use Rattle.nx_code.specs.Phasing.{phasing_1, phasing_2, elements_of_phasing_1, elements_of_phasing_2};
 ghost use Rattle.nx_code.specs.declared.signals.Signal.TheVariants as signals;
 ghost use Rattle.nx_code.specs.declared.shifts.Shift.{Shift};
+ghost use Rattle.nx_code.specs.declared.shifts.Shift.TheVariants as shifts;
 
 /// The reading of positions, by the nearest shift: each position prints in the shift that the nearest
 /// position before it sets, and in the first shift where none does. There is one such shift (M.476).
@@ -63,6 +64,15 @@ pub fn a_text_has_one_spelling()
         → Spells bytes shift numbers → IsTrue (list_all is_in_code bytes) }
     ensures only { (bytes : List ℕ) (shift : Shift) (one two : List ℕ)
         → Spells bytes shift one → Spells bytes shift two → one ≡ two }
+{}
+
+/// The combinations that no spelling has, since they are silent: 32 in both shifts, and the figures of D, F,
+/// G, H and J (M.476; that these print nothing is this profile's).
+pub fn silent_combinations()
+    ensures { (shift : Shift) (number : ℕ) → 1 ≤ number → number ≤ 32
+        → IsSilent shift number
+        ↔ ((number ≡ 32) ⊎ ((shift ≡ shifts.Figures)
+        × IsTrue (list_any (λ other. other == number) (4 ∷ 6 ∷ 7 ∷ 8 ∷ 10 ∷ [])))) }
 {}
 
 /// A spelling of a text, and then one of more text from the shift in force after it, is the spelling of

@@ -1,6 +1,6 @@
 //! Spelling: the combinations that a text is sent as.
 
-ghost use Rattle.std.specs.Prelude.{◌≡◌, ◌↔◌, ◌++◌, ◌∷◌, [], ℕ, List, Some, Err, IsSome, IfSome, IfOk, OnOk, IsTrue, length, map, not, position};
+ghost use Rattle.std.specs.Prelude.{◌≡◌, ◌≤◌, ◌*◌, ◌↔◌, ◌++◌, ◌∷◌, [], ℕ, List, Some, Err, IsSome, IfSome, IfOk, OnOk, IsTrue, length, map, not, position};
 ghost use Rattle.std.specs.List.{list_all};
 ghost use Rattle.nx_code.specs.Characters.{is_in_code};
 ghost use Rattle.nx_code.specs.Reading.{combination, shift_after_all, text as reading_of};
@@ -125,6 +125,7 @@ pub fn extent_of(text: &[u8], from: Shift) -> Option<Extent>
         → extent.length ≡ length numbers) }
     ensures shift { IfSome result (λ extent. (numbers : List ℕ) → Spells text.now from numbers
         → extent.shift ≡ shift_after_all (map combination numbers) from) }
+    ensures few { IfSome result (λ extent. extent.length ≤ 2 * length text.now) }
 {
     if first_unknown(text).is_some() {
         return None;

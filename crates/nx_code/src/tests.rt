@@ -164,5 +164,6 @@ fn laws_can_be_called() {
     laws::phasing_signals_are_in_the_table();
     laws::reading_goes_on();
     laws::a_text_has_one_spelling();
+    laws::silent_combinations();
     laws::a_spelling_goes_on();
 }

@@ -9,7 +9,9 @@ use Rattle.nx_code.specs.Word.{elements}
 use Rattle.std.proofs.lemmas.Bool.{agree_below_at, ltb-true, cases_lt, cases_eq}
 use Rattle.std.proofs.lemmas.Bool.Decides.{nat_tests}
 use Rattle.nx_code.specs.Table.{table, words}
-use Rattle.nx_fec.specs.Emission.{SentPosition, sent_position, phasing_position, traffic_position, end_position, dx_word, rx_word, phasing_1, phasing_2, position_at, word_sent, emission, bits_of, IsEmission, AreWords}
+use Rattle.nx_code.specs.Phasing.{phasing_1, phasing_2}
+use Rattle.nx_code.proofs.TableLemmas.{traffic_word-is, words-lt}
+use Rattle.nx_fec.specs.Emission.{SentPosition, sent_position, phasing_position, traffic_position, end_position, dx_word, rx_word, position_at, word_sent, emission, bits_of, IsEmission, AreWords, IsInCode, AreInCode}
 
 -- the service signals' words stand in the table
 pub phasing_1-words : get_or words 32 0 ≡ phasing_1
@@ -20,31 +22,23 @@ pub phasing_2-words : get_or words 34 0 ≡ phasing_2
 unfolding table words
 phasing_2-words = refl
 
-length-words : length words ≡ 35
-unfolding table words
-length-words = refl
+pub dx_word-lt : (position : SentPosition) → IsInCode position → dx_word position < 128
+dx_word-lt phasing_position h = lit< tt
+dx_word-lt (traffic_position number) h = subst (λ w. w < 128) (sym (traffic_word-is number h.0 h.1)) (words-lt (number - 1) (omega (arith, h.0, h.1)))
+dx_word-lt end_position h = lit< tt
 
--- each word of the table has seven elements
-words-within : (at : ℕ) → at < 35 → get_or words at 0 < 128
-unfolding table words
-words-within at h = ltb-true (get_or words at 0) 128 (agree_below_at (λ k. ltb (get_or words k 0) 128) (λ _. true) 35 at refl h)
+pub rx_word-lt : (position : SentPosition) → IsInCode position → rx_word position < 128
+rx_word-lt phasing_position h = lit< tt
+rx_word-lt (traffic_position number) h = subst (λ w. w < 128) (sym (traffic_word-is number h.0 h.1)) (words-lt (number - 1) (omega (arith, h.0, h.1)))
+rx_word-lt end_position h = lit< tt
 
-pub words-lt : (at : ℕ) → get_or words at 0 < 128
-words-lt at =
-    elim (cases_lt at 35) [
-      | inl h ↦ words-within at h
-      | inr h ↦ subst (λ n. n < 128) (sym (get_or_past words at 0 (omega (arith, length-words)))) (lit< tt)
+-- past the last position stands one of the end
+position_at-IsInCode : (positions : List SentPosition) → AreInCode positions → (i : ℕ) → IsInCode (position_at positions i)
+position_at-IsInCode positions h i =
+    elim (cases_lt i (length positions)) [
+      | inl below ↦ h i below
+      | inr past ↦ subst IsInCode (sym (get_or_past positions i end_position past)) tt
     ]
-
-pub dx_word-lt : (position : SentPosition) → dx_word position < 128
-dx_word-lt phasing_position = lit< tt
-dx_word-lt (traffic_position number) = words-lt (number - 1)
-dx_word-lt end_position = lit< tt
-
-pub rx_word-lt : (position : SentPosition) → rx_word position < 128
-rx_word-lt phasing_position = lit< tt
-rx_word-lt (traffic_position number) = words-lt (number - 1)
-rx_word-lt end_position = lit< tt
 
 -- what stands in a slot
 word_sent-even : (positions : List SentPosition) (slot : ℕ) → slot % 2 ≡ 0 → word_sent positions slot ≡ dx_word (position_at positions (slot / 2))
@@ -69,13 +63,13 @@ word_sent-rx positions i =
     let e : (2 * i + 5 - 5) / 2 ≡ i = omega arith in
     word_sent-late positions (2 * i + 5) (omega arith) (omega arith) ∙ ap (λ k. rx_word (position_at positions k)) e
 
-word_sent-lt : (positions : List SentPosition) (slot : ℕ) → word_sent positions slot < 128
-word_sent-lt positions slot =
+word_sent-lt : (positions : List SentPosition) → AreInCode positions → (slot : ℕ) → word_sent positions slot < 128
+word_sent-lt positions code slot =
     elim (cases_eq (slot % 2) 0) [
-      | inl even ↦ subst (λ n. n < 128) (sym (word_sent-even positions slot even)) (dx_word-lt (position_at positions (slot / 2)))
+      | inl even ↦ subst (λ n. n < 128) (sym (word_sent-even positions slot even)) (dx_word-lt (position_at positions (slot / 2)) (position_at-IsInCode positions code (slot / 2)))
       | inr odd ↦ elim (cases_lt slot 5) [
         | inl early ↦ subst (λ n. n < 128) (sym (word_sent-early positions slot (omega arith) early)) (lit< tt)
-        | inr late ↦ subst (λ n. n < 128) (sym (word_sent-late positions slot (omega arith) late)) (rx_word-lt (position_at positions ((slot - 5) / 2)))
+        | inr late ↦ subst (λ n. n < 128) (sym (word_sent-late positions slot (omega arith) late)) (rx_word-lt (position_at positions ((slot - 5) / 2)) (position_at-IsInCode positions code ((slot - 5) / 2)))
       ]
     ]
 
@@ -127,10 +121,10 @@ IsEmission-only positions sent h =
     let m = length-emission positions in
     ext_get_or 0 sent (emission positions) (n ∙ sym m) (λ slot k. get_or-IsEmission positions sent slot h k ∙ sym (get_or-emission positions slot 0 (omega arith)))
 
-pub AreWords-emission : (positions : List SentPosition) → AreWords (emission positions)
-AreWords-emission positions slot h =
+pub AreWords-emission : (positions : List SentPosition) → AreInCode positions → AreWords (emission positions)
+AreWords-emission positions code slot h =
     let n = length-emission positions in
-    subst (λ w. w < 128) (sym (get_or-emission positions slot 0 (omega arith))) (word_sent-lt positions slot)
+    subst (λ w. w < 128) (sym (get_or-emission positions slot 0 (omega arith))) (word_sent-lt positions code slot)
 
 -- the emission slot by slot
 pub slice_get-emission_even : (positions : List SentPosition) (slot : ℕ) → slot % 2 ≡ 0 → slot / 2 < length positions → slice_get (emission positions) slot ≡ Some (dx_word (position_at positions (slot / 2)))

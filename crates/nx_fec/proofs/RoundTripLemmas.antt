@@ -14,7 +14,9 @@ use Rattle.nx_code.proofs.WordLemmas.{value_of-le, number_of-elements, elements-
 use Rattle.nx_fec.specs.declared.positions.Position.TheVariants.{Phasing, Traffic, End}
 use Rattle.nx_fec.specs.Pairing.{traffic, idle_signal, nothing, counts_as, pairing}
 use Rattle.nx_fec.specs.Aligned.{word_in, words_of, taken_at, receptions, aligned_text}
-use Rattle.nx_fec.specs.Emission.{SentPosition, sent_position, phasing_position, traffic_position, end_position, dx_word, rx_word, phasing_1, phasing_2, position_at, emission, IsEmission, bits_of, AreWords, AreCombinations, IsInCode, AreInCode, reception, framed_positions}
+use Rattle.nx_code.specs.Phasing.{phasing_1, phasing_2}
+use Rattle.nx_code.proofs.TableLemmas.{traffic_word-is}
+use Rattle.nx_fec.specs.Emission.{SentPosition, sent_position, phasing_position, traffic_position, end_position, dx_word, rx_word, position_at, emission, IsEmission, bits_of, AreWords, AreCombinations, IsInCode, AreInCode, reception, framed_positions}
 use Rattle.nx_fec.proofs.PairingLemmas.{counts_as-words, counts_as-combination}
 use Rattle.nx_fec.proofs.AlignedLemmas.{length-words_of, get_or-words_of, five_before-early, five_before-late, taken_at-pairing}
 use Rattle.nx_fec.proofs.EmissionLemmas.{phasing_1-words, phasing_2-words, IsEmission-emission, AreWords-emission}
@@ -115,7 +117,7 @@ pairing-same number = ap (λ b. cond b (combination number) lost) (eqb-refl numb
 pairing-sent : (position : SentPosition) → IsInCode position → pairing (counts_as (dx_word position)) (counts_as (rx_word position)) ≡ reception position
 pairing-sent phasing_position h = ap (λ c. pairing c (counts_as phasing_1)) counts_as-phasing_2 ∙ ap (pairing idle_signal) counts_as-phasing_1
 pairing-sent (traffic_position number) h =
-    let e = counts_as-combination number h.0 h.1 in
+    let e = ap counts_as (traffic_word-is number h.0 h.1) ∙ counts_as-combination number h.0 h.1 in
     ap (λ c. pairing c c) e ∙ pairing-same number
 pairing-sent end_position h = ap (λ c. pairing c c) counts_as-phasing_1
 
@@ -206,7 +208,7 @@ map-reception (number ∷ numbers) = ap (λ l. combination number ∷ l) (map-re
 pub aligned_text-framed_positions : (numbers : List ℕ) → AreCombinations numbers → aligned_text (words_of (bits_of (emission (framed_positions numbers)))) ≡ text (map (λ n. combination n) numbers) Letters
 aligned_text-framed_positions numbers h =
     let n = length-framed_positions numbers in
-    let words = words_of-bits_of (emission (framed_positions numbers)) (AreWords-emission (framed_positions numbers)) in
+    let words = words_of-bits_of (emission (framed_positions numbers)) (AreWords-emission (framed_positions numbers) (AreInCode-framed_positions numbers h)) in
     let taken = receptions-IsEmission (framed_positions numbers) (emission (framed_positions numbers)) (IsEmission-emission (framed_positions numbers)) (AreInCode-framed_positions numbers h) (omega arith) in
     ap aligned_text words
     ∙ ap (λ l. text l Letters) taken

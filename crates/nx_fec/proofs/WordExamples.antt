@@ -1,8 +1,8 @@
 -- The definitions at worked examples.
 use Rattle.std.proofs.Common.{◌≡◌, ℕ, refl, List, [], ◌∷◌, codes}
 use Rattle.nx_code.specs.Word.{elements, elements_from, number_of}
-use Rattle.nx_code.specs.Table.{table, words, place_of}
-use Rattle.nx_code.specs.Reading.{combination, idle, lost, printed}
+use Rattle.nx_code.specs.Table.{table, words, place_of, row_of, traffic_word}
+use Rattle.nx_code.specs.Reading.{combination, idle, lost, character_of}
 use Rattle.nx_fec.specs.Pairing.{counts_as, pairing}
 use Rattle.nx_fec.specs.Aligned.{word_in, words_of, taken_at, receptions, aligned_text}
 use Rattle.nx_fec.specs.Emission.{word_sent, emission, bits_of, framed_positions}
@@ -48,11 +48,11 @@ words_of_a =
     0x66 ∷ 0x0F ∷ 0x66 ∷ 0x0F ∷ 0x66 ∷ 0x0F ∷ 0x66 ∷ 0x0F ∷ 0x47 ∷ 0x0F ∷ 0x0F ∷ 0x0F ∷ 0x0F ∷ 0x47 ∷ 0x0F ∷ []
 
 pub emission-a : emission (framed_positions (1 ∷ [])) ≡ words_of_a
-unfolding emission word_sent framed_positions words table
+unfolding emission word_sent framed_positions traffic_word row_of table
 emission-a = refl
 
 pub aligned_text-a : aligned_text words_of_a ≡ codes "A"
-unfolding receptions taken_at counts_as place_of printed words table
+unfolding receptions taken_at counts_as place_of character_of row_of words table
 aligned_text-a = refl
 
 -- their elements, from the first
@@ -62,18 +62,18 @@ bits_of-a = refl
 
 -- A with its DX word lost, with both lost, and with another RX word
 pub dx-damaged-a : aligned_text (0x66 ∷ 0x0F ∷ 0x66 ∷ 0x0F ∷ 0x66 ∷ 0x0F ∷ 0x66 ∷ 0x0F ∷ 0x46 ∷ 0x0F ∷ 0x0F ∷ 0x0F ∷ 0x0F ∷ 0x47 ∷ 0x0F ∷ []) ≡ codes "A"
-unfolding receptions taken_at counts_as place_of printed words table
+unfolding receptions taken_at counts_as place_of character_of row_of words table
 dx-damaged-a = refl
 
 pub both-damaged-a : aligned_text (0x66 ∷ 0x0F ∷ 0x66 ∷ 0x0F ∷ 0x66 ∷ 0x0F ∷ 0x66 ∷ 0x0F ∷ 0x46 ∷ 0x0F ∷ 0x0F ∷ 0x0F ∷ 0x0F ∷ 0x46 ∷ 0x0F ∷ []) ≡ codes "*"
-unfolding receptions taken_at counts_as place_of printed words table
+unfolding receptions taken_at counts_as place_of character_of row_of words table
 both-damaged-a = refl
 
 pub other-rx-a : aligned_text (0x66 ∷ 0x0F ∷ 0x66 ∷ 0x0F ∷ 0x66 ∷ 0x0F ∷ 0x66 ∷ 0x0F ∷ 0x47 ∷ 0x0F ∷ 0x0F ∷ 0x0F ∷ 0x0F ∷ 0x72 ∷ 0x0F ∷ []) ≡ codes "*"
-unfolding receptions taken_at counts_as place_of printed words table
+unfolding receptions taken_at counts_as place_of character_of row_of words table
 other-rx-a = refl
 
 -- the empty text has 13 words, of which nothing is printed
 pub emission-empty : emission (framed_positions []) ≡ 0x66 ∷ 0x0F ∷ 0x66 ∷ 0x0F ∷ 0x66 ∷ 0x0F ∷ 0x66 ∷ 0x0F ∷ 0x0F ∷ 0x0F ∷ 0x0F ∷ 0x0F ∷ 0x0F ∷ []
-unfolding emission word_sent framed_positions words table
+unfolding emission word_sent framed_positions traffic_word row_of table
 emission-empty = refl

@@ -1,6 +1,7 @@
 -- The lines of an air file (this profile): what they say, and how they are spelled.
 use Rattle.std.specs.Prelude.{ℕ, ◌^◌, ◌<◌, ◌≤◌, Bool, true, false, List, [], ◌∷◌, ◌++◌, length, map, codes}
 use Rattle.std.specs.Fmt.{decimal}
+use Rattle.nx_code.specs.Characters.{IsCapital}
 use Rattle.nx_fec.specs.declared.air_file.AirLine.{AirLine}
 use Rattle.nx_fec.specs.declared.air_file.AirLine.TheVariants.{Moment, Bits, RefuseStation, AcceptStation, RefuseSubject, AcceptSubject}
 
@@ -26,10 +27,6 @@ spelling (refuse_station letter) = codes "RS " ++ letter ∷ []
 spelling (accept_station letter) = codes "AS " ++ letter ∷ []
 spelling (refuse_subject letter) = codes "RJ " ++ letter ∷ []
 spelling (accept_subject letter) = codes "AJ " ++ letter ∷ []
-
--- a letter is one of A to Z
-abbrev pub IsCapital : ℕ → Type 0
-IsCapital byte = (65 ≤ byte) × (byte ≤ 90)
 
 -- a moment has at most 11 digits, a line of elements has 1 to 512, and a letter is one of A to Z
 abbrev pub IsLine : Line → Type 0

@@ -1,7 +1,7 @@
 -- The text of words that stand in their slots from slot 0 on (ITU-R M.625, collective mode B).
-use Rattle.std.specs.Prelude.{◌≡◌, ◌≢◌, ℕ, ◌+◌, ◌-◌, ◌*◌, ◌/◌, ◌%◌, nat_lt, if◌then◌else◌, Bool, List, length, map, take, drop, slice_index}
+use Rattle.std.specs.Prelude.{◌≡◌, ◌≢◌, ℕ, ◌+◌, ◌-◌, ◌*◌, ◌/◌, ◌%◌, nat_lt, if◌then◌else◌, Bool, List, length, map, slice_index}
 use Rattle.std.specs.List.{range_with_len}
-use Rattle.nx_code.specs.Word.{number_of}
+use Rattle.nx_code.specs.Word.{word_from}
 use Rattle.nx_code.specs.Reading.{Reception, text}
 use Rattle.nx_code.specs.declared.shifts.Shift.TheVariants.{Letters}
 use Rattle.nx_fec.specs.declared.aligned.AlignedFault.{AlignedFault}
@@ -10,7 +10,7 @@ use Rattle.nx_fec.specs.Pairing.{Counted, nothing, counts_as, pairing}
 
 -- word k of the elements: those from 7k to 7k+6
 unfoldable pub word_in : List Bool → ℕ → ℕ
-word_in bits slot = number_of (take 7 (drop (7 * slot) bits))
+word_in bits slot = word_from bits (7 * slot)
 
 -- the whole words, in order
 unfoldable pub words_of : List Bool → List ℕ

@@ -2,7 +2,8 @@
 use Rattle.std.specs.Prelude.{◌≡◌, ℕ, ◌+◌, ◌-◌, ◌*◌, ◌/◌, ◌%◌, ◌<◌, ◌≤◌, ◌==◌, nat_lt, if◌then◌else◌, Bool, List, ◌++◌, length, map, replicate, slice_index, slice_index_or, EachIndex}
 use Rattle.std.specs.List.{flat_map, range_with_len}
 use Rattle.nx_code.specs.Word.{elements}
-use Rattle.nx_code.specs.Table.{words}
+use Rattle.nx_code.specs.Table.{traffic_word}
+use Rattle.nx_code.specs.Phasing.{phasing_1, phasing_2}
 use Rattle.nx_code.specs.Reading.{Reception, combination, idle}
 use Rattle.nx_fec.specs.declared.positions.Position.{Position}
 use Rattle.nx_fec.specs.declared.positions.Position.TheVariants.{Phasing, Traffic, End}
@@ -18,17 +19,6 @@ abbrev pub sent_position : Position → SentPosition
 sent_position Phasing = phasing_position
 sent_position (Traffic comb) = traffic_position comb.number
 sent_position End = end_position
-
--- the words of phasing signal 1 (P1) and phasing signal 2 (P2)
-abbrev pub phasing_1 : ℕ
-phasing_1 = 0x0F
-
-abbrev pub phasing_2 : ℕ
-phasing_2 = 0x66
-
--- the word of a combination
-abbrev pub traffic_word : ℕ → ℕ
-traffic_word number = slice_index words (number - 1)
 
 -- the word that is sent first, in a DX slot
 abbrev pub dx_word : SentPosition → ℕ

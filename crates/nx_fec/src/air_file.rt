@@ -1,7 +1,8 @@
 //! The lines of an air file, which carries what a receiver hears: moments, elements and commands of selection.
 ghost use Rattle.std.specs.Prelude.{◌≡◌, ◌≢◌, ◌<◌, ◌≤◌, ◌^◌, ℕ, Bool, List, ◌++◌, length, map, IfSome, IfNone, MatchOption, [], ◌∷◌};
 ghost use Rattle.std.specs.Fmt.{decimal};
-ghost use Rattle.nx_fec.specs.AirFile.{Line, IsLine, IsCapital, spelling, line_of, element_digit};
+ghost use Rattle.nx_code.specs.Characters.{IsCapital};
+ghost use Rattle.nx_fec.specs.AirFile.{Line, IsLine, spelling, line_of, element_digit};
 
 use arrayvec::ArrayVec;
 

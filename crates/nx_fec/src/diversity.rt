@@ -1,7 +1,7 @@
 //! Diversity reception: a position is taken from its DX word and the RX word five slots later (M.625).
 
 ghost use Rattle.std.specs.Prelude.{◌≡◌, [], ◌∷◌, ◌++◌, List, length, drop, ◌-◌, IfSome, option_map};
-ghost use Rattle.nx_code.specs.Taken.{meaning as taken_meaning};
+ghost use Rattle.nx_code.specs.Taken.{reception_of};
 ghost use Rattle.nx_fec.specs.declared.diversity.Heard.TheVariants.{Wrong};
 ghost use Rattle.nx_fec.specs.Pairing.{Counted, IsHeardOf, IsLatest, reception_alone, counts_as, heard_as, pairing, third_last};
 
@@ -41,7 +41,7 @@ impl Heard {
 
     /// What is taken where this word alone counts.
     fn reception_alone(self) -> Option<Taken>
-        ensures { option_map taken_meaning result ≡ reception_alone (heard_as self) }
+        ensures { option_map reception_of result ≡ reception_alone (heard_as self) }
     {
         match self {
             Heard::Intact(Signal::Traffic(comb)) => Some(Taken::Char(comb)),
@@ -53,7 +53,7 @@ impl Heard {
 
 /// Takes a position from its two words: what both count as, or the only one that counts; all else is lost.
 pub fn combine(dx: Heard, rx: Heard) -> Taken
-    ensures { taken_meaning result ≡ pairing (heard_as dx) (heard_as rx) }
+    ensures { reception_of result ≡ pairing (heard_as dx) (heard_as rx) }
 {
     match (dx.reception_alone(), rx.reception_alone()) {
         (Some(first), Some(second)) => { if first == second { first } else { Taken::Lost } }
@@ -106,8 +106,8 @@ impl Diversity {
     /// Takes the next RX word, and answers the position that it completes: it is paired with the third last
     /// DX word that was given, or with a wrong weight where fewer than three were.
     pub fn rx(&mut self, heard: Heard) -> Taken
-        ensures paired { taken_meaning result ≡ pairing (third_last self.old) (heard_as heard) }
-        ensures stands { (words : List Counted) → IsLatest self.old words → taken_meaning result ≡ pairing (third_last words) (heard_as heard) }
+        ensures paired { reception_of result ≡ pairing (third_last self.old) (heard_as heard) }
+        ensures stands { (words : List Counted) → IsLatest self.old words → reception_of result ≡ pairing (third_last words) (heard_as heard) }
         ensures unchanged { self.new ≡ self.old }
     {
         let dx = if self.latest.is_full() {

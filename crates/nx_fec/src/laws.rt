@@ -10,7 +10,7 @@ ghost use Rattle.nx_fec.specs.Emission.{AreCombinations, AreInCode, AreWords, Is
 pub fn emissions()
     ensures one { (positions : List SentPosition) → IsEmission positions (emission positions) }
     ensures only { (positions : List SentPosition) (sent : List ℕ) → IsEmission positions sent → sent ≡ emission positions }
-    ensures sound { (positions : List SentPosition) → AreWords (emission positions) }
+    ensures sound { (positions : List SentPosition) → AreInCode positions → AreWords (emission positions) }
 {}
 
 /// Words and their elements give each other back.

@@ -1,7 +1,6 @@
 pub mod LineLemmas
 pub mod MessageFaultLemmas
 pub mod FileLaws
-pub mod SpellingBounds
 pub mod HeadLemmas
 pub mod BroadcastLemmas
 pub mod ReadingBack

@@ -2,7 +2,7 @@ use Rattle.std.proofs.Common.{slice_index, ◌≡◌, ◌+◌, ◌*◌, ◌++◌
 use Rattle.std.specs.Option.{option_to_list}
 use Rattle.std.proofs.lemmas.Grind.{common_steps}
 use Rattle.nx_code.specs.Reading.{shift_after_all, text}
-use Rattle.nx_code.specs.Taken.{meaning as taken_meaning}
+use Rattle.nx_code.specs.Taken.{reception_of}
 use Rattle.nx_code.specs.declared.shifts.Shift.TheVariants.{Letters}
 use Rattle.nx_fec.specs.Pairing.{IsLatest, counts_as, pairing, heard_as}
 use Rattle.nx_fec.specs.Aligned.{words_of, five_before, taken_at}
@@ -20,12 +20,12 @@ loop-position-preserved c =
     let dx : heard_as c.of.result ≡ counts_as (slice_index words (2 * n)) = c.of.ensures.counts ∙ ap counts_as (c.word_in.ensures ∙ sym (get_or-words_of c.args.bits.now (2 * n) (omega arith))) in
     let rx : heard_as c.of-in-loop-position.result ≡ counts_as (slice_index words (2 * n + 1)) = c.of-in-loop-position.ensures.counts ∙ ap counts_as (c.word_in-in-loop-position.ensures ∙ sym (get_or-words_of c.args.bits.now (2 * n + 1) (omega arith))) in
     let given : IsLatest c.dx.new.self (dx_words words (n + 1)) = subst (IsLatest c.dx.new.self) (dx_words-more words n (heard_as c.of.result) dx) (c.dx.ensures.stands (dx_words words n) c.loop-position.invariant.given) in
-    let taken : taken_meaning c.rx-taken.result ≡ taken_at words (2 * n + 1) =
+    let taken : reception_of c.rx-taken.result ≡ taken_at words (2 * n + 1) =
     c.rx-taken.ensures.stands (dx_words words (n + 1)) given
     ∙ ap (λ x. pairing x (heard_as c.of-in-loop-position.result)) (third_last-dx_words words n)
     ∙ ap (pairing (five_before words (2 * n + 1))) rx
     ∙ sym (taken_at-pairing words n) in
-    let more = taken_first-more words n (taken_meaning c.rx-taken.result) taken in
+    let more = taken_first-more words n (reception_of c.rx-taken.result) taken in
     let read = c.step.ensures.reading (taken_first words n) c.loop-position.invariant.shift in
     let printed : c.match-step.text.items ≡ c.loop-position.text.items ++ option_to_list c.step.result =
     elim c.match-step.branch [ in-Some+in_ok-map_err w ↦ grind (arith, common_steps) | in_default w ↦ grind (arith, common_steps) ] in

@@ -1,0 +1,5 @@
+use Rattle.nx_code.proofs.SilentCombinations.{silent_named}
+use Rattle.nx_code.proofs.laws.silent_combinations.Goals as goal
+
+pub returns : goal.returns
+returns c = silent_named
