@@ -3,4 +3,5 @@ pub mod MessageFaultLemmas
 pub mod FileLaws
 pub mod HeadLemmas
 pub mod BroadcastLemmas
+pub mod StationLemmas
 pub mod ReadingBack

@@ -2,3 +2,4 @@ pub mod Slots
 pub mod Broadcast
 pub mod Sendable
 pub mod MessageFile
+pub mod Faults

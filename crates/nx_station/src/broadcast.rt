@@ -1,5 +1,7 @@
 //! The emission of a list of messages (M.540, form of a message; M.625, mode B, for phasing and the end).
-ghost use Rattle.std.specs.Prelude.{◌≡◌, ◌≢◌, ◌≤◌, ◌==◌, ◌++◌, ℕ, List, [], IfOk, IfErr, OnOk, length, map, not, position, replicate};
+ghost use Rattle.std.specs.Prelude.{◌≡◌, ◌≢◌, ◌<◌, ◌≤◌, ◌==◌, ◌+◌, ◌++◌, ◌∷◌, ℕ, List, [], IfOk, IfErr, IsTrue, OnOk, length, map, not, position, replicate, slice_index_or, take};
+ghost use Rattle.std.specs.List.{AllByRecursion, list_all};
+ghost use Rattle.nx_code.specs.Characters.{is_in_code};
 ghost use Rattle.nx_code.specs.Spelling.{Spells};
 ghost use Rattle.nx_code.specs.declared.shifts.Shift.TheVariants.{Figures};
 ghost use Rattle.nx_envelope.specs.Message.{AreLines, text_of};
@@ -83,7 +85,8 @@ fn first_of_another(station: Letter, messages: &[Message]) -> Option<usize>
 /// How many positions the emission of messages has.
 fn count_positions(messages: &[Message]) -> u128
     requires { messages.now ≢ [] }
-    ensures { HavePositions messages.now result }
+    ensures count { HavePositions messages.now result }
+    ensures sound { AllByRecursion (λ (message : MessageView). AreLines message.lines) messages.now }
 {
     let mut count = 0u128;
     for message in messages {
@@ -96,6 +99,7 @@ fn count_positions(messages: &[Message]) -> u128
 fn count_combs(message: &Message) -> u64
     ensures spelled { (numbers : List ℕ) × IsSpelled message.now numbers × (result ≡ length numbers) }
     ensures few { result ≤ 8213 }
+    ensures sound { AreLines message.now.lines }
 {
     let extent = extent_of_text(message);
     HEAD as u64 + extent.length + ending_len(extent.shift)
@@ -105,13 +109,14 @@ fn count_combs(message: &Message) -> u64
 fn extent_of_text(message: &Message) -> Extent
     ensures spells { IsExtent (text_of message.now.lines) result }
     ensures few { result.length ≤ 8192 }
+    ensures sound { AreLines message.now.lines }
 {
     let mut extent = Extent {
         length: 0,
         shift: Shift::Figures,
     };
     for i in 0..message.line_count() {
-        let line = message.line(i).unwrap();
+        let line = line_at(message, i);
         let more = extent_of(line, extent.shift).unwrap();
         extent = Extent {
             length: extent.length + more.length + LINE_END,
@@ -119,6 +124,17 @@ fn extent_of_text(message: &Message) -> Extent
         };
     }
     extent
+}
+
+/// The line of a message at a place, from 0.
+fn line_at(message: &Message, i: u64) -> &[u8]
+    requires { i < length message.now.lines }
+    ensures line { result.now ≡ slice_index_or message.now.lines i [] }
+    ensures in_code { IsTrue (list_all is_in_code result.now) }
+    ensures text { text_of (take (i + 1) message.now.lines) ≡ text_of (take i message.now.lines) ++ (result.now ++ 10 ∷ []) }
+    ensures few { length (text_of (take (i + 1) message.now.lines)) ≤ 4096 }
+{
+    message.line(i).unwrap()
 }
 
 /// The positions of messages.
@@ -159,10 +175,13 @@ fn push_ending(positions: &mut Vec<Position>, shift: Shift) -> Result<(), AllocE
     ensures { OnOk result (map sent_position positions.new.items
         ≡ map sent_position positions.old.items ++ map traffic_position (ending shift)) }
 {
-    if shift == Shift::Figures {
-        positions.push(Position::Traffic(Comb::LETTER_SHIFT))?;
+    match shift {
+        Shift::Letters => push_combs(positions, &ENDING),
+        Shift::Figures => {
+            push_combs(positions, &[Comb::LETTER_SHIFT])?;
+            push_combs(positions, &ENDING)
+        }
     }
-    push_combs(positions, &ENDING)
 }
 
 /// The text of a message, spelled from the figure shift of its head on.
@@ -184,7 +203,7 @@ fn text_bytes(alloc: Global, message: &Message) -> Result<Vec<u8>, AllocError>
 {
     let mut text = Vec::new(alloc);
     for i in 0..message.line_count() {
-        let line = message.line(i).unwrap();
+        let line = line_at(message, i);
         text.extend_from_slice(line)?;
         text.push(NEWLINE)?;
     }
