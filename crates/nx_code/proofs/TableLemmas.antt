@@ -34,10 +34,6 @@ unfolding weight elements elements_from ones ones_in
 weight-ones word h = agree_below_at (λ n. eqb (ones n) 4) (λ n. eqb (weight n) 4) 128 word refl h
 
 -- the words of the code's table are those of the table
-pub position-TABLE : (number : ℕ) → position (λ (row : Row). eqb row.word number) TABLE ≡ place_of number
-unfolding table words place_of
-position-TABLE number = refl
-
 words-TABLE : map (λ (row : Row). row.word) TABLE ≡ words
 unfolding table words
 words-TABLE = refl
