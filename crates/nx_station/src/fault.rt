@@ -1,5 +1,6 @@
 //! Why messages are not sent.
 use nx_envelope::MessageFault;
+use nx_fec::{ReadFault, WriteFault};
 use std::alloc::AllocError;
 use thiserror::Error;
 
@@ -53,4 +54,57 @@ pub enum SendRunFault {
     /// Memory ran out.
     #[error("out of memory")]
     Memory(AllocError),
+}
+
+impl From<AllocError> for SendRunFault {
+    ghost use Rattle.std.specs.Prelude.{◌≡◌};
+    ghost use Rattle.nx_station.specs.declared.fault.SendRunFault.TheVariants.{Memory};
+
+    ghost from_gives = { λ error made. made ≡ Memory error };
+
+    fn from(error: AllocError) -> SendRunFault {
+        SendRunFault::Memory(error)
+    }
+}
+
+impl From<ReadFault> for SendRunFault {
+    ghost use Rattle.std.specs.Prelude.{◌≡◌};
+    ghost use Rattle.nx_station.specs.Faults.{whole_fault};
+
+    ghost from_gives = { λ fault made. made ≡ whole_fault fault };
+
+    fn from(fault: ReadFault) -> SendRunFault {
+        match fault {
+            ReadFault::Read => SendRunFault::Read,
+            ReadFault::FileTooLong => SendRunFault::FileTooLong,
+            ReadFault::Memory(error) => SendRunFault::Memory(error),
+        }
+    }
+}
+
+impl From<SendFault> for SendRunFault {
+    ghost use Rattle.std.specs.Prelude.{◌≡◌};
+    ghost use Rattle.nx_station.specs.Faults.{send_fault};
+
+    ghost from_gives = { λ fault made. made ≡ send_fault fault };
+
+    fn from(fault: SendFault) -> SendRunFault {
+        match fault {
+            SendFault::Memory(error) => SendRunFault::Memory(error),
+            refused => SendRunFault::Send(refused),
+        }
+    }
+}
+
+impl From<WriteFault> for SendRunFault {
+    ghost use Rattle.std.specs.Prelude.{◌≡◌};
+    ghost use Rattle.nx_station.specs.declared.fault.SendRunFault.TheVariants.{Write};
+
+    ghost from_gives = { λ fault made. made ≡ Write fault.written };
+
+    fn from(fault: WriteFault) -> SendRunFault {
+        SendRunFault::Write {
+            written: fault.written,
+        }
+    }
 }

@@ -1,10 +1,12 @@
-//! Temporary.
+//! A broadcast station (M.540): the slots of stations, the emissions of their messages, and message files.
 #![tactic(auto)]
 
+mod broadcast;
 mod fault;
-mod sending;
+mod heads;
+pub mod laws;
 mod slots;
 
+pub use broadcast::{MAX_POSITIONS, emission};
 pub use fault::{SendFault, SendRunFault};
-pub use sending::{Sent, send};
 pub use slots::next_slot;
