@@ -6,4 +6,6 @@ pub mod Emission
 pub mod Lines
 pub mod Pairing
 pub mod Runs
+pub mod Scanner
+pub mod ScannerFields
 pub mod Transfers

@@ -17,7 +17,7 @@ mod runs;
 mod scanner;
 mod writing;
 
-pub use air_file::{AirLine, MAX_ELEMENTS, air_line};
+pub use air_file::{AirLine, LineKind, MAX_ELEMENTS, air_line};
 pub use aligned::{AlignedFault, decode_aligned};
 pub use counting::Counting;
 pub use diversity::{Diversity, Heard, combine};

@@ -98,10 +98,12 @@ fn push_line(line: &[bool], batch: &mut ArrayVec<u8, BATCH_BYTES>)
     requires room { array_vec_len batch.old + LINE_BYTES ≤ BATCH_BYTES }
     ensures { batch.new.items ≡ batch.old.items ++ line_bytes (elements line.now) }
 {
+    let mut digits = [b'0'; LINE_ELEMENTS];
+    for place in 0..line.len() {
+        digits[place] = if line[place] { b'1' } else { b'0' };
+    }
     batch.push(b'B');
     batch.push(b' ');
-    for bit in line {
-        batch.push(if *bit { b'1' } else { b'0' });
-    }
+    batch.try_extend_from_slice(&digits[..line.len()]).unwrap();
     batch.push(b'\n');
 }

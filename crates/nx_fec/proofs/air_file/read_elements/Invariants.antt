@@ -1,6 +1,6 @@
 use Rattle.std.proofs.Common.{◌≡◌, ℕ, Bool, List, map, take, length}
 use Rattle.nx_fec.specs.AirFile.{element_digit}
-use Rattle.nx_fec.proofs.air_file.elements.Given as goal
+use Rattle.nx_fec.proofs.air_file.read_elements.Given as goal
 
 -- the elements so far are the digits so far
 pub record Reads (digits : List ℕ) (at : ℕ) (bits : List Bool) : Type 0 where
