@@ -155,7 +155,17 @@ fn scan_byte(byte: u8, scanner: &mut Scanner, bits: &mut Vec<bool>) -> Result<()
     ensures no_read { IsErrOf result RunFault.Read → ⊥ }
 {
     if scanner.push(byte)? {
-        bits.extend_from_slice(scanner.elements())?;
+        append_elements(scanner.elements(), bits)?;
     }
     Ok(())
+}
+
+/// Appends the elements of a line, which only a line of elements has.
+fn append_elements(elements: &[bool], bits: &mut Vec<bool>) -> Result<(), AllocError>
+    ensures { OnOk result (bits.new.items ≡ bits.old.items ++ elements.now) }
+{
+    if elements.is_empty() {
+        return Ok(());
+    }
+    bits.extend_from_slice(elements)
 }

@@ -7,11 +7,9 @@ ghost use Rattle.nx_fec.specs.Scanner.{elements_kept, kind_kept};
 
 use crate::air_file::{LineKind, MAX_ELEMENTS, read_line};
 use crate::fault::LineFault;
+use crate::line_bytes::{LineBytes, MAX_LINE_BYTES};
 use arrayvec::ArrayVec;
 use std::marker::Model;
-
-/// The most bytes of a line before its end.
-pub const MAX_LINE_BYTES: usize = 514;
 
 /// The byte that ends a line.
 const LINE_END: u8 = b'\n';
@@ -21,7 +19,7 @@ const LINE_END: u8 = b'\n';
 #[derive(Drop)]
 pub struct Scanner {
     /// The bytes of that line.
-    kept: ArrayVec<u8, MAX_LINE_BYTES>,
+    kept: LineBytes,
     /// What the line that was ended says, and its elements.
     ended: Option<LineKind>,
     elements: ArrayVec<bool, MAX_ELEMENTS>,
@@ -38,18 +36,18 @@ impl Model for Scanner {
     ghost Value = { Scanning };
 
     ghost view = { λ s. record {
-      part = part_of s.ended s.kept.items;
+      part = part_of s.ended s.kept;
       lines = s.lines;
       room = s.room;
       latest = line_ended s.ended s.elements.items;
     } };
 
-    ghost invariant = { λ s. (s.lines + length (part_of s.ended s.kept.items) + s.room < 2 ^ 64)
-        × IsKept s.ended s.elements.items s.kept.items };
+    ghost invariant = { λ s. (s.lines + length (part_of s.ended s.kept) + s.room < 2 ^ 64)
+        × IsKept s.ended s.elements.items s.kept };
 
     // What contracts see gives every field back: a scanner keeps nothing else.
     ghost inverse = { λ v. record {
-      kept = record { items = bytes_kept v.latest v.part };
+      kept = bytes_kept v.latest v.part;
       ended = kind_kept v.latest;
       elements = record { items = elements_kept v.latest };
       lines = v.lines;
@@ -57,9 +55,9 @@ impl Model for Scanner {
     } };
 
     ghost inverse_ok = { λ s h i. record {
-      kept = record { items = (kept-back s.ended s.elements.items s.kept.items h.1).bytes i };
-      ended = (kept-back s.ended s.elements.items s.kept.items h.1).kind i;
-      elements = record { items = (kept-back s.ended s.elements.items s.kept.items h.1).elements i };
+      kept = (kept-back s.ended s.elements.items s.kept h.1).bytes i;
+      ended = (kept-back s.ended s.elements.items s.kept h.1).kind i;
+      elements = record { items = (kept-back s.ended s.elements.items s.kept h.1).elements i };
       lines = s.lines;
       room = s.room;
     } };
@@ -72,7 +70,7 @@ impl Scanner {
         ensures no_line { result.latest ≡ None }
     {
         Scanner {
-            kept: ArrayVec::new(),
+            kept: LineBytes::new(),
             ended: None,
             elements: ArrayVec::new(),
             lines: 0,
@@ -108,7 +106,7 @@ impl Scanner {
         if self.ended.is_none() {
             return None;
         }
-        Some(&self.kept)
+        Some(self.kept.as_slice())
     }
 
     /// Takes the next byte, and says whether it ended a line, which then is the latest. After a fault, which is the
@@ -156,7 +154,7 @@ impl Scanner {
         if self.ended.is_some() {
             return false;
         }
-        let Some(kind) = read_line(&self.kept, &mut self.elements) else {
+        let Some(kind) = read_line(self.kept.as_slice(), &mut self.elements) else {
             return false;
         };
         self.ended = Some(kind);
@@ -181,7 +179,7 @@ impl Scanner {
             self.elements.clear();
             self.ended = None;
         }
-        if self.kept.is_full() {
+        if self.kept.len() == MAX_LINE_BYTES {
             return false;
         }
         self.kept.push(byte);
@@ -194,7 +192,7 @@ impl Scanner {
         ensures { (limit : ℕ) (bytes : List ℕ) (lines : List Line) → Scans limit self.now bytes lines →
             MatchResult result (λ _. IsAirFile limit bytes lines) (λ why. IsCause limit (length bytes) lines self.now.part [] why) }
     {
-        if self.ended.is_some() || self.kept.is_empty() {
+        if self.ended.is_some() || self.kept.len() == 0 {
             return Ok(());
         }
         Err(LineFault::LineCut {

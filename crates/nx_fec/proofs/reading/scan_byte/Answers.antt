@@ -9,11 +9,11 @@ returns-in_err-push-clause-read c = λ limit bytes h.
     rw (p.1, p.2) (λ more. ExplainsReading-at_byte limit _ c.in_err-push.field-0.0 c.in_err-push.ensures.at_byte
     (HasFault-cause limit bytes h.lines _ _ _ h.scans.splits (c.in_err-push.ensures.bytes limit bytes h.lines h.scans more)))
 
-pub returns-in_ok-extend_from_slice-clause-read : goal.returns-in_ok-extend_from_slice-clause-read
-returns-in_ok-extend_from_slice-clause-read c = λ limit bytes h.
+pub returns-in_ok-append_elements-clause-read : goal.returns-in_ok-append_elements-clause-read
+returns-in_ok-append_elements-clause-read c = λ limit bytes h.
     HasRead-ended limit _ _ _ _ bytes _ c.in_ok-push.field-0 c.push.new.self.latest c.if-branch.true h
     (c.in_ok-push.ensures.bytes limit bytes h.lines h.scans)
-    (c.in_ok-extend_from_slice.ensures.items ∙ ap (λ l. c.args.bits.now.items ++ l) (c.elements.ensures ∙ sym (elements_kept-list c.push.new.self.latest)))
+    (c.in_ok-append_elements.ensures ∙ ap (λ l. c.args.bits.now.items ++ l) (c.elements.ensures ∙ sym (elements_kept-list c.push.new.self.latest)))
 
 pub returns-else-branch-clause-read : goal.returns-else-branch-clause-read
 returns-else-branch-clause-read c = λ limit bytes h.
