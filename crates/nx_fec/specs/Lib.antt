@@ -9,3 +9,5 @@ pub mod Runs
 pub mod Scanner
 pub mod ScannerFields
 pub mod Transfers
+pub mod Hexadecimal
+pub mod TableText

@@ -6,7 +6,7 @@ use Rattle.std.proofs.lemmas.List.Sums.{sum_by_push}
 use Rattle.circular_buffer.specs.Buffer.{keep_last}
 use Rattle.nx_sync.specs.declared.step.Role.{Role}
 use Rattle.nx_sync.specs.declared.step.Role.TheVariants.{Dx, Rx}
-use Rattle.nx_sync.specs.declared.synchroniser.Track.{Track}
+use Rattle.nx_sync.specs.declared.track.Track.{Track}
 use Rattle.nx_code.specs.Phasing.{phasing_1}
 use Rattle.nx_sync.specs.Words.{other_role, is_dx, is_wrong, one_if, role_of, wrong_in, wrong_until}
 use Rattle.nx_sync.specs.Locks.{releases_as_ended, change_at}

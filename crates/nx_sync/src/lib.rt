@@ -7,6 +7,9 @@ mod step;
 mod synchroniser;
 #[cfg(test)]
 mod tests;
+mod track;
+mod windows;
 
 pub use step::{Change, Role, Step};
 pub use synchroniser::Synchroniser;
+pub use windows::first_lock;

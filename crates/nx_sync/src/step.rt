@@ -52,4 +52,10 @@ impl Step {
         word: None,
         change: None,
     };
+
+    /// The step of an element at which a lock is found.
+    pub(crate) const LOCKED: Step = Step {
+        word: None,
+        change: Some(Change::Locked),
+    };
 }
