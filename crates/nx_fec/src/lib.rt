@@ -3,7 +3,6 @@
 #![tactic(auto)]
 
 mod air_file;
-pub mod air_laws;
 mod aligned;
 mod counting;
 mod diversity;

@@ -1,5 +1,5 @@
 use Rattle.nx_fec.proofs.LineLaws.{HasFault-unique, IsAirFile-good, IsBitFile-unique, Splits-good}
-use Rattle.nx_fec.proofs.air_laws.one_outcome.Goals as goal
+use Rattle.nx_fec.proofs.laws.one_outcome.Goals as goal
 
 pub returns-clause-fault : goal.returns-clause-fault
 returns-clause-fault c = HasFault-unique
