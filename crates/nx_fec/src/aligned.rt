@@ -101,6 +101,8 @@ mod tests {
             ];
             let bits = bits_of(rt.alloc(), &words)?;
             assert_eq!(rt; decode_aligned(rt.alloc(), &bits)?.as_slice(), text);
+            assert_eq!(rt; word_in(&bits, 13), Word::new(rx));
+            assert_eq!(rt; word_in(&bits, 15), None);
         }
         Ok(())
     }

@@ -150,7 +150,9 @@ mod tests {
     }
 
     impl Recovering {
-        fn answer(&mut self, count: usize) -> io::Result<usize> {
+        fn answer(&mut self, count: usize) -> io::Result<usize>
+            ensures { IfOk result (λ done. done ≡ count) }
+        {
             self.calls = self.calls.saturating_add(1);
             if self.fails && self.calls == 1 {
                 return Err(Error::from(ErrorKind::Other));
@@ -176,7 +178,9 @@ mod tests {
         }
     }
 
-    fn device(fails: bool) -> Counting<Recovering> {
+    fn device(fails: bool) -> Counting<Recovering>
+        ensures { result.failures ≡ 0 }
+    {
         Counting::new(Recovering { fails, calls: 0 })
     }
 
