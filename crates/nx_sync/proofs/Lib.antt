@@ -15,3 +15,5 @@ pub mod Counts
 pub mod WordLists
 pub mod Hunting
 pub mod WholeWords
+pub mod Strides
+pub mod PhasingStates

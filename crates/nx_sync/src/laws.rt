@@ -1,16 +1,16 @@
 //! Laws of the locks, over whole lists of bits. Each function does nothing; its contract is the law. They show
 //! that the definition says what a receiver needs, and the crates above build on them.
 
-ghost use Rattle.std.specs.Prelude.{◌≡◌, ℕ, ◌+◌, ◌*◌, ◌<◌, ◌≤◌, List, Bool, false, [], ◌∷◌, ◌++◌, length};
+ghost use Rattle.std.specs.Prelude.{◌≡◌, ℕ, ◌+◌, ◌*◌, ◌/◌, ◌<◌, ◌≤◌, List, Bool, true, take, [], ◌∷◌, ◌++◌, length};
 ghost use Rattle.nx_sync.specs.declared.step.Change.{Change as How};
 ghost use Rattle.nx_sync.specs.declared.step.Role.{Role as RoleOf};
 ghost use Rattle.nx_sync.specs.declared.step.Step.{Step};
 ghost use Rattle.nx_code.specs.Word.{number_of};
 ghost use Rattle.nx_code.specs.Phasing.{phasing_1};
-ghost use Rattle.nx_sync.specs.Words.{words_of, words_heard, heard_word, window_words, losing_count, word_at, first_role, role_of, wrong_in, wrong_until};
+ghost use Rattle.nx_sync.specs.Words.{is_wrong, words_of, words_heard, heard_word, window_words, losing_count, word_at, first_role, role_of, wrong_in, wrong_until};
 ghost use Rattle.nx_sync.specs.Locks.{before_dx, before_rx, hunting, locked, IsHunting, words_of_past, IsPattern, Finds, release, IsReleased, Lock, Past, Now, IsLocked, IsNow};
 ghost use Rattle.nx_sync.specs.Steps.{Brings, IsStep, word_of_step};
-ghost use Rattle.nx_sync.specs.Laws.{IsSecondPhasing1, IsEarlier, Standing, GoesOn, Stood, OneMore, phasing, LockedBeforeDx};
+ghost use Rattle.nx_sync.specs.Laws.{IsOnPhasing, IsBetweenLimits, IsReleasedBy, IsSecondPhasing1, IsEarlier, Standing, GoesOn, Stood, OneMore, phasing, LockedBeforeDx};
 
 /// The two patterns as numbers, their oldest element in the least place.
 pub fn patterns_have_these_numbers()
@@ -89,6 +89,39 @@ pub fn a_good_lock_is_kept()
         → ((i n : ℕ) → n ≤ window_words → t + 7 * (i + n) ≤ length bits → wrong_in (word_at bits t) i n < losing_count)
         → ((k : ℕ) → t + 7 * (k + 3) ≤ length bits → role_of (first_role bits t) k ≡ RoleOf.Dx → word_at bits t k ≡ phasing_1 → word_at bits t (k + 2) ≡ phasing_1 → ⊥)
         → IsLocked bits locks p t }
+{}
+
+/// A hunt locks rightly in 48 phasing words as sent, whatever bits came before them: after 28 of their bits or more, the
+/// search finds the next word limit, and the lock has the limits and roles of the phasing.
+pub fn a_hunt_locks_in_phasing()
+    ensures { (earlier : List Bool) (i p : ℕ) (locks : List Lock) → 28 ≤ i → i < 336 → IsHunting (earlier ++ take i (phasing 24)) locks p
+        → Finds (earlier ++ phasing 24) p (length earlier + 7 * (i / 7 + 1))
+        × IsOnPhasing (earlier ++ phasing 24) (length earlier) (length earlier + 7 * (i / 7 + 1)) }
+{}
+
+/// A lock on other word limits than those of 48 phasing words as sent meets only wrong words in them, so that it is
+/// released by the 40th of these at the latest.
+pub fn a_lock_between_limits_is_lost()
+    ensures wrong { (earlier : List Bool) (t : ℕ) → IsPattern (earlier ++ phasing 24) t → IsBetweenLimits (length earlier) t
+        → (k : ℕ) → length earlier ≤ t + 7 * k → t + 7 * (k + 1) ≤ length earlier + 336 → is_wrong (word_at (earlier ++ phasing 24) t k) ≡ true }
+    ensures released { (earlier : List Bool) (t : ℕ) → IsPattern (earlier ++ phasing 24) t → IsBetweenLimits (length earlier) t
+        → IsReleasedBy (earlier ++ phasing 24) t (length earlier + 286) }
+{}
+
+/// A lock on the word limits of 48 phasing words as sent, but with swapped roles, has phasing signal 1 in its DX words, so
+/// that it is released by the seventh of them at the latest.
+pub fn a_lock_with_swapped_roles_ends()
+    ensures second { (earlier : List Bool) (t k : ℕ) → t + 7 * k ≡ length earlier → role_of (first_role (earlier ++ phasing 24) t) k ≡ RoleOf.Rx
+        → IsSecondPhasing1 (first_role (earlier ++ phasing 24) t) (word_at (earlier ++ phasing 24) t) (k + 3) }
+    ensures released { (earlier : List Bool) (t k : ℕ) → t + 7 * k ≡ length earlier → role_of (first_role (earlier ++ phasing 24) t) k ≡ RoleOf.Rx
+        → IsReleasedBy (earlier ++ phasing 24) t (length earlier + 49) }
+{}
+
+/// A lock on the word limits and roles of 48 phasing words as sent, which stands after 28 of their bits or more, stands
+/// after all of them.
+pub fn a_right_lock_stays()
+    ensures { (earlier : List Bool) (i p t : ℕ) (locks : List Lock) → 28 ≤ i → i ≤ 336 → IsLocked (earlier ++ take i (phasing 24)) locks p t
+        → IsOnPhasing (earlier ++ phasing 24) (length earlier) t → IsLocked (earlier ++ phasing 24) locks p t }
 {}
 
 /// 48 phasing words as sent (P2 P1, 24 times) leave a lock on their word limits and with P2 as DX, whatever bits came

@@ -11,7 +11,8 @@ ghost use Rattle.nx_sync.specs.Synchroniser.{StandsAfter, is_hunting, is_between
 use crate::step::{Change, Role, Step};
 use crate::track::Track;
 use crate::windows::{
-    BLOCK, PATTERN, first_lock, last_word, next_window, next_word_window, role_after, windows_after,
+    PATTERN, STRIDE, first_lock, last_word, may_lock, next_window, next_word_window, role_after,
+    stride_window, windows_after,
 };
 use circular_buffer::HeapCircularBuffer;
 use nx_code::{ELEMENTS, Word, check_bits};
@@ -247,10 +248,10 @@ impl Synchroniser {
     {
         let mut at = self.skip_early(bits);
         while at < bits.len() {
-            let block = &bits[at..(at + BLOCK).min(bits.len())];
-            let count = self.skip_block(block);
+            let part = &bits[at..(at + STRIDE).min(bits.len())];
+            let count = self.skip_part(part);
             at += count;
-            if count < block.len() {
+            if count < part.len() {
                 return at;
             }
         }
@@ -270,10 +271,25 @@ impl Synchroniser {
         count
     }
 
-    /// Hears elements of one block as long as none ends a pattern, and says how many.
+    /// Hears at most 21 elements as long as none ends a pattern, and says how many.
+    #[inline(always)]
+    fn skip_part(&mut self, part: &[bool]) -> usize
+        requires seen { 27 ≤ self.old.seen }
+        requires few { length part.now ≤ 21 }
+        ensures { Skips self.old part.now result self.new }
+    {
+        if part.len() < STRIDE || may_lock(self.recent) {
+            return self.skip_block(part);
+        }
+        self.recent = stride_window(self.recent, part);
+        self.seen = PATTERN;
+        STRIDE
+    }
+
+    /// The same, by the windows after each element.
     fn skip_block(&mut self, block: &[bool]) -> usize
         requires seen { 27 ≤ self.old.seen }
-        requires few { length block.now ≤ 64 }
+        requires few { length block.now ≤ 21 }
         ensures { Skips self.old block.now result self.new }
     {
         let windows = windows_after(self.recent, block);
