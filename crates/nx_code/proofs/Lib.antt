@@ -1,9 +1,9 @@
 pub mod CharacterLemmas
 mod Examples
+mod OneSpelling
 mod PlaceLemmas
 pub mod ReadingLemmas
 mod SilentCombinations
-mod SpellingLaws
 pub mod SpellingLemmas
 pub mod TableLemmas
 pub mod WordLemmas

@@ -156,7 +156,7 @@ shorter raw b =
     let long : length (raw ++ b ∷ []) - 4 ≡ length raw - 3 = omega (arith, length-append raw (b ∷ [])) in
     rw long (take-append-le (length raw - 3) raw (b ∷ []) (omega arith))
 
-found_is : (back raw : List ℕ) (b : ℕ) (how : How) → marker_back back ≡ Some how → found_text how raw b ≡ take (length raw - 3) raw
+pub found_is : (back raw : List ℕ) (b : ℕ) (how : How) → marker_back back ≡ Some how → found_text how raw b ≡ take (length raw - 3) raw
 found_is back raw b Full e = refl
 found_is back raw b Cut e = refl
 found_is back raw b Long e = absurd (if_long (ends_in end_marker back) (ends_in start_marker back) e)

@@ -1,6 +1,6 @@
 -- The copies of messages in a received text: the form of a message is that of ITU-R M.540; that a text without an end
 -- is found up to 4,100 characters is this profile's.
-use Rattle.std.specs.Prelude.{ℕ, ◌-◌, ◌==◌, nat_le, Bool, if◌then◌else◌, Option, Some, None, List, [], ◌∷◌, length, take, drop, map, reverse, count_by, unwrap_or}
+use Rattle.std.specs.Prelude.{ℕ, ◌-◌, ◌==◌, nat_le, Bool, if◌then◌else◌, Option, Some, None, List, [], ◌∷◌, length, take, drop, map, reverse, unwrap_or}
 use Rattle.std.specs.List.{filter, filter_map}
 use Rattle.std.specs.Option.{option_map, option_or, is_none}
 use Rattle.nx_envelope.specs.Backward.{header_back, marker_back}
@@ -71,10 +71,6 @@ pub record Copy : Type 0 where
   pub header : Header
   pub how : How
   pub text : List ℕ
-
--- the errors of a found text, its asterisks (42)
-abbrev pub errors_of : List ℕ → ℕ
-errors_of text = count_by (λ b. b == 42) text
 
 abbrev pub copy_with : Header → Ending → Copy
 copy_with header ending = record { header = header; how = ending.how; text = ending.text }

@@ -1,6 +1,6 @@
 //! What a memory of identities answers, whatever holds it.
 
-ghost use Rattle.std.specs.Prelude.{◌≡◌, ◌<◌, ◌≤◌, List, length, not, true, false, MatchBool};
+ghost use Rattle.std.specs.Prelude.{◌≡◌, ◌<◌, ◌≤◌, List, length, false};
 ghost use Rattle.nx_memory.specs.declared.entry.MemoryEntry.{MemoryEntry};
 ghost use Rattle.nx_memory.specs.Memory.{most_entries, is_known, content_after, newest_of, newest_moment};
 
@@ -36,23 +36,4 @@ pub trait Recall: Drop {
         requires unknown { is_known identity moment (content self.old) ≡ false }
         requires numbered { 0 < identity.number }
         ensures { content self.new ≡ content_after (content self.old) identity moment };
-}
-
-/// Enters the identity unless it is known at the moment, and says whether it was entered. Afterwards it is known.
-/// As `Recall::enter`, it takes a moment that isn't before the newest, and a number other than 00.
-pub fn enter_unless_known<M: Recall>(memory: &mut M, identity: Identity, moment: u64) -> bool
-    requires not_before { newest_moment (M.content memory.old) ≤ moment }
-    requires numbered { 0 < identity.number }
-    ensures entered { result ≡ not (is_known identity moment (M.content memory.old)) }
-    ensures content { MatchBool result
-        (M.content memory.new ≡ content_after (M.content memory.old) identity moment)
-        (M.content memory.new ≡ M.content memory.old) }
-    ensures not_before { newest_moment (M.content memory.new) ≤ moment }
-    ensures known { is_known identity moment (M.content memory.new) ≡ true }
-{
-    let unknown = !memory.knows(&identity, moment);
-    if unknown {
-        memory.enter(identity, moment);
-    }
-    unknown
 }

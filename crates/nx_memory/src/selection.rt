@@ -2,6 +2,7 @@
 
 ghost use Rattle.std.specs.Prelude.{◌≡◌, ◌↔◌, false, not, IsTrue, IsErr, IfErr, OnOk, OnErr};
 ghost use Rattle.std.specs.FinSet as set;
+ghost use Rattle.nx_memory.specs.Refused.{IsRefusable};
 ghost use Rattle.nx_memory.specs.Vital.{is_vital};
 ghost use Rattle.nx_memory.specs.Selection.{admits};
 
@@ -18,7 +19,8 @@ pub struct Vital {
     pub subject: Letter,
 }
 
-/// The stations and the subjects that are refused, at first none. Contracts see it as these two sets of letters.
+/// The stations and the subjects that are refused, at first none. Contracts see it as these two sets of letters,
+/// which hold nothing but letters and no vital subject.
 #[derive(Drop)]
 pub struct Selection {
     refused_stations: LetterSet,
@@ -26,8 +28,7 @@ pub struct Selection {
 }
 
 impl Model for Selection {
-    ghost use Rattle.nx_memory.specs.Refused.{Refused, refused_code};
-    ghost use Rattle.nx_memory.specs.Vital.{IsWithoutVital};
+    ghost use Rattle.nx_memory.specs.Refused.{Refused, refused_code, IsRefusable};
 
     ghost Value = { Refused };
 
@@ -35,7 +36,9 @@ impl Model for Selection {
 
     ghost view = { λ s. record { stations = s.refused_stations; subjects = s.refused_subjects } };
 
-    ghost invariant = { λ s. IsWithoutVital s.refused_subjects };
+    ghost invariant = { λ s. IsRefusable (record { stations = s.refused_stations; subjects = s.refused_subjects }) };
+
+    ghost inverse = { λ refused. record { refused_stations = refused.stations; refused_subjects = refused.subjects } };
 }
 
 #[tactic(auto, using(crate::proofs::Letters::changes))]
@@ -97,6 +100,7 @@ impl Selection {
         ensures selected { result ≡ admits self.now identity.now }
         ensures vital { IsTrue (is_vital identity.now.b2.byte)
             → result ≡ not (set.contains self.now.stations identity.now.b1.byte) }
+        ensures refusable { IsRefusable self.now }
     {
         !self.refused_stations.contains(identity.b1) && !self.refused_subjects.contains(identity.b2)
     }

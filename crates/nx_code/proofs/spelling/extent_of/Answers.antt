@@ -10,7 +10,7 @@ use Rattle.nx_code.specs.Reading.{combination, shift_after_all}
 use Rattle.nx_code.specs.Spelling.{numbers_of}
 use Rattle.nx_code.specs.declared.shifts.Shift.{Shift}
 use Rattle.nx_code.specs.declared.signals.Comb.{Comb}
-use Rattle.nx_code.proofs.SpellingLaws.{spelled-in_code, spelling-one}
+use Rattle.nx_code.proofs.OneSpelling.{spelled-in_code, spelling-one}
 use Rattle.nx_code.proofs.SpellingLemmas.{Extends, Extends-push, position-None}
 use Rattle.nx_code.proofs.spelling.extent_of.Goals as goal
 
