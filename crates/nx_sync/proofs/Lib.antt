@@ -17,3 +17,4 @@ pub mod Hunting
 pub mod WholeWords
 pub mod Strides
 pub mod PhasingStates
+pub mod Examples

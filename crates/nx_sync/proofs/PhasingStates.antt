@@ -292,7 +292,7 @@ module _ (earlier : List Bool) (i : ℕ) (low : 28 ≤ i) (high : i ≤ 336) (t 
       subst (λ xs. IsLocked xs locks p t) all (stands_longer (earlier ++ take i (phasing 24)) (drop i (phasing 24)) locks p t now
       (λ w after fits. subst (λ xs. wrong_until (word_at xs t) w < 40) (sym all) (few_wrong w (now_few locks p now) (omega (arith, after, l)) (omega (arith, fits, ap length all, phasing_heard earlier)) (omega (arith, began, l))))
       (λ k after fits second.
-          let at = subst (λ xs. IsSecondPhasing1 (first_role xs t) (word_at xs t) k) all second in
-          let e = on_second k (omega (arith, after, l)) (omega (arith, fits, ap length all, phasing_heard earlier)) at.dx in
-          let d = at.this in
-          omega (arith, e, d)))
+      let at = subst (λ xs. IsSecondPhasing1 (first_role xs t) (word_at xs t) k) all second in
+      let e = on_second k (omega (arith, after, l)) (omega (arith, fits, ap length all, phasing_heard earlier)) at.dx in
+      let d = at.this in
+      omega (arith, e, d)))

@@ -1,4 +1,5 @@
-//! The synchroniser. It keeps the last 28 elements and, where a lock stands, a few facts on its last words.
+//! The synchroniser. It keeps the last 28 elements and, where a lock stands, a few facts on its
+//! last words.
 
 ghost use Rattle.std.specs.Prelude.{◌≡◌, ℕ, ◌+◌, ◌-◌, ◌/◌, ◌^◌, ◌<◌, ◌≤◌, ◌↔◌, List, Bool, [], ◌∷◌, ◌++◌, length, take, min, not, IsTrue, IfOk};
 ghost use Rattle.circular_buffer.specs.Buffer.{keep_last};
@@ -25,8 +26,8 @@ const WINDOW: usize = 64;
 /// How many wrong words among these lose the lock (this profile).
 const LOST: u32 = 40;
 
-/// The synchroniser of a receiver. It keeps no history but the last 28 elements, and whether each of the
-/// last 64 words of a lock was wrong.
+/// The synchroniser of a receiver. It keeps no history but the last 28 elements, and whether each
+/// of the last 64 words of a lock was wrong.
 #[derive(Drop)]
 pub struct Synchroniser {
     /// The last 28 elements, the oldest in the least place.
@@ -61,7 +62,8 @@ impl Model for Synchroniser {
 }
 
 impl Synchroniser {
-    /// A synchroniser that has heard nothing, and hunts. Fails where there is no memory for its 64 marks.
+    /// A synchroniser that has heard nothing, and hunts. Fails where there is no memory for its 64
+    /// marks.
     pub fn new(alloc: Global) -> Result<Synchroniser, AllocError>
         ensures stands { IfOk result (λ s. StandsAfter s []) }
         ensures hunting { IfOk result (λ s. IsTrue (is_hunting s)) }
@@ -79,7 +81,8 @@ impl Synchroniser {
     /// Whether a lock stands.
     #[inline(always)]
     pub fn is_locked(&self) -> bool
-        ensures stands { (bits : List Bool) → StandsAfter self.now bits → (IsTrue result ↔ LockStands bits) }
+        ensures stands { (bits : List Bool) → StandsAfter self.now bits
+            → (IsTrue result ↔ LockStands bits) }
         ensures hunting { result ≡ not (is_hunting self.now) }
     {
         self.track.is_some()
@@ -99,8 +102,10 @@ impl Synchroniser {
     /// Hears one element, true for B, and says what it brings.
     #[inline(always)]
     pub fn push(&mut self, bit: bool) -> Step
-        ensures stands { (bits : List Bool) → StandsAfter self.old bits → StandsAfter self.new (bits ++ bit ∷ []) }
-        ensures step { (bits : List Bool) → StandsAfter self.old bits → IsStep (bits ++ bit ∷ []) result }
+        ensures stands { (bits : List Bool) → StandsAfter self.old bits
+            → StandsAfter self.new (bits ++ bit ∷ []) }
+        ensures step { (bits : List Bool) → StandsAfter self.old bits
+            → IsStep (bits ++ bit ∷ []) result }
         ensures limit { result.change ≡ Some Locked → IsTrue (is_between_words self.new) }
     {
         self.hear(bit);
@@ -110,12 +115,13 @@ impl Synchroniser {
         }
     }
 
-    /// Hears seven elements from the end of a word on, which are the next word of the lock: what seven pushes do. The
-    /// first six bring nothing; says what the last one brings.
+    /// Hears seven elements from the end of a word on, which are the next word of the lock: what
+    /// seven pushes do. The first six bring nothing; says what the last one brings.
     #[inline(always)]
     pub fn push_word(&mut self, bits: &[bool; ELEMENTS]) -> Step
         requires { IsTrue (is_between_words self.old) }
-        ensures stands { (h : List Bool) → StandsAfter self.old h → StandsAfter self.new (h ++ bits.now) }
+        ensures stands { (h : List Bool) → StandsAfter self.old h
+            → StandsAfter self.new (h ++ bits.now) }
         ensures step { (h : List Bool) → StandsAfter self.old h → IsWordStep h bits.now result }
         ensures limit { result.change ≡ None → IsTrue (is_between_words self.new) }
     {
@@ -123,12 +129,13 @@ impl Synchroniser {
         self.complete(self.track.unwrap())
     }
 
-    /// Hunts through these elements: hears those before the first one that locks, all of them where none does,
-    /// and says how many that were.
+    /// Hunts through these elements: hears those before the first one that locks, all of them where
+    /// none does, and says how many that were.
     pub fn hunt(&mut self, bits: &[bool]) -> usize
         requires { IsTrue (is_hunting self.old) }
         ensures within { result ≤ length bits.now }
-        ensures stands { (h : List Bool) → StandsAfter self.old h → StandsAfter self.new (h ++ take result bits.now) }
+        ensures stands { (h : List Bool) → StandsAfter self.old h
+            → StandsAfter self.new (h ++ take result bits.now) }
         ensures pushes { (h : List Bool) → StandsAfter self.old h → HuntsThrough h bits.now result }
         ensures hunting { IsTrue (is_hunting self.new) }
     {
@@ -157,8 +164,10 @@ impl Synchroniser {
     #[inline(always)]
     fn hunt_on(&mut self) -> Step
         ensures early { self.old.seen < 28 → (self.new ≡ self.old) × (result ≡ step None None) }
-        ensures none { spec.role_after self.old.recent ≡ None → (self.new ≡ self.old) × (result ≡ step None None) }
-        ensures found { (role : Role) → 28 ≤ self.old.seen → spec.role_after self.old.recent ≡ Some role
+        ensures none { spec.role_after self.old.recent ≡ None → (self.new ≡ self.old)
+            × (result ≡ step None None) }
+        ensures found { (role : Role) → 28 ≤ self.old.seen
+            → spec.role_after self.old.recent ≡ Some role
             → Begins self.old role self.new result }
     {
         if self.seen < PATTERN {
@@ -197,8 +206,8 @@ impl Synchroniser {
         self.complete(track)
     }
 
-    /// Takes the last seven elements as a word of the lock, and gives the lock up where the word brings a
-    /// change.
+    /// Takes the last seven elements as a word of the lock, and gives the lock up where the word
+    /// brings a change.
     #[inline(always)]
     fn complete(&mut self, track: Track) -> Step
         ensures { Completes self.old track self.new result }
@@ -228,7 +237,8 @@ impl Synchroniser {
         }
     }
 
-    /// Which change a word brings, by the track before it and the marks of the last words with its own.
+    /// Which change a word brings, by the track before it and the marks of the last words with its
+    /// own.
     #[inline(always)]
     fn change_after(&self, track: Track) -> Option<Change>
         ensures { result ≡ change_of track self.now.wrong }

@@ -16,8 +16,8 @@ pub(crate) struct Track {
     pub(crate) role: Role,
     /// How many of its elements were heard.
     pub(crate) filled: u8,
-    /// Which of the five words before it were phasing signal 1, as bits, the oldest word in the least
-    /// place. A word that isn't there was none.
+    /// Which of the five words before it were phasing signal 1, as bits, the oldest word in the
+    /// least place. A word that isn't there was none.
     pub(crate) was_p1: u8,
 }
 
@@ -46,8 +46,8 @@ impl Track {
         }
     }
 
-    /// Whether the word that is being filled releases the lock as ended: the words three and five before it,
-    /// which are DX words, are both phasing signal 1.
+    /// Whether the word that is being filled releases the lock as ended: the words three and five
+    /// before it, which are DX words, are both phasing signal 1.
     #[inline(always)]
     pub(crate) fn fills_releasing_word(self) -> bool
         ensures { result ≡ fills_releasing_word self }

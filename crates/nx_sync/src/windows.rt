@@ -1,4 +1,5 @@
-//! Windows: the last 28 elements as a number, the oldest in the least place, and the patterns that give a lock.
+//! Windows: the last 28 elements as a number, the oldest in the least place, and the patterns that
+//! give a lock.
 
 ghost use Rattle.std.specs.Prelude.{◌≡◌, ℕ, ◌+◌, ◌/◌, ◌^◌, ◌<◌, ◌≤◌, length, take, slice_index, IfSome, IsTrue, false};
 ghost use Rattle.nx_code.specs.Word.{word_from};
@@ -21,11 +22,12 @@ const BEFORE_RX: u32 = 0x0CC3_F30F;
 /// How many windows are compared at once.
 const LANES: usize = 8;
 
-/// How many elements are hunted through at once. A pattern that ends at one of them has the seven elements
-/// before the first of them in it.
+/// How many elements are hunted through at once. A pattern that ends at one of them has the seven
+/// elements before the first of them in it.
 pub(crate) const STRIDE: usize = 21;
 
-/// Bit `n % 32` of item `n / 32` is set where the word n is seven elements in a row of phasing, at any place.
+/// Bit `n % 32` of item `n / 32` is set where the word n is seven elements in a row of phasing, at
+/// any place.
 static IN_PHASING: [u32; 4] = [0x8100_8080, 0x8001_0000, 0x0000_1008, 0x5208_0042];
 
 /// The window after one more element: the oldest one goes, and each other one moves a place down.
@@ -108,7 +110,8 @@ pub(crate) fn stride_window(window: u32, bits: &[bool]) -> u32
 pub(crate) fn windows_after(window: u32, bits: &[bool]) -> [u32; STRIDE]
     requires window { window < 2 ^ 28 }
     requires few { length bits.now ≤ 21 }
-    ensures values { (k : ℕ) → k < length bits.now → slice_index result k ≡ spec.window_after window (take (k + 1) bits.now) }
+    ensures values { (k : ℕ) → k < length bits.now
+        → slice_index result k ≡ spec.window_after window (take (k + 1) bits.now) }
     ensures within { (k : ℕ) → k < length bits.now → slice_index result k < 2 ^ 28 }
 {
     let mut windows = [0; STRIDE];
@@ -120,8 +123,9 @@ pub(crate) fn windows_after(window: u32, bits: &[bool]) -> [u32; STRIDE]
     windows
 }
 
-/// The least index whose window is one of the two lock patterns; None where none is. A window has its oldest element
-/// in the least place; the patterns are 1F987E6 (P2 first) and CC3F30F (P1 first) hexadecimal (this profile).
+/// The least index whose window is one of the two lock patterns; None where none is. A window has
+/// its oldest element in the least place; the patterns are 1F987E6 (P2 first) and CC3F30F (P1
+/// first) hexadecimal (this profile).
 pub fn first_lock(windows: &[u32]) -> Option<usize>
     ensures found { IfSome result (λ at. IsFirstLock windows.now at) }
     ensures none { result ≡ None → HasNoLock windows.now (length windows.now) }
@@ -155,7 +159,8 @@ fn clear_blocks(windows: &[u32]) -> usize
 #[inline(always)]
 fn is_clear(windows: &[u32], at: usize) -> bool
     requires { at + 8 ≤ length windows.now }
-    ensures { IsTrue result → (k : ℕ) → at ≤ k → k < at + 8 → spec.is_lock_window (slice_index windows.now k) ≡ false }
+    ensures { IsTrue result → (k : ℕ) → at ≤ k → k < at + 8
+        → spec.is_lock_window (slice_index windows.now k) ≡ false }
 {
     let block = u32x8::from_slice(&windows[at..]);
     let dx = block.simd_eq(u32x8::splat(BEFORE_DX)).to_bitmask();
