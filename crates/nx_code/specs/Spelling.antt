@@ -2,7 +2,6 @@
 -- needed, and carriage return only before a line feed, is this profile's).
 use Rattle.std.specs.Prelude.{◌≡◌, ◌≢◌, ◌≤◌, ◌↔◌, ℕ, List, [], ◌∷◌, Option, Some, None, map, IsSome}
 use Rattle.nx_code.specs.declared.shifts.Shift.{Shift}
-use Rattle.nx_code.specs.declared.signals.Comb.{Comb}
 use Rattle.nx_code.specs.Shifts.{other}
 use Rattle.nx_code.specs.Reading.{combination, character_of, shift_set, shift_after, text}
 
@@ -45,8 +44,3 @@ pub record Spells (bytes : List ℕ) (shift : Shift) (numbers : List ℕ) : Type
   -- no line feed comes before the first carriage return
   pub begins : first_of numbers ≢ Some 28
   pub fits : EachFits shift numbers
-
--- the number of a combination that may be there
-abbrev pub numbers_of : Option Comb → List ℕ
-numbers_of None = []
-numbers_of (Some comb) = comb.number ∷ []

@@ -1,4 +1,5 @@
-//! Worked examples of the code.
+//! Worked examples of the code. Words, characters and names are those of the conversion tables of M.476 and
+//! M.625, in the numbering of this profile; the spelling of the example is counted out by hand.
 
 use super::*;
 use std::alloc::AllocError;
@@ -123,7 +124,6 @@ fn extents(rt: HostRuntime) -> Result<(), Fail> {
 
 #[test]
 fn cells_of_the_table(rt: HostRuntime) -> Result<(), Fail> {
-    // From the table of M.476 and M.625; the names are this profile's.
     let cases = [
         (0, "A", "-"),
         (3, "D", ""),

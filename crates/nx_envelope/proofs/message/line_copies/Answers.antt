@@ -1,6 +1,6 @@
 use Rattle.std.proofs.Common.{◌<◌, length, arith}
-use Rattle.nx_envelope.proofs.Lines.{map_more_alike}
-use Rattle.nx_envelope.proofs.message.kept_lines.Goals as goal
+use Rattle.nx_envelope.proofs.MessageLines.{map_more_alike}
+use Rattle.nx_envelope.proofs.message.line_copies.Goals as goal
 
 pub loop-line-preserved : goal.loop-line-preserved
 loop-line-preserved c =

@@ -4,7 +4,7 @@ use Rattle.std.specs.Prelude.{slice_index}
 use Rattle.std.proofs.lemmas.Bool.Decides.{leb_tells, nat_tests}
 use Rattle.std.proofs.lemmas.List.{reverse-append, take-append-le, take_all, drop-append-le, drop_all}
 use Rattle.nx_envelope.specs.Backward.{marker_back, ends_in}
-use Rattle.nx_envelope.specs.Copies.{Ending, less_newline, raw_text, marked, beginnings, ending_within, ending_of}
+use Rattle.nx_envelope.specs.Copies.{Ending, less_newline, raw_text, ending_by_marker, beginnings, ending_within, ending_of}
 use Rattle.nx_envelope.specs.Finder.{is_empty}
 use Rattle.nx_envelope.specs.Finding.{found_text}
 use Rattle.nx_envelope.specs.Header.{Header}
@@ -45,13 +45,13 @@ pub raw-none : (text : List ℕ) (h : Header) → drop h.behind text ≡ [] → 
 unfolding raw_text
 raw-none text h e = rw e refl
 
-marked-none : marked [] ≡ None
-unfolding marked
-marked-none = refl
+ending_by_marker-none : ending_by_marker [] ≡ None
+unfolding ending_by_marker
+ending_by_marker-none = refl
 
 pub ending_of-nil : ending_of [] ≡ None
 unfolding ending_of beginnings
-ending_of-nil = ending-short 4100 [] (omega arith) ∙ rw marked-none refl
+ending_of-nil = ending-short 4100 [] (omega arith) ∙ rw ending_by_marker-none refl
 
 no_end : (text : List ℕ) (h : Header) (e : Ending) → drop h.behind text ≡ [] → ending_of (raw_text text h) ≢ Some e
 no_end text h e none is =
@@ -163,7 +163,7 @@ found_is back raw b Long e = absurd (if_long (ends_in end_marker back) (ends_in 
 
 -- the marker that the byte completes ends the raw text
 pub ending-marker : (raw : List ℕ) (b : ℕ) (how : How) → ending_of raw ≡ None → marker_back (reverse (raw ++ b ∷ [])) ≡ Some how → ending_of (raw ++ b ∷ []) ≡ Some (record { how = how; text = found_text how raw b })
-unfolding ending_of marked
+unfolding ending_of ending_by_marker
 ending-marker raw b how none m =
     let push = ending-push 4100 raw b (open_is_short 4100 raw none) in
     let text = sym (found_is (reverse (raw ++ b ∷ [])) raw b how m) in
@@ -172,7 +172,7 @@ ending-marker raw b how none m =
 
 -- without one the 4,100th byte ends it
 pub ending-long : (raw : List ℕ) (b : ℕ) → ending_of raw ≡ None → marker_back (reverse (raw ++ b ∷ [])) ≡ None → length raw + 1 ≡ 4100 → ending_of (raw ++ b ∷ []) ≡ Some (record { how = Long; text = raw ++ b ∷ [] })
-unfolding ending_of marked
+unfolding ending_of ending_by_marker
 ending-long raw b none m full =
     let push = ending-push 4100 raw b (open_is_short 4100 raw none) in
     let long = long_at 4100 (raw ++ b ∷ []) (omega (arith, length-append raw (b ∷ []))) in
@@ -181,7 +181,7 @@ ending-long raw b none m full =
 
 -- and below that it stays open
 pub ending-open : (raw : List ℕ) (b : ℕ) → ending_of raw ≡ None → marker_back (reverse (raw ++ b ∷ [])) ≡ None → length raw + 1 < 4100 → ending_of (raw ++ b ∷ []) ≡ None
-unfolding ending_of marked
+unfolding ending_of ending_by_marker
 ending-open raw b none m short =
     let push = ending-push 4100 raw b (open_is_short 4100 raw none) in
     let long = not_long 4100 (raw ++ b ∷ []) (omega (arith, length-append raw (b ∷ []))) in

@@ -11,7 +11,7 @@ use Rattle.nx_envelope.specs.Marker.{EndsWith, start_marker, end_marker}
 use Rattle.nx_envelope.specs.declared.digit.Digit.{Digit}
 use Rattle.nx_envelope.specs.declared.identity.Identity.{Identity}
 use Rattle.nx_envelope.specs.declared.letter.Letter.{Letter}
-use Rattle.nx_envelope.proofs.Headers.{letter_at, digit_at, letter_of-byte, letter_of-none, digit_of-value}
+use Rattle.nx_envelope.proofs.LettersAndDigits.{letter_at, digit_at, letter_of-byte, letter_of-none, digit_of-value}
 use Rattle.nx_envelope.proofs.Stages.{same_identity_at, both_first, both_second, identity_some, digit_of-some}
 
 -- Words of four letters.

@@ -18,7 +18,7 @@ use Rattle.nx_envelope.specs.declared.found.How.TheVariants.{Long}
 use Rattle.nx_envelope.specs.declared.identity.Identity.{Identity}
 use Rattle.nx_envelope.specs.declared.stage.Stage.TheVariants.{Nowhere}
 use Rattle.nx_envelope.proofs.Beginnings.{reverse-push, headers-push, header_at_end-push, open_is_short}
-use Rattle.nx_envelope.proofs.Raw.{IsPlain, raw-push, raw-newline, raw-none, ending_of-nil, ended_stays, marker_apart, no_start, ending-marker, ending-long, ending-open}
+use Rattle.nx_envelope.proofs.RawTexts.{IsPlain, raw-push, raw-newline, raw-none, ending_of-nil, ended_stays, marker_apart, no_start, ending-marker, ending-long, ending-open}
 use Rattle.nx_envelope.proofs.Stages.{quiet_more, no_header, after_header}
 
 -- Copies that have ended.
