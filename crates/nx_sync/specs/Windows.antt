@@ -1,6 +1,6 @@
 -- Windows: the last 28 elements as a number, the oldest in the least place. A law says that the two patterns have the
 -- numbers here.
-use Rattle.std.specs.Prelude.{◌≡◌, ℕ, zero, suc, ◌+◌, ◌*◌, ◌/◌, ◌%◌, ◌^◌, ◌<◌, ◌==◌, Bool, true, false, ◌||◌, List, [], ◌∷◌, length, slice_index, Option, Some, None, if◌then◌else◌}
+use Rattle.std.specs.Prelude.{◌≡◌, ℕ, zero, suc, ◌+◌, ◌*◌, ◌/◌, ◌%◌, ◌^◌, ◌<◌, ◌≤◌, ◌==◌, Bool, true, false, ◌||◌, List, [], ◌∷◌, length, slice_index, Option, Some, None, if◌then◌else◌}
 use Rattle.nx_code.specs.Word.{value_of}
 use Rattle.nx_sync.specs.declared.step.Role.{Role}
 use Rattle.nx_sync.specs.declared.step.Role.TheVariants.{Dx, Rx}
@@ -25,6 +25,12 @@ pub record IsFirstLock (windows : List ℕ) (at : ℕ) : Type 0 where
   pub within : at < length windows
   pub here : is_lock_window (slice_index windows at) ≡ true
   pub least : HasNoLock windows at
+
+-- so many windows come before the first pattern, all where there is none
+pub record IsBeforeLock (windows : List ℕ) (count : ℕ) : Type 0 where
+  pub within : count ≤ length windows
+  pub clear : HasNoLock windows count
+  pub here : count < length windows → is_lock_window (slice_index windows count) ≡ true
 
 -- the role of the word that follows a window, where it is one of the two patterns
 abbrev pub role_after : ℕ → Option Role

@@ -12,8 +12,8 @@ ghost use Rattle.nx_sync.specs.Synchroniser.{StandsAfter, is_hunting, is_between
 use crate::step::{Change, Role, Step};
 use crate::track::Track;
 use crate::windows::{
-    PATTERN, STRIDE, first_lock, last_word, may_lock, next_window, next_word_window, role_after,
-    stride_window, windows_after,
+    PATTERN, STRIDE, count_before_lock, last_word, may_lock, next_window, next_word_window,
+    role_after, stride_window, windows_after,
 };
 use circular_buffer::HeapCircularBuffer;
 use nx_code::{ELEMENTS, Word, check_bits};
@@ -303,7 +303,7 @@ impl Synchroniser {
         ensures { Skips self.old block.now result self.new }
     {
         let windows = windows_after(self.recent, block);
-        let count = first_lock(&windows[..block.len()]).unwrap_or(block.len());
+        let count = count_before_lock(&windows[..block.len()]);
         if count > 0 {
             self.recent = windows[count - 1];
             self.seen = PATTERN;

@@ -4,7 +4,7 @@
 ghost use Rattle.std.specs.Prelude.{◌≡◌, ℕ, ◌+◌, ◌/◌, ◌^◌, ◌<◌, ◌≤◌, length, take, slice_index, IfSome, IsTrue, false};
 ghost use Rattle.nx_code.specs.Word.{word_from};
 ghost use Rattle.nx_sync.specs.Windows as spec;
-ghost use Rattle.nx_sync.specs.Windows.{IsFirstLock, HasNoLock};
+ghost use Rattle.nx_sync.specs.Windows.{IsFirstLock, IsBeforeLock, HasNoLock};
 
 use crate::step::Role;
 use nx_code::Word;
@@ -138,6 +138,17 @@ pub fn first_lock(windows: &[u32]) -> Option<usize>
         at += 1;
     }
     None
+}
+
+/// How many windows come before the first lock pattern, all where there is none.
+#[inline(always)]
+pub(crate) fn count_before_lock(windows: &[u32]) -> usize
+    ensures { IsBeforeLock windows.now result }
+{
+    match first_lock(windows) {
+        Some(at) => at,
+        None => windows.len(),
+    }
 }
 
 /// How many windows stand in whole blocks of eight without a lock pattern, from the first on.
