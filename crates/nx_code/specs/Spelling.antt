@@ -27,6 +27,7 @@ pub record IsSilent (shift : Shift) (number : ℕ) : Type 0 where
 pub record Fits (shift : Shift) (number : ℕ) (rest : List ℕ) : Type 0 where
   pub from_one : 1 ≤ number
   pub to_thirty_two : number ≤ 32
+  -- it prints, or sets a shift, or is a carriage return
   pub not_silent : ¬ IsSilent shift number
   -- a carriage return stands directly before each line feed, and nowhere else
   pub carriage_return : (number ≡ 27) ↔ (first_of rest ≡ Some 28)

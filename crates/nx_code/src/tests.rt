@@ -161,6 +161,7 @@ fn texts_of_faults(rt: HostRuntime) -> Result<(), Fail> {
 fn laws_can_be_called() {
     laws::reading_by_nearest_shift();
     laws::words_are_their_elements();
+    laws::thirty_two_combinations();
     laws::phasing_signals_are_in_the_table();
     laws::reading_goes_on();
     laws::a_text_has_one_spelling();
