@@ -5,3 +5,4 @@ pub mod HeadLemmas
 pub mod BroadcastLemmas
 pub mod StationLemmas
 pub mod ReadingBack
+pub mod FileReading
