@@ -6,3 +6,4 @@ pub mod BroadcastLemmas
 pub mod StationLemmas
 pub mod ReadingBack
 pub mod FileReading
+pub mod SendingLaws

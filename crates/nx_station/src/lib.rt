@@ -13,3 +13,6 @@ pub use broadcast::{MAX_POSITIONS, emission};
 pub use fault::{SendFault, SendRunFault};
 pub use sending::{Sent, send};
 pub use slots::next_slot;
+
+#[cfg(test)]
+mod tests;

@@ -1,5 +1,10 @@
 //! Sending: from a message file to the air file of its emission.
-ghost use Rattle.std.specs.Prelude.{◌≡◌};
+ghost use Rattle.std.specs.Prelude.{◌≡◌, ◌≤◌, ◌↔◌, ◌++◌, IfErr, IfOk, IsErr, OnOk};
+ghost use Rattle.std.specs.Io.KnownBytes.{Appends};
+ghost use Rattle.nx_fec.specs.AirFile.{moment};
+ghost use Rattle.nx_fec.specs.BitLines.{bit_lines};
+ghost use Rattle.nx_fec.specs.Devices.{WroteSome};
+ghost use Rattle.nx_fec.specs.Lines.{file_of, line_bytes};
 ghost use Rattle.nx_fec.specs.Transfers.{devices};
 ghost use Rattle.nx_station.specs.Runs.{Sends};
 
@@ -8,8 +13,8 @@ use crate::fault::{SendFault, SendRunFault};
 use crate::message_file::messages_in;
 use crate::slots::next_slot;
 use nx_envelope::Letter;
-use nx_fec::{Counting, read_whole, to_bits, write_bits, write_on};
-use std::alloc::Global;
+use nx_fec::{Counting, WriteFault, read_whole, to_bits, write_bits, write_out};
+use std::alloc::{AllocError, Global};
 use std::io::{Read, Write};
 
 /// What was sent.
@@ -50,16 +55,42 @@ pub fn send<R: Read, W: Write>(
     };
     let positions = emission(alloc, &messages)?;
     let bits = to_bits(alloc, &positions)?;
-    let line = format!(in alloc; "T {slot}\n")?;
-    let written = write_on(writer, 0, line.as_bytes())?;
-    if let Err(fault) = write_bits(writer, &bits) {
-        return Err(SendRunFault::Write {
-            written: written.saturating_add(fault.written),
-        });
-    }
+    let line = moment_line(alloc, slot)?;
+    write_air(writer, line.as_bytes(), &bits)?;
     Ok(Sent {
         slot,
         positions: positions.len() as u64,
         messages: messages.len() as u64,
     })
+}
+
+/// The line of a moment in an air file.
+fn moment_line(alloc: Global, at: u64) -> Result<String, AllocError>
+    ensures { IfOk result (λ line. line.bytes.items ≡ line_bytes (moment at)) }
+{
+    format!(in alloc; "T {at}\n")
+}
+
+/// Writes a line and the lines of elements after it.
+fn write_air<W: Write>(
+    writer: &mut Counting<W>,
+    line: &[u8],
+    bits: &[bool],
+) -> Result<(), WriteFault>
+    requires { writer.old.failures ≡ 0 }
+    ensures ok { OnOk result
+        (Appends (W.contents writer.old.inner) (W.contents writer.new.inner) (line.now ++ file_of (bit_lines bits.now))) }
+    ensures err { IfErr result (λ fault.
+        WroteSome (W.contents writer.old.inner) (W.contents writer.new.inner) (line.now ++ file_of (bit_lines bits.now)) fault.written) }
+    ensures failed { IsErr result ↔ (writer.new.failures ≡ 1) }
+    ensures once { writer.new.failures ≤ 1 }
+    ensures none { OnOk result (writer.new.failures ≡ 0) }
+{
+    write_out(writer, line)?;
+    match write_bits(writer, bits) {
+        Ok(()) => Ok(()),
+        Err(fault) => Err(WriteFault {
+            written: (line.len() as u64).saturating_add(fault.written),
+        }),
+    }
 }
