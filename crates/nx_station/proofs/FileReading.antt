@@ -33,37 +33,48 @@ entry_with subject number lines = record { subject = subject; number = number; l
 -- the file ends inside a message
 pub body-open : (subject number before line : ℕ) (bytes rest : List ℕ) (lines : List (List ℕ)) → IsNamed subject number → bytes ≡ text_of lines ++ rest → rest ≡ [] → AllByRecursion IsInside lines
     → line ≡ before + 1 → IsFirstFault before (heading subject number ++ (10 ∷ bytes)) (not_ended line)
-body-open subject number before line bytes rest lines named h none inside e = (e, record {
-  entry = record { subject = subject; number = number; lines = lines };
-  whole = ap (λ l. heading subject number ++ (10 ∷ l)) (h ∙ ap (λ l. text_of lines ++ l) none ∙ append-nil (text_of lines));
-  begun = record { named = named; lines = inside };
-})
+body-open subject number before line bytes rest lines named h none inside e = (
+  e,
+  record {
+    entry = record { subject = subject; number = number; lines = lines };
+    whole = ap (λ l. heading subject number ++ (10 ∷ l)) (h ∙ ap (λ l. text_of lines ++ l) none ∙ append-nil (text_of lines));
+    begun = record { named = named; lines = inside };
+  },
+)
 
 -- the file ends inside a line of a message
 pub body-cut : (subject number before line : ℕ) (bytes rest : List ℕ) (lines : List (List ℕ)) → IsNamed subject number → bytes ≡ text_of lines ++ rest → rest ≢ [] → IsOneLine rest
     → AllByRecursion IsInside lines → line ≡ before + 2 + length lines → IsFirstFault before (heading subject number ++ (10 ∷ bytes)) (line_cut line)
-body-cut subject number before line bytes rest lines named h some one inside e = (1 + length lines, omega (arith, e), record {
-  before = Some (record { subject = subject; number = number; lines = lines });
-  line = rest;
-  whole = ap (λ l. heading subject number ++ (10 ∷ l)) h;
-  sound = record { named = named; lines = inside };
-  one_line = one;
-  some = some;
-  counted = refl;
-})
+body-cut subject number before line bytes rest lines named h some one inside e = (
+  1 + length lines,
+  omega (arith, e),
+  record {
+    before = Some (record { subject = subject; number = number; lines = lines });
+    line = rest;
+    whole = ap (λ l. heading subject number ++ (10 ∷ l)) h;
+    sound = record { named = named; lines = inside };
+    one_line = one;
+    some = some;
+    counted = refl;
+  },
+)
 
 -- ---- the first message
 
 pub cut-at_once : (before : ℕ) (bytes : List ℕ) → 0 < length bytes → IsOneLine bytes → IsFirstFault before bytes (line_cut (before + 1))
-cut-at_once before bytes some one = (0, omega arith, record {
-  before = None;
-  line = bytes;
-  whole = refl;
-  sound = tt;
-  one_line = one;
-  some = λ e. absurd (omega (arith, some, ap length e));
-  counted = refl;
-})
+cut-at_once before bytes some one = (
+  0,
+  omega arith,
+  record {
+    before = None;
+    line = bytes;
+    whole = refl;
+    sound = tt;
+    one_line = one;
+    some = λ e. absurd (omega (arith, some, ap length e));
+    counted = refl;
+  },
+)
 
 -- a message was read whole
 pub message-whole : (bytes line rest more : List ℕ) (lines : List (List ℕ)) (message : MessageView) (subject number : ℕ) → bytes ≡ line ++ (10 ∷ rest) → line ≡ heading subject number
@@ -80,13 +91,17 @@ pub message-bad : (before : ℕ) (bytes line rest more : List ℕ) (lines : List
     → rest ≡ text_of lines ++ (59 ∷ (10 ∷ more)) → IsNamed subject number → AllByRecursion IsInside lines → IsMessageFault lines fault → IsOfLines fault
     → IsFirstFault before bytes (bad_text (before + 1) fault)
 message-bad before bytes line rest more lines subject number fault h k t named inside faulty of_lines =
-    let entry : Entry = record { subject = subject; number = number; lines = lines } in (refl, record {
-      entry = entry;
-      more = more;
-      whole = h ∙ ap (λ x. x ++ (10 ∷ rest)) k ∙ ap (λ x. heading subject number ++ (10 ∷ x)) t ∙ sym (spelling-line entry more);
-      begun = record { named = named; lines = inside };
-      faulty = faulty;
-    }, of_lines)
+    let entry : Entry = record { subject = subject; number = number; lines = lines } in (
+      refl,
+      record {
+        entry = entry;
+        more = more;
+        whole = h ∙ ap (λ x. x ++ (10 ∷ rest)) k ∙ ap (λ x. heading subject number ++ (10 ∷ x)) t ∙ sym (spelling-line entry more);
+        begun = record { named = named; lines = inside };
+        faulty = faulty;
+      },
+      of_lines,
+    )
 
 pub text-explains : (before : ℕ) (bytes line rest more : List ℕ) (lines : List (List ℕ)) (subject number : ℕ) (fault : MessageFault) → bytes ≡ line ++ (10 ∷ rest) → line ≡ heading subject number
     → rest ≡ text_of lines ++ (59 ∷ (10 ∷ more)) → IsNamed subject number → AllByRecursion IsInside lines → IsMessageFault lines fault

@@ -134,7 +134,10 @@ fn full_slot(rt: HostRuntime) -> Result<(), Fail> {
 
 #[test]
 fn emissions_are_refused(rt: HostRuntime) -> Result<(), Fail> {
-    assert_eq!(rt; emission(rt.alloc(), &[]).err(), Some(SendFault::NoMessages));
+    assert_eq!(rt;
+        emission(rt.alloc(), &[]).err(),
+        Some(SendFault::NoMessages)
+    );
     let mixed = [
         message(rt.alloc(), b'E', b'A', 1, &[])?,
         message(rt.alloc(), b'F', b'A', 1, &[])?,
@@ -144,7 +147,10 @@ fn emissions_are_refused(rt: HostRuntime) -> Result<(), Fail> {
         Some(SendFault::MixedStations { at: 1 })
     );
     let without = [message(rt.alloc(), b'Y', b'A', 1, &[])?];
-    assert_eq!(rt; emission(rt.alloc(), &without).err(), Some(SendFault::NoSlot));
+    assert_eq!(rt;
+        emission(rt.alloc(), &without).err(),
+        Some(SendFault::NoSlot)
+    );
     Ok(())
 }
 
@@ -158,7 +164,7 @@ fn a_file_is_sent(rt: HostRuntime) -> Result<(), Fail> {
     };
     assert_eq!(rt; answer, Ok(expected));
     assert_eq!(rt; file.len(), 1443);
-    assert_eq!(rt; file[..16], *b"T 1735692000\nB 0");
+    assert_eq!(rt; &file[..16], b"T 1735692000\nB 0".as_slice());
     let bits = read_bits(rt.alloc(), &mut Counting::new(file.as_slice()))?;
     assert_eq!(rt; bits.len(), 1421);
     let messages = [message(rt.alloc(), b'E', b'A', 1, &[b"TEST"])?];
@@ -176,10 +182,20 @@ fn files_are_refused(rt: HostRuntime) -> Result<(), Fail> {
         (b"TEST\n", b'E', 0, "line 1 is not understood"),
         (FILE, b'Y', 0, "no slot"),
         (FILE, b'X', 32_503_679_401, "no slot"),
-        (b"#A01\n;\n#A02\na\n;\n", b'E', 0, "message at line 3: line 1 has no signal at 0"),
+        (
+            b"#A01\n;\n#A02\na\n;\n",
+            b'E',
+            0,
+            "message at line 3: line 1 has no signal at 0",
+        ),
         (b"#A01\n;\n#A02\nA", b'E', 0, "line 4 has no end"),
         (b"#A01\n;\n#A2\n;\n", b'E', 0, "line 3 is not understood"),
-        (b"#A01\nZCZC\n;\nX\n", b'E', 0, "message at line 1: line 1 has a reserved word"),
+        (
+            b"#A01\nZCZC\n;\nX\n",
+            b'E',
+            0,
+            "message at line 1: line 1 has a reserved word",
+        ),
     ];
     for (file, station, moment, text) in cases {
         let (answer, written) = sent(rt.alloc(), file, station, moment)?;
