@@ -11,7 +11,7 @@ use Rattle.nx_code.specs.declared.shifts.Shift.TheVariants.{Letters, Figures}
 use Rattle.nx_code.specs.Table.{table, row_of}
 use Rattle.nx_code.specs.Reading.{character_of}
 use Rattle.nx_code.specs.Characters.{is_in_code, characters}
-use Rattle.nx_code.specs.Rows.{character_in, is_character}
+use Rattle.nx_code.specs.Rows.{character_in}
 use Rattle.nx_code.proofs.TableLemmas.{is_at, Some-is_at, character-TABLE}
 
 -- a test of what is printed, where something is
@@ -21,6 +21,11 @@ if_some test (Some c) = test c
 
 pub if_some-at : (test : ℕ → Bool) (o : Option ℕ) (c : ℕ) → if_some test o ≡ true → o ≡ Some c → test c ≡ true
 if_some-at test o c h e = subst (λ p. if_some test p ≡ true) e h
+
+-- whether this is printed
+abbrev pub is_character : Option ℕ → ℕ → Bool
+is_character None character = false
+is_character (Some other) character = eqb other character
 
 is_character-Some : (o : Option ℕ) (c : ℕ) → is_character o c ≡ true → o ≡ Some c
 is_character-Some None c h = cc

@@ -1,8 +1,9 @@
 pub mod CharacterLemmas
 mod Examples
+pub mod OneSpelling
+mod PlaceLemmas
 pub mod ReadingLemmas
 mod SilentCombinations
-pub mod SpellingLaws
 pub mod SpellingLemmas
 pub mod TableLemmas
 pub mod WordLemmas

@@ -1,7 +1,6 @@
 -- What holds over the whole table, by one computation each.
 use Rattle.std.proofs.Common.{◌≡◌, ℕ, ◌+◌, ◌-◌, ◌<◌, ◌≤◌, refl, sym, ap, ◌∙◌, subst, Bool, true, false, ◌||◌, eqb, ltb, Option, Some, None, [], map, get_or, arith}
 use Rattle.std.specs.Option.{is_some}
-use Rattle.std.specs.List.{position}
 use Rattle.std.proofs.lemmas.Bool.{agree_below_at, eqb-true, ltb-true, ne_eqb}
 use Rattle.std.proofs.lemmas.List.{get_or-map}
 use Rattle.std.proofs.lemmas.List.Quantifiers.{position-Some}
@@ -34,10 +33,6 @@ unfolding weight elements elements_from ones ones_in
 weight-ones word h = agree_below_at (λ n. eqb (ones n) 4) (λ n. eqb (weight n) 4) 128 word refl h
 
 -- the words of the code's table are those of the table
-pub position-TABLE : (number : ℕ) → position (λ (row : Row). eqb row.word number) TABLE ≡ place_of number
-unfolding table words place_of
-position-TABLE number = refl
-
 words-TABLE : map (λ (row : Row). row.word) TABLE ≡ words
 unfolding table words
 words-TABLE = refl

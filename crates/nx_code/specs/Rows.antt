@@ -1,5 +1,5 @@
--- The rows of the code's own table. The calls that stand on them are said by the table of specs/Table.antt.
-use Rattle.std.specs.Prelude.{ℕ, ◌==◌, Bool, false, Option, Some, None, List, codes}
+-- The code's own table, its rows and indexes. What the calls answer by them is said by the table of specs/Table.antt.
+use Rattle.std.specs.Prelude.{ℕ, nat_lt, if◌then◌else◌, Option, Some, None, List, codes}
 use Rattle.std.specs.Option.{option_to_list, option_map_or}
 use Rattle.nx_code.specs.declared.names.Name.{Name}
 use Rattle.nx_code.specs.declared.names.Name.TheVariants.{CarriageReturn, LineFeed, LetterShift, FigureShift, Space, Blank, PhasingOne, Beta, PhasingTwo}
@@ -12,11 +12,7 @@ abbrev pub character_in : Row → Shift → Option ℕ
 character_in row Letters = row.letter
 character_in row Figures = row.figure
 
--- whether this is printed
-abbrev pub is_character : Option ℕ → ℕ → Bool
-is_character None character = false
-is_character (Some other) character = other == character
-
+-- the name as the table has it
 abbrev pub name_text : Name → List ℕ
 name_text CarriageReturn = codes "CR"
 name_text LineFeed = codes "LF"
@@ -31,3 +27,7 @@ name_text PhasingTwo = codes "P2"
 -- what stands in the column of a shift: the name, where there is one, else the character, if any
 abbrev pub cell_in : Row → Shift → List ℕ
 cell_in row shift = option_map_or name_text row.name (option_to_list (character_in row shift))
+
+-- the place that a number of an index gives: 35 is none
+abbrev pub place_given : ℕ → Option ℕ
+place_given place = if nat_lt place 35 then Some place else None

@@ -1,15 +1,14 @@
 //! The characters of the combinations, by the table.
 
-ghost use Rattle.std.specs.Prelude.{◌≡◌, ℕ, ◌+◌, ◌≤◌, ◌<◌, ◌==◌, ◌↔◌, Some, IsSome, IfSome, IsSomeAnd, IsTrue, position};
+ghost use Rattle.std.specs.Prelude.{◌≡◌, ℕ, ◌+◌, ◌≤◌, ◌<◌, ◌↔◌, Some, IsSome, IfSome, IsSomeAnd, IsTrue};
 ghost use Rattle.nx_code.specs.Reading.{character_of};
 ghost use Rattle.nx_code.specs.Characters.{holds_in, is_in_code};
-ghost use Rattle.nx_code.specs.Rows.{character_in, is_character};
-ghost use Rattle.nx_code.specs.declared.table.Row.{Row};
 ghost use Rattle.nx_code.specs.declared.shifts.Shift.{Shift};
 
+use crate::places::place_of_character;
 use crate::shifts::{Case, Shift};
 use crate::signals::Comb;
-use crate::table::{Row, TABLE, row_at};
+use crate::table::row_at;
 
 /// The byte that a combination prints in a shift: a letter or a figure, a newline for combination 28, a
 /// space for 31; None where nothing is printed (M.476 and M.625, conversion tables; that 32 and the figures
@@ -29,32 +28,9 @@ pub fn char_to_code(character: u8) -> Option<(Comb, Case)>
     ensures printed { IfSome result (λ code. (shift : Shift) → IsTrue (holds_in code.1 shift)
         → character_of code.0.number shift ≡ Some character) }
 {
-    match (
-        comb_of(character, Shift::Letters),
-        comb_of(character, Shift::Figures),
-    ) {
-        (Some(comb), Some(_)) => Some((comb, Case::Either)),
-        (Some(comb), None) => Some((comb, Case::Letters)),
-        (None, Some(comb)) => Some((comb, Case::Figures)),
-        (None, None) => None,
-    }
-}
-
-/// The combination that prints a character in a shift, if one does.
-fn comb_of(character: u8, shift: Shift) -> Option<Comb>
-    ensures printed { IfSome result (λ comb. character_of comb.number shift ≡ Some character) }
-    ensures found { (number : ℕ) → 1 ≤ number → number ≤ 32 → character_of number shift ≡ Some character
-        → IsSomeAnd result (λ comb. comb.number ≡ number) }
-{
-    Some(comb_at(place_of_character(&TABLE, character, shift)?))
-}
-
-/// The place of the first of the rows that print this character in a shift.
-fn place_of_character(rows: &[Row], character: u8, shift: Shift) -> Option<usize>
-    ensures { result ≡ position (λ row. is_character (character_in row shift) character) rows.now }
-{
-    rows.iter()
-        .position(|row| row.character(shift) == Some(character))
+    let place = place_of_character(character)?;
+    let case = row_at(place).case_of(character);
+    Some((comb_at(place), case))
 }
 
 /// The combination at a place of the table.

@@ -5,6 +5,7 @@
 mod characters;
 pub mod laws;
 mod names;
+mod places;
 mod printing;
 mod shifts;
 mod signals;

@@ -1,16 +1,19 @@
 //! The one table of the code, from which all calls answer (M.476, M.625).
 
-ghost use Rattle.std.specs.Prelude.{◌≡◌, ◌+◌, ◌==◌, ◌<◌, ◌↔◌, IsSome, IfSome, position, slice_index};
+ghost use Rattle.std.specs.Prelude.{◌≡◌, ◌+◌, ◌<◌, ◌↔◌, ◌⊎◌, Some, IsSome, IfSome, IsTrue, slice_index};
 ghost use Rattle.nx_code.specs.Word.{weight};
-ghost use Rattle.nx_code.specs.Table.{place_of, words};
+ghost use Rattle.nx_code.specs.Table.{words};
 ghost use Rattle.nx_code.specs.Signal.{place, number_of_signal, cell_of_signal};
 ghost use Rattle.nx_code.specs.Reading.{character_of};
+ghost use Rattle.nx_code.specs.Characters.{holds_in};
 ghost use Rattle.nx_code.specs.Rows.{cell_in, character_in};
 ghost use Rattle.nx_code.specs.declared.signals.Signal.{Signal};
 ghost use Rattle.nx_code.specs.declared.shifts.Shift.{Shift};
+ghost use Rattle.nx_code.specs.declared.shifts.Shift.TheVariants.{Letters, Figures};
 
 use crate::names::Name;
-use crate::shifts::Shift;
+use crate::places::place_of_word;
+use crate::shifts::{Case, Shift};
 use crate::signals::{Comb, Signal};
 use crate::words::Word;
 use std::slice;
@@ -36,6 +39,20 @@ impl Row {
         }
     }
 
+    /// In which shifts the row prints this character, which it does print.
+    pub(crate) fn case_of(self, character: u8) -> Case
+        requires { (character_in self Letters ≡ Some character) ⊎ (character_in self Figures ≡ Some character) }
+        ensures { (shift : Shift) → IsTrue (holds_in result shift) ↔ (character_in self shift ≡ Some character) }
+    {
+        if self.letter != Some(character) {
+            Case::Figures
+        } else if self.figure != Some(character) {
+            Case::Letters
+        } else {
+            Case::Either
+        }
+    }
+
     /// What stands in the column of a shift: a name, a character, or nothing.
     fn cell(&self, shift: Shift) -> &[u8]
         ensures { result.now ≡ cell_in self.now shift }
@@ -56,7 +73,7 @@ impl Row {
 
 /// The rows of the combinations 1 to 32, and then of idle alpha, idle beta and signal repetition.
 #[rattlefmt::skip]
-pub(crate) static TABLE: [Row; SIGNALS] = [
+static TABLE: [Row; SIGNALS] = [
     Row { word: 0x47, letter: Some(b'A'), figure: Some(b'-'), name: None },
     Row { word: 0x72, letter: Some(b'B'), figure: Some(b'?'), name: None },
     Row { word: 0x1D, letter: Some(b'C'), figure: Some(b':'), name: None },
@@ -104,20 +121,6 @@ const REPEAT: usize = 34;
 /// How many signals there are, each with a row of the table.
 pub const SIGNALS: usize = 35;
 
-/// The place of the first of the rows with this word.
-fn place_in(rows: &[Row], number: u8) -> Option<usize>
-    ensures { result ≡ position (λ row. row.word == number) rows.now }
-{
-    rows.iter().position(|row| row.word == number)
-}
-
-/// The place of a word in the table, from 0; None where the word is none of the 35.
-fn place_of(number: u8) -> Option<usize>
-    ensures { result ≡ place_of number }
-{
-    place_in(&TABLE, number)
-}
-
 /// The row at a place of the table.
 pub(crate) fn row_at(place: usize) -> Row
     requires { place < SIGNALS }
@@ -150,7 +153,7 @@ pub fn signal_of(word: Word) -> Option<Signal>
     ensures value { IfSome result (λ signal. number_of_signal signal ≡ word) }
     ensures only { (signal : Signal) → number_of_signal signal ≡ word → result ≡ Some signal }
 {
-    Some(signal_at(place_of(word.number())?))
+    Some(signal_at(place_of_word(word)?))
 }
 
 /// The place of a signal in the table, from 0.

@@ -1,27 +1,29 @@
 -- What the finder holds, and what it notes of a byte.
-use Rattle.std.proofs.Common.{◌≡◌, ◌≢◌, ℕ, ◌+◌, ◌<◌, ◌==◌, ◌&&◌, Bool, true, false, inl, inr, Option, Some, None, List, [], ◌∷◌, ◌++◌, length, drop, reverse, refl, sym, ap, ◌∙◌, arith}
+use Rattle.std.proofs.Common.{◌≡◌, ◌≢◌, ℕ, ◌+◌, ◌-◌, ◌<◌, ◌==◌, ◌&&◌, Bool, true, false, inl, inr, Option, Some, None, List, [], ◌∷◌, ◌++◌, length, take, drop, reverse, refl, sym, ap, ◌∙◌, arith}
 use Rattle.std.specs.Str.{bytes_eq}
 use Rattle.std.proofs.lemmas.Bool.Decides.{nat_tests}
 use Rattle.std.proofs.lemmas.List.{drop-append-le}
 use Rattle.nx_envelope.specs.Backward.{marker_back, last_four, ends_in, header_back, spaces_back, station_back, subject_back, tens_back}
-use Rattle.nx_envelope.specs.Copies.{raw_text, open_headers, closed_copy}
-use Rattle.nx_envelope.specs.Finder.{BringsCopy, HoldsOpen, HoldsOpenIf, ClosesCopy, ClosesNone, is_empty}
-use Rattle.nx_envelope.specs.Finding.{EndsOpen, Hears, IsBegun, found_text}
-use Rattle.nx_envelope.specs.Found.{IsFoundOf}
+use Rattle.nx_envelope.specs.Copies.{Copy, raw_text, open_headers, closed_copy}
+use Rattle.nx_envelope.specs.Finder.{BringsCopy, ClosesCopy, ClosesNone, Ends, HoldsCopy, HoldsOpen, Keeps, is_empty}
+use Rattle.nx_envelope.specs.Finding.{Hearing, found_text}
+use Rattle.nx_envelope.specs.Found.{IsFound, IsFoundOf}
 use Rattle.nx_envelope.specs.Header.{Header}
 use Rattle.nx_envelope.specs.Marker.{start_marker}
 use Rattle.nx_envelope.specs.Stage.{IsStageOf}
-use Rattle.nx_envelope.specs.declared.finder.Event.{Event}
-use Rattle.nx_envelope.specs.declared.finder.Event.TheVariants as events
+use Rattle.nx_envelope.specs.declared.finder.Finder.{Finder}
 use Rattle.nx_envelope.specs.declared.found.Found.{Found}
+use Rattle.nx_envelope.specs.declared.found.HeldCopy.{HeldCopy}
+use Rattle.nx_envelope.specs.declared.found.HeldCopy.TheVariants as states
+use Rattle.nx_envelope.specs.declared.found.TextEvent.TheVariants as events
 use Rattle.nx_envelope.specs.declared.found.How.{How}
 use Rattle.nx_envelope.specs.declared.found.How.TheVariants.{Cut, Long}
 use Rattle.nx_envelope.specs.declared.identity.Identity.{Identity}
 use Rattle.nx_envelope.specs.declared.stage.Stage.{Stage}
 use Rattle.nx_envelope.specs.declared.stage.Stage.TheVariants.{Nowhere}
 use Rattle.nx_envelope.proofs.Beginnings.{reverse-push}
-use Rattle.nx_envelope.proofs.Parts.{OneOpen, open_headers-one, open_headers-nil, parts, still_none, opens, drops_newline, adds, ends_marked, ends_long, copies_none, copies_one}
-use Rattle.nx_envelope.proofs.Raw.{empty_is, raw-push, raw-newline, raw-none}
+use Rattle.nx_envelope.proofs.OneOpenCopy.{OneOpen, open_headers-one, open_headers-nil, parts, still_none, opens, drops_newline, adds, ends_marked, ends_long, copies_none, copies_one}
+use Rattle.nx_envelope.proofs.RawTexts.{empty_is, found_is, raw-push, raw-newline, raw-none}
 
 pub stage-nil : IsStageOf Nowhere []
 unfolding spaces_back station_back subject_back tens_back
@@ -77,21 +79,17 @@ holds fresh kept text header o same raw is = record {
 
 -- no copy is open
 
-pub record Heard (kept : List ℕ) (fresh : Bool) (text : List ℕ) (b : ℕ) (event : Event) (current : Option Identity) : Type 0 where
-  pub brings : Hears kept text b event
-  pub now : HoldsOpenIf fresh kept (text ++ b ∷ []) current
+pub none_begins : (text : List ℕ) (b : ℕ) (now : Finder) → open_headers text ≡ [] → None ≡ header_back (b ∷ reverse text) → now.copy ≡ states.Nothing → Hearing text b events.Nothing now
+none_begins text b now shut is none =
+    let keeps = still_none text b shut (sym is) in
+    record { hears = keeps; holds = rw none (keeps.still_open ∙ shut) }
 
-pub begin_none : (text : List ℕ) (b : ℕ) (o : Option Identity) (event : Event) (was current : Option Identity) (fresh : Bool) (kept : List ℕ) → header_back (b ∷ reverse text) ≡ o → was ≡ None → (o ≡ None → (event ≡ events.Nothing) × (current ≡ was)) → ((i : Identity) → o ≡ Some i → IsBegun event current fresh kept i) → open_headers text ≡ [] → Heard kept fresh text b event current
-begin_none text b None event was current fresh kept is nothing none begun shut =
-    let e = none refl in
-    let keeps = still_none text b shut is in
-    record { brings = rw e.0 keeps; now = rw (e.1, nothing) (keeps.still_open ∙ shut) }
-begin_none text b (Some i) event was current fresh kept is nothing none begun shut =
-    let e = begun i refl in
-    let p = opens text b i shut is in
+pub one_begins : (text : List ℕ) (b : ℕ) (identity : Identity) (now : Finder) → open_headers text ≡ [] → Some identity ≡ header_back (b ∷ reverse text) → now.copy ≡ states.Open identity true → now.text ≡ [] → Hearing text b (events.Header identity) now
+one_begins text b i now shut is copy kept =
+    let p = opens text b i shut (sym is) in
     let h : Header = record { identity = i; behind = length text + 1 } in
-    let now = holds fresh kept (text ++ b ∷ []) h p.one p.is (e.raw ∙ sym p.raw) (e.fresh ∙ ap is_empty (sym p.fresh)) in
-    record { brings = rw e.event (record { header = h; named = refl; begins = p.begins }); now = rw e.current now }
+    let now_open = holds true now.text (text ++ b ∷ []) h p.one p.is (kept ∙ sym p.raw) (ap is_empty (sym p.fresh)) in
+    record { hears = record { header = h; named = refl; begins = p.begins }; holds = rw copy now_open }
 
 -- a copy is open
 
@@ -117,7 +115,15 @@ no_longer_fresh : (text : List ℕ) (b : ℕ) (h : Header) → h.behind < length
 no_longer_fresh text b h within =
     sym (ap is_empty (drop-append-le h.behind text (b ∷ []) (omega arith)) ∙ not_empty (drop h.behind text) b)
 
-pub goes_newline : (fresh : Bool) (kept text : List ℕ) (b : ℕ) (identity : Identity) → HoldsOpen fresh kept text identity → (fresh && (b == 10)) ≡ true → Heard kept false text b events.Nothing (Some identity)
+-- it goes on, with this raw text
+pub record GoesOn (kept text : List ℕ) (b : ℕ) (identity : Identity) : Type 0 where
+  pub keeps : Keeps text b
+  pub holds : HoldsOpen false kept (text ++ b ∷ []) identity
+
+pub stays : (text : List ℕ) (b : ℕ) (identity : Identity) (now : Finder) → GoesOn now.text text b identity → now.copy ≡ states.Open identity false → Hearing text b events.Nothing now
+stays text b identity now g copy = record { hears = g.keeps; holds = rw copy g.holds }
+
+pub goes_newline : (fresh : Bool) (kept text : List ℕ) (b : ℕ) (identity : Identity) → HoldsOpen fresh kept text identity → (fresh && (b == 10)) ≡ true → GoesOn kept text b identity
 goes_newline fresh kept text b identity h dropped =
     let g = held fresh kept text identity h in
     let both = both_true fresh (b == 10) dropped in
@@ -127,33 +133,44 @@ goes_newline fresh kept text b identity h dropped =
     let none = raw-none text g.one.header (empty_is (drop g.one.header.behind text) empty) in
     let raw : kept ≡ raw_text (text ++ b ∷ []) g.one.header = g.raw ∙ none ∙ sym (raw-newline text b g.one.header g.one.within empty ten) in
     let now = holds false kept (text ++ b ∷ []) g.one.header d.one d.is raw (no_longer_fresh text b g.one.header (omega (arith, g.one.within))) in
-    record { brings = d.keeps; now = rw (← g.named) now }
+    record { keeps = d.keeps; holds = rw (← g.named) now }
 
-pub goes_on : (fresh : Bool) (kept text : List ℕ) (b : ℕ) (identity : Identity) → HoldsOpen fresh kept text identity → (fresh && (b == 10)) ≡ false → marker_back (b ∷ reverse text) ≡ None → length kept + 1 < 4100 → Heard (kept ++ b ∷ []) false text b events.Nothing (Some identity)
+pub goes_on : (fresh : Bool) (kept text : List ℕ) (b : ℕ) (identity : Identity) → HoldsOpen fresh kept text identity → (fresh && (b == 10)) ≡ false → marker_back (b ∷ reverse text) ≡ None → length kept + 1 < 4100 → GoesOn (kept ++ b ∷ []) text b identity
 goes_on fresh kept text b identity h none mark short =
     let g = held fresh kept text identity h in
     let far = apart fresh (drop g.one.header.behind text) b g.fresh none in
     let d = adds text b g.one far mark (rw (← g.raw) short) in
     let raw : kept ++ b ∷ [] ≡ raw_text (text ++ b ∷ []) g.one.header = rw (raw-push text b g.one.header g.one.within far, ← g.raw) refl in
     let now = holds false (kept ++ b ∷ []) (text ++ b ∷ []) g.one.header d.one d.is raw (no_longer_fresh text b g.one.header (omega (arith, g.one.within))) in
-    record { brings = d.keeps; now = rw (← g.named) now }
+    record { keeps = d.keeps; holds = rw (← g.named) now }
 
-pub ends_by : (fresh : Bool) (kept text : List ℕ) (b : ℕ) (identity : Identity) (how : How) → HoldsOpen fresh kept text identity → (fresh && (b == 10)) ≡ false → marker_back (b ∷ reverse text) ≡ Some how → EndsOpen kept text b identity how
+-- it ends, with this found text
+pub record EndsOpen (found before : List ℕ) (byte : ℕ) (name : Identity) (end : How) : Type 0 where
+  pub copy : Copy
+  pub named : copy.header.identity ≡ name
+  pub how : copy.how ≡ end
+  pub text : copy.text ≡ found
+  pub ends : Ends before byte copy
+
+pub becomes_ready : (text : List ℕ) (b : ℕ) (identity : Identity) (how : How) (now : Finder) → EndsOpen now.text text b identity how → now.copy ≡ states.Ready identity how → Hearing text b events.CopyOver now
+becomes_ready text b identity how now e copy =
+    let none = e.ends.none in
+    record {
+      hears = record { copy = e.copy; ends = e.ends; ready = record { held = rw (e.named, e.how) copy; text = sym e.text } };
+      holds = rw copy none;
+    }
+
+pub ends_by : (fresh : Bool) (kept text : List ℕ) (b : ℕ) (identity : Identity) (how : How) → HoldsOpen fresh kept text identity → (fresh && (b == 10)) ≡ false → marker_back (b ∷ reverse text) ≡ Some how → EndsOpen (take (length kept - 3) kept) text b identity how
 ends_by fresh kept text b identity how h none mark =
     let g = held fresh kept text identity h in
     let far = apart fresh (drop g.one.header.behind text) b g.fresh none in
-    record { copy = record { header = g.one.header; how = how; text = found_text how (raw_text text g.one.header) b }; named = g.named; how = refl; text = ap (λ (xs : List ℕ). found_text how xs b) (sym g.raw); ends = ends_marked text b g.one how far mark }
+    record { copy = record { header = g.one.header; how = how; text = found_text how (raw_text text g.one.header) b }; named = g.named; how = refl; text = ap (λ (xs : List ℕ). found_text how xs b) (sym g.raw) ∙ found_is (b ∷ reverse text) kept b how mark; ends = ends_marked text b g.one how far mark }
 
-pub ends_full : (fresh : Bool) (kept text : List ℕ) (b : ℕ) (identity : Identity) → HoldsOpen fresh kept text identity → (fresh && (b == 10)) ≡ false → marker_back (b ∷ reverse text) ≡ None → length kept + 1 ≡ 4100 → EndsOpen kept text b identity Long
+pub ends_full : (fresh : Bool) (kept text : List ℕ) (b : ℕ) (identity : Identity) → HoldsOpen fresh kept text identity → (fresh && (b == 10)) ≡ false → marker_back (b ∷ reverse text) ≡ None → length kept + 1 ≡ 4100 → EndsOpen (kept ++ b ∷ []) text b identity Long
 ends_full fresh kept text b identity h none mark full =
     let g = held fresh kept text identity h in
     let far = apart fresh (drop g.one.header.behind text) b g.fresh none in
     record { copy = record { header = g.one.header; how = Long; text = raw_text text g.one.header ++ b ∷ [] }; named = g.named; how = refl; text = ap (λ (xs : List ℕ). xs ++ b ∷ []) (sym g.raw); ends = ends_long text b g.one far mark (rw (← g.raw) full) }
-
--- the copy that is handed out
-pub hands_out : (kept text : List ℕ) (b : ℕ) (identity : Identity) (how : How) (found : Found) → EndsOpen kept text b identity how → IsFoundOf identity how (found_text how kept b) found → BringsCopy text b found
-hands_out kept text b identity how found e f =
-    record { copy = e.copy; is_found = rw (e.named, e.how, e.text) f; ends = e.ends }
 
 -- the end of the text
 pub closes_none : (text : List ℕ) → open_headers text ≡ [] → ClosesNone text
@@ -164,3 +181,12 @@ unfolding closed_copy
 closes_copy fresh kept text identity found h f =
     let g = held fresh kept text identity h in
     record { header = g.one.header; was_open = open_headers-one text g.one; is_found = rw (g.named, ← g.raw) f; whole = copies_one text g.one }
+
+pub none_open : (copy : HeldCopy) (kept text : List ℕ) → ((i : Identity) (fresh : Bool) → copy ≢ states.Open i fresh) → HoldsCopy copy kept text → open_headers text ≡ []
+none_open states.Nothing kept text none h = h
+none_open (states.Open i fresh) kept text none h = absurd (none i fresh refl)
+none_open (states.Ready i how) kept text none h = h
+
+-- the copy that is handed out
+pub hands_out : (text : List ℕ) (b : ℕ) (copy : Copy) (found : Found) → Ends text b copy → IsFound copy found → BringsCopy text b found
+hands_out text b copy found ends is = record { copy = copy; is_found = is; ends = ends }

@@ -1,6 +1,6 @@
 -- The copies of messages in a received text: the form of a message is that of ITU-R M.540; that a text without an end
 -- is found up to 4,100 characters is this profile's.
-use Rattle.std.specs.Prelude.{ℕ, ◌-◌, ◌==◌, nat_le, Bool, if◌then◌else◌, Option, Some, None, List, [], ◌∷◌, length, take, drop, map, reverse, count_by, unwrap_or}
+use Rattle.std.specs.Prelude.{ℕ, ◌-◌, ◌==◌, nat_le, Bool, if◌then◌else◌, Option, Some, None, List, [], ◌∷◌, length, take, drop, map, reverse, unwrap_or}
 use Rattle.std.specs.List.{filter, filter_map}
 use Rattle.std.specs.Option.{option_map, option_or, is_none}
 use Rattle.nx_envelope.specs.Backward.{header_back, marker_back}
@@ -38,8 +38,8 @@ pub record Ending : Type 0 where
   pub text : List ℕ
 
 -- a text that ends with a marker, less the marker
-unfoldable pub marked : List ℕ → Option Ending
-marked text =
+unfoldable pub ending_by_marker : List ℕ → Option Ending
+ending_by_marker text =
     option_map (λ how. record { how = how; text = take (length text - 4) text }) (marker_back (reverse text))
 
 -- what the first item gives that gives something
@@ -56,7 +56,7 @@ long_within most raw =
 -- there is none, but so many characters stand there, it is long; else it has no end
 unfoldable pub ending_within : ℕ → List ℕ → Option Ending
 ending_within most raw =
-    option_or (first_of marked (beginnings (take most raw))) (long_within most raw)
+    option_or (first_of ending_by_marker (beginnings (take most raw))) (long_within most raw)
 
 -- the most characters of a found text
 abbrev pub most_found : ℕ
@@ -71,10 +71,6 @@ pub record Copy : Type 0 where
   pub header : Header
   pub how : How
   pub text : List ℕ
-
--- the errors of a found text, its asterisks (42)
-abbrev pub errors_of : List ℕ → ℕ
-errors_of text = count_by (λ b. b == 42) text
 
 abbrev pub copy_with : Header → Ending → Copy
 copy_with header ending = record { header = header; how = ending.how; text = ending.text }

@@ -9,6 +9,10 @@ use Rattle.nx_envelope.specs.declared.finder.Finder.{Finder}
 use Rattle.nx_envelope.specs.declared.found.FinderStep.{FinderStep}
 use Rattle.nx_envelope.specs.declared.found.FinderStep.TheVariants as steps
 use Rattle.nx_envelope.specs.declared.found.Found.{Found}
+use Rattle.nx_envelope.specs.declared.found.HeldCopy.{HeldCopy}
+use Rattle.nx_envelope.specs.declared.found.HeldCopy.TheVariants as held
+use Rattle.nx_envelope.specs.declared.found.TextEvent.{TextEvent}
+use Rattle.nx_envelope.specs.declared.found.TextEvent.TheVariants as events
 use Rattle.nx_envelope.specs.declared.identity.Identity.{Identity}
 
 -- the byte completes no header and ends no copy
@@ -79,13 +83,47 @@ pub record HoldsOpen (is_fresh : Bool) (kept text : List ℕ) (identity : Identi
   pub raw : kept ≡ raw_text text header
   pub fresh : is_fresh ≡ is_empty (drop header.behind text)
 
-abbrev pub HoldsOpenIf : Bool → List ℕ → List ℕ → Option Identity → Type 0
-HoldsOpenIf fresh raw text None = open_headers text ≡ []
-HoldsOpenIf fresh raw text (Some identity) = HoldsOpen fresh raw text identity
+-- what a finder holds of the copies of the text: the open one, where one is open
+abbrev pub HoldsCopy : HeldCopy → List ℕ → List ℕ → Type 0
+HoldsCopy held.Nothing kept text = open_headers text ≡ []
+HoldsCopy (held.Open identity fresh) kept text = HoldsOpen fresh kept text identity
+HoldsCopy (held.Ready identity how) kept text = open_headers text ≡ []
 
 -- The finder stands after the text: it has the last four bytes, the stage of a header that is not complete, and the
 -- open copy.
 pub record StandsAfter (finder : Finder) (text : List ℕ) : Type 0 where
   pub recent : finder.recent ≡ last_four (reverse text)
   pub stage : IsStageOf finder.stage (reverse text)
-  pub current : HoldsOpenIf finder.fresh finder.text.items text finder.current
+  pub copy : HoldsCopy finder.copy finder.text text
+
+-- the finder has a copy that can be taken, and this is it
+pub record HasReady (finder : Finder) (copy : Copy) : Type 0 where
+  pub held : finder.copy ≡ held.Ready copy.header.identity copy.how
+  pub text : finder.text ≡ copy.text
+
+abbrev pub is_ready_copy : HeldCopy → Bool
+is_ready_copy held.Nothing = false
+is_ready_copy (held.Open identity fresh) = false
+is_ready_copy (held.Ready identity how) = true
+
+-- the finder has a copy that can be taken
+abbrev pub is_ready : Finder → Bool
+is_ready finder = is_ready_copy finder.copy
+
+-- the event is the end of a copy
+abbrev pub is_over : TextEvent → Bool
+is_over events.Nothing = false
+is_over (events.Header identity) = false
+is_over events.CopyOver = true
+
+-- a copy ends, and the finder has it
+pub record EndsReady (text : List ℕ) (byte : ℕ) (finder : Finder) : Type 0 where
+  pub copy : Copy
+  pub ends : Ends text byte copy
+  pub ready : HasReady finder copy
+
+-- the event is what happens at that byte behind that text, and the finder has the copy that it ends
+abbrev pub Hears : List ℕ → ℕ → Finder → TextEvent → Type 0
+Hears text byte finder events.Nothing = Keeps text byte
+Hears text byte finder (events.Header identity) = BringsHeader text byte identity
+Hears text byte finder events.CopyOver = EndsReady text byte finder

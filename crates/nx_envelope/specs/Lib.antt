@@ -2,7 +2,9 @@ pub mod Backward
 pub mod Copies
 pub mod Digits
 pub mod Ending
+pub mod Errors
 pub mod Finder
+pub mod FinderView
 pub mod Finding
 pub mod Found
 pub mod Header

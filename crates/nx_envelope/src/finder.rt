@@ -1,52 +1,51 @@
 //! The finder of copies, which sees a received text byte by byte.
 
-ghost use Rattle.std.specs.Prelude.{◌≡◌, ◌<◌, ◌==◌, ◌&&◌, ◌∷◌, ◌++◌, [], ℕ, List};
-ghost use Rattle.arrayvec.specs.ArrayVec.{array_vec_len};
-ghost use Rattle.nx_envelope.specs.Backward.{marker_back, last_four};
+ghost use Rattle.std.specs.Prelude.{◌≡◌, ◌==◌, ◌&&◌, ◌∷◌, ℕ, List};
+ghost use Rattle.nx_envelope.specs.Backward.{last_four, marker_back};
 ghost use Rattle.nx_envelope.specs.Found.{IsFoundOf};
 
-use crate::found::{FinderStep, Found, How, MAX_FOUND};
+use crate::found::{FinderStep, Found, HeldCopy, How, MAX_FOUND, TextEvent};
 use crate::identity::Identity;
 use crate::message::{END_MARKER, NEWLINE, START_MARKER};
 use crate::stage::Stage;
 use arrayvec::ArrayVec;
+use nx_code::ASTERISK;
+use std::marker::Model;
 use std::mem;
 
 /// The length of a marker.
 const MARKER_LEN: usize = 4;
 
-/// The byte that stands for a lost position.
-const LOST: u8 = b'*';
-
-/// What a byte brings, before the found text is made.
-#[derive(Clone, Copy, Debug)]
-pub enum Event {
-    /// It completes no header and ends no copy.
-    Nothing,
-    /// It completes a header.
-    Header(Identity),
-    /// It ends the copy of that identity.
-    Over(Identity, How),
-}
-
 /// Finds the copies of messages in a received text, of which it sees one byte after the other.
 ///
-/// It holds the last four bytes, how far a header has come, and the open text.
+/// It holds the last four bytes, how far a header has come, and the text of the copy that is open or can be taken.
 #[derive(Debug, Drop)]
 pub struct Finder {
     recent: [u8; MARKER_LEN],
     stage: Stage,
-    current: Option<Identity>,
-    fresh: bool,
+    copy: HeldCopy,
     text: ArrayVec<u8, MAX_FOUND>,
-    ghost room: { array_vec_len text < 4100 },
+}
+
+impl Model for Finder {
+    ghost use Rattle.nx_envelope.specs.FinderView.{FinderView, HasRoom};
+
+    ghost Value = { FinderView };
+
+    ghost view = { λ f. record { recent = f.recent; stage = f.stage; copy = f.copy; text = f.text.items } };
+
+    ghost invariant = { λ f. HasRoom f.copy f.text.items };
+
+    ghost inverse = { λ v. record { recent = v.recent; stage = v.stage; copy = v.copy; text = record { items = v.text } } };
 }
 
 impl Finder {
-    ghost use Rattle.nx_envelope.specs.Finder.{Brings, Closes, StandsAfter};
-    ghost use Rattle.nx_envelope.specs.Finding.{Hears, IsBegun, found_text};
-    ghost use Rattle.std.specs.Prelude.{Some, None};
-    ghost use Rattle.nx_envelope.specs.declared.identity.Identity.{Identity};
+    ghost use Rattle.std.specs.Prelude.{◌↔◌, ◌<◌, ◌++◌, [], false, length, reverse, IsNone, MatchOption};
+    ghost use Rattle.nx_envelope.specs.Backward.{header_back};
+    ghost use Rattle.nx_envelope.specs.Copies.{Copy, open_headers};
+    ghost use Rattle.nx_envelope.specs.Finder.{Brings, Closes, HasReady, Hears, HoldsOpen, StandsAfter, is_over, is_ready};
+    ghost use Rattle.nx_envelope.specs.Finding.{Hearing};
+    ghost use Rattle.nx_envelope.specs.Found.{IsFound};
 
     /// A finder of a text of which nothing was seen yet.
     pub fn new() -> Finder
@@ -55,8 +54,7 @@ impl Finder {
         Finder {
             recent: [0; MARKER_LEN],
             stage: Stage::Nowhere,
-            current: None,
-            fresh: false,
+            copy: HeldCopy::Nothing,
             text: ArrayVec::new(),
         }
     }
@@ -68,83 +66,104 @@ impl Finder {
         ensures brings { (text : List ℕ) → StandsAfter self.old text → Brings text byte result }
     {
         match self.hear(byte) {
-            Event::Nothing => FinderStep::Nothing,
-            Event::Header(identity) => FinderStep::Header(identity),
-            Event::Over(identity, how) => FinderStep::Over(self.take_found(identity, how, byte)),
+            TextEvent::Nothing => FinderStep::Nothing,
+            TextEvent::Header(identity) => FinderStep::Header(identity),
+            TextEvent::CopyOver => match self.take_found() {
+                Some(found) => FinderStep::Over(found),
+                None => unreachable!(),
+            },
         }
     }
 
-    /// Ends the text and answers the copy that stands open; the finder is then as new.
+    /// Takes in the next byte of the text and answers what it brings; a copy that it ends can be taken before the next
+    /// byte. It does what `push` does, for callers that go over many bytes: its answer is small.
+    #[inline(always)]
+    pub fn hear(&mut self, byte: u8) -> TextEvent
+        ensures stands { (text : List ℕ) → StandsAfter self.old text → StandsAfter self.new (text ++ byte ∷ []) }
+        ensures hears { (text : List ℕ) → StandsAfter self.old text → Hears text byte self.new result }
+        ensures ready { is_ready self.new ≡ is_over result }
+    {
+        let header = self.stage.header(byte);
+        self.stage = self.stage.next(self.recent == START_MARKER, byte);
+        self.recent = one_later(self.recent, byte);
+        match self.copy {
+            HeldCopy::Open(identity, fresh) => self.add(identity, fresh, byte),
+            HeldCopy::Nothing | HeldCopy::Ready(_, _) => self.begin(header),
+        }
+    }
+
+    /// The copy that the last byte ended, where it was not taken yet.
+    #[inline(never)]
+    pub fn take_found(&mut self) -> Option<Found>
+        ensures stands { (text : List ℕ) → StandsAfter self.old text → StandsAfter self.new text }
+        ensures found { (copy : Copy) → HasReady self.old copy → MatchOption result ⊥ (IsFound copy) }
+        ensures none { IsNone result ↔ (is_ready self.old ≡ false) }
+        ensures taken { is_ready self.new ≡ false }
+    {
+        let HeldCopy::Ready(identity, how) = self.copy else {
+            return None;
+        };
+        self.copy = HeldCopy::Nothing;
+        Some(found_of(identity, how, self.text.take()))
+    }
+
+    /// Ends the text and answers the copy that stands open; the finder is then as new. A copy that could be taken is
+    /// gone.
     #[inline(never)]
     pub fn end(&mut self) -> Option<Found>
         ensures closes { (text : List ℕ) → StandsAfter self.old text → Closes text result }
         ensures as_new { StandsAfter self.new [] }
     {
         let finder = mem::replace(self, Finder::new());
-        let identity = finder.current?;
+        let HeldCopy::Open(identity, _) = finder.copy else {
+            return None;
+        };
         Some(found_of(identity, How::Cut, finder.text))
     }
 
-    /// Takes in the next byte of the text and notes what it brings.
-    #[inline(always)]
-    fn hear(&mut self, byte: u8) -> Event
-        ensures stands { (text : List ℕ) → StandsAfter self.old text → StandsAfter self.new (text ++ byte ∷ []) }
-        ensures brings { (text : List ℕ) → StandsAfter self.old text → Hears self.new.text.items text byte result }
-    {
-        let header = self.stage.header(byte);
-        self.stage = self.stage.next(self.recent == START_MARKER, byte);
-        self.recent = one_later(self.recent, byte);
-        let Some(identity) = self.current else {
-            return self.begin(header);
-        };
-        let dropped = is_dropped(self.fresh, byte);
-        self.fresh = false;
-        if dropped {
-            return Event::Nothing;
-        }
-        if let Some(how) = marker_of(self.recent) {
-            self.current = None;
-            return Event::Over(identity, how);
-        }
-        if self.text.len() + 1 == MAX_FOUND {
-            self.current = None;
-            return Event::Over(identity, How::Long);
-        }
-        self.text.push(byte);
-        Event::Nothing
-    }
-
     /// Begins a copy where a header was completed.
-    fn begin(&mut self, header: Option<Identity>) -> Event
+    fn begin(&mut self, header: Option<Identity>) -> TextEvent
         ensures recent { self.new.recent ≡ self.old.recent }
         ensures stage { self.new.stage ≡ self.old.stage }
-        ensures none { header ≡ None → (result ≡ Event.Nothing) × (self.new.current ≡ self.old.current) }
-        ensures begun { (identity : Identity) → header ≡ Some identity
-            → IsBegun result self.new.current self.new.fresh self.new.text.items identity }
+        ensures hearing { (text : List ℕ) (byte : ℕ) → open_headers text ≡ [] → header ≡ header_back (byte ∷ reverse text)
+            → Hearing text byte result self.new }
+        ensures ready { is_ready self.new ≡ is_over result }
     {
         let Some(identity) = header else {
-            return Event::Nothing;
+            self.copy = HeldCopy::Nothing;
+            return TextEvent::Nothing;
         };
-        self.current = Some(identity);
-        self.fresh = true;
         self.text.clear();
-        Event::Header(identity)
+        self.copy = HeldCopy::Open(identity, true);
+        TextEvent::Header(identity)
     }
 
-    /// The copy that ended with the byte; its text is taken out of the finder.
-    #[inline(never)]
-    fn take_found(&mut self, identity: Identity, how: How, byte: u8) -> Found
+    /// Adds a byte to the open copy, of that identity, or ends it.
+    fn add(&mut self, identity: Identity, fresh: bool, byte: u8) -> TextEvent
+        requires { length self.old.text < 4100 }
         ensures recent { self.new.recent ≡ self.old.recent }
         ensures stage { self.new.stage ≡ self.old.stage }
-        ensures kept { self.new.current ≡ self.old.current }
-        ensures found { IsFoundOf identity how (found_text how self.old.text.items byte) result }
+        ensures hearing { (text : List ℕ) → HoldsOpen fresh self.old.text text identity
+            → self.old.recent ≡ last_four (byte ∷ reverse text) → Hearing text byte result self.new }
+        ensures ready { is_ready self.new ≡ is_over result }
     {
-        let mut text = self.text.take();
-        match how {
-            How::Full | How::Cut => text.truncate(text.len().saturating_sub(MARKER_LEN - 1)),
-            How::Long => text.push(byte),
+        if is_dropped(fresh, byte) {
+            self.copy = HeldCopy::Open(identity, false);
+            return TextEvent::Nothing;
         }
-        found_of(identity, how, text)
+        if let Some(how) = marker_of(self.recent) {
+            self.text
+                .truncate(self.text.len().saturating_sub(MARKER_LEN - 1));
+            self.copy = HeldCopy::Ready(identity, how);
+            return TextEvent::CopyOver;
+        }
+        self.text.push(byte);
+        if self.text.is_full() {
+            self.copy = HeldCopy::Ready(identity, How::Long);
+            return TextEvent::CopyOver;
+        }
+        self.copy = HeldCopy::Open(identity, false);
+        TextEvent::Nothing
     }
 }
 
@@ -152,7 +171,7 @@ impl Finder {
 fn found_of(identity: Identity, how: How, text: ArrayVec<u8, MAX_FOUND>) -> Found
     ensures { IsFoundOf identity how text.items result }
 {
-    let errors = text.iter().filter(|byte| **byte == LOST).count();
+    let errors = text.iter().filter(|byte| **byte == ASTERISK).count();
     Found {
         identity,
         text,

@@ -1,5 +1,8 @@
 //! What the finder hands out.
 
+ghost use Rattle.std.specs.Prelude.{◌≡◌};
+ghost use Rattle.nx_envelope.specs.Errors.{errors_of};
+
 use crate::identity::Identity;
 use arrayvec::ArrayVec;
 
@@ -28,6 +31,7 @@ pub struct Found {
     pub errors: u16,
     /// How it ended.
     pub how: How,
+    pub ghost counted: { errors ≡ errors_of text.items },
 }
 
 /// What a byte of a received text brings.
@@ -39,4 +43,26 @@ pub enum FinderStep {
     Header(Identity),
     /// It completes the marker that ends a copy, or is the last of 4,100 characters.
     Over(Found),
+}
+
+/// What a byte of a received text brings, where the copy that it may end is left with the finder.
+#[derive(Clone, Copy, PartialEq, Eq, Debug)]
+pub enum TextEvent {
+    /// It completes no header and ends no copy.
+    Nothing,
+    /// It is the second digit of a header: a copy begins.
+    Header(Identity),
+    /// It ends a copy, which can be taken.
+    CopyOver,
+}
+
+/// What a finder holds of a copy, beside its text.
+#[derive(Clone, Copy, Debug)]
+pub enum HeldCopy {
+    /// No copy.
+    Nothing,
+    /// An open copy; `true` where nothing stands behind its header yet.
+    Open(Identity, bool),
+    /// A copy that the last byte ended, and that was not taken.
+    Ready(Identity, How),
 }

@@ -7,3 +7,5 @@ pub mod Lines
 pub mod Pairing
 pub mod Runs
 pub mod Transfers
+pub mod Hexadecimal
+pub mod TableText

@@ -1,9 +1,11 @@
 -- The definitions of the memory, evaluated on worked examples.
 use Rattle.std.specs.Prelude.{◌≡◌, ℕ, true, false, [], ◌∷◌, Some, None, refl}
 use Rattle.std.proofs.Common.{lit≤}
+use Rattle.nx_code.specs.Lists.{last_of}
 use Rattle.nx_envelope.specs.declared.identity.Identity.{Identity}
 use Rattle.nx_memory.specs.declared.entry.MemoryEntry.{MemoryEntry}
-use Rattle.nx_memory.specs.Memory.{last_of, content_after, newest_of, is_known}
+use Rattle.nx_memory.specs.Memory.{content_after, newest_of, is_known}
+use Rattle.nx_memory.specs.Table.{index_of, last_moment}
 use Rattle.nx_memory.specs.Vital.{is_vital}
 
 -- the message 01 of station E (69) and subject A (65), and the message 02
@@ -51,6 +53,16 @@ newest_is_last = refl
 
 pub newest_of_none : newest_of [] ≡ None
 newest_of_none = refl
+
+-- EA01 has the place 4 stations and its own number behind AA00, and the last moment of an identity is that of its last entry
+pub place_of_ea01 : index_of ea01 ≡ 10401
+place_of_ea01 = refl
+
+pub last_of_two : last_moment ea01 (entry_at ea01 0 ∷ entry_at ea02 5 ∷ entry_at ea01 237600 ∷ entry_at ea02 237700 ∷ []) ≡ Some 237600
+last_of_two = refl
+
+pub last_of_none : last_moment ea01 (entry_at ea02 5 ∷ []) ≡ None
+last_of_none = refl
 
 -- D (68) and L (76) are vital, C (67) isn't
 pub d_is_vital : is_vital 68 ≡ true

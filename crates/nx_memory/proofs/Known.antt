@@ -1,38 +1,16 @@
 -- Which entries make an identity known.
-use mathlib.Core.HLevel.{is_prop→PathP, ×_prop}
-use native.Mathlib.Bridge.{le_prop}
-use Rattle.std.proofs.Common.{◌≡◌, ℕ, ◌+◌, ◌-◌, ◌<◌, ◌≤◌, Bool, true, false, ◌||◌, List, [], ◌∷◌, ◌++◌, length, take, drop, ltb, refl, sym, ap, ◌∙◌, subst, arith}
+use Rattle.std.proofs.Common.{◌≡◌, ℕ, ◌+◌, ◌-◌, ◌<◌, Bool, true, false, ◌||◌, List, [], ◌∷◌, ◌++◌, length, take, drop, ltb, refl, sym, ap, ◌∙◌, subst, arith}
 use Rattle.std.specs.List.{list_any}
-use Rattle.std.proofs.lemmas.Bool.{and_parts, and_from, or_left, or_right, eqb-true, eq-eqb, ltb-true, lt-ltb}
+use Rattle.std.proofs.lemmas.Bool.{and_parts, and_from, or_left, or_right, ltb-true, lt-ltb}
 use Rattle.std.proofs.lemmas.List.{take-append-drop, drop-append-le, length-drop, length-append, append_assoc}
 use Rattle.std.proofs.lemmas.List.Folds.{list_any-append}
-use Rattle.nx_envelope.specs.declared.letter.Letter.{Letter}
+use Rattle.nx_code.specs.Lists.{last_of}
 use Rattle.nx_envelope.specs.declared.identity.Identity.{Identity}
-use Rattle.nx_envelope.specs.Letter.{IsLetter}
 use Rattle.nx_envelope.specs.Identity.{same_identity}
+use Rattle.nx_envelope.proofs.Identities.{same_identity-true, same_itself}
 use Rattle.nx_memory.specs.declared.entry.MemoryEntry.{MemoryEntry}
 use Rattle.nx_memory.specs.Live.{IsLive}
-use Rattle.nx_memory.specs.Memory.{most_entries, seconds_known, is_recent, is_known, last_of}
-
--- letters with one byte are one letter, and identities of equal parts one identity
-same_letter : (a b : Letter) → a.byte ≡ b.byte → a ≡ b
-same_letter a b e = λ i. record { byte = e i; in_range = is_prop→PathP (λ j. IsLetter (e j)) (λ j. ×_prop le_prop le_prop) a.in_range b.in_range i }
-
-of_parts : (a b : Identity) → a.b1 ≡ b.b1 → a.b2 ≡ b.b2 → a.number ≡ b.number → a ≡ b
-of_parts a b e f g = λ i. record { b1 = e i; b2 = f i; number = g i; two_digits = is_prop→PathP (λ j. g j ≤ 99) (λ j. le_prop) a.two_digits b.two_digits i }
-
-pub same_identity-true : (a b : Identity) → same_identity a b ≡ true → a ≡ b
-same_identity-true a b e =
-    let parts = and_parts _ _ e in
-    let letters = and_parts _ _ parts.0 in
-    of_parts a b
-    (same_letter a.b1 b.b1 (eqb-true a.b1.byte b.b1.byte letters.0))
-    (same_letter a.b2 b.b2 (eqb-true a.b2.byte b.b2.byte letters.1))
-    (eqb-true a.number b.number parts.1)
-
-same_itself : (a : Identity) → same_identity a a ≡ true
-same_itself a =
-    and_from _ _ (and_from _ _ (eq-eqb a.b1.byte a.b1.byte refl) (eq-eqb a.b2.byte a.b2.byte refl)) (eq-eqb a.number a.number refl)
+use Rattle.nx_memory.specs.Memory.{most_entries, seconds_known, is_recent, is_known}
 
 -- an element that passes, with what stands before and after it
 record Found {A : Type 0} (p : A → Bool) (xs : List A) : Type 0 where

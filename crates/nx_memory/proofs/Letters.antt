@@ -1,12 +1,14 @@
 -- A set of letters kept as one flag for each of A, B, C and so on.
-use Rattle.std.proofs.Common.{◌≡◌, ℕ, ◌+◌, ◌-◌, ◌<◌, Bool, true, false, not, ◌&&◌, ◌||◌, List, [], ◌∷◌, length, get_or, replicate, eqb, zero, suc, refl, sym, ap, ◌∙◌, inl, inr, arith}
-use Rattle.std.proofs.Math.ListN.{set}
-use Rattle.std.proofs.lemmas.Bool.{cases_lt, cases_eq, ne_eqb, eq-eqb, or_left}
+use Rattle.std.proofs.Common.{◌≡◌, ℕ, ◌+◌, ◌-◌, ◌<◌, Bool, true, false, not, ◌&&◌, ◌||◌, List, [], ◌∷◌, length, get_or, replicate, eqb, zero, suc, refl, sym, ap, ◌∙◌, subst, inl, inr, arith}
+use Rattle.std.proofs.Math.ListN.{set, length-set}
+use Rattle.std.proofs.lemmas.Bool.{true≢false, cases_lt, cases_eq, ne_eqb, eq-eqb, or_left}
 use Rattle.std.proofs.lemmas.List.{get_or-set_same, get_or-set_other}
 use Rattle.std.specs.Ordering.{nat_cmp}
 use Rattle.std.specs.Cmp.{nat_cmp_total, unsigned_tied}
 use Rattle.std.specs.FinSet as finite
-use Rattle.nx_memory.specs.Letters.{letters_from, letters_of}
+use Rattle.nx_code.specs.Characters.{IsCapital}
+use Rattle.nx_memory.specs.Letters.{HasLettersOnly, letters_from, letters_of, flags_from, flags_of}
+use Rattle.nx_memory.specs.Vital.{is_vital, IsWithoutVital}
 
 -- the empty set of numbers has none
 pub contains-none : (q : ℕ) → finite.contains (finite.empty {R = nat_cmp}) q ≡ false
@@ -51,6 +53,19 @@ contains-letters_of flags i letter at = letters_at 65 flags i letter (omega arit
 not_below : (flags : List Bool) (q : ℕ) → q < 65 → finite.contains (letters_of flags) q ≡ false
 unfolding letters_of
 not_below flags q below = letters_below 65 flags q below
+
+-- the flags are told from the letters again
+flags_from-same : (first : ℕ) (flags : List Bool) (letters : finite.FinSet nat_cmp) → ((i q : ℕ) → q ≡ first + i → finite.contains letters q ≡ get_or flags i false) → flags_from first (length flags) letters ≡ flags
+flags_from-same first [] letters same = refl
+flags_from-same first (flag ∷ flags) letters same =
+    ap (λ (it : Bool). it ∷ flags_from (first + 1) (length flags) letters) (same 0 first (omega arith))
+    ∙ ap (λ (rest : List Bool). flag ∷ rest) (flags_from-same (first + 1) flags letters (λ i q at. same (suc i) q (omega arith)))
+
+pub flags_of-letters_of : (flags : List Bool) → length flags ≡ 26 → flags_of (letters_of flags) ≡ flags
+unfolding letters_of flags_of
+flags_of-letters_of flags size =
+    ap (λ (n : ℕ). flags_from 65 n (letters_from 65 flags)) (sym size)
+    ∙ flags_from-same 65 flags (letters_from 65 flags) (λ i q at. letters_at 65 flags i q at)
 
 -- setting a flag adds its letter
 pub letters_of-set_true : (flags : List Bool) (i letter : ℕ) → i + 65 ≡ letter → i < length flags → letters_of (set flags i true) ≡ finite.insert (letters_of flags) letter
@@ -98,6 +113,9 @@ letters_of-set_false flags i letter at within =
       ]
     ]
 
+pub flags_of-set : (flags : List Bool) (i : ℕ) (flag : Bool) → length flags ≡ 26 → flags_of (letters_of (set flags i flag)) ≡ set flags i flag
+flags_of-set flags i flag size = flags_of-letters_of (set flags i flag) (length-set flags i flag ∙ size)
+
 -- with no flag set there is no letter
 none_from : (first n : ℕ) → letters_from first (replicate n false) ≡ finite.empty
 none_from first zero = refl
@@ -126,5 +144,21 @@ remove_again s k absent = finite.same_set nat_cmp_total finite.nat_cmp-IsAntisym
       | inr other ↦ contains-remove s k q ∙ ap (λ b. not b && finite.contains s q) (ne_eqb q k other)
     ]
 
+-- one more letter leaves letters only, and one more subject that isn't vital no vital one
+pub letters_only-insert : (letters : finite.FinSet nat_cmp) (k : ℕ) → HasLettersOnly letters → IsCapital k → HasLettersOnly (finite.insert letters k)
+letters_only-insert letters k only letter q there = elim (cases_eq q k) [
+  | inl here ↦ subst IsCapital (sym here) letter
+  | inr other ↦ only q (sym (contains-insert letters k q ∙ ap (λ b. b || finite.contains letters q) (ne_eqb q k other)) ∙ there)
+]
+
+pub without_vital-insert : (subjects : finite.FinSet nat_cmp) (k : ℕ) → IsWithoutVital subjects → is_vital k ≡ false → IsWithoutVital (finite.insert subjects k)
+without_vital-insert subjects k without not_vital q vital = elim (cases_eq q k) [
+  | inl here ↦ absurd (true≢false (sym vital ∙ ap is_vital here ∙ not_vital))
+  | inr other ↦ contains-insert subjects k q ∙ ap (λ b. b || finite.contains subjects q) (ne_eqb q k other) ∙ without q vital
+]
+
 -- what a changed set has, and where a change changes nothing
 pub ruleset changes = (contains-none, contains-insert, contains-remove, insert_again, remove_again)
+
+-- what one more refused subject keeps
+pub ruleset kept = (letters_only-insert, without_vital-insert)

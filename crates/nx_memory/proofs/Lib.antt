@@ -1,3 +1,6 @@
+pub mod Content
 pub mod Examples
 pub mod Known
 pub mod Letters
+pub mod Rings
+pub mod Tables

@@ -1,6 +1,9 @@
+pub mod Content
 pub mod Letters
 pub mod Live
 pub mod Memory
 pub mod Refused
+pub mod Ring
 pub mod Selection
+pub mod Table
 pub mod Vital

@@ -1,7 +1,8 @@
 -- The memory of identities (this profile: the last 200 entered, each for 66 hours).
-use Rattle.std.specs.Prelude.{ℕ, ◌-◌, Bool, ◌&&◌, nat_lt, List, [], ◌∷◌, ◌++◌, length, drop, slice_get, Option, unwrap_or}
+use Rattle.std.specs.Prelude.{ℕ, ◌-◌, Bool, ◌&&◌, nat_lt, List, [], ◌∷◌, ◌++◌, length, slice_get, Option, unwrap_or}
 use Rattle.std.specs.Option.{option_map}
 use Rattle.std.specs.List.{list_any}
+use Rattle.nx_code.specs.Lists.{last_of}
 use Rattle.nx_envelope.specs.declared.identity.Identity.{Identity}
 use Rattle.nx_envelope.specs.Identity.{same_identity}
 use Rattle.nx_memory.specs.declared.entry.MemoryEntry.{MemoryEntry}
@@ -14,11 +15,8 @@ most_entries = 200
 abbrev pub seconds_known : ℕ
 seconds_known = 237600
 
--- the last n of a list, or all of it where there are no more
-abbrev pub last_of : {A : Type 0} → ℕ → List A → List A
-last_of n xs = drop (length xs - n) xs
-
--- what a memory holds, oldest first, after one more entry: the last 200 of its entries and the new one
+-- what a memory holds, oldest first, after one more entry: the last 200 of its entries and the new
+-- one
 abbrev pub content_after : List MemoryEntry → Identity → ℕ → List MemoryEntry
 content_after content identity moment =
     last_of most_entries (content ++ record { identity = identity; moment = moment } ∷ [])

@@ -7,9 +7,10 @@ use nx_envelope::Letter;
 use std::marker::Model;
 
 /// How many letters there are, A to Z.
-const LETTERS: usize = 26;
+pub(crate) const LETTERS: usize = 26;
 
-/// A set of letters, with a flag for each. Contracts see it as the set of their bytes.
+/// A set of letters, with a flag for each. Contracts see it as the set of their bytes, from which
+/// the flags can be told again: it holds nothing else.
 #[derive(Drop)]
 pub struct LetterSet {
     flags: [bool; LETTERS],
@@ -19,13 +20,20 @@ impl Model for LetterSet {
     ghost use Rattle.std.specs.Ordering.{nat_cmp};
     ghost use Rattle.std.specs.Coded.{coded_ℕ};
     ghost use Rattle.std.specs.FinSet as set;
-    ghost use Rattle.nx_memory.specs.Letters.{letters_of};
+    ghost use Rattle.std.specs.Prelude.{◌≡◌};
+    ghost use Rattle.nx_memory.specs.Letters.{letters_of, flags_of};
 
     ghost Value = { set.FinSet nat_cmp };
 
     ghost coded = { set.code coded_ℕ };
 
     ghost view = { λ s. letters_of s.flags };
+
+    ghost invariant = { λ s. flags_of (letters_of s.flags) ≡ s.flags };
+
+    ghost inverse = { λ letters. record { flags = flags_of letters } };
+
+    ghost inverse_ok = { λ s told i. record { flags = told i } };
 }
 
 impl LetterSet {
@@ -42,28 +50,28 @@ impl LetterSet {
     pub fn contains(&self, letter: Letter) -> bool
         ensures { result ≡ set.contains self.now letter.byte }
     {
-        self.flags[place_of(letter)]
+        self.flags[place_in_alphabet(letter)]
     }
 
     /// Adds the letter, where it isn't in the set already.
     pub fn insert(&mut self, letter: Letter)
         ensures { self.new ≡ set.insert self.old letter.byte }
     {
-        self.flags[place_of(letter)] = true;
+        self.flags[place_in_alphabet(letter)] = true;
     }
 
     /// Takes the letter out, where it is in the set.
     pub fn remove(&mut self, letter: Letter)
         ensures { self.new ≡ set.remove self.old letter.byte }
     {
-        self.flags[place_of(letter)] = false;
+        self.flags[place_in_alphabet(letter)] = false;
     }
 }
 
 /// The place of a letter in the alphabet, 0 for A.
-fn place_of(letter: Letter) -> usize
+pub(crate) fn place_in_alphabet(letter: Letter) -> usize
     ensures place { result + 65 ≡ letter.byte }
-    ensures within { result < LETTERS }
+    ensures within { result < 26 }
 {
     usize::from(letter.byte() - b'A')
 }

@@ -1,18 +1,21 @@
-//! What keeps a receiver from printing each warning again: a selection of stations and subjects that can't refuse
-//! what is vital (ITU-R M.540), and a memory of the last 200 identities entered, each for 66 hours (this profile).
+//! What keeps a receiver from printing each warning again: a selection of stations and subjects
+//! that can't refuse what is vital (ITU-R M.540), and a memory of the last 200 identities entered,
+//! each for 66 hours (this profile).
 #![tactic(auto)]
 
 mod entry;
-mod laws;
+pub mod laws;
 mod letter_set;
+mod moment_table;
 mod plain;
 mod recall;
+mod ring;
 mod selection;
 
 pub use entry::MemoryEntry;
-pub use laws::{known_is_live, last_of_goes_on};
 pub use plain::PlainRecall;
-pub use recall::{CAPACITY, LIFETIME, Recall, enter_unless_known};
+pub use recall::{CAPACITY, LIFETIME, Recall};
+pub use ring::RingRecall;
 pub use selection::{Selection, Vital};
 
 #[cfg(test)]

@@ -8,7 +8,8 @@ use arrayvec::ArrayVec;
 use nx_envelope::Identity;
 use std::marker::Model;
 
-/// A memory that looks through all its entries. Contracts see it as their list, oldest first.
+/// A memory that looks through all its entries. Contracts see it as their list, oldest first, and
+/// it holds nothing else.
 #[derive(Drop)]
 pub struct PlainRecall {
     entries: ArrayVec<MemoryEntry, CAPACITY>,
@@ -17,10 +18,15 @@ pub struct PlainRecall {
 impl Model for PlainRecall {
     ghost use Rattle.std.specs.Prelude.{List};
     ghost use Rattle.nx_memory.specs.declared.entry.MemoryEntry.{MemoryEntry};
+    ghost use Rattle.nx_memory.specs.Content.{IsContent};
 
     ghost Value = { List MemoryEntry };
 
     ghost view = { λ memory. memory.entries.items };
+
+    ghost invariant = { λ memory. IsContent memory.entries.items };
+
+    ghost inverse = { λ content. record { entries = record { items = content } } };
 }
 
 impl PlainRecall {

@@ -1,6 +1,6 @@
 //! The worked examples of selection and memory. Those of a memory run over any `Recall`.
 
-ghost use Rattle.std.specs.Prelude.{◌≤◌};
+ghost use Rattle.std.specs.Prelude.{◌≡◌, ◌<◌, ◌≤◌, []};
 ghost use Rattle.nx_memory.specs.Memory.{newest_moment};
 
 use super::*;
@@ -15,6 +15,19 @@ fn letter(rt: &impl Abort, byte: u8) -> Letter {
     Letter::new(byte).expect(rt, "a letter")
 }
 
+/// Enters the identity where it isn't known, and says whether it was entered.
+fn enter_unknown<M: Recall>(memory: &mut M, identity: Identity, moment: u64) -> bool
+    requires not_before { newest_moment (M.content memory.old) ≤ moment }
+    requires numbered { 0 < identity.number }
+    ensures { newest_moment (M.content memory.new) ≤ moment }
+{
+    let unknown = !memory.knows(&identity, moment);
+    if unknown {
+        memory.enter(identity, moment);
+    }
+    unknown
+}
+
 /// Enters the messages 01 to `last` of a station and a subject, and says whether none was known.
 fn enter_numbers<M: Recall>(memory: &mut M, station: u8, subject: u8, last: u8, moment: u64) -> bool
     requires { newest_moment (M.content memory.old) ≤ moment }
@@ -23,7 +36,7 @@ fn enter_numbers<M: Recall>(memory: &mut M, station: u8, subject: u8, last: u8, 
     let mut unknown = true;
     for number in 1..=last {
         if let Some(identity) = Identity::new(station, subject, number) {
-            unknown = enter_unless_known(memory, identity, moment) && unknown;
+            unknown = enter_unknown(memory, identity, moment) && unknown;
         }
     }
     unknown
@@ -35,31 +48,42 @@ fn check_forgetting<M: Recall>(rt: &impl Abort, memory: &mut M, moment: u64)
 {
     let warning = Identity::new(b'E', b'A', 1).expect(rt, "EA01");
     let next = Identity::new(b'B', b'C', 2).expect(rt, "BC02");
-    assert!(rt; enter_unless_known(memory, warning, moment));
+    assert!(rt; enter_unknown(memory, warning, moment));
     assert!(rt; enter_numbers(memory, b'B', b'A', 99, moment));
     assert!(rt; enter_numbers(memory, b'B', b'B', 99, moment));
     assert!(rt; enter_numbers(memory, b'B', b'C', 1, moment));
     assert!(rt; memory.knows(&warning, moment));
-    assert!(rt; enter_unless_known(memory, next, moment));
+    assert!(rt; enter_unknown(memory, next, moment));
     assert!(rt; !memory.knows(&warning, moment));
+    assert_eq!(rt; memory.newest(), Some(moment));
+}
+
+/// The examples of a memory, over two that know nothing: one forgets its oldest entry, and in the
+/// other an identity that was entered again stays known by its later entry.
+fn check_memories<M: Recall>(rt: &impl Abort, first: &mut M, second: &mut M)
+    requires first { M.content first.old ≡ [] }
+    requires second { M.content second.old ≡ [] }
+{
+    assert_eq!(rt; first.newest(), None);
+    check_forgetting(rt, first, SLOT_START);
+    let warning = Identity::new(b'E', b'A', 1).expect(rt, "EA01");
+    assert!(rt; enter_unknown(second, warning, 0));
+    assert!(rt; second.knows(&warning, 237_599));
+    assert!(rt; !second.knows(&warning, 237_600));
+    check_forgetting(rt, second, 237_600);
 }
 
 #[test]
-fn forgets_the_oldest_of_200(rt: HostRuntime) {
-    let mut memory = PlainRecall::new();
-    assert_eq!(rt; memory.newest(), None);
-    check_forgetting(&rt, &mut memory, SLOT_START);
-    assert_eq!(rt; memory.newest(), Some(SLOT_START));
+fn plain_memories_pass_the_examples(rt: HostRuntime) {
+    check_memories(&rt, &mut PlainRecall::new(), &mut PlainRecall::default());
 }
 
 #[test]
-fn an_identity_entered_again_is_kept_by_its_later_entry(rt: HostRuntime) {
-    let mut memory = PlainRecall::new();
-    let warning = Identity::new(b'E', b'A', 1).expect(&rt, "EA01");
-    memory.enter(warning, 0);
-    assert!(rt; memory.knows(&warning, 237_599));
-    assert!(rt; !memory.knows(&warning, 237_600));
-    check_forgetting(&rt, &mut memory, 237_600);
+fn ring_memories_pass_the_examples(rt: HostRuntime) -> Result<(), Fail> {
+    let mut first = RingRecall::new(rt.alloc())?;
+    let mut second = RingRecall::new(rt.alloc())?;
+    check_memories(&rt, &mut first, &mut second);
+    Ok(())
 }
 
 #[test]
@@ -96,6 +120,9 @@ fn names_the_vital_subject(rt: HostRuntime) -> Result<(), Fail> {
 
 #[test]
 fn laws_can_be_called() {
-    known_is_live();
-    last_of_goes_on();
+    laws::known_is_live();
+    laws::last_of_goes_on();
+    laws::entries_stand_in_turn();
+    laws::identities_have_places_of_their_own();
+    laws::the_last_entry_tells();
 }

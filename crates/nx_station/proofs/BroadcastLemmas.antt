@@ -17,7 +17,7 @@ use Rattle.nx_code.specs.Reading.{combination, shift_after_all}
 use Rattle.nx_code.specs.Spelling.{Spells}
 use Rattle.nx_code.specs.declared.shifts.Shift.{Shift}
 use Rattle.nx_code.specs.declared.shifts.Shift.TheVariants.{Letters, Figures}
-use Rattle.nx_code.proofs.SpellingLaws.{spelling-exists, spelling-one}
+use Rattle.nx_code.proofs.OneSpelling.{spelling-exists, spelling-one}
 use Rattle.nx_envelope.specs.Message.{AreLines, IsLine, IsLineByte, text_of}
 use Rattle.nx_envelope.specs.MessageView.{MessageView}
 use Rattle.nx_fec.specs.Emission.{SentPosition, phasing_position, traffic_position, end_position}

@@ -5,7 +5,7 @@ use Rattle.std.proofs.lemmas.Bool.{cases_lt, cases_eq}
 use Rattle.nx_sync.specs.declared.step.Change.{Change}
 use Rattle.nx_sync.specs.Locks.{last_28, IsPattern, release, Lock, Past, Now, hunting, locked, IsLocked, IsNow}
 use Rattle.nx_sync.specs.Laws.{Standing, Extends, same, newer, GoesOn, hunts_on, finds_one, stands_still, found_and_past, is_past, Stood, OneMore, still_hunts, now_finds, still_stands, now_over}
-use Rattle.nx_sync.proofs.Patterns.{dx, rx, neither, which}
+use Rattle.nx_sync.proofs.Patterns.{dx, rx, neither, which, length-last_28}
 use Rattle.nx_sync.proofs.Unique.{locks-unique, now-unique}
 use Rattle.nx_sync.proofs.OneBit as one
 
@@ -15,7 +15,7 @@ pattern_or_not bits t = elim (cases_lt t 28) [
   | inl early ↦ inr (λ here. absurd (omega (arith, here.enough)))
   | inr enough ↦ elim (cases_lt (length bits) t) [
     | inl past ↦ inr (λ here. absurd (omega (arith, here.heard)))
-    | inr heard ↦ elim (which (last_28 bits t)) [
+    | inr heard ↦ elim (which (last_28 bits t) (length-last_28 bits t enough heard)) [
       | dx e _ ↦ inl (record { enough = enough; heard = heard; pattern = inl e })
       | rx e _ ↦ inl (record { enough = enough; heard = heard; pattern = inr e })
       | neither not _ ↦ inr (λ here. elim here.pattern [ inl d ↦ not.not_dx d | inr r ↦ not.not_rx r ])

@@ -1,7 +1,10 @@
 pub mod Lists
+pub mod Numbers
 pub mod More
 pub mod OneBit
 pub mod Patterns
+pub mod Hearing
+pub mod Lanes
 pub mod Marks
 pub mod Unique
 pub mod Pushes
@@ -10,3 +13,8 @@ pub mod Releases
 pub mod Phasing
 pub mod Counts
 pub mod WordLists
+pub mod Hunting
+pub mod WholeWords
+pub mod Strides
+pub mod PhasingStates
+pub mod Examples

@@ -37,6 +37,15 @@ module _ {X : Type 0} where
       ∙ (sym (drop-append-le (k + 1) xs (y ∷ []) (omega arith))
       ∙ ap (λ j. drop j (xs ++ y ∷ [])) (sym e))
 
+  -- the last n items, moved up by as many as come
+  pub keep_last-append : (n : ℕ) (xs ys : List X) → length ys ≤ n → n ≤ length xs → drop (length ys) (keep_last n xs) ++ ys ≡ keep_last n (xs ++ ys)
+  keep_last-append n xs ys few h =
+      let k : ℕ = length xs - n in
+      let e : length (xs ++ ys) - n ≡ k + length ys = simp length-append (omega arith) in
+      ap (λ zs. zs ++ ys) (drop-drop (length ys) k xs)
+      ∙ (sym (drop-append-le (k + length ys) xs ys (omega arith))
+      ∙ ap (λ j. drop j (xs ++ ys)) (sym e))
+
 -- the last n items of a list with n items of padding before it, where the list has so many
 pub keep_last-padded : (n : ℕ) (bits : List Bool) → n ≤ length bits → keep_last n (replicate n false ++ bits) ≡ drop (length bits - n) bits
 keep_last-padded n bits h =
@@ -45,6 +54,20 @@ keep_last-padded n bits h =
     let e : length (pad ++ bits) - n ≡ length pad + (length bits - n) = simp length-append (omega arith) in
     ap (λ j. drop j (pad ++ bits)) e ∙ drop-append-add pad bits (length bits - n)
 
+-- padding and more bits
+pub padded-append : (n : ℕ) (bits more : List Bool) → length more ≤ n → drop (length more) (keep_last n (replicate n false ++ bits)) ++ more ≡ keep_last n (replicate n false ++ (bits ++ more))
+padded-append n bits more few =
+    let pad : List Bool = replicate n false in
+    let l : length pad ≡ n = length-replicate n false in
+    keep_last-append n (pad ++ bits) more few (simp length-append (omega arith))
+    ∙ ap (keep_last n) (append_assoc pad bits more)
+
+-- so many are left behind padding
+pub length-padded : (n : ℕ) (bits : List Bool) → length (keep_last n (replicate n false ++ bits)) ≡ n
+length-padded n bits =
+    let l : length (replicate n false) ≡ n = length-replicate n false in
+    simp (length-drop, length-append) (omega arith)
+
 -- padding and one more bit
 pub padded-push : (n : ℕ) (bits : List Bool) (b : Bool) → 0 < n → drop 1 (keep_last n (replicate n false ++ bits)) ++ b ∷ [] ≡ keep_last n (replicate n false ++ (bits ++ b ∷ []))
 padded-push n bits b pos =
@@ -52,22 +75,3 @@ padded-push n bits b pos =
     let l : length pad ≡ n = length-replicate n false in
     keep_last-moved n (pad ++ bits) b pos (simp length-append (omega arith))
     ∙ ap (keep_last n) (append_assoc pad bits (b ∷ []))
-
--- a list turned by one, with another last item
-pub set_turned : (xs : List Bool) (n : ℕ) (b : Bool) → length xs ≡ n + 1 → set (drop 1 xs ++ take 1 xs) n b ≡ drop 1 xs ++ b ∷ []
-set_turned [] n b h = absurd (omega arith)
-set_turned (x ∷ xs) n b h = set_at xs x [] b n (omega arith)
-
--- the last seven of 28 items, one by one
-pub last_seven : (xs : List Bool) → length xs ≡ 28 → drop 21 xs ≡ get_or xs 21 false ∷ get_or xs 22 false ∷ get_or xs 23 false ∷ get_or xs 24 false ∷ get_or xs 25 false ∷ get_or xs 26 false ∷ get_or xs 27 false ∷ []
-last_seven xs h =
-    rw (
-      drop_more xs 21 false (omega arith),
-      drop_more xs 22 false (omega arith),
-      drop_more xs 23 false (omega arith),
-      drop_more xs 24 false (omega arith),
-      drop_more xs 25 false (omega arith),
-      drop_more xs 26 false (omega arith),
-      drop_more xs 27 false (omega arith),
-      drop_all 28 xs (omega arith),
-    ) refl

@@ -1,58 +1,67 @@
 -- The two patterns: which one stands, and what role the first word has after it.
-use Rattle.std.proofs.Common.{◌≡◌, ℕ, ◌+◌, ◌-◌, ◌≤◌, List, ◌++◌, length, take, drop, replicate, Bool, true, false, refl, sym, ap, ◌∙◌, inl, inr, arith, Some, None, length-drop, take_all, drop-drop}
-use Rattle.std.specs.Bool.{beq, Decides}
-use Rattle.std.specs.Cmp.{booleans_Decides}
-use Rattle.std.specs.Cmp.Lexicographic.{pointwise}
-use Rattle.std.proofs.lemmas.Bool.{cases_Bool, both_ways}
+use Rattle.std.proofs.Common.{◌≡◌, ℕ, ◌+◌, ◌-◌, ◌/◌, ◌^◌, ◌≤◌, List, ◌++◌, length, take, drop, replicate, Bool, true, false, refl, sym, ap, ◌∙◌, inl, inr, arith, Some, None, length-drop, length-take, take_all, drop-drop}
+use Rattle.std.proofs.lemmas.Bool.{cases_eq, ne_eqb}
 use Rattle.std.proofs.lemmas.List.{drop-take}
-use Rattle.std.proofs.lemmas.Slice.Eq.{slice_eq-Decides}
 use Rattle.circular_buffer.specs.Buffer.{keep_last}
 use Rattle.nx_code.specs.Word.{number_of}
 use Rattle.nx_sync.specs.declared.step.Role.TheVariants.{Dx, Rx}
 use Rattle.nx_sync.specs.Words.{first_role}
 use Rattle.nx_sync.specs.Locks.{before_dx, before_rx, last_28}
-use Rattle.nx_sync.specs.Parts.{role_after}
+use Rattle.nx_sync.specs.Windows.{window_before_dx, window_before_rx, role_after}
 use Rattle.nx_sync.proofs.Lists.{keep_last-padded}
+use Rattle.nx_sync.proofs.Numbers.{number_of-same, number_of-drop}
 
--- what the two tests say
-pub role_after-dx : (w : List Bool) (r : Bool) → r ≡ pointwise beq w before_dx → r ≡ true → Some Dx ≡ role_after w
-unfolding role_after
-role_after-dx w r e h = rw (sym e ∙ h) refl
+-- the numbers of the two patterns
+pub number_of-before_dx : number_of before_dx ≡ window_before_dx
+unfolding number_of before_dx
+number_of-before_dx = refl
 
-pub role_after-rx : (w : List Bool) (q r : Bool) → q ≡ pointwise beq w before_dx → q ≡ false → r ≡ pointwise beq w before_rx → r ≡ true → Some Rx ≡ role_after w
-unfolding role_after
-role_after-rx w q r d n e h = rw (sym d ∙ n, sym e ∙ h) refl
+pub number_of-before_rx : number_of before_rx ≡ window_before_rx
+unfolding number_of before_rx
+number_of-before_rx = refl
 
-pub role_after-none : (w : List Bool) (q r : Bool) → q ≡ pointwise beq w before_dx → q ≡ false → r ≡ pointwise beq w before_rx → r ≡ false → None ≡ role_after w
-unfolding role_after
-role_after-none w q r d n e h = rw (sym d ∙ n, sym e ∙ h) refl
+pub is_dx_window : (w : List Bool) → length w ≡ 28 → number_of w ≡ window_before_dx → w ≡ before_dx
+unfolding before_dx
+is_dx_window w l e = number_of-same w before_dx l (e ∙ sym number_of-before_dx)
 
--- `==` decides whether two lists of bits are equal
-same_bits : (xs ys : List Bool) → Decides (pointwise beq xs ys) (xs ≡ ys)
-same_bits xs ys = slice_eq-Decides booleans_Decides xs ys (pointwise beq xs ys) refl
+pub is_rx_window : (w : List Bool) → length w ≡ 28 → number_of w ≡ window_before_rx → w ≡ before_rx
+unfolding before_rx
+is_rx_window w l e = number_of-same w before_rx l (e ∙ sym number_of-before_rx)
 
--- which pattern these 28 bits are, by what `role_after` answers
--- which of the two patterns these 28 bits are
+-- what the two tests of a window say
+pub role_after-dx : (window : ℕ) → window ≡ window_before_dx → role_after window ≡ Some Dx
+role_after-dx window e = rw e refl
+
+pub role_after-rx : (window : ℕ) → window ≡ window_before_rx → role_after window ≡ Some Rx
+role_after-rx window e = rw e refl
+
+pub role_after-none : (window : ℕ) → (window ≡ window_before_dx → ⊥) → (window ≡ window_before_rx → ⊥) → role_after window ≡ None
+role_after-none window d r = rw (ne_eqb window window_before_dx d, ne_eqb window window_before_rx r) refl
+
+-- which of the two patterns these 28 bits are, by what the tests of their number answer
 pub record IsNeither (w : List Bool) : Type 0 where
   pub not_dx : w ≡ before_dx → ⊥
   pub not_rx : w ≡ before_rx → ⊥
 
 pub data Which (w : List Bool) : Type 0 where
-  dx : w ≡ before_dx → role_after w ≡ Some Dx → Which w
-  rx : w ≡ before_rx → role_after w ≡ Some Rx → Which w
-  neither : IsNeither w → role_after w ≡ None → Which w
+  dx : w ≡ before_dx → role_after (number_of w) ≡ Some Dx → Which w
+  rx : w ≡ before_rx → role_after (number_of w) ≡ Some Rx → Which w
+  neither : IsNeither w → role_after (number_of w) ≡ None → Which w
 
-pub which : (w : List Bool) → Which w
-which w = elim (cases_Bool (pointwise beq w before_dx)) [
-  | inl d ↦ dx ((same_bits w before_dx).0 d) (sym (role_after-dx w _ refl d))
-  | inr nd ↦ elim (cases_Bool (pointwise beq w before_rx)) [
-    | inl r ↦ rx ((same_bits w before_rx).0 r) (sym (role_after-rx w _ _ refl nd refl r))
+pub which : (w : List Bool) → length w ≡ 28 → Which w
+which w l = elim (cases_eq (number_of w) window_before_dx) [
+  | inl d ↦ dx (is_dx_window w l d) (role_after-dx (number_of w) d)
+  | inr nd ↦ elim (cases_eq (number_of w) window_before_rx) [
+    | inl r ↦ rx (is_rx_window w l r) (role_after-rx (number_of w) r)
     | inr nr ↦ neither (record {
-      not_dx = λ e. both_ways _ nd ((same_bits w before_dx).1 e);
-      not_rx = λ e. both_ways _ nr ((same_bits w before_rx).1 e);
-    }) (sym (role_after-none w _ _ refl nd refl nr))
+      not_dx = λ e. nd (ap number_of e ∙ number_of-before_dx);
+      not_rx = λ e. nr (ap number_of e ∙ number_of-before_rx);
+    }) (role_after-none (number_of w) nd nr)
   ]
 ]
+
+pub length-last_28 : (bits : List Bool) (t : ℕ) → 28 ≤ t → t ≤ length bits → length (last_28 bits t) ≡ 28
+length-last_28 bits t low h = simp (length-take, length-drop) (omega arith)
 
 -- the word before the bit count t is the last of the 28 bits before it
 pub last_word-window : (bits : List Bool) (t : ℕ) → 28 ≤ t → t ≤ length bits → take 7 (drop (t - 7) bits) ≡ drop 21 (last_28 bits t)
@@ -74,6 +83,8 @@ pub window-heard : (bits : List Bool) → 28 ≤ length bits → keep_last 28 (r
 window-heard bits h =
     keep_last-padded 28 bits h ∙ sym (take_all 28 (drop (length bits - 28) bits) (simp length-drop (omega arith)))
 
--- the last seven of them
-pub word-heard : (bits : List Bool) → 28 ≤ length bits → drop 21 (keep_last 28 (replicate 28 false ++ bits)) ≡ take 7 (drop (length bits - 7) bits)
-word-heard bits h = ap (drop 21) (window-heard bits h) ∙ sym (last_word-window bits (length bits) h (omega arith))
+-- the number of the last seven of them
+pub word-heard : (bits : List Bool) → 28 ≤ length bits → number_of (keep_last 28 (replicate 28 false ++ bits)) / 2 ^ 21 ≡ number_of (take 7 (drop (length bits - 7) bits))
+word-heard bits h =
+    sym (number_of-drop 21 (keep_last 28 (replicate 28 false ++ bits)))
+    ∙ ap number_of (ap (drop 21) (window-heard bits h) ∙ sym (last_word-window bits (length bits) h (omega arith)))

@@ -1,27 +1,30 @@
 -- What a synchroniser holds after one more bit is what stands then.
 use Rattle.std.specs.Prelude.{◌↔◌, IsTrue}
-use Rattle.std.proofs.Common.{◌≡◌, ℕ, suc, ◌+◌, ◌-◌, ◌*◌, ◌<◌, ◌≤◌, ◌==◌, min, ◌⊎◌, List, [], ◌∷◌, ◌++◌, length, take, drop, replicate, Bool, true, false, is_some, refl, sym, ap, ap₂, subst, subst₂, ◌∙◌, inl, inr, arith, Some, None, Option}
+use Rattle.std.proofs.Common.{◌≡◌, ℕ, suc, ◌+◌, ◌-◌, ◌*◌, ◌/◌, ◌^◌, ◌<◌, ◌≤◌, ◌==◌, min, ◌⊎◌, List, [], ◌∷◌, ◌++◌, length, take, drop, replicate, Bool, true, false, is_some, refl, sym, ap, ap₂, subst, subst₂, ◌∙◌, inl, inr, arith, Some, None, Option}
 use Rattle.std.proofs.lemmas.List.{length_push}
 use Rattle.std.proofs.lemmas.Bool.{cases_lt}
 use Rattle.circular_buffer.specs.Buffer.{keep_last}
-use Rattle.nx_code.specs.Word.{number_of}
+use Rattle.nx_code.specs.Word.{number_of, value_of}
 use Rattle.nx_sync.specs.declared.step.Role.{Role}
 use Rattle.nx_sync.specs.declared.step.Role.TheVariants.{Dx, Rx}
 use Rattle.nx_sync.specs.declared.step.Change.{Change}
 use Rattle.nx_sync.specs.declared.step.Change.TheVariants.{Locked}
 use Rattle.nx_sync.specs.declared.step.Step.{Step}
-use Rattle.nx_sync.specs.declared.synchroniser.Track.{Track}
+use Rattle.nx_sync.specs.declared.track.Track.{Track}
 use Rattle.nx_code.specs.Phasing.{phasing_1}
 use Rattle.nx_sync.specs.Words.{other_role, is_wrong, word_at, first_role, role_of}
 use Rattle.nx_sync.specs.Locks.{before_dx, before_rx, last_28, IsPattern, release, Lock, Now, hunting, locked, IsHunting, IsLocked, IsNow}
 use Rattle.nx_sync.specs.Steps.{LockStands, step, found, word, inside, over, hunts, IsStep}
 use Rattle.nx_sync.specs.Synchroniser.{Held, wrong_marks, p1_marks, Follows, Tracks, StandsAfter}
-use Rattle.nx_sync.specs.Parts.{role_after, track_from, track_after, Begins, Fills, Completes}
-use Rattle.nx_sync.proofs.Lists.{padded-push}
+use Rattle.nx_sync.specs.Windows.{next_window, role_after}
+use Rattle.nx_sync.specs.Parts.{track_from, track_after, Begins, Fills, Completes}
+use Rattle.nx_sync.proofs.Lists.{padded-push, length-padded}
+use Rattle.nx_sync.proofs.Numbers.{number_of-next}
 use Rattle.nx_sync.proofs.More.{word_at-more, first_role-more, Past-within}
 use Rattle.nx_sync.proofs.OneBit.{hunts_on, locks_now, stands_on, ends_now}
-use Rattle.nx_sync.proofs.Patterns.{IsNeither, Which, dx, rx, neither, which, first_role-dx, first_role-rx, window-heard, word-heard}
-use Rattle.nx_sync.proofs.Marks.{wrong_marks-same, p1_marks-same, p1_marks-next, p1_marks-none, wrong_marks-next, change_of-change_at}
+use Rattle.nx_sync.proofs.Patterns.{length-last_28, IsNeither, Which, dx, rx, neither, which, first_role-dx, first_role-rx, window-heard, word-heard}
+use Rattle.nx_sync.proofs.Hearing.{heard}
+use Rattle.nx_sync.proofs.Marks.{wrong_marks-same, p1_marks-same, p1_number-next, p1_number-none, wrong_marks-next, change_of-change_at}
 use Rattle.nx_sync.proofs.Unique.{now-unique}
 
 -- whether a track is there says whether a lock stands
@@ -39,10 +42,6 @@ locked_by s answer e bits a =
     let lock = track_iff bits a.locks a.now s.wrong s.track a.stands a.tracks in
     (λ h. lock.0 (sym e ∙ h), λ l. e ∙ lock.1 l)
 
--- what is held after an element was heard, before it is looked at
-abbrev pub heard : Held → Bool → Held
-heard s b = record s { recent = drop 1 s.recent ++ b ∷ []; seen = min (s.seen + 1) 28 }
-
 pub record IsGood (s : Held) (bits : List Bool) (r : Step) : Type 0 where
   pub stands : StandsAfter s bits
   pub step : IsStep bits r
@@ -51,8 +50,11 @@ good_at : (s x : Held) (bits : List Bool) (r y : Step) → s ≡ x → r ≡ y �
 good_at s x bits r y e h good = subst₂ (λ s r. IsGood s bits r) (sym e) (sym h) good
 
 module _ (s : Held) (bits : List Bool) (b : Bool) (a : StandsAfter s bits) where
-  recent_heard : (heard s b).recent ≡ keep_last 28 (replicate 28 false ++ (bits ++ b ∷ []))
-  recent_heard = ap (λ xs. drop 1 xs ++ b ∷ []) a.recent ∙ padded-push 28 bits b (omega arith)
+  pub recent_heard : (heard s b).recent ≡ number_of (keep_last 28 (replicate 28 false ++ (bits ++ b ∷ [])))
+  recent_heard =
+      let xs : List Bool = keep_last 28 (replicate 28 false ++ bits) in
+      ap (λ n. next_window n b) a.recent
+      ∙ (sym (number_of-next 27 xs b (length-padded 28 bits)) ∙ ap number_of (padded-push 28 bits b (omega arith)))
 
   seen_heard : (heard s b).seen ≡ min 28 (length (bits ++ b ∷ []))
   seen_heard = omega (arith, a.seen, length_push bits b)
@@ -94,7 +96,7 @@ module _ (s : Held) (bits : List Bool) (b : Bool) (a : StandsAfter s bits) where
           place = omega (arith, length_push bits b);
           short = omega arith;
           role = sym first;
-          phasing = sym (p1_marks-none (word_at (bits ++ b ∷ []) (length bits + 1)));
+          phasing = sym (p1_number-none (word_at (bits ++ b ∷ []) (length bits + 1)));
           marks = refl;
         };
       };
@@ -125,19 +127,19 @@ module _ (s : Held) (bits : List Bool) (b : Bool) (a : StandsAfter s bits) where
       → Which (last_28 (bits ++ b ∷ []) (length (bits ++ b ∷ [])))
       → IsGood x (bits ++ b ∷ []) r
   hunts_at x r locks p none now within enough quiet finding (neither not e) =
-      let window = recent_heard ∙ window-heard (bits ++ b ∷ []) enough in
+      let window = recent_heard ∙ ap number_of (window-heard (bits ++ b ∷ []) enough) in
       let result = quiet (ap role_after window ∙ e) in
       good_at x (heard s b) (bits ++ b ∷ []) r (step None None) result.0 result.1
       (goes_on locks p none (hunts_on bits b locks p now (no_pattern enough not)) within)
   hunts_at x r locks p none now within enough quiet finding (dx d e) =
-      let window = recent_heard ∙ window-heard (bits ++ b ∷ []) enough in
+      let window = recent_heard ∙ ap number_of (window-heard (bits ++ b ∷ []) enough) in
       let result = finding Dx (omega (arith, seen_heard)) (ap role_after window ∙ e) in
       let first = first_role-dx (bits ++ b ∷ []) (length (bits ++ b ∷ [])) enough (omega arith) d in
       let first' : first_role (bits ++ b ∷ []) (length bits + 1) ≡ Dx = subst (λ t. first_role (bits ++ b ∷ []) t ≡ Dx) (length_push bits b) first in
       good_at x (record (heard s b) { track = Some (track_from Dx); wrong = [] }) (bits ++ b ∷ []) r (step None (Some Locked)) result.0 result.1
       (finds locks p Dx (locks_now bits b locks p now (a_pattern enough (inl d))) first')
   hunts_at x r locks p none now within enough quiet finding (rx d e) =
-      let window = recent_heard ∙ window-heard (bits ++ b ∷ []) enough in
+      let window = recent_heard ∙ ap number_of (window-heard (bits ++ b ∷ []) enough) in
       let result = finding Rx (omega (arith, seen_heard)) (ap role_after window ∙ e) in
       let first = first_role-rx (bits ++ b ∷ []) (length (bits ++ b ∷ [])) enough (omega arith) d in
       let first' : first_role (bits ++ b ∷ []) (length bits + 1) ≡ Rx = subst (λ t. first_role (bits ++ b ∷ []) t ≡ Rx) (length_push bits b) first in
@@ -157,7 +159,7 @@ module _ (s : Held) (bits : List Bool) (b : Bool) (a : StandsAfter s bits) where
             let result = early (omega (arith, seen_heard)) in
             good_at x (heard s b) (bits ++ b ∷ []) r (step None None) result.0 result.1
             (goes_on locks p none (hunts_on bits b locks p n (λ here. absurd (omega (arith, here.enough, length_push bits b)))) within)
-        | inr enough ↦ hunts_at x r locks p none n within enough quiet finding (which (last_28 (bits ++ b ∷ []) (length (bits ++ b ∷ []))))
+        | inr enough ↦ hunts_at x r locks p none n within enough quiet finding (which (last_28 (bits ++ b ∷ []) (length (bits ++ b ∷ []))) (length-last_28 (bits ++ b ∷ []) (length (bits ++ b ∷ [])) enough (omega arith)))
       ]
 
   -- a push while hunting
@@ -191,7 +193,7 @@ module _ (s : Held) (bits : List Bool) (b : Bool) (a : StandsAfter s bits) where
               place = omega (arith, f.place, length_push bits b);
               short = short;
               role = f.role ∙ ap (λ first. role_of first f.whole) (sym (first_role-more bits (b ∷ []) t low within));
-              phasing = f.phasing ∙ p1_marks-same (word_at bits t) (word_at (bits ++ b ∷ []) t) f.whole words;
+              phasing = f.phasing ∙ ap number_of (p1_marks-same (word_at bits t) (word_at (bits ++ b ∷ []) t) f.whole words);
               marks = f.marks ∙ ap (keep_last 64) (wrong_marks-same (word_at bits t) (word_at (bits ++ b ∷ []) t) f.whole words);
             };
           };
@@ -205,13 +207,13 @@ module _ (s : Held) (bits : List Bool) (b : Bool) (a : StandsAfter s bits) where
       }
 
   -- the number of the word that the bit completes
-  word_heard : (t k : ℕ) → 28 ≤ t → length bits + 1 ≡ t + 7 * (k + 1) → number_of (drop 21 (heard s b).recent) ≡ word_at (bits ++ b ∷ []) t k
+  word_heard : (t k : ℕ) → 28 ≤ t → length bits + 1 ≡ t + 7 * (k + 1) → (heard s b).recent / 2 ^ 21 ≡ word_at (bits ++ b ∷ []) t k
   unfolding word_at
   word_heard t k low e =
       let enough : 28 ≤ length (bits ++ b ∷ []) = omega (arith, length_push bits b) in
       let i : length (bits ++ b ∷ []) - 7 ≡ t + 7 * k = omega (arith, length_push bits b) in
-      ap (λ xs. number_of (drop 21 xs)) recent_heard
-      ∙ (ap number_of (word-heard (bits ++ b ∷ []) enough) ∙ ap (λ j. number_of (take 7 (drop j (bits ++ b ∷ [])))) i)
+      ap (λ n. n / 2 ^ 21) recent_heard
+      ∙ (word-heard (bits ++ b ∷ []) enough ∙ ap (λ j. number_of (take 7 (drop j (bits ++ b ∷ [])))) i)
 
   -- a push that completes a word
   module _ (locks : List Lock) (p t : ℕ) (track : Track) (now : IsLocked bits locks p t) (f : Follows bits t s.wrong track) (last : track.filled ≡ 6) (x : Held) (r : Step) (c : Completes (heard s b) track x r) where
@@ -224,19 +226,19 @@ module _ (s : Held) (bits : List Bool) (b : Bool) (a : StandsAfter s bits) where
     first_same : first_role bits t ≡ first_role (bits ++ b ∷ []) t
     first_same = sym (first_role-more bits (b ∷ []) t now.found.here.enough now.found.here.heard)
 
-    number_is : number_of (drop 21 (heard s b).recent) ≡ word_at (bits ++ b ∷ []) t f.whole
+    number_is : (heard s b).recent / 2 ^ 21 ≡ word_at (bits ++ b ∷ []) t f.whole
     number_is = word_heard t f.whole now.found.here.enough place_after
 
     role_is : track.role ≡ role_of (first_role (bits ++ b ∷ []) t) f.whole
     role_is = f.role ∙ ap (λ first. role_of first f.whole) first_same
 
-    phasing_is : track.was_p1 ≡ p1_marks (word_at (bits ++ b ∷ []) t) f.whole
-    phasing_is = f.phasing ∙ p1_marks-same (word_at bits t) (word_at (bits ++ b ∷ []) t) f.whole words_same
+    phasing_is : track.was_p1 ≡ number_of (p1_marks (word_at (bits ++ b ∷ []) t) f.whole)
+    phasing_is = f.phasing ∙ ap number_of (p1_marks-same (word_at bits t) (word_at (bits ++ b ∷ []) t) f.whole words_same)
 
     marks_are : x.wrong ≡ keep_last 64 (wrong_marks (word_at (bits ++ b ∷ []) t) (f.whole + 1))
     marks_are =
         c.marks
-        ∙ (ap (λ xs. keep_last 64 (xs ++ is_wrong (number_of (drop 21 (heard s b).recent)) ∷ [])) (f.marks ∙ ap (keep_last 64) (wrong_marks-same (word_at bits t) (word_at (bits ++ b ∷ []) t) f.whole words_same))
+        ∙ (ap (λ xs. keep_last 64 (xs ++ is_wrong ((heard s b).recent / 2 ^ 21) ∷ [])) (f.marks ∙ ap (keep_last 64) (wrong_marks-same (word_at bits t) (word_at (bits ++ b ∷ []) t) f.whole words_same))
         ∙ (ap (λ w. keep_last 64 (keep_last 64 (wrong_marks (word_at (bits ++ b ∷ []) t) f.whole) ++ is_wrong w ∷ [])) number_is
         ∙ wrong_marks-next (word_at (bits ++ b ∷ []) t) f.whole))
 
@@ -252,7 +254,7 @@ module _ (s : Held) (bits : List Bool) (b : Bool) (a : StandsAfter s bits) where
     step_is : (how : Option Change) → r.change ≡ how → r ≡ step (Some (word_at (bits ++ b ∷ []) t f.whole, role_of (first_role (bits ++ b ∷ []) t) f.whole)) how
     step_is how h = ap₂ step word_is h
 
-    recent_after : x.recent ≡ keep_last 28 (replicate 28 false ++ (bits ++ b ∷ []))
+    recent_after : x.recent ≡ number_of (keep_last 28 (replicate 28 false ++ (bits ++ b ∷ [])))
     recent_after = c.recent ∙ recent_heard
 
     seen_after : x.seen ≡ min 28 (length (bits ++ b ∷ []))
@@ -272,14 +274,14 @@ module _ (s : Held) (bits : List Bool) (b : Bool) (a : StandsAfter s bits) where
             recent = recent_after;
             seen = seen_after;
             tracks = record {
-              one = track_after track (number_of (drop 21 (heard s b).recent));
+              one = track_after track ((heard s b).recent / 2 ^ 21);
               is = c.goes_on quiet;
               follows = record {
                 whole = f.whole + 1;
                 place = omega (arith, place_after, length_push bits b);
                 short = omega arith;
                 role = ap other_role role_is ∙ ap (role_of (first_role (bits ++ b ∷ []) t)) (sym e);
-                phasing = ap₂ (λ xs w. drop 1 xs ++ (w == phasing_1) ∷ []) phasing_is number_is ∙ p1_marks-next (word_at (bits ++ b ∷ []) t) f.whole;
+                phasing = ap₂ (λ n w. n / 2 + 2 ^ 4 * value_of (w == phasing_1)) phasing_is number_is ∙ p1_number-next (word_at (bits ++ b ∷ []) t) f.whole;
                 marks = marks_are;
               };
             };

@@ -2,5 +2,6 @@ pub mod Words
 pub mod Locks
 pub mod Steps
 pub mod Laws
+pub mod Windows
 pub mod Synchroniser
 pub mod Parts

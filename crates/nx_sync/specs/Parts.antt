@@ -1,43 +1,35 @@
--- What the parts of a push answer, for the contracts of the synchroniser's private functions. The contract of `push`
--- itself speaks of the locks over all bits.
-use Rattle.std.specs.Prelude.{◌≡◌, ℕ, ◌+◌, ◌==◌, nat_le, Bool, false, not, ◌&&◌, List, [], ◌∷◌, ◌++◌, drop, get_or, count_by, replicate, Option, Some, None, if◌then◌else◌}
-use Rattle.std.specs.Cmp.Lexicographic.{pointwise}
-use Rattle.std.specs.Bool.{beq}
+-- What the parts of a push, a word and a hunt answer, for the contracts of the synchroniser's private functions. The
+-- contracts of the public ones speak of the locks over all bits.
+use Rattle.std.specs.Prelude.{◌≡◌, ℕ, suc, ◌+◌, ◌*◌, ◌/◌, ◌%◌, ◌^◌, ◌<◌, ◌≤◌, ◌==◌, nat_le, min, Bool, false, not, ◌&&◌, ◌⊎◌, List, [], ◌∷◌, ◌++◌, length, take, drop, get_or, count_by, replicate, Option, Some, None, if◌then◌else◌}
 use Rattle.circular_buffer.specs.Buffer.{keep_last}
-use Rattle.nx_code.specs.Word.{number_of}
-use Rattle.nx_sync.specs.declared.synchroniser.Track.{Track}
+use Rattle.nx_code.specs.Phasing.{phasing_1}
+use Rattle.nx_code.specs.Word.{value_of}
+use Rattle.nx_sync.specs.declared.track.Track.{Track}
 use Rattle.nx_sync.specs.declared.step.Step.{Step}
 use Rattle.nx_sync.specs.declared.step.Role.{Role}
-use Rattle.nx_sync.specs.declared.step.Role.TheVariants.{Dx, Rx}
 use Rattle.nx_sync.specs.declared.step.Change.{Change}
 use Rattle.nx_sync.specs.declared.step.Change.TheVariants.{Locked, Ended, LostLock}
-use Rattle.nx_code.specs.Phasing.{phasing_1}
 use Rattle.nx_sync.specs.Words.{window_words, losing_count, other_role, is_dx, is_wrong}
-use Rattle.nx_sync.specs.Locks.{before_dx, before_rx}
+use Rattle.nx_sync.specs.Windows.{role_after, window_after}
 use Rattle.nx_sync.specs.Steps.{step}
 use Rattle.nx_sync.specs.Synchroniser.{Held}
 
--- the role of the word that follows these 28 bits, where they are one of the two patterns
-unfoldable pub role_after : List Bool → Option Role
-role_after window =
-    if pointwise beq window before_dx then Some Dx else (if pointwise beq window before_rx then Some Rx else None)
-
 -- the track of a lock whose first word has the role
 abbrev pub track_from : Role → Track
-track_from role = record { role = role; filled = 0; was_p1 = replicate 5 false }
+track_from role = record { role = role; filled = 0; was_p1 = 0 }
 
 -- the track after a word
 abbrev pub track_after : Track → ℕ → Track
 track_after track word = record {
   role = other_role track.role;
   filled = 0;
-  was_p1 = drop 1 track.was_p1 ++ (word == phasing_1) ∷ [];
+  was_p1 = track.was_p1 / 2 + 2 ^ 4 * value_of (word == phasing_1);
 }
 
 -- whether the word that the track fills releases the lock as Ended: it is an RX word, and the words three and five
 -- before it are phasing signal 1
 abbrev pub fills_releasing_word : Track → Bool
-fills_releasing_word track = not (is_dx track.role) && get_or track.was_p1 2 false && get_or track.was_p1 0 false
+fills_releasing_word track = not (is_dx track.role) && (track.was_p1 % 2 == 1) && (track.was_p1 / 4 % 2 == 1)
 
 -- which change a word brings, by the track before it and the marks of the last words with its own
 abbrev pub change_of : Track → List Bool → Option Change
@@ -60,8 +52,36 @@ Fills old track new s =
 pub record Completes (old : Held) (track : Track) (new : Held) (s : Step) : Type 0 where
   pub recent : new.recent ≡ old.recent
   pub seen : new.seen ≡ old.seen
-  pub marks : new.wrong ≡ keep_last window_words (old.wrong ++ is_wrong (number_of (drop 21 old.recent)) ∷ [])
+  pub marks : new.wrong ≡ keep_last window_words (old.wrong ++ is_wrong (old.recent / 2 ^ 21) ∷ [])
   pub change : s.change ≡ change_of track new.wrong
-  pub word : s.word ≡ Some (number_of (drop 21 old.recent), track.role)
-  pub goes_on : s.change ≡ None → new.track ≡ Some (track_after track (number_of (drop 21 old.recent)))
+  pub word : s.word ≡ Some (old.recent / 2 ^ 21, track.role)
+  pub goes_on : s.change ≡ None → new.track ≡ Some (track_after track (old.recent / 2 ^ 21))
   pub over : (how : Change) → s.change ≡ Some how → new.track ≡ None
+
+-- what is held after these elements were heard, before any is looked at
+abbrev pub heard_all : Held → List Bool → Held
+heard_all held bits = record held { recent = window_after held.recent bits; seen = min (held.seen + length bits) 28 }
+
+-- too few elements were heard for a pattern, or the last 28 are none
+abbrev pub IsQuiet : Held → Type 0
+IsQuiet held = (held.seen < 28) ⊎ (role_after held.recent ≡ None)
+
+-- the last 28 elements are a pattern
+pub record EndsPattern (held : Held) : Type 0 where
+  pub enough : 28 ≤ held.seen
+  pub role : Role
+  pub here : role_after held.recent ≡ Some role
+
+-- The first n of these elements were heard, none of which ends a pattern; the next one does, if there is one.
+pub record Skips (old : Held) (bits : List Bool) (n : ℕ) (new : Held) : Type 0 where
+  pub within : n ≤ length bits
+  pub held : new ≡ heard_all old (take n bits)
+  pub quiet : (k : ℕ) → k < n → IsQuiet (heard_all old (take (k + 1) bits))
+  pub stops : n < length bits → EndsPattern (heard_all old (take (n + 1) bits))
+
+-- The first n of these elements were heard, all of them too early for a pattern; the next one, if there is one, is not.
+pub record SkipsEarly (old : Held) (bits : List Bool) (n : ℕ) (new : Held) : Type 0 where
+  pub within : n ≤ length bits
+  pub held : new ≡ heard_all old (take n bits)
+  pub early : 0 < n → old.seen + n < 28
+  pub late : n < length bits → 27 ≤ old.seen + n

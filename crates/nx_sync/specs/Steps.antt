@@ -1,5 +1,5 @@
 -- What one element brings, by what stands after it: the contract of a push.
-use Rattle.std.specs.Prelude.{◌≡◌, ℕ, ◌+◌, ◌*◌, ◌<◌, Bool, List, [], ◌∷◌, length, Option, Some, None}
+use Rattle.std.specs.Prelude.{◌≡◌, ℕ, ◌+◌, ◌*◌, ◌<◌, ◌≤◌, Bool, List, [], ◌∷◌, ◌++◌, length, take, Option, Some, None}
 use Rattle.nx_sync.specs.declared.step.Role.{Role}
 use Rattle.nx_sync.specs.declared.step.Change.{Change}
 use Rattle.nx_sync.specs.declared.step.Change.TheVariants.{Locked}
@@ -36,6 +36,19 @@ pub record IsStep (bits : List Bool) (s : Step) : Type 0 where
 abbrev pub one_or_none : Option (ℕ × Role) → List (ℕ × Role)
 one_or_none None = []
 one_or_none (Some one) = one ∷ []
+
+-- Of these bits, which come after others, n are heard by a hunt: the push of none of them answers that a lock was found,
+-- nor anything else, and the push of the next one, if there is one, answers that a lock was found.
+pub record HuntsThrough (before bits : List Bool) (n : ℕ) : Type 0 where
+  pub within : n ≤ length bits
+  pub quiet : (k : ℕ) → k < n → IsStep (before ++ take (k + 1) bits) (step None None)
+  pub locks : n < length bits → IsStep (before ++ take (n + 1) bits) (step None (Some Locked))
+
+-- Seven bits, which come after others, complete one word: the pushes of the first six answer nothing, and that of the last
+-- one answers s.
+pub record IsWordStep (before bits : List Bool) (s : Step) : Type 0 where
+  pub inside : (k : ℕ) → k < 6 → IsStep (before ++ take (k + 1) bits) (step None None)
+  pub last : IsStep (before ++ bits) s
 
 -- the word that a step completed, as a list of one, or of none
 abbrev pub word_of_step : Step → List (ℕ × Role)

@@ -1,15 +1,16 @@
 -- What a synchroniser holds, and after which bits: the layer contract. How it is held is this profile's.
 use Rattle.std.specs.Prelude.{◌≡◌, ℕ, zero, suc, ◌+◌, ◌-◌, ◌*◌, ◌<◌, ◌==◌, nat_le, min, Bool, false, not, is_some, ◌&&◌, List, [], ◌∷◌, ◌++◌, length, replicate, Option, Some, None}
 use Rattle.circular_buffer.specs.Buffer.{keep_last}
-use Rattle.nx_sync.specs.declared.synchroniser.Track.{Track}
+use Rattle.nx_sync.specs.declared.track.Track.{Track}
 use Rattle.nx_code.specs.Phasing.{phasing_1}
+use Rattle.nx_code.specs.Word.{number_of}
 use Rattle.nx_sync.specs.Words.{window_words, is_wrong, word_at, first_role, role_of}
 use Rattle.nx_sync.specs.Locks.{pattern_elements, Lock, Now, hunting, locked, IsNow}
 
--- what contracts see of a synchroniser: the last bits, how many of them were heard, the word that is being filled
--- where a lock stands, and whether each of the last words of the lock was wrong
+-- what contracts see of a synchroniser: the last 28 bits as a number, the oldest in the least place, how many of them
+-- were heard, the word that is being filled where a lock stands, and whether each of the last words of the lock was wrong
 pub record Held : Type 0 where
-  pub recent : List Bool
+  pub recent : ℕ
   pub seen : ℕ
   pub track : Option Track
   pub wrong : List Bool
@@ -17,6 +18,14 @@ pub record Held : Type 0 where
 -- whether no lock stands
 abbrev pub is_hunting : Held → Bool
 is_hunting held = not (is_some held.track)
+
+abbrev pub is_at_limit : Option Track → Bool
+is_at_limit None = false
+is_at_limit (Some track) = track.filled == 0
+
+-- whether a lock stands, and the next bit is the first of a word
+abbrev pub is_between_words : Held → Bool
+is_between_words held = is_at_limit held.track
 
 -- whether each of the first n words is wrong
 unfoldable pub wrong_marks : (ℕ → ℕ) → ℕ → List Bool
@@ -38,7 +47,7 @@ pub record Follows (bits : List Bool) (t : ℕ) (wrong : List Bool) (track : Tra
   pub place : length bits ≡ t + (7 * whole + track.filled)
   pub short : track.filled < 7
   pub role : track.role ≡ role_of (first_role bits t) whole
-  pub phasing : track.was_p1 ≡ p1_marks (word_at bits t) whole
+  pub phasing : track.was_p1 ≡ number_of (p1_marks (word_at bits t) whole)
   pub marks : wrong ≡ keep_last window_words (wrong_marks (word_at bits t) whole)
 
 pub record IsFollowed (bits : List Bool) (t : ℕ) (wrong : List Bool) (track : Option Track) : Type 0 where
@@ -56,6 +65,6 @@ pub record StandsAfter (held : Held) (bits : List Bool) : Type 0 where
   pub locks : List Lock
   pub now : Now
   pub stands : IsNow bits locks now
-  pub recent : held.recent ≡ keep_last pattern_elements (replicate pattern_elements false ++ bits)
+  pub recent : held.recent ≡ number_of (keep_last pattern_elements (replicate pattern_elements false ++ bits))
   pub seen : held.seen ≡ min pattern_elements (length bits)
   pub tracks : Tracks bits now held.wrong held.track

@@ -1,5 +1,5 @@
-//! The synchroniser of a NAVTEX receiver: it hears one element after the other, finds the limits of the words and
-//! their roles from the phasing, and says when a lock is over.
+//! The synchroniser of a NAVTEX receiver: it hears one element after the other, finds the limits of
+//! the words and their roles from the phasing, and says when a lock is over.
 #![tactic(auto)]
 
 pub mod laws;
@@ -7,6 +7,9 @@ mod step;
 mod synchroniser;
 #[cfg(test)]
 mod tests;
+mod track;
+mod windows;
 
 pub use step::{Change, Role, Step};
 pub use synchroniser::Synchroniser;
+pub use windows::first_lock;

@@ -1,104 +1,51 @@
-//! The synchroniser. It keeps the last 28 elements and, where a lock stands, a few facts on its last words.
+//! The synchroniser. It keeps the last 28 elements and, where a lock stands, a few facts on its
+//! last words.
 
-ghost use Rattle.std.specs.Prelude.{◌≡◌, ◌+◌, ◌<◌, ◌≤◌, ◌↔◌, List, Bool, [], ◌∷◌, ◌++◌, drop, min, not, IsTrue, IfOk};
-ghost use Rattle.nx_code.specs.Word.{number_of};
-ghost use Rattle.nx_sync.specs.Steps.{step, LockStands, IsStep};
-ghost use Rattle.nx_sync.specs.Parts as spec;
-ghost use Rattle.nx_sync.specs.Parts.{track_from, track_after, fills_releasing_word, Begins, Fills, Completes};
-ghost use Rattle.nx_sync.specs.Synchroniser.{StandsAfter, is_hunting};
+ghost use Rattle.std.specs.Prelude.{◌≡◌, ℕ, ◌+◌, ◌-◌, ◌/◌, ◌^◌, ◌<◌, ◌≤◌, ◌↔◌, List, Bool, [], ◌∷◌, ◌++◌, length, take, min, not, IsTrue, IfOk};
+ghost use Rattle.circular_buffer.specs.Buffer.{keep_last};
+ghost use Rattle.nx_sync.specs.declared.step.Change.TheVariants.{Locked};
+ghost use Rattle.nx_sync.specs.Steps.{step, LockStands, IsStep, HuntsThrough, IsWordStep};
+ghost use Rattle.nx_sync.specs.Windows as spec;
+ghost use Rattle.nx_sync.specs.Parts.{track_from, change_of, Begins, Fills, Completes, Skips, SkipsEarly};
+ghost use Rattle.nx_sync.specs.Synchroniser.{StandsAfter, is_hunting, is_between_words};
 
 use crate::step::{Change, Role, Step};
+use crate::track::Track;
+use crate::windows::{
+    PATTERN, STRIDE, count_before_lock, last_word, may_lock, next_window, next_word_window,
+    role_after, stride_window, windows_after,
+};
 use circular_buffer::HeapCircularBuffer;
 use nx_code::{ELEMENTS, Word, check_bits};
 use std::alloc::{AllocError, Global};
 use std::marker::Model;
 
-/// How many elements the patterns that give a lock have: four words (this profile).
-const PATTERN: usize = 28;
-
 /// Of how many of its last words a lock remembers whether they were wrong (this profile).
 const WINDOW: usize = 64;
 
 /// How many wrong words among these lose the lock (this profile).
-const LOST: usize = 40;
+const LOST: u32 = 40;
 
-/// The number of phasing signal 1, which is idle signal alpha (M.476, M.625).
-const PHASING_1: u8 = 0x0F;
-
-/// How many words back from the word that is being filled an end is looked for (this profile).
-const LOOK_BACK: usize = 5;
-
-/// The elements of P2 P1 P2 P1, after which a DX word follows.
-const BEFORE_DX: [bool; PATTERN] = [
-    false, true, true, false, false, true, true, true, true, true, true, false, false, false,
-    false, true, true, false, false, true, true, true, true, true, true, false, false, false,
-];
-
-/// The elements of P1 P2 P1 P2, after which an RX word follows.
-const BEFORE_RX: [bool; PATTERN] = [
-    true, true, true, true, false, false, false, false, true, true, false, false, true, true, true,
-    true, true, true, false, false, false, false, true, true, false, false, true, true,
-];
-
-/// How a lock is followed: the role of the word that is being filled, how many of its elements were heard,
-/// and whether each of the five words before it was phasing signal 1, the oldest first. A word that
-/// isn't there was none.
-#[derive(Clone, Copy, Debug)]
-struct Track {
-    role: Role,
-    filled: usize,
-    was_p1: [bool; LOOK_BACK],
-}
-
-impl Track {
-    /// The track of a lock whose first word has this role.
-    fn begin(role: Role) -> Track
-        ensures { result ≡ track_from role }
-    {
-        Track {
-            role,
-            filled: 0,
-            was_p1: [false; LOOK_BACK],
-        }
-    }
-
-    /// The track after the word that it filled.
-    fn after(self, word: Word) -> Track
-        ensures { result ≡ track_after self word }
-    {
-        let mut was_p1 = self.was_p1;
-        was_p1.rotate_left(1);
-        was_p1[LOOK_BACK - 1] = word.number() == PHASING_1;
-        Track {
-            role: self.role.other(),
-            filled: 0,
-            was_p1,
-        }
-    }
-
-    /// Whether the word that is being filled releases the lock as ended: the words three and five before it,
-    /// which are DX words, are both phasing signal 1.
-    fn fills_releasing_word(self) -> bool
-        ensures { result ≡ fills_releasing_word self }
-    {
-        self.role == Role::Rx && self.was_p1[LOOK_BACK - 3] && self.was_p1[LOOK_BACK - 5]
-    }
-}
-
-/// The synchroniser of a receiver. It keeps no history but the last 28 elements, and whether each of the
-/// last 64 words of a lock was wrong.
+/// The synchroniser of a receiver. It keeps no history but the last 28 elements, and whether each
+/// of the last 64 words of a lock was wrong.
 #[derive(Drop)]
 pub struct Synchroniser {
-    recent: [bool; PATTERN],
-    seen: usize,
+    /// The last 28 elements, the oldest in the least place.
+    recent: u32,
+    /// How many elements were heard, up to 28.
+    seen: u32,
     track: Option<Track>,
+    /// Whether each of the last words of the lock was wrong.
     wrong: HeapCircularBuffer<bool>,
+    /// How many of these were.
+    wrong_count: u32,
 }
 
 impl Model for Synchroniser {
-    ghost use Rattle.std.specs.Prelude.{◌≡◌, ◌≤◌, ◌<◌};
-    ghost use Rattle.std.proofs.Common.{sym, ap};
+    ghost use Rattle.std.specs.Prelude.{◌≡◌, ◌≤◌, ◌<◌, ◌^◌, length};
+    ghost use Rattle.std.specs.List.{count_by};
     ghost use Rattle.std.specs.Option.{ForSome};
+    ghost use Rattle.std.proofs.Common.{sym, ap, ap₂};
     ghost use Rattle.circular_buffer.specs.Buffer.{buffer};
     ghost use Rattle.nx_sync.specs.Synchroniser.{Held};
 
@@ -106,40 +53,60 @@ impl Model for Synchroniser {
 
     ghost view = { λ s. record { recent = s.recent; seen = s.seen; track = s.track; wrong = s.wrong.items } };
 
-    ghost invariant = { λ s. (s.seen ≤ 28) × (s.wrong.capacity ≡ 64) × ForSome s.track (λ t. t.filled < 7) };
+    ghost invariant = { λ s. (s.recent < 2 ^ 28) × (s.seen ≤ 28) × (s.wrong.capacity ≡ 64) × (length s.wrong.items ≤ 64) × (s.wrong_count ≡ count_by (λ b. b) s.wrong.items) × ForSome s.track (λ t. t.filled < 7) };
 
     // Each field is given back by what contracts see, so that nothing else can be kept: no history.
-    ghost inverse = { λ h. record { recent = h.recent; seen = h.seen; track = h.track; wrong = buffer h.wrong 64 } };
+    ghost inverse = { λ h. record { recent = h.recent; seen = h.seen; track = h.track; wrong = buffer h.wrong 64; wrong_count = count_by (λ b. b) h.wrong } };
 
-    ghost inverse_ok = { λ s h. ap (λ n. record s { wrong = buffer s.wrong.items n }) (sym h.1) };
+    ghost inverse_ok = { λ s h. ap₂ (λ n m. record s { wrong = buffer s.wrong.items n; wrong_count = m }) (sym h.2) (sym h.4) };
 }
 
 impl Synchroniser {
-    /// A synchroniser that has heard nothing, and hunts. Fails where there is no memory for its 64 marks.
+    /// A synchroniser that has heard nothing, and hunts. Fails where there is no memory for its 64
+    /// marks.
     pub fn new(alloc: Global) -> Result<Synchroniser, AllocError>
-        ensures { IfOk result (λ s. StandsAfter s []) }
+        ensures stands { IfOk result (λ s. StandsAfter s []) }
+        ensures hunting { IfOk result (λ s. IsTrue (is_hunting s)) }
     {
         let wrong = HeapCircularBuffer::with_capacity(alloc, WINDOW)?;
         Ok(Synchroniser {
-            recent: [false; PATTERN],
+            recent: 0,
             seen: 0,
             track: None,
             wrong,
+            wrong_count: 0,
         })
     }
 
     /// Whether a lock stands.
+    #[inline(always)]
     pub fn is_locked(&self) -> bool
-        ensures stands { (bits : List Bool) → StandsAfter self.now bits → (IsTrue result ↔ LockStands bits) }
+        ensures stands { (bits : List Bool) → StandsAfter self.now bits
+            → (IsTrue result ↔ LockStands bits) }
         ensures hunting { result ≡ not (is_hunting self.now) }
     {
         self.track.is_some()
     }
 
+    /// Whether a lock stands, and the next element is the first of a word.
+    #[inline(always)]
+    pub fn is_between_words(&self) -> bool
+        ensures { result ≡ is_between_words self.now }
+    {
+        match self.track {
+            None => false,
+            Some(track) => track.filled == 0,
+        }
+    }
+
     /// Hears one element, true for B, and says what it brings.
+    #[inline(always)]
     pub fn push(&mut self, bit: bool) -> Step
-        ensures stands { (bits : List Bool) → StandsAfter self.old bits → StandsAfter self.new (bits ++ bit ∷ []) }
-        ensures step { (bits : List Bool) → StandsAfter self.old bits → IsStep (bits ++ bit ∷ []) result }
+        ensures stands { (bits : List Bool) → StandsAfter self.old bits
+            → StandsAfter self.new (bits ++ bit ∷ []) }
+        ensures step { (bits : List Bool) → StandsAfter self.old bits
+            → IsStep (bits ++ bit ∷ []) result }
+        ensures limit { result.change ≡ Some Locked → IsTrue (is_between_words self.new) }
     {
         self.hear(bit);
         match self.track {
@@ -148,60 +115,106 @@ impl Synchroniser {
         }
     }
 
-    /// Takes one element into the last 28.
-    fn hear(&mut self, bit: bool)
-        ensures { self.new ≡ record self.old { recent = drop 1 self.old.recent ++ bit ∷ []; seen = min (self.old.seen + 1) 28 } }
+    /// Hears seven elements from the end of a word on, which are the next word of the lock: what
+    /// seven pushes do. The first six bring nothing; says what the last one brings.
+    #[inline(always)]
+    pub fn push_word(&mut self, bits: &[bool; ELEMENTS]) -> Step
+        requires { IsTrue (is_between_words self.old) }
+        ensures stands { (h : List Bool) → StandsAfter self.old h
+            → StandsAfter self.new (h ++ bits.now) }
+        ensures step { (h : List Bool) → StandsAfter self.old h → IsWordStep h bits.now result }
+        ensures limit { result.change ≡ None → IsTrue (is_between_words self.new) }
     {
-        self.recent.rotate_left(1);
-        self.recent[PATTERN - 1] = bit;
+        self.hear_word(Word::from_elements(*bits));
+        self.complete(self.track.unwrap())
+    }
+
+    /// Hunts through these elements: hears those before the first one that locks, all of them where
+    /// none does, and says how many that were.
+    pub fn hunt(&mut self, bits: &[bool]) -> usize
+        requires { IsTrue (is_hunting self.old) }
+        ensures within { result ≤ length bits.now }
+        ensures stands { (h : List Bool) → StandsAfter self.old h
+            → StandsAfter self.new (h ++ take result bits.now) }
+        ensures pushes { (h : List Bool) → StandsAfter self.old h → HuntsThrough h bits.now result }
+        ensures hunting { IsTrue (is_hunting self.new) }
+    {
+        self.skip(bits)
+    }
+
+    /// Takes one element into the last 28.
+    #[inline(always)]
+    fn hear(&mut self, bit: bool)
+        ensures { self.new ≡ record self.old { recent = spec.next_window self.old.recent bit; seen = min (self.old.seen + 1) 28 } }
+    {
+        self.recent = next_window(self.recent, bit);
         self.seen = (self.seen + 1).min(PATTERN);
     }
 
+    /// Takes a word into the last 28 elements.
+    #[inline(always)]
+    fn hear_word(&mut self, word: Word)
+        ensures { self.new ≡ record self.old { recent = spec.next_word_window self.old.recent word; seen = min (self.old.seen + 7) 28 } }
+    {
+        self.recent = next_word_window(self.recent, word);
+        self.seen = (self.seen + 7).min(PATTERN);
+    }
+
     /// Locks where the last 28 elements are one of the patterns.
+    #[inline(always)]
     fn hunt_on(&mut self) -> Step
         ensures early { self.old.seen < 28 → (self.new ≡ self.old) × (result ≡ step None None) }
-        ensures none { spec.role_after self.old.recent ≡ None → (self.new ≡ self.old) × (result ≡ step None None) }
-        ensures found { (role : Role) → 28 ≤ self.old.seen → spec.role_after self.old.recent ≡ Some role
+        ensures none { spec.role_after self.old.recent ≡ None → (self.new ≡ self.old)
+            × (result ≡ step None None) }
+        ensures found { (role : Role) → 28 ≤ self.old.seen
+            → spec.role_after self.old.recent ≡ Some role
             → Begins self.old role self.new result }
     {
         if self.seen < PATTERN {
             return Step::NOTHING;
         }
-        match role_after(&self.recent) {
+        match role_after(self.recent) {
             None => Step::NOTHING,
             Some(role) => {
-                self.wrong.clear();
-                self.track = Some(Track::begin(role));
-                Step {
-                    word: None,
-                    change: Some(Change::Locked),
-                }
+                self.begin(role);
+                Step::LOCKED
             }
         }
     }
 
+    /// Begins to follow a lock whose first word has this role.
+    fn begin(&mut self, role: Role)
+        ensures { self.new ≡ record self.old { track = Some (track_from role); wrong = [] } }
+    {
+        self.wrong.clear();
+        self.wrong_count = 0;
+        self.track = Some(Track::begin(role));
+    }
+
     /// Adds the element that was heard last to the word that the track fills.
+    #[inline(always)]
     fn follow(&mut self, track: Track) -> Step
         requires { track.filled < 7 }
         ensures inside { track.filled + 1 < 7 → Fills self.old track self.new result }
         ensures whole { track.filled ≡ 6 → Completes self.old track self.new result }
     {
         let filled = track.filled + 1;
-        if filled < ELEMENTS {
+        if filled < 7 {
             self.track = Some(Track { filled, ..track });
             return Step::NOTHING;
         }
         self.complete(track)
     }
 
-    /// Takes the last seven elements as a word of the lock, and gives the lock up where the word brings a
-    /// change.
+    /// Takes the last seven elements as a word of the lock, and gives the lock up where the word
+    /// brings a change.
+    #[inline(always)]
     fn complete(&mut self, track: Track) -> Step
         ensures { Completes self.old track self.new result }
     {
-        let word = last_word(&self.recent);
-        self.wrong.push_back(!check_bits(word));
-        let change = change_of(track, &self.wrong);
+        let word = last_word(self.recent);
+        self.mark(!check_bits(word));
+        let change = self.change_after(track);
         self.track = match change {
             None => Some(track.after(word)),
             Some(_) => None,
@@ -211,38 +224,90 @@ impl Synchroniser {
             change,
         }
     }
-}
 
-/// The role of the word that follows these elements, where they are one of the patterns.
-fn role_after(recent: &[bool; PATTERN]) -> Option<Role>
-    ensures { result ≡ spec.role_after recent.now }
-{
-    if *recent == BEFORE_DX {
-        Some(Role::Dx)
-    } else if *recent == BEFORE_RX {
-        Some(Role::Rx)
-    } else {
-        None
+    /// Adds the mark of a word, whether it is wrong, to those of the last 64.
+    #[inline(always)]
+    fn mark(&mut self, is_wrong: bool)
+        ensures { self.new ≡ record self.old { wrong = keep_last 64 (self.old.wrong ++ is_wrong ∷ []) } }
+    {
+        let gone = self.wrong.push_back(is_wrong);
+        self.wrong_count += u32::from(is_wrong);
+        if gone == Some(true) {
+            self.wrong_count -= 1;
+        }
     }
-}
 
-/// The word of the last seven elements.
-fn last_word(recent: &[bool; PATTERN]) -> Word
-    ensures { result ≡ number_of (drop 21 recent.now) }
-{
-    let [.., a, b, c, d, e, f, g] = *recent;
-    Word::from_elements([a, b, c, d, e, f, g])
-}
+    /// Which change a word brings, by the track before it and the marks of the last words with its
+    /// own.
+    #[inline(always)]
+    fn change_after(&self, track: Track) -> Option<Change>
+        ensures { result ≡ change_of track self.now.wrong }
+    {
+        if track.fills_releasing_word() {
+            Some(Change::Ended)
+        } else if self.wrong_count >= LOST {
+            Some(Change::LostLock)
+        } else {
+            None
+        }
+    }
 
-/// Which change a word brings, by the track before it and the marks of the last words with its own.
-fn change_of(track: Track, wrong: &HeapCircularBuffer<bool>) -> Option<Change>
-    ensures { result ≡ spec.change_of track wrong.now.items }
-{
-    if track.fills_releasing_word() {
-        Some(Change::Ended)
-    } else if wrong.iter().filter(|mark| **mark).count() >= LOST {
-        Some(Change::LostLock)
-    } else {
-        None
+    /// Hears elements as long as none ends a pattern, and says how many.
+    fn skip(&mut self, bits: &[bool]) -> usize
+        ensures { Skips self.old bits.now result self.new }
+    {
+        let mut at = self.skip_early(bits);
+        while at < bits.len() {
+            let part = &bits[at..(at + STRIDE).min(bits.len())];
+            let count = self.skip_part(part);
+            at += count;
+            if count < part.len() {
+                return at;
+            }
+        }
+        at
+    }
+
+    /// Hears the elements that come too early to be the last of 28, and says how many.
+    fn skip_early(&mut self, bits: &[bool]) -> usize
+        ensures { SkipsEarly self.old bits.now result self.new }
+    {
+        let count = bits
+            .len()
+            .min((PATTERN - 1).saturating_sub(self.seen) as usize);
+        for bit in &bits[..count] {
+            self.hear(*bit);
+        }
+        count
+    }
+
+    /// Hears at most 21 elements as long as none ends a pattern, and says how many.
+    #[inline(always)]
+    fn skip_part(&mut self, part: &[bool]) -> usize
+        requires seen { 27 ≤ self.old.seen }
+        requires few { length part.now ≤ 21 }
+        ensures { Skips self.old part.now result self.new }
+    {
+        if part.len() < STRIDE || may_lock(self.recent) {
+            return self.skip_block(part);
+        }
+        self.recent = stride_window(self.recent, part);
+        self.seen = PATTERN;
+        STRIDE
+    }
+
+    /// The same, by the windows after each element.
+    fn skip_block(&mut self, block: &[bool]) -> usize
+        requires seen { 27 ≤ self.old.seen }
+        requires few { length block.now ≤ 21 }
+        ensures { Skips self.old block.now result self.new }
+    {
+        let windows = windows_after(self.recent, block);
+        let count = count_before_lock(&windows[..block.len()]);
+        if count > 0 {
+            self.recent = windows[count - 1];
+            self.seen = PATTERN;
+        }
+        count
     }
 }

@@ -3,4 +3,4 @@ use Rattle.nx_envelope.proofs.Hearing.{stage-nil, none-nil}
 use Rattle.nx_envelope.proofs.finder.Finder.new.Goals as goal
 
 pub returns : goal.returns
-returns c = record { recent = refl; stage = stage-nil; current = none-nil }
+returns c = record { recent = refl; stage = stage-nil; copy = none-nil }

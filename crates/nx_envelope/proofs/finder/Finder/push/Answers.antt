@@ -1,6 +1,8 @@
+use Rattle.std.proofs.Common.{ap}
 use Rattle.nx_envelope.proofs.Hearing.{hands_out}
 use Rattle.nx_envelope.proofs.finder.Finder.push.Goals as goal
 
-pub returns-in-Over-clause-brings : goal.returns-in-Over-clause-brings
-returns-in-Over-clause-brings c = λ text h.
-    hands_out c.hear.new.self.text.items text c.args.byte c.in-Over.identity c.in-Over.how c.take_found.result (c.in-Over.ensures.brings text h) c.take_found.ensures.found
+pub returns-in-Some-clause-brings : goal.returns-in-Some-clause-brings
+returns-in-Some-clause-brings c = λ text h.
+    let e = c.in-CopyOver.ensures.hears text h in
+    hands_out text c.args.byte e.copy c.in-Some.found e.ends (c.in-Some.ensures.found e.copy e.ready)

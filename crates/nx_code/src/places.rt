@@ -1,0 +1,72 @@
+//! Where words and characters stand in the table. The two indexes save a search of the table for each word
+//! and each character; that they answer as the search would is proved.
+
+ghost use Rattle.std.specs.Prelude.{◌≡◌, ℕ, ◌+◌, ◌-◌, ◌≤◌, ◌<◌, Some, IfSome};
+ghost use Rattle.nx_code.specs.Reading.{character_of};
+ghost use Rattle.nx_code.specs.Rows.{place_given};
+ghost use Rattle.nx_code.specs.Table.{place_of};
+ghost use Rattle.nx_code.specs.declared.shifts.Shift.{Shift};
+
+use crate::words::Word;
+
+/// In an index: no place of the table.
+const NOWHERE: u8 = 35;
+
+/// The place in the table of each word, by its number.
+#[rattlefmt::skip]
+static BY_WORD: [u8; 128] = [
+    35, 35, 35, 35, 35, 35, 35, 35, 35, 35, 35, 35, 35, 35, 35, 32,
+    35, 35, 35, 35, 35, 35, 35,  9, 35, 35, 35,  5, 35,  2, 10, 35,
+    35, 35, 35, 35, 35, 35, 35, 22, 35, 35, 35, 24, 35, 15, 16, 35,
+    35, 35, 35, 33, 35,  6, 29, 35, 35, 12, 23, 35, 21, 35, 35, 35,
+    35, 35, 35, 35, 35, 35, 35,  0, 35, 35, 35, 18, 35,  8, 20, 35,
+    35, 35, 35,  3, 35, 17,  4, 35, 35, 13, 28, 35, 30, 35, 35, 35,
+    35, 35, 35, 25, 35, 11, 34, 35, 35,  7, 31, 35, 27, 35, 35, 35,
+    35, 14,  1, 35, 19, 35, 35, 35, 26, 35, 35, 35, 35, 35, 35, 35,
+];
+
+/// The place in the table of the combination that prints each byte below 128.
+#[rattlefmt::skip]
+static BY_CHARACTER: [u8; 128] = [
+    35, 35, 35, 35, 35, 35, 35, 35, 35, 35, 27, 35, 35, 35, 35, 35,
+    35, 35, 35, 35, 35, 35, 35, 35, 35, 35, 35, 35, 35, 35, 35, 35,
+    30, 35, 35, 35, 35, 35, 35, 18, 10, 11, 35, 25, 13,  0, 12, 23,
+    15, 16, 22,  4, 17, 19, 24, 20,  8, 14,  2, 35, 35, 21, 35,  1,
+    35,  0,  1,  2,  3,  4,  5,  6,  7,  8,  9, 10, 11, 12, 13, 14,
+    15, 16, 17, 18, 19, 20, 21, 22, 23, 24, 25, 35, 35, 35, 35, 35,
+    35, 35, 35, 35, 35, 35, 35, 35, 35, 35, 35, 35, 35, 35, 35, 35,
+    35, 35, 35, 35, 35, 35, 35, 35, 35, 35, 35, 35, 35, 35, 35, 35,
+];
+
+/// The place that an index gives.
+fn place_given(place: u8) -> Option<usize>
+    ensures { result ≡ place_given place }
+{
+    if place < NOWHERE {
+        Some(usize::from(place))
+    } else {
+        None
+    }
+}
+
+/// The place of a word in the table, from 0; None where the word is none of the 35.
+pub(crate) fn place_of_word(word: Word) -> Option<usize>
+    ensures place { result ≡ place_of word }
+    ensures range { word < 128 }
+{
+    place_given(BY_WORD[usize::from(word.number())])
+}
+
+/// The place in the table of the combination that prints a byte, from 0; None where none does.
+pub(crate) fn place_of_character(character: u8) -> Option<usize>
+    ensures found { (number : ℕ) (shift : Shift) → 1 ≤ number → number ≤ 32
+        → character_of number shift ≡ Some character → result ≡ Some (number - 1) }
+    ensures printed { IfSome result (λ place. (place < 32) × (shift : Shift)
+        × (character_of (place + 1) shift ≡ Some character)) }
+{
+    if character < 128 {
+        place_given(BY_CHARACTER[usize::from(character)])
+    } else {
+        None
+    }
+}

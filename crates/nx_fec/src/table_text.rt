@@ -1,0 +1,144 @@
+//! The table of the code as text.
+
+ghost use Rattle.std.specs.Prelude.{◌≡◌, ◌+◌, ◌≤◌, ◌↔◌, ◌++◌, length, map, IfErr, OnOk, IsErr};
+ghost use Rattle.std.specs.Io.KnownBytes.{Appends};
+ghost use Rattle.arrayvec.specs.ArrayVec.{array_vec_len};
+ghost use Rattle.nx_code.specs.Signal.{row_of_signal};
+ghost use Rattle.nx_fec.specs.Devices.{WroteSome};
+ghost use Rattle.nx_fec.specs.TableText.{cell_text, element_letter, table_line, table_text};
+
+use crate::counting::Counting;
+use crate::fault::WriteFault;
+use crate::hexadecimal::two_digits;
+use crate::writing::write_out;
+use arrayvec::ArrayVec;
+use nx_code::{ELEMENTS, SIGNALS, Shift, Signal, cell_of, signal_at, word_of};
+use std::io::Write;
+
+/// The bytes of the longest line, whose names have five letters.
+const LINE_BYTES: usize = 23;
+
+/// Room for all lines.
+const TEXT_BYTES: usize = SIGNALS * LINE_BYTES;
+
+/// Writes the table of the code, a line for each signal: the number of its word in two digits of base 16, the word's
+/// elements as B and Y, and what stands for it in letters and in figures, where `none` stands for nothing. The
+/// combinations 1 to 32 come first, then idle signal alpha, idle signal beta and signal repetition (M.476 and M.625,
+/// conversion tables; the form of the lines is this profile's). It takes no memory.
+///
+/// Where a write fails, the first `written` bytes of those lines were written.
+pub fn write_table<W: Write>(writer: &mut Counting<W>) -> Result<(), WriteFault>
+    requires { writer.old.failures ≡ 0 }
+    ensures ok { OnOk result (Appends (W.contents writer.old.inner) (W.contents writer.new.inner) table_text) }
+    ensures err { IfErr result (λ fault.
+        WroteSome (W.contents writer.old.inner) (W.contents writer.new.inner) table_text fault.written) }
+    ensures failed { IsErr result ↔ (writer.new.failures ≡ 1) }
+    ensures once { writer.new.failures ≤ 1 }
+    ensures none { OnOk result (writer.new.failures ≡ 0) }
+{
+    write_out(writer, &lines())
+}
+
+/// The lines of all signals, in the order of the table.
+fn lines() -> ArrayVec<u8, TEXT_BYTES>
+    ensures { result.items ≡ table_text }
+{
+    let mut text = ArrayVec::new();
+    for at in 0..SIGNALS {
+        push_line(signal_at(at), &mut text);
+    }
+    text
+}
+
+/// Appends the line of a signal.
+fn push_line(signal: Signal, text: &mut ArrayVec<u8, TEXT_BYTES>)
+    requires { array_vec_len text.old + LINE_BYTES ≤ TEXT_BYTES }
+    ensures line { text.new.items ≡ text.old.items ++ table_line (row_of_signal signal) }
+    ensures grows { array_vec_len text.new ≤ array_vec_len text.old + LINE_BYTES }
+{
+    let word = word_of(signal);
+    push_bytes(&two_digits(word.number()), text);
+    text.push(b' ');
+    push_elements(&word.elements(), text);
+    text.push(b' ');
+    push_cell(cell_of(signal, Shift::Letters), text);
+    text.push(b' ');
+    push_cell(cell_of(signal, Shift::Figures), text);
+    text.push(b'\n');
+}
+
+/// Appends elements as letters.
+fn push_elements(elements: &[bool; ELEMENTS], text: &mut ArrayVec<u8, TEXT_BYTES>)
+    requires { array_vec_len text.old + 7 ≤ TEXT_BYTES }
+    ensures items { text.new.items ≡ text.old.items ++ map element_letter elements.now }
+    ensures len { array_vec_len text.new ≡ array_vec_len text.old + 7 }
+{
+    for element in elements {
+        text.push(if *element { b'B' } else { b'Y' });
+    }
+}
+
+/// Appends what stands in a cell, and `none` for an empty one.
+fn push_cell(cell: &[u8], text: &mut ArrayVec<u8, TEXT_BYTES>)
+    requires short { length cell.now ≤ 5 }
+    requires room { array_vec_len text.old + 5 ≤ TEXT_BYTES }
+    ensures items { text.new.items ≡ text.old.items ++ cell_text cell.now }
+    ensures grows { array_vec_len text.new ≤ array_vec_len text.old + 5 }
+{
+    if cell.is_empty() {
+        push_bytes(b"none", text);
+    } else {
+        push_bytes(cell, text);
+    }
+}
+
+/// Appends these bytes.
+fn push_bytes(bytes: &[u8], text: &mut ArrayVec<u8, TEXT_BYTES>)
+    requires { array_vec_len text.old + length bytes.now ≤ TEXT_BYTES }
+    ensures items { text.new.items ≡ text.old.items ++ bytes.now }
+    ensures len { array_vec_len text.new ≡ array_vec_len text.old + length bytes.now }
+{
+    text.try_extend_from_slice(bytes).unwrap();
+}
+
+#[cfg(test)]
+mod tests {
+    use super::*;
+    use std::test::Fail;
+
+    /// The table of M.476 and M.625 in the numbers and names of this profile, some lines of it in each line here.
+    const TABLE: &[&[u8]] = &[
+        b"47 BBBYYYB A -\n72 YBYYBBB B ?\n1D BYBBBYY C :\n53 BBYYBYB D none\n",
+        b"56 YBBYBYB E 3\n1B BBYBBYY F none\n35 BYBYBBY G none\n69 BYYBYBB H none\n",
+        b"4D BYBBYYB I 8\n17 BBBYBYY J none\n1E YBBBBYY K (\n65 BYBYYBB L )\n",
+        b"39 BYYBBBY M .\n59 BYYBBYB N ,\n71 BYYYBBB O 9\n2D BYBBYBY P 0\n",
+        b"2E YBBBYBY Q 1\n55 BYBYBYB R 4\n4B BBYBYYB S '\n74 YYBYBBB T 5\n",
+        b"4E YBBBYYB U 7\n3C YYBBBBY V =\n27 BBBYYBY W 2\n3A YBYBBBY X /\n",
+        b"2B BBYBYBY Y 6\n63 BBYYYBB Z +\n78 YYYBBBB CR CR\n6C YYBBYBB LF LF\n",
+        b"5A YBYBBYB LTRS LTRS\n36 YBBYBBY FIGS FIGS\n5C YYBBBYB SPACE SPACE\n6A YBYBYBB BLANK BLANK\n",
+        b"0F BBBBYYY P1 P1\n33 BBYYBBY BETA BETA\n66 YBBYYBB P2 P2\n",
+    ];
+
+    #[test]
+    fn table_is_written(rt: HostRuntime) -> Result<(), Fail> {
+        let mut wanted = Vec::new(rt.alloc());
+        for lines in TABLE {
+            wanted.extend_from_slice(lines)?;
+        }
+        let mut writer = Counting::new(Vec::new(rt.alloc()));
+        assert_eq!(rt; write_table(&mut writer), Ok(()));
+        let written = writer.into_inner();
+        assert_eq!(rt; written.iter().filter(|byte| **byte == b'\n').count(), 35);
+        assert_eq!(rt; written.as_slice(), wanted.as_slice());
+        Ok(())
+    }
+
+    #[test]
+    fn table_in_a_full_writer(rt: HostRuntime) {
+        let mut space = [0; 10];
+        let mut writer = Counting::new(&mut space[..]);
+        assert_eq!(rt; write_table(&mut writer), Err(WriteFault { written: 10 }));
+        assert_eq!(rt; writer.failures(), 1);
+        assert_eq!(rt; space, *b"47 BBBYYYB");
+    }
+}

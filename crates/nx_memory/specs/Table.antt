@@ -1,0 +1,43 @@
+-- A table with a place for each identity, in which the moment of its last entry stands.
+use Rattle.std.specs.Prelude.{◌≡◌, ℕ, ◌+◌, ◌-◌, ◌*◌, Bool, false, ◌==◌, nat_lt, if◌then◌else◌, List, [], ◌∷◌, length, get_or, Option, Some, None}
+use Rattle.std.specs.Option.{option_or}
+use Rattle.nx_envelope.specs.declared.identity.Identity.{Identity}
+use Rattle.nx_envelope.specs.Identity.{same_identity}
+use Rattle.nx_memory.specs.declared.entry.MemoryEntry.{MemoryEntry}
+use Rattle.nx_memory.specs.Memory.{seconds_known}
+
+-- how many identities there are: 26 stations, 26 subjects of each, and 100 numbers of each of these
+abbrev pub identities : ℕ
+identities = 67600
+
+-- the place of an identity among all, where they stand by station, subject and number
+abbrev pub index_of : Identity → ℕ
+index_of identity = ((identity.b1.byte - 65) * 26 + (identity.b2.byte - 65)) * 100 + identity.number
+
+-- the moment of the last entry of an identity, where there is one
+abbrev pub last_moment : Identity → List MemoryEntry → Option ℕ
+last_moment identity [] = None
+last_moment identity (entry ∷ later) =
+    option_or
+    (last_moment identity later)
+    (if same_identity entry.identity identity then Some entry.moment else None)
+
+-- a moment is less than 66 hours old; none at all isn't
+abbrev pub is_recent_moment : ℕ → Option ℕ → Bool
+is_recent_moment moment None = false
+is_recent_moment moment (Some last) = nat_lt (moment - last) seconds_known
+
+-- it is this moment
+abbrev pub is_moment : ℕ → Option ℕ → Bool
+is_moment moment None = false
+is_moment moment (Some last) = last == moment
+
+-- at the place of each identity stands the moment of its last entry, or that there is none
+pub record IsTableOf (content : List MemoryEntry) (moments : List (Option ℕ)) : Type 0 where
+  pub size : length moments ≡ identities
+  pub last :
+      (identity : Identity) → get_or moments (index_of identity) None ≡ last_moment identity content
+
+-- the moment that stands at the identity of an entry is the entry's own
+abbrev pub holds_moment : List (Option ℕ) → MemoryEntry → Bool
+holds_moment moments entry = is_moment entry.moment (get_or moments (index_of entry.identity) None)

@@ -1,0 +1,5 @@
+use Rattle.nx_receiver.proofs.LogLemmas.{log_begins, logs_join}
+use Rattle.nx_receiver.proofs.laws.logs_go_on.Goals as goal
+
+pub returns : goal.returns
+returns c = record { begins = log_begins; join = logs_join }

@@ -1,0 +1,5 @@
+use Rattle.nx_receiver.proofs.ExampleLemmas.{example}
+use Rattle.nx_receiver.proofs.laws.there_are_repeats.Goals as goal
+
+pub returns : goal.returns
+returns c = example

@@ -1,0 +1,82 @@
+-- What a receiver is given, in order: moments, elements one by one, and commands of selection (this profile). And
+-- what is in force when an element is heard.
+use Rattle.std.specs.Prelude.{ℕ, Bool, if◌then◌else◌, List, [], ◌∷◌, ◌++◌, slice_index_or}
+use Rattle.std.specs.FinSet as set
+use Rattle.nx_memory.specs.declared.entry.MemoryEntry.{MemoryEntry}
+use Rattle.nx_memory.specs.Refused.{Refused}
+use Rattle.nx_memory.specs.Vital.{is_vital}
+
+-- a command of selection, for a letter by its byte
+pub data Command : Type 0 where
+  refuse_station : ℕ → Command
+  accept_station : ℕ → Command
+  refuse_subject : ℕ → Command
+  accept_subject : ℕ → Command
+
+-- the moment from here on, in seconds since 1970-01-01 00:00:00 UTC; one element, true for B; or a command
+pub data Event : Type 0 where
+  at_moment : ℕ → Event
+  element : Bool → Event
+  command : Command → Event
+
+-- what is in force: the moment, and the stations and subjects that are refused
+pub record Setting : Type 0 where
+  pub moment : ℕ
+  pub refused : Refused
+
+-- what is refused after a command; a vital subject can't be refused (ITU-R M.540)
+abbrev pub refused_after : Refused → Command → Refused
+refused_after refused (refuse_station letter) = record refused { stations = set.insert refused.stations letter }
+refused_after refused (accept_station letter) = record refused { stations = set.remove refused.stations letter }
+refused_after refused (refuse_subject letter) =
+    if is_vital letter then refused else record refused { subjects = set.insert refused.subjects letter }
+refused_after refused (accept_subject letter) = record refused { subjects = set.remove refused.subjects letter }
+
+-- what is in force after an event
+abbrev pub setting_after : Setting → Event → Setting
+setting_after setting (at_moment n) = record setting { moment = n }
+setting_after setting (element bit) = setting
+setting_after setting (command c) = record setting { refused = refused_after setting.refused c }
+
+-- the element that an event is, if it is one
+abbrev pub bit_in : Event → List Bool
+bit_in (at_moment n) = []
+bit_in (element bit) = bit ∷ []
+bit_in (command c) = []
+
+-- the elements among the events, in order
+unfoldable pub bits_of : List Event → List Bool
+bits_of [] = []
+bits_of (event ∷ events) = bit_in event ++ bits_of events
+
+-- what is in force at an event, where it is an element
+abbrev pub setting_at_bit : Setting → Event → List Setting
+setting_at_bit setting (at_moment n) = []
+setting_at_bit setting (element bit) = setting ∷ []
+setting_at_bit setting (command c) = []
+
+-- what is in force at each element, in order, from what is in force at first
+unfoldable pub settings : Setting → List Event → List Setting
+settings setting [] = []
+settings setting (event ∷ events) = setting_at_bit setting event ++ settings (setting_after setting event) events
+
+-- what is in force after all events
+unfoldable pub setting_after_all : Setting → List Event → Setting
+setting_after_all setting [] = setting
+setting_after_all setting (event ∷ events) = setting_after_all (setting_after setting event) events
+
+-- what is in force at the element with this index
+abbrev pub setting_at : Setting → List Event → ℕ → Setting
+setting_at first events place = slice_index_or (settings first events) place first
+
+-- with what a receiver starts: the entries of the memory that it was made with, oldest first, and its first moment
+pub record Start : Type 0 where
+  pub entries : List MemoryEntry
+  pub moment : ℕ
+
+-- at first everything is selected
+abbrev pub first_setting : Start → Setting
+first_setting start = record {
+  moment = start.moment;
+  refused = record { stations = set.empty; subjects = set.empty };
+}

@@ -1,0 +1,70 @@
+-- The log: what is printed of all that a receiver was given, and its bytes (this profile).
+use Rattle.std.specs.Prelude.{◌≡◌, ℕ, ◌-◌, ◌==◌, Bool, true, if◌then◌else◌, List, [], ◌∷◌, ◌++◌, length, codes, decimal, slice_get, unwrap_or}
+use Rattle.std.specs.List.{concat, AllZip}
+use Rattle.std.specs.Option.{option_map}
+use Rattle.nx_envelope.specs.Copies.{errors_of}
+use Rattle.nx_envelope.specs.Identity.{identity_bytes}
+use Rattle.nx_envelope.specs.Moment.{IsShownAs}
+use Rattle.nx_envelope.specs.Newline.{newline}
+use Rattle.nx_envelope.specs.declared.found.How.{How}
+use Rattle.nx_envelope.specs.declared.found.How.TheVariants.{Full, Cut, Long}
+use Rattle.nx_sync.specs.Locks.{Lock, Now, IsNow}
+use Rattle.nx_receiver.specs.Events.{Event, Start, bits_of, first_setting}
+use Rattle.nx_receiver.specs.FoundCopies.{FoundCopy, ended_so_far, found_to_end}
+use Rattle.nx_receiver.specs.Tagged.{TaggedCopy, tagged}
+use Rattle.nx_receiver.specs.Printing.{printed}
+
+-- how a copy ended, as it is printed
+abbrev pub how_name : How → List ℕ
+how_name Full = codes "full"
+how_name Cut = codes "cut"
+how_name Long = codes "long"
+
+-- The line that heads an entry: `[`, the identity, the civil time, how the copy ended, its errors, `/`, its
+-- characters, `]` and a newline, where 91 is the bracket, 32 a space and 47 the slash.
+unfoldable pub entry_head : TaggedCopy → List ℕ → List ℕ
+entry_head copy civil =
+    91 ∷ identity_bytes copy.identity ++ 32 ∷ civil
+    ++ 32 ∷ how_name copy.how ++ 32 ∷ decimal (errors_of copy.text) ++ 47 ∷ decimal (length copy.text) ++ codes "]\n"
+
+-- the text is empty or ends with a newline
+unfoldable pub is_of_lines : List ℕ → Bool
+is_of_lines text = unwrap_or (option_map (λ b. b == newline) (slice_get text (length text - 1))) true
+
+-- the newline that ends the last line of a text which doesn't end with one
+unfoldable pub missing_newline : List ℕ → List ℕ
+missing_newline text = if is_of_lines text then [] else newline ∷ []
+
+-- an entry: its head, the text, a newline where the text isn't empty and doesn't end with one, and a newline
+unfoldable pub entry_with : TaggedCopy → List ℕ → List ℕ
+entry_with copy civil = entry_head copy civil ++ copy.text ++ missing_newline copy.text ++ newline ∷ []
+
+-- the bytes are the entry of a copy, with the civil time of its moment
+pub record IsEntry (copy : TaggedCopy) (bytes : List ℕ) : Type 0 where
+  pub civil : List ℕ
+  pub shown : IsShownAs copy.moment civil
+  pub spelled : bytes ≡ entry_with copy civil
+
+-- the bytes are the log of these copies: their entries in order, and nothing between
+pub record IsLog (copies : List TaggedCopy) (bytes : List ℕ) : Type 0 where
+  pub entries : List (List ℕ)
+  pub each : AllZip IsEntry copies entries
+  pub joined : bytes ≡ concat entries
+
+-- of the copies that were found, those that are printed
+abbrev pub printed_of : Start → List Event → List FoundCopy → List TaggedCopy
+printed_of start events copies = printed start.entries (tagged (first_setting start) events copies)
+
+-- What is printed of the copies that have ended after these events.
+pub record HasPrinted (start : Start) (events : List Event) (log : List TaggedCopy) : Type 0 where
+  pub locks : List Lock
+  pub now : Now
+  pub stands : IsNow (bits_of events) locks now
+  pub printed : log ≡ printed_of start events (ended_so_far (bits_of events) locks now)
+
+-- What is printed where these events are all: the end closes the copy that stands open.
+pub record PrintsToEnd (start : Start) (events : List Event) (log : List TaggedCopy) : Type 0 where
+  pub locks : List Lock
+  pub now : Now
+  pub stands : IsNow (bits_of events) locks now
+  pub printed : log ≡ printed_of start events (found_to_end (bits_of events) locks now)

@@ -1,0 +1,95 @@
+//! Laws of what is printed, over whole lists of elements, moments and commands. Each function does nothing; its
+//! contract is the law.
+
+ghost use Rattle.std.specs.Prelude.{◌≡◌, ℕ, ◌+◌, ◌*◌, ◌<◌, ◌≤◌, Bool, List, [], ◌∷◌, ◌++◌, length, All};
+ghost use Rattle.nx_code.specs.Reading.{text};
+ghost use Rattle.nx_code.specs.declared.shifts.Shift.TheVariants.{Letters};
+ghost use Rattle.nx_envelope.specs.Moment.{last_moment};
+ghost use Rattle.nx_envelope.specs.declared.identity.Identity.{Identity};
+ghost use Rattle.nx_sync.specs.Words.{word_at, first_role};
+ghost use Rattle.nx_sync.specs.Locks.{Lock, Now, IsLocked, IsNow, Past};
+ghost use Rattle.nx_receiver.specs.Events.{Event, Start, bits_of};
+ghost use Rattle.nx_receiver.specs.Example.{ea01, example_copies, first_copy, repeated_copy};
+ghost use Rattle.nx_receiver.specs.FoundCopies.{FoundCopy, ended_so_far, open_so_far, found_to_end};
+ghost use Rattle.nx_receiver.specs.LawTerms.{AreRepeats, copies_of, own_bits};
+ghost use Rattle.nx_receiver.specs.LockText.{PlacedByte, bytes_of, lock_text, positions};
+ghost use Rattle.nx_receiver.specs.Log.{HasPrinted, IsLog, PrintsToEnd};
+ghost use Rattle.nx_receiver.specs.Printing.{printed};
+ghost use Rattle.nx_receiver.specs.Tagged.{TaggedCopy};
+
+/// The bytes of the text of a lock are what is read of the positions that its words complete, from letters.
+pub fn a_text_is_read_of_positions()
+    ensures { (bits : List Bool) (t n : ℕ) → bytes_of (lock_text bits t n)
+        ≡ text (positions (first_role bits t) (word_at bits t) n) Letters }
+{}
+
+/// Locks share nothing: the text of a lock, and so each copy in it, is made of its own bits alone; each byte of it
+/// stands at one of these bits; and the last word of a lock is over before the next lock begins.
+pub fn locks_share_nothing()
+    ensures own { (bits others : List Bool) (t n : ℕ) → 7 ≤ t → own_bits bits t n ≡ own_bits others t n
+        → lock_text bits t n ≡ lock_text others t n }
+    ensures within { (bits : List Bool) (t n : ℕ) →
+        All (λ (b : PlacedByte). (t ≤ b.place) × (b.place < t + 7 * n)) (lock_text bits t n) }
+    ensures apart { (bits : List Bool) (newer older : Lock) (locks : List Lock) (p : ℕ) →
+        Past bits (newer ∷ older ∷ locks) p → older.at + 7 * (older.last + 1) < newer.at }
+    ensures apart_now { (bits : List Bool) (lock : Lock) (locks : List Lock) (p t : ℕ) →
+        IsLocked bits (lock ∷ locks) p t → lock.at + 7 * (lock.last + 1) < t }
+{}
+
+/// What the end of the bits adds to the copies that have ended is the copy that stands open, cut there; there is at most
+/// one.
+pub fn the_end_closes_the_open_copy()
+    ensures adds { (bits : List Bool) (locks : List Lock) (now : Now) →
+        found_to_end bits locks now ≡ ended_so_far bits locks now ++ open_so_far bits now }
+    ensures one { (bits : List Bool) (now : Now) → length (open_so_far bits now) ≤ 1 }
+{}
+
+/// More bits and more events change nothing that was found or printed: later copies and later entries come behind it.
+pub fn more_events_keep_the_log()
+    ensures found { (bits more : List Bool) (older locks : List Lock) (was now : Now) → IsNow bits older was
+        → IsNow (bits ++ more) locks now
+        → (rest : List FoundCopy) × (ended_so_far (bits ++ more) locks now ≡ ended_so_far bits older was ++ rest) }
+    ensures printed { (start : Start) (events more : List Event) (log later : List TaggedCopy) →
+        HasPrinted start events log → HasPrinted start (events ++ more) later
+        → (rest : List TaggedCopy) × (later ≡ log ++ rest) }
+    ensures closed { (start : Start) (events more : List Event) (log whole : List TaggedCopy) →
+        HasPrinted start events log → PrintsToEnd start (events ++ more) whole
+        → (rest : List TaggedCopy) × (whole ≡ log ++ rest) }
+{}
+
+/// All that a receiver was given has one log: one list of printed copies; and, where
+/// their moments are at most the last, one list of bytes for it.
+pub fn there_is_one_log()
+    ensures some { (start : Start) (events : List Event) → (log : List TaggedCopy) × HasPrinted start events log }
+    ensures one { (start : Start) (events : List Event) (log other : List TaggedCopy) →
+        HasPrinted start events log → HasPrinted start events other → log ≡ other }
+    ensures some_closed { (start : Start) (events : List Event) →
+        (log : List TaggedCopy) × PrintsToEnd start events log }
+    ensures one_closed { (start : Start) (events : List Event) (log other : List TaggedCopy) →
+        PrintsToEnd start events log → PrintsToEnd start events other → log ≡ other }
+    ensures some_bytes { (copies : List TaggedCopy) → All (λ (copy : TaggedCopy). copy.moment ≤ last_moment) copies
+        → (bytes : List ℕ) × IsLog copies bytes }
+    ensures one_bytes { (copies : List TaggedCopy) (bytes others : List ℕ) →
+        IsLog copies bytes → IsLog copies others → bytes ≡ others }
+{}
+
+/// The log of a beginning is a beginning of the log; a log and then another are the log of both.
+pub fn logs_go_on()
+    ensures begins { (front back : List TaggedCopy) (bytes whole : List ℕ) → IsLog front bytes
+        → IsLog (front ++ back) whole → (more : List ℕ) × (whole ≡ bytes ++ more) }
+    ensures join { (front back : List TaggedCopy) (bytes more : List ℕ) → IsLog front bytes → IsLog back more
+        → IsLog (front ++ back) (bytes ++ more) }
+{}
+
+/// A message that is repeated is printed once. After an empty first list of entries: where all copies of one identity,
+/// one or more and not numbered 00, are good and selected and lie within 66 hours of each other, and fewer than 200
+/// entries are made between the first and any later one, the first of them is printed, and no other.
+pub fn repeats_are_printed_once()
+    ensures { (identity : Identity) (copies : List TaggedCopy) (first : TaggedCopy) (repeats : List TaggedCopy) →
+        AreRepeats identity copies first repeats → copies_of identity (printed [] copies) ≡ first ∷ [] }
+{}
+
+/// There are such repeats: EA01 is heard, then EB02 twice, and EA01 again four hours after the first.
+pub fn there_are_repeats()
+    ensures { AreRepeats ea01 example_copies first_copy (repeated_copy ∷ []) }
+{}

@@ -1,0 +1,11 @@
+//! The receiver: what is printed of all the elements, moments and commands that it was given.
+#![tactic(auto)]
+
+mod entry;
+mod judging;
+pub mod laws;
+mod writing;
+
+pub use entry::Entry;
+pub use judging::judge;
+pub use writing::{MAX_ENTRY, entry_text};

@@ -1,0 +1,57 @@
+//! How a lock is followed.
+
+ghost use Rattle.std.specs.Prelude.{◌≡◌, ◌<◌};
+ghost use Rattle.nx_sync.specs.Parts.{track_from, track_after, fills_releasing_word};
+
+use crate::step::Role;
+use nx_code::Word;
+
+/// The number of phasing signal 1, which is idle signal alpha (M.476, M.625).
+const PHASING_1: u8 = 0x0F;
+
+/// How a lock is followed. One that is copied for each word, so all of it is small.
+#[derive(Clone, Copy, Debug)]
+pub(crate) struct Track {
+    /// The role of the word that is being filled.
+    pub(crate) role: Role,
+    /// How many of its elements were heard.
+    pub(crate) filled: u8,
+    /// Which of the five words before it were phasing signal 1, as bits, the oldest word in the
+    /// least place. A word that isn't there was none.
+    pub(crate) was_p1: u8,
+}
+
+impl Track {
+    /// The track of a lock whose first word has this role.
+    #[inline(always)]
+    pub(crate) fn begin(role: Role) -> Track
+        ensures { result ≡ track_from role }
+    {
+        Track {
+            role,
+            filled: 0,
+            was_p1: 0,
+        }
+    }
+
+    /// The track after the word that it filled.
+    #[inline(always)]
+    pub(crate) fn after(self, word: Word) -> Track
+        ensures { result ≡ track_after self word }
+    {
+        Track {
+            role: self.role.other(),
+            filled: 0,
+            was_p1: (self.was_p1 >> 1) + (u8::from(word.number() == PHASING_1) << 4),
+        }
+    }
+
+    /// Whether the word that is being filled releases the lock as ended: the words three and five
+    /// before it, which are DX words, are both phasing signal 1.
+    #[inline(always)]
+    pub(crate) fn fills_releasing_word(self) -> bool
+        ensures { result ≡ fills_releasing_word self }
+    {
+        self.role == Role::Rx && self.was_p1 % 2 == 1 && self.was_p1 / 4 % 2 == 1
+    }
+}
