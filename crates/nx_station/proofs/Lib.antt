@@ -7,3 +7,4 @@ pub mod StationLemmas
 pub mod ReadingBack
 pub mod FileReading
 pub mod SendingLaws
+mod Examples
