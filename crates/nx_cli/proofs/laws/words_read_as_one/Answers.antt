@@ -1,0 +1,11 @@
+use Rattle.nx_cli.proofs.WordsLemmas.{help_not_refused, named_not_help, named_not_refused, named_once, read_as_one}
+use Rattle.nx_cli.proofs.laws.words_read_as_one.Goals as goal
+
+pub returns : goal.returns
+returns c = record {
+  some = read_as_one;
+  one_call = named_once;
+  named_not_help = named_not_help;
+  named_not_refused = named_not_refused;
+  help_not_refused = help_not_refused;
+}
