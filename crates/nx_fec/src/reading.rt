@@ -14,7 +14,7 @@ use std::alloc::{AllocError, Global};
 use std::io::Read;
 
 /// The most bytes of a file that is read whole.
-pub const FILE_LIMIT: u64 = 1_048_576;
+const FILE_LIMIT: u64 = 1_048_576;
 
 /// How many bytes one read asks for.
 const CHUNK: usize = 65_536;

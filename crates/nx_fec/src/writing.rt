@@ -13,7 +13,7 @@ use arrayvec::ArrayVec;
 use std::io::Write;
 
 /// How many elements a written line has, but for the last.
-pub const LINE_ELEMENTS: usize = 490;
+const LINE_ELEMENTS: usize = 490;
 
 /// The bytes of such a line: `B`, a space, the elements, and the line feed.
 const LINE_BYTES: usize = LINE_ELEMENTS + 3;
