@@ -6,7 +6,7 @@ use Rattle.nx_code.specs.Word.{value_of}
 use Rattle.nx_code.proofs.WordLemmas.{value_of-le}
 use Rattle.nx_sync.specs.Windows.{next_window, window_after}
 use Rattle.nx_sync.specs.Synchroniser.{Held}
-use Rattle.nx_sync.specs.Parts.{heard_all}
+use Rattle.nx_sync.specs.PrivateCalls.{heard_all}
 
 -- what is held after one element was heard, before it is looked at
 abbrev pub heard : Held → Bool → Held

@@ -8,7 +8,7 @@ use Rattle.nx_code.specs.Word.{number_of, value_of, elements_from}
 use Rattle.nx_sync.specs.Locks.{before_dx, before_rx}
 use Rattle.nx_sync.specs.Windows.{window_before_dx, window_before_rx, is_lock_window, is_in_phasing, next_window, window_after, role_after}
 use Rattle.nx_sync.specs.Synchroniser.{Held}
-use Rattle.nx_sync.specs.Parts.{heard_all, Skips}
+use Rattle.nx_sync.specs.PrivateCalls.{heard_all, Skips}
 use Rattle.nx_sync.proofs.Numbers.{number_of-append, number_of-drop, number_of-next}
 use Rattle.nx_sync.proofs.Patterns.{is_dx_window, is_rx_window}
 use Rattle.nx_sync.proofs.Hearing.{window_after-none, same_parts}

@@ -1,4 +1,4 @@
-use Rattle.std.proofs.Common.{◌≡◌, [], ◌∷◌, ◌++◌, get_or, map, not, subst, sym, take}
+use Rattle.std.proofs.Common.{◌≡◌, ◌++◌, get_or, map, not, subst, sym, take}
 use Rattle.std.proofs.lemmas.Bool.{not-false}
 use Rattle.std.proofs.lemmas.List.{take_more}
 use Rattle.nx_code.specs.Characters.{is_in_code}

@@ -3,7 +3,7 @@ use Rattle.nx_code.specs.Word.{number_of}
 use Rattle.nx_sync.specs.declared.track.Track.{Track}
 use Rattle.nx_sync.specs.Windows.{next_word_window}
 use Rattle.nx_sync.specs.Synchroniser.{Held}
-use Rattle.nx_sync.specs.Parts.{Completes}
+use Rattle.nx_sync.specs.PrivateCalls.{Completes}
 use Rattle.nx_sync.proofs.WholeWords.{word_stands, word_step, between}
 use Rattle.nx_sync.proofs.synchroniser.Synchroniser.push_word.Goals as goal
 
