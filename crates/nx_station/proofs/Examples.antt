@@ -6,7 +6,7 @@ use Rattle.nx_station.specs.MessageFile.{Entry, file_of}
 use Rattle.nx_station.specs.Slots.{IsSlot}
 
 -- EA01
-ea01 : Identity
+abbrev pub ea01 : Identity
 ea01 = record {
   b1 = record { byte = 69; in_range = (omega arith, omega arith) };
   b2 = record { byte = 65; in_range = (omega arith, omega arith) };
@@ -16,7 +16,7 @@ ea01 = record {
 
 -- letter shift, ZCZC, space, E, A, figure shift, 0, 1, carriage return, line feed
 pub head_of_ea01 : head ea01 ≡ 29 ∷ 26 ∷ 3 ∷ 26 ∷ 3 ∷ 31 ∷ 5 ∷ 1 ∷ 30 ∷ 16 ∷ 17 ∷ 27 ∷ 28 ∷ []
-unfolding head ea01
+unfolding head
 head_of_ea01 = refl
 
 -- two messages, of 2 combinations and of 1
