@@ -28,7 +28,8 @@ impl Entry {
 
     /// The entry of a copy that is printed, with its moment.
     pub fn new(found: Found, moment: u64) -> Entry
-        ensures { copy_of result ≡ tagged_found found moment true }
+        ensures copy { copy_of result ≡ tagged_found found moment true }
+        ensures moment { result.moment ≡ moment }
     {
         Entry {
             identity: found.identity,

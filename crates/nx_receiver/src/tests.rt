@@ -8,6 +8,7 @@ use arrayvec::ArrayVec;
 use nx_envelope::{Finder, FinderStep, Found, Identity};
 use nx_fec::{Counting, WriteFault};
 use nx_memory::{PlainRecall, Recall, RingRecall};
+use std::alloc::Global;
 use std::test::Fail;
 
 /// 2025-01-01 00:40:00, and four hours later.
@@ -26,17 +27,17 @@ fn first_copy(text: &[u8]) -> Option<Found> {
     finder.end()
 }
 
-/// The entry of the first copy of a text, at the first moment.
-fn first_entry(text: &[u8]) -> Option<Entry> {
-    Some(Entry::new(first_copy(text)?, FIRST))
+/// What is printed of the first copy of a text, at the first moment.
+fn printed(alloc: Global, text: &[u8]) -> Option<Vec<u8>> {
+    let entry = Entry::new(first_copy(text)?, FIRST);
+    let mut writer = Counting::new(Vec::new(alloc));
+    entry_text(&entry, &mut writer).ok()?;
+    Some(writer.into_inner())
 }
 
 #[test]
 fn an_entry(rt: HostRuntime) -> Result<(), Fail> {
-    let entry = first_entry(b"ZCZC EA01\nTEST\nNNNN").ok_or("no copy")?;
-    let mut writer = Counting::new(Vec::new(rt.alloc()));
-    assert_eq!(rt; entry_text(&entry, &mut writer), Ok(()));
-    let bytes = writer.into_inner();
+    let bytes = printed(rt.alloc(), b"ZCZC EA01\nTEST\nNNNN").ok_or("no entry")?;
     assert_eq!(rt;
         bytes.as_slice(),
         b"[EA01 2025-01-01 00:40:00 full 0/5]\nTEST\n\n".as_slice()
@@ -62,12 +63,9 @@ fn entries_of_other_texts(rt: HostRuntime) -> Result<(), Fail> {
             b"[EA01 2025-01-01 00:40:00 cut 1/1]\n*\n\n",
         ),
     ];
-    for (text, printed) in cases {
-        let entry = first_entry(text).ok_or("no copy")?;
-        let mut writer = Counting::new(Vec::new(rt.alloc()));
-        assert_eq!(rt; entry_text(&entry, &mut writer), Ok(()));
-        let bytes = writer.into_inner();
-        assert_eq!(rt; bytes.as_slice(), printed);
+    for (text, entry) in cases {
+        let bytes = printed(rt.alloc(), text).ok_or("no entry")?;
+        assert_eq!(rt; bytes.as_slice(), entry);
     }
     Ok(())
 }
@@ -79,10 +77,7 @@ fn an_entry_of_4100_characters(rt: HostRuntime) -> Result<(), Fail> {
     for _ in 0..4100 {
         let _ = text.try_push(b'A');
     }
-    let entry = first_entry(&text).ok_or("no copy")?;
-    let mut writer = Counting::new(Vec::new(rt.alloc()));
-    assert_eq!(rt; entry_text(&entry, &mut writer), Ok(()));
-    let bytes = writer.into_inner();
+    let bytes = printed(rt.alloc(), &text).ok_or("no entry")?;
     assert_eq!(rt; bytes.len(), 39 + 4100 + 2);
     assert!(rt;
         bytes
@@ -95,7 +90,8 @@ fn an_entry_of_4100_characters(rt: HostRuntime) -> Result<(), Fail> {
 
 #[test]
 fn a_write_that_fails(rt: HostRuntime) -> Result<(), Fail> {
-    let entry = first_entry(b"ZCZC EA01\nTEST\nNNNN").ok_or("no copy")?;
+    let found = first_copy(b"ZCZC EA01\nTEST\nNNNN").ok_or("no copy")?;
+    let entry = Entry::new(found, FIRST);
     let mut space = [0; 10];
     let mut writer = Counting::new(&mut space[..]);
     assert_eq!(rt;
