@@ -1,6 +1,5 @@
 -- The definitions of the code, evaluated on worked examples.
-use Rattle.std.proofs.Common.{◌≡◌, ◌≢◌, ℕ, ◌≤◌, true, false, List, [], ◌∷◌, ◌++◌, Some, None, map, refl, sym, ◌∙◌, codes, arith}
-use Rattle.nx_code.specs.declared.shifts.Shift.{Shift}
+use Rattle.std.proofs.Common.{◌≡◌, ℕ, true, false, List, [], ◌∷◌, ◌++◌, Some, None, map, refl, codes, arith}
 use Rattle.nx_code.specs.declared.shifts.Shift.TheVariants.{Letters, Figures}
 use Rattle.nx_code.specs.Lists.{last_of}
 use Rattle.nx_code.specs.Word.{elements, elements_from, number_of, weight, word_from}
@@ -8,7 +7,7 @@ use Rattle.nx_code.specs.Table.{row, table, words, place_of, row_of, traffic_wor
 use Rattle.nx_code.specs.Reading.{combination, idle, lost, character_of, shift_after_all, text}
 use Rattle.nx_code.specs.Characters.{characters, is_in_code}
 use Rattle.nx_code.specs.Spelling.{Spells}
-use Rattle.nx_code.proofs.SpellingLemmas.{Spells-nil, Spells-push, spells_newline, spells_here, spells_there}
+use Rattle.nx_code.proofs.SpellingLemmas.{Spells-push, spells_newline, spells_here, spells_there}
 
 -- ---- words and lists
 

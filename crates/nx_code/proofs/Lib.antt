@@ -1,6 +1,6 @@
 pub mod CharacterLemmas
 mod Examples
-mod OneSpelling
+pub mod OneSpelling
 mod PlaceLemmas
 pub mod ReadingLemmas
 mod SilentCombinations

@@ -1,7 +1,6 @@
 -- What holds over the whole table, by one computation each.
 use Rattle.std.proofs.Common.{◌≡◌, ℕ, ◌+◌, ◌-◌, ◌<◌, ◌≤◌, refl, sym, ap, ◌∙◌, subst, Bool, true, false, ◌||◌, eqb, ltb, Option, Some, None, [], map, get_or, arith}
 use Rattle.std.specs.Option.{is_some}
-use Rattle.std.specs.List.{position}
 use Rattle.std.proofs.lemmas.Bool.{agree_below_at, eqb-true, ltb-true, ne_eqb}
 use Rattle.std.proofs.lemmas.List.{get_or-map}
 use Rattle.std.proofs.lemmas.List.Quantifiers.{position-Some}

@@ -10,12 +10,13 @@ use Rattle.nx_code.specs.declared.shifts.Shift.TheVariants.{Letters, Figures}
 unfoldable pub characters : List ℕ
 characters = codes "ABCDEFGHIJKLMNOPQRSTUVWXYZ0123456789 -?:().,'=+/" ++ 10 ∷ []
 
+-- whether a byte is one of them
+unfoldable pub is_in_code : ℕ → Bool
+is_in_code byte = list_any (λ character. character == byte) characters
+
 -- one of the capitals, A to Z
 abbrev pub IsCapital : ℕ → Type 0
 IsCapital byte = (65 ≤ byte) × (byte ≤ 90)
-
-unfoldable pub is_in_code : ℕ → Bool
-is_in_code byte = list_any (λ character. character == byte) characters
 
 -- whether a character of this case stands in a shift
 abbrev pub holds_in : Case → Shift → Bool

@@ -8,4 +8,5 @@ pub mod Taken
 pub mod Characters
 pub mod Rows
 pub mod Spelling
+pub mod Pieces
 pub mod Shifts

@@ -12,6 +12,7 @@ abbrev pub character_in : Row → Shift → Option ℕ
 character_in row Letters = row.letter
 character_in row Figures = row.figure
 
+-- the name as the table has it
 abbrev pub name_text : Name → List ℕ
 name_text CarriageReturn = codes "CR"
 name_text LineFeed = codes "LF"

@@ -2,7 +2,6 @@
 -- needed, and carriage return only before a line feed, is this profile's).
 use Rattle.std.specs.Prelude.{◌≡◌, ◌≢◌, ◌≤◌, ◌↔◌, ℕ, List, [], ◌∷◌, Option, Some, None, map, IsSome}
 use Rattle.nx_code.specs.declared.shifts.Shift.{Shift}
-use Rattle.nx_code.specs.declared.signals.Comb.{Comb}
 use Rattle.nx_code.specs.Shifts.{other}
 use Rattle.nx_code.specs.Reading.{combination, character_of, shift_set, shift_after, text}
 
@@ -28,6 +27,7 @@ pub record IsSilent (shift : Shift) (number : ℕ) : Type 0 where
 pub record Fits (shift : Shift) (number : ℕ) (rest : List ℕ) : Type 0 where
   pub from_one : 1 ≤ number
   pub to_thirty_two : number ≤ 32
+  -- it prints, or sets a shift, or is a carriage return
   pub not_silent : ¬ IsSilent shift number
   -- a carriage return stands directly before each line feed, and nowhere else
   pub carriage_return : (number ≡ 27) ↔ (first_of rest ≡ Some 28)
@@ -45,8 +45,3 @@ pub record Spells (bytes : List ℕ) (shift : Shift) (numbers : List ℕ) : Type
   -- no line feed comes before the first carriage return
   pub begins : first_of numbers ≢ Some 28
   pub fits : EachFits shift numbers
-
--- the number of a combination that may be there
-abbrev pub numbers_of : Option Comb → List ℕ
-numbers_of None = []
-numbers_of (Some comb) = comb.number ∷ []

@@ -1,13 +1,15 @@
 //! Laws of the definitions, each the contract of a function that does nothing.
 
-ghost use Rattle.std.specs.Prelude.{◌≡◌, ◌<◌, ◌≤◌, ◌↔◌, ◌⊎◌, ℕ, Bool, List, [], ◌∷◌, ◌++◌, length, map, ◌==◌, IsTrue};
+ghost use Rattle.std.specs.Prelude.{◌≡◌, ◌<◌, ◌≤◌, ◌↔◌, ◌⊎◌, ℕ, Bool, List, [], ◌∷◌, ◌++◌, length, map, ◌==◌, None, IsSome, IsTrue};
 ghost use Rattle.std.specs.Option.{option_to_list};
 ghost use Rattle.std.specs.List.{list_all, list_any};
 ghost use Rattle.nx_code.specs.Characters.{is_in_code};
 ghost use Rattle.nx_code.specs.Spelling.{IsSilent, Spells};
 ghost use Rattle.nx_code.specs.Word.{elements, number_of, weight};
-ghost use Rattle.nx_code.specs.Reading.{Reception, IsShiftAfter, combination, byte_of, shift_after_all, text};
+ghost use Rattle.nx_code.specs.Reading.{Reception, IsShiftAfter, combination, character_of, byte_of, shift_after_all, text};
 ghost use Rattle.nx_code.specs.Signal.{number_of_signal};
+ghost use Rattle.nx_code.specs.Table.{row_of, traffic_word};
+ghost use Rattle.nx_code.specs.declared.signals.Comb.{Comb};
 ghost use Rattle.nx_code.specs.Phasing.{phasing_1, phasing_2, elements_of_phasing_1, elements_of_phasing_2};
 ghost use Rattle.nx_code.specs.declared.signals.Signal.TheVariants as signals;
 ghost use Rattle.nx_code.specs.declared.shifts.Shift.{Shift};
@@ -30,6 +32,16 @@ pub fn reading_by_nearest_shift()
 pub fn words_are_their_elements()
     ensures number { (word : ℕ) → word < 128 → number_of (elements word) ≡ word }
     ensures bits { (bits : List Bool) → length bits ≡ 7 → elements (number_of bits) ≡ bits }
+{}
+
+/// There are the combinations 1 to 32 and no others: a combination has a row at just these numbers, its
+/// word is that of its signal, and without a row nothing is printed (M.476 and M.625, conversion tables).
+pub fn thirty_two_combinations()
+    ensures rows { (number : ℕ) → IsSome (row_of number) ↔ ((1 ≤ number) × (number ≤ 32)) }
+    ensures words { (comb : Comb) → traffic_word comb.number ≡ number_of_signal (signals.Traffic comb) }
+    ensures no_word { (number : ℕ) → row_of number ≡ None → traffic_word number ≡ 128 }
+    ensures no_character { (number : ℕ) (shift : Shift) → row_of number ≡ None
+        → character_of number shift ≡ None }
 {}
 
 /// The phasing signals are the words of idle signal alpha and of signal repetition in the table, their

@@ -4,7 +4,8 @@ ghost use Rattle.std.specs.Prelude.{◌≡◌, ◌≤◌, ◌*◌, ◌↔◌, �
 ghost use Rattle.std.specs.List.{list_all};
 ghost use Rattle.nx_code.specs.Characters.{is_in_code};
 ghost use Rattle.nx_code.specs.Reading.{combination, shift_after_all, text as reading_of};
-ghost use Rattle.nx_code.specs.Spelling.{Spells, numbers_of};
+ghost use Rattle.nx_code.specs.Pieces.{numbers_of_piece};
+ghost use Rattle.nx_code.specs.Spelling.{Spells};
 ghost use Rattle.nx_code.specs.declared.signals.Comb.{Comb};
 
 use crate::characters::char_to_code;
@@ -50,7 +51,7 @@ struct Piece {
 impl Piece {
     /// How many combinations it has, one or two.
     fn length(self) -> u64
-        ensures { result ≡ length (numbers_of self.ahead ++ self.comb.number ∷ []) }
+        ensures { result ≡ length (numbers_of_piece self) }
     {
         match self.ahead {
             Some(_) => 2,
@@ -69,9 +70,8 @@ fn first_unknown(text: &[u8]) -> Option<usize>
 /// What a character of the code is sent as in a shift.
 fn piece_of(character: u8, shift: Shift) -> Piece
     requires { IsTrue (is_in_code character) }
-    ensures spells { Spells (character ∷ []) shift (numbers_of result.ahead ++ result.comb.number ∷ []) }
-    ensures shift { result.shift
-        ≡ shift_after_all (map combination (numbers_of result.ahead ++ result.comb.number ∷ [])) shift }
+    ensures spells { Spells (character ∷ []) shift (numbers_of_piece result) }
+    ensures shift { result.shift ≡ shift_after_all (map combination (numbers_of_piece result)) shift }
 {
     if character == NEWLINE {
         return Piece {
@@ -99,7 +99,7 @@ fn piece_of(character: u8, shift: Shift) -> Piece
 /// Writes a piece at the end.
 fn push_piece(combs: &mut Vec<Comb>, piece: Piece) -> Result<(), AllocError>
     ensures { OnOk result (map (λ comb. comb.number) combs.new.items
-        ≡ map (λ comb. comb.number) combs.old.items ++ (numbers_of piece.ahead ++ piece.comb.number ∷ [])) }
+        ≡ map (λ comb. comb.number) combs.old.items ++ numbers_of_piece piece) }
 {
     if let Some(ahead) = piece.ahead {
         combs.push(ahead)?;

@@ -1,4 +1,5 @@
-//! Worked examples of the code.
+//! Worked examples of the code. Words, characters and names are those of the conversion tables of M.476 and
+//! M.625, in the numbering of this profile; the spelling of the example is counted out by hand.
 
 use super::*;
 use std::alloc::AllocError;
@@ -123,7 +124,6 @@ fn extents(rt: HostRuntime) -> Result<(), Fail> {
 
 #[test]
 fn cells_of_the_table(rt: HostRuntime) -> Result<(), Fail> {
-    // From the table of M.476 and M.625; the names are this profile's.
     let cases = [
         (0, "A", "-"),
         (3, "D", ""),
@@ -161,6 +161,7 @@ fn texts_of_faults(rt: HostRuntime) -> Result<(), Fail> {
 fn laws_can_be_called() {
     laws::reading_by_nearest_shift();
     laws::words_are_their_elements();
+    laws::thirty_two_combinations();
     laws::phasing_signals_are_in_the_table();
     laws::reading_goes_on();
     laws::a_text_has_one_spelling();

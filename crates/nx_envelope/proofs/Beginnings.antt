@@ -7,7 +7,7 @@ use Rattle.std.proofs.lemmas.Bool.Decides.{leb_tells}
 use Rattle.std.proofs.lemmas.List.{map_push, reverse-append, take_all, take-append-le}
 use Rattle.std.proofs.lemmas.List.Elements.{filter_map-append}
 use Rattle.nx_envelope.specs.Backward.{header_back}
-use Rattle.nx_envelope.specs.Copies.{Ending, beginnings, header_at_end, headers, marked, first_of, long_within, ending_within}
+use Rattle.nx_envelope.specs.Copies.{Ending, beginnings, header_at_end, headers, ending_by_marker, first_of, long_within, ending_within}
 use Rattle.nx_envelope.specs.Header.{Header}
 use Rattle.nx_envelope.specs.declared.found.How.TheVariants.{Long}
 
@@ -75,21 +75,21 @@ ending-past most raw b le =
     rw (long_at most raw le, long_at most (raw ++ b ∷ []) more, same) refl
 
 -- below it the end is the first that a marker makes
-pub ending-short : (most : ℕ) (raw : List ℕ) → length raw < most → ending_within most raw ≡ first_of marked (beginnings raw)
+pub ending-short : (most : ℕ) (raw : List ℕ) → length raw < most → ending_within most raw ≡ first_of ending_by_marker (beginnings raw)
 unfolding ending_within
 ending-short most raw lt =
     let whole = take_all most raw (omega arith) in
     rw (not_long most raw lt, whole) (or_none _)
 
 -- and one more byte may end it
-pub ending-push : (most : ℕ) (raw : List ℕ) (b : ℕ) → length raw < most → ending_within most (raw ++ b ∷ []) ≡ option_or (option_or (ending_within most raw) (marked (raw ++ b ∷ []))) (long_within most (raw ++ b ∷ []))
+pub ending-push : (most : ℕ) (raw : List ℕ) (b : ℕ) → length raw < most → ending_within most (raw ++ b ∷ []) ≡ option_or (option_or (ending_within most raw) (ending_by_marker (raw ++ b ∷ []))) (long_within most (raw ++ b ∷ []))
 unfolding ending_within
 ending-push most raw b lt =
     let long : length (raw ++ b ∷ []) ≡ length raw + 1 = omega (arith, length-append raw (b ∷ [])) in
     let whole = take_all most (raw ++ b ∷ []) (omega arith) in
-    let short : ending_within most raw ≡ first_of marked (beginnings raw) = ending-short most raw lt in
-    let first : first_of marked (beginnings (raw ++ b ∷ [])) ≡ option_or (ending_within most raw) (marked (raw ++ b ∷ [])) = ap (first_of marked) (beginnings-push raw b) ∙ first_of-push marked (beginnings raw) (raw ++ b ∷ []) ∙ ap (λ (o : Option Ending). option_or o (marked (raw ++ b ∷ []))) (sym short) in
-    let start : option_or (first_of marked (beginnings (take most (raw ++ b ∷ [])))) (long_within most (raw ++ b ∷ [])) ≡ option_or (first_of marked (beginnings (raw ++ b ∷ []))) (long_within most (raw ++ b ∷ [])) = rw whole refl in
+    let short : ending_within most raw ≡ first_of ending_by_marker (beginnings raw) = ending-short most raw lt in
+    let first : first_of ending_by_marker (beginnings (raw ++ b ∷ [])) ≡ option_or (ending_within most raw) (ending_by_marker (raw ++ b ∷ [])) = ap (first_of ending_by_marker) (beginnings-push raw b) ∙ first_of-push ending_by_marker (beginnings raw) (raw ++ b ∷ []) ∙ ap (λ (o : Option Ending). option_or o (ending_by_marker (raw ++ b ∷ []))) (sym short) in
+    let start : option_or (first_of ending_by_marker (beginnings (take most (raw ++ b ∷ [])))) (long_within most (raw ++ b ∷ [])) ≡ option_or (first_of ending_by_marker (beginnings (raw ++ b ∷ []))) (long_within most (raw ++ b ∷ [])) = rw whole refl in
     start ∙ ap (λ (o : Option Ending). option_or o (long_within most (raw ++ b ∷ []))) first
 
 or_some : {A : Type 0} (o : Option A) (x : A) → option_or o (Some x) ≢ None

@@ -4,13 +4,13 @@ use Rattle.std.specs.Option.{option_map, option_or}
 use Rattle.std.proofs.lemmas.Bool.Decides.{leb_tells}
 use Rattle.std.proofs.lemmas.List.{reverse-append, reverse-reverse, take-append-le, take-take, take_all, length-take}
 use Rattle.nx_envelope.specs.Backward.{ends_in, marker_back}
-use Rattle.nx_envelope.specs.Copies.{Ending, beginnings, marked, first_of, long_within, ending_within, ending_of, most_found}
+use Rattle.nx_envelope.specs.Copies.{Ending, beginnings, ending_by_marker, first_of, long_within, ending_within, ending_of, most_found}
 use Rattle.nx_envelope.specs.Ending.{EndsWithMarker, MarkerEndsAt, EndsAtMarker, HasNoMarker, EndsLong, IsEnding, IsUnended}
 use Rattle.nx_envelope.specs.Marker.{EndsWith, start_marker, end_marker}
 use Rattle.nx_envelope.specs.declared.found.How.{How}
 use Rattle.nx_envelope.specs.declared.found.How.TheVariants.{Full, Cut, Long}
 use Rattle.nx_envelope.proofs.Beginnings.{beginnings-push, first_of-push, reverse-push, long_at, not_long}
-use Rattle.nx_envelope.proofs.Spelled.{ends_in-true, nnnn_word, starts_both, ends_both, zczc_word}
+use Rattle.nx_envelope.proofs.SpelledHeaders.{ends_in-true, nnnn_word, starts_both, ends_both, zczc_word}
 
 -- A marker at the end of a text, computed and spelled.
 
@@ -110,24 +110,24 @@ last_gives : (text : List ℕ) (b : ℕ) (m : Option How) → marker_back (rever
 last_gives text b None m none = unmarked_at text b none m
 last_gives text b (Some how) m none = completes text b how none m
 
-gives_push : (text : List ℕ) (b : ℕ) (o : Option Ending) → FirstIs text o → FirstIs (text ++ b ∷ []) (option_or o (marked (text ++ b ∷ [])))
-unfolding marked
+gives_push : (text : List ℕ) (b : ℕ) (o : Option Ending) → FirstIs text o → FirstIs (text ++ b ∷ []) (option_or o (ending_by_marker (text ++ b ∷ [])))
+unfolding ending_by_marker
 gives_push text b None none = last_gives text b _ refl none
 gives_push text b (Some ending) f = stays_first text b ending f
 
-first_nil : FirstIs [] (first_of marked (beginnings []))
-unfolding marked beginnings
+first_nil : FirstIs [] (first_of ending_by_marker (beginnings []))
+unfolding ending_by_marker beginnings
 first_nil place how le h =
     no_marker_at [] how refl (rw (take_all {A = ℕ} place [] (omega arith)) at h)
 
-first_back : (back : List ℕ) → FirstIs (reverse back) (first_of marked (beginnings (reverse back)))
+first_back : (back : List ℕ) → FirstIs (reverse back) (first_of ending_by_marker (beginnings (reverse back)))
 first_back [] = first_nil
 first_back (b ∷ back) =
     let whole : reverse (b ∷ back) ≡ reverse back ++ b ∷ [] = reverse-append (b ∷ []) back in
-    let push : first_of marked (beginnings (reverse back ++ b ∷ [])) ≡ option_or (first_of marked (beginnings (reverse back))) (marked (reverse back ++ b ∷ [])) = ap (first_of marked) (beginnings-push (reverse back) b) ∙ first_of-push marked (beginnings (reverse back)) (reverse back ++ b ∷ []) in
+    let push : first_of ending_by_marker (beginnings (reverse back ++ b ∷ [])) ≡ option_or (first_of ending_by_marker (beginnings (reverse back))) (ending_by_marker (reverse back ++ b ∷ [])) = ap (first_of ending_by_marker) (beginnings-push (reverse back) b) ∙ first_of-push ending_by_marker (beginnings (reverse back)) (reverse back ++ b ∷ []) in
     rw (whole, push) (gives_push (reverse back) b _ (first_back back))
 
-first_is : (text : List ℕ) → FirstIs text (first_of marked (beginnings text))
+first_is : (text : List ℕ) → FirstIs text (first_of ending_by_marker (beginnings text))
 first_is text = rw (← reverse-reverse text) (first_back (reverse text))
 
 -- The end of a raw text.

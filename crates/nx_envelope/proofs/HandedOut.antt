@@ -6,11 +6,11 @@ use Rattle.std.proofs.lemmas.List.{append-nil}
 use Rattle.nx_envelope.specs.Copies.{Copy, copies, ended_copies}
 use Rattle.nx_envelope.specs.Finder.{Brings, Closes}
 use Rattle.nx_envelope.specs.Found.{IsFound}
-use Rattle.nx_envelope.specs.Laws.{AreAnswers, found_in, handed_out}
+use Rattle.nx_envelope.specs.Laws.{AreAnswers, found_in, copies_handed_out}
 use Rattle.nx_envelope.specs.declared.found.FinderStep.{FinderStep}
 use Rattle.nx_envelope.specs.declared.found.FinderStep.TheVariants as steps
 use Rattle.nx_envelope.specs.declared.found.Found.{Found}
-use Rattle.nx_envelope.proofs.Parts.{headers-nil}
+use Rattle.nx_envelope.proofs.OneOpenCopy.{headers-nil}
 
 ended-nil : ended_copies [] ≡ []
 unfolding ended_copies
@@ -51,7 +51,7 @@ all_found : (text : List ℕ) (answers : List FinderStep) → AreAnswers [] text
 all_found text answers a = let nil = ended-nil in runs [] text answers [] a (rw nil tt)
 
 -- and the end
-pub all_handed_out : (text : List ℕ) (answers : List FinderStep) (last : Option Found) → AreAnswers [] text answers → Closes text last → AllZip IsFound (copies text) (handed_out answers last)
+pub all_handed_out : (text : List ℕ) (answers : List FinderStep) (last : Option Found) → AreAnswers [] text answers → Closes text last → AllZip IsFound (copies text) (copies_handed_out answers last)
 all_handed_out text answers None a c =
     let whole = c.whole in
     rw (whole, append-nil (filter_map found_in answers)) (all_found text answers a)

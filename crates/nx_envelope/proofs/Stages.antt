@@ -11,8 +11,8 @@ use Rattle.nx_envelope.specs.declared.identity.Identity.{Identity}
 use Rattle.nx_envelope.specs.declared.letter.Letter.{Letter}
 use Rattle.nx_envelope.specs.declared.stage.Stage.{Stage}
 use Rattle.nx_envelope.specs.declared.stage.Stage.TheVariants.{Nowhere, Spaces, Station, Subject, Tens}
-use Rattle.nx_envelope.proofs.Headers.{stage_parts, both-none, letter_of-none, digit_of-none, letter_of-space, digit_of-space}
-use Rattle.nx_envelope.proofs.Raw.{IsPlain}
+use Rattle.nx_envelope.proofs.LettersAndDigits.{stage_parts, both-none, letter_of-none, digit_of-none, letter_of-space, digit_of-space}
+use Rattle.nx_envelope.proofs.RawTexts.{IsPlain}
 
 -- a stage stands at the back and a flag tells whether it ends with ZCZC
 pub record Stands (stage : Stage) (start : Bool) (back : List ℕ) : Type 0 where

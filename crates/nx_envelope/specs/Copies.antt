@@ -38,8 +38,8 @@ pub record Ending : Type 0 where
   pub text : List ℕ
 
 -- a text that ends with a marker, less the marker
-unfoldable pub marked : List ℕ → Option Ending
-marked text =
+unfoldable pub ending_by_marker : List ℕ → Option Ending
+ending_by_marker text =
     option_map (λ how. record { how = how; text = take (length text - 4) text }) (marker_back (reverse text))
 
 -- what the first item gives that gives something
@@ -56,7 +56,7 @@ long_within most raw =
 -- there is none, but so many characters stand there, it is long; else it has no end
 unfoldable pub ending_within : ℕ → List ℕ → Option Ending
 ending_within most raw =
-    option_or (first_of marked (beginnings (take most raw))) (long_within most raw)
+    option_or (first_of ending_by_marker (beginnings (take most raw))) (long_within most raw)
 
 -- the most characters of a found text
 abbrev pub most_found : ℕ

@@ -31,5 +31,5 @@ found_in (steps.Header identity) = None
 found_in (steps.Over found) = Some found
 
 -- the copies that steps and then the end of the text hand out
-abbrev pub handed_out : List FinderStep → Option Found → List Found
-handed_out answers last = filter_map found_in answers ++ option_to_list last
+abbrev pub copies_handed_out : List FinderStep → Option Found → List Found
+copies_handed_out answers last = filter_map found_in answers ++ option_to_list last

@@ -9,7 +9,7 @@ ghost use Rattle.nx_envelope.specs.Found.{IsFound};
 ghost use Rattle.nx_envelope.specs.Header.{ComesBefore, EndsWithHeader, Header, StandsIn};
 ghost use Rattle.nx_envelope.specs.Ending.{IsEnding, IsUnended};
 ghost use Rattle.nx_envelope.specs.Identity.{same_identity};
-ghost use Rattle.nx_envelope.specs.Laws.{AreAnswers, Grows, handed_out};
+ghost use Rattle.nx_envelope.specs.Laws.{AreAnswers, Grows, copies_handed_out};
 ghost use Rattle.nx_envelope.specs.Marker.{EndsWith, end_marker, start_marker};
 ghost use Rattle.nx_envelope.specs.Moment.{HasText, IsShownAs, last_moment};
 ghost use Rattle.nx_envelope.specs.declared.found.FinderStep.{FinderStep};
@@ -33,7 +33,7 @@ pub fn copies_come_in_order()
 /// Over a whole text, what a finder hands out at its bytes and then at its end are the copies of the text, in order.
 pub fn copies_are_handed_out()
     ensures { (text : List ℕ) (answers : List FinderStep) (last : Option Found) → AreAnswers [] text answers
-        → Closes text last → AllZip IsFound (copies text) (handed_out answers last) }
+        → Closes text last → AllZip IsFound (copies text) (copies_handed_out answers last) }
 {}
 
 /// The headers of a text are those that stand in it, at any index.

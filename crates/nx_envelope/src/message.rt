@@ -88,7 +88,7 @@ impl Message {
         ensures refused { IfErr result (IsMessageFault (map (λ line. line.now) lines.now)) }
     {
         check_lines(lines)?;
-        match kept_lines(alloc, lines) {
+        match line_copies(alloc, lines) {
             Ok(lines) => Ok(Message { identity, lines }),
             Err(fault) => Err(MessageFault::Memory(fault)),
         }
@@ -177,7 +177,7 @@ fn check_lines(lines: &[&[u8]]) -> Result<(), MessageFault>
 }
 
 /// Copies of the lines.
-fn kept_lines(alloc: Global, lines: &[&[u8]]) -> Result<Vec<Vec<u8>>, AllocError>
+fn line_copies(alloc: Global, lines: &[&[u8]]) -> Result<Vec<Vec<u8>>, AllocError>
     ensures { IfOk result (λ kept. map (λ line. line.items) kept.items ≡ map (λ line. line.now) lines.now) }
 {
     let mut kept = Vec::with_capacity(alloc, lines.len())?;

@@ -9,7 +9,7 @@ use Rattle.nx_code.specs.Word.{weight, elements, elements_from}
 use Rattle.nx_code.specs.Table.{table, words, place_of}
 use Rattle.nx_code.specs.Signal.{number_of_signal}
 use Rattle.nx_fec.specs.declared.diversity.Heard.TheVariants.{Intact}
-use Rattle.nx_fec.specs.Pairing.{Counted, traffic, idle_signal, nothing, counts_as, counts_at, heard_as, IsLatest}
+use Rattle.nx_fec.specs.Pairing.{Counted, traffic, idle_signal, nothing, counts_as, counts_at, heard_as}
 
 -- whether two words count alike
 abbrev is_alike : Counted → Counted → Bool
@@ -75,8 +75,9 @@ unfolding counts_as
 counts_as-wrong word wrong = counts_at-none word (place_of word) refl wrong
 
 -- of the latest three and one more word the latest three are those of all words and this one
-pub IsLatest-push : (latest next words : List Counted) (x : Counted) → IsLatest latest words → IsLatest next (latest ++ x ∷ []) → IsLatest next (words ++ x ∷ [])
-IsLatest-push latest next words x old new =
+pub latest-push : (latest next words : List Counted) (x : Counted) → latest ≡ drop (length words - 3) words
+    → next ≡ drop (length (latest ++ x ∷ []) - 3) (latest ++ x ∷ []) → next ≡ drop (length (words ++ x ∷ []) - 3) (words ++ x ∷ [])
+latest-push latest next words x old new =
     let n : length latest ≡ length words - (length words - 3) = ap length old ∙ length-drop (length words - 3) words in
     let e : drop (length words - 3) (words ++ x ∷ []) ≡ latest ++ x ∷ [] = drop-append-le (length words - 3) words (x ∷ []) (omega arith) ∙ ap (λ l. l ++ x ∷ []) (sym old) in
     let k : (length words - 3) + (length (latest ++ x ∷ []) - 3) ≡ length (words ++ x ∷ []) - 3 = simp length-append (omega arith) in

@@ -1,5 +1,5 @@
 -- Lemmas on what a scanner has read, and on the faults that explain why it stopped.
-use Rattle.std.proofs.Common.{◌≡◌, ℕ, ◌+◌, ◌<◌, Bool, true, false, length, take, drop, get_or, if◌then◌else◌, option_to_list, take-append-drop, List, [], ◌∷◌, ◌++◌, sym, ap, ◌∙◌, subst, append_assoc, append-nil, Option, None, Some, IfSome, Result, Err, arith}
+use Rattle.std.proofs.Common.{◌≡◌, ℕ, ◌+◌, ◌<◌, Bool, true, false, length, take, drop, get_or, if◌then◌else◌, option_to_list, refl, take-append-drop, List, [], ◌∷◌, ◌++◌, sym, ap, ◌∙◌, subst, append_assoc, append-nil, Option, None, Some, IfSome, Result, Err, arith}
 use Rattle.std.specs.List.{flat_map}
 use Rattle.std.specs.Io.KnownBytes.{Consumes, IsAtEnd}
 use Rattle.std.proofs.KnownBytes.{Consumes-trans}
@@ -7,6 +7,7 @@ use Rattle.std.proofs.lemmas.List.Concat.{flat_map-append}
 use Rattle.std.proofs.lemmas.List.{drop_more, length-append}
 use Rattle.nx_fec.specs.AirFile.{Line}
 use Rattle.nx_fec.specs.Lines.{file_of, HasFault, IsAtByte, IsCause, Scanning, Scans, Splits, elements_of, IsBitFile}
+use Rattle.nx_fec.specs.Scanner.{elements_kept}
 use Rattle.nx_fec.specs.Runs.{run_fault, ExplainsReading, HasRead}
 use Rattle.nx_fec.specs.declared.fault.LineFault.{LineFault}
 use Rattle.nx_fec.specs.declared.fault.LineFault.TheVariants as file
@@ -116,6 +117,11 @@ IsBitFile-file None new limit bytes bits consumed end h = tt
 IsBitFile-file (Some xs) None limit bytes bits consumed end h = absurd consumed
 IsBitFile-file (Some xs) (Some ys) limit bytes bits consumed end h =
     subst (λ l. IsBitFile limit l bits) (sym (consumed ∙ ap (λ l. bytes ++ l) end ∙ append-nil bytes)) h
+
+-- the elements that a scanner keeps are those of the line that was ended
+pub elements_kept-list : (latest : Option Line) → flat_map elements_of (option_to_list latest) ≡ elements_kept latest
+elements_kept-list None = refl
+elements_kept-list (Some line) = append-nil (elements_of line)
 
 -- a byte that ended a line
 pub HasRead-ended : (limit : ℕ) (old new : Scanning) (bits more : List Bool) (bytes bytes' : List ℕ) (is_end : Bool) (latest : Option Line) → is_end ≡ true

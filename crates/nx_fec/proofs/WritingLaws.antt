@@ -1,14 +1,14 @@
 -- Lemmas on what a writer holds while lines of elements are written to it in batches.
-use Rattle.std.proofs.Common.{◌≡◌, ℕ, ◌+◌, ◌-◌, ◌*◌, ◌^◌, ◌≤◌, min, Bool, List, [], ◌∷◌, ◌++◌, length, map, take, drop, sym, ap, ◌∙◌, subst, append_assoc, append-nil, arith, Option}
+use Rattle.std.proofs.Common.{◌≡◌, ℕ, ◌+◌, ◌-◌, ◌*◌, ◌^◌, ◌<◌, ◌≤◌, min, Bool, List, [], ◌∷◌, ◌++◌, length, map, take, drop, set, get_or, false, sym, ap, ◌∙◌, subst, append_assoc, append-nil, arith, Option}
 use Rattle.std.specs.List.{range_with_len}
 use Rattle.std.specs.Int.{div_ceil}
 use Rattle.std.specs.Io.KnownBytes.{Appends}
 use Rattle.std.proofs.KnownBytes.{Appends-trans}
 use Rattle.std.proofs.Math.Seq.{take-add, take-append-add}
-use Rattle.std.proofs.lemmas.List.{take_rest, length-append, take-append-drop, take-append-le, take_min}
+use Rattle.std.proofs.lemmas.List.{take_rest, length-append, take-append-drop, take-append-le, take_min, take_more, take_more_set, map-append}
 use Rattle.std.proofs.lemmas.List.Concat.{flat_map-append}
 use Rattle.std.proofs.lemmas.List.FromFn.{map-range_with_len_more, take-map-range_with_len}
-use Rattle.nx_fec.specs.AirFile.{Line, elements}
+use Rattle.nx_fec.specs.AirFile.{Line, element_digit, elements}
 use Rattle.nx_fec.specs.Lines.{line_bytes, file_of}
 use Rattle.nx_fec.specs.BitLines.{bit_line, bit_lines}
 use Rattle.nx_fec.specs.Devices.{HasWritten, WroteSome}
@@ -98,6 +98,17 @@ Batched-failed old now next bits index sent written batch piece h within same pa
     let front = file_of-front bits index within in
     let all : (h.done ++ piece) ++ front.0 ≡ file_of (bit_lines bits) = ap (λ l. (h.done ++ l) ++ front.0) same ∙ ap (λ l. l ++ front.0) h.bytes ∙ sym front.1 in
     subst (λ l. WroteSome old next l written) all (WroteSome-front old next (h.done ++ piece) front.0 written part)
+
+-- one more digit of a line of elements
+pub digits-more : (digits : List ℕ) (line : List Bool) (place digit : ℕ) → place < length digits → place < length line
+    → take place digits ≡ map element_digit (take place line) → digit ≡ element_digit (get_or line place false)
+    → take (place + 1) (set digits place digit) ≡ map element_digit (take (place + 1) line)
+digits-more digits line place digit h k same is =
+    take_more_set digits place digit h
+    ∙ ap (λ l. l ++ digit ∷ []) same
+    ∙ ap (λ d. map element_digit (take place line) ++ d ∷ []) is
+    ∙ sym (map-append element_digit (take place line) (get_or line place false ∷ []))
+    ∙ sym (ap (map element_digit) (take_more line place false k))
 
 -- all lines are written
 pub Batched-all : (old now next : Option (List ℕ)) (bits : List Bool) (index sent count : ℕ) (batch piece : List ℕ) (h : Batched old now bits index sent batch)

@@ -1,5 +1,5 @@
 -- The lines of an air file (this profile): what they say, and how they are spelled.
-use Rattle.std.specs.Prelude.{ℕ, ◌^◌, ◌<◌, ◌≤◌, Bool, true, false, List, [], ◌∷◌, ◌++◌, length, map, codes}
+use Rattle.std.specs.Prelude.{◌≢◌, ℕ, ◌^◌, ◌<◌, ◌≤◌, Bool, true, false, List, [], ◌∷◌, ◌++◌, length, map, codes}
 use Rattle.std.specs.Fmt.{decimal}
 use Rattle.nx_code.specs.Characters.{IsCapital}
 use Rattle.nx_fec.specs.declared.air_file.AirLine.{AirLine}
@@ -45,3 +45,7 @@ line_of (RefuseStation letter) = refuse_station letter
 line_of (AcceptStation letter) = accept_station letter
 line_of (RefuseSubject letter) = refuse_subject letter
 line_of (AcceptSubject letter) = accept_subject letter
+
+-- the bytes are no line's
+abbrev pub IsNoLine : List ℕ → Type 0
+IsNoLine bytes = (line : Line) → IsLine line → bytes ≢ spelling line

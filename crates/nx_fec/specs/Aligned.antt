@@ -20,6 +20,11 @@ words_of bits = map (word_in bits) (range_with_len 0 (length bits / 7))
 abbrev pub five_before : List ℕ → ℕ → Counted
 five_before words slot = if nat_lt slot 5 then nothing else counts_as (slice_index words (slot - 5))
 
+-- What the first DX words of a lock count as, so many of them, oldest first. The first of them is word 0, or word 1 of a
+-- lock that begins with an RX word. RX word k comes after those before it: `k ≡ 2 * count + first - 1`.
+unfoldable pub dx_words : List ℕ → ℕ → ℕ → List Counted
+dx_words words first count = map (λ i. counts_as (slice_index words (2 * i + first))) (range_with_len 0 count)
+
 -- what is taken at an RX slot: its word is paired with the one five slots before it
 unfoldable pub taken_at : List ℕ → ℕ → Reception
 taken_at words slot = pairing (five_before words slot) (counts_as (slice_index words slot))

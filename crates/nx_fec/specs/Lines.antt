@@ -1,7 +1,7 @@
 -- The lines of a whole air file, its first fault, and its elements (this profile).
 use Rattle.std.specs.Prelude.{◌≡◌, ◌≢◌, ℕ, ◌+◌, ◌<◌, ◌≤◌, Bool, List, [], ◌∷◌, ◌++◌, length, Option, ⊤}
 use Rattle.std.specs.List.{flat_map, AllByRecursion}
-use Rattle.nx_fec.specs.AirFile.{Line, moment, elements, refuse_station, accept_station, refuse_subject, accept_subject, spelling, IsLine}
+use Rattle.nx_fec.specs.AirFile.{Line, elements, spelling, IsLine, IsNoLine}
 use Rattle.nx_fec.specs.declared.fault.LineFault.{LineFault}
 use Rattle.nx_fec.specs.declared.fault.LineFault.TheVariants.{TooLong, LineLong, LineCut, BadLine}
 
@@ -45,7 +45,7 @@ IsCause limit front lines rest (byte ∷ more) (LineLong line) =
     (front < limit) × (byte ≢ line_end) × (length rest ≡ max_line_bytes) × (line ≡ length lines + 1)
 IsCause limit front lines rest (byte ∷ more) (LineCut line) = ⊥
 IsCause limit front lines rest (byte ∷ more) (BadLine line) =
-    (front < limit) × (byte ≡ line_end) × ((other : Line) → IsLine other → rest ≢ spelling other) × (line ≡ length lines + 1)
+    (front < limit) × (byte ≡ line_end) × IsNoLine rest × (line ≡ length lines + 1)
 
 -- The file of these bytes has this fault. Good lines and the beginning of one more stand before it, so it is the
 -- earliest; any bytes may come after it.
@@ -73,12 +73,8 @@ pub record IsAirFile (limit : ℕ) (bytes : List ℕ) (lines : List Line) : Type
 
 -- the elements of a line, which only a line of elements has
 abbrev pub elements_of : Line → List Bool
-elements_of (moment n) = []
 elements_of (elements bits) = bits
-elements_of (refuse_station letter) = []
-elements_of (accept_station letter) = []
-elements_of (refuse_subject letter) = []
-elements_of (accept_subject letter) = []
+elements_of _ = []
 
 -- the file of these bytes has these elements, over all its lines
 pub record IsBitFile (limit : ℕ) (bytes : List ℕ) (bits : List Bool) : Type 0 where
@@ -87,7 +83,7 @@ pub record IsBitFile (limit : ℕ) (bytes : List ℕ) (bits : List Bool) : Type 
   pub joined : bits ≡ flat_map elements_of lines
 
 -- what a scanner of lines holds: the open line, how many lines were ended, how many more bytes it may take, and the
--- line that was ended last
+-- line that the last byte ended, if it did
 pub record Scanning : Type 0 where
   pub part : List ℕ
   pub lines : ℕ

@@ -1,6 +1,6 @@
 -- Pairing (ITU-R M.625, collective mode B: each position is sent twice, as DX and, five slots later, as RX;
 -- that differing signals are lost is this profile's).
-use Rattle.std.specs.Prelude.{◌≡◌, ◌≢◌, ℕ, ◌+◌, ◌-◌, ◌==◌, nat_lt, if◌then◌else◌, List, Option, Some, None, length, drop, slice_index_or}
+use Rattle.std.specs.Prelude.{◌≡◌, ◌≢◌, ℕ, ◌+◌, ◌-◌, ◌==◌, nat_lt, if◌then◌else◌, List, Option, Some, None, length, drop, map, slice_index_or}
 use Rattle.nx_code.specs.declared.signals.Signal.TheVariants.{Traffic, Alpha, Beta, Repeat}
 use Rattle.nx_code.specs.Word.{weight}
 use Rattle.nx_code.specs.Table.{place_of}
@@ -47,10 +47,6 @@ pairing nothing nothing = lost
 abbrev pub third_last : List Counted → Counted
 third_last words = if nat_lt (length words) 3 then nothing else slice_index_or words (length words - 3) nothing
 
--- these are the latest three of the DX words so far
-abbrev pub IsLatest : List Counted → List Counted → Type 0
-IsLatest latest words = latest ≡ drop (length words - 3) words
-
 -- what arrived of a word counts as the word does
 abbrev pub heard_as : Heard → Counted
 heard_as (Intact (Traffic comb)) = traffic comb.number
@@ -58,6 +54,10 @@ heard_as (Intact Alpha) = idle_signal
 heard_as (Intact Beta) = idle_signal
 heard_as (Intact Repeat) = idle_signal
 heard_as Wrong = nothing
+
+-- these are the latest three of the DX words so far, which count so
+abbrev pub IsLatest : List Heard → List Counted → Type 0
+IsLatest latest words = map heard_as latest ≡ drop (length words - 3) words
 
 -- this is what arrived of a word: the signal that it stands for, or none
 abbrev pub IsHeardOf : Heard → ℕ → Type 0

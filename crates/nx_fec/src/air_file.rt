@@ -1,8 +1,9 @@
 //! The lines of an air file, which carries what a receiver hears: moments, elements and commands of selection.
-ghost use Rattle.std.specs.Prelude.{◌≡◌, ◌≢◌, ◌<◌, ◌≤◌, ◌^◌, ℕ, Bool, List, ◌++◌, length, map, IfSome, IfNone, MatchOption, [], ◌∷◌};
+ghost use Rattle.std.specs.Prelude.{◌≡◌, ◌≢◌, ◌<◌, ◌≤◌, ◌^◌, ℕ, Bool, List, ◌++◌, length, map, IfSome, IfNone, IsTrue, MatchOption, [], ◌∷◌, false};
 ghost use Rattle.std.specs.Fmt.{decimal};
 ghost use Rattle.nx_code.specs.Characters.{IsCapital};
-ghost use Rattle.nx_fec.specs.AirFile.{Line, IsLine, spelling, line_of, element_digit};
+ghost use Rattle.nx_fec.specs.AirFile.{IsLine, IsNoLine, element_digit, line_of, spelling};
+ghost use Rattle.nx_fec.specs.Scanner.{SpellsLine};
 
 use arrayvec::ArrayVec;
 
@@ -29,28 +30,68 @@ pub enum AirLine {
     AcceptSubject(u8),
 }
 
+/// What a line of an air file says, but for its elements.
+#[derive(Clone, Copy, Debug, PartialEq, Eq)]
+pub enum LineKind {
+    /// `T`: the moment from here on, in seconds, of at most 11 digits.
+    Moment(u64),
+    /// `B`: elements.
+    Elements,
+    /// `RS`: refuse the station of this letter A to Z.
+    RefuseStation(u8),
+    /// `AS`: accept the station of this letter A to Z.
+    AcceptStation(u8),
+    /// `RJ`: refuse the subject of this letter A to Z.
+    RefuseSubject(u8),
+    /// `AJ`: accept the subject of this letter A to Z.
+    AcceptSubject(u8),
+}
+
 /// Reads a line, given without its line feed. None where it is no line of an air file.
 pub fn air_line(line: &[u8]) -> Option<AirLine>
     ensures found { IfSome result (λ found. IsLine (line_of found) × (line.now ≡ spelling (line_of found))) }
-    ensures none { IfNone result ((value : Line) → IsLine value → line.now ≢ spelling value) }
+    ensures none { IfNone result (IsNoLine line.now) }
+{
+    let mut bits = ArrayVec::new();
+    Some(match read_line(line, &mut bits)? {
+        LineKind::Moment(moment) => AirLine::Moment(moment),
+        LineKind::Elements => AirLine::Bits(bits),
+        LineKind::RefuseStation(letter) => AirLine::RefuseStation(letter),
+        LineKind::AcceptStation(letter) => AirLine::AcceptStation(letter),
+        LineKind::RefuseSubject(letter) => AirLine::RefuseSubject(letter),
+        LineKind::AcceptSubject(letter) => AirLine::AcceptSubject(letter),
+    })
+}
+
+/// Reads a line, given without its line feed: what it says, and into `bits` its elements. None, and no elements, where
+/// it is no line of an air file.
+pub(crate) fn read_line(line: &[u8], bits: &mut ArrayVec<bool, MAX_ELEMENTS>) -> Option<LineKind>
+    requires { bits.old.items ≡ [] }
+    ensures found { IfSome result (λ kind. SpellsLine kind bits.new.items line.now) }
+    ensures none { IfNone result (IsNoLine line.now) }
+    ensures unread { IfNone result (bits.new.items ≡ []) }
 {
     if let Some(rest) = after(line, b"T ") {
-        return Some(AirLine::Moment(moment(rest)?));
+        return Some(LineKind::Moment(moment(rest)?));
     }
     if let Some(rest) = after(line, b"B ") {
-        return Some(AirLine::Bits(elements(rest)?));
+        return if read_elements(rest, bits) {
+            Some(LineKind::Elements)
+        } else {
+            None
+        };
     }
     if let Some(rest) = after(line, b"RS ") {
-        return Some(AirLine::RefuseStation(letter(rest)?));
+        return Some(LineKind::RefuseStation(letter(rest)?));
     }
     if let Some(rest) = after(line, b"AS ") {
-        return Some(AirLine::AcceptStation(letter(rest)?));
+        return Some(LineKind::AcceptStation(letter(rest)?));
     }
     if let Some(rest) = after(line, b"RJ ") {
-        return Some(AirLine::RefuseSubject(letter(rest)?));
+        return Some(LineKind::RefuseSubject(letter(rest)?));
     }
     if let Some(rest) = after(line, b"AJ ") {
-        return Some(AirLine::AcceptSubject(letter(rest)?));
+        return Some(LineKind::AcceptSubject(letter(rest)?));
     }
     None
 }
@@ -95,23 +136,27 @@ fn moment(digits: &[u8]) -> Option<u64>
     Some(value)
 }
 
-/// 1 to 512 elements, each a digit 0 or 1.
-fn elements(digits: &[u8]) -> Option<ArrayVec<bool, MAX_ELEMENTS>>
-    ensures found { IfSome result (λ found. (0 < length found.items) × (length found.items ≤ 512)
-        × (digits.now ≡ map element_digit found.items)) }
-    ensures none { IfNone result ((bits : List Bool) → 0 < length bits → length bits ≤ 512
-        → digits.now ≢ map element_digit bits) }
+/// Reads 1 to 512 elements, each a digit 0 or 1. False, and no elements, where the digits are none.
+fn read_elements(digits: &[u8], bits: &mut ArrayVec<bool, MAX_ELEMENTS>) -> bool
+    requires { bits.old.items ≡ [] }
+    ensures found { IsTrue result → (0 < length bits.new.items) × (length bits.new.items ≤ 512)
+        × (digits.now ≡ map element_digit bits.new.items) }
+    ensures none { result ≡ false → (elements : List Bool) → 0 < length elements → length elements ≤ 512
+        → digits.now ≢ map element_digit elements }
+    ensures unread { result ≡ false → bits.new.items ≡ [] }
 {
     if digits.is_empty() || digits.len() > MAX_ELEMENTS {
-        return None;
+        return false;
     }
-    let mut bits = ArrayVec::new();
     for digit in digits {
         match *digit {
             b'0' => bits.push(false),
             b'1' => bits.push(true),
-            _ => return None,
+            _ => {
+                bits.clear();
+                return false;
+            }
         }
     }
-    Some(bits)
+    true
 }

@@ -1,6 +1,6 @@
 //! Decoding of words that stand in their slots from slot 0 on.
 
-ghost use Rattle.std.specs.Prelude.{◌≡◌, ◌≢◌, ◌+◌, ◌*◌, ◌%◌, ◌≤◌, length, IfOk, IfErr, OnOk};
+ghost use Rattle.std.specs.Prelude.{◌≡◌, ◌≢◌, ◌+◌, ◌*◌, ◌%◌, ◌≤◌, length, IfOk, IfErr, OnOk, slice_get};
 ghost use Rattle.nx_fec.specs.Aligned.{ExplainsAligned, aligned_text, word_in, words_of};
 
 use crate::diversity::{Diversity, Heard};
@@ -22,8 +22,19 @@ pub enum AlignedFault {
     Memory(AllocError),
 }
 
-/// The word in a slot of the elements.
-fn word_in(bits: &[bool], slot: usize) -> Word
+/// The word in a slot of elements that begin with slot 0. None past the last whole word.
+pub fn word_in(bits: &[bool], slot: usize) -> Option<Word>
+    ensures { result ≡ slice_get (words_of bits.now) slot }
+{
+    if slot < bits.len() / ELEMENTS {
+        Some(word_of_slot(bits, slot))
+    } else {
+        None
+    }
+}
+
+/// The word in a slot of elements that have it.
+fn word_of_slot(bits: &[bool], slot: usize) -> Word
     requires { 7 * slot + 7 ≤ length bits.now }
     ensures { result ≡ word_in bits.now slot }
 {
@@ -50,8 +61,8 @@ pub fn decode_aligned(alloc: Global, bits: &[bool]) -> Result<Vec<u8>, AlignedFa
     let mut printer = Printer::new();
     let mut text = Vec::new(alloc);
     for position in 0..bits.len() / (2 * ELEMENTS) {
-        diversity.dx(Heard::of(word_in(bits, 2 * position)));
-        let taken = diversity.rx(Heard::of(word_in(bits, 2 * position + 1)));
+        diversity.dx(Heard::of(word_of_slot(bits, 2 * position)));
+        let taken = diversity.rx(Heard::of(word_of_slot(bits, 2 * position + 1)));
         if let Some(byte) = printer.step(taken) {
             text.push(byte)
                 .map_err(|_| AlignedFault::Memory(AllocError))?;
@@ -90,6 +101,8 @@ mod tests {
             ];
             let bits = bits_of(rt.alloc(), &words)?;
             assert_eq!(rt; decode_aligned(rt.alloc(), &bits)?.as_slice(), text);
+            assert_eq!(rt; word_in(&bits, 13), Word::new(rx));
+            assert_eq!(rt; word_in(&bits, 15), None);
         }
         Ok(())
     }

@@ -1,6 +1,6 @@
 //! Diversity reception: a position is taken from its DX word and the RX word five slots later (M.625).
 
-ghost use Rattle.std.specs.Prelude.{◌≡◌, [], ◌∷◌, ◌++◌, List, length, drop, ◌-◌, IfSome, option_map};
+ghost use Rattle.std.specs.Prelude.{◌≡◌, [], ◌∷◌, ◌++◌, List, map, option_map};
 ghost use Rattle.nx_code.specs.Taken.{reception_of};
 ghost use Rattle.nx_fec.specs.declared.diversity.Heard.TheVariants.{Wrong};
 ghost use Rattle.nx_fec.specs.Pairing.{Counted, IsHeardOf, IsLatest, reception_alone, counts_as, heard_as, pairing, third_last};
@@ -65,19 +65,22 @@ pub fn combine(dx: Heard, rx: Heard) -> Taken
 /// How many DX words are kept: the RX of a position comes after the DX of the second next one.
 const DX_WORDS: usize = 3;
 
-/// The last three DX words, each of which waits for its RX. Contracts see what they count as, oldest first.
+/// The last three DX words, each of which waits for its RX. Contracts see what arrived of them, oldest first.
 #[derive(Debug, Drop)]
 pub struct Diversity {
     latest: ArrayVec<Heard, DX_WORDS>,
 }
 
 impl Model for Diversity {
-    ghost use Rattle.std.specs.Prelude.{List, map};
-    ghost use Rattle.nx_fec.specs.Pairing.{Counted, heard_as};
+    ghost use Rattle.std.specs.Prelude.{List};
+    ghost use Rattle.nx_fec.specs.declared.diversity.Heard.{Heard};
 
-    ghost Value = { List Counted };
+    ghost Value = { List Heard };
 
-    ghost view = { λ diversity. map heard_as diversity.latest.items };
+    ghost view = { λ diversity. diversity.latest.items };
+
+    // What contracts see gives every field back: no other word is kept.
+    ghost inverse = { λ words. record { latest = record { items = words } } };
 }
 
 impl Diversity {
@@ -92,7 +95,7 @@ impl Diversity {
 
     /// Takes the next DX word.
     pub fn dx(&mut self, heard: Heard)
-        ensures latest { IsLatest self.new (self.old ++ heard_as heard ∷ []) }
+        ensures latest { IsLatest self.new (map heard_as self.old ++ heard_as heard ∷ []) }
 
         // The value keeps the latest three of the DX words so far, whichever they are.
         ensures stands { (words : List Counted) → IsLatest self.old words → IsLatest self.new (words ++ heard_as heard ∷ []) }
@@ -106,7 +109,7 @@ impl Diversity {
     /// Takes the next RX word, and answers the position that it completes: it is paired with the third last
     /// DX word that was given, or with a wrong weight where fewer than three were.
     pub fn rx(&mut self, heard: Heard) -> Taken
-        ensures paired { reception_of result ≡ pairing (third_last self.old) (heard_as heard) }
+        ensures paired { reception_of result ≡ pairing (third_last (map heard_as self.old)) (heard_as heard) }
         ensures stands { (words : List Counted) → IsLatest self.old words → reception_of result ≡ pairing (third_last words) (heard_as heard) }
         ensures unchanged { self.new ≡ self.old }
     {

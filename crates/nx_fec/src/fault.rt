@@ -197,6 +197,14 @@ mod tests {
         for (fault, text) in cases {
             assert_eq!(rt; fault.to_string(rt.alloc())?.as_str(), text);
         }
+        let cases = [
+            (ReadFault::Read, "read failed"),
+            (ReadFault::FileTooLong, "file longer than 1048576 bytes"),
+            (ReadFault::Memory(AllocError), "out of memory"),
+        ];
+        for (fault, text) in cases {
+            assert_eq!(rt; fault.to_string(rt.alloc())?.as_str(), text);
+        }
         let fault = WriteFault { written: 10 };
         assert_eq!(rt;
             fault.to_string(rt.alloc())?.as_str(),

@@ -3,7 +3,6 @@
 #![tactic(auto)]
 
 mod air_file;
-pub mod air_laws;
 mod aligned;
 mod counting;
 mod diversity;
@@ -11,6 +10,7 @@ mod emission;
 mod fault;
 mod hexadecimal;
 pub mod laws;
+mod line_bytes;
 mod pieces;
 mod positions;
 mod reading;
@@ -19,16 +19,17 @@ mod scanner;
 mod table_text;
 mod writing;
 
-pub use air_file::{AirLine, MAX_ELEMENTS, air_line};
-pub use aligned::{AlignedFault, decode_aligned};
+pub use air_file::{AirLine, LineKind, MAX_ELEMENTS, air_line};
+pub use aligned::{AlignedFault, decode_aligned, word_in};
 pub use counting::Counting;
 pub use diversity::{Diversity, Heard, combine};
 pub use emission::to_bits;
 pub use fault::{LineFault, ReadFault, RunFault, WriteFault};
+pub use line_bytes::MAX_LINE_BYTES;
 pub use pieces::{Piece, next_piece};
 pub use positions::{Position, word_at};
 pub use reading::{FILE_LIMIT, read_bits, read_whole};
 pub use runs::{decode_run, encode_run};
-pub use scanner::{MAX_LINE_BYTES, Scanner};
+pub use scanner::Scanner;
 pub use table_text::write_table;
 pub use writing::{LINE_ELEMENTS, write_bits, write_on, write_out};

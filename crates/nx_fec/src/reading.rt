@@ -2,14 +2,10 @@
 ghost use Rattle.std.specs.Prelude.{◌≡◌, ◌+◌, ◌-◌, ◌<◌, ◌≤◌, ◌↔◌, ℕ, List, [], ◌∷◌, ◌++◌, length, IfSome, IfOk, IfErr, OnOk, IsErrOf, IsErrAnd, MatchResult, ◌⊎◌, Bool, option_to_list, vec_len};
 ghost use Rattle.std.specs.Io.KnownBytes.{IsAtEnd};
 ghost use Rattle.nx_fec.specs.Transfers.{Reads};
-ghost use Rattle.nx_fec.specs.Lines.{IsBitFile, HasFault, elements_of};
-ghost use Rattle.nx_fec.specs.AirFile.{line_of};
+ghost use Rattle.nx_fec.specs.Lines.{IsBitFile, HasFault};
 ghost use Rattle.nx_fec.specs.declared.fault.LineFault.{LineFault};
-ghost use Rattle.std.specs.List.{flat_map};
-ghost use Rattle.std.specs.Option.{option_map};
 ghost use Rattle.nx_fec.specs.Runs.{ExplainsReading, ExplainsWhole, HasRead, IsOutside, file_limit, run_fault};
 
-use crate::air_file::AirLine;
 use crate::counting::Counting;
 use crate::fault::{ReadFault, RunFault};
 use crate::pieces::{Piece, next_piece};
@@ -159,18 +155,39 @@ fn scan_byte(byte: u8, scanner: &mut Scanner, bits: &mut Vec<bool>) -> Result<()
     ensures no_read { IsErrOf result RunFault.Read → ⊥ }
 {
     if scanner.push(byte)? {
-        append_elements(scanner.latest(), bits)?;
+        append_elements(scanner.elements(), bits)?;
     }
     Ok(())
 }
 
 /// Appends the elements of a line, which only a line of elements has.
-fn append_elements(line: Option<&AirLine>, bits: &mut Vec<bool>) -> Result<(), AllocError>
-    ensures { OnOk result (bits.new.items
-        ≡ bits.old.items ++ flat_map elements_of (option_to_list (option_map (λ line. line_of line.now) line.entry))) }
+fn append_elements(elements: &[bool], bits: &mut Vec<bool>) -> Result<(), AllocError>
+    ensures { OnOk result (bits.new.items ≡ bits.old.items ++ elements.now) }
 {
-    if let Some(AirLine::Bits(elements)) = line {
-        bits.extend_from_slice(elements)?;
+    if elements.is_empty() {
+        return Ok(());
     }
-    Ok(())
+    bits.extend_from_slice(elements)
+}
+
+#[cfg(test)]
+mod tests {
+    use super::*;
+    use std::test::Fail;
+
+    #[test]
+    fn a_file_by_its_pieces(rt: HostRuntime) -> Result<(), Fail> {
+        let mut buffer = [0; 2];
+        let piece = next_piece(&mut Counting::new(&b"ABC"[..]), &mut buffer);
+        assert_eq!(rt; (piece, buffer), (Piece::Bytes(2), *b"AB"));
+        assert_eq!(rt;
+            next_piece(&mut Counting::new(&b""[..]), &mut buffer),
+            Piece::End
+        );
+        let whole = read_whole(rt.alloc(), &mut Counting::new(&b"ABC"[..]))?;
+        assert_eq!(rt; whole.as_slice(), b"ABC".as_slice());
+        let bits = read_bits(rt.alloc(), &mut Counting::new(&b"T 5\nB 01\nB 1\n"[..]))?;
+        assert_eq!(rt; bits.as_slice(), [false, true, true].as_slice());
+        Ok(())
+    }
 }

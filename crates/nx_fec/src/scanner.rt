@@ -1,45 +1,66 @@
 //! A scanner of the lines of an air file, which takes one byte after the other.
-ghost use Rattle.std.specs.Prelude.{◌≡◌, ◌+◌, ◌-◌, ◌<◌, ◌↔◌, ℕ, List, [], ◌∷◌, ◌++◌, None, false, option_to_list, if◌then◌else◌, IsTrue, IfOk, IfErr, OnErr, IsSomeAnd, length, MatchResult};
+ghost use Rattle.std.specs.Prelude.{◌≡◌, ◌+◌, ◌<◌, ℕ, List, [], ◌∷◌, ◌++◌, None, Some, false, option_to_list, if◌then◌else◌, IsTrue, IfOk, IfErr, OnErr, IsSomeAnd, length, MatchResult};
 ghost use Rattle.std.specs.Option.{option_map};
-ghost use Rattle.nx_fec.specs.AirFile.{IsLine, Line, line_of};
+ghost use Rattle.nx_fec.specs.AirFile.{IsLine, IsNoLine, Line, spelling};
 ghost use Rattle.nx_fec.specs.Lines.{Scans, IsCause, IsAirFile, IsAtByte};
+ghost use Rattle.nx_fec.specs.Scanner.{elements_kept, kind_kept};
 
-use crate::air_file::{AirLine, air_line};
+use crate::air_file::{LineKind, MAX_ELEMENTS, read_line};
 use crate::fault::LineFault;
+use crate::line_bytes::{LineBytes, MAX_LINE_BYTES};
 use arrayvec::ArrayVec;
 use std::marker::Model;
 
-/// The most bytes of a line before its end.
-pub const MAX_LINE_BYTES: usize = 514;
+/// The byte that ends a line.
+const LINE_END: u8 = b'\n';
 
-const LINE_FEED: u8 = b'\n';
-
-/// Reads the lines of an air file byte by byte: it holds the line that is open, the line that was ended last, how many
-/// lines were ended, and how many more bytes it may take.
+/// Reads the lines of an air file byte by byte: it holds the line that is open, or the one that the last byte ended, how
+/// many lines were ended, and how many more bytes it may take.
 #[derive(Drop)]
 pub struct Scanner {
-    open: ArrayVec<u8, MAX_LINE_BYTES>,
-    latest: Option<AirLine>,
+    /// The bytes of that line.
+    kept: LineBytes,
+    /// What the line that was ended says, and its elements.
+    ended: Option<LineKind>,
+    elements: ArrayVec<bool, MAX_ELEMENTS>,
     lines: u64,
     room: u64,
 }
 
 impl Model for Scanner {
     ghost use Rattle.std.specs.Prelude.{◌+◌, ◌^◌, ◌<◌, length};
-    ghost use Rattle.std.specs.Option.{option_map};
-    ghost use Rattle.nx_fec.specs.AirFile.{line_of};
     ghost use Rattle.nx_fec.specs.Lines.{Scanning};
+    ghost use Rattle.nx_fec.specs.Scanner.{IsKept, bytes_kept, elements_kept, kind_kept, line_ended, part_of};
+    ghost use Rattle.nx_fec.specs.ScannerFields.{kept-back};
 
     ghost Value = { Scanning };
 
     ghost view = { λ s. record {
-      part = s.open.items;
+      part = part_of s.ended s.kept;
       lines = s.lines;
       room = s.room;
-      latest = option_map line_of s.latest;
+      latest = line_ended s.ended s.elements.items;
     } };
 
-    ghost invariant = { λ s. s.lines + length s.open.items + s.room < 2 ^ 64 };
+    ghost invariant = { λ s. (s.lines + length (part_of s.ended s.kept) + s.room < 2 ^ 64)
+        × IsKept s.ended s.elements.items s.kept };
+
+    // What contracts see gives every field back: a scanner keeps nothing else.
+    ghost inverse = { λ v. record {
+      kept = bytes_kept v.latest v.part;
+      ended = kind_kept v.latest;
+      elements = record { items = elements_kept v.latest };
+      lines = v.lines;
+      room = v.room;
+    } };
+
+    ghost inverse_ok = { λ s h i. record {
+      kept = (kept-back s.ended s.elements.items s.kept h.1).bytes i;
+      ended = (kept-back s.ended s.elements.items s.kept h.1).kind i;
+      elements = record { items = (kept-back s.ended s.elements.items s.kept h.1).elements i };
+      lines = s.lines;
+      room = s.room;
+    } };
 }
 
 impl Scanner {
@@ -49,8 +70,9 @@ impl Scanner {
         ensures no_line { result.latest ≡ None }
     {
         Scanner {
-            open: ArrayVec::new(),
-            latest: None,
+            kept: LineBytes::new(),
+            ended: None,
+            elements: ArrayVec::new(),
             lines: 0,
             room: limit,
         }
@@ -63,11 +85,28 @@ impl Scanner {
         self.lines
     }
 
-    /// The line that was ended last, if there is one.
-    pub fn latest(&self) -> Option<&AirLine>
-        ensures { option_map (λ line. line_of line.now) result ≡ self.now.latest }
+    /// What the line says that the last byte ended, if it ended one.
+    pub fn latest(&self) -> Option<LineKind>
+        ensures { result ≡ kind_kept self.now.latest }
     {
-        self.latest.as_ref()
+        self.ended
+    }
+
+    /// The elements of the line that the last byte ended; none where it ended no line of elements.
+    pub fn elements(&self) -> &[bool]
+        ensures { result.now ≡ elements_kept self.now.latest }
+    {
+        &self.elements
+    }
+
+    /// The bytes of the line that the last byte ended, without its line feed, if it ended one.
+    pub fn line(&self) -> Option<&[u8]>
+        ensures { option_map (λ line. line.now) result ≡ option_map spelling self.now.latest }
+    {
+        if self.ended.is_none() {
+            return None;
+        }
+        Some(self.kept.as_slice())
     }
 
     /// Takes the next byte, and says whether it ended a line, which then is the latest. After a fault, which is the
@@ -79,33 +118,73 @@ impl Scanner {
             (λ why. (more : List ℕ) → IsCause limit (length bytes) lines self.old.part (byte ∷ more) why) }
         ensures at_byte { IfErr result IsAtByte }
         ensures latest { IfOk result (λ is_end. IsTrue is_end → IsSomeAnd self.new.latest IsLine) }
-        ensures kept { IfOk result (λ is_end. is_end ≡ false → self.new.latest ≡ self.old.latest) }
+        ensures open { IfOk result (λ is_end. is_end ≡ false → self.new.latest ≡ None) }
         ensures room { IfOk result (λ _. self.new.room + 1 ≡ self.old.room) }
         ensures err { OnErr result (self.new ≡ self.old) }
     {
         if self.room == 0 {
             return Err(LineFault::TooLong);
         }
-        if byte != LINE_FEED {
-            if self.open.is_full() {
-                return Err(LineFault::LineLong {
-                    line: self.lines + 1,
-                });
-            }
-            self.open.push(byte);
-            self.room -= 1;
-            return Ok(false);
+        let line = self.lines + 1;
+        if byte == LINE_END {
+            return if self.end_line() {
+                Ok(true)
+            } else {
+                Err(LineFault::BadLine { line })
+            };
         }
-        let Some(line) = air_line(&self.open) else {
-            return Err(LineFault::BadLine {
-                line: self.lines + 1,
-            });
+        if self.go_on(byte) {
+            Ok(false)
+        } else {
+            Err(LineFault::LineLong { line })
+        }
+    }
+
+    /// Ends the open line, and says whether it is one of an air file. If it is none, nothing changes.
+    fn end_line(&mut self) -> bool
+        requires { 0 < self.old.room }
+        ensures line { IsTrue result → IsSomeAnd self.new.latest (λ line. IsLine line × (self.old.part ≡ spelling line)) }
+        ensures part { IsTrue result → self.new.part ≡ [] }
+        ensures count { IsTrue result → self.new.lines ≡ self.old.lines + 1 }
+        ensures room { IsTrue result → self.new.room + 1 ≡ self.old.room }
+        ensures none { result ≡ false → IsNoLine self.old.part }
+        ensures unchanged { result ≡ false → self.new ≡ self.old }
+    {
+        // Where the last byte ended a line, the open one is empty, and so none.
+        if self.ended.is_some() {
+            return false;
+        }
+        let Some(kind) = read_line(self.kept.as_slice(), &mut self.elements) else {
+            return false;
         };
-        self.latest = Some(line);
-        self.open.clear();
+        self.ended = Some(kind);
         self.lines += 1;
         self.room -= 1;
-        Ok(true)
+        true
+    }
+
+    /// Takes a byte of the open line, and says whether there was room in it. If there was none, nothing changes.
+    fn go_on(&mut self, byte: u8) -> bool
+        requires { 0 < self.old.room }
+        ensures part { IsTrue result → self.new.part ≡ self.old.part ++ byte ∷ [] }
+        ensures short { IsTrue result → length self.old.part < 514 }
+        ensures latest { IsTrue result → self.new.latest ≡ None }
+        ensures count { IsTrue result → self.new.lines ≡ self.old.lines }
+        ensures room { IsTrue result → self.new.room + 1 ≡ self.old.room }
+        ensures full { result ≡ false → length self.old.part ≡ 514 }
+        ensures unchanged { result ≡ false → self.new ≡ self.old }
+    {
+        if self.ended.is_some() {
+            self.kept.clear();
+            self.elements.clear();
+            self.ended = None;
+        }
+        if self.kept.len() == MAX_LINE_BYTES {
+            return false;
+        }
+        self.kept.push(byte);
+        self.room -= 1;
+        true
     }
 
     /// What the end of the file says: the lines so far are all of it, or the open line is cut.
@@ -113,7 +192,7 @@ impl Scanner {
         ensures { (limit : ℕ) (bytes : List ℕ) (lines : List Line) → Scans limit self.now bytes lines →
             MatchResult result (λ _. IsAirFile limit bytes lines) (λ why. IsCause limit (length bytes) lines self.now.part [] why) }
     {
-        if self.open.is_empty() {
+        if self.ended.is_some() || self.kept.len() == 0 {
             return Ok(());
         }
         Err(LineFault::LineCut {
@@ -127,22 +206,29 @@ mod tests {
     use super::*;
     use std::test::Fail;
 
-    #[test]
-    fn lines_byte_by_byte(rt: HostRuntime) -> Result<(), Fail> {
-        let mut scanner = Scanner::new(20);
+    /// Gives a scanner these bytes, and answers how many lines they ended.
+    fn ended_by(scanner: &mut Scanner, bytes: &[u8]) -> Result<u64, Fail> {
         let mut ended = 0u64;
-        for byte in b"T 5\nB 01\nRS EX" {
+        for byte in bytes {
             if scanner.push(*byte).ok().ok_or("a good byte")? {
                 ended = ended.wrapping_add(1);
             }
         }
-        assert_eq!(rt; ended, 2);
+        Ok(ended)
+    }
+
+    #[test]
+    fn lines_byte_by_byte(rt: HostRuntime) -> Result<(), Fail> {
+        let mut scanner = Scanner::new(20);
+        assert_eq!(rt; ended_by(&mut scanner, b"T 5\nB 01\n")?, 2);
         assert_eq!(rt; scanner.lines(), 2);
-        let latest = scanner.latest().ok_or("a line")?;
-        let AirLine::Bits(bits) = latest else {
-            return Err("elements".into());
-        };
-        assert_eq!(rt; bits.as_slice(), [false, true].as_slice());
+        assert_eq!(rt; scanner.latest(), Some(LineKind::Elements));
+        assert_eq!(rt; scanner.elements(), [false, true].as_slice());
+        assert_eq!(rt; scanner.line(), Some(b"B 01".as_slice()));
+        assert_eq!(rt; ended_by(&mut scanner, b"RS EX")?, 0);
+        assert_eq!(rt; scanner.latest(), None);
+        assert_eq!(rt; scanner.elements().len(), 0);
+        assert_eq!(rt; scanner.line(), None);
         assert_eq!(rt; scanner.end(), Err(LineFault::LineCut { line: 3 }));
         assert_eq!(rt; scanner.push(b'\n'), Err(LineFault::BadLine { line: 3 }));
         Ok(())

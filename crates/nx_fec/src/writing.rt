@@ -98,10 +98,34 @@ fn push_line(line: &[bool], batch: &mut ArrayVec<u8, BATCH_BYTES>)
     requires room { array_vec_len batch.old + LINE_BYTES ≤ BATCH_BYTES }
     ensures { batch.new.items ≡ batch.old.items ++ line_bytes (elements line.now) }
 {
+    let mut digits = [b'0'; LINE_ELEMENTS];
+    for place in 0..line.len() {
+        digits[place] = if line[place] { b'1' } else { b'0' };
+    }
     batch.push(b'B');
     batch.push(b' ');
-    for bit in line {
-        batch.push(if *bit { b'1' } else { b'0' });
-    }
+    batch.try_extend_from_slice(&digits[..line.len()]).unwrap();
     batch.push(b'\n');
+}
+
+#[cfg(test)]
+mod tests {
+    use super::*;
+    use std::test::Fail;
+
+    #[test]
+    fn writes_add_up(rt: HostRuntime) -> Result<(), Fail> {
+        let mut space = [0; 4];
+        assert_eq!(rt;
+            write_on(&mut Counting::new(&mut space[..]), 3, b"AB"),
+            Ok(5)
+        );
+        let fault = write_on(&mut Counting::new(&mut space[..]), 3, b"ABCDE").err();
+        assert_eq!(rt; fault, Some(WriteFault { written: 7 }));
+        assert_eq!(rt; space, *b"ABCD");
+        let mut writer = Counting::new(Vec::new(rt.alloc()));
+        write_bits(&mut writer, &[true; 491]).ok().ok_or("written")?;
+        assert_eq!(rt; writer.into_inner().len(), 493 + 4);
+        Ok(())
+    }
 }

@@ -1,16 +1,15 @@
 -- What the conditions of entering keep of the entries.
-use Rattle.std.proofs.Common.{◌≡◌, ℕ, ◌+◌, ◌-◌, ◌<◌, ◌≤◌, zero, suc, true, false, List, [], ◌∷◌, ◌++◌, length, drop, slice_get, unwrap_or, ltb, inl, inr, refl, sym, ap, ◌∙◌, subst, arith}
+use Rattle.std.proofs.Common.{◌≡◌, ℕ, ◌+◌, ◌-◌, ◌<◌, ◌≤◌, zero, suc, true, false, List, [], ◌∷◌, ◌++◌, length, drop, slice_get, unwrap_or, ltb, inl, inr, sym, ap, ◌∙◌, subst, arith}
 use Rattle.std.specs.List.{All}
 use Rattle.std.specs.Option.{option_map}
 use Rattle.std.proofs.lemmas.Bool.{and_cases, or_parts, ltb-false, true≢false}
-use Rattle.std.proofs.lemmas.List.{length-drop, length-append}
+use Rattle.std.proofs.lemmas.List.{length-drop}
 use Rattle.std.proofs.lemmas.List.Elements.{All-nil, All-cons, All-head, All-drop, All-append}
-use Rattle.nx_code.specs.Lists.{last_of}
 use Rattle.nx_envelope.specs.declared.identity.Identity.{Identity}
 use Rattle.nx_envelope.specs.Identity.{same_identity}
 use Rattle.nx_memory.specs.declared.entry.MemoryEntry.{MemoryEntry}
 use Rattle.nx_memory.specs.Content.{IsLater, AreInTurn, IsContent}
-use Rattle.nx_memory.specs.Memory.{most_entries, seconds_known, newest_of, newest_moment, content_after, is_recent, is_known}
+use Rattle.nx_memory.specs.Memory.{most_entries, seconds_known, newest_moment, content_after, is_recent, is_known}
 
 -- what holds of each of a list and of one more
 All-one : {X : Type 0} (P : X → Type 0) (x : X) → P x → All P (x ∷ [])

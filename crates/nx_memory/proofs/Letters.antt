@@ -159,3 +159,6 @@ without_vital-insert subjects k without not_vital q vital = elim (cases_eq q k) 
 
 -- what a changed set has, and where a change changes nothing
 pub ruleset changes = (contains-none, contains-insert, contains-remove, insert_again, remove_again)
+
+-- what one more refused subject keeps
+pub ruleset kept = (letters_only-insert, without_vital-insert)

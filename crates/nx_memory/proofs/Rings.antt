@@ -1,14 +1,13 @@
 -- A ring of entries and the table of their moments, after one more was entered.
-use Rattle.std.proofs.Common.{◌≡◌, ℕ, ◌<◌, ◌≤◌, Bool, false, if◌then◌else◌, List, [], ◌∷◌, ◌++◌, length, slice_get, ltb, Option, Some, None, refl, sym, ap, ◌∙◌, subst}
+use Rattle.std.proofs.Common.{◌≡◌, ℕ, ◌<◌, ◌≤◌, false, if◌then◌else◌, List, [], ◌∷◌, ◌++◌, length, slice_get, ltb, Option, Some, None, ap, ◌∙◌}
 use Rattle.std.proofs.Math.ListN.{set}
 use Rattle.std.specs.Global.{Vec}
 use Rattle.circular_buffer.specs.Buffer.{Buffer, buffer, keep_last}
 use Rattle.nx_envelope.specs.declared.identity.Identity.{Identity}
 use Rattle.nx_memory.specs.declared.entry.MemoryEntry.{MemoryEntry}
-use Rattle.nx_memory.specs.Content.{IsContent}
 use Rattle.nx_memory.specs.Memory.{newest_moment, is_known, content_after}
 use Rattle.nx_memory.specs.Ring.{IsRingMemory}
-use Rattle.nx_memory.specs.Table.{index_of, IsTableOf}
+use Rattle.nx_memory.specs.Table.{index_of}
 use Rattle.nx_memory.proofs.Content.{content_after-IsContent}
 use Rattle.nx_memory.proofs.Tables.{table_given_up, table-entered}
 

@@ -3,7 +3,7 @@ use Rattle.std.proofs.Common.{◌≡◌, ℕ, ◌+◌, ◌-◌, ◌*◌, ◌<◌
 use Rattle.std.proofs.Math.ListN.{set, length-set}
 use Rattle.std.specs.List.{All}
 use Rattle.std.specs.Option.{option_or}
-use Rattle.std.proofs.lemmas.Bool.{true≢false, or_left, or_right, ltb-false, le-ltb, lt-ltb, cases_lt, and_from, eq-eqb, ne_eqb}
+use Rattle.std.proofs.lemmas.Bool.{true≢false, or_right, ltb-false, le-ltb, lt-ltb, cases_lt, and_from, eq-eqb, ne_eqb}
 use Rattle.std.proofs.lemmas.List.{get_or-set_same, get_or-set_other, get_or-replicate, length-replicate, length-append}
 use Rattle.std.proofs.lemmas.List.Elements.{All-head}
 use Rattle.std.proofs.lemmas.Nat.{same_from_place}

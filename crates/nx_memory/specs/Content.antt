@@ -1,14 +1,18 @@
--- What the entries of a memory are, and what they are to one another, by the conditions of entering (this profile).
+-- What the entries of a memory are, and what they are to one another, by the conditions of entering
+-- (this profile).
 use Rattle.std.specs.Prelude.{◌≡◌, ◌+◌, ◌<◌, ◌≤◌, true, List, [], ◌∷◌, length}
 use Rattle.std.specs.List.{All}
 use Rattle.nx_envelope.specs.Identity.{same_identity}
 use Rattle.nx_memory.specs.declared.entry.MemoryEntry.{MemoryEntry}
 use Rattle.nx_memory.specs.Memory.{most_entries, seconds_known}
 
--- a later entry has no earlier moment, and where it bears the same identity it is at least 66 hours younger
+-- a later entry has no earlier moment, and where it bears the same identity it is at least 66 hours
+-- younger
 pub record IsLater (earlier later : MemoryEntry) : Type 0 where
   pub in_turn : earlier.moment ≤ later.moment
-  pub apart : same_identity earlier.identity later.identity ≡ true → earlier.moment + seconds_known ≤ later.moment
+  pub apart :
+      same_identity earlier.identity later.identity ≡ true →
+      earlier.moment + seconds_known ≤ later.moment
 
 -- so is each entry to each that was made after it
 abbrev pub AreInTurn : List MemoryEntry → Type 0

@@ -8,7 +8,8 @@ use Rattle.nx_code.specs.Characters.{IsCapital}
 abbrev pub HasLettersOnly : set.FinSet nat_cmp → Type 0
 HasLettersOnly letters = (byte : ℕ) → IsTrue (set.contains letters byte) → IsCapital byte
 
--- the letters whose flags are set, where the first flag is that of `first` and the next that of the letter after it
+-- the letters whose flags are set, where the first flag is that of `first` and the next that of the
+-- letter after it
 abbrev pub letters_from : ℕ → List Bool → set.FinSet nat_cmp
 letters_from first [] = set.empty
 letters_from first (true ∷ flags) = set.insert (letters_from (first + 1) flags) first

@@ -4,7 +4,8 @@ use Rattle.nx_envelope.specs.declared.identity.Identity.{Identity}
 use Rattle.nx_memory.specs.declared.entry.MemoryEntry.{MemoryEntry}
 use Rattle.nx_memory.specs.Memory.{most_entries, seconds_known}
 
--- an entry of the identity is live at the moment: it is less than 66 hours old, and fewer than 200 entries came after it
+-- an entry of the identity is live at the moment: it is less than 66 hours old, and fewer than 200
+-- entries came after it
 pub record IsLive (identity : Identity) (moment : ℕ) (entries : List MemoryEntry) : Type 0 where
   pub before : List MemoryEntry
   pub entry : MemoryEntry

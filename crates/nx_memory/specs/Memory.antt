@@ -15,7 +15,8 @@ most_entries = 200
 abbrev pub seconds_known : ℕ
 seconds_known = 237600
 
--- what a memory holds, oldest first, after one more entry: the last 200 of its entries and the new one
+-- what a memory holds, oldest first, after one more entry: the last 200 of its entries and the new
+-- one
 abbrev pub content_after : List MemoryEntry → Identity → ℕ → List MemoryEntry
 content_after content identity moment =
     last_of most_entries (content ++ record { identity = identity; moment = moment } ∷ [])

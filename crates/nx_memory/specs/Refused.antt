@@ -20,4 +20,9 @@ pub record IsRefusable (refused : Refused) : Type 0 where
 -- the two sets are stored as their pair
 abbrev pub refused_code : Coded Refused
 refused_code =
-    code_by (set.FinSet nat_cmp × set.FinSet nat_cmp) (coded× (set.code coded_ℕ) (set.code coded_ℕ)) (λ r. (r.stations, r.subjects)) (λ p. record { stations = p.0; subjects = p.1 }) (λ _. refl)
+    code_by
+    (set.FinSet nat_cmp × set.FinSet nat_cmp)
+    (coded× (set.code coded_ℕ) (set.code coded_ℕ))
+    (λ r. (r.stations, r.subjects))
+    (λ p. record { stations = p.0; subjects = p.1 })
+    (λ _. refl)

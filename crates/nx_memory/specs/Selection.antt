@@ -7,4 +7,5 @@ use Rattle.nx_memory.specs.Refused.{Refused}
 -- the station is not among the refused ones, nor the subject
 abbrev pub admits : Refused → Identity → Bool
 admits refused identity =
-    not (set.contains refused.stations identity.b1.byte) && not (set.contains refused.subjects identity.b2.byte)
+    not (set.contains refused.stations identity.b1.byte)
+    && not (set.contains refused.subjects identity.b2.byte)

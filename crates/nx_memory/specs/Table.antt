@@ -18,7 +18,9 @@ index_of identity = ((identity.b1.byte - 65) * 26 + (identity.b2.byte - 65)) * 1
 abbrev pub last_moment : Identity → List MemoryEntry → Option ℕ
 last_moment identity [] = None
 last_moment identity (entry ∷ later) =
-    option_or (last_moment identity later) (if same_identity entry.identity identity then Some entry.moment else None)
+    option_or
+    (last_moment identity later)
+    (if same_identity entry.identity identity then Some entry.moment else None)
 
 -- a moment is less than 66 hours old; none at all isn't
 abbrev pub is_recent_moment : ℕ → Option ℕ → Bool
@@ -33,7 +35,8 @@ is_moment moment (Some last) = last == moment
 -- at the place of each identity stands the moment of its last entry, or that there is none
 pub record IsTableOf (content : List MemoryEntry) (moments : List (Option ℕ)) : Type 0 where
   pub size : length moments ≡ identities
-  pub last : (identity : Identity) → get_or moments (index_of identity) None ≡ last_moment identity content
+  pub last :
+      (identity : Identity) → get_or moments (index_of identity) None ≡ last_moment identity content
 
 -- the moment that stands at the identity of an entry is the entry's own
 abbrev pub holds_moment : List (Option ℕ) → MemoryEntry → Bool

@@ -10,4 +10,5 @@ is_vital subject = list_any (λ vital. vital == subject) (codes "ABDL")
 
 -- none of these is in the set
 abbrev pub IsWithoutVital : set.FinSet nat_cmp → Type 0
-IsWithoutVital subjects = (subject : ℕ) → IsTrue (is_vital subject) → set.contains subjects subject ≡ false
+IsWithoutVital subjects =
+    (subject : ℕ) → IsTrue (is_vital subject) → set.contains subjects subject ≡ false

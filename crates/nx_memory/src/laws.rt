@@ -9,36 +9,46 @@ ghost use Rattle.nx_memory.specs.Live.{IsLive};
 ghost use Rattle.nx_memory.specs.Table.{identities, index_of, is_recent_moment, last_moment};
 ghost use Rattle.nx_memory.specs.Memory.{content_after, is_known, most_entries, newest_moment};
 
-/// Of all the entries made so far, those among the last 200 make an identity known exactly where one of them is live:
-/// it bears the identity, is less than 66 hours old, and fewer than 200 entries were made after it.
+/// Of all the entries made so far, those among the last 200 make an identity known exactly where
+/// one of them is live: it bears the identity, is less than 66 hours old, and fewer than 200
+/// entries were made after it.
 pub fn known_is_live()
     ensures { (identity : Identity) (moment : ℕ) (entries : List MemoryEntry) →
-        IsTrue (is_known identity moment (last_of most_entries entries)) ↔ IsLive identity moment entries }
+        IsTrue (is_known identity moment (last_of most_entries entries))
+        ↔ IsLive identity moment entries }
 {}
 
-/// What a memory forgot makes no difference later: the last 200 of the last 200 and one more are the last 200 of all
-/// entries and that one. So the content of a memory is the last 200 of all the entries made so far.
+/// What a memory forgot makes no difference later: the last 200 of the last 200 and one more are
+/// the last 200 of all entries and that one. So the content of a memory is the last 200 of all the
+/// entries made so far.
 pub fn last_of_goes_on()
     ensures { (entries : List MemoryEntry) (entry : MemoryEntry) →
-        last_of most_entries (last_of most_entries entries ++ entry ∷ []) ≡ last_of most_entries (entries ++ entry ∷ []) }
+        last_of most_entries (last_of most_entries entries ++ entry ∷ [])
+        ≡ last_of most_entries (entries ++ entry ∷ []) }
 {}
 
-/// What a memory can hold: at most 200 entries, none numbered 00, whose moments never fall, and where two bear one
-/// identity at least 66 hours lie between them. No entries are such, and the conditions of `Recall::enter` keep it.
+/// What a memory can hold: at most 200 entries, none numbered 00, whose moments never fall, and
+/// where two bear one identity at least 66 hours lie between them. No entries are such, and the
+/// conditions of `Recall::enter` keep it.
 pub fn entries_stand_in_turn()
     ensures none { IsContent [] }
-    ensures kept { (content : List MemoryEntry) (identity : Identity) (moment : ℕ) → IsContent content
-        → newest_moment content ≤ moment → is_known identity moment content ≡ false → 0 < identity.number
+    ensures kept { (content : List MemoryEntry) (identity : Identity) (moment : ℕ) →
+        IsContent content
+        → newest_moment content ≤ moment
+        → is_known identity moment content ≡ false
+        → 0 < identity.number
         → IsContent (content_after content identity moment) }
 {}
 
-/// Each identity has a place of its own in a table: its place is within the table, and no two identities share one.
+/// Each identity has a place of its own in a table: its place is within the table, and no two
+/// identities share one.
 pub fn identities_have_places_of_their_own()
     ensures within { (identity : Identity) → index_of identity < identities }
     ensures one { (a b : Identity) → index_of a ≡ index_of b → a ≡ b }
 {}
 
-/// The last entry of an identity alone tells whether the identity is known, whatever was entered before it.
+/// The last entry of an identity alone tells whether the identity is known, whatever was entered
+/// before it.
 pub fn the_last_entry_tells()
     ensures { (content : List MemoryEntry) (identity : Identity) (moment : ℕ) → IsContent content →
         is_known identity moment content ≡ is_recent_moment moment (last_moment identity content) }

@@ -9,8 +9,8 @@ use std::marker::Model;
 /// How many letters there are, A to Z.
 pub(crate) const LETTERS: usize = 26;
 
-/// A set of letters, with a flag for each. Contracts see it as the set of their bytes, from which the flags can be
-/// told again: it holds nothing else.
+/// A set of letters, with a flag for each. Contracts see it as the set of their bytes, from which
+/// the flags can be told again: it holds nothing else.
 #[derive(Drop)]
 pub struct LetterSet {
     flags: [bool; LETTERS],

@@ -1,6 +1,7 @@
 //! A table of moments with a place for each identity.
 
-ghost use Rattle.std.specs.Prelude.{◌≡◌, ◌<◌, Some, None, get_or, if◌then◌else◌, length, replicate, slice_set, IfOk};
+ghost use Rattle.std.specs.Prelude.{◌≡◌, ◌<◌, Some, None, IfOk, if◌then◌else◌};
+ghost use Rattle.std.specs.Prelude.{get_or, replicate, slice_set};
 ghost use Rattle.nx_memory.specs.Table.{holds_moment, index_of as the_index_of};
 
 use crate::entry::MemoryEntry;
@@ -15,8 +16,8 @@ const NUMBERS: usize = 100;
 /// How many identities there are.
 const IDENTITIES: usize = LETTERS * LETTERS * NUMBERS;
 
-/// A moment, or that there is none, for each of the 67,600 identities. Contracts see it as the block of these, by
-/// station, subject and number.
+/// A moment, or that there is none, for each of the 67,600 identities. Contracts see it as the
+/// block of these, by station, subject and number.
 #[derive(Drop)]
 pub(crate) struct MomentTable {
     moments: Vec<Option<u64>>,
@@ -54,7 +55,8 @@ impl MomentTable {
 
     /// Sets the moment of the entry's identity to the entry's.
     pub(crate) fn set(&mut self, entry: MemoryEntry)
-        ensures { self.new.items ≡ slice_set self.old.items (the_index_of entry.identity) (Some entry.moment) }
+        ensures { self.new.items
+            ≡ slice_set self.old.items (the_index_of entry.identity) (Some entry.moment) }
     {
         self.moments[index_of(entry.identity)] = Some(entry.moment);
     }

@@ -8,7 +8,8 @@ use arrayvec::ArrayVec;
 use nx_envelope::Identity;
 use std::marker::Model;
 
-/// A memory that looks through all its entries. Contracts see it as their list, oldest first, and it holds nothing else.
+/// A memory that looks through all its entries. Contracts see it as their list, oldest first, and
+/// it holds nothing else.
 #[derive(Drop)]
 pub struct PlainRecall {
     entries: ArrayVec<MemoryEntry, CAPACITY>,

@@ -1,4 +1,5 @@
-//! A memory that keeps its entries in a ring, and beside it a table of the last moment of each identity.
+//! A memory that keeps its entries in a ring, and beside it a table of the last moment of each
+//! identity.
 
 ghost use Rattle.std.specs.Prelude.{◌≡◌, [], IfOk};
 
@@ -10,8 +11,8 @@ use nx_envelope::Identity;
 use std::alloc::{AllocError, Global};
 use std::marker::Model;
 
-/// A memory that knows an identity by one look into a table. Contracts see it as the list of its entries, oldest first,
-/// and the block of its table, and it holds nothing else.
+/// A memory that knows an identity by one look into a table. Contracts see it as the list of its
+/// entries, oldest first, and the block of its table, and it holds nothing else.
 #[derive(Drop)]
 pub struct RingRecall {
     entries: HeapCircularBuffer<MemoryEntry>,

@@ -19,8 +19,8 @@ pub struct Vital {
     pub subject: Letter,
 }
 
-/// The stations and the subjects that are refused, at first none. Contracts see it as these two sets of letters,
-/// which hold nothing but letters and no vital subject.
+/// The stations and the subjects that are refused, at first none. Contracts see it as these two
+/// sets of letters, which hold nothing but letters and no vital subject.
 #[derive(Drop)]
 pub struct Selection {
     refused_stations: LetterSet,
@@ -36,9 +36,15 @@ impl Model for Selection {
 
     ghost view = { λ s. record { stations = s.refused_stations; subjects = s.refused_subjects } };
 
-    ghost invariant = { λ s. IsRefusable (record { stations = s.refused_stations; subjects = s.refused_subjects }) };
+    ghost invariant = { λ s. IsRefusable (record {
+      stations = s.refused_stations;
+      subjects = s.refused_subjects;
+    }) };
 
-    ghost inverse = { λ refused. record { refused_stations = refused.stations; refused_subjects = refused.subjects } };
+    ghost inverse = { λ refused. record {
+      refused_stations = refused.stations;
+      refused_subjects = refused.subjects;
+    } };
 }
 
 #[tactic(auto, using(crate::proofs::Letters::changes))]
@@ -56,7 +62,8 @@ impl Selection {
 
     /// Refuses the station, for all its subjects. To refuse it again changes nothing.
     pub fn refuse_station(&mut self, station: Letter)
-        ensures refused { self.new ≡ record self.old { stations = set.insert self.old.stations station.byte } }
+        ensures refused { self.new
+            ≡ record self.old { stations = set.insert self.old.stations station.byte } }
         ensures again { IsTrue (set.contains self.old.stations station.byte) → self.new ≡ self.old }
     {
         self.refused_stations.insert(station);
@@ -64,7 +71,8 @@ impl Selection {
 
     /// Refuses the station no longer. Where it wasn't refused nothing changes.
     pub fn accept_station(&mut self, station: Letter)
-        ensures accepted { self.new ≡ record self.old { stations = set.remove self.old.stations station.byte } }
+        ensures accepted { self.new
+            ≡ record self.old { stations = set.remove self.old.stations station.byte } }
         ensures again { set.contains self.old.stations station.byte ≡ false → self.new ≡ self.old }
     {
         self.refused_stations.remove(station);
@@ -72,20 +80,23 @@ impl Selection {
 
     /// Refuses the subject no longer. Where it wasn't refused nothing changes.
     pub fn accept_subject(&mut self, subject: Letter)
-        ensures accepted { self.new ≡ record self.old { subjects = set.remove self.old.subjects subject.byte } }
+        ensures accepted { self.new
+            ≡ record self.old { subjects = set.remove self.old.subjects subject.byte } }
         ensures again { set.contains self.old.subjects subject.byte ≡ false → self.new ≡ self.old }
     {
         self.refused_subjects.remove(subject);
     }
 
-    /// Refuses the subject, of all stations. To refuse it again changes nothing. `Vital` where it is A, B, D or L; the
-    /// selection then stays as it was.
+    /// Refuses the subject, of all stations. To refuse it again changes nothing. `Vital` where it
+    /// is A, B, D or L; the selection then stays as it was.
+    #[tactic(auto, using(crate::proofs::Letters::changes, crate::proofs::Letters::kept))]
     pub fn refuse_subject(&mut self, subject: Letter) -> Result<(), Vital>
         ensures vital { IsErr result ↔ IsTrue (is_vital subject.byte) }
         ensures fault { IfErr result (λ vital. vital.subject ≡ subject) }
         ensures refused { OnOk result (
             self.new ≡ record self.old { subjects = set.insert self.old.subjects subject.byte }) }
-        ensures again { OnOk result (IsTrue (set.contains self.old.subjects subject.byte) → self.new ≡ self.old) }
+        ensures again { OnOk result (
+            IsTrue (set.contains self.old.subjects subject.byte) → self.new ≡ self.old) }
         ensures unchanged { OnErr result (self.new ≡ self.old) }
     {
         if is_vital_subject(subject) {

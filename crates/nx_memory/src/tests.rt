@@ -58,8 +58,8 @@ fn check_forgetting<M: Recall>(rt: &impl Abort, memory: &mut M, moment: u64)
     assert_eq!(rt; memory.newest(), Some(moment));
 }
 
-/// The examples of a memory, over two that know nothing: one forgets its oldest entry, and in the other an identity
-/// that was entered again stays known by its later entry.
+/// The examples of a memory, over two that know nothing: one forgets its oldest entry, and in the
+/// other an identity that was entered again stays known by its later entry.
 fn check_memories<M: Recall>(rt: &impl Abort, first: &mut M, second: &mut M)
     requires first { M.content first.old ≡ [] }
     requires second { M.content second.old ≡ [] }

@@ -1,6 +1,5 @@
 -- Hunting: what the windows of a block say of its elements, how blocks follow on each other, and that the elements which
 -- a hunt hears are those whose pushes bring nothing.
-use Rattle.std.specs.Option.{IfSome, unwrap_or}
 use Rattle.std.proofs.Common.{◌≡◌, ℕ, zero, suc, ◌+◌, ◌-◌, ◌*◌, ◌<◌, ◌≤◌, ◌==◌, ◌||◌, min, List, [], ◌∷◌, ◌++◌, length, take, drop, get_or, Bool, true, false, not, is_some, refl, sym, ap, subst, subst₂, ◌∙◌, inl, inr, arith, Some, None, Option, append_assoc, append-nil, length-take, length-drop, get_or-take, take-take}
 use Rattle.std.proofs.lemmas.Bool.{cases_lt, cases_eq, cases_Bool, both_ways, or_parts, ne_eqb, eq-eqb}
 use Rattle.std.proofs.lemmas.List.{take_more}
@@ -8,7 +7,7 @@ use Rattle.nx_sync.specs.declared.step.Role.{Role}
 use Rattle.nx_sync.specs.declared.step.Role.TheVariants.{Dx, Rx}
 use Rattle.nx_sync.specs.declared.step.Change.TheVariants.{Locked}
 use Rattle.nx_sync.specs.declared.track.Track.{Track}
-use Rattle.nx_sync.specs.Windows.{window_before_dx, window_before_rx, is_lock_window, HasNoLock, IsFirstLock, role_after, window_after}
+use Rattle.nx_sync.specs.Windows.{window_before_dx, window_before_rx, is_lock_window, IsBeforeLock, role_after, window_after}
 use Rattle.nx_sync.specs.Steps.{step, IsStep, HuntsThrough}
 use Rattle.nx_sync.specs.Synchroniser.{Held, is_hunting, StandsAfter}
 use Rattle.nx_sync.specs.Parts.{track_from, heard_all, IsQuiet, EndsPattern, Skips}
@@ -41,22 +40,14 @@ pub record Counted (windows : List ℕ) (n count : ℕ) : Type 0 where
   pub clear : (k : ℕ) → k < count → is_lock_window (get_or windows k 0) ≡ false
   pub here : count < n → is_lock_window (get_or windows count 0) ≡ true
 
-pub counted_by : (windows : List ℕ) (n : ℕ) (r : Option ℕ) → n ≤ length windows → IfSome r (λ at. IsFirstLock (take n windows) at) → (r ≡ None → HasNoLock (take n windows) (length (take n windows))) → Counted windows n (unwrap_or r n)
-counted_by windows n None room found none =
+pub counted_by : (windows : List ℕ) (n count : ℕ) → n ≤ length windows → IsBeforeLock (take n windows) count → Counted windows n count
+counted_by windows n count room b =
     let l : length (take n windows) ≡ n = simp length-take (omega arith) in
+    let within : count ≤ n = omega (arith, b.within) in
     record {
-      within = omega arith;
-      clear = λ k h. ap is_lock_window (sym (get_or-take n windows k 0 h)) ∙ none refl k (omega arith);
-      here = λ h. absurd (omega arith);
-    }
-counted_by windows n (Some at) room found none =
-    let f : IsFirstLock (take n windows) at = found in
-    let l : length (take n windows) ≡ n = simp length-take (omega arith) in
-    let within : at < n = omega (arith, f.within) in
-    record {
-      within = omega arith;
-      clear = λ k h. ap is_lock_window (sym (get_or-take n windows k 0 (omega arith))) ∙ f.least k h;
-      here = λ h. ap is_lock_window (sym (get_or-take n windows at 0 within)) ∙ f.here;
+      within = within;
+      clear = λ k h. ap is_lock_window (sym (get_or-take n windows k 0 (omega arith))) ∙ b.clear k h;
+      here = λ h. ap is_lock_window (sym (get_or-take n windows count 0 h)) ∙ b.here (omega arith);
     }
 
 -- the elements of a block, by its windows

@@ -15,3 +15,6 @@ pub mod Counts
 pub mod WordLists
 pub mod Hunting
 pub mod WholeWords
+pub mod Strides
+pub mod PhasingStates
+pub mod Examples

@@ -1,5 +1,5 @@
 -- The marks of the words of a lock, and what is decided by them.
-use Rattle.std.proofs.Common.{◌≡◌, ℕ, zero, suc, ◌+◌, ◌-◌, ◌<◌, ◌≤◌, ◌==◌, List, [], ◌∷◌, ◌++◌, length, drop, Bool, true, false, not, ◌&&◌, cond, count_by, refl, sym, ap, ap₂, ◌∙◌, inl, inr, arith}
+use Rattle.std.proofs.Common.{◌≡◌, ℕ, zero, suc, ◌+◌, ◌-◌, ◌*◌, ◌/◌, ◌%◌, ◌^◌, ◌<◌, ◌≤◌, ◌==◌, List, [], ◌∷◌, ◌++◌, length, drop, Bool, true, false, not, ◌&&◌, cond, count_by, refl, sym, ap, ap₂, ◌∙◌, inl, inr, arith}
 use Rattle.std.proofs.lemmas.Bool.{cases_lt, le-leb, lt-leb}
 use Rattle.std.proofs.lemmas.List.{length_push, drop-append-le, drop_all}
 use Rattle.std.proofs.lemmas.List.Sums.{sum_by_push}
@@ -12,6 +12,8 @@ use Rattle.nx_sync.specs.Words.{other_role, is_dx, is_wrong, one_if, role_of, wr
 use Rattle.nx_sync.specs.Locks.{releases_as_ended, change_at}
 use Rattle.nx_sync.specs.Synchroniser.{wrong_marks, was_p1, p1_marks}
 use Rattle.nx_sync.specs.Parts.{fills_releasing_word, change_of}
+use Rattle.nx_code.specs.Word.{number_of, value_of}
+use Rattle.nx_sync.proofs.Numbers.{number_of-next, first_bit, third_on}
 use Rattle.nx_sync.proofs.Lists.{keep_last-push}
 
 -- marks look at their words alone
@@ -43,10 +45,18 @@ p1_marks-next f n =
     let e5 : n + 1 + 4 - 5 ≡ n = omega arith in
     rw (e2, e3, e4, le-leb 5 (n + 1 + 4) (omega arith), e5) refl
 
--- no word is there before the first
-pub p1_marks-none : (f : ℕ → ℕ) → p1_marks f 0 ≡ false ∷ false ∷ false ∷ false ∷ false ∷ []
+length-p1_marks : (f : ℕ → ℕ) (n : ℕ) → length (p1_marks f n) ≡ 4 + 1
 unfolding p1_marks
-p1_marks-none f = refl
+length-p1_marks f n = refl
+
+-- as a number
+pub p1_number-next : (f : ℕ → ℕ) (n : ℕ) → number_of (p1_marks f n) / 2 + 2 ^ 4 * value_of (f n == phasing_1) ≡ number_of (p1_marks f (n + 1))
+p1_number-next f n = sym (number_of-next 4 (p1_marks f n) (f n == phasing_1) (length-p1_marks f n)) ∙ ap number_of (p1_marks-next f n)
+
+-- no word is there before the first
+pub p1_number-none : (f : ℕ → ℕ) → number_of (p1_marks f 0) ≡ 0
+unfolding p1_marks number_of
+p1_number-none f = refl
 
 -- three words on, the role is the other one
 three_turns : (role : Role) → is_dx role ≡ not (is_dx (other_role (other_role (other_role role))))
@@ -63,15 +73,35 @@ and_no : (b : Bool) → (b && false) ≡ false
 and_no true = refl
 and_no false = refl
 
+-- the oldest of the five marks, and the one two words later, from their number
+p1_oldest : (f : ℕ → ℕ) (k : ℕ) → (number_of (p1_marks f k) % 2 == 1) ≡ was_p1 f k
+unfolding p1_marks number_of
+p1_oldest f k = first_bit (was_p1 f k) _
+
+p1_third : (f : ℕ → ℕ) (k : ℕ) → (number_of (p1_marks f k) / 4 % 2 == 1) ≡ was_p1 f (k + 2)
+unfolding p1_marks number_of
+p1_third f k = ap (λ n. n % 2 == 1) (third_on (was_p1 f k) (was_p1 f (k + 1)) _) ∙ first_bit (was_p1 f (k + 2)) _
+
+and_turned : (a b c : Bool) → (a && b && c) ≡ (a && c && b)
+and_turned true true true = refl
+and_turned true true false = refl
+and_turned true false true = refl
+and_turned true false false = refl
+and_turned false b c = refl
+
 -- the test of the track is the definition's
-pub fills_releasing_word-is : (first : Role) (f : ℕ → ℕ) (k : ℕ) (track : Track) → track.role ≡ role_of first k → track.was_p1 ≡ p1_marks f k → fills_releasing_word track ≡ releases_as_ended first f k
-unfolding releases_as_ended p1_marks
-fills_releasing_word-is first f k track r m = elim (cases_lt k 5) [
-  | inl early ↦ rw (r, m, lt-leb 5 k early) (and_no _)
-  | inr late ↦
-      let e : k + 2 - 5 ≡ k - 3 = omega arith in
-      rw (r, m, le-leb 5 k late, le-leb 5 (k + 2) (omega arith), e, role_of-three first k (omega arith)) refl
-]
+pub fills_releasing_word-is : (first : Role) (f : ℕ → ℕ) (k : ℕ) (track : Track) → track.role ≡ role_of first k → track.was_p1 ≡ number_of (p1_marks f k) → fills_releasing_word track ≡ releases_as_ended first f k
+unfolding releases_as_ended
+fills_releasing_word-is first f k track r m =
+    let tests : fills_releasing_word track ≡ (not (is_dx (role_of first k)) && was_p1 f k && was_p1 f (k + 2)) = rw (r, m, p1_oldest f k, p1_third f k) refl in
+    tests
+    ∙ (and_turned (not (is_dx (role_of first k))) (was_p1 f k) (was_p1 f (k + 2))
+    ∙ elim (cases_lt k 5) [
+      | inl early ↦ rw (lt-leb 5 k early) (and_no _)
+      | inr late ↦
+          let e : k + 2 - 5 ≡ k - 3 = omega arith in
+          rw (le-leb 5 k late, le-leb 5 (k + 2) (omega arith), e, role_of-three first k (omega arith)) refl
+    ])
 
 pub length-wrong_marks : (f : ℕ → ℕ) (n : ℕ) → length (wrong_marks f n) ≡ n
 unfolding wrong_marks
@@ -102,7 +132,7 @@ wrong_marks-next f n =
     rw e (keep_last-push 64 (wrong_marks f n) (is_wrong (f n)))
 
 -- what the track and the marks decide is the definition's change
-pub change_of-change_at : (first : Role) (f : ℕ → ℕ) (k : ℕ) (track : Track) (wrong : List Bool) → track.role ≡ role_of first k → track.was_p1 ≡ p1_marks f k → wrong ≡ keep_last 64 (wrong_marks f (k + 1)) → change_of track wrong ≡ change_at first f k
+pub change_of-change_at : (first : Role) (f : ℕ → ℕ) (k : ℕ) (track : Track) (wrong : List Bool) → track.role ≡ role_of first k → track.was_p1 ≡ number_of (p1_marks f k) → wrong ≡ keep_last 64 (wrong_marks f (k + 1)) → change_of track wrong ≡ change_at first f k
 unfolding change_at
 change_of-change_at first f k track wrong r m w =
     rw (fills_releasing_word-is first f k track r m, w, count-last_marks f k) refl

@@ -1,5 +1,6 @@
 -- Lists of bits and the numbers that have these bits, the first one in the least place.
-use Rattle.std.proofs.Common.{◌≡◌, ℕ, zero, suc, ◌+◌, ◌-◌, ◌*◌, ◌/◌, ◌^◌, ◌<◌, ◌≤◌, List, [], ◌∷◌, ◌++◌, length, take, drop, Bool, true, false, refl, sym, ap, ap₂, ◌∙◌, arith, drop-drop, length-drop}
+use Rattle.std.proofs.Common.{◌≡◌, ℕ, zero, suc, ◌+◌, ◌-◌, ◌*◌, ◌/◌, ◌%◌, ◌^◌, ◌<◌, ◌≤◌, List, [], ◌∷◌, ◌++◌, length, take, drop, Bool, true, false, refl, sym, ap, ap₂, ◌∙◌, arith, drop-drop, length-drop, ◌==◌, eq-eqb}
+use Rattle.std.proofs.lemmas.Bool.{ne_eqb}
 use Rattle.std.proofs.Math.Nat.{pow-succ', mul_assoc}
 use Rattle.std.proofs.lemmas.Nat.{shr-shr}
 use Rattle.nx_code.specs.Word.{number_of, value_of}
@@ -54,12 +55,29 @@ number_of-same (x ∷ xs) (y ∷ ys) l e =
     let n : number_of xs ≡ number_of ys = omega (arith, value_of-le x, value_of-le y) in
     ap₂ (λ b bs. b ∷ bs) (same_value x y v) (number_of-same xs ys (omega arith) n)
 
--- 28 bits moved up by one, and by seven
-pub number_of-next : (xs : List Bool) (b : Bool) → length xs ≡ 28 → number_of (drop 1 xs ++ b ∷ []) ≡ number_of xs / 2 + 2 ^ 27 * value_of b
+-- bits moved up by one
+number_of-one : (b : Bool) → number_of (b ∷ []) ≡ value_of b
 unfolding number_of
-number_of-next xs b l =
-    let e : length (drop 1 xs) ≡ 27 = simp length-drop (omega arith) in
-    number_of-append (drop 1 xs) (b ∷ []) ∙ omega (arith, number_of-drop_one xs, ap (λ n. 2 ^ n * (value_of b + 2 * 0)) e)
+number_of-one b = omega arith
+
+pub number_of-next : (n : ℕ) (xs : List Bool) (b : Bool) → length xs ≡ n + 1 → number_of (drop 1 xs ++ b ∷ []) ≡ number_of xs / 2 + 2 ^ n * value_of b
+number_of-next n xs b l =
+    let e : length (drop 1 xs) ≡ n = simp length-drop (omega arith) in
+    let make : ℕ → ℕ → ℕ → ℕ = λ a k v. a + 2 ^ k * v in
+    number_of-append (drop 1 xs) (b ∷ [])
+    ∙ (ap (λ a. make a (length (drop 1 xs)) (number_of (b ∷ []))) (number_of-drop_one xs)
+    ∙ (ap (λ k. make (number_of xs / 2) k (number_of (b ∷ []))) e
+    ∙ ap (make (number_of xs / 2) n) (number_of-one b)))
+
+-- the first bit, and the third one
+pub first_bit : (a : Bool) (rest : ℕ) → ((value_of a + 2 * rest) % 2 == 1) ≡ a
+first_bit true rest = eq-eqb _ _ (omega arith)
+first_bit false rest = ne_eqb _ _ (λ e. omega arith)
+
+pub third_on : (a b : Bool) (rest : ℕ) → (value_of a + 2 * (value_of b + 2 * rest)) / 4 ≡ rest
+third_on a b rest = omega (arith, value_of-le a, value_of-le b)
+
+-- 28 bits moved up by seven
 
 pub number_of-next_word : (xs ys : List Bool) → length xs ≡ 28 → length ys ≡ 7 → number_of (drop 7 xs ++ ys) ≡ number_of xs / 2 ^ 7 + 2 ^ 21 * number_of ys
 number_of-next_word xs ys l m =

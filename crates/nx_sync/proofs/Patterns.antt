@@ -20,11 +20,11 @@ pub number_of-before_rx : number_of before_rx ≡ window_before_rx
 unfolding number_of before_rx
 number_of-before_rx = refl
 
-is_dx_window : (w : List Bool) → length w ≡ 28 → number_of w ≡ window_before_dx → w ≡ before_dx
+pub is_dx_window : (w : List Bool) → length w ≡ 28 → number_of w ≡ window_before_dx → w ≡ before_dx
 unfolding before_dx
 is_dx_window w l e = number_of-same w before_dx l (e ∙ sym number_of-before_dx)
 
-is_rx_window : (w : List Bool) → length w ≡ 28 → number_of w ≡ window_before_rx → w ≡ before_rx
+pub is_rx_window : (w : List Bool) → length w ≡ 28 → number_of w ≡ window_before_rx → w ≡ before_rx
 unfolding before_rx
 is_rx_window w l e = number_of-same w before_rx l (e ∙ sym number_of-before_rx)
 

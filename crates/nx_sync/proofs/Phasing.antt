@@ -91,12 +91,12 @@ ends_with_pattern = refl
 
 -- What a lock at t is, seen from the phasing that begins at the bit count n: word g of it is a DX word, and begins with
 -- pair a of the phasing; either that is the first pair, or at most one word of the lock comes before.
-record IsAligned (first : Role) (n t : ℕ) : Type 0 where
-  g : ℕ
-  a : ℕ
-  place : t + 7 * g ≡ n + 14 * a
-  dx : role_of first g ≡ Dx
-  early : (a ≡ 0) ⊎ (g ≤ 1)
+pub record IsAligned (first : Role) (n t : ℕ) : Type 0 where
+  pub g : ℕ
+  pub a : ℕ
+  pub place : t + 7 * g ≡ n + 14 * a
+  pub dx : role_of first g ≡ Dx
+  pub early : (a ≡ 0) ⊎ (g ≤ 1)
 
 -- a word that is a phasing signal is right, and one that is wrong is none
 right_by : (w : ℕ) → (w ≡ phasing_1) ⊎ (w ≡ phasing_2) → is_wrong w ≡ false
@@ -113,13 +113,13 @@ limit-false r h = elim (cases_eq r 0) [
   ]
 ]
 
-limit-true : (r : ℕ) → (r ≡ 0 → ⊥) → (r ≡ 7 → ⊥) → not (is_limit r) ≡ true
+pub limit-true : (r : ℕ) → (r ≡ 0 → ⊥) → (r ≡ 7 → ⊥) → not (is_limit r) ≡ true
 limit-true r n m = ap not (ap₂ ◌||◌ (ne_eqb r 0 n) (ne_eqb r 7 m))
 
-limit-zero : (r : ℕ) → (r ≡ 0) ⊎ (r ≡ 7) → not (is_limit r) ≡ false
+pub limit-zero : (r : ℕ) → (r ≡ 0) ⊎ (r ≡ 7) → not (is_limit r) ≡ false
 limit-zero r e = elim e [ inl z ↦ ap (λ r. not (is_limit r)) z | inr s ↦ ap (λ r. not (is_limit r)) s ]
 
-role_of-three_on : (g : ℕ) (first : Role) → role_of first g ≡ Rx → role_of first (g + 3) ≡ Dx
+pub role_of-three_on : (g : ℕ) (first : Role) → role_of first g ≡ Rx → role_of first (g + 3) ≡ Dx
 unfolding role_of
 role_of-three_on g first h =
     let e : g + 3 ≡ suc (suc (suc g)) = omega arith in
@@ -131,12 +131,12 @@ module _ (earlier : List Bool) where
   unfolding phase
   placed i = ap (λ xs. number_of (take 7 xs)) (drop-append-add earlier (phasing 24) i)
 
-  word_in : (t k i : ℕ) → t + 7 * k ≡ length earlier + i → word_at (earlier ++ phasing 24) t k ≡ phase 24 i
+  pub word_in : (t k i : ℕ) → t + 7 * k ≡ length earlier + i → word_at (earlier ++ phasing 24) t k ≡ phase 24 i
   unfolding word_at
   word_in t k i e = ap (λ j. number_of (take 7 (drop j (earlier ++ phasing 24)))) e ∙ placed i
 
-  heard_all : length (earlier ++ phasing 24) ≡ length earlier + 336
-  heard_all = length-append earlier (phasing 24) ∙ ap (λ n. length earlier + n) (length-phasing 24)
+  pub phasing_heard : length (earlier ++ phasing 24) ≡ length earlier + 336
+  phasing_heard = length-append earlier (phasing 24) ∙ ap (λ n. length earlier + n) (length-phasing 24)
 
   -- a pattern is at the end
   pattern_at_end : IsPattern (earlier ++ phasing 24) (length earlier + 336)
@@ -144,7 +144,7 @@ module _ (earlier : List Bool) where
       let e : length earlier + 336 - 28 ≡ length earlier + 308 = omega arith in
       record {
         enough = omega arith;
-        heard = omega (arith, heard_all);
+        heard = omega (arith, phasing_heard);
         pattern = inl (ap (λ j. take 28 (drop j (earlier ++ phasing 24))) e ∙ (ap (take 28) (drop-append-add earlier (phasing 24) 308) ∙ ends_with_pattern));
       }
 
@@ -167,12 +167,12 @@ module _ (earlier : List Bool) where
   first_role-second t h = rw h refl
 
   -- a pattern that ends seven or more bits into the phasing is on its limits and roles
-  inside_aligned : (t : ℕ) → IsPattern (earlier ++ phasing 24) t → length earlier + 7 ≤ t → IsAligned (first_role (earlier ++ phasing 24) t) (length earlier) t
+  pub inside_aligned : (t : ℕ) → IsPattern (earlier ++ phasing 24) t → length earlier + 7 ≤ t → IsAligned (first_role (earlier ++ phasing 24) t) (length earlier) t
   unfolding role_of
   inside_aligned t here h =
       let i : ℕ = t - 7 - length earlier in
       let e : length earlier + i ≡ t - 7 = omega arith in
-      let within : t ≤ length earlier + 336 = omega (arith, here.heard, heard_all) in
+      let within : t ≤ length earlier + 336 = omega (arith, here.heard, phasing_heard) in
       let w : number_of (take 7 (drop (t - 7) (earlier ++ phasing 24))) ≡ phase 24 i = ap (λ j. number_of (take 7 (drop j (earlier ++ phasing 24)))) (sym e) ∙ placed i in
       let kind = phase_at 24 i (omega arith) in
       let right : is_wrong (phase 24 i) ≡ false = ap is_wrong (sym w) ∙ right_by _ (before_pattern t here) in
@@ -252,17 +252,17 @@ module _ (earlier : List Bool) where
   -- a lock that stands at the end is on the phasing's limits and roles
   stands_right : (locks : List Lock) (p t : ℕ) → IsLocked (earlier ++ phasing 24) locks p t → LockedBeforeDx (earlier ++ phasing 24)
   stands_right locks p t now =
-      let x = aligned t now.found.here (λ j h. now.holds.never j (omega (arith, heard_all))) in
+      let x = aligned t now.found.here (λ j h. now.holds.never j (omega (arith, phasing_heard))) in
       let within = now.found.here.heard in
       let half : ℕ = 24 - x.a in
-      let low : x.a ≤ 24 = elim x.early [ inl z ↦ omega arith | inr one ↦ omega (arith, x.place, heard_all) ] in
+      let low : x.a ≤ 24 = elim x.early [ inl z ↦ omega arith | inr one ↦ omega (arith, x.place, phasing_heard) ] in
       record {
         locks = locks;
         p = p;
         t = t;
         stands = now;
         whole = x.g + 2 * half;
-        limit = omega (arith, heard_all, x.place);
+        limit = omega (arith, phasing_heard, x.place);
         dx = role_of-even (first_role (earlier ++ phasing 24) t) x.g half ∙ x.dx;
       }
 
@@ -315,7 +315,7 @@ module _ (earlier : List Bool) where
   not_hunting [] p late past = omega arith
   not_hunting (lock ∷ older) p late past =
       let r = past.0.released in
-      let last : lock.at + 7 * (lock.last + 1) ≡ length earlier + 336 = omega (arith, r.heard, past.0.next, heard_all) in
+      let last : lock.at + 7 * (lock.last + 1) ≡ length earlier + 336 = omega (arith, r.heard, past.0.next, phasing_heard) in
       not_released lock.at lock.last
       (aligned lock.at past.0.found.here (λ j h. r.least j (omega arith)))
       last lock.how r.here

@@ -4,7 +4,7 @@ use Rattle.std.proofs.Common.{◌≡◌, ℕ, suc, ◌+◌, ◌-◌, ◌*◌, �
 use Rattle.std.proofs.lemmas.List.{length_push}
 use Rattle.std.proofs.lemmas.Bool.{cases_lt}
 use Rattle.circular_buffer.specs.Buffer.{keep_last}
-use Rattle.nx_code.specs.Word.{number_of}
+use Rattle.nx_code.specs.Word.{number_of, value_of}
 use Rattle.nx_sync.specs.declared.step.Role.{Role}
 use Rattle.nx_sync.specs.declared.step.Role.TheVariants.{Dx, Rx}
 use Rattle.nx_sync.specs.declared.step.Change.{Change}
@@ -24,7 +24,7 @@ use Rattle.nx_sync.proofs.More.{word_at-more, first_role-more, Past-within}
 use Rattle.nx_sync.proofs.OneBit.{hunts_on, locks_now, stands_on, ends_now}
 use Rattle.nx_sync.proofs.Patterns.{length-last_28, IsNeither, Which, dx, rx, neither, which, first_role-dx, first_role-rx, window-heard, word-heard}
 use Rattle.nx_sync.proofs.Hearing.{heard}
-use Rattle.nx_sync.proofs.Marks.{wrong_marks-same, p1_marks-same, p1_marks-next, p1_marks-none, wrong_marks-next, change_of-change_at}
+use Rattle.nx_sync.proofs.Marks.{wrong_marks-same, p1_marks-same, p1_number-next, p1_number-none, wrong_marks-next, change_of-change_at}
 use Rattle.nx_sync.proofs.Unique.{now-unique}
 
 -- whether a track is there says whether a lock stands
@@ -54,7 +54,7 @@ module _ (s : Held) (bits : List Bool) (b : Bool) (a : StandsAfter s bits) where
   recent_heard =
       let xs : List Bool = keep_last 28 (replicate 28 false ++ bits) in
       ap (λ n. next_window n b) a.recent
-      ∙ (sym (number_of-next xs b (length-padded 28 bits)) ∙ ap number_of (padded-push 28 bits b (omega arith)))
+      ∙ (sym (number_of-next 27 xs b (length-padded 28 bits)) ∙ ap number_of (padded-push 28 bits b (omega arith)))
 
   seen_heard : (heard s b).seen ≡ min 28 (length (bits ++ b ∷ []))
   seen_heard = omega (arith, a.seen, length_push bits b)
@@ -96,7 +96,7 @@ module _ (s : Held) (bits : List Bool) (b : Bool) (a : StandsAfter s bits) where
           place = omega (arith, length_push bits b);
           short = omega arith;
           role = sym first;
-          phasing = sym (p1_marks-none (word_at (bits ++ b ∷ []) (length bits + 1)));
+          phasing = sym (p1_number-none (word_at (bits ++ b ∷ []) (length bits + 1)));
           marks = refl;
         };
       };
@@ -193,7 +193,7 @@ module _ (s : Held) (bits : List Bool) (b : Bool) (a : StandsAfter s bits) where
               place = omega (arith, f.place, length_push bits b);
               short = short;
               role = f.role ∙ ap (λ first. role_of first f.whole) (sym (first_role-more bits (b ∷ []) t low within));
-              phasing = f.phasing ∙ p1_marks-same (word_at bits t) (word_at (bits ++ b ∷ []) t) f.whole words;
+              phasing = f.phasing ∙ ap number_of (p1_marks-same (word_at bits t) (word_at (bits ++ b ∷ []) t) f.whole words);
               marks = f.marks ∙ ap (keep_last 64) (wrong_marks-same (word_at bits t) (word_at (bits ++ b ∷ []) t) f.whole words);
             };
           };
@@ -232,8 +232,8 @@ module _ (s : Held) (bits : List Bool) (b : Bool) (a : StandsAfter s bits) where
     role_is : track.role ≡ role_of (first_role (bits ++ b ∷ []) t) f.whole
     role_is = f.role ∙ ap (λ first. role_of first f.whole) first_same
 
-    phasing_is : track.was_p1 ≡ p1_marks (word_at (bits ++ b ∷ []) t) f.whole
-    phasing_is = f.phasing ∙ p1_marks-same (word_at bits t) (word_at (bits ++ b ∷ []) t) f.whole words_same
+    phasing_is : track.was_p1 ≡ number_of (p1_marks (word_at (bits ++ b ∷ []) t) f.whole)
+    phasing_is = f.phasing ∙ ap number_of (p1_marks-same (word_at bits t) (word_at (bits ++ b ∷ []) t) f.whole words_same)
 
     marks_are : x.wrong ≡ keep_last 64 (wrong_marks (word_at (bits ++ b ∷ []) t) (f.whole + 1))
     marks_are =
@@ -281,7 +281,7 @@ module _ (s : Held) (bits : List Bool) (b : Bool) (a : StandsAfter s bits) where
                 place = omega (arith, place_after, length_push bits b);
                 short = omega arith;
                 role = ap other_role role_is ∙ ap (role_of (first_role (bits ++ b ∷ []) t)) (sym e);
-                phasing = ap₂ (λ xs w. drop 1 xs ++ (w == phasing_1) ∷ []) phasing_is number_is ∙ p1_marks-next (word_at (bits ++ b ∷ []) t) f.whole;
+                phasing = ap₂ (λ n w. n / 2 + 2 ^ 4 * value_of (w == phasing_1)) phasing_is number_is ∙ p1_number-next (word_at (bits ++ b ∷ []) t) f.whole;
                 marks = marks_are;
               };
             };

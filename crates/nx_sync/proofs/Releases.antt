@@ -12,11 +12,11 @@ use Rattle.nx_sync.specs.Laws.{IsSecondPhasing1, EndedAt, LostAt, IsEarlier, end
 use Rattle.nx_sync.proofs.More.{release-more, Finds-more, Past-more}
 
 -- the least number that passes a test, if one below n does
-data Least (f : ℕ → Bool) (n : ℕ) : Type 0 where
+pub data Least (f : ℕ → Bool) (n : ℕ) : Type 0 where
   none : ((j : ℕ) → j < n → f j ≡ false) → Least f n
   some : (v : ℕ) → v < n → f v ≡ true → ((j : ℕ) → j < v → f j ≡ false) → Least f n
 
-least_true : (f : ℕ → Bool) (n : ℕ) → Least f n
+pub least_true : (f : ℕ → Bool) (n : ℕ) → Least f n
 least_true f zero = none (λ j h. absurd (omega arith))
 least_true f (suc n) = elim (least_true f n) [
   | some v h t before ↦ some v (omega arith) t before

@@ -6,7 +6,7 @@ use Rattle.nx_sync.specs.declared.step.Change.{Change}
 use Rattle.nx_sync.specs.declared.step.Change.TheVariants.{Ended, LostLock}
 use Rattle.nx_code.specs.Phasing.{phasing_1, elements_of_phasing_1, elements_of_phasing_2}
 use Rattle.nx_sync.specs.Words.{losing_count, first_role, role_of, wrong_until}
-use Rattle.nx_sync.specs.Locks.{Lock, Now, hunting, locked, IsLocked, IsNow}
+use Rattle.nx_sync.specs.Locks.{IsReleased, Lock, Now, hunting, locked, IsLocked, IsNow}
 
 -- Word k is the second of two DX words in a row that are phasing signal 1: it is a DX word, at least word 2, and it and
 -- word k - 2 are phasing signal 1. The word that releases the lock is then word k + 3 (this profile).
@@ -71,6 +71,25 @@ pub data OneMore (bits : List Bool) : List Lock → Now → List Lock → Now �
 unfoldable pub phasing : ℕ → List Bool
 phasing zero = []
 phasing (suc n) = elements_of_phasing_2 ++ elements_of_phasing_1 ++ phasing n
+
+-- The lock at t is on the word limits and roles of a phasing that begins after n bits: word g of it, a DX word, is where
+-- pair a of the phasing begins.
+pub record IsOnPhasing (bits : List Bool) (n t : ℕ) : Type 0 where
+  pub g : ℕ
+  pub a : ℕ
+  pub place : t + 7 * g ≡ n + 14 * a
+  pub dx : role_of (first_role bits t) g ≡ Dx
+
+-- the lock at t is on other limits than those of a phasing that begins after n bits
+pub record IsBetweenLimits (n t : ℕ) : Type 0 where
+  pub apart : (k j : ℕ) → t + 7 * k ≡ n + 7 * j → ⊥
+
+-- the lock at t is released by a word that is over after m bits at the latest
+pub record IsReleasedBy (bits : List Bool) (t m : ℕ) : Type 0 where
+  pub word : ℕ
+  pub how : Change
+  pub by : t + 7 * (word + 1) ≤ m
+  pub released : IsReleased bits t word how
 
 -- A lock stands after these bits, they end with a word of the lock, and the next one is a DX word.
 pub record LockedBeforeDx (bits : List Bool) : Type 0 where

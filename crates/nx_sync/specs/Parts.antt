@@ -1,8 +1,9 @@
 -- What the parts of a push, a word and a hunt answer, for the contracts of the synchroniser's private functions. The
 -- contracts of the public ones speak of the locks over all bits.
-use Rattle.std.specs.Prelude.{◌≡◌, ℕ, suc, ◌+◌, ◌/◌, ◌^◌, ◌<◌, ◌≤◌, ◌==◌, nat_le, min, Bool, false, not, ◌&&◌, ◌⊎◌, List, [], ◌∷◌, ◌++◌, length, take, drop, get_or, count_by, replicate, Option, Some, None, if◌then◌else◌}
+use Rattle.std.specs.Prelude.{◌≡◌, ℕ, suc, ◌+◌, ◌*◌, ◌/◌, ◌%◌, ◌^◌, ◌<◌, ◌≤◌, ◌==◌, nat_le, min, Bool, false, not, ◌&&◌, ◌⊎◌, List, [], ◌∷◌, ◌++◌, length, take, drop, get_or, count_by, replicate, Option, Some, None, if◌then◌else◌}
 use Rattle.circular_buffer.specs.Buffer.{keep_last}
 use Rattle.nx_code.specs.Phasing.{phasing_1}
+use Rattle.nx_code.specs.Word.{value_of}
 use Rattle.nx_sync.specs.declared.track.Track.{Track}
 use Rattle.nx_sync.specs.declared.step.Step.{Step}
 use Rattle.nx_sync.specs.declared.step.Role.{Role}
@@ -15,20 +16,20 @@ use Rattle.nx_sync.specs.Synchroniser.{Held}
 
 -- the track of a lock whose first word has the role
 abbrev pub track_from : Role → Track
-track_from role = record { role = role; filled = 0; was_p1 = replicate 5 false }
+track_from role = record { role = role; filled = 0; was_p1 = 0 }
 
 -- the track after a word
 abbrev pub track_after : Track → ℕ → Track
 track_after track word = record {
   role = other_role track.role;
   filled = 0;
-  was_p1 = drop 1 track.was_p1 ++ (word == phasing_1) ∷ [];
+  was_p1 = track.was_p1 / 2 + 2 ^ 4 * value_of (word == phasing_1);
 }
 
 -- whether the word that the track fills releases the lock as Ended: it is an RX word, and the words three and five
 -- before it are phasing signal 1
 abbrev pub fills_releasing_word : Track → Bool
-fills_releasing_word track = not (is_dx track.role) && get_or track.was_p1 2 false && get_or track.was_p1 0 false
+fills_releasing_word track = not (is_dx track.role) && (track.was_p1 % 2 == 1) && (track.was_p1 / 4 % 2 == 1)
 
 -- which change a word brings, by the track before it and the marks of the last words with its own
 abbrev pub change_of : Track → List Bool → Option Change

@@ -47,7 +47,7 @@ pub record Follows (bits : List Bool) (t : ℕ) (wrong : List Bool) (track : Tra
   pub place : length bits ≡ t + (7 * whole + track.filled)
   pub short : track.filled < 7
   pub role : track.role ≡ role_of (first_role bits t) whole
-  pub phasing : track.was_p1 ≡ p1_marks (word_at bits t) whole
+  pub phasing : track.was_p1 ≡ number_of (p1_marks (word_at bits t) whole)
   pub marks : wrong ≡ keep_last window_words (wrong_marks (word_at bits t) whole)
 
 pub record IsFollowed (bits : List Bool) (t : ℕ) (wrong : List Bool) (track : Option Track) : Type 0 where

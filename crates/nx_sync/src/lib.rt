@@ -1,5 +1,5 @@
-//! The synchroniser of a NAVTEX receiver: it hears one element after the other, finds the limits of the words and
-//! their roles from the phasing, and says when a lock is over.
+//! The synchroniser of a NAVTEX receiver: it hears one element after the other, finds the limits of
+//! the words and their roles from the phasing, and says when a lock is over.
 #![tactic(auto)]
 
 pub mod laws;

@@ -5,7 +5,8 @@ ghost use Rattle.nx_sync.specs.Words.{other_role};
 
 use nx_code::Word;
 
-/// The role of a word: each position is sent first as DX and again, five words later, as RX (M.625, mode B).
+/// The role of a word: each position is sent first as DX and again, five words later, as RX (M.625,
+/// mode B).
 #[derive(Clone, Copy, Debug, PartialEq, Eq)]
 pub enum Role {
     /// The first sending.

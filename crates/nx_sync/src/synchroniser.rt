@@ -1,4 +1,5 @@
-//! The synchroniser. It keeps the last 28 elements and, where a lock stands, a few facts on its last words.
+//! The synchroniser. It keeps the last 28 elements and, where a lock stands, a few facts on its
+//! last words.
 
 ghost use Rattle.std.specs.Prelude.{◌≡◌, ℕ, ◌+◌, ◌-◌, ◌/◌, ◌^◌, ◌<◌, ◌≤◌, ◌↔◌, List, Bool, [], ◌∷◌, ◌++◌, length, take, min, not, IsTrue, IfOk};
 ghost use Rattle.circular_buffer.specs.Buffer.{keep_last};
@@ -11,7 +12,8 @@ ghost use Rattle.nx_sync.specs.Synchroniser.{StandsAfter, is_hunting, is_between
 use crate::step::{Change, Role, Step};
 use crate::track::Track;
 use crate::windows::{
-    BLOCK, PATTERN, first_lock, last_word, next_window, next_word_window, role_after, windows_after,
+    PATTERN, STRIDE, count_before_lock, last_word, may_lock, next_window, next_word_window,
+    role_after, stride_window, windows_after,
 };
 use circular_buffer::HeapCircularBuffer;
 use nx_code::{ELEMENTS, Word, check_bits};
@@ -24,8 +26,8 @@ const WINDOW: usize = 64;
 /// How many wrong words among these lose the lock (this profile).
 const LOST: u32 = 40;
 
-/// The synchroniser of a receiver. It keeps no history but the last 28 elements, and whether each of the
-/// last 64 words of a lock was wrong.
+/// The synchroniser of a receiver. It keeps no history but the last 28 elements, and whether each
+/// of the last 64 words of a lock was wrong.
 #[derive(Drop)]
 pub struct Synchroniser {
     /// The last 28 elements, the oldest in the least place.
@@ -60,7 +62,8 @@ impl Model for Synchroniser {
 }
 
 impl Synchroniser {
-    /// A synchroniser that has heard nothing, and hunts. Fails where there is no memory for its 64 marks.
+    /// A synchroniser that has heard nothing, and hunts. Fails where there is no memory for its 64
+    /// marks.
     pub fn new(alloc: Global) -> Result<Synchroniser, AllocError>
         ensures stands { IfOk result (λ s. StandsAfter s []) }
         ensures hunting { IfOk result (λ s. IsTrue (is_hunting s)) }
@@ -78,7 +81,8 @@ impl Synchroniser {
     /// Whether a lock stands.
     #[inline(always)]
     pub fn is_locked(&self) -> bool
-        ensures stands { (bits : List Bool) → StandsAfter self.now bits → (IsTrue result ↔ LockStands bits) }
+        ensures stands { (bits : List Bool) → StandsAfter self.now bits
+            → (IsTrue result ↔ LockStands bits) }
         ensures hunting { result ≡ not (is_hunting self.now) }
     {
         self.track.is_some()
@@ -98,8 +102,10 @@ impl Synchroniser {
     /// Hears one element, true for B, and says what it brings.
     #[inline(always)]
     pub fn push(&mut self, bit: bool) -> Step
-        ensures stands { (bits : List Bool) → StandsAfter self.old bits → StandsAfter self.new (bits ++ bit ∷ []) }
-        ensures step { (bits : List Bool) → StandsAfter self.old bits → IsStep (bits ++ bit ∷ []) result }
+        ensures stands { (bits : List Bool) → StandsAfter self.old bits
+            → StandsAfter self.new (bits ++ bit ∷ []) }
+        ensures step { (bits : List Bool) → StandsAfter self.old bits
+            → IsStep (bits ++ bit ∷ []) result }
         ensures limit { result.change ≡ Some Locked → IsTrue (is_between_words self.new) }
     {
         self.hear(bit);
@@ -109,12 +115,13 @@ impl Synchroniser {
         }
     }
 
-    /// Hears seven elements from the end of a word on, which are the next word of the lock: what seven pushes do. The
-    /// first six bring nothing; says what the last one brings.
+    /// Hears seven elements from the end of a word on, which are the next word of the lock: what
+    /// seven pushes do. The first six bring nothing; says what the last one brings.
     #[inline(always)]
     pub fn push_word(&mut self, bits: &[bool; ELEMENTS]) -> Step
         requires { IsTrue (is_between_words self.old) }
-        ensures stands { (h : List Bool) → StandsAfter self.old h → StandsAfter self.new (h ++ bits.now) }
+        ensures stands { (h : List Bool) → StandsAfter self.old h
+            → StandsAfter self.new (h ++ bits.now) }
         ensures step { (h : List Bool) → StandsAfter self.old h → IsWordStep h bits.now result }
         ensures limit { result.change ≡ None → IsTrue (is_between_words self.new) }
     {
@@ -122,12 +129,13 @@ impl Synchroniser {
         self.complete(self.track.unwrap())
     }
 
-    /// Hunts through these elements: hears those before the first one that locks, all of them where none does,
-    /// and says how many that were.
+    /// Hunts through these elements: hears those before the first one that locks, all of them where
+    /// none does, and says how many that were.
     pub fn hunt(&mut self, bits: &[bool]) -> usize
         requires { IsTrue (is_hunting self.old) }
         ensures within { result ≤ length bits.now }
-        ensures stands { (h : List Bool) → StandsAfter self.old h → StandsAfter self.new (h ++ take result bits.now) }
+        ensures stands { (h : List Bool) → StandsAfter self.old h
+            → StandsAfter self.new (h ++ take result bits.now) }
         ensures pushes { (h : List Bool) → StandsAfter self.old h → HuntsThrough h bits.now result }
         ensures hunting { IsTrue (is_hunting self.new) }
     {
@@ -156,8 +164,10 @@ impl Synchroniser {
     #[inline(always)]
     fn hunt_on(&mut self) -> Step
         ensures early { self.old.seen < 28 → (self.new ≡ self.old) × (result ≡ step None None) }
-        ensures none { spec.role_after self.old.recent ≡ None → (self.new ≡ self.old) × (result ≡ step None None) }
-        ensures found { (role : Role) → 28 ≤ self.old.seen → spec.role_after self.old.recent ≡ Some role
+        ensures none { spec.role_after self.old.recent ≡ None → (self.new ≡ self.old)
+            × (result ≡ step None None) }
+        ensures found { (role : Role) → 28 ≤ self.old.seen
+            → spec.role_after self.old.recent ≡ Some role
             → Begins self.old role self.new result }
     {
         if self.seen < PATTERN {
@@ -196,8 +206,8 @@ impl Synchroniser {
         self.complete(track)
     }
 
-    /// Takes the last seven elements as a word of the lock, and gives the lock up where the word brings a
-    /// change.
+    /// Takes the last seven elements as a word of the lock, and gives the lock up where the word
+    /// brings a change.
     #[inline(always)]
     fn complete(&mut self, track: Track) -> Step
         ensures { Completes self.old track self.new result }
@@ -227,7 +237,8 @@ impl Synchroniser {
         }
     }
 
-    /// Which change a word brings, by the track before it and the marks of the last words with its own.
+    /// Which change a word brings, by the track before it and the marks of the last words with its
+    /// own.
     #[inline(always)]
     fn change_after(&self, track: Track) -> Option<Change>
         ensures { result ≡ change_of track self.now.wrong }
@@ -247,10 +258,10 @@ impl Synchroniser {
     {
         let mut at = self.skip_early(bits);
         while at < bits.len() {
-            let block = &bits[at..(at + BLOCK).min(bits.len())];
-            let count = self.skip_block(block);
+            let part = &bits[at..(at + STRIDE).min(bits.len())];
+            let count = self.skip_part(part);
             at += count;
-            if count < block.len() {
+            if count < part.len() {
                 return at;
             }
         }
@@ -270,14 +281,29 @@ impl Synchroniser {
         count
     }
 
-    /// Hears elements of one block as long as none ends a pattern, and says how many.
+    /// Hears at most 21 elements as long as none ends a pattern, and says how many.
+    #[inline(always)]
+    fn skip_part(&mut self, part: &[bool]) -> usize
+        requires seen { 27 ≤ self.old.seen }
+        requires few { length part.now ≤ 21 }
+        ensures { Skips self.old part.now result self.new }
+    {
+        if part.len() < STRIDE || may_lock(self.recent) {
+            return self.skip_block(part);
+        }
+        self.recent = stride_window(self.recent, part);
+        self.seen = PATTERN;
+        STRIDE
+    }
+
+    /// The same, by the windows after each element.
     fn skip_block(&mut self, block: &[bool]) -> usize
         requires seen { 27 ≤ self.old.seen }
-        requires few { length block.now ≤ 64 }
+        requires few { length block.now ≤ 21 }
         ensures { Skips self.old block.now result self.new }
     {
         let windows = windows_after(self.recent, block);
-        let count = first_lock(&windows[..block.len()]).unwrap_or(block.len());
+        let count = count_before_lock(&windows[..block.len()]);
         if count > 0 {
             self.recent = windows[count - 1];
             self.seen = PATTERN;

@@ -9,14 +9,16 @@ use nx_code::Word;
 /// The number of phasing signal 1, which is idle signal alpha (M.476, M.625).
 const PHASING_1: u8 = 0x0F;
 
-/// How a lock is followed: the role of the word that is being filled, how many of its elements were heard,
-/// and whether each of the five words before it was phasing signal 1, the oldest first. A word that
-/// isn't there was none.
+/// How a lock is followed. One that is copied for each word, so all of it is small.
 #[derive(Clone, Copy, Debug)]
 pub(crate) struct Track {
+    /// The role of the word that is being filled.
     pub(crate) role: Role,
-    pub(crate) filled: u32,
-    pub(crate) was_p1: [bool; 5],
+    /// How many of its elements were heard.
+    pub(crate) filled: u8,
+    /// Which of the five words before it were phasing signal 1, as bits, the oldest word in the
+    /// least place. A word that isn't there was none.
+    pub(crate) was_p1: u8,
 }
 
 impl Track {
@@ -28,7 +30,7 @@ impl Track {
         Track {
             role,
             filled: 0,
-            was_p1: [false; 5],
+            was_p1: 0,
         }
     }
 
@@ -37,21 +39,19 @@ impl Track {
     pub(crate) fn after(self, word: Word) -> Track
         ensures { result ≡ track_after self word }
     {
-        let [_, first, second, third, fourth] = self.was_p1;
         Track {
             role: self.role.other(),
             filled: 0,
-            was_p1: [first, second, third, fourth, word.number() == PHASING_1],
+            was_p1: (self.was_p1 >> 1) + (u8::from(word.number() == PHASING_1) << 4),
         }
     }
 
-    /// Whether the word that is being filled releases the lock as ended: the words three and five before it,
-    /// which are DX words, are both phasing signal 1.
+    /// Whether the word that is being filled releases the lock as ended: the words three and five
+    /// before it, which are DX words, are both phasing signal 1.
     #[inline(always)]
     pub(crate) fn fills_releasing_word(self) -> bool
         ensures { result ≡ fills_releasing_word self }
     {
-        let [fifth_last, _, third_last, _, _] = self.was_p1;
-        self.role == Role::Rx && third_last && fifth_last
+        self.role == Role::Rx && self.was_p1 % 2 == 1 && self.was_p1 / 4 % 2 == 1
     }
 }

@@ -7,7 +7,7 @@ use Rattle.std.proofs.lemmas.List.Quantifiers.{position-Some}
 use Rattle.std.proofs.lemmas.List.Folds.{list_all_at}
 use Rattle.nx_code.specs.Characters.{is_in_code}
 use Rattle.nx_code.specs.Reading.{combination, shift_after_all}
-use Rattle.nx_code.specs.Spelling.{numbers_of}
+use Rattle.nx_code.specs.Pieces.{numbers_of, numbers_of_piece}
 use Rattle.nx_code.specs.declared.shifts.Shift.{Shift}
 use Rattle.nx_code.specs.declared.signals.Comb.{Comb}
 use Rattle.nx_code.proofs.OneSpelling.{spelled-in_code, spelling-one}
@@ -44,7 +44,7 @@ loop-character-preserved c =
     let text = c.args.text.now in
     let at = c.loop-character.character-index in
     let piece = c.piece_of-piece.result in
-    let ys = numbers_of piece.ahead ++ piece.comb.number ∷ [] in
+    let ys = numbers_of_piece piece in
     let more = Extends-push (take at text) (get_or text at 0) c.args.from c.loop-character.extent.shift piece.shift c.loop-character.extent.length ys c.loop-character.invariant.0 c.piece_of-piece.ensures.spells c.piece_of-piece.ensures.shift in
     let few = at_most_two piece.ahead piece.comb.number in (
       subst (λ l. Extends l c.args.from (c.loop-character.extent.length + c.length.result) piece.shift) (sym (take_more text at 0 c.loop-character-test.true)) (rw c.length.ensures more),

@@ -1,8 +1,9 @@
-use Rattle.std.proofs.Common.{◌≡◌, [], ◌∷◌, ◌++◌, get_or, map, not, subst, sym, take}
+use Rattle.std.proofs.Common.{◌≡◌, ◌++◌, get_or, map, not, subst, sym, take}
 use Rattle.std.proofs.lemmas.Bool.{not-false}
 use Rattle.std.proofs.lemmas.List.{take_more}
 use Rattle.nx_code.specs.Characters.{is_in_code}
-use Rattle.nx_code.specs.Spelling.{Spells, numbers_of}
+use Rattle.nx_code.specs.Spelling.{Spells}
+use Rattle.nx_code.specs.Pieces.{numbers_of_piece}
 use Rattle.nx_code.specs.declared.signals.Comb.{Comb}
 use Rattle.nx_code.proofs.SpellingLemmas.{position-None, Spells-push, shift-push}
 use Rattle.nx_code.proofs.spelling.spell.Goals as goal
@@ -19,7 +20,7 @@ loop-character-preserved c =
     let old = map (λ (comb : Comb). comb.number) c.loop-character.combs.items in
     let new = map (λ (comb : Comb). comb.number) c.push_piece.new.combs.items in
     let piece = c.piece_of-piece.result in
-    let ys = numbers_of piece.ahead ++ piece.comb.number ∷ [] in
+    let ys = numbers_of_piece piece in
     let z : new ≡ old ++ ys = c.in_ok-push_piece.ensures in (
       subst (λ l. Spells l c.args.from new) (sym (take_more text at 0 c.loop-character-test.true)) (Spells-push (take at text) (get_or text at 0) c.args.from c.loop-character.shift old ys new i.0 i.1 c.piece_of-piece.ensures.spells z),
       shift-push c.args.from c.loop-character.shift piece.shift old ys new i.1 c.piece_of-piece.ensures.shift z,

@@ -1,4 +1,4 @@
-use Rattle.nx_envelope.proofs.Spelled.{header_both}
+use Rattle.nx_envelope.proofs.SpelledHeaders.{header_both}
 use Rattle.nx_envelope.proofs.laws.header_is_spelled.Goals as goal
 
 pub returns : goal.returns

@@ -1,8 +1,9 @@
-use Rattle.std.proofs.Common.{arith}
-use Rattle.std.proofs.lemmas.Grind.{common_steps}
-use Rattle.nx_fec.specs.Aligned.{word_in}
+use Rattle.std.proofs.Common.{◌∙◌, ap, sym, Some, arith}
+use Rattle.nx_fec.proofs.AlignedLemmas.{slice_get-words_of, slice_get-words_of_none}
 use Rattle.nx_fec.proofs.aligned.word_in.Goals as goal
 
-pub returns : goal.returns
-unfolding word_in
-returns c = grind (arith, common_steps)
+pub returns-then-slot-bits : goal.returns-then-slot-bits
+returns-then-slot-bits c = ap Some c.word_of_slot.ensures ∙ sym (slice_get-words_of _ _ (omega arith))
+
+pub returns-else-slot-bits : goal.returns-else-slot-bits
+returns-else-slot-bits c = sym (slice_get-words_of_none _ _ (omega arith))

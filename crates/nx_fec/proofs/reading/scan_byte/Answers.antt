@@ -1,8 +1,6 @@
-use Rattle.std.proofs.Common.{ap, ◌∙◌, ◌++◌, option_to_list}
-use Rattle.std.specs.List.{flat_map}
-use Rattle.nx_fec.specs.Lines.{elements_of}
+use Rattle.std.proofs.Common.{ap, sym, ◌∙◌, ◌++◌}
 use Rattle.std.proofs.lemmas.Result.{err_from_is_err_and}
-use Rattle.nx_fec.proofs.ReadingLaws.{HasFault-cause, HasRead-ended, HasRead-inside, ExplainsReading-at_byte}
+use Rattle.nx_fec.proofs.ReadingLaws.{HasFault-cause, HasRead-ended, HasRead-inside, elements_kept-list, ExplainsReading-at_byte}
 use Rattle.nx_fec.proofs.reading.scan_byte.Goals as goal
 
 pub returns-in_err-push-clause-read : goal.returns-in_err-push-clause-read
@@ -15,7 +13,7 @@ pub returns-in_ok-append_elements-clause-read : goal.returns-in_ok-append_elemen
 returns-in_ok-append_elements-clause-read c = λ limit bytes h.
     HasRead-ended limit _ _ _ _ bytes _ c.in_ok-push.field-0 c.push.new.self.latest c.if-branch.true h
     (c.in_ok-push.ensures.bytes limit bytes h.lines h.scans)
-    (c.in_ok-append_elements.ensures ∙ ap (λ o. c.args.bits.now.items ++ flat_map elements_of (option_to_list o)) c.latest.ensures)
+    (c.in_ok-append_elements.ensures ∙ ap (λ l. c.args.bits.now.items ++ l) (c.elements.ensures ∙ sym (elements_kept-list c.push.new.self.latest)))
 
 pub returns-else-branch-clause-read : goal.returns-else-branch-clause-read
 returns-else-branch-clause-read c = λ limit bytes h.

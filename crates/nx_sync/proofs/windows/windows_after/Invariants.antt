@@ -5,7 +5,7 @@ use Rattle.nx_sync.proofs.windows.windows_after.Given as goal
 -- the windows so far, and the last one of them
 abbrev pub invariant-loop-place : goal.invariant-loop-place
 invariant-loop-place l =
-    (length l.windows ≡ 64)
+    (length l.windows ≡ 21)
     × (l.last < 2 ^ 28)
     × (l.last ≡ window_after l.window (take l.place l.bits))
     × ((k : ℕ) → k < l.place → get_or l.windows k 0 ≡ window_after l.window (take (k + 1) l.bits))

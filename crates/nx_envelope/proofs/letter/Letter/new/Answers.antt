@@ -1,5 +1,5 @@
 use Rattle.std.proofs.Common.{sym, rules}
-use Rattle.nx_envelope.proofs.Headers.{letter_of-byte, letter_of-none}
+use Rattle.nx_envelope.proofs.LettersAndDigits.{letter_of-byte, letter_of-none}
 use Rattle.nx_envelope.proofs.letter.Letter.new.Goals as goal
 
 pub returns-then-is_ascii_uppercase-clause-letter : goal.returns-then-is_ascii_uppercase-clause-letter

@@ -1,6 +1,5 @@
-use Rattle.std.proofs.Common.{◌≡◌, ℕ, List, sym, ap, ◌∙◌, subst, Option, Some, None}
+use Rattle.std.proofs.Common.{◌≡◌, ℕ, List, sym, ap, ◌∙◌, Option, Some}
 use Rattle.std.proofs.Math.ListN.{set}
-use Rattle.circular_buffer.specs.Buffer.{Buffer}
 use Rattle.nx_memory.specs.Ring.{RingMemory}
 use Rattle.nx_memory.specs.Table.{index_of}
 use Rattle.nx_memory.specs.declared.entry.MemoryEntry.{MemoryEntry}

@@ -1,6 +1,3 @@
-use Rattle.std.proofs.Common.{ℕ, ◌≡◌, ap, sym, ◌∙◌}
-use Rattle.nx_memory.specs.Memory.{seconds_known}
-use Rattle.nx_memory.specs.Table.{is_recent_moment}
 use Rattle.nx_memory.proofs.Tables.{known_by_last}
 use Rattle.nx_memory.proofs.ring.RingRecallRecall.knows.Goals as goal
 

@@ -9,18 +9,17 @@ use Rattle.nx_sync.proofs.synchroniser.Synchroniser.skip_block.Goals as goal
 pub invariant_of-self : goal.invariant_of-self
 invariant_of-self c =
     let i = c.self.invariant in
-    let n = counted_by c.windows_after-windows.result (length c.args.block.now) c.first_lock.result (omega arith) c.first_lock.ensures.found c.first_lock.ensures.none in
+    let n = counted_by c.windows_after-windows.result (length c.args.block.now) c.count_before_lock-count.result (omega arith) c.count_before_lock-count.ensures in
     let within = n.within in
-    let count = c.unwrap_or-count.ensures in
-    (c.windows_after-windows.ensures.within (c.unwrap_or-count.result - 1) (omega arith), omega arith, i.2, i.3, i.4, i.5)
+    (c.windows_after-windows.ensures.within (c.count_before_lock-count.result - 1) (omega arith), omega arith, i.2, i.3, i.4, i.5)
 
 pub returns-then-count-gt0 : goal.returns-then-count-gt0
 returns-then-count-gt0 c =
     let block : List Bool = c.args.block.now in
     let windows : List ℕ = c.windows_after-windows.result in
-    let count : ℕ = c.unwrap_or-count.result in
+    let count : ℕ = c.count_before_lock-count.result in
     let held : Held = record { recent = c.self.inside.recent; seen = c.self.inside.seen; track = c.self.inside.track; wrong = c.self.inside.wrong.items } in
-    let n : Counted windows (length block) count = subst (Counted windows (length block)) (sym c.unwrap_or-count.ensures) (counted_by windows (length block) c.first_lock.result (omega arith) c.first_lock.ensures.found c.first_lock.ensures.none) in
+    let n : Counted windows (length block) count = counted_by windows (length block) count (omega arith) c.count_before_lock-count.ensures in
     let within = n.within in
     let late : 27 ≤ held.seen = omega (arith, c.requires.seen, ap (λ h. h.seen) c.self.view_is) in
     let i : count - 1 + 1 ≡ count = omega arith in
@@ -33,9 +32,9 @@ pub returns-else-count-gt0 : goal.returns-else-count-gt0
 returns-else-count-gt0 c =
     let block : List Bool = c.args.block.now in
     let windows : List ℕ = c.windows_after-windows.result in
-    let count : ℕ = c.unwrap_or-count.result in
+    let count : ℕ = c.count_before_lock-count.result in
     let old : Held = c.args.self.now in
-    let n : Counted windows (length block) count = subst (Counted windows (length block)) (sym c.unwrap_or-count.ensures) (counted_by windows (length block) c.first_lock.result (omega arith) c.first_lock.ensures.found c.first_lock.ensures.none) in
+    let n : Counted windows (length block) count = counted_by windows (length block) count (omega arith) c.count_before_lock-count.ensures in
     let z : 0 ≡ count = omega arith in
     let seen : old.seen ≤ 28 = omega (arith, c.self.invariant.1, ap (λ h. h.seen) c.self.view_is) in
     let recent = ap (λ h. h.recent) c.self.view_is in

@@ -1,5 +1,0 @@
-use Rattle.nx_fec.proofs.LineLaws.{Splits-unique}
-use Rattle.nx_fec.proofs.air_laws.one_reading.Goals as goal
-
-pub returns : goal.returns
-returns c = Splits-unique

@@ -1,5 +1,0 @@
-use Rattle.nx_fec.proofs.LineLaws.{spelling-injective}
-use Rattle.nx_fec.proofs.air_laws.one_spelling.Goals as goal
-
-pub returns : goal.returns
-returns c = spelling-injective

@@ -1,5 +1,0 @@
-use Rattle.nx_fec.proofs.EncodingLaws.{bit_lines-IsBitFile}
-use Rattle.nx_fec.proofs.air_laws.reading_of_writing.Goals as goal
-
-pub returns : goal.returns
-returns c = bit_lines-IsBitFile

@@ -1,0 +1,5 @@
+use Rattle.nx_fec.proofs.ReadingLaws.{HasFault-cause}
+use Rattle.nx_fec.proofs.laws.causes_of_faults.Goals as goal
+
+pub returns : goal.returns
+returns c = HasFault-cause

@@ -1,0 +1,5 @@
+use Rattle.nx_fec.proofs.LineLaws.{spelling-injective}
+use Rattle.nx_fec.proofs.laws.one_spelling.Goals as goal
+
+pub returns : goal.returns
+returns c = spelling-injective

@@ -1,0 +1,5 @@
+use Rattle.nx_fec.proofs.EncodingLaws.{bit_lines-IsBitFile}
+use Rattle.nx_fec.proofs.laws.reading_of_writing.Goals as goal
+
+pub returns : goal.returns
+returns c = bit_lines-IsBitFile

@@ -1,0 +1,7 @@
+pub mod LineLemmas
+pub mod MessageFaultLemmas
+pub mod FileLaws
+pub mod HeadLemmas
+pub mod BroadcastLemmas
+pub mod StationLemmas
+pub mod ReadingBack

@@ -1,0 +1,85 @@
+-- The positions of a message and of a list of messages (ITU-R M.540, form of a message; ITU-R M.625, mode B, for phasing
+-- and the end; how many positions of phasing are sent is this profile's).
+use Rattle.std.specs.Prelude.{◌≡◌, ℕ, ◌-◌, ◌/◌, ◌%◌, List, [], ◌∷◌, ◌++◌, length, map, replicate, slice_index}
+use Rattle.std.specs.List.{flat_map}
+use Rattle.nx_code.specs.Reading.{combination, shift_after_all}
+use Rattle.nx_code.specs.Spelling.{Spells}
+use Rattle.nx_code.specs.declared.shifts.Shift.{Shift}
+use Rattle.nx_code.specs.declared.spelling.Extent.{Extent}
+use Rattle.nx_code.specs.declared.shifts.Shift.TheVariants.{Letters, Figures}
+use Rattle.nx_envelope.specs.Header.{space}
+use Rattle.nx_envelope.specs.Identity.{identity_bytes}
+use Rattle.nx_envelope.specs.Marker.{start_marker, end_marker}
+use Rattle.nx_envelope.specs.Message.{text_of}
+use Rattle.nx_envelope.specs.Newline.{newline}
+use Rattle.nx_envelope.specs.MessageView.{MessageView}
+use Rattle.nx_envelope.specs.declared.identity.Identity.{Identity}
+use Rattle.nx_fec.specs.Emission.{SentPosition, phasing_position, traffic_position, end_position}
+
+-- the combination of a letter by its byte: that of A (65) is 1, that of Z (90) is 26
+abbrev pub letter_combination : ℕ → ℕ
+letter_combination byte = byte - 64
+
+-- the combinations whose figures are the digits 0 to 9
+abbrev pub digit_combination : ℕ → ℕ
+digit_combination digit = slice_index (16 ∷ 17 ∷ 23 ∷ 5 ∷ 18 ∷ 20 ∷ 25 ∷ 21 ∷ 9 ∷ 15 ∷ []) digit
+
+-- The head of a message: letter shift (29), Z, C, Z, C, space (31), station, subject, figure shift (30), the two digits
+-- of the number, carriage return (27) and line feed (28).
+unfoldable pub head : Identity → List ℕ
+head identity =
+    29 ∷ 26 ∷ 3 ∷ 26 ∷ 3 ∷ 31
+    ∷ letter_combination identity.b1.byte ∷ letter_combination identity.b2.byte
+    ∷ 30 ∷ digit_combination (identity.number / 10) ∷ digit_combination (identity.number % 10)
+    ∷ 27 ∷ 28 ∷ []
+
+-- The end of a message, by the shift that its text leaves in force: a letter shift if that is figures; N, N, N, N,
+-- carriage return, line feed, line feed.
+unfoldable pub ending : Shift → List ℕ
+ending Letters = 14 ∷ 14 ∷ 14 ∷ 14 ∷ 27 ∷ 28 ∷ 28 ∷ []
+ending Figures = 29 ∷ 14 ∷ 14 ∷ 14 ∷ 14 ∷ 27 ∷ 28 ∷ 28 ∷ []
+
+-- the combinations of a message: its head, its text spelled from the figure shift, its end
+pub record IsSpelled (message : MessageView) (numbers : List ℕ) : Type 0 where
+  pub text : List ℕ
+  pub spells : Spells (text_of message.lines) Figures text
+  pub whole : numbers ≡ head message.identity ++ (text ++ ending (shift_after_all (map combination text) Figures))
+
+-- the extent of the spelling of a text, from the figure shift on
+pub record IsExtent (bytes : List ℕ) (extent : Extent) : Type 0 where
+  pub numbers : List ℕ
+  pub spells : Spells bytes Figures numbers
+  pub long : extent.length ≡ length numbers
+  pub after : extent.shift ≡ shift_after_all (map combination numbers) Figures
+
+-- the combinations of each message of a list, in order
+abbrev pub AreSpelled : List MessageView → List (List ℕ) → Type 0
+AreSpelled [] [] = Unit {0}
+AreSpelled [] (numbers ∷ spellings) = ⊥
+AreSpelled (message ∷ messages) [] = ⊥
+AreSpelled (message ∷ messages) (numbers ∷ spellings) = IsSpelled message numbers × AreSpelled messages spellings
+
+-- positions of phasing, so many, and after them a message
+abbrev pub phased : ℕ → List ℕ → List SentPosition
+phased count numbers = replicate count phasing_position ++ map traffic_position numbers
+
+-- the positions in which spelled messages are sent: 72 of phasing and the first message, before each further message 36
+-- of phasing, and three of the end
+unfoldable pub layout : List (List ℕ) → List SentPosition
+layout [] = []
+layout (numbers ∷ spellings) = phased 72 numbers ++ (flat_map (phased 36) spellings ++ replicate 3 end_position)
+
+-- the positions of a list of messages
+pub record IsBroadcast (messages : List MessageView) (positions : List SentPosition) : Type 0 where
+  pub spellings : List (List ℕ)
+  pub each : AreSpelled messages spellings
+  pub whole : positions ≡ layout spellings
+
+-- the header of a message in the text of a receiver
+abbrev pub header : Identity → List ℕ
+header identity = start_marker ++ (space ∷ identity_bytes identity)
+
+-- what is printed of a message: its header and a newline, its text, NNNN and two newlines
+abbrev pub printed_text : MessageView → List ℕ
+printed_text message =
+    header message.identity ++ newline ∷ (text_of message.lines ++ (end_marker ++ newline ∷ newline ∷ []))

@@ -1,0 +1,18 @@
+-- The fault of a run that stands for the fault of a part of it (this profile).
+use Rattle.nx_fec.specs.declared.fault.ReadFault.{ReadFault}
+use Rattle.nx_fec.specs.declared.fault.ReadFault.TheVariants as read
+use Rattle.nx_station.specs.declared.fault.SendFault.{SendFault}
+use Rattle.nx_station.specs.declared.fault.SendFault.TheVariants as refusal
+use Rattle.nx_station.specs.declared.fault.SendRunFault.{SendRunFault}
+use Rattle.nx_station.specs.declared.fault.SendRunFault.TheVariants.{Read, FileTooLong, Send, Memory}
+
+-- for the fault of reading a file whole
+abbrev pub whole_fault : ReadFault → SendRunFault
+whole_fault read.Read = Read
+whole_fault read.FileTooLong = FileTooLong
+whole_fault (read.Memory error) = Memory error
+
+-- for the fault of an emission
+abbrev pub send_fault : SendFault → SendRunFault
+send_fault (refusal.Memory error) = Memory error
+send_fault refused = Send refused

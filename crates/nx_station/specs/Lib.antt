@@ -1,0 +1,5 @@
+pub mod Slots
+pub mod Broadcast
+pub mod Sendable
+pub mod MessageFile
+pub mod Faults

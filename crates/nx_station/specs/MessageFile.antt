@@ -1,0 +1,154 @@
+-- The lines of a message file, and its first fault (this profile).
+use Rattle.std.specs.Prelude.{◌≡◌, ◌≢◌, ℕ, ◌+◌, ◌≤◌, List, [], ◌∷◌, ◌++◌, length, Option, Some, None, ⊤}
+use Rattle.std.specs.List.{flat_map, AllByRecursion}
+use Rattle.nx_envelope.specs.Digits.{two_digits}
+use Rattle.nx_code.specs.Characters.{IsCapital}
+use Rattle.nx_envelope.specs.Message.{AreLines, IsMessageFault, text_of}
+use Rattle.nx_envelope.specs.MessageView.{MessageView}
+use Rattle.nx_envelope.specs.declared.message.MessageFault.{MessageFault}
+use Rattle.nx_envelope.specs.declared.message.MessageFault.TheVariants as message
+
+-- what a message file says of a message; the station comes from elsewhere
+pub record Entry : Type 0 where
+  pub subject : ℕ
+  pub number : ℕ
+  pub lines : List (List ℕ)
+
+-- what a file says of this message
+abbrev pub entry_of : MessageView → Entry
+entry_of message = record { subject = message.identity.b2.byte; number = message.identity.number; lines = message.lines }
+
+-- the byte that ends each line
+abbrev pub line_feed : ℕ
+line_feed = 10
+
+-- the first line of a message, without its end: `#`, the subject, two digits
+abbrev pub heading : ℕ → ℕ → List ℕ
+heading subject number = 35 ∷ subject ∷ two_digits number
+
+-- the line that ends a message, without its end: `;`
+abbrev pub closing : List ℕ
+closing = 59 ∷ []
+
+-- the lines of a message up to the last line of its text
+abbrev pub opening : Entry → List ℕ
+opening entry = heading entry.subject entry.number ++ line_feed ∷ text_of entry.lines
+
+-- all lines of a message
+abbrev pub spelling : Entry → List ℕ
+spelling entry = opening entry ++ (closing ++ line_feed ∷ [])
+
+-- the file of these messages
+abbrev pub file_of : List Entry → List ℕ
+file_of entries = flat_map spelling entries
+
+-- a subject is a letter, and a number has two digits
+pub record IsNamed (subject number : ℕ) : Type 0 where
+  pub letter : IsCapital subject
+  pub two_digits : number ≤ 99
+
+-- a message: its lines are those of a message
+pub record IsEntry (entry : Entry) : Type 0 where
+  pub named : IsNamed entry.subject entry.number
+  pub lines : AreLines entry.lines
+
+-- the file of these bytes is these messages
+pub record IsMessageFile (bytes : List ℕ) (entries : List Entry) : Type 0 where
+  pub whole : bytes ≡ file_of entries
+  pub each : AllByRecursion IsEntry entries
+
+-- bytes without a line feed
+abbrev pub IsOneLine : List ℕ → Type 0
+IsOneLine line = AllByRecursion (λ byte. byte ≢ line_feed) line
+
+-- a line inside a message that doesn't end it
+pub record IsInside (line : List ℕ) : Type 0 where
+  pub one_line : IsOneLine line
+  pub goes_on : line ≢ closing
+
+-- the beginning of a message that isn't ended: its lines are any that don't end it
+pub record IsBegun (entry : Entry) : Type 0 where
+  pub named : IsNamed entry.subject entry.number
+  pub lines : AllByRecursion IsInside entry.lines
+
+-- the bytes of the beginning of a message, if there is one, and how many lines they are
+abbrev pub begun : Option Entry → List ℕ
+begun None = []
+begun (Some entry) = opening entry
+
+abbrev pub lines_begun : Option Entry → ℕ
+lines_begun None = 0
+lines_begun (Some entry) = 1 + length entry.lines
+
+abbrev pub IsBegunIf : Option Entry → Type 0
+IsBegunIf None = Unit {0}
+IsBegunIf (Some entry) = IsBegun entry
+
+-- outside a message, a line that begins none
+pub record IsBadLine (bytes : List ℕ) : Type 0 where
+  pub line : List ℕ
+  pub more : List ℕ
+  pub whole : bytes ≡ line ++ line_feed ∷ more
+  pub one_line : IsOneLine line
+  pub begins_none : (subject number : ℕ) → IsNamed subject number → line ≢ heading subject number
+
+-- a message that is ended, and whose lines have a fault
+pub record IsBadText (bytes : List ℕ) (fault : MessageFault) : Type 0 where
+  pub entry : Entry
+  pub more : List ℕ
+  pub whole : bytes ≡ spelling entry ++ more
+  pub begun : IsBegun entry
+  pub faulty : IsMessageFault entry.lines fault
+
+-- the file ends inside a line, which stands behind so many others
+pub record IsCut (bytes : List ℕ) (behind : ℕ) : Type 0 where
+  pub before : Option Entry
+  pub line : List ℕ
+  pub whole : bytes ≡ begun before ++ line
+  pub sound : IsBegunIf before
+  pub one_line : IsOneLine line
+  pub some : line ≢ []
+  pub counted : behind ≡ lines_begun before
+
+-- the file ends inside a message
+pub record IsOpen (bytes : List ℕ) : Type 0 where
+  pub entry : Entry
+  pub whole : bytes ≡ opening entry
+  pub begun : IsBegun entry
+
+-- a fault of the lines of a message, and not of memory
+abbrev pub IsOfLines : MessageFault → Type 0
+IsOfLines (message.LongLine line) = ⊤
+IsOfLines (message.BadCharacter line at) = ⊤
+IsOfLines (message.Reserved line) = ⊤
+IsOfLines message.LongText = ⊤
+IsOfLines (message.Memory error) = ⊥
+
+-- the fault of a message file, with the number of a line, from 1: a line that begins no message; a message, by its first
+-- line, whose lines have this fault; the line in which the file ends; the message, by its first line, in which it ends
+pub data FileFault : Type 0 where
+  bad_line : ℕ → FileFault
+  bad_text : ℕ → MessageFault → FileFault
+  line_cut : ℕ → FileFault
+  not_ended : ℕ → FileFault
+
+-- The fault stands in the first message of these bytes, or in the first line where that begins none. So many lines
+-- stand before them in the file, and lines count from 1.
+abbrev pub IsFirstFault : ℕ → List ℕ → FileFault → Type 0
+IsFirstFault before bytes (bad_line line) = (line ≡ before + 1) × IsBadLine bytes
+IsFirstFault before bytes (bad_text line fault) = (line ≡ before + 1) × IsBadText bytes fault × IsOfLines fault
+IsFirstFault before bytes (line_cut line) = (behind : ℕ) × (line ≡ before + behind + 1) × IsCut bytes behind
+IsFirstFault before bytes (not_ended line) = (line ≡ before + 1) × IsOpen bytes
+
+-- how many lines messages have in a file
+abbrev pub lines_of : List Entry → ℕ
+lines_of [] = 0
+lines_of (entry ∷ entries) = (2 + length entry.lines) + lines_of entries
+
+-- The file of these bytes has this fault. Good messages stand before it, so it is the first.
+pub record IsRefused (bytes : List ℕ) (why : FileFault) : Type 0 where
+  pub entries : List Entry
+  pub rest : List ℕ
+  pub whole : bytes ≡ file_of entries ++ rest
+  pub each : AllByRecursion IsEntry entries
+  pub first : IsFirstFault (lines_of entries) rest why

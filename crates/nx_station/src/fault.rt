@@ -1,0 +1,110 @@
+//! Why messages are not sent.
+use nx_envelope::MessageFault;
+use nx_fec::{ReadFault, WriteFault};
+use std::alloc::AllocError;
+use thiserror::Error;
+
+/// Why a list of messages makes no emission.
+#[derive(Debug, PartialEq, Eq, Drop, Error)]
+pub enum SendFault {
+    /// There is no message.
+    #[error("no messages")]
+    NoMessages,
+    /// The message at this index, from 0, is the first of another station than the first message's.
+    #[error("message at {at} is of another station")]
+    MixedStations { at: u64 },
+    /// The station has no slot.
+    #[error("no slot")]
+    NoSlot,
+    /// The messages have this many positions, and a slot has no room for more than 4,286.
+    #[error("{positions} positions are too many for a slot")]
+    SlotFull { positions: u128 },
+    /// Memory ran out.
+    #[error("out of memory")]
+    Memory(AllocError),
+}
+
+/// Why a message file is not sent. Lines count from 1.
+#[derive(Debug, PartialEq, Eq, Drop, Error)]
+pub enum SendRunFault {
+    /// A read failed.
+    #[error("read failed")]
+    Read,
+    /// There is a byte past the limit of a file.
+    #[error("file longer than 1048576 bytes")]
+    FileTooLong,
+    /// The line stands outside a message and begins none.
+    #[error("line {line} is not understood")]
+    BadLine { line: u64 },
+    /// The lines of the message that begins at this line are refused.
+    #[error("message at line {line}: {fault}")]
+    Text { line: u64, fault: MessageFault },
+    /// The file ends inside the line.
+    #[error("line {line} has no end")]
+    LineCut { line: u64 },
+    /// The file ends inside the message that begins at this line.
+    #[error("message at line {line} is not ended")]
+    Open { line: u64 },
+    /// The messages make no emission, or the station has no next slot.
+    #[error("{0}")]
+    Send(SendFault),
+    /// A write failed, after the writer took this many bytes in the run.
+    #[error("write failed after {written} bytes")]
+    Write { written: u64 },
+    /// Memory ran out.
+    #[error("out of memory")]
+    Memory(AllocError),
+}
+
+impl From<AllocError> for SendRunFault {
+    ghost use Rattle.std.specs.Prelude.{◌≡◌};
+    ghost use Rattle.nx_station.specs.declared.fault.SendRunFault.TheVariants.{Memory};
+
+    ghost from_gives = { λ error made. made ≡ Memory error };
+
+    fn from(error: AllocError) -> SendRunFault {
+        SendRunFault::Memory(error)
+    }
+}
+
+impl From<ReadFault> for SendRunFault {
+    ghost use Rattle.std.specs.Prelude.{◌≡◌};
+    ghost use Rattle.nx_station.specs.Faults.{whole_fault};
+
+    ghost from_gives = { λ fault made. made ≡ whole_fault fault };
+
+    fn from(fault: ReadFault) -> SendRunFault {
+        match fault {
+            ReadFault::Read => SendRunFault::Read,
+            ReadFault::FileTooLong => SendRunFault::FileTooLong,
+            ReadFault::Memory(error) => SendRunFault::Memory(error),
+        }
+    }
+}
+
+impl From<SendFault> for SendRunFault {
+    ghost use Rattle.std.specs.Prelude.{◌≡◌};
+    ghost use Rattle.nx_station.specs.Faults.{send_fault};
+
+    ghost from_gives = { λ fault made. made ≡ send_fault fault };
+
+    fn from(fault: SendFault) -> SendRunFault {
+        match fault {
+            SendFault::Memory(error) => SendRunFault::Memory(error),
+            refused => SendRunFault::Send(refused),
+        }
+    }
+}
+
+impl From<WriteFault> for SendRunFault {
+    ghost use Rattle.std.specs.Prelude.{◌≡◌};
+    ghost use Rattle.nx_station.specs.declared.fault.SendRunFault.TheVariants.{Write};
+
+    ghost from_gives = { λ fault made. made ≡ Write fault.written };
+
+    fn from(fault: WriteFault) -> SendRunFault {
+        SendRunFault::Write {
+            written: fault.written,
+        }
+    }
+}

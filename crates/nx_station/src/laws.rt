@@ -1,0 +1,42 @@
+//! Laws of the definitions, each the contract of a function that does nothing.
+ghost use Rattle.std.specs.Prelude.{◌≡◌, ℕ, List, map};
+ghost use Rattle.std.specs.List.{AllByRecursion, flat_map};
+ghost use Rattle.nx_code.specs.Reading.{combination, shift_after_all, text};
+ghost use Rattle.nx_code.specs.declared.shifts.Shift.{Shift};
+ghost use Rattle.nx_code.specs.declared.shifts.Shift.TheVariants.{Letters};
+ghost use Rattle.nx_envelope.specs.Message.{AreLines};
+ghost use Rattle.nx_envelope.specs.MessageView.{MessageView};
+ghost use Rattle.nx_fec.specs.Emission.{SentPosition, reception};
+ghost use Rattle.nx_station.specs.Broadcast.{IsBroadcast, IsSpelled, printed_text};
+ghost use Rattle.nx_station.specs.MessageFile.{Entry, FileFault, IsMessageFile, IsRefused};
+
+/// A message file has one spelling, and one list of messages.
+pub fn a_message_file_has_one_reading()
+    ensures spelling { (one other : List ℕ) (entries : List Entry) → IsMessageFile one entries → IsMessageFile other entries → one ≡ other }
+    ensures list { (bytes : List ℕ) (one other : List Entry) → IsMessageFile bytes one → IsMessageFile bytes other → one ≡ other }
+{}
+
+/// A file has one outcome: its messages, or one fault.
+pub fn a_file_has_one_outcome()
+    ensures messages { (bytes : List ℕ) (entries : List Entry) (why : FileFault) → IsMessageFile bytes entries → IsRefused bytes why → ⊥ }
+    ensures fault { (bytes : List ℕ) (one other : FileFault) → IsRefused bytes one → IsRefused bytes other → one ≡ other }
+{}
+
+/// What is sent of a message reads back: its header, a newline, its text, NNNN and two newlines, from whatever shift. It
+/// leaves letters in force, so the next message is read as well; phasing and the end print nothing.
+pub fn messages_read_back()
+    ensures message { (message : MessageView) (numbers : List ℕ) (first : Shift) → IsSpelled message numbers
+        → text (map combination numbers) first ≡ printed_text message }
+    ensures shift { (message : MessageView) (numbers : List ℕ) (first : Shift) → IsSpelled message numbers
+        → shift_after_all (map combination numbers) first ≡ Letters }
+    ensures all { (messages : List MessageView) (positions : List SentPosition) (first : Shift) → IsBroadcast messages positions
+        → text (map reception positions) first ≡ flat_map printed_text messages }
+{}
+
+/// Messages have one list of positions.
+pub fn messages_have_one_broadcast()
+    ensures some { (messages : List MessageView) → AllByRecursion (λ (message : MessageView). AreLines message.lines) messages
+        → (positions : List SentPosition) × IsBroadcast messages positions }
+    ensures only { (messages : List MessageView) (one other : List SentPosition) → IsBroadcast messages one → IsBroadcast messages other
+        → one ≡ other }
+{}

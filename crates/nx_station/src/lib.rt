@@ -1,0 +1,12 @@
+//! A broadcast station (M.540): the slots of stations, the emissions of their messages, and message files.
+#![tactic(auto)]
+
+mod broadcast;
+mod fault;
+mod heads;
+pub mod laws;
+mod slots;
+
+pub use broadcast::{MAX_POSITIONS, emission};
+pub use fault::{SendFault, SendRunFault};
+pub use slots::next_slot;

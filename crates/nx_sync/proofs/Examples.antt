@@ -1,0 +1,76 @@
+-- The definitions of the locks, evaluated on worked examples.
+use Rattle.std.proofs.Common.{◌≡◌, ℕ, ◌==◌, ◌||◌, List, [], ◌∷◌, ◌++◌, length, Bool, true, false, refl, inl, inr, arith, Some, None, if◌then◌else◌}
+use Rattle.nx_code.specs.Phasing.{phasing_1, phasing_2, elements_of_phasing_1, elements_of_phasing_2}
+use Rattle.nx_code.specs.Word.{number_of, weight, elements, elements_from}
+use Rattle.nx_sync.specs.declared.step.Role.TheVariants.{Dx, Rx}
+use Rattle.nx_sync.specs.declared.step.Change.TheVariants.{Ended, LostLock}
+use Rattle.nx_sync.specs.Words.{word_at, first_role, role_of, is_wrong, wrong_in, wrong_until, words_of}
+use Rattle.nx_sync.specs.Locks.{before_dx, before_rx, last_28, IsPattern, Finds, releases_as_ended, change_at}
+use Rattle.nx_sync.specs.Windows.{is_lock_window}
+
+-- P2 P1 P2 P1 gives a lock after 28 bits, whose word 0 is a DX word; P1 P2 P1 P2 one whose word 0 is an RX word
+pub pattern_found : IsPattern (before_dx ++ true ∷ false ∷ []) 28
+unfolding before_dx
+pattern_found = record { enough = omega arith; heard = omega arith; pattern = inl refl }
+
+pub found_at_28 : Finds (before_dx ++ true ∷ false ∷ []) 0 28
+unfolding before_dx
+found_at_28 = record { after = omega arith; here = pattern_found; least = λ s after before here. omega (arith, here.enough) }
+
+pub first_is_dx : first_role before_dx 28 ≡ Dx
+unfolding first_role before_dx number_of
+first_is_dx = refl
+
+pub first_is_rx : first_role before_rx 28 ≡ Rx
+unfolding first_role before_rx number_of
+first_is_rx = refl
+
+-- the words after a pattern, with their roles
+pub two_words : words_of (before_dx ++ elements_of_phasing_2 ++ elements_of_phasing_1) 28 2 ≡ (phasing_2, Dx) ∷ (phasing_1, Rx) ∷ []
+unfolding words_of word_at first_role role_of before_dx number_of
+two_words = refl
+
+-- a phasing signal and BYBYBYB have the right weight; six B have not
+pub right_weights : (is_wrong 0x0F ≡ false) × (is_wrong 0x66 ≡ false) × (is_wrong 0x55 ≡ false)
+unfolding weight elements elements_from
+right_weights = (refl, refl, refl)
+
+pub wrong_weight : is_wrong 0x7E ≡ true
+unfolding weight elements elements_from
+wrong_weight = refl
+
+-- where each word is wrong, 39 are after word 38 and 40 after word 39, and never more than 64
+abbrev pub all_wrong : ℕ → ℕ
+all_wrong k = 0
+
+pub thirty_nine : wrong_until all_wrong 38 ≡ 39
+unfolding wrong_in weight elements elements_from
+thirty_nine = refl
+
+pub lost_at_forty : (change_at Dx all_wrong 38 ≡ None) × (change_at Dx all_wrong 39 ≡ Some LostLock)
+unfolding change_at releases_as_ended role_of wrong_in weight elements elements_from
+lost_at_forty = (refl, refl)
+
+pub sixty_four : wrong_until all_wrong 100 ≡ 64
+unfolding wrong_in weight elements elements_from
+sixty_four = refl
+
+-- words 2 and 4, which are DX words, are phasing signal 1: word 7 releases the lock, and with word 0 as RX none does
+abbrev pub end_at_four : ℕ → ℕ
+end_at_four k = if k == 2 || k == 4 then 0x0F else 0x66
+
+pub ended_at_seven : (releases_as_ended Dx end_at_four 6 ≡ false) × (releases_as_ended Dx end_at_four 7 ≡ true) × (releases_as_ended Rx end_at_four 7 ≡ false)
+unfolding releases_as_ended role_of
+ended_at_seven = (refl, refl, refl)
+
+-- ended and lost at one word: it is Ended
+abbrev pub end_and_loss : ℕ → ℕ
+end_and_loss k = if k == 36 || k == 38 then 0x0F else 0
+
+pub ended_where_lost : (wrong_until end_and_loss 41 ≡ 40) × (change_at Dx end_and_loss 40 ≡ None) × (change_at Dx end_and_loss 41 ≡ Some Ended)
+unfolding change_at releases_as_ended role_of wrong_in weight elements elements_from
+ended_where_lost = (refl, refl, refl)
+
+-- the patterns as windows, and a window that is none
+pub windows : (is_lock_window 0x1F987E6 ≡ true) × (is_lock_window 0xCC3F30F ≡ true) × (is_lock_window 0x1F987E7 ≡ false)
+windows = (refl, refl, refl)

@@ -1,0 +1,92 @@
+//! Worked examples.
+
+use super::run::Run;
+use crate::{Change, Synchroniser, first_lock};
+use std::alloc::AllocError;
+
+/// The elements of phasing signal 2 and phasing signal 1, in the order of sending.
+const PHASING_PAIR: &str = "01100111111000";
+
+/// P2 P1 P2 P1, after which a DX word follows, and P1 P2 P1 P2, after which an RX word follows.
+const PATTERNS: [u32; 2] = [0x1F9_87E6, 0x0CC3_F30F];
+
+/// P2 P1 P2 P1, then elements between, then phasing pairs: the worked examples of a slip by three
+/// elements (lost at 308, since 40 words are wrong by then) and of swapped roles.
+#[test]
+fn phasing_after_a_lock(rt: HostRuntime) -> Result<(), AllocError> {
+    for (between, pairs, changes) in [
+        ("000", 50, "28 Locked, 308 LostLock, 311 Locked"),
+        ("1111000", 20, "28 Locked, 70 Ended, 77 Locked"),
+    ] {
+        let mut run = Run::new(rt.alloc())?;
+        run.push_all(PHASING_PAIR)?;
+        run.push_all(PHASING_PAIR)?;
+        run.push_all(between)?;
+        for _ in 0..pairs {
+            run.push_all(PHASING_PAIR)?;
+        }
+        assert_eq!(rt; run.changes(), changes);
+        assert!(rt; run.is_locked());
+    }
+    Ok(())
+}
+
+/// All 28 bits are needed: the last 27 are none, though what no bit has filled reads as the missing
+/// one.
+#[test]
+fn needs_28_bits(rt: HostRuntime) -> Result<(), AllocError> {
+    for (skipped, locked) in [(1, false), (0, true)] {
+        let mut sync = Synchroniser::new(rt.alloc())?;
+        let mut last = None;
+        for bit in "0110011111100001100111111000".bytes().skip(skipped) {
+            last = sync.push(bit == b'1').change;
+        }
+        assert_eq!(rt; last == Some(Change::Locked), locked);
+        assert_eq!(rt; sync.is_locked(), locked);
+    }
+    Ok(())
+}
+
+/// A hunt hears the elements before the one that locks, all of them where none does.
+#[test]
+fn hunts(rt: HostRuntime) -> Result<(), AllocError> {
+    let mut bits = [false; 31];
+    for (place, bit) in bits.iter_mut().zip("0110011111100001100111111000".bytes()) {
+        *place = bit == b'1';
+    }
+    let mut sync = Synchroniser::new(rt.alloc())?;
+    assert_eq!(rt; sync.hunt(&bits), 27);
+    assert_eq!(rt; sync.push(false).change, Some(Change::Locked));
+    let mut sync = Synchroniser::new(rt.alloc())?;
+    assert_eq!(rt; sync.hunt(&[]), 0);
+    assert_eq!(rt; sync.hunt(&[false; 1000]), 1000);
+    assert!(rt; !sync.is_locked());
+    Ok(())
+}
+
+/// The least window that is a pattern, by the worked example.
+#[test]
+fn least_window(rt: HostRuntime) {
+    assert_eq!(rt; first_lock(&[0, 0x0CC3_F30F, 0x1F9_87E6]), Some(1));
+    assert_eq!(rt; first_lock(&[]), None);
+}
+
+/// One pattern, or two of them, at each place of 0 to 25 windows: the same as by looking at one
+/// after the other.
+#[test]
+fn window_at_each_place(rt: HostRuntime) {
+    for pattern in PATTERNS {
+        for length in 0..26 {
+            for place in 0..length {
+                let mut windows = [0x1F9_87E7; 25];
+                windows[place] = pattern;
+                windows[(place + 5).min(24)] = 0x1F9_87E6;
+                let windows = &windows[..length];
+                let plain = windows.iter().position(|window| PATTERNS.contains(window));
+                assert_eq!(rt; first_lock(windows), Some(place));
+                assert_eq!(rt; first_lock(windows), plain);
+            }
+            assert_eq!(rt; first_lock(&[0x0CC3_F30E; 25][..length]), None);
+        }
+    }
+}
