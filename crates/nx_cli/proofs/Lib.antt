@@ -1,3 +1,8 @@
 pub mod FaultKinds
+pub mod ArgumentsRead
+pub mod BuiltTree
+pub mod EachFound
+pub mod MomentGiven
+pub mod OneCall
 pub mod WordsLemmas
 pub mod ProgramLemmas

@@ -1,53 +1,127 @@
 -- What the outcome of a run says of its words.
-use Rattle.std.proofs.Common.{◌≡◌, ◌⊎◌, ℕ, List, Result, Ok, Err, Option, ap, ap₂, inl, inr, refl, subst}
+use Rattle.std.proofs.Common.{◌≡◌, ◌⊎◌, ℕ, List, Result, Ok, Err, Option, ap, ap₂, inl, inr, refl, subst, sym, ◌∙◌, arith}
 use Rattle.clap.specs.Words.{Text}
-use Rattle.nx_cli.specs.declared.program.Fault.{Fault}
-use Rattle.nx_cli.specs.declared.program.Fault.TheVariants as fault
+use Rattle.nx_cli.specs.declared.fault.CallFault.{CallFault}
+use Rattle.nx_cli.specs.declared.fault.CallFault.TheVariants as call
+use Rattle.nx_cli.specs.declared.fault.Fault.{Fault}
+use Rattle.nx_cli.specs.declared.fault.Fault.TheVariants as fault
 use Rattle.nx_cli.specs.declared.words.Call.{Call}
-use Rattle.nx_cli.specs.Program.{Devices, Ends, Performs, Succeeds, devices, fresh, run_status, status_of}
+use Rattle.nx_fec.specs.declared.fault.RunFault.{RunFault}
+use Rattle.nx_fec.specs.declared.fault.RunFault.TheVariants as run
+use Rattle.nx_cli.specs.Program.{Ends, Exits, Performs, Succeeds, Tells, fresh}
+use Rattle.nx_cli.specs.Status.{IsStatus, call_status, fault_status, run_status, status_of}
+use Rattle.nx_fec.specs.Transfers.{Devices, devices}
 use Rattle.nx_fec.specs.Devices.{CountedDevice}
 use Rattle.nx_cli.specs.Words.{IsRefused, Names}
 use Rattle.nx_cli.proofs.WordsLemmas.{help_not_refused, named_not_help, named_not_refused, named_once}
-
--- words that are refused end with status 64, or with 1 for want of memory
-pub refused-ends : {R W : Type 0} (words : List Text) (d : Devices R W) (outcome : Result (Unit {0}) Fault) → Ends words d outcome → IsRefused words → (status_of outcome ≡ 64) ⊎ (status_of outcome ≡ 1)
-refused-ends words d (Ok done) ends refused = elim ends [
-  | inl runs ↦ absurd (named_not_refused words runs.1.call runs.1.named refused)
-  | inr help ↦ absurd (help_not_refused words help.asked refused)
-]
-refused-ends words d (Err (fault.Words answer)) ends refused = inl refl
-refused-ends words d (Err fault.NoText) ends refused = absurd ends
-refused-ends words d (Err (fault.Run why)) ends refused = elim ends [
-  | inl runs ↦ absurd (named_not_refused words runs.call runs.named refused)
-  | inr other ↦ elim other [
-    | inl help ↦ absurd (help_not_refused words help.asked refused)
-    | inr lacks ↦ inr (ap run_status lacks.memory)
-  ]
-]
-
--- a success of words that name a call is the success of that call
-pub success-named : {R W : Type 0} (words : List Text) (d : Devices R W) (call : Call) → Names words call → Succeeds words d → (count : ℕ) × Performs call d (Ok count)
-success-named words d call named success = elim success [
-  | inl runs ↦ (
-    runs.0,
-    let P : Call → Type 0 = λ c. Performs c d (Ok runs.0) in
-        subst P (named_once words runs.1.call call runs.1.named named) runs.1.performed,
-  )
-  | inr help ↦ absurd (named_not_help words call named help.asked)
-]
 
 -- what was wrapped, with no failed call
 fresh-is : {T : Type 0} (c : CountedDevice T) (device : T) → c.inner ≡ device → c.failures ≡ 0 → c ≡ fresh device
 fresh-is {T} c device inner none =
     let make : T → ℕ → CountedDevice T = λ i n. record { inner = i; failures = n } in ap₂ make inner none
 
--- a run over devices that were wrapped is one over fresh devices
-pub ends-fresh : {R W : Type 0} (words : List Text) (remaining : R → Option (List ℕ)) (contents : W → Option (List ℕ))
-    (input : R) (reader reader_after : CountedDevice R) (output : W) (writer writer_after : CountedDevice W) (outcome : Result (Unit {0}) Fault)
+-- how a run over devices that were wrapped ends, told of fresh ones
+pub exits-fresh : {R W : Type 0} (words : List Text) (remaining : R → Option (List ℕ)) (contents : W → Option (List ℕ))
+    (input : R) (reader reader_after : CountedDevice R) (output : W) (writer writer_after : CountedDevice W) (status : ℕ)
     → reader.inner ≡ input → reader.failures ≡ 0 → writer.inner ≡ output → writer.failures ≡ 0
-    → Ends words (devices remaining contents reader reader_after writer writer_after) outcome
-    → Ends words (devices remaining contents (fresh input) reader_after (fresh output) writer_after) outcome
-ends-fresh {R} {W} words remaining contents input reader reader_after output writer writer_after outcome input_is unread output_is unwritten ends =
-    let P : Devices R W → Type 0 = λ d. Ends words d outcome in
+    → Exits words (devices remaining contents reader reader_after writer writer_after) status
+    → Exits words (devices remaining contents (fresh input) reader_after (fresh output) writer_after) status
+exits-fresh {R} {W} words remaining contents input reader reader_after output writer writer_after status input_is unread output_is unwritten exits =
+    let P : Devices R W → Type 0 = λ d. Exits words d status in
     let on : CountedDevice R → CountedDevice W → Devices R W = λ r w. devices remaining contents r reader_after w writer_after in
-    subst P (ap₂ on (fresh-is reader input input_is unread) (fresh-is writer output output_is unwritten)) ends
+    subst P (ap₂ on (fresh-is reader input input_is unread) (fresh-is writer output output_is unwritten)) exits
+
+-- a fault of a call has status 1 or 2
+run-status : (why : RunFault) → (run_status why ≡ 1) ⊎ (run_status why ≡ 2)
+run-status run.Read = inl refl
+run-status (run.Write written) = inl refl
+run-status (run.Memory want) = inl refl
+run-status run.FileTooLong = inr refl
+run-status (run.LineLong line) = inr refl
+run-status (run.LineCut line) = inr refl
+run-status (run.BadLine line) = inr refl
+run-status (run.Ragged bits) = inr refl
+run-status (run.NoSuchCharacter at) = inr refl
+
+call-status : (why : CallFault) → (call_status why ≡ 1) ⊎ (call_status why ≡ 2)
+call-status (call.Run why) = run-status why
+call-status call.NoSlot = inr refl
+
+fault-status : (why : Fault) → (fault_status why ≡ 1) ⊎ ((fault_status why ≡ 2) ⊎ (fault_status why ≡ 64))
+fault-status (fault.Words answer) = inr (inr refl)
+fault-status fault.NoText = inr (inr refl)
+fault-status fault.Station = inr (inr refl)
+fault-status (fault.Call why) = elim (call-status why) [ inl one ↦ inl one | inr two ↦ inr (inl two) ]
+
+outcome-status : (outcome : Result (Unit {0}) Fault) → IsStatus (status_of outcome)
+outcome-status (Ok done) = inl refl
+outcome-status (Err why) = inr (fault-status why)
+
+-- a run exits with one of the statuses
+pub status-exits : {R W : Type 0} (words : List Text) (d : Devices R W) (status : ℕ) → Exits words d status → IsStatus status
+status-exits words d status exits =
+    let P : ℕ → Type 0 = λ n. IsStatus n in subst P (sym exits.status_is) (outcome-status exits.outcome)
+
+success-ends : {R W : Type 0} (words : List Text) (d : Devices R W) (outcome : Result (Unit {0}) Fault) → Ends words d outcome → status_of outcome ≡ 0 → Succeeds words d
+success-ends words d (Ok done) ends zero = ends
+success-ends words d (Err why) ends zero = elim (fault-status why) [
+  | inl one ↦ absurd (omega arith)
+  | inr other ↦ elim other [ inl two ↦ absurd (omega arith) | inr words ↦ absurd (omega arith) ]
+]
+
+-- status 0 is a success
+pub success-exits : {R W : Type 0} (words : List Text) (d : Devices R W) (status : ℕ) → Exits words d status → status ≡ 0 → Succeeds words d
+success-exits words d status exits zero = success-ends words d exits.outcome exits.ends (sym exits.status_is ∙ zero)
+
+words-end : {R W : Type 0} (words : List Text) (d : Devices R W) (outcome : Result (Unit {0}) Fault) → Ends words d outcome → status_of outcome ≡ 64 → IsRefused words
+words-end words d (Ok done) ends is = absurd (omega arith)
+words-end words d (Err (fault.Words answer)) ends is = inl ends.0
+words-end words d (Err fault.NoText) ends is = absurd ends
+words-end words d (Err fault.Station) ends is = inr ends.0
+words-end words d (Err (fault.Call why)) ends is = elim (call-status why) [ inl one ↦ absurd (omega arith) | inr two ↦ absurd (omega arith) ]
+
+-- status 64 is a refusal of the words
+pub words-exit : {R W : Type 0} (words : List Text) (d : Devices R W) (status : ℕ) → Exits words d status → status ≡ 64 → IsRefused words
+words-exit words d status exits is = words-end words d exits.outcome exits.ends (sym exits.status_is ∙ is)
+
+refused-ends : {R W : Type 0} (words : List Text) (d : Devices R W) (outcome : Result (Unit {0}) Fault) → Ends words d outcome → IsRefused words → (status_of outcome ≡ 64) ⊎ (status_of outcome ≡ 1)
+refused-ends words d (Ok done) ends refused = elim ends [
+  | inl runs ↦ absurd (named_not_refused words runs.call runs.named refused)
+  | inr help ↦ absurd (help_not_refused words help.asked refused)
+]
+refused-ends words d (Err (fault.Words answer)) ends refused = inl refl
+refused-ends words d (Err fault.NoText) ends refused = absurd ends
+refused-ends words d (Err fault.Station) ends refused = inl refl
+refused-ends words d (Err (fault.Call why)) ends refused = elim ends [
+  | inl runs ↦ absurd (named_not_refused words runs.call runs.named refused)
+  | inr other ↦ elim other [
+    | inl help ↦ absurd (help_not_refused words help.asked refused)
+    | inr lacks ↦ inr (ap call_status lacks.memory)
+  ]
+]
+
+-- words that are refused end with status 64, or with 1 for want of memory
+pub refused-exits : {R W : Type 0} (words : List Text) (d : Devices R W) (status : ℕ) → Exits words d status → IsRefused words → (status ≡ 64) ⊎ (status ≡ 1)
+refused-exits words d status exits refused = elim (refused-ends words d exits.outcome exits.ends refused) [
+  | inl is ↦ inl (exits.status_is ∙ is)
+  | inr is ↦ inr (exits.status_is ∙ is)
+]
+
+-- a success of words that name a call is the success of that call
+pub success-named : {R W : Type 0} (words : List Text) (d : Devices R W) (call : Call) → Names words call → Succeeds words d → Performs call d (Ok tt)
+success-named words d call named success = elim success [
+  | inl runs ↦ let P : Call → Type 0 = λ c. Performs c d (Ok tt) in subst P (named_once words runs.call call runs.named named) runs.performed
+  | inr help ↦ absurd (named_not_help words call named help.asked)
+]
+
+-- what a run answered is told
+pub tells-ok : {N F : Type 0} (name : F → CallFault) (answers : Result N F → Type 0) (answer : N) → answers (Ok answer) → Tells name answers (Ok tt)
+tells-ok name answers answer answered = record { own = Ok answer; answered = answered; told = refl }
+
+pub tells-err : {N F : Type 0} (name : F → CallFault) (answers : Result N F → Type 0) (outcome : Result (Unit {0}) CallFault) (why : F) (fault : CallFault) → answers (Err why)
+    → outcome ≡ Err fault → fault ≡ name why → Tells name answers outcome
+tells-err name answers outcome why fault answered is named = record {
+  own = Err why;
+  answered = answered;
+  told = is ∙ ap (λ (f : CallFault). Err f) named;
+}

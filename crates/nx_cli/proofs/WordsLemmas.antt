@@ -1,7 +1,8 @@
 -- Clap's reading of the program's words: the command tree is one of those that clap's clauses
 -- speak of exactly, and a command that it enters is the command of a call.
-use Rattle.std.proofs.Common.{◌≡◌, ◌≢◌, ◌∙◌, Bool, true, false, List, [], ◌∷◌, Option, Some, None, IsSome, is_some, ◌⊎◌, IfNone, IfSome, find, if◌then◌else◌, option_map, refl, ap, cond, inl, inr, sym, subst, Box, Global}
+use Rattle.std.proofs.Common.{ℕ, codes, ◌≤◌, ◌≡◌, ◌≢◌, ◌∙◌, Bool, true, false, List, [], ◌∷◌, Option, Some, None, IsSome, is_some, ◌⊎◌, IfNone, IfSome, IfOk, IfErr, Result, find, if◌then◌else◌, option_map, refl, ap, ap₂, cond, inl, inr, sym, subst, Box, Global}
 use Rattle.std.specs.Box.{box_value}
+use Rattle.std.specs.Option.{ok_or}
 use Rattle.clap.specs.Words.{HasKind, Kinds, IsAmong, Row, Shape, Text, built, fault_of, is_simple, is_simple_and_free, kind_of, subcommand_of, subcommand_name_of, subcommand_rows, subcommand_rows_of}
 use Rattle.clap.specs.Simple.{argument_words, entered, label_of, names_of, rows_at}
 use Rattle.clap.specs.Walk.{answers_to, nothing_held, stop_after, walk}
@@ -11,14 +12,19 @@ use Rattle.clap.proofs.OnLiterals.{clap_on_literals}
 use Rattle.clap.specs.declared.error.Error.{Error}
 use Rattle.clap.specs.declared.error.kind.ErrorKind.{ErrorKind}
 use Rattle.clap.specs.declared.error.kind.ErrorKind.TheVariants.{DisplayHelp, OutOfMemory}
+use Rattle.clap.specs.declared.error.kind.ErrorKind.TheVariants as kind
 use Rattle.clap.specs.declared.parser.matches.ArgMatches.{ArgMatches}
 use Rattle.clap.specs.declared.parser.matches.ArgMatches.TheViews.{out-ArgMatches, out-SubCommand}
 use Rattle.clap.specs.declared.parser.matches.SubCommand.{SubCommand}
 use Rattle.nx_cli.specs.declared.words.Call.{Call}
-use Rattle.nx_cli.specs.declared.words.Call.TheVariants.{Decode, Encode}
 use Rattle.nx_cli.specs.declared.words.WordsFault.{WordsFault}
-use Rattle.nx_cli.specs.declared.words.WordsFault.TheVariants.{Help, Refused, Memory}
-use Rattle.nx_cli.specs.Words.{AsksForHelp, Explains, IsRefused, Names, Sorts, navtex, word_of}
+use Rattle.nx_cli.specs.declared.words.WordsFault.TheVariants.{Help, Refused, Station, Memory}
+use Rattle.nx_cli.specs.Words.{AsksForHelp, Explains, HasArguments, IsMoment, IsRefused, IsStation, LacksStation, Names, Sorts, navtex, word_of}
+use Rattle.nx_cli.proofs.EachFound.{Each, found_is}
+use Rattle.nx_cli.proofs.MomentGiven.{moment-given, taken-command}
+use Rattle.nx_cli.proofs.OneCall.{call_or_none, differ, moment_once, same_call}
+use Rattle.nx_envelope.specs.declared.letter.Letter.{Letter}
+use Rattle.nx_cli.specs.declared.words.Call.TheVariants.{Code, Decode, Encode, Slots}
 use Rattle.nx_cli.proofs.FaultKinds.{HasNoHelp, IsUniform, kinds_cases, level-nil, u-level, u-none, u-option, uniform_excludes}
 
 pub navtex-is_simple : is_simple navtex ≡ true
@@ -29,46 +35,6 @@ pub navtex-is_simple_and_free : is_simple_and_free navtex ≡ true
 unfolding clap_on_literals
 navtex-is_simple_and_free = refl
 
--- what holds of each element, by recursion
-abbrev Each : {X : Type 0} → (X → Type 0) → List X → Type 0
-Each P [] = Unit {0}
-Each P (x ∷ xs) = P x × Each P xs
-
-found_is : {X : Type 0} (P : X → Type 0) (test : X → Bool) (xs : List X) → Each P xs → IfSome (find test xs) P
-found_is P test [] each = tt
-found_is {X} P test (x ∷ xs) each =
-    elim (test x) as (λ b. IfSome (cond {A = Option X} b (Some x) (find test xs)) P) [
-      | true ↦ each.0
-      | false ↦ found_is P test xs each.1
-    ]
-
--- the command has the name of a call
-abbrev IsOfCall : Shape → Type 0
-IsOfCall s = (call : Call) × (s.name ≡ word_of call)
-
-abbrev rows_by : Text × List Text → Shape → Text × List Row
-rows_by p s = rows_at s p.1
-
--- the name of what was entered is the word of a call
-abbrev EntersCall : Option (Text × List Row) → Type 0
-EntersCall e = (call : Call) × (option_map (λ p. p.0) e ≡ Some (word_of call))
-
-subs_are_calls : Each IsOfCall (built navtex).subs
-subs_are_calls = ((Decode, refl), ((Encode, refl), tt))
-
-entered_from_found : (p : Text × List Text) (found : Option Shape) → IfSome found IsOfCall → IfSome (option_map (rows_by p) found) (λ _. EntersCall (option_map (rows_by p) found))
-entered_from_found p None of_call = tt
-entered_from_found p (Some s) of_call = (of_call.0, ap Some of_call.1)
-
-entered_at : (stop : Option (Text × List Text)) → IfSome (entered (built navtex) stop) (λ _. EntersCall (entered (built navtex) stop))
-entered_at None = tt
-entered_at (Some p) = entered_from_found p (find (λ s. answers_to p.0 (label_of s)) (built navtex).subs)
-    (found_is IsOfCall (λ s. answers_to p.0 (label_of s)) (built navtex).subs subs_are_calls)
-
--- the command that the words enter, if they enter one, is the command of a call
-pub entered_is_call : (words : List Text) → IfSome (subcommand_of navtex words) (λ _. EntersCall (subcommand_of navtex words))
-entered_is_call words = entered_at (stop_after (built navtex).top.rules (names_of (built navtex)) (argument_words navtex words))
-
 pub explained : (words : List Text) (error : Error) (fault : WordsFault) → HasKind (fault_of navtex words) error → Sorts error fault → Explains words fault
 explained words error (Help answer) kinds sorts = elim kinds [
   | inl memory ↦ absurd (let e : OutOfMemory ≡ DisplayHelp = sym memory ∙ sorts.1 in cc)
@@ -78,6 +44,7 @@ explained words error (Refused answer) kinds sorts = elim kinds [
   | inl memory ↦ absurd (sorts.2 memory)
   | inr among ↦ (kind_of error, sorts.1, among)
 ]
+explained words error Station kinds sorts = absurd sorts
 explained words error (Memory want) kinds sorts = tt
 
 name_at : (b : Option (Box SubCommand Global)) → option_map (λ b. (out-SubCommand (box_value b)).name.now) b ≡ option_map (λ p. p.0) (subcommand_rows b)
@@ -88,31 +55,26 @@ name_at (Some b) = refl
 pub name_of_rows : (m : ArgMatches) → subcommand_name_of m ≡ option_map (λ p. p.0) (subcommand_rows_of m)
 name_of_rows m = name_at (out-ArgMatches m).subcommand
 
-call_from : (e : Option (Text × List Row)) (name : Text) → IfSome e (λ _. EntersCall e) → option_map (λ p. p.0) e ≡ Some name → (call : Call) × (name ≡ word_of call)
-call_from None name enters is = absurd (cc)
-call_from (Some p) name enters is = (enters.0, let e : Some p.0 ≡ Some (word_of enters.0) = enters.1 in cc)
+-- a pair from its parts
+pair_from : {A B : Type 0} (e : Option (A × B)) (a : A) (b : B) → option_map (λ p. p.0) e ≡ Some a → option_map (λ p. p.1) e ≡ Some b → e ≡ Some (a, b)
+pair_from None a b first second = absurd (cc)
+pair_from (Some p) a b first second =
+    let is_a : p.0 ≡ a = cc in
+    let is_b : p.1 ≡ b = cc in
+    ap₂ (λ x y. Some (x, y)) is_a is_b
 
--- the words enter the command that the parse found
-pub entered_name : (words : List Text) (m : ArgMatches) (name : Text) → subcommand_rows_of m ≡ subcommand_of navtex words → subcommand_name_of m ≡ Some name
-    → option_map (λ p. p.0) (subcommand_of navtex words) ≡ Some name
-entered_name words m name rows is =
-    let first : Option (Text × List Row) → Option Text = option_map (λ p. p.0) in
-    ap first (sym rows) ∙ (sym (name_of_rows m) ∙ is)
+-- the words enter the command that the parse found, with its arguments
+pub entered_pair : (words : List Text) (m : ArgMatches) (name : Text) (arguments : List Row) → subcommand_rows_of m ≡ subcommand_of navtex words
+    → subcommand_name_of m ≡ Some name → option_map (λ p. p.1) (subcommand_rows_of m) ≡ Some arguments → subcommand_of navtex words ≡ Some (name, arguments)
+entered_pair words m name arguments rows name_is arguments_are =
+    sym rows ∙ pair_from (subcommand_rows_of m) name arguments (sym (name_of_rows m) ∙ name_is) arguments_are
 
--- a command that the words enter is the command of a call
-pub name_is_of_call : (words : List Text) (name : Text) → option_map (λ p. p.0) (subcommand_of navtex words) ≡ Some name → (call : Call) × (name ≡ word_of call)
-name_is_of_call words name is = call_from (subcommand_of navtex words) name (entered_is_call words) is
-
-pub is_some_of_call : (found : Option Call) (name : Text) → IfNone found ((call : Call) → name ≢ word_of call) → (call : Call) × (name ≡ word_of call) → IsSome found
-is_some_of_call None name none call = absurd (none call.0 call.1)
-is_some_of_call (Some call) name none of_call = refl
-
-pub word_of_found : (found : Option Call) (call : Call) (name : Text) → IfSome found (λ k. name ≡ word_of k) → found ≡ Some call → name ≡ word_of call
-word_of_found found call name some is =
-    let P : Option Call → Type 0 = λ o. IfSome o (λ k. name ≡ word_of k) in subst P is some
+none_among : (kinds : Kinds) (k : ErrorKind) → kinds ≡ [] → IsAmong k kinds → ⊥
+none_among [] k e among = among
+none_among (x ∷ xs) k e among = absurd (cc)
 
 calls_without_help : Each HasNoHelp (built navtex).subs
-calls_without_help = (refl, (refl, tt))
+calls_without_help = (refl, (refl, (refl, (refl, tt))))
 
 IfSome-weaker : {X : Type 0} (o : Option X) (P Q : X → Type 0) → ((x : X) → P x → Q x) → IfSome o P → IfSome o Q
 IfSome-weaker None P Q weaker some = tt
@@ -131,49 +93,138 @@ faults_are_uniform words =
     (entered_fault (built navtex) stop) refl (u-entered stop)
 
 pub help_not_refused : (words : List Text) → AsksForHelp words → IsRefused words → ⊥
-help_not_refused words help refused = uniform_excludes (fault_of navtex words) refused.0 (faults_are_uniform words) help refused.2 refused.1
-
-none_among : (kinds : Kinds) (k : ErrorKind) → kinds ≡ [] → IsAmong k kinds → ⊥
-none_among [] k e among = among
-none_among (x ∷ xs) k e among = absurd (cc)
+help_not_refused words help (inl refused) =
+    uniform_excludes (fault_of navtex words) refused.0 (faults_are_uniform words) help refused.2 refused.1
+help_not_refused words help (inr lacks) = none_among (fault_of navtex words) DisplayHelp lacks.taken help
 
 pub named_not_help : (words : List Text) (call : Call) → Names words call → AsksForHelp words → ⊥
 named_not_help words call named help = none_among (fault_of navtex words) DisplayHelp named.taken help
 
+-- a call whose word is that of a command that wants a station has one
+has-station : (call : Call) (arguments : List Row) → word_of call ≡ codes "slots" → HasArguments call arguments
+    → (letter : Letter) × IsStation arguments letter
+has-station Decode arguments wants given = absurd (differ _ _ refl wants)
+has-station Encode arguments wants given = absurd (differ _ _ refl wants)
+has-station Code arguments wants given = absurd (differ _ _ refl wants)
+has-station (Slots station moment) arguments wants given = (station, given.0)
+
+abbrev entry : Text → List Row → Text × List Row
+entry name rows = (name, rows)
+
+named-lacks : (call : Call) (name : Text) (rows other : List Row) → name ≡ codes "slots" → Some (entry (word_of call) rows) ≡ Some (entry name other)
+    → HasArguments call rows → ((letter : Letter) → IsStation other letter → ⊥) → ⊥
+named-lacks call name rows other wants same given none =
+    let pair : entry (word_of call) rows ≡ entry name other = cc in
+    let word = ap (λ (p : Text × List Row). p.0) pair in
+    let station = has-station call rows (word ∙ wants) given in
+    let P : List Row → Type 0 = λ r. IsStation r station.0 in
+    none station.0 (subst P (ap (λ (p : Text × List Row). p.1) pair) station.1)
+
 pub named_not_refused : (words : List Text) (call : Call) → Names words call → IsRefused words → ⊥
-named_not_refused words call named refused = none_among (fault_of navtex words) refused.0 named.taken refused.2
+named_not_refused words call named (inl refused) = none_among (fault_of navtex words) refused.0 named.taken refused.2
+named_not_refused words call named (inr lacks) =
+    named-lacks call _ named.arguments lacks.arguments refl (sym named.command ∙ lacks.entered) named.given lacks.no_letter
 
--- the call of this word
-called : Text → Option Call
-called name = if bytes_eq name (word_of Decode) then Some Decode
-    else (if bytes_eq name (word_of Encode) then Some Encode else None)
+-- words with no call, which clap takes, lack a station
+pub lacks_station : (words : List Text) (name : Text) (arguments : List Row) → fault_of navtex words ≡ [] → subcommand_of navtex words ≡ Some (name, arguments)
+    → ((call : Call) → name ≡ word_of call → HasArguments call arguments → ⊥) → LacksStation words
+lacks_station words name arguments taken entered none = elim (taken-command words name arguments taken entered) [
+  | inl decode ↦ absurd (none Decode decode tt)
+  | inr (inl encode) ↦ absurd (none Encode encode tt)
+  | inr (inr (inl code)) ↦ absurd (none Code code tt)
+  | inr (inr (inr (slots, gives))) ↦ record {
+    taken = taken;
+    arguments = arguments;
+    entered = (entered ∙ ap (λ (t : Text). Some (t, arguments)) slots);
+    no_letter = λ letter is.
+        let moment = moment-given arguments gives in none (Slots letter moment.0) slots (is, moment.1);
+  }
+]
 
-called-word_of : (call : Call) → called (word_of call) ≡ Some call
-unfolding called
-called-word_of Decode = refl
-called-word_of Encode = refl
+-- the moment of a call of this word is in its range
+moment-bound : (words : List Text) (name : Text) (arguments : List Row) (moment : ℕ) → fault_of navtex words ≡ [] → subcommand_of navtex words ≡ Some (name, arguments)
+    → name ≡ codes "slots" → IsMoment arguments moment → moment ≤ 32503679999
+moment-bound words name arguments moment taken entered wants is = elim (taken-command words name arguments taken entered) [
+  | inl decode ↦ absurd (differ _ _ refl (sym decode ∙ wants))
+  | inr (inl encode) ↦ absurd (differ _ _ refl (sym encode ∙ wants))
+  | inr (inr (inl code)) ↦ absurd (differ _ _ refl (sym code ∙ wants))
+  | inr (inr (inr command)) ↦
+      let given = moment-given arguments command.1 in
+      let P : ℕ → Type 0 = λ n. n ≤ 32503679999 in
+      subst P (moment_once arguments given.0 moment given.1 is) given.2
+]
 
-word_of-same : (a b : Call) → word_of a ≡ word_of b → a ≡ b
-word_of-same a b e =
-    let h : Some a ≡ Some b = sym (called-word_of a) ∙ (ap called e ∙ called-word_of b) in cc
+pub slots-bound : (words : List Text) (station : Letter) (moment : ℕ) → Names words (Slots station moment) → moment ≤ 32503679999
+slots-bound words station moment named = moment-bound words (codes "slots") named.arguments moment named.taken named.command refl named.given.1
 
-pub named_once : (words : List Text) (a b : Call) → Names words a → Names words b → a ≡ b
-named_once words a b first second =
-    word_of-same a b (let e : Some (word_of a) ≡ Some (word_of b) = sym first.command ∙ second.command in cc)
+-- where clap takes the words, they enter a command
+pub taken_enters : (words : List Text) → fault_of navtex words ≡ [] → is_some (subcommand_of navtex words) ≡ true
+taken_enters words taken =
+    level-nil (built navtex).top (names_of (built navtex)) nothing_held (argument_words navtex words) _ _ refl taken
 
-enters_call : (e : Option (Text × List Row)) → is_some e ≡ true → IfSome e (λ _. EntersCall e) → EntersCall e
-enters_call None is enters = absurd (cc)
-enters_call (Some p) is enters = enters
-
-taken_is_named : (words : List Text) → fault_of navtex words ≡ [] → (call : Call) × Names words call
-taken_is_named words taken =
-    let entered = level-nil (built navtex).top (names_of (built navtex)) nothing_held (argument_words navtex words) _ _ refl taken in
-    let call = enters_call (subcommand_of navtex words) entered (entered_is_call words) in
-    (call.0, record { taken = taken; command = call.1 })
+named_by : (words : List Text) → fault_of navtex words ≡ [] → (e : Option (Text × List Row)) → subcommand_of navtex words ≡ e → is_some e ≡ true
+    → ((call : Call) × Names words call) ⊎ LacksStation words
+named_by words taken None entered some = absurd (cc)
+named_by words taken (Some p) entered some = elim (call_or_none p.0 p.1) [
+  | inl call ↦ inl (
+    call.0,
+    record {
+      taken = taken;
+      arguments = p.1;
+      command = entered ∙ ap (λ (t : Text). Some (t, p.1)) call.1;
+      given = call.2;
+    },
+  )
+  | inr none ↦ inr (lacks_station words p.0 p.1 taken entered none)
+]
 
 -- each list of words names a call, asks for help or is refused
 pub read_as_one : (words : List Text) → ((call : Call) × Names words call) ⊎ (AsksForHelp words ⊎ IsRefused words)
 read_as_one words = elim (kinds_cases (fault_of navtex words)) [
-  | inl taken ↦ inl (taken_is_named words taken)
-  | inr fault ↦ inr fault
+  | inl taken ↦ elim (named_by words taken (subcommand_of navtex words) refl (taken_enters words taken)) [
+    | inl named ↦ inl named
+    | inr lacks ↦ inr (inr (inr lacks))
+  ]
+  | inr (inl help) ↦ inr (inl help)
+  | inr (inr refused) ↦ inr (inr (inl refused))
 ]
+
+-- and it names at most one
+pub named_once : (words : List Text) (a b : Call) → Names words a → Names words b → a ≡ b
+named_once words a b first second =
+    let same : Some (word_of a, first.arguments) ≡ Some (word_of b, second.arguments) = sym first.command ∙ second.command in
+    let is : (word_of a, first.arguments) ≡ (word_of b, second.arguments) = cc in
+    let P : List Row → Type 0 = λ rows. HasArguments b rows in
+    same_call a b first.arguments (ap (λ (q : Text × List Row). q.0) is) first.given
+    (subst P (sym (ap (λ (q : Text × List Row). q.1) is)) second.given)
+
+-- the outcome of reading the words, by the call that their command and its arguments have
+pub outcome-named : (words : List Text) (name : Text) (arguments : List Row) (found : Option Call) (outcome : Result Call WordsFault) → fault_of navtex words ≡ []
+    → subcommand_of navtex words ≡ Some (name, arguments) → IfSome found (λ call. (name ≡ word_of call) × HasArguments call arguments)
+    → outcome ≡ ok_or found Station → IfOk outcome (Names words)
+outcome-named words name arguments None outcome taken entered some is = rw is tt
+outcome-named words name arguments (Some call) outcome taken entered some is =
+    rw is (record {
+      taken = taken;
+      arguments = arguments;
+      command = entered ∙ ap (λ (t : Text). Some (t, arguments)) some.0;
+      given = some.1;
+    })
+
+pub outcome-refused : (words : List Text) (name : Text) (arguments : List Row) (found : Option Call) (outcome : Result Call WordsFault) → fault_of navtex words ≡ []
+    → subcommand_of navtex words ≡ Some (name, arguments) → IfNone found ((call : Call) → name ≡ word_of call → HasArguments call arguments → ⊥)
+    → outcome ≡ ok_or found Station → IfErr outcome (Explains words)
+outcome-refused words name arguments None outcome taken entered none is = rw is (lacks_station words name arguments taken entered none)
+outcome-refused words name arguments (Some call) outcome taken entered none is = rw is tt
+
+pub unknown_is_not_help : kind.UnknownArgument ≢ DisplayHelp
+unknown_is_not_help e = absurd (cc)
+
+pub missing_is_not_help : kind.MissingSubcommand ≢ DisplayHelp
+missing_is_not_help e = absurd (cc)
+
+pub missing_argument_is_not_help : kind.MissingRequiredArgument ≢ DisplayHelp
+missing_argument_is_not_help e = absurd (cc)
+
+pub invalid_is_not_help : kind.ValueValidation ≢ DisplayHelp
+invalid_is_not_help e = absurd (cc)

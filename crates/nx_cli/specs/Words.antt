@@ -1,26 +1,43 @@
 -- What the words of the command line name, by clap's own reading of them (this profile).
-use Rattle.std.specs.Prelude.{◌≡◌, ◌≢◌, ⊤, List, [], Some, codes, option_map, false, true}
-use Rattle.clap.specs.Words.{App, IsAmong, Text, app_of, fault_of, kind_of, new_app, subcommand_of}
-use Rattle.clap.specs.Words.{with_subcommand}
+use Rattle.std.specs.Prelude.{◌≡◌, ◌≢◌, ◌⊎◌, ◌<◌, ◌∷◌, ◌^◌, ⊤, ℕ, List, [], Some, codes, false, true}
+use Rattle.std.specs.Str.Parse.{IsNumeral, digits_value, without_leading_plus}
+use Rattle.clap.specs.Words.{App, IsAmong, Row, Rule, Text, app_of, fault_of, first_of, kind_of, new_app, new_rule, one_of, subcommand_of}
+use Rattle.clap.specs.Words.{with_rule, with_subcommand}
 use Rattle.clap.specs.Simple.{on_top}
 use Rattle.clap.specs.declared.builder.command.Command.{Command}
 use Rattle.clap.specs.declared.builder.command.Command.TheViews.{out-Command}
+use Rattle.clap.specs.declared.builder.value_parser.ValueParser.TheVariants as parser
 use Rattle.clap.specs.declared.error.Error.{Error}
 use Rattle.clap.specs.declared.error.kind.ErrorKind.{ErrorKind}
 use Rattle.clap.specs.declared.error.kind.ErrorKind.TheVariants.{DisplayHelp, OutOfMemory}
+use Rattle.nx_envelope.specs.declared.letter.Letter.{Letter}
 use Rattle.nx_cli.specs.declared.words.Call.{Call}
-use Rattle.nx_cli.specs.declared.words.Call.TheVariants.{Decode, Encode}
+use Rattle.nx_cli.specs.declared.words.Call.TheVariants.{Code, Decode, Encode, Slots}
 use Rattle.nx_cli.specs.declared.words.WordsFault.{WordsFault}
-use Rattle.nx_cli.specs.declared.words.WordsFault.TheVariants.{Help, Refused, Memory}
+use Rattle.nx_cli.specs.declared.words.WordsFault.TheVariants.{Help, Refused, Station, Memory}
 
 -- the word by which the command line names a call
 abbrev pub word_of : Call → Text
 word_of Decode = codes "decode"
 word_of Encode = codes "encode"
+word_of Code = codes "code"
+word_of (Slots station moment) = codes "slots"
 
--- a command of the program that takes no argument
-abbrev pub leaf : Call → App
-leaf call = new_app (word_of call)
+-- a command that takes no argument
+abbrev pub plain : Text → App
+plain word = new_app word
+
+-- the argument STATION, which is any text
+abbrev pub station_rule : Rule
+station_rule = record (new_rule (codes "STATION")) { required = true }
+
+-- the argument MOMENT, which is a whole number from 0 to the last moment
+abbrev pub moment_rule : Rule
+moment_rule = record (new_rule (codes "MOMENT")) { required = true; parser = Some (parser.Unsigned 0 32503679999) }
+
+-- a command that takes a station and a moment
+abbrev pub of_slot : Text → App
+of_slot word = with_rule (with_rule (new_app word) station_rule) moment_rule
 
 -- the program without its commands: one of them must be given, and there is no command `help`
 abbrev pub bare : App
@@ -29,31 +46,67 @@ bare =
 
 -- the command tree of the program
 abbrev pub navtex : App
-navtex = with_subcommand (with_subcommand bare (leaf Decode).top) (leaf Encode).top
+navtex =
+    let plain_ones = with_subcommand (with_subcommand (with_subcommand bare
+    (plain (codes "decode")).top) (plain (codes "encode")).top) (plain (codes "code")).top in
+    with_subcommand plain_ones (of_slot (codes "slots")).top
 
 -- the command is built as this tree says
 pub record IsBuiltAs (app : App) (command : Command) : Type 0 where
   pub tree : app_of command ≡ app
   pub local : (out-Command command).has_globals ≡ false
 
+-- the argument STATION is this letter alone
+abbrev pub IsStation : List Row → Letter → Type 0
+IsStation arguments station = first_of (codes "STATION") arguments ≡ Some (station.byte ∷ [])
+
+-- the argument MOMENT is this number: one decimal digit or more, before which a plus may stand
+pub record IsMoment (arguments : List Row) (moment : ℕ) : Type 0 where
+  pub text : Text
+  pub given : one_of (codes "MOMENT") arguments ≡ Some text
+  pub numeral : IsNumeral 10 (without_leading_plus text)
+  pub value : moment ≡ digits_value 10 (without_leading_plus text)
+  pub fits : moment < 2 ^ 64
+
+-- the arguments are those of the call
+abbrev pub HasArguments : Call → List Row → Type 0
+HasArguments Decode arguments = ⊤
+HasArguments Encode arguments = ⊤
+HasArguments Code arguments = ⊤
+HasArguments (Slots station moment) arguments = IsStation arguments station × IsMoment arguments moment
+
 -- the words, of which the first is the program's name, name the call: clap finds no fault in them
--- and enters the call's command
+-- and enters the call's command with the call's arguments
 pub record Names (words : List Text) (call : Call) : Type 0 where
   pub taken : fault_of navtex words ≡ []
-  pub command : option_map (λ p. p.0) (subcommand_of navtex words) ≡ Some (word_of call)
+  pub arguments : List Row
+  pub command : subcommand_of navtex words ≡ Some (word_of call, arguments)
+  pub given : HasArguments call arguments
 
 -- clap answers the words with help
 abbrev pub AsksForHelp : List Text → Type 0
 AsksForHelp words = IsAmong DisplayHelp (fault_of navtex words)
 
 -- clap refuses the words
+abbrev pub IsRefusedByClap : List Text → Type 0
+IsRefusedByClap words = (kind : ErrorKind) × (kind ≢ DisplayHelp) × IsAmong kind (fault_of navtex words)
+
+-- clap takes the words, which enter a command that wants a station, and STATION is not one letter A to Z
+pub record LacksStation (words : List Text) : Type 0 where
+  pub taken : fault_of navtex words ≡ []
+  pub arguments : List Row
+  pub entered : subcommand_of navtex words ≡ Some (codes "slots", arguments)
+  pub no_letter : (letter : Letter) → ¬ IsStation arguments letter
+
+-- the words are refused, by clap or for their station
 abbrev pub IsRefused : List Text → Type 0
-IsRefused words = (kind : ErrorKind) × (kind ≢ DisplayHelp) × IsAmong kind (fault_of navtex words)
+IsRefused words = IsRefusedByClap words ⊎ LacksStation words
 
 -- why the words name no call
 abbrev pub Explains : List Text → WordsFault → Type 0
 Explains words (Help answer) = AsksForHelp words
-Explains words (Refused answer) = IsRefused words
+Explains words (Refused answer) = IsRefusedByClap words
+Explains words Station = LacksStation words
 Explains words (Memory want) = ⊤
 
 -- an answer of clap is help, want of memory, or a refusal
@@ -61,4 +114,5 @@ abbrev pub Sorts : Error → WordsFault → Type 0
 Sorts error (Help answer) = (answer ≡ error) × (kind_of error ≡ DisplayHelp)
 Sorts error (Refused answer) =
     (answer ≡ error) × (kind_of error ≢ DisplayHelp) × (kind_of error ≢ OutOfMemory)
+Sorts error Station = ⊥
 Sorts error (Memory want) = kind_of error ≡ OutOfMemory

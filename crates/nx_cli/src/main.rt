@@ -1,7 +1,11 @@
 //! The program `navtex`: a NAVTEX broadcast station and receiver on standard input and output.
 #![tactic(auto)]
 
+mod commands;
+mod fault;
+pub mod laws;
 mod program;
+mod slots;
 #[cfg(test)]
 mod tests;
 mod words;

@@ -1,11 +1,11 @@
 -- The definitions, evaluated on worked examples.
-use Rattle.std.proofs.Common.{◌≡◌, ℕ, List, [], ◌∷◌, ◌++◌, Some, None, map, reverse, true, false, pos, arith, refl, rules}
+use Rattle.std.proofs.Common.{◌≡◌, ℕ, List, [], ◌∷◌, ◌++◌, Some, None, map, pos, arith, refl, rules}
 use Rattle.std.specs.Prelude.{codes}
 use Rattle.jiff_core.proofs.CalendarLemmas.{days_from_civil-day_count}
 use Rattle.jiff_core.proofs.MarchLemmas.{day_count-early}
 use Rattle.jiff_core.proofs.SignedLemmas.{signed_arith}
-use Rattle.nx_envelope.specs.Backward.{letter_from, letter_of, digit_from, digit_of, spaces_back, station_back, subject_back, tens_back, header_back, marker_back}
-use Rattle.nx_envelope.specs.Copies.{Copy, beginnings, closed_copy, copies, ended_copies, ended_copy, ending_of, ending_within, header_at_end, headers, is_open, long_within, ending_by_marker, open_headers, raw_text}
+use Rattle.nx_envelope.specs.Backward.{letter_from, letter_of, digit_from, digit_of, spaces_back, station_back, subject_back, tens_back, header_back}
+use Rattle.nx_envelope.specs.Copies.{Copy, beginnings, closed_copy, copies, ended_copy, ending_of, ending_within, header_at_end, headers, is_open, long_within, ending_by_marker, open_headers, raw_text}
 use Rattle.nx_envelope.specs.Errors.{errors_of}
 use Rattle.nx_envelope.specs.Header.{Header}
 use Rattle.nx_envelope.specs.Identity.{identity_bytes}

@@ -1,5 +1,5 @@
 -- Identities that name one message are equal.
-use Rattle.std.proofs.Common.{◌≡◌, ℕ, ◌==◌, ◌&&◌, ◌≤◌, Bool, true, false, eqb, refl, ap, ◌∙◌, subst}
+use Rattle.std.proofs.Common.{◌≡◌, ◌&&◌, Bool, true, refl, ap, ◌∙◌, subst}
 use Rattle.std.proofs.lemmas.Bool.{and_parts, eq-eqb, eqb-true}
 use Rattle.nx_envelope.specs.Identity.{same_identity}
 use Rattle.nx_envelope.specs.declared.identity.Identity.{Identity}

@@ -1,5 +1,5 @@
 -- What the parts of a finder do, of which the layers above know nothing.
-use Rattle.std.specs.Prelude.{◌≡◌, ℕ, ◌-◌, List, [], ◌∷◌, ◌++◌, length, take}
+use Rattle.std.specs.Prelude.{ℕ, ◌-◌, List, [], ◌∷◌, ◌++◌, length, take}
 use Rattle.nx_envelope.specs.Finder.{Hears, HoldsCopy}
 use Rattle.nx_envelope.specs.declared.finder.Finder.{Finder}
 use Rattle.nx_envelope.specs.declared.found.How.{How}

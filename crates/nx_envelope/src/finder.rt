@@ -147,8 +147,8 @@ impl Finder {
             → self.old.recent ≡ last_four (byte ∷ reverse text) → Hearing text byte result self.new }
         ensures ready { is_ready self.new ≡ is_over result }
     {
+        self.copy = HeldCopy::Open(identity, false);
         if is_dropped(fresh, byte) {
-            self.copy = HeldCopy::Open(identity, false);
             return TextEvent::Nothing;
         }
         if let Some(how) = marker_of(self.recent) {
@@ -158,11 +158,10 @@ impl Finder {
             return TextEvent::CopyOver;
         }
         self.text.push(byte);
-        if self.text.is_full() {
+        if is_long(self.text.len()) {
             self.copy = HeldCopy::Ready(identity, How::Long);
             return TextEvent::CopyOver;
         }
-        self.copy = HeldCopy::Open(identity, false);
         TextEvent::Nothing
     }
 }
@@ -185,6 +184,13 @@ fn is_dropped(fresh: bool, byte: u8) -> bool
     ensures { result ≡ (fresh && (byte == 10)) }
 {
     fresh && byte == NEWLINE
+}
+
+/// Whether a text of that length, without a marker, is that of a long copy.
+fn is_long(length: usize) -> bool
+    ensures { result ≡ (length == 4100) }
+{
+    length == MAX_FOUND
 }
 
 /// The last four bytes of a text, one byte later.

@@ -98,7 +98,9 @@ pub(crate) fn read_line(line: &[u8], bits: &mut ArrayVec<bool, MAX_ELEMENTS>) ->
 
 /// What follows the word at the front of a line, if the line begins with that word.
 fn after<'a>(line: &'a [u8], word: &[u8]) -> Option<&'a [u8]>
-    ensures { MatchOption result ((rest : List ℕ) → line.now ≢ word.now ++ rest) (λ rest. line.now ≡ word.now ++ rest.now) }
+    ensures { MatchOption result
+        ((rest : List ℕ) → line.now ≢ word.now ++ rest)
+        (λ rest. line.now ≡ word.now ++ rest.now) }
 {
     line.strip_prefix(word)
 }

@@ -1,6 +1,6 @@
 //! Decoding of words that stand in their slots from slot 0 on.
 
-ghost use Rattle.std.specs.Prelude.{◌≡◌, ◌≢◌, ◌+◌, ◌*◌, ◌%◌, ◌≤◌, length, IfOk, IfErr, OnOk, slice_get};
+ghost use Rattle.std.specs.Prelude.{◌≡◌, ◌+◌, ◌*◌, ◌%◌, ◌≤◌, length, IfOk, IfErr, OnOk, slice_get};
 ghost use Rattle.nx_fec.specs.Aligned.{ExplainsAligned, aligned_text, word_in, words_of};
 
 use crate::diversity::{Diversity, Heard};

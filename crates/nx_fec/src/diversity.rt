@@ -98,7 +98,8 @@ impl Diversity {
         ensures latest { IsLatest self.new (map heard_as self.old ++ heard_as heard ∷ []) }
 
         // The value keeps the latest three of the DX words so far, whichever they are.
-        ensures stands { (words : List Counted) → IsLatest self.old words → IsLatest self.new (words ++ heard_as heard ∷ []) }
+        ensures stands { (words : List Counted) → IsLatest self.old words
+            → IsLatest self.new (words ++ heard_as heard ∷ []) }
     {
         if self.latest.is_full() {
             self.latest.remove(0);
@@ -110,7 +111,8 @@ impl Diversity {
     /// DX word that was given, or with a wrong weight where fewer than three were.
     pub fn rx(&mut self, heard: Heard) -> Taken
         ensures paired { reception_of result ≡ pairing (third_last (map heard_as self.old)) (heard_as heard) }
-        ensures stands { (words : List Counted) → IsLatest self.old words → reception_of result ≡ pairing (third_last words) (heard_as heard) }
+        ensures stands { (words : List Counted) → IsLatest self.old words
+            → reception_of result ≡ pairing (third_last words) (heard_as heard) }
         ensures unchanged { self.new ≡ self.old }
     {
         let dx = if self.latest.is_full() {

@@ -18,7 +18,8 @@ ghost use Rattle.nx_fec.specs.declared.fault.LineFault.{LineFault};
 /// Each list of positions has an emission, and no other.
 pub fn emissions()
     ensures one { (positions : List SentPosition) → IsEmission positions (emission positions) }
-    ensures only { (positions : List SentPosition) (sent : List ℕ) → IsEmission positions sent → sent ≡ emission positions }
+    ensures only { (positions : List SentPosition) (sent : List ℕ) → IsEmission positions sent
+        → sent ≡ emission positions }
     ensures sound { (positions : List SentPosition) → AreInCode positions → AreWords (emission positions) }
 {}
 
@@ -50,17 +51,22 @@ pub fn one_spelling()
 
 /// Bytes are lines and the beginning of one more in one way only.
 pub fn one_reading()
-    ensures { (bytes : List ℕ) (a b : List Line) (x y : List ℕ) → Splits bytes a x → Splits bytes b y → (a ≡ b) × (x ≡ y) }
+    ensures { (bytes : List ℕ) (a b : List Line) (x y : List ℕ) → Splits bytes a x → Splits bytes b y
+        → (a ≡ b) × (x ≡ y) }
 {}
 
 /// A file has one outcome: one fault, or no fault and one list of elements.
 pub fn one_outcome()
-    ensures fault { (limit : ℕ) (bytes : List ℕ) (a b : LineFault) → HasFault limit bytes a → HasFault limit bytes b → a ≡ b }
-    ensures lines { (limit : ℕ) (bytes : List ℕ) (lines : List Line) (why : LineFault) → IsAirFile limit bytes lines → HasFault limit bytes why → ⊥ }
+    ensures fault { (limit : ℕ) (bytes : List ℕ) (a b : LineFault) → HasFault limit bytes a
+        → HasFault limit bytes b → a ≡ b }
+    ensures lines { (limit : ℕ) (bytes : List ℕ) (lines : List Line) (why : LineFault)
+        → IsAirFile limit bytes lines → HasFault limit bytes why → ⊥ }
     // What stands before a fault has none at a byte of its own: so the fault is the one at the earliest byte.
-    ensures earliest { (limit : ℕ) (front : List ℕ) (lines : List Line) (rest : List ℕ) (why : LineFault) → Splits front lines rest
+    ensures earliest { (limit : ℕ) (front : List ℕ) (lines : List Line) (rest : List ℕ) (why : LineFault)
+        → Splits front lines rest
         → length front ≤ limit → IsAtByte why → HasFault limit front why → ⊥ }
-    ensures elements { (limit : ℕ) (bytes : List ℕ) (a b : List Bool) → IsBitFile limit bytes a → IsBitFile limit bytes b → a ≡ b }
+    ensures elements { (limit : ℕ) (bytes : List ℕ) (a b : List Bool) → IsBitFile limit bytes a
+        → IsBitFile limit bytes b → a ≡ b }
 {}
 
 /// What is written of elements is an air file with these elements, where it keeps to the limit.
@@ -91,13 +97,15 @@ pub fn dx_words_of_locks()
 
 /// Where a cause stands after good lines and the beginning of one more, it is the fault of the file, whatever follows.
 pub fn causes_of_faults()
-    ensures { (limit : ℕ) (bytes : List ℕ) (lines : List Line) (rest more : List ℕ) (why : LineFault) → Splits bytes lines rest
+    ensures { (limit : ℕ) (bytes : List ℕ) (lines : List Line) (rest more : List ℕ) (why : LineFault)
+        → Splits bytes lines rest
         → IsCause limit (length bytes) lines rest more why → HasFault limit (bytes ++ more) why }
 {}
 
 /// What was written before counts with what a failed write took; and what was to follow it changes nothing.
 pub fn writes_in_turn()
-    ensures after { (a b c : Option (List ℕ)) (xs ys : List ℕ) (written : ℕ) → Appends a b xs → WroteSome b c ys written
+    ensures after { (a b c : Option (List ℕ)) (xs ys : List ℕ) (written : ℕ) → Appends a b xs
+        → WroteSome b c ys written
         → WroteSome a c (xs ++ ys) (min (length xs + written) (2 ^ 64 - 1)) }
     ensures before { (a b : Option (List ℕ)) (xs ys : List ℕ) (written : ℕ) → WroteSome a b xs written
         → WroteSome a b (xs ++ ys) written }

@@ -4,11 +4,11 @@ ghost use Rattle.std.specs.Prelude.{◌≡◌, ◌<◌, ◌≤◌, [], ◌∷◌
 use std::marker::Model;
 
 /// The most bytes of a line before its end.
-pub const MAX_LINE_BYTES: usize = 514;
+pub(crate) const MAX_LINE_BYTES: usize = 514;
 
 /// The first bytes of a line. An `ArrayVec` would write over all of them where it is emptied.
 #[derive(Drop)]
-pub struct LineBytes {
+pub(crate) struct LineBytes {
     bytes: [u8; MAX_LINE_BYTES],
     length: usize,
 }

@@ -1,5 +1,5 @@
 //! Reading the elements of an air file from a reader.
-ghost use Rattle.std.specs.Prelude.{◌≡◌, ◌+◌, ◌-◌, ◌<◌, ◌≤◌, ◌↔◌, ℕ, List, [], ◌∷◌, ◌++◌, length, IfSome, IfOk, IfErr, OnOk, IsErrOf, IsErrAnd, MatchResult, ◌⊎◌, Bool, option_to_list, vec_len};
+ghost use Rattle.std.specs.Prelude.{◌≡◌, ◌+◌, ◌-◌, ◌<◌, ◌≤◌, ℕ, List, [], ◌∷◌, ◌++◌, length, IfSome, IfOk, OnOk, IsErrOf, IsErrAnd, MatchResult, ◌⊎◌, Bool, vec_len};
 ghost use Rattle.std.specs.Io.KnownBytes.{IsAtEnd};
 ghost use Rattle.nx_fec.specs.Transfers.{Reads};
 ghost use Rattle.nx_fec.specs.Lines.{IsBitFile, HasFault};
@@ -14,7 +14,7 @@ use std::alloc::{AllocError, Global};
 use std::io::Read;
 
 /// The most bytes of a file that is read whole.
-pub const FILE_LIMIT: u64 = 1_048_576;
+const FILE_LIMIT: u64 = 1_048_576;
 
 /// How many bytes one read asks for.
 const CHUNK: usize = 65_536;
@@ -38,8 +38,8 @@ pub fn read_bits<R: Read>(alloc: Global, reader: &mut Counting<R>) -> Result<Vec
     // memory failed.
     ensures fault { IfSome (R.remaining reader.old.inner) (λ xs. (why : LineFault) → HasFault file_limit xs why →
         IsErrAnd result (λ fault. (fault ≡ run_fault why) ⊎ IsOutside fault)) }
-    ensures good { IfSome (R.remaining reader.old.inner) (λ xs. (elements : List Bool) → IsBitFile file_limit xs elements →
-        MatchResult result (λ bits. bits.items ≡ elements) IsOutside) }
+    ensures good { IfSome (R.remaining reader.old.inner) (λ xs. (elements : List Bool)
+        → IsBitFile file_limit xs elements → MatchResult result (λ bits. bits.items ≡ elements) IsOutside) }
 {
     let mut space = blank(alloc, CHUNK)?;
     read_through(alloc, reader, space.as_mut_slice())
@@ -134,7 +134,8 @@ fn blank(alloc: Global, length: usize) -> Result<Vec<u8>, AllocError>
 
 /// Scans the next bytes of a file, and appends the elements of the lines that they end.
 fn scan_piece(piece: &[u8], scanner: &mut Scanner, bits: &mut Vec<bool>) -> Result<(), RunFault>
-    ensures read { (limit : ℕ) (bytes : List ℕ) → HasRead limit scanner.old bits.old.items bytes → MatchResult result
+    ensures read { (limit : ℕ) (bytes : List ℕ) → HasRead limit scanner.old bits.old.items bytes
+        → MatchResult result
         (λ _. HasRead limit scanner.new bits.new.items (bytes ++ piece.now))
         (λ fault. (more : List ℕ) → ExplainsReading ⊥ limit ((bytes ++ piece.now) ++ more) fault) }
     ensures room { OnOk result (scanner.new.room + length piece.now ≡ scanner.old.room) }
@@ -148,7 +149,8 @@ fn scan_piece(piece: &[u8], scanner: &mut Scanner, bits: &mut Vec<bool>) -> Resu
 
 /// Scans the next byte of a file.
 fn scan_byte(byte: u8, scanner: &mut Scanner, bits: &mut Vec<bool>) -> Result<(), RunFault>
-    ensures read { (limit : ℕ) (bytes : List ℕ) → HasRead limit scanner.old bits.old.items bytes → MatchResult result
+    ensures read { (limit : ℕ) (bytes : List ℕ) → HasRead limit scanner.old bits.old.items bytes
+        → MatchResult result
         (λ _. HasRead limit scanner.new bits.new.items (bytes ++ byte ∷ []))
         (λ fault. (more : List ℕ) → ExplainsReading ⊥ limit (bytes ++ byte ∷ more) fault) }
     ensures room { OnOk result (scanner.new.room + 1 ≡ scanner.old.room) }

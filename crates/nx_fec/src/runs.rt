@@ -36,8 +36,8 @@ pub fn decode_run<R: Read, W: Write>(
     Ok(text.len() as u64)
 }
 
-/// Reads a text whole, and writes it as an air file: the text spelled from letters, with four positions of phasing before
-/// it and three of the end after it. Answers how many positions were written.
+/// Reads a text whole, and writes it as an air file: the text spelled from letters, with four positions of phasing
+/// before it and three of the end after it. Answers how many positions were written.
 ///
 /// `Read` and `FileTooLong` come first, then `NoSuchCharacter`, then `Write`. Nothing is written before all else
 /// succeeded. Memory may run out at any growth.
@@ -61,7 +61,8 @@ pub fn encode_run<R: Read, W: Write>(
 
 /// The positions by which combinations are sent alone.
 fn framed_positions(alloc: Global, combs: &[Comb]) -> Result<Vec<Position>, AllocError>
-    ensures { IfOk result (λ positions. map sent_position positions.items ≡ framed_positions (map (λ comb. comb.number) combs.now)) }
+    ensures { IfOk result (λ positions.
+        map sent_position positions.items ≡ framed_positions (map (λ comb. comb.number) combs.now)) }
 {
     let mut positions = Vec::new(alloc);
     positions.extend_from_slice(&[Position::Phasing; 4])?;

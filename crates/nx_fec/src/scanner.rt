@@ -14,8 +14,8 @@ use std::marker::Model;
 /// The byte that ends a line.
 const LINE_END: u8 = b'\n';
 
-/// Reads the lines of an air file byte by byte: it holds the line that is open, or the one that the last byte ended, how
-/// many lines were ended, and how many more bytes it may take.
+/// Reads the lines of an air file byte by byte: it holds the line that is open, or the one that the last byte
+/// ended, how many lines were ended, and how many more bytes it may take.
 #[derive(Drop)]
 pub struct Scanner {
     /// The bytes of that line.
@@ -114,7 +114,8 @@ impl Scanner {
     pub fn push(&mut self, byte: u8) -> Result<bool, LineFault>
         ensures bytes { (limit : ℕ) (bytes : List ℕ) (lines : List Line) → Scans limit self.old bytes lines →
             MatchResult result
-            (λ is_end. Scans limit self.new (bytes ++ byte ∷ []) (lines ++ (if is_end then option_to_list self.new.latest else [])))
+            (λ is_end. Scans limit self.new (bytes ++ byte ∷ [])
+            (lines ++ (if is_end then option_to_list self.new.latest else [])))
             (λ why. (more : List ℕ) → IsCause limit (length bytes) lines self.old.part (byte ∷ more) why) }
         ensures at_byte { IfErr result IsAtByte }
         ensures latest { IfOk result (λ is_end. IsTrue is_end → IsSomeAnd self.new.latest IsLine) }
@@ -143,7 +144,8 @@ impl Scanner {
     /// Ends the open line, and says whether it is one of an air file. If it is none, nothing changes.
     fn end_line(&mut self) -> bool
         requires { 0 < self.old.room }
-        ensures line { IsTrue result → IsSomeAnd self.new.latest (λ line. IsLine line × (self.old.part ≡ spelling line)) }
+        ensures line { IsTrue result →
+            IsSomeAnd self.new.latest (λ line. IsLine line × (self.old.part ≡ spelling line)) }
         ensures part { IsTrue result → self.new.part ≡ [] }
         ensures count { IsTrue result → self.new.lines ≡ self.old.lines + 1 }
         ensures room { IsTrue result → self.new.room + 1 ≡ self.old.room }
@@ -190,7 +192,9 @@ impl Scanner {
     /// What the end of the file says: the lines so far are all of it, or the open line is cut.
     pub fn end(&self) -> Result<(), LineFault>
         ensures { (limit : ℕ) (bytes : List ℕ) (lines : List Line) → Scans limit self.now bytes lines →
-            MatchResult result (λ _. IsAirFile limit bytes lines) (λ why. IsCause limit (length bytes) lines self.now.part [] why) }
+            MatchResult result
+            (λ _. IsAirFile limit bytes lines)
+            (λ why. IsCause limit (length bytes) lines self.now.part [] why) }
     {
         if self.ended.is_some() || self.kept.len() == 0 {
             return Ok(());

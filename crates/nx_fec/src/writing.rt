@@ -13,7 +13,7 @@ use arrayvec::ArrayVec;
 use std::io::Write;
 
 /// How many elements a written line has, but for the last.
-pub const LINE_ELEMENTS: usize = 490;
+const LINE_ELEMENTS: usize = 490;
 
 /// The bytes of such a line: `B`, a space, the elements, and the line feed.
 const LINE_BYTES: usize = LINE_ELEMENTS + 3;
@@ -49,7 +49,8 @@ pub fn write_bits<W: Write>(writer: &mut Counting<W>, bits: &[bool]) -> Result<(
     ensures ok { OnOk result
         (Appends (W.contents writer.old.inner) (W.contents writer.new.inner) (file_of (bit_lines bits.now))) }
     ensures err { IfErr result (λ fault.
-        WroteSome (W.contents writer.old.inner) (W.contents writer.new.inner) (file_of (bit_lines bits.now)) fault.written) }
+        WroteSome (W.contents writer.old.inner) (W.contents writer.new.inner)
+        (file_of (bit_lines bits.now)) fault.written) }
     ensures failed { IsErr result ↔ (writer.new.failures ≡ 1) }
     ensures once { writer.new.failures ≤ 1 }
     ensures none { OnOk result (writer.new.failures ≡ 0) }
@@ -76,8 +77,8 @@ pub fn write_on<W: Write>(
     bytes: &[u8],
 ) -> Result<u64, WriteFault>
     requires { writer.old.failures ≡ 0 }
-    ensures bytes { (first : Option (List ℕ)) (before : List ℕ) → HasWritten first (W.contents writer.old.inner) before sent →
-        MatchResult result
+    ensures bytes { (first : Option (List ℕ)) (before : List ℕ)
+        → HasWritten first (W.contents writer.old.inner) before sent → MatchResult result
         (λ count. HasWritten first (W.contents writer.new.inner) (before ++ bytes.now) count)
         (λ fault. WroteSome first (W.contents writer.new.inner) (before ++ bytes.now) fault.written) }
     ensures failed { IsErr result ↔ (writer.new.failures ≡ 1) }

@@ -17,7 +17,7 @@ use Rattle.nx_sync.specs.Locks.{before_dx, before_rx, last_28, IsPattern, releas
 use Rattle.nx_sync.specs.Steps.{LockStands, step, found, word, inside, over, hunts, IsStep}
 use Rattle.nx_sync.specs.Synchroniser.{Held, wrong_marks, p1_marks, Follows, Tracks, StandsAfter}
 use Rattle.nx_sync.specs.Windows.{next_window, role_after}
-use Rattle.nx_sync.specs.Parts.{track_from, track_after, Begins, Fills, Completes}
+use Rattle.nx_sync.specs.PrivateCalls.{track_from, track_after, Begins, Fills, Completes}
 use Rattle.nx_sync.proofs.Lists.{padded-push, length-padded}
 use Rattle.nx_sync.proofs.Numbers.{number_of-next}
 use Rattle.nx_sync.proofs.More.{word_at-more, first_role-more, Past-within}

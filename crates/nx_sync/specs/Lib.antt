@@ -4,4 +4,4 @@ pub mod Steps
 pub mod Laws
 pub mod Windows
 pub mod Synchroniser
-pub mod Parts
+pub mod PrivateCalls

@@ -1,7 +1,7 @@
-//! How a lock is followed.
+//! How a lock is followed. What runs for each word is inlined always.
 
 ghost use Rattle.std.specs.Prelude.{◌≡◌, ◌<◌};
-ghost use Rattle.nx_sync.specs.Parts.{track_from, track_after, fills_releasing_word};
+ghost use Rattle.nx_sync.specs.PrivateCalls.{track_from, track_after, fills_releasing_word};
 
 use crate::step::Role;
 use nx_code::Word;

@@ -1,5 +1,5 @@
 //! Windows: the last 28 elements as a number, the oldest in the least place, and the patterns that
-//! give a lock.
+//! give a lock. What runs for each element is inlined always.
 
 ghost use Rattle.std.specs.Prelude.{◌≡◌, ℕ, ◌+◌, ◌/◌, ◌^◌, ◌<◌, ◌≤◌, length, take, slice_index, IfSome, IsTrue, false};
 ghost use Rattle.nx_code.specs.Word.{word_from};

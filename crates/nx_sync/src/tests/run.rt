@@ -8,9 +8,9 @@ use std::fmt::Write;
 #[derive(Drop)]
 pub(super) struct Run {
     sync: Synchroniser,
-    count: u32,
+    count: usize,
     /// The count and the role of the last word.
-    last: Option<(u32, Role)>,
+    last: Option<(usize, Role)>,
     changes: String,
     words: String,
 }
@@ -64,7 +64,7 @@ impl Run {
     fn hear_some(&mut self, bits: &[bool]) -> Result<usize, AllocError> {
         if !self.sync.is_locked() {
             let heard = self.sync.hunt(bits);
-            self.count = self.count.wrapping_add(heard as u32);
+            self.count = self.count.wrapping_add(heard);
             if heard > 0 {
                 return Ok(heard);
             }

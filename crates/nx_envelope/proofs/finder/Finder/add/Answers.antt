@@ -18,16 +18,16 @@ returns-in-Some-clause-hearing c = λ text h recent.
     let found = c.truncate.ensures.items ∙ ap (λ (n : ℕ). take n c.self.inside.text.items) few in
     becomes_ready text c.args.byte c.args.identity c.in-Some.how _ (rw found (ends_by c.args.fresh c.self.inside.text.items text c.args.byte c.args.identity c.in-Some.how (rw kept h) (sym c.is_dropped.ensures ∙ c.if-is_dropped.false) (sym (c.in-Some.ensures (c.args.byte ∷ reverse text) back)))) refl
 
-pub returns-then-is_full-clause-hearing : goal.returns-then-is_full-clause-hearing
-returns-then-is_full-clause-hearing c = λ text h recent.
+pub returns-then-is_long-clause-hearing : goal.returns-then-is_long-clause-hearing
+returns-then-is_long-clause-hearing c = λ text h recent.
     let kept = ap (λ (v : FinderView). v.text) c.self.view_is in
     let back = ap (λ (v : FinderView). v.recent) c.self.view_is ∙ recent in
-    let full : length c.self.inside.text.items + 1 ≡ 4100 = grind (arith, nat_tests, c.push.ensures.len, c.if-is_full.ensures.value, c.if-is_full.true) in
+    let full : length c.self.inside.text.items + 1 ≡ 4100 = grind (arith, nat_tests, c.push.ensures.len, c.is_long.ensures, c.len-2.ensures.value, c.if-is_long.true) in
     becomes_ready text c.args.byte c.args.identity _ _ (rw c.push.ensures.items (ends_full c.args.fresh c.self.inside.text.items text c.args.byte c.args.identity (rw kept h) (sym c.is_dropped.ensures ∙ c.if-is_dropped.false) (sym (c.in_default.ensures (c.args.byte ∷ reverse text) back)) full)) refl
 
 pub returns-clause-hearing : goal.returns-clause-hearing
 returns-clause-hearing c = λ text h recent.
     let kept = ap (λ (v : FinderView). v.text) c.self.view_is in
     let back = ap (λ (v : FinderView). v.recent) c.self.view_is ∙ recent in
-    let short : length c.self.inside.text.items + 1 < 4100 = grind (arith, nat_tests, c.push.ensures.len, c.if-is_full.ensures.value, c.if-is_full.ensures.fits, c.if-is_full.false) in
+    let short : length c.self.inside.text.items + 1 < 4100 = grind (arith, nat_tests, c.push.ensures.len, c.is_long.ensures, c.len-2.ensures.value, c.if-is_long.false) in
     stays text c.args.byte c.args.identity _ (rw c.push.ensures.items (goes_on c.args.fresh c.self.inside.text.items text c.args.byte c.args.identity (rw kept h) (sym c.is_dropped.ensures ∙ c.if-is_dropped.false) (sym (c.in_default.ensures (c.args.byte ∷ reverse text) back)) short)) refl

@@ -1,4 +1,4 @@
-use Rattle.std.proofs.Common.{◌≡◌, ap, sym, refl, ◌∙◌}
+use Rattle.std.proofs.Common.{ap, ◌∙◌}
 use Rattle.nx_envelope.specs.FinderView.{FinderView}
 use Rattle.nx_envelope.proofs.Hearing.{closes_none, closes_copy, none_open}
 use Rattle.nx_envelope.proofs.finder.Finder.end.Goals as goal

@@ -1,4 +1,3 @@
-use Rattle.std.proofs.Common.{ap}
 use Rattle.nx_envelope.proofs.Hearing.{hands_out}
 use Rattle.nx_envelope.proofs.finder.Finder.push.Goals as goal
 

@@ -1,9 +1,8 @@
-use Rattle.std.proofs.Common.{◌≡◌, ◌+◌, ℕ, min, List, Bool, Some, sym, ap, subst, ◌∙◌}
-use Rattle.nx_code.specs.Word.{number_of}
+use Rattle.std.proofs.Common.{◌≡◌, ◌+◌, min, List, Bool, Some, sym, ap, subst, ◌∙◌}
 use Rattle.nx_sync.specs.declared.track.Track.{Track}
 use Rattle.nx_sync.specs.Windows.{next_word_window}
 use Rattle.nx_sync.specs.Synchroniser.{Held}
-use Rattle.nx_sync.specs.Parts.{Completes}
+use Rattle.nx_sync.specs.PrivateCalls.{Completes}
 use Rattle.nx_sync.proofs.WholeWords.{word_stands, word_step, between}
 use Rattle.nx_sync.proofs.synchroniser.Synchroniser.push_word.Goals as goal
 

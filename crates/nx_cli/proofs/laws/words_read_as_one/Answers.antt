@@ -1,5 +1,5 @@
 use Rattle.nx_cli.proofs.WordsLemmas.{help_not_refused, named_not_help, named_not_refused, named_once, read_as_one}
-use Rattle.nx_cli.proofs.words.words_read_as_one.Goals as goal
+use Rattle.nx_cli.proofs.laws.words_read_as_one.Goals as goal
 
 pub returns : goal.returns
 returns c = record {

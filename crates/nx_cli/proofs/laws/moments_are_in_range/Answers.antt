@@ -1,0 +1,5 @@
+use Rattle.nx_cli.proofs.WordsLemmas.{slots-bound}
+use Rattle.nx_cli.proofs.laws.moments_are_in_range.Goals as goal
+
+pub returns : goal.returns
+returns c = record { slots = slots-bound }

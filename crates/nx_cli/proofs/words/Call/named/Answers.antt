@@ -1,0 +1,10 @@
+use Rattle.clap.specs.Words.{found_of, rows_of}
+use Rattle.nx_cli.proofs.ArgumentsRead.{if_none}
+use Rattle.nx_cli.proofs.OneCall.{no_slots}
+use Rattle.nx_cli.proofs.words.Call.named.Goals as goal
+
+pub returns-in_err-moment_in-in-slots-clause-none :
+    goal.returns-in_err-moment_in-in-slots-clause-none
+returns-in_err-moment_in-in-slots-clause-none c =
+    if_none c.from_residual-in_err-moment_in-in-slots.result _ (no_slots c.args.word.now (rows_of (found_of c.args.arguments.now)) c.in-slots.is
+    (λ station moment is_station is_moment. c.in_err-moment_in-in-slots.ensures.none moment is_moment))

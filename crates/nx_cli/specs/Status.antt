@@ -1,0 +1,33 @@
+-- The exit statuses (this profile).
+use Rattle.std.specs.Prelude.{◌≡◌, ◌⊎◌, ℕ, Result, Ok, Err}
+use Rattle.nx_fec.specs.declared.fault.RunFault.{RunFault}
+use Rattle.nx_fec.specs.declared.fault.RunFault.TheVariants as run
+use Rattle.nx_cli.specs.declared.fault.CallFault.{CallFault}
+use Rattle.nx_cli.specs.declared.fault.CallFault.TheVariants as call
+use Rattle.nx_cli.specs.declared.fault.Fault.{Fault}
+use Rattle.nx_cli.specs.declared.fault.Fault.TheVariants as fault
+
+-- the status of a fault: 1 for a device or memory, 2 for a bad file, line or value, 64 for the words
+abbrev pub run_status : RunFault → ℕ
+run_status run.Read = 1
+run_status (run.Write written) = 1
+run_status (run.Memory want) = 1
+run_status _ = 2
+
+abbrev pub call_status : CallFault → ℕ
+call_status (call.Run why) = run_status why
+call_status call.NoSlot = 2
+
+abbrev pub fault_status : Fault → ℕ
+fault_status (fault.Words answer) = 64
+fault_status fault.NoText = 64
+fault_status fault.Station = 64
+fault_status (fault.Call why) = call_status why
+
+abbrev pub status_of : Result (Unit {0}) Fault → ℕ
+status_of (Ok done) = 0
+status_of (Err why) = fault_status why
+
+-- the statuses: success, a device or memory, a bad file, line or value, the words
+abbrev pub IsStatus : ℕ → Type 0
+IsStatus status = (status ≡ 0) ⊎ ((status ≡ 1) ⊎ ((status ≡ 2) ⊎ (status ≡ 64)))

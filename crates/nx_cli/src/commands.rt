@@ -1,0 +1,139 @@
+//! The command tree of the program, and the texts of its help.
+
+ghost use Rattle.std.specs.Prelude.{IfOk, codes};
+ghost use Rattle.nx_cli.specs.Words.{IsBuiltAs, bare, navtex, of_slot, plain};
+
+use clap::builder::ValueParser;
+use clap::{Arg, Command};
+use nx_envelope::LAST_MOMENT;
+use std::alloc::{AllocError, Global};
+
+const DECODE_HELP: &str = "Print the text of an air file.
+
+Reads an air file of at most 1048576 bytes from standard input. Its lines, each ended by a line
+feed, are:
+  B 0110011     elements in the order of sending, 1 to 512 of them: 1 is B, 0 is Y
+  T 1735692000  the moment from here on, in seconds since 1970-01-01 00:00:00 UTC
+  RS E          refuse station E; AS E accepts it, RJ C and AJ C do so for subject C
+The elements of the B lines, joined, are the words of one emission from its first word on, seven
+elements each. The other lines are checked and skipped.
+
+Writes the text to standard output and nothing else, once all was read. A lost character is an
+asterisk.
+
+Example, whose text is A:
+  B 01100111111000011001111110000110011
+  B 11110000110011111100011100011111000
+  B 11110001111000111100011100011111000";
+
+fn decode_command<'a>(alloc: Global) -> Command<'a>
+    ensures { IsBuiltAs (plain (codes "decode")) result }
+{
+    Command::new(alloc, "decode")
+        .about("Print the text of an air file")
+        .long_about(DECODE_HELP)
+}
+
+const ENCODE_HELP: &str = "Write a text as an air file.
+
+Reads a text of at most 1048576 bytes from standard input: the letters A to Z, the digits, space,
+newline and -?:().,'=+/
+
+Writes an air file to standard output: lines of B, a space and up to 490 elements in the order of
+sending, 1 for B and 0 for Y, each ended by a line feed. They are the elements of four phasing
+positions, the text from the letter shift, and three end positions.
+
+Example, which decode prints as A again:
+  $ printf A | navtex encode
+  B 011001111110000110011111100001100111111000011001111110001110001111100011110001111000111100011100011111000";
+
+fn encode_command<'a>(alloc: Global) -> Command<'a>
+    ensures { IsBuiltAs (plain (codes "encode")) result }
+{
+    Command::new(alloc, "encode")
+        .about("Write a text as an air file")
+        .long_about(ENCODE_HELP)
+}
+
+const CODE_HELP: &str = "Print the table of the code.
+
+Reads nothing, and writes one line for each of the 35 words: its number in hexadecimal, with the
+element that is sent first in the least place; its elements in the order of sending; what it
+prints in the letter shift; and what it prints in the figure shift. A name of more than one letter
+is a name, and none prints nothing.
+
+Example, the first line:
+  47 BBBYYYB A -";
+
+fn code_command<'a>(alloc: Global) -> Command<'a>
+    ensures { IsBuiltAs (plain (codes "code")) result }
+{
+    Command::new(alloc, "code")
+        .about("Print the table of the code")
+        .long_about(CODE_HELP)
+}
+
+/// A command that takes a station and a moment.
+fn slot_command<'a>(alloc: Global, word: &'a str) -> Result<Command<'a>, AllocError>
+    ensures { IfOk result (IsBuiltAs (of_slot word.entry.now)) }
+{
+    let station = Arg::new(alloc, "STATION")
+        .required(true)
+        .help("The station, one letter A to Z");
+    let moment = Arg::new(alloc, "MOMENT")
+        .required(true)
+        .value_parser(ValueParser::unsigned(0, LAST_MOMENT))
+        .help("The moment, in whole seconds since 1970-01-01 00:00:00 UTC");
+    Command::new(alloc, word).arg(station)?.arg(moment)
+}
+
+const SLOTS_HELP: &str = "Print when the station's next slot begins.
+
+Reads nothing, and writes one line: the moment at which the first slot of the station begins that
+is not before MOMENT, and its civil time in UTC. Stations A to X have a slot of ten minutes in each
+four hours, Y and Z have none.
+
+Example:
+  $ navtex slots E 1735689600
+  1735692000 2025-01-01 00:40:00";
+
+fn slots_command<'a>(alloc: Global) -> Result<Command<'a>, AllocError>
+    ensures { IfOk result (IsBuiltAs (of_slot (codes "slots"))) }
+{
+    Ok(
+        slot_command(alloc, "slots")?
+            .about("Print when the station's next slot begins")
+            .long_about(SLOTS_HELP),
+    )
+}
+
+const STATUS_HELP: &str = "A command reads standard input and writes standard output. A fault is \
+one line on standard error; where words are not understood, it is a text of several lines.
+
+Exit status:
+  0   success, or help
+  1   a device failed, or memory ran out
+  2   a bad file, line or value
+  64  words that are not understood";
+
+fn bare_command<'a>(alloc: Global) -> Result<Command<'a>, AllocError>
+    ensures { IfOk result (IsBuiltAs bare) }
+{
+    Command::new(alloc, "navtex")
+        .about("A NAVTEX broadcast station and receiver")
+        .after_help(STATUS_HELP)
+        .disable_help_subcommand(true)
+        .subcommand_required(true)
+        .bin_name("navtex")
+}
+
+/// The command of the program, with all its commands.
+pub fn navtex_command<'a>(alloc: Global) -> Result<Command<'a>, AllocError>
+    ensures { IfOk result (IsBuiltAs navtex) }
+{
+    bare_command(alloc)?
+        .subcommand(decode_command(alloc))?
+        .subcommand(encode_command(alloc))?
+        .subcommand(code_command(alloc))?
+        .subcommand(slots_command(alloc)?)
+}

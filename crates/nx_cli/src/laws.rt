@@ -1,0 +1,55 @@
+//! Laws over the definitions of the program alone.
+
+ghost use Rattle.std.specs.Prelude.{◌≡◌, ◌⊎◌, ◌≤◌, ℕ, List, [], ◌∷◌, codes};
+ghost use Rattle.clap.specs.Words.{Text};
+ghost use Rattle.nx_envelope.specs.declared.letter.Letter.{Letter};
+ghost use Rattle.nx_cli.specs.Words.{AsksForHelp, IsRefused, LacksStation, Names};
+ghost use Rattle.nx_cli.specs.declared.words.Call.{Call};
+ghost use Rattle.nx_cli.specs.declared.words.Call.TheVariants.{Code, Decode, Encode, Slots};
+
+/// How the words are read: each list of words names one call, asks for help or is refused, and
+/// these exclude each other.
+pub fn words_read_as_one()
+    ensures some { (words : List Text) → ((call : Call) × Names words call) ⊎ (AsksForHelp words ⊎ IsRefused words) }
+    ensures one_call { (words : List Text) (a b : Call) → Names words a → Names words b → a ≡ b }
+    ensures named_not_help { (words : List Text) (call : Call) → Names words call → ¬ AsksForHelp words }
+    ensures named_not_refused { (words : List Text) (call : Call) → Names words call → ¬ IsRefused words }
+    ensures help_not_refused { (words : List Text) → AsksForHelp words → ¬ IsRefused words }
+{}
+
+/// What some words are read as, whatever the program's name.
+pub fn words_in_examples()
+    ensures decode { (program : Text) → Names (program ∷ codes "decode" ∷ []) Decode }
+    ensures encode { (program : Text) → Names (program ∷ codes "encode" ∷ []) Encode }
+    ensures code { (program : Text) → Names (program ∷ codes "code" ∷ []) Code }
+    ensures help { (program : Text) → AsksForHelp (program ∷ codes "--help" ∷ []) }
+    ensures short_help { (program : Text) → AsksForHelp (program ∷ codes "-h" ∷ []) }
+    ensures help_of_call { (program : Text) → AsksForHelp (program ∷ codes "decode" ∷ codes "--help" ∷ []) }
+    ensures unknown { (program : Text) → IsRefused (program ∷ codes "frob" ∷ []) }
+    ensures none { (program : Text) → IsRefused (program ∷ []) }
+    ensures surplus { (program : Text) → IsRefused (program ∷ codes "decode" ∷ codes "frob" ∷ []) }
+    ensures twice { (program : Text) → IsRefused (program ∷ codes "decode" ∷ codes "decode" ∷ []) }
+    ensures option { (program : Text) → IsRefused (program ∷ codes "decode" ∷ codes "--frob" ∷ []) }
+    ensures help_command { (program : Text) → IsRefused (program ∷ codes "help" ∷ []) }
+{}
+
+/// The moment that words name is in its range.
+pub fn moments_are_in_range()
+    ensures slots { (words : List Text) (station : Letter) (moment : ℕ)
+        → Names words (Slots station moment) → moment ≤ 32503679999 }
+{}
+
+/// What words with a station and a moment are read as, whatever the program's name.
+pub fn slots_in_examples()
+    ensures slots { (program : Text) (station : Letter) → station.byte ≡ 69
+        → Names (program ∷ codes "slots" ∷ codes "E" ∷ codes "0" ∷ []) (Slots station 0) }
+    ensures small_letter { (program : Text)
+        → LacksStation (program ∷ codes "slots" ∷ codes "e" ∷ codes "0" ∷ []) }
+    ensures two_letters { (program : Text)
+        → LacksStation (program ∷ codes "slots" ∷ codes "EA" ∷ codes "0" ∷ []) }
+    ensures too_late { (program : Text)
+        → IsRefused (program ∷ codes "slots" ∷ codes "E" ∷ codes "32503680000" ∷ []) }
+    ensures no_moment { (program : Text) → IsRefused (program ∷ codes "slots" ∷ codes "E" ∷ []) }
+    ensures no_number { (program : Text)
+        → IsRefused (program ∷ codes "slots" ∷ codes "E" ∷ codes "now" ∷ []) }
+{}

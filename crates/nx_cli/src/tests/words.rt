@@ -1,0 +1,102 @@
+//! What the words of the command line are answered with.
+
+use super::{AIR_FILE_OF_A, run_on};
+use crate::laws::{moments_are_in_range, slots_in_examples, words_in_examples, words_read_as_one};
+use crate::program::refuse_words;
+use crate::tests::devices::Sink;
+use std::io::{Error, ErrorKind};
+
+// The words, the status, and how the answer begins: help on standard output, a refusal on standard
+// error.
+#[derive(Drop)]
+struct WordsRow<'a> {
+    words: &'a [&'a str],
+    status: u8,
+    answer: &'a str,
+}
+
+const MISSING: &str = "error: 'navtex' requires a subcommand but one was not provided\n";
+
+#[test]
+fn reads_its_words(rt: HostRuntime) {
+    let alloc = rt.alloc();
+    let rows = [
+        WordsRow {
+            words: &["navtex", "frob"],
+            status: 64,
+            answer: "error: unrecognized subcommand 'frob'\n\nUsage: navtex <COMMAND>\n",
+        },
+        WordsRow {
+            words: &["navtex"],
+            status: 64,
+            answer: MISSING,
+        },
+        WordsRow {
+            words: &[],
+            status: 64,
+            answer: MISSING,
+        },
+        WordsRow {
+            words: &["navtex", "decode", "frob"],
+            status: 64,
+            answer: "error: unexpected argument 'frob' found\n\nUsage: navtex decode\n",
+        },
+        WordsRow {
+            words: &["navtex", "help"],
+            status: 64,
+            answer: "error: unrecognized subcommand 'help'\n",
+        },
+        WordsRow {
+            words: &["navtex", "--help"],
+            status: 0,
+            answer: "A NAVTEX broadcast station and receiver\n\nUsage: navtex <COMMAND>\n",
+        },
+        WordsRow {
+            words: &["navtex", "encode", "-h"],
+            status: 0,
+            answer: "Write a text as an air file\n\nUsage: navtex encode\n",
+        },
+        WordsRow {
+            words: &["navtex", "decode", "--help"],
+            status: 0,
+            answer: "Print the text of an air file.\n\nReads an air file of at most 1048576 bytes",
+        },
+    ];
+    for row in rows.iter() {
+        let ended = run_on(alloc, row.words, AIR_FILE_OF_A);
+        assert_eq!(rt; ended.status, row.status);
+        let (answer, other) = if row.status == 0 {
+            (ended.output, ended.faults)
+        } else {
+            (ended.faults, ended.output)
+        };
+        assert!(rt; answer.starts_with(row.answer.as_bytes()));
+        assert!(rt; other.is_empty());
+    }
+}
+
+#[test]
+fn answers_for_words_that_cannot_be_had(rt: HostRuntime) {
+    let alloc = rt.alloc();
+    for (kind, status, line) in [
+        (
+            ErrorKind::InvalidData,
+            64,
+            "navtex: a word of the command line is not UTF-8\n",
+        ),
+        (ErrorKind::OutOfMemory, 1, "navtex: out of memory\n"),
+    ] {
+        let mut faults = Sink::new(Vec::new(alloc));
+        let ended = refuse_words(&Error::from(kind), &mut faults);
+        assert_eq!(rt; ended, status);
+        assert_eq!(rt; faults.taken.as_slice(), line.as_bytes());
+    }
+}
+
+#[test]
+fn states_its_laws() {
+    words_read_as_one();
+    words_in_examples();
+    moments_are_in_range();
+    slots_in_examples();
+}
