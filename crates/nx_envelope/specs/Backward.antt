@@ -1,5 +1,6 @@
--- A header and a marker at the end of a text, computed from the back of the text, which is the text read from its end:
--- its newest byte first. That a header and a marker are computed as they are spelled is law.
+-- A header and a marker at the end of a text, computed from the back of the text, which is the text
+-- read from its end: its newest byte first. That a header and a marker are computed as they are
+-- spelled is law.
 use Rattle.std.specs.Prelude.{◌≡◌, ℕ, ◌+◌, ◌*◌, ◌-◌, ◌==◌, ◌&&◌, ◌||◌, nat_le, Bool, true, false, if◌then◌else◌, Option, Some, None, List, [], ◌∷◌, slice_index, refl}
 use Rattle.std.specs.Str.{bytes_eq}
 use Rattle.std.proofs.Math.Nat.{add-le-add, mul-le-mul_right}

@@ -1,5 +1,5 @@
--- The copies of messages in a received text: the form of a message is that of ITU-R M.540; that a text without an end
--- is found up to 4,100 characters is this profile's.
+-- The copies of messages in a received text: the form of a message is that of ITU-R M.540; that a
+-- text without an end is found up to 4,100 characters is this profile's.
 use Rattle.std.specs.Prelude.{ℕ, ◌-◌, ◌==◌, nat_le, Bool, if◌then◌else◌, Option, Some, None, List, [], ◌∷◌, length, take, drop, map, reverse, unwrap_or}
 use Rattle.std.specs.List.{filter, filter_map}
 use Rattle.std.specs.Option.{option_map, option_or, is_none}
@@ -52,8 +52,8 @@ unfoldable pub long_within : ℕ → List ℕ → Option Ending
 long_within most raw =
     if nat_le most (length raw) then Some (record { how = Long; text = take most raw }) else None
 
--- the end of a raw text: at the least of its beginnings, within so many characters, that ends with a marker; where
--- there is none, but so many characters stand there, it is long; else it has no end
+-- the end of a raw text: at the least of its beginnings, within so many characters, that ends with
+-- a marker; where there is none, but so many characters stand there, it is long; else it has no end
 unfoldable pub ending_within : ℕ → List ℕ → Option Ending
 ending_within most raw =
     option_or (first_of ending_by_marker (beginnings (take most raw))) (long_within most raw)

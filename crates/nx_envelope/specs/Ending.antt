@@ -1,5 +1,5 @@
--- Where a copy ends (the markers are those of ITU-R M.540; 4,100 is this profile's), said by places: the raw text of a
--- copy begins at place 0.
+-- Where a copy ends (the markers are those of ITU-R M.540; 4,100 is this profile's), said by
+-- places: the raw text of a copy begins at place 0.
 use Rattle.std.specs.Prelude.{◌≡◌, ℕ, ◌-◌, ◌<◌, ◌≤◌, ◌⊎◌, List, length, take}
 use Rattle.nx_envelope.specs.Copies.{Ending, most_found}
 use Rattle.nx_envelope.specs.Marker.{EndsWith, start_marker, end_marker}
@@ -16,7 +16,8 @@ EndsWithMarker text Long = ⊥
 abbrev pub MarkerEndsAt : List ℕ → ℕ → How → Type 0
 MarkerEndsAt raw place how = EndsWithMarker (take place raw) how
 
--- a marker ends at the place, at none before it, and within 4,100 characters: what stands before it is the found text
+-- a marker ends at the place, at none before it, and within 4,100 characters: what stands before it
+-- is the found text
 pub record EndsAtMarker (raw : List ℕ) (ending : Ending) : Type 0 where
   pub place : ℕ
   pub within : place ≤ length raw

@@ -1,4 +1,5 @@
--- What one more byte does to the copies of a text, what the end of a text does, and what a finder holds after a text.
+-- What one more byte does to the copies of a text, what the end of a text does, and what a finder
+-- holds after a text.
 use Rattle.std.specs.Prelude.{◌≡◌, ℕ, ◌+◌, Bool, true, false, Option, Some, None, List, [], ◌∷◌, ◌++◌, length, drop, reverse}
 use Rattle.nx_envelope.specs.Backward.{last_four}
 use Rattle.nx_envelope.specs.Copies.{Copy, headers, ended_copies, open_headers, raw_text, closed_copy, copies}
@@ -75,7 +76,8 @@ abbrev pub is_empty : List ℕ → Bool
 is_empty [] = true
 is_empty (b ∷ text) = false
 
--- these are the identity and the raw text of the one open copy; `fresh` where nothing stands behind its header yet
+-- these are the identity and the raw text of the one open copy; `fresh` where nothing stands behind
+-- its header yet
 pub record HoldsOpen (is_fresh : Bool) (kept text : List ℕ) (identity : Identity) : Type 0 where
   pub header : Header
   pub stands_open : open_headers text ≡ header ∷ []
@@ -89,8 +91,8 @@ HoldsCopy held.Nothing kept text = open_headers text ≡ []
 HoldsCopy (held.Open identity fresh) kept text = HoldsOpen fresh kept text identity
 HoldsCopy (held.Ready identity how) kept text = open_headers text ≡ []
 
--- The finder stands after the text: it has the last four bytes, the stage of a header that is not complete, and the
--- open copy.
+-- The finder stands after the text: it has the last four bytes, the stage of a header that is not
+-- complete, and the open copy.
 pub record StandsAfter (finder : Finder) (text : List ℕ) : Type 0 where
   pub recent : finder.recent ≡ last_four (reverse text)
   pub stage : IsStageOf finder.stage (reverse text)

@@ -1,5 +1,5 @@
--- ITU-R M.540: a message begins with the letters ZCZC, a space, the station, the subject and a number of two digits;
--- that more than one space may stand there is this profile's.
+-- ITU-R M.540: a message begins with the letters ZCZC, a space, the station, the subject and a
+-- number of two digits; that more than one space may stand there is this profile's.
 use Rattle.std.specs.Prelude.{◌≡◌, ℕ, ◌+◌, ◌≤◌, List, ◌∷◌, ◌++◌, length, take, replicate}
 use Rattle.nx_envelope.specs.Identity.{identity_bytes}
 use Rattle.nx_envelope.specs.Marker.{start_marker}

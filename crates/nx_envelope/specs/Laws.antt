@@ -9,14 +9,16 @@ use Rattle.nx_envelope.specs.declared.found.FinderStep.{FinderStep}
 use Rattle.nx_envelope.specs.declared.found.FinderStep.TheVariants as steps
 use Rattle.nx_envelope.specs.declared.found.Found.{Found}
 
--- what comes behind the text leaves the headers in it and the copies that have ended in it, and adds others behind them
+-- what comes behind the text leaves the headers in it and the copies that have ended in it, and
+-- adds others behind them
 pub record Grows (text more : List ℕ) : Type 0 where
   pub later_headers : List Header
   pub headers : headers (text ++ more) ≡ headers text ++ later_headers
   pub later_copies : List Copy
   pub ended : ended_copies (text ++ more) ≡ ended_copies text ++ later_copies
 
--- the steps are what happens at the bytes of a text, one after the other, behind what came before it
+-- the steps are what happens at the bytes of a text, one after the other, behind what came before
+-- it
 abbrev pub AreAnswers : List ℕ → List ℕ → List FinderStep → Type 0
 AreAnswers before [] [] = Unit {0}
 AreAnswers before [] (step ∷ answers) = ⊥

@@ -1,5 +1,5 @@
--- This profile: the lines and the text of a message (the text between the header and the end of ITU-R M.540), and
--- what is wrong with lines that make none.
+-- This profile: the lines and the text of a message (the text between the header and the end of
+-- ITU-R M.540), and what is wrong with lines that make none.
 use Rattle.std.specs.Prelude.{◌≡◌, ◌≢◌, ℕ, ◌+◌, ◌<◌, ◌≤◌, ◌⊎◌, List, [], ◌∷◌, ◌++◌, length, take, All, IsTrue, slice_index, slice_index_or}
 use Rattle.std.specs.List.{flat_map}
 use Rattle.nx_code.specs.Characters.{is_in_code}
@@ -26,7 +26,8 @@ pub record IsLine (line : List ℕ) : Type 0 where
 abbrev pub text_of : List (List ℕ) → List ℕ
 text_of = flat_map (λ line. line ++ newline ∷ [])
 
--- the lines of a message: lines of which each is good, and together at most 4,096 characters of text
+-- the lines of a message: lines of which each is good, and together at most 4,096 characters of
+-- text
 pub record AreLines (lines : List (List ℕ)) : Type 0 where
   pub each : All IsLine lines
   pub fits : length (text_of lines) ≤ 4096
@@ -37,7 +38,8 @@ pub record IsFirstBadByte (line : List ℕ) (at : ℕ) : Type 0 where
   pub good_before : All IsLineByte (take at line)
   pub bad : ¬ IsLineByte (slice_index line at)
 
--- the first fault of one line, the n-th: too long, else a byte that may not stand there, else a marker
+-- the first fault of one line, the n-th: too long, else a byte that may not stand there, else a
+-- marker
 abbrev pub IsLineFault : ℕ → List ℕ → MessageFault → Type 0
 IsLineFault n line (LongLine m) = (m ≡ n) × (69 < length line)
 IsLineFault n line (BadCharacter m at) =
@@ -54,8 +56,8 @@ pub record IsFirstLineFault (lines : List (List ℕ)) (fault : MessageFault) : T
   pub good_before : All IsLine (take at lines)
   pub here : IsLineFault (at + 1) (slice_index_or lines at []) fault
 
--- the fault for which lines are refused: the first of a line, after all lines the length of the text, and want of
--- memory only where the lines are those of a message
+-- the fault for which lines are refused: the first of a line, after all lines the length of the
+-- text, and want of memory only where the lines are those of a message
 abbrev pub IsMessageFault : List (List ℕ) → MessageFault → Type 0
 IsMessageFault lines LongText = All IsLine lines × (4096 < length (text_of lines))
 IsMessageFault lines (Memory e) = AreLines lines

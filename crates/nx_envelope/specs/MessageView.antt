@@ -1,4 +1,5 @@
--- What contracts see of a message (ITU-R M.540): its identity and its lines, without their newlines.
+-- What contracts see of a message (ITU-R M.540): its identity and its lines, without their
+-- newlines.
 use Rattle.std.specs.Prelude.{ℕ, List}
 use Rattle.nx_envelope.specs.declared.identity.Identity.{Identity}
 

@@ -18,7 +18,8 @@ const MARKER_LEN: usize = 4;
 
 /// Finds the copies of messages in a received text, of which it sees one byte after the other.
 ///
-/// It holds the last four bytes, how far a header has come, and the text of the copy that is open or can be taken.
+/// It holds the last four bytes, how far a header has come, and the text of the copy that is open
+/// or can be taken.
 #[derive(Debug, Drop)]
 pub struct Finder {
     recent: [u8; MARKER_LEN],
@@ -60,9 +61,11 @@ impl Finder {
     }
 
     /// Takes in the next byte of the text and answers what it brings.
+    // Inlined, so that the step is built where the caller has it.
     #[inline(always)]
     pub fn push(&mut self, byte: u8) -> FinderStep
-        ensures stands { (text : List ℕ) → StandsAfter self.old text → StandsAfter self.new (text ++ byte ∷ []) }
+        ensures stands { (text : List ℕ) → StandsAfter self.old text
+            → StandsAfter self.new (text ++ byte ∷ []) }
         ensures brings { (text : List ℕ) → StandsAfter self.old text → Brings text byte result }
     {
         match self.hear(byte) {
@@ -75,12 +78,16 @@ impl Finder {
         }
     }
 
-    /// Takes in the next byte of the text and answers what it brings; a copy that it ends can be taken before the next
-    /// byte. It does what `push` does, for callers that go over many bytes: its answer is small.
+    /// Takes in the next byte of the text and answers what it brings; a copy that it ends can be
+    /// taken before the next byte. It does what `push` does, for callers that go over many bytes:
+    /// its answer is small.
+    // Inlined, since it is called for each byte.
     #[inline(always)]
     pub fn hear(&mut self, byte: u8) -> TextEvent
-        ensures stands { (text : List ℕ) → StandsAfter self.old text → StandsAfter self.new (text ++ byte ∷ []) }
-        ensures hears { (text : List ℕ) → StandsAfter self.old text → Hears text byte self.new result }
+        ensures stands { (text : List ℕ) → StandsAfter self.old text
+            → StandsAfter self.new (text ++ byte ∷ []) }
+        ensures hears { (text : List ℕ) → StandsAfter self.old text
+            → Hears text byte self.new result }
         ensures ready { is_ready self.new ≡ is_over result }
     {
         let header = self.stage.header(byte);
@@ -93,10 +100,12 @@ impl Finder {
     }
 
     /// The copy that the last byte ended, where it was not taken yet.
+    // Not inlined, so that no loop over bytes has a place for a text of 4,100.
     #[inline(never)]
     pub fn take_found(&mut self) -> Option<Found>
         ensures stands { (text : List ℕ) → StandsAfter self.old text → StandsAfter self.new text }
-        ensures found { (copy : Copy) → HasReady self.old copy → MatchOption result ⊥ (IsFound copy) }
+        ensures found { (copy : Copy) → HasReady self.old copy
+            → MatchOption result ⊥ (IsFound copy) }
         ensures none { IsNone result ↔ (is_ready self.old ≡ false) }
         ensures taken { is_ready self.new ≡ false }
     {
@@ -107,8 +116,9 @@ impl Finder {
         Some(found_of(identity, how, self.text.take()))
     }
 
-    /// Ends the text and answers the copy that stands open; the finder is then as new. A copy that could be taken is
-    /// gone.
+    /// Ends the text and answers the copy that stands open; the finder is then as new. A copy that
+    /// could be taken is gone.
+    // Not inlined, as `take_found`.
     #[inline(never)]
     pub fn end(&mut self) -> Option<Found>
         ensures closes { (text : List ℕ) → StandsAfter self.old text → Closes text result }
@@ -125,7 +135,8 @@ impl Finder {
     fn begin(&mut self, header: Option<Identity>) -> TextEvent
         ensures recent { self.new.recent ≡ self.old.recent }
         ensures stage { self.new.stage ≡ self.old.stage }
-        ensures hearing { (text : List ℕ) (byte : ℕ) → open_headers text ≡ [] → header ≡ header_back (byte ∷ reverse text)
+        ensures hearing { (text : List ℕ) (byte : ℕ) → open_headers text ≡ []
+            → header ≡ header_back (byte ∷ reverse text)
             → Hearing text byte result self.new }
         ensures ready { is_ready self.new ≡ is_over result }
     {

@@ -24,7 +24,8 @@ pub struct Identity {
 impl Identity {
     ghost use Rattle.nx_envelope.specs.Identity.{identity_bytes};
 
-    /// The identity of two letters and a number, `None` where `b1` or `b2` isn't A to Z or `number` is above 99.
+    /// The identity of two letters and a number, `None` where `b1` or `b2` isn't A to Z or `number`
+    /// is above 99.
     pub fn new(b1: u8, b2: u8, number: u8) -> Option<Identity>
         ensures in_range { IsSome result ↔ (IsCapital b1 × IsCapital b2 × (number ≤ 99)) }
         ensures station { IfSome result (λ identity. identity.b1.byte ≡ b1) }
@@ -61,7 +62,8 @@ impl Identity {
         self.number
     }
 
-    /// The identity as it is written, the letters of station and subject and then two digits, as `EA01`.
+    /// The identity as it is written, the letters of station and subject and then two digits, as
+    /// `EA01`.
     pub fn bytes(self) -> [u8; 4]
         ensures { result ≡ identity_bytes self }
     {

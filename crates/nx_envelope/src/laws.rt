@@ -1,4 +1,5 @@
-//! Laws of headers, copies and moments: each holds by its contract alone, and the call does nothing.
+//! Laws of headers, copies and moments: each holds by its contract alone, and the call does
+//! nothing.
 
 ghost use Rattle.std.specs.Prelude.{◌≡◌, ◌↔◌, ◌<◌, ◌≤◌, ◌++◌, [], ℕ, Contains, List, Option, IsTrue, None, Some, length, map, reverse};
 ghost use Rattle.std.specs.List.{AllZip};
@@ -18,8 +19,10 @@ ghost use Rattle.nx_envelope.specs.declared.identity.Identity.{Identity};
 
 /// A text ends with a marker, as it is read from its end, exactly where it is spelled so.
 pub fn markers_are_spelled()
-    ensures start { (text : List ℕ) → IsTrue (ends_in start_marker (reverse text)) ↔ EndsWith text start_marker }
-    ensures end { (text : List ℕ) → IsTrue (ends_in end_marker (reverse text)) ↔ EndsWith text end_marker }
+    ensures start { (text : List ℕ) → IsTrue (ends_in start_marker (reverse text))
+        ↔ EndsWith text start_marker }
+    ensures end { (text : List ℕ) → IsTrue (ends_in end_marker (reverse text))
+        ↔ EndsWith text end_marker }
 {}
 
 /// Headers, copies and their ends come in one order; at most one copy is open, and it is the last.
@@ -30,15 +33,18 @@ pub fn copies_come_in_order()
     ensures ended_stay { (text more : List ℕ) → Grows text more }
 {}
 
-/// Over a whole text, what a finder hands out at its bytes and then at its end are the copies of the text, in order.
+/// Over a whole text, what a finder hands out at its bytes and then at its end are the copies of
+/// the text, in order.
 pub fn copies_are_handed_out()
-    ensures { (text : List ℕ) (answers : List FinderStep) (last : Option Found) → AreAnswers [] text answers
+    ensures { (text : List ℕ) (answers : List FinderStep) (last : Option Found)
+        → AreAnswers [] text answers
         → Closes text last → AllZip IsFound (copies text) (copies_handed_out answers last) }
 {}
 
 /// The headers of a text are those that stand in it, at any index.
 pub fn headers_stand_anywhere()
-    ensures { (text : List ℕ) (header : Header) → Contains (headers text) header ↔ StandsIn text header }
+    ensures { (text : List ℕ) (header : Header) → Contains (headers text) header
+        ↔ StandsIn text header }
 {}
 
 /// The headers of a text come in rising order, each once: one that comes later stands later.
@@ -47,10 +53,12 @@ pub fn headers_rise()
         → earlier.behind < later.behind }
 {}
 
-/// A copy ends at the least place, within 4,100 characters of its raw text, where a marker ends, and is full or cut by
-/// which marker it is; it is long exactly where there is none and 4,100 characters stand there; else it has not ended.
+/// A copy ends at the least place, within 4,100 characters of its raw text, where a marker ends,
+/// and is full or cut by which marker it is; it is long exactly where there is none and 4,100
+/// characters stand there; else it has not ended.
 pub fn copies_end_at_the_least_marker()
-    ensures ended { (raw : List ℕ) (ending : Ending) → (ending_of raw ≡ Some ending) ↔ IsEnding raw ending }
+    ensures ended { (raw : List ℕ) (ending : Ending) → (ending_of raw ≡ Some ending)
+        ↔ IsEnding raw ending }
     ensures unended { (raw : List ℕ) → (ending_of raw ≡ None) ↔ IsUnended raw }
 {}
 
@@ -59,8 +67,8 @@ pub fn same_identity_is_equality()
     ensures { (a b : Identity) → IsTrue (same_identity a b) ↔ (a ≡ b) }
 {}
 
-/// A text ends with a header, as it is read from its end, exactly where it is spelled `ZCZC`, one or more spaces, two
-/// letters and two digits.
+/// A text ends with a header, as it is read from its end, exactly where it is spelled `ZCZC`, one
+/// or more spaces, two letters and two digits.
 pub fn header_is_spelled()
     ensures { (text : List ℕ) (identity : Identity) →
         (header_back (reverse text) ≡ Some identity) ↔ EndsWithHeader text identity }

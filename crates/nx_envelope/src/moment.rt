@@ -70,7 +70,8 @@ fn text_of(time: CivilTime) -> [u8; CIVIL_LEN]
     ]
 }
 
-/// The civil time of a moment in UTC, as `2025-01-01 00:40:00`; `None` exactly above the last moment.
+/// The civil time of a moment in UTC, as `2025-01-01 00:40:00`; `None` exactly above the last
+/// moment.
 pub fn civil(moment: u64) -> Option<[u8; CIVIL_LEN]>
     ensures none { IsNone result ↔ (last_moment < moment) }
     ensures shown { IfSome result (IsShownAs moment) }

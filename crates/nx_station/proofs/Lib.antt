@@ -5,3 +5,6 @@ pub mod HeadLemmas
 pub mod BroadcastLemmas
 pub mod StationLemmas
 pub mod ReadingBack
+pub mod FileReading
+pub mod SendingLaws
+mod Examples

@@ -91,14 +91,14 @@ head-prints identity shift =
     let station = identity.b1.in_range in
     let subject = identity.b2.in_range in
     let digits = Prints-character (digit_combination (identity.number / 10)) _ Figures _ _ Figures (omega (arith, tens_high.1)) (digit_combination-prints (identity.number / 10) tens)
-        (Prints-character (digit_combination (identity.number % 10)) _ Figures _ _ Figures (omega (arith, units_high.1)) (digit_combination-prints (identity.number % 10) units)
-        (line-prints Figures Figures [] [] (Prints-nil Figures))) in
+    (Prints-character (digit_combination (identity.number % 10)) _ Figures _ _ Figures (omega (arith, units_high.1)) (digit_combination-prints (identity.number % 10) units)
+    (line-prints Figures Figures [] [] (Prints-nil Figures))) in
     let letters = Prints-character (letter_combination identity.b1.byte) _ Letters _ _ Figures (omega (arith, station.1)) (letter_combination-prints identity.b1.byte station.0 station.1)
-        (Prints-character (letter_combination identity.b2.byte) _ Letters _ _ Figures (omega (arith, subject.1)) (letter_combination-prints identity.b2.byte subject.0 subject.1)
-        (Prints-shift Figures Letters _ _ Figures digits)) in
+    (Prints-character (letter_combination identity.b2.byte) _ Letters _ _ Figures (omega (arith, subject.1)) (letter_combination-prints identity.b2.byte subject.0 subject.1)
+    (Prints-shift Figures Letters _ _ Figures digits)) in
     let marker = Prints-character 26 90 Letters _ _ Figures (omega arith) z-prints (Prints-character 3 67 Letters _ _ Figures (omega arith) c-prints
-        (Prints-character 26 90 Letters _ _ Figures (omega arith) z-prints (Prints-character 3 67 Letters _ _ Figures (omega arith) c-prints
-        (Prints-character 31 32 Letters _ _ Figures (omega arith) space-prints letters)))) in
+    (Prints-character 26 90 Letters _ _ Figures (omega arith) z-prints (Prints-character 3 67 Letters _ _ Figures (omega arith) c-prints
+    (Prints-character 31 32 Letters _ _ Figures (omega arith) space-prints letters)))) in
     Prints-shift Letters shift _ _ Figures marker
 
 end-prints : Prints Letters (map combination (14 ∷ 14 ∷ 14 ∷ 14 ∷ 27 ∷ 28 ∷ 28 ∷ [])) (codes "NNNN" ++ (10 ∷ 10 ∷ [])) Letters

@@ -3,3 +3,4 @@ pub mod Broadcast
 pub mod Sendable
 pub mod MessageFile
 pub mod Faults
+pub mod Runs

@@ -5,8 +5,14 @@ mod broadcast;
 mod fault;
 mod heads;
 pub mod laws;
+mod message_file;
+mod sending;
 mod slots;
 
 pub use broadcast::{MAX_POSITIONS, emission};
 pub use fault::{SendFault, SendRunFault};
+pub use sending::{Sent, send};
 pub use slots::next_slot;
+
+#[cfg(test)]
+mod tests;

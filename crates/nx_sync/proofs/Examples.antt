@@ -1,11 +1,11 @@
 -- The definitions of the locks, evaluated on worked examples.
-use Rattle.std.proofs.Common.{◌≡◌, ℕ, ◌==◌, ◌||◌, List, [], ◌∷◌, ◌++◌, length, Bool, true, false, refl, inl, inr, arith, Some, None, if◌then◌else◌}
+use Rattle.std.proofs.Common.{◌≡◌, ℕ, ◌==◌, ◌||◌, [], ◌∷◌, ◌++◌, true, false, refl, inl, arith, Some, None, if◌then◌else◌}
 use Rattle.nx_code.specs.Phasing.{phasing_1, phasing_2, elements_of_phasing_1, elements_of_phasing_2}
 use Rattle.nx_code.specs.Word.{number_of, weight, elements, elements_from}
 use Rattle.nx_sync.specs.declared.step.Role.TheVariants.{Dx, Rx}
 use Rattle.nx_sync.specs.declared.step.Change.TheVariants.{Ended, LostLock}
 use Rattle.nx_sync.specs.Words.{word_at, first_role, role_of, is_wrong, wrong_in, wrong_until, words_of}
-use Rattle.nx_sync.specs.Locks.{before_dx, before_rx, last_28, IsPattern, Finds, releases_as_ended, change_at}
+use Rattle.nx_sync.specs.Locks.{before_dx, before_rx, IsPattern, Finds, releases_as_ended, change_at}
 use Rattle.nx_sync.specs.Windows.{is_lock_window}
 
 -- P2 P1 P2 P1 gives a lock after 28 bits, whose word 0 is a DX word; P1 P2 P1 P2 one whose word 0 is an RX word

@@ -1,7 +1,7 @@
 -- Hunting: what the windows of a block say of its elements, how blocks follow on each other, and that the elements which
 -- a hunt hears are those whose pushes bring nothing.
-use Rattle.std.proofs.Common.{◌≡◌, ℕ, zero, suc, ◌+◌, ◌-◌, ◌*◌, ◌<◌, ◌≤◌, ◌==◌, ◌||◌, min, List, [], ◌∷◌, ◌++◌, length, take, drop, get_or, Bool, true, false, not, is_some, refl, sym, ap, subst, subst₂, ◌∙◌, inl, inr, arith, Some, None, Option, append_assoc, append-nil, length-take, length-drop, get_or-take, take-take}
-use Rattle.std.proofs.lemmas.Bool.{cases_lt, cases_eq, cases_Bool, both_ways, or_parts, ne_eqb, eq-eqb}
+use Rattle.std.proofs.Common.{◌≡◌, ℕ, suc, ◌+◌, ◌-◌, ◌<◌, ◌≤◌, min, List, [], ◌∷◌, ◌++◌, length, take, drop, get_or, Bool, true, false, not, is_some, refl, sym, ap, subst, subst₂, ◌∙◌, inl, inr, arith, Some, None, Option, append_assoc, append-nil, length-take, length-drop, get_or-take, take-take}
+use Rattle.std.proofs.lemmas.Bool.{cases_lt, cases_eq, both_ways, ne_eqb, eq-eqb}
 use Rattle.std.proofs.lemmas.List.{take_more}
 use Rattle.nx_sync.specs.declared.step.Role.{Role}
 use Rattle.nx_sync.specs.declared.step.Role.TheVariants.{Dx, Rx}

@@ -1,5 +1,5 @@
 -- What each kind of state becomes in 48 phasing words: a hunt, a lock on other limits, one with swapped roles, a right one.
-use Rattle.std.proofs.Common.{◌≡◌, ℕ, zero, suc, ◌+◌, ◌-◌, ◌*◌, ◌/◌, ◌%◌, ◌<◌, ◌≤◌, List, [], ◌∷◌, ◌++◌, length, take, drop, Bool, true, false, not, is_some, refl, sym, ap, ap₂, subst, ◌∙◌, inl, inr, arith, Some, None, Option, append_assoc, drop-drop, length-append, length-take}
+use Rattle.std.proofs.Common.{◌≡◌, ℕ, zero, suc, ◌+◌, ◌-◌, ◌*◌, ◌/◌, ◌%◌, ◌<◌, ◌≤◌, List, ◌++◌, length, take, drop, Bool, true, false, is_some, refl, sym, ap, subst, ◌∙◌, inl, inr, arith, Some, None, Option, append_assoc, drop-drop, length-append, length-take}
 use Rattle.std.proofs.Math.Seq.{drop-append-add}
 use Rattle.std.proofs.lemmas.Bool.{cases_lt, cases_eq, both_ways}
 use Rattle.std.proofs.lemmas.List.{take-append-drop}
@@ -7,13 +7,13 @@ use Rattle.nx_code.specs.Phasing.{phasing_1, phasing_2}
 use Rattle.nx_sync.specs.declared.step.Role.{Role}
 use Rattle.nx_sync.specs.declared.step.Role.TheVariants.{Dx, Rx}
 use Rattle.nx_sync.specs.declared.step.Change.{Change}
-use Rattle.nx_sync.specs.Words.{losing_count, other_role, is_wrong, word_at, first_role, role_of, wrong_in, wrong_until}
+use Rattle.nx_sync.specs.Words.{other_role, is_wrong, word_at, first_role, role_of, wrong_in, wrong_until}
 use Rattle.nx_sync.specs.Locks.{before_dx, before_rx, IsPattern, Finds, release, Lock, IsHunting, IsLocked}
 use Rattle.nx_sync.specs.Laws.{phasing, IsSecondPhasing1, IsOnPhasing, IsBetweenLimits, IsReleasedBy}
 use Rattle.nx_sync.proofs.Counts.{wrong_in-add, wrong_in-all, wrong_in-none, role_of-even}
-use Rattle.nx_sync.proofs.More.{wrong_in-same, IsPattern-less, first_role-more, word_at-more, Past-within}
-use Rattle.nx_sync.proofs.Releases.{Least, least_true, none, some, IsSecondPhasing1-to, change-none, change-ended, at_none, stands_longer}
-use Rattle.nx_sync.proofs.Phasing.{phase, phase_at, length-phasing, limit-true, limit-zero, role_of-three_on, word_in, phasing_heard, inside_aligned}
+use Rattle.nx_sync.proofs.More.{wrong_in-same, IsPattern-less, word_at-more, Past-within}
+use Rattle.nx_sync.proofs.Releases.{least_true, none, some, IsSecondPhasing1-to, at_none, stands_longer}
+use Rattle.nx_sync.proofs.Phasing.{phase_at, length-phasing, limit-true, limit-zero, role_of-three_on, word_in, phasing_heard, inside_aligned}
 
 -- phasing without its first pairs
 drop-pairs : (q n : ℕ) → drop (14 * q) (phasing (q + n)) ≡ phasing n

@@ -1,18 +1,18 @@
 -- 21 elements heard at once: what is held after them, and that none of them ends a pattern where the seven elements before
 -- them do not stand in one.
-use Rattle.std.proofs.Common.{◌≡◌, ℕ, zero, suc, ◌+◌, ◌-◌, ◌*◌, ◌/◌, ◌%◌, ◌^◌, ◌<◌, ◌≤◌, ◌==◌, min, List, [], ◌∷◌, ◌++◌, length, take, drop, get_or, Bool, true, false, refl, sym, ap, subst, ◌∙◌, inl, inr, arith, append_assoc, append-nil, length-append, length-drop, length-take, drop-drop, eqb}
+use Rattle.std.proofs.Common.{◌≡◌, ℕ, zero, suc, ◌+◌, ◌-◌, ◌*◌, ◌/◌, ◌%◌, ◌^◌, ◌<◌, ◌≤◌, ◌==◌, min, List, [], ◌∷◌, ◌++◌, length, take, drop, get_or, Bool, true, false, refl, sym, ap, ◌∙◌, inl, inr, arith, append_assoc, append-nil, length-append, length-drop, length-take, drop-drop}
 use Rattle.std.proofs.Math.Nat.{pow-succ'}
 use Rattle.std.proofs.lemmas.Bool.{cases_eq, cases_Bool, both_ways, agree_below_at, ne_eqb}
 use Rattle.std.proofs.lemmas.List.{drop-append-le, take_at, take_all, drop_all}
 use Rattle.nx_code.specs.Word.{number_of, value_of, elements_from}
 use Rattle.nx_sync.specs.Locks.{before_dx, before_rx}
-use Rattle.nx_sync.specs.Windows.{window_before_dx, window_before_rx, is_lock_window, is_in_phasing, next_window, window_after, role_after}
+use Rattle.nx_sync.specs.Windows.{window_before_dx, window_before_rx, is_lock_window, is_in_phasing, window_after}
 use Rattle.nx_sync.specs.Synchroniser.{Held}
-use Rattle.nx_sync.specs.PrivateCalls.{heard_all, Skips}
+use Rattle.nx_sync.specs.PrivateCalls.{Skips}
 use Rattle.nx_sync.proofs.Numbers.{number_of-append, number_of-drop, number_of-next}
 use Rattle.nx_sync.proofs.Patterns.{is_dx_window, is_rx_window}
-use Rattle.nx_sync.proofs.Hearing.{window_after-none, same_parts}
-use Rattle.nx_sync.proofs.Hunting.{quiet_window, lock_role}
+use Rattle.nx_sync.proofs.Hearing.{same_parts}
+use Rattle.nx_sync.proofs.Hunting.{quiet_window}
 
 -- a number has the elements of itself
 length-elements_from : (n x : ℕ) → length (elements_from n x) ≡ n

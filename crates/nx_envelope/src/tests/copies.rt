@@ -7,8 +7,9 @@ use std::test::Fail;
 
 /// Texts, and what a new finder answers to the bytes of each and then to its end.
 ///
-/// `|` is a newline, here and in the log. The log names each answer with the count of the bytes that it came after. The
-/// logs are those of a model of copies that was written apart from this crate, and the last five are worked examples.
+/// `|` is a newline, here and in the log. The log names each answer with the count of the bytes
+/// that it came after. The logs are those of a model of copies that was written apart from this
+/// crate, and the last five are worked examples.
 static CASES: [(&str, &str); 49] = [
     (
         "ZCZCZC EA01|TEST|NNNN",
@@ -64,7 +65,8 @@ static CASES: [(&str, &str); 49] = [
     ),
     (
         "NNNNZCZC EA01|NNNNZZCZC QD00ZCZC QD00FB22 EA01 ZCZC QD00|CNNN",
-        "13 Header EA01; 18 Over full 0/0 ; 28 Header QD00; 32 Over cut 0/0 ; 37 Header QD00; 51 Over cut 0/10 FB22 EA01 ; 56 Header QD00; End cut 0/4 CNNN",
+        "13 Header EA01; 18 Over full 0/0 ; 28 Header QD00; 32 Over cut 0/0 ; 37 Header QD00; \
+         51 Over cut 0/10 FB22 EA01 ; 56 Header QD00; End cut 0/4 CNNN",
     ),
     (
         " EA01ZCZC EA01|XZCZC QD00FB22",
@@ -76,7 +78,8 @@ static CASES: [(&str, &str); 49] = [
     ),
     (
         " ZZCZC EA01|XEA01ZCZC QD00ZCZC EA01|AXZCZC QD00Z",
-        "11 Header EA01; 21 Over cut 0/5 XEA01; 26 Header QD00; 30 Over cut 0/0 ; 35 Header EA01; 42 Over cut 0/2 AX; 47 Header QD00; End cut 0/1 Z",
+        "11 Header EA01; 21 Over cut 0/5 XEA01; 26 Header QD00; 30 Over cut 0/0 ; 35 Header EA01; \
+         42 Over cut 0/2 AX; 47 Header QD00; End cut 0/1 Z",
     ),
     (
         "A NFB22XZCZC EA01|XFB22NNNN ",
@@ -130,7 +133,8 @@ static CASES: [(&str, &str); 49] = [
     ("ZCZC  EA01", "10 Header EA01; End cut 0/0 "),
 ];
 
-/// A long text: `before`, so many letters A, and `after`; in the log a run of at least a hundred A is `A^n`.
+/// A long text: `before`, so many letters A, and `after`; in the log a run of at least a hundred A
+/// is `A^n`.
 struct LongCase {
     before: &'static str,
     letters: usize,

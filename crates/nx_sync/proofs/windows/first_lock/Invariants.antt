@@ -1,4 +1,4 @@
-use Rattle.std.proofs.Common.{ℕ, ◌-◌, ◌≤◌, length}
+use Rattle.std.proofs.Common.{◌-◌, ◌≤◌, length}
 use Rattle.nx_sync.specs.Windows.{HasNoLock}
 use Rattle.nx_sync.proofs.windows.first_lock.Given as goal
 

@@ -1,4 +1,4 @@
-use Rattle.std.proofs.Common.{◌≡◌, ◌≤◌, ◌-◌, ◌/◌, ◌+◌, ◌*◌, ◌^◌, ℕ, List, Bool, false, get_or, length, drop, sym, ap, subst, ◌<◌, ◌∙◌, arith}
+use Rattle.std.proofs.Common.{◌≡◌, ◌≤◌, ◌-◌, ◌^◌, List, Bool, false, get_or, drop, ap, subst, ◌<◌, ◌∙◌, arith}
 use Rattle.nx_code.specs.Word.{number_of}
 use Rattle.nx_code.proofs.WordLemmas.{number_of-drop, value_of-bool_byte, value_of-le}
 use Rattle.nx_sync.proofs.Strides.{twice-lt, number_of-none, window_after-stride}

@@ -1,4 +1,4 @@
-use Rattle.std.proofs.Common.{◌≡◌, ◌-◌, ◌<◌, ◌^◌, length, drop}
+use Rattle.std.proofs.Common.{◌≡◌, ◌-◌, ◌<◌, ◌^◌, drop}
 use Rattle.nx_code.specs.Word.{number_of}
 use Rattle.nx_sync.proofs.windows.stride_window.Given as goal
 

@@ -1,4 +1,3 @@
-use Rattle.std.proofs.Common.{arith}
 use Rattle.nx_sync.proofs.Hunting.{hunted_stands, hunted_pushes, no_track}
 use Rattle.nx_sync.proofs.synchroniser.Synchroniser.hunt.Goals as goal
 

@@ -1,5 +1,4 @@
-use Rattle.std.proofs.Common.{◌≡◌, ◌+◌, ℕ, min, List, Bool, Some, sym, ap, subst, ◌∙◌}
-use Rattle.nx_code.specs.Word.{number_of}
+use Rattle.std.proofs.Common.{◌≡◌, ◌+◌, min, List, Bool, Some, sym, ap, subst, ◌∙◌}
 use Rattle.nx_sync.specs.declared.track.Track.{Track}
 use Rattle.nx_sync.specs.Windows.{next_word_window}
 use Rattle.nx_sync.specs.Synchroniser.{Held}

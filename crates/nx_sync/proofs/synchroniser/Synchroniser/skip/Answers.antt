@@ -1,4 +1,4 @@
-use Rattle.std.proofs.Common.{◌≡◌, ℕ, ◌+◌, ◌-◌, ◌≤◌, ◌<◌, List, Bool, length, take, drop, arith, length-take, length-drop}
+use Rattle.std.proofs.Common.{◌≡◌, ℕ, ◌+◌, ◌-◌, ◌≤◌, List, Bool, length, take, drop, arith, length-take, length-drop}
 use Rattle.nx_sync.proofs.Hunting.{part_held, part_quiet, part_stops}
 use Rattle.nx_sync.proofs.synchroniser.Synchroniser.skip.Goals as goal
 

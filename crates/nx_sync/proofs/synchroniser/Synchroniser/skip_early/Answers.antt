@@ -1,4 +1,4 @@
-use Rattle.std.proofs.Common.{◌≡◌, ℕ, ◌+◌, ◌<◌, ◌≤◌, List, Bool, false, length, take, drop, get_or, refl, sym, ap, ◌∙◌, arith, length-take, get_or-take}
+use Rattle.std.proofs.Common.{◌≡◌, ℕ, ◌<◌, ◌≤◌, List, Bool, false, length, take, get_or, sym, ap, ◌∙◌, arith, length-take, get_or-take}
 use Rattle.nx_sync.specs.PrivateCalls.{heard_all}
 use Rattle.nx_sync.proofs.Hearing.{heard, heard_all-none, heard_all-more}
 use Rattle.nx_sync.proofs.synchroniser.Synchroniser.skip_early.Goals as goal

@@ -1,0 +1,200 @@
+-- What sending answers follows from what its steps said.
+use Rattle.std.proofs.Common.{◌≡◌, ◌≢◌, ℕ, ◌+◌, ◌<◌, ◌≤◌, ◌==◌, Bool, List, [], ◌∷◌, ◌++◌, length, map, not, get_or, Option, None, Some, Result, Ok, Err, true, false, refl, sym, ap, ◌∙◌, subst, arith}
+use Rattle.std.specs.List.{AllByRecursion, position}
+use Rattle.std.proofs.lemmas.Bool.{false≢true, eq-eqb, not-true}
+use Rattle.std.proofs.lemmas.List.Elements.{All-from_recursion}
+use Rattle.std.proofs.lemmas.List.Quantifiers.{position-Some}
+use Rattle.std.specs.Io.KnownBytes.{Appends}
+use Rattle.nx_envelope.specs.MessageView.{MessageView}
+use Rattle.nx_fec.specs.Devices.{WroteSome}
+use Rattle.nx_fec.specs.Emission.{SentPosition, bits_of, emission}
+use Rattle.nx_fec.specs.BitLines.{bit_lines}
+use Rattle.nx_fec.specs.Lines.{file_of, line_bytes}
+use Rattle.nx_fec.specs.AirFile.{moment}
+use Rattle.nx_fec.specs.Runs.{ExplainsWhole}
+use Rattle.nx_fec.specs.Transfers.{Devices, IsReadOut, Reads}
+use Rattle.nx_fec.specs.declared.fault.ReadFault.{ReadFault}
+use Rattle.nx_fec.specs.declared.fault.ReadFault.TheVariants as read
+use Rattle.nx_fec.proofs.TransferLaws.{Reads-on}
+use Rattle.nx_station.specs.Broadcast.{IsBroadcast}
+use Rattle.nx_station.specs.Faults.{whole_fault, send_fault}
+use Rattle.nx_station.specs.MessageFile.{IsMessageFile, entry_of}
+use Rattle.nx_station.specs.Runs.{ExplainsFile, ExplainsRefusal, ExplainsSending, AnswersSending, IsTransmission, Sends}
+use Rattle.nx_station.specs.Sendable.{AreOf, IsRefusal, IsSendable, first_of_another}
+use Rattle.nx_station.specs.Slots.{HasSlots, IsNextSlot}
+use Rattle.nx_station.specs.declared.fault.SendFault.{SendFault}
+use Rattle.nx_station.specs.declared.fault.SendFault.TheVariants as refusal
+use Rattle.nx_station.specs.declared.fault.SendRunFault.{SendRunFault}
+use Rattle.nx_station.specs.declared.fault.SendRunFault.TheVariants.{Read, FileTooLong, BadLine, Text, LineCut, Open, Send, Write, Memory}
+use Rattle.nx_station.specs.declared.sending.Sent.{Sent}
+
+-- an outcome of reading a file whole
+abbrev pub as_read : {N : Type 0} → Result N ReadFault → Result N ReadFault
+as_read outcome = outcome
+
+-- the fault is of no device
+abbrev pub IsInside : SendRunFault → Type 0
+IsInside Read = ⊥
+IsInside (Write written) = ⊥
+IsInside _ = Unit {0}
+
+inside-read : {T : Type 0} (fault : SendRunFault) → IsInside fault → ◌≡◌ {A = Result T SendRunFault} (Err fault) (Err Read) → ⊥
+inside-read {T} fault h e = let same : fault ≡ Read = cc in subst IsInside same h
+
+inside-write : {T : Type 0} (fault : SendRunFault) (written : ℕ) → IsInside fault → ◌≡◌ {A = Result T SendRunFault} (Err fault) (Err (Write written)) → ⊥
+inside-write {T} fault written h e = let same : fault ≡ Write written = cc in subst IsInside same h
+
+ok-read : {N : Type 0} (text : N) → ◌≡◌ {A = Result N ReadFault} (Ok text) (Err read.Read) → ⊥
+ok-read text e = cc
+
+ok-err : (sent : Sent) (fault : SendRunFault) → ◌≡◌ {A = Result Sent SendRunFault} (Ok sent) (Err fault) → ⊥
+ok-err sent fault e = cc
+
+write-read : (written : ℕ) → ◌≡◌ {A = Result Sent SendRunFault} (Err (Write written)) (Err Read) → ⊥
+write-read written e = cc
+
+-- ---- the file isn't read whole
+
+whole-explains : (AtEnd : Type 0) (station from : ℕ) (bytes : List ℕ) (old new : Option (List ℕ)) (why : ReadFault) → ExplainsWhole 1048576 bytes why
+    → ExplainsSending AtEnd 1048576 station from bytes old new (whole_fault why)
+whole-explains AtEnd station from bytes old new read.Read h = tt
+whole-explains AtEnd station from bytes old new read.FileTooLong h = h
+whole-explains AtEnd station from bytes old new (read.Memory error) h = tt
+
+whole-read : {N : Type 0} (why : ReadFault) → ◌≡◌ {A = Result Sent SendRunFault} (Err (whole_fault why)) (Err Read) → ◌≡◌ {A = Result N ReadFault} (Err why) (Err read.Read)
+whole-read read.Read e = refl
+whole-read read.FileTooLong e = cc
+whole-read (read.Memory error) e = cc
+
+read-whole : {N : Type 0} (why : ReadFault) → ◌≡◌ {A = Result N ReadFault} (Err why) (Err read.Read) → ◌≡◌ {A = Result Sent SendRunFault} (Err (whole_fault why)) (Err Read)
+read-whole why e = let same : why ≡ read.Read = cc in ap (λ w. Err (whole_fault w)) same
+
+whole-write : (why : ReadFault) (written : ℕ) → ◌≡◌ {A = Result Sent SendRunFault} (Err (whole_fault why)) (Err (Write written)) → ⊥
+whole-write read.Read written e = cc
+whole-write read.FileTooLong written e = cc
+whole-write (read.Memory error) written e = cc
+
+pub unread : {R W N : Type 0} (d : Devices R W) (station from : ℕ) (why : ReadFault)
+    → Reads d.remaining d.reader d.reader_after read.Read (as_read {N = N} (Err why)) (λ bytes. ExplainsWhole 1048576 bytes why) (λ bytes. ExplainsWhole 1048576 bytes why)
+    → d.writer_after ≡ d.writer → d.writer.failures ≡ 0 → Sends d station from (Err (whole_fault why))
+unread d station from why reads same none = record {
+  reads = Reads-on _ _ _ _ _ _ _ _ _ _ _ reads (λ bytes k. whole-explains _ station from bytes _ _ why k) (λ bytes k. whole-explains _ station from bytes _ _ why k) (whole-read why) (read-whole why);
+  writes = record { failed = (λ w. absurd (whole-write why w.0 w.1), λ one. absurd (omega (arith, ap (λ x. x.failures) same, none, one))); once = omega (arith, ap (λ x. x.failures) same, none) };
+  unwritten = λ other. same;
+}
+
+-- ---- it is read whole
+
+-- the fault comes before anything is written
+pub unsent : {R W N : Type 0} (d : Devices R W) (station from : ℕ) (text : N) (items : List ℕ) (fault : SendRunFault)
+    → Reads d.remaining d.reader d.reader_after read.Read (as_read {N = N} (Ok text)) (λ bytes. IsReadOut d × (length bytes ≤ 1048576) × (items ≡ bytes)) (λ bytes. (length bytes ≤ 1048576) × (items ≡ bytes))
+    → d.writer_after ≡ d.writer → d.writer.failures ≡ 0 → IsInside fault
+    → ((AtEnd : Type 0) → AtEnd → length items ≤ 1048576 → ExplainsSending AtEnd 1048576 station from items (d.contents d.writer.inner) (d.contents d.writer_after.inner) fault)
+    → Sends d station from (Err fault)
+unsent d station from text items fault reads same none inside explains = record {
+  reads = Reads-on _ _ _ _ _ _ _ _ _ _ _ reads
+      (λ bytes k. subst (λ l. ExplainsSending (IsReadOut d) 1048576 station from l (d.contents d.writer.inner) (d.contents d.writer_after.inner) fault) k.2 (explains (IsReadOut d) k.0 (subst (λ l. length l ≤ 1048576) (sym k.2) k.1)))
+      (λ bytes k. subst (λ l. ExplainsSending (Unit {0}) 1048576 station from l (d.contents d.writer.inner) (d.contents d.writer_after.inner) fault) k.1 (explains (Unit {0}) tt (subst (λ l. length l ≤ 1048576) (sym k.1) k.0)))
+      (λ e. absurd (inside-read fault inside e)) (λ e. absurd (ok-read text e));
+  writes = record { failed = (λ w. absurd (inside-write fault w.0 inside w.1), λ one. absurd (omega (arith, ap (λ x. x.failures) same, none, one))); once = omega (arith, ap (λ x. x.failures) same, none) };
+  unwritten = λ other. same;
+}
+
+-- the file is written, or a part of it
+pub unwritten : {R W N : Type 0} (d : Devices R W) (station from : ℕ) (text : N) (items air : List ℕ) (sent : Sent) (written : ℕ)
+    → Reads d.remaining d.reader d.reader_after read.Read (as_read {N = N} (Ok text)) (λ bytes. IsReadOut d × (length bytes ≤ 1048576) × (items ≡ bytes)) (λ bytes. (length bytes ≤ 1048576) × (items ≡ bytes))
+    → d.writer_after.failures ≡ 1 → IsTransmission station from items air sent → WroteSome (d.contents d.writer.inner) (d.contents d.writer_after.inner) air written
+    → Sends d station from (Err (Write written))
+unwritten d station from text items air sent written reads one is wrote = record {
+  reads = Reads-on _ _ _ _ _ _ _ _ _ _ _ reads
+      (λ bytes k. (k.0, k.1, air, sent, subst (λ l. IsTransmission station from l air sent) k.2 is, wrote))
+      (λ bytes k. (tt, k.0, air, sent, subst (λ l. IsTransmission station from l air sent) k.1 is, wrote))
+      (λ e. absurd (write-read written e)) (λ e. absurd (ok-read text e));
+  writes = record { failed = (λ w. one, λ h. (written, refl)); once = omega (arith, one) };
+  unwritten = λ other. absurd (other written refl);
+}
+
+pub sent-all : {R W N : Type 0} (d : Devices R W) (station from : ℕ) (text : N) (items air : List ℕ) (sent : Sent)
+    → Reads d.remaining d.reader d.reader_after read.Read (as_read {N = N} (Ok text)) (λ bytes. IsReadOut d × (length bytes ≤ 1048576) × (items ≡ bytes)) (λ bytes. (length bytes ≤ 1048576) × (items ≡ bytes))
+    → d.writer_after.failures ≡ 0 → IsTransmission station from items air sent → Appends (d.contents d.writer.inner) (d.contents d.writer_after.inner) air
+    → Sends d station from (Ok sent)
+sent-all d station from text items air sent reads none is wrote = record {
+  reads = Reads-on _ _ _ _ _ _ _ _ _ _ _ reads
+      (λ bytes k. (k.0, k.1, air, subst (λ l. IsTransmission station from l air sent) k.2 is, wrote))
+      (λ bytes k. (tt, k.0, air, subst (λ l. IsTransmission station from l air sent) k.1 is, wrote))
+      (λ e. absurd (ok-err sent Read e)) (λ e. absurd (ok-read text e));
+  writes = record { failed = (λ w. absurd (ok-err sent (Write w.0) w.1), λ one. absurd (omega (arith, none, one))); once = omega (arith, none) };
+  unwritten = tt;
+}
+
+-- ---- the refusals of an emission
+
+of_one-None : (station : ℕ) (messages : List MessageView) (at : ℕ) → AreOf station messages → first_of_another messages ≡ Some at → ⊥
+of_one-None station [] at h e = cc
+of_one-None station (m ∷ ms) at h e =
+    let there = position-Some (λ (other : MessageView). not (other.identity.b1.byte == m.identity.b1.byte)) (m ∷ ms) at m e in
+    let here : (get_or (m ∷ ms) at m).identity.b1.byte ≡ station = All-from_recursion (λ (message : MessageView). message.identity.b1.byte ≡ station) (m ∷ ms) h.each at m there.0 in
+    false≢true (sym (not-true _ there.1) ∙ eq-eqb _ _ (here ∙ sym h.each.0))
+
+same-station : (one other : ℕ) (messages : List MessageView) → AreOf one messages → AreOf other messages → one ≡ other
+same-station one other [] h k = absurd (h.some refl)
+same-station one other (m ∷ ms) h k = sym h.each.0 ∙ k.each.0
+
+pub refusal-explains : (AtEnd : Type 0) (station from slot : ℕ) (file : List ℕ) (messages : List MessageView) (old new : Option (List ℕ)) (why : SendFault) → AtEnd → length file ≤ 1048576
+    → IsMessageFile file (map entry_of messages) → AreOf station messages → IsNextSlot station from slot → IsRefusal messages why → ExplainsSending AtEnd 1048576 station from file old new (send_fault why)
+refusal-explains AtEnd station from slot file messages old new refusal.NoMessages end few is of next h = absurd (of.some h)
+refusal-explains AtEnd station from slot file messages old new (refusal.MixedStations at) end few is of next h = absurd (of_one-None station messages at of h)
+refusal-explains AtEnd station from slot file messages old new refusal.NoSlot end few is of next h =
+    absurd (h.without (subst HasSlots (same-station station h.station messages of h.of_one) next.is_slot.has_slots))
+refusal-explains AtEnd station from slot file messages old new (refusal.SlotFull count) end few is of next h =
+    (end, few, record { messages = messages; is_file = is; of_station = of; slot = slot; next = next; positions = h.positions; too_many = h.too_many })
+refusal-explains AtEnd station from slot file messages old new (refusal.Memory error) end few is of next h = tt
+
+pub file-fault : (AtEnd : Type 0) (station from : ℕ) (file : List ℕ) (old new : Option (List ℕ)) (why : SendRunFault) → AtEnd → length file ≤ 1048576 → ExplainsFile file why
+    → ExplainsSending AtEnd 1048576 station from file old new why
+file-fault AtEnd station from file old new (BadLine line) end few h = (end, few, h)
+file-fault AtEnd station from file old new (Text line fault) end few h = (end, few, h)
+file-fault AtEnd station from file old new (LineCut line) end few h = (end, few, h)
+file-fault AtEnd station from file old new (Open line) end few h = (end, few, h)
+file-fault AtEnd station from file old new (Memory error) end few h = tt
+file-fault AtEnd station from file old new Read end few h = absurd h
+file-fault AtEnd station from file old new FileTooLong end few h = absurd h
+file-fault AtEnd station from file old new (Send refused) end few h = absurd h
+file-fault AtEnd station from file old new (Write written) end few h = absurd h
+
+pub file-inside : (file : List ℕ) (why : SendRunFault) → ExplainsFile file why → IsInside why
+file-inside file (BadLine line) h = tt
+file-inside file (Text line fault) h = tt
+file-inside file (LineCut line) h = tt
+file-inside file (Open line) h = tt
+file-inside file (Memory error) h = tt
+file-inside file Read h = h
+file-inside file FileTooLong h = tt
+file-inside file (Send refused) h = tt
+file-inside file (Write written) h = h
+
+pub refusal-inside : (why : SendFault) → IsInside (send_fault why)
+refusal-inside refusal.NoMessages = tt
+refusal-inside (refusal.MixedStations at) = tt
+refusal-inside refusal.NoSlot = tt
+refusal-inside (refusal.SlotFull count) = tt
+refusal-inside (refusal.Memory error) = tt
+
+-- ---- what is sent
+
+pub transmission-of : (station from slot : ℕ) (file given : List ℕ) (messages shown : List MessageView) (positions : List SentPosition) (line : List ℕ) (bits : List Bool) (count all : ℕ)
+    → given ≡ file → shown ≡ messages → IsMessageFile given (map entry_of messages) → AreOf station messages → IsSendable shown → IsNextSlot station from slot → IsBroadcast shown positions
+    → line ≡ line_bytes (moment slot) → bits ≡ bits_of (emission positions) → count ≡ length positions → all ≡ length messages
+    → IsTransmission station from file (line ++ file_of (bit_lines bits)) record { slot = slot; positions = count; messages = all }
+transmission-of station from slot file given messages shown positions line bits count all same alike is of sendable next broadcast spelled sounds counted whole = record {
+  messages = messages;
+  is_file = subst (λ l. IsMessageFile l (map entry_of messages)) same is;
+  of_station = of;
+  sendable = subst IsSendable alike sendable;
+  next = next;
+  positions = positions;
+  broadcast = subst (λ l. IsBroadcast l positions) alike broadcast;
+  whole = ap (λ l. l ++ file_of (bit_lines bits)) spelled ∙ ap (λ b. line_bytes (moment slot) ++ file_of (bit_lines b)) sounds;
+  count = counted;
+  all = whole;
+}
