@@ -342,7 +342,7 @@ wanted false false e = absurd (cc)
 -- the name of a command that was entered, and what its arguments hold
 abbrev pub IsCommand : Text → List Row → Type 0
 IsCommand name rows =
-    (name ≡ codes "decode") ⊎ ((name ≡ codes "encode") ⊎ ((name ≡ codes "code") ⊎ ((name ≡ codes "slots") × GivesMoment rows)))
+    (name ≡ codes "decode") ⊎ ((name ≡ codes "encode") ⊎ ((name ≡ codes "code") ⊎ (((name ≡ codes "send") ⊎ (name ≡ codes "slots")) × GivesMoment rows)))
 
 abbrev IsCommandOf : Shape → Type 0
 IsCommandOf s = (words : List Text) → level_fault s [] nothing_held words false [] ≡ [] → IsCommand s.name (rows_after s.rules [] words)
@@ -356,11 +356,18 @@ commands-are = (
       (λ words e. inr (inr (inl refl))),
       (
         (λ words e. inr (inr (inr (
-          refl,
+          inl refl,
           gets _ slot_rules-use (refl, (refl, (refl, tt)))
               (λ rows checked. wanted (is_given (codes "STATION") rows) (is_given (codes "MOMENT") rows) checked) words e,
         )))),
-        tt,
+        (
+          (λ words e. inr (inr (inr (
+            inr refl,
+            gets _ slot_rules-use (refl, (refl, (refl, tt)))
+                (λ rows checked. wanted (is_given (codes "STATION") rows) (is_given (codes "MOMENT") rows) checked) words e,
+          )))),
+          tt,
+        ),
       ),
     ),
   ),

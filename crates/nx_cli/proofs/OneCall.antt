@@ -14,7 +14,7 @@ use Rattle.clap.proofs.ValueTestLemmas.{Accepts-accepts, accepts-Accepts}
 use Rattle.nx_code.specs.Characters.{IsCapital}
 use Rattle.nx_envelope.specs.declared.letter.Letter.{Letter}
 use Rattle.nx_cli.specs.declared.words.Call.{Call}
-use Rattle.nx_cli.specs.declared.words.Call.TheVariants.{Code, Decode, Encode, Slots}
+use Rattle.nx_cli.specs.declared.words.Call.TheVariants.{Code, Decode, Encode, Send, Slots}
 use Rattle.nx_cli.specs.Words.{HasArguments, IsMoment, IsStation, word_of}
 
 same_letter : (a b : Letter) → a.byte ≡ b.byte → a ≡ b
@@ -41,18 +41,28 @@ pub same_call : (a b : Call) (rows : List Row) → word_of a ≡ word_of b → H
 same_call Decode Decode rows e given other = refl
 same_call Decode Encode rows e given other = absurd (differ _ _ refl e)
 same_call Decode Code rows e given other = absurd (differ _ _ refl e)
+same_call Decode (Send station2 moment2) rows e given other = absurd (differ _ _ refl e)
 same_call Decode (Slots station2 moment2) rows e given other = absurd (differ _ _ refl e)
 same_call Encode Decode rows e given other = absurd (differ _ _ refl e)
 same_call Encode Encode rows e given other = refl
 same_call Encode Code rows e given other = absurd (differ _ _ refl e)
+same_call Encode (Send station2 moment2) rows e given other = absurd (differ _ _ refl e)
 same_call Encode (Slots station2 moment2) rows e given other = absurd (differ _ _ refl e)
 same_call Code Decode rows e given other = absurd (differ _ _ refl e)
 same_call Code Encode rows e given other = absurd (differ _ _ refl e)
 same_call Code Code rows e given other = refl
+same_call Code (Send station2 moment2) rows e given other = absurd (differ _ _ refl e)
 same_call Code (Slots station2 moment2) rows e given other = absurd (differ _ _ refl e)
+same_call (Send station1 moment1) Decode rows e given other = absurd (differ _ _ refl e)
+same_call (Send station1 moment1) Encode rows e given other = absurd (differ _ _ refl e)
+same_call (Send station1 moment1) Code rows e given other = absurd (differ _ _ refl e)
+same_call (Send station1 moment1) (Send station2 moment2) rows e given other =
+    ap₂ (λ (s : Letter) (m : ℕ). Send s m) (station_once rows station1 station2 given.0 other.0) (moment_once rows moment1 moment2 given.1 other.1)
+same_call (Send station1 moment1) (Slots station2 moment2) rows e given other = absurd (differ _ _ refl e)
 same_call (Slots station1 moment1) Decode rows e given other = absurd (differ _ _ refl e)
 same_call (Slots station1 moment1) Encode rows e given other = absurd (differ _ _ refl e)
 same_call (Slots station1 moment1) Code rows e given other = absurd (differ _ _ refl e)
+same_call (Slots station1 moment1) (Send station2 moment2) rows e given other = absurd (differ _ _ refl e)
 same_call (Slots station1 moment1) (Slots station2 moment2) rows e given other =
     ap₂ (λ (s : Letter) (m : ℕ). Slots s m) (station_once rows station1 station2 given.0 other.0) (moment_once rows moment1 moment2 given.1 other.1)
 
@@ -126,16 +136,25 @@ IsCalled name rows = (call : Call) × (name ≡ word_of call) × HasArguments ca
 abbrev IsNotCalled : Text → List Row → Type 0
 IsNotCalled name rows = (call : Call) → name ≡ word_of call → HasArguments call rows → ⊥
 
-other_word : (name : Text) (rows : List Row) → name ≢ codes "decode" → name ≢ codes "encode" → name ≢ codes "code" → name ≢ codes "slots" → IsNotCalled name rows
-other_word name rows d e c l Decode is given = d is
-other_word name rows d e c l Encode is given = e is
-other_word name rows d e c l Code is given = c is
-other_word name rows d e c l (Slots station moment) is given = l is
+other_word : (name : Text) (rows : List Row) → name ≢ codes "decode" → name ≢ codes "encode" → name ≢ codes "code" → name ≢ codes "send" → name ≢ codes "slots" → IsNotCalled name rows
+other_word name rows d e c s l Decode is given = d is
+other_word name rows d e c s l Encode is given = e is
+other_word name rows d e c s l Code is given = c is
+other_word name rows d e c s l (Send station moment) is given = s is
+other_word name rows d e c s l (Slots station moment) is given = l is
+
+pub no_send : (name : Text) (rows : List Row) → name ≡ codes "send" → ((s : Letter) (m : ℕ) → IsStation rows s → IsMoment rows m → ⊥) → IsNotCalled name rows
+no_send name rows is absent Decode e given = differ _ _ refl (sym is ∙ e)
+no_send name rows is absent Encode e given = differ _ _ refl (sym is ∙ e)
+no_send name rows is absent Code e given = differ _ _ refl (sym is ∙ e)
+no_send name rows is absent (Send station moment) e given = absent station moment given.0 given.1
+no_send name rows is absent (Slots station moment) e given = absent station moment given.0 given.1
 
 pub no_slots : (name : Text) (rows : List Row) → name ≡ codes "slots" → ((s : Letter) (m : ℕ) → IsStation rows s → IsMoment rows m → ⊥) → IsNotCalled name rows
 no_slots name rows is absent Decode e given = differ _ _ refl (sym is ∙ e)
 no_slots name rows is absent Encode e given = differ _ _ refl (sym is ∙ e)
 no_slots name rows is absent Code e given = differ _ _ refl (sym is ∙ e)
+no_slots name rows is absent (Send station moment) e given = absent station moment given.0 given.1
 no_slots name rows is absent (Slots station moment) e given = absent station moment given.0 given.1
 
 -- a command and its arguments have a call, or none
@@ -146,12 +165,18 @@ call_or_none name rows = elim (is_or_not name (codes "decode")) [
     | inl is ↦ inl (Encode, is, tt)
     | inr e ↦ elim (is_or_not name (codes "code")) [
       | inl is ↦ inl (Code, is, tt)
-      | inr c ↦ elim (is_or_not name (codes "slots")) [
+      | inr c ↦ elim (is_or_not name (codes "send")) [
         | inl is ↦ elim (slot_or_none rows) [
-          | inl slot ↦ inl (Slots slot.0 slot.1, is, (slot.2, slot.3))
-          | inr none ↦ inr (no_slots name rows is none)
+          | inl slot ↦ inl (Send slot.0 slot.1, is, (slot.2, slot.3))
+          | inr none ↦ inr (no_send name rows is none)
         ]
-        | inr l ↦ inr (other_word name rows d e c l)
+        | inr s ↦ elim (is_or_not name (codes "slots")) [
+          | inl is ↦ elim (slot_or_none rows) [
+            | inl slot ↦ inl (Slots slot.0 slot.1, is, (slot.2, slot.3))
+            | inr none ↦ inr (no_slots name rows is none)
+          ]
+          | inr l ↦ inr (other_word name rows d e c s l)
+        ]
       ]
     ]
   ]

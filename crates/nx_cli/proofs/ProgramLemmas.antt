@@ -5,11 +5,13 @@ use Rattle.nx_cli.specs.declared.fault.CallFault.{CallFault}
 use Rattle.nx_cli.specs.declared.fault.CallFault.TheVariants as call
 use Rattle.nx_cli.specs.declared.fault.Fault.{Fault}
 use Rattle.nx_cli.specs.declared.fault.Fault.TheVariants as fault
+use Rattle.nx_station.specs.declared.fault.SendRunFault.{SendRunFault}
+use Rattle.nx_station.specs.declared.fault.SendRunFault.TheVariants as send
 use Rattle.nx_cli.specs.declared.words.Call.{Call}
 use Rattle.nx_fec.specs.declared.fault.RunFault.{RunFault}
 use Rattle.nx_fec.specs.declared.fault.RunFault.TheVariants as run
 use Rattle.nx_cli.specs.Program.{Ends, Exits, Performs, Succeeds, Tells, fresh}
-use Rattle.nx_cli.specs.Status.{IsStatus, call_status, fault_status, run_status, status_of}
+use Rattle.nx_cli.specs.Status.{IsStatus, call_status, fault_status, run_status, send_status, status_of}
 use Rattle.nx_fec.specs.Transfers.{Devices, devices}
 use Rattle.nx_fec.specs.Devices.{CountedDevice}
 use Rattle.nx_cli.specs.Words.{IsRefused, Names}
@@ -43,8 +45,20 @@ run-status (run.BadLine line) = inr refl
 run-status (run.Ragged bits) = inr refl
 run-status (run.NoSuchCharacter at) = inr refl
 
+send-status : (why : SendRunFault) → (send_status why ≡ 1) ⊎ (send_status why ≡ 2)
+send-status send.Read = inl refl
+send-status (send.Write written) = inl refl
+send-status (send.Memory want) = inl refl
+send-status send.FileTooLong = inr refl
+send-status (send.BadLine line) = inr refl
+send-status (send.Text line fault) = inr refl
+send-status (send.LineCut line) = inr refl
+send-status (send.Open line) = inr refl
+send-status (send.Send why) = inr refl
+
 call-status : (why : CallFault) → (call_status why ≡ 1) ⊎ (call_status why ≡ 2)
 call-status (call.Run why) = run-status why
+call-status (call.Send why) = send-status why
 call-status call.NoSlot = inr refl
 
 fault-status : (why : Fault) → (fault_status why ≡ 1) ⊎ ((fault_status why ≡ 2) ⊎ (fault_status why ≡ 64))

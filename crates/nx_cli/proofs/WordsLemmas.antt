@@ -24,7 +24,7 @@ use Rattle.nx_cli.proofs.EachFound.{Each, found_is}
 use Rattle.nx_cli.proofs.MomentGiven.{moment-given, taken-command}
 use Rattle.nx_cli.proofs.OneCall.{call_or_none, differ, moment_once, same_call}
 use Rattle.nx_envelope.specs.declared.letter.Letter.{Letter}
-use Rattle.nx_cli.specs.declared.words.Call.TheVariants.{Code, Decode, Encode, Slots}
+use Rattle.nx_cli.specs.declared.words.Call.TheVariants.{Code, Decode, Encode, Send, Slots}
 use Rattle.nx_cli.proofs.FaultKinds.{HasNoHelp, IsUniform, kinds_cases, level-nil, u-level, u-none, u-option, uniform_excludes}
 
 pub navtex-is_simple : is_simple navtex ≡ true
@@ -74,7 +74,7 @@ none_among [] k e among = among
 none_among (x ∷ xs) k e among = absurd (cc)
 
 calls_without_help : Each HasNoHelp (built navtex).subs
-calls_without_help = (refl, (refl, (refl, (refl, tt))))
+calls_without_help = (refl, (refl, (refl, (refl, (refl, tt)))))
 
 IfSome-weaker : {X : Type 0} (o : Option X) (P Q : X → Type 0) → ((x : X) → P x → Q x) → IfSome o P → IfSome o Q
 IfSome-weaker None P Q weaker some = tt
@@ -101,29 +101,32 @@ pub named_not_help : (words : List Text) (call : Call) → Names words call → 
 named_not_help words call named help = none_among (fault_of navtex words) DisplayHelp named.taken help
 
 -- a call whose word is that of a command that wants a station has one
-has-station : (call : Call) (arguments : List Row) → word_of call ≡ codes "slots" → HasArguments call arguments
+has-station : (call : Call) (arguments : List Row) → (word_of call ≡ codes "send") ⊎ (word_of call ≡ codes "slots") → HasArguments call arguments
     → (letter : Letter) × IsStation arguments letter
-has-station Decode arguments wants given = absurd (differ _ _ refl wants)
-has-station Encode arguments wants given = absurd (differ _ _ refl wants)
-has-station Code arguments wants given = absurd (differ _ _ refl wants)
+has-station Decode arguments wants given = absurd (elim wants [ inl e ↦ differ _ _ refl e | inr e ↦ differ _ _ refl e ])
+has-station Encode arguments wants given = absurd (elim wants [ inl e ↦ differ _ _ refl e | inr e ↦ differ _ _ refl e ])
+has-station Code arguments wants given = absurd (elim wants [ inl e ↦ differ _ _ refl e | inr e ↦ differ _ _ refl e ])
+has-station (Send station moment) arguments wants given = (station, given.0)
 has-station (Slots station moment) arguments wants given = (station, given.0)
 
 abbrev entry : Text → List Row → Text × List Row
 entry name rows = (name, rows)
 
-named-lacks : (call : Call) (name : Text) (rows other : List Row) → name ≡ codes "slots" → Some (entry (word_of call) rows) ≡ Some (entry name other)
+named-lacks : (call : Call) (name : Text) (rows other : List Row) → (name ≡ codes "send") ⊎ (name ≡ codes "slots") → Some (entry (word_of call) rows) ≡ Some (entry name other)
     → HasArguments call rows → ((letter : Letter) → IsStation other letter → ⊥) → ⊥
 named-lacks call name rows other wants same given none =
     let pair : entry (word_of call) rows ≡ entry name other = cc in
     let word = ap (λ (p : Text × List Row). p.0) pair in
-    let station = has-station call rows (word ∙ wants) given in
+    let station = has-station call rows (elim wants [ inl e ↦ inl (word ∙ e) | inr e ↦ inr (word ∙ e) ]) given in
     let P : List Row → Type 0 = λ r. IsStation r station.0 in
     none station.0 (subst P (ap (λ (p : Text × List Row). p.1) pair) station.1)
 
 pub named_not_refused : (words : List Text) (call : Call) → Names words call → IsRefused words → ⊥
 named_not_refused words call named (inl refused) = none_among (fault_of navtex words) refused.0 named.taken refused.2
-named_not_refused words call named (inr lacks) =
-    named-lacks call _ named.arguments lacks.arguments refl (sym named.command ∙ lacks.entered) named.given lacks.no_letter
+named_not_refused words call named (inr lacks) = elim lacks.entered [
+  | inl send ↦ named-lacks call _ named.arguments lacks.arguments (inl refl) (sym named.command ∙ send) named.given lacks.no_letter
+  | inr slots ↦ named-lacks call _ named.arguments lacks.arguments (inr refl) (sym named.command ∙ slots) named.given lacks.no_letter
+]
 
 -- words with no call, which clap takes, lack a station
 pub lacks_station : (words : List Text) (name : Text) (arguments : List Row) → fault_of navtex words ≡ [] → subcommand_of navtex words ≡ Some (name, arguments)
@@ -132,10 +135,17 @@ lacks_station words name arguments taken entered none = elim (taken-command word
   | inl decode ↦ absurd (none Decode decode tt)
   | inr (inl encode) ↦ absurd (none Encode encode tt)
   | inr (inr (inl code)) ↦ absurd (none Code code tt)
-  | inr (inr (inr (slots, gives))) ↦ record {
+  | inr (inr (inr (inl send, gives))) ↦ record {
     taken = taken;
     arguments = arguments;
-    entered = (entered ∙ ap (λ (t : Text). Some (t, arguments)) slots);
+    entered = inl (entered ∙ ap (λ (t : Text). Some (t, arguments)) send);
+    no_letter = λ letter is.
+        let moment = moment-given arguments gives in none (Send letter moment.0) send (is, moment.1);
+  }
+  | inr (inr (inr (inr slots, gives))) ↦ record {
+    taken = taken;
+    arguments = arguments;
+    entered = inr (entered ∙ ap (λ (t : Text). Some (t, arguments)) slots);
     no_letter = λ letter is.
         let moment = moment-given arguments gives in none (Slots letter moment.0) slots (is, moment.1);
   }
@@ -143,19 +153,22 @@ lacks_station words name arguments taken entered none = elim (taken-command word
 
 -- the moment of a call of this word is in its range
 moment-bound : (words : List Text) (name : Text) (arguments : List Row) (moment : ℕ) → fault_of navtex words ≡ [] → subcommand_of navtex words ≡ Some (name, arguments)
-    → name ≡ codes "slots" → IsMoment arguments moment → moment ≤ 32503679999
+    → (name ≡ codes "send") ⊎ (name ≡ codes "slots") → IsMoment arguments moment → moment ≤ 32503679999
 moment-bound words name arguments moment taken entered wants is = elim (taken-command words name arguments taken entered) [
-  | inl decode ↦ absurd (differ _ _ refl (sym decode ∙ wants))
-  | inr (inl encode) ↦ absurd (differ _ _ refl (sym encode ∙ wants))
-  | inr (inr (inl code)) ↦ absurd (differ _ _ refl (sym code ∙ wants))
+  | inl decode ↦ absurd (elim wants [ inl e ↦ differ _ _ refl (sym decode ∙ e) | inr e ↦ differ _ _ refl (sym decode ∙ e) ])
+  | inr (inl encode) ↦ absurd (elim wants [ inl e ↦ differ _ _ refl (sym encode ∙ e) | inr e ↦ differ _ _ refl (sym encode ∙ e) ])
+  | inr (inr (inl code)) ↦ absurd (elim wants [ inl e ↦ differ _ _ refl (sym code ∙ e) | inr e ↦ differ _ _ refl (sym code ∙ e) ])
   | inr (inr (inr command)) ↦
       let given = moment-given arguments command.1 in
       let P : ℕ → Type 0 = λ n. n ≤ 32503679999 in
       subst P (moment_once arguments given.0 moment given.1 is) given.2
 ]
 
+pub send-bound : (words : List Text) (station : Letter) (moment : ℕ) → Names words (Send station moment) → moment ≤ 32503679999
+send-bound words station moment named = moment-bound words (codes "send") named.arguments moment named.taken named.command (inl refl) named.given.1
+
 pub slots-bound : (words : List Text) (station : Letter) (moment : ℕ) → Names words (Slots station moment) → moment ≤ 32503679999
-slots-bound words station moment named = moment-bound words (codes "slots") named.arguments moment named.taken named.command refl named.given.1
+slots-bound words station moment named = moment-bound words (codes "slots") named.arguments moment named.taken named.command (inr refl) named.given.1
 
 -- where clap takes the words, they enter a command
 pub taken_enters : (words : List Text) → fault_of navtex words ≡ [] → is_some (subcommand_of navtex words) ≡ true

@@ -8,12 +8,13 @@ use Rattle.std.specs.Fmt.{decimal}
 use Rattle.nx_fec.specs.Devices.{CountedDevice, WroteSome}
 use Rattle.nx_fec.specs.Runs.{Decodes, Encodes}
 use Rattle.nx_fec.specs.TableText.{table_text}
+use Rattle.nx_station.specs.Runs.{Sends}
 use Rattle.nx_fec.specs.Transfers.{Devices, devices}
 use Rattle.nx_fec.specs.declared.fault.RunFault.{RunFault}
 use Rattle.nx_fec.specs.declared.fault.RunFault.TheVariants as run
 use Rattle.nx_station.specs.Slots.{HasNoSlot, IsNextSlot}
 use Rattle.nx_cli.specs.declared.words.Call.{Call}
-use Rattle.nx_cli.specs.declared.words.Call.TheVariants.{Code, Decode, Encode, Slots}
+use Rattle.nx_cli.specs.declared.words.Call.TheVariants.{Code, Decode, Encode, Send, Slots}
 use Rattle.nx_cli.specs.declared.fault.CallFault.{CallFault}
 use Rattle.nx_cli.specs.declared.fault.CallFault.TheVariants as call
 use Rattle.nx_cli.specs.declared.fault.Fault.{Fault}
@@ -67,6 +68,7 @@ ShowsSlot station moment contents old new (Ok done) =
 ShowsSlot station moment contents old new (Err (call.Run why)) =
     (slot : ℕ) × IsNextSlot station moment slot × WritesText (IsSlotLine slot) contents old new (Err why)
 ShowsSlot station moment contents old new (Err call.NoSlot) = HasNoSlot station moment × (new ≡ old)
+ShowsSlot station moment contents old new (Err _) = ⊥
 
 -- the call did on the devices what its outcome says
 abbrev pub Performs : {R W : Type 0} → Call → Devices R W → Result (Unit {0}) CallFault → Type 0
@@ -74,6 +76,7 @@ Performs Decode d outcome = Tells (λ why. call.Run why) (Decodes d) outcome
 Performs Encode d outcome = Tells (λ why. call.Run why) (Encodes d) outcome
 Performs Code d outcome =
     IsUnread d × Tells (λ why. call.Run why) (WritesText (λ text. text ≡ table_text) d.contents d.writer d.writer_after) outcome
+Performs (Send station moment) d outcome = Tells (λ why. call.Send why) (Sends d station.byte moment) outcome
 Performs (Slots station moment) d outcome =
     IsUnread d × ShowsSlot station.byte moment d.contents d.writer d.writer_after outcome
 

@@ -2,6 +2,8 @@
 use Rattle.std.specs.Prelude.{◌≡◌, ◌⊎◌, ℕ, Result, Ok, Err}
 use Rattle.nx_fec.specs.declared.fault.RunFault.{RunFault}
 use Rattle.nx_fec.specs.declared.fault.RunFault.TheVariants as run
+use Rattle.nx_station.specs.declared.fault.SendRunFault.{SendRunFault}
+use Rattle.nx_station.specs.declared.fault.SendRunFault.TheVariants as send
 use Rattle.nx_cli.specs.declared.fault.CallFault.{CallFault}
 use Rattle.nx_cli.specs.declared.fault.CallFault.TheVariants as call
 use Rattle.nx_cli.specs.declared.fault.Fault.{Fault}
@@ -14,8 +16,15 @@ run_status (run.Write written) = 1
 run_status (run.Memory want) = 1
 run_status _ = 2
 
+abbrev pub send_status : SendRunFault → ℕ
+send_status send.Read = 1
+send_status (send.Write written) = 1
+send_status (send.Memory want) = 1
+send_status _ = 2
+
 abbrev pub call_status : CallFault → ℕ
 call_status (call.Run why) = run_status why
+call_status (call.Send why) = send_status why
 call_status call.NoSlot = 2
 
 abbrev pub fault_status : Fault → ℕ

@@ -12,7 +12,7 @@ use Rattle.clap.specs.declared.error.kind.ErrorKind.{ErrorKind}
 use Rattle.clap.specs.declared.error.kind.ErrorKind.TheVariants.{DisplayHelp, OutOfMemory}
 use Rattle.nx_envelope.specs.declared.letter.Letter.{Letter}
 use Rattle.nx_cli.specs.declared.words.Call.{Call}
-use Rattle.nx_cli.specs.declared.words.Call.TheVariants.{Code, Decode, Encode, Slots}
+use Rattle.nx_cli.specs.declared.words.Call.TheVariants.{Code, Decode, Encode, Send, Slots}
 use Rattle.nx_cli.specs.declared.words.WordsFault.{WordsFault}
 use Rattle.nx_cli.specs.declared.words.WordsFault.TheVariants.{Help, Refused, Station, Memory}
 
@@ -21,6 +21,7 @@ abbrev pub word_of : Call → Text
 word_of Decode = codes "decode"
 word_of Encode = codes "encode"
 word_of Code = codes "code"
+word_of (Send station moment) = codes "send"
 word_of (Slots station moment) = codes "slots"
 
 -- a command that takes no argument
@@ -49,7 +50,7 @@ abbrev pub navtex : App
 navtex =
     let plain_ones = with_subcommand (with_subcommand (with_subcommand bare
     (plain (codes "decode")).top) (plain (codes "encode")).top) (plain (codes "code")).top in
-    with_subcommand plain_ones (of_slot (codes "slots")).top
+    with_subcommand (with_subcommand plain_ones (of_slot (codes "send")).top) (of_slot (codes "slots")).top
 
 -- the command is built as this tree says
 pub record IsBuiltAs (app : App) (command : Command) : Type 0 where
@@ -73,6 +74,7 @@ abbrev pub HasArguments : Call → List Row → Type 0
 HasArguments Decode arguments = ⊤
 HasArguments Encode arguments = ⊤
 HasArguments Code arguments = ⊤
+HasArguments (Send station moment) arguments = IsStation arguments station × IsMoment arguments moment
 HasArguments (Slots station moment) arguments = IsStation arguments station × IsMoment arguments moment
 
 -- the words, of which the first is the program's name, name the call: clap finds no fault in them
@@ -95,7 +97,7 @@ IsRefusedByClap words = (kind : ErrorKind) × (kind ≢ DisplayHelp) × IsAmong 
 pub record LacksStation (words : List Text) : Type 0 where
   pub taken : fault_of navtex words ≡ []
   pub arguments : List Row
-  pub entered : subcommand_of navtex words ≡ Some (codes "slots", arguments)
+  pub entered : (subcommand_of navtex words ≡ Some (codes "send", arguments)) ⊎ (subcommand_of navtex words ≡ Some (codes "slots", arguments))
   pub no_letter : (letter : Letter) → ¬ IsStation arguments letter
 
 -- the words are refused, by clap or for their station

@@ -87,6 +87,30 @@ fn slot_command<'a>(alloc: Global, word: &'a str) -> Result<Command<'a>, AllocEr
     Command::new(alloc, word).arg(station)?.arg(moment)
 }
 
+const SEND_HELP: &str = "Write messages as an air file, to be sent in the station's next slot.
+
+Reads a message file of at most 1048576 bytes from standard input. Its lines are each ended by a
+line feed. A message begins with the line of #, its subject (a letter A to Z) and its number (two
+digits), and ends with the line ; alone. Between them stand its lines of text, each of at most 69
+characters A to Z, 0 to 9, space and -?:().,'=+/
+
+Writes an air file to standard output: the line of T, a space and the moment at which the first
+slot of the station begins that is not before MOMENT, and lines of B, a space and the elements of
+the emission. Stations A to X have a slot of ten minutes in each four hours, Y and Z have none.
+
+Example, whose air file begins with the line T 1735692000:
+  $ printf '#A01\\nTEST\\n;\\n' | navtex send E 1735689600";
+
+fn send_command<'a>(alloc: Global) -> Result<Command<'a>, AllocError>
+    ensures { IfOk result (IsBuiltAs (of_slot (codes "send"))) }
+{
+    Ok(
+        slot_command(alloc, "send")?
+            .about("Write messages as an air file")
+            .long_about(SEND_HELP),
+    )
+}
+
 const SLOTS_HELP: &str = "Print when the station's next slot begins.
 
 Reads nothing, and writes one line: the moment at which the first slot of the station begins that
@@ -135,5 +159,6 @@ pub fn navtex_command<'a>(alloc: Global) -> Result<Command<'a>, AllocError>
         .subcommand(decode_command(alloc))?
         .subcommand(encode_command(alloc))?
         .subcommand(code_command(alloc))?
+        .subcommand(send_command(alloc)?)?
         .subcommand(slots_command(alloc)?)
 }

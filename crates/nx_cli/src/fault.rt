@@ -2,10 +2,11 @@
 
 ghost use Rattle.std.specs.Prelude.{◌≡◌};
 ghost use Rattle.nx_cli.specs.Status.{call_status, fault_status};
-ghost use Rattle.nx_cli.specs.declared.fault.CallFault.TheVariants.{Run};
+ghost use Rattle.nx_cli.specs.declared.fault.CallFault.TheVariants.{Run, Send};
 ghost use Rattle.nx_cli.specs.declared.fault.Fault.TheVariants.{Call};
 
 use nx_fec::{Counting, RunFault};
+use nx_station::SendRunFault;
 use std::io;
 use std::io::Write;
 use thiserror::Error;
@@ -23,6 +24,9 @@ pub enum CallFault {
     /// The reading, decoding, encoding or writing of a file failed, or the writing of a text.
     #[error(transparent)]
     Run(RunFault),
+    /// The messages of a file were not sent.
+    #[error(transparent)]
+    Send(SendRunFault),
     /// The station has no slot from that moment on.
     #[error("no slot")]
     NoSlot,
@@ -35,6 +39,9 @@ impl CallFault {
         match self {
             CallFault::Run(RunFault::Read | RunFault::Write { written: _ } | RunFault::Memory(_)) =>
                 DEVICE_OR_MEMORY,
+            CallFault::Send(
+                SendRunFault::Read | SendRunFault::Write { written: _ } | SendRunFault::Memory(_),
+            ) => DEVICE_OR_MEMORY,
             _ => BAD_INPUT,
         }
     }
@@ -90,6 +97,14 @@ impl From<RunFault> for CallFault {
 
     fn from(why: RunFault) -> CallFault {
         CallFault::Run(why)
+    }
+}
+
+impl From<SendRunFault> for CallFault {
+    ghost from_gives = { λ why fault. fault ≡ Send why };
+
+    fn from(why: SendRunFault) -> CallFault {
+        CallFault::Send(why)
     }
 }
 

@@ -5,7 +5,7 @@ ghost use Rattle.clap.specs.Words.{Text};
 ghost use Rattle.nx_envelope.specs.declared.letter.Letter.{Letter};
 ghost use Rattle.nx_cli.specs.Words.{AsksForHelp, IsRefused, LacksStation, Names};
 ghost use Rattle.nx_cli.specs.declared.words.Call.{Call};
-ghost use Rattle.nx_cli.specs.declared.words.Call.TheVariants.{Code, Decode, Encode, Slots};
+ghost use Rattle.nx_cli.specs.declared.words.Call.TheVariants.{Code, Decode, Encode, Send, Slots};
 
 /// How the words are read: each list of words names one call, asks for help or is refused, and
 /// these exclude each other.
@@ -35,21 +35,25 @@ pub fn words_in_examples()
 
 /// The moment that words name is in its range.
 pub fn moments_are_in_range()
+    ensures send { (words : List Text) (station : Letter) (moment : ℕ)
+        → Names words (Send station moment) → moment ≤ 32503679999 }
     ensures slots { (words : List Text) (station : Letter) (moment : ℕ)
         → Names words (Slots station moment) → moment ≤ 32503679999 }
 {}
 
 /// What words with a station and a moment are read as, whatever the program's name.
 pub fn slots_in_examples()
+    ensures send { (program : Text) (station : Letter) → station.byte ≡ 69
+        → Names (program ∷ codes "send" ∷ codes "E" ∷ codes "1735689600" ∷ []) (Send station 1735689600) }
     ensures slots { (program : Text) (station : Letter) → station.byte ≡ 69
         → Names (program ∷ codes "slots" ∷ codes "E" ∷ codes "0" ∷ []) (Slots station 0) }
     ensures small_letter { (program : Text)
-        → LacksStation (program ∷ codes "slots" ∷ codes "e" ∷ codes "0" ∷ []) }
+        → LacksStation (program ∷ codes "send" ∷ codes "e" ∷ codes "0" ∷ []) }
     ensures two_letters { (program : Text)
         → LacksStation (program ∷ codes "slots" ∷ codes "EA" ∷ codes "0" ∷ []) }
     ensures too_late { (program : Text)
-        → IsRefused (program ∷ codes "slots" ∷ codes "E" ∷ codes "32503680000" ∷ []) }
-    ensures no_moment { (program : Text) → IsRefused (program ∷ codes "slots" ∷ codes "E" ∷ []) }
+        → IsRefused (program ∷ codes "send" ∷ codes "E" ∷ codes "32503680000" ∷ []) }
+    ensures no_moment { (program : Text) → IsRefused (program ∷ codes "send" ∷ codes "E" ∷ []) }
     ensures no_number { (program : Text)
         → IsRefused (program ∷ codes "slots" ∷ codes "E" ∷ codes "now" ∷ []) }
 {}

@@ -14,6 +14,7 @@ use crate::fault::{CallFault, Fault};
 use crate::slots::print_slot;
 use crate::words::{Call, WordsFault, call_of};
 use nx_fec::{Counting, RunFault, decode_run, encode_run, write_out, write_table};
+use nx_station::send;
 use std::alloc::{AllocError, Global};
 use std::convert::AsStr;
 use std::fmt::Display;
@@ -53,6 +54,9 @@ fn perform<R: Read, W: Write>(
             encode_run(alloc, reader, writer)?;
         }
         Call::Code => print_code(writer)?,
+        Call::Send { station, moment } => {
+            send(alloc, reader, writer, station, moment)?;
+        }
         Call::Slots { station, moment } => print_slot(alloc, writer, station, moment)?,
     }
     Ok(())

@@ -24,6 +24,13 @@ pub enum Call {
     Encode,
     /// Print the table of the code.
     Code,
+    /// Write messages as an air file, to be sent in the station's next slot.
+    Send {
+        /// The station whose messages they are.
+        station: Letter,
+        /// The moment, in seconds since 1970, before which the slot doesn't begin.
+        moment: u64,
+    },
     /// Print when the station's next slot begins.
     Slots {
         /// The station.
@@ -73,6 +80,10 @@ impl Call {
             "decode" => Call::Decode,
             "encode" => Call::Encode,
             "code" => Call::Code,
+            "send" => Call::Send {
+                station: station_in(arguments)?,
+                moment: moment_in(arguments)?,
+            },
             "slots" => Call::Slots {
                 station: station_in(arguments)?,
                 moment: moment_in(arguments)?,

@@ -7,7 +7,7 @@ use Rattle.std.proofs.lemmas.Bool.Decides.{leb_tells}
 use Rattle.std.proofs.lemmas.List.{map_push, reverse-append, take_all, take-append-le}
 use Rattle.std.proofs.lemmas.List.Elements.{filter_map-append}
 use Rattle.nx_envelope.specs.Backward.{header_back}
-use Rattle.nx_envelope.specs.Copies.{Ending, beginnings, header_at_end, headers, ending_by_marker, first_of, long_within, ending_within}
+use Rattle.nx_envelope.specs.Copies.{Ending, beginnings, header_at_end, headers, ending_by_marker, first_value, long_within, ending_within}
 use Rattle.nx_envelope.specs.Header.{Header}
 use Rattle.nx_envelope.specs.declared.found.How.TheVariants.{Long}
 
@@ -30,10 +30,10 @@ or_assoc : {A : Type 0} (o p q : Option A) → option_or o (option_or p q) ≡ o
 or_assoc None p q = refl
 or_assoc (Some x) p q = refl
 
-pub first_of-push : {A B : Type 0} (f : A → Option B) (xs : List A) (x : A) → first_of f (xs ++ x ∷ []) ≡ option_or (first_of f xs) (f x)
-first_of-push f [] x = or_none (f x)
-first_of-push f (y ∷ ys) x =
-    ap (option_or (f y)) (first_of-push f ys x) ∙ or_assoc (f y) (first_of f ys) (f x)
+pub first_value-push : {A B : Type 0} (f : A → Option B) (xs : List A) (x : A) → first_value f (xs ++ x ∷ []) ≡ option_or (first_value f xs) (f x)
+first_value-push f [] x = or_none (f x)
+first_value-push f (y ∷ ys) x =
+    ap (option_or (f y)) (first_value-push f ys x) ∙ or_assoc (f y) (first_value f ys) (f x)
 
 filter_map-one : {A B : Type 0} (f : A → Option B) (x : A) (o : Option B) → f x ≡ o → filter_map f (x ∷ []) ≡ option_to_list o
 filter_map-one f x None e = rw e refl
@@ -75,7 +75,7 @@ ending-past most raw b le =
     rw (long_at most raw le, long_at most (raw ++ b ∷ []) more, same) refl
 
 -- below it the end is the first that a marker makes
-pub ending-short : (most : ℕ) (raw : List ℕ) → length raw < most → ending_within most raw ≡ first_of ending_by_marker (beginnings raw)
+pub ending-short : (most : ℕ) (raw : List ℕ) → length raw < most → ending_within most raw ≡ first_value ending_by_marker (beginnings raw)
 unfolding ending_within
 ending-short most raw lt =
     let whole = take_all most raw (omega arith) in
@@ -87,9 +87,9 @@ unfolding ending_within
 ending-push most raw b lt =
     let long : length (raw ++ b ∷ []) ≡ length raw + 1 = omega (arith, length-append raw (b ∷ [])) in
     let whole = take_all most (raw ++ b ∷ []) (omega arith) in
-    let short : ending_within most raw ≡ first_of ending_by_marker (beginnings raw) = ending-short most raw lt in
-    let first : first_of ending_by_marker (beginnings (raw ++ b ∷ [])) ≡ option_or (ending_within most raw) (ending_by_marker (raw ++ b ∷ [])) = ap (first_of ending_by_marker) (beginnings-push raw b) ∙ first_of-push ending_by_marker (beginnings raw) (raw ++ b ∷ []) ∙ ap (λ (o : Option Ending). option_or o (ending_by_marker (raw ++ b ∷ []))) (sym short) in
-    let start : option_or (first_of ending_by_marker (beginnings (take most (raw ++ b ∷ [])))) (long_within most (raw ++ b ∷ [])) ≡ option_or (first_of ending_by_marker (beginnings (raw ++ b ∷ []))) (long_within most (raw ++ b ∷ [])) = rw whole refl in
+    let short : ending_within most raw ≡ first_value ending_by_marker (beginnings raw) = ending-short most raw lt in
+    let first : first_value ending_by_marker (beginnings (raw ++ b ∷ [])) ≡ option_or (ending_within most raw) (ending_by_marker (raw ++ b ∷ [])) = ap (first_value ending_by_marker) (beginnings-push raw b) ∙ first_value-push ending_by_marker (beginnings raw) (raw ++ b ∷ []) ∙ ap (λ (o : Option Ending). option_or o (ending_by_marker (raw ++ b ∷ []))) (sym short) in
+    let start : option_or (first_value ending_by_marker (beginnings (take most (raw ++ b ∷ [])))) (long_within most (raw ++ b ∷ [])) ≡ option_or (first_value ending_by_marker (beginnings (raw ++ b ∷ []))) (long_within most (raw ++ b ∷ [])) = rw whole refl in
     start ∙ ap (λ (o : Option Ending). option_or o (long_within most (raw ++ b ∷ []))) first
 
 or_some : {A : Type 0} (o : Option A) (x : A) → option_or o (Some x) ≢ None

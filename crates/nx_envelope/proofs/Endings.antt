@@ -4,12 +4,12 @@ use Rattle.std.specs.Option.{option_map, option_or}
 use Rattle.std.proofs.lemmas.Bool.Decides.{leb_tells}
 use Rattle.std.proofs.lemmas.List.{reverse-append, reverse-reverse, take-append-le, take-take, take_all, length-take}
 use Rattle.nx_envelope.specs.Backward.{ends_in, marker_back}
-use Rattle.nx_envelope.specs.Copies.{Ending, beginnings, ending_by_marker, first_of, long_within, ending_within, ending_of, most_found}
+use Rattle.nx_envelope.specs.Copies.{Ending, beginnings, ending_by_marker, first_value, long_within, ending_within, ending_of, most_found}
 use Rattle.nx_envelope.specs.Ending.{EndsWithMarker, MarkerEndsAt, EndsAtMarker, HasNoMarker, IsEnding, IsUnended}
 use Rattle.nx_envelope.specs.Marker.{start_marker, end_marker}
 use Rattle.nx_envelope.specs.declared.found.How.{How}
 use Rattle.nx_envelope.specs.declared.found.How.TheVariants.{Full, Cut, Long}
-use Rattle.nx_envelope.proofs.Beginnings.{beginnings-push, first_of-push, long_at, not_long}
+use Rattle.nx_envelope.proofs.Beginnings.{beginnings-push, first_value-push, long_at, not_long}
 use Rattle.nx_envelope.proofs.SpelledHeaders.{ends_in-true, nnnn_word, starts_both, ends_both, zczc_word}
 
 -- A marker at the end of a text, computed and spelled.
@@ -115,19 +115,19 @@ unfolding ending_by_marker
 gives_push text b None none = last_gives text b _ refl none
 gives_push text b (Some ending) f = stays_first text b ending f
 
-first_nil : FirstIs [] (first_of ending_by_marker (beginnings []))
+first_nil : FirstIs [] (first_value ending_by_marker (beginnings []))
 unfolding ending_by_marker beginnings
 first_nil place how le h =
     no_marker_at [] how refl (rw (take_all {A = ℕ} place [] (omega arith)) at h)
 
-first_back : (back : List ℕ) → FirstIs (reverse back) (first_of ending_by_marker (beginnings (reverse back)))
+first_back : (back : List ℕ) → FirstIs (reverse back) (first_value ending_by_marker (beginnings (reverse back)))
 first_back [] = first_nil
 first_back (b ∷ back) =
     let whole : reverse (b ∷ back) ≡ reverse back ++ b ∷ [] = reverse-append (b ∷ []) back in
-    let push : first_of ending_by_marker (beginnings (reverse back ++ b ∷ [])) ≡ option_or (first_of ending_by_marker (beginnings (reverse back))) (ending_by_marker (reverse back ++ b ∷ [])) = ap (first_of ending_by_marker) (beginnings-push (reverse back) b) ∙ first_of-push ending_by_marker (beginnings (reverse back)) (reverse back ++ b ∷ []) in
+    let push : first_value ending_by_marker (beginnings (reverse back ++ b ∷ [])) ≡ option_or (first_value ending_by_marker (beginnings (reverse back))) (ending_by_marker (reverse back ++ b ∷ [])) = ap (first_value ending_by_marker) (beginnings-push (reverse back) b) ∙ first_value-push ending_by_marker (beginnings (reverse back)) (reverse back ++ b ∷ []) in
     rw (whole, push) (gives_push (reverse back) b _ (first_back back))
 
-first_is : (text : List ℕ) → FirstIs text (first_of ending_by_marker (beginnings text))
+first_is : (text : List ℕ) → FirstIs text (first_value ending_by_marker (beginnings text))
 first_is text = rw (← reverse-reverse text) (first_back (reverse text))
 
 -- The end of a raw text.

@@ -43,9 +43,9 @@ ending_by_marker text =
     option_map (λ how. record { how = how; text = take (length text - 4) text }) (marker_back (reverse text))
 
 -- what the first item gives that gives something
-abbrev pub first_of : {A B : Type 0} → (A → Option B) → List A → Option B
-first_of f [] = None
-first_of f (x ∷ xs) = option_or (f x) (first_of f xs)
+abbrev pub first_value : {A B : Type 0} → (A → Option B) → List A → Option B
+first_value f [] = None
+first_value f (x ∷ xs) = option_or (f x) (first_value f xs)
 
 -- where so many characters stand, they are the text of a long copy
 unfoldable pub long_within : ℕ → List ℕ → Option Ending
@@ -56,7 +56,7 @@ long_within most raw =
 -- a marker; where there is none, but so many characters stand there, it is long; else it has no end
 unfoldable pub ending_within : ℕ → List ℕ → Option Ending
 ending_within most raw =
-    option_or (first_of ending_by_marker (beginnings (take most raw))) (long_within most raw)
+    option_or (first_value ending_by_marker (beginnings (take most raw))) (long_within most raw)
 
 -- the most characters of a found text
 abbrev pub most_found : ℕ

@@ -10,7 +10,7 @@ use Rattle.nx_envelope.specs.Copies.{Copy, Ending, headers, ended_copies, ended_
 use Rattle.nx_envelope.specs.Header.{StandsIn}
 use Rattle.nx_envelope.specs.Laws.{Grows}
 use Rattle.nx_envelope.proofs.Anywhere.{anywhere_both}
-use Rattle.nx_envelope.proofs.Parts.{grown, copies_parts, one_at_most}
+use Rattle.nx_envelope.proofs.OneOpenCopy.{grown, copies_parts, one_at_most}
 use Rattle.nx_sync.specs.declared.step.Role.{Role}
 use Rattle.nx_receiver.specs.LockText.{PlacedByte, place_of, printed_by, text_by, bytes_of}
 use Rattle.nx_receiver.specs.FoundCopies.{FoundCopy, place_in, place_of_header, found_copy, ended_in, open_in, all_in}

@@ -1,27 +1,19 @@
 -- What becomes of a copy, case by case.
-use Rattle.std.proofs.Common.{◌≡◌, ℕ, ◌+◌, ◌-◌, ◌≤◌, true, false, not, cond, List, [], ◌∷◌, ◌++◌, length, drop, slice_get, Some, refl, sym, ap, ◌∙◌, arith, append-nil}
-use Rattle.std.proofs.lemmas.Bool.{and_left, and_right, and_from, or_from, or_left, or_right, not_from_true, not_from_false}
+use Rattle.std.proofs.Common.{Bool, ◌≡◌, ℕ, ◌+◌, ◌-◌, ◌≤◌, true, false, not, ◌&&◌, ◌||◌, cond, List, [], ◌∷◌, ◌++◌, length, drop, slice_get, Some, refl, sym, ap, ◌∙◌, arith, append-nil}
+use Rattle.std.proofs.lemmas.Bool.{and_parts, not-true, and_right, and_from, or_from, or_right, not_from_true, not_from_false}
 use Rattle.std.specs.Option.{option_map}
 use Rattle.std.proofs.lemmas.List.{drop-append-le, length-append}
 use Rattle.std.proofs.lemmas.Grind.{common_steps}
 use Rattle.nx_envelope.specs.declared.identity.Identity.{Identity}
 use Rattle.nx_memory.specs.declared.entry.MemoryEntry.{MemoryEntry}
 use Rattle.nx_code.specs.Lists.{last_of}
-use Rattle.nx_memory.specs.Memory.{most_entries, content_after, newest_of, newest_moment}
+use Rattle.nx_memory.specs.Memory.{most_entries, is_known, content_after, newest_of, newest_moment}
 use Rattle.nx_receiver.specs.Printing.{is_printed, is_entered, is_good, is_number_00, is_remembered, entry_of, entry_made}
 use Rattle.nx_receiver.specs.Tagged.{TaggedCopy}
 
 -- what a memory forgot makes no difference
 goes_on : (entries : List MemoryEntry) (entry : MemoryEntry) → last_of most_entries (last_of most_entries entries ++ entry ∷ []) ≡ last_of most_entries (entries ++ entry ∷ [])
 goes_on entries entry = grind (arith, common_steps)
-
-pub unselected : (entries : List MemoryEntry) (copy : TaggedCopy) → copy.selected ≡ false → is_printed entries copy ≡ false
-unfolding is_printed
-unselected entries copy h = and_left copy.selected _ h
-
-pub always : (entries : List MemoryEntry) (copy : TaggedCopy) → copy.selected ≡ true → is_number_00 copy ≡ true → is_printed entries copy ≡ true
-unfolding is_printed
-always entries copy h n = and_from copy.selected _ h (or_left (is_number_00 copy) _ n)
 
 pub remembered : (entries : List MemoryEntry) (copy : TaggedCopy) → is_number_00 copy ≡ false → is_remembered entries copy ≡ true → is_printed entries copy ≡ false
 unfolding is_printed
@@ -30,19 +22,6 @@ remembered entries copy n k = and_right copy.selected _ (or_from (is_number_00 c
 pub unknown : (entries : List MemoryEntry) (copy : TaggedCopy) → copy.selected ≡ true → is_remembered entries copy ≡ false → is_printed entries copy ≡ true
 unfolding is_printed
 unknown entries copy h k = and_from copy.selected _ h (or_right (is_number_00 copy) _ (not_from_false _ k))
-
--- nothing is entered of a copy that isn't printed, isn't good, or is numbered 00
-pub unprinted : (entries : List MemoryEntry) (copy : TaggedCopy) → is_printed entries copy ≡ false → entry_made entries copy ≡ []
-unfolding entry_made is_entered
-unprinted entries copy h = ap (λ b. cond b (entry_of copy ∷ []) []) (and_left _ (not (is_number_00 copy)) (and_left (is_printed entries copy) (is_good copy) h))
-
-pub not_good : (entries : List MemoryEntry) (copy : TaggedCopy) → is_good copy ≡ false → entry_made entries copy ≡ []
-unfolding entry_made is_entered
-not_good entries copy h = ap (λ b. cond b (entry_of copy ∷ []) []) (and_left _ (not (is_number_00 copy)) (and_right (is_printed entries copy) (is_good copy) h))
-
-pub numbered_00 : (entries : List MemoryEntry) (copy : TaggedCopy) → is_number_00 copy ≡ true → entry_made entries copy ≡ []
-unfolding entry_made is_entered
-numbered_00 entries copy h = ap (λ b. cond b (entry_of copy ∷ []) []) (and_right _ (not (is_number_00 copy)) (not_from_true _ h))
 
 -- a good copy that is printed, and not numbered 00, is entered
 pub entered : (entries : List MemoryEntry) (copy : TaggedCopy) → is_printed entries copy ≡ true → is_good copy ≡ true → is_number_00 copy ≡ false → entry_made entries copy ≡ entry_of copy ∷ []
@@ -73,3 +52,33 @@ newest_is_last content new identity moment h =
     let last : length (drop n content ++ entry ∷ []) - 1 ≡ length (drop n content) = ap (λ k. k - 1) (length-append (drop n content) (entry ∷ [])) ∙ omega arith in
     let newest : newest_of new ≡ Some moment = ap newest_of kept ∙ ap (λ k. option_map (λ (e : MemoryEntry). e.moment) (slice_get (drop n content ++ entry ∷ []) k)) last ∙ ap (option_map (λ (e : MemoryEntry). e.moment)) (at_seam (drop n content) entry) in
     rw newest (omega arith)
+
+-- whether a copy is entered that is printed so
+pub made_where : (entries : List MemoryEntry) (copy : TaggedCopy) (is_made : Bool) → is_made ≡ (is_printed entries copy && is_good copy && not (is_number_00 copy)) → entry_made entries copy ≡ cond is_made (entry_of copy ∷ []) []
+unfolding entry_made is_entered
+made_where entries copy is_made h = ap (λ b. cond b (entry_of copy ∷ []) []) (sym h)
+
+-- what is entered is unknown, and not numbered 00
+pub record CanEnter (is_00 is_old : Bool) : Type 0 where
+  pub numbered : is_00 ≡ false
+  pub unknown : is_old ≡ false
+
+pub can_enter : (selected is_00 is_old good : Bool) → ((selected && (is_00 || not is_old)) && good && not is_00) ≡ true → CanEnter is_00 is_old
+can_enter selected is_00 is_old good h =
+    let parts = and_parts _ _ h in
+    let numbered : is_00 ≡ false = not-true is_00 parts.1 in
+    let shown = (and_parts _ _ (and_parts _ _ parts.0).0).1 in
+    record { numbered = numbered; unknown = not-true is_old (ap (λ b. b || not is_old) (sym numbered) ∙ shown) }
+
+-- what is printed by the content of a memory is what is printed by all entries
+pub printed_as : (entries content : List MemoryEntry) (copy : TaggedCopy) (shown : Bool) → content ≡ last_of most_entries entries → shown ≡ (copy.selected && (is_number_00 copy || not (is_known copy.identity copy.moment content))) → shown ≡ is_printed entries copy
+unfolding is_printed
+printed_as entries content copy shown h e = e ∙ ap (λ es. copy.selected && (is_number_00 copy || not (is_known copy.identity copy.moment es))) h
+
+pub made_true : (entries : List MemoryEntry) (copy : TaggedCopy) (shown is_made : Bool) → shown ≡ is_printed entries copy → is_made ≡ (shown && is_good copy && not (is_number_00 copy)) → is_made ≡ true → entry_made entries copy ≡ entry_of copy ∷ []
+made_true entries copy shown is_made s e h =
+    made_where entries copy is_made (e ∙ ap (λ b. b && is_good copy && not (is_number_00 copy)) s) ∙ ap (λ b. cond b (entry_of copy ∷ []) []) h
+
+pub made_false : (entries : List MemoryEntry) (copy : TaggedCopy) (shown is_made : Bool) → shown ≡ is_printed entries copy → is_made ≡ (shown && is_good copy && not (is_number_00 copy)) → is_made ≡ false → entry_made entries copy ≡ []
+made_false entries copy shown is_made s e h =
+    made_where entries copy is_made (e ∙ ap (λ b. b && is_good copy && not (is_number_00 copy)) s) ∙ ap (λ b. cond b (entry_of copy ∷ []) []) h

@@ -7,3 +7,5 @@ pub mod OnceLemmas
 pub mod LogLemmas
 pub mod ApartLemmas
 pub mod ExampleLemmas
+pub mod WorkedLemmas
+pub mod WorkedLog

@@ -25,7 +25,7 @@ unfolding taken_at
 taken_at-same first f g k same =
     ap (λ p. cond (is_dx (role_of first k)) [] (p ∷ [])) (ap (λ c. pairing c (counts_as (f k))) (five_before-same f g k (λ j h. same j (omega arith))) ∙ ap (λ w. pairing (five_before g k) (counts_as w)) (same k (omega arith)))
 
-positions-same : (first : Role) (f g : ℕ → ℕ) (n : ℕ) → ((j : ℕ) → j < n → f j ≡ g j) → positions first f n ≡ positions first g n
+pub positions-same : (first : Role) (f g : ℕ → ℕ) (n : ℕ) → ((j : ℕ) → j < n → f j ≡ g j) → positions first f n ≡ positions first g n
 unfolding positions
 positions-same first f g zero same = refl
 positions-same first f g (suc n) same =

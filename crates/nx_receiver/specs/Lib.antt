@@ -6,3 +6,4 @@ pub mod Printing
 pub mod Log
 pub mod LawTerms
 pub mod Example
+pub mod Worked

@@ -1,7 +1,7 @@
 -- Good, printed and entered: which copies are printed, and which of them the memory keeps (ITU-R M.540 for the number
 -- 00, which is printed each time; all else is this profile's).
-use Rattle.std.specs.Prelude.{◌*◌, ◌==◌, nat_lt, max, Bool, true, false, not, ◌&&◌, ◌||◌, if◌then◌else◌, List, [], ◌∷◌, ◌++◌, length}
-use Rattle.nx_envelope.specs.Copies.{errors_of}
+use Rattle.std.specs.Prelude.{ℕ, ◌*◌, ◌==◌, nat_lt, max, Bool, true, false, not, ◌&&◌, ◌||◌, if◌then◌else◌, List, [], ◌∷◌, ◌++◌, length}
+use Rattle.nx_envelope.specs.Errors.{errors_of}
 use Rattle.nx_envelope.specs.declared.found.How.{How}
 use Rattle.nx_envelope.specs.declared.found.How.TheVariants.{Full, Cut, Long}
 use Rattle.nx_memory.specs.declared.entry.MemoryEntry.{MemoryEntry}
@@ -16,8 +16,11 @@ is_full Long = false
 
 -- a copy is good where it is full, and 25 times its errors is less than the larger of 1 and its characters: fewer than
 -- 4 per cent are lost
+abbrev pub is_good_text : How → List ℕ → Bool
+is_good_text how text = is_full how && nat_lt (25 * errors_of text) (max 1 (length text))
+
 abbrev pub is_good : TaggedCopy → Bool
-is_good copy = is_full copy.how && nat_lt (25 * errors_of copy.text) (max 1 (length copy.text))
+is_good copy = is_good_text copy.how copy.text
 
 -- the copy is numbered 00
 abbrev pub is_number_00 : TaggedCopy → Bool

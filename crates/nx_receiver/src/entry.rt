@@ -1,7 +1,7 @@
 //! An entry of the log.
 
 ghost use Rattle.std.specs.Prelude.{◌≡◌};
-ghost use Rattle.nx_envelope.specs.Copies.{errors_of};
+ghost use Rattle.nx_envelope.specs.Errors.{errors_of};
 
 use arrayvec::ArrayVec;
 use nx_envelope::{Found, How, Identity, MAX_FOUND};
@@ -28,8 +28,8 @@ impl Entry {
 
     /// The entry of a copy that is printed, with its moment.
     pub fn new(found: Found, moment: u64) -> Entry
-        requires { found.errors ≡ errors_of found.text.items }
-        ensures { copy_of result ≡ tagged_found found moment true }
+        ensures copy { copy_of result ≡ tagged_found found moment true }
+        ensures moment { result.moment ≡ moment }
     {
         Entry {
             identity: found.identity,

@@ -1,11 +1,11 @@
 //! Whether a copy is printed, and entered.
 
-ghost use Rattle.std.specs.Prelude.{◌≡◌, ◌≤◌, ◌++◌, ℕ, Bool, List};
-ghost use Rattle.nx_envelope.specs.Copies.{errors_of};
+ghost use Rattle.std.specs.Prelude.{◌≡◌, ◌≤◌, ◌==◌, ◌&&◌, ◌||◌, ◌++◌, List, not};
 ghost use Rattle.nx_memory.specs.declared.entry.MemoryEntry.{MemoryEntry};
 ghost use Rattle.nx_code.specs.Lists.{last_of};
-ghost use Rattle.nx_memory.specs.Memory.{most_entries, newest_moment};
-ghost use Rattle.nx_receiver.specs.Printing.{is_printed, entry_made, is_good as is_good_copy};
+ghost use Rattle.nx_memory.specs.Memory.{is_known, most_entries, newest_moment};
+ghost use Rattle.nx_receiver.specs.Printing as spec;
+ghost use Rattle.nx_receiver.specs.Printing.{entry_made, is_good_text};
 ghost use Rattle.nx_receiver.specs.Tagged.{tagged_found};
 
 use nx_envelope::{Found, How};
@@ -20,33 +20,40 @@ const GOOD_SHARE: usize = 25;
 ///
 /// The memory holds the last 200 of all the entries made so far, whichever they are.
 pub fn judge<M: Recall>(found: &Found, moment: u64, selected: bool, memory: &mut M) -> bool
-    requires not_before { newest_moment (M.content memory.old) ≤ moment }
-    requires counted { found.now.errors ≡ errors_of found.now.text.items }
+    requires { newest_moment (M.content memory.old) ≤ moment }
     ensures printed { (entries : List MemoryEntry) → M.content memory.old ≡ last_of most_entries entries
-        → result ≡ is_printed entries (tagged_found found.now moment selected) }
+        → result ≡ spec.is_printed entries (tagged_found found.now moment selected) }
     ensures entered { (entries : List MemoryEntry) → M.content memory.old ≡ last_of most_entries entries
         → M.content memory.new ≡ last_of most_entries (entries ++ entry_made entries (tagged_found found.now moment selected)) }
     ensures not_before { newest_moment (M.content memory.new) ≤ moment }
 {
-    if !selected {
-        return false;
-    }
-    if found.identity.number() == 0 {
-        return true;
-    }
-    if memory.knows(&found.identity, moment) {
-        return false;
-    }
-    if is_good(found) {
+    let printed = is_printed(found, moment, selected, memory);
+    if is_entered(found, printed) {
         memory.enter(found.identity, moment);
     }
-    true
+    printed
+}
+
+/// Whether a copy is selected, and is numbered 00 or unknown to the memory.
+fn is_printed<M: Recall>(found: &Found, moment: u64, selected: bool, memory: &M) -> bool
+    requires { newest_moment (M.content memory.now) ≤ moment }
+    ensures { result ≡ (selected && ((found.now.identity.number == 0)
+        || not (is_known found.now.identity moment (M.content memory.now)))) }
+{
+    selected && (found.identity.number() == 0 || !memory.knows(&found.identity, moment))
+}
+
+/// Whether a copy is printed, as the caller says, and is good and not numbered 00.
+fn is_entered(found: &Found, printed: bool) -> bool
+    ensures { result ≡ (printed && is_good_text found.now.how found.now.text.items
+        && not (found.now.identity.number == 0)) }
+{
+    printed && is_good(found) && found.identity.number() != 0
 }
 
 /// Whether a copy is full and fewer than 4 per cent of its characters are lost; an empty one is.
 fn is_good(found: &Found) -> bool
-    requires { found.now.errors ≡ errors_of found.now.text.items }
-    ensures { (moment : ℕ) (selected : Bool) → result ≡ is_good_copy (tagged_found found.now moment selected) }
+    ensures { result ≡ is_good_text found.now.how found.now.text.items }
 {
     found.how == How::Full && GOOD_SHARE * usize::from(found.errors) < found.text.len().max(1)
 }

@@ -16,6 +16,7 @@ ghost use Rattle.nx_receiver.specs.LockText.{PlacedByte, bytes_of, lock_text, po
 ghost use Rattle.nx_receiver.specs.Log.{HasPrinted, IsLog, PrintsToEnd};
 ghost use Rattle.nx_receiver.specs.Printing.{printed};
 ghost use Rattle.nx_receiver.specs.Tagged.{TaggedCopy};
+ghost use Rattle.nx_receiver.specs.Worked.{at_its_slot, damaged_words, heard_elements, sent_words, worked_log};
 
 /// The bytes of the text of a lock are what is read of the positions that its words complete, from letters.
 pub fn a_text_is_read_of_positions()
@@ -92,4 +93,13 @@ pub fn repeats_are_printed_once()
 /// There are such repeats: EA01 is heard, then EB02 twice, and EA01 again four hours after the first.
 pub fn there_are_repeats()
     ensures { AreRepeats ea01 example_copies first_copy (repeated_copy ∷ []) }
+{}
+
+/// The definitions on a worked emission, from its elements to its log. Station E sends the message EA01 with the one line
+/// TEST in its slot. Heard as it is sent, and heard with each DX word of the message damaged, its log is the same 42 bytes.
+pub fn a_worked_emission_is_printed()
+    ensures sent { PrintsToEnd at_its_slot (heard_elements sent_words) (first_copy ∷ []) }
+    ensures damaged { PrintsToEnd at_its_slot (heard_elements damaged_words) (first_copy ∷ []) }
+    ensures log { IsLog (first_copy ∷ []) worked_log }
+    ensures bytes { length worked_log ≡ 42 }
 {}

@@ -9,3 +9,6 @@ mod writing;
 pub use entry::Entry;
 pub use judging::judge;
 pub use writing::{MAX_ENTRY, entry_text};
+
+#[cfg(test)]
+mod tests;

@@ -18,3 +18,4 @@ pub mod WholeWords
 pub mod Strides
 pub mod PhasingStates
 pub mod Examples
+pub mod WordLimits

@@ -14,6 +14,15 @@ pub record LockStands (bits : List Bool) : Type 0 where
   pub t : ℕ
   pub stands : IsLocked bits locks p t
 
+-- a lock stands after these bits, and the next one is the first of a word
+pub record LimitStands (bits : List Bool) : Type 0 where
+  pub locks : List Lock
+  pub p : ℕ
+  pub t : ℕ
+  pub stands : IsLocked bits locks p t
+  pub whole : ℕ
+  pub limit : length bits ≡ t + 7 * whole
+
 abbrev pub step : Option (ℕ × Role) → Option Change → Step
 step word change = record { word = word; change = change }
 

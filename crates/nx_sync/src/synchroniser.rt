@@ -5,7 +5,7 @@
 ghost use Rattle.std.specs.Prelude.{◌≡◌, ℕ, ◌+◌, ◌-◌, ◌/◌, ◌^◌, ◌<◌, ◌≤◌, ◌↔◌, List, Bool, [], ◌∷◌, ◌++◌, length, take, min, not, IsTrue, IfOk};
 ghost use Rattle.circular_buffer.specs.Buffer.{keep_last};
 ghost use Rattle.nx_sync.specs.declared.step.Change.TheVariants.{Locked};
-ghost use Rattle.nx_sync.specs.Steps.{step, LockStands, IsStep, HuntsThrough, IsWordStep};
+ghost use Rattle.nx_sync.specs.Steps.{step, LockStands, LimitStands, IsStep, HuntsThrough, IsWordStep};
 ghost use Rattle.nx_sync.specs.Windows as spec;
 ghost use Rattle.nx_sync.specs.PrivateCalls.{track_from, change_of, Begins, Fills, Completes, Skips, SkipsEarly};
 ghost use Rattle.nx_sync.specs.Synchroniser.{StandsAfter, is_hunting, is_between_words};
@@ -92,7 +92,9 @@ impl Synchroniser {
     /// Whether a lock stands, and the next element is the first of a word.
     #[inline(always)]
     pub fn is_between_words(&self) -> bool
-        ensures { result ≡ is_between_words self.now }
+        ensures stands { (bits : List Bool) → StandsAfter self.now bits
+            → (IsTrue result ↔ LimitStands bits) }
+        ensures between { result ≡ is_between_words self.now }
     {
         match self.track {
             None => false,

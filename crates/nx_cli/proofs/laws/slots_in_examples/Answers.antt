@@ -5,7 +5,7 @@ use Rattle.clap.specs.declared.builder.value_parser.Reading.TheVariants.{AsWritt
 use Rattle.clap.specs.declared.parser.matches.ValueSource.TheVariants.{CommandLine}
 use Rattle.clap.specs.declared.error.kind.ErrorKind.TheVariants as kind
 use Rattle.nx_cli.proofs.WordsLemmas.{invalid_is_not_help, missing_is_not_help, missing_argument_is_not_help, lacks_station}
-use Rattle.nx_cli.proofs.OneCall.{moment-of, no_slots}
+use Rattle.nx_cli.proofs.OneCall.{moment-of, no_send, no_slots}
 use Rattle.nx_envelope.specs.declared.letter.Letter.{Letter}
 use Rattle.nx_cli.proofs.laws.slots_in_examples.Goals as goal
 
@@ -38,6 +38,15 @@ no_two_letters station e =
 pub returns : goal.returns
 unfolding clap_on_literals
 returns c = record {
+  send = λ program station is. record {
+    taken = refl;
+    arguments = arguments (codes "E") (codes "1735689600");
+    command = refl;
+    given = (
+      ap (λ (b : ℕ). Some (b ∷ [])) (sym is),
+      moment-of (arguments (codes "E") (codes "1735689600")) (codes "1735689600") refl refl,
+    );
+  };
   slots = λ program station is. record {
     taken = refl;
     arguments = arguments (codes "E") (codes "0");
@@ -47,8 +56,8 @@ returns c = record {
       moment-of (arguments (codes "E") (codes "0")) (codes "0") refl refl,
     );
   };
-  small_letter = λ program. lacks_station (program ∷ codes "slots" ∷ codes "e" ∷ codes "0" ∷ []) (codes "slots") (arguments (codes "e") (codes "0")) refl refl
-      (no_slots (codes "slots") (arguments (codes "e") (codes "0")) refl (λ station moment is_station is_moment. no_small_e station is_station));
+  small_letter = λ program. lacks_station (program ∷ codes "send" ∷ codes "e" ∷ codes "0" ∷ []) (codes "send") (arguments (codes "e") (codes "0")) refl refl
+      (no_send (codes "send") (arguments (codes "e") (codes "0")) refl (λ station moment is_station is_moment. no_small_e station is_station));
   two_letters = λ program. lacks_station (program ∷ codes "slots" ∷ codes "EA" ∷ codes "0" ∷ []) (codes "slots") (arguments (codes "EA") (codes "0")) refl refl
       (no_slots (codes "slots") (arguments (codes "EA") (codes "0")) refl (λ station moment is_station is_moment. no_two_letters station is_station));
   too_late = λ program. inl (kind.ValueValidation, invalid_is_not_help, inl refl);
