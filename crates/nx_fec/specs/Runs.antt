@@ -35,10 +35,10 @@ run_fault (file.LineCut line) = LineCut line
 run_fault (file.BadLine line) = BadLine line
 
 -- the fault of a run that stands for the fault of reading a file whole
-abbrev pub whole_fault : ReadFault → RunFault
-whole_fault read.Read = Read
-whole_fault read.FileTooLong = FileTooLong
-whole_fault (read.Memory error) = Memory error
+abbrev pub reading_fault : ReadFault → RunFault
+reading_fault read.Read = Read
+reading_fault read.FileTooLong = FileTooLong
+reading_fault (read.Memory error) = Memory error
 
 -- the fault of a run that stands for the fault of its words
 abbrev pub aligned_fault : AlignedFault → RunFault

@@ -3,7 +3,7 @@ use Rattle.std.specs.Prelude.{ℕ, Bool, true, false, List, [], ◌∷◌, ◌++
 use Rattle.std.specs.List.{flat_map}
 use Rattle.nx_code.specs.Word.{elements}
 use Rattle.nx_code.specs.Table.{Row, table}
-use Rattle.nx_fec.specs.Hexadecimal.{two_digits}
+use Rattle.nx_fec.specs.Hexadecimal.{two_hex_digits}
 
 -- the letter of an element
 abbrev pub element_letter : Bool → ℕ
@@ -18,7 +18,7 @@ cell_text (c ∷ cs) = c ∷ cs
 -- the line of a row: number, elements, letter and figure, with a space between two of them, and a line feed
 unfoldable pub table_line : Row → List ℕ
 table_line row =
-    two_digits row.word ++ 32 ∷ map element_letter (elements row.word) ++ 32 ∷ cell_text row.letter ++ 32 ∷ cell_text row.figure ++ 10 ∷ []
+    two_hex_digits row.word ++ 32 ∷ map element_letter (elements row.word) ++ 32 ∷ cell_text row.letter ++ 32 ∷ cell_text row.figure ++ 10 ∷ []
 
 -- the lines of all 35 rows, in the order of the table
 unfoldable pub table_text : List ℕ

@@ -99,9 +99,9 @@ impl From<AllocError> for ReadFault {
 
 impl From<ReadFault> for RunFault {
     ghost use Rattle.std.specs.Prelude.{◌≡◌};
-    ghost use Rattle.nx_fec.specs.Runs.{whole_fault};
+    ghost use Rattle.nx_fec.specs.Runs.{reading_fault};
 
-    ghost from_gives = { λ fault made. made ≡ whole_fault fault };
+    ghost from_gives = { λ fault made. made ≡ reading_fault fault };
 
     fn from(fault: ReadFault) -> RunFault {
         match fault {

@@ -1,11 +1,11 @@
 //! Numbers of words in base 16.
 
 ghost use Rattle.std.specs.Prelude.{◌≡◌, ◌<◌};
-ghost use Rattle.nx_fec.specs.Hexadecimal.{hex_digit, two_digits};
+ghost use Rattle.nx_fec.specs.Hexadecimal.{hex_digit, two_hex_digits};
 
 /// A number in two digits of base 16, with A to F as capitals.
-pub(crate) fn two_digits(number: u8) -> [u8; 2]
-    ensures { result ≡ two_digits number }
+pub(crate) fn two_hex_digits(number: u8) -> [u8; 2]
+    ensures { result ≡ two_hex_digits number }
 {
     [digit(number / 16), digit(number % 16)]
 }

@@ -87,14 +87,14 @@ mod tests {
     const ALL: &[u8] = b"ABCDEFGHIJKLM1234567890NOPQRSTUVWXYZ -?:().,\n'=+/ Z9\n\n";
 
     /// What decoding answers to a file, and writes.
-    fn decoded(alloc: Global, file: &[u8]) -> Result<(Result<u64, RunFault>, Vec<u8>), Fail> {
+    fn decode_answer(alloc: Global, file: &[u8]) -> Result<(Result<u64, RunFault>, Vec<u8>), Fail> {
         let mut writer = Counting::new(Vec::new(alloc));
         let outcome = decode_run(alloc, &mut Counting::new(file), &mut writer);
         Ok((outcome, writer.into_inner()))
     }
 
     /// What encoding answers to a text, and writes.
-    fn encoded(alloc: Global, text: &[u8]) -> Result<(Result<u64, RunFault>, Vec<u8>), Fail> {
+    fn encode_answer(alloc: Global, text: &[u8]) -> Result<(Result<u64, RunFault>, Vec<u8>), Fail> {
         let mut writer = Counting::new(Vec::new(alloc));
         let outcome = encode_run(alloc, &mut Counting::new(text), &mut writer);
         Ok((outcome, writer.into_inner()))
@@ -110,7 +110,7 @@ mod tests {
             (b"T 5\nAS E\nB 0", Err(RunFault::LineCut { line: 3 }), b""),
         ];
         for (file, outcome, text) in cases {
-            let (answer, written) = decoded(rt.alloc(), file)?;
+            let (answer, written) = decode_answer(rt.alloc(), file)?;
             assert_eq!(rt; answer, outcome);
             assert_eq!(rt; written.as_slice(), text);
         }
@@ -119,24 +119,24 @@ mod tests {
 
     #[test]
     fn encode_cases(rt: HostRuntime) -> Result<(), Fail> {
-        let (answer, file) = encoded(rt.alloc(), b"A")?;
+        let (answer, file) = encode_answer(rt.alloc(), b"A")?;
         assert_eq!(rt; answer, Ok(8));
         assert_eq!(rt; file.as_slice(), FILE_OF_A);
-        let (answer, file) = encoded(rt.alloc(), b"a")?;
+        let (answer, file) = encode_answer(rt.alloc(), b"a")?;
         assert_eq!(rt; answer, Err(RunFault::NoSuchCharacter { at: 0 }));
         assert_eq!(rt; file.len(), 0);
-        let (answer, file) = encoded(rt.alloc(), b"")?;
+        let (answer, file) = encode_answer(rt.alloc(), b"")?;
         assert_eq!(rt; answer, Ok(7));
         assert_eq!(rt; file.len(), 94);
-        assert_eq!(rt; decoded(rt.alloc(), &file)?.1.len(), 0);
+        assert_eq!(rt; decode_answer(rt.alloc(), &file)?.1.len(), 0);
         Ok(())
     }
 
     #[test]
     fn all_characters(rt: HostRuntime) -> Result<(), Fail> {
-        let (answer, file) = encoded(rt.alloc(), ALL)?;
+        let (answer, file) = encode_answer(rt.alloc(), ALL)?;
         assert_eq!(rt; answer.is_ok(), true);
-        let (answer, text) = decoded(rt.alloc(), &file)?;
+        let (answer, text) = decode_answer(rt.alloc(), &file)?;
         assert_eq!(rt; answer, Ok(ALL.len() as u64));
         assert_eq!(rt; text.as_slice(), ALL);
         Ok(())

@@ -211,7 +211,7 @@ mod tests {
     use std::test::Fail;
 
     /// Gives a scanner these bytes, and answers how many lines they ended.
-    fn ended_by(scanner: &mut Scanner, bytes: &[u8]) -> Result<u64, Fail> {
+    fn lines_in(scanner: &mut Scanner, bytes: &[u8]) -> Result<u64, Fail> {
         let mut ended = 0u64;
         for byte in bytes {
             if scanner.push(*byte).ok().ok_or("a good byte")? {
@@ -224,12 +224,12 @@ mod tests {
     #[test]
     fn lines_byte_by_byte(rt: HostRuntime) -> Result<(), Fail> {
         let mut scanner = Scanner::new(20);
-        assert_eq!(rt; ended_by(&mut scanner, b"T 5\nB 01\n")?, 2);
+        assert_eq!(rt; lines_in(&mut scanner, b"T 5\nB 01\n")?, 2);
         assert_eq!(rt; scanner.lines(), 2);
         assert_eq!(rt; scanner.latest(), Some(LineKind::Elements));
         assert_eq!(rt; scanner.elements(), [false, true].as_slice());
         assert_eq!(rt; scanner.line(), Some(b"B 01".as_slice()));
-        assert_eq!(rt; ended_by(&mut scanner, b"RS EX")?, 0);
+        assert_eq!(rt; lines_in(&mut scanner, b"RS EX")?, 0);
         assert_eq!(rt; scanner.latest(), None);
         assert_eq!(rt; scanner.elements().len(), 0);
         assert_eq!(rt; scanner.line(), None);

@@ -9,7 +9,7 @@ ghost use Rattle.nx_fec.specs.TableText.{cell_text, element_letter, table_line, 
 
 use crate::counting::Counting;
 use crate::fault::WriteFault;
-use crate::hexadecimal::two_digits;
+use crate::hexadecimal::two_hex_digits;
 use crate::writing::write_out;
 use arrayvec::ArrayVec;
 use nx_code::{ELEMENTS, SIGNALS, Shift, Signal, cell_of, signal_at, word_of};
@@ -57,7 +57,7 @@ fn push_line(signal: Signal, text: &mut ArrayVec<u8, TEXT_BYTES>)
     ensures grows { array_vec_len text.new ≤ array_vec_len text.old + LINE_BYTES }
 {
     let word = word_of(signal);
-    push_bytes(&two_digits(word.number()), text);
+    push_bytes(&two_hex_digits(word.number()), text);
     text.push(b' ');
     push_elements(&word.elements(), text);
     text.push(b' ');

@@ -3,7 +3,7 @@ use Rattle.nx_code.specs.Table.{row, table}
 use Rattle.nx_code.specs.Signal.{row_of_signal}
 use Rattle.nx_code.specs.declared.shifts.Shift.TheVariants.{Letters, Figures}
 use Rattle.nx_code.specs.Word.{elements}
-use Rattle.nx_fec.specs.Hexadecimal.{two_digits}
+use Rattle.nx_fec.specs.Hexadecimal.{two_hex_digits}
 use Rattle.nx_fec.specs.TableText.{cell_text, element_letter, table_line}
 use Rattle.nx_fec.proofs.TableTextLemmas.{cell-short, number-row, line_parts}
 use Rattle.nx_fec.proofs.table_text.push_line.Goals as goal
@@ -18,7 +18,7 @@ pub returns-clause-line : goal.returns-clause-line
 unfolding table_line
 returns-clause-line c =
     let word = c.word_of-word.ensures ∙ number-row c.args.signal in
-    let digits = c.two_digits.ensures ∙ ap two_digits (c.number.ensures.number ∙ word) in
+    let digits = c.two_hex_digits.ensures ∙ ap two_hex_digits (c.number.ensures.number ∙ word) in
     let letters = c.elements.ensures ∙ ap elements word in
     line_parts c.args.text.now.items _ _ _ _ _ _ _ _ _ _ _ _ (c.push_bytes.ensures.items ∙ ap (λ l. c.args.text.now.items ++ l) digits) c.push.ensures.items
     (c.push_elements.ensures.items ∙ ap (λ l. c.push.new.self.items ++ map element_letter l) letters) c.push-2.ensures.items
