@@ -15,7 +15,7 @@ use Rattle.nx_code.specs.Characters.{IsCapital}
 use Rattle.nx_envelope.specs.declared.letter.Letter.{Letter}
 use Rattle.nx_cli.specs.declared.words.Call.{Call}
 use Rattle.nx_cli.specs.declared.words.Call.TheVariants.{Code, Decode, Encode, Send, Slots}
-use Rattle.nx_cli.specs.Words.{HasArguments, IsMoment, IsStation, word_of}
+use Rattle.nx_cli.specs.Words.{HasArguments, IsMoment, IsStation, command_name}
 
 same_letter : (a b : Letter) → a.byte ≡ b.byte → a ≡ b
 same_letter a b e = λ i. record { byte = e i; in_range = is_prop→PathP (λ j. IsCapital (e j)) (λ j. ×_prop le_prop le_prop) a.in_range b.in_range i }
@@ -37,7 +37,7 @@ differ a b unlike e =
     absurd (cc)
 
 -- a command and its arguments have at most one call
-pub same_call : (a b : Call) (rows : List Row) → word_of a ≡ word_of b → HasArguments a rows → HasArguments b rows → a ≡ b
+pub same_call : (a b : Call) (rows : List Row) → command_name a ≡ command_name b → HasArguments a rows → HasArguments b rows → a ≡ b
 same_call Decode Decode rows e given other = refl
 same_call Decode Encode rows e given other = absurd (differ _ _ refl e)
 same_call Decode Code rows e given other = absurd (differ _ _ refl e)
@@ -131,10 +131,10 @@ slot_or_none rows = elim (station_of_text (first_of (codes "STATION") rows)) [
 
 -- a call has this word and these arguments
 abbrev IsCalled : Text → List Row → Type 0
-IsCalled name rows = (call : Call) × (name ≡ word_of call) × HasArguments call rows
+IsCalled name rows = (call : Call) × (name ≡ command_name call) × HasArguments call rows
 
 abbrev IsNotCalled : Text → List Row → Type 0
-IsNotCalled name rows = (call : Call) → name ≡ word_of call → HasArguments call rows → ⊥
+IsNotCalled name rows = (call : Call) → name ≡ command_name call → HasArguments call rows → ⊥
 
 other_word : (name : Text) (rows : List Row) → name ≢ codes "decode" → name ≢ codes "encode" → name ≢ codes "code" → name ≢ codes "send" → name ≢ codes "slots" → IsNotCalled name rows
 other_word name rows d e c s l Decode is given = d is

@@ -19,7 +19,7 @@ use Rattle.clap.specs.declared.parser.matches.SubCommand.{SubCommand}
 use Rattle.nx_cli.specs.declared.words.Call.{Call}
 use Rattle.nx_cli.specs.declared.words.WordsFault.{WordsFault}
 use Rattle.nx_cli.specs.declared.words.WordsFault.TheVariants.{Help, Refused, Station, Memory}
-use Rattle.nx_cli.specs.Words.{AsksForHelp, Explains, HasArguments, IsMoment, IsRefused, IsStation, LacksStation, Names, Sorts, navtex, word_of}
+use Rattle.nx_cli.specs.Words.{AsksForHelp, ExplainsWords, HasArguments, IsMoment, IsRefused, IsStation, LacksStation, Names, Sorts, navtex, command_name}
 use Rattle.nx_cli.proofs.EachFound.{Each, found_is}
 use Rattle.nx_cli.proofs.MomentGiven.{moment-given, taken-command}
 use Rattle.nx_cli.proofs.OneCall.{call_or_none, differ, moment_once, same_call}
@@ -35,7 +35,7 @@ pub navtex-is_simple_and_free : is_simple_and_free navtex ≡ true
 unfolding clap_on_literals
 navtex-is_simple_and_free = refl
 
-pub explained : (words : List Text) (error : Error) (fault : WordsFault) → HasKind (fault_of navtex words) error → Sorts error fault → Explains words fault
+pub explained : (words : List Text) (error : Error) (fault : WordsFault) → HasKind (fault_of navtex words) error → Sorts error fault → ExplainsWords words fault
 explained words error (Help answer) kinds sorts = elim kinds [
   | inl memory ↦ absurd (let e : OutOfMemory ≡ DisplayHelp = sym memory ∙ sorts.1 in cc)
   | inr among ↦ let P : ErrorKind → Type 0 = λ k. IsAmong k (fault_of navtex words) in subst P sorts.1 among
@@ -101,7 +101,7 @@ pub named_not_help : (words : List Text) (call : Call) → Names words call → 
 named_not_help words call named help = none_among (fault_of navtex words) DisplayHelp named.taken help
 
 -- a call whose word is that of a command that wants a station has one
-has-station : (call : Call) (arguments : List Row) → (word_of call ≡ codes "send") ⊎ (word_of call ≡ codes "slots") → HasArguments call arguments
+has-station : (call : Call) (arguments : List Row) → (command_name call ≡ codes "send") ⊎ (command_name call ≡ codes "slots") → HasArguments call arguments
     → (letter : Letter) × IsStation arguments letter
 has-station Decode arguments wants given = absurd (elim wants [ inl e ↦ differ _ _ refl e | inr e ↦ differ _ _ refl e ])
 has-station Encode arguments wants given = absurd (elim wants [ inl e ↦ differ _ _ refl e | inr e ↦ differ _ _ refl e ])
@@ -112,10 +112,10 @@ has-station (Slots station moment) arguments wants given = (station, given.0)
 abbrev entry : Text → List Row → Text × List Row
 entry name rows = (name, rows)
 
-named-lacks : (call : Call) (name : Text) (rows other : List Row) → (name ≡ codes "send") ⊎ (name ≡ codes "slots") → Some (entry (word_of call) rows) ≡ Some (entry name other)
+named-lacks : (call : Call) (name : Text) (rows other : List Row) → (name ≡ codes "send") ⊎ (name ≡ codes "slots") → Some (entry (command_name call) rows) ≡ Some (entry name other)
     → HasArguments call rows → ((letter : Letter) → IsStation other letter → ⊥) → ⊥
 named-lacks call name rows other wants same given none =
-    let pair : entry (word_of call) rows ≡ entry name other = cc in
+    let pair : entry (command_name call) rows ≡ entry name other = cc in
     let word = ap (λ (p : Text × List Row). p.0) pair in
     let station = has-station call rows (elim wants [ inl e ↦ inl (word ∙ e) | inr e ↦ inr (word ∙ e) ]) given in
     let P : List Row → Type 0 = λ r. IsStation r station.0 in
@@ -130,7 +130,7 @@ named_not_refused words call named (inr lacks) = elim lacks.entered [
 
 -- words with no call, which clap takes, lack a station
 pub lacks_station : (words : List Text) (name : Text) (arguments : List Row) → fault_of navtex words ≡ [] → subcommand_of navtex words ≡ Some (name, arguments)
-    → ((call : Call) → name ≡ word_of call → HasArguments call arguments → ⊥) → LacksStation words
+    → ((call : Call) → name ≡ command_name call → HasArguments call arguments → ⊥) → LacksStation words
 lacks_station words name arguments taken entered none = elim (taken-command words name arguments taken entered) [
   | inl decode ↦ absurd (none Decode decode tt)
   | inr (inl encode) ↦ absurd (none Encode encode tt)
@@ -205,15 +205,15 @@ read_as_one words = elim (kinds_cases (fault_of navtex words)) [
 -- and it names at most one
 pub named_once : (words : List Text) (a b : Call) → Names words a → Names words b → a ≡ b
 named_once words a b first second =
-    let same : Some (word_of a, first.arguments) ≡ Some (word_of b, second.arguments) = sym first.command ∙ second.command in
-    let is : (word_of a, first.arguments) ≡ (word_of b, second.arguments) = cc in
+    let same : Some (command_name a, first.arguments) ≡ Some (command_name b, second.arguments) = sym first.command ∙ second.command in
+    let is : (command_name a, first.arguments) ≡ (command_name b, second.arguments) = cc in
     let P : List Row → Type 0 = λ rows. HasArguments b rows in
     same_call a b first.arguments (ap (λ (q : Text × List Row). q.0) is) first.given
     (subst P (sym (ap (λ (q : Text × List Row). q.1) is)) second.given)
 
 -- the outcome of reading the words, by the call that their command and its arguments have
 pub outcome-named : (words : List Text) (name : Text) (arguments : List Row) (found : Option Call) (outcome : Result Call WordsFault) → fault_of navtex words ≡ []
-    → subcommand_of navtex words ≡ Some (name, arguments) → IfSome found (λ call. (name ≡ word_of call) × HasArguments call arguments)
+    → subcommand_of navtex words ≡ Some (name, arguments) → IfSome found (λ call. (name ≡ command_name call) × HasArguments call arguments)
     → outcome ≡ ok_or found Station → IfOk outcome (Names words)
 outcome-named words name arguments None outcome taken entered some is = rw is tt
 outcome-named words name arguments (Some call) outcome taken entered some is =
@@ -225,8 +225,8 @@ outcome-named words name arguments (Some call) outcome taken entered some is =
     })
 
 pub outcome-refused : (words : List Text) (name : Text) (arguments : List Row) (found : Option Call) (outcome : Result Call WordsFault) → fault_of navtex words ≡ []
-    → subcommand_of navtex words ≡ Some (name, arguments) → IfNone found ((call : Call) → name ≡ word_of call → HasArguments call arguments → ⊥)
-    → outcome ≡ ok_or found Station → IfErr outcome (Explains words)
+    → subcommand_of navtex words ≡ Some (name, arguments) → IfNone found ((call : Call) → name ≡ command_name call → HasArguments call arguments → ⊥)
+    → outcome ≡ ok_or found Station → IfErr outcome (ExplainsWords words)
 outcome-refused words name arguments None outcome taken entered none is = rw is (lacks_station words name arguments taken entered none)
 outcome-refused words name arguments (Some call) outcome taken entered none is = rw is tt
 

@@ -17,12 +17,12 @@ use Rattle.nx_cli.specs.declared.words.WordsFault.{WordsFault}
 use Rattle.nx_cli.specs.declared.words.WordsFault.TheVariants.{Help, Refused, Station, Memory}
 
 -- the word by which the command line names a call
-abbrev pub word_of : Call → Text
-word_of Decode = codes "decode"
-word_of Encode = codes "encode"
-word_of Code = codes "code"
-word_of (Send station moment) = codes "send"
-word_of (Slots station moment) = codes "slots"
+abbrev pub command_name : Call → Text
+command_name Decode = codes "decode"
+command_name Encode = codes "encode"
+command_name Code = codes "code"
+command_name (Send station moment) = codes "send"
+command_name (Slots station moment) = codes "slots"
 
 -- a command that takes no argument
 abbrev pub plain : Text → App
@@ -82,7 +82,7 @@ HasArguments (Slots station moment) arguments = IsStation arguments station × I
 pub record Names (words : List Text) (call : Call) : Type 0 where
   pub taken : fault_of navtex words ≡ []
   pub arguments : List Row
-  pub command : subcommand_of navtex words ≡ Some (word_of call, arguments)
+  pub command : subcommand_of navtex words ≡ Some (command_name call, arguments)
   pub given : HasArguments call arguments
 
 -- clap answers the words with help
@@ -105,11 +105,11 @@ abbrev pub IsRefused : List Text → Type 0
 IsRefused words = IsRefusedByClap words ⊎ LacksStation words
 
 -- why the words name no call
-abbrev pub Explains : List Text → WordsFault → Type 0
-Explains words (Help answer) = AsksForHelp words
-Explains words (Refused answer) = IsRefusedByClap words
-Explains words Station = LacksStation words
-Explains words (Memory want) = ⊤
+abbrev pub ExplainsWords : List Text → WordsFault → Type 0
+ExplainsWords words (Help answer) = AsksForHelp words
+ExplainsWords words (Refused answer) = IsRefusedByClap words
+ExplainsWords words Station = LacksStation words
+ExplainsWords words (Memory want) = ⊤
 
 -- an answer of clap is help, want of memory, or a refusal
 abbrev pub Sorts : Error → WordsFault → Type 0

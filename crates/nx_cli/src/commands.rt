@@ -59,8 +59,8 @@ const CODE_HELP: &str = "Print the table of the code.
 
 Reads nothing, and writes one line for each of the 35 words: its number in hexadecimal, with the
 element that is sent first in the least place; its elements in the order of sending; what it
-prints in the letter shift; and what it prints in the figure shift. A name of more than one letter
-is a name, and none prints nothing.
+prints in the letter shift; and what it prints in the figure shift. A text of more
+than one letter names a signal, and none stands where nothing is printed.
 
 Example, the first line:
   47 BBBYYYB A -";

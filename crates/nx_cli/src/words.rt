@@ -2,7 +2,7 @@
 
 ghost use Rattle.std.specs.Prelude.{◌≡◌, ◌≢◌, ℕ, [], ◌∷◌, IfErr, IfNone, IfOk, IfSome, map};
 ghost use Rattle.clap.specs.Words.{found_of, rows_of};
-ghost use Rattle.nx_cli.specs.Words.{Explains, HasArguments, IsMoment, IsStation, Names, Sorts, word_of};
+ghost use Rattle.nx_cli.specs.Words.{ExplainsWords, HasArguments, IsMoment, IsStation, Names, Sorts, command_name};
 ghost use Rattle.nx_cli.specs.declared.words.Call.{Call};
 ghost use Rattle.nx_cli.specs.declared.words.WordsFault.TheVariants.{Memory};
 ghost use Rattle.nx_envelope.specs.declared.letter.Letter.{Letter};
@@ -60,20 +60,20 @@ pub enum WordsFault {
 /// The call that the words name, of which the first is the program's name.
 pub fn call_of<S: AsStr>(alloc: Global, words: &[S]) -> Result<Call, WordsFault>
     ensures named { IfOk result (Names (map S.text words.now)) }
-    ensures refused { IfErr result (Explains (map S.text words.now)) }
+    ensures refused { IfErr result (ExplainsWords (map S.text words.now)) }
 {
     let command = navtex_command(alloc)?;
     let matches = command.try_get_matches_from(words)?;
     let (word, arguments) = matches.subcommand().unwrap();
-    Call::named(word, arguments).ok_or(WordsFault::Station)
+    Call::of_command(word, arguments).ok_or(WordsFault::Station)
 }
 
 impl Call {
     /// The call that the command line names by this word with these arguments.
-    fn named(word: &str, arguments: &ArgMatches) -> Option<Call>
-        ensures some { IfSome result (λ call. (word.now ≡ word_of call)
+    fn of_command(word: &str, arguments: &ArgMatches) -> Option<Call>
+        ensures some { IfSome result (λ call. (word.now ≡ command_name call)
             × HasArguments call (rows_of (found_of arguments.now))) }
-        ensures none { IfNone result ((call : Call) → word.now ≡ word_of call
+        ensures none { IfNone result ((call : Call) → word.now ≡ command_name call
             → ¬ HasArguments call (rows_of (found_of arguments.now))) }
     {
         Some(match word {

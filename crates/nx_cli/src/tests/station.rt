@@ -199,13 +199,13 @@ fn prints_the_table(rt: HostRuntime) {
     let ended = run_on(rt.alloc(), &["navtex", "code"], b"");
     assert_eq!(rt; ended.status, 0);
     assert!(rt; ended.faults.is_empty());
-    let lines = ended.output.split(|byte| *byte == b'\n');
     for (index, line) in [
         (0, b"47 BBBYYYB A -".as_slice()),
         (3, b"53 BBYYBYB D none".as_slice()),
         (34, b"66 YBBYYBB P2 P2".as_slice()),
         (35, b"".as_slice()),
     ] {
+        let mut lines = ended.output.split(|byte| *byte == b'\n');
         assert_eq!(rt; lines.nth(index), Some(line));
     }
 }

@@ -25,7 +25,7 @@ returns-clause-named g c =
     (sym c.subcommand.ensures.name ∙ ap (λ (o : Option (Bor Text × Bor ArgMatches)). option_map word o) c.unwrap.ensures)
     (sym c.subcommand.ensures.rows ∙ ap (λ (o : Option (Bor Text × Bor ArgMatches)). option_map arguments o) c.unwrap.ensures) in
     let taken = ap (λ (a : App). fault_of a words) (sym tree) ∙ c.in_ok-matches.ensures.kinds (ap is_simple_and_free tree ∙ navtex-is_simple_and_free) in
-    outcome-named words c.unwrap.result.0.now (rows_of (found_of c.unwrap.result.1.now)) c.named.result c.ok_or.result taken entered c.named.ensures.some c.ok_or.ensures.value
+    outcome-named words c.unwrap.result.0.now (rows_of (found_of c.unwrap.result.1.now)) c.of_command.result c.ok_or.result taken entered c.of_command.ensures.some c.ok_or.ensures.value
 
 pub returns-clause-refused : goal.returns-clause-refused
 returns-clause-refused g c =
@@ -38,4 +38,4 @@ returns-clause-refused g c =
     (sym c.subcommand.ensures.name ∙ ap (λ (o : Option (Bor Text × Bor ArgMatches)). option_map word o) c.unwrap.ensures)
     (sym c.subcommand.ensures.rows ∙ ap (λ (o : Option (Bor Text × Bor ArgMatches)). option_map arguments o) c.unwrap.ensures) in
     let taken = ap (λ (a : App). fault_of a words) (sym tree) ∙ c.in_ok-matches.ensures.kinds (ap is_simple_and_free tree ∙ navtex-is_simple_and_free) in
-    outcome-refused words c.unwrap.result.0.now (rows_of (found_of c.unwrap.result.1.now)) c.named.result c.ok_or.result taken entered c.named.ensures.none c.ok_or.ensures.value
+    outcome-refused words c.unwrap.result.0.now (rows_of (found_of c.unwrap.result.1.now)) c.of_command.result c.ok_or.result taken entered c.of_command.ensures.none c.ok_or.ensures.value

@@ -1,7 +1,7 @@
 use Rattle.clap.specs.Words.{found_of, rows_of}
 use Rattle.nx_cli.proofs.ArgumentsRead.{if_none}
 use Rattle.nx_cli.proofs.OneCall.{no_send, no_slots}
-use Rattle.nx_cli.proofs.words.Call.named.Goals as goal
+use Rattle.nx_cli.proofs.words.Call.of_command.Goals as goal
 
 pub returns-in_err-moment_in-in-send-clause-none :
     goal.returns-in_err-moment_in-in-send-clause-none
