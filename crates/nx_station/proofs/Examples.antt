@@ -2,7 +2,7 @@
 use Rattle.std.proofs.Common.{◌≡◌, ℕ, ◌∷◌, [], ◌++◌, List, codes, length, refl, arith}
 use Rattle.nx_envelope.specs.declared.identity.Identity.{Identity}
 use Rattle.nx_station.specs.Broadcast.{head, layout}
-use Rattle.nx_station.specs.MessageFile.{Entry, file_of}
+use Rattle.nx_station.specs.MessageFile.{FileMessage, file_of}
 use Rattle.nx_station.specs.Slots.{IsSlot}
 
 -- EA01
