@@ -1,12 +1,11 @@
 -- How a message file is read, line by line and message by message.
-use Rattle.std.proofs.Common.{◌≡◌, ◌≢◌, ℕ, ◌+◌, ◌<◌, ◌≤◌, List, [], ◌∷◌, ◌++◌, length, map, Option, Some, None, refl, sym, ap, ◌∙◌, subst, append_assoc, append-nil, arith, length-append}
-use Rattle.std.specs.List.{flat_map, AllByRecursion}
+use Rattle.std.proofs.Common.{◌≡◌, ◌≢◌, ℕ, ◌+◌, ◌<◌, ◌≤◌, List, [], ◌∷◌, ◌++◌, length, map, Some, None, refl, sym, ap, ◌∙◌, subst, append_assoc, append-nil, arith, length-append}
+use Rattle.std.specs.List.{AllByRecursion}
 use Rattle.std.proofs.lemmas.List.Concat.{flat_map-append}
-use Rattle.std.proofs.lemmas.List.{map-append}
-use Rattle.nx_envelope.specs.Message.{AreLines, IsMessageFault, text_of}
+use Rattle.nx_envelope.specs.Message.{IsMessageFault, text_of}
 use Rattle.nx_envelope.specs.MessageView.{MessageView}
 use Rattle.nx_envelope.specs.declared.message.MessageFault.{MessageFault}
-use Rattle.nx_station.specs.MessageFile.{FileMessage, IsOneLine, IsInside, IsNamed, IsFileMessage, IsBegun, IsOfLines, IsFirstFault, IsMessageFile, bad_line, bad_text, line_cut, not_ended, file_message_of, heading, opening, spelling, file_of, lines_of}
+use Rattle.nx_station.specs.MessageFile.{FileMessage, IsOneLine, IsInside, IsNamed, IsFileMessage, IsOfLines, IsFirstFault, IsMessageFile, bad_line, bad_text, line_cut, not_ended, file_message_of, heading, opening, spelling, file_of, lines_of}
 use Rattle.nx_envelope.specs.declared.message.MessageFault.TheVariants as message
 use Rattle.nx_station.specs.Faults.{text_fault}
 use Rattle.nx_station.specs.Runs.{ExplainsFirst, ExplainsFile}

@@ -1,11 +1,10 @@
 -- What a receiver prints of messages.
-use Rattle.std.proofs.Common.{◌≡◌, ℕ, ◌+◌, ◌/◌, ◌%◌, ◌<◌, ◌≤◌, zero, suc, List, [], ◌∷◌, ◌++◌, length, map, replicate, Option, Some, None, refl, sym, ap, ◌∙◌, subst, arith, append_assoc, append-nil, codes}
-use Rattle.std.specs.List.{flat_map, AllByRecursion}
+use Rattle.std.proofs.Common.{◌≡◌, ℕ, ◌/◌, ◌%◌, ◌<◌, ◌≤◌, zero, suc, List, [], ◌∷◌, ◌++◌, map, replicate, Some, refl, sym, ap, ◌∙◌, subst, arith, append_assoc, append-nil, codes}
+use Rattle.std.specs.List.{flat_map}
 use Rattle.std.specs.Option.{option_to_list}
 use Rattle.std.proofs.lemmas.List.{map-append}
 use Rattle.nx_code.specs.Table.{table, row_of}
-use Rattle.nx_code.specs.Reading.{Reception, combination, idle, character_of, shift_set, shift_after, shift_after_all, text}
-use Rattle.nx_code.specs.Spelling.{Spells}
+use Rattle.nx_code.specs.Reading.{Reception, combination, idle, character_of, shift_after, shift_after_all, text}
 use Rattle.nx_code.specs.declared.shifts.Shift.{Shift}
 use Rattle.nx_code.specs.declared.shifts.Shift.TheVariants.{Letters, Figures}
 use Rattle.nx_code.proofs.ReadingLemmas.{text-append, shift_after_all-append}

@@ -1,6 +1,5 @@
 -- What sending answers follows from what its steps said.
-use Rattle.std.proofs.Common.{◌≡◌, ◌≢◌, ℕ, ◌+◌, ◌<◌, ◌≤◌, ◌==◌, Bool, List, [], ◌∷◌, ◌++◌, length, map, not, get_or, Option, None, Some, Result, Ok, Err, true, false, refl, sym, ap, ◌∙◌, subst, arith}
-use Rattle.std.specs.List.{AllByRecursion, position}
+use Rattle.std.proofs.Common.{◌≡◌, ℕ, ◌≤◌, ◌==◌, Bool, List, [], ◌∷◌, ◌++◌, length, map, not, get_or, Option, Some, Result, Ok, Err, refl, sym, ap, ◌∙◌, subst, arith}
 use Rattle.std.proofs.lemmas.Bool.{false≢true, eq-eqb, not-true}
 use Rattle.std.proofs.lemmas.List.Elements.{All-from_recursion}
 use Rattle.std.proofs.lemmas.List.Quantifiers.{position-Some}
@@ -19,7 +18,7 @@ use Rattle.nx_fec.proofs.TransferLaws.{Reads-on}
 use Rattle.nx_station.specs.Broadcast.{IsBroadcast}
 use Rattle.nx_station.specs.Faults.{read_fault, send_fault}
 use Rattle.nx_station.specs.MessageFile.{IsMessageFile, file_message_of}
-use Rattle.nx_station.specs.Runs.{ExplainsFile, ExplainsRefusal, ExplainsSending, AnswersSending, IsTransmission, Sends}
+use Rattle.nx_station.specs.Runs.{ExplainsFile, ExplainsSending, IsTransmission, Sends}
 use Rattle.nx_station.specs.Sendable.{AreOf, IsRefusal, IsSendable, first_of_another}
 use Rattle.nx_station.specs.Slots.{HasSlots, IsNextSlot}
 use Rattle.nx_station.specs.declared.fault.SendFault.{SendFault}

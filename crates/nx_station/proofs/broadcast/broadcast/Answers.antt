@@ -1,4 +1,4 @@
-use Rattle.std.proofs.Common.{◌≡◌, ◌++◌, ◌∷◌, [], ap, ◌∙◌, map, arith}
+use Rattle.std.proofs.Common.{◌++◌, ◌∷◌, [], ap, ◌∙◌, map}
 use Rattle.nx_fec.specs.Emission.{sent_position}
 use Rattle.nx_station.specs.Broadcast.{phasing_and_message}
 use Rattle.nx_station.proofs.BroadcastLemmas.{empty-broadcast, more-spelled, others-more, broadcast-of}
