@@ -1,7 +1,6 @@
 -- The positions of messages: there is one list of them, and how it is built and counted.
-use Rattle.std.proofs.Common.{◌≡◌, ◌≢◌, ℕ, ◌+◌, ◌*◌, ◌<◌, ◌≤◌, true, List, [], ◌∷◌, ◌++◌, length, map, replicate, take, drop, get_or, not, Option, Some, None, refl, sym, ap, ◌∙◌, subst, arith, append_assoc, append-nil, ◌&&◌}
+use Rattle.std.proofs.Common.{◌≡◌, ◌≢◌, ℕ, ◌+◌, ◌<◌, ◌≤◌, true, List, [], ◌∷◌, ◌++◌, length, map, replicate, take, drop, get_or, not, Some, refl, sym, ap, ◌∙◌, subst, arith, append_assoc, append-nil}
 use Rattle.std.specs.List.{flat_map, AllByRecursion, list_all, position}
-use Rattle.std.specs.Prelude.{All}
 use Rattle.std.proofs.lemmas.List.{length-append, length-map, length-replicate}
 use Rattle.std.proofs.lemmas.List.Concat.{flat_map-append}
 use Rattle.std.proofs.lemmas.List.Elements.{recursion_from_All}
@@ -22,7 +21,7 @@ use Rattle.nx_envelope.specs.Message.{AreLines, IsLine, IsLineByte, text_of}
 use Rattle.nx_envelope.specs.MessageView.{MessageView}
 use Rattle.nx_fec.specs.Emission.{SentPosition, phasing_position, traffic_position, end_position}
 use Rattle.nx_station.specs.Sendable.{HavePositions}
-use Rattle.nx_station.specs.Broadcast.{IsSpelled, AreSpelled, IsBroadcast, IsExtent, head, ending, phased, layout}
+use Rattle.nx_station.specs.Broadcast.{IsSpelled, AreSpelled, IsBroadcast, IsExtent, head, ending, phasing_and_message, layout}
 
 -- ---- the text of a message is in the code
 
@@ -163,21 +162,21 @@ pub total-push : (spellings : List (List ℕ)) (numbers : List ℕ) → total (s
 total-push [] numbers = omega arith
 total-push (x ∷ xs) numbers = omega (arith, total-push xs numbers)
 
-length-phased : (count : ℕ) (numbers : List ℕ) → length (phased count numbers) ≡ count + length numbers
-length-phased count numbers =
+length-phasing_and_message : (count : ℕ) (numbers : List ℕ) → length (phasing_and_message count numbers) ≡ count + length numbers
+length-phasing_and_message count numbers =
     omega (arith, length-append (replicate count phasing_position) (map traffic_position numbers), length-replicate count phasing_position, length-map numbers traffic_position)
 
-length-others : (spellings : List (List ℕ)) → length (flat_map (phased 36) spellings) ≡ total spellings
+length-others : (spellings : List (List ℕ)) → length (flat_map (phasing_and_message 36) spellings) ≡ total spellings
 length-others [] = refl
-length-others (x ∷ xs) = omega (arith, length-append (phased 36 x) (flat_map (phased 36) xs), length-phased 36 x, length-others xs)
+length-others (x ∷ xs) = omega (arith, length-append (phasing_and_message 36 x) (flat_map (phasing_and_message 36) xs), length-phasing_and_message 36 x, length-others xs)
 
 pub length-layout : (spellings : List (List ℕ)) → spellings ≢ [] → length (layout spellings) ≡ total spellings + 39
 unfolding layout
 length-layout [] h = absurd (h refl)
 length-layout (x ∷ xs) h =
-    let others = flat_map (phased 36) xs in
+    let others = flat_map (phasing_and_message 36) xs in
     let ends = replicate 3 end_position in
-    omega (arith, length-append (phased 72 x) (others ++ ends), length-append others ends, length-phased 72 x, length-others xs, length-replicate 3 end_position)
+    omega (arith, length-append (phasing_and_message 72 x) (others ++ ends), length-append others ends, length-phasing_and_message 72 x, length-others xs, length-replicate 3 end_position)
 
 -- ---- how they are built
 
@@ -209,7 +208,7 @@ empty-broadcast (m ∷ ms) positions h e = absurd (omega (arith, h))
 pub message-positions : (message : MessageView) (text : List ℕ) (phasing : ℕ) (old one two three new : List SentPosition) (numbers : List ℕ) (extent : Extent)
     → one ≡ old ++ replicate phasing phasing_position → two ≡ one ++ map traffic_position numbers → numbers ≡ head message.identity → three ≡ two ++ map traffic_position text
     → new ≡ three ++ map traffic_position (ending extent.shift) → Spells (text_of message.lines) Figures text → IsExtent (text_of message.lines) extent
-    → (all : List ℕ) × IsSpelled message all × (new ≡ old ++ phased phasing all)
+    → (all : List ℕ) × IsSpelled message all × (new ≡ old ++ phasing_and_message phasing all)
 message-positions message text phasing old one two three new numbers extent a b n c d spells h =
     let last = ending (shift_after_all (map combination text) Figures) in
     let same : h.numbers ≡ text = spelling-one (text_of message.lines) Figures h.numbers text h.spells spells in
@@ -227,21 +226,21 @@ message-positions message text phasing old one two three new numbers extent a b 
     (head message.identity ++ (text ++ last), record { text = text; spells = spells; whole = refl }, built ∙ joined ∙ ap (λ l. old ++ (front ++ l)) (sym parts))
 
 -- one more message behind the first
-pub others-more : (old now new : List SentPosition) (spellings : List (List ℕ)) (numbers : List ℕ) → now ≡ old ++ flat_map (phased 36) spellings → new ≡ now ++ phased 36 numbers
-    → new ≡ old ++ flat_map (phased 36) (spellings ++ (numbers ∷ []))
+pub others-more : (old now new : List SentPosition) (spellings : List (List ℕ)) (numbers : List ℕ) → now ≡ old ++ flat_map (phasing_and_message 36) spellings → new ≡ now ++ phasing_and_message 36 numbers
+    → new ≡ old ++ flat_map (phasing_and_message 36) (spellings ++ (numbers ∷ []))
 others-more old now new spellings numbers h k =
-    k ∙ ap (λ l. l ++ phased 36 numbers) h ∙ append_assoc old (flat_map (phased 36) spellings) (phased 36 numbers)
-    ∙ ap (λ l. old ++ l) (sym (flat_map-append (phased 36) spellings (numbers ∷ []) ∙ ap (λ l. flat_map (phased 36) spellings ++ l) (append-nil (phased 36 numbers))))
+    k ∙ ap (λ l. l ++ phasing_and_message 36 numbers) h ∙ append_assoc old (flat_map (phasing_and_message 36) spellings) (phasing_and_message 36 numbers)
+    ∙ ap (λ l. old ++ l) (sym (flat_map-append (phasing_and_message 36) spellings (numbers ∷ []) ∙ ap (λ l. flat_map (phasing_and_message 36) spellings ++ l) (append-nil (phasing_and_message 36 numbers))))
 
 pub broadcast-of : (messages : List MessageView) (first : MessageView) (others : List MessageView) (i : ℕ) (numbers : List ℕ) (spellings : List (List ℕ)) (one two new : List SentPosition)
-    → messages ≡ first ∷ others → IsSpelled first numbers → one ≡ [] ++ phased 72 numbers → length others ≤ i → AreSpelled (take i others) spellings
-    → two ≡ one ++ flat_map (phased 36) spellings → new ≡ two ++ replicate 3 end_position → IsBroadcast messages new
+    → messages ≡ first ∷ others → IsSpelled first numbers → one ≡ [] ++ phasing_and_message 72 numbers → length others ≤ i → AreSpelled (take i others) spellings
+    → two ≡ one ++ flat_map (phasing_and_message 36) spellings → new ≡ two ++ replicate 3 end_position → IsBroadcast messages new
 unfolding layout
 broadcast-of messages first others i numbers spellings one two new is h a past k b c =
     let all : AreSpelled others spellings = subst (λ l. AreSpelled l spellings) (take_all i others past) k in record {
       spellings = numbers ∷ spellings;
       each = subst (λ l. AreSpelled l (numbers ∷ spellings)) (sym is) (h, all);
-      whole = c ∙ ap (λ l. l ++ replicate 3 end_position) (b ∙ ap (λ l. l ++ flat_map (phased 36) spellings) a) ∙ append_assoc (phased 72 numbers) (flat_map (phased 36) spellings) (replicate 3 end_position);
+      whole = c ∙ ap (λ l. l ++ replicate 3 end_position) (b ∙ ap (λ l. l ++ flat_map (phasing_and_message 36) spellings) a) ∙ append_assoc (phasing_and_message 72 numbers) (flat_map (phasing_and_message 36) spellings) (replicate 3 end_position);
     }
 
 -- the lines of all messages

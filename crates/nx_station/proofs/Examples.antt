@@ -1,8 +1,8 @@
 -- The definitions at worked examples.
-use Rattle.std.proofs.Common.{◌≡◌, ℕ, ◌∷◌, [], ◌++◌, List, codes, length, refl, arith}
+use Rattle.std.proofs.Common.{◌≡◌, ◌∷◌, [], ◌++◌, codes, length, refl, arith}
 use Rattle.nx_envelope.specs.declared.identity.Identity.{Identity}
 use Rattle.nx_station.specs.Broadcast.{head, layout}
-use Rattle.nx_station.specs.MessageFile.{Entry, file_of}
+use Rattle.nx_station.specs.MessageFile.{file_of}
 use Rattle.nx_station.specs.Slots.{IsSlot}
 
 -- EA01

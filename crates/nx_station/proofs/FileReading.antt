@@ -1,12 +1,11 @@
 -- How a message file is read, line by line and message by message.
-use Rattle.std.proofs.Common.{◌≡◌, ◌≢◌, ℕ, ◌+◌, ◌<◌, ◌≤◌, List, [], ◌∷◌, ◌++◌, length, map, Option, Some, None, refl, sym, ap, ◌∙◌, subst, append_assoc, append-nil, arith, length-append}
-use Rattle.std.specs.List.{flat_map, AllByRecursion}
+use Rattle.std.proofs.Common.{◌≡◌, ◌≢◌, ℕ, ◌+◌, ◌<◌, ◌≤◌, List, [], ◌∷◌, ◌++◌, length, map, Some, None, refl, sym, ap, ◌∙◌, subst, append_assoc, append-nil, arith, length-append}
+use Rattle.std.specs.List.{AllByRecursion}
 use Rattle.std.proofs.lemmas.List.Concat.{flat_map-append}
-use Rattle.std.proofs.lemmas.List.{map-append}
-use Rattle.nx_envelope.specs.Message.{AreLines, IsMessageFault, text_of}
+use Rattle.nx_envelope.specs.Message.{IsMessageFault, text_of}
 use Rattle.nx_envelope.specs.MessageView.{MessageView}
 use Rattle.nx_envelope.specs.declared.message.MessageFault.{MessageFault}
-use Rattle.nx_station.specs.MessageFile.{Entry, IsOneLine, IsInside, IsNamed, IsEntry, IsBegun, IsOfLines, IsFirstFault, IsMessageFile, bad_line, bad_text, line_cut, not_ended, entry_of, heading, opening, spelling, file_of, lines_of}
+use Rattle.nx_station.specs.MessageFile.{FileMessage, IsOneLine, IsInside, IsNamed, IsFileMessage, IsOfLines, IsFirstFault, IsMessageFile, bad_line, bad_text, line_cut, not_ended, file_message_of, heading, opening, spelling, file_of, lines_of}
 use Rattle.nx_envelope.specs.declared.message.MessageFault.TheVariants as message
 use Rattle.nx_station.specs.Faults.{text_fault}
 use Rattle.nx_station.specs.Runs.{ExplainsFirst, ExplainsFile}
@@ -27,7 +26,7 @@ pub inside-more : (lines : List (List ℕ)) (line : List ℕ) → AllByRecursion
 inside-more [] line h k = (k, tt)
 inside-more (l ∷ lines) line h k = (h.0, inside-more lines line h.1 k)
 
-entry_with : ℕ → ℕ → List (List ℕ) → Entry
+entry_with : ℕ → ℕ → List (List ℕ) → FileMessage
 entry_with subject number lines = record { subject = subject; number = number; lines = lines }
 
 -- the file ends inside a message
@@ -78,20 +77,20 @@ cut-at_once before bytes some one = (
 
 -- a message was read whole
 pub message-whole : (bytes line rest more : List ℕ) (lines : List (List ℕ)) (message : MessageView) (subject number : ℕ) → bytes ≡ line ++ (10 ∷ rest) → line ≡ heading subject number
-    → rest ≡ text_of lines ++ (59 ∷ (10 ∷ more)) → message.identity.b2.byte ≡ subject → message.identity.number ≡ number → message.lines ≡ lines → bytes ≡ spelling (entry_of message) ++ more
+    → rest ≡ text_of lines ++ (59 ∷ (10 ∷ more)) → message.identity.b2.byte ≡ subject → message.identity.number ≡ number → message.lines ≡ lines → bytes ≡ spelling (file_message_of message) ++ more
 message-whole bytes line rest more lines message subject number h k t s n l =
     h ∙ ap (λ x. x ++ (10 ∷ rest)) k ∙ ap (λ x. heading subject number ++ (10 ∷ x)) t
     ∙ ap (λ x. heading x number ++ (10 ∷ (text_of lines ++ (59 ∷ (10 ∷ more))))) (sym s)
     ∙ ap (λ x. heading message.identity.b2.byte x ++ (10 ∷ (text_of lines ++ (59 ∷ (10 ∷ more))))) (sym n)
     ∙ ap (λ x. heading message.identity.b2.byte message.identity.number ++ (10 ∷ (text_of x ++ (59 ∷ (10 ∷ more))))) (sym l)
-    ∙ sym (spelling-line (entry_of message) more)
+    ∙ sym (spelling-line (file_message_of message) more)
 
 -- a message was read whole, and its lines have a fault
 pub message-bad : (before : ℕ) (bytes line rest more : List ℕ) (lines : List (List ℕ)) (subject number : ℕ) (fault : MessageFault) → bytes ≡ line ++ (10 ∷ rest) → line ≡ heading subject number
     → rest ≡ text_of lines ++ (59 ∷ (10 ∷ more)) → IsNamed subject number → AllByRecursion IsInside lines → IsMessageFault lines fault → IsOfLines fault
     → IsFirstFault before bytes (bad_text (before + 1) fault)
 message-bad before bytes line rest more lines subject number fault h k t named inside faulty of_lines =
-    let entry : Entry = record { subject = subject; number = number; lines = lines } in (
+    let entry : FileMessage = record { subject = subject; number = number; lines = lines } in (
       refl,
       record {
         entry = entry;
@@ -114,7 +113,7 @@ text-explains before bytes line rest more lines subject number message.LongText 
 
 -- ---- whole files
 
-pub file-explains : (file rest : List ℕ) (entries : List Entry) (before : ℕ) (fault : SendRunFault) → file ≡ file_of entries ++ rest → AllByRecursion IsEntry entries → before ≡ lines_of entries
+pub file-explains : (file rest : List ℕ) (entries : List FileMessage) (before : ℕ) (fault : SendRunFault) → file ≡ file_of entries ++ rest → AllByRecursion IsFileMessage entries → before ≡ lines_of entries
     → ExplainsFirst before rest fault → ExplainsFile file fault
 file-explains file rest entries before (BadLine line) h each e first = record { entries = entries; rest = rest; whole = h; each = each; first = subst (λ n. IsFirstFault n rest (bad_line line)) e first }
 file-explains file rest entries before (Text line fault) h each e first = record { entries = entries; rest = rest; whole = h; each = each; first = subst (λ n. IsFirstFault n rest (bad_text line fault)) e first }
@@ -126,12 +125,12 @@ file-explains file rest entries before FileTooLong h each e first = absurd first
 file-explains file rest entries before (Send refused) h each e first = absurd first
 file-explains file rest entries before (Write written) h each e first = absurd first
 
-pub file-more : (file rest more : List ℕ) (entries : List Entry) (entry : Entry) → file ≡ file_of entries ++ rest → rest ≡ spelling entry ++ more → file ≡ file_of (entries ++ (entry ∷ [])) ++ more
+pub file-more : (file rest more : List ℕ) (entries : List FileMessage) (entry : FileMessage) → file ≡ file_of entries ++ rest → rest ≡ spelling entry ++ more → file ≡ file_of (entries ++ (entry ∷ [])) ++ more
 file-more file rest more entries entry h k =
     h ∙ ap (λ l. file_of entries ++ l) k ∙ sym (append_assoc (file_of entries) (spelling entry) more)
     ∙ ap (λ l. l ++ more) (ap (λ l. file_of entries ++ l) (sym (append-nil (spelling entry))) ∙ sym (flat_map-append spelling entries (entry ∷ [])))
 
-pub entries-more : (entries : List Entry) (entry : Entry) → AllByRecursion IsEntry entries → IsEntry entry → AllByRecursion IsEntry (entries ++ (entry ∷ []))
+pub entries-more : (entries : List FileMessage) (entry : FileMessage) → AllByRecursion IsFileMessage entries → IsFileMessage entry → AllByRecursion IsFileMessage (entries ++ (entry ∷ []))
 entries-more [] entry h k = (k, tt)
 entries-more (e ∷ entries) entry h k = (h.0, entries-more entries entry h.1 k)
 
@@ -140,7 +139,7 @@ pub of_station-more : (station : ℕ) (messages : List MessageView) (message : M
 of_station-more station [] message h k = (k, tt)
 of_station-more station (m ∷ messages) message h k = (h.0, of_station-more station messages message h.1 k)
 
-pub lines-more : (entries : List Entry) (entry : Entry) → lines_of (entries ++ (entry ∷ [])) ≡ lines_of entries + (2 + length entry.lines)
+pub lines-more : (entries : List FileMessage) (entry : FileMessage) → lines_of (entries ++ (entry ∷ [])) ≡ lines_of entries + (2 + length entry.lines)
 lines-more [] entry = omega arith
 lines-more (e ∷ entries) entry = omega (arith, lines-more entries entry)
 
@@ -149,11 +148,11 @@ text-long [] = omega arith
 text-long (line ∷ lines) = omega (arith, text-long lines, length-append (line ++ (10 ∷ [])) (text_of lines), length-append line (10 ∷ []))
 
 -- a message has at least as many bytes as lines
-pub spelling-long : (entry : Entry) → 2 + length entry.lines < length (spelling entry)
+pub spelling-long : (entry : FileMessage) → 2 + length entry.lines < length (spelling entry)
 spelling-long entry = omega (arith, text-long entry.lines, length-append (opening entry) (59 ∷ (10 ∷ [])), length-append (heading entry.subject entry.number) (10 ∷ text_of entry.lines))
 
-pub file-whole : (file rest : List ℕ) (messages : List MessageView) → file ≡ file_of (map entry_of messages) ++ rest → rest ≡ [] → AllByRecursion IsEntry (map entry_of messages) → IsMessageFile file (map entry_of messages)
-file-whole file rest messages h none each = record { whole = h ∙ ap (λ l. file_of (map entry_of messages) ++ l) none ∙ append-nil (file_of (map entry_of messages)); each = each }
+pub file-whole : (file rest : List ℕ) (messages : List MessageView) → file ≡ file_of (map file_message_of messages) ++ rest → rest ≡ [] → AllByRecursion IsFileMessage (map file_message_of messages) → IsMessageFile file (map file_message_of messages)
+file-whole file rest messages h none each = record { whole = h ∙ ap (λ l. file_of (map file_message_of messages) ++ l) none ∙ append-nil (file_of (map file_message_of messages)); each = each }
 
 pub none-left : (rest : List ℕ) → length rest ≡ 0 → rest ≡ []
 none-left [] h = refl

@@ -1,12 +1,10 @@
 -- What the head and the end of a message print.
-use Rattle.std.proofs.Common.{◌≡◌, ℕ, ◌+◌, ◌-◌, ◌/◌, ◌%◌, ◌<◌, ◌≤◌, Bool, true, false, ◌&&◌, eqb, ltb, List, [], ◌∷◌, ◌++◌, length, map, Option, Some, None, refl, sym, ap, ◌∙◌, subst, arith, get_or}
-use Rattle.std.specs.Option.{option_to_list}
+use Rattle.std.proofs.Common.{◌≡◌, ℕ, ◌+◌, ◌-◌, ◌<◌, ◌≤◌, Bool, true, false, ◌&&◌, eqb, ltb, Option, Some, None, refl, sym, ap, subst, arith}
 use Rattle.std.proofs.lemmas.Bool.{agree_below_at, eqb-true, ltb-true, and_parts}
 use Rattle.nx_code.specs.Table.{table, row_of}
-use Rattle.nx_code.specs.Reading.{Reception, combination, character_of, shift_after, shift_after_all, text}
-use Rattle.nx_code.specs.declared.shifts.Shift.{Shift}
+use Rattle.nx_code.specs.Reading.{character_of}
 use Rattle.nx_code.specs.declared.shifts.Shift.TheVariants.{Letters, Figures}
-use Rattle.nx_station.specs.Broadcast.{digit_combination, letter_combination, head, ending}
+use Rattle.nx_station.specs.Broadcast.{digit_combination, letter_combination}
 
 -- this is printed
 abbrev is_printed : Option ℕ → ℕ → Bool

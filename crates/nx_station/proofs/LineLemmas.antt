@@ -1,14 +1,13 @@
 -- The lines of a message file, one after the other.
-use Rattle.std.proofs.Common.{◌≡◌, ◌≢◌, ℕ, ◌+◌, ◌-◌, ◌/◌, ◌%◌, ◌<◌, ◌≤◌, suc, true, false, List, [], ◌∷◌, ◌++◌, length, take, drop, get_or, Option, Some, None, refl, sym, ap, ◌∙◌, subst, inl, inr, append_assoc, append-nil, arith, eqb}
-use Rattle.std.specs.List.{flat_map, AllByRecursion, position}
+use Rattle.std.proofs.Common.{◌≡◌, ℕ, ◌+◌, ◌/◌, ◌%◌, ◌≤◌, false, List, [], ◌∷◌, ◌++◌, refl, sym, ◌∙◌, subst, append_assoc, arith}
+use Rattle.std.specs.List.{AllByRecursion}
 use Rattle.std.specs.Prelude.{All}
-use Rattle.std.proofs.lemmas.Bool.{eqb-true, false≢true}
-use Rattle.std.proofs.lemmas.List.{take-append-drop}
+use Rattle.std.proofs.lemmas.Bool.{false≢true}
 use Rattle.std.proofs.lemmas.List.Elements.{recursion_from_All}
 use Rattle.nx_code.specs.Characters.{is_in_code, characters}
 use Rattle.nx_envelope.specs.Digits.{two_digits}
-use Rattle.nx_envelope.specs.Message.{AreLines, IsLine, IsLineByte, text_of}
-use Rattle.nx_station.specs.MessageFile.{Entry, IsOneLine, IsInside, IsNamed, IsEntry, IsBegun, heading, closing, opening, spelling}
+use Rattle.nx_envelope.specs.Message.{IsLine, IsLineByte, text_of}
+use Rattle.nx_station.specs.MessageFile.{FileMessage, IsOneLine, IsInside, IsNamed, IsFileMessage, IsBegun, heading, closing, opening, spelling}
 
 -- ---- lines that are ended by a line feed
 
@@ -113,13 +112,13 @@ lines-inside : (lines : List (List ℕ)) → AllByRecursion IsLine lines → All
 lines-inside [] h = tt
 lines-inside (line ∷ lines) h = (line-IsInside line h.0, lines-inside lines h.1)
 
-pub IsEntry-IsBegun : (entry : Entry) → IsEntry entry → IsBegun entry
-IsEntry-IsBegun entry h = record { named = h.named; lines = lines-inside entry.lines (recursion_from_All IsLine entry.lines h.lines.each) }
+pub IsFileMessage-IsBegun : (entry : FileMessage) → IsFileMessage entry → IsBegun entry
+IsFileMessage-IsBegun entry h = record { named = h.named; lines = lines-inside entry.lines (recursion_from_All IsLine entry.lines h.lines.each) }
 
 -- ---- where the bytes of an entry stand
 
-pub opening-line : (entry : Entry) (rest : List ℕ) → opening entry ++ rest ≡ heading entry.subject entry.number ++ (10 ∷ (text_of entry.lines ++ rest))
+pub opening-line : (entry : FileMessage) (rest : List ℕ) → opening entry ++ rest ≡ heading entry.subject entry.number ++ (10 ∷ (text_of entry.lines ++ rest))
 opening-line entry rest = refl
 
-pub spelling-line : (entry : Entry) (rest : List ℕ) → spelling entry ++ rest ≡ heading entry.subject entry.number ++ (10 ∷ (text_of entry.lines ++ (59 ∷ (10 ∷ rest))))
+pub spelling-line : (entry : FileMessage) (rest : List ℕ) → spelling entry ++ rest ≡ heading entry.subject entry.number ++ (10 ∷ (text_of entry.lines ++ (59 ∷ (10 ∷ rest))))
 spelling-line entry rest = append_assoc (opening entry) (59 ∷ (10 ∷ [])) rest ∙ opening-line entry (59 ∷ (10 ∷ rest))

@@ -1,6 +1,5 @@
 -- What sending answers follows from what its steps said.
-use Rattle.std.proofs.Common.{◌≡◌, ◌≢◌, ℕ, ◌+◌, ◌<◌, ◌≤◌, ◌==◌, Bool, List, [], ◌∷◌, ◌++◌, length, map, not, get_or, Option, None, Some, Result, Ok, Err, true, false, refl, sym, ap, ◌∙◌, subst, arith}
-use Rattle.std.specs.List.{AllByRecursion, position}
+use Rattle.std.proofs.Common.{◌≡◌, ℕ, ◌≤◌, ◌==◌, Bool, List, [], ◌∷◌, ◌++◌, length, map, not, get_or, Option, Some, Result, Ok, Err, refl, sym, ap, ◌∙◌, subst, arith}
 use Rattle.std.proofs.lemmas.Bool.{false≢true, eq-eqb, not-true}
 use Rattle.std.proofs.lemmas.List.Elements.{All-from_recursion}
 use Rattle.std.proofs.lemmas.List.Quantifiers.{position-Some}
@@ -17,9 +16,9 @@ use Rattle.nx_fec.specs.declared.fault.ReadFault.{ReadFault}
 use Rattle.nx_fec.specs.declared.fault.ReadFault.TheVariants as read
 use Rattle.nx_fec.proofs.TransferLaws.{Reads-on}
 use Rattle.nx_station.specs.Broadcast.{IsBroadcast}
-use Rattle.nx_station.specs.Faults.{whole_fault, send_fault}
-use Rattle.nx_station.specs.MessageFile.{IsMessageFile, entry_of}
-use Rattle.nx_station.specs.Runs.{ExplainsFile, ExplainsRefusal, ExplainsSending, AnswersSending, IsTransmission, Sends}
+use Rattle.nx_station.specs.Faults.{read_fault, send_fault}
+use Rattle.nx_station.specs.MessageFile.{IsMessageFile, file_message_of}
+use Rattle.nx_station.specs.Runs.{ExplainsFile, ExplainsSending, IsTransmission, Sends}
 use Rattle.nx_station.specs.Sendable.{AreOf, IsRefusal, IsSendable, first_of_another}
 use Rattle.nx_station.specs.Slots.{HasSlots, IsNextSlot}
 use Rattle.nx_station.specs.declared.fault.SendFault.{SendFault}
@@ -56,27 +55,27 @@ write-read written e = cc
 -- ---- the file isn't read whole
 
 whole-explains : (AtEnd : Type 0) (station from : ℕ) (bytes : List ℕ) (old new : Option (List ℕ)) (why : ReadFault) → ExplainsWhole 1048576 bytes why
-    → ExplainsSending AtEnd 1048576 station from bytes old new (whole_fault why)
+    → ExplainsSending AtEnd 1048576 station from bytes old new (read_fault why)
 whole-explains AtEnd station from bytes old new read.Read h = tt
 whole-explains AtEnd station from bytes old new read.FileTooLong h = h
 whole-explains AtEnd station from bytes old new (read.Memory error) h = tt
 
-whole-read : {N : Type 0} (why : ReadFault) → ◌≡◌ {A = Result Sent SendRunFault} (Err (whole_fault why)) (Err Read) → ◌≡◌ {A = Result N ReadFault} (Err why) (Err read.Read)
+whole-read : {N : Type 0} (why : ReadFault) → ◌≡◌ {A = Result Sent SendRunFault} (Err (read_fault why)) (Err Read) → ◌≡◌ {A = Result N ReadFault} (Err why) (Err read.Read)
 whole-read read.Read e = refl
 whole-read read.FileTooLong e = cc
 whole-read (read.Memory error) e = cc
 
-read-whole : {N : Type 0} (why : ReadFault) → ◌≡◌ {A = Result N ReadFault} (Err why) (Err read.Read) → ◌≡◌ {A = Result Sent SendRunFault} (Err (whole_fault why)) (Err Read)
-read-whole why e = let same : why ≡ read.Read = cc in ap (λ w. Err (whole_fault w)) same
+read-whole : {N : Type 0} (why : ReadFault) → ◌≡◌ {A = Result N ReadFault} (Err why) (Err read.Read) → ◌≡◌ {A = Result Sent SendRunFault} (Err (read_fault why)) (Err Read)
+read-whole why e = let same : why ≡ read.Read = cc in ap (λ w. Err (read_fault w)) same
 
-whole-write : (why : ReadFault) (written : ℕ) → ◌≡◌ {A = Result Sent SendRunFault} (Err (whole_fault why)) (Err (Write written)) → ⊥
+whole-write : (why : ReadFault) (written : ℕ) → ◌≡◌ {A = Result Sent SendRunFault} (Err (read_fault why)) (Err (Write written)) → ⊥
 whole-write read.Read written e = cc
 whole-write read.FileTooLong written e = cc
 whole-write (read.Memory error) written e = cc
 
 pub unread : {R W N : Type 0} (d : Devices R W) (station from : ℕ) (why : ReadFault)
     → Reads d.remaining d.reader d.reader_after read.Read (as_read {N = N} (Err why)) (λ bytes. ExplainsWhole 1048576 bytes why) (λ bytes. ExplainsWhole 1048576 bytes why)
-    → d.writer_after ≡ d.writer → d.writer.failures ≡ 0 → Sends d station from (Err (whole_fault why))
+    → d.writer_after ≡ d.writer → d.writer.failures ≡ 0 → Sends d station from (Err (read_fault why))
 unread d station from why reads same none = record {
   reads = Reads-on _ _ _ _ _ _ _ _ _ _ _ reads (λ bytes k. whole-explains _ station from bytes _ _ why k) (λ bytes k. whole-explains _ station from bytes _ _ why k) (whole-read why) (read-whole why);
   writes = record { failed = (λ w. absurd (whole-write why w.0 w.1), λ one. absurd (omega (arith, ap (λ x. x.failures) same, none, one))); once = omega (arith, ap (λ x. x.failures) same, none) };
@@ -141,7 +140,7 @@ same-station one other [] h k = absurd (h.some refl)
 same-station one other (m ∷ ms) h k = sym h.each.0 ∙ k.each.0
 
 pub refusal-explains : (AtEnd : Type 0) (station from slot : ℕ) (file : List ℕ) (messages : List MessageView) (old new : Option (List ℕ)) (why : SendFault) → AtEnd → length file ≤ 1048576
-    → IsMessageFile file (map entry_of messages) → AreOf station messages → IsNextSlot station from slot → IsRefusal messages why → ExplainsSending AtEnd 1048576 station from file old new (send_fault why)
+    → IsMessageFile file (map file_message_of messages) → AreOf station messages → IsNextSlot station from slot → IsRefusal messages why → ExplainsSending AtEnd 1048576 station from file old new (send_fault why)
 refusal-explains AtEnd station from slot file messages old new refusal.NoMessages end few is of next h = absurd (of.some h)
 refusal-explains AtEnd station from slot file messages old new (refusal.MixedStations at) end few is of next h = absurd (of_one-None station messages at of h)
 refusal-explains AtEnd station from slot file messages old new refusal.NoSlot end few is of next h =
@@ -183,12 +182,12 @@ refusal-inside (refusal.Memory error) = tt
 -- ---- what is sent
 
 pub transmission-of : (station from slot : ℕ) (file given : List ℕ) (messages shown : List MessageView) (positions : List SentPosition) (line : List ℕ) (bits : List Bool) (count all : ℕ)
-    → given ≡ file → shown ≡ messages → IsMessageFile given (map entry_of messages) → AreOf station messages → IsSendable shown → IsNextSlot station from slot → IsBroadcast shown positions
+    → given ≡ file → shown ≡ messages → IsMessageFile given (map file_message_of messages) → AreOf station messages → IsSendable shown → IsNextSlot station from slot → IsBroadcast shown positions
     → line ≡ line_bytes (moment slot) → bits ≡ bits_of (emission positions) → count ≡ length positions → all ≡ length messages
     → IsTransmission station from file (line ++ file_of (bit_lines bits)) record { slot = slot; positions = count; messages = all }
 transmission-of station from slot file given messages shown positions line bits count all same alike is of sendable next broadcast spelled sounds counted whole = record {
   messages = messages;
-  is_file = subst (λ l. IsMessageFile l (map entry_of messages)) same is;
+  is_file = subst (λ l. IsMessageFile l (map file_message_of messages)) same is;
   of_station = of;
   sendable = subst IsSendable alike sendable;
   next = next;

@@ -60,14 +60,14 @@ AreSpelled (message ∷ messages) [] = ⊥
 AreSpelled (message ∷ messages) (numbers ∷ spellings) = IsSpelled message numbers × AreSpelled messages spellings
 
 -- positions of phasing, so many, and after them a message
-abbrev pub phased : ℕ → List ℕ → List SentPosition
-phased count numbers = replicate count phasing_position ++ map traffic_position numbers
+abbrev pub phasing_and_message : ℕ → List ℕ → List SentPosition
+phasing_and_message count numbers = replicate count phasing_position ++ map traffic_position numbers
 
 -- the positions in which spelled messages are sent: 72 of phasing and the first message, before each further message 36
 -- of phasing, and three of the end
 unfoldable pub layout : List (List ℕ) → List SentPosition
 layout [] = []
-layout (numbers ∷ spellings) = phased 72 numbers ++ (flat_map (phased 36) spellings ++ replicate 3 end_position)
+layout (numbers ∷ spellings) = phasing_and_message 72 numbers ++ (flat_map (phasing_and_message 36) spellings ++ replicate 3 end_position)
 
 -- the positions of a list of messages
 pub record IsBroadcast (messages : List MessageView) (positions : List SentPosition) : Type 0 where

@@ -10,10 +10,10 @@ use Rattle.nx_station.specs.declared.fault.SendRunFault.{SendRunFault}
 use Rattle.nx_station.specs.declared.fault.SendRunFault.TheVariants.{Read, FileTooLong, Text, Send, Memory}
 
 -- for the fault of reading a file whole
-abbrev pub whole_fault : ReadFault → SendRunFault
-whole_fault read.Read = Read
-whole_fault read.FileTooLong = FileTooLong
-whole_fault (read.Memory error) = Memory error
+abbrev pub read_fault : ReadFault → SendRunFault
+read_fault read.Read = Read
+read_fault read.FileTooLong = FileTooLong
+read_fault (read.Memory error) = Memory error
 
 -- for the fault of an emission
 abbrev pub send_fault : SendFault → SendRunFault

@@ -9,14 +9,14 @@ use Rattle.nx_envelope.specs.declared.message.MessageFault.{MessageFault}
 use Rattle.nx_envelope.specs.declared.message.MessageFault.TheVariants as message
 
 -- what a message file says of a message; the station comes from elsewhere
-pub record Entry : Type 0 where
+pub record FileMessage : Type 0 where
   pub subject : ℕ
   pub number : ℕ
   pub lines : List (List ℕ)
 
 -- what a file says of this message
-abbrev pub entry_of : MessageView → Entry
-entry_of message = record { subject = message.identity.b2.byte; number = message.identity.number; lines = message.lines }
+abbrev pub file_message_of : MessageView → FileMessage
+file_message_of message = record { subject = message.identity.b2.byte; number = message.identity.number; lines = message.lines }
 
 -- the byte that ends each line
 abbrev pub line_feed : ℕ
@@ -31,15 +31,15 @@ abbrev pub closing : List ℕ
 closing = 59 ∷ []
 
 -- the lines of a message up to the last line of its text
-abbrev pub opening : Entry → List ℕ
+abbrev pub opening : FileMessage → List ℕ
 opening entry = heading entry.subject entry.number ++ line_feed ∷ text_of entry.lines
 
 -- all lines of a message
-abbrev pub spelling : Entry → List ℕ
+abbrev pub spelling : FileMessage → List ℕ
 spelling entry = opening entry ++ (closing ++ line_feed ∷ [])
 
 -- the file of these messages
-abbrev pub file_of : List Entry → List ℕ
+abbrev pub file_of : List FileMessage → List ℕ
 file_of entries = flat_map spelling entries
 
 -- a subject is a letter, and a number has two digits
@@ -48,14 +48,14 @@ pub record IsNamed (subject number : ℕ) : Type 0 where
   pub two_digits : number ≤ 99
 
 -- a message: its lines are those of a message
-pub record IsEntry (entry : Entry) : Type 0 where
+pub record IsFileMessage (entry : FileMessage) : Type 0 where
   pub named : IsNamed entry.subject entry.number
   pub lines : AreLines entry.lines
 
 -- the file of these bytes is these messages
-pub record IsMessageFile (bytes : List ℕ) (entries : List Entry) : Type 0 where
+pub record IsMessageFile (bytes : List ℕ) (entries : List FileMessage) : Type 0 where
   pub whole : bytes ≡ file_of entries
-  pub each : AllByRecursion IsEntry entries
+  pub each : AllByRecursion IsFileMessage entries
 
 -- bytes without a line feed
 abbrev pub IsOneLine : List ℕ → Type 0
@@ -67,20 +67,20 @@ pub record IsInside (line : List ℕ) : Type 0 where
   pub goes_on : line ≢ closing
 
 -- the beginning of a message that isn't ended: its lines are any that don't end it
-pub record IsBegun (entry : Entry) : Type 0 where
+pub record IsBegun (entry : FileMessage) : Type 0 where
   pub named : IsNamed entry.subject entry.number
   pub lines : AllByRecursion IsInside entry.lines
 
 -- the bytes of the beginning of a message, if there is one, and how many lines they are
-abbrev pub begun : Option Entry → List ℕ
-begun None = []
-begun (Some entry) = opening entry
+abbrev pub bytes_begun : Option FileMessage → List ℕ
+bytes_begun None = []
+bytes_begun (Some entry) = opening entry
 
-abbrev pub lines_begun : Option Entry → ℕ
+abbrev pub lines_begun : Option FileMessage → ℕ
 lines_begun None = 0
 lines_begun (Some entry) = 1 + length entry.lines
 
-abbrev pub IsBegunIf : Option Entry → Type 0
+abbrev pub IsBegunIf : Option FileMessage → Type 0
 IsBegunIf None = Unit {0}
 IsBegunIf (Some entry) = IsBegun entry
 
@@ -94,7 +94,7 @@ pub record IsBadLine (bytes : List ℕ) : Type 0 where
 
 -- a message that is ended, and whose lines have a fault
 pub record IsBadText (bytes : List ℕ) (fault : MessageFault) : Type 0 where
-  pub entry : Entry
+  pub entry : FileMessage
   pub more : List ℕ
   pub whole : bytes ≡ spelling entry ++ more
   pub begun : IsBegun entry
@@ -102,9 +102,9 @@ pub record IsBadText (bytes : List ℕ) (fault : MessageFault) : Type 0 where
 
 -- the file ends inside a line, which stands behind so many others
 pub record IsCut (bytes : List ℕ) (behind : ℕ) : Type 0 where
-  pub before : Option Entry
+  pub before : Option FileMessage
   pub line : List ℕ
-  pub whole : bytes ≡ begun before ++ line
+  pub whole : bytes ≡ bytes_begun before ++ line
   pub sound : IsBegunIf before
   pub one_line : IsOneLine line
   pub some : line ≢ []
@@ -112,7 +112,7 @@ pub record IsCut (bytes : List ℕ) (behind : ℕ) : Type 0 where
 
 -- the file ends inside a message
 pub record IsOpen (bytes : List ℕ) : Type 0 where
-  pub entry : Entry
+  pub entry : FileMessage
   pub whole : bytes ≡ opening entry
   pub begun : IsBegun entry
 
@@ -141,14 +141,14 @@ IsFirstFault before bytes (line_cut line) = (behind : ℕ) × (line ≡ before +
 IsFirstFault before bytes (not_ended line) = (line ≡ before + 1) × IsOpen bytes
 
 -- how many lines messages have in a file
-abbrev pub lines_of : List Entry → ℕ
+abbrev pub lines_of : List FileMessage → ℕ
 lines_of [] = 0
 lines_of (entry ∷ entries) = (2 + length entry.lines) + lines_of entries
 
 -- The file of these bytes has this fault. Good messages stand before it, so it is the first.
-pub record IsRefused (bytes : List ℕ) (why : FileFault) : Type 0 where
-  pub entries : List Entry
+pub record HasFirstFault (bytes : List ℕ) (why : FileFault) : Type 0 where
+  pub entries : List FileMessage
   pub rest : List ℕ
   pub whole : bytes ≡ file_of entries ++ rest
-  pub each : AllByRecursion IsEntry entries
+  pub each : AllByRecursion IsFileMessage entries
   pub first : IsFirstFault (lines_of entries) rest why

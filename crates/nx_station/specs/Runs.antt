@@ -10,7 +10,7 @@ use Rattle.nx_fec.specs.Lines.{file_of}
 use Rattle.nx_fec.specs.Runs.{file_limit}
 use Rattle.nx_fec.specs.Transfers.{Devices, IsReadOut, Transfers, at_the_end}
 use Rattle.nx_station.specs.Broadcast.{IsBroadcast}
-use Rattle.nx_station.specs.MessageFile.{IsMessageFile, IsFirstFault, IsRefused, bad_line, bad_text, line_cut, not_ended, entry_of}
+use Rattle.nx_station.specs.MessageFile.{IsMessageFile, IsFirstFault, HasFirstFault, bad_line, bad_text, line_cut, not_ended, file_message_of}
 use Rattle.nx_station.specs.Sendable.{AreOf, HavePositions, IsSendable, max_positions}
 use Rattle.nx_station.specs.Slots.{HasNoSlot, IsNextSlot}
 use Rattle.nx_station.specs.declared.fault.SendFault.{SendFault}
@@ -23,7 +23,7 @@ use Rattle.nx_station.specs.declared.sending.Sent.{Sent}
 -- is the moment at which the station's next slot begins, and the others are the elements of the emission.
 pub record IsTransmission (station from : ℕ) (file written : List ℕ) (sent : Sent) : Type 0 where
   pub messages : List MessageView
-  pub is_file : IsMessageFile file (map entry_of messages)
+  pub is_file : IsMessageFile file (map file_message_of messages)
   pub of_station : AreOf station messages
   pub sendable : IsSendable messages
   pub next : IsNextSlot station from sent.slot
@@ -36,14 +36,14 @@ pub record IsTransmission (station from : ℕ) (file written : List ℕ) (sent :
 -- the file has messages of that station, and it has no next slot
 pub record IsLate (station from : ℕ) (file : List ℕ) : Type 0 where
   pub messages : List MessageView
-  pub is_file : IsMessageFile file (map entry_of messages)
+  pub is_file : IsMessageFile file (map file_message_of messages)
   pub of_station : AreOf station messages
   pub none : HasNoSlot station from
 
 -- the file has messages of that station, which has a next slot, and they have so many positions, too many for it
 pub record IsTooLong (station from : ℕ) (file : List ℕ) (count : ℕ) : Type 0 where
   pub messages : List MessageView
-  pub is_file : IsMessageFile file (map entry_of messages)
+  pub is_file : IsMessageFile file (map file_message_of messages)
   pub of_station : AreOf station messages
   pub slot : ℕ
   pub next : IsNextSlot station from slot
@@ -69,10 +69,10 @@ ExplainsFirst before bytes _ = ⊥
 
 -- what a fault says of a whole message file
 abbrev pub ExplainsFile : List ℕ → SendRunFault → Type 0
-ExplainsFile file (BadLine line) = IsRefused file (bad_line line)
-ExplainsFile file (Text line fault) = IsRefused file (bad_text line fault)
-ExplainsFile file (LineCut line) = IsRefused file (line_cut line)
-ExplainsFile file (Open line) = IsRefused file (not_ended line)
+ExplainsFile file (BadLine line) = HasFirstFault file (bad_line line)
+ExplainsFile file (Text line fault) = HasFirstFault file (bad_text line fault)
+ExplainsFile file (LineCut line) = HasFirstFault file (line_cut line)
+ExplainsFile file (Open line) = HasFirstFault file (not_ended line)
 ExplainsFile file (Memory error) = ⊤
 ExplainsFile file _ = ⊥
 

@@ -7,7 +7,7 @@ ghost use Rattle.nx_code.specs.declared.shifts.Shift.TheVariants.{Figures};
 ghost use Rattle.nx_envelope.specs.Message.{AreLines, text_of};
 ghost use Rattle.nx_envelope.specs.MessageView.{MessageView};
 ghost use Rattle.nx_fec.specs.Emission.{sent_position, traffic_position};
-ghost use Rattle.nx_station.specs.Broadcast.{IsBroadcast, IsExtent, IsSpelled, ending, phased};
+ghost use Rattle.nx_station.specs.Broadcast.{IsBroadcast, IsExtent, IsSpelled, ending, phasing_and_message};
 ghost use Rattle.nx_station.specs.Sendable.{AreOf, HavePositions, IsRefusal, IsSendable};
 ghost use Rattle.nx_station.specs.Slots.{HasSlots};
 
@@ -161,7 +161,7 @@ fn push_message(
     message: &Message,
 ) -> Result<(), AllocError>
     ensures { OnOk result ((numbers : List ℕ) × IsSpelled message.now numbers
-        × (map sent_position positions.new.items ≡ map sent_position positions.old.items ++ phased phasing numbers)) }
+        × (map sent_position positions.new.items ≡ map sent_position positions.old.items ++ phasing_and_message phasing numbers)) }
 {
     push_many(positions, phasing, Position::Phasing)?;
     push_combs(positions, &head_of(message.identity()))?;

@@ -69,9 +69,9 @@ impl From<AllocError> for SendRunFault {
 
 impl From<ReadFault> for SendRunFault {
     ghost use Rattle.std.specs.Prelude.{◌≡◌};
-    ghost use Rattle.nx_station.specs.Faults.{whole_fault};
+    ghost use Rattle.nx_station.specs.Faults.{read_fault};
 
-    ghost from_gives = { λ fault made. made ≡ whole_fault fault };
+    ghost from_gives = { λ fault made. made ≡ read_fault fault };
 
     fn from(fault: ReadFault) -> SendRunFault {
         match fault {

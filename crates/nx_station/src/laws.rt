@@ -8,18 +8,18 @@ ghost use Rattle.nx_envelope.specs.Message.{AreLines};
 ghost use Rattle.nx_envelope.specs.MessageView.{MessageView};
 ghost use Rattle.nx_fec.specs.Emission.{SentPosition, reception};
 ghost use Rattle.nx_station.specs.Broadcast.{IsBroadcast, IsSpelled, printed_text};
-ghost use Rattle.nx_station.specs.MessageFile.{Entry, FileFault, IsMessageFile, IsRefused};
+ghost use Rattle.nx_station.specs.MessageFile.{FileMessage, FileFault, IsMessageFile, HasFirstFault};
 
 /// A message file has one spelling, and one list of messages.
 pub fn a_message_file_has_one_reading()
-    ensures spelling { (one other : List ℕ) (entries : List Entry) → IsMessageFile one entries → IsMessageFile other entries → one ≡ other }
-    ensures list { (bytes : List ℕ) (one other : List Entry) → IsMessageFile bytes one → IsMessageFile bytes other → one ≡ other }
+    ensures spelling { (one other : List ℕ) (entries : List FileMessage) → IsMessageFile one entries → IsMessageFile other entries → one ≡ other }
+    ensures list { (bytes : List ℕ) (one other : List FileMessage) → IsMessageFile bytes one → IsMessageFile bytes other → one ≡ other }
 {}
 
 /// A file has one outcome: its messages, or one fault.
 pub fn a_file_has_one_outcome()
-    ensures messages { (bytes : List ℕ) (entries : List Entry) (why : FileFault) → IsMessageFile bytes entries → IsRefused bytes why → ⊥ }
-    ensures fault { (bytes : List ℕ) (one other : FileFault) → IsRefused bytes one → IsRefused bytes other → one ≡ other }
+    ensures messages { (bytes : List ℕ) (entries : List FileMessage) (why : FileFault) → IsMessageFile bytes entries → HasFirstFault bytes why → ⊥ }
+    ensures fault { (bytes : List ℕ) (one other : FileFault) → HasFirstFault bytes one → HasFirstFault bytes other → one ≡ other }
 {}
 
 /// What is sent of a message reads back: its header, a newline, its text, NNNN and two newlines, from whatever shift. It

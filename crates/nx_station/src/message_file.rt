@@ -4,7 +4,7 @@ ghost use Rattle.std.specs.List.{AllByRecursion};
 ghost use Rattle.nx_envelope.specs.Message.{text_of};
 ghost use Rattle.nx_envelope.specs.MessageView.{MessageView};
 ghost use Rattle.nx_station.specs.Faults.{text_fault};
-ghost use Rattle.nx_station.specs.MessageFile.{IsEntry, IsInside, IsMessageFile, IsNamed, IsOneLine, entry_of, heading, spelling};
+ghost use Rattle.nx_station.specs.MessageFile.{IsFileMessage, IsInside, IsMessageFile, IsNamed, IsOneLine, file_message_of, heading, spelling};
 ghost use Rattle.nx_station.specs.Runs.{ExplainsFile, ExplainsFirst};
 
 use crate::fault::SendRunFault;
@@ -36,7 +36,7 @@ pub(crate) fn messages_in(
     station: Letter,
     file: &[u8],
 ) -> Result<Vec<Message>, SendRunFault>
-    ensures messages { IfOk result (λ messages. IsMessageFile file.now (map entry_of messages.items)) }
+    ensures messages { IfOk result (λ messages. IsMessageFile file.now (map file_message_of messages.items)) }
     ensures station { IfOk result (λ messages.
         AllByRecursion (λ (message : MessageView). message.identity.b1.byte ≡ station.byte) messages.items) }
     ensures fault { IfErr result (ExplainsFile file.now) }
@@ -64,8 +64,8 @@ fn first_message<'a>(
 ) -> Result<Part<'a>, SendRunFault>
     requires some { 0 < length bytes.now }
     requires room { before + length bytes.now < 2 ^ 64 - 1 }
-    ensures whole { IfOk result (λ part. bytes.now ≡ spelling (entry_of part.message) ++ part.rest.now) }
-    ensures sound { IfOk result (λ part. IsEntry (entry_of part.message)) }
+    ensures whole { IfOk result (λ part. bytes.now ≡ spelling (file_message_of part.message) ++ part.rest.now) }
+    ensures sound { IfOk result (λ part. IsFileMessage (file_message_of part.message)) }
     ensures station { IfOk result (λ part. part.message.identity.b1.byte ≡ station.byte) }
     ensures lines { IfOk result (λ part. part.lines ≡ 2 + length part.message.lines) }
     ensures fault { IfErr result (ExplainsFirst before bytes.now) }

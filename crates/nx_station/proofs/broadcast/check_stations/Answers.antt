@@ -1,4 +1,4 @@
-use Rattle.std.proofs.Common.{◌≡◌, Some, ap, ◌∙◌, sym}
+use Rattle.std.proofs.Common.{ap, ◌∙◌, sym}
 use Rattle.std.proofs.lemmas.Bool.{false≢true}
 use Rattle.nx_station.proofs.StationLemmas.{another-found, all-same, none_of}
 use Rattle.nx_station.proofs.broadcast.check_stations.Goals as goal

@@ -1,6 +1,5 @@
-use Rattle.std.proofs.Common.{◌+◌, ◌≤◌, ◌++◌, length, length-append, ap, ◌∙◌, sym, arith, refl}
-use Rattle.nx_station.specs.Broadcast.{head, ending}
-use Rattle.nx_station.proofs.BroadcastLemmas.{length-head, length-ending, spelled-of}
+use Rattle.std.proofs.Common.{arith}
+use Rattle.nx_station.proofs.BroadcastLemmas.{length-ending, spelled-of}
 use Rattle.nx_station.proofs.broadcast.count_combs.Goals as goal
 
 pub overflow_add-result-2 : goal.overflow_add-result-2

@@ -1,4 +1,4 @@
-use Rattle.std.proofs.Common.{◌++◌, ◌∷◌, [], ◌∙◌, ap, sym, arith}
+use Rattle.std.proofs.Common.{◌++◌, ◌∷◌, [], arith}
 use Rattle.nx_station.proofs.BroadcastLemmas.{total-push, more-spelled, more-sound, all-sound, counted-all}
 use Rattle.nx_station.proofs.broadcast.count_positions.Goals as goal
 

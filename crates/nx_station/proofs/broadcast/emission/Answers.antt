@@ -1,4 +1,3 @@
-use Rattle.std.proofs.Common.{arith}
 use Rattle.nx_station.proofs.broadcast.emission.Goals as goal
 
 pub count_positions-count-requires : goal.count_positions-count-requires

@@ -1,6 +1,5 @@
-use Rattle.std.proofs.Common.{◌++◌, ◌∷◌, [], length, length-append, sym, subst, arith, take, refl}
+use Rattle.std.proofs.Common.{◌++◌, ◌∷◌, [], length-append, arith, take}
 use Rattle.nx_envelope.specs.Message.{text_of}
-use Rattle.nx_station.specs.Broadcast.{IsExtent}
 use Rattle.nx_station.proofs.BroadcastLemmas.{IsExtent-line}
 use Rattle.nx_station.proofs.broadcast.extent_of_text.Goals as goal
 

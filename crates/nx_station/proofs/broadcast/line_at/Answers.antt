@@ -1,5 +1,4 @@
-use Rattle.std.proofs.Common.{◌≡◌, ◌+◌, ◌++◌, ◌∷◌, List, ℕ, [], Some, length, get_or, take, ap, ◌∙◌, sym, arith}
-use Rattle.std.specs.Option.{option_copied}
+use Rattle.std.proofs.Common.{◌+◌, [], ◌∙◌}
 use Rattle.std.proofs.lemmas.Option.{slice_get-get_or}
 use Rattle.nx_station.proofs.BroadcastLemmas.{line-in_code, text-line, text-few}
 use Rattle.nx_station.proofs.broadcast.line_at.Goals as goal

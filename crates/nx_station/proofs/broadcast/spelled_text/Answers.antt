@@ -1,4 +1,4 @@
-use Rattle.std.proofs.Common.{◌≡◌, ap, ◌∙◌, Err, subst, sym}
+use Rattle.std.proofs.Common.{ap, ◌∙◌, Err}
 use Rattle.nx_station.proofs.BroadcastLemmas.{all-in_code, text-in_code}
 use Rattle.nx_station.proofs.broadcast.spelled_text.Goals as goal
 

@@ -1,4 +1,4 @@
-use Rattle.std.proofs.Common.{◌≡◌, ◌≤◌, ℕ, Option, Some, None, refl, arith}
+use Rattle.std.proofs.Common.{Option, Some, None, refl, arith}
 use Rattle.std.specs.Option.{IsSome, IsSomeAnd}
 use Rattle.nx_code.specs.declared.shifts.Shift.TheVariants.{Figures}
 use Rattle.nx_station.specs.Broadcast.{digit_combination}

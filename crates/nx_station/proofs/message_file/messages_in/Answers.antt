@@ -1,6 +1,6 @@
-use Rattle.std.proofs.Common.{◌≡◌, ◌++◌, ◌∷◌, [], ◌∙◌, ap, map, length, length-append, subst, sym, arith}
+use Rattle.std.proofs.Common.{◌≡◌, ◌++◌, ◌∷◌, [], ◌∙◌, ap, map, length, length-append, arith}
 use Rattle.std.proofs.lemmas.List.{map-append}
-use Rattle.nx_station.specs.MessageFile.{entry_of, file_of, spelling}
+use Rattle.nx_station.specs.MessageFile.{file_message_of, spelling}
 use Rattle.nx_station.proofs.FileReading.{file-more, entries-more, of_station-more, lines-more, spelling-long}
 use Rattle.nx_station.proofs.message_file.messages_in.Goals as goal
 
@@ -8,12 +8,12 @@ pub loop-rest-preserved : goal.loop-rest-preserved
 loop-rest-preserved c =
     let before = c.loop-rest.invariant in
     let part = c.in_ok-part.part in
-    let old = map entry_of c.loop-rest.messages.items in
-    let entry = entry_of part.message in
+    let old = map file_message_of c.loop-rest.messages.items in
+    let entry = file_message_of part.message in
     let pushed = c.in_default.ensures.items in
     let long = spelling-long entry in
     let taken = c.in_ok-part.ensures.whole in
-    let items : map entry_of c.push.new.self.items ≡ old ++ (entry ∷ []) = ap (map entry_of) pushed ∙ map-append entry_of c.loop-rest.messages.items (part.message ∷ []) in
+    let items : map file_message_of c.push.new.self.items ≡ old ++ (entry ∷ []) = ap (map file_message_of) pushed ∙ map-append file_message_of c.loop-rest.messages.items (part.message ∷ []) in
     record {
       whole = rw items (file-more c.args.file.now c.loop-rest.rest.now part.rest.now old entry before.whole taken);
       each = rw items (entries-more old entry before.each c.in_ok-part.ensures.sound);

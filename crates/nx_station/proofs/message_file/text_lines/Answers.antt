@@ -1,4 +1,4 @@
-use Rattle.std.proofs.Common.{◌≡◌, ◌+◌, [], refl, ◌∙◌, ap, sym, length, map, arith}
+use Rattle.std.proofs.Common.{◌+◌, refl, ◌∙◌, ap, sym, length, map, arith}
 use Rattle.std.proofs.lemmas.Bool.{eqb-true, eq-eqb, false≢true}
 use Rattle.std.proofs.lemmas.List.{length-append, length-map}
 use Rattle.nx_envelope.specs.Message.{text_of}

@@ -1,4 +1,4 @@
-use Rattle.std.proofs.Common.{◌≡◌, ◌≢◌, ◌++◌, [], ◌∙◌, List, ℕ, ap, sym, subst, refl, map, length, arith}
+use Rattle.std.proofs.Common.{◌≡◌, ◌≢◌, ◌++◌, [], ◌∙◌, List, ℕ, ap, subst, refl, map, length, arith}
 use Rattle.std.proofs.lemmas.Bool.{false≢true, eq-eqb}
 use Rattle.std.proofs.lemmas.List.{length-map}
 use Rattle.std.proofs.lemmas.Result.{err_from_is_err_and}
@@ -8,8 +8,7 @@ use Rattle.nx_fec.specs.Emission.{bits_of, emission, sent_position}
 use Rattle.nx_fec.specs.Lines.{file_of}
 use Rattle.nx_fec.specs.Transfers.{devices}
 use Rattle.nx_station.specs.Faults.{send_fault}
-use Rattle.nx_station.specs.MessageFile.{IsMessageFile, entry_of}
-use Rattle.nx_station.specs.Runs.{IsTransmission}
+use Rattle.nx_station.specs.MessageFile.{IsMessageFile, file_message_of}
 use Rattle.nx_station.specs.Sendable.{AreOf, IsRefusal}
 use Rattle.nx_station.specs.declared.fault.SendFault.TheVariants as refusal
 use Rattle.nx_station.specs.declared.fault.SendRunFault.TheVariants.{Send}
@@ -18,13 +17,13 @@ use Rattle.nx_station.proofs.sending.send.Goals as goal
 
 -- the file has messages, all of the station
 abbrev AreThese : ℕ → List MessageView → List ℕ → Type 0
-AreThese station messages file = IsMessageFile file (map entry_of messages) × AreOf station messages
+AreThese station messages file = IsMessageFile file (map file_message_of messages) × AreOf station messages
 
 pub returns-in_default : goal.returns-in_default
 returns-in_default g c =
     let messages = c.in_ok-messages.messages in
     let some : messages.items ≢ [] = λ e. false≢true (c.if-is_empty.ensures ∙ eq-eqb _ _ (omega (arith, ap length e, messages.ok.0))) in
-    let file = subst (λ l. IsMessageFile l (map entry_of messages.items)) c.deref.ensures.value c.in_ok-messages.ensures.messages in
+    let file = subst (λ l. IsMessageFile l (map file_message_of messages.items)) c.deref.ensures.value c.in_ok-messages.ensures.messages in
     let none = rw c.in_default.is at c.next_slot.ensures.none refl in
     unsent (devices g.R.Read.remaining g.W.Write.contents c.args.reader.now c.read_whole.new.reader c.args.writer.now c.args.writer.now) c.args.station.byte c.args.moment
     c.in_ok-file.file c.in_ok-file.file.items (Send refusal.NoSlot) c.in_ok-file.ensures refl c.requires.writer tt
@@ -36,7 +35,7 @@ returns-in_err-positions g c =
     let why = c.in_err-positions.field-0.0 in
     let messages = c.in_ok-messages.messages in
     let some : messages.items ≢ [] = λ e. false≢true (c.if-is_empty.ensures ∙ eq-eqb _ _ (omega (arith, ap length e, messages.ok.0))) in
-    let file = subst (λ l. IsMessageFile l (map entry_of messages.items)) c.deref.ensures.value c.in_ok-messages.ensures.messages in
+    let file = subst (λ l. IsMessageFile l (map file_message_of messages.items)) c.deref.ensures.value c.in_ok-messages.ensures.messages in
     let refused = subst (λ l. IsRefusal l why) c.deref-2.ensures.value c.in_err-positions.ensures.refused in
     rw p.1 (rw p.2 (unsent (devices g.R.Read.remaining g.W.Write.contents c.args.reader.now c.read_whole.new.reader c.args.writer.now c.args.writer.now) c.args.station.byte c.args.moment
     c.in_ok-file.file c.in_ok-file.file.items (send_fault why) c.in_ok-file.ensures refl c.requires.writer (refusal-inside why)

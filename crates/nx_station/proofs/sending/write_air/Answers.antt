@@ -1,4 +1,4 @@
-use Rattle.std.proofs.Common.{◌≡◌, ◌+◌, length, arith, subst, sym}
+use Rattle.std.proofs.Common.{arith}
 use Rattle.nx_fec.proofs.WritingLaws.{WroteSome-after}
 use Rattle.nx_station.proofs.sending.write_air.Goals as goal
 
