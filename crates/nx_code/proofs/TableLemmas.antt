@@ -144,7 +144,7 @@ unfolding table
 cells-TABLE Letters = refl
 cells-TABLE Figures = refl
 
-pub cell-TABLE : (shift : Shift) (at : ℕ) (fallback : Row) → at < 35 → cell_in (get_or TABLE at fallback) shift ≡ cell shift (get_or table at (row 0 [] []))
+pub cell-TABLE : (shift : Shift) (at : ℕ) (fallback : Row) → at < 35 → cell_in (get_or TABLE at fallback) shift ≡ cell shift (get_or table at (row 0x00 [] []))
 unfolding table
 cell-TABLE shift at fallback h =
-    sym (get_or-map (λ (r : Row). cell_in r shift) TABLE at fallback [] h) ∙ ap (λ l. get_or l at []) (cells-TABLE shift) ∙ get_or-map (cell shift) table at (row 0 [] []) [] h
+    sym (get_or-map (λ (r : Row). cell_in r shift) TABLE at fallback [] h) ∙ ap (λ l. get_or l at []) (cells-TABLE shift) ∙ get_or-map (cell shift) table at (row 0x00 [] []) [] h

@@ -18,7 +18,7 @@ number_of_signal signal = slice_index words (place signal)
 
 -- the row of a signal
 abbrev pub row_of_signal : Signal → Row
-row_of_signal signal = slice_index_or table (place signal) (row 0 [] [])
+row_of_signal signal = slice_index_or table (place signal) (row 0x00 [] [])
 
 -- what stands for a signal in the column of a shift
 abbrev pub cell_of_signal : Signal → Shift → List ℕ

@@ -1,6 +1,6 @@
 pub mod Lists
 pub mod Numbers
-pub mod More
+pub mod MoreBits
 pub mod OneBit
 pub mod Patterns
 pub mod Hearing

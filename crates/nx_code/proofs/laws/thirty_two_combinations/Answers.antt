@@ -16,7 +16,7 @@ unfolding row_of
 has_row zero low high = absurd (omega arith)
 has_row (suc place) low high =
     let inside : place < length (take 32 table) = rw length-combinations (omega arith) in
-    ap is_some (slice_get-get_or (take 32 table) place (row 0 [] []) inside)
+    ap is_some (slice_get-get_or (take 32 table) place (row 0x00 [] []) inside)
 
 no_row : (place : ℕ) → 32 ≤ place → row_of (suc place) ≡ None
 unfolding row_of
