@@ -1,9 +1,12 @@
 pub mod Events
 pub mod LockText
+pub mod LockReader
 pub mod FoundCopies
 pub mod Tagged
 pub mod Printing
 pub mod Log
+pub mod Watch
+pub mod Receiver
 pub mod LawTerms
 pub mod Example
 pub mod Worked
