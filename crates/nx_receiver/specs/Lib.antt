@@ -1,5 +1,6 @@
 pub mod Events
 pub mod LockText
+pub mod LockReader
 pub mod FoundCopies
 pub mod Tagged
 pub mod Printing

@@ -4,6 +4,7 @@
 mod entry;
 mod judging;
 pub mod laws;
+mod lock_reader;
 mod writing;
 
 pub use entry::Entry;
