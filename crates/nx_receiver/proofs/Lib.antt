@@ -1,5 +1,7 @@
 pub mod JudgingLemmas
 pub mod LockTexts
+pub mod LockReaderWords
+pub mod LockWords
 pub mod FoundLemmas
 pub mod Growing
 pub mod LoggedLemmas

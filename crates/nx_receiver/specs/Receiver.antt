@@ -11,7 +11,7 @@ use Rattle.nx_receiver.specs.declared.fault.ReceiverFault.TheVariants.{MomentRan
 use Rattle.nx_receiver.specs.declared.fault.MomentFault.{MomentFault}
 use Rattle.nx_receiver.specs.declared.fault.MomentFault.TheVariants.{Range, Back}
 use Rattle.nx_receiver.specs.Events.{Event, Start, Setting, element, bits_of, first_setting, settings, setting_after_all}
-use Rattle.nx_receiver.specs.Printing.{printed, entries_after}
+use Rattle.nx_receiver.specs.Printing.{printed_copies, entries_after}
 use Rattle.nx_receiver.specs.Tagged.{TaggedCopy, copy_of}
 use Rattle.nx_receiver.specs.Watch.{Watching, WatchStands, in_force}
 
@@ -28,7 +28,7 @@ pub record StandsOver {M : Type 0} (content : M → List MemoryEntry) (start : S
   pub copies : List TaggedCopy
   pub watch : WatchStands (first_setting start) receiver.watch bits settings copies
   pub force : in_force receiver.watch ≡ now
-  pub printed : log ≡ printed start.entries copies
+  pub printed : log ≡ printed_copies start.entries copies
   pub memory : content receiver.memory ≡ last_of most_entries (entries_after start.entries copies)
 
 abbrev pub Stands : {M : Type 0} → (M → List MemoryEntry) → Start → Receiving M → List Event → List TaggedCopy → Type 0

@@ -46,8 +46,8 @@ abbrev pub setting_in : Setting → List Setting → ℕ → Setting
 setting_in first settings place = slice_index_or settings place first
 
 -- copies with what is in force at the second digit of each, by what is in force at each element
-unfoldable pub tagged_by : Setting → List Setting → List FoundCopy → List TaggedCopy
-tagged_by first settings copies = map (λ copy. tag (setting_in first settings copy.place) copy) copies
+unfoldable pub copies_by : Setting → List Setting → List FoundCopy → List TaggedCopy
+copies_by first settings copies = map (λ copy. tag (setting_in first settings copy.place) copy) copies
 
 -- the tag is that of each copy that stands open in the text; there is at most one
 unfoldable pub HasTag : Setting → List Setting → List PlacedByte → CopyTag → Type 0
@@ -68,14 +68,14 @@ pub record HasEnded (first : Setting) (bits : List Bool) (settings : List Settin
   pub locks : List Lock
   pub now : Now
   pub stands : IsNow bits locks now
-  pub ended : copies ≡ tagged_by first settings (ended_so_far bits locks now)
+  pub ended : copies ≡ copies_by first settings (ended_so_far bits locks now)
 
 -- After these elements, and where they end, these copies have ended, in order.
 pub record HasEndedAll (first : Setting) (bits : List Bool) (settings : List Setting) (copies : List TaggedCopy) : Type 0 where
   pub locks : List Lock
   pub now : Now
   pub stands : IsNow bits locks now
-  pub ended : copies ≡ tagged_by first settings (found_to_end bits locks now)
+  pub ended : copies ≡ copies_by first settings (found_to_end bits locks now)
 
 -- The reader and the tag stand after these elements: those copies have ended, the reader stands after the words of the
 -- lock that stands, and the tag is that of the copy that stands open.
@@ -84,7 +84,7 @@ pub record ReadsOver (first : Setting) (reader : LockReading) (kept : CopyTag) (
   pub now : Now
   pub stands : IsNow bits locks now
   pub many : length settings ≡ length bits
-  pub ended : copies ≡ tagged_by first settings (ended_so_far bits locks now)
+  pub ended : copies ≡ copies_by first settings (ended_so_far bits locks now)
   pub reads : ReadsNow reader bits now
   pub has_tag : HasTag first settings (standing_text bits now) kept
 
@@ -102,7 +102,7 @@ pub record LockIsOver (first : Setting) (watch : Watching) (bits : List Bool) (s
   pub from : ℕ
   pub stands : IsNow bits (lock ∷ older) (hunting from)
   pub many : length settings ≡ length bits
-  pub ended : copies ≡ tagged_by first settings (past_copies bits older ++ ended_in (past_text bits lock))
+  pub ended : copies ≡ copies_by first settings (past_copies bits older ++ ended_in (past_text bits lock))
   pub reads : ReadsLock watch.reader (first_role bits lock.at) (word_at bits lock.at) (lock.last + 1)
   pub has_tag : HasTag first settings (past_text bits lock) watch.tag
 

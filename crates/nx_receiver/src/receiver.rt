@@ -9,7 +9,7 @@ ghost use Rattle.nx_memory.specs.Vital.{is_vital};
 ghost use Rattle.nx_receiver.specs.Events as events;
 ghost use Rattle.nx_receiver.specs.Events.{Event, Setting, Start, at_moment, command, first_setting};
 ghost use Rattle.nx_receiver.specs.Log.{HasPrinted, PrintsToEnd};
-ghost use Rattle.nx_receiver.specs.Printing.{entries_after, printed};
+ghost use Rattle.nx_receiver.specs.Printing.{entries_after, printed_copies};
 ghost use Rattle.nx_receiver.specs.Receiver.{Refuses, RefusesStart, Stands, StandsOver, elements, entry_list};
 ghost use Rattle.nx_receiver.specs.Tagged.{TaggedCopy};
 ghost use Rattle.nx_receiver.specs.Watch.{Hears, IsOver, WatchStands, handed_out, in_force};
@@ -197,7 +197,7 @@ impl<M: Recall> Receiver<M> {
     fn finish(&mut self, over: Over) -> Option<Entry>
         ensures stands { (start : Start) (h : List Bool) (s : List Setting) (now : Setting) (copies log : List TaggedCopy) →
             IsOver (first_setting start) self.old.watch h s copies over → in_force self.old.watch ≡ now
-            → log ≡ printed start.entries copies
+            → log ≡ printed_copies start.entries copies
             → M.content self.old.memory ≡ last_of most_entries (entries_after start.entries copies)
             → StandsOver M.content start self.new h s now (log ++ entry_list result) }
         ensures none { over ≡ Nothing → IsNone result }
@@ -222,7 +222,7 @@ impl<M: Recall> Receiver<M> {
 fn print_copy<M: Recall>(found: Option<Found>, tag: CopyTag, memory: &mut M) -> Option<Entry>
     requires { newest_moment (M.content memory.old) ≤ tag.moment }
     ensures printed { (entries : List MemoryEntry) → M.content memory.old ≡ last_of most_entries entries
-        → entry_list result ≡ printed entries (handed_out found tag) }
+        → entry_list result ≡ printed_copies entries (handed_out found tag) }
     ensures entered { (entries : List MemoryEntry) → M.content memory.old ≡ last_of most_entries entries
         → M.content memory.new ≡ last_of most_entries (entries_after entries (handed_out found tag)) }
     ensures not_before { newest_moment (M.content memory.new) ≤ tag.moment }

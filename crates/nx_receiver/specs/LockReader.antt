@@ -1,0 +1,55 @@
+-- A reader of the text of a lock, which is given its words one by one, and after which words it stands (ITU-R M.625,
+-- mode B, and M.476 for what is printed; that each lock has a text of its own, from letters, is this profile's). `first`
+-- is the role of word 0 of the lock, and `words` gives each word's number.
+use Rattle.std.specs.Prelude.{◌≡◌, ◌⊎◌, ℕ, zero, suc, ◌+◌, if◌then◌else◌, List, [], ◌∷◌, ◌++◌}
+use Rattle.nx_code.specs.Reading.{shift_after_all, text}
+use Rattle.nx_code.specs.declared.printing.Printer.{Printer}
+use Rattle.nx_code.specs.declared.shifts.Shift.TheVariants.{Letters}
+use Rattle.nx_fec.specs.Pairing.{Counted, IsLatest, counts_as}
+use Rattle.nx_fec.specs.declared.diversity.Diversity.{Diversity}
+use Rattle.nx_sync.specs.Words.{role_of, is_dx}
+use Rattle.nx_sync.specs.declared.step.Role.{Role}
+use Rattle.nx_envelope.specs.Finder.{Hears, StandsAfter}
+use Rattle.nx_envelope.specs.declared.finder.Finder.{Finder}
+use Rattle.nx_envelope.specs.declared.found.TextEvent.{TextEvent}
+use Rattle.nx_envelope.specs.declared.found.TextEvent.TheVariants.{Nothing}
+use Rattle.nx_receiver.specs.LockText.{positions}
+
+-- what contracts see of a reader: what arrived of the latest three DX words, the shift in force, and the finder of the
+-- copies in the text
+pub record LockReading : Type 0 where
+  pub diversity : Diversity
+  pub printer : Printer
+  pub finder : Finder
+
+-- what the DX words among the first n words count as, oldest first
+unfoldable pub dx_words : Role → (ℕ → ℕ) → ℕ → List Counted
+dx_words first words zero = []
+dx_words first words (suc n) =
+    dx_words first words n ++ (if is_dx (role_of first n) then counts_as (words n) ∷ [] else [])
+
+-- the text that the first n words print
+abbrev pub text_after : Role → (ℕ → ℕ) → ℕ → List ℕ
+text_after first words n = text (positions first words n) Letters
+
+-- The reader stands after the first n words of a lock: it has the latest three DX words among them, the shift that their
+-- positions leave, and the copies of their text; and nothing of any other lock.
+pub record ReadsLock (reader : LockReading) (first : Role) (words : ℕ → ℕ) (n : ℕ) : Type 0 where
+  pub latest : IsLatest reader.diversity (dx_words first words n)
+  pub shift : reader.printer ≡ shift_after_all (positions first words n) Letters
+  pub finder : StandsAfter reader.finder (text_after first words n)
+
+-- a word adds nothing to the text, and brings nothing
+pub record PrintsNothing (before after : List ℕ) (event : TextEvent) : Type 0 where
+  pub same : after ≡ before
+  pub nothing : event ≡ Nothing
+
+-- a word adds one byte to the text, and the event is what happens at that byte
+pub record PrintsByte (before after : List ℕ) (finder : Finder) (event : TextEvent) : Type 0 where
+  pub byte : ℕ
+  pub grows : after ≡ before ++ byte ∷ []
+  pub hears : Hears before byte finder event
+
+-- the event is what a word brings that makes the one text of the other, and the finder has the copy that it ends
+abbrev pub HearsWord : List ℕ → List ℕ → Finder → TextEvent → Type 0
+HearsWord before after finder event = PrintsNothing before after event ⊎ PrintsByte before after finder event

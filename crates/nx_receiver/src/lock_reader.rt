@@ -1,0 +1,104 @@
+//! The text of one lock, read from its words.
+
+ghost use Rattle.std.specs.Prelude.{◌≡◌, ◌↔◌, ◌+◌, ℕ, false, IsNone, MatchOption};
+ghost use Rattle.nx_sync.specs.Words.{role_of};
+ghost use Rattle.nx_sync.specs.declared.step.Role.{Role};
+ghost use Rattle.nx_envelope.specs.Copies.{Copy};
+ghost use Rattle.nx_envelope.specs.Finder.{Closes, HasReady, is_over, is_ready};
+ghost use Rattle.nx_envelope.specs.Found.{IsFound};
+ghost use Rattle.nx_receiver.specs.LockReader.{HearsWord, ReadsLock, text_after};
+
+use nx_code::{Printer, Word};
+use nx_envelope::{Finder, Found, TextEvent};
+use nx_fec::{Diversity, Heard};
+use nx_sync::Role;
+use std::marker::Model;
+
+/// Reads the text of a lock, of which it is given one word after the other, and finds the copies in it.
+///
+/// It holds the latest three DX words, the shift in force, and what the finder holds; nothing of an earlier lock.
+#[derive(Drop)]
+pub(crate) struct LockReader {
+    diversity: Diversity,
+    printer: Printer,
+    finder: Finder,
+}
+
+impl Model for LockReader {
+    ghost use Rattle.nx_receiver.specs.LockReader.{LockReading};
+
+    ghost Value = { LockReading };
+
+    ghost view = { λ r. record { diversity = r.diversity; printer = r.printer; finder = r.finder } };
+
+    // What contracts see gives every field back, so that nothing else can be kept: no word, no text, no history.
+    ghost inverse = { λ v. record { diversity = v.diversity; printer = v.printer; finder = v.finder } };
+}
+
+impl LockReader {
+    /// A reader of a lock of which no word was heard yet.
+    pub(crate) fn new() -> LockReader
+        ensures { (first : Role) (words : ℕ → ℕ) → ReadsLock result first words 0 }
+    {
+        LockReader {
+            diversity: Diversity::new(),
+            printer: Printer::new(),
+            finder: Finder::new(),
+        }
+    }
+
+    /// Hears the next word of the lock, which has that role, and answers what it brings. A copy that it ends can be
+    /// taken before the next word.
+    // Inlined, since it is called for each word.
+    #[inline(always)]
+    pub(crate) fn hear(&mut self, word: Word, role: Role) -> TextEvent
+        ensures stands { (first : Role) (words : ℕ → ℕ) (n : ℕ) → ReadsLock self.old first words n
+            → words n ≡ word → role ≡ role_of first n → ReadsLock self.new first words (n + 1) }
+        ensures hears { (first : Role) (words : ℕ → ℕ) (n : ℕ) → ReadsLock self.old first words n
+            → words n ≡ word → role ≡ role_of first n
+            → HearsWord (text_after first words n) (text_after first words (n + 1)) self.new.finder result }
+        ensures ready { is_ready self.old.finder ≡ false → is_ready self.new.finder ≡ is_over result }
+    {
+        match role {
+            Role::Dx => {
+                self.diversity.dx(Heard::of(word));
+                TextEvent::Nothing
+            }
+            Role::Rx => {
+                let taken = self.diversity.rx(Heard::of(word));
+                match self.printer.step(taken) {
+                    Some(byte) => self.finder.hear(byte),
+                    None => TextEvent::Nothing,
+                }
+            }
+        }
+    }
+
+    /// The copy that the last word ended, where it was not taken yet.
+    // Not inlined, so that no loop over words has a place for a text of 4,100.
+    #[inline(never)]
+    pub(crate) fn take_found(&mut self) -> Option<Found>
+        ensures stands { (first : Role) (words : ℕ → ℕ) (n : ℕ) → ReadsLock self.old first words n
+            → ReadsLock self.new first words n }
+        ensures found { (copy : Copy) → HasReady self.old.finder copy
+            → MatchOption result ⊥ (IsFound copy) }
+        ensures none { IsNone result ↔ (is_ready self.old.finder ≡ false) }
+        ensures taken { is_ready self.new.finder ≡ false }
+    {
+        self.finder.take_found()
+    }
+
+    /// Ends the text, as the lock or the bits end, and answers the copy that stands open; the reader is then as new, for
+    /// the next lock. A copy that could be taken is gone.
+    // Not inlined, as `take_found`.
+    #[inline(never)]
+    pub(crate) fn end(&mut self) -> Option<Found>
+        ensures closes { (first : Role) (words : ℕ → ℕ) (n : ℕ) → ReadsLock self.old first words n
+            → Closes (text_after first words n) result }
+        ensures as_new { (first : Role) (words : ℕ → ℕ) → ReadsLock self.new first words 0 }
+    {
+        self.diversity = Diversity::new();
+        self.printer = Printer::new();
+        self.finder.end()
+    }
+}
