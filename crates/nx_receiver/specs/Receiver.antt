@@ -1,6 +1,5 @@
 -- What a receiver holds, and after which events: the layer contract (this profile).
 use Rattle.std.specs.Prelude.{◌≡◌, ◌⊎◌, ℕ, ◌<◌, ◌≤◌, Bool, List, [], ◌∷◌, ◌++◌, map, Option, Some, None}
-use Rattle.std.specs.List.{concat}
 use Rattle.nx_code.specs.Lists.{last_of}
 use Rattle.nx_memory.specs.Memory.{most_entries}
 use Rattle.nx_memory.specs.declared.entry.MemoryEntry.{MemoryEntry}
@@ -37,9 +36,9 @@ Stands content start receiver events log =
 
 -- the moment of the memory's newest entry, that of the open copy, the one in force and the last one rise in this order
 pub record IsInOrder (newest copy now : ℕ) : Type 0 where
-  pub newest : newest ≤ copy
-  pub copy : copy ≤ now
-  pub now : now ≤ last_moment
+  pub newest_first : newest ≤ copy
+  pub copy_next : copy ≤ now
+  pub in_range : now ≤ last_moment
 
 -- these elements, each an event
 abbrev pub elements : List Bool → List Event
@@ -62,5 +61,6 @@ Refuses last given (Range at) = (at ≡ given) × (last_moment < given)
 Refuses last given (Back from at) = (from ≡ last) × (at ≡ given) × (given ≤ last_moment) × (given < last)
 
 -- these pieces, one after another
-abbrev pub joined : List (List Bool) → List Bool
-joined pieces = concat pieces
+unfoldable pub joined : List (List Bool) → List Bool
+joined [] = []
+joined (piece ∷ pieces) = piece ++ joined pieces

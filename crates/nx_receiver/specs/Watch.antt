@@ -136,8 +136,8 @@ all_in_force watch bits = map (λ bit. in_force watch) bits
 
 -- The watch heard these elements after others, and this is what is over with the last of them; with none before it any
 -- copy ended.
-pub record Hears (first : Setting) (old new : Watching) (bits : List Bool) (settings : List Setting) (copies : List TaggedCopy) (heard : List Bool) (over : Over) : Type 0 where
-  pub brings : IsOver first new (bits ++ heard) (settings ++ all_in_force old heard) copies over
+pub record Hears (first : Setting) (old new : Watching) (bits : List Bool) (settings : List Setting) (copies : List TaggedCopy) (heard : List Bool) (answer : Over) : Type 0 where
+  pub brings : IsOver first new (bits ++ heard) (settings ++ all_in_force old heard) copies answer
   pub none_before : (k : ℕ) → k + 1 ≤ length heard → HasEnded first (bits ++ take k heard) (settings ++ all_in_force old (take k heard)) copies
 
 -- the copy that was handed out, with its tag
@@ -159,19 +159,19 @@ over_with false true = over.Lock
 over_with true true = over.CopyAndLock
 
 -- a word was read, whichever lock it is of: what it brings to the text, what is over, and the tag
-pub record ReadsWord (old new : Watching) (word : ℕ) (role : Role) (is_changed : Bool) (over : Over) : Type 0 where
+pub record ReadsWord (old new : Watching) (word : ℕ) (role : Role) (is_changed : Bool) (answer : Over) : Type 0 where
   pub event : TextEvent
   pub stands : (first : Role) (words : ℕ → ℕ) (n : ℕ) → ReadsLock old.reader first words n → words n ≡ word → role ≡ role_of first n → ReadsLock new.reader first words (n + 1)
   pub hears : (first : Role) (words : ℕ → ℕ) (n : ℕ) → ReadsLock old.reader first words n → words n ≡ word → role ≡ role_of first n → HearsWord (text_after first words n) (text_after first words (n + 1)) new.reader.finder event
   pub kept : new.tag ≡ tag_after old event
   pub synchroniser : new.synchroniser ≡ old.synchroniser
   pub force : in_force new ≡ in_force old
-  pub is : over ≡ over_with (is_over event) is_changed
+  pub is : answer ≡ over_with (is_over event) is_changed
 
 -- what a step brings is read: nothing where it completes no word
-pub record ReadsStep (old new : Watching) (step : Step) (over : Over) : Type 0 where
-  pub none : step.word ≡ None → (new ≡ old) × (over ≡ over.Nothing)
-  pub some : (word : ℕ) (role : Role) → step.word ≡ Some (word, role) → ReadsWord old new word role (is_some step.change) over
+pub record ReadsStep (old new : Watching) (step : Step) (answer : Over) : Type 0 where
+  pub none : step.word ≡ None → (new ≡ old) × (answer ≡ over.Nothing)
+  pub some : (word : ℕ) (role : Role) → step.word ≡ Some (word, role) → ReadsWord old new word role (is_some step.change) answer
 
 -- the moment of the tag is as it was, or the one in force; all else that is in force stays
 pub data TagGoesOn (old new : Watching) : Type 0 where
