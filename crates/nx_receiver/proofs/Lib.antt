@@ -7,6 +7,9 @@ pub mod Growing
 pub mod LoggedLemmas
 pub mod WatchTexts
 pub mod WatchTakes
+pub mod WatchBits
+pub mod WatchWords
+pub mod WatchHears
 pub mod OnceLemmas
 pub mod LogLemmas
 pub mod ApartLemmas

@@ -130,7 +130,7 @@ impl Watch {
                 return (count, Over::Nothing);
             }
         }
-        if self.synchroniser.is_between_words() && bits.len() >= ELEMENTS {
+        if self.is_between_words() && bits.len() >= ELEMENTS {
             return self.hear_words(bits);
         }
         (1, self.hear_element(bits[0]))
@@ -152,11 +152,19 @@ impl Watch {
         while let Some(word) = bits[at..].first_chunk::<ELEMENTS>() {
             let over = self.hear_word(word);
             at += ELEMENTS;
-            if over != Over::Nothing {
+            if over != Over::Nothing || !self.is_between_words() {
                 return (at, over);
             }
         }
         (at, Over::Nothing)
+    }
+
+    /// Whether a lock stands, and the next element is the first of a word.
+    #[inline(always)]
+    fn is_between_words(&self) -> bool
+        ensures { result ≡ is_between_words self.now.synchroniser }
+    {
+        self.synchroniser.is_between_words()
     }
 
     /// Hears the seven elements of the next word of the lock.
@@ -166,7 +174,6 @@ impl Watch {
         ensures hears { (first : Setting) (h : List Bool) (s : List Setting) (copies : List TaggedCopy) →
             WatchStands first self.old h s copies
             → Hears first self.old self.new h s copies bits.now result }
-        ensures limit { result ≡ Nothing → IsTrue (is_between_words self.new.synchroniser) }
         ensures force { in_force self.new ≡ in_force self.old }
         ensures tag { TagGoesOn self.old self.new }
     {
