@@ -10,6 +10,7 @@ pub mod WatchTakes
 pub mod WatchBits
 pub mod WatchWords
 pub mod WatchHears
+pub mod WatchLoops
 pub mod OnceLemmas
 pub mod LogLemmas
 pub mod ApartLemmas

@@ -2,6 +2,7 @@
 use Rattle.std.proofs.Common.{◌≡◌, ℕ, zero, suc, ◌+◌, ◌*◌, ◌-◌, ◌<◌, ◌≤◌, Bool, true, false, is_some, List, [], ◌∷◌, ◌++◌, map, length, take, drop, get_or, Option, Some, None, refl, sym, ap, ◌∙◌, subst, arith, inl, inr, append_assoc, append-nil, take-take, length-take, length-append, add-one, subst₂}
 use Rattle.std.proofs.lemmas.List.{length_push, map-append, take_more, take_all, take-append-le}
 use Rattle.std.proofs.lemmas.Bool.{cases_lt}
+use Rattle.nx_sync.specs.Locks.{Past, hunting}
 use Rattle.nx_sync.specs.Steps.{IsStep, HuntsThrough, IsWordStep, step}
 use Rattle.nx_sync.specs.Synchroniser.{Held, StandsAfter}
 use Rattle.nx_sync.specs.declared.step.Role.{Role}
@@ -12,7 +13,10 @@ use Rattle.nx_receiver.specs.declared.over.Over.TheVariants as over
 use Rattle.nx_receiver.specs.Events.{Setting}
 use Rattle.nx_receiver.specs.LockReader.{LockReading}
 use Rattle.nx_receiver.specs.Tagged.{TaggedCopy}
-use Rattle.nx_receiver.specs.Watch.{Watching, HasEnded, Hears, IsOver, ReadsOver, ReadsStep, TagGoesOn, as_it_was, now_in_force, WatchStands, all_in_force, in_force}
+use Rattle.nx_receiver.specs.Watch.{Watching, HasEnded, Hears, IsOver, ReadsOver, ReadsStep, TagGoesOn, as_it_was, now_in_force, IsFresh, WatchStands, all_in_force, copies_by, in_force}
+use Rattle.nx_receiver.specs.FoundCopies.{past_copies}
+use Rattle.nx_receiver.proofs.Growing.{hunted}
+use Rattle.nx_receiver.proofs.WatchTakes.{tag-hunting}
 use Rattle.nx_receiver.proofs.WatchBits.{quiet_bit}
 use Rattle.nx_receiver.proofs.WatchWords.{word_bit}
 
@@ -155,3 +159,19 @@ force_on mid new r answer read =
       | None ↦ λ none. ap in_force (read.none none).0
       | Some w ↦ λ one. (read.some w.0 w.1 one).force
     ] refl
+
+-- a watch that has heard nothing
+pub nothing_heard : (first : Setting) (watch : Watching) → StandsAfter watch.synchroniser [] → IsFresh watch.reader → WatchStands first watch [] [] []
+unfolding copies_by past_copies Past
+nothing_heard first watch stands fresh = record {
+  synchroniser = stands;
+  reads = record {
+    locks = [];
+    now = hunting 0;
+    stands = record { past = refl; none = record { never = λ s after here. absurd (omega (arith, here.heard)) } };
+    many = refl;
+    ended = ap (copies_by first []) (hunted [] [] 0);
+    reads = fresh;
+    has_tag = tag-hunting first [] watch.tag;
+  };
+}
