@@ -20,7 +20,7 @@ use Rattle.nx_receiver.proofs.LockTexts.{GoesOnAs, bytes_of-append}
 pub IsBetween : ℕ → ℕ → ℕ → Type 0
 IsBetween low high place = (low ≤ place) × (place < high)
 
-abbrev IsByteIn : ℕ → ℕ → PlacedByte → Type 0
+abbrev pub IsByteIn : ℕ → ℕ → PlacedByte → Type 0
 IsByteIn low high b = (low ≤ b.place) × (b.place < high)
 
 abbrev pub IsCopyIn : ℕ → ℕ → FoundCopy → Type 0
@@ -40,7 +40,7 @@ text_placed first f t (suc n) =
     (all_at (place_of t n) t (t + 7 * suc n) (omega arith) (omega arith) _)
 
 -- a header stands behind its letters
-abbrev IsHeaderIn : List ℕ → Header → Type 0
+abbrev pub IsHeaderIn : List ℕ → Header → Type 0
 IsHeaderIn text h = (1 ≤ h.behind) × (h.behind ≤ length text)
 
 stands : (text : List ℕ) (h : Header) → StandsIn text h → IsHeaderIn text h
@@ -83,19 +83,19 @@ pub place_in-get_or : (text : List PlacedByte) (i : ℕ) (d : PlacedByte) → i 
 unfolding place_in
 place_in-get_or text i d h = ap (λ o. unwrap_or (option_map (λ (b : PlacedByte). b.place) o) 0) (slice_get-get_or text i d h)
 
-length-bytes_of : (text : List PlacedByte) → length (bytes_of text) ≡ length text
+pub length-bytes_of : (text : List PlacedByte) → length (bytes_of text) ≡ length text
 unfolding bytes_of
 length-bytes_of text = length-map text (λ b. b.byte)
 
 -- text that comes later leaves the place of a byte
-place_in-append : (text more : List PlacedByte) (i : ℕ) → i < length text → place_in (text ++ more) i ≡ place_in text i
+pub place_in-append : (text more : List PlacedByte) (i : ℕ) → i < length text → place_in (text ++ more) i ≡ place_in text i
 place_in-append text more i h =
     let d : PlacedByte = record { byte = 0; place = 0 } in
     let later : i < length (text ++ more) = omega (arith, length-append text more) in
     place_in-get_or (text ++ more) i d later ∙ ap (λ b. b.place) (get_or_append_left text more d i h) ∙ sym (place_in-get_or text i d h)
 
 -- a header in the text of a lock stands at a bit of the lock
-header_placed : (low high : ℕ) (text : List PlacedByte) (h : Header) → All (IsByteIn low high) text → IsHeaderIn (bytes_of text) h → IsByteIn low high (record { byte = 0; place = place_of_header text h })
+pub header_placed : (low high : ℕ) (text : List PlacedByte) (h : Header) → All (IsByteIn low high) text → IsHeaderIn (bytes_of text) h → IsByteIn low high (record { byte = 0; place = place_of_header text h })
 header_placed low high text h k i =
     let d : PlacedByte = record { byte = 0; place = 0 } in
     let within : h.behind - 1 < length text = omega (arith, length-bytes_of text, i.0, i.1) in
@@ -130,7 +130,7 @@ all_in_placed low high text k =
     rw (all_in-parts text) (All-append (IsCopyIn low high) (ended_in text) (open_in text) (ended_in_placed low high text k) (open_in_placed low high text k))
 
 -- text that comes later leaves the copies that have ended as they are, and adds others behind them
-found-same : (text more : List PlacedByte) (copies : List Copy) → All (λ (c : Copy). IsHeaderIn (bytes_of text) c.header) copies → map (found_copy (text ++ more)) copies ≡ map (found_copy text) copies
+pub found-same : (text more : List PlacedByte) (copies : List Copy) → All (λ (c : Copy). IsHeaderIn (bytes_of text) c.header) copies → map (found_copy (text ++ more)) copies ≡ map (found_copy text) copies
 unfolding found_copy
 found-same text more [] k = refl
 found-same text more (c ∷ copies) k =

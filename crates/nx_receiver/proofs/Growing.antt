@@ -81,7 +81,7 @@ past_goes_on bits more ls ks m n is g =
     let past = past_now bits ls m is in
     subst (λ (xs : List FoundCopy). GoesOnAs xs (past_copies (bits ++ more) ks)) (past_copies-more bits more ls past.0 past.1) g
 
-hunted : (bits : List Bool) (ls : List Lock) (p : ℕ) → past_copies bits ls ≡ ended_so_far bits ls (hunting p)
+pub hunted : (bits : List Bool) (ls : List Lock) (p : ℕ) → past_copies bits ls ≡ ended_so_far bits ls (hunting p)
 unfolding ended_so_far
 hunted bits ls p = sym (append-nil (past_copies bits ls)) ∙ ap (λ xs. past_copies bits ls ++ xs) (sym ended_in-nil)
 

@@ -5,6 +5,8 @@ pub mod LockWords
 pub mod FoundLemmas
 pub mod Growing
 pub mod LoggedLemmas
+pub mod WatchTexts
+pub mod WatchTakes
 pub mod OnceLemmas
 pub mod LogLemmas
 pub mod ApartLemmas

@@ -80,7 +80,7 @@ pub bytes_of-append : (xs ys : List PlacedByte) → bytes_of (xs ++ ys) ≡ byte
 unfolding bytes_of
 bytes_of-append xs ys = map-append (λ b. b.byte) xs ys
 
-bytes-placed : (place : ℕ) (bs : List ℕ) → map (λ (p : PlacedByte). p.byte) (map (λ b. record { byte = b; place = place }) bs) ≡ bs
+pub bytes-placed : (place : ℕ) (bs : List ℕ) → map (λ (p : PlacedByte). p.byte) (map (λ b. record { byte = b; place = place }) bs) ≡ bs
 bytes-placed place [] = refl
 bytes-placed place (b ∷ bs) = ap (λ xs. b ∷ xs) (bytes-placed place bs)
 

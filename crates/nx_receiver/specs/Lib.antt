@@ -5,6 +5,8 @@ pub mod FoundCopies
 pub mod Tagged
 pub mod Printing
 pub mod Log
+pub mod Watch
+pub mod Receiver
 pub mod LawTerms
 pub mod Example
 pub mod Worked

@@ -2,13 +2,19 @@
 #![tactic(auto)]
 
 mod entry;
+mod fault;
 mod judging;
-pub mod laws;
 mod lock_reader;
+pub mod laws;
+mod over;
+mod receiver;
+mod watch;
 mod writing;
 
 pub use entry::Entry;
+pub use fault::{MomentFault, ReceiverFault};
 pub use judging::judge;
+pub use receiver::Receiver;
 pub use writing::{MAX_ENTRY, entry_text};
 
 #[cfg(test)]

@@ -3,6 +3,8 @@
 ghost use Rattle.std.specs.Prelude.{◌≤◌};
 ghost use Rattle.nx_memory.specs.Memory.{newest_moment};
 
+mod receiver;
+
 use super::*;
 use arrayvec::ArrayVec;
 use nx_envelope::{Finder, FinderStep, Found, Identity};

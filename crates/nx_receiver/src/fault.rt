@@ -1,0 +1,26 @@
+//! Why a receiver is not made, or a moment is refused.
+
+use std::alloc::AllocError;
+use thiserror::Error;
+
+/// Why a receiver is not made.
+#[derive(Clone, Copy, Debug, Drop, PartialEq, Eq, Error)]
+pub enum ReceiverFault {
+    /// The first moment is past 2999-12-31 23:59:59 UTC, or before the newest of the memory.
+    #[error("the first moment is out of range")]
+    MomentRange,
+    /// There is no memory for the receiver.
+    #[error("out of memory")]
+    Memory(AllocError),
+}
+
+/// Why a moment is refused. Moments are whole seconds since 1970-01-01 00:00:00 UTC.
+#[derive(Clone, Copy, Debug, Drop, PartialEq, Eq, Error)]
+pub enum MomentFault {
+    /// The moment is past 2999-12-31 23:59:59 UTC.
+    #[error("moment {given} is past the last one")]
+    Range { given: u64 },
+    /// The moment is before the last one that was given.
+    #[error("moment {given} is before {last}")]
+    Back { last: u64, given: u64 },
+}

@@ -1,0 +1,236 @@
+//! The receiver: elements, moments and commands in, entries out.
+
+ghost use Rattle.std.specs.Prelude.{◌≡◌, ◌↔◌, ℕ, ◌+◌, ◌<◌, ◌≤◌, Bool, List, [], ◌∷◌, ◌++◌, length, take, IfErr, IfOk, IfSome, IsErr, IsNone, IsSome, IsTrue, OnErr, OnOk};
+ghost use Rattle.nx_envelope.specs.Moment.{last_moment};
+ghost use Rattle.nx_code.specs.Lists.{last_of};
+ghost use Rattle.nx_memory.specs.Memory.{most_entries, newest_moment};
+ghost use Rattle.nx_memory.specs.declared.entry.MemoryEntry.{MemoryEntry};
+ghost use Rattle.nx_memory.specs.Vital.{is_vital};
+ghost use Rattle.nx_receiver.specs.Events as events;
+ghost use Rattle.nx_receiver.specs.Events.{Event, Setting, Start, at_moment, command, first_setting};
+ghost use Rattle.nx_receiver.specs.Log.{HasPrinted, PrintsToEnd};
+ghost use Rattle.nx_receiver.specs.Printing.{entries_after, printed_copies};
+ghost use Rattle.nx_receiver.specs.Receiver.{Refuses, RefusesStart, Stands, StandsOver, elements, entry_list};
+ghost use Rattle.nx_receiver.specs.Tagged.{TaggedCopy};
+ghost use Rattle.nx_receiver.specs.Watch.{Hears, IsOver, WatchStands, handed_out, in_force};
+ghost use Rattle.nx_receiver.specs.declared.over.Over.TheVariants.{Nothing};
+
+use crate::entry::Entry;
+use crate::fault::{MomentFault, ReceiverFault};
+use crate::judging::judge;
+use crate::over::{CopyTag, Over};
+use crate::watch::Watch;
+use nx_envelope::{Found, LAST_MOMENT, Letter};
+use nx_memory::{Recall, Vital};
+use std::alloc::Global;
+use std::marker::Model;
+
+/// A receiver of NAVTEX, which is given elements, moments and commands, and hands out an entry for each copy that is
+/// printed.
+///
+/// It keeps what it needs for the next element and no history: the synchroniser, the text of the open copy, the
+/// selection, the moment, and a memory of identities.
+#[derive(Drop)]
+pub struct Receiver<M: Recall> {
+    watch: Watch,
+    memory: M,
+}
+
+impl<M: Recall> Model for Receiver<M> {
+    ghost use Rattle.std.specs.Coded.{codes};
+    ghost use Rattle.nx_memory.specs.Refused.{refused_code};
+    ghost use Rattle.nx_receiver.specs.Receiver.{Receiving, IsInOrder};
+    ghost use Rattle.nx_memory.specs.Memory.{newest_moment};
+
+    ghost Value = { Receiving M };
+
+    ghost coded = { Prim.hlevel (codes, refused_code, M.code) };
+
+    ghost view = { λ r. record { watch = r.watch; memory = r.memory } };
+
+    ghost invariant = { λ r. IsInOrder (newest_moment (M.content r.memory)) r.watch.tag.moment r.watch.moment };
+
+    // What contracts see gives every field back, so that nothing else can be kept: no element, no history.
+    ghost inverse = { λ v. record { watch = v.watch; memory = v.memory } };
+}
+
+impl<M: Recall> Receiver<M> {
+    /// A receiver that has heard nothing, with a memory and the first moment, in whole seconds since
+    /// 1970-01-01 00:00:00 UTC. Everything is selected.
+    ///
+    /// `MomentRange` where the moment is past 2999-12-31 23:59:59 or before the newest of the memory; else `Memory`
+    /// where there is none for the synchroniser. The memory of identities is then let go.
+    pub fn new(alloc: Global, memory: M, moment: u64) -> Result<Receiver<M>, ReceiverFault>
+        ensures stands { (start : Start) → start.entries ≡ M.content memory → start.moment ≡ moment
+            → IfOk result (λ r. Stands M.content start r [] []) }
+        ensures refused { IfErr result (RefusesStart (newest_moment (M.content memory)) moment) }
+        ensures taken { OnOk result ((newest_moment (M.content memory) ≤ moment) × (moment ≤ last_moment)) }
+    {
+        if moment > LAST_MOMENT || memory.newest().is_some_and(|newest| moment < newest) {
+            return Err(ReceiverFault::MomentRange);
+        }
+        let watch = Watch::new(alloc, moment).map_err(ReceiverFault::Memory)?;
+        Ok(Receiver { watch, memory })
+    }
+
+    /// Sets the moment, in whole seconds since 1970-01-01 00:00:00 UTC. `Range` where it is past
+    /// 2999-12-31 23:59:59, else `Back` where it is before the last one; the receiver then stays as it was.
+    pub fn set_moment(&mut self, moment: u64) -> Result<(), MomentFault>
+        ensures stands { (start : Start) (history : List Event) (log : List TaggedCopy) →
+            Stands M.content start self.old history log
+            → OnOk result (Stands M.content start self.new (history ++ at_moment moment ∷ []) log) }
+        ensures taken { OnOk result ((self.old.watch.moment ≤ moment) × (moment ≤ last_moment)) }
+        ensures refused { IfErr result (Refuses self.old.watch.moment moment) }
+        ensures unchanged { OnErr result (self.new ≡ self.old) }
+    {
+        if moment > LAST_MOMENT {
+            return Err(MomentFault::Range { given: moment });
+        }
+        let last = self.watch.moment();
+        if moment < last {
+            return Err(MomentFault::Back {
+                last,
+                given: moment,
+            });
+        }
+        self.watch.set_moment(moment);
+        Ok(())
+    }
+
+    /// Refuses the station, for all its subjects, from here on.
+    pub fn refuse_station(&mut self, station: Letter)
+        ensures { (start : Start) (history : List Event) (log : List TaggedCopy) →
+            Stands M.content start self.old history log → Stands M.content start self.new
+            (history ++ command (events.refuse_station station.byte) ∷ []) log }
+    {
+        self.watch.refuse_station(station);
+    }
+
+    /// Refuses the station no longer, from here on.
+    pub fn accept_station(&mut self, station: Letter)
+        ensures { (start : Start) (history : List Event) (log : List TaggedCopy) →
+            Stands M.content start self.old history log → Stands M.content start self.new
+            (history ++ command (events.accept_station station.byte) ∷ []) log }
+    {
+        self.watch.accept_station(station);
+    }
+
+    /// Refuses the subject, of all stations, from here on. `Vital` where it is A, B, D or L (ITU-R M.540); the receiver
+    /// then stays as it was.
+    pub fn refuse_subject(&mut self, subject: Letter) -> Result<(), Vital>
+        ensures stands { (start : Start) (history : List Event) (log : List TaggedCopy) →
+            Stands M.content start self.old history log → OnOk result (Stands M.content start self.new
+            (history ++ command (events.refuse_subject subject.byte) ∷ []) log) }
+        ensures vital { IsErr result ↔ IsTrue (is_vital subject.byte) }
+        ensures fault { IfErr result (λ vital. vital.subject ≡ subject) }
+        ensures unchanged { OnErr result (self.new ≡ self.old) }
+    {
+        self.watch.refuse_subject(subject)
+    }
+
+    /// Refuses the subject no longer, from here on.
+    pub fn accept_subject(&mut self, subject: Letter)
+        ensures { (start : Start) (history : List Event) (log : List TaggedCopy) →
+            Stands M.content start self.old history log → Stands M.content start self.new
+            (history ++ command (events.accept_subject subject.byte) ∷ []) log }
+    {
+        self.watch.accept_subject(subject);
+    }
+
+    /// Hears elements, true for B, up to and with the one that ends the first copy that is printed; says how many it
+    /// heard, and hands out the entry. With `None` it heard all.
+    pub fn feed(&mut self, bits: &[bool]) -> (usize, Option<Entry>)
+        ensures within { result.0 ≤ length bits.now }
+        ensures stands { (start : Start) (history : List Event) (log : List TaggedCopy) →
+            Stands M.content start self.old history log → Stands M.content start self.new
+            (history ++ elements (take result.0 bits.now)) (log ++ entry_list result.1) }
+        ensures first { (start : Start) (history : List Event) (log : List TaggedCopy) →
+            Stands M.content start self.old history log
+            → (k : ℕ) → k < result.0 → HasPrinted start (history ++ elements (take k bits.now)) log }
+        ensures all { IsNone result.1 → result.0 ≡ length bits.now }
+        ensures some { IsSome result.1 → 0 < result.0 }
+        ensures moment { IfSome result.1 (λ entry. entry.moment ≤ last_moment) }
+    {
+        let mut at = 0;
+        while at < bits.len() {
+            let (count, over) = self.hear(&bits[at..]);
+            at += count;
+            let entry = self.finish(over);
+            if entry.is_some() {
+                return (at, entry);
+            }
+        }
+        (at, None)
+    }
+
+    /// Ends the elements, and hands out the entry that their end prints: that of the open copy, where it is printed.
+    pub fn close(self) -> Option<Entry>
+        ensures stands { (start : Start) (history : List Event) (log : List TaggedCopy) →
+            Stands M.content start self history log → PrintsToEnd start history (log ++ entry_list result) }
+        ensures moment { IfSome result (λ entry. entry.moment ≤ last_moment) }
+    {
+        let Receiver {
+            mut watch,
+            mut memory,
+        } = self;
+        let found = watch.end_text();
+        print_copy(found, watch.tag(), &mut memory)
+    }
+
+    /// Hears elements up to and with the first one with which anything is over.
+    fn hear(&mut self, bits: &[bool]) -> (usize, Over)
+        ensures within { result.0 ≤ length bits.now }
+        ensures hears { (first : Setting) (h : List Bool) (s : List Setting) (copies : List TaggedCopy) →
+            WatchStands first self.old.watch h s copies
+            → Hears first self.old.watch self.new.watch h s copies (take result.0 bits.now) result.1 }
+        ensures all { result.1 ≡ Nothing → result.0 ≡ length bits.now }
+        ensures some { 0 < length bits.now → 0 < result.0 }
+        ensures force { in_force self.new.watch ≡ in_force self.old.watch }
+        ensures memory { self.new.memory ≡ self.old.memory }
+    {
+        self.watch.hear(bits)
+    }
+
+    /// The entry of the copy that is over, where one is and it is printed.
+    // Not inlined, so that no loop over elements has a place for an entry.
+    #[inline(never)]
+    fn finish(&mut self, over: Over) -> Option<Entry>
+        ensures stands { (start : Start) (h : List Bool) (s : List Setting) (now : Setting) (copies log : List TaggedCopy) →
+            IsOver (first_setting start) self.old.watch h s copies over → in_force self.old.watch ≡ now
+            → log ≡ printed_copies start.entries copies
+            → M.content self.old.memory ≡ last_of most_entries (entries_after start.entries copies)
+            → StandsOver M.content start self.new h s now (log ++ entry_list result) }
+        ensures none { over ≡ Nothing → IsNone result }
+        ensures moment { IfSome result (λ entry. entry.moment ≤ last_moment) }
+    {
+        let found = match over {
+            Over::Nothing => None,
+            Over::Copy => self.watch.take_copy(),
+            Over::Lock => self.watch.end_text(),
+            Over::CopyAndLock => {
+                let found = self.watch.take_copy();
+                self.watch.end_text();
+                found
+            }
+        };
+        let tag = self.watch.tag();
+        print_copy(found, tag, &mut self.memory)
+    }
+}
+
+/// The entry of a copy that was handed out, where one was and it is printed.
+fn print_copy<M: Recall>(found: Option<Found>, tag: CopyTag, memory: &mut M) -> Option<Entry>
+    requires { newest_moment (M.content memory.old) ≤ tag.moment }
+    ensures printed { (entries : List MemoryEntry) → M.content memory.old ≡ last_of most_entries entries
+        → entry_list result ≡ printed_copies entries (handed_out found tag) }
+    ensures entered { (entries : List MemoryEntry) → M.content memory.old ≡ last_of most_entries entries
+        → M.content memory.new ≡ last_of most_entries (entries_after entries (handed_out found tag)) }
+    ensures not_before { newest_moment (M.content memory.new) ≤ tag.moment }
+    ensures moment { IfSome result (λ entry. entry.moment ≡ tag.moment) }
+{
+    let found = found?;
+    if !judge(&found, tag.moment, tag.is_selected, memory) {
+        return None;
+    }
+    Some(Entry::new(found, tag.moment))
+}

@@ -1,0 +1,280 @@
+//! What a receiver keeps but its memory: it turns elements into copies, each with the moment and the selection in force
+//! at its second digit. What runs for each element or each word has a small answer.
+
+ghost use Rattle.std.specs.Prelude.{◌≡◌, ◌<◌, ◌≤◌, List, Bool, [], ◌∷◌, ◌++◌, ◌↔◌, length, take, IfOk, IfErr, IsErr, IsTrue, OnErr, OnOk};
+ghost use Rattle.nx_sync.specs.Synchroniser.{is_between_words};
+ghost use Rattle.nx_memory.specs.Vital.{is_vital};
+ghost use Rattle.nx_receiver.specs.Events as Command;
+ghost use Rattle.nx_receiver.specs.Events.{Setting, Start, first_setting, refused_after};
+ghost use Rattle.nx_receiver.specs.Tagged.{TaggedCopy};
+ghost use Rattle.nx_receiver.specs.Watch.{BothAreOver, CopyIsOver, HasEndedAll, Hears, LockIsOver, ReadsStep, ReadsWord, TagGoesOn, WatchStands, handed_out, in_force};
+ghost use Rattle.nx_receiver.specs.declared.over.Over.TheVariants.{Nothing};
+
+use crate::lock_reader::LockReader;
+use crate::over::{CopyTag, Over};
+use nx_code::{ELEMENTS, Word};
+use nx_envelope::{Found, Letter, TextEvent};
+use nx_memory::{Selection, Vital};
+use nx_sync::{Role, Step, Synchroniser};
+use std::alloc::{AllocError, Global};
+use std::marker::Model;
+
+/// A watch over the elements that arrive.
+///
+/// It holds what the synchroniser and the reader of a lock hold, what is refused, the moment, and what was in force at
+/// the header that was heard last; no element and no text but the open one.
+#[derive(Drop)]
+pub(crate) struct Watch {
+    synchroniser: Synchroniser,
+    reader: LockReader,
+    selection: Selection,
+    moment: u64,
+    tag: CopyTag,
+}
+
+impl Model for Watch {
+    ghost use Rattle.std.specs.Coded.{codes};
+    ghost use Rattle.nx_memory.specs.Refused.{refused_code};
+    ghost use Rattle.nx_receiver.specs.Watch.{Watching};
+
+    ghost Value = { Watching };
+
+    ghost coded = { Prim.hlevel (codes, refused_code) };
+
+    ghost view = { λ w. record { synchroniser = w.synchroniser; reader = w.reader; refused = w.selection; moment = w.moment; tag = w.tag } };
+
+    // What contracts see gives every field back, so that nothing else can be kept: no element, no history.
+    ghost inverse = { λ v. record { synchroniser = v.synchroniser; reader = v.reader; selection = v.refused; moment = v.moment; tag = v.tag } };
+}
+
+impl Watch {
+    /// A watch that has heard nothing, from this moment on. Fails where there is no memory for the synchroniser.
+    pub(crate) fn new(alloc: Global, moment: u64) -> Result<Watch, AllocError>
+        ensures stands { IfOk result (λ w. (first : Setting) → WatchStands first w [] [] []) }
+        ensures force { (start : Start) → start.moment ≡ moment
+            → IfOk result (λ w. in_force w ≡ first_setting start) }
+        ensures tag { IfOk result (λ w. w.tag.moment ≡ moment) }
+        ensures moment { IfOk result (λ w. w.moment ≡ moment) }
+    {
+        let synchroniser = Synchroniser::new(alloc)?;
+        Ok(Watch {
+            synchroniser,
+            reader: LockReader::new(),
+            selection: Selection::all(),
+            moment,
+            tag: CopyTag {
+                moment,
+                is_selected: false,
+            },
+        })
+    }
+
+    /// The moment in force.
+    pub(crate) fn moment(&self) -> u64
+        ensures { result ≡ self.now.moment }
+    {
+        self.moment
+    }
+
+    /// What was in force at the header that was heard last.
+    pub(crate) fn tag(&self) -> CopyTag
+        ensures { result ≡ self.now.tag }
+    {
+        self.tag
+    }
+
+    /// Sets the moment in force.
+    pub(crate) fn set_moment(&mut self, moment: u64)
+        ensures { self.new ≡ record self.old { moment = moment } }
+    {
+        self.moment = moment;
+    }
+
+    /// Hears elements up to and with the first one with which anything is over, all of them where nothing is; says how
+    /// many, and what is over.
+    pub(crate) fn hear(&mut self, bits: &[bool]) -> (usize, Over)
+        ensures within { result.0 ≤ length bits.now }
+        ensures hears { (first : Setting) (h : List Bool) (s : List Setting) (copies : List TaggedCopy) →
+            WatchStands first self.old h s copies
+            → Hears first self.old self.new h s copies (take result.0 bits.now) result.1 }
+        ensures all { result.1 ≡ Nothing → result.0 ≡ length bits.now }
+        ensures some { 0 < length bits.now → 0 < result.0 }
+        ensures force { in_force self.new ≡ in_force self.old }
+        ensures tag { TagGoesOn self.old self.new }
+    {
+        let mut at = 0;
+        while at < bits.len() {
+            let (count, over) = self.hear_part(&bits[at..]);
+            at += count;
+            if over != Over::Nothing {
+                return (at, over);
+            }
+        }
+        (at, Over::Nothing)
+    }
+
+    /// Hears one or more elements: those that a hunt passes over, whole words, or one element.
+    fn hear_part(&mut self, bits: &[bool]) -> (usize, Over)
+        requires { 0 < length bits.now }
+        ensures within { result.0 ≤ length bits.now }
+        ensures some { 0 < result.0 }
+        ensures hears { (first : Setting) (h : List Bool) (s : List Setting) (copies : List TaggedCopy) →
+            WatchStands first self.old h s copies
+            → Hears first self.old self.new h s copies (take result.0 bits.now) result.1 }
+        ensures force { in_force self.new ≡ in_force self.old }
+        ensures tag { TagGoesOn self.old self.new }
+    {
+        if !self.synchroniser.is_locked() {
+            let count = self.synchroniser.hunt(bits);
+            if count > 0 {
+                return (count, Over::Nothing);
+            }
+        }
+        if self.synchroniser.is_between_words() && bits.len() >= ELEMENTS {
+            return self.hear_words(bits);
+        }
+        (1, self.hear_element(bits[0]))
+    }
+
+    /// Hears whole words, as many as there are up to the first with which anything is over.
+    fn hear_words(&mut self, bits: &[bool]) -> (usize, Over)
+        requires limit { IsTrue (is_between_words self.old.synchroniser) }
+        requires some { 7 ≤ length bits.now }
+        ensures within { result.0 ≤ length bits.now }
+        ensures some { 0 < result.0 }
+        ensures hears { (first : Setting) (h : List Bool) (s : List Setting) (copies : List TaggedCopy) →
+            WatchStands first self.old h s copies
+            → Hears first self.old self.new h s copies (take result.0 bits.now) result.1 }
+        ensures force { in_force self.new ≡ in_force self.old }
+        ensures tag { TagGoesOn self.old self.new }
+    {
+        let mut at = 0;
+        while let Some(word) = bits[at..].first_chunk::<ELEMENTS>() {
+            let over = self.hear_word(word);
+            at += ELEMENTS;
+            if over != Over::Nothing {
+                return (at, over);
+            }
+        }
+        (at, Over::Nothing)
+    }
+
+    /// Hears the seven elements of the next word of the lock.
+    #[inline(always)]
+    fn hear_word(&mut self, bits: &[bool; ELEMENTS]) -> Over
+        requires { IsTrue (is_between_words self.old.synchroniser) }
+        ensures hears { (first : Setting) (h : List Bool) (s : List Setting) (copies : List TaggedCopy) →
+            WatchStands first self.old h s copies
+            → Hears first self.old self.new h s copies bits.now result }
+        ensures limit { result ≡ Nothing → IsTrue (is_between_words self.new.synchroniser) }
+        ensures force { in_force self.new ≡ in_force self.old }
+        ensures tag { TagGoesOn self.old self.new }
+    {
+        let step = self.synchroniser.push_word(bits);
+        self.read(step)
+    }
+
+    /// Hears one element.
+    #[inline(always)]
+    fn hear_element(&mut self, bit: bool) -> Over
+        ensures hears { (first : Setting) (h : List Bool) (s : List Setting) (copies : List TaggedCopy) →
+            WatchStands first self.old h s copies
+            → Hears first self.old self.new h s copies (bit ∷ []) result }
+        ensures force { in_force self.new ≡ in_force self.old }
+        ensures tag { TagGoesOn self.old self.new }
+    {
+        let step = self.synchroniser.push(bit);
+        self.read(step)
+    }
+
+    /// Reads the word that a step of the synchroniser completes, if it completes one.
+    #[inline(always)]
+    fn read(&mut self, step: Step) -> Over
+        ensures step { ReadsStep self.old self.new step result }
+        ensures tag { TagGoesOn self.old self.new }
+    {
+        let Step { word, change } = step;
+        let Some(heard) = word else {
+            return Over::Nothing;
+        };
+        self.read_word(heard.0, heard.1, change.is_some())
+    }
+
+    /// Reads a word of the lock, which may bring a change.
+    #[inline(always)]
+    fn read_word(&mut self, word: Word, role: Role, is_changed: bool) -> Over
+        ensures word { ReadsWord self.old self.new word role is_changed result }
+        ensures tag { TagGoesOn self.old self.new }
+    {
+        match self.reader.hear(word, role) {
+            TextEvent::Nothing => Over::of(false, is_changed),
+            TextEvent::Header(identity) => {
+                self.tag = CopyTag {
+                    moment: self.moment,
+                    is_selected: self.selection.admits(&identity),
+                };
+                Over::of(false, is_changed)
+            }
+            TextEvent::CopyOver => Over::of(true, is_changed),
+        }
+    }
+
+    /// The copy that is over, which can be taken.
+    pub(crate) fn take_copy(&mut self) -> Option<Found>
+        ensures copy { (first : Setting) (h : List Bool) (s : List Setting) (copies : List TaggedCopy) →
+            CopyIsOver first self.old h s copies
+            → WatchStands first self.new h s (copies ++ handed_out result self.new.tag) }
+        ensures both { (first : Setting) (h : List Bool) (s : List Setting) (copies : List TaggedCopy) →
+            BothAreOver first self.old h s copies
+            → LockIsOver first self.new h s (copies ++ handed_out result self.new.tag) }
+        ensures force { in_force self.new ≡ in_force self.old }
+        ensures tag { self.new.tag ≡ self.old.tag }
+    {
+        self.reader.take_found()
+    }
+
+    /// Ends the text of the lock, and answers the copy that stands open, which is over then.
+    pub(crate) fn end_text(&mut self) -> Option<Found>
+        ensures lock { (first : Setting) (h : List Bool) (s : List Setting) (copies : List TaggedCopy) →
+            LockIsOver first self.old h s copies
+            → WatchStands first self.new h s (copies ++ handed_out result self.new.tag) }
+        ensures all { (first : Setting) (h : List Bool) (s : List Setting) (copies : List TaggedCopy) →
+            WatchStands first self.old h s copies
+            → HasEndedAll first h s (copies ++ handed_out result self.new.tag) }
+        ensures force { in_force self.new ≡ in_force self.old }
+        ensures tag { self.new.tag ≡ self.old.tag }
+    {
+        self.reader.end()
+    }
+
+    /// Refuses the station.
+    pub(crate) fn refuse_station(&mut self, station: Letter)
+        ensures { self.new ≡ record self.old { refused = refused_after self.old.refused (Command.refuse_station station.byte) } }
+    {
+        self.selection.refuse_station(station);
+    }
+
+    /// Refuses the station no longer.
+    pub(crate) fn accept_station(&mut self, station: Letter)
+        ensures { self.new ≡ record self.old { refused = refused_after self.old.refused (Command.accept_station station.byte) } }
+    {
+        self.selection.accept_station(station);
+    }
+
+    /// Refuses the subject, unless it is vital.
+    pub(crate) fn refuse_subject(&mut self, subject: Letter) -> Result<(), Vital>
+        ensures vital { IsErr result ↔ IsTrue (is_vital subject.byte) }
+        ensures fault { IfErr result (λ vital. vital.subject ≡ subject) }
+        ensures refused { OnOk result (self.new ≡ record self.old { refused = refused_after self.old.refused (Command.refuse_subject subject.byte) }) }
+        ensures unchanged { OnErr result (self.new ≡ self.old) }
+    {
+        self.selection.refuse_subject(subject)
+    }
+
+    /// Refuses the subject no longer.
+    pub(crate) fn accept_subject(&mut self, subject: Letter)
+        ensures { self.new ≡ record self.old { refused = refused_after self.old.refused (Command.accept_subject subject.byte) } }
+    {
+        self.selection.accept_subject(subject);
+    }
+}
