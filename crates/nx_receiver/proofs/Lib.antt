@@ -7,6 +7,9 @@ pub mod Growing
 pub mod LoggedLemmas
 pub mod WatchTexts
 pub mod WatchTakes
+pub mod ReceiverEvents
+pub mod ReceiverPrinting
+pub mod ReceiverOver
 pub mod OnceLemmas
 pub mod LogLemmas
 pub mod ApartLemmas
