@@ -37,6 +37,7 @@ impl Model for LockReader {
 
 impl LockReader {
     /// A reader of a lock of which no word was heard yet.
+    #[tactic(auto, unfolding(crate::specs::LockReader::dx_words, crate::specs::LockText::positions))]
     pub(crate) fn new() -> LockReader
         ensures { (first : Role) (words : ℕ → ℕ) → ReadsLock result first words 0 }
     {
@@ -88,10 +89,11 @@ impl LockReader {
         self.finder.take_found()
     }
 
-    /// Ends the text, as the lock or the bits end, and answers the copy that stands open; the reader is then as new, for
-    /// the next lock. A copy that could be taken is gone.
+    /// Ends the text, as the lock or the bits end, and answers the copy that stands open; the reader is then as new,
+    /// for the next lock. A copy that could be taken is gone.
     // Not inlined, as `take_found`.
     #[inline(never)]
+    #[tactic(auto, unfolding(crate::specs::LockReader::dx_words, crate::specs::LockText::positions))]
     pub(crate) fn end(&mut self) -> Option<Found>
         ensures closes { (first : Role) (words : ℕ → ℕ) (n : ℕ) → ReadsLock self.old first words n
             → Closes (text_after first words n) result }

@@ -227,6 +227,7 @@ fn print_copy<M: Recall>(found: Option<Found>, tag: CopyTag, memory: &mut M) -> 
         → M.content memory.new ≡ last_of most_entries (entries_after entries (handed_out found tag)) }
     ensures not_before { newest_moment (M.content memory.new) ≤ tag.moment }
     ensures moment { IfSome result (λ entry. entry.moment ≡ tag.moment) }
+    ensures none { IsNone found → IsNone result }
 {
     let found = found?;
     if !judge(&found, tag.moment, tag.is_selected, memory) {

@@ -1,23 +1,21 @@
 use Rattle.std.proofs.Common.{◌≡◌, ◌+◌, [], ◌∷◌, ◌++◌, inl, inr, refl, sym, ap, ◌∙◌, subst, append-nil}
 use Rattle.std.specs.Option.{option_to_list}
 use Rattle.nx_code.specs.Reading.{shift_after_all, text}
-use Rattle.nx_code.specs.Taken.{reception_of}
 use Rattle.nx_code.specs.declared.shifts.Shift.TheVariants.{Letters}
-use Rattle.nx_fec.specs.Pairing.{IsLatest, counts_as, heard_as}
-use Rattle.nx_envelope.specs.Finder.{StandsAfter, Hears}
+use Rattle.nx_fec.specs.Pairing.{IsLatest, counts_as}
+use Rattle.nx_envelope.specs.Finder.{StandsAfter}
 use Rattle.nx_receiver.specs.LockReader.{ReadsLock, dx_words, text_after}
-use Rattle.nx_receiver.proofs.LockReaderWords.{HasReadRx, dx_words-dx, has_read_rx, positions-dx}
+use Rattle.nx_receiver.proofs.LockReaderWords.{has_read_dx, has_read_rx, positions-dx}
 use Rattle.nx_receiver.proofs.lock_reader.LockReader.hear.Goals as goal
 
 pub returns-in-Dx-clause-stands : goal.returns-in-Dx-clause-stands
 returns-in-Dx-clause-stands c first words n reads is_word is_role =
     let before = subst (λ r. ReadsLock r first words n) (sym c.self.view_is) reads in
     let dx = sym is_role ∙ c.in-Dx.is in
-    let counts : heard_as c.of.result ≡ counts_as (words n) = c.of.ensures.counts ∙ ap counts_as (sym is_word) in
-    let all : dx_words first words n ++ heard_as c.of.result ∷ [] ≡ dx_words first words (n + 1) = ap (λ x. dx_words first words n ++ x ∷ []) counts ∙ sym (dx_words-dx first words n dx) in
+    let sent = has_read_dx first words n _ dx (c.of.ensures.counts ∙ ap counts_as (sym is_word)) in
     let same = sym (positions-dx first words n dx) in
     record {
-      latest = subst (IsLatest c.dx.new.self) all (c.dx.ensures.stands (dx_words first words n) before.latest);
+      latest = subst (IsLatest c.dx.new.self) sent (c.dx.ensures.stands (dx_words first words n) before.latest);
       shift = before.shift ∙ ap (λ l. shift_after_all l Letters) same;
       finder = subst (λ l. StandsAfter c.self.inside.finder (text l Letters)) same before.finder;
     }
@@ -29,40 +27,47 @@ returns-in-Dx-clause-hears c first words n reads is_word is_role =
 pub returns-in-Some-clause-stands : goal.returns-in-Some-clause-stands
 returns-in-Some-clause-stands c first words n reads is_word is_role =
     let before = subst (λ r. ReadsLock r first words n) (sym c.self.view_is) reads in
-    let read = has_read_rx _ c.rx-taken.new.self _ c.step.new.self _ _ c.step.result first words n before.latest before.shift (sym is_role ∙ c.in-Rx.is) (c.of-in-Rx.ensures.counts ∙ ap counts_as (sym is_word)) c.rx-taken.ensures.unchanged c.rx-taken.ensures.stands c.step.ensures.reading in
-    let grows : text_after first words (n + 1) ≡ text_after first words n ++ c.in-Some.byte ∷ [] = read.grows ∙ ap (λ o. text_after first words n ++ option_to_list o) c.in-Some.is in
-    record {
-      latest = read.latest;
-      shift = read.shift;
-      finder = subst (StandsAfter c.hear.new.self) (sym grows) (c.hear.ensures.stands (text_after first words n) before.finder);
-    }
+    let counts = c.of-in-Rx.ensures.counts ∙ ap counts_as (sym is_word) in
+    let rx = c.rx-taken.ensures in
+    let so_far = text_after first words n in
+    let read = has_read_rx before (sym is_role ∙ c.in-Rx.is) counts rx.stands rx.unchanged c.step.ensures.reading in
+    let grows : text_after first words (n + 1) ≡ text_after first words n ++ c.in-Some.byte ∷ [] =
+    read.grows ∙ ap (λ o. so_far ++ option_to_list o) c.in-Some.is in
+    let stands = c.hear.ensures.stands (text_after first words n) before.finder in
+    record { latest = read.latest; shift = read.shift; finder = subst (StandsAfter c.hear.new.self) (sym grows) stands }
 
 pub returns-in-Some-clause-hears : goal.returns-in-Some-clause-hears
 returns-in-Some-clause-hears c first words n reads is_word is_role =
     let before = subst (λ r. ReadsLock r first words n) (sym c.self.view_is) reads in
-    let read = has_read_rx _ c.rx-taken.new.self _ c.step.new.self _ _ c.step.result first words n before.latest before.shift (sym is_role ∙ c.in-Rx.is) (c.of-in-Rx.ensures.counts ∙ ap counts_as (sym is_word)) c.rx-taken.ensures.unchanged c.rx-taken.ensures.stands c.step.ensures.reading in
+    let counts = c.of-in-Rx.ensures.counts ∙ ap counts_as (sym is_word) in
+    let rx = c.rx-taken.ensures in
+    let so_far = text_after first words n in
+    let read = has_read_rx before (sym is_role ∙ c.in-Rx.is) counts rx.stands rx.unchanged c.step.ensures.reading in
     inr (record {
       byte = c.in-Some.byte;
-      grows = read.grows ∙ ap (λ o. text_after first words n ++ option_to_list o) c.in-Some.is;
+      grows = read.grows ∙ ap (λ o. so_far ++ option_to_list o) c.in-Some.is;
       hears = c.hear.ensures.hears (text_after first words n) before.finder;
     })
 
 pub returns-in-None-clause-stands : goal.returns-in-None-clause-stands
 returns-in-None-clause-stands c first words n reads is_word is_role =
     let before = subst (λ r. ReadsLock r first words n) (sym c.self.view_is) reads in
-    let read = has_read_rx _ c.rx-taken.new.self _ c.step.new.self _ _ c.step.result first words n before.latest before.shift (sym is_role ∙ c.in-Rx.is) (c.of-in-Rx.ensures.counts ∙ ap counts_as (sym is_word)) c.rx-taken.ensures.unchanged c.rx-taken.ensures.stands c.step.ensures.reading in
-    let same : text_after first words (n + 1) ≡ text_after first words n = read.grows ∙ ap (λ o. text_after first words n ++ option_to_list o) c.in-None.is ∙ append-nil (text_after first words n) in
-    record {
-      latest = read.latest;
-      shift = read.shift;
-      finder = subst (StandsAfter c.self.inside.finder) (sym same) before.finder;
-    }
+    let counts = c.of-in-Rx.ensures.counts ∙ ap counts_as (sym is_word) in
+    let rx = c.rx-taken.ensures in
+    let so_far = text_after first words n in
+    let read = has_read_rx before (sym is_role ∙ c.in-Rx.is) counts rx.stands rx.unchanged c.step.ensures.reading in
+    let same : text_after first words (n + 1) ≡ text_after first words n =
+    read.grows ∙ ap (λ o. so_far ++ option_to_list o) c.in-None.is ∙ append-nil (text_after first words n) in
+    record { latest = read.latest; shift = read.shift; finder = subst (StandsAfter c.self.inside.finder) (sym same) before.finder }
 
 pub returns-in-None-clause-hears : goal.returns-in-None-clause-hears
 returns-in-None-clause-hears c first words n reads is_word is_role =
     let before = subst (λ r. ReadsLock r first words n) (sym c.self.view_is) reads in
-    let read = has_read_rx _ c.rx-taken.new.self _ c.step.new.self _ _ c.step.result first words n before.latest before.shift (sym is_role ∙ c.in-Rx.is) (c.of-in-Rx.ensures.counts ∙ ap counts_as (sym is_word)) c.rx-taken.ensures.unchanged c.rx-taken.ensures.stands c.step.ensures.reading in
+    let counts = c.of-in-Rx.ensures.counts ∙ ap counts_as (sym is_word) in
+    let rx = c.rx-taken.ensures in
+    let so_far = text_after first words n in
+    let read = has_read_rx before (sym is_role ∙ c.in-Rx.is) counts rx.stands rx.unchanged c.step.ensures.reading in
     inl (record {
-      same = read.grows ∙ ap (λ o. text_after first words n ++ option_to_list o) c.in-None.is ∙ append-nil (text_after first words n);
+      same = read.grows ∙ ap (λ o. so_far ++ option_to_list o) c.in-None.is ∙ append-nil (text_after first words n);
       nothing = refl;
     })

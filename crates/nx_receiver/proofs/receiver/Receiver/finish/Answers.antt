@@ -1,0 +1,71 @@
+use Rattle.std.proofs.Common.{◌≡◌, ◌++◌, sym, refl, subst, ap, ◌∙◌, None, IsNone}
+use Rattle.nx_receiver.specs.Events.{first_setting}
+use Rattle.nx_receiver.specs.Receiver.{entry_list}
+use Rattle.nx_receiver.specs.Watch.{IsOver, WatchStands, handed_out, in_force}
+use Rattle.nx_receiver.proofs.ReceiverOver.{Handed, apart-nothing, apart-nothing-lock, apart-nothing-both, both_ended, handed, none_handed}
+use Rattle.nx_receiver.proofs.ReceiverPrinting.{stands_with}
+use Rattle.nx_receiver.proofs.receiver.Receiver.finish.Goals as goal
+use Rattle.nx_receiver.proofs.receiver.Receiver.finish.Goals.{in-Nothing, in-Copy, in-Lock, in-CopyAndLock}
+
+pub returns-clause-stands : goal.returns-clause-stands
+returns-clause-stands g c start h s now copies log over force printed memory =
+    let first = first_setting start in
+    let content = g.M.Recall.content in
+    let inside = c.self.inside.watch in
+    let watch = c.match-over.self-inside.watch in
+    let found = c.match-over.found in
+    let tag = c.tag-tag.result in
+    let its = c.tag-tag.ensures in
+    let before : IsOver first inside h s copies c.args.over = subst (λ r. IsOver first r.watch h s copies c.args.over) (sym c.self.view_is) over in
+    let after : Handed first inside watch found tag h s copies =
+    elim c.match-over.branch [
+      | in-Nothing w ↦
+          let is : watch ≡ inside = cc in
+          let stands = subst (λ o. IsOver first inside h s copies o) w.in-Nothing.is before in
+          handed first inside inside watch None found tag h s copies is w.found-is its refl (none_handed first inside h s copies stands)
+      | in-Copy w ↦
+          let is : watch ≡ w.take_copy-found.new.self = cc in
+          let call = w.take_copy-found.ensures in
+          let stands = call.copy first h s copies (subst (λ o. IsOver first inside h s copies o) w.in-Copy.is before) in
+          handed first inside _ watch _ found tag h s copies is w.found-is its call.force stands
+      | in-Lock w ↦
+          let is : watch ≡ w.end_text-found.new.self = cc in
+          let call = w.end_text-found.ensures in
+          let stands = call.lock first h s copies (subst (λ o. IsOver first inside h s copies o) w.in-Lock.is before) in
+          handed first inside _ watch _ found tag h s copies is w.found-is its call.force stands
+      | in-CopyAndLock w ↦
+          let is : watch ≡ w.end_text.new.self = cc in
+          let take = w.take_copy-found-in-CopyAndLock.ensures in
+          let ends = w.end_text.ensures in
+          let both = subst (λ o. IsOver first inside h s copies o) w.in-CopyAndLock.is before in
+          let lock = take.both first h s copies both in
+          let all = ends.lock first h s _ lock in
+          let none = both_ended first inside _ _ h s copies _ _ both lock all in
+          let stands = subst (λ l. WatchStands first w.end_text.new.self h s l) (none ∙ ap (λ t. copies ++ handed_out w.take_copy-found-in-CopyAndLock.result t) (sym ends.tag)) all in
+          handed first inside _ watch _ found tag h s copies is w.found-is its (ends.force ∙ take.force) stands
+    ] in
+    let same : c.match-over.self-inside.memory ≡ c.self.inside.memory =
+    elim c.match-over.branch [
+      | in-Nothing w ↦ ap (λ r. r.memory) w.self-inside-is
+      | in-Copy w ↦ ap (λ r. r.memory) w.self-inside-is
+      | in-Lock w ↦ ap (λ r. r.memory) w.self-inside-is
+      | in-CopyAndLock w ↦ ap (λ r. r.memory) w.self-inside-is
+    ] in
+    stands_with content start watch c.match-over.self-inside.memory c.print_copy.new.memory h s now copies log found tag (entry_list c.print_copy.result)
+    after.stands
+    (after.force ∙ ap (λ r. in_force r.watch) c.self.view_is ∙ force)
+    printed
+    (ap content same ∙ ap (λ r. content r.memory) c.self.view_is ∙ memory)
+    c.print_copy.ensures.printed
+    c.print_copy.ensures.entered
+
+pub returns-clause-none : goal.returns-clause-none
+returns-clause-none g c nothing =
+    let none : c.match-over.found ≡ None =
+    elim c.match-over.branch [
+      | in-Nothing w ↦ w.found-is
+      | in-Copy w ↦ absurd (apart-nothing (sym nothing ∙ w.in-Copy.is))
+      | in-Lock w ↦ absurd (apart-nothing-lock (sym nothing ∙ w.in-Lock.is))
+      | in-CopyAndLock w ↦ absurd (apart-nothing-both (sym nothing ∙ w.in-CopyAndLock.is))
+    ] in
+    c.print_copy.ensures.none (subst IsNone (sym none) refl)
