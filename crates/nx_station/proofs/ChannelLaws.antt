@@ -111,7 +111,7 @@ module _ (positions : List SentPosition) (heard : List ℕ) (has : HasInner posi
   ]
 
   -- each slot is 2i or 2i + 5
-  sent-weight : (slot : ℕ) → first_slot ≤ slot → weight (word_sent positions slot) ≡ 4
+  pub sent-weight : (slot : ℕ) → first_slot ≤ slot → weight (word_sent positions slot) ≡ 4
   sent-weight slot from =
       elim (cases_eq (slot % 2) 0) [
         | inl even ↦

@@ -10,4 +10,6 @@ pub mod SendingLaws
 pub mod ChannelPositions
 pub mod ChannelCounts
 pub mod ChannelLaws
+pub mod ChannelWindows
+pub mod SendingsLemmas
 mod Examples
