@@ -17,7 +17,7 @@ use Rattle.nx_station.proofs.ChannelLaws.{few-wrong, sent-weight}
 use Rattle.nx_station.proofs.ChannelPositions.{HasInner, layout-inner}
 
 -- an emission that passes has positions
-not-empty : (spellings : List (List ℕ)) (heard : List ℕ) → PassesChannel (layout spellings) heard → spellings ≢ []
+pub not-empty : (spellings : List (List ℕ)) (heard : List ℕ) → PassesChannel (layout spellings) heard → spellings ≢ []
 unfolding layout
 not-empty spellings heard passes e =
     let n = ap (λ s. length (layout s)) e in

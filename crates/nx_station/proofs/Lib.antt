@@ -12,4 +12,5 @@ pub mod ChannelCounts
 pub mod ChannelLaws
 pub mod ChannelWindows
 pub mod SendingsLemmas
+pub mod ChannelPhasing
 mod Examples
