@@ -13,4 +13,5 @@ pub mod ChannelLaws
 pub mod ChannelWindows
 pub mod SendingsLemmas
 pub mod ChannelPhasing
+pub mod ChannelExamples
 mod Examples
