@@ -7,4 +7,11 @@ pub mod StationLemmas
 pub mod ReadingBack
 pub mod FileReading
 pub mod SendingLaws
+pub mod ChannelPositions
+pub mod ChannelCounts
+pub mod ChannelLaws
+pub mod ChannelWindows
+pub mod SendingsLemmas
+pub mod ChannelPhasing
+pub mod ChannelExamples
 mod Examples
