@@ -14,4 +14,8 @@ pub mod ChannelWindows
 pub mod SendingsLemmas
 pub mod ChannelPhasing
 pub mod ChannelExamples
+pub mod PairLemmas
+pub mod PrintedText
+pub mod EmissionReading
+pub mod EmissionFaults
 mod Examples
