@@ -1,5 +1,6 @@
 pub mod JudgingLemmas
 pub mod LockTexts
+pub mod LockWords
 pub mod FoundLemmas
 pub mod Growing
 pub mod LoggedLemmas
