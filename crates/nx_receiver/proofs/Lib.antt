@@ -10,3 +10,9 @@ pub mod ApartLemmas
 pub mod ExampleLemmas
 pub mod WorkedLemmas
 pub mod WorkedLog
+pub mod SendingPositions
+pub mod SendingMarkers
+pub mod OnceRising
+pub mod SendingCopies
+pub mod SendingLocks
+pub mod SendingPlaces

@@ -107,3 +107,5 @@ pub fn a_worked_emission_is_printed()
     ensures log { IsLog (first_copy ∷ []) worked_log }
     ensures bytes { length worked_log ≡ 42 }
 {}
+
+pub mod once;
