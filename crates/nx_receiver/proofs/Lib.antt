@@ -16,3 +16,5 @@ pub mod OnceRising
 pub mod SendingCopies
 pub mod SendingLocks
 pub mod SendingPlaces
+pub mod SendingTexts
+pub mod SendingPrinted

@@ -13,7 +13,7 @@ use Rattle.nx_sync.specs.Locks.{Lock, Past, Now, hunting, locked, IsNow}
 use Rattle.nx_sync.specs.Words.{word_at, first_role, whole_words}
 use Rattle.nx_receiver.specs.LockText.{PlacedByte, place_of, printed_after, positions, taken_at, printed_by, text_by, lock_text, bytes_of}
 use Rattle.nx_receiver.specs.FoundCopies.{FoundCopy, place_in, place_of_header, found_copy, all_in, past_text, past_copies, standing_text, found_to_end}
-use Rattle.nx_receiver.proofs.FoundLemmas.{text_placed, place_in-get_or, all_in_placed}
+use Rattle.nx_receiver.proofs.FoundLemmas.{text_placed, place_in-get_or, all_in_placed, length-bytes_of}
 use Rattle.nx_receiver.proofs.LockTexts.{GoesOnAs, text_by-grows, bytes_of-append}
 use Rattle.nx_receiver.proofs.OnceRising.{Above, Rises, rises_append, rises_map, one_of_key}
 use Rattle.nx_receiver.proofs.SendingCopies.{copies_rise, copies_within}
@@ -62,10 +62,6 @@ places_rise text i j h lt in' =
     let d : PlacedByte = record { byte = 0; place = 0 } in
     omega (arith, place_in-get_or text i d (omega arith), place_in-get_or text j d in', rises_at (λ (b : PlacedByte). b.place) text i j d h lt in')
 
-length-bytes : (text : List PlacedByte) → length (bytes_of text) ≡ length text
-unfolding bytes_of
-length-bytes text = length-map text (λ b. b.byte)
-
 -- the copies of such a text
 pub all_in_rises : (text : List PlacedByte) → Rises (λ (b : PlacedByte). b.place) text → Rises (λ (c : FoundCopy). c.place) (all_in text)
 unfolding found_copy
@@ -74,7 +70,7 @@ all_in_rises text h =
     (λ x y cx cy lt.
     let a = copies_within (bytes_of text) x cx in
     let b = copies_within (bytes_of text) y cy in
-    places_rise text (x.header.behind - 1) (y.header.behind - 1) h (omega (arith, a.0, b.0)) (omega (arith, b.0, b.1, length-bytes text)))
+    places_rise text (x.header.behind - 1) (y.header.behind - 1) h (omega (arith, a.0, b.0)) (omega (arith, b.0, b.1, length-bytes_of text)))
     (copies_rise (bytes_of text))
 
 -- the copies of past locks

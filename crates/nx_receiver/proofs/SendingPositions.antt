@@ -73,3 +73,10 @@ positions-taken first words w sent (suc n) dx taken h =
     ∙ ap (λ l. positions first words (w + 5) ++ l) (sym (map-append reception (take n sent) (position_at sent n ∷ [])))
     ∙ ap (λ l. positions first words (w + 5) ++ map reception l) (sym (take_more sent n end_position lt))
     ∙ ap (λ m. positions first words (w + 5) ++ map reception (take m sent)) one
+
+-- the word that completes one of them
+pub taken_at-sent : (first : Role) (words : ℕ → ℕ) (w : ℕ) (sent : List SentPosition) (i : ℕ) → role_of first w ≡ Dx → AreTaken words w sent → i < length sent
+    → taken_at first words (w + 5 + 2 * i) ≡ reception (position_at sent i) ∷ []
+taken_at-sent first words w sent i dx taken lt =
+    let at : w + 5 + 2 * i ≡ w + 2 * i + 5 = omega arith in
+    ap (taken_at first words) at ∙ taken_at-rx first words (w + 2 * i) (role_of-rx first w i dx) ∙ ap (λ p. p ∷ []) (taken i lt)

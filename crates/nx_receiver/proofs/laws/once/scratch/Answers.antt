@@ -1,6 +1,8 @@
 use Rattle.std.proofs.Common.{refl}
 use Rattle.nx_receiver.proofs.SendingPositions.{positions-taken}
 use Rattle.nx_receiver.proofs.SendingMarkers.{full_ending}
+use Rattle.nx_receiver.proofs.SendingPrinted.{message_found}
+use Rattle.nx_receiver.proofs.SendingTexts.{on_air-parts}
 use Rattle.nx_receiver.proofs.SendingPlaces.{found_rise}
 use Rattle.nx_receiver.proofs.SendingLocks.{locked_through}
 use Rattle.nx_receiver.proofs.SendingCopies.{one_copy}
