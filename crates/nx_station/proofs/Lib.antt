@@ -7,4 +7,7 @@ pub mod StationLemmas
 pub mod ReadingBack
 pub mod FileReading
 pub mod SendingLaws
+pub mod ChannelPositions
+pub mod ChannelCounts
+pub mod ChannelLaws
 mod Examples
