@@ -18,3 +18,4 @@ pub mod SendingLocks
 pub mod SendingPlaces
 pub mod SendingTexts
 pub mod SendingPrinted
+pub mod SendingEmissions

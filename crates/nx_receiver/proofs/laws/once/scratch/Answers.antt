@@ -1,6 +1,7 @@
 use Rattle.std.proofs.Common.{refl}
 use Rattle.nx_receiver.proofs.SendingPositions.{positions-taken}
 use Rattle.nx_receiver.proofs.SendingMarkers.{full_ending}
+use Rattle.nx_receiver.proofs.SendingEmissions.{message_copied}
 use Rattle.nx_receiver.proofs.SendingPrinted.{message_found}
 use Rattle.nx_receiver.proofs.SendingTexts.{on_air-parts}
 use Rattle.nx_receiver.proofs.SendingPlaces.{found_rise}
