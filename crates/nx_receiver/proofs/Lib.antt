@@ -19,3 +19,5 @@ pub mod SendingPlaces
 pub mod SendingTexts
 pub mod SendingPrinted
 pub mod SendingEmissions
+pub mod SendingFound
+pub mod OnceFound

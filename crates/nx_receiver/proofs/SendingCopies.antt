@@ -1,6 +1,6 @@
 -- The copy of a message in a text that holds all that is printed of it, whatever stands before and behind it.
-use Rattle.std.proofs.Common.{◌≡◌, ℕ, ◌+◌, ◌-◌, ◌*◌, ◌<◌, ◌≤◌, Bool, true, false, cond, eqb, List, [], ◌∷◌, ◌++◌, map, filter, length, take, drop, Option, Some, None, unwrap_or, refl, sym, ap, ◌∙◌, subst, arith, append_assoc, codes}
-use Rattle.std.specs.List.{All, Contains}
+use Rattle.std.proofs.Common.{◌≡◌, ℕ, ◌+◌, ◌≤◌, List, [], ◌∷◌, ◌++◌, map, length, take, drop, Option, Some, None, unwrap_or, refl, sym, ap, ◌∙◌, arith, append_assoc}
+use Rattle.std.specs.List.{Contains}
 use Rattle.std.specs.Option.{option_map}
 use Rattle.std.proofs.lemmas.List.{length-append, take_at, drop_at}
 use Rattle.std.proofs.lemmas.List.Elements.{All-contains, All-map, All-weaker}
@@ -15,8 +15,8 @@ use Rattle.nx_envelope.specs.declared.found.How.TheVariants.{Full}
 use Rattle.nx_envelope.proofs.Anywhere.{anywhere_both}
 use Rattle.nx_envelope.proofs.Rising.{headers_rise_in}
 use Rattle.nx_station.specs.Broadcast.{header, printed_text}
-use Rattle.nx_receiver.proofs.SendingMarkers.{full_text, full_ending}
-use Rattle.nx_receiver.proofs.OnceRising.{Rises, rises_from, rises_map, one_of_key, contains_map, contains_filter_map}
+use Rattle.nx_receiver.proofs.SendingMarkers.{full_ending}
+use Rattle.nx_receiver.proofs.OnceRising.{Rises, rises_from, rises_map, contains_filter_map}
 use Rattle.nx_receiver.proofs.FoundLemmas.{headers_in}
 
 -- the header of a message whose printed text begins at this index
@@ -82,16 +82,9 @@ module _ (front back : List ℕ) (message : MessageView) (good : AreLines messag
       ap (λ l. option_map (copy_with here) (ending_of (less_newline l))) (ap (drop (length front + 9)) parts ∙ drop_at (front ++ header message.identity) (10 ∷ behind) (length front + 9) long)
       ∙ ap (option_map (copy_with here)) (full_ending message.lines good (10 ∷ 10 ∷ back))
 
-  copy_is : copy_at all here ≡ sent_copy (length front) message
-  copy_is = ap (λ o. unwrap_or o (closed_copy all here)) ended_here
-
   pub ended_there : Contains (ended_copies all) (sent_copy (length front) message)
   unfolding ended_copies
   ended_there = contains_filter_map (ended_copy all) (headers all) here (sent_copy (length front) message) header_there ended_here
-
-  pub copy_there : Contains (copies all) (sent_copy (length front) message)
-  unfolding copies
-  copy_there = subst (Contains (map (copy_at all) (headers all))) copy_is (contains_map (copy_at all) (headers all) here header_there)
 
 -- the copies of a text come in rising order
 pub copies_rise : (text : List ℕ) → Rises (λ (copy : Copy). copy.header.behind) (copies text)
@@ -109,9 +102,3 @@ copies_within text copy c =
     (All-map (λ (c : Copy). (1 ≤ c.header.behind) × (c.header.behind ≤ length text)) (copy_at text) (headers text)
     (All-weaker (λ (h : Header). (1 ≤ h.behind) × (h.behind ≤ length text)) (λ (h : Header). (1 ≤ (copy_at text h).header.behind) × ((copy_at text h).header.behind ≤ length text))
     (λ h i. let e = ap (λ (h : Header). h.behind) (header_of text h) in (omega (arith, i.0), omega (arith, i.1))) (headers text) (headers_in text))) c
-
--- of all copies of the text, one begins with the header: that of the message
-pub one_copy : (front back : List ℕ) (message : MessageView) → AreLines message.lines
-    → filter (λ (copy : Copy). eqb copy.header.behind (length front + 9)) (copies (front ++ (printed_text message ++ back))) ≡ sent_copy (length front) message ∷ []
-one_copy front back message good =
-    one_of_key (λ (copy : Copy). copy.header.behind) (copies (front ++ (printed_text message ++ back))) (sent_copy (length front) message) (copies_rise (front ++ (printed_text message ++ back))) (copy_there front back message good)

@@ -1,5 +1,5 @@
 -- A received emission: its words keep a lock, and each of its messages gives a copy.
-use Rattle.std.proofs.Common.{◌≡◌, ◌≢◌, ℕ, zero, suc, ◌+◌, ◌-◌, ◌*◌, ◌/◌, ◌<◌, ◌≤◌, Bool, true, false, not, cond, eqb, List, [], ◌∷◌, ◌++◌, length, take, replicate, get_or, Some, slice_get, refl, sym, ap, ap₂, ◌∙◌, subst, arith, append_assoc}
+use Rattle.std.proofs.Common.{◌≡◌, ◌≢◌, ℕ, zero, suc, ◌+◌, ◌-◌, ◌*◌, ◌<◌, ◌≤◌, Bool, true, false, not, cond, eqb, List, [], ◌∷◌, ◌++◌, length, take, replicate, get_or, Some, slice_get, refl, sym, ap, ap₂, ◌∙◌, subst, arith}
 use Rattle.std.specs.List.{Contains, flat_map}
 use Rattle.std.proofs.lemmas.List.{length-append, length-replicate, get_or-replicate, get_or_append_left, get_or-append_right}
 use Rattle.std.proofs.lemmas.List.Elements.{Contains-append_left, Contains-append_right}
@@ -8,13 +8,13 @@ use Rattle.nx_code.specs.Word.{weight}
 use Rattle.nx_envelope.specs.Message.{text_of}
 use Rattle.nx_envelope.specs.MessageView.{MessageView}
 use Rattle.nx_envelope.specs.declared.found.How.TheVariants.{Full}
-use Rattle.nx_fec.specs.Emission.{SentPosition, phasing_position, end_position, dx_word, rx_word, position_at, word_sent, bits_of, reception}
+use Rattle.nx_fec.specs.Emission.{SentPosition, phasing_position, end_position, dx_word, rx_word, position_at, bits_of, reception}
 use Rattle.nx_fec.specs.Pairing.{counts_as, pairing}
 use Rattle.nx_fec.proofs.EmissionLemmas.{word_sent-dx, word_sent-rx}
 use Rattle.nx_fec.proofs.RoundTripLemmas.{length-bits_of}
 use Rattle.nx_station.specs.Broadcast.{AreSpelled, layout, phasing_and_message}
-use Rattle.nx_station.specs.Channel.{PassesChannel, heard_in, wrong_words, one_if_wrong, first_slot}
-use Rattle.nx_station.specs.Sendings.{ReceivedEmission, IsReceived, positions_before, digit_slot}
+use Rattle.nx_station.specs.Channel.{PassesChannel, heard_in, wrong_words, first_slot}
+use Rattle.nx_station.specs.Sendings.{IsReceived, digit_slot}
 use Rattle.nx_station.proofs.ChannelLaws.{few-wrong, no-phasing_1, taken-as_sent}
 use Rattle.nx_station.proofs.ChannelPositions.{HasInner, layout-inner}
 use Rattle.nx_sync.specs.Words.{word_at, first_role, one_if, is_wrong, wrong_in, whole_words}

@@ -1,8 +1,8 @@
 -- The lock that 48 phasing words leave holds through the words behind them.
-use Rattle.std.proofs.Common.{◌≡◌, ℕ, zero, suc, ◌+◌, ◌-◌, ◌*◌, ◌/◌, ◌<◌, ◌≤◌, Bool, true, false, not, eqb, List, [], ◌∷◌, ◌++◌, length, take, drop, get_or, refl, sym, ap, ap₂, ◌∙◌, subst, arith, inl, inr, append_assoc}
-use Rattle.std.specs.List.{flat_map}
+use Rattle.std.proofs.Common.{◌≡◌, ℕ, zero, suc, ◌+◌, ◌-◌, ◌*◌, ◌/◌, ◌<◌, ◌≤◌, Bool, false, List, [], ◌∷◌, ◌++◌, length, take, drop, get_or, refl, sym, ap, ap₂, ◌∙◌, subst, arith, inl, inr, append_assoc}
 use Rattle.std.proofs.lemmas.Bool.{cases_lt}
-use Rattle.std.proofs.lemmas.List.{length-append, take-append-drop}
+use Rattle.std.proofs.lemmas.List.{length-append, take-append-drop, take_at, length-take-le}
+use Rattle.std.proofs.lemmas.List.Concat.{flat_map-append}
 use Rattle.std.proofs.Math.Seq.{drop-append-add}
 use Rattle.nx_code.specs.Phasing.{phasing_1, phasing_2}
 use Rattle.nx_code.specs.Word.{elements, elements_from, weight, number_of, word_from}
@@ -17,7 +17,7 @@ use Rattle.nx_sync.specs.declared.step.Role.{Role}
 use Rattle.nx_sync.specs.declared.step.Role.TheVariants.{Dx, Rx}
 use Rattle.nx_sync.proofs.Counts.{wrong_in-add, wrong_in-le, wrong_in-none, role_of-even}
 use Rattle.nx_sync.proofs.MoreBits.{first_role-more}
-use Rattle.nx_sync.proofs.Phasing.{phasing_locks, phasing_heard, role_of-three_on}
+use Rattle.nx_sync.proofs.Phasing.{phasing_locks, phasing_heard}
 use Rattle.nx_sync.proofs.Releases.{stands_longer}
 
 -- the word of a place in a list of words
@@ -54,8 +54,7 @@ phasing_bits (suc n) (a ∷ (b ∷ heard)) long second first =
 
 bits_of-append : (xs ys : List ℕ) → bits_of (xs ++ ys) ≡ bits_of xs ++ bits_of ys
 unfolding bits_of
-bits_of-append [] ys = refl
-bits_of-append (x ∷ xs) ys = ap (λ l. elements x ++ l) (bits_of-append xs ys) ∙ sym (append_assoc (elements x) (bits_of xs) (bits_of ys))
+bits_of-append xs ys = flat_map-append elements xs ys
 
 -- the words in the bits of words
 word_from-bits_of : (gap : List Bool) (heard : List ℕ) (i : ℕ) → AreWords heard → i < length heard → word_from (gap ++ bits_of heard) (length gap + 7 * i) ≡ word_of heard i
@@ -111,6 +110,7 @@ pub record LockedThrough (gap : List Bool) (heard : List ℕ) : Type 0 where
   pub locks : List Lock
   pub p : ℕ
   pub t : ℕ
+  pub begins : take 336 (bits_of heard) ≡ phasing 24
   pub before : IsLocked (gap ++ phasing 24) locks p t
   pub stands : IsLocked (gap ++ bits_of heard) locks p t
   pub whole : ℕ
@@ -130,6 +130,12 @@ module _ (gap : List Bool) (heard : List ℕ) (k : KeepsLock heard) (l : LockedB
       append_assoc gap (phasing 24) more
       ∙ ap (λ b. gap ++ (b ++ more)) (sym (phasing_bits 24 heard k.long k.second k.first))
       ∙ ap (λ b. gap ++ b) (sym (bits_of-append (take 48 heard) (drop 48 heard)) ∙ ap bits_of (take-append-drop 48 heard))
+
+  begins_is : take 336 (bits_of heard) ≡ phasing 24
+  begins_is =
+      let words : length (bits_of (take 48 heard)) ≡ 336 = length-bits_of (take 48 heard) ∙ ap (λ n. 7 * n) (length-take-le 48 heard k.long) in
+      ap (λ b. take 336 b) (ap bits_of (sym (take-append-drop 48 heard)) ∙ bits_of-append (take 48 heard) (drop 48 heard))
+      ∙ take_at (bits_of (take 48 heard)) (bits_of (drop 48 heard)) 336 words ∙ phasing_bits 24 heard k.long k.second k.first
 
   limit_is : length gap + 336 ≡ l.t + 7 * l.whole
   limit_is = sym (phasing_heard gap) ∙ l.limit
@@ -191,6 +197,7 @@ module _ (gap : List Bool) (heard : List ℕ) (k : KeepsLock heard) (l : LockedB
     locks = l.locks;
     p = l.p;
     t = l.t;
+    begins = begins_is;
     before = l.stands;
     stands = subst (λ b. IsLocked b l.locks l.p l.t) together through;
     whole = l.whole;

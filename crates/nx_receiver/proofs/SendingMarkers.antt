@@ -1,13 +1,13 @@
 -- No marker ends in the text of a message or in the first three letters of the marker behind it.
-use Rattle.std.proofs.Common.{◌≡◌, ◌≢◌, ℕ, zero, suc, ◌+◌, ◌-◌, ◌<◌, ◌≤◌, List, [], ◌∷◌, ◌++◌, length, take, drop, refl, sym, ap, ◌∙◌, subst, arith, inl, inr, append_assoc, codes, Some}
+use Rattle.std.proofs.Common.{◌≡◌, ◌≢◌, ℕ, ◌+◌, ◌-◌, ◌<◌, List, [], ◌∷◌, ◌++◌, length, take, drop, refl, sym, ap, ◌∙◌, subst, arith, inl, inr, append_assoc, Some}
 use Rattle.std.specs.List.{All}
 use Rattle.std.proofs.lemmas.Bool.{cases_lt}
 use Rattle.std.proofs.lemmas.List.{length-append, length-take, take_at, drop_at, drop-append-le, drop-drop, take-append-drop}
 use Rattle.std.proofs.lemmas.List.Elements.{All-head, All-tail}
-use Rattle.nx_envelope.specs.Copies.{Ending, ending_of, most_found}
-use Rattle.nx_envelope.specs.Ending.{EndsWithMarker, MarkerEndsAt, EndsAtMarker, IsEnding}
+use Rattle.nx_envelope.specs.Copies.{Ending, ending_of}
+use Rattle.nx_envelope.specs.Ending.{MarkerEndsAt}
 use Rattle.nx_envelope.specs.Marker.{EndsWith, HoldsWord, start_marker, end_marker}
-use Rattle.nx_envelope.specs.Message.{IsLine, AreLines, HasReservedWord, text_of}
+use Rattle.nx_envelope.specs.Message.{AreLines, text_of}
 use Rattle.nx_envelope.specs.declared.found.How.{How}
 use Rattle.nx_envelope.specs.declared.found.How.TheVariants.{Full, Cut, Long}
 use Rattle.nx_envelope.proofs.Endings.{ended_both}

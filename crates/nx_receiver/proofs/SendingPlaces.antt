@@ -1,21 +1,17 @@
 -- The places of the bytes of a lock's text, and of the copies in it, rise.
-use Rattle.std.proofs.Common.{◌≡◌, ℕ, zero, suc, ◌+◌, ◌-◌, ◌*◌, ◌<◌, ◌≤◌, Bool, List, [], ◌∷◌, ◌++◌, map, length, get_or, Option, Some, None, unwrap_or, refl, sym, ap, ◌∙◌, subst, arith, append_assoc}
-use Rattle.std.specs.List.{All, Contains}
-use Rattle.std.specs.Option.{option_map, option_to_list}
-use Rattle.std.proofs.lemmas.List.{length-append, length-map, get_or-append-add, get_or_append_left}
+use Rattle.std.proofs.Common.{ℕ, zero, suc, ◌+◌, ◌-◌, ◌*◌, ◌<◌, ◌≤◌, Bool, List, [], ◌∷◌, map, length, get_or, Option, Some, None, arith}
+use Rattle.std.specs.List.{All}
+use Rattle.std.specs.Option.{option_to_list}
 use Rattle.std.proofs.lemmas.List.Elements.{All-weaker, All-nil, All-cons, All-append}
 use Rattle.nx_code.specs.Reading.{Reception}
-use Rattle.nx_code.specs.declared.shifts.Shift.TheVariants.{Letters}
-use Rattle.nx_envelope.specs.Copies.{Copy, copies, headers}
-use Rattle.nx_envelope.specs.Header.{Header}
+use Rattle.nx_envelope.specs.Copies.{Copy, copies}
 use Rattle.nx_sync.specs.declared.step.Role.{Role}
 use Rattle.nx_sync.specs.Locks.{Lock, Past, Now, hunting, locked, IsNow}
 use Rattle.nx_sync.specs.Words.{word_at, first_role, whole_words}
 use Rattle.nx_receiver.specs.LockText.{PlacedByte, place_of, printed_after, positions, taken_at, printed_by, text_by, lock_text, bytes_of}
-use Rattle.nx_receiver.specs.FoundCopies.{FoundCopy, place_in, place_of_header, found_copy, all_in, past_text, past_copies, standing_text, found_to_end}
+use Rattle.nx_receiver.specs.FoundCopies.{FoundCopy, place_in, found_copy, all_in, past_text, past_copies, found_to_end}
 use Rattle.nx_receiver.proofs.FoundLemmas.{text_placed, place_in-get_or, all_in_placed, length-bytes_of}
-use Rattle.nx_receiver.proofs.LockTexts.{GoesOnAs, text_by-grows, bytes_of-append}
-use Rattle.nx_receiver.proofs.OnceRising.{Above, Rises, rises_append, rises_map, one_of_key}
+use Rattle.nx_receiver.proofs.OnceRising.{Above, Rises, rises_append, rises_map}
 use Rattle.nx_receiver.proofs.SendingCopies.{copies_rise, copies_within}
 
 -- what a word prints is one byte at most, at the end of the word

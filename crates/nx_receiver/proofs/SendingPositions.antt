@@ -1,15 +1,9 @@
 -- The positions that the words of a lock complete, where they are the words of an emission.
-use Rattle.std.proofs.Common.{◌≡◌, ℕ, zero, suc, ◌+◌, ◌-◌, ◌*◌, ◌<◌, ◌≤◌, Bool, true, false, cond, eqb, ltb, List, [], ◌∷◌, ◌++◌, map, length, take, get_or, lt-ltb, refl, sym, ap, ◌∙◌, subst, arith, append_assoc, append-nil, ◌⊎◌, inl, inr, add-suc, eq-eqb}
+use Rattle.std.proofs.Common.{◌≡◌, ℕ, zero, suc, ◌+◌, ◌-◌, ◌*◌, ◌<◌, ◌≤◌, false, cond, ltb, List, [], ◌∷◌, ◌++◌, map, length, take, sym, ap, ◌∙◌, arith, append_assoc, append-nil}
 use Rattle.std.proofs.lemmas.Bool.Decides.{nat_tests}
 use Rattle.std.proofs.lemmas.List.{take_more, map-append}
-use Rattle.nx_code.specs.Reading.{Reception, combination, idle, lost}
-use Rattle.nx_code.specs.Word.{weight}
-use Rattle.nx_code.specs.Phasing.{phasing_1, phasing_2}
-use Rattle.nx_code.proofs.TableLemmas.{traffic_word-is}
-use Rattle.nx_fec.specs.Pairing.{Counted, traffic, idle_signal, nothing, counts_as, pairing}
-use Rattle.nx_fec.specs.Emission.{SentPosition, phasing_position, traffic_position, end_position, dx_word, rx_word, position_at, IsInCode, reception}
-use Rattle.nx_fec.proofs.EmissionLemmas.{phasing_1-words, phasing_2-words}
-use Rattle.nx_fec.proofs.PairingLemmas.{counts_as-words, counts_as-combination, counts_as-wrong}
+use Rattle.nx_fec.specs.Pairing.{nothing, counts_as, pairing}
+use Rattle.nx_fec.specs.Emission.{SentPosition, end_position, position_at, reception}
 use Rattle.nx_sync.specs.Words.{role_of, is_dx, other_role}
 use Rattle.nx_sync.specs.declared.step.Role.{Role}
 use Rattle.nx_sync.specs.declared.step.Role.TheVariants.{Dx, Rx}

@@ -1,29 +1,29 @@
 -- The text of a lock that hears the words of an emission, and the copy of one of its messages in it.
-use Rattle.std.proofs.Common.{◌≡◌, ℕ, zero, suc, ◌+◌, ◌-◌, ◌*◌, ◌/◌, ◌%◌, ◌<◌, ◌≤◌, List, [], ◌∷◌, ◌++◌, map, length, take, get_or, Some, None, unwrap_or, refl, sym, ap, ◌∙◌, subst, arith, append_assoc, append-nil}
+use Rattle.std.proofs.Common.{◌≡◌, ℕ, suc, ◌+◌, ◌-◌, ◌*◌, ◌/◌, ◌%◌, ◌<◌, List, [], ◌∷◌, ◌++◌, map, length, take, get_or, refl, sym, ap, ◌∙◌, subst, arith, append_assoc, append-nil}
 use Rattle.std.specs.List.{Contains}
-use Rattle.std.specs.Option.{option_map, option_to_list}
-use Rattle.std.proofs.lemmas.List.{length-append, length-map, map-append, take_at, get_or_at}
+use Rattle.std.specs.Option.{option_to_list}
+use Rattle.std.proofs.lemmas.List.{length-append, map-append, take_at, get_or_at}
 use Rattle.nx_code.specs.Reading.{Reception, combination, byte_of, shift_after_all, text}
 use Rattle.nx_code.specs.declared.shifts.Shift.TheVariants.{Letters, Figures}
 use Rattle.nx_code.proofs.ReadingLemmas.{text-append, shift_after_all-append}
-use Rattle.nx_envelope.specs.Copies.{Copy, ended_copies}
+use Rattle.nx_envelope.specs.Copies.{ended_copies}
 use Rattle.nx_envelope.specs.Message.{AreLines, text_of}
 use Rattle.nx_envelope.specs.MessageView.{MessageView}
 use Rattle.nx_envelope.specs.declared.found.How.TheVariants.{Full}
 use Rattle.nx_fec.specs.Emission.{SentPosition, traffic_position, end_position, position_at, reception}
 use Rattle.nx_station.specs.Broadcast.{IsSpelled, ending, printed_text}
-use Rattle.nx_station.proofs.ReadingBack.{message-prints}
+use Rattle.nx_station.proofs.ReadingBack.{message-prints, traffic-receptions}
 use Rattle.nx_sync.specs.Words.{role_of}
 use Rattle.nx_sync.specs.declared.step.Role.{Role}
 use Rattle.nx_sync.specs.declared.step.Role.TheVariants.{Dx}
-use Rattle.nx_receiver.specs.FoundCopies.{FoundCopy, place_in, found_copy, ended_in}
+use Rattle.nx_receiver.specs.FoundCopies.{place_in, found_copy, ended_in}
 use Rattle.nx_receiver.specs.LockText.{PlacedByte, place_of, printed_after, positions, taken_at, printed_by, text_by, bytes_of}
 use Rattle.nx_receiver.proofs.FoundLemmas.{place_in-get_or, length-bytes_of}
-use Rattle.nx_receiver.proofs.LockTexts.{GoesOnAs, text_by-grows, bytes_are_reading}
+use Rattle.nx_receiver.proofs.LockTexts.{text_by-grows, bytes_are_reading}
 use Rattle.nx_receiver.proofs.OnceRising.{contains_map}
 use Rattle.nx_receiver.proofs.SendingCopies.{sent_copy, ended_there}
 use Rattle.nx_receiver.proofs.SendingPositions.{AreTaken, positions-taken, taken_at-sent}
-use Rattle.nx_receiver.proofs.SendingTexts.{head_front, second_digit, head-parts, head_front-prints, digit-prints, traffic-receptions}
+use Rattle.nx_receiver.proofs.SendingTexts.{head_front, second_digit, head-parts, head_front-prints, digit-prints}
 
 -- A lock hears positions from its DX word w on, and among them those of a message: so many stand before it.
 pub record HearsMessage (first : Role) (words : ℕ → ℕ) (w : ℕ) (sent : List SentPosition) (message : MessageView) : Type 0 where
@@ -90,14 +90,13 @@ module _ (first : Role) (words : ℕ → ℕ) (t w : ℕ) (sent : List SentPosit
       let behind_head = h.spelled.text ++ shown in
       let tail = second_digit message.identity ∷ (27 ∷ (28 ∷ behind_head)) in
       let spelled : h.numbers ≡ head_front message.identity ++ tail =
-      h.spelled.whole ∙ ap (λ l. l ++ behind_head) (head-parts message.identity) ∙ append_assoc (head_front message.identity) (second_digit message.identity ∷ (27 ∷ (28 ∷ []))) behind_head in
-      (
+      h.spelled.whole ∙ ap (λ l. l ++ behind_head) (head-parts message.identity) ∙ append_assoc (head_front message.identity) (second_digit message.identity ∷ (27 ∷ (28 ∷ []))) behind_head in (
         map traffic_position (27 ∷ (28 ∷ behind_head)) ++ h.behind,
         h.parts
-        ∙ ap (λ l. h.before ++ (map traffic_position l ++ h.behind)) spelled
-        ∙ ap (λ l. h.before ++ (l ++ h.behind)) (map-append traffic_position (head_front message.identity) tail)
-        ∙ ap (λ l. h.before ++ l) (append_assoc (map traffic_position (head_front message.identity)) (map traffic_position tail) h.behind)
-        ∙ sym (append_assoc h.before (map traffic_position (head_front message.identity)) (map traffic_position tail ++ h.behind)),
+            ∙ ap (λ l. h.before ++ (map traffic_position l ++ h.behind)) spelled
+            ∙ ap (λ l. h.before ++ (l ++ h.behind)) (map-append traffic_position (head_front message.identity) tail)
+            ∙ ap (λ l. h.before ++ l) (append_assoc (map traffic_position (head_front message.identity)) (map traffic_position tail) h.behind)
+            ∙ sym (append_assoc h.before (map traffic_position (head_front message.identity)) (map traffic_position tail ++ h.behind)),
       )
 
   long_up_to : length up_to_digit ≡ length h.before + 10

@@ -1,21 +1,18 @@
 -- What the words of an emission print of one of its messages, and where.
-use Rattle.std.proofs.Common.{◌≡◌, ℕ, zero, suc, ◌+◌, ◌-◌, ◌*◌, ◌/◌, ◌%◌, ◌<◌, ◌≤◌, List, [], ◌∷◌, ◌++◌, map, length, take, drop, replicate, get_or, Option, Some, None, slice_get, unwrap_or, refl, sym, ap, ◌∙◌, subst, arith, append_assoc, append-nil}
+use Rattle.std.proofs.Common.{◌≡◌, ℕ, zero, suc, ◌+◌, ◌/◌, ◌%◌, ◌<◌, List, [], ◌∷◌, ◌++◌, map, length, take, replicate, Some, slice_get, refl, sym, ap, ◌∙◌, subst, arith, append_assoc}
 use Rattle.std.specs.List.{flat_map, AllByRecursion}
-use Rattle.std.specs.Option.{option_map, option_to_list}
-use Rattle.std.proofs.lemmas.List.{length-append, length-map, length-replicate, map-append, take_at, get_or_at, get_or_append_left}
-use Rattle.nx_code.specs.Table.{table, row_of}
-use Rattle.nx_code.specs.Reading.{Reception, combination, character_of, byte_of, shift_after_all, text}
+use Rattle.std.proofs.lemmas.List.{length-append, length-map, length-replicate}
+use Rattle.nx_code.specs.Reading.{combination, byte_of}
 use Rattle.nx_code.specs.declared.shifts.Shift.{Shift}
 use Rattle.nx_code.specs.declared.shifts.Shift.TheVariants.{Letters, Figures}
-use Rattle.nx_code.proofs.ReadingLemmas.{text-append, shift_after_all-append}
-use Rattle.nx_envelope.specs.Message.{AreLines, text_of}
+use Rattle.nx_envelope.specs.Message.{AreLines}
 use Rattle.nx_envelope.specs.MessageView.{MessageView}
 use Rattle.nx_envelope.specs.declared.identity.Identity.{Identity}
-use Rattle.nx_fec.specs.Emission.{SentPosition, phasing_position, traffic_position, end_position, position_at, reception}
-use Rattle.nx_station.specs.Broadcast.{IsSpelled, AreSpelled, head, ending, phasing_and_message, layout, printed_text, letter_combination, digit_combination}
+use Rattle.nx_fec.specs.Emission.{SentPosition, phasing_position, traffic_position, end_position}
+use Rattle.nx_station.specs.Broadcast.{IsSpelled, AreSpelled, head, phasing_and_message, layout, letter_combination, digit_combination}
 use Rattle.nx_station.specs.Sendings.{positions_before}
 use Rattle.nx_station.proofs.HeadLemmas.{letter_combination-prints, digit_combination-prints, digit_combination-range}
-use Rattle.nx_station.proofs.ReadingBack.{Prints, Prints-nil, Prints-character, Prints-shift, message-prints}
+use Rattle.nx_station.proofs.ReadingBack.{Prints, Prints-nil, Prints-character, Prints-shift, z-prints, c-prints, space-prints}
 
 -- ---- the positions behind the phasing before the first message, without those of the end
 
@@ -107,18 +104,6 @@ pub head-parts : (identity : Identity) → head identity ≡ head_front identity
 unfolding head
 head-parts identity = refl
 
-z-prints : character_of 26 Letters ≡ Some 90
-unfolding character_of row_of table
-z-prints = refl
-
-c-prints : character_of 3 Letters ≡ Some 67
-unfolding character_of row_of table
-c-prints = refl
-
-space-prints : character_of 31 Letters ≡ Some 32
-unfolding character_of
-space-prints = refl
-
 pub head_front-prints : (identity : Identity) (shift : Shift)
     → Prints shift (map combination (head_front identity)) (90 ∷ 67 ∷ 90 ∷ 67 ∷ 32 ∷ identity.b1.byte ∷ identity.b2.byte ∷ (48 + identity.number / 10) ∷ []) Figures
 head_front-prints identity shift =
@@ -137,7 +122,3 @@ head_front-prints identity shift =
 
 pub digit-prints : (identity : Identity) → byte_of (combination (second_digit identity)) Figures ≡ Some (48 + identity.number % 10)
 digit-prints identity = digit_combination-prints (identity.number % 10) (omega arith)
-
-pub traffic-receptions : (numbers : List ℕ) → map reception (map traffic_position numbers) ≡ map combination numbers
-traffic-receptions [] = refl
-traffic-receptions (n ∷ numbers) = ap (λ l. combination n ∷ l) (traffic-receptions numbers)

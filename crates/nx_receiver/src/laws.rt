@@ -18,6 +18,8 @@ ghost use Rattle.nx_receiver.specs.Printing.{printed_copies};
 ghost use Rattle.nx_receiver.specs.Tagged.{TaggedCopy};
 ghost use Rattle.nx_receiver.specs.Worked.{at_its_slot, damaged_words, heard_elements, sent_words, worked_log};
 
+pub mod once;
+
 /// The bytes of the text of a lock are what is read of the positions that its words complete, from letters. And these
 /// positions are told by its words with their roles, as a list, alone: where two locks have the same words, they have the
 /// same positions.
@@ -107,5 +109,3 @@ pub fn a_worked_emission_is_printed()
     ensures log { IsLog (first_copy ∷ []) worked_log }
     ensures bytes { length worked_log ≡ 42 }
 {}
-
-pub mod once;
