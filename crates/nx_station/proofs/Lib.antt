@@ -13,5 +13,6 @@ pub mod ChannelLaws
 pub mod ChannelWindows
 pub mod SendingsLemmas
 pub mod ChannelPhasing
+pub mod ChannelUndamaged
 pub mod ChannelExamples
 mod Examples
