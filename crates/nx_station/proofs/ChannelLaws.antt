@@ -65,7 +65,7 @@ inner-no_phasing_1 phasing_position h e = phasing_2-no_phasing_1 e
 inner-no_phasing_1 (traffic_position number) h e = traffic-no_phasing_1 number h.0 h.1 e
 inner-no_phasing_1 end_position h e = absurd h
 
-inner-in_code : (position : SentPosition) → IsInner position → IsInCode position
+pub inner-in_code : (position : SentPosition) → IsInner position → IsInCode position
 inner-in_code phasing_position h = tt
 inner-in_code (traffic_position number) h = h
 inner-in_code end_position h = tt
@@ -111,7 +111,7 @@ module _ (positions : List SentPosition) (heard : List ℕ) (has : HasInner posi
   ]
 
   -- each slot is 2i or 2i + 5
-  sent-weight : (slot : ℕ) → first_slot ≤ slot → weight (word_sent positions slot) ≡ 4
+  pub sent-weight : (slot : ℕ) → first_slot ≤ slot → weight (word_sent positions slot) ≡ 4
   sent-weight slot from =
       elim (cases_eq (slot % 2) 0) [
         | inl even ↦

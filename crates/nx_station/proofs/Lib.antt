@@ -10,4 +10,9 @@ pub mod SendingLaws
 pub mod ChannelPositions
 pub mod ChannelCounts
 pub mod ChannelLaws
+pub mod ChannelWindows
+pub mod SendingsLemmas
+pub mod ChannelPhasing
+pub mod ChannelUndamaged
+pub mod ChannelExamples
 mod Examples

@@ -1,6 +1,7 @@
 -- The channel: in which words an emission may be received (this profile). Words are those of slots; what arrives of the
 -- slots before slot 96 belongs to the gap before the emission.
-use Rattle.std.specs.Prelude.{◌≡◌, ◌≢◌, ℕ, zero, suc, ◌+◌, ◌-◌, ◌*◌, ◌<◌, ◌≤◌, ◌==◌, ◌⊎◌, if◌then◌else◌, List, length, slice_index}
+use Rattle.std.specs.Prelude.{◌≡◌, ◌≢◌, ℕ, zero, suc, ◌+◌, ◌-◌, ◌*◌, ◌<◌, ◌≤◌, ◌==◌, ◌⊎◌, if◌then◌else◌, List, [], ◌∷◌, length, slice_index}
+use Rattle.nx_code.specs.Phasing.{phasing_1, phasing_2}
 use Rattle.nx_code.specs.Word.{weight}
 use Rattle.nx_fec.specs.Emission.{SentPosition, end_position, position_at, word_sent, AreWords}
 
@@ -47,3 +48,8 @@ one_if_wrong word = if weight word == 4 then 0 else 1
 unfoldable pub wrong_words : (ℕ → ℕ) → ℕ → ℕ → ℕ
 wrong_words words i zero = 0
 wrong_words words i (suc n) = wrong_words words i n + one_if_wrong (words (i + n))
+
+-- P2 P1 as words, so many times
+unfoldable pub phasing_words : ℕ → List ℕ
+phasing_words zero = []
+phasing_words (suc n) = phasing_2 ∷ phasing_1 ∷ phasing_words n

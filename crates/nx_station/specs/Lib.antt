@@ -6,3 +6,4 @@ pub mod Faults
 pub mod Runs
 pub mod Channel
 pub mod Sendings
+pub mod ChannelExample

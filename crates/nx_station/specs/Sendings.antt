@@ -1,9 +1,9 @@
 -- Sendings: the messages of the emissions that are received in a list of bits, with any bits between them (this profile).
-use Rattle.std.specs.Prelude.{◌≡◌, ℕ, ◌+◌, ◌-◌, ◌*◌, Bool, List, [], ◌∷◌, ◌++◌, length, take, slice_get, Some}
+use Rattle.std.specs.Prelude.{◌≡◌, ℕ, ◌+◌, ◌-◌, ◌*◌, Bool, List, [], ◌∷◌, ◌++◌, ◌≤◌, length, map, take, slice_get, Some}
 use Rattle.std.specs.List.{AllByRecursion, flat_map}
 use Rattle.nx_envelope.specs.MessageView.{MessageView}
-use Rattle.nx_fec.specs.Emission.{bits_of}
-use Rattle.nx_station.specs.Broadcast.{AreSpelled, layout}
+use Rattle.nx_fec.specs.Emission.{SentPosition, traffic_position, bits_of}
+use Rattle.nx_station.specs.Broadcast.{AreSpelled, IsSpelled, layout}
 use Rattle.nx_station.specs.Channel.{PassesChannel, first_slot}
 use Rattle.nx_station.specs.Sendable.{IsSendable}
 
@@ -67,3 +67,14 @@ pub record IsSending (parts : List Part) (sending : Sending) : Type 0 where
   pub index : ℕ
   pub message : slice_get emission.messages index ≡ Some sending.message
   pub place : sending.place ≡ length (bits_of_parts before) + 7 * (digit_slot emission.spellings index - first_slot) + 6
+
+-- a message stands in the positions from a place on: its combinations are sent there, one after another
+pub record StandsFrom (positions : List SentPosition) (message : MessageView) (from : ℕ) : Type 0 where
+  pub numbers : List ℕ
+  pub spelled : IsSpelled message numbers
+  pub front : List SentPosition
+  pub back : List SentPosition
+  pub whole : positions ≡ front ++ (map traffic_position numbers ++ back)
+  pub place : length front ≡ from
+  -- three positions of the end, at least, come after it
+  pub ended : 3 ≤ length back

@@ -10,6 +10,8 @@ ghost use Rattle.nx_fec.specs.Emission.{SentPosition, reception};
 ghost use Rattle.nx_station.specs.Broadcast.{IsBroadcast, IsSpelled, printed_text};
 ghost use Rattle.nx_station.specs.MessageFile.{FileMessage, FileFault, IsMessageFile, HasFirstFault};
 
+pub mod channel;
+
 /// A message file has one spelling, and one list of messages.
 pub fn a_message_file_has_one_reading()
     ensures spelling { (one other : List ℕ) (entries : List FileMessage) → IsMessageFile one entries → IsMessageFile other entries → one ≡ other }
