@@ -65,7 +65,7 @@ inner-no_phasing_1 phasing_position h e = phasing_2-no_phasing_1 e
 inner-no_phasing_1 (traffic_position number) h e = traffic-no_phasing_1 number h.0 h.1 e
 inner-no_phasing_1 end_position h e = absurd h
 
-inner-in_code : (position : SentPosition) → IsInner position → IsInCode position
+pub inner-in_code : (position : SentPosition) → IsInner position → IsInCode position
 inner-in_code phasing_position h = tt
 inner-in_code (traffic_position number) h = h
 inner-in_code end_position h = tt

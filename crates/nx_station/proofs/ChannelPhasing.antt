@@ -1,5 +1,5 @@
 -- What is heard begins with 48 phasing words.
-use Rattle.std.proofs.Common.{◌≡◌, ◌≢◌, ℕ, zero, suc, ◌+◌, ◌-◌, ◌*◌, ◌/◌, ◌%◌, ◌<◌, ◌≤◌, ◌==◌, cond, Bool, true, false, List, [], ◌∷◌, ◌++◌, length, map, replicate, get_or, take, drop, refl, sym, ap, ◌∙◌, subst, arith, inl, inr, eqb, lit<}
+use Rattle.std.proofs.Common.{◌≡◌, ◌≢◌, ℕ, zero, suc, ◌+◌, ◌-◌, ◌*◌, ◌/◌, ◌%◌, ◌<◌, ◌≤◌, ◌==◌, cond, true, List, [], ◌∷◌, ◌++◌, length, map, replicate, get_or, take, refl, sym, ap, ◌∙◌, subst, arith, inl, inr, eqb}
 use Rattle.std.specs.List.{flat_map}
 use Rattle.std.proofs.lemmas.Bool.{agree_below_at, cases_eq, cond-true, cond-false, eq-eqb, eqb-true, ne_eqb}
 use Rattle.std.proofs.lemmas.List.{ext_get_or, get_or-take, get_or_append_left, length-append, length-replicate, length-take-le}
@@ -13,7 +13,7 @@ use Rattle.nx_code.specs.declared.shifts.Shift.{Shift}
 use Rattle.nx_code.specs.declared.shifts.Shift.TheVariants.{Letters, Figures}
 use Rattle.nx_station.proofs.BroadcastLemmas.{length-head, length-layout}
 use Rattle.nx_station.proofs.ChannelWindows.{not-empty}
-use Rattle.nx_station.specs.Channel.{PassesChannel, heard_in, first_slot, phasing_words}
+use Rattle.nx_station.specs.Channel.{PassesChannel, first_slot, phasing_words}
 
 get_or-phasing : (count i : ℕ) → i < count → get_or (replicate count phasing_position) i end_position ≡ phasing_position
 get_or-phasing zero i h = absurd (omega (arith, h))
@@ -31,7 +31,7 @@ length-spelled message numbers h =
     let shift = shift_after_all (map combination h.text) Figures in
     omega (arith, ap length h.whole, length-append (head message.identity) (h.text ++ ending shift), length-append h.text (ending shift), length-head message.identity, length-ending shift)
 
-received-long : (messages : List MessageView) (spellings : List (List ℕ)) → AreSpelled messages spellings → spellings ≢ [] → 95 ≤ length (layout spellings)
+pub received-long : (messages : List MessageView) (spellings : List (List ℕ)) → AreSpelled messages spellings → spellings ≢ [] → 95 ≤ length (layout spellings)
 received-long messages [] h some = absurd (some refl)
 received-long [] (s ∷ ss) h some = absurd h
 received-long (m ∷ ms) (s ∷ ss) h some =

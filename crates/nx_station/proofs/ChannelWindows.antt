@@ -1,5 +1,5 @@
 -- The wrong words of a lock that goes on from the phasing into the emission; the list of them; the phasing that is heard.
-use Rattle.std.proofs.Common.{◌≡◌, ◌≢◌, ℕ, zero, suc, ◌+◌, ◌-◌, ◌*◌, ◌<◌, ◌≤◌, min, Bool, List, [], ◌∷◌, ◌++◌, length, get_or, take, drop, refl, sym, ap, ◌∙◌, subst, arith, inl, inr, length-drop, lit≤}
+use Rattle.std.proofs.Common.{◌≡◌, ◌≢◌, ℕ, ◌+◌, ◌-◌, ◌*◌, ◌<◌, ◌≤◌, Bool, List, [], ◌++◌, length, get_or, take, drop, sym, ap, ◌∙◌, subst, arith, inl, inr, length-drop}
 use Rattle.std.specs.List.{count_by}
 use Rattle.std.proofs.lemmas.Bool.{cases_lt}
 use Rattle.std.proofs.lemmas.List.{take_all, drop-append-le, take-append-le}
@@ -9,7 +9,7 @@ use Rattle.nx_fec.specs.Aligned.{word_in}
 use Rattle.nx_fec.specs.Emission.{SentPosition, bits_of, AreWords}
 use Rattle.nx_fec.proofs.RoundTripLemmas.{length-bits_of, words_of-bits_of}
 use Rattle.nx_fec.proofs.AlignedLemmas.{get_or-words_of}
-use Rattle.nx_station.specs.Broadcast.{IsBroadcast, AreSpelled, layout}
+use Rattle.nx_station.specs.Broadcast.{IsBroadcast, layout}
 use Rattle.nx_envelope.specs.MessageView.{MessageView}
 use Rattle.nx_station.specs.Channel.{PassesChannel, heard_in, first_slot, message_slot, slots_of, wrong_words}
 use Rattle.nx_station.proofs.ChannelCounts.{is_wrong_word, wrong_words-add, wrong_words-count, wrong_words-le, wrong_words-none, wrong_words-same}

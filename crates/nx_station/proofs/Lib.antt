@@ -13,6 +13,7 @@ pub mod ChannelLaws
 pub mod ChannelWindows
 pub mod SendingsLemmas
 pub mod ChannelPhasing
+pub mod ChannelUndamaged
 pub mod ChannelExamples
 pub mod PairLemmas
 pub mod PrintedText

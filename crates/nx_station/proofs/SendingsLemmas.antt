@@ -1,9 +1,9 @@
 -- Where a message stands in the positions of its broadcast.
-use Rattle.std.proofs.Common.{◌≡◌, ◌≢◌, ℕ, zero, suc, ◌+◌, ◌-◌, ◌<◌, ◌≤◌, Some, None, List, [], ◌∷◌, ◌++◌, length, map, replicate, get_or, take, refl, sym, ap, ◌∙◌, subst, arith, append_assoc}
+use Rattle.std.proofs.Common.{◌≡◌, ℕ, zero, suc, ◌+◌, ◌-◌, ◌≤◌, Some, None, List, [], ◌∷◌, ◌++◌, map, replicate, take, sym, ap, ◌∙◌, subst, arith, append_assoc}
 use Rattle.std.specs.List.{flat_map, slice_get}
 use Rattle.std.proofs.lemmas.List.{length-append, length-map, length-replicate}
 use Rattle.nx_envelope.specs.MessageView.{MessageView}
-use Rattle.nx_fec.specs.Emission.{SentPosition, phasing_position, traffic_position, end_position}
+use Rattle.nx_fec.specs.Emission.{phasing_position, traffic_position, end_position}
 use Rattle.nx_station.specs.Broadcast.{IsSpelled, AreSpelled, layout, phasing_and_message}
 use Rattle.nx_station.specs.Sendings.{StandsFrom, positions_before}
 

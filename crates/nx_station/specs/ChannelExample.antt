@@ -1,10 +1,9 @@
 -- A worked emission, of the message EA01 with the one line TEST (its words are those of ITU-R M.625's mode B for the
 -- positions of this profile's emissions), as it may arrive.
-use Rattle.std.specs.Prelude.{ℕ, zero, suc, ◌+◌, ◌-◌, ◌%◌, ◌==◌, ◌||◌, if◌then◌else◌, Bool, List, [], ◌∷◌, ◌++◌, codes, length}
+use Rattle.std.specs.Prelude.{ℕ, ◌+◌, ◌-◌, ◌%◌, ◌==◌, ◌||◌, if◌then◌else◌, Bool, List, [], ◌∷◌, ◌++◌, codes, length}
 use Rattle.std.proofs.Common.{lit≤}
 use Rattle.nx_envelope.specs.MessageView.{MessageView}
 use Rattle.nx_envelope.specs.declared.identity.Identity.{Identity}
-use Rattle.nx_envelope.specs.declared.letter.Letter.{Letter}
 use Rattle.nx_station.specs.Channel.{message_slot, phasing_words}
 use Rattle.nx_station.specs.Sendings.{Part, ReceivedEmission, Sending, gap, received}
 

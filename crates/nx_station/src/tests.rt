@@ -262,4 +262,6 @@ fn laws_can_be_called() {
     laws::channel::positions_are_taken_as_sent();
     laws::channel::words_stand_in_the_bits();
     laws::channel::messages_stand_in_their_emission();
+    laws::channel::an_undamaged_emission_is_received();
+    laws::channel::an_example_is_received();
 }

@@ -1,13 +1,14 @@
 //! Laws of what is received under the channel, each the contract of a function that does nothing.
-ghost use Rattle.std.specs.Prelude.{◌≡◌, ◌≢◌, ℕ, ◌+◌, ◌-◌, ◌*◌, ◌<◌, ◌≤◌, ◌==◌, not, Bool, List, ◌++◌, Some, count_by, drop, get_or, length, slice_get, take};
+ghost use Rattle.std.specs.Prelude.{◌≡◌, ◌≢◌, ℕ, ◌+◌, ◌-◌, ◌*◌, ◌<◌, ◌≤◌, ◌==◌, not, Bool, List, [], ◌∷◌, ◌++◌, Some, count_by, drop, get_or, length, slice_get, take};
 ghost use Rattle.nx_code.specs.Phasing.{phasing_1};
 ghost use Rattle.nx_code.specs.Word.{weight, word_from};
 ghost use Rattle.nx_envelope.specs.MessageView.{MessageView};
-ghost use Rattle.nx_fec.specs.Emission.{SentPosition, bits_of, position_at, reception};
+ghost use Rattle.nx_fec.specs.Emission.{SentPosition, bits_of, emission, position_at, reception};
 ghost use Rattle.nx_fec.specs.Pairing.{counts_as, pairing};
 ghost use Rattle.nx_station.specs.Broadcast.{AreSpelled, IsBroadcast, layout};
 ghost use Rattle.nx_station.specs.Channel.{PassesChannel, first_slot, heard_in, message_slot, phasing_words, slots_of, wrong_words};
-ghost use Rattle.nx_station.specs.Sendings.{StandsFrom, positions_before};
+ghost use Rattle.nx_station.specs.ChannelExample.{example_emission, example_numbers, example_parts, example_sending, heard_half, heard_without_75};
+ghost use Rattle.nx_station.specs.Sendings.{IsCut, IsReceived, IsSending, StandsFrom, positions_before};
 
 /// Under the channel any 64 successive words from slot 96 on, and any fewer, have at most 35 of wrong weight. So have the
 /// last 64 words of a lock, up to each word from slot 144 on, whatever words of the lock came before slot 96: `whole` is
@@ -63,4 +64,25 @@ pub fn messages_stand_in_their_emission()
     ensures { (messages : List MessageView) (spellings : List (List ℕ)) (i : ℕ) (message : MessageView)
         → AreSpelled messages spellings → slice_get messages i ≡ Some message
         → StandsFrom (layout spellings) message (positions_before (take i spellings)) }
+{}
+
+/// An emission that arrives as it is sent passes the channel: the bits of its slots before slot 96 belong to the gap
+/// before it, and those from there on are received.
+pub fn an_undamaged_emission_is_received()
+    ensures passes { (messages : List MessageView) (positions : List SentPosition)
+        → messages ≢ [] → IsBroadcast messages positions
+        → PassesChannel positions (drop 96 (emission positions)) }
+    ensures cut { (positions : List SentPosition) → bits_of (emission positions)
+        ≡ bits_of (take 96 (emission positions)) ++ bits_of (drop 96 (emission positions)) }
+{}
+
+/// The definitions at a worked emission, of EA01 with the line TEST: it is received where the first half of its phasing
+/// is damaged, or is lost in any way, and one word of each position of the message; where both words of one position
+/// are damaged, it isn't.
+pub fn an_example_is_received()
+    ensures received { IsReceived example_emission }
+    ensures cut { (before after : List Bool)
+        → IsCut (before ++ (bits_of heard_half ++ after)) (example_parts before after) }
+    ensures sending { (before after : List Bool) → IsSending (example_parts before after) (example_sending before) }
+    ensures outside { PassesChannel (layout (example_numbers ∷ [])) heard_without_75 → ⊥ }
 {}
