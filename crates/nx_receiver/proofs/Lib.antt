@@ -20,3 +20,14 @@ pub mod ApartLemmas
 pub mod ExampleLemmas
 pub mod WorkedLemmas
 pub mod WorkedLog
+pub mod SendingPositions
+pub mod SendingMarkers
+pub mod OnceRising
+pub mod SendingCopies
+pub mod SendingLocks
+pub mod SendingPlaces
+pub mod SendingTexts
+pub mod SendingPrinted
+pub mod SendingEmissions
+pub mod SendingFound
+pub mod OnceFound

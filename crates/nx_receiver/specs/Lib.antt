@@ -10,3 +10,5 @@ pub mod Receiver
 pub mod LawTerms
 pub mod Example
 pub mod Worked
+pub mod Sending
+pub mod OnceHeard

@@ -18,6 +18,8 @@ ghost use Rattle.nx_receiver.specs.Printing.{printed_copies};
 ghost use Rattle.nx_receiver.specs.Tagged.{TaggedCopy};
 ghost use Rattle.nx_receiver.specs.Worked.{at_its_slot, damaged_words, heard_elements, sent_words, worked_log};
 
+pub mod once;
+
 /// The bytes of the text of a lock are what is read of the positions that its words complete, from letters. And these
 /// positions are told by its words with their roles, as a list, alone: where two locks have the same words, they have the
 /// same positions.

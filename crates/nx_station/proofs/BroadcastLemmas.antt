@@ -186,7 +186,7 @@ more-spelled messages i message spellings numbers lt here h k =
     subst (λ l. AreSpelled l (spellings ++ (numbers ∷ []))) (sym (take_more messages i message lt ∙ ap (λ m. take i messages ++ (m ∷ [])) (sym here)))
     (all_spelled-push (take i messages) spellings message numbers h k)
 
-spelled-some : (messages : List MessageView) (spellings : List (List ℕ)) → messages ≢ [] → AreSpelled messages spellings → spellings ≢ []
+pub spelled-some : (messages : List MessageView) (spellings : List (List ℕ)) → messages ≢ [] → AreSpelled messages spellings → spellings ≢ []
 spelled-some [] ss some h e = some refl
 spelled-some (m ∷ ms) [] some h e = h
 spelled-some (m ∷ ms) (s ∷ ss) some h e = cc

@@ -4,3 +4,7 @@ pub mod Sendable
 pub mod MessageFile
 pub mod Faults
 pub mod Runs
+pub mod Channel
+pub mod Sendings
+pub mod ChannelExample
+pub mod StrictReading

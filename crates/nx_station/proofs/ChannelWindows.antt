@@ -1,0 +1,101 @@
+-- The wrong words of a lock that goes on from the phasing into the emission; the list of them; the phasing that is heard.
+use Rattle.std.proofs.Common.{◌≡◌, ◌≢◌, ℕ, ◌+◌, ◌-◌, ◌*◌, ◌<◌, ◌≤◌, Bool, List, [], ◌++◌, length, get_or, take, drop, sym, ap, ◌∙◌, subst, arith, inl, inr, length-drop}
+use Rattle.std.specs.List.{count_by}
+use Rattle.std.proofs.lemmas.Bool.{cases_lt}
+use Rattle.std.proofs.lemmas.List.{take_all, drop-append-le, take-append-le}
+use Rattle.std.proofs.Math.Seq.{drop-append-add}
+use Rattle.nx_code.specs.Word.{number_of, word_from, weight}
+use Rattle.nx_fec.specs.Aligned.{word_in}
+use Rattle.nx_fec.specs.Emission.{SentPosition, bits_of, AreWords}
+use Rattle.nx_fec.proofs.RoundTripLemmas.{length-bits_of, words_of-bits_of}
+use Rattle.nx_fec.proofs.AlignedLemmas.{get_or-words_of}
+use Rattle.nx_station.specs.Broadcast.{IsBroadcast, layout}
+use Rattle.nx_envelope.specs.MessageView.{MessageView}
+use Rattle.nx_station.specs.Channel.{PassesChannel, heard_in, first_slot, message_slot, slots_of, wrong_words}
+use Rattle.nx_station.proofs.ChannelCounts.{is_wrong_word, wrong_words-add, wrong_words-count, wrong_words-le, wrong_words-none, wrong_words-same}
+use Rattle.nx_station.proofs.ChannelLaws.{few-wrong, sent-weight}
+use Rattle.nx_station.proofs.ChannelPositions.{HasInner, layout-inner}
+
+-- an emission that passes has positions
+pub not-empty : (spellings : List (List ℕ)) (heard : List ℕ) → PassesChannel (layout spellings) heard → spellings ≢ []
+unfolding layout
+not-empty spellings heard passes e =
+    let n = ap (λ s. length (layout s)) e in
+    absurd (omega (arith, passes.whole, n))
+
+pub received-inner : (messages : List MessageView) (positions : List SentPosition) (heard : List ℕ) → IsBroadcast messages positions → PassesChannel positions heard → HasInner positions
+received-inner messages positions heard h passes =
+    subst HasInner (sym h.whole)
+    (layout-inner messages h.spellings (not-empty h.spellings heard (subst (λ p. PassesChannel p heard) h.whole passes)) h.each)
+
+module _ (positions : List SentPosition) (heard : List ℕ) (has : HasInner positions) (passes : PassesChannel positions heard) where
+  -- the count of a part of what is heard
+  pub few-listed : (first n : ℕ) → n ≤ 64 → count_by is_wrong_word (take n (drop first heard)) ≤ 35
+  few-listed first n some = elim (cases_lt (first + n) (length heard + 1)) [
+    | inl inside ↦
+        let counted = wrong_words-count heard (heard_in heard) (first + first_slot) first n (omega arith) (λ j. ap (λ s. get_or heard s 0) (index first j)) in
+        let few = few-wrong positions heard has passes (first + first_slot) n (omega arith) some (omega (arith, passes.whole)) in
+        omega (arith, counted, few)
+    | inr outside ↦
+        let m : ℕ = length heard - first in
+        elim (cases_lt first (length heard)) [
+          | inl some_left ↦
+              let counted = wrong_words-count heard (heard_in heard) (first + first_slot) first (length heard - first) (omega arith) (λ j. ap (λ s. get_or heard s 0) (index first j)) in
+              let few = few-wrong positions heard has passes (first + first_slot) (length heard - first) (omega arith) (omega arith) (omega (arith, passes.whole)) in
+              let left = length-drop first heard in
+              let all = take_all n (drop first heard) (omega arith) in
+              let same = take_all (length heard - first) (drop first heard) (omega arith) in
+              let e = ap (count_by is_wrong_word) (all ∙ sym same) in
+              omega (arith, counted, few, e)
+          | inr none_left ↦
+              let left = length-drop first heard in
+              let all = take_all n (drop first heard) (omega arith) in
+              let same = take_all 0 (drop first heard) (omega arith) in
+              let e = ap (count_by is_wrong_word) (all ∙ sym same) in
+              omega (arith, e)
+        ]
+  ]
+    where
+      index : (first j : ℕ) → first + first_slot + j - first_slot ≡ first + j
+      index first j = omega arith
+
+  -- The last 64 words up to a word of the emission, in a lock whose word `whole` stands in slot 144, or all up to it where
+  -- they are fewer. Where they reach further back than slot 96, they hold all 48 words of slots 96 to 143.
+  pub few-in_lock : (words : ℕ → ℕ) (whole : ℕ)
+      → ((k slot : ℕ) → k + message_slot ≡ slot + whole → first_slot ≤ slot → slot < slots_of positions → words k ≡ heard_in heard slot)
+      → (k slot : ℕ) → k + message_slot ≡ slot + whole → message_slot ≤ slot → slot < slots_of positions
+      → wrong_words words (k + 1 - 64) (k + 1 - (k + 1 - 64)) ≤ 35
+  few-in_lock words whole same k slot here from to =
+      let f : ℕ = k + 1 - 64 in
+      let n : ℕ = k + 1 - (k + 1 - 64) in
+      elim (cases_lt (slot - 95) (k + 1 - (k + 1 - 64))) [
+        | inl back ↦
+            let c : ℕ = slot - 95 in
+            let before = wrong_words-le words (k + 1 - 64) (k + 1 - (k + 1 - 64) - (slot - 95)) in
+            let split : k + 1 - (k + 1 - 64) ≡ (k + 1 - (k + 1 - 64) - (slot - 95)) + (slot - 95) = omega arith in
+            let both = ap (wrong_words words (k + 1 - 64)) split in
+            let sum = wrong_words-add words (k + 1 - 64) (k + 1 - (k + 1 - 64) - (slot - 95)) (slot - 95) in
+            let heard_part = wrong_words-same words (heard_in heard) ((k + 1 - 64) + (k + 1 - (k + 1 - 64) - (slot - 95))) first_slot (slot - 95) (λ j lt. same (k + 1 - 64 + (k + 1 - (k + 1 - 64) - (slot - 95)) + j) (first_slot + j) (omega arith) (omega arith) (omega arith)) in
+            let parts : slot - 95 ≡ 48 + (slot - 95 - 48) = omega arith in
+            let two = ap (wrong_words (heard_in heard) first_slot) parts in
+            let added = wrong_words-add (heard_in heard) first_slot 48 (slot - 95 - 48) in
+            let right = wrong_words-none (heard_in heard) first_slot 48 (λ j lt. ap weight (passes.phasing (first_slot + j) (omega arith) (omega arith)) ∙ sent-weight positions heard has passes (first_slot + j) (omega arith)) in
+            let later = wrong_words-le (heard_in heard) (first_slot + 48) (slot - 95 - 48) in
+            omega arith
+        | inr inside ↦
+            let heard_part = wrong_words-same words (heard_in heard) (k + 1 - 64) (slot + 1 - (k + 1 - (k + 1 - 64))) (k + 1 - (k + 1 - 64)) (λ j lt. same (k + 1 - 64 + j) (slot + 1 - (k + 1 - (k + 1 - 64)) + j) (omega arith) (omega arith) (omega arith)) in
+            let few = few-wrong positions heard has passes (slot + 1 - (k + 1 - (k + 1 - 64))) (k + 1 - (k + 1 - 64)) (omega arith) (omega arith) (omega arith) in
+            omega arith
+      ]
+
+-- each word that is heard stands in the bits
+pub word-in_bits : (before after : List Bool) (heard : List ℕ) (i : ℕ) → AreWords heard → i < length heard
+    → word_from (before ++ (bits_of heard ++ after)) (length before + 7 * i) ≡ get_or heard i 0
+unfolding word_in
+word-in_bits before after heard i are lt =
+    let n = length-bits_of heard in
+    let left = length-drop (7 * i) (bits_of heard) in
+    ap (λ l. number_of (take 7 l)) (drop-append-add before (bits_of heard ++ after) (7 * i) ∙ drop-append-le (7 * i) (bits_of heard) after (omega arith))
+    ∙ ap number_of (take-append-le 7 (drop (7 * i) (bits_of heard)) after (omega arith))
+    ∙ sym (get_or-words_of (bits_of heard) i (omega arith))
+    ∙ ap (λ ws. get_or ws i 0) (words_of-bits_of heard are)

@@ -1,0 +1,8 @@
+use Rattle.nx_station.proofs.ChannelUndamaged.{undamaged-cut, undamaged-received}
+use Rattle.nx_station.proofs.laws.channel.an_undamaged_emission_is_received.Goals as goal
+
+pub returns-clause-passes : goal.returns-clause-passes
+returns-clause-passes c = undamaged-received
+
+pub returns-clause-cut : goal.returns-clause-cut
+returns-clause-cut c = undamaged-cut
