@@ -57,7 +57,8 @@ piece-next bytes piece at count =
     append_assoc bytes (take at piece) (take count (take (length piece - at) (drop at piece)))
     ∙ ap (λ l. bytes ++ l) (ap (λ l. take at piece ++ take count l) (take_rest piece at) ∙ sym (take-add at count piece))
 
-file_of-one : (lines : List Line) (line : Line) → file_of (lines ++ line ∷ []) ≡ file_of lines ++ line_bytes line
+-- the file of one line more
+pub file_of-one : (lines : List Line) (line : Line) → file_of (lines ++ line ∷ []) ≡ file_of lines ++ line_bytes line
 file_of-one lines line = flat_map-append line_bytes lines (line ∷ []) ∙ ap (λ l. file_of lines ++ l) (append-nil (line_bytes line))
 
 -- the bytes of a piece that a run still has to take, after those that the scanner took

@@ -12,3 +12,4 @@ pub mod ScannerFields
 pub mod Transfers
 pub mod Hexadecimal
 pub mod TableText
+pub mod WordLines

@@ -19,6 +19,7 @@ mod reading;
 mod runs;
 mod scanner;
 mod table_text;
+mod word_lines;
 mod writing;
 
 pub use air_file::{AirLine, LineKind, MAX_ELEMENTS, air_line};
@@ -32,7 +33,7 @@ pub use line_run::{LineTaker, LinesFault, LinesRead, TakeFault, run_lines};
 pub use pieces::{Piece, next_piece};
 pub use positions::{Position, word_at};
 pub use reading::{read_bits, read_whole};
-pub use runs::{decode_run, encode_run};
+pub use runs::{decode_run, encode_run, show_run};
 pub use scanner::Scanner;
 pub use table_text::write_table;
 pub use writing::{write_bits, write_on, write_out};

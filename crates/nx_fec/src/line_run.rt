@@ -271,18 +271,20 @@ mod tests {
         ghost whole = { λ first now lines given h. h };
     }
 
-    /// A reader that gives a piece at each call, and fails after the last.
+    /// What a reader gives before it fails, a piece for each call.
+    const PIECES: [&[u8]; 3] = [b"B 01", b"\nB 1\nB", b" 0\nB 11"];
+
     #[derive(Drop)]
-    struct Failing<'a> {
-        pieces: &'a [&'a [u8]],
+    struct Failing {
+        calls: u64,
     }
 
-    impl Read for Failing<'_> {
+    impl Read for Failing {
         fn read(&mut self, buf: &mut [u8]) -> io::Result<usize> {
-            let Some((piece, later)) = self.pieces.split_first() else {
+            let Some(piece) = PIECES.get(self.calls as usize) else {
                 return Err(Error::from(ErrorKind::Other));
             };
-            self.pieces = later;
+            self.calls = self.calls.saturating_add(1);
             let mut piece = *piece;
             piece.read(buf)
         }
@@ -333,9 +335,8 @@ mod tests {
         assert_eq!(rt; outcome, Err(LinesFault::Write(7)));
         assert_eq!(rt; writer.failures(), 1);
         let mut writer = Counting::new(Vec::new(rt.alloc()));
-        let pieces: [&[u8]; 3] = [b"B 01", b"\nB 1\nB", b" 0\nB 11"];
         let outcome = run_lines(
-            &mut Counting::new(Failing { pieces: &pieces }),
+            &mut Counting::new(Failing { calls: 0 }),
             &mut writer,
             &mut Copying,
         );
