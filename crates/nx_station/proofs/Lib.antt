@@ -1,3 +1,11 @@
+pub mod ChannelPositions
+pub mod ChannelCounts
+pub mod ChannelLaws
+pub mod ChannelWindows
+pub mod SendingsLemmas
+pub mod ChannelPhasing
+pub mod ChannelUndamaged
+pub mod ChannelExamples
 pub mod LineLemmas
 pub mod MessageFaultLemmas
 pub mod FileLaws
@@ -7,12 +15,4 @@ pub mod StationLemmas
 pub mod ReadingBack
 pub mod FileReading
 pub mod SendingLaws
-pub mod ChannelPositions
-pub mod ChannelCounts
-pub mod ChannelLaws
-pub mod ChannelWindows
-pub mod SendingsLemmas
-pub mod ChannelPhasing
-pub mod ChannelUndamaged
-pub mod ChannelExamples
 mod Examples
