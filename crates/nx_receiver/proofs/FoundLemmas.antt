@@ -83,7 +83,7 @@ pub place_in-get_or : (text : List PlacedByte) (i : ℕ) (d : PlacedByte) → i 
 unfolding place_in
 place_in-get_or text i d h = ap (λ o. unwrap_or (option_map (λ (b : PlacedByte). b.place) o) 0) (slice_get-get_or text i d h)
 
-length-bytes_of : (text : List PlacedByte) → length (bytes_of text) ≡ length text
+pub length-bytes_of : (text : List PlacedByte) → length (bytes_of text) ≡ length text
 unfolding bytes_of
 length-bytes_of text = length-map text (λ b. b.byte)
 

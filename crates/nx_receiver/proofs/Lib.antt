@@ -1,5 +1,6 @@
 pub mod JudgingLemmas
 pub mod LockTexts
+pub mod LockWords
 pub mod FoundLemmas
 pub mod Growing
 pub mod LoggedLemmas
@@ -9,3 +10,14 @@ pub mod ApartLemmas
 pub mod ExampleLemmas
 pub mod WorkedLemmas
 pub mod WorkedLog
+pub mod SendingPositions
+pub mod SendingMarkers
+pub mod OnceRising
+pub mod SendingCopies
+pub mod SendingLocks
+pub mod SendingPlaces
+pub mod SendingTexts
+pub mod SendingPrinted
+pub mod SendingEmissions
+pub mod SendingFound
+pub mod OnceFound

@@ -11,8 +11,8 @@ use Rattle.nx_receiver.specs.Events.{Event, at_moment, element, command, Setting
 use Rattle.nx_sync.specs.Words.{whole_words}
 use Rattle.nx_receiver.specs.LockText.{lock_text}
 use Rattle.nx_receiver.specs.FoundCopies.{FoundCopy, ended_in, open_in, all_in, past_text, past_copies, standing_text, ended_so_far, open_so_far, found_to_end}
-use Rattle.nx_receiver.specs.Tagged.{TaggedCopy, tag, tagged}
-use Rattle.nx_receiver.specs.Printing.{printed, entries_after, entries_made, entry_made, if_printed}
+use Rattle.nx_receiver.specs.Tagged.{TaggedCopy, tag, tagged_copies}
+use Rattle.nx_receiver.specs.Printing.{printed_copies, entries_after, entries_made, entry_made, if_printed}
 use Rattle.nx_receiver.specs.Log.{printed_of, HasPrinted, PrintsToEnd}
 use Rattle.nx_receiver.proofs.LockTexts.{GoesOnAs}
 use Rattle.nx_receiver.proofs.FoundLemmas.{IsCopyIn, text_placed, ended_in_placed, all_in_placed, all_in-parts}
@@ -42,17 +42,17 @@ setting_at-more first xs ys place h =
     let within : place < length (settings first xs) = omega (arith, length-settings first xs) in
     ap (λ ss. get_or ss place first) (settings-append first xs ys) ∙ get_or_append_left (settings first xs) _ first place within
 
-pub tagged-more : (first : Setting) (xs ys : List Event) (low : ℕ) (copies : List FoundCopy) → All (IsCopyIn low (length (bits_of xs))) copies → tagged first (xs ++ ys) copies ≡ tagged first xs copies
-unfolding tagged
-tagged-more first xs ys low [] k = refl
-tagged-more first xs ys low (c ∷ cs) k =
+pub tagged_copies-more : (first : Setting) (xs ys : List Event) (low : ℕ) (copies : List FoundCopy) → All (IsCopyIn low (length (bits_of xs))) copies → tagged_copies first (xs ++ ys) copies ≡ tagged_copies first xs copies
+unfolding tagged_copies
+tagged_copies-more first xs ys low [] k = refl
+tagged_copies-more first xs ys low (c ∷ cs) k =
     let here = All-head (IsCopyIn low (length (bits_of xs))) c cs k in
-    let rest = tagged-more first xs ys low cs (All-tail (IsCopyIn low (length (bits_of xs))) c cs k) in
-    ap (λ s. tag s c ∷ tagged first (xs ++ ys) cs) (setting_at-more first xs ys c.place here.1) ∙ ap (λ ts. tag (setting_at first xs c.place) c ∷ ts) rest
+    let rest = tagged_copies-more first xs ys low cs (All-tail (IsCopyIn low (length (bits_of xs))) c cs k) in
+    ap (λ s. tag s c ∷ tagged_copies first (xs ++ ys) cs) (setting_at-more first xs ys c.place here.1) ∙ ap (λ ts. tag (setting_at first xs c.place) c ∷ ts) rest
 
-pub tagged-append : (first : Setting) (xs : List Event) (before later : List FoundCopy) → tagged first xs (before ++ later) ≡ tagged first xs before ++ tagged first xs later
-unfolding tagged
-tagged-append first xs before later = map-append (λ copy. tag (setting_at first xs copy.place) copy) before later
+pub tagged_copies-append : (first : Setting) (xs : List Event) (before later : List FoundCopy) → tagged_copies first xs (before ++ later) ≡ tagged_copies first xs before ++ tagged_copies first xs later
+unfolding tagged_copies
+tagged_copies-append first xs before later = map-append (λ copy. tag (setting_at first xs copy.place) copy) before later
 
 -- each copy that is found stands at one of the bits
 past_placed : (bits : List Bool) (locks : List Lock) (p : ℕ) → Past bits locks p → All (IsCopyIn 0 (length bits)) (past_copies bits locks)
@@ -88,12 +88,12 @@ end_adds bits locks now =
     ap (λ xs. past_copies bits locks ++ xs) (all_in-parts (standing_text bits now)) ∙ sym (append_assoc (past_copies bits locks) (ended_in (standing_text bits now)) (open_in (standing_text bits now)))
 
 -- what is printed of copies, and then of others
-pub printed-append : (entries : List MemoryEntry) (xs ys : List TaggedCopy) → printed entries (xs ++ ys) ≡ printed entries xs ++ printed (entries_after entries xs) ys
-unfolding printed entries_made
-printed-append entries [] ys = ap (λ es. printed es ys) (sym (append-nil entries))
-printed-append entries (x ∷ xs) ys =
-    ap (λ ps. if_printed entries x ++ ps) (printed-append (entries ++ entry_made entries x) xs ys ∙ ap (λ es. printed (entries ++ entry_made entries x) xs ++ printed es ys) (append_assoc entries (entry_made entries x) _))
-    ∙ sym (append_assoc (if_printed entries x) (printed (entries ++ entry_made entries x) xs) _)
+pub printed_copies-append : (entries : List MemoryEntry) (xs ys : List TaggedCopy) → printed_copies entries (xs ++ ys) ≡ printed_copies entries xs ++ printed_copies (entries_after entries xs) ys
+unfolding printed_copies entries_made
+printed_copies-append entries [] ys = ap (λ es. printed_copies es ys) (sym (append-nil entries))
+printed_copies-append entries (x ∷ xs) ys =
+    ap (λ ps. if_printed entries x ++ ps) (printed_copies-append (entries ++ entry_made entries x) xs ys ∙ ap (λ es. printed_copies (entries ++ entry_made entries x) xs ++ printed_copies es ys) (append_assoc entries (entry_made entries x) _))
+    ∙ sym (append_assoc (if_printed entries x) (printed_copies (entries ++ entry_made entries x) xs) _)
 
 pub entries_after-append : (entries : List MemoryEntry) (xs ys : List TaggedCopy) → entries_after entries (xs ++ ys) ≡ entries_after (entries_after entries xs) ys
 unfolding entries_made
@@ -106,10 +106,10 @@ pub printed_goes_on : (start : Start) (xs ys : List Event) (before later : List 
 printed_goes_on start xs ys before later g k =
     let first = first_setting start in
     record {
-      rest = printed (entries_after start.entries (tagged first xs before)) (tagged first (xs ++ ys) g.rest);
+      rest = printed_copies (entries_after start.entries (tagged_copies first xs before)) (tagged_copies first (xs ++ ys) g.rest);
       whole = ap (λ cs. printed_of start (xs ++ ys) cs) g.whole
-          ∙ ap (printed start.entries) (tagged-append first (xs ++ ys) before g.rest ∙ ap (λ ts. ts ++ tagged first (xs ++ ys) g.rest) (tagged-more first xs ys 0 before k))
-          ∙ printed-append start.entries (tagged first xs before) (tagged first (xs ++ ys) g.rest);
+          ∙ ap (printed_copies start.entries) (tagged_copies-append first (xs ++ ys) before g.rest ∙ ap (λ ts. ts ++ tagged_copies first (xs ++ ys) g.rest) (tagged_copies-more first xs ys 0 before k))
+          ∙ printed_copies-append start.entries (tagged_copies first xs before) (tagged_copies first (xs ++ ys) g.rest);
     }
 
 -- more events change nothing that was printed

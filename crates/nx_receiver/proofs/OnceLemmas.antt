@@ -12,10 +12,10 @@ use Rattle.nx_memory.specs.Memory.{is_known, most_entries, seconds_known}
 use Rattle.nx_envelope.proofs.Identities.{same_identity-true, same_itself}
 use Rattle.nx_memory.proofs.Known.{known_from_live, live_from_known}
 use Rattle.nx_receiver.specs.Tagged.{TaggedCopy}
-use Rattle.nx_receiver.specs.Printing.{is_good, is_number_00, is_remembered, is_printed, is_entered, entry_of, entry_made, entries_made, entries_after, if_printed, printed}
+use Rattle.nx_receiver.specs.Printing.{is_good, is_number_00, is_remembered, is_printed, is_entered, entry_of, entry_made, entries_made, entries_after, if_printed, printed_copies}
 use Rattle.nx_receiver.specs.LawTerms.{copies_of, AreRepeats}
 use Rattle.nx_receiver.proofs.JudgingLemmas.{remembered, unknown, entered}
-use Rattle.nx_receiver.proofs.LoggedLemmas.{printed-append, entries_after-append}
+use Rattle.nx_receiver.proofs.LoggedLemmas.{printed_copies-append, entries_after-append}
 
 abbrev bears : Identity → TaggedCopy → Bool
 bears identity copy = same_identity copy.identity identity
@@ -78,14 +78,14 @@ before_lacks identity entries (c ∷ copies) e k =
     (before_lacks identity (entries ++ entry_made entries c) copies parts.1 (All-append (λ (entry : MemoryEntry). same_identity entry.identity identity ≡ false) entries (entry_made entries c) k (made_lacks identity entries c parts.0)))
 
 -- copies of other identities print none of it
-before_prints : (identity : Identity) (entries : List MemoryEntry) (copies : List TaggedCopy) → copies_of identity copies ≡ [] → copies_of identity (printed entries copies) ≡ []
-unfolding printed if_printed copies_of
+before_prints : (identity : Identity) (entries : List MemoryEntry) (copies : List TaggedCopy) → copies_of identity copies ≡ [] → copies_of identity (printed_copies entries copies) ≡ []
+unfolding printed_copies if_printed copies_of
 before_prints identity entries [] e = refl
 before_prints identity entries (c ∷ copies) e =
     let parts = none_first identity c copies e in
     let rest = before_prints identity (entries ++ entry_made entries c) copies parts.1 in
-    elim (is_printed entries c) as (λ (b : Bool). filter (bears identity) (cond b (c ∷ []) [] ++ printed (entries ++ entry_made entries c) copies) ≡ []) [
-      | true ↦ ap (λ b. cond b (c ∷ filter (bears identity) (printed (entries ++ entry_made entries c) copies)) (filter (bears identity) (printed (entries ++ entry_made entries c) copies))) parts.0 ∙ rest
+    elim (is_printed entries c) as (λ (b : Bool). filter (bears identity) (cond b (c ∷ []) [] ++ printed_copies (entries ++ entry_made entries c) copies) ≡ []) [
+      | true ↦ ap (λ b. cond b (c ∷ filter (bears identity) (printed_copies (entries ++ entry_made entries c) copies)) (filter (bears identity) (printed_copies (entries ++ entry_made entries c) copies))) parts.0 ∙ rest
       | false ↦ rest
     ]
 
@@ -123,20 +123,20 @@ kept_back identity entries first mid copy n f h k =
 
 after_prints : (identity : Identity) (entries : List MemoryEntry) (first : TaggedCopy) (mid rest : List TaggedCopy) → 0 < identity.number → same_identity first.identity identity ≡ true
     → ((more after : List TaggedCopy) (copy : TaggedCopy) → rest ≡ more ++ copy ∷ after → same_identity copy.identity identity ≡ true → IsKept identity entries first (mid ++ more) copy)
-    → copies_of identity (printed (entries_after (entries ++ entry_of first ∷ []) mid) rest) ≡ []
-unfolding printed if_printed copies_of
+    → copies_of identity (printed_copies (entries_after (entries ++ entry_of first ∷ []) mid) rest) ≡ []
+unfolding printed_copies if_printed copies_of
 after_prints identity entries first mid [] n f k = refl
 after_prints identity entries first mid (c ∷ rest) n f k =
     let so_far = entries_after (entries ++ entry_of first ∷ []) mid in
     let next : entries_after (entries ++ entry_of first ∷ []) (mid ++ c ∷ []) ≡ so_far ++ entry_made so_far c = one_after (entries ++ entry_of first ∷ []) mid c in
-    let later : filter (bears identity) (printed (so_far ++ entry_made so_far c) rest) ≡ [] =
-    ap (λ es. filter (bears identity) (printed es rest)) (sym next)
+    let later : filter (bears identity) (printed_copies (so_far ++ entry_made so_far c) rest) ≡ [] =
+    ap (λ es. filter (bears identity) (printed_copies es rest)) (sym next)
     ∙ after_prints identity entries first (mid ++ c ∷ []) rest n f (λ more after copy e h. subst (λ (m : List TaggedCopy). IsKept identity entries first m copy) (sym (append_assoc mid (c ∷ []) more)) (k (c ∷ more) after copy (ap (λ xs. c ∷ xs) e) h)) in
     let not_this : bears identity c ≡ true → is_printed so_far c ≡ false = λ h. kept_back identity entries first mid c n f h (subst (λ (m : List TaggedCopy). IsKept identity entries first m c) (append-nil mid) (k [] rest c refl h)) in
-    elim (is_printed so_far c) as (λ (b : Bool). is_printed so_far c ≡ b → filter (bears identity) (cond b (c ∷ []) [] ++ printed (so_far ++ entry_made so_far c) rest) ≡ []) [
+    elim (is_printed so_far c) as (λ (b : Bool). is_printed so_far c ≡ b → filter (bears identity) (cond b (c ∷ []) [] ++ printed_copies (so_far ++ entry_made so_far c) rest) ≡ []) [
       | true ↦ λ p.
           let other : bears identity c ≡ false = false_from_ne_true _ (λ h. true≢false (sym p ∙ not_this h)) in
-          ap (λ b. cond b (c ∷ filter (bears identity) (printed (so_far ++ entry_made so_far c) rest)) (filter (bears identity) (printed (so_far ++ entry_made so_far c) rest))) other ∙ later
+          ap (λ b. cond b (c ∷ filter (bears identity) (printed_copies (so_far ++ entry_made so_far c) rest)) (filter (bears identity) (printed_copies (so_far ++ entry_made so_far c) rest))) other ∙ later
       | false ↦ λ p. later
     ] refl
 
@@ -150,8 +150,8 @@ there identity all repeats more after first copy counted e h =
     subst (λ (xs : List TaggedCopy). Contains (first ∷ xs) copy) (sym kept)
     (Contains-append_right (first ∷ filter (bears identity) more) (copy ∷ filter (bears identity) after) copy (0, omega arith, refl))
 
-pub once : (identity : Identity) (copies : List TaggedCopy) (first : TaggedCopy) (repeats : List TaggedCopy) → AreRepeats identity copies first repeats → copies_of identity (printed [] copies) ≡ first ∷ []
-unfolding copies_of printed if_printed entries_made
+pub once : (identity : Identity) (copies : List TaggedCopy) (first : TaggedCopy) (repeats : List TaggedCopy) → AreRepeats identity copies first repeats → copies_of identity (printed_copies [] copies) ≡ first ∷ []
+unfolding copies_of printed_copies if_printed entries_made
 once identity copies first repeats r =
     let s = split identity copies first repeats r.heard in
     let entries = entries_after [] s.before in
@@ -168,12 +168,12 @@ once identity copies first repeats r =
       recent = r.close copy first (there identity s.after repeats more after first copy s.rest e h) (0, omega arith, refl);
       few = subst (λ (es : List MemoryEntry). length (entries_made es more) < most_entries) begun (r.few s.before more after copy (s.whole ∙ ap (λ xs. s.before ++ first ∷ xs) e) s.none h);
     }) in
-    let rest = printed (entries ++ entry_made entries first) s.after in
-    ap (λ cs. filter (bears identity) (printed [] cs)) s.whole
-    ∙ ap (filter (bears identity)) (printed-append [] s.before (first ∷ s.after))
-    ∙ filter-append (bears identity) (printed [] s.before) (printed entries (first ∷ s.after))
-    ∙ ap (λ xs. xs ++ filter (bears identity) (printed entries (first ∷ s.after))) (before_prints identity [] s.before s.none)
+    let rest = printed_copies (entries ++ entry_made entries first) s.after in
+    ap (λ cs. filter (bears identity) (printed_copies [] cs)) s.whole
+    ∙ ap (filter (bears identity)) (printed_copies-append [] s.before (first ∷ s.after))
+    ∙ filter-append (bears identity) (printed_copies [] s.before) (printed_copies entries (first ∷ s.after))
+    ∙ ap (λ xs. xs ++ filter (bears identity) (printed_copies entries (first ∷ s.after))) (before_prints identity [] s.before s.none)
     ∙ ap (λ b. filter (bears identity) (cond b (first ∷ []) [] ++ rest)) shown
     ∙ ap (λ b. cond b (first ∷ filter (bears identity) rest) (filter (bears identity) rest)) s.named
-    ∙ ap (λ es. first ∷ filter (bears identity) (printed es s.after)) (ap (λ m. entries ++ m) made ∙ sym (append-nil (entries ++ entry_of first ∷ [])))
+    ∙ ap (λ es. first ∷ filter (bears identity) (printed_copies es s.after)) (ap (λ m. entries ++ m) made ∙ sym (append-nil (entries ++ entry_of first ∷ [])))
     ∙ ap (λ xs. first ∷ xs) later

@@ -21,8 +21,8 @@ use Rattle.nx_receiver.specs.Events.{element, Setting, settings, setting_at, fir
 use Rattle.nx_receiver.specs.Events.{bits_of as bits_among}
 use Rattle.nx_receiver.specs.LockText.{PlacedByte, lock_text}
 use Rattle.nx_receiver.specs.FoundCopies.{found_copy, past_copies, found_to_end}
-use Rattle.nx_receiver.specs.Tagged.{tag, tagged}
-use Rattle.nx_receiver.specs.Printing.{printed, if_printed, is_printed}
+use Rattle.nx_receiver.specs.Tagged.{tag, tagged_copies}
+use Rattle.nx_receiver.specs.Printing.{printed_copies, if_printed, is_printed}
 use Rattle.nx_receiver.specs.Log.{entry_head, is_of_lines, missing_newline, entry_with, IsLog, printed_of, PrintsToEnd}
 use Rattle.nx_receiver.specs.Example.{ea01, first_copy}
 use Rattle.nx_receiver.specs.Worked.{at_its_slot, heard_elements, worked_log}
@@ -71,13 +71,13 @@ tagged_is : (text : List PlacedByte) → tag (first_setting at_its_slot) (found_
 unfolding tag found_copy found
 tagged_is text = ap (λ (i : Identity). record { identity = i; how = Full; text = codes "TEST\n"; moment = 1735692000; selected = admits (first_setting at_its_slot).refused i }) same_name ∙ ap (λ b. record { identity = ea01; how = Full; text = codes "TEST\n"; moment = 1735692000; selected = b }) all_selected
 
-printed_is : printed [] (first_copy ∷ []) ≡ first_copy ∷ []
-unfolding printed if_printed is_printed
+printed_is : printed_copies [] (first_copy ∷ []) ≡ first_copy ∷ []
+unfolding printed_copies if_printed is_printed
 printed_is = refl
 
 -- the log of the words that were heard
 pub printed_to_end : (sent : List ℕ) → Computed sent → PrintsToEnd at_its_slot (heard_elements sent) (first_copy ∷ [])
-unfolding tagged found_to_end past_copies
+unfolding tagged_copies found_to_end past_copies
 printed_to_end sent is =
     let bits = bits_of sent in
     let events = heard_elements sent in
@@ -92,8 +92,8 @@ printed_to_end sent is =
       printed =
           sym (ap (λ bs. printed_of at_its_slot events (found_to_end bs [] (locked 0 28))) (bits_among-elements bits)
           ∙ ap (printed_of at_its_slot events) all
-          ∙ ap (λ s. printed [] (tag s copy ∷ [])) (at_first first bits copy.place)
-          ∙ ap (λ c. printed [] (c ∷ [])) (tagged_is text)
+          ∙ ap (λ s. printed_copies [] (tag s copy ∷ [])) (at_first first bits copy.place)
+          ∙ ap (λ c. printed_copies [] (c ∷ [])) (tagged_is text)
           ∙ printed_is);
     }
   where

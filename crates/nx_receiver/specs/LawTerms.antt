@@ -18,10 +18,16 @@ copies_of identity copies = filter (λ copy. same_identity copy.identity identit
 -- Of these copies, `first` and then `repeats` bear the identity, which is not numbered 00. All of them are good and
 -- selected. They lie within 66 hours of each other. And fewer than 200 entries are made, after an empty first list,
 -- between the first and any later one.
-pub record AreRepeats (identity : Identity) (copies : List TaggedCopy) (first : TaggedCopy) (repeats : List TaggedCopy) : Type 0 where
+pub record AreRepeats (identity : Identity) (copies : List TaggedCopy) (first : TaggedCopy) (repeats : List TaggedCopy)
+    : Type 0 where
   pub heard : copies_of identity copies ≡ first ∷ repeats
   pub numbered : 0 < identity.number
   pub good : All (λ copy. IsTrue (is_good copy)) (first ∷ repeats)
   pub selected : All (λ copy. IsTrue copy.selected) (first ∷ repeats)
-  pub close : (one other : TaggedCopy) → Contains (first ∷ repeats) one → Contains (first ∷ repeats) other → one.moment < other.moment + seconds_known
-  pub few : (before between after : List TaggedCopy) (later : TaggedCopy) → copies ≡ before ++ first ∷ (between ++ later ∷ after) → copies_of identity before ≡ [] → IsTrue (same_identity later.identity identity) → length (entries_made (entries_after [] (before ++ first ∷ [])) between) < most_entries
+  pub close : (one other : TaggedCopy) → Contains (first ∷ repeats) one → Contains (first ∷ repeats) other
+      → one.moment < other.moment + seconds_known
+  pub few : (before between after : List TaggedCopy) (later : TaggedCopy)
+      → copies ≡ before ++ first ∷ (between ++ later ∷ after)
+      → copies_of identity before ≡ []
+      → IsTrue (same_identity later.identity identity)
+      → length (entries_made (entries_after [] (before ++ first ∷ [])) between) < most_entries

@@ -7,3 +7,5 @@ pub mod Log
 pub mod LawTerms
 pub mod Example
 pub mod Worked
+pub mod Sending
+pub mod OnceHeard

@@ -11,8 +11,8 @@ use Rattle.nx_envelope.specs.declared.found.How.TheVariants.{Full, Cut, Long}
 use Rattle.nx_sync.specs.Locks.{Lock, Now, IsNow}
 use Rattle.nx_receiver.specs.Events.{Event, Start, bits_of, first_setting}
 use Rattle.nx_receiver.specs.FoundCopies.{FoundCopy, ended_so_far, found_to_end}
-use Rattle.nx_receiver.specs.Tagged.{TaggedCopy, tagged}
-use Rattle.nx_receiver.specs.Printing.{printed}
+use Rattle.nx_receiver.specs.Tagged.{TaggedCopy, tagged_copies}
+use Rattle.nx_receiver.specs.Printing.{printed_copies}
 
 -- how a copy ended, as it is printed
 abbrev pub how_name : How → List ℕ
@@ -53,7 +53,7 @@ pub record IsLog (copies : List TaggedCopy) (bytes : List ℕ) : Type 0 where
 
 -- of the copies that were found, those that are printed
 abbrev pub printed_of : Start → List Event → List FoundCopy → List TaggedCopy
-printed_of start events copies = printed start.entries (tagged (first_setting start) events copies)
+printed_of start events copies = printed_copies start.entries (tagged_copies (first_setting start) events copies)
 
 -- What is printed of the copies that have ended after these events.
 pub record HasPrinted (start : Start) (events : List Event) (log : List TaggedCopy) : Type 0 where

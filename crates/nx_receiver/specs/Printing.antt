@@ -61,7 +61,7 @@ unfoldable pub if_printed : List MemoryEntry → TaggedCopy → List TaggedCopy
 if_printed entries copy = if is_printed entries copy then copy ∷ [] else []
 
 -- the copies that are printed, in order, after these entries
-unfoldable pub printed : List MemoryEntry → List TaggedCopy → List TaggedCopy
-printed entries [] = []
-printed entries (copy ∷ copies) =
-    if_printed entries copy ++ printed (entries ++ entry_made entries copy) copies
+unfoldable pub printed_copies : List MemoryEntry → List TaggedCopy → List TaggedCopy
+printed_copies entries [] = []
+printed_copies entries (copy ∷ copies) =
+    if_printed entries copy ++ printed_copies (entries ++ entry_made entries copy) copies

@@ -28,8 +28,8 @@ tag setting copy = record {
 }
 
 -- copies with what is in force at the second digit of each, in the same order
-unfoldable pub tagged : Setting → List Event → List FoundCopy → List TaggedCopy
-tagged first events copies = map (λ copy. tag (setting_at first events copy.place) copy) copies
+unfoldable pub tagged_copies : Setting → List Event → List FoundCopy → List TaggedCopy
+tagged_copies first events copies = map (λ copy. tag (setting_at first events copy.place) copy) copies
 
 -- what the finder hands out, with a moment and whether it is selected
 abbrev pub tagged_found : Found → ℕ → Bool → TaggedCopy

@@ -6,7 +6,7 @@ ghost use Rattle.nx_code.specs.Reading.{text};
 ghost use Rattle.nx_code.specs.declared.shifts.Shift.TheVariants.{Letters};
 ghost use Rattle.nx_envelope.specs.Moment.{last_moment};
 ghost use Rattle.nx_envelope.specs.declared.identity.Identity.{Identity};
-ghost use Rattle.nx_sync.specs.Words.{word_at, first_role};
+ghost use Rattle.nx_sync.specs.Words.{word_at, first_role, words_of};
 ghost use Rattle.nx_sync.specs.Locks.{Lock, Now, IsLocked, IsNow, Past};
 ghost use Rattle.nx_receiver.specs.Events.{Event, Start, bits_of};
 ghost use Rattle.nx_receiver.specs.Example.{ea01, example_copies, first_copy, repeated_copy};
@@ -14,14 +14,20 @@ ghost use Rattle.nx_receiver.specs.FoundCopies.{FoundCopy, ended_so_far, open_so
 ghost use Rattle.nx_receiver.specs.LawTerms.{AreRepeats, copies_of, own_bits};
 ghost use Rattle.nx_receiver.specs.LockText.{PlacedByte, bytes_of, lock_text, positions};
 ghost use Rattle.nx_receiver.specs.Log.{HasPrinted, IsLog, PrintsToEnd};
-ghost use Rattle.nx_receiver.specs.Printing.{printed};
+ghost use Rattle.nx_receiver.specs.Printing.{printed_copies};
 ghost use Rattle.nx_receiver.specs.Tagged.{TaggedCopy};
 ghost use Rattle.nx_receiver.specs.Worked.{at_its_slot, damaged_words, heard_elements, sent_words, worked_log};
 
-/// The bytes of the text of a lock are what is read of the positions that its words complete, from letters.
+pub mod once;
+
+/// The bytes of the text of a lock are what is read of the positions that its words complete, from letters. And these
+/// positions are told by its words with their roles, as a list, alone: where two locks have the same words, they have the
+/// same positions.
 pub fn a_text_is_read_of_positions()
-    ensures { (bits : List Bool) (t n : ℕ) → bytes_of (lock_text bits t n)
+    ensures read { (bits : List Bool) (t n : ℕ) → bytes_of (lock_text bits t n)
         ≡ text (positions (first_role bits t) (word_at bits t) n) Letters }
+    ensures words { (bits others : List Bool) (t u n : ℕ) → words_of bits t n ≡ words_of others u n
+        → positions (first_role bits t) (word_at bits t) n ≡ positions (first_role others u) (word_at others u) n }
 {}
 
 /// Locks share nothing: the text of a lock, and so each copy in it, is made of its own bits alone; each byte of it
@@ -87,7 +93,7 @@ pub fn logs_go_on()
 /// entries are made between the first and any later one, the first of them is printed, and no other.
 pub fn repeats_are_printed_once()
     ensures { (identity : Identity) (copies : List TaggedCopy) (first : TaggedCopy) (repeats : List TaggedCopy) →
-        AreRepeats identity copies first repeats → copies_of identity (printed [] copies) ≡ first ∷ [] }
+        AreRepeats identity copies first repeats → copies_of identity (printed_copies [] copies) ≡ first ∷ [] }
 {}
 
 /// There are such repeats: EA01 is heard, then EB02 twice, and EA01 again four hours after the first.

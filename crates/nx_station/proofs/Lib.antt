@@ -1,11 +1,3 @@
-pub mod ChannelPositions
-pub mod ChannelCounts
-pub mod ChannelLaws
-pub mod ChannelWindows
-pub mod SendingsLemmas
-pub mod ChannelPhasing
-pub mod ChannelUndamaged
-pub mod ChannelExamples
 pub mod LineLemmas
 pub mod MessageFaultLemmas
 pub mod FileLaws
@@ -15,4 +7,16 @@ pub mod StationLemmas
 pub mod ReadingBack
 pub mod FileReading
 pub mod SendingLaws
+pub mod ChannelPositions
+pub mod ChannelCounts
+pub mod ChannelLaws
+pub mod ChannelWindows
+pub mod SendingsLemmas
+pub mod ChannelPhasing
+pub mod ChannelUndamaged
+pub mod ChannelExamples
+pub mod PairLemmas
+pub mod PrintedText
+pub mod EmissionReading
+pub mod EmissionFaults
 mod Examples

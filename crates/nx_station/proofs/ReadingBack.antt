@@ -60,11 +60,11 @@ Prints-append first middle last xs ys a b h k = record {
 
 -- ---- the letters of a head and of an end
 
-z-prints : character_of 26 Letters ≡ Some 90
+pub z-prints : character_of 26 Letters ≡ Some 90
 unfolding character_of row_of table
 z-prints = refl
 
-c-prints : character_of 3 Letters ≡ Some 67
+pub c-prints : character_of 3 Letters ≡ Some 67
 unfolding character_of row_of table
 c-prints = refl
 
@@ -72,7 +72,7 @@ n-prints : character_of 14 Letters ≡ Some 78
 unfolding character_of row_of table
 n-prints = refl
 
-space-prints : character_of 31 Letters ≡ Some 32
+pub space-prints : character_of 31 Letters ≡ Some 32
 unfolding character_of
 space-prints = refl
 
@@ -125,7 +125,7 @@ message-prints message numbers first h =
     subst (λ l. Prints first l (printed_text message) Letters) (sym positions)
     (subst (λ l. Prints first (map combination (head message.identity) ++ (map combination h.text ++ map combination (ending last))) l Letters) bytes all)
 
-traffic-receptions : (numbers : List ℕ) → map reception (map traffic_position numbers) ≡ map combination numbers
+pub traffic-receptions : (numbers : List ℕ) → map reception (map traffic_position numbers) ≡ map combination numbers
 traffic-receptions [] = refl
 traffic-receptions (n ∷ numbers) = ap (λ l. combination n ∷ l) (traffic-receptions numbers)
 

@@ -1,9 +1,10 @@
-pub mod Channel
-pub mod Sendings
-pub mod ChannelExample
 pub mod Slots
 pub mod Broadcast
 pub mod Sendable
 pub mod MessageFile
 pub mod Faults
 pub mod Runs
+pub mod Channel
+pub mod Sendings
+pub mod ChannelExample
+pub mod StrictReading
