@@ -21,3 +21,4 @@ pub mod SendingPrinted
 pub mod SendingEmissions
 pub mod SendingFound
 pub mod OnceFound
+pub mod OnceExample

@@ -1,10 +1,12 @@
 //! Laws of messages that are sent, from the words of their emissions to the copies that are printed. Each function does
 //! nothing; its contract is the law.
 
-ghost use Rattle.std.specs.Prelude.{◌≡◌, Bool, List, [], ◌∷◌};
+ghost use Rattle.std.specs.Prelude.{◌≡◌, Bool, List, [], ◌∷◌, take};
 ghost use Rattle.nx_envelope.specs.Errors.{errors_of};
 ghost use Rattle.nx_envelope.specs.Message.{text_of};
 ghost use Rattle.nx_envelope.specs.MessageView.{MessageView};
+ghost use Rattle.nx_fec.specs.Emission.{bits_of};
+ghost use Rattle.nx_station.specs.ChannelExample.{example_message, example_parts};
 ghost use Rattle.nx_station.specs.Sendings.{IsCut, IsReceived, IsSending, Part, ReceivedEmission, Sending};
 ghost use Rattle.nx_sync.specs.Locks.{IsNow, Lock, Now};
 ghost use Rattle.nx_receiver.specs.Events.{Event, Start};
@@ -13,6 +15,7 @@ ghost use Rattle.nx_receiver.specs.Log.{PrintsToEnd};
 ghost use Rattle.nx_receiver.specs.OnceHeard.{IsHeardInTime, IsPrintedOnce};
 ghost use Rattle.nx_receiver.specs.Sending.{HoldsThrough, copies_at, copy_of_sending};
 ghost use Rattle.nx_receiver.specs.Tagged.{TaggedCopy};
+ghost use Rattle.nx_receiver.specs.Worked.{at_its_slot, damaged_words, heard_elements};
 
 /// Under the channel a lock holds: whatever bits came before, the lock that the 48 phasing words before a received emission
 /// leave stands to the last bit of the emission, and so to the RX of the last message's fourth N.
@@ -42,6 +45,13 @@ pub fn a_message_is_printed_once()
         PrintsToEnd start events log → IsHeardInTime start events parts message → IsPrintedOnce message log }
 {}
 
+/// What has to be met can be met: by EA01 with the line TEST, sent once, of whose words that are heard the DX word of each
+/// position is damaged, in the bits of its emission alone.
+pub fn there_is_a_message_heard_in_time()
+    ensures { IsHeardInTime at_its_slot (heard_elements damaged_words)
+        (example_parts (bits_of (take 96 damaged_words)) []) example_message }
+{}
+
 #[cfg(test)]
 mod tests {
     use super::*;
@@ -52,5 +62,6 @@ mod tests {
         a_received_emission_keeps_its_lock();
         each_sending_gives_one_copy();
         a_message_is_printed_once();
+        there_is_a_message_heard_in_time();
     }
 }
