@@ -1,6 +1,6 @@
 -- The worked emission, of which each DX word of the message is damaged, meets what is asked of a message that is printed
 -- once.
-use Rattle.std.proofs.Common.{◌≡◌, ℕ, zero, suc, ◌+◌, ◌*◌, ◌<◌, ◌≤◌, Bool, List, [], ◌∷◌, ◌++◌, length, map, take, drop, get_or, refl, sym, ap, ◌∙◌, subst, arith, append-nil, lit<}
+use Rattle.std.proofs.Common.{◌≡◌, ℕ, zero, suc, ◌+◌, ◌<◌, Bool, List, [], ◌∷◌, ◌++◌, length, take, drop, get_or, refl, sym, ap, ◌∙◌, subst, arith, append-nil, lit<}
 use Rattle.std.specs.Prelude.{codes}
 use Rattle.std.specs.List.{Contains}
 use Rattle.std.proofs.lemmas.List.{length-append, length-map, take-append-drop}
@@ -52,10 +52,12 @@ events_are : bits_among events ≡ bits_of damaged_words
 events_are = bits_among-elements (bits_of damaged_words)
 
 cut_is : IsCut (bits_among events) (example_parts first_bits [])
-cut_is = subst (λ (b : List Bool). IsCut b (example_parts first_bits [])) (sym (events_are ∙ bits_are)) (example_cut first_bits [])
+cut_is =
+    subst (λ (b : List Bool). IsCut b (example_parts first_bits [])) (sym (events_are ∙ bits_are)) (example_cut first_bits [])
 
 stands_is : IsNow (bits_among events) [] (locked 0 28)
-stands_is = subst (λ (b : List Bool). IsNow b [] (locked 0 28)) (sym events_are) (stands damaged_words damaged_computed)
+stands_is =
+    subst (λ (b : List Bool). IsNow b [] (locked 0 28)) (sym events_are) (stands damaged_words damaged_computed)
 
 abbrev found : List FoundCopy
 found = found_to_end (bits_among events) [] (locked 0 28)
@@ -84,9 +86,11 @@ one_in (z ∷ []) x y e c d = sym (at_zero z x c.0 c.1 c.2) ∙ at_zero z y d.0 
     at_zero z x (suc k) lt e = absurd (omega arith)
 
 sent_there : Contains found (copy_of_sending (example_sending first_bits))
-sent_there = sending_in_end (bits_among events) (example_parts first_bits []) (example_sending first_bits) [] (locked 0 28) cut_is (example_sent first_bits []) stands_is
+sent_there =
+    sending_in_end (bits_among events) (example_parts first_bits []) (example_sending first_bits) [] (locked 0 28) cut_is (example_sent first_bits []) stands_is
 
-not_two : (copies before between after : List TaggedCopy) (first later : TaggedCopy) → length copies ≡ 1 → copies ≡ before ++ first ∷ (between ++ later ∷ after) → ⊥
+not_two : (copies before between after : List TaggedCopy) (first later : TaggedCopy) → length copies ≡ 1
+    → copies ≡ before ++ first ∷ (between ++ later ∷ after) → ⊥
 not_two copies before between after first later one e =
     let long = ap length e ∙ length-append before (first ∷ (between ++ later ∷ after)) in
     let more = length-append between (later ∷ after) in
@@ -108,10 +112,13 @@ heard_in_time = record {
   stands = stands_is;
   alone = λ copy there named.
       subst (IsSentAt (example_parts first_bits []) example_message) (ap (λ (c : FoundCopy). c.place) (one_in found (copy_of_sending (example_sending first_bits)) copy one_found sent_there there)) (example_sent first_bits []);
-  selected = λ at sent. ap (λ (s : Setting). admits s.refused example_message.identity) (at_first (first_setting at_its_slot) (bits_of damaged_words) at) ∙ all_selected;
+  selected =
+      λ at sent. ap (λ (s : Setting). admits s.refused example_message.identity) (at_first (first_setting at_its_slot) (bits_of damaged_words) at)
+      ∙ all_selected;
   close = λ one other a b.
       let m = ap (λ (s : Setting). s.moment) (at_first (first_setting at_its_slot) (bits_of damaged_words) one) in
       let n = ap (λ (s : Setting). s.moment) (at_first (first_setting at_its_slot) (bits_of damaged_words) other) in
       omega arith;
-  few = λ before between after first later e none named again. absurd (not_two (tagged_copies (first_setting at_its_slot) events found) before between after first later one_tagged e);
+  few =
+      λ before between after first later e none named again. absurd (not_two (tagged_copies (first_setting at_its_slot) events found) before between after first later one_tagged e);
 }
