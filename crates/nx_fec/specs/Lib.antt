@@ -3,6 +3,7 @@ pub mod Aligned
 pub mod BitLines
 pub mod Devices
 pub mod Emission
+pub mod LineRuns
 pub mod Lines
 pub mod Pairing
 pub mod Runs

@@ -15,4 +15,8 @@ pub mod SendingsLemmas
 pub mod ChannelPhasing
 pub mod ChannelUndamaged
 pub mod ChannelExamples
+pub mod PairLemmas
+pub mod PrintedText
+pub mod EmissionReading
+pub mod EmissionFaults
 mod Examples

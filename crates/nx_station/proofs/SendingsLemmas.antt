@@ -1,11 +1,15 @@
 -- Where a message stands in the positions of its broadcast.
-use Rattle.std.proofs.Common.{◌≡◌, ℕ, zero, suc, ◌+◌, ◌-◌, ◌≤◌, Some, None, List, [], ◌∷◌, ◌++◌, map, replicate, take, sym, ap, ◌∙◌, subst, arith, append_assoc}
+use Rattle.std.proofs.Common.{◌≡◌, ℕ, zero, suc, ◌+◌, ◌-◌, ◌≤◌, Some, None, List, [], ◌∷◌, ◌++◌, map, replicate, length, take, sym, ap, ◌∙◌, subst, arith, append_assoc, ◌%◌, get_or, ◌<◌}
 use Rattle.std.specs.List.{flat_map, slice_get}
-use Rattle.std.proofs.lemmas.List.{length-append, length-map, length-replicate}
+use Rattle.std.proofs.lemmas.List.{get_or-append-add, length-append, length-map, length-replicate}
 use Rattle.nx_envelope.specs.MessageView.{MessageView}
-use Rattle.nx_fec.specs.Emission.{phasing_position, traffic_position, end_position}
-use Rattle.nx_station.specs.Broadcast.{IsSpelled, AreSpelled, layout, phasing_and_message}
-use Rattle.nx_station.specs.Sendings.{StandsFrom, positions_before}
+use Rattle.nx_fec.specs.Emission.{SentPosition, phasing_position, traffic_position, end_position, position_at, rx_word, word_sent}
+use Rattle.nx_station.specs.Broadcast.{IsSpelled, AreSpelled, digit_combination, head, layout, phasing_and_message}
+use Rattle.nx_station.specs.Channel.{slots_of}
+use Rattle.nx_station.proofs.ChannelPhasing.{length-spelled}
+use Rattle.nx_code.specs.Table.{traffic_word}
+use Rattle.nx_fec.proofs.EmissionLemmas.{word_sent-rx}
+use Rattle.nx_station.specs.Sendings.{StandsFrom, digit_slot, positions_before}
 
 pub at_least_phasing : (spellings : List (List ℕ)) → 72 ≤ positions_before spellings
 at_least_phasing [] = omega arith
@@ -52,3 +56,24 @@ message-stands (m ∷ messages) (s ∷ spellings) i message h e =
     let same : 72 + (positions_before (take i (s ∷ spellings)) - 72) ≡ positions_before (take i (s ∷ spellings)) = omega arith in
     subst (StandsFrom (phasing_and_message 72 s ++ (flat_map (phasing_and_message 36) spellings ++ replicate 3 end_position)) message) same
     (stands 72 m messages s spellings i message h.0 h.1 e)
+
+-- position 10 of a message is the second digit of its number
+digit-in : (message : MessageView) (numbers : List ℕ) (back : List SentPosition) → IsSpelled message numbers
+    → get_or (map traffic_position numbers ++ back) 10 end_position ≡ traffic_position (digit_combination (message.identity.number % 10))
+unfolding head
+digit-in message numbers back h = ap (λ l. get_or (map traffic_position l ++ back) 10 end_position) h.whole
+
+pub digit-sent : (messages : List MessageView) (spellings : List (List ℕ)) (i : ℕ) (message : MessageView) → AreSpelled messages spellings → slice_get messages i ≡ Some message
+    → word_sent (layout spellings) (digit_slot spellings i) ≡ traffic_word (digit_combination (message.identity.number % 10))
+digit-sent messages spellings i message h e =
+    let stands = message-stands messages spellings i message h e in
+    let place : positions_before (take i spellings) + 10 ≡ length stands.front + 10 = ap (λ n. n + 10) (sym stands.place) in
+    word_sent-rx (layout spellings) (positions_before (take i spellings) + 10)
+    ∙ ap rx_word (ap (position_at (layout spellings)) place ∙ ap (λ l. get_or l (length stands.front + 10) end_position) stands.whole
+    ∙ get_or-append-add stands.front (map traffic_position stands.numbers ++ stands.back) 10 end_position ∙ digit-in message stands.numbers stands.back stands.spelled)
+
+pub digit-within : (messages : List MessageView) (spellings : List (List ℕ)) (i : ℕ) (message : MessageView) → AreSpelled messages spellings → slice_get messages i ≡ Some message
+    → digit_slot spellings i < slots_of (layout spellings)
+digit-within messages spellings i message h e =
+    let stands = message-stands messages spellings i message h e in
+    omega (arith, stands.place, stands.ended, length-spelled message stands.numbers stands.spelled, ap length stands.whole, length-append stands.front (map traffic_position stands.numbers ++ stands.back), length-append (map traffic_position stands.numbers) stands.back, length-map stands.numbers traffic_position)

@@ -30,8 +30,9 @@ abbrev pub IsWrongIn : List ℕ → ℕ → Type 0
 IsWrongIn heard slot = weight (heard_in heard slot) ≢ 4
 
 -- The emission of these positions passes the channel, and these are the words that are heard from slot 96 on, to its last
--- slot. The words of slots 96 to 143 are as sent; each later word is as sent or has the wrong weight; and of each position
--- from 72 on that isn't one of the end, at least one of its two words, in the slots 2i and 2i+5, is as sent.
+-- slot, each by its number. The words of slots 96 to 143 are as sent; each later word is as sent or has the wrong weight;
+-- and of each position from 72 on that isn't one of the end, at least one of its two words, in the slots 2i and 2i+5, is as
+-- sent.
 pub record PassesChannel (positions : List SentPosition) (heard : List ℕ) : Type 0 where
   pub words : AreWords heard
   pub whole : first_slot + length heard ≡ slots_of positions

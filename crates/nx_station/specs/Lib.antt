@@ -7,3 +7,4 @@ pub mod Runs
 pub mod Channel
 pub mod Sendings
 pub mod ChannelExample
+pub mod StrictReading

@@ -56,6 +56,67 @@ pub enum SendRunFault {
     Memory(AllocError),
 }
 
+/// Why elements are not read as the emission of messages. Slots and positions count from 0.
+#[derive(Debug, PartialEq, Eq, Drop, Error)]
+pub enum EmissionFault {
+    /// The elements are no whole words.
+    #[error("{bits} elements are no whole words")]
+    Ragged { bits: u64 },
+    /// The word of this slot is the first of the wrong weight.
+    #[error("word {slot} has the wrong weight")]
+    WrongWord { slot: u64 },
+    /// This position is the first whose two words are there and are no pair.
+    #[error("position {position} is unpaired")]
+    Unpaired { position: u64 },
+    /// The words are those of no emission of this profile.
+    #[error("not an emission of this profile")]
+    BadEnvelope,
+    /// Memory ran out.
+    #[error("out of memory")]
+    Memory(AllocError),
+}
+
+impl From<AllocError> for EmissionFault {
+    ghost use Rattle.std.specs.Prelude.{◌≡◌};
+    ghost use Rattle.nx_station.specs.declared.fault.EmissionFault.TheVariants.{Memory};
+
+    ghost from_gives = { λ error made. made ≡ Memory error };
+
+    fn from(error: AllocError) -> EmissionFault {
+        EmissionFault::Memory(error)
+    }
+}
+
+/// Messages that make no emission have no elements; the elements that were read aren't theirs.
+impl From<SendFault> for EmissionFault {
+    ghost use Rattle.std.specs.Prelude.{◌≡◌};
+    ghost use Rattle.nx_station.specs.Faults.{unread_fault};
+
+    ghost from_gives = { λ fault made. made ≡ unread_fault fault };
+
+    fn from(fault: SendFault) -> EmissionFault {
+        match fault {
+            SendFault::Memory(error) => EmissionFault::Memory(error),
+            _ => EmissionFault::BadEnvelope,
+        }
+    }
+}
+
+/// Lines that make no message stand in no emission.
+impl From<MessageFault> for EmissionFault {
+    ghost use Rattle.std.specs.Prelude.{◌≡◌};
+    ghost use Rattle.nx_station.specs.Faults.{unmade_fault};
+
+    ghost from_gives = { λ fault made. made ≡ unmade_fault fault };
+
+    fn from(fault: MessageFault) -> EmissionFault {
+        match fault {
+            MessageFault::Memory(error) => EmissionFault::Memory(error),
+            _ => EmissionFault::BadEnvelope,
+        }
+    }
+}
+
 impl From<AllocError> for SendRunFault {
     ghost use Rattle.std.specs.Prelude.{◌≡◌};
     ghost use Rattle.nx_station.specs.declared.fault.SendRunFault.TheVariants.{Memory};

@@ -257,11 +257,4 @@ fn laws_can_be_called() {
     laws::a_file_has_one_outcome();
     laws::messages_read_back();
     laws::messages_have_one_broadcast();
-    laws::channel::few_words_are_wrong();
-    laws::channel::no_phasing_1_before_the_end();
-    laws::channel::positions_are_taken_as_sent();
-    laws::channel::words_stand_in_the_bits();
-    laws::channel::messages_stand_in_their_emission();
-    laws::channel::an_undamaged_emission_is_received();
-    laws::channel::an_example_is_received();
 }

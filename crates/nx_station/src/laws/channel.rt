@@ -1,14 +1,15 @@
 //! Laws of what is received under the channel, each the contract of a function that does nothing.
-ghost use Rattle.std.specs.Prelude.{◌≡◌, ◌≢◌, ℕ, ◌+◌, ◌-◌, ◌*◌, ◌<◌, ◌≤◌, ◌==◌, not, Bool, List, [], ◌∷◌, ◌++◌, Some, count_by, drop, get_or, length, slice_get, take};
+ghost use Rattle.std.specs.Prelude.{◌≡◌, ◌≢◌, ℕ, ◌+◌, ◌-◌, ◌*◌, ◌%◌, ◌<◌, ◌≤◌, ◌==◌, not, Bool, List, [], ◌∷◌, ◌++◌, Some, count_by, drop, get_or, length, slice_get, take};
 ghost use Rattle.nx_code.specs.Phasing.{phasing_1};
+ghost use Rattle.nx_code.specs.Table.{traffic_word};
 ghost use Rattle.nx_code.specs.Word.{weight, word_from};
 ghost use Rattle.nx_envelope.specs.MessageView.{MessageView};
-ghost use Rattle.nx_fec.specs.Emission.{SentPosition, bits_of, emission, position_at, reception};
+ghost use Rattle.nx_fec.specs.Emission.{SentPosition, bits_of, emission, position_at, reception, word_sent};
 ghost use Rattle.nx_fec.specs.Pairing.{counts_as, pairing};
-ghost use Rattle.nx_station.specs.Broadcast.{AreSpelled, IsBroadcast, layout};
+ghost use Rattle.nx_station.specs.Broadcast.{AreSpelled, IsBroadcast, digit_combination, layout};
 ghost use Rattle.nx_station.specs.Channel.{PassesChannel, first_slot, heard_in, message_slot, phasing_words, slots_of, wrong_words};
 ghost use Rattle.nx_station.specs.ChannelExample.{example_emission, example_numbers, example_parts, example_sending, heard_half, heard_without_75};
-ghost use Rattle.nx_station.specs.Sendings.{IsCut, IsReceived, IsSending, StandsFrom, positions_before};
+ghost use Rattle.nx_station.specs.Sendings.{IsCut, IsReceived, IsSending, StandsFrom, digit_slot, positions_before};
 
 /// Under the channel any 64 successive words from slot 96 on, and any fewer, have at most 35 of wrong weight. So have the
 /// last 64 words of a lock, up to each word from slot 144 on, whatever words of the lock came before slot 96: `whole` is
@@ -59,11 +60,19 @@ pub fn words_stand_in_the_bits()
         → word_from (before ++ (bits_of heard ++ after)) (length before + 7 * (slot - first_slot)) ≡ heard_in heard slot }
 {}
 
-/// Each message of a list stands in the positions of the list, from the place that is counted by those before it.
+/// Each message of a list stands in the positions of the list, from the place that is counted by those before it; and
+/// the RX of its second digit is sent in the slot that a sending names.
 pub fn messages_stand_in_their_emission()
-    ensures { (messages : List MessageView) (spellings : List (List ℕ)) (i : ℕ) (message : MessageView)
+    ensures stands { (messages : List MessageView) (spellings : List (List ℕ)) (i : ℕ) (message : MessageView)
         → AreSpelled messages spellings → slice_get messages i ≡ Some message
         → StandsFrom (layout spellings) message (positions_before (take i spellings)) }
+    ensures digit { (messages : List MessageView) (spellings : List (List ℕ)) (i : ℕ) (message : MessageView)
+        → AreSpelled messages spellings → slice_get messages i ≡ Some message
+        → word_sent (layout spellings) (digit_slot spellings i)
+        ≡ traffic_word (digit_combination (message.identity.number % 10)) }
+    ensures within { (messages : List MessageView) (spellings : List (List ℕ)) (i : ℕ) (message : MessageView)
+        → AreSpelled messages spellings → slice_get messages i ≡ Some message
+        → digit_slot spellings i < slots_of (layout spellings) }
 {}
 
 /// An emission that arrives as it is sent passes the channel: the bits of its slots before slot 96 belong to the gap
@@ -86,3 +95,20 @@ pub fn an_example_is_received()
     ensures sending { (before after : List Bool) → IsSending (example_parts before after) (example_sending before) }
     ensures outside { PassesChannel (layout (example_numbers ∷ [])) heard_without_75 → ⊥ }
 {}
+
+#[cfg(test)]
+mod tests {
+    use super::*;
+
+    /// Each law is called once.
+    #[test]
+    fn laws(_rt: HostRuntime) {
+        few_words_are_wrong();
+        no_phasing_1_before_the_end();
+        positions_are_taken_as_sent();
+        words_stand_in_the_bits();
+        messages_stand_in_their_emission();
+        an_undamaged_emission_is_received();
+        an_example_is_received();
+    }
+}

@@ -1,5 +1,11 @@
-use Rattle.nx_station.proofs.SendingsLemmas.{message-stands}
+use Rattle.nx_station.proofs.SendingsLemmas.{digit-sent, digit-within, message-stands}
 use Rattle.nx_station.proofs.laws.channel.messages_stand_in_their_emission.Goals as goal
 
-pub returns : goal.returns
-returns c = message-stands
+pub returns-clause-stands : goal.returns-clause-stands
+returns-clause-stands c = message-stands
+
+pub returns-clause-digit : goal.returns-clause-digit
+returns-clause-digit c = digit-sent
+
+pub returns-clause-within : goal.returns-clause-within
+returns-clause-within c = digit-within
