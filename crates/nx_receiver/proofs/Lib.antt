@@ -31,3 +31,4 @@ pub mod SendingPrinted
 pub mod SendingEmissions
 pub mod SendingFound
 pub mod OnceFound
+pub mod OnceExample

@@ -24,19 +24,24 @@ use Rattle.nx_receiver.proofs.SendingFound.{one_found, sending_in_end, sending_e
 use Rattle.nx_receiver.proofs.SendingPlaces.{found_rise}
 
 -- what passes a test is kept
-contains_kept : {A : Type 0} (p : A → Bool) (y : A) (ys : List A) (x : A) → Contains (filter p ys) x → Contains (filter p (y ∷ ys)) x
-contains_kept p y ys x c = elim (p y) as (λ b. Contains (cond b (y ∷ filter p ys) (filter p ys)) x) [ true ↦ (suc c.0, omega (arith, c.1), c.2) | false ↦ c ]
+contains_kept : {A : Type 0} (p : A → Bool) (y : A) (ys : List A) (x : A) → Contains (filter p ys) x
+    → Contains (filter p (y ∷ ys)) x
+contains_kept p y ys x c =
+    elim (p y) as (λ b. Contains (cond b (y ∷ filter p ys) (filter p ys)) x) [ true ↦ (suc c.0, omega (arith, c.1), c.2) | false ↦ c ]
 
-contains_filter : {A : Type 0} (p : A → Bool) (xs : List A) (x : A) → Contains xs x → p x ≡ true → Contains (filter p xs) x
+contains_filter : {A : Type 0} (p : A → Bool) (xs : List A) (x : A) → Contains xs x → p x ≡ true
+    → Contains (filter p xs) x
 contains_filter p xs x c passes = contains_at p xs x c.0 c.1 c.2 passes
   where
-    contains_at : {A : Type 0} (p : A → Bool) (xs : List A) (x : A) (k : ℕ) → k < length xs → get_or xs k x ≡ x → p x ≡ true → Contains (filter p xs) x
+    contains_at : {A : Type 0} (p : A → Bool) (xs : List A) (x : A) (k : ℕ) → k < length xs → get_or xs k x ≡ x
+        → p x ≡ true → Contains (filter p xs) x
     contains_at p [] x k lt e passes = absurd (omega arith)
     contains_at p (y ∷ xs) x zero lt e passes = subst (λ b. Contains (cond b (y ∷ filter p xs) (filter p xs)) x) (sym (ap p e ∙ passes)) (0, omega arith, e)
     contains_at p (y ∷ xs) x (suc k) lt e passes = contains_kept p y xs x (contains_at p xs x k (omega arith) e passes)
 
 -- what holds of each that passes the test holds of all that are kept
-filter_all : {A : Type 0} (p : A → Bool) (Q : A → Type 0) (xs : List A) → All (λ x. p x ≡ true → Q x) xs → All Q (filter p xs)
+filter_all : {A : Type 0} (p : A → Bool) (Q : A → Type 0) (xs : List A) → All (λ x. p x ≡ true → Q x) xs
+    → All Q (filter p xs)
 filter_all p Q [] h = All-nil Q
 filter_all p Q (x ∷ xs) h =
     let rest = filter_all p Q xs (All-tail (λ x. p x ≡ true → Q x) x xs h) in
@@ -56,8 +61,10 @@ has_first [] x c = absurd (omega (arith, c.1))
 has_first (y ∷ ys) x c = record { first = y; rest = ys; whole = refl }
 
 -- each item that is kept passes the test
-first_passes : {A : Type 0} (p : A → Bool) (xs : List A) (first : A) (rest : List A) → filter p xs ≡ first ∷ rest → p first ≡ true
-first_passes p xs first rest e = All-head (λ x. p x ≡ true) first rest (subst (All (λ x. p x ≡ true)) e (filter_passes p xs))
+first_passes : {A : Type 0} (p : A → Bool) (xs : List A) (first : A) (rest : List A) → filter p xs ≡ first ∷ rest
+    → p first ≡ true
+first_passes p xs first rest e =
+    All-head (λ x. p x ≡ true) first rest (subst (All (λ x. p x ≡ true)) e (filter_passes p xs))
 
 no_errors-good : (text : List ℕ) → errors_of text ≡ 0 → ltb (25 * errors_of text) (max 1 (length text)) ≡ true
 no_errors-good text none = lt-ltb (25 * errors_of text) (max 1 (length text)) (omega arith)
@@ -79,13 +86,15 @@ module _ (start : Start) (events : List Event) (parts : List Part) (message : Me
     sent : IsSentAt parts message place
     is : copy ≡ copy_at place
 
-  of_found : (copy : FoundCopy) → Contains found copy → same_identity copy.identity message.identity ≡ true → IsOfSending (tag (setting_of start events copy.place) copy)
+  of_found : (copy : FoundCopy) → Contains found copy → same_identity copy.identity message.identity ≡ true
+      → IsOfSending (tag (setting_of start events copy.place) copy)
   unfolding copies_at
   of_found copy there named =
       let sent = h.alone copy there (same_identity-true copy.identity message.identity named) in
       let sending : Sending = record { message = message; place = copy.place } in
       let one = one_found (bits_of events) parts sending h.locks h.now h.cut sent h.stands in
-      let this = one_of_key (λ (c : FoundCopy). c.place) found copy (found_rise (bits_of events) h.locks h.now h.stands) there in
+      let this =
+      one_of_key (λ (c : FoundCopy). c.place) found copy (found_rise (bits_of events) h.locks h.now h.stands) there in
       let same : copy ∷ [] ≡ copy_of_sending sending ∷ [] = sym this ∙ one in
       let is : copy ≡ copy_of_sending sending = cc in
       record { place = copy.place; sent = sent; is = ap (tag (setting_of start events copy.place)) is }
@@ -101,7 +110,8 @@ module _ (start : Start) (events : List Event) (parts : List Part) (message : Me
   some_heard : Contains (copies_of message.identity heard) (copy_at h.place)
   unfolding copies_of tagged_copies tag
   some_heard =
-      let there : Contains found (copy_of_sending (record { message = message; place = h.place })) = sending_in_end (bits_of events) parts (record { message = message; place = h.place }) h.locks h.now h.cut h.sent h.stands in
+      let there : Contains found (copy_of_sending (record { message = message; place = h.place })) =
+      sending_in_end (bits_of events) parts (record { message = message; place = h.place }) h.locks h.now h.cut h.sent h.stands in
       contains_filter (λ (c : TaggedCopy). same_identity c.identity message.identity) heard (copy_at h.place)
       (contains_map (λ (copy : FoundCopy). tag (setting_of start events copy.place) copy) found (copy_of_sending (record { message = message; place = h.place })) there)
       (same_itself message.identity)
@@ -117,7 +127,8 @@ module _ (start : Start) (events : List Event) (parts : List Part) (message : Me
   unfolding tag
   selected_of copy o = ap (λ (c : TaggedCopy). c.selected) o.is ∙ h.selected o.place o.sent
 
-  close_of : (one other : TaggedCopy) → IsOfSending one → IsOfSending other → one.moment < other.moment + seconds_known
+  close_of : (one other : TaggedCopy) → IsOfSending one → IsOfSending other
+      → one.moment < other.moment + seconds_known
   unfolding tag
   close_of one other o p =
       let near = h.close o.place p.place o.sent p.sent in
@@ -125,11 +136,14 @@ module _ (start : Start) (events : List Event) (parts : List Part) (message : Me
       let n : other.moment ≡ (setting_of start events p.place).moment = ap (λ (c : TaggedCopy). c.moment) p.is in
       omega arith
 
-  named_first : (first : TaggedCopy) (rest : List TaggedCopy) → copies_of message.identity heard ≡ first ∷ rest → same_identity first.identity message.identity ≡ true
+  named_first : (first : TaggedCopy) (rest : List TaggedCopy) → copies_of message.identity heard ≡ first ∷ rest
+      → same_identity first.identity message.identity ≡ true
   unfolding copies_of
-  named_first first rest e = first_passes (λ (c : TaggedCopy). same_identity c.identity message.identity) heard first rest e
+  named_first first rest e =
+      first_passes (λ (c : TaggedCopy). same_identity c.identity message.identity) heard first rest e
 
-  repeats : (first : TaggedCopy) (rest : List TaggedCopy) → copies_of message.identity heard ≡ first ∷ rest → AreRepeats message.identity heard first rest
+  repeats : (first : TaggedCopy) (rest : List TaggedCopy) → copies_of message.identity heard ≡ first ∷ rest
+      → AreRepeats message.identity heard first rest
   repeats first rest e =
       let each : All IsOfSending (first ∷ rest) = subst (All IsOfSending) e all_of_sendings in
       record {
@@ -148,7 +162,8 @@ module _ (start : Start) (events : List Event) (parts : List Part) (message : Me
   printed_once log prints =
       let start_of = has_first (copies_of message.identity heard) (copy_at h.place) some_heard in
       let all = repeats start_of.first start_of.rest start_of.whole in
-      let of = All-head IsOfSending start_of.first start_of.rest (subst (All IsOfSending) start_of.whole all_of_sendings) in
+      let of =
+      All-head IsOfSending start_of.first start_of.rest (subst (All IsOfSending) start_of.whole all_of_sendings) in
       let log_is : log ≡ printed_copies [] heard =
       prints.printed
       ∙ ap (λ ls. printed_of start events (found_to_end (bits_of events) ls prints.now)) (locks-unique (bits_of events) prints.locks h.locks prints.now h.now prints.stands h.stands)

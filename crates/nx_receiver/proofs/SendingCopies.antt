@@ -28,7 +28,8 @@ abbrev pub sent_copy : ℕ → MessageView → Copy
 sent_copy at message = record { header = sent_header at message.identity; how = Full; text = text_of message.lines }
 
 -- the copy of a header bears the header
-kept : (h : Header) (o : Option Ending) (closed : Copy) → closed.header ≡ h → (unwrap_or (option_map (copy_with h) o) closed).header ≡ h
+kept : (h : Header) (o : Option Ending) (closed : Copy) → closed.header ≡ h
+    → (unwrap_or (option_map (copy_with h) o) closed).header ≡ h
 kept h None closed e = e
 kept h (Some ending) closed e = refl
 
@@ -52,7 +53,8 @@ module _ (front back : List ℕ) (message : MessageView) (good : AreLines messag
 
   parts : all ≡ (front ++ header message.identity) ++ 10 ∷ behind
   parts =
-      let ends : (text_of message.lines ++ (end_marker ++ 10 ∷ 10 ∷ [])) ++ back ≡ behind = append_assoc (text_of message.lines) (end_marker ++ 10 ∷ 10 ∷ []) back in
+      let ends : (text_of message.lines ++ (end_marker ++ 10 ∷ 10 ∷ [])) ++ back ≡ behind =
+      append_assoc (text_of message.lines) (end_marker ++ 10 ∷ 10 ∷ []) back in
       ap (λ l. front ++ l) (append_assoc (header message.identity) (10 ∷ (text_of message.lines ++ (end_marker ++ 10 ∷ 10 ∷ []))) back ∙ ap (λ l. header message.identity ++ 10 ∷ l) ends)
       ∙ sym (append_assoc front (header message.identity) (10 ∷ behind))
 
@@ -61,15 +63,18 @@ module _ (front back : List ℕ) (message : MessageView) (good : AreLines messag
 
   stands_here : StandsIn all here
   stands_here =
-      let size : length all ≡ length (front ++ header message.identity) + length (10 ∷ behind) = ap length parts ∙ length-append (front ++ header message.identity) (10 ∷ behind) in
+      let size : length all ≡ length (front ++ header message.identity) + length (10 ∷ behind) = ap length parts
+      ∙ length-append (front ++ header message.identity) (10 ∷ behind) in
       let spelled_there : front ++ header message.identity ≡ ((front ++ start_marker) ++ (32 ∷ [])) ++ identity_bytes message.identity =
-      sym (append_assoc front start_marker (32 ∷ identity_bytes message.identity)) ∙ sym (append_assoc (front ++ start_marker) (32 ∷ []) (identity_bytes message.identity)) in
+      sym (append_assoc front start_marker (32 ∷ identity_bytes message.identity))
+      ∙ sym (append_assoc (front ++ start_marker) (32 ∷ []) (identity_bytes message.identity)) in
       record {
         within = omega (arith, long);
         spelled = record {
           front = front;
           more_spaces = 0;
-          spelled = ap (take (length front + 9)) parts ∙ take_at (front ++ header message.identity) (10 ∷ behind) (length front + 9) long ∙ spelled_there;
+          spelled = ap (take (length front + 9)) parts
+              ∙ take_at (front ++ header message.identity) (10 ∷ behind) (length front + 9) long ∙ spelled_there;
         };
       }
 
@@ -84,7 +89,8 @@ module _ (front back : List ℕ) (message : MessageView) (good : AreLines messag
 
   pub ended_there : Contains (ended_copies all) (sent_copy (length front) message)
   unfolding ended_copies
-  ended_there = contains_filter_map (ended_copy all) (headers all) here (sent_copy (length front) message) header_there ended_here
+  ended_there =
+      contains_filter_map (ended_copy all) (headers all) here (sent_copy (length front) message) header_there ended_here
 
 -- the copies of a text come in rising order
 pub copies_rise : (text : List ℕ) → Rises (λ (copy : Copy). copy.header.behind) (copies text)
@@ -95,7 +101,8 @@ copies_rise text =
     (rises_from (λ (h : Header). h.behind) (headers text) (λ front between back earlier later e. headers_rise_in text earlier later (record { front = front; between = between; back = back; listed = e ∙ sym (append_assoc front (earlier ∷ between) (later ∷ back)) })))
 
 -- and stand behind the letters of their headers, in the text
-pub copies_within : (text : List ℕ) (copy : Copy) → Contains (copies text) copy → (1 ≤ copy.header.behind) × (copy.header.behind ≤ length text)
+pub copies_within : (text : List ℕ) (copy : Copy) → Contains (copies text) copy
+    → (1 ≤ copy.header.behind) × (copy.header.behind ≤ length text)
 unfolding copies
 copies_within text copy c =
     All-contains (λ (c : Copy). (1 ≤ c.header.behind) × (c.header.behind ≤ length text)) (map (copy_at text) (headers text)) copy

@@ -32,7 +32,8 @@ same_one : (right : Bool) → cond right 0 1 ≡ one_if (not right)
 same_one true = refl
 same_one false = refl
 
-same_count : (f g : ℕ → ℕ) (i a n : ℕ) → ((j : ℕ) → j < n → f (i + j) ≡ g (a + j)) → wrong_in f i n ≡ wrong_words g a n
+same_count : (f g : ℕ → ℕ) (i a n : ℕ) → ((j : ℕ) → j < n → f (i + j) ≡ g (a + j))
+    → wrong_in f i n ≡ wrong_words g a n
 unfolding wrong_in wrong_words
 same_count f g i a zero same = refl
 same_count f g i a (suc n) same =
@@ -76,13 +77,15 @@ module _ (numbers : List ℕ) (spellings : List (List ℕ)) (heard : List ℕ) (
   second_at : (j : ℕ) → j < 24 → word_of heard (2 * j) ≡ phasing_2
   second_at j lt =
       let slot : 96 + 2 * j ≡ 2 * (48 + j) = omega arith in
-      word_of-heard_in heard (2 * j) ∙ ap (heard_in heard) slot ∙ passes.phasing (2 * (48 + j)) (omega arith) (omega arith)
+      word_of-heard_in heard (2 * j) ∙ ap (heard_in heard) slot
+      ∙ passes.phasing (2 * (48 + j)) (omega arith) (omega arith)
       ∙ word_sent-dx sent (48 + j) ∙ ap dx_word (phasing_at (48 + j) (omega arith))
 
   first_at : (j : ℕ) → j < 24 → word_of heard (2 * j + 1) ≡ phasing_1
   first_at j lt =
       let slot : 96 + (2 * j + 1) ≡ 2 * (46 + j) + 5 = omega arith in
-      word_of-heard_in heard (2 * j + 1) ∙ ap (heard_in heard) slot ∙ passes.phasing (2 * (46 + j) + 5) (omega arith) (omega arith)
+      word_of-heard_in heard (2 * j + 1) ∙ ap (heard_in heard) slot
+      ∙ passes.phasing (2 * (46 + j) + 5) (omega arith) (omega arith)
       ∙ word_sent-rx sent (46 + j) ∙ ap rx_word (phasing_at (46 + j) (omega arith))
 
   few_at : (a n : ℕ) → n ≤ 64 → a + n ≤ length heard → wrong_in (word_of heard) a n < 40
@@ -92,23 +95,29 @@ module _ (numbers : List ℕ) (spellings : List (List ℕ)) (heard : List ℕ) (
       same_count (word_of heard) (heard_in heard) a (96 + a) n (λ j lt. let e : 96 + (a + j) ≡ 96 + a + j = omega arith in word_of-heard_in heard (a + j) ∙ ap (heard_in heard) e) in
       omega arith
 
-  apart_at : (a : ℕ) → 2 * a + 5 < length heard → word_of heard (2 * a) ≡ phasing_1 → word_of heard (2 * a + 2) ≡ phasing_1 → ⊥
+  apart_at : (a : ℕ) → 2 * a + 5 < length heard → word_of heard (2 * a) ≡ phasing_1
+      → word_of heard (2 * a + 2) ≡ phasing_1 → ⊥
   apart_at a lt one two =
       let slot : 96 + 2 * a ≡ 2 * (48 + a) = omega arith in
       no-phasing_1 sent heard has passes (48 + a) (omega arith) (omega (arith, long_heard, long_sent)) (ap (heard_in heard) (sym slot) ∙ sym (word_of-heard_in heard (2 * a)) ∙ one)
 
   pub keeps : KeepsLock heard
-  keeps = record { words = passes.words; long = omega (arith, long_heard); second = second_at; first = first_at; few = few_at; apart = apart_at }
+  keeps =
+      record { words = passes.words; long = omega (arith, long_heard); second = second_at; first = first_at; few = few_at; apart = apart_at }
 
   -- the words of a lock on the emission take its positions
-  pub taken_of_lock : (words : ℕ → ℕ) (w : ℕ) → ((j i : ℕ) → j + 48 ≡ i + w → i < length heard → words j ≡ word_of heard i) → AreTaken words w air
+  pub taken_of_lock : (words : ℕ → ℕ) (w : ℕ)
+      → ((j i : ℕ) → j + 48 ≡ i + w → i < length heard → words j ≡ word_of heard i) → AreTaken words w air
   taken_of_lock words w same i lt =
       let dx : 96 + (48 + 2 * i) ≡ 2 * (72 + i) = omega arith in
       let rx : 96 + (53 + 2 * i) ≡ 2 * (72 + i) + 5 = omega arith in
-      let first = same (w + 2 * i) (48 + 2 * i) (omega arith) (omega (arith, long_heard)) ∙ word_of-heard_in heard (48 + 2 * i) ∙ ap (heard_in heard) dx in
-      let second = same (w + 2 * i + 5) (53 + 2 * i) (omega arith) (omega (arith, long_heard)) ∙ word_of-heard_in heard (53 + 2 * i) ∙ ap (heard_in heard) rx in
+      let first = same (w + 2 * i) (48 + 2 * i) (omega arith) (omega (arith, long_heard))
+      ∙ word_of-heard_in heard (48 + 2 * i) ∙ ap (heard_in heard) dx in
+      let second = same (w + 2 * i + 5) (53 + 2 * i) (omega arith) (omega (arith, long_heard))
+      ∙ word_of-heard_in heard (53 + 2 * i) ∙ ap (heard_in heard) rx in
       ap₂ (λ a b. pairing (counts_as a) (counts_as b)) first second
-      ∙ taken-as_sent sent heard has passes (72 + i) (omega arith) (omega (arith, long_sent)) ∙ ap reception (air_at i lt)
+      ∙ taken-as_sent sent heard has passes (72 + i) (omega arith) (omega (arith, long_sent))
+      ∙ ap reception (air_at i lt)
 
 -- the copy that a message of the emission gives, where so many bits stand before the emission
 abbrev pub emission_copy : ℕ → List (List ℕ) → ℕ → MessageView → FoundCopy
@@ -147,12 +156,14 @@ module _ (gap : List Bool) (messages : List MessageView) (numbers : List ℕ) (s
       spelled = among.spelled;
       before = before;
       behind = flat_map (phasing_and_message 36) among.back;
-      parts = ap (on_air 36) among.whole ∙ on_air-parts 36 (take index (numbers ∷ spellings)) among.numbers among.back;
+      parts = ap (on_air 36) among.whole
+          ∙ on_air-parts 36 (take index (numbers ∷ spellings)) among.numbers among.back;
     }
 
     count_is : whole_words all_bits l.t ≡ l.whole + 5 + 2 * length air_of
     count_is =
-        let bits : length all_bits ≡ length gap + 7 * length heard = length-append gap (bits_of heard) ∙ ap (λ n. length gap + n) (length-bits_of heard) in
+        let bits : length all_bits ≡ length gap + 7 * length heard = length-append gap (bits_of heard)
+        ∙ ap (λ n. length gap + n) (length-bits_of heard) in
         let long : length heard ≡ 53 + 2 * length air_of = long_heard numbers spellings heard has_inner is.passes in
         let e : length all_bits - l.t ≡ 7 * (l.whole + 5 + 2 * length air_of) = omega (arith, l.limit) in
         omega arith
@@ -172,7 +183,8 @@ module _ (gap : List Bool) (messages : List MessageView) (numbers : List ℕ) (s
     copy_ended = Contains-append_right (past_copies all_bits l.locks) (ended_in (lock_text all_bits l.t (whole_words all_bits l.t))) _ copy_in_lock
 
     -- and whatever bits follow
-    copy_stays : (more : List Bool) (locks : List Lock) (now : Now) → IsNow (all_bits ++ more) locks now → Contains (ended_so_far (all_bits ++ more) locks now) (emission_copy (length gap) (numbers ∷ spellings) index message)
+    copy_stays : (more : List Bool) (locks : List Lock) (now : Now) → IsNow (all_bits ++ more) locks now
+        → Contains (ended_so_far (all_bits ++ more) locks now) (emission_copy (length gap) (numbers ∷ spellings) index message)
     copy_stays more locks now stands =
         let g = ended_go_on all_bits more l.locks locks (locked l.p l.t) now l.stands stands in
         subst (λ (cs : List FoundCopy). Contains cs (emission_copy (length gap) (numbers ∷ spellings) index message)) (sym g.whole)
@@ -184,14 +196,17 @@ some_spelled [] some h = some refl
 some_spelled (m ∷ messages) some h = h
 
 -- A received emission keeps the lock that its phasing leaves.
-pub emission_locks : (gap : List Bool) (messages : List MessageView) (spellings : List (List ℕ)) (heard : List ℕ) → IsReceived (record { messages = messages; spellings = spellings; heard = heard }) → LockedThrough gap heard
+pub emission_locks : (gap : List Bool) (messages : List MessageView) (spellings : List (List ℕ)) (heard : List ℕ)
+    → IsReceived (record { messages = messages; spellings = spellings; heard = heard }) → LockedThrough gap heard
 emission_locks gap messages [] heard is = absurd (some_spelled messages is.sendable.of_one.some is.spelled)
 emission_locks gap messages (numbers ∷ spellings) heard is = lock_on gap messages numbers spellings heard is
 
 -- Each of its messages gives a copy, whatever bits came before it and whatever follow.
-pub message_copied : (gap more : List Bool) (messages : List MessageView) (spellings : List (List ℕ)) (heard : List ℕ) → IsReceived (record { messages = messages; spellings = spellings; heard = heard })
+pub message_copied : (gap more : List Bool) (messages : List MessageView) (spellings : List (List ℕ)) (heard : List ℕ)
+    → IsReceived (record { messages = messages; spellings = spellings; heard = heard })
     → (index : ℕ) (message : MessageView) → slice_get messages index ≡ Some message
     → (locks : List Lock) (now : Now) → IsNow ((gap ++ bits_of heard) ++ more) locks now → Contains (ended_so_far ((gap ++ bits_of heard) ++ more) locks now) (emission_copy (length gap) spellings index message)
-message_copied gap more messages [] heard is index message at locks now stands = absurd (some_spelled messages is.sendable.of_one.some is.spelled)
+message_copied gap more messages [] heard is index message at locks now stands =
+    absurd (some_spelled messages is.sendable.of_one.some is.spelled)
 message_copied gap more messages (numbers ∷ spellings) heard is index message at locks now stands =
     copy_stays gap messages numbers spellings heard is (lock_on gap messages numbers spellings heard is) index message at more locks now stands

@@ -32,10 +32,12 @@ pub record KeepsLock (heard : List ℕ) : Type 0 where
   pub second : (j : ℕ) → j < 24 → word_of heard (2 * j) ≡ phasing_2
   pub first : (j : ℕ) → j < 24 → word_of heard (2 * j + 1) ≡ phasing_1
   pub few : (a n : ℕ) → n ≤ 64 → a + n ≤ length heard → wrong_in (word_of heard) a n < losing_count
-  pub apart : (a : ℕ) → 2 * a + 5 < length heard → word_of heard (2 * a) ≡ phasing_1 → word_of heard (2 * a + 2) ≡ phasing_1 → ⊥
+  pub apart : (a : ℕ) → 2 * a + 5 < length heard → word_of heard (2 * a) ≡ phasing_1
+      → word_of heard (2 * a + 2) ≡ phasing_1 → ⊥
 
 -- pairs of phasing words have the bits of phasing
-phasing_bits : (n : ℕ) (heard : List ℕ) → 2 * n ≤ length heard → ((j : ℕ) → j < n → word_of heard (2 * j) ≡ phasing_2) → ((j : ℕ) → j < n → word_of heard (2 * j + 1) ≡ phasing_1)
+phasing_bits : (n : ℕ) (heard : List ℕ) → 2 * n ≤ length heard → ((j : ℕ) → j < n → word_of heard (2 * j) ≡ phasing_2)
+    → ((j : ℕ) → j < n → word_of heard (2 * j + 1) ≡ phasing_1)
     → bits_of (take (2 * n) heard) ≡ phasing n
 unfolding bits_of phasing elements elements_from
 phasing_bits zero heard long second first = refl
@@ -57,7 +59,8 @@ unfolding bits_of
 bits_of-append xs ys = flat_map-append elements xs ys
 
 -- the words in the bits of words
-word_from-bits_of : (gap : List Bool) (heard : List ℕ) (i : ℕ) → AreWords heard → i < length heard → word_from (gap ++ bits_of heard) (length gap + 7 * i) ≡ word_of heard i
+word_from-bits_of : (gap : List Bool) (heard : List ℕ) (i : ℕ) → AreWords heard → i < length heard
+    → word_from (gap ++ bits_of heard) (length gap + 7 * i) ≡ word_of heard i
 unfolding word_in
 word_from-bits_of gap heard i words lt =
     let n = length-bits_of heard in
@@ -65,10 +68,12 @@ word_from-bits_of gap heard i words lt =
     ∙ sym (get_or-words_of (bits_of heard) i (omega arith)) ∙ ap (λ ws. get_or ws i 0) (words_of-bits_of heard words)
 
 -- runs of the same words have as many wrong
-wrong_in-shift : (f g : ℕ → ℕ) (i a n : ℕ) → ((j : ℕ) → j < n → f (i + j) ≡ g (a + j)) → wrong_in f i n ≡ wrong_in g a n
+wrong_in-shift : (f g : ℕ → ℕ) (i a n : ℕ) → ((j : ℕ) → j < n → f (i + j) ≡ g (a + j))
+    → wrong_in f i n ≡ wrong_in g a n
 unfolding wrong_in
 wrong_in-shift f g i a zero same = refl
-wrong_in-shift f g i a (suc n) same = ap₂ ◌+◌ (wrong_in-shift f g i a n (λ j lt. same j (omega arith))) (ap (λ w. one_if (is_wrong w)) (same n (omega arith)))
+wrong_in-shift f g i a (suc n) same =
+    ap₂ ◌+◌ (wrong_in-shift f g i a n (λ j lt. same j (omega arith))) (ap (λ w. one_if (is_wrong w)) (same n (omega arith)))
 
 right_2 : is_wrong phasing_2 ≡ false
 unfolding weight elements elements_from
@@ -81,8 +86,10 @@ right_1 = refl
 phasing_right : (heard : List ℕ) → KeepsLock heard → (j : ℕ) → j < 48 → is_wrong (word_of heard j) ≡ false
 phasing_right heard k j lt =
     elim (cases_lt (j - 2 * (j / 2)) 1) [
-      | inl even ↦ let e : 2 * (j / 2) ≡ j = omega arith in ap (λ i. is_wrong (word_of heard i)) (sym e) ∙ ap is_wrong (k.second (j / 2) (omega arith)) ∙ right_2
-      | inr odd ↦ let e : 2 * (j / 2) + 1 ≡ j = omega arith in ap (λ i. is_wrong (word_of heard i)) (sym e) ∙ ap is_wrong (k.first (j / 2) (omega arith)) ∙ right_1
+      | inl even ↦ let e : 2 * (j / 2) ≡ j = omega arith in ap (λ i. is_wrong (word_of heard i)) (sym e)
+          ∙ ap is_wrong (k.second (j / 2) (omega arith)) ∙ right_2
+      | inr odd ↦ let e : 2 * (j / 2) + 1 ≡ j = omega arith in ap (λ i. is_wrong (word_of heard i)) (sym e)
+          ∙ ap is_wrong (k.first (j / 2) (omega arith)) ∙ right_1
     ]
 
 role_of-next : (first : Role) (k : ℕ) → role_of first (k + 1) ≡ other_role (role_of first k)
@@ -93,13 +100,15 @@ Dx≢Rx : Dx ≡ Rx → ⊥
 Dx≢Rx e = cc
 
 -- DX words are an even number of words apart
-even_apart : (first : Role) (w k : ℕ) → role_of first w ≡ Dx → role_of first k ≡ Dx → w ≤ k + 3 → k + 2 ≡ w + 2 * ((k + 3 - w) / 2)
+even_apart : (first : Role) (w k : ℕ) → role_of first w ≡ Dx → role_of first k ≡ Dx → w ≤ k + 3
+    → k + 2 ≡ w + 2 * ((k + 3 - w) / 2)
 even_apart first w k dw dk le =
     let q : ℕ = (k + 3 - w) / 2 in
     elim (cases_lt (k + 3 - w - 2 * q) 1) [
       | inl even ↦
           let e : k + 2 + 1 ≡ w + 2 * q = omega arith in
-          let rx : role_of first (k + 2 + 1) ≡ Rx = role_of-next first (k + 2) ∙ ap other_role (role_of-even first k 1 ∙ dk) in
+          let rx : role_of first (k + 2 + 1) ≡ Rx = role_of-next first (k + 2)
+          ∙ ap other_role (role_of-even first k 1 ∙ dk) in
           absurd (Dx≢Rx (sym (ap (role_of first) e ∙ role_of-even first w q ∙ dw) ∙ rx))
       | inr odd ↦ omega arith
     ]
@@ -133,15 +142,18 @@ module _ (gap : List Bool) (heard : List ℕ) (k : KeepsLock heard) (l : LockedB
 
   begins_is : take 336 (bits_of heard) ≡ phasing 24
   begins_is =
-      let words : length (bits_of (take 48 heard)) ≡ 336 = length-bits_of (take 48 heard) ∙ ap (λ n. 7 * n) (length-take-le 48 heard k.long) in
+      let words : length (bits_of (take 48 heard)) ≡ 336 = length-bits_of (take 48 heard)
+      ∙ ap (λ n. 7 * n) (length-take-le 48 heard k.long) in
       ap (λ b. take 336 b) (ap bits_of (sym (take-append-drop 48 heard)) ∙ bits_of-append (take 48 heard) (drop 48 heard))
-      ∙ take_at (bits_of (take 48 heard)) (bits_of (drop 48 heard)) 336 words ∙ phasing_bits 24 heard k.long k.second k.first
+      ∙ take_at (bits_of (take 48 heard)) (bits_of (drop 48 heard)) 336 words
+      ∙ phasing_bits 24 heard k.long k.second k.first
 
   limit_is : length gap + 336 ≡ l.t + 7 * l.whole
   limit_is = sym (phasing_heard gap) ∙ l.limit
 
   heard_bits : length (early ++ more) ≡ length gap + 7 * length heard
-  heard_bits = ap length together ∙ length-append gap (bits_of heard) ∙ ap (λ n. length gap + n) (length-bits_of heard)
+  heard_bits =
+      ap length together ∙ length-append gap (bits_of heard) ∙ ap (λ n. length gap + n) (length-bits_of heard)
 
   abbrev lock_word : ℕ → ℕ
   lock_word = word_at (early ++ more) l.t
@@ -150,12 +162,14 @@ module _ (gap : List Bool) (heard : List ℕ) (k : KeepsLock heard) (l : LockedB
   unfolding word_at
   lock_word_is j i e lt =
       let at : l.t + 7 * j ≡ length gap + 7 * i = omega (arith, limit_is) in
-      ap (λ b. word_from b (l.t + 7 * j)) together ∙ ap (word_from (gap ++ bits_of heard)) at ∙ word_from-bits_of gap heard i k.words lt
+      ap (λ b. word_from b (l.t + 7 * j)) together ∙ ap (word_from (gap ++ bits_of heard)) at
+      ∙ word_from-bits_of gap heard i k.words lt
 
   role_is : first_role (early ++ more) l.t ≡ first_role early l.t
   role_is = first_role-more early more l.t l.stands.found.here.enough l.stands.found.here.heard
 
-  few_wrong : (j : ℕ) → length early < l.t + 7 * (j + 1) → l.t + 7 * (j + 1) ≤ length (early ++ more) → wrong_until lock_word j < losing_count
+  few_wrong : (j : ℕ) → length early < l.t + 7 * (j + 1) → l.t + 7 * (j + 1) ≤ length (early ++ more)
+      → wrong_until lock_word j < losing_count
   few_wrong j new in' =
       let i : ℕ = j + 1 - 64 in
       let n : ℕ = j + 1 - i in
@@ -167,21 +181,26 @@ module _ (gap : List Bool) (heard : List ℕ) (k : KeepsLock heard) (l : LockedB
             let back : ℕ = j + 1 - l.whole in
             let parts : n ≡ front + (48 + back) = omega arith in
             let count : wrong_in lock_word i n ≡ wrong_in lock_word i front + (wrong_in lock_word (i + front) 48 + wrong_in lock_word (i + front + 48) back) =
-            ap (wrong_in lock_word i) parts ∙ wrong_in-add lock_word i front (48 + back) ∙ ap (λ x. wrong_in lock_word i front + x) (wrong_in-add lock_word (i + front) 48 back) in
-            let none : wrong_in lock_word (i + front) 48 ≡ 0 = wrong_in-none lock_word (i + front) 48 (λ h lt. ap is_wrong (lock_word_is (i + front + h) h (omega arith) (omega (arith, k.long))) ∙ phasing_right heard k h lt) in
+            ap (wrong_in lock_word i) parts ∙ wrong_in-add lock_word i front (48 + back)
+            ∙ ap (λ x. wrong_in lock_word i front + x) (wrong_in-add lock_word (i + front) 48 back) in
+            let none : wrong_in lock_word (i + front) 48 ≡ 0 =
+            wrong_in-none lock_word (i + front) 48 (λ h lt. ap is_wrong (lock_word_is (i + front + h) h (omega arith) (omega (arith, k.long))) ∙ phasing_right heard k h lt) in
             omega (arith, count, none, wrong_in-le lock_word i front, wrong_in-le lock_word (i + front + 48) back)
         | inr within ↦
             let a : ℕ = i + 48 - l.whole in
-            let same : wrong_in lock_word i n ≡ wrong_in (word_of heard) a n = wrong_in-shift lock_word (word_of heard) i a n (λ h lt. lock_word_is (i + h) (a + h) (omega arith) (omega arith)) in
+            let same : wrong_in lock_word i n ≡ wrong_in (word_of heard) a n =
+            wrong_in-shift lock_word (word_of heard) i a n (λ h lt. lock_word_is (i + h) (a + h) (omega arith) (omega arith)) in
             subst (λ x. x < losing_count) (sym same) (k.few a n (omega arith) (omega arith))
       ]
 
-  no_end : (j : ℕ) → length early < l.t + 7 * (j + 4) → l.t + 7 * (j + 4) ≤ length (early ++ more) → IsSecondPhasing1 (first_role (early ++ more) l.t) lock_word j → ⊥
+  no_end : (j : ℕ) → length early < l.t + 7 * (j + 4) → l.t + 7 * (j + 4) ≤ length (early ++ more)
+      → IsSecondPhasing1 (first_role (early ++ more) l.t) lock_word j → ⊥
   no_end j new in' s =
       let q : ℕ = (j + 3 - l.whole) / 2 in
       let near : l.whole ≤ j + 3 = omega (arith, l.limit) in
       let short : j + 52 ≤ length heard + l.whole = omega (arith, limit_is, heard_bits) in
-      let even : j + 2 ≡ l.whole + 2 * q = even_apart (first_role (early ++ more) l.t) l.whole j (ap (λ r. role_of r l.whole) role_is ∙ l.dx) s.dx near in
+      let even : j + 2 ≡ l.whole + 2 * q =
+      even_apart (first_role (early ++ more) l.t) l.whole j (ap (λ r. role_of r l.whole) role_is ∙ l.dx) s.dx near in
       let two = s.two in
       let here : 2 * (22 + q) + 2 ≡ 46 + 2 * q = omega arith in
       let there : 2 * (22 + q) ≡ 44 + 2 * q = omega arith in

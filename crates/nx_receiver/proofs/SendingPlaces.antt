@@ -15,12 +15,14 @@ use Rattle.nx_receiver.proofs.OnceRising.{Above, Rises, rises_append, rises_map}
 use Rattle.nx_receiver.proofs.SendingCopies.{copies_rise, copies_within}
 
 -- what a word prints is one byte at most, at the end of the word
-one_placed : (place : ℕ) (bs : List ℕ) → length bs ≤ 1 → Rises (λ (b : PlacedByte). b.place) (map (λ b. record { byte = b; place = place }) bs)
+one_placed : (place : ℕ) (bs : List ℕ) → length bs ≤ 1
+    → Rises (λ (b : PlacedByte). b.place) (map (λ b. record { byte = b; place = place }) bs)
 one_placed place [] h = tt
 one_placed place (b ∷ []) h = (tt, tt)
 one_placed place (b ∷ (c ∷ bs)) h = absurd (omega arith)
 
-placed_at : (place : ℕ) (bs : List ℕ) → All (λ (b : PlacedByte). place ≤ b.place) (map (λ b. record { byte = b; place = place }) bs)
+placed_at : (place : ℕ) (bs : List ℕ)
+    → All (λ (b : PlacedByte). place ≤ b.place) (map (λ b. record { byte = b; place = place }) bs)
 placed_at place [] = All-nil (λ (b : PlacedByte). place ≤ b.place)
 placed_at place (b ∷ bs) = All-cons (λ (b : PlacedByte). place ≤ b.place) _ _ (omega arith) (placed_at place bs)
 
@@ -42,24 +44,28 @@ text_rises first f t (suc n) =
     (All-weaker (λ (b : PlacedByte). place_of t n ≤ b.place) (λ (b : PlacedByte). t + 7 * n ≤ b.place) (λ b h. omega arith) (printed_by first f t n) (placed_at (place_of t n) (printed_after (positions first f n) (taken_at first f n))))
 
 -- in such a list a later item has a greater key
-above_later : {A : Type 0} (key : A → ℕ) (n : ℕ) (xs : List A) (j : ℕ) (d : A) → Above key n xs → j < length xs → n < key (get_or xs j d)
+above_later : {A : Type 0} (key : A → ℕ) (n : ℕ) (xs : List A) (j : ℕ) (d : A) → Above key n xs → j < length xs
+    → n < key (get_or xs j d)
 above_later key n [] j d h lt = absurd (omega arith)
 above_later key n (x ∷ xs) zero d h lt = h.0
 above_later key n (x ∷ xs) (suc j) d h lt = above_later key n xs j d h.1 (omega arith)
 
-rises_at : {A : Type 0} (key : A → ℕ) (xs : List A) (i j : ℕ) (d : A) → Rises key xs → i < j → j < length xs → key (get_or xs i d) < key (get_or xs j d)
+rises_at : {A : Type 0} (key : A → ℕ) (xs : List A) (i j : ℕ) (d : A) → Rises key xs → i < j → j < length xs
+    → key (get_or xs i d) < key (get_or xs j d)
 rises_at key [] i j d h lt in' = absurd (omega arith)
 rises_at key (x ∷ xs) i zero d h lt in' = absurd (omega arith)
 rises_at key (x ∷ xs) zero (suc j) d h lt in' = above_later key (key x) xs j d h.0 (omega arith)
 rises_at key (x ∷ xs) (suc i) (suc j) d h lt in' = rises_at key xs i j d h.1 (omega arith) (omega arith)
 
-places_rise : (text : List PlacedByte) (i j : ℕ) → Rises (λ (b : PlacedByte). b.place) text → i < j → j < length text → place_in text i < place_in text j
+places_rise : (text : List PlacedByte) (i j : ℕ) → Rises (λ (b : PlacedByte). b.place) text → i < j → j < length text
+    → place_in text i < place_in text j
 places_rise text i j h lt in' =
     let d : PlacedByte = record { byte = 0; place = 0 } in
     omega (arith, place_in-get_or text i d (omega arith), place_in-get_or text j d in', rises_at (λ (b : PlacedByte). b.place) text i j d h lt in')
 
 -- the copies of such a text
-pub all_in_rises : (text : List PlacedByte) → Rises (λ (b : PlacedByte). b.place) text → Rises (λ (c : FoundCopy). c.place) (all_in text)
+pub all_in_rises : (text : List PlacedByte) → Rises (λ (b : PlacedByte). b.place) text
+    → Rises (λ (c : FoundCopy). c.place) (all_in text)
 unfolding found_copy
 all_in_rises text h =
     rises_map (found_copy text) (λ (c : Copy). c.header.behind) (λ (c : FoundCopy). c.place) (copies (bytes_of text))
@@ -70,7 +76,8 @@ all_in_rises text h =
     (copies_rise (bytes_of text))
 
 -- the copies of past locks
-past_below : (bits : List Bool) (locks : List Lock) (p : ℕ) → Past bits locks p → All (λ (c : FoundCopy). c.place < p) (past_copies bits locks)
+past_below : (bits : List Bool) (locks : List Lock) (p : ℕ) → Past bits locks p
+    → All (λ (c : FoundCopy). c.place < p) (past_copies bits locks)
 unfolding Past past_copies
 past_below bits [] p past = All-nil (λ (c : FoundCopy). c.place < p)
 past_below bits (lock ∷ older) p past =
@@ -81,12 +88,14 @@ past_below bits (lock ∷ older) p past =
     (All-weaker (λ (c : FoundCopy). c.place < lock.from) (λ (c : FoundCopy). c.place < p) (λ c h. omega arith) (past_copies bits older) (past_below bits older lock.from past.1))
     (All-weaker (λ (c : FoundCopy). (lock.at ≤ c.place) × (c.place < lock.at + 7 * (lock.last + 1))) (λ (c : FoundCopy). c.place < p) (λ c h. omega (arith, h.1)) (all_in (past_text bits lock)) (all_in_placed lock.at (lock.at + 7 * (lock.last + 1)) (past_text bits lock) within))
 
-from_lock : (bits : List Bool) (t n low : ℕ) → low < t → All (λ (c : FoundCopy). low ≤ c.place) (all_in (lock_text bits t n))
+from_lock : (bits : List Bool) (t n low : ℕ) → low < t
+    → All (λ (c : FoundCopy). low ≤ c.place) (all_in (lock_text bits t n))
 from_lock bits t n low lt =
     All-weaker (λ (c : FoundCopy). (t ≤ c.place) × (c.place < t + 7 * n)) (λ (c : FoundCopy). low ≤ c.place) (λ c h. omega (arith, h.0)) (all_in (lock_text bits t n))
     (all_in_placed t (t + 7 * n) (lock_text bits t n) (text_placed (first_role bits t) (word_at bits t) t n))
 
-past_rises : (bits : List Bool) (locks : List Lock) (p : ℕ) → Past bits locks p → Rises (λ (c : FoundCopy). c.place) (past_copies bits locks)
+past_rises : (bits : List Bool) (locks : List Lock) (p : ℕ) → Past bits locks p
+    → Rises (λ (c : FoundCopy). c.place) (past_copies bits locks)
 unfolding Past past_copies
 past_rises bits [] p past = tt
 past_rises bits (lock ∷ older) p past =
@@ -96,7 +105,8 @@ past_rises bits (lock ∷ older) p past =
     (from_lock bits lock.at (lock.last + 1) lock.from past.0.found.after)
 
 -- all copies that are found stand in the order of their places, each at a place of its own
-pub found_rise : (bits : List Bool) (locks : List Lock) (now : Now) → IsNow bits locks now → Rises (λ (c : FoundCopy). c.place) (found_to_end bits locks now)
+pub found_rise : (bits : List Bool) (locks : List Lock) (now : Now) → IsNow bits locks now
+    → Rises (λ (c : FoundCopy). c.place) (found_to_end bits locks now)
 unfolding found_to_end
 found_rise bits locks (hunting p) is =
     rises_append (λ (c : FoundCopy). c.place) p (past_copies bits locks) (all_in []) (past_rises bits locks p is.past) (all_in_rises [] tt) (past_below bits locks p is.past)

@@ -16,7 +16,8 @@ five_before-late words k =
     let late : ltb (k + 5) 5 ≡ false = grind (arith, nat_tests) in
     ap (λ b. cond b nothing (counts_as (words (k + 5 - 5)))) late ∙ ap (λ j. counts_as (words j)) at
 
-taken_at-rx : (first : Role) (words : ℕ → ℕ) (k : ℕ) → role_of first (k + 5) ≡ Rx → taken_at first words (k + 5) ≡ pairing (counts_as (words k)) (counts_as (words (k + 5))) ∷ []
+taken_at-rx : (first : Role) (words : ℕ → ℕ) (k : ℕ) → role_of first (k + 5) ≡ Rx
+    → taken_at first words (k + 5) ≡ pairing (counts_as (words k)) (counts_as (words (k + 5))) ∷ []
 unfolding taken_at
 taken_at-rx first words k rx =
     ap (λ r. cond (is_dx r) [] (pairing (five_before words (k + 5)) (counts_as (words (k + 5))) ∷ [])) rx
@@ -24,10 +25,12 @@ taken_at-rx first words k rx =
 
 taken_at-dx : (first : Role) (words : ℕ → ℕ) (k : ℕ) → role_of first k ≡ Dx → taken_at first words k ≡ []
 unfolding taken_at
-taken_at-dx first words k dx = ap (λ r. cond (is_dx r) [] (pairing (five_before words k) (counts_as (words k)) ∷ [])) dx
+taken_at-dx first words k dx =
+    ap (λ r. cond (is_dx r) [] (pairing (five_before words k) (counts_as (words k)) ∷ [])) dx
 
 -- two words more, the first of which is an RX word, complete one position more
-two_more : (first : Role) (words : ℕ → ℕ) (k : ℕ) → role_of first (k + 5) ≡ Rx → positions first words (k + 7) ≡ positions first words (k + 5) ++ pairing (counts_as (words k)) (counts_as (words (k + 5))) ∷ []
+two_more : (first : Role) (words : ℕ → ℕ) (k : ℕ) → role_of first (k + 5) ≡ Rx
+    → positions first words (k + 7) ≡ positions first words (k + 5) ++ pairing (counts_as (words k)) (counts_as (words (k + 5))) ∷ []
 unfolding positions role_of
 two_more first words k rx =
     let one : suc (k + 5) ≡ k + 6 = omega arith in
@@ -47,12 +50,17 @@ role_of-rx first w i dx =
 -- Of the words of a lock from a DX word on these positions are taken: what is taken of each DX word and the RX word
 -- five after it is what was sent.
 abbrev pub AreTaken : (ℕ → ℕ) → ℕ → List SentPosition → Type 0
-AreTaken words w sent = (i : ℕ) → i < length sent → pairing (counts_as (words (w + 2 * i))) (counts_as (words (w + 2 * i + 5))) ≡ reception (position_at sent i)
+AreTaken words w sent =
+    (i : ℕ) → i < length sent
+    → pairing (counts_as (words (w + 2 * i))) (counts_as (words (w + 2 * i + 5))) ≡ reception (position_at sent i)
 
 -- then these are the positions that the words complete from the fifth after that DX word on
-pub positions-taken : (first : Role) (words : ℕ → ℕ) (w : ℕ) (sent : List SentPosition) (n : ℕ) → role_of first w ≡ Dx → AreTaken words w sent → n ≤ length sent
+pub positions-taken : (first : Role) (words : ℕ → ℕ) (w : ℕ) (sent : List SentPosition) (n : ℕ) → role_of first w ≡ Dx
+    → AreTaken words w sent → n ≤ length sent
     → positions first words (w + 5 + 2 * n) ≡ positions first words (w + 5) ++ map reception (take n sent)
-positions-taken first words w sent zero dx taken h = ap (positions first words) (let e : w + 5 + 2 * 0 ≡ w + 5 = omega arith in e) ∙ sym (append-nil (positions first words (w + 5)))
+positions-taken first words w sent zero dx taken h =
+    ap (positions first words) (let e : w + 5 + 2 * 0 ≡ w + 5 = omega arith in e)
+    ∙ sym (append-nil (positions first words (w + 5)))
 positions-taken first words w sent (suc n) dx taken h =
     let lt : n < length sent = omega arith in
     let here : w + 5 + 2 * suc n ≡ w + 2 * n + 7 = omega arith in
@@ -69,8 +77,10 @@ positions-taken first words w sent (suc n) dx taken h =
     ∙ ap (λ m. positions first words (w + 5) ++ map reception (take m sent)) one
 
 -- the word that completes one of them
-pub taken_at-sent : (first : Role) (words : ℕ → ℕ) (w : ℕ) (sent : List SentPosition) (i : ℕ) → role_of first w ≡ Dx → AreTaken words w sent → i < length sent
+pub taken_at-sent : (first : Role) (words : ℕ → ℕ) (w : ℕ) (sent : List SentPosition) (i : ℕ) → role_of first w ≡ Dx
+    → AreTaken words w sent → i < length sent
     → taken_at first words (w + 5 + 2 * i) ≡ reception (position_at sent i) ∷ []
 taken_at-sent first words w sent i dx taken lt =
     let at : w + 5 + 2 * i ≡ w + 2 * i + 5 = omega arith in
-    ap (taken_at first words) at ∙ taken_at-rx first words (w + 2 * i) (role_of-rx first w i dx) ∙ ap (λ p. p ∷ []) (taken i lt)
+    ap (taken_at first words) at ∙ taken_at-rx first words (w + 2 * i) (role_of-rx first w i dx)
+    ∙ ap (λ p. p ∷ []) (taken i lt)

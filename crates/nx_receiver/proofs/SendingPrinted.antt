@@ -49,7 +49,8 @@ module _ (first : Role) (words : ℕ → ℕ) (t w : ℕ) (sent : List SentPosit
   front = text taken_before Letters
 
   -- what is taken of beginnings of the positions
-  taken_of : (some rest : List SentPosition) → sent ≡ some ++ rest → positions first words (w + 5 + 2 * length some) ≡ positions first words (w + 5) ++ map reception some
+  taken_of : (some rest : List SentPosition) → sent ≡ some ++ rest
+      → positions first words (w + 5 + 2 * length some) ≡ positions first words (w + 5) ++ map reception some
   taken_of some rest e =
       let long : length sent ≡ length some + length rest = ap length e ∙ length-append some rest in
       positions-taken first words w sent (length some) h.dx h.taken (omega arith)
@@ -63,7 +64,8 @@ module _ (first : Role) (words : ℕ → ℕ) (t w : ℕ) (sent : List SentPosit
 
   -- after all of them the message is printed whole
   abbrev behind_bytes : List ℕ
-  behind_bytes = text (map reception h.behind) (shift_after_all (map combination h.numbers) (shift_after_all taken_before Letters))
+  behind_bytes =
+      text (map reception h.behind) (shift_after_all (map combination h.numbers) (shift_after_all taken_before Letters))
 
   whole_bytes : bytes_of (text_by first words t all) ≡ front ++ (printed_text message ++ behind_bytes)
   whole_bytes =
@@ -90,7 +92,8 @@ module _ (first : Role) (words : ℕ → ℕ) (t w : ℕ) (sent : List SentPosit
       let behind_head = h.spelled.text ++ shown in
       let tail = second_digit message.identity ∷ (27 ∷ (28 ∷ behind_head)) in
       let spelled : h.numbers ≡ head_front message.identity ++ tail =
-      h.spelled.whole ∙ ap (λ l. l ++ behind_head) (head-parts message.identity) ∙ append_assoc (head_front message.identity) (second_digit message.identity ∷ (27 ∷ (28 ∷ []))) behind_head in (
+      h.spelled.whole ∙ ap (λ l. l ++ behind_head) (head-parts message.identity)
+      ∙ append_assoc (head_front message.identity) (second_digit message.identity ∷ (27 ∷ (28 ∷ []))) behind_head in (
         map traffic_position (27 ∷ (28 ∷ behind_head)) ++ h.behind,
         h.parts
             ∙ ap (λ l. h.before ++ (map traffic_position l ++ h.behind)) spelled
@@ -118,17 +121,21 @@ module _ (first : Role) (words : ℕ → ℕ) (t w : ℕ) (sent : List SentPosit
   head_is : text (positions first words here) Letters ≡ front ++ (90 ∷ 67 ∷ 90 ∷ 67 ∷ 32 ∷ message.identity.b1.byte ∷ message.identity.b2.byte ∷ (48 + message.identity.number / 10) ∷ [])
   head_is =
       let shift = shift_after_all taken_before Letters in
-      ap (λ l. text l Letters) positions_here ∙ text-append taken_before (map combination (head_front message.identity)) Letters
+      ap (λ l. text l Letters) positions_here
+      ∙ text-append taken_before (map combination (head_front message.identity)) Letters
       ∙ ap (λ l. front ++ l) (head_front-prints message.identity shift).reads
 
   shift_is : shift_after_all (positions first words here) Letters ≡ Figures
   shift_is =
       let shift = shift_after_all taken_before Letters in
-      ap (λ l. shift_after_all l Letters) positions_here ∙ shift_after_all-append taken_before (map combination (head_front message.identity)) Letters
+      ap (λ l. shift_after_all l Letters) positions_here
+      ∙ shift_after_all-append taken_before (map combination (head_front message.identity)) Letters
       ∙ (head_front-prints message.identity shift).after
 
   digit_index : length up_to_digit < length sent
-  digit_index = let e : length sent ≡ length up_to_digit + suc (length digit_parts.0) = ap length digit_parts.1 ∙ length-append up_to_digit (traffic_position (second_digit message.identity) ∷ digit_parts.0) in omega arith
+  digit_index =
+      let e : length sent ≡ length up_to_digit + suc (length digit_parts.0) = ap length digit_parts.1
+      ∙ length-append up_to_digit (traffic_position (second_digit message.identity) ∷ digit_parts.0) in omega arith
 
   taken_here : taken_at first words here ≡ combination (second_digit message.identity) ∷ []
   taken_here =
@@ -162,8 +169,10 @@ module _ (first : Role) (words : ℕ → ℕ) (t w : ℕ) (sent : List SentPosit
   digit_place =
       let g = text_by-grows first words t (here + 1) all (omega (arith, digit_index, long_up_to)) in
       let whole : text_by first words t all ≡ text_by first words t here ++ digit_byte ∷ g.rest =
-      g.whole ∙ ap (λ l. l ++ g.rest) next_text ∙ append_assoc (text_by first words t here) (digit_byte ∷ []) g.rest in
-      let long : length (text_by first words t all) ≡ length (text_by first words t here) + suc (length g.rest) = ap length whole ∙ length-append (text_by first words t here) (digit_byte ∷ g.rest) in
+      g.whole ∙ ap (λ l. l ++ g.rest) next_text
+      ∙ append_assoc (text_by first words t here) (digit_byte ∷ []) g.rest in
+      let long : length (text_by first words t all) ≡ length (text_by first words t here) + suc (length g.rest) = ap length whole
+      ∙ length-append (text_by first words t here) (digit_byte ∷ g.rest) in
       let d : PlacedByte = record { byte = 0; place = 0 } in
       place_in-get_or (text_by first words t all) (length front + 8) d (omega (arith, long_here))
       ∙ ap (λ l. (get_or l (length front + 8) d).place) whole
@@ -176,6 +185,7 @@ module _ (first : Role) (words : ℕ → ℕ) (t w : ℕ) (sent : List SentPosit
       let ended : Contains (ended_copies (bytes_of (text_by first words t all))) (sent_copy (length front) message) =
       subst (λ l. Contains (ended_copies l) (sent_copy (length front) message)) (sym whole_bytes) (ended_there front behind_bytes message good) in
       let at : length front + 9 - 1 ≡ length front + 8 = omega arith in
-      let place : place_in (text_by first words t all) (length front + 9 - 1) ≡ place_of t here = ap (place_in (text_by first words t all)) at ∙ digit_place in
+      let place : place_in (text_by first words t all) (length front + 9 - 1) ≡ place_of t here = ap (place_in (text_by first words t all)) at
+      ∙ digit_place in
       subst (λ (p : ℕ). Contains (ended_in (text_by first words t all)) (record { identity = message.identity; how = Full; text = text_of message.lines; place = p })) place
       (contains_map (found_copy (text_by first words t all)) (ended_copies (bytes_of (text_by first words t all))) (sent_copy (length front) message) ended)

@@ -35,7 +35,7 @@ bits_among-elements [] = refl
 bits_among-elements (b ∷ bits) = ap (λ bs. b ∷ bs) (bits_among-elements bits)
 
 -- nothing but elements changes nothing
-at_first : (s : Setting) (bits : List Bool) (place : ℕ) → setting_at s (map element bits) place ≡ s
+pub at_first : (s : Setting) (bits : List Bool) (place : ℕ) → setting_at s (map element bits) place ≡ s
 unfolding settings
 at_first s [] place = refl
 at_first s (b ∷ bits) zero = refl
@@ -63,7 +63,7 @@ same_name : found_identity ≡ ea01
 unfolding found_identity letter digit
 same_name = same_identity-true found_identity ea01 refl
 
-all_selected : admits (first_setting at_its_slot).refused ea01 ≡ true
+pub all_selected : admits (first_setting at_its_slot).refused ea01 ≡ true
 all_selected =
     ap (λ b. not b && not (set.contains (set.empty {R = nat_cmp}) 65)) (set.contains-empty nat_cmp 69) ∙ ap (λ b. not false && not b) (set.contains-empty nat_cmp 65)
 

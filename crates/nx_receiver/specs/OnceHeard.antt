@@ -24,8 +24,9 @@ setting_of start events place = setting_at (first_setting start) events place
 -- one of them.
 abbrev pub FewBetween : List TaggedCopy → Start → MessageView → Type 0
 FewBetween copies start message =
-    (before between after : List TaggedCopy) (first later : TaggedCopy) → copies ≡ before ++ first ∷ (between ++ later ∷ after)
-    → copies_of message.identity before ≡ [] → IsTrue (same_identity first.identity message.identity) → IsTrue (same_identity later.identity message.identity)
+    (before between after : List TaggedCopy) (first later : TaggedCopy)
+    → copies ≡ before ++ first ∷ (between ++ later ∷ after) → copies_of message.identity before ≡ []
+    → IsTrue (same_identity first.identity message.identity) → IsTrue (same_identity later.identity message.identity)
     → length (entries_made (entries_after start.entries (before ++ first ∷ [])) between) < most_entries
 
 -- What has to be met, so that a message is printed once of all that a receiver is given.
@@ -42,11 +43,14 @@ pub record IsHeardInTime (start : Start) (events : List Event) (parts : List Par
   pub locks : List Lock
   pub now : Now
   pub stands : IsNow (bits_of events) locks now
-  pub alone : (copy : FoundCopy) → Contains (found_to_end (bits_of events) locks now) copy → copy.identity ≡ message.identity → IsSentAt parts message copy.place
+  pub alone : (copy : FoundCopy) → Contains (found_to_end (bits_of events) locks now) copy
+      → copy.identity ≡ message.identity → IsSentAt parts message copy.place
   -- it is selected at each sending
-  pub selected : (at : ℕ) → IsSentAt parts message at → IsTrue (admits (setting_of start events at).refused message.identity)
+  pub selected : (at : ℕ) → IsSentAt parts message at
+      → IsTrue (admits (setting_of start events at).refused message.identity)
   -- any two sendings lie less than 66 hours apart
-  pub close : (one other : ℕ) → IsSentAt parts message one → IsSentAt parts message other → (setting_of start events one).moment < (setting_of start events other).moment + seconds_known
+  pub close : (one other : ℕ) → IsSentAt parts message one → IsSentAt parts message other
+      → (setting_of start events one).moment < (setting_of start events other).moment + seconds_known
   -- 200 identities suffice
   pub few : FewBetween (tagged_copies (first_setting start) events (found_to_end (bits_of events) locks now)) start message
 

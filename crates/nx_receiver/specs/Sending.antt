@@ -25,7 +25,8 @@ pub record HoldsThrough (earlier : List Bool) (heard : List ℕ) : Type 0 where
   pub whole : ℕ
   pub limit : length earlier + phasing_elements ≡ t + 7 * whole
   pub dx : role_of (first_role (earlier ++ bits_of heard) t) whole ≡ Dx
-  pub stands : (n : ℕ) → phasing_elements ≤ n → n ≤ length (bits_of heard) → IsLocked (earlier ++ take n (bits_of heard)) locks p t
+  pub stands : (n : ℕ) → phasing_elements ≤ n → n ≤ length (bits_of heard)
+      → IsLocked (earlier ++ take n (bits_of heard)) locks p t
 
 -- the copies whose second digit stands at this place
 unfoldable pub copies_at : ℕ → List FoundCopy → List FoundCopy

@@ -1,10 +1,12 @@
-//! Laws of messages that are sent, from the words of their emissions to the copies that are printed. Each function does
-//! nothing; its contract is the law.
+//! Laws of messages that are sent, from the words of their emissions to what is printed of them.
+//! Each function does nothing; its contract is the law.
 
-ghost use Rattle.std.specs.Prelude.{◌≡◌, Bool, List, [], ◌∷◌};
+ghost use Rattle.std.specs.Prelude.{◌≡◌, Bool, List, [], ◌∷◌, take};
 ghost use Rattle.nx_envelope.specs.Errors.{errors_of};
 ghost use Rattle.nx_envelope.specs.Message.{text_of};
 ghost use Rattle.nx_envelope.specs.MessageView.{MessageView};
+ghost use Rattle.nx_fec.specs.Emission.{bits_of};
+ghost use Rattle.nx_station.specs.ChannelExample.{example_message, example_parts};
 ghost use Rattle.nx_station.specs.Sendings.{IsCut, IsReceived, IsSending, Part, ReceivedEmission, Sending};
 ghost use Rattle.nx_sync.specs.Locks.{IsNow, Lock, Now};
 ghost use Rattle.nx_receiver.specs.Events.{Event, Start};
@@ -13,33 +15,45 @@ ghost use Rattle.nx_receiver.specs.Log.{PrintsToEnd};
 ghost use Rattle.nx_receiver.specs.OnceHeard.{IsHeardInTime, IsPrintedOnce};
 ghost use Rattle.nx_receiver.specs.Sending.{HoldsThrough, copies_at, copy_of_sending};
 ghost use Rattle.nx_receiver.specs.Tagged.{TaggedCopy};
+ghost use Rattle.nx_receiver.specs.Worked.{at_its_slot, damaged_words, heard_elements};
 
-/// Under the channel a lock holds: whatever bits came before, the lock that the 48 phasing words before a received emission
-/// leave stands to the last bit of the emission, and so to the RX of the last message's fourth N.
+/// Under the channel a lock holds: whatever bits came before, the lock that the last 48 phasing
+/// words before the first message leave stands to the last bit of a received emission, and so to
+/// the RX of the last message's fourth N.
 pub fn a_received_emission_keeps_its_lock()
     ensures { (earlier : List Bool) (emission : ReceivedEmission) → IsReceived emission
         → HoldsThrough earlier emission.heard }
 {}
 
-/// Under the channel each sending gives exactly one copy that begins with its header, whatever comes before it and behind
-/// it: it has ended, is full, has 0 errors, and its text is the message's, letter for letter.
+/// Under the channel each sending gives exactly one copy that begins with its header, whatever bits
+/// come before it and behind it: it has ended, is full, has 0 errors, and its text is the message's,
+/// letter for letter.
 pub fn each_sending_gives_one_copy()
-    ensures found { (bits : List Bool) (parts : List Part) (sending : Sending) (locks : List Lock) (now : Now) →
-        IsCut bits parts → IsSending parts sending → IsNow bits locks now
+    ensures found { (bits : List Bool) (parts : List Part) (sending : Sending) (locks : List Lock)
+        (now : Now) → IsCut bits parts → IsSending parts sending → IsNow bits locks now
         → copies_at sending.place (found_to_end bits locks now) ≡ copy_of_sending sending ∷ [] }
-    ensures ended { (bits : List Bool) (parts : List Part) (sending : Sending) (locks : List Lock) (now : Now) →
-        IsCut bits parts → IsSending parts sending → IsNow bits locks now
+    ensures ended { (bits : List Bool) (parts : List Part) (sending : Sending) (locks : List Lock)
+        (now : Now) → IsCut bits parts → IsSending parts sending → IsNow bits locks now
         → copies_at sending.place (ended_so_far bits locks now) ≡ copy_of_sending sending ∷ [] }
     ensures errors { (bits : List Bool) (parts : List Part) (sending : Sending) → IsCut bits parts
         → IsSending parts sending → errors_of (text_of sending.message.lines) ≡ 0 }
 {}
 
-/// A message is printed once, over any list of gaps and received emissions: where it isn't numbered 00, is selected at each
-/// of its sendings, all of which lie within 66 hours while 200 identities suffice, and no other copy with its identity is
-/// found, exactly one printed copy bears its identity; it is full, has 0 errors, and its text is the message's.
+/// A message is printed once, over any list of gaps and received emissions: where it isn't numbered
+/// 00, is selected at each of its sendings, which lie within 66 hours while 200 identities suffice,
+/// and no other copy with its identity is found, exactly one printed copy bears its identity. That
+/// copy is full, has 0 errors, and its text is the message's, letter for letter.
 pub fn a_message_is_printed_once()
-    ensures { (start : Start) (events : List Event) (parts : List Part) (message : MessageView) (log : List TaggedCopy) →
-        PrintsToEnd start events log → IsHeardInTime start events parts message → IsPrintedOnce message log }
+    ensures { (start : Start) (events : List Event) (parts : List Part) (message : MessageView)
+        (log : List TaggedCopy) → PrintsToEnd start events log
+        → IsHeardInTime start events parts message → IsPrintedOnce message log }
+{}
+
+/// What has to be met for it can be met: by EA01 with the line TEST, in the bits of its emission
+/// alone, of whose message each DX word is damaged.
+pub fn there_is_a_message_heard_in_time()
+    ensures { IsHeardInTime at_its_slot (heard_elements damaged_words)
+        (example_parts (bits_of (take 96 damaged_words)) []) example_message }
 {}
 
 #[cfg(test)]
@@ -52,5 +66,6 @@ mod tests {
         a_received_emission_keeps_its_lock();
         each_sending_gives_one_copy();
         a_message_is_printed_once();
+        there_is_a_message_heard_in_time();
     }
 }
