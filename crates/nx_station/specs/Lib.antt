@@ -5,3 +5,4 @@ pub mod MessageFile
 pub mod Faults
 pub mod Runs
 pub mod StrictReading
+pub mod Checking
