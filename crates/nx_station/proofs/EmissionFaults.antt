@@ -109,8 +109,12 @@ refused-fault bits messages (refusal.Memory error) h k = (h.checked.whole, h.che
 -- the emission of the messages that were read has other elements
 pub differing-fault : (bits own : List Bool) (messages : List MessageView) (positions : List SentPosition) → AreRead bits messages → IsBroadcast messages positions → own ≡ bits_of (emission positions)
     → own ≢ bits → ExplainsEmission bits BadEnvelope
-differing-fault bits own messages positions h broadcast is differs =
-    (h.checked.whole, h.checked.right, h.checked.paired, λ other k.
-    let same = read-one bits messages other h k in
-    let one = broadcast-one other positions k.positions (subst (λ l. IsBroadcast l positions) same broadcast) k.broadcast in
-    differs (is ∙ ap (λ p. bits_of (emission p)) one ∙ sym k.whole))
+differing-fault bits own messages positions h broadcast is differs = (
+  h.checked.whole,
+  h.checked.right,
+  h.checked.paired,
+  λ other k.
+      let same = read-one bits messages other h k in
+      let one = broadcast-one other positions k.positions (subst (λ l. IsBroadcast l positions) same broadcast) k.broadcast in
+      differs (is ∙ ap (λ p. bits_of (emission p)) one ∙ sym k.whole),
+)

@@ -45,9 +45,25 @@ head-code identity =
     let small : (n : ℕ) → n ≤ 26 → n ≤ 32 = λ n h. omega (arith, h) in
     let first : IsCombination (letter_combination identity.b1.byte) = (omega (arith, station.0), omega (arith, station.1)) in
     let second : IsCombination (letter_combination identity.b2.byte) = (omega (arith, subject.0), omega (arith, subject.1)) in
-    let fixed : (n : ℕ) → 1 ≤ n → n ≤ 32 → IsCombination n = λ n a b. (a, b) in
-    (fixed 29 (omega arith) (omega arith), (fixed 26 (omega arith) (omega arith), (fixed 3 (omega arith) (omega arith), (fixed 26 (omega arith) (omega arith), (fixed 3 (omega arith) (omega arith), (fixed 31 (omega arith) (omega arith),
-    (first, (second, (fixed 30 (omega arith) (omega arith), ((tens.0, small _ tens.1), ((units.0, small _ units.1), (fixed 27 (omega arith) (omega arith), (fixed 28 (omega arith) (omega arith), tt)))))))))))))
+    let fixed : (n : ℕ) → 1 ≤ n → n ≤ 32 → IsCombination n = λ n a b. (a, b) in (
+      fixed 29 (omega arith) (omega arith),
+      (
+        fixed 26 (omega arith) (omega arith),
+        (
+          fixed 3 (omega arith) (omega arith),
+          (
+            fixed 26 (omega arith) (omega arith),
+            (
+              fixed 3 (omega arith) (omega arith),
+              (
+                fixed 31 (omega arith) (omega arith),
+                (first, (second, (fixed 30 (omega arith) (omega arith), ((tens.0, small _ tens.1), ((units.0, small _ units.1), (fixed 27 (omega arith) (omega arith), (fixed 28 (omega arith) (omega arith), tt))))))),
+              ),
+            ),
+          ),
+        ),
+      ),
+    )
 
 end-code : AllByRecursion IsCombination (14 ∷ 14 ∷ 14 ∷ 14 ∷ 27 ∷ 28 ∷ 28 ∷ [])
 end-code =

@@ -19,4 +19,5 @@ pub mod PairLemmas
 pub mod PrintedText
 pub mod EmissionReading
 pub mod EmissionFaults
+pub mod CheckingLaws
 mod Examples

@@ -69,9 +69,22 @@ AreLines-unended lines h = lines-unended lines (recursion_from_All IsLine lines 
 header-one_line : (identity : Identity) → IsOneLine (header identity)
 header-one_line identity =
     let station = identity.b1.in_range in
-    let subject = identity.b2.in_range in
-    ((λ e. absurd (omega (arith, e))), ((λ e. absurd (omega (arith, e))), ((λ e. absurd (omega (arith, e))), ((λ e. absurd (omega (arith, e))), ((λ e. absurd (omega (arith, e))),
-    ((λ e. absurd (omega (arith, e, station.0))), ((λ e. absurd (omega (arith, e, subject.0))), ((λ e. absurd (omega (arith, e))), ((λ e. absurd (omega (arith, e))), tt)))))))))
+    let subject = identity.b2.in_range in (
+      (λ e. absurd (omega (arith, e))),
+      (
+        (λ e. absurd (omega (arith, e))),
+        (
+          (λ e. absurd (omega (arith, e))),
+          (
+            (λ e. absurd (omega (arith, e))),
+            (
+              (λ e. absurd (omega (arith, e))),
+              ((λ e. absurd (omega (arith, e, station.0))), ((λ e. absurd (omega (arith, e, subject.0))), ((λ e. absurd (omega (arith, e))), ((λ e. absurd (omega (arith, e))), tt)))),
+            ),
+          ),
+        ),
+      ),
+    )
 
 header-same : (a b : Identity) → header a ≡ header b → a ≡ b
 header-same a b e =

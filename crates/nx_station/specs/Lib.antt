@@ -8,3 +8,4 @@ pub mod Channel
 pub mod Sendings
 pub mod ChannelExample
 pub mod StrictReading
+pub mod Checking

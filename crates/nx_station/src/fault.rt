@@ -1,6 +1,6 @@
 //! Why messages are not sent.
 use nx_envelope::MessageFault;
-use nx_fec::{ReadFault, WriteFault};
+use nx_fec::{ReadFault, RunFault, WriteFault};
 use std::alloc::AllocError;
 use thiserror::Error;
 
@@ -74,6 +74,17 @@ pub enum EmissionFault {
     /// Memory ran out.
     #[error("out of memory")]
     Memory(AllocError),
+}
+
+/// Why an air file was not checked.
+#[derive(Debug, PartialEq, Eq, Drop, Error)]
+pub enum CheckFault {
+    /// The file was not read, or the answer was not written.
+    #[error("{0}")]
+    Run(RunFault),
+    /// The elements of the file are not the emission of messages.
+    #[error("{0}")]
+    Emission(EmissionFault),
 }
 
 impl From<AllocError> for EmissionFault {
@@ -167,5 +178,53 @@ impl From<WriteFault> for SendRunFault {
         SendRunFault::Write {
             written: fault.written,
         }
+    }
+}
+
+impl From<RunFault> for CheckFault {
+    ghost use Rattle.std.specs.Prelude.{◌≡◌};
+    ghost use Rattle.nx_station.specs.declared.fault.CheckFault.TheVariants.{Run};
+
+    ghost from_gives = { λ fault made. made ≡ Run fault };
+
+    fn from(fault: RunFault) -> CheckFault {
+        CheckFault::Run(fault)
+    }
+}
+
+impl From<EmissionFault> for CheckFault {
+    ghost use Rattle.std.specs.Prelude.{◌≡◌};
+    ghost use Rattle.nx_station.specs.declared.fault.CheckFault.TheVariants.{Emission};
+
+    ghost from_gives = { λ fault made. made ≡ Emission fault };
+
+    fn from(fault: EmissionFault) -> CheckFault {
+        CheckFault::Emission(fault)
+    }
+}
+
+impl From<AllocError> for CheckFault {
+    ghost use Rattle.std.specs.Prelude.{◌≡◌};
+    ghost use Rattle.nx_fec.specs.declared.fault.RunFault.TheVariants as run;
+    ghost use Rattle.nx_station.specs.declared.fault.CheckFault.TheVariants.{Run};
+
+    ghost from_gives = { λ error made. made ≡ Run (run.Memory error) };
+
+    fn from(error: AllocError) -> CheckFault {
+        CheckFault::Run(RunFault::Memory(error))
+    }
+}
+
+impl From<WriteFault> for CheckFault {
+    ghost use Rattle.std.specs.Prelude.{◌≡◌};
+    ghost use Rattle.nx_fec.specs.declared.fault.RunFault.TheVariants as run;
+    ghost use Rattle.nx_station.specs.declared.fault.CheckFault.TheVariants.{Run};
+
+    ghost from_gives = { λ fault made. made ≡ Run (run.Write fault.written) };
+
+    fn from(fault: WriteFault) -> CheckFault {
+        CheckFault::Run(RunFault::Write {
+            written: fault.written,
+        })
     }
 }

@@ -27,10 +27,7 @@ struct Body<'a> {
 }
 
 /// The messages of which this is printed: `BadEnvelope` where it is of none.
-pub(crate) fn messages_printed(
-    alloc: Global,
-    text: &[u8],
-) -> Result<Vec<Message>, EmissionFault>
+pub(crate) fn messages_printed(alloc: Global, text: &[u8]) -> Result<Vec<Message>, EmissionFault>
     ensures messages { IfOk result (λ messages. text.now ≡ flat_map printed_text messages.items) }
     ensures sound { IfOk result (λ messages. AreSound messages.items) }
     ensures fault { IfErr result (ExplainsPrinted text.now) }
