@@ -54,7 +54,7 @@ impl Model for Synchroniser {
 
     ghost view = { λ s. record { recent = s.recent; seen = s.seen; track = s.track; wrong = s.wrong.items } };
 
-    ghost invariant = { λ s. (s.recent < 2 ^ 28) × (s.seen ≤ 28) × (s.wrong.capacity ≡ 64) × (length s.wrong.items ≤ 64) × (s.wrong_count ≡ count_by (λ b. b) s.wrong.items) × ForSome s.track (λ t. t.filled < 7) };
+    ghost invariant = { λ s. (s.recent < 2 ^ 28) × (s.seen ≤ 28) × (s.wrong.capacity ≡ 64) × (length s.wrong.items ≤ 64) × (s.wrong_count ≡ count_by (λ b. b) s.wrong.items) × ForSome s.track (λ t. (t.filled < 7) × (s.seen ≡ 28)) };
 
     // Each field is given back by what contracts see, so that nothing else can be kept: no history.
     ghost inverse = { λ h. record { recent = h.recent; seen = h.seen; track = h.track; wrong = buffer h.wrong 64; wrong_count = count_by (λ b. b) h.wrong } };
@@ -128,8 +128,12 @@ impl Synchroniser {
         ensures step { (h : List Bool) → StandsAfter self.old h → IsWordStep h bits.now result }
         ensures limit { result.change ≡ None → IsTrue (is_between_words self.new) }
     {
-        self.hear_word(Word::from_elements(*bits));
-        self.complete(self.track.unwrap())
+        let word = Word::from_elements(*bits);
+        self.hear_word(word);
+        let Some(track) = self.track else {
+            unreachable!()
+        };
+        self.complete(track, word)
     }
 
     /// Hunts through these elements: hears those before the first one that locks, all of them where
@@ -154,13 +158,13 @@ impl Synchroniser {
         self.seen = (self.seen + 1).min(PATTERN);
     }
 
-    /// Takes a word into the last 28 elements.
+    /// Takes a word of a lock into the last 28 elements.
     #[inline(always)]
     fn hear_word(&mut self, word: Word)
-        ensures { self.new ≡ record self.old { recent = spec.next_word_window self.old.recent word; seen = min (self.old.seen + 7) 28 } }
+        ensures held { self.new ≡ record self.old { recent = spec.next_word_window self.old.recent word } }
+        ensures last { self.new.recent / 2 ^ 21 ≡ word }
     {
         self.recent = next_word_window(self.recent, word);
-        self.seen = (self.seen + 7).min(PATTERN);
     }
 
     /// Locks where the last 28 elements are one of the patterns.
@@ -187,6 +191,7 @@ impl Synchroniser {
 
     /// Begins to follow a lock whose first word has this role.
     fn begin(&mut self, role: Role)
+        requires { self.old.seen ≡ 28 }
         ensures { self.new ≡ record self.old { track = Some (track_from role); wrong = [] } }
     {
         self.wrong.clear();
@@ -197,7 +202,8 @@ impl Synchroniser {
     /// Adds the element that was heard last to the word that the track fills.
     #[inline(always)]
     fn follow(&mut self, track: Track) -> Step
-        requires { track.filled < 7 }
+        requires filled { track.filled < 7 }
+        requires seen { self.old.seen ≡ 28 }
         ensures inside { track.filled + 1 < 7 → Fills self.old track self.new result }
         ensures whole { track.filled ≡ 6 → Completes self.old track self.new result }
     {
@@ -206,16 +212,17 @@ impl Synchroniser {
             self.track = Some(Track { filled, ..track });
             return Step::NOTHING;
         }
-        self.complete(track)
+        self.complete(track, last_word(self.recent))
     }
 
     /// Takes the last seven elements as a word of the lock, and gives the lock up where the word
     /// brings a change.
     #[inline(always)]
-    fn complete(&mut self, track: Track) -> Step
+    fn complete(&mut self, track: Track, word: Word) -> Step
+        requires word { word ≡ self.old.recent / 2 ^ 21 }
+        requires seen { self.old.seen ≡ 28 }
         ensures { Completes self.old track self.new result }
     {
-        let word = last_word(self.recent);
         self.mark(!check_bits(word));
         let change = self.change_after(track);
         self.track = match change {
@@ -228,9 +235,20 @@ impl Synchroniser {
         }
     }
 
-    /// Adds the mark of a word, whether it is wrong, to those of the last 64.
+    /// Adds the mark of a word, whether it is wrong, to those of the last 64. These stay as they
+    /// are where there are 64 and neither the word nor any of them is wrong.
     #[inline(always)]
     fn mark(&mut self, is_wrong: bool)
+        ensures { self.new ≡ record self.old { wrong = keep_last 64 (self.old.wrong ++ is_wrong ∷ []) } }
+    {
+        if is_wrong || self.wrong_count > 0 || !self.wrong.is_full() {
+            self.push_mark(is_wrong);
+        }
+    }
+
+    /// Moves the marks on by one: the new one comes in, and of 64 the oldest goes.
+    #[inline(never)]
+    fn push_mark(&mut self, is_wrong: bool)
         ensures { self.new ≡ record self.old { wrong = keep_last 64 (self.old.wrong ++ is_wrong ∷ []) } }
     {
         let gone = self.wrong.push_back(is_wrong);

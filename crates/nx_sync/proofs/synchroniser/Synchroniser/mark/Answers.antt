@@ -1,0 +1,17 @@
+use Rattle.std.proofs.Common.{◌≡◌, ◌++◌, ◌∷◌, [], List, Bool, length, count_by, sym, ap, subst, ◌∙◌, arith}
+use Rattle.std.proofs.lemmas.Bool.{eqb-true}
+use Rattle.circular_buffer.specs.Buffer.{keep_last}
+use Rattle.nx_sync.specs.Synchroniser.{Held}
+use Rattle.nx_sync.proofs.Marks.{marks_stay}
+use Rattle.nx_sync.proofs.synchroniser.Synchroniser.mark.Goals as goal
+
+-- 64 marks of words that were right stay as they are
+pub returns-else-not-is_full : goal.returns-else-not-is_full
+returns-else-not-is_full c =
+    let old : Held = c.args.self.now in
+    let items : List Bool = c.self.inside.wrong.items in
+    let full : length items ≡ 64 = eqb-true (length items) c.self.inside.wrong.capacity (sym c.is_full.ensures ∙ c.if-not-is_full.false) ∙ c.self.invariant.2 in
+    let none : count_by (λ b. b) items ≡ 0 = omega (arith, c.self.invariant.4, c.if-self-gt0.false) in
+    let stay : old.wrong ≡ keep_last 64 (old.wrong ++ c.args.is_wrong ∷ []) =
+        subst (λ xs. xs ≡ keep_last 64 (xs ++ c.args.is_wrong ∷ [])) (ap (λ s. s.wrong) c.self.view_is) (marks_stay items c.args.is_wrong full none c.if-is_wrong.false) in
+    ap (λ xs. record old { wrong = xs }) stay
