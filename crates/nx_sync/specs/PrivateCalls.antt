@@ -31,10 +31,13 @@ track_after track word = record {
 abbrev pub fills_releasing_word : Track → Bool
 fills_releasing_word track = not (is_dx track.role) && (track.was_p1 % 2 == 1) && (track.was_p1 / 4 % 2 == 1)
 
+-- which change a word brings, by the track before it and by whether it loses the lock
+abbrev pub change_by : Track → Bool → Option Change
+change_by track is_lost = if fills_releasing_word track then Some Ended else (if is_lost then Some LostLock else None)
+
 -- which change a word brings, by the track before it and the marks of the last words with its own
 abbrev pub change_of : Track → List Bool → Option Change
-change_of track wrong =
-    if fills_releasing_word track then Some Ended else (if nat_le losing_count (count_by (λ b. b) wrong) then Some LostLock else None)
+change_of track wrong = change_by track (nat_le losing_count (count_by (λ b. b) wrong))
 
 -- A lock begins: it is followed from a first word with this role, no mark is left, and the step says that a lock was
 -- found.

@@ -2,15 +2,16 @@
 //! last words. Calls that run for each element or each word are inlined always, since their answers
 //! would go through memory otherwise.
 
-ghost use Rattle.std.specs.Prelude.{◌≡◌, ℕ, ◌+◌, ◌-◌, ◌/◌, ◌^◌, ◌<◌, ◌≤◌, ◌↔◌, List, Bool, [], ◌∷◌, ◌++◌, length, take, min, not, IsTrue, IfOk};
+ghost use Rattle.std.specs.Prelude.{◌≡◌, ℕ, ◌+◌, ◌-◌, ◌/◌, ◌^◌, ◌<◌, ◌≤◌, ◌↔◌, List, Bool, [], ◌∷◌, ◌++◌, length, take, min, nat_le, not, IsTrue, IfOk};
+ghost use Rattle.std.specs.List.{count_by};
 ghost use Rattle.circular_buffer.specs.Buffer.{keep_last};
 ghost use Rattle.nx_sync.specs.declared.step.Change.TheVariants.{Locked};
 ghost use Rattle.nx_sync.specs.Steps.{step, LockStands, LimitStands, IsStep, HuntsThrough, IsWordStep};
 ghost use Rattle.nx_sync.specs.Windows as spec;
-ghost use Rattle.nx_sync.specs.PrivateCalls.{track_from, change_of, Begins, Fills, Completes, Skips, SkipsEarly};
+ghost use Rattle.nx_sync.specs.PrivateCalls.{track_from, Begins, Fills, Completes, Skips, SkipsEarly};
 ghost use Rattle.nx_sync.specs.Synchroniser.{StandsAfter, is_hunting, is_between_words};
 
-use crate::step::{Change, Role, Step};
+use crate::step::{Role, Step};
 use crate::track::Track;
 use crate::windows::{
     PATTERN, STRIDE, count_before_lock, last_word, may_lock, next_window, next_word_window,
@@ -130,10 +131,10 @@ impl Synchroniser {
     {
         let word = Word::from_elements(*bits);
         self.hear_word(word);
-        let Some(track) = self.track else {
-            unreachable!()
-        };
-        self.complete(track, word)
+        match self.track {
+            None => unreachable!(),
+            Some(track) => self.complete(track, word),
+        }
     }
 
     /// Hunts through these elements: hears those before the first one that locks, all of them where
@@ -223,54 +224,46 @@ impl Synchroniser {
         requires seen { self.old.seen ≡ 28 }
         ensures { Completes self.old track self.new result }
     {
-        self.mark(!check_bits(word));
-        let change = self.change_after(track);
-        self.track = match change {
-            None => Some(track.after(word)),
-            Some(_) => None,
-        };
+        let is_lost = self.mark(!check_bits(word));
+        let change = track.change(is_lost);
+        match change {
+            None => self.track = Some(track.after(word)),
+            Some(_) => self.track = None,
+        }
         Step {
             word: Some((word, track.role)),
             change,
         }
     }
 
-    /// Adds the mark of a word, whether it is wrong, to those of the last 64. These stay as they
-    /// are where there are 64 and neither the word nor any of them is wrong.
+    /// Adds the mark of a word, whether it is wrong, to those of the last 64, and says whether 40
+    /// of these are wrong now. They stay as they are where there are 64 and neither the word nor
+    /// any of them is wrong.
     #[inline(always)]
-    fn mark(&mut self, is_wrong: bool)
-        ensures { self.new ≡ record self.old { wrong = keep_last 64 (self.old.wrong ++ is_wrong ∷ []) } }
+    fn mark(&mut self, is_wrong: bool) -> bool
+        ensures marks { self.new ≡ record self.old { wrong = keep_last 64 (self.old.wrong ++ is_wrong ∷ []) } }
+        ensures lost { result ≡ nat_le 40 (count_by (λ b. b) self.new.wrong) }
     {
-        if is_wrong || self.wrong_count > 0 || !self.wrong.is_full() {
-            self.push_mark(is_wrong);
+        if !is_wrong && self.wrong_count == 0 && self.wrong.is_full() {
+            return false;
         }
+        self.push_mark(is_wrong)
     }
 
-    /// Moves the marks on by one: the new one comes in, and of 64 the oldest goes.
+    /// Moves the marks on by one, where the new one comes in and of 64 the oldest goes, and says
+    /// whether 40 of them are wrong now. Not inlined, since most words of a good lock don't ask for
+    /// it.
     #[inline(never)]
-    fn push_mark(&mut self, is_wrong: bool)
-        ensures { self.new ≡ record self.old { wrong = keep_last 64 (self.old.wrong ++ is_wrong ∷ []) } }
+    fn push_mark(&mut self, is_wrong: bool) -> bool
+        ensures marks { self.new ≡ record self.old { wrong = keep_last 64 (self.old.wrong ++ is_wrong ∷ []) } }
+        ensures lost { result ≡ nat_le 40 (count_by (λ b. b) self.new.wrong) }
     {
         let gone = self.wrong.push_back(is_wrong);
         self.wrong_count += u32::from(is_wrong);
         if gone == Some(true) {
             self.wrong_count -= 1;
         }
-    }
-
-    /// Which change a word brings, by the track before it and the marks of the last words with its
-    /// own.
-    #[inline(always)]
-    fn change_after(&self, track: Track) -> Option<Change>
-        ensures { result ≡ change_of track self.now.wrong }
-    {
-        if track.fills_releasing_word() {
-            Some(Change::Ended)
-        } else if self.wrong_count >= LOST {
-            Some(Change::LostLock)
-        } else {
-            None
-        }
+        self.wrong_count >= LOST
     }
 
     /// Hears elements as long as none ends a pattern, and says how many.
