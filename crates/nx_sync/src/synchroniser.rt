@@ -244,16 +244,15 @@ impl Synchroniser {
         ensures marks { self.new ≡ record self.old { wrong = keep_last 64 (self.old.wrong ++ is_wrong ∷ []) } }
         ensures lost { result ≡ nat_le 40 (count_by (λ b. b) self.new.wrong) }
     {
-        if !is_wrong && self.wrong_count == 0 && self.wrong.is_full() {
+        if !is_wrong && self.wrong_count == 0 && self.wrong.len() == WINDOW {
             return false;
         }
         self.push_mark(is_wrong)
     }
 
     /// Moves the marks on by one, where the new one comes in and of 64 the oldest goes, and says
-    /// whether 40 of them are wrong now. Not inlined, since most words of a good lock don't ask for
-    /// it.
-    #[inline(never)]
+    /// whether 40 of them are wrong now.
+    #[inline(always)]
     fn push_mark(&mut self, is_wrong: bool) -> bool
         ensures marks { self.new ≡ record self.old { wrong = keep_last 64 (self.old.wrong ++ is_wrong ∷ []) } }
         ensures lost { result ≡ nat_le 40 (count_by (λ b. b) self.new.wrong) }
