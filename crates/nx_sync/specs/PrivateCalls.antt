@@ -10,6 +10,7 @@ use Rattle.nx_sync.specs.declared.step.Role.{Role}
 use Rattle.nx_sync.specs.declared.step.Change.{Change}
 use Rattle.nx_sync.specs.declared.step.Change.TheVariants.{Locked, Ended, LostLock}
 use Rattle.nx_sync.specs.Words.{window_words, losing_count, other_role, is_dx, is_wrong}
+use Rattle.nx_sync.specs.Locks.{pattern_elements}
 use Rattle.nx_sync.specs.Windows.{role_after, window_after}
 use Rattle.nx_sync.specs.Steps.{step}
 use Rattle.nx_sync.specs.Synchroniser.{Held}
@@ -63,15 +64,15 @@ pub record Completes (old : Held) (track : Track) (new : Held) (s : Step) : Type
 
 -- what is held after these elements were heard, before any is looked at
 abbrev pub heard_all : Held → List Bool → Held
-heard_all held bits = record held { recent = window_after held.recent bits; seen = min (held.seen + length bits) 28 }
+heard_all held bits = record held { recent = window_after held.recent bits; seen = min (held.seen + length bits) pattern_elements }
 
 -- too few elements were heard for a pattern, or the last 28 are none
 abbrev pub IsQuiet : Held → Type 0
-IsQuiet held = (held.seen < 28) ⊎ (role_after held.recent ≡ None)
+IsQuiet held = (held.seen < pattern_elements) ⊎ (role_after held.recent ≡ None)
 
 -- the last 28 elements are a pattern
 pub record EndsPattern (held : Held) : Type 0 where
-  pub enough : 28 ≤ held.seen
+  pub enough : pattern_elements ≤ held.seen
   pub role : Role
   pub here : role_after held.recent ≡ Some role
 
@@ -86,5 +87,5 @@ pub record Skips (old : Held) (bits : List Bool) (n : ℕ) (new : Held) : Type 0
 pub record SkipsEarly (old : Held) (bits : List Bool) (n : ℕ) (new : Held) : Type 0 where
   pub within : n ≤ length bits
   pub held : new ≡ heard_all old (take n bits)
-  pub early : 0 < n → old.seen + n < 28
-  pub late : n < length bits → 27 ≤ old.seen + n
+  pub early : 0 < n → old.seen + n < pattern_elements
+  pub late : n < length bits → pattern_elements ≤ old.seen + n + 1

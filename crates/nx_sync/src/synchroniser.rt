@@ -6,6 +6,8 @@ ghost use Rattle.std.specs.Prelude.{◌≡◌, ℕ, ◌+◌, ◌-◌, ◌/◌, �
 ghost use Rattle.std.specs.List.{count_by};
 ghost use Rattle.circular_buffer.specs.Buffer.{keep_last};
 ghost use Rattle.nx_sync.specs.declared.step.Change.TheVariants.{Locked};
+ghost use Rattle.nx_sync.specs.Words.{window_words, losing_count};
+ghost use Rattle.nx_sync.specs.Locks.{pattern_elements};
 ghost use Rattle.nx_sync.specs.Steps.{step, LockStands, LimitStands, IsStep, HuntsThrough, IsWordStep};
 ghost use Rattle.nx_sync.specs.Windows as spec;
 ghost use Rattle.nx_sync.specs.PrivateCalls.{track_from, Begins, Fills, Completes, Skips, SkipsEarly};
@@ -49,16 +51,18 @@ impl Model for Synchroniser {
     ghost use Rattle.std.specs.Option.{ForSome};
     ghost use Rattle.std.proofs.Common.{sym, ap, ap₂};
     ghost use Rattle.circular_buffer.specs.Buffer.{buffer};
+    ghost use Rattle.nx_sync.specs.Words.{window_words};
+    ghost use Rattle.nx_sync.specs.Locks.{pattern_elements};
     ghost use Rattle.nx_sync.specs.Synchroniser.{Held};
 
     ghost Value = { Held };
 
     ghost view = { λ s. record { recent = s.recent; seen = s.seen; track = s.track; wrong = s.wrong.items } };
 
-    ghost invariant = { λ s. (s.recent < 2 ^ 28) × (s.seen ≤ 28) × (s.wrong.capacity ≡ 64) × (length s.wrong.items ≤ 64) × (s.wrong_count ≡ count_by (λ b. b) s.wrong.items) × ForSome s.track (λ t. (t.filled < 7) × (s.seen ≡ 28)) };
+    ghost invariant = { λ s. (s.recent < 2 ^ pattern_elements) × (s.seen ≤ pattern_elements) × (s.wrong.capacity ≡ window_words) × (length s.wrong.items ≤ window_words) × (s.wrong_count ≡ count_by (λ b. b) s.wrong.items) × ForSome s.track (λ t. (t.filled < 7) × (s.seen ≡ pattern_elements)) };
 
     // Each field is given back by what contracts see, so that nothing else can be kept: no history.
-    ghost inverse = { λ h. record { recent = h.recent; seen = h.seen; track = h.track; wrong = buffer h.wrong 64; wrong_count = count_by (λ b. b) h.wrong } };
+    ghost inverse = { λ h. record { recent = h.recent; seen = h.seen; track = h.track; wrong = buffer h.wrong window_words; wrong_count = count_by (λ b. b) h.wrong } };
 
     ghost inverse_ok = { λ s h. ap₂ (λ n m. record s { wrong = buffer s.wrong.items n; wrong_count = m }) (sym h.2) (sym h.4) };
 }
@@ -153,7 +157,7 @@ impl Synchroniser {
     /// Takes one element into the last 28.
     #[inline(always)]
     fn hear(&mut self, bit: bool)
-        ensures { self.new ≡ record self.old { recent = spec.next_window self.old.recent bit; seen = min (self.old.seen + 1) 28 } }
+        ensures { self.new ≡ record self.old { recent = spec.next_window self.old.recent bit; seen = min (self.old.seen + 1) pattern_elements } }
     {
         self.recent = next_window(self.recent, bit);
         self.seen = (self.seen + 1).min(PATTERN);
@@ -171,10 +175,10 @@ impl Synchroniser {
     /// Locks where the last 28 elements are one of the patterns.
     #[inline(always)]
     fn hunt_on(&mut self) -> Step
-        ensures early { self.old.seen < 28 → (self.new ≡ self.old) × (result ≡ step None None) }
+        ensures early { self.old.seen < pattern_elements → (self.new ≡ self.old) × (result ≡ step None None) }
         ensures none { spec.role_after self.old.recent ≡ None → (self.new ≡ self.old)
             × (result ≡ step None None) }
-        ensures found { (role : Role) → 28 ≤ self.old.seen
+        ensures found { (role : Role) → pattern_elements ≤ self.old.seen
             → spec.role_after self.old.recent ≡ Some role
             → Begins self.old role self.new result }
     {
@@ -192,7 +196,7 @@ impl Synchroniser {
 
     /// Begins to follow a lock whose first word has this role.
     fn begin(&mut self, role: Role)
-        requires { self.old.seen ≡ 28 }
+        requires { self.old.seen ≡ pattern_elements }
         ensures { self.new ≡ record self.old { track = Some (track_from role); wrong = [] } }
     {
         self.wrong.clear();
@@ -204,7 +208,7 @@ impl Synchroniser {
     #[inline(always)]
     fn follow(&mut self, track: Track) -> Step
         requires filled { track.filled < 7 }
-        requires seen { self.old.seen ≡ 28 }
+        requires seen { self.old.seen ≡ pattern_elements }
         ensures inside { track.filled + 1 < 7 → Fills self.old track self.new result }
         ensures whole { track.filled ≡ 6 → Completes self.old track self.new result }
     {
@@ -221,7 +225,7 @@ impl Synchroniser {
     #[inline(always)]
     fn complete(&mut self, track: Track, word: Word) -> Step
         requires word { word ≡ self.old.recent / 2 ^ 21 }
-        requires seen { self.old.seen ≡ 28 }
+        requires seen { self.old.seen ≡ pattern_elements }
         ensures { Completes self.old track self.new result }
     {
         let is_lost = self.mark(!check_bits(word));
@@ -241,8 +245,8 @@ impl Synchroniser {
     /// any of them is wrong.
     #[inline(always)]
     fn mark(&mut self, is_wrong: bool) -> bool
-        ensures marks { self.new ≡ record self.old { wrong = keep_last 64 (self.old.wrong ++ is_wrong ∷ []) } }
-        ensures lost { result ≡ nat_le 40 (count_by (λ b. b) self.new.wrong) }
+        ensures marks { self.new ≡ record self.old { wrong = keep_last window_words (self.old.wrong ++ is_wrong ∷ []) } }
+        ensures lost { result ≡ nat_le losing_count (count_by (λ b. b) self.new.wrong) }
     {
         if !is_wrong && self.wrong_count == 0 && self.wrong.len() == WINDOW {
             return false;
@@ -254,8 +258,8 @@ impl Synchroniser {
     /// whether 40 of them are wrong now.
     #[inline(always)]
     fn push_mark(&mut self, is_wrong: bool) -> bool
-        ensures marks { self.new ≡ record self.old { wrong = keep_last 64 (self.old.wrong ++ is_wrong ∷ []) } }
-        ensures lost { result ≡ nat_le 40 (count_by (λ b. b) self.new.wrong) }
+        ensures marks { self.new ≡ record self.old { wrong = keep_last window_words (self.old.wrong ++ is_wrong ∷ []) } }
+        ensures lost { result ≡ nat_le losing_count (count_by (λ b. b) self.new.wrong) }
     {
         let gone = self.wrong.push_back(is_wrong);
         self.wrong_count += u32::from(is_wrong);
@@ -297,7 +301,7 @@ impl Synchroniser {
     /// Hears at most 21 elements as long as none ends a pattern, and says how many.
     #[inline(always)]
     fn skip_part(&mut self, part: &[bool]) -> usize
-        requires seen { 27 ≤ self.old.seen }
+        requires seen { pattern_elements ≤ self.old.seen + 1 }
         requires few { length part.now ≤ 21 }
         ensures { Skips self.old part.now result self.new }
     {
@@ -311,7 +315,7 @@ impl Synchroniser {
 
     /// The same, by the windows after each element.
     fn skip_block(&mut self, block: &[bool]) -> usize
-        requires seen { 27 ≤ self.old.seen }
+        requires seen { pattern_elements ≤ self.old.seen + 1 }
         requires few { length block.now ≤ 21 }
         ensures { Skips self.old block.now result self.new }
     {

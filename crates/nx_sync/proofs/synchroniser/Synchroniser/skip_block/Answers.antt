@@ -38,6 +38,7 @@ returns-else-count-gt0 c =
     let z : 0 ≡ count = omega arith in
     let seen : old.seen ≤ 28 = omega (arith, c.self.invariant.1, ap (λ h. h.seen) c.self.view_is) in
     let recent = ap (λ h. h.recent) c.self.view_is in
-    skips_by_windows old block windows count old c.requires.seen
+    let late : 27 ≤ old.seen = omega (arith, c.requires.seen) in
+    skips_by_windows old block windows count old late
     (λ k h. c.windows_after-windows.ensures.values k h ∙ ap (λ w. window_after w (take (k + 1) block)) recent) n
     (sym (heard_all-none old seen) ∙ ap (λ i. heard_all old (take i block)) z)
