@@ -1,7 +1,7 @@
 -- How the elements of a word and its number go together.
-use Rattle.std.proofs.Common.{◌≡◌, ℕ, ◌+◌, ◌-◌, ◌*◌, ◌^◌, ◌<◌, ◌≤◌, ◌/◌, ◌%◌, Bool, true, false, eqb, List, [], ◌∷◌, ◌++◌, length, get_or, take, drop, set, suc, refl, ap, subst, arith, append_assoc, append-nil, add-one}
+use Rattle.std.proofs.Common.{◌≡◌, ℕ, ◌+◌, ◌-◌, ◌*◌, ◌^◌, ◌<◌, ◌≤◌, ◌/◌, ◌%◌, Bool, true, false, eqb, List, [], ◌∷◌, ◌++◌, length, get_or, take, drop, set, suc, refl, ap, subst, ◌∙◌, arith, append_assoc, append-nil, add-one}
 use mir.Val.{bool_byte}
-use Rattle.std.proofs.Math.Nat.{pow-succ'}
+use Rattle.std.proofs.Math.Nat.{pow-succ', pow-le-pow_right}
 use Rattle.std.proofs.lemmas.Bool.{agree_below_at, eqb-true, eq-eqb, ne_eqb}
 use Rattle.std.proofs.Math.Seq.{drop-cons, take-suc-set}
 use Rattle.std.proofs.lemmas.List.{drop_all, take_all}
@@ -15,25 +15,36 @@ pub value_of-le : (bit : Bool) → value_of bit ≤ 1
 value_of-le true = omega arith
 value_of-le false = omega arith
 
--- one more element at the front of those that count already
-pub number_of-drop : (bits : List Bool) (place : ℕ) → 0 < place → place ≤ length bits
-    → number_of (drop (place - 1) bits) ≡ value_of (get_or bits (place - 1) false) + 2 * number_of (drop place bits)
-unfolding number_of
-number_of-drop bits place h k =
+-- seven elements, each in the least place of a byte, the first in the lowest byte
+unfoldable pub spread_of : List Bool → ℕ
+spread_of [] = 0
+spread_of (bit ∷ bits) = value_of bit + 256 * spread_of bits
+
+-- one more element at the front of those that stand already
+pub spread_of-drop : (bits : List Bool) (place : ℕ) → 0 < place → place ≤ length bits
+    → spread_of (drop (place - 1) bits) ≡ value_of (get_or bits (place - 1) false) + 256 * spread_of (drop place bits)
+unfolding spread_of
+spread_of-drop bits place h k =
     let lt : place - 1 < length bits = omega arith in
     let e : suc (place - 1) ≡ place = omega arith in
-    let P : ℕ → Type 0 = λ q. number_of (drop (place - 1) bits) ≡ value_of (get_or bits (place - 1) false) + 2 * number_of (drop q bits) in
-    subst P e (ap number_of (drop-cons bits (place - 1) false lt))
+    let P : ℕ → Type 0 = λ q. spread_of (drop (place - 1) bits) ≡ value_of (get_or bits (place - 1) false) + 256 * spread_of (drop q bits) in
+    subst P e (ap spread_of (drop-cons bits (place - 1) false lt))
 
-pub number_of-drop_all : (bits : List Bool) → length bits ≡ 7 → number_of (drop 7 bits) ≡ 0
-unfolding number_of
-number_of-drop_all bits h = ap number_of (drop_all 7 bits (omega arith))
+pub spread_of-drop_all : (bits : List Bool) → length bits ≡ 7 → spread_of (drop 7 bits) ≡ 0
+unfolding spread_of
+spread_of-drop_all bits h = ap spread_of (drop_all 7 bits (omega arith))
 
--- the bound doubles with each element
-pub twice-lt : (number bit place : ℕ) → 0 < place → place ≤ 7 → bit ≤ 1 → number < 2 ^ (7 - place) → 2 * number + bit < 2 ^ (7 - (place - 1))
-twice-lt number bit place h k b lt =
+-- a byte more with each element
+pub byte-more : (spread bit place : ℕ) → 0 < place → place ≤ 7 → bit ≤ 1 → spread < 256 ^ (7 - place) → 256 * spread + bit < 256 ^ (7 - (place - 1))
+byte-more spread bit place h k b lt =
     let e : 7 - (place - 1) ≡ suc (7 - place) = omega arith in
-    rw (e, pow-succ' 2 (7 - place)) (omega arith)
+    rw (e, pow-succ' 256 (7 - place)) (omega arith)
+
+pub byte-fits : (spread place : ℕ) → 0 < place → spread < 256 ^ (7 - place) → 256 * spread < 2 ^ 64
+byte-fits spread place h lt =
+    let n : 7 - place ≤ 6 = omega arith in
+    let six : 256 ^ (7 - place) ≤ 256 ^ 6 = pow-le-pow_right (omega arith) n in
+    omega arith
 
 -- the elements so far and those of the rest, one element later
 pub elements_from-more : (bits : List Bool) (place rest : ℕ) → length bits ≡ 7 → place < 7
@@ -70,3 +81,38 @@ elements_from-number_of (bit ∷ bits) =
 pub elements-number_of : (bits : List Bool) → length bits ≡ 7 → elements (number_of bits) ≡ bits
 unfolding elements
 elements-number_of bits h = subst (λ n. elements_from n (number_of bits) ≡ bits) h (elements_from-number_of bits)
+
+-- so many bits have a number below this
+pub number_of-lt : (xs : List Bool) → number_of xs < 2 ^ length xs
+unfolding number_of
+number_of-lt [] = omega arith
+number_of-lt (x ∷ xs) =
+    let e : 2 ^ suc (length xs) ≡ 2 * 2 ^ length xs = pow-succ' 2 (length xs) in
+    omega (arith, number_of-lt xs, value_of-le x, e)
+
+number_of-seven : (bits : List Bool) → length bits ≡ 7 → number_of bits < 128
+number_of-seven bits h = subst (λ n. number_of bits < 2 ^ n) h (number_of-lt bits)
+
+-- what the product gathers of the bytes
+abbrev pub gathered : ℕ → ℕ
+gathered spread = spread * 0x102040810204000 % 2 ^ 64 / 2 ^ 56
+
+gathered-elements : (word : ℕ) → word < 128 → gathered (spread_of (elements word)) ≡ word
+unfolding spread_of elements elements_from
+gathered-elements word h =
+    eqb-true (gathered (spread_of (elements word))) word (agree_below_at (λ n. eqb (gathered (spread_of (elements n))) n) (λ _. true) 128 word refl h)
+
+gathered-number_of : (bits : List Bool) → length bits ≡ 7 → gathered (spread_of bits) ≡ number_of bits
+gathered-number_of bits h =
+    subst (λ b. gathered (spread_of b) ≡ number_of bits) (elements-number_of bits h) (gathered-elements (number_of bits) (number_of-seven bits h))
+
+-- once the elements from the first one on stand in the bytes, the product gathers their number
+pub gathers : (bits : List Bool) (spread place : ℕ) → length bits ≡ 7 → place ≤ 0 → spread ≡ spread_of (drop place bits) → gathered spread ≡ number_of bits
+gathers bits spread place h first e =
+    let z : place ≡ 0 = omega arith in
+    ap gathered (e ∙ ap (λ p. spread_of (drop p bits)) z) ∙ gathered-number_of bits h
+
+pub gathers-lt : (bits : List Bool) (spread place : ℕ) → length bits ≡ 7 → place ≤ 0 → spread ≡ spread_of (drop place bits) → gathered spread < 128
+gathers-lt bits spread place h first e =
+    let n = number_of-seven bits h in
+    omega (arith, gathers bits spread place h first e)

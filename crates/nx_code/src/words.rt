@@ -11,6 +11,10 @@ pub const ELEMENTS: usize = 7;
 /// How many of a signal's seven elements are B; the other three are Y (M.476, M.625).
 const WEIGHT: u32 = 4;
 
+/// Gathers seven elements, each in the least place of a byte: times this number the element of byte
+/// `n` stands in place `56 + n`, and no other sum of places reaches as far.
+const GATHER: u64 = 0x0102_0408_1020_4000;
+
 /// A word: seven elements, each B or Y, of any weight. Contracts see it as its number, in which the
 /// element that is sent first has the least place and B counts as 1: 0 to 127.
 #[derive(Clone, Copy, Debug, PartialEq, Eq)]
@@ -63,11 +67,13 @@ impl Word {
     pub fn from_elements(bits: [bool; ELEMENTS]) -> Word
         ensures { result ≡ number_of bits }
     {
-        let mut number = 0;
+        let mut spread: u64 = 0;
         for place in (0..ELEMENTS).rev() {
-            number = 2 * number + u8::from(bits[place]);
+            spread = 256 * spread + u64::from(bits[place]);
         }
-        Word { number }
+        Word {
+            number: (spread.wrapping_mul(GATHER) >> 56) as u8,
+        }
     }
 
     /// The seven elements in the order of sending; true is B.

@@ -1,8 +1,8 @@
 -- The marks of the words of a lock, and what is decided by them.
-use Rattle.std.proofs.Common.{◌≡◌, ℕ, zero, suc, ◌+◌, ◌-◌, ◌*◌, ◌/◌, ◌%◌, ◌^◌, ◌<◌, ◌≤◌, ◌==◌, List, [], ◌∷◌, ◌++◌, length, drop, Bool, true, false, not, ◌&&◌, cond, count_by, refl, sym, ap, ap₂, ◌∙◌, inl, inr, arith}
+use Rattle.std.proofs.Common.{◌≡◌, ℕ, zero, suc, ◌+◌, ◌-◌, ◌*◌, ◌/◌, ◌%◌, ◌^◌, ◌<◌, ◌≤◌, ◌==◌, List, [], ◌∷◌, ◌++◌, length, drop, replicate, Bool, true, false, not, ◌&&◌, cond, count_by, refl, sym, ap, ap₂, subst, ◌∙◌, inl, inr, arith}
 use Rattle.std.proofs.lemmas.Bool.{cases_lt, le-leb, lt-leb}
 use Rattle.std.proofs.lemmas.List.{length_push, drop-append-le, drop_all}
-use Rattle.std.proofs.lemmas.List.Sums.{sum_by_push}
+use Rattle.std.proofs.lemmas.List.Sums.{sum_by_push, sum_by-cons}
 use Rattle.circular_buffer.specs.Buffer.{keep_last}
 use Rattle.nx_sync.specs.declared.step.Role.{Role}
 use Rattle.nx_sync.specs.declared.step.Role.TheVariants.{Dx, Rx}
@@ -136,3 +136,14 @@ pub change_of-change_at : (first : Role) (f : ℕ → ℕ) (k : ℕ) (track : Tr
 unfolding change_at
 change_of-change_at first f k track wrong r m w =
     rw (fills_releasing_word-is first f k track r m, w, count-last_marks f k) refl
+
+none_marked : (xs : List Bool) → count_by (λ b. b) xs ≡ 0 → xs ≡ replicate (length xs) false
+none_marked [] h = refl
+none_marked (true ∷ xs) h = absurd (omega (arith, sum_by-cons (λ b. cond b 1 0) true xs))
+none_marked (false ∷ xs) h = ap (λ ys. false ∷ ys) (none_marked xs (omega (arith, sum_by-cons (λ b. cond b 1 0) false xs)))
+
+-- where none of 64 words is wrong, and one more isn't either, their marks stay
+pub marks_stay : (xs : List Bool) (is_wrong : Bool) → length xs ≡ 64 → count_by (λ b. b) xs ≡ 0 → is_wrong ≡ false → xs ≡ keep_last 64 (xs ++ is_wrong ∷ [])
+marks_stay xs is_wrong l none right =
+    let e : xs ≡ replicate 64 false = none_marked xs none ∙ ap (λ n. replicate n false) l in
+    subst (λ ys. ys ≡ keep_last 64 (ys ++ is_wrong ∷ [])) (sym e) (rw right refl)

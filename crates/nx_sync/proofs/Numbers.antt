@@ -30,14 +30,6 @@ number_of-drop (suc n) xs =
     ∙ (ap (λ m. m / 2 ^ n) (number_of-drop_one xs)
     ∙ (shr-shr (number_of xs) 1 n ∙ ap (λ k. number_of xs / 2 ^ k) e)))
 
--- so many bits have a number below this
-pub number_of-lt : (xs : List Bool) → number_of xs < 2 ^ length xs
-unfolding number_of
-number_of-lt [] = omega arith
-number_of-lt (x ∷ xs) =
-    let e : 2 ^ suc (length xs) ≡ 2 * 2 ^ length xs = pow-succ' 2 (length xs) in
-    omega (arith, number_of-lt xs, value_of-le x, e)
-
 same_value : (x y : Bool) → value_of x ≡ value_of y → x ≡ y
 same_value true true e = refl
 same_value true false e = absurd (omega arith)

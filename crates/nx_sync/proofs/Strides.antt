@@ -1,7 +1,8 @@
 -- 21 elements heard at once: what is held after them, and that none of them ends a pattern where the seven elements before
 -- them do not stand in one.
-use Rattle.std.proofs.Common.{◌≡◌, ℕ, zero, suc, ◌+◌, ◌-◌, ◌*◌, ◌/◌, ◌%◌, ◌^◌, ◌<◌, ◌≤◌, ◌==◌, min, List, [], ◌∷◌, ◌++◌, length, take, drop, get_or, Bool, true, false, refl, sym, ap, ◌∙◌, inl, inr, arith, append_assoc, append-nil, length-append, length-drop, length-take, drop-drop}
+use Rattle.std.proofs.Common.{◌≡◌, ℕ, zero, suc, ◌+◌, ◌-◌, ◌*◌, ◌/◌, ◌%◌, ◌^◌, ◌<◌, ◌≤◌, ◌==◌, min, List, [], ◌∷◌, ◌++◌, length, take, drop, get_or, Bool, true, false, refl, sym, ap, subst, ◌∙◌, inl, inr, arith, append_assoc, append-nil, length-append, length-drop, length-take, drop-drop}
 use Rattle.std.proofs.Math.Nat.{pow-succ'}
+use Rattle.std.proofs.Math.Seq.{drop-cons}
 use Rattle.std.proofs.lemmas.Bool.{cases_eq, cases_Bool, both_ways, agree_below_at, ne_eqb}
 use Rattle.std.proofs.lemmas.List.{drop-append-le, take_at, take_all, drop_all}
 use Rattle.nx_code.specs.Word.{number_of, value_of, elements_from}
@@ -32,6 +33,16 @@ number_of-elements_from zero x h = omega arith
 number_of-elements_from (suc n) x h =
     let e : 2 ^ suc n ≡ 2 * 2 ^ n = pow-succ' 2 n in
     omega (arith, e, number_of-elements_from n (x / 2) (omega (arith, e)), value_of-odd x)
+
+-- one more element at the front of those that count already
+pub number_of-front : (bits : List Bool) (place : ℕ) → 0 < place → place ≤ length bits
+    → number_of (drop (place - 1) bits) ≡ value_of (get_or bits (place - 1) false) + 2 * number_of (drop place bits)
+unfolding number_of
+number_of-front bits place h k =
+    let lt : place - 1 < length bits = omega arith in
+    let e : suc (place - 1) ≡ place = omega arith in
+    let P : ℕ → Type 0 = λ q. number_of (drop (place - 1) bits) ≡ value_of (get_or bits (place - 1) false) + 2 * number_of (drop q bits) in
+    subst P e (ap number_of (drop-cons bits (place - 1) false lt))
 
 -- the bound doubles with each element
 pub twice-lt : (number bit place : ℕ) → 0 < place → place ≤ 21 → bit ≤ 1 → number < 2 ^ (21 - place) → 2 * number + bit < 2 ^ (21 - (place - 1))

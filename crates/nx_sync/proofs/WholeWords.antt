@@ -86,7 +86,7 @@ same_word held recent recent' seen seen' track filled others x r e d c = record 
   over = c.over;
 }
 
-module _ (old : Held) (before bits : List Bool) (track : Track) (a : StandsAfter old before) (is : old.track ≡ Some track) (limit : track.filled ≡ 0) (seven : length bits ≡ 7) where
+module _ (old : Held) (before bits : List Bool) (track : Track) (a : StandsAfter old before) (is : old.track ≡ Some track) (full : old.seen ≡ 28) (limit : track.filled ≡ 0) (seven : length bits ≡ 7) where
   six : List Bool
   six = take 6 bits
 
@@ -115,17 +115,17 @@ module _ (old : Held) (before bits : List Bool) (track : Track) (a : StandsAfter
       ∙ (ap (λ ys. number_of (keep_last 28 (replicate 28 false ++ ys))) (sym all-heard)
       ∙ sym (recent_heard (filled_on old track (take 6 bits)) (before ++ take 6 bits) (get_or bits 6 false) inside_word.stands)))))
 
-  last_push : (x : Held) (r : Step) → Completes (record old { recent = next_word_window old.recent (number_of bits); seen = min (old.seen + 7) 28 }) track x r → IsGood x (before ++ bits) r
+  last_push : (x : Held) (r : Step) → Completes (record old { recent = next_word_window old.recent (number_of bits) }) track x r → IsGood x (before ++ bits) r
   last_push x r c =
       let mid : Held = filled_on old track (take 6 bits) in
       let further : Track = record track { filled = track.filled + length (take 6 bits) } in
-      let whole : Completes (heard mid (get_or bits 6 false)) further x r = same_word old (next_word_window old.recent (number_of bits)) (heard mid (get_or bits 6 false)).recent (min (old.seen + 7) 28) (heard mid (get_or bits 6 false)).seen track (track.filled + length (take 6 bits)) (Some further) x r same_recent (omega (arith, length-six)) c in
+      let whole : Completes (heard mid (get_or bits 6 false)) further x r = same_word old (next_word_window old.recent (number_of bits)) (heard mid (get_or bits 6 false)).recent old.seen (heard mid (get_or bits 6 false)).seen track (track.filled + length (take 6 bits)) (Some further) x r same_recent (omega (arith, full, length-six)) c in
       subst (λ xs. IsGood x xs r) all-heard (push_locked mid (before ++ take 6 bits) (get_or bits 6 false) inside_word.stands x r further refl (omega (arith, length-six)) (λ h. absurd (omega (arith, length-six))) (λ h. whole))
 
-  pub word_stands : (x : Held) (r : Step) → Completes (record old { recent = next_word_window old.recent (number_of bits); seen = min (old.seen + 7) 28 }) track x r → StandsAfter x (before ++ bits)
+  pub word_stands : (x : Held) (r : Step) → Completes (record old { recent = next_word_window old.recent (number_of bits) }) track x r → StandsAfter x (before ++ bits)
   word_stands x r c = (last_push x r c).stands
 
-  pub word_step : (x : Held) (r : Step) → Completes (record old { recent = next_word_window old.recent (number_of bits); seen = min (old.seen + 7) 28 }) track x r → IsWordStep before bits r
+  pub word_step : (x : Held) (r : Step) → Completes (record old { recent = next_word_window old.recent (number_of bits) }) track x r → IsWordStep before bits r
   word_step x r c = record {
     inside = λ k h. subst (λ xs. IsStep (before ++ xs) (step None None)) (take-take (k + 1) 6 bits (omega arith)) (inside_word.quiet k (omega (arith, length-six)));
     last = (last_push x r c).step;

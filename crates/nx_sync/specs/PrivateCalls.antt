@@ -10,6 +10,7 @@ use Rattle.nx_sync.specs.declared.step.Role.{Role}
 use Rattle.nx_sync.specs.declared.step.Change.{Change}
 use Rattle.nx_sync.specs.declared.step.Change.TheVariants.{Locked, Ended, LostLock}
 use Rattle.nx_sync.specs.Words.{window_words, losing_count, other_role, is_dx, is_wrong}
+use Rattle.nx_sync.specs.Locks.{pattern_elements}
 use Rattle.nx_sync.specs.Windows.{role_after, window_after}
 use Rattle.nx_sync.specs.Steps.{step}
 use Rattle.nx_sync.specs.Synchroniser.{Held}
@@ -31,10 +32,13 @@ track_after track word = record {
 abbrev pub fills_releasing_word : Track → Bool
 fills_releasing_word track = not (is_dx track.role) && (track.was_p1 % 2 == 1) && (track.was_p1 / 4 % 2 == 1)
 
+-- which change a word brings, by the track before it and by whether it loses the lock
+abbrev pub change_by : Track → Bool → Option Change
+change_by track is_lost = if fills_releasing_word track then Some Ended else (if is_lost then Some LostLock else None)
+
 -- which change a word brings, by the track before it and the marks of the last words with its own
 abbrev pub change_of : Track → List Bool → Option Change
-change_of track wrong =
-    if fills_releasing_word track then Some Ended else (if nat_le losing_count (count_by (λ b. b) wrong) then Some LostLock else None)
+change_of track wrong = change_by track (nat_le losing_count (count_by (λ b. b) wrong))
 
 -- A lock begins: it is followed from a first word with this role, no mark is left, and the step says that a lock was
 -- found.
@@ -60,15 +64,15 @@ pub record Completes (old : Held) (track : Track) (new : Held) (s : Step) : Type
 
 -- what is held after these elements were heard, before any is looked at
 abbrev pub heard_all : Held → List Bool → Held
-heard_all held bits = record held { recent = window_after held.recent bits; seen = min (held.seen + length bits) 28 }
+heard_all held bits = record held { recent = window_after held.recent bits; seen = min (held.seen + length bits) pattern_elements }
 
 -- too few elements were heard for a pattern, or the last 28 are none
 abbrev pub IsQuiet : Held → Type 0
-IsQuiet held = (held.seen < 28) ⊎ (role_after held.recent ≡ None)
+IsQuiet held = (held.seen < pattern_elements) ⊎ (role_after held.recent ≡ None)
 
 -- the last 28 elements are a pattern
 pub record EndsPattern (held : Held) : Type 0 where
-  pub enough : 28 ≤ held.seen
+  pub enough : pattern_elements ≤ held.seen
   pub role : Role
   pub here : role_after held.recent ≡ Some role
 
@@ -83,5 +87,5 @@ pub record Skips (old : Held) (bits : List Bool) (n : ℕ) (new : Held) : Type 0
 pub record SkipsEarly (old : Held) (bits : List Bool) (n : ℕ) (new : Held) : Type 0 where
   pub within : n ≤ length bits
   pub held : new ≡ heard_all old (take n bits)
-  pub early : 0 < n → old.seen + n < 28
-  pub late : n < length bits → 27 ≤ old.seen + n
+  pub early : 0 < n → old.seen + n < pattern_elements
+  pub late : n < length bits → pattern_elements ≤ old.seen + n + 1

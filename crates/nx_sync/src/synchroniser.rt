@@ -2,15 +2,18 @@
 //! last words. Calls that run for each element or each word are inlined always, since their answers
 //! would go through memory otherwise.
 
-ghost use Rattle.std.specs.Prelude.{◌≡◌, ℕ, ◌+◌, ◌-◌, ◌/◌, ◌^◌, ◌<◌, ◌≤◌, ◌↔◌, List, Bool, [], ◌∷◌, ◌++◌, length, take, min, not, IsTrue, IfOk};
+ghost use Rattle.std.specs.Prelude.{◌≡◌, ℕ, ◌+◌, ◌-◌, ◌/◌, ◌^◌, ◌<◌, ◌≤◌, ◌↔◌, List, Bool, [], ◌∷◌, ◌++◌, length, take, min, nat_le, not, IsTrue, IfOk};
+ghost use Rattle.std.specs.List.{count_by};
 ghost use Rattle.circular_buffer.specs.Buffer.{keep_last};
 ghost use Rattle.nx_sync.specs.declared.step.Change.TheVariants.{Locked};
+ghost use Rattle.nx_sync.specs.Words.{window_words, losing_count};
+ghost use Rattle.nx_sync.specs.Locks.{pattern_elements};
 ghost use Rattle.nx_sync.specs.Steps.{step, LockStands, LimitStands, IsStep, HuntsThrough, IsWordStep};
 ghost use Rattle.nx_sync.specs.Windows as spec;
-ghost use Rattle.nx_sync.specs.PrivateCalls.{track_from, change_of, Begins, Fills, Completes, Skips, SkipsEarly};
+ghost use Rattle.nx_sync.specs.PrivateCalls.{track_from, Begins, Fills, Completes, Skips, SkipsEarly};
 ghost use Rattle.nx_sync.specs.Synchroniser.{StandsAfter, is_hunting, is_between_words};
 
-use crate::step::{Change, Role, Step};
+use crate::step::{Role, Step};
 use crate::track::Track;
 use crate::windows::{
     PATTERN, STRIDE, count_before_lock, last_word, may_lock, next_window, next_word_window,
@@ -48,16 +51,18 @@ impl Model for Synchroniser {
     ghost use Rattle.std.specs.Option.{ForSome};
     ghost use Rattle.std.proofs.Common.{sym, ap, ap₂};
     ghost use Rattle.circular_buffer.specs.Buffer.{buffer};
+    ghost use Rattle.nx_sync.specs.Words.{window_words};
+    ghost use Rattle.nx_sync.specs.Locks.{pattern_elements};
     ghost use Rattle.nx_sync.specs.Synchroniser.{Held};
 
     ghost Value = { Held };
 
     ghost view = { λ s. record { recent = s.recent; seen = s.seen; track = s.track; wrong = s.wrong.items } };
 
-    ghost invariant = { λ s. (s.recent < 2 ^ 28) × (s.seen ≤ 28) × (s.wrong.capacity ≡ 64) × (length s.wrong.items ≤ 64) × (s.wrong_count ≡ count_by (λ b. b) s.wrong.items) × ForSome s.track (λ t. t.filled < 7) };
+    ghost invariant = { λ s. (s.recent < 2 ^ pattern_elements) × (s.seen ≤ pattern_elements) × (s.wrong.capacity ≡ window_words) × (length s.wrong.items ≤ window_words) × (s.wrong_count ≡ count_by (λ b. b) s.wrong.items) × ForSome s.track (λ t. (t.filled < 7) × (s.seen ≡ pattern_elements)) };
 
     // Each field is given back by what contracts see, so that nothing else can be kept: no history.
-    ghost inverse = { λ h. record { recent = h.recent; seen = h.seen; track = h.track; wrong = buffer h.wrong 64; wrong_count = count_by (λ b. b) h.wrong } };
+    ghost inverse = { λ h. record { recent = h.recent; seen = h.seen; track = h.track; wrong = buffer h.wrong window_words; wrong_count = count_by (λ b. b) h.wrong } };
 
     ghost inverse_ok = { λ s h. ap₂ (λ n m. record s { wrong = buffer s.wrong.items n; wrong_count = m }) (sym h.2) (sym h.4) };
 }
@@ -128,8 +133,12 @@ impl Synchroniser {
         ensures step { (h : List Bool) → StandsAfter self.old h → IsWordStep h bits.now result }
         ensures limit { result.change ≡ None → IsTrue (is_between_words self.new) }
     {
-        self.hear_word(Word::from_elements(*bits));
-        self.complete(self.track.unwrap())
+        let word = Word::from_elements(*bits);
+        self.hear_word(word);
+        match self.track {
+            None => unreachable!(),
+            Some(track) => self.complete(track, word),
+        }
     }
 
     /// Hunts through these elements: hears those before the first one that locks, all of them where
@@ -148,28 +157,28 @@ impl Synchroniser {
     /// Takes one element into the last 28.
     #[inline(always)]
     fn hear(&mut self, bit: bool)
-        ensures { self.new ≡ record self.old { recent = spec.next_window self.old.recent bit; seen = min (self.old.seen + 1) 28 } }
+        ensures { self.new ≡ record self.old { recent = spec.next_window self.old.recent bit; seen = min (self.old.seen + 1) pattern_elements } }
     {
         self.recent = next_window(self.recent, bit);
         self.seen = (self.seen + 1).min(PATTERN);
     }
 
-    /// Takes a word into the last 28 elements.
+    /// Takes a word of a lock into the last 28 elements.
     #[inline(always)]
     fn hear_word(&mut self, word: Word)
-        ensures { self.new ≡ record self.old { recent = spec.next_word_window self.old.recent word; seen = min (self.old.seen + 7) 28 } }
+        ensures held { self.new ≡ record self.old { recent = spec.next_word_window self.old.recent word } }
+        ensures last { self.new.recent / 2 ^ 21 ≡ word }
     {
         self.recent = next_word_window(self.recent, word);
-        self.seen = (self.seen + 7).min(PATTERN);
     }
 
     /// Locks where the last 28 elements are one of the patterns.
     #[inline(always)]
     fn hunt_on(&mut self) -> Step
-        ensures early { self.old.seen < 28 → (self.new ≡ self.old) × (result ≡ step None None) }
+        ensures early { self.old.seen < pattern_elements → (self.new ≡ self.old) × (result ≡ step None None) }
         ensures none { spec.role_after self.old.recent ≡ None → (self.new ≡ self.old)
             × (result ≡ step None None) }
-        ensures found { (role : Role) → 28 ≤ self.old.seen
+        ensures found { (role : Role) → pattern_elements ≤ self.old.seen
             → spec.role_after self.old.recent ≡ Some role
             → Begins self.old role self.new result }
     {
@@ -187,6 +196,7 @@ impl Synchroniser {
 
     /// Begins to follow a lock whose first word has this role.
     fn begin(&mut self, role: Role)
+        requires { self.old.seen ≡ pattern_elements }
         ensures { self.new ≡ record self.old { track = Some (track_from role); wrong = [] } }
     {
         self.wrong.clear();
@@ -197,7 +207,8 @@ impl Synchroniser {
     /// Adds the element that was heard last to the word that the track fills.
     #[inline(always)]
     fn follow(&mut self, track: Track) -> Step
-        requires { track.filled < 7 }
+        requires filled { track.filled < 7 }
+        requires seen { self.old.seen ≡ pattern_elements }
         ensures inside { track.filled + 1 < 7 → Fills self.old track self.new result }
         ensures whole { track.filled ≡ 6 → Completes self.old track self.new result }
     {
@@ -206,53 +217,56 @@ impl Synchroniser {
             self.track = Some(Track { filled, ..track });
             return Step::NOTHING;
         }
-        self.complete(track)
+        self.complete(track, last_word(self.recent))
     }
 
     /// Takes the last seven elements as a word of the lock, and gives the lock up where the word
     /// brings a change.
     #[inline(always)]
-    fn complete(&mut self, track: Track) -> Step
+    fn complete(&mut self, track: Track, word: Word) -> Step
+        requires word { word ≡ self.old.recent / 2 ^ 21 }
+        requires seen { self.old.seen ≡ pattern_elements }
         ensures { Completes self.old track self.new result }
     {
-        let word = last_word(self.recent);
-        self.mark(!check_bits(word));
-        let change = self.change_after(track);
-        self.track = match change {
-            None => Some(track.after(word)),
-            Some(_) => None,
-        };
+        let is_lost = self.mark(!check_bits(word));
+        let change = track.change(is_lost);
+        match change {
+            None => self.track = Some(track.after(word)),
+            Some(_) => self.track = None,
+        }
         Step {
             word: Some((word, track.role)),
             change,
         }
     }
 
-    /// Adds the mark of a word, whether it is wrong, to those of the last 64.
+    /// Adds the mark of a word, whether it is wrong, to those of the last 64, and says whether 40
+    /// of these are wrong now. They stay as they are where there are 64 and neither the word nor
+    /// any of them is wrong.
     #[inline(always)]
-    fn mark(&mut self, is_wrong: bool)
-        ensures { self.new ≡ record self.old { wrong = keep_last 64 (self.old.wrong ++ is_wrong ∷ []) } }
+    fn mark(&mut self, is_wrong: bool) -> bool
+        ensures marks { self.new ≡ record self.old { wrong = keep_last window_words (self.old.wrong ++ is_wrong ∷ []) } }
+        ensures lost { result ≡ nat_le losing_count (count_by (λ b. b) self.new.wrong) }
+    {
+        if !is_wrong && self.wrong_count == 0 && self.wrong.len() == WINDOW {
+            return false;
+        }
+        self.push_mark(is_wrong)
+    }
+
+    /// Moves the marks on by one, where the new one comes in and of 64 the oldest goes, and says
+    /// whether 40 of them are wrong now.
+    #[inline(always)]
+    fn push_mark(&mut self, is_wrong: bool) -> bool
+        ensures marks { self.new ≡ record self.old { wrong = keep_last window_words (self.old.wrong ++ is_wrong ∷ []) } }
+        ensures lost { result ≡ nat_le losing_count (count_by (λ b. b) self.new.wrong) }
     {
         let gone = self.wrong.push_back(is_wrong);
         self.wrong_count += u32::from(is_wrong);
         if gone == Some(true) {
             self.wrong_count -= 1;
         }
-    }
-
-    /// Which change a word brings, by the track before it and the marks of the last words with its
-    /// own.
-    #[inline(always)]
-    fn change_after(&self, track: Track) -> Option<Change>
-        ensures { result ≡ change_of track self.now.wrong }
-    {
-        if track.fills_releasing_word() {
-            Some(Change::Ended)
-        } else if self.wrong_count >= LOST {
-            Some(Change::LostLock)
-        } else {
-            None
-        }
+        self.wrong_count >= LOST
     }
 
     /// Hears elements as long as none ends a pattern, and says how many.
@@ -287,7 +301,7 @@ impl Synchroniser {
     /// Hears at most 21 elements as long as none ends a pattern, and says how many.
     #[inline(always)]
     fn skip_part(&mut self, part: &[bool]) -> usize
-        requires seen { 27 ≤ self.old.seen }
+        requires seen { pattern_elements ≤ self.old.seen + 1 }
         requires few { length part.now ≤ 21 }
         ensures { Skips self.old part.now result self.new }
     {
@@ -301,7 +315,7 @@ impl Synchroniser {
 
     /// The same, by the windows after each element.
     fn skip_block(&mut self, block: &[bool]) -> usize
-        requires seen { 27 ≤ self.old.seen }
+        requires seen { pattern_elements ≤ self.old.seen + 1 }
         requires few { length block.now ≤ 21 }
         ensures { Skips self.old block.now result self.new }
     {

@@ -1,9 +1,9 @@
 //! How a lock is followed. What runs for each word is inlined always.
 
 ghost use Rattle.std.specs.Prelude.{◌≡◌, ◌<◌};
-ghost use Rattle.nx_sync.specs.PrivateCalls.{track_from, track_after, fills_releasing_word};
+ghost use Rattle.nx_sync.specs.PrivateCalls.{track_from, track_after, fills_releasing_word, change_by};
 
-use crate::step::Role;
+use crate::step::{Change, Role};
 use nx_code::Word;
 
 /// The number of phasing signal 1, which is idle signal alpha (M.476, M.625).
@@ -53,5 +53,21 @@ impl Track {
         ensures { result ≡ fills_releasing_word self }
     {
         self.role == Role::Rx && self.was_p1 % 2 == 1 && self.was_p1 / 4 % 2 == 1
+    }
+    /// Which change the word that is being filled brings, by whether it loses the lock. Asked first
+    /// whether there is one, since mostly there is none.
+    #[inline(always)]
+    pub(crate) fn change(self, is_lost: bool) -> Option<Change>
+        ensures { result ≡ change_by self is_lost }
+    {
+        let is_end = self.fills_releasing_word();
+        if !is_end && !is_lost {
+            return None;
+        }
+        Some(if is_end {
+            Change::Ended
+        } else {
+            Change::LostLock
+        })
     }
 }

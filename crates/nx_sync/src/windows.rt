@@ -3,6 +3,7 @@
 
 ghost use Rattle.std.specs.Prelude.{◌≡◌, ℕ, ◌+◌, ◌/◌, ◌^◌, ◌<◌, ◌≤◌, length, take, slice_index, IfSome, IsTrue, false};
 ghost use Rattle.nx_code.specs.Word.{word_from};
+ghost use Rattle.nx_sync.specs.Locks.{pattern_elements};
 ghost use Rattle.nx_sync.specs.Windows as spec;
 ghost use Rattle.nx_sync.specs.Windows.{IsFirstLock, IsBeforeLock, HasNoLock};
 
@@ -33,9 +34,9 @@ static IN_PHASING: [u32; 4] = [0x8100_8080, 0x8001_0000, 0x0000_1008, 0x5208_004
 /// The window after one more element: the oldest one goes, and each other one moves a place down.
 #[inline(always)]
 pub(crate) fn next_window(window: u32, bit: bool) -> u32
-    requires { window < 2 ^ 28 }
+    requires { window < 2 ^ pattern_elements }
     ensures value { result ≡ spec.next_window window bit }
-    ensures within { result < 2 ^ 28 }
+    ensures within { result < 2 ^ pattern_elements }
 {
     (window >> 1) + (u32::from(bit) << (PATTERN - 1))
 }
@@ -43,9 +44,9 @@ pub(crate) fn next_window(window: u32, bit: bool) -> u32
 /// The window after one more word.
 #[inline(always)]
 pub(crate) fn next_word_window(window: u32, word: Word) -> u32
-    requires { window < 2 ^ 28 }
+    requires { window < 2 ^ pattern_elements }
     ensures value { result ≡ spec.next_word_window window word }
-    ensures within { result < 2 ^ 28 }
+    ensures within { result < 2 ^ pattern_elements }
 {
     (window >> 7) + (u32::from(word.number()) << 21)
 }
@@ -53,7 +54,7 @@ pub(crate) fn next_word_window(window: u32, word: Word) -> u32
 /// The word of the last seven elements.
 #[inline(always)]
 pub(crate) fn last_word(window: u32) -> Word
-    requires { window < 2 ^ 28 }
+    requires { window < 2 ^ pattern_elements }
     ensures { result ≡ window / 2 ^ 21 }
 {
     Word::new((window >> 21) as u8).unwrap()
@@ -84,7 +85,7 @@ pub(crate) fn role_after(window: u32) -> Option<Role>
 /// Whether the last seven elements can stand in a pattern.
 #[inline(always)]
 pub(crate) fn may_lock(window: u32) -> bool
-    requires { window < 2 ^ 28 }
+    requires { window < 2 ^ pattern_elements }
     ensures { result ≡ spec.is_in_phasing (window / 2 ^ 21) }
 {
     let word = window >> 21;
@@ -94,10 +95,10 @@ pub(crate) fn may_lock(window: u32) -> bool
 /// The window after 21 elements.
 #[inline(always)]
 pub(crate) fn stride_window(window: u32, bits: &[bool]) -> u32
-    requires window { window < 2 ^ 28 }
+    requires window { window < 2 ^ pattern_elements }
     requires stride { length bits.now ≡ 21 }
     ensures value { result ≡ spec.window_after window bits.now }
-    ensures within { result < 2 ^ 28 }
+    ensures within { result < 2 ^ pattern_elements }
 {
     let mut number = 0;
     for place in (0..STRIDE).rev() {
@@ -108,11 +109,11 @@ pub(crate) fn stride_window(window: u32, bits: &[bool]) -> u32
 
 /// The windows after each of these elements, at most 21 of them.
 pub(crate) fn windows_after(window: u32, bits: &[bool]) -> [u32; STRIDE]
-    requires window { window < 2 ^ 28 }
+    requires window { window < 2 ^ pattern_elements }
     requires few { length bits.now ≤ 21 }
     ensures values { (k : ℕ) → k < length bits.now
         → slice_index result k ≡ spec.window_after window (take (k + 1) bits.now) }
-    ensures within { (k : ℕ) → k < length bits.now → slice_index result k < 2 ^ 28 }
+    ensures within { (k : ℕ) → k < length bits.now → slice_index result k < 2 ^ pattern_elements }
 {
     let mut windows = [0; STRIDE];
     let mut last = window;

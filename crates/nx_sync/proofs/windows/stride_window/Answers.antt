@@ -1,7 +1,7 @@
 use Rattle.std.proofs.Common.{◌≡◌, ◌≤◌, ◌-◌, ◌^◌, List, Bool, false, get_or, drop, ap, subst, ◌<◌, ◌∙◌, arith}
 use Rattle.nx_code.specs.Word.{number_of}
-use Rattle.nx_code.proofs.WordLemmas.{number_of-drop, value_of-bool_byte, value_of-le}
-use Rattle.nx_sync.proofs.Strides.{twice-lt, number_of-none, window_after-stride}
+use Rattle.nx_code.proofs.WordLemmas.{value_of-bool_byte, value_of-le}
+use Rattle.nx_sync.proofs.Strides.{number_of-front, twice-lt, number_of-none, window_after-stride}
 use Rattle.nx_sync.proofs.windows.stride_window.Goals as goal
 
 pub loop-place-preserved : goal.loop-place-preserved
@@ -9,7 +9,7 @@ loop-place-preserved c =
     let bits : List Bool = c.args.bits.now in
     let place = c.loop-place.place in
     let bit = get_or bits (place - 1) false in
-    let d = number_of-drop bits place (omega arith) (omega (arith, c.requires.stride)) in
+    let d = number_of-front bits place (omega arith) (omega (arith, c.requires.stride)) in
     let v = value_of-bool_byte bit in
     let w = value_of-le bit in
     let s : c.from.result ≤ 1 = omega (arith, c.from.ensures, v, w) in

@@ -1,8 +1,8 @@
 use Rattle.std.proofs.Common.{◌≡◌, ◌<◌, ◌^◌, ◌-◌, drop}
-use Rattle.nx_code.specs.Word.{number_of}
+use Rattle.nx_code.proofs.WordLemmas.{spread_of}
 use Rattle.nx_code.proofs.words.Word.from_elements.Given as goal
 
--- the number so far is that of the elements from here on
+-- the elements from here on stand in the bytes so far
 abbrev pub invariant-loop-place : goal.invariant-loop-place
 invariant-loop-place l =
-    (l.number ≡ number_of (drop l.place l.bits)) × (l.number < 2 ^ (7 - l.place))
+    (l.spread ≡ spread_of (drop l.place l.bits)) × (l.spread < 256 ^ (7 - l.place))

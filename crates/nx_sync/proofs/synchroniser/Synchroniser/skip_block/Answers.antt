@@ -1,4 +1,4 @@
-use Rattle.std.proofs.Common.{◌≡◌, ℕ, ◌+◌, ◌-◌, ◌≤◌, List, Bool, length, take, get_or, sym, ap, subst, ◌∙◌, arith}
+use Rattle.std.proofs.Common.{◌≡◌, ℕ, ◌+◌, ◌-◌, ◌≤◌, List, Bool, length, take, get_or, refl, sym, ap, subst, ◌∙◌, arith}
 use Rattle.nx_sync.specs.Windows.{window_after}
 use Rattle.nx_sync.specs.Synchroniser.{Held}
 use Rattle.nx_sync.specs.PrivateCalls.{heard_all, Skips}
@@ -11,7 +11,7 @@ invariant_of-self c =
     let i = c.self.invariant in
     let n = counted_by c.windows_after-windows.result (length c.args.block.now) c.count_before_lock-count.result (omega arith) c.count_before_lock-count.ensures in
     let within = n.within in
-    (c.windows_after-windows.ensures.within (c.count_before_lock-count.result - 1) (omega arith), omega arith, i.2, i.3, i.4, i.5)
+    (c.windows_after-windows.ensures.within (c.count_before_lock-count.result - 1) (omega arith), omega arith, i.2, i.3, i.4, λ track is. ((i.5 track is).0, refl))
 
 pub returns-then-count-gt0 : goal.returns-then-count-gt0
 returns-then-count-gt0 c =
@@ -38,6 +38,7 @@ returns-else-count-gt0 c =
     let z : 0 ≡ count = omega arith in
     let seen : old.seen ≤ 28 = omega (arith, c.self.invariant.1, ap (λ h. h.seen) c.self.view_is) in
     let recent = ap (λ h. h.recent) c.self.view_is in
-    skips_by_windows old block windows count old c.requires.seen
+    let late : 27 ≤ old.seen = omega (arith, c.requires.seen) in
+    skips_by_windows old block windows count old late
     (λ k h. c.windows_after-windows.ensures.values k h ∙ ap (λ w. window_after w (take (k + 1) block)) recent) n
     (sym (heard_all-none old seen) ∙ ap (λ i. heard_all old (take i block)) z)
