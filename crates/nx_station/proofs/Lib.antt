@@ -7,4 +7,9 @@ pub mod StationLemmas
 pub mod ReadingBack
 pub mod FileReading
 pub mod SendingLaws
+pub mod PairLemmas
+pub mod PrintedText
+pub mod EmissionReading
+pub mod EmissionFaults
+pub mod CheckingLaws
 mod Examples

@@ -32,7 +32,7 @@ pub heading-one_line : (subject number : ℕ) → IsNamed subject number → IsO
 heading-one_line subject number h =
     ((λ e. absurd (omega (arith, e))), ((λ e. absurd (omega (arith, e, h.letter.0))), ((λ e. absurd (omega (arith, e))), ((λ e. absurd (omega (arith, e))), tt))))
 
-digits-same : (m n : ℕ) → m ≤ 99 → n ≤ 99 → two_digits m ≡ two_digits n → m ≡ n
+pub digits-same : (m n : ℕ) → m ≤ 99 → n ≤ 99 → two_digits m ≡ two_digits n → m ≡ n
 digits-same m n h k e =
     let tens : 48 + m / 10 ≡ 48 + n / 10 = cc in
     let units : 48 + m % 10 ≡ 48 + n % 10 = cc in
@@ -46,7 +46,7 @@ heading-same s m t n h k e =
 
 -- ---- lines of text
 
-text-cons : (line : List ℕ) (lines : List (List ℕ)) (rest : List ℕ) → text_of (line ∷ lines) ++ rest ≡ line ++ (10 ∷ (text_of lines ++ rest))
+pub text-cons : (line : List ℕ) (lines : List (List ℕ)) (rest : List ℕ) → text_of (line ∷ lines) ++ rest ≡ line ++ (10 ∷ (text_of lines ++ rest))
 text-cons line lines rest = append_assoc (line ++ (10 ∷ [])) (text_of lines) rest ∙ append_assoc line (10 ∷ []) (text_of lines ++ rest)
 
 closing-one_line : IsOneLine closing
@@ -98,7 +98,7 @@ closing-not_in_code : is_in_code 59 ≡ false
 unfolding is_in_code characters
 closing-not_in_code = refl
 
-line_bytes : (line : List ℕ) → AllByRecursion IsLineByte line → IsOneLine line
+pub line_bytes : (line : List ℕ) → AllByRecursion IsLineByte line → IsOneLine line
 line_bytes [] h = tt
 line_bytes (b ∷ line) h = (h.0.1, line_bytes line h.1)
 

@@ -128,14 +128,14 @@ sent-all d station from text items air sent reads none is wrote = record {
 
 -- ---- the refusals of an emission
 
-of_one-None : (station : ℕ) (messages : List MessageView) (at : ℕ) → AreOf station messages → first_of_another messages ≡ Some at → ⊥
+pub of_one-None : (station : ℕ) (messages : List MessageView) (at : ℕ) → AreOf station messages → first_of_another messages ≡ Some at → ⊥
 of_one-None station [] at h e = cc
 of_one-None station (m ∷ ms) at h e =
     let there = position-Some (λ (other : MessageView). not (other.identity.b1.byte == m.identity.b1.byte)) (m ∷ ms) at m e in
     let here : (get_or (m ∷ ms) at m).identity.b1.byte ≡ station = All-from_recursion (λ (message : MessageView). message.identity.b1.byte ≡ station) (m ∷ ms) h.each at m there.0 in
     false≢true (sym (not-true _ there.1) ∙ eq-eqb _ _ (here ∙ sym h.each.0))
 
-same-station : (one other : ℕ) (messages : List MessageView) → AreOf one messages → AreOf other messages → one ≡ other
+pub same-station : (one other : ℕ) (messages : List MessageView) → AreOf one messages → AreOf other messages → one ≡ other
 same-station one other [] h k = absurd (h.some refl)
 same-station one other (m ∷ ms) h k = sym h.each.0 ∙ k.each.0
 

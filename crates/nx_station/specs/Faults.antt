@@ -4,6 +4,8 @@ use Rattle.nx_envelope.specs.declared.message.MessageFault.{MessageFault}
 use Rattle.nx_envelope.specs.declared.message.MessageFault.TheVariants as message
 use Rattle.nx_fec.specs.declared.fault.ReadFault.{ReadFault}
 use Rattle.nx_fec.specs.declared.fault.ReadFault.TheVariants as read
+use Rattle.nx_station.specs.declared.fault.EmissionFault.{EmissionFault}
+use Rattle.nx_station.specs.declared.fault.EmissionFault.TheVariants as reading
 use Rattle.nx_station.specs.declared.fault.SendFault.{SendFault}
 use Rattle.nx_station.specs.declared.fault.SendFault.TheVariants as refusal
 use Rattle.nx_station.specs.declared.fault.SendRunFault.{SendRunFault}
@@ -24,3 +26,13 @@ send_fault refused = Send refused
 abbrev pub text_fault : ℕ → MessageFault → SendRunFault
 text_fault line (message.Memory error) = Memory error
 text_fault line fault = Text line fault
+
+-- for messages that were read, and make no emission
+abbrev pub unread_fault : SendFault → EmissionFault
+unread_fault (refusal.Memory error) = reading.Memory error
+unread_fault _ = reading.BadEnvelope
+
+-- for lines that were read, and make no message
+abbrev pub unmade_fault : MessageFault → EmissionFault
+unmade_fault (message.Memory error) = reading.Memory error
+unmade_fault _ = reading.BadEnvelope

@@ -4,3 +4,5 @@ pub mod Sendable
 pub mod MessageFile
 pub mod Faults
 pub mod Runs
+pub mod StrictReading
+pub mod Checking

@@ -197,7 +197,7 @@ fn spelled_text(alloc: Global, message: &Message) -> Result<Vec<Comb>, AllocErro
 }
 
 /// The text of a message: its lines, each followed by a newline.
-fn text_bytes(alloc: Global, message: &Message) -> Result<Vec<u8>, AllocError>
+pub(crate) fn text_bytes(alloc: Global, message: &Message) -> Result<Vec<u8>, AllocError>
     ensures text { IfOk result (λ text. text.items ≡ text_of message.now.lines) }
     ensures sound { AreLines message.now.lines }
 {

@@ -1,6 +1,6 @@
 //! Why messages are not sent.
 use nx_envelope::MessageFault;
-use nx_fec::{ReadFault, WriteFault};
+use nx_fec::{ReadFault, RunFault, WriteFault};
 use std::alloc::AllocError;
 use thiserror::Error;
 
@@ -56,6 +56,78 @@ pub enum SendRunFault {
     Memory(AllocError),
 }
 
+/// Why elements are not read as the emission of messages. Slots and positions count from 0.
+#[derive(Debug, PartialEq, Eq, Drop, Error)]
+pub enum EmissionFault {
+    /// The elements are no whole words.
+    #[error("{bits} elements are no whole words")]
+    Ragged { bits: u64 },
+    /// The word of this slot is the first of the wrong weight.
+    #[error("word {slot} has the wrong weight")]
+    WrongWord { slot: u64 },
+    /// This position is the first whose two words are there and are no pair.
+    #[error("position {position} is unpaired")]
+    Unpaired { position: u64 },
+    /// The words are those of no emission of this profile.
+    #[error("not an emission of this profile")]
+    BadEnvelope,
+    /// Memory ran out.
+    #[error("out of memory")]
+    Memory(AllocError),
+}
+
+/// Why an air file was not checked.
+#[derive(Debug, PartialEq, Eq, Drop, Error)]
+pub enum CheckFault {
+    /// The file was not read, or the answer was not written.
+    #[error("{0}")]
+    Run(RunFault),
+    /// The elements of the file are not the emission of messages.
+    #[error("{0}")]
+    Emission(EmissionFault),
+}
+
+impl From<AllocError> for EmissionFault {
+    ghost use Rattle.std.specs.Prelude.{◌≡◌};
+    ghost use Rattle.nx_station.specs.declared.fault.EmissionFault.TheVariants.{Memory};
+
+    ghost from_gives = { λ error made. made ≡ Memory error };
+
+    fn from(error: AllocError) -> EmissionFault {
+        EmissionFault::Memory(error)
+    }
+}
+
+/// Messages that make no emission have no elements; the elements that were read aren't theirs.
+impl From<SendFault> for EmissionFault {
+    ghost use Rattle.std.specs.Prelude.{◌≡◌};
+    ghost use Rattle.nx_station.specs.Faults.{unread_fault};
+
+    ghost from_gives = { λ fault made. made ≡ unread_fault fault };
+
+    fn from(fault: SendFault) -> EmissionFault {
+        match fault {
+            SendFault::Memory(error) => EmissionFault::Memory(error),
+            _ => EmissionFault::BadEnvelope,
+        }
+    }
+}
+
+/// Lines that make no message stand in no emission.
+impl From<MessageFault> for EmissionFault {
+    ghost use Rattle.std.specs.Prelude.{◌≡◌};
+    ghost use Rattle.nx_station.specs.Faults.{unmade_fault};
+
+    ghost from_gives = { λ fault made. made ≡ unmade_fault fault };
+
+    fn from(fault: MessageFault) -> EmissionFault {
+        match fault {
+            MessageFault::Memory(error) => EmissionFault::Memory(error),
+            _ => EmissionFault::BadEnvelope,
+        }
+    }
+}
+
 impl From<AllocError> for SendRunFault {
     ghost use Rattle.std.specs.Prelude.{◌≡◌};
     ghost use Rattle.nx_station.specs.declared.fault.SendRunFault.TheVariants.{Memory};
@@ -106,5 +178,53 @@ impl From<WriteFault> for SendRunFault {
         SendRunFault::Write {
             written: fault.written,
         }
+    }
+}
+
+impl From<RunFault> for CheckFault {
+    ghost use Rattle.std.specs.Prelude.{◌≡◌};
+    ghost use Rattle.nx_station.specs.declared.fault.CheckFault.TheVariants.{Run};
+
+    ghost from_gives = { λ fault made. made ≡ Run fault };
+
+    fn from(fault: RunFault) -> CheckFault {
+        CheckFault::Run(fault)
+    }
+}
+
+impl From<EmissionFault> for CheckFault {
+    ghost use Rattle.std.specs.Prelude.{◌≡◌};
+    ghost use Rattle.nx_station.specs.declared.fault.CheckFault.TheVariants.{Emission};
+
+    ghost from_gives = { λ fault made. made ≡ Emission fault };
+
+    fn from(fault: EmissionFault) -> CheckFault {
+        CheckFault::Emission(fault)
+    }
+}
+
+impl From<AllocError> for CheckFault {
+    ghost use Rattle.std.specs.Prelude.{◌≡◌};
+    ghost use Rattle.nx_fec.specs.declared.fault.RunFault.TheVariants as run;
+    ghost use Rattle.nx_station.specs.declared.fault.CheckFault.TheVariants.{Run};
+
+    ghost from_gives = { λ error made. made ≡ Run (run.Memory error) };
+
+    fn from(error: AllocError) -> CheckFault {
+        CheckFault::Run(RunFault::Memory(error))
+    }
+}
+
+impl From<WriteFault> for CheckFault {
+    ghost use Rattle.std.specs.Prelude.{◌≡◌};
+    ghost use Rattle.nx_fec.specs.declared.fault.RunFault.TheVariants as run;
+    ghost use Rattle.nx_station.specs.declared.fault.CheckFault.TheVariants.{Run};
+
+    ghost from_gives = { λ fault made. made ≡ Run (run.Write fault.written) };
+
+    fn from(fault: WriteFault) -> CheckFault {
+        CheckFault::Run(RunFault::Write {
+            written: fault.written,
+        })
     }
 }

@@ -1,5 +1,5 @@
 //! Laws of the definitions, each the contract of a function that does nothing.
-ghost use Rattle.std.specs.Prelude.{◌≡◌, ℕ, List, map};
+ghost use Rattle.std.specs.Prelude.{◌≡◌, ◌≤◌, ◌++◌, ◌⊎◌, ℕ, Bool, List, length, map};
 ghost use Rattle.std.specs.List.{AllByRecursion, flat_map};
 ghost use Rattle.nx_code.specs.Reading.{combination, shift_after_all, text};
 ghost use Rattle.nx_code.specs.declared.shifts.Shift.{Shift};
@@ -9,6 +9,11 @@ ghost use Rattle.nx_envelope.specs.MessageView.{MessageView};
 ghost use Rattle.nx_fec.specs.Emission.{SentPosition, reception};
 ghost use Rattle.nx_station.specs.Broadcast.{IsBroadcast, IsSpelled, printed_text};
 ghost use Rattle.nx_station.specs.MessageFile.{FileMessage, FileFault, IsMessageFile, HasFirstFault};
+ghost use Rattle.nx_station.specs.Checking.{IsChecked, station_line};
+ghost use Rattle.nx_station.specs.Runs.{IsTransmission};
+ghost use Rattle.nx_station.specs.declared.sending.Sent.{Sent};
+ghost use Rattle.nx_station.specs.StrictReading.{ExplainsEmission, IsEmissionOf, IsMemory};
+ghost use Rattle.nx_station.specs.declared.fault.EmissionFault.{EmissionFault};
 
 /// A message file has one spelling, and one list of messages.
 pub fn a_message_file_has_one_reading()
@@ -39,4 +44,26 @@ pub fn messages_have_one_broadcast()
         → (positions : List SentPosition) × IsBroadcast messages positions }
     ensures only { (messages : List MessageView) (one other : List SentPosition) → IsBroadcast messages one → IsBroadcast messages other
         → one ≡ other }
+{}
+
+/// Elements are the emission of one list of messages at most, so strict reading of an emission gives back what was sent;
+/// and they have one outcome: the messages, or one fault. Want of memory excludes nothing.
+pub fn an_emission_has_one_reading()
+    ensures list { (bits : List Bool) (one other : List MessageView) → IsEmissionOf one bits → IsEmissionOf other bits → one ≡ other }
+    ensures messages { (bits : List Bool) (messages : List MessageView) (why : EmissionFault) → IsEmissionOf messages bits
+        → ExplainsEmission bits why → IsMemory why }
+    ensures fault { (bits : List Bool) (one other : EmissionFault) → ExplainsEmission bits one → ExplainsEmission bits other
+        → IsMemory one ⊎ (IsMemory other ⊎ (one ≡ other)) }
+{}
+
+/// Checking gives back what was sent: an air file that sending wrote of a message file is checked, where it keeps to the
+/// limit, and the report is the line of the station and then the very bytes that were sent. An air file has one report.
+pub fn checking_gives_back_what_was_sent()
+    ensures checked { (limit station from : ℕ) (file air : List ℕ) (sent : Sent) → IsTransmission station from file air sent
+        → length air ≤ limit → IsChecked limit air (station_line station ++ file) sent.messages }
+    ensures only { (limit : ℕ) (air one other : List ℕ) (m n : ℕ) → IsChecked limit air one m → IsChecked limit air other n
+        → (one ≡ other) × (m ≡ n) }
+    ensures back { (limit station from : ℕ) (file air text : List ℕ) (sent : Sent) (count : ℕ)
+        → IsTransmission station from file air sent → IsChecked limit air text count
+        → (text ≡ station_line station ++ file) × (count ≡ sent.messages) }
 {}

@@ -2,15 +2,20 @@
 #![tactic(auto)]
 
 mod broadcast;
+mod checking;
 mod fault;
 mod heads;
 pub mod laws;
 mod message_file;
+mod printed;
+mod reading;
 mod sending;
 mod slots;
 
 pub use broadcast::{MAX_POSITIONS, emission};
-pub use fault::{SendFault, SendRunFault};
+pub use checking::check_run;
+pub use fault::{CheckFault, EmissionFault, SendFault, SendRunFault};
+pub use reading::read_emission;
 pub use sending::{Sent, send};
 pub use slots::next_slot;
 

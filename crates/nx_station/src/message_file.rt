@@ -98,7 +98,7 @@ fn text_fault(line: u64, fault: MessageFault) -> SendRunFault
 }
 
 /// The first line of some bytes, without its end, and what follows it; None where they have no end of a line.
-fn split_line(bytes: &[u8]) -> Option<(&[u8], &[u8])>
+pub(crate) fn split_line(bytes: &[u8]) -> Option<(&[u8], &[u8])>
     ensures one_line { IfSome result (λ parts. IsOneLine parts.0.now) }
     ensures whole { IfSome result (λ parts. bytes.now ≡ parts.0.now ++ 10 ∷ parts.1.now) }
     ensures none { IsNone result → IsOneLine bytes.now }

@@ -1,5 +1,7 @@
 //! Worked examples of slots, emissions and message files.
 
+mod checks;
+
 use super::*;
 use nx_envelope::{Identity, Letter, MAX_LINE, Message};
 use nx_fec::{Counting, read_bits, to_bits, word_at};
@@ -257,4 +259,6 @@ fn laws_can_be_called() {
     laws::a_file_has_one_outcome();
     laws::messages_read_back();
     laws::messages_have_one_broadcast();
+    laws::an_emission_has_one_reading();
+    laws::checking_gives_back_what_was_sent();
 }

@@ -1,0 +1,156 @@
+-- What checking answers follows from what its steps said; and it gives back what was sent.
+use Rattle.std.proofs.Common.{◌≡◌, ℕ, ◌<◌, ◌≤◌, ◌^◌, Bool, List, [], ◌∷◌, ◌++◌, length, map, get_or, Option, Result, Ok, Err, refl, sym, ap, ◌∙◌, subst, arith, length-append}
+use Rattle.std.specs.List.{flat_map, AllByRecursion}
+use Rattle.std.specs.Io.KnownBytes.{Appends}
+use Rattle.nx_envelope.specs.MessageView.{MessageView}
+use Rattle.nx_fec.specs.AirFile.{IsLine, moment}
+use Rattle.nx_fec.specs.BitLines.{bit_lines}
+use Rattle.nx_fec.specs.Devices.{WroteSome}
+use Rattle.nx_fec.specs.Emission.{bits_of, emission}
+use Rattle.nx_fec.specs.Lines.{IsBitFile, line_bytes}
+use Rattle.nx_fec.specs.Lines.{file_of as air_file_of}
+use Rattle.nx_fec.specs.Transfers.{Devices, IsReadOut, Reads}
+use Rattle.nx_fec.specs.declared.fault.RunFault.{RunFault}
+use Rattle.nx_fec.specs.declared.fault.RunFault.TheVariants as run
+use Rattle.nx_fec.proofs.EncodingLaws.{bit_lines-IsBitFile}
+use Rattle.nx_fec.proofs.LineLaws.{IsBitFile-unique}
+use Rattle.nx_fec.proofs.TransferLaws.{Reads-on}
+use Rattle.nx_station.specs.Checking.{Checks, IsChecked, report, station_line}
+use Rattle.nx_station.specs.Runs.{IsTransmission}
+use Rattle.nx_station.specs.Sendable.{AreOf}
+use Rattle.nx_station.specs.StrictReading.{ExplainsEmission, IsEmissionOf}
+use Rattle.nx_station.specs.declared.fault.CheckFault.{CheckFault}
+use Rattle.nx_station.specs.declared.fault.CheckFault.TheVariants.{Run, Emission}
+use Rattle.nx_station.specs.declared.fault.EmissionFault.{EmissionFault}
+use Rattle.nx_station.specs.declared.sending.Sent.{Sent}
+use Rattle.nx_station.proofs.EmissionReading.{emission-one}
+use Rattle.nx_station.proofs.SendingLaws.{same-station}
+
+-- an outcome of reading elements
+abbrev pub as_read : {N : Type 0} → Result N RunFault → Result N RunFault
+as_read outcome = outcome
+
+ok-read : {N : Type 0} (bits : N) → ◌≡◌ {A = Result N RunFault} (Ok bits) (Err run.Read) → ⊥
+ok-read bits e = cc
+
+ok-err : (count : ℕ) (fault : CheckFault) → ◌≡◌ {A = Result ℕ CheckFault} (Ok count) (Err fault) → ⊥
+ok-err count fault e = cc
+
+emission-run : (fault : EmissionFault) (other : RunFault) → ◌≡◌ {A = Result ℕ CheckFault} (Err (Emission fault)) (Err (Run other)) → ⊥
+emission-run fault other e = cc
+
+write-read : (written : ℕ) → ◌≡◌ {A = Result ℕ CheckFault} (Err (Run (run.Write written))) (Err (Run run.Read)) → ⊥
+write-read written e = cc
+
+-- the elements have a fault
+pub unread : {R W N : Type 0} (d : Devices R W) (bits : N) (items given : List Bool) (fault : EmissionFault)
+    → Reads d.remaining d.reader d.reader_after run.Read (as_read {N = N} (Ok bits)) (λ bytes. IsReadOut d × IsBitFile 1048576 bytes items) (λ bytes. IsBitFile 1048576 bytes items)
+    → d.writer_after ≡ d.writer → d.writer.failures ≡ 0 → given ≡ items → ExplainsEmission given fault → Checks d (Err (Emission fault))
+unread d bits items given fault reads same none is explains =
+    let h = subst (λ l. ExplainsEmission l fault) is explains in record {
+      reads = Reads-on _ _ _ _ _ _ _ _ _ _ _ reads (λ bytes k. (k.0, items, k.1, h)) (λ bytes k. (tt, items, k, h)) (λ e. absurd (emission-run fault run.Read e)) (λ e. absurd (ok-read bits e));
+      writes = record { failed = (λ w. absurd (emission-run fault (run.Write w.0) w.1), λ one. absurd (omega (arith, ap (λ x. x.failures) same, none, one))); once = omega (arith, ap (λ x. x.failures) same, none) };
+      unwritten = λ other. same;
+    }
+
+-- the messages of elements, and their report
+pub record AreReported (items : List Bool) (text : List ℕ) (count : ℕ) : Type 0 where
+  pub messages : List MessageView
+  pub emission : IsEmissionOf messages items
+  pub station : ℕ
+  pub of_station : AreOf station messages
+  pub whole : text ≡ report station messages
+  pub counted : count ≡ length messages
+
+checked-of : (air : List ℕ) (items : List Bool) (text : List ℕ) (count : ℕ) → IsBitFile 1048576 air items → AreReported items text count → IsChecked 1048576 air text count
+checked-of air items text count file h = record {
+  bits = items;
+  file = file;
+  messages = h.messages;
+  emission = h.emission;
+  station = h.station;
+  of_station = h.of_station;
+  whole = h.whole;
+  counted = h.counted;
+}
+
+-- the report is written in part
+pub unwritten : {R W N : Type 0} (d : Devices R W) (bits : N) (items : List Bool) (text : List ℕ) (count written : ℕ)
+    → Reads d.remaining d.reader d.reader_after run.Read (as_read {N = N} (Ok bits)) (λ bytes. IsReadOut d × IsBitFile 1048576 bytes items) (λ bytes. IsBitFile 1048576 bytes items)
+    → d.writer_after.failures ≡ 1 → AreReported items text count → WroteSome (d.contents d.writer.inner) (d.contents d.writer_after.inner) text written
+    → Checks d (Err (Run (run.Write written)))
+unwritten d bits items text count written reads one is wrote = record {
+  reads = Reads-on _ _ _ _ _ _ _ _ _ _ _ reads
+      (λ bytes k. (k.0, text, count, checked-of bytes items text count k.1 is, wrote))
+      (λ bytes k. (tt, text, count, checked-of bytes items text count k is, wrote))
+      (λ e. absurd (write-read written e)) (λ e. absurd (ok-read bits e));
+  writes = record { failed = (λ w. one, λ h. (written, refl)); once = omega (arith, one) };
+  unwritten = λ other. absurd (other written refl);
+}
+
+-- it is written whole
+pub checked-all : {R W N : Type 0} (d : Devices R W) (bits : N) (items : List Bool) (text : List ℕ) (count : ℕ)
+    → Reads d.remaining d.reader d.reader_after run.Read (as_read {N = N} (Ok bits)) (λ bytes. IsReadOut d × IsBitFile 1048576 bytes items) (λ bytes. IsBitFile 1048576 bytes items)
+    → d.writer_after.failures ≡ 0 → AreReported items text count → Appends (d.contents d.writer.inner) (d.contents d.writer_after.inner) text
+    → Checks d (Ok count)
+checked-all d bits items text count reads none is wrote = record {
+  reads = Reads-on _ _ _ _ _ _ _ _ _ _ _ reads
+      (λ bytes k. (k.0, text, checked-of bytes items text count k.1 is, wrote))
+      (λ bytes k. (tt, text, checked-of bytes items text count k is, wrote))
+      (λ e. absurd (ok-err count (Run run.Read) e)) (λ e. absurd (ok-read bits e));
+  writes = record { failed = (λ w. absurd (ok-err count (Run (run.Write w.0)) w.1), λ one. absurd (omega (arith, none, one))); once = omega (arith, none) };
+  unwritten = tt;
+}
+
+-- messages of one station are of the first one's
+pub of_first : (messages : List MessageView) (first : MessageView) (station other : ℕ) → AreOf other messages → first ≡ get_or messages 0 first → first.identity.b1.byte ≡ station → AreOf station messages
+of_first [] first station other h e is = absurd (h.some refl)
+of_first (m ∷ ms) first station other h e is =
+    let same : other ≡ station = sym h.each.0 ∙ ap (λ (message : MessageView). message.identity.b1.byte) (sym e) ∙ is in subst (λ s. AreOf s (m ∷ ms)) same h
+
+-- ---- what was sent is given back
+
+-- the elements of an air file that was sent
+sent-bits : (limit station from : ℕ) (file air : List ℕ) (sent : Sent) (h : IsTransmission station from file air sent) → length air ≤ limit → IsBitFile limit air (bits_of (emission h.positions))
+sent-bits limit station from file air sent h within =
+    let bits = bits_of (emission h.positions) in
+    let lines = moment sent.slot ∷ bit_lines bits in
+    let long = ap length h.whole ∙ length-append (line_bytes (moment sent.slot)) (air_file_of (bit_lines bits)) in
+    let later = bit_lines-IsBitFile limit bits (omega (arith, within, long)) in
+    let few : sent.slot < 10 ^ 11 = omega (arith, h.next.in_range) in
+    record {
+      lines = moment sent.slot ∷ later.lines;
+      file = record {
+        whole = h.whole ∙ ap (λ l. line_bytes (moment sent.slot) ++ l) later.file.whole;
+        each = (few, later.file.each);
+        within = within;
+      };
+      joined = later.joined;
+    }
+
+pub sent-emission : (station from : ℕ) (file air : List ℕ) (sent : Sent) (h : IsTransmission station from file air sent) → IsEmissionOf h.messages (bits_of (emission h.positions))
+sent-emission station from file air sent h = record { sendable = h.sendable; positions = h.positions; broadcast = h.broadcast; whole = refl }
+
+-- such a file is checked
+pub sent-checked : (limit station from : ℕ) (file air : List ℕ) (sent : Sent) → IsTransmission station from file air sent → length air ≤ limit
+    → IsChecked limit air (station_line station ++ file) sent.messages
+sent-checked limit station from file air sent h within = record {
+  bits = bits_of (emission h.positions);
+  file = sent-bits limit station from file air sent h within;
+  messages = h.messages;
+  emission = sent-emission station from file air sent h;
+  station = station;
+  of_station = h.of_station;
+  whole = ap (λ l. station_line station ++ l) h.is_file.whole;
+  counted = h.all;
+}
+
+-- and an air file has one report
+pub checked-one : (limit : ℕ) (air one other : List ℕ) (m n : ℕ) → IsChecked limit air one m → IsChecked limit air other n → (one ≡ other) × (m ≡ n)
+checked-one limit air one other m n h k =
+    let bits = IsBitFile-unique limit air h.bits k.bits h.file k.file in
+    let messages = emission-one h.messages k.messages k.bits (subst (IsEmissionOf h.messages) bits h.emission) k.emission in
+    let station = same-station h.station k.station k.messages (subst (AreOf h.station) messages h.of_station) k.of_station in (
+      h.whole ∙ ap (λ s. report s h.messages) station ∙ ap (report k.station) messages ∙ sym k.whole,
+      h.counted ∙ ap length messages ∙ sym k.counted,
+    )
