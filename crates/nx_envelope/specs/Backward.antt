@@ -14,15 +14,18 @@ use Rattle.nx_envelope.specs.declared.identity.Identity.{Identity}
 use Rattle.nx_envelope.specs.declared.letter.Letter.{Letter}
 
 -- the letter of a byte, and the digit of one
-unfoldable pub letter_from : (b : ℕ) (low high : Bool) → nat_le 65 b ≡ low → nat_le b 90 ≡ high → Option Letter
-letter_from b true true l h = Some (record { byte = b; in_range = (leb-true 65 b l, leb-true b 90 h) })
+unfoldable pub letter_from : (b : ℕ) (low high : Bool) → nat_le 65 b ≡ low → nat_le b 90 ≡ high
+    → Option Letter
+letter_from b true true l h =
+    Some (record { byte = b; in_range = (leb-true 65 b l, leb-true b 90 h) })
 letter_from b true false l h = None
 letter_from b false high l h = None
 
 unfoldable pub letter_of : ℕ → Option Letter
 letter_of b = letter_from b (nat_le 65 b) (nat_le b 90) refl refl
 
-unfoldable pub digit_from : (b : ℕ) (low high : Bool) → nat_le 48 b ≡ low → nat_le (b - 48) 9 ≡ high → Option Digit
+unfoldable pub digit_from : (b : ℕ) (low high : Bool) → nat_le 48 b ≡ low
+    → nat_le (b - 48) 9 ≡ high → Option Digit
 digit_from b true true l h = Some (record { value = b - 48; below_ten = leb-true (b - 48) 9 h })
 digit_from b true false l h = None
 digit_from b false high l h = None
@@ -32,7 +35,8 @@ digit_of b = digit_from b (nat_le 48 b) (nat_le (b - 48) 9) refl refl
 
 -- the last four bytes, oldest first, with 0 where there are fewer
 abbrev pub last_four : List ℕ → List ℕ
-last_four back = slice_index back 3 ∷ slice_index back 2 ∷ slice_index back 1 ∷ slice_index back 0 ∷ []
+last_four back =
+    slice_index back 3 ∷ slice_index back 2 ∷ slice_index back 1 ∷ slice_index back 0 ∷ []
 
 -- it ends with a word of four letters
 abbrev pub ends_in : List ℕ → List ℕ → Bool
@@ -85,4 +89,5 @@ header_back (b ∷ back) = identity_with (both (tens_back back) (digit_of b))
 -- how the marker with which it ends ends a copy: NNNN as full, ZCZC as cut
 abbrev pub marker_back : List ℕ → Option How
 marker_back back =
-    if ends_in end_marker back then Some Full else (if ends_in start_marker back then Some Cut else None)
+    if ends_in end_marker back then Some Full
+    else (if ends_in start_marker back then Some Cut else None)

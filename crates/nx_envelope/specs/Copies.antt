@@ -17,7 +17,8 @@ beginnings (b ∷ text) = [] ∷ map (λ p. b ∷ p) (beginnings text)
 -- the header with which a text ends, if it ends with one
 unfoldable pub header_at_end : List ℕ → Option Header
 header_at_end text =
-    option_map (λ identity. record { identity = identity; behind = length text }) (header_back (reverse text))
+    option_map (λ identity. record { identity = identity; behind = length text })
+    (header_back (reverse text))
 
 -- the headers of a text, wherever they stand, in their order
 unfoldable pub headers : List ℕ → List Header
@@ -40,7 +41,8 @@ pub record Ending : Type 0 where
 -- a text that ends with a marker, less the marker
 unfoldable pub ending_by_marker : List ℕ → Option Ending
 ending_by_marker text =
-    option_map (λ how. record { how = how; text = take (length text - 4) text }) (marker_back (reverse text))
+    option_map (λ how. record { how = how; text = take (length text - 4) text })
+    (marker_back (reverse text))
 
 -- what the first item gives that gives something
 abbrev pub first_value : {A B : Type 0} → (A → Option B) → List A → Option B

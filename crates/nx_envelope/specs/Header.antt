@@ -13,7 +13,8 @@ space = 32
 pub record EndsWithHeader (text : List ℕ) (identity : Identity) : Type 0 where
   pub front : List ℕ
   pub more_spaces : ℕ
-  pub spelled : text ≡ front ++ start_marker ++ replicate (more_spaces + 1) space ++ identity_bytes identity
+  pub spelled :
+      text ≡ front ++ start_marker ++ replicate (more_spaces + 1) space ++ identity_bytes identity
 
 -- a header in a text: its identity, and the index behind its second digit
 pub record Header : Type 0 where

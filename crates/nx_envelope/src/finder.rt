@@ -41,10 +41,12 @@ impl Model for Finder {
 }
 
 impl Finder {
-    ghost use Rattle.std.specs.Prelude.{◌↔◌, ◌<◌, ◌++◌, [], false, length, reverse, IsNone, MatchOption};
+    ghost use Rattle.std.specs.Prelude.{◌↔◌, ◌<◌, ◌++◌, [], false, length, reverse};
+    ghost use Rattle.std.specs.Prelude.{IsNone, MatchOption};
     ghost use Rattle.nx_envelope.specs.Backward.{header_back};
     ghost use Rattle.nx_envelope.specs.Copies.{Copy, open_headers};
-    ghost use Rattle.nx_envelope.specs.Finder.{Brings, Closes, HasReady, Hears, HoldsOpen, StandsAfter, is_over, is_ready};
+    ghost use Rattle.nx_envelope.specs.Finder.{Brings, Closes, HasReady, Hears, HoldsOpen};
+    ghost use Rattle.nx_envelope.specs.Finder.{StandsAfter, is_over, is_ready};
     ghost use Rattle.nx_envelope.specs.Finding.{Hearing};
     ghost use Rattle.nx_envelope.specs.Found.{IsFound};
 
@@ -155,7 +157,8 @@ impl Finder {
         ensures recent { self.new.recent ≡ self.old.recent }
         ensures stage { self.new.stage ≡ self.old.stage }
         ensures hearing { (text : List ℕ) → HoldsOpen fresh self.old.text text identity
-            → self.old.recent ≡ last_four (byte ∷ reverse text) → Hearing text byte result self.new }
+            → self.old.recent ≡ last_four (byte ∷ reverse text)
+            → Hearing text byte result self.new }
         ensures ready { is_ready self.new ≡ is_over result }
     {
         self.copy = HeldCopy::Open(identity, false);

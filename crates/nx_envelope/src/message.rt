@@ -178,7 +178,8 @@ fn check_lines(lines: &[&[u8]]) -> Result<(), MessageFault>
 
 /// Copies of the lines.
 fn line_copies(alloc: Global, lines: &[&[u8]]) -> Result<Vec<Vec<u8>>, AllocError>
-    ensures { IfOk result (λ kept. map (λ line. line.items) kept.items ≡ map (λ line. line.now) lines.now) }
+    ensures { IfOk result (λ kept.
+        map (λ line. line.items) kept.items ≡ map (λ line. line.now) lines.now) }
 {
     let mut kept = Vec::with_capacity(alloc, lines.len())?;
     for line in lines {

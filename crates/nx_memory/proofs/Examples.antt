@@ -5,7 +5,7 @@ use Rattle.nx_code.specs.Lists.{last_of}
 use Rattle.nx_envelope.specs.declared.identity.Identity.{Identity}
 use Rattle.nx_memory.specs.declared.entry.MemoryEntry.{MemoryEntry}
 use Rattle.nx_memory.specs.Memory.{content_after, newest_of, is_known}
-use Rattle.nx_memory.specs.Table.{index_of, last_moment}
+use Rattle.nx_memory.specs.Table.{index_of, moment_of_last}
 use Rattle.nx_memory.specs.Vital.{is_vital}
 
 -- the message 01 of station E (69) and subject A (65), and the message 02
@@ -58,10 +58,10 @@ newest_of_none = refl
 pub place_of_ea01 : index_of ea01 ≡ 10401
 place_of_ea01 = refl
 
-pub last_of_two : last_moment ea01 (entry_at ea01 0 ∷ entry_at ea02 5 ∷ entry_at ea01 237600 ∷ entry_at ea02 237700 ∷ []) ≡ Some 237600
+pub last_of_two : moment_of_last ea01 (entry_at ea01 0 ∷ entry_at ea02 5 ∷ entry_at ea01 237600 ∷ entry_at ea02 237700 ∷ []) ≡ Some 237600
 last_of_two = refl
 
-pub last_of_none : last_moment ea01 (entry_at ea02 5 ∷ []) ≡ None
+pub last_of_none : moment_of_last ea01 (entry_at ea02 5 ∷ []) ≡ None
 last_of_none = refl
 
 -- D (68) and L (76) are vital, C (67) isn't

@@ -15,7 +15,7 @@ use Rattle.nx_envelope.proofs.Identities.{same_identity-true, same_itself}
 use Rattle.nx_memory.specs.declared.entry.MemoryEntry.{MemoryEntry}
 use Rattle.nx_memory.specs.Content.{IsLater, AreInTurn}
 use Rattle.nx_memory.specs.Memory.{most_entries, seconds_known, is_recent, is_known}
-use Rattle.nx_memory.specs.Table.{identities, index_of, last_moment, is_recent_moment, is_moment, holds_moment, IsTableOf}
+use Rattle.nx_memory.specs.Table.{identities, index_of, moment_of_last, is_recent_moment, is_moment, holds_moment, IsTableOf}
 use Rattle.nx_memory.proofs.Content.{All-tail}
 
 -- each place is within the table, and two identities have two places
@@ -43,10 +43,10 @@ pub same_turned : (a b : Identity) → same_identity a b ≡ true → same_ident
 same_turned a b same = subst (λ (it : Identity). same_identity b it ≡ true) (sym (same_identity-true a b same)) (same_itself b)
 
 -- what holds of each entry's moment of an identity holds of its last moment
-last_holds : (P : ℕ → Type 0) (identity : Identity) (entries : List MemoryEntry) → All (λ entry. same_identity entry.identity identity ≡ true → P entry.moment) entries → (last : ℕ) → last_moment identity entries ≡ Some last → P last
+last_holds : (P : ℕ → Type 0) (identity : Identity) (entries : List MemoryEntry) → All (λ entry. same_identity entry.identity identity ≡ true → P entry.moment) entries → (last : ℕ) → moment_of_last identity entries ≡ Some last → P last
 last_holds P identity [] all last is = cc
 last_holds P identity (entry ∷ later) all last is =
-    elim (last_moment identity later) as (λ o. last_moment identity later ≡ o → option_or o (if same_identity entry.identity identity then Some entry.moment else None) ≡ Some last → P last) [
+    elim (moment_of_last identity later) as (λ o. moment_of_last identity later ≡ o → option_or o (if same_identity entry.identity identity then Some entry.moment else None) ≡ Some last → P last) [
       | Some found ↦ λ found_is it. subst P (same_Some found last it) (last_holds P identity later (All-tail (λ (it : MemoryEntry). same_identity it.identity identity ≡ true → P it.moment) entry later all) found found_is)
       | None ↦ λ none it. elim (same_identity entry.identity identity) as (λ b. same_identity entry.identity identity ≡ b → (if b then Some entry.moment else None) ≡ Some last → P last) [
         | true ↦ λ same here. subst P (same_Some entry.moment last here) (All-head (λ (it : MemoryEntry). same_identity it.identity identity ≡ true → P it.moment) entry later all same)
@@ -72,19 +72,19 @@ recent_before false (Some l) first moment earlier = refl
 recent_before false None first moment earlier = refl
 
 -- one look at the last moment tells whether an identity is known
-pub known_by_last : (identity : Identity) (moment : ℕ) (entries : List MemoryEntry) → AreInTurn entries → is_known identity moment entries ≡ is_recent_moment moment (last_moment identity entries)
+pub known_by_last : (identity : Identity) (moment : ℕ) (entries : List MemoryEntry) → AreInTurn entries → is_known identity moment entries ≡ is_recent_moment moment (moment_of_last identity entries)
 known_by_last identity moment [] turn = refl
 known_by_last identity moment (entry ∷ later) turn =
-    let earlier : (l : ℕ) → last_moment identity later ≡ Some l → entry.moment ≤ l = last_holds (λ n. entry.moment ≤ n) identity later (λ k d below same. (turn.0 k d below).in_turn) in
+    let earlier : (l : ℕ) → moment_of_last identity later ≡ Some l → entry.moment ≤ l = last_holds (λ n. entry.moment ≤ n) identity later (λ k d below same. (turn.0 k d below).in_turn) in
     ap (λ b. is_recent identity moment entry || b) (known_by_last identity moment later turn.1)
-    ∙ recent_before (same_identity entry.identity identity) (last_moment identity later) entry.moment moment earlier
+    ∙ recent_before (same_identity entry.identity identity) (moment_of_last identity later) entry.moment moment earlier
 
 -- with one more entry behind, the last moment of its identity is its own
-last_moment-push : (identity : Identity) (entries : List MemoryEntry) (last : MemoryEntry) → last_moment identity (entries ++ last ∷ []) ≡ (if same_identity last.identity identity then Some last.moment else last_moment identity entries)
-last_moment-push identity [] last = refl
-last_moment-push identity (entry ∷ later) last =
-    ap (λ o. option_or o (if same_identity entry.identity identity then Some entry.moment else None)) (last_moment-push identity later last)
-    ∙ by_cases (same_identity last.identity identity) (last_moment identity later) (if same_identity entry.identity identity then Some entry.moment else None) last.moment
+moment_of_last-push : (identity : Identity) (entries : List MemoryEntry) (last : MemoryEntry) → moment_of_last identity (entries ++ last ∷ []) ≡ (if same_identity last.identity identity then Some last.moment else moment_of_last identity entries)
+moment_of_last-push identity [] last = refl
+moment_of_last-push identity (entry ∷ later) last =
+    ap (λ o. option_or o (if same_identity entry.identity identity then Some entry.moment else None)) (moment_of_last-push identity later last)
+    ∙ by_cases (same_identity last.identity identity) (moment_of_last identity later) (if same_identity entry.identity identity then Some entry.moment else None) last.moment
   where
     by_cases : (b : Bool) (o p : Option ℕ) (n : ℕ) → option_or (if b then Some n else o) p ≡ (if b then Some n else option_or o p)
     by_cases true o p n = refl
@@ -105,11 +105,11 @@ other_index a b other places = true≢false (sym (same_index a b (sym places)) �
 pub table-push : (entries : List MemoryEntry) (last : MemoryEntry) (moments : List (Option ℕ)) → IsTableOf entries moments → IsTableOf (entries ++ last ∷ []) (set moments (index_of last.identity) (Some last.moment))
 table-push entries last moments is = record {
   size = length-set moments (index_of last.identity) (Some last.moment) ∙ is.size;
-  last = λ identity. at identity ∙ sym (last_moment-push identity entries last);
+  last = λ identity. at identity ∙ sym (moment_of_last-push identity entries last);
 }
   where
-    at : (identity : Identity) → get_or (set moments (index_of last.identity) (Some last.moment)) (index_of identity) None ≡ (if same_identity last.identity identity then Some last.moment else last_moment identity entries)
-    at identity = elim (same_identity last.identity identity) as (λ b. same_identity last.identity identity ≡ b → get_or (set moments (index_of last.identity) (Some last.moment)) (index_of identity) None ≡ (if b then Some last.moment else last_moment identity entries)) [
+    at : (identity : Identity) → get_or (set moments (index_of last.identity) (Some last.moment)) (index_of identity) None ≡ (if same_identity last.identity identity then Some last.moment else moment_of_last identity entries)
+    at identity = elim (same_identity last.identity identity) as (λ b. same_identity last.identity identity ≡ b → get_or (set moments (index_of last.identity) (Some last.moment)) (index_of identity) None ≡ (if b then Some last.moment else moment_of_last identity entries)) [
       | true ↦ λ same.
           ap (λ (it : Identity). get_or (set moments (index_of last.identity) (Some last.moment)) (index_of it) None) (sym (same_identity-true last.identity identity same))
           ∙ get_or-set_same moments (index_of last.identity) (Some last.moment) None (subst (λ (n : ℕ). index_of last.identity < n) (sym is.size) (index_within last.identity))
@@ -119,12 +119,12 @@ table-push entries last moments is = record {
     ] refl
 
 -- an identity whose last entry is later than the oldest one has a later moment than that
-later_moment : (oldest : MemoryEntry) (later : List MemoryEntry) → All (IsLater oldest) later → (last : ℕ) → last_moment oldest.identity later ≡ Some last → oldest.moment + seconds_known ≤ last
+later_moment : (oldest : MemoryEntry) (later : List MemoryEntry) → All (IsLater oldest) later → (last : ℕ) → moment_of_last oldest.identity later ≡ Some last → oldest.moment + seconds_known ≤ last
 later_moment oldest later all = last_holds (λ n. oldest.moment + seconds_known ≤ n) oldest.identity later (λ k d below same.
     (all k d below).apart (same_turned (slice_index_or later k d).identity oldest.identity same))
 
 -- what stands at the place of the oldest entry's identity, and what is left there
-left_there : (oldest : MemoryEntry) (later : List MemoryEntry) → All (IsLater oldest) later → (o : Option ℕ) → last_moment oldest.identity later ≡ o → (stands : Option ℕ) → stands ≡ option_or o (Some oldest.moment) → (if is_moment oldest.moment stands then None else stands) ≡ o
+left_there : (oldest : MemoryEntry) (later : List MemoryEntry) → All (IsLater oldest) later → (o : Option ℕ) → moment_of_last oldest.identity later ≡ o → (stands : Option ℕ) → stands ≡ option_or o (Some oldest.moment) → (if is_moment oldest.moment stands then None else stands) ≡ o
 left_there oldest later all (Some last) is stands stood =
     let after : oldest.moment + seconds_known ≤ last = later_moment oldest later all last is in
     let other : eqb last oldest.moment ≡ false = ne_eqb last oldest.moment (λ e. omega arith) in
@@ -160,21 +160,21 @@ table-drop oldest later moments turn is = record {
   last = at;
 }
   where
-    at_oldest : get_or (table_without moments oldest) (index_of oldest.identity) None ≡ last_moment oldest.identity later
+    at_oldest : get_or (table_without moments oldest) (index_of oldest.identity) None ≡ moment_of_last oldest.identity later
     at_oldest =
         table_without-there moments oldest (subst (λ (n : ℕ). index_of oldest.identity < n) (sym is.size) (index_within oldest.identity))
-        ∙ left_there oldest later turn.0 (last_moment oldest.identity later) refl (get_or moments (index_of oldest.identity) None)
-        (is.last oldest.identity ∙ ap (λ b. option_or (last_moment oldest.identity later) (if b then Some oldest.moment else None)) (same_itself oldest.identity))
+        ∙ left_there oldest later turn.0 (moment_of_last oldest.identity later) refl (get_or moments (index_of oldest.identity) None)
+        (is.last oldest.identity ∙ ap (λ b. option_or (moment_of_last oldest.identity later) (if b then Some oldest.moment else None)) (same_itself oldest.identity))
 
-    at : (identity : Identity) → get_or (table_without moments oldest) (index_of identity) None ≡ last_moment identity later
-    at identity = elim (same_identity oldest.identity identity) as (λ b. same_identity oldest.identity identity ≡ b → get_or (table_without moments oldest) (index_of identity) None ≡ last_moment identity later) [
+    at : (identity : Identity) → get_or (table_without moments oldest) (index_of identity) None ≡ moment_of_last identity later
+    at identity = elim (same_identity oldest.identity identity) as (λ b. same_identity oldest.identity identity ≡ b → get_or (table_without moments oldest) (index_of identity) None ≡ moment_of_last identity later) [
       | true ↦ λ same.
-          subst (λ (it : Identity). get_or (table_without moments oldest) (index_of it) None ≡ last_moment it later) (same_identity-true oldest.identity identity same) at_oldest
+          subst (λ (it : Identity). get_or (table_without moments oldest) (index_of it) None ≡ moment_of_last it later) (same_identity-true oldest.identity identity same) at_oldest
       | false ↦ λ other.
           table_without-other moments oldest (index_of identity) (other_index oldest.identity identity other)
           ∙ is.last identity
-          ∙ ap (λ b. option_or (last_moment identity later) (if b then Some oldest.moment else None)) other
-          ∙ option_or-none (last_moment identity later)
+          ∙ ap (λ b. option_or (moment_of_last identity later) (if b then Some oldest.moment else None)) other
+          ∙ option_or-none (moment_of_last identity later)
     ] refl
 
 -- a table after an entry, where the ring gave one up or didn't

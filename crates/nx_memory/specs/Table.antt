@@ -15,11 +15,11 @@ abbrev pub index_of : Identity → ℕ
 index_of identity = ((identity.b1.byte - 65) * 26 + (identity.b2.byte - 65)) * 100 + identity.number
 
 -- the moment of the last entry of an identity, where there is one
-abbrev pub last_moment : Identity → List MemoryEntry → Option ℕ
-last_moment identity [] = None
-last_moment identity (entry ∷ later) =
+abbrev pub moment_of_last : Identity → List MemoryEntry → Option ℕ
+moment_of_last identity [] = None
+moment_of_last identity (entry ∷ later) =
     option_or
-    (last_moment identity later)
+    (moment_of_last identity later)
     (if same_identity entry.identity identity then Some entry.moment else None)
 
 -- a moment is less than 66 hours old; none at all isn't
@@ -36,7 +36,7 @@ is_moment moment (Some last) = last == moment
 pub record IsTableOf (content : List MemoryEntry) (moments : List (Option ℕ)) : Type 0 where
   pub size : length moments ≡ identities
   pub last :
-      (identity : Identity) → get_or moments (index_of identity) None ≡ last_moment identity content
+      (identity : Identity) → get_or moments (index_of identity) None ≡ moment_of_last identity content
 
 -- the moment that stands at the identity of an entry is the entry's own
 abbrev pub holds_moment : List (Option ℕ) → MemoryEntry → Bool

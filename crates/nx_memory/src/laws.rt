@@ -6,7 +6,7 @@ ghost use Rattle.nx_envelope.specs.declared.identity.Identity.{Identity};
 ghost use Rattle.nx_memory.specs.declared.entry.MemoryEntry.{MemoryEntry};
 ghost use Rattle.nx_memory.specs.Content.{IsContent};
 ghost use Rattle.nx_memory.specs.Live.{IsLive};
-ghost use Rattle.nx_memory.specs.Table.{identities, index_of, is_recent_moment, last_moment};
+ghost use Rattle.nx_memory.specs.Table.{identities, index_of, is_recent_moment, moment_of_last};
 ghost use Rattle.nx_memory.specs.Memory.{content_after, is_known, most_entries, newest_moment};
 
 /// Of all the entries made so far, those among the last 200 make an identity known exactly where
@@ -51,5 +51,5 @@ pub fn identities_have_places_of_their_own()
 /// before it.
 pub fn the_last_entry_tells()
     ensures { (content : List MemoryEntry) (identity : Identity) (moment : ℕ) → IsContent content →
-        is_known identity moment content ≡ is_recent_moment moment (last_moment identity content) }
+        is_known identity moment content ≡ is_recent_moment moment (moment_of_last identity content) }
 {}

@@ -44,7 +44,8 @@ static CASES: [(&str, &str); 49] = [
     ("ZCZC EA1 NNNN ZCZC EAA1NNNN", ""),
     (
         "ZCZC EA01|ZCZC EA01|ZCZC EA01|NNNN",
-        "9 Header EA01; 14 Over cut 0/0 ; 19 Header EA01; 24 Over cut 0/0 ; 29 Header EA01; 34 Over full 0/0 ",
+        "9 Header EA01; 14 Over cut 0/0 ; 19 Header EA01; 24 Over cut 0/0 ; \
+         29 Header EA01; 34 Over full 0/0 ",
     ),
     ("ZCZC EA01|****NNNN", "9 Header EA01; 18 Over full 4/4 ****"),
     (
