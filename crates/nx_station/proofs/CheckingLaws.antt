@@ -1,9 +1,8 @@
 -- What checking answers follows from what its steps said; and it gives back what was sent.
-use Rattle.std.proofs.Common.{◌≡◌, ℕ, ◌<◌, ◌≤◌, ◌^◌, Bool, List, [], ◌∷◌, ◌++◌, length, map, get_or, Option, Result, Ok, Err, refl, sym, ap, ◌∙◌, subst, arith, length-append}
-use Rattle.std.specs.List.{flat_map, AllByRecursion}
+use Rattle.std.proofs.Common.{◌≡◌, ℕ, ◌<◌, ◌≤◌, ◌^◌, Bool, List, [], ◌∷◌, ◌++◌, length, get_or, Result, Ok, Err, refl, sym, ap, ◌∙◌, subst, arith, length-append}
 use Rattle.std.specs.Io.KnownBytes.{Appends}
 use Rattle.nx_envelope.specs.MessageView.{MessageView}
-use Rattle.nx_fec.specs.AirFile.{IsLine, moment}
+use Rattle.nx_fec.specs.AirFile.{moment}
 use Rattle.nx_fec.specs.BitLines.{bit_lines}
 use Rattle.nx_fec.specs.Devices.{WroteSome}
 use Rattle.nx_fec.specs.Emission.{bits_of, emission}

@@ -1,5 +1,5 @@
 -- Elements have one outcome of strict reading; and what its steps say of the elements.
-use Rattle.std.proofs.Common.{◌≡◌, ◌≢◌, ◌⊎◌, ℕ, ◌<◌, ◌≤◌, Bool, List, [], ◌++◌, length, map, inl, inr, refl, sym, ap, ◌∙◌, subst, arith}
+use Rattle.std.proofs.Common.{◌≡◌, ◌≢◌, ◌⊎◌, ℕ, Bool, List, length, inl, inr, refl, sym, ap, ◌∙◌, subst, arith}
 use Rattle.std.specs.List.{flat_map}
 use Rattle.std.proofs.lemmas.Bool.{cases_lt}
 use Rattle.nx_envelope.specs.MessageView.{MessageView}
@@ -7,9 +7,9 @@ use Rattle.nx_fec.specs.Aligned.{aligned_text, words_of}
 use Rattle.nx_fec.specs.Emission.{SentPosition, bits_of, emission}
 use Rattle.nx_station.specs.Broadcast.{IsBroadcast, printed_text}
 use Rattle.nx_station.specs.Faults.{unread_fault}
-use Rattle.nx_station.specs.Sendable.{AreOf, IsRefusal, IsSendable}
+use Rattle.nx_station.specs.Sendable.{IsRefusal, IsSendable}
 use Rattle.nx_station.specs.Slots.{HasSlots}
-use Rattle.nx_station.specs.StrictReading.{AreOfNone, ArePaired, AreRight, AreWhole, AreSound, ExplainsEmission, ExplainsPrinted, IsEmissionOf, IsLeast, IsMemory}
+use Rattle.nx_station.specs.StrictReading.{ArePaired, AreRight, AreWhole, AreSound, ExplainsEmission, ExplainsPrinted, IsEmissionOf, IsLeast, IsMemory}
 use Rattle.nx_station.specs.declared.fault.EmissionFault.{EmissionFault}
 use Rattle.nx_station.specs.declared.fault.EmissionFault.TheVariants.{Ragged, WrongWord, Unpaired, BadEnvelope, Memory}
 use Rattle.nx_station.specs.declared.fault.SendFault.{SendFault}

@@ -1,5 +1,5 @@
 -- What is read of the emission of messages: right words, pairs, and their text; so the emission is of one list.
-use Rattle.std.proofs.Common.{◌≡◌, ◌≢◌, ◌⊎◌, ℕ, ◌+◌, ◌-◌, ◌*◌, ◌/◌, ◌%◌, ◌<◌, ◌≤◌, zero, suc, Bool, true, List, [], ◌∷◌, ◌++◌, length, get_or, take, map, replicate, eqb, inl, inr, refl, sym, ap, ◌∙◌, subst, append_assoc, arith, append-nil, length-append}
+use Rattle.std.proofs.Common.{◌≡◌, ◌≢◌, ℕ, ◌+◌, ◌-◌, ◌*◌, ◌/◌, ◌%◌, ◌<◌, ◌≤◌, zero, suc, Bool, true, List, [], ◌∷◌, ◌++◌, length, get_or, take, map, replicate, eqb, inl, inr, refl, sym, ap, ◌∙◌, subst, append_assoc, arith, append-nil, length-append}
 use Rattle.std.specs.List.{flat_map, AllByRecursion}
 use Rattle.std.proofs.lemmas.Bool.{agree_below_at, eqb-true, cases_lt, cases_eq}
 use Rattle.std.proofs.lemmas.List.{map-append, take_at}
@@ -15,13 +15,12 @@ use Rattle.nx_code.proofs.ReadingLemmas.{text-append}
 use Rattle.nx_code.proofs.TableLemmas.{traffic_word-is}
 use Rattle.nx_envelope.specs.MessageView.{MessageView}
 use Rattle.nx_envelope.specs.declared.identity.Identity.{Identity}
-use Rattle.nx_fec.specs.Aligned.{aligned_text, receptions, words_of}
+use Rattle.nx_fec.specs.Aligned.{aligned_text, words_of}
 use Rattle.nx_fec.specs.Emission.{SentPosition, AreInCode, IsInCode, bits_of, dx_word, emission, end_position, phasing_position, position_at, reception, rx_word, traffic_position, word_sent}
 use Rattle.nx_fec.proofs.EmissionLemmas.{AreWords-emission, IsEmission-emission, get_or-emission, length-emission, word_sent-dx, word_sent-rx}
 use Rattle.nx_fec.proofs.RoundTripLemmas.{length-bits_of, receptions-IsEmission, words_of-bits_of}
-use Rattle.nx_station.specs.Broadcast.{AreSpelled, IsBroadcast, IsSpelled, digit_combination, ending, head, layout, letter_combination, phasing_and_message, printed_text}
-use Rattle.nx_station.specs.Sendable.{AreOf, IsSendable}
-use Rattle.nx_station.specs.StrictReading.{IsEmissionOf, AreRight, ArePaired, AreWhole, IsPair, IsUnpaired, IsWrongWord}
+use Rattle.nx_station.specs.Broadcast.{AreSpelled, IsBroadcast, IsSpelled, ending, head, layout, letter_combination, phasing_and_message, printed_text}
+use Rattle.nx_station.specs.StrictReading.{IsEmissionOf, AreRight, ArePaired, AreWhole, IsPair}
 use Rattle.nx_station.proofs.HeadLemmas.{digit_combination-range}
 use Rattle.nx_station.proofs.PrintedText.{printed-one}
 use Rattle.nx_station.proofs.ReadingBack.{broadcast-prints}

@@ -6,7 +6,6 @@ use Rattle.nx_fec.specs.Devices.{WroteSome}
 use Rattle.nx_fec.specs.Lines.{IsBitFile}
 use Rattle.nx_fec.specs.Runs.{ExplainsReading, file_limit}
 use Rattle.nx_fec.specs.Transfers.{Devices, IsReadOut, Transfers, at_the_end}
-use Rattle.nx_fec.specs.declared.fault.RunFault.{RunFault}
 use Rattle.nx_fec.specs.declared.fault.RunFault.TheVariants as run
 use Rattle.nx_station.specs.MessageFile.{file_message_of, file_of, line_feed}
 use Rattle.nx_station.specs.Sendable.{AreOf}

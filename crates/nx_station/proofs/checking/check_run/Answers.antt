@@ -1,9 +1,9 @@
-use Rattle.std.proofs.Common.{◌≡◌, ◌∙◌, ap, length, refl, subst, sym}
+use Rattle.std.proofs.Common.{◌∙◌, ap, length, refl, subst, sym}
 use Rattle.std.proofs.lemmas.Result.{err_from_is_err_and}
 use Rattle.nx_fec.specs.Transfers.{devices}
 use Rattle.nx_station.specs.Checking.{report}
 use Rattle.nx_station.specs.StrictReading.{IsEmissionOf}
-use Rattle.nx_station.proofs.CheckingLaws.{AreReported, of_first, unread, unwritten}
+use Rattle.nx_station.proofs.CheckingLaws.{of_first, unread, unwritten}
 use Rattle.nx_station.proofs.checking.check_run.Goals as goal
 
 pub returns-in_err-messages : goal.returns-in_err-messages

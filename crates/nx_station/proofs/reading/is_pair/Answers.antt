@@ -1,4 +1,4 @@
-use Rattle.std.proofs.Common.{◌≡◌, ◌∙◌, sym, Some, ap, subst}
+use Rattle.std.proofs.Common.{◌∙◌, sym, Some, ap}
 use Rattle.std.proofs.lemmas.Bool.{eqb-true, eq-eqb, false≢true}
 use Rattle.nx_code.specs.Signal.{number_of_signal}
 use Rattle.nx_fec.proofs.EmissionLemmas.{phasing_1-words}

@@ -1,13 +1,12 @@
-use Rattle.std.proofs.Common.{◌≡◌, ◌∙◌, ap, map, not, subst, sym}
+use Rattle.std.proofs.Common.{◌∙◌, ap, map, not, subst, sym}
 use Rattle.std.proofs.lemmas.Bool.{false≢true, not-false}
 use Rattle.std.proofs.lemmas.Result.{err_from_is_err_and}
 use Rattle.std.specs.Cmp.{booleans_Decides}
 use Rattle.std.specs.Cmp.Lexicographic.{pointwise_decides}
 use Rattle.nx_fec.specs.Emission.{bits_of, emission, sent_position}
-use Rattle.nx_station.specs.Broadcast.{IsBroadcast, printed_text}
+use Rattle.nx_station.specs.Broadcast.{IsBroadcast}
 use Rattle.nx_station.specs.Sendable.{IsRefusal, IsSendable}
-use Rattle.nx_station.specs.StrictReading.{IsEmissionOf}
-use Rattle.nx_station.proofs.EmissionFaults.{AreChecked, AreRead, differing-fault, refused-fault, unprinted-fault}
+use Rattle.nx_station.proofs.EmissionFaults.{differing-fault, refused-fault, unprinted-fault}
 use Rattle.nx_station.proofs.reading.read_emission.Goals as goal
 
 pub returns-in_err-messages-clause-fault : goal.returns-in_err-messages-clause-fault
