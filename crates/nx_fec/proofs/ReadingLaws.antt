@@ -67,7 +67,7 @@ ExplainsReading-weaker A B limit bytes (Write written) f h = h
 ExplainsReading-weaker A B limit bytes (Memory error) f h = tt
 
 -- the same cause, with more bytes after it
-IsCause-more : (limit front : ℕ) (lines : List Line) (rest more ys : List ℕ) (why : LineFault) → IsAtByte why → IsCause limit front lines rest more why → IsCause limit front lines rest (more ++ ys) why
+pub IsCause-more : (limit front : ℕ) (lines : List Line) (rest more ys : List ℕ) (why : LineFault) → IsAtByte why → IsCause limit front lines rest more why → IsCause limit front lines rest (more ++ ys) why
 IsCause-more limit front lines rest [] ys file.TooLong at h = absurd h
 IsCause-more limit front lines rest [] ys (file.LineLong line) at h = absurd h
 IsCause-more limit front lines rest [] ys (file.LineCut line) at h = absurd at
