@@ -58,7 +58,8 @@ among_is b k (x ∷ xs) all among = elim among [
 ]
 
 -- help and another kind don't stand in one uniform list
-pub uniform_excludes : (kinds : Kinds) (k : ErrorKind) → IsUniform kinds → IsAmong kind.DisplayHelp kinds → IsAmong k kinds → k ≢ kind.DisplayHelp → ⊥
+pub uniform_excludes : (kinds : Kinds) (k : ErrorKind) → IsUniform kinds → IsAmong kind.DisplayHelp kinds
+    → IsAmong k kinds → k ≢ kind.DisplayHelp → ⊥
 uniform_excludes kinds k u help other ne =
     let first : true ≡ u.help = among_is u.help kind.DisplayHelp kinds u.all help in
     let second : is_help k ≡ u.help = among_is u.help k kinds u.all other in
@@ -78,11 +79,13 @@ u-if : (b : Bool) (x y : Kinds) → IsUniform x → IsUniform y → IsUniform (i
 u-if true x y ux uy = ux
 u-if false x y ux uy = uy
 
-pub u-option : {X : Type 0} (f : X → Kinds) (o : Option X) (d : Kinds) → IfSome o (λ x. IsUniform (f x)) → IsUniform d → IsUniform (option_map_or f o d)
+pub u-option : {X : Type 0} (f : X → Kinds) (o : Option X) (d : Kinds) → IfSome o (λ x. IsUniform (f x))
+    → IsUniform d → IsUniform (option_map_or f o d)
 u-option f None d some none = none
 u-option f (Some x) d some none = some
 
-u-option-each : {X : Type 0} (f : X → Kinds) (o : Option X) (d : Kinds) → ((x : X) → IsUniform (f x)) → IsUniform d → IsUniform (option_map_or f o d)
+u-option-each : {X : Type 0} (f : X → Kinds) (o : Option X) (d : Kinds) → ((x : X) → IsUniform (f x)) → IsUniform d
+    → IsUniform (option_map_or f o d)
 u-option-each f None d each none = none
 u-option-each f (Some x) d each none = each x
 
@@ -100,7 +103,8 @@ u-count a (v ∷ vs) rows = u-values _ _ (v ∷ vs)
 u-set : (again : Bool) (a : Rule) (vs : List Text) (rows : List Row) → IsUniform (set_fault again a vs rows)
 u-set again a vs rows = u-or _ _ (u-if _ _ _ (u-one _) u-none) (u-values _ _ vs)
 
-u-action : (x : ArgAction) (again : Bool) (a : Rule) (vs : List Text) (rows : List Row) → IsUniform (action_fault x again a vs rows)
+u-action : (x : ArgAction) (again : Bool) (a : Rule) (vs : List Text) (rows : List Row)
+    → IsUniform (action_fault x again a vs rows)
 u-action Set again a vs rows = u-set again a vs rows
 u-action SetTrue again a vs rows = u-set again a vs rows
 u-action SetFalse again a vs rows = u-set again a vs rows
@@ -121,7 +125,8 @@ u-use again a vs rows =
 
 u-settle : (c : List Rule) (again : Bool) (h : Held) → IsUniform (settle_fault c again h)
 u-settle c again h =
-    u-option-each _ h.pending [] (λ p. u-option-each _ (arg_by_id c p.0) [] (λ a. u-use again a p.1 h.rows) u-none) u-none
+    u-option-each _ h.pending [] (λ p. u-option-each _ (arg_by_id c p.0) []
+        (λ a. u-use again a p.1 h.rows) u-none) u-none
 
 u-react : (c : List Rule) (again : Bool) (a : Rule) (vs : List Text) (h : Held) → IsUniform (react_fault c again a vs h)
 u-react c again a vs h = u-or _ _ (u-settle c again h) (u-use again a vs (settled c h).rows)
@@ -130,47 +135,59 @@ u-opt : (c : List Rule) (again : Bool) (a : Rule) (v : Option Text) (h : Held) �
 u-opt c again a (Some v) h = u-react c again a (v ∷ []) h
 u-opt c again a None h = u-settle c again h
 
-u-long : (c : List Rule) (again : Bool) (a : Option Rule) (v : Option Text) (h : Held) → IsUniform (long_fault c again a v h)
+u-long : (c : List Rule) (again : Bool) (a : Option Rule) (v : Option Text) (h : Held)
+    → IsUniform (long_fault c again a v h)
 u-long c again None v h = u-one _
 u-long c again (Some a) v h = u-if _ _ _ (u-opt c again a v h) (u-if _ _ _ (u-one _) (u-react c again a [] h))
 
-u-short : (c : List Rule) (again : Bool) (a : Option Rule) (rest : Text) (h : Held) (more : Held → Kinds) → ((g : Held) → IsUniform (more g)) → IsUniform (short_fault c again a rest h more)
+u-short : (c : List Rule) (again : Bool) (a : Option Rule) (rest : Text) (h : Held) (more : Held → Kinds)
+    → ((g : Held) → IsUniform (more g)) → IsUniform (short_fault c again a rest h more)
 u-short c again None rest h more each = u-one _
 u-short c again (Some a) rest h more each =
     u-if _ _ _ (u-opt c again a (attached_value rest) h) (u-or _ _ (u-react c again a [] h) (each (reacted c a [] h)))
 
-u-bundle-step : (c : List Rule) (again : Bool) (x : Option ℕ) (flags : Text) (skip : ℕ) (h : Held) (more : Text → ℕ → Held → Kinds)
-    → ((t : Text) (n : ℕ) (g : Held) → IsUniform (more t n g)) → IsUniform (bundle_step_fault c again x flags skip h more)
+u-bundle-step : (c : List Rule) (again : Bool) (x : Option ℕ) (flags : Text) (skip : ℕ) (h : Held) (more : Text → ℕ
+    → Held → Kinds)
+    → ((t : Text) (n : ℕ) (g : Held) → IsUniform (more t n g))
+        → IsUniform (bundle_step_fault c again x flags skip h more)
 u-bundle-step c again None flags skip h more each = u-none
 u-bundle-step c again (Some x) flags zero h more each =
     let rest = drop (length (encode_utf8 x)) flags in
     u-short c again (arg_by_short c x) rest h (more rest 0) (each rest 0)
 u-bundle-step c again (Some x) flags (suc skip) h more each = each (drop (length (encode_utf8 x)) flags) skip h
 
-u-flags : (c : List Rule) (again : Bool) (k : ℕ) (flags : Text) (skip : ℕ) (h : Held) → IsUniform (flags_fault c again k flags skip h)
+u-flags : (c : List Rule) (again : Bool) (k : ℕ) (flags : Text) (skip : ℕ) (h : Held)
+    → IsUniform (flags_fault c again k flags skip h)
 unfolding flags_fault
 u-flags c again zero flags skip h = u-none
-u-flags c again (suc k) flags skip h = u-bundle-step c again (slice_get (chars flags) 0) flags skip h (flags_fault c again k) (u-flags c again k)
+u-flags c again (suc k) flags skip h = u-bundle-step c again (slice_get (chars flags) 0) flags skip h
+    (flags_fault c again k) (u-flags c again k)
 
-u-flag-word : (c : List Rule) (again : Bool) (p : Option (Text × Option Text)) (word : Text) (h : Held) → IsUniform (flag_word_fault c again p word h)
+u-flag-word : (c : List Rule) (again : Bool) (p : Option (Text × Option Text)) (word : Text) (h : Held)
+    → IsUniform (flag_word_fault c again p word h)
 u-flag-word c again (Some p) word h = u-long c again (arg_by_long c p.0) p.1 h
 u-flag-word c again None word h =
-    u-option-each _ (short_of word) [] (λ flags. u-flags c again (length flags) flags h.skip (record h { skip = 0 })) u-none
+    u-option-each _ (short_of word) [] (λ flags. u-flags c again (length flags) flags h.skip
+        (record h { skip = 0 })) u-none
 
 -- a command whose words include no request `help`
 abbrev pub HasNoHelp : Shape → Type 0
 HasNoHelp s = s.disable_help_subcommand ≡ true
 
-u-help : (named disabled : Bool) → disabled ≡ true → IsUniform (if named && not disabled then kind.DisplayHelp ∷ kind.InvalidSubcommand ∷ [] else [])
-u-help named true is = elim named as (λ b. IsUniform (if b && false then kind.DisplayHelp ∷ kind.InvalidSubcommand ∷ [] else [])) [ true ↦ u-none | false ↦ u-none ]
+u-help : (named disabled : Bool) → disabled ≡ true
+    → IsUniform (if named && not disabled then kind.DisplayHelp ∷ kind.InvalidSubcommand ∷ [] else [])
+u-help named true is = elim named as (λ b. IsUniform
+    (if b && false then kind.DisplayHelp ∷ kind.InvalidSubcommand ∷ [] else [])) [ true ↦ u-none | false ↦ u-none ]
 u-help named false is = absurd (cc)
 
-u-other : (s : Shape) (name : Option Text) (word : Text) (h : Held) → HasNoHelp s → IsUniform (other_fault s name word h)
+u-other : (s : Shape) (name : Option Text) (word : Text) (h : Held) → HasNoHelp s
+    → IsUniform (other_fault s name word h)
 u-other s (Some name) word h off = u-help (bytes_eq name (codes "help")) s.disable_help_subcommand off
 u-other s None word h off =
     u-if _ _ _ u-none (u-flag-word s.rules s.args_override_self (long_of word) word h)
 
-u-word : (s : Shape) (names : Names) (after : Bool) (waiting : Waiting) (word : Text) (h : Held) → HasNoHelp s → IsUniform (word_fault s names after waiting word h)
+u-word : (s : Shape) (names : Names) (after : Bool) (waiting : Waiting) (word : Text) (h : Held) → HasNoHelp s
+    → IsUniform (word_fault s names after waiting word h)
 u-word s names after waiting word h off = u-if _ _ _ u-none (u-other s (subcommand_met names waiting word) word h off)
 
 u-strays : IsUniform (kind.UnknownArgument ∷ kind.InvalidSubcommand ∷ [])
@@ -193,10 +210,12 @@ u-turn s names w word off =
     u-if (is_some w.stopped) _ _ u-none
     (u-or _ _ (u-word s names w.is_trailing w.waiting word w.held off) (u-step s w.position met.0 met.1))
 
-u-walk : (s : Shape) (names : Names) (w : Walk) (words : List Text) → HasNoHelp s → IsUniform (walk_fault s names w words)
+u-walk : (s : Shape) (names : Names) (w : Walk) (words : List Text) → HasNoHelp s
+    → IsUniform (walk_fault s names w words)
 unfolding walk_fault
 u-walk s names w [] off = u-none
-u-walk s names w (word ∷ rest) off = u-or _ _ (u-turn s names w word off) (u-walk s names (walked s.rules names w word) rest off)
+u-walk s names w (word ∷ rest) off = u-or _ _ (u-turn s names w word off) (u-walk s names
+    (walked s.rules names w word) rest off)
 
 u-request : (x : ArgAction) → IsUniform (request_kinds x)
 u-request Set = u-none
@@ -227,7 +246,8 @@ u-checked s rows has =
     (not has && s.subcommand_required)
     (not (s.subcommand_negates_reqs && has) && list_any (λ a. a.required && not (is_given a.id rows)) s.rules)
 
-pub u-level : (s : Shape) (names : Names) (h : Held) (words : List Text) (has_subcommand : Bool) (below : Kinds) → HasNoHelp s → IsUniform below → IsUniform (level_fault s names h words has_subcommand below)
+pub u-level : (s : Shape) (names : Names) (h : Held) (words : List Text) (has_subcommand : Bool) (below : Kinds)
+    → HasNoHelp s → IsUniform below → IsUniform (level_fault s names h words has_subcommand below)
 u-level s names h words has_subcommand below off u =
     let end = (walk s.rules names h words).held in
     u-or _ _ (u-walk s names (walk_from h) words off)
@@ -240,7 +260,8 @@ help_or_not k true is = inl (is_help-true k is)
 help_or_not k false is = inr (λ e. let h : is_help k ≡ true = ap is_help e in cc)
 
 -- no fault, help, or another fault
-pub kinds_cases : (kinds : Kinds) → (kinds ≡ []) ⊎ (IsAmong kind.DisplayHelp kinds ⊎ ((k : ErrorKind) × (k ≢ kind.DisplayHelp) × IsAmong k kinds))
+pub kinds_cases : (kinds : Kinds) → (kinds ≡ []) ⊎ (IsAmong kind.DisplayHelp kinds ⊎ ((k : ErrorKind)
+    × (k ≢ kind.DisplayHelp) × IsAmong k kinds))
 kinds_cases [] = inl refl
 kinds_cases (k ∷ ks) = elim (help_or_not k (is_help k) refl) [
   | inl help ↦ inr (inl (inl (sym help)))
@@ -257,7 +278,8 @@ check-nil true false argument e = absurd (cc)
 check-nil false false argument e = absurd (cc)
 
 -- where no fault is found and a command is required, one was entered
-pub level-nil : (s : Shape) (names : Names) (h : Held) (words : List Text) (has : Bool) (below : Kinds) → s.subcommand_required ≡ true
+pub level-nil : (s : Shape) (names : Names) (h : Held) (words : List Text) (has : Bool) (below : Kinds)
+    → s.subcommand_required ≡ true
     → level_fault s names h words has below ≡ [] → has ≡ true
 level-nil s names h words has below required e =
     let end = (walk s.rules names h words).held in

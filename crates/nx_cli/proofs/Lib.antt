@@ -2,7 +2,10 @@ pub mod FaultKinds
 pub mod ArgumentsRead
 pub mod BuiltTree
 pub mod EachFound
-pub mod MomentGiven
+pub mod GivenArguments
+pub mod RowsKept
+pub mod NumbersGiven
+pub mod CommandsTaken
 pub mod OneCall
 pub mod WordsLemmas
 pub mod ProgramLemmas

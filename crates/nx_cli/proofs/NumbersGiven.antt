@@ -1,4 +1,4 @@
--- Where clap takes the words of a command that wants a moment, a moment stands among its arguments.
+-- Where clap takes the words of a command that wants a number, that number stands among its arguments, in its range.
 use Rattle.std.proofs.Common.{◌≡◌, ◌≤◌, ◌∙◌, ◌⊎◌, inl, inr, ℕ, zero, suc, ◌&&◌, ◌||◌, option_map, option_and_then, ap₂, Bool, true, false, not, List, [], ◌∷◌, ◌++◌, Option, Some, None, IfSome, is_some, refl, ap, sym, subst, codes, drop, length, slice_get, encode_utf8, find, fold, cond, if◌then◌else◌}
 use Rattle.std.specs.Option.{option_map_or}
 use Rattle.std.specs.Str.{bytes_eq, chars}
@@ -19,387 +19,142 @@ use Rattle.clap.specs.declared.error.kind.ErrorKind.{ErrorKind}
 use Rattle.clap.specs.declared.error.kind.ErrorKind.TheVariants as kind
 use Rattle.clap.specs.declared.parser.matches.ValueSource.{ValueSource}
 use Rattle.clap.specs.declared.builder.action.ArgAction.TheVariants.{Set}
-use Rattle.nx_cli.proofs.EachFound.{Each, found_is}
-use Rattle.nx_cli.specs.Words.{IsMoment, moment_rule, navtex, station_rule}
 use Rattle.std.specs.Str.Parse.{digits_value, without_leading_plus}
 use Rattle.clap.proofs.ValueTestLemmas.{accepts-Accepts}
+use Rattle.nx_cli.proofs.EachFound.{Each}
+use Rattle.nx_cli.proofs.RowsKept.{UsesWell, good-at_row, good-settled_end, good-without, level-check, or-first, or-second}
+use Rattle.nx_cli.specs.Words.{IsNumber, number_rule, text_rule}
 
--- numbers from 0 to the last moment
-abbrev moments : ValueParser
-moments = parser.Unsigned 0 32503679999
+-- numbers from 0 to the most
+abbrev pub numbers : ℕ → ValueParser
+numbers most = parser.Unsigned 0 most
 
--- the first of these texts is a moment
-abbrev AreMoments : List Text → Type 0
-AreMoments [] = ⊥
-AreMoments (v ∷ vs) = accepts false moments v ≡ true
+-- the first of these texts is a number up to the most
+abbrev pub AreNumbers : ℕ → List Text → Type 0
+AreNumbers most [] = ⊥
+AreNumbers most (v ∷ vs) = accepts false (numbers most) v ≡ true
 
--- what is found for MOMENT is a moment, as it was written
-abbrev HasMoment : Row → Type 0
-HasMoment r = AreMoments r.values × (r.reading ≡ AsWritten)
+-- what a row holds is a number, as it was written
+abbrev pub HasNumber : ℕ → Row → Type 0
+HasNumber most r = AreNumbers most r.values × (r.reading ≡ AsWritten)
 
-abbrev IsGood : Row → Type 0
-IsGood r = bytes_eq r.id (codes "MOMENT") ≡ true → HasMoment r
+-- what is found for this argument is a number
+abbrev pub IsNumeric : Text → ℕ → Row → Type 0
+IsNumeric id most r = bytes_eq r.id id ≡ true → HasNumber most r
 
-good-append : (xs ys : List Row) → Each IsGood xs → Each IsGood ys → Each IsGood (xs ++ ys)
-good-append [] ys front back = back
-good-append (x ∷ xs) ys front back = (front.0, good-append xs ys front.1 back)
-
-good-at_row : (id : Text) (change : Row → List Row) (missing rows : List Row) → ((r : Row) → IsGood r → Each IsGood (change r)) → Each IsGood missing
-    → Each IsGood rows → Each IsGood (at_row id change missing rows)
-good-at_row id change missing [] changes new good = new
-good-at_row id change missing (r ∷ rs) changes new good =
-    elim (bytes_eq r.id id) as (λ b. Each IsGood (if b then change r ++ rs else r ∷ at_row id change missing rs)) [
-      | true ↦ good-append (change r) rs (changes r good.0) good.1
-      | false ↦ (good.0, good-at_row id change missing rs changes new good.1)
-    ]
-
-moments-append : (xs ys : List Text) → AreMoments xs → AreMoments (xs ++ ys)
-moments-append [] ys are = absurd are
-moments-append (x ∷ xs) ys are = are
-
-good-with_values : (id : Text) (how : Reading) (s : ValueSource) (vs : List Text) (rows : List Row)
-    → (bytes_eq id (codes "MOMENT") ≡ true → AreMoments vs × (how ≡ AsWritten)) → Each IsGood rows → Each IsGood (with_values id how s vs rows)
-good-with_values id how s vs rows new good =
-    good-at_row id (more_values s vs) _ rows (λ r is_good. ((λ is. (moments-append r.values vs (is_good is).0, (is_good is).1)), tt)) (new, tt) good
-
-good-without : (id : Text) (rows : List Row) → Each IsGood rows → Each IsGood (without id rows)
-good-without id rows good = good-at_row id (λ r. []) [] rows (λ r is_good. tt) tt good
-
-or-first : (a b : Kinds) → or_else a b ≡ [] → a ≡ []
-or-first [] b e = refl
-or-first (k ∷ ks) b e = absurd (cc)
-
-or-second : (a b : Kinds) → or_else a b ≡ [] → b ≡ []
-or-second [] b e = e
-or-second (k ∷ ks) b e = absurd (cc)
-
--- a use of the argument that has no fault keeps good rows good
-abbrev UsesWell : Rule → Type 0
-UsesWell a = (again : Bool) (vs : List Text) (rows : List Row) → use_fault again a vs rows ≡ [] → Each IsGood rows → Each IsGood (used a vs rows)
-
--- the arguments of a command that wants a station and a moment, as they are built
-abbrev slot_rules : List Rule
-slot_rules = filled_from 1 (station_rule ∷ moment_rule ∷ help_rule ∷ [])
+numbers-append : (most : ℕ) (xs ys : List Text) → AreNumbers most xs → AreNumbers most (xs ++ ys)
+numbers-append most [] ys are = absurd are
+numbers-append most (x ∷ xs) ys are = are
 
 accepted : (b : Bool) (k : ErrorKind) → (if b then [] else k ∷ []) ≡ [] → b ≡ true
 accepted true k e = refl
 accepted false k e = absurd (cc)
 
-abbrev built_moment : Rule
-built_moment = record moment_rule { index = Some 2; action = Some Set; range = Some (record { start_inclusive = 1; end_inclusive = 1 }) }
+-- an argument that is any text, and one that is a number, as they are built
+abbrev pub built_text : ℕ → Text → Rule
+built_text i name = record (text_rule name) { index = Some i; action = Some Set; parser = Some parser.String; range = Some (record { start_inclusive = 1; end_inclusive = 1 }) }
 
-abbrev built_station : Rule
-built_station = record station_rule { index = Some 1; action = Some Set; parser = Some parser.String; range = Some (record { start_inclusive = 1; end_inclusive = 1 }) }
-
-moment-values : (again : Bool) (vs : List Text) (rows : List Row) → use_fault again built_moment vs rows ≡ [] → AreMoments (values_or_missing built_moment vs)
-moment-values again [] rows e = absurd (cc)
-moment-values again (v ∷ vs) rows e =
-    let action = or-second _ _ e in
-    let values = or-second _ _ action in
-    accepted (accepts false moments v) _ (or-first _ _ values)
-
-uses-moment : UsesWell built_moment
-uses-moment again vs rows e good =
-    good-with_values _ _ _ _ _ (λ is. (moment-values again vs rows e, refl)) (good-without _ _ good)
-
-uses-station : UsesWell built_station
-uses-station again vs rows e good =
-    good-with_values _ _ _ _ _ (λ is. absurd (let no : false ≡ true = is in cc)) (good-without _ _ good)
-
-slot_rules-use : Each UsesWell slot_rules
-slot_rules-use = (uses-station, (uses-moment, ((λ again vs rows e good. good), tt)))
-
-module _ (c : List Rule) (again : Bool) (each : Each UsesWell c) where
-  by_id : (o : Option Rule) (vs : List Text) (rows : List Row) → IfSome o UsesWell → option_map_or (λ a. use_fault again a vs rows) o [] ≡ [] → Each IsGood rows
-      → Each IsGood (used_by_id o vs rows)
-  by_id None vs rows well e good = good
-  by_id (Some a) vs rows well e good = well again vs rows e good
-
-  good-settled_rows : (p : Option (Text × List Text)) (rows : List Row)
-      → option_map_or (λ p. option_map_or (λ a. use_fault again a p.1 rows) (arg_by_id c p.0) []) p [] ≡ [] → Each IsGood rows → Each IsGood (settled_rows c p rows)
-  good-settled_rows None rows e good = good
-  good-settled_rows (Some p) rows e good = by_id (arg_by_id c p.0) p.1 rows (found_is UsesWell (λ a. bytes_eq a.id p.0) c each) e good
-
-  good-settled : (h : Held) → settle_fault c again h ≡ [] → Each IsGood h.rows → Each IsGood (settled c h).rows
-  good-settled h e good = good-settled_rows h.pending h.rows e good
-
-  good-reacted : (a : Rule) → UsesWell a → (vs : List Text) (h : Held) → react_fault c again a vs h ≡ [] → Each IsGood h.rows → Each IsGood (reacted c a vs h).rows
-  good-reacted a well vs h e good = well again vs (settled c h).rows (or-second _ _ e) (good-settled h (or-first _ _ e) good)
-
-  good-option : (a : Rule) → UsesWell a → (v : Option Text) (h : Held) → option_fault c again a v h ≡ [] → Each IsGood h.rows → Each IsGood (option_met c a v h).0.rows
-  good-option a well (Some v) h e good = good-reacted a well (v ∷ []) h e good
-  good-option a well None h e good = good-settled h e good
-
-  good-long_at : (a : Rule) → UsesWell a → (t : Bool) (v : Option Text) (h : Held)
-      → (if t then option_fault c again a v h else (if is_some v then kind.TooManyValues ∷ [] else react_fault c again a [] h)) ≡ []
-      → Each IsGood h.rows → Each IsGood (if t then option_met c a v h else flag_met c a v h).0.rows
-  good-long_at a well true v h e good = good-option a well v h e good
-  good-long_at a well false (Some v) h e good = good
-  good-long_at a well false None h e good = good-reacted a well [] h e good
-
-  good-long : (o : Option Rule) → IfSome o UsesWell → (v : Option Text) (h : Held) → long_fault c again o v h ≡ [] → Each IsGood h.rows → Each IsGood (long_met c o v h).0.rows
-  good-long None well v h e good = good
-  good-long (Some a) well v h e good = good-long_at a well (takes_values a) v h e good
-
-  good-short_at : (a : Rule) → UsesWell a → (t : Bool) (rest : Text) (h : Held) (more : Held → Kinds) (after : Held → Held × Outcome)
-      → ((g : Held) → more g ≡ [] → Each IsGood g.rows → Each IsGood (after g).0.rows)
-      → (if t then option_fault c again a (attached_value rest) h else or_else (react_fault c again a [] h) (more (reacted c a [] h))) ≡ []
-      → Each IsGood h.rows → Each IsGood (if t then option_met c a (attached_value rest) h else after (reacted c a [] h)).0.rows
-  good-short_at a well true rest h more after goes e good = good-option a well (attached_value rest) h e good
-  good-short_at a well false rest h more after goes e good = goes (reacted c a [] h) (or-second _ _ e) (good-reacted a well [] h (or-first _ _ e) good)
-
-  good-short : (o : Option Rule) → IfSome o UsesWell → (rest : Text) (h : Held) (more : Held → Kinds) (after : Held → Held × Outcome)
-      → ((g : Held) → more g ≡ [] → Each IsGood g.rows → Each IsGood (after g).0.rows)
-      → short_fault c again o rest h more ≡ [] → Each IsGood h.rows → Each IsGood (short_met c o rest h after).0.rows
-  good-short None well rest h more after goes e good = good
-  good-short (Some a) well rest h more after goes e good = good-short_at a well (takes_values a) rest h more after goes e good
-
-  good-bundle_step : (x : Option ℕ) (flags : Text) (skip : ℕ) (so_far : Outcome) (h : Held) (more : Text → ℕ → Held → Kinds) (after : Text → ℕ → Outcome → Held → Held × Outcome)
-      → ((t : Text) (n : ℕ) (o : Outcome) (g : Held) → more t n g ≡ [] → Each IsGood g.rows → Each IsGood (after t n o g).0.rows)
-      → bundle_step_fault c again x flags skip h more ≡ [] → Each IsGood h.rows → Each IsGood (bundle_step c x flags skip so_far h after).0.rows
-  good-bundle_step None flags skip so_far h more after goes e good = good
-  good-bundle_step (Some x) flags zero so_far h more after goes e good =
-      let rest = drop (length (encode_utf8 x)) flags in
-      good-short (arg_by_short c x) (found_is UsesWell _ c each) rest h (more rest 0) (after rest 0 done) (goes rest 0 done) e good
-  good-bundle_step (Some x) flags (suc skip) so_far h more after goes e good = goes (drop (length (encode_utf8 x)) flags) skip so_far h e good
-
-  good-bundle : (k : ℕ) (flags : Text) (skip : ℕ) (so_far : Outcome) (h : Held) → flags_fault c again k flags skip h ≡ [] → Each IsGood h.rows
-      → Each IsGood (bundle_met c k flags skip so_far h).0.rows
-  unfolding flags_fault bundle_met
-  good-bundle zero flags skip so_far h e good = good
-  good-bundle (suc k) flags skip so_far h e good =
-      good-bundle_step (slice_get (chars flags) 0) flags skip so_far h (flags_fault c again k) (bundle_met c k) (λ t n o g. good-bundle k t n o g) e good
-
-  good-option_word : (o : Option Rule) (id word : Text) (h : Held) → Each IsGood h.rows → Each IsGood (option_word o id word h).0.rows
-  good-option_word None id word h good = good
-  good-option_word (Some a) id word h good = good
-
-  good-plain_word : (waiting : Waiting) (word : Text) (h : Held) → Each IsGood h.rows → Each IsGood (plain_word c waiting word h).0.rows
-  good-plain_word idle word h good = good
-  good-plain_word (option id) word h good = good-option_word (arg_by_id c id) id word h good
-  good-plain_word positional word h good = good
-
-  good-after_flag : (waiting : Waiting) (word : Text) (h : Held) (o : Outcome) → Each IsGood h.rows → Each IsGood (after_flag c waiting word h o).0.rows
-  good-after_flag waiting word h done good = good
-  good-after_flag waiting word h (waits id) good = good
-  good-after_flag waiting word h plain good = good-plain_word waiting word h good
-  good-after_flag waiting word h refused good = good-plain_word waiting word h good
-
-  good-short_or_plain : (waiting : Waiting) (word : Text) (flags : Option Text) (h : Held)
-      → option_map_or (λ flags. flags_fault c again (length flags) flags h.skip (record h { skip = 0 })) flags [] ≡ [] → Each IsGood h.rows
-      → Each IsGood (short_or_plain c waiting word flags h).0.rows
-  good-short_or_plain waiting word None h e good = good-plain_word waiting word h good
-  good-short_or_plain waiting word (Some flags) h e good =
-      good-after_flag waiting word _ _ (good-bundle (length flags) flags h.skip plain (record h { skip = 0 }) e good)
-
-  good-long_or_other : (waiting : Waiting) (word : Text) (p : Option (Text × Option Text)) (h : Held) → flag_word_fault c again p word h ≡ [] → Each IsGood h.rows
-      → Each IsGood (long_or_other c waiting word p h).0.rows
-  good-long_or_other waiting word (Some p) h e good =
-      good-after_flag waiting word _ _ (good-long (arg_by_long c p.0) (found_is UsesWell _ c each) p.1 h e good)
-  good-long_or_other waiting word None h e good = good-short_or_plain waiting word (short_of word) h e good
-
-  good-other_at : (t : Bool) (waiting : Waiting) (at : ℕ) (word : Text) (h : Held) → (if t then [] else flag_word_fault c again (long_of word) word h) ≡ [] → Each IsGood h.rows
-      → Each IsGood (if t then (h, trailing at) else long_or_other c waiting word (long_of word) h).0.rows
-  good-other_at true waiting at word h e good = good
-  good-other_at false waiting at word h e good = good-long_or_other waiting word (long_of word) h e good
-
-  good-positional_at : (t : Bool) (h : Held) → (if t then [] else settle_fault c again h) ≡ [] → Each IsGood h.rows → Each IsGood (if t then h else settled c h).rows
-  good-positional_at true h e good = good
-  good-positional_at false h e good = good-settled h e good
-
-  good-to_positional : (stray : Kinds) (o : Option Rule) (word : Text) (w : Walk) (h : Held) → option_map_or (λ a. positional_fault c again a h) o stray ≡ [] → Each IsGood h.rows
-      → Each IsGood (to_positional c o word w h).held.rows
-  good-to_positional stray None word w h e good = good
-  good-to_positional stray (Some a) word w h e good = good-positional_at (is_pending a h.pending && takes_several a) h e good
-
-module _ (s : Shape) (each : Each UsesWell s.rules) where
-  good-step : (word : Text) (w : Walk) (h : Held) (step : Step) → step_fault s w.position h step ≡ [] → Each IsGood h.rows → Each IsGood (after_step s.rules word w h step).held.rows
-  good-step word w h (next waiting) e good = good
-  good-step word w h (trailing at) e good = good
-  good-step word w h (subcommand name) e good = good
-  good-step word w h value e good =
-      good-to_positional s.rules s.args_override_self each (stray_fault s) (arg_by_index s.rules w.position) word w h e good
-
-  good-other : (o : Option Text) (waiting : Waiting) (at : ℕ) (word : Text) (h : Held) → o ≡ None → other_fault s o word h ≡ [] → Each IsGood h.rows
-      → Each IsGood (subcommand_or_other s.rules o waiting at word h).0.rows
-  good-other None waiting at word h none e good =
-      good-other_at s.rules s.args_override_self each (bytes_eq word (45 ∷ 45 ∷ [])) waiting at word h e good
-  good-other (Some name) waiting at word h none e good = good
-
-  no_subcommand : (waiting : Waiting) (word : Text) → subcommand_met [] waiting word ≡ None
-  no_subcommand idle word = refl
-  no_subcommand (option id) word = refl
-  no_subcommand positional word = refl
-
-  good-met : (is_trailing : Bool) (waiting : Waiting) (at : ℕ) (word : Text) (h : Held) → word_fault s [] is_trailing waiting word h ≡ [] → Each IsGood h.rows
-      → Each IsGood (word_met s.rules [] is_trailing waiting at word h).0.rows
-  good-met true waiting at word h e good = good
-  good-met false waiting at word h e good = good-other (subcommand_met [] waiting word) waiting at word h (no_subcommand waiting word) e good
-
-  good-turn_from : (stopped : Option (Text × List Text)) (w : Walk) (word : Text)
-      → (if is_some stopped then [] else or_else (word_fault s [] w.is_trailing w.waiting word w.held)
-      (step_fault s w.position (word_met s.rules [] w.is_trailing w.waiting w.position word w.held).0 (word_met s.rules [] w.is_trailing w.waiting w.position word w.held).1)) ≡ []
-      → Each IsGood w.held.rows → Each IsGood (walked_from s.rules [] stopped w word).held.rows
-  good-turn_from (Some p) w word e good = good
-  good-turn_from None w word e good =
-      let met = word_met s.rules [] w.is_trailing w.waiting w.position word w.held in
-      good-step word w met.0 met.1 (or-second _ _ e) (good-met w.is_trailing w.waiting w.position word w.held (or-first _ _ e) good)
-
-  good-turn : (w : Walk) (word : Text) → turn_fault s [] w word ≡ [] → Each IsGood w.held.rows → Each IsGood (walked s.rules [] w word).held.rows
-  unfolding walked
-  good-turn w word e good = good-turn_from w.stopped w word e good
-
-  good-walk : (words : List Text) (w : Walk) → walk_fault s [] w words ≡ [] → Each IsGood w.held.rows → Each IsGood (fold (walked s.rules []) w words).held.rows
-  unfolding walk_fault
-  good-walk [] w e good = good
-  good-walk (word ∷ rest) w e good = good-walk rest (walked s.rules [] w word) (or-second _ _ e) (good-turn w word (or-first _ _ e) good)
-
-  pub good-settled_end : (words : List Text) (below : Kinds) → level_fault s [] nothing_held words false below ≡ []
-      → Each IsGood (settled s.rules (walk s.rules [] nothing_held words).held).rows
-  good-settled_end words below e =
-      let end = (walk s.rules [] nothing_held words).held in
-      let walked_end = good-walk words (walk_from nothing_held) (or-first _ _ e) tt in
-      good-settled s.rules s.args_override_self each end (or-first _ _ (or-second _ _ (or-second _ _ e))) walked_end
-
-  pub level-check : (words : List Text) (below : Kinds) → level_fault s [] nothing_held words false below ≡ []
-      → check_fault s (finished s.rules (walk s.rules [] nothing_held words).held) false ≡ []
-  level-check words below e =
-      let end = (walk s.rules [] nothing_held words).held in
-      let last = check_fault s (finished s.rules end) false in
-      let defaults = defaults_fault (settled s.rules end).rows s.rules in
-      let settling = settle_fault s.rules s.args_override_self end in
-      or-second defaults last
-      (or-second settling (or_else defaults last)
-      (or-second below (or_else settling (or_else defaults last))
-      (or-second (walk_fault s [] (walk_from nothing_held) words) (or_else below (or_else settling (or_else defaults last))) e)))
-
--- a row of MOMENT that was found has a moment
-found-good : (rows : List Row) → Each IsGood rows → IfSome (find (λ r. bytes_eq r.id (codes "MOMENT")) rows) HasMoment
-found-good [] good = tt
-found-good (r ∷ rs) good = go (bytes_eq r.id (codes "MOMENT")) refl (found-good rs good.1)
-  where
-    go : (b : Bool) → bytes_eq r.id (codes "MOMENT") ≡ b → IfSome (find (λ r. bytes_eq r.id (codes "MOMENT")) rs) HasMoment
-        → IfSome (cond {A = Option Row} b (Some r) (find (λ r. bytes_eq r.id (codes "MOMENT")) rs)) HasMoment
-    go true is rest = good.0 is
-    go false is rest = rest
-
-moment-text : (vs : List Text) (r : Row) → r.values ≡ vs → AreMoments vs → r.reading ≡ AsWritten → (text : Text) × (row_text r ≡ Some text) × (accepts false moments text ≡ true)
-moment-text [] r is are written = absurd are
-moment-text (v ∷ vs) r is are written = (
-  v,
-  ap₂ (λ (how : Reading) (xs : List Text). option_map (read_as how) (slice_get xs 0)) written is,
-  are,
-)
-
-gives-found : (o : Option Row) → IfSome o HasMoment → option_map_or (λ r. explicit_source r.source) o false ≡ true
-    → (text : Text) × (option_and_then row_text o ≡ Some text) × (accepts false moments text ≡ true)
-gives-found None has given = absurd (cc)
-gives-found (Some r) has given =
-    let are : AreMoments r.values = has.0 in
-    moment-text r.values r refl are has.1
+abbrev pub built_number : ℕ → Text → ℕ → Rule
+built_number i name most = record (number_rule name most) { index = Some i; action = Some Set; range = Some
+    (record { start_inclusive = 1; end_inclusive = 1 }) }
 
 -- arguments with no default leave the rows
 no_default : (xs : List Row) (a : Rule) → a.defaults ≡ [] → with_default xs a ≡ xs
-no_default xs a none = elim (has_row a.id xs) as (λ b. (if b then xs else default_rows a.id (reading_by a) a.defaults xs) ≡ xs) [
+no_default xs a none = elim (has_row a.id xs) as (λ b. (if b then xs else default_rows a.id
+    (reading_by a) a.defaults xs) ≡ xs) [
   | true ↦ refl
   | false ↦ ap (λ (ds : List Text). default_rows a.id (reading_by a) ds xs) none
 ]
 
-no_defaults : (rules : List Rule) → Each (λ a. a.defaults ≡ []) rules → (xs : List Row) → fold with_default xs rules ≡ xs
+no_defaults : (rules : List Rule) → Each (λ a. a.defaults ≡ []) rules → (xs : List Row)
+    → fold with_default xs rules ≡ xs
 no_defaults [] each xs = refl
 no_defaults (a ∷ rest) each xs = no_defaults rest each.1 (with_default xs a) ∙ no_default xs a each.0
 
--- a moment stands among the arguments
-pub record GivesMoment (rows : List Row) : Type 0 where
+-- a number up to the most stands among the arguments under this name
+pub record GivesNumber (id : Text) (most : ℕ) (rows : List Row) : Type 0 where
   pub text : Text
-  pub given : one_of (codes "MOMENT") rows ≡ Some text
-  pub passes : accepts false moments text ≡ true
+  pub given : one_of id rows ≡ Some text
+  pub passes : accepts false (numbers most) text ≡ true
 
-gives : (rows : List Row) → Each IsGood rows → is_given (codes "MOMENT") rows ≡ true → GivesMoment rows
-gives rows good given =
-    let found = gives-found (find (λ r. bytes_eq r.id (codes "MOMENT")) rows) (found-good rows good) given in
-    record { text = found.0; given = found.1; passes = found.2 }
+module _ (id : Text) (most : ℕ) where
+  numeric-with_values : (name : Text) (how : Reading) (s : ValueSource) (vs : List Text) (rows : List Row)
+      → (bytes_eq name id ≡ true → AreNumbers most vs × (how ≡ AsWritten)) → Each (IsNumeric id most) rows
+          → Each (IsNumeric id most) (with_values name how s vs rows)
+  numeric-with_values name how s vs rows new good =
+      good-at_row (IsNumeric id most) name (more_values s vs) _ rows
+      (λ r is_good. ((λ is. (numbers-append most r.values vs (is_good is).0, (is_good is).1)), tt)) (new, tt) good
 
--- a command whose arguments are used well, have no default and want a moment is given one
-abbrev GetsMoment : Shape → Type 0
-GetsMoment s = (words : List Text) → level_fault s [] nothing_held words false [] ≡ [] → GivesMoment (rows_after s.rules [] words)
+  values-are : (i : ℕ) (again : Bool) (vs : List Text) (rows : List Row)
+      → use_fault again (built_number i id most) vs rows ≡ []
+      → AreNumbers most (values_or_missing (built_number i id most) vs)
+  values-are i again [] rows e = absurd (cc)
+  values-are i again (v ∷ vs) rows e =
+      let action = or-second _ _ e in
+      let values = or-second _ _ action in
+      accepted (accepts false (numbers most) v) _ (or-first _ _ values)
 
-gets : (s : Shape) → Each UsesWell s.rules → Each (λ a. a.defaults ≡ []) s.rules
-    → ((rows : List Row) → check_fault s rows false ≡ [] → is_given (codes "MOMENT") rows ≡ true) → GetsMoment s
-gets s each none wants words e =
-    let end = (walk s.rules [] nothing_held words).held in
-    let same = no_defaults s.rules none (settled s.rules end).rows in
-    let P : List Row → Type 0 = λ rows. Each IsGood rows in
-    gives (rows_after s.rules [] words) (subst P (sym same) (good-settled_end s each words [] e))
-    (wants (rows_after s.rules [] words) (level-check s each words [] e))
+  pub uses-wanted : (i : ℕ) → UsesWell (IsNumeric id most) (built_number i id most)
+  uses-wanted i again vs rows e good =
+      numeric-with_values _ _ _ _ _ (λ is. (values-are i again vs rows e, refl)) (good-without
+          (IsNumeric id most) _ _ good)
 
-wanted : (a b : Bool) → check_kinds false false ((true && not a) || ((true && not b) || (false || false))) ≡ [] → b ≡ true
-wanted true true e = refl
-wanted true false e = absurd (cc)
-wanted false true e = absurd (cc)
-wanted false false e = absurd (cc)
+  pub uses-text : (i : ℕ) (name : Text) → bytes_eq name id ≡ false → UsesWell (IsNumeric id most) (built_text i name)
+  uses-text i name other again vs rows e good =
+      numeric-with_values _ _ _ _ _ (λ is. absurd (let no : false ≡ true = sym other
+          ∙ is in cc)) (good-without (IsNumeric id most) _ _ good)
 
--- the name of a command that was entered, and what its arguments hold
-abbrev pub IsCommand : Text → List Row → Type 0
-IsCommand name rows =
-    (name ≡ codes "decode") ⊎ ((name ≡ codes "encode") ⊎ ((name ≡ codes "code") ⊎ (((name ≡ codes "send") ⊎ (name ≡ codes "slots")) × GivesMoment rows)))
+  -- a row of this argument that was found has a number
+  found-numeric : (rows : List Row) → Each (IsNumeric id most) rows → IfSome (find (λ r. bytes_eq r.id id) rows)
+      (HasNumber most)
+  found-numeric [] good = tt
+  found-numeric (r ∷ rs) good = go (bytes_eq r.id id) refl (found-numeric rs good.1)
+    where
+      go : (b : Bool) → bytes_eq r.id id ≡ b → IfSome (find (λ r. bytes_eq r.id id) rs) (HasNumber most)
+          → IfSome (cond {A = Option Row} b (Some r) (find (λ r. bytes_eq r.id id) rs)) (HasNumber most)
+      go true is rest = good.0 is
+      go false is rest = rest
 
-abbrev IsCommandOf : Shape → Type 0
-IsCommandOf s = (words : List Text) → level_fault s [] nothing_held words false [] ≡ [] → IsCommand s.name (rows_after s.rules [] words)
+  number-text : (vs : List Text) (r : Row) → r.values ≡ vs → AreNumbers most vs → r.reading ≡ AsWritten
+      → (text : Text) × (row_text r ≡ Some text) × (accepts false (numbers most) text ≡ true)
+  number-text [] r is are written = absurd are
+  number-text (v ∷ vs) r is are written = (
+    v,
+    ap₂ (λ (how : Reading) (xs : List Text). option_map (read_as how) (slice_get xs 0)) written is,
+    are,
+  )
 
-commands-are : Each IsCommandOf (built navtex).subs
-commands-are = (
-  (λ words e. inl refl),
-  (
-    (λ words e. inr (inl refl)),
-    (
-      (λ words e. inr (inr (inl refl))),
-      (
-        (λ words e. inr (inr (inr (
-          inl refl,
-          gets _ slot_rules-use (refl, (refl, (refl, tt)))
-              (λ rows checked. wanted (is_given (codes "STATION") rows) (is_given (codes "MOMENT") rows) checked) words e,
-        )))),
-        (
-          (λ words e. inr (inr (inr (
-            inr refl,
-            gets _ slot_rules-use (refl, (refl, (refl, tt)))
-                (λ rows checked. wanted (is_given (codes "STATION") rows) (is_given (codes "MOMENT") rows) checked) words e,
-          )))),
-          tt,
-        ),
-      ),
-    ),
-  ),
-)
+  gives-found : (o : Option Row) → IfSome o (HasNumber most)
+      → option_map_or (λ r. explicit_source r.source) o false ≡ true
+      → (text : Text) × (option_and_then row_text o ≡ Some text) × (accepts false (numbers most) text ≡ true)
+  gives-found None has given = absurd (cc)
+  gives-found (Some r) has given =
+      let are : AreNumbers most r.values = has.0 in
+      number-text r.values r refl are has.1
 
-found-command : (words : List Text) (found : Option Shape) → IfSome found IsCommandOf → option_map_or (λ s. level_fault s [] nothing_held words false []) found [] ≡ []
-    → (name : Text) (rows : List Row) → option_map (λ s. rows_at s words) found ≡ Some (name, rows) → IsCommand name rows
-found-command words None is e name rows entered = absurd (cc)
-found-command words (Some s) is e name rows entered =
-    let same : Some (rows_at s words) ≡ Some (name, rows) = entered in
-    let pair : rows_at s words ≡ (name, rows) = cc in
-    let P : Text × List Row → Type 0 = λ p. IsCommand p.0 p.1 in
-    subst P pair (is words e)
+  gives : (rows : List Row) → Each (IsNumeric id most) rows → is_given id rows ≡ true → GivesNumber id most rows
+  gives rows good given =
+      let found = gives-found (find (λ r. bytes_eq r.id id) rows) (found-numeric rows good) given in
+      record { text = found.0; given = found.1; passes = found.2 }
 
-entered-command : (stop : Option (Text × List Text)) → entered_fault (built navtex) stop ≡ [] → (name : Text) (rows : List Row)
-    → entered (built navtex) stop ≡ Some (name, rows) → IsCommand name rows
-entered-command None e name rows is = absurd (cc)
-entered-command (Some p) e name rows is =
-    found-command p.1 (find (λ s. answers_to p.0 (label_of s)) (built navtex).subs)
-    (found_is IsCommandOf (λ s. answers_to p.0 (label_of s)) (built navtex).subs commands-are) e name rows is
+  -- a command whose arguments are used well, have no default and want this number is given it
+  pub gets : (s : Shape) → Each (UsesWell (IsNumeric id most)) s.rules → Each (λ a. a.defaults ≡ []) s.rules
+      → ((rows : List Row) → check_fault s rows false ≡ [] → is_given id rows ≡ true)
+      → (words : List Text) → level_fault s [] nothing_held words false [] ≡ []
+          → GivesNumber id most (rows_after s.rules [] words)
+  gets s each none wants words e =
+      let end = (walk s.rules [] nothing_held words).held in
+      let same = no_defaults s.rules none (settled s.rules end).rows in
+      let P : List Row → Type 0 = λ rows. Each (IsNumeric id most) rows in
+      gives (rows_after s.rules [] words) (subst P (sym same) (good-settled_end (IsNumeric id most) s each words [] e))
+      (wants (rows_after s.rules [] words) (level-check s words [] e))
 
--- words that clap takes enter a command of the program, and one that wants a moment is given it
-pub taken-command : (words : List Text) (name : Text) (rows : List Row) → fault_of navtex words ≡ [] → subcommand_of navtex words ≡ Some (name, rows) → IsCommand name rows
-taken-command words name rows taken is =
-    let stop = (walk (built navtex).top.rules (names_of (built navtex)) nothing_held (argument_words navtex words)).stopped in
-    entered-command stop (or-first _ _ (or-second _ _ taken)) name rows is
-
--- the moment that is given, which is in its range
-pub moment-given : (rows : List Row) → GivesMoment rows → (moment : ℕ) × IsMoment rows moment × (moment ≤ 32503679999)
-moment-given rows gives =
-    let unsigned = accepts-Accepts false moments gives.text gives.passes in (
-      digits_value 10 (without_leading_plus gives.text),
-      record { text = gives.text; given = gives.given; numeral = unsigned.0; value = refl; fits = unsigned.1 },
-      unsigned.3,
-    )
+  -- the number that is given, which is in its range
+  pub number-given : (rows : List Row) → GivesNumber id most rows → (number : ℕ) × IsNumber id rows number
+      × (number ≤ most)
+  number-given rows gives =
+      let unsigned = accepts-Accepts false (numbers most) gives.text gives.passes in (
+        digits_value 10 (without_leading_plus gives.text),
+        record { text = gives.text; given = gives.given; numeral = unsigned.0; value = refl; fits = unsigned.1 },
+        unsigned.3,
+      )

@@ -1,8 +1,8 @@
--- The call of a command's word and its arguments: there is at most one, and whether there is one is decided.
+-- The call of a command's word and its arguments, as a function of them: there is at most one.
 use mathlib.Core.HLevel.{is_prop→PathP, ×_prop}
 use native.Mathlib.Bridge.{le_prop}
 use Rattle.std.proofs.lemmas.Bool.{leb-false, leb-true}
-use Rattle.std.proofs.Common.{◌≡◌, ◌≢◌, ◌∙◌, ◌⊎◌, ◌≤◌, ◌<◌, ◌^◌, ℕ, Bool, true, false, nat_le, List, [], ◌∷◌, Option, Some, None, codes, refl, ap, ap₂, inl, inr, sym, subst, arith}
+use Rattle.std.proofs.Common.{◌≡◌, ◌≢◌, ◌∙◌, ◌⊎◌, ◌≤◌, ◌<◌, ◌^◌, ℕ, Bool, true, false, nat_le, List, [], ◌∷◌, Option, Some, None, IfSome, option_map, option_and_then, if◌then◌else◌, codes, refl, ap, inl, inr, sym, subst, arith}
 use Rattle.std.specs.Str.{bytes_eq}
 use Rattle.std.specs.Str.Parse.{digits_value, without_leading_plus}
 use Rattle.std.proofs.lemmas.Slice.Eq.{bytes_eq-Decides}
@@ -14,57 +14,18 @@ use Rattle.clap.proofs.ValueTestLemmas.{Accepts-accepts, accepts-Accepts}
 use Rattle.nx_code.specs.Characters.{IsCapital}
 use Rattle.nx_envelope.specs.declared.letter.Letter.{Letter}
 use Rattle.nx_cli.specs.declared.words.Call.{Call}
-use Rattle.nx_cli.specs.declared.words.Call.TheVariants.{Code, Decode, Encode, Send, Slots}
-use Rattle.nx_cli.specs.Words.{HasArguments, IsMoment, IsStation, command_name}
+use Rattle.nx_cli.specs.declared.words.Call.TheVariants.{Check, Code, Decode, Encode, Send, Show, Slots}
+use Rattle.nx_cli.proofs.EachFound.{Each}
+use Rattle.nx_cli.specs.Words.{HasArguments, IsNumber, IsStation, command_name}
 
 same_letter : (a b : Letter) → a.byte ≡ b.byte → a ≡ b
-same_letter a b e = λ i. record { byte = e i; in_range = is_prop→PathP (λ j. IsCapital (e j)) (λ j. ×_prop le_prop le_prop) a.in_range b.in_range i }
-
-station_once : (rows : List Row) (a b : Letter) → IsStation rows a → IsStation rows b → a ≡ b
-station_once rows a b first second =
-    let same : Some (a.byte ∷ []) ≡ Some (b.byte ∷ []) = sym first ∙ second in
-    same_letter a b (cc)
-
-pub moment_once : (rows : List Row) (a b : ℕ) → IsMoment rows a → IsMoment rows b → a ≡ b
-moment_once rows a b first second =
-    let same : Some first.text ≡ Some second.text = sym first.given ∙ second.given in
-    let is : first.text ≡ second.text = cc in
-    first.value ∙ (ap (λ (t : Text). digits_value 10 (without_leading_plus t)) is ∙ sym second.value)
+same_letter a b e = λ i. record { byte = e i; in_range = is_prop→PathP (λ j. IsCapital (e j))
+    (λ j. ×_prop le_prop le_prop) a.in_range b.in_range i }
 
 pub differ : (a b : Text) → bytes_eq a b ≡ false → a ≡ b → ⊥
 differ a b unlike e =
     let yes : bytes_eq a b ≡ true = (bytes_eq-Decides a b).1 e in
     absurd (cc)
-
--- a command and its arguments have at most one call
-pub same_call : (a b : Call) (rows : List Row) → command_name a ≡ command_name b → HasArguments a rows → HasArguments b rows → a ≡ b
-same_call Decode Decode rows e given other = refl
-same_call Decode Encode rows e given other = absurd (differ _ _ refl e)
-same_call Decode Code rows e given other = absurd (differ _ _ refl e)
-same_call Decode (Send station2 moment2) rows e given other = absurd (differ _ _ refl e)
-same_call Decode (Slots station2 moment2) rows e given other = absurd (differ _ _ refl e)
-same_call Encode Decode rows e given other = absurd (differ _ _ refl e)
-same_call Encode Encode rows e given other = refl
-same_call Encode Code rows e given other = absurd (differ _ _ refl e)
-same_call Encode (Send station2 moment2) rows e given other = absurd (differ _ _ refl e)
-same_call Encode (Slots station2 moment2) rows e given other = absurd (differ _ _ refl e)
-same_call Code Decode rows e given other = absurd (differ _ _ refl e)
-same_call Code Encode rows e given other = absurd (differ _ _ refl e)
-same_call Code Code rows e given other = refl
-same_call Code (Send station2 moment2) rows e given other = absurd (differ _ _ refl e)
-same_call Code (Slots station2 moment2) rows e given other = absurd (differ _ _ refl e)
-same_call (Send station1 moment1) Decode rows e given other = absurd (differ _ _ refl e)
-same_call (Send station1 moment1) Encode rows e given other = absurd (differ _ _ refl e)
-same_call (Send station1 moment1) Code rows e given other = absurd (differ _ _ refl e)
-same_call (Send station1 moment1) (Send station2 moment2) rows e given other =
-    ap₂ (λ (s : Letter) (m : ℕ). Send s m) (station_once rows station1 station2 given.0 other.0) (moment_once rows moment1 moment2 given.1 other.1)
-same_call (Send station1 moment1) (Slots station2 moment2) rows e given other = absurd (differ _ _ refl e)
-same_call (Slots station1 moment1) Decode rows e given other = absurd (differ _ _ refl e)
-same_call (Slots station1 moment1) Encode rows e given other = absurd (differ _ _ refl e)
-same_call (Slots station1 moment1) Code rows e given other = absurd (differ _ _ refl e)
-same_call (Slots station1 moment1) (Send station2 moment2) rows e given other = absurd (differ _ _ refl e)
-same_call (Slots station1 moment1) (Slots station2 moment2) rows e given other =
-    ap₂ (λ (s : Letter) (m : ℕ). Slots s m) (station_once rows station1 station2 given.0 other.0) (moment_once rows moment1 moment2 given.1 other.1)
 
 is_or_not : (a b : Text) → (a ≡ b) ⊎ (a ≢ b)
 is_or_not a b = go (bytes_eq a b) refl
@@ -73,15 +34,41 @@ is_or_not a b = go (bytes_eq a b) refl
     go true e = inl ((bytes_eq-Decides a b).0 e)
     go false e = inr (differ a b e)
 
+-- there is one of which this holds, or none
+abbrev IsDecided : {T : Type 0} → (T → Type 0) → Type 0
+IsDecided {T} P = ((x : T) × P x) ⊎ ((x : T) → P x → ⊥)
+
+abbrev decided : {T : Type 0} (P : T → Type 0) → IsDecided P → Option T
+decided P (inl x) = Some x.0
+decided P (inr none) = None
+
+-- the option holds that of which this holds, wherever there is one
+record Reads {T : Type 0} (P : T → Type 0) (o : Option T) : Type 0 where
+  is : IfSome o P
+  only : (x : T) → P x → o ≡ Some x
+
+reads-decided : {T : Type 0} (P : T → Type 0) → ((a b : T) → P a → P b → a ≡ b) → (d : IsDecided P)
+    → Reads P (decided P d)
+reads-decided P once (inl x) = record { is = x.1; only = λ y p. ap (λ z. Some z) (once x.0 y x.1 p) }
+reads-decided P once (inr none) = record { is = tt; only = λ y p. absurd (none y p) }
+
+-- the station
+station_once : (rows : List Row) (a b : Letter) → IsStation rows a → IsStation rows b → a ≡ b
+station_once rows a b first second =
+    let same : Some (a.byte ∷ []) ≡ Some (b.byte ∷ []) = sym first ∙ second in
+    same_letter a b (cc)
+
 station_of_byte : (b : ℕ) → ((s : Letter) × (b ≡ s.byte)) ⊎ ((s : Letter) → b ≢ s.byte)
 station_of_byte b = go (nat_le 65 b) (nat_le b 90) refl refl
   where
-    go : (low high : Bool) → nat_le 65 b ≡ low → nat_le b 90 ≡ high → ((s : Letter) × (b ≡ s.byte)) ⊎ ((s : Letter) → b ≢ s.byte)
+    go : (low high : Bool) → nat_le 65 b ≡ low → nat_le b 90 ≡ high → ((s : Letter) × (b ≡ s.byte)) ⊎ ((s : Letter)
+        → b ≢ s.byte)
     go true true l h = inl (record { byte = b; in_range = (leb-true 65 b l, leb-true b 90 h) }, refl)
     go false high l h = inr (λ s e. let below = leb-false 65 b l in let low = s.in_range.0 in absurd (omega arith))
     go true false l h = inr (λ s e. let above = leb-false b 90 h in let high = s.in_range.1 in absurd (omega arith))
 
-station_of_text : (o : Option Text) → ((s : Letter) × (o ≡ Some (s.byte ∷ []))) ⊎ ((s : Letter) → o ≢ Some (s.byte ∷ []))
+station_of_text : (o : Option Text) → ((s : Letter) × (o ≡ Some (s.byte ∷ []))) ⊎ ((s : Letter)
+    → o ≢ Some (s.byte ∷ []))
 station_of_text None = inr (λ s e. absurd (cc))
 station_of_text (Some []) = inr (λ s e. absurd (cc))
 station_of_text (Some (b ∷ c ∷ rest)) = inr (λ s e. absurd (cc))
@@ -90,22 +77,37 @@ station_of_text (Some (b ∷ [])) = elim (station_of_byte b) [
   | inr none ↦ inr (λ s e. none s (let same : Some (b ∷ []) ≡ Some (s.byte ∷ []) = e in cc))
 ]
 
--- a number of 64 bits
+abbrev station_in : List Row → Option Letter
+station_in rows = decided (IsStation rows) (station_of_text (first_of (codes "STATION") rows))
+
+station-reads : (rows : List Row) → Reads (IsStation rows) (station_in rows)
+station-reads rows = reads-decided (IsStation rows) (station_once rows) (station_of_text (first_of
+    (codes "STATION") rows))
+
+-- a number
+pub number_once : (name : Text) (rows : List Row) (a b : ℕ) → IsNumber name rows a → IsNumber name rows b → a ≡ b
+number_once name rows a b first second =
+    let same : Some first.text ≡ Some second.text = sym first.given ∙ second.given in
+    let is : first.text ≡ second.text = cc in
+    first.value ∙ (ap (λ (t : Text). digits_value 10 (without_leading_plus t)) is ∙ sym second.value)
+
 abbrev number : ValueParser
 number = parser.Unsigned 0 18446744073709551615
 
--- the moment of a text that is a number
-pub moment-of : (rows : List Row) (t : Text) → one_of (codes "MOMENT") rows ≡ Some t → accepts false number t ≡ true → IsMoment rows (digits_value 10 (without_leading_plus t))
-moment-of rows t is passes =
+-- the number of a text that is a number of 64 bits
+pub number-of : (name : Text) (rows : List Row) (t : Text) → one_of name rows ≡ Some t
+    → accepts false number t ≡ true → IsNumber name rows (digits_value 10 (without_leading_plus t))
+number-of name rows t is passes =
     let unsigned = accepts-Accepts false number t passes in
     record { text = t; given = is; numeral = unsigned.0; value = refl; fits = unsigned.1 }
 
-moment_of_text : (rows : List Row) (o : Option Text) → one_of (codes "MOMENT") rows ≡ o → ((m : ℕ) × IsMoment rows m) ⊎ ((m : ℕ) → IsMoment rows m → ⊥)
-moment_of_text rows None e = inr (λ m is. let bad : Some is.text ≡ None = sym is.given ∙ e in absurd (cc))
-moment_of_text rows (Some t) e = go (accepts false number t) refl
+number_of_text : (name : Text) (rows : List Row) (o : Option Text) → one_of name rows ≡ o
+    → IsDecided (IsNumber name rows)
+number_of_text name rows None e = inr (λ m is. let bad : Some is.text ≡ None = sym is.given ∙ e in absurd (cc))
+number_of_text name rows (Some t) e = go (accepts false number t) refl
   where
-    go : (b : Bool) → accepts false number t ≡ b → ((m : ℕ) × IsMoment rows m) ⊎ ((m : ℕ) → IsMoment rows m → ⊥)
-    go true passes = inl (digits_value 10 (without_leading_plus t), moment-of rows t e passes)
+    go : (b : Bool) → accepts false number t ≡ b → IsDecided (IsNumber name rows)
+    go true passes = inl (digits_value 10 (without_leading_plus t), number-of name rows t e passes)
     go false fails = inr (λ m is.
         let same : Some is.text ≡ Some t = sym is.given ∙ e in
         let text_is : is.text ≡ t = cc in
@@ -116,68 +118,137 @@ moment_of_text rows (Some t) e = go (accepts false number t) refl
         let yes_too : accepts false number t ≡ true = ap (λ (u : Text). accepts false number u) (sym text_is) ∙ yes in
         absurd (cc))
 
--- a station and a moment stand among the arguments, or not
-abbrev HasSlot : List Row → Type 0
-HasSlot rows = (s : Letter) × (m : ℕ) × IsStation rows s × IsMoment rows m
+abbrev number_in : Text → List Row → Option ℕ
+number_in name rows = decided (IsNumber name rows) (number_of_text name rows (one_of name rows) refl)
 
-slot_or_none : (rows : List Row) → HasSlot rows ⊎ ((s : Letter) (m : ℕ) → IsStation rows s → IsMoment rows m → ⊥)
-slot_or_none rows = elim (station_of_text (first_of (codes "STATION") rows)) [
-  | inl s ↦ elim (moment_of_text rows (one_of (codes "MOMENT") rows) refl) [
-    | inl m ↦ inl (s.0, m.0, s.1, m.1)
-    | inr none ↦ inr (λ s m is_s is_m. none m is_m)
-  ]
-  | inr none ↦ inr (λ s m is_s is_m. none s is_s)
-]
+number-reads : (name : Text) (rows : List Row) → Reads (IsNumber name rows) (number_in name rows)
+number-reads name rows = reads-decided (IsNumber name rows) (number_once name rows) (number_of_text name rows
+    (one_of name rows) refl)
 
--- a call has this word and these arguments
-abbrev IsCalled : Text → List Row → Type 0
-IsCalled name rows = (call : Call) × (name ≡ command_name call) × HasArguments call rows
+-- the call of a station and a moment
+abbrev slot_call : (Letter → ℕ → Call) → List Row → Option Call
+slot_call make rows = option_and_then (λ s. option_map (λ m. make s m) (number_in (codes "MOMENT") rows))
+    (station_in rows)
 
-abbrev IsNotCalled : Text → List Row → Type 0
+slot_call-only : (make : Letter → ℕ → Call) (rows : List Row) (s : Letter) (m : ℕ) → IsStation rows s
+    → IsNumber (codes "MOMENT") rows m → slot_call make rows ≡ Some (make s m)
+slot_call-only make rows s m is_s is_m =
+    rw ((station-reads rows).only s is_s, (number-reads (codes "MOMENT") rows).only m is_m) refl
+
+-- the call has this word and these arguments
+abbrev HasCall : Text → List Row → Call → Type 0
+HasCall name rows call = (name ≡ command_name call) × HasArguments call rows
+
+slot_call-is : (name : Text) (make : Letter → ℕ → Call) (rows : List Row) → ((s : Letter) (m : ℕ)
+    → IsStation rows s → IsNumber (codes "MOMENT") rows m → HasCall name rows (make s m))
+    → IfSome (slot_call make rows) (HasCall name rows)
+slot_call-is name make rows has = go (station_in rows) (number_in (codes "MOMENT") rows) (station-reads rows).is
+    (number-reads (codes "MOMENT") rows).is
+  where
+    go : (s : Option Letter) (m : Option ℕ) → IfSome s (IsStation rows) → IfSome m (IsNumber (codes "MOMENT") rows)
+        → IfSome (option_and_then (λ s. option_map (λ m. make s m) m) s) (HasCall name rows)
+    go None m is_s is_m = tt
+    go (Some s) None is_s is_m = tt
+    go (Some s) (Some m) is_s is_m = has s m is_s is_m
+
+-- what each word makes of its arguments
+abbrev Entry : Type 0
+Entry = Text × (List Row → Option Call)
+
+abbrev entries : List Entry
+entries =
+    (codes "decode", λ rows. Some Decode) ∷ (codes "encode", λ rows. Some Encode) ∷
+        (codes "code", λ rows. Some Code) ∷ (codes "show", λ rows. Some Show)
+    ∷ (codes "check", λ rows. Some Check) ∷ (codes "send", λ rows. slot_call (λ s m. Send s m) rows) ∷
+        (codes "slots", λ rows. slot_call (λ s m. Slots s m) rows) ∷ []
+
+abbrev call_in : List Entry → Text → List Row → Option Call
+call_in [] name rows = None
+call_in (e ∷ es) name rows = if bytes_eq e.0 name then e.1 rows else call_in es name rows
+
+abbrev IsSound : Entry → Type 0
+IsSound e = (rows : List Row) → IfSome (e.1 rows) (HasCall e.0 rows)
+
+entries-sound : Each IsSound entries
+entries-sound =
+    ((λ rows. (refl, tt)), ((λ rows. (refl, tt)), ((λ rows. (refl, tt)), ((λ rows. (refl, tt)), ((λ rows. (refl, tt)),
+    ((λ rows. slot_call-is (codes "send") (λ s m. Send s m) rows (λ s m is_s is_m. (refl, (is_s, is_m)))),
+    ((λ rows. slot_call-is (codes "slots") (λ s m. Slots s m) rows (λ s m is_s is_m. (refl, (is_s, is_m)))),
+    tt)))))))
+
+call_in-is : (es : List Entry) → Each IsSound es → (name : Text) (rows : List Row)
+    → IfSome (call_in es name rows) (HasCall name rows)
+call_in-is [] each name rows = tt
+call_in-is (e ∷ es) each name rows = go (bytes_eq e.0 name) refl (call_in-is es each.1 name rows)
+  where
+    go : (t : Bool) → bytes_eq e.0 name ≡ t → IfSome (call_in es name rows) (HasCall name rows)
+        → IfSome (if t then e.1 rows else call_in es name rows) (HasCall name rows)
+    go true same rest =
+        let is : e.0 ≡ name = (bytes_eq-Decides e.0 name).0 same in
+        let P : Text → Type 0 = λ word. IfSome (e.1 rows) (HasCall word rows) in
+        subst P is (each.0 rows)
+    go false other rest = rest
+
+call_in-only : (call : Call) (rows : List Row) → HasArguments call rows
+    → call_in entries (command_name call) rows ≡ Some call
+call_in-only Decode rows given = refl
+call_in-only Encode rows given = refl
+call_in-only Code rows given = refl
+call_in-only Show rows given = refl
+call_in-only Check rows given = refl
+call_in-only (Send station moment) rows given = slot_call-only (λ s m. Send s m) rows station moment given.0 given.1
+call_in-only (Slots station moment) rows given = slot_call-only (λ s m. Slots s m) rows station moment given.0 given.1
+
+only_named : (name : Text) (rows : List Row) (call : Call) → HasCall name rows call
+    → call_in entries name rows ≡ Some call
+only_named name rows call has =
+    let P : Text → Type 0 = λ word. call_in entries word rows ≡ Some call in
+    subst P (sym has.0) (call_in-only call rows has.1)
+
+-- a command and its arguments have at most one call
+pub same_call : (a b : Call) (rows : List Row) → command_name a ≡ command_name b → HasArguments a rows
+    → HasArguments b rows → a ≡ b
+same_call a b rows e given other =
+    let same : Some a ≡ Some b = sym (call_in-only a rows given) ∙ only_named (command_name a) rows b (e, other) in
+    cc
+
+-- and whether there is one is decided
+abbrev pub IsNotCalled : Text → List Row → Type 0
 IsNotCalled name rows = (call : Call) → name ≡ command_name call → HasArguments call rows → ⊥
 
-other_word : (name : Text) (rows : List Row) → name ≢ codes "decode" → name ≢ codes "encode" → name ≢ codes "code" → name ≢ codes "send" → name ≢ codes "slots" → IsNotCalled name rows
-other_word name rows d e c s l Decode is given = d is
-other_word name rows d e c s l Encode is given = e is
-other_word name rows d e c s l Code is given = c is
-other_word name rows d e c s l (Send station moment) is given = s is
-other_word name rows d e c s l (Slots station moment) is given = l is
+not_called : (name : Text) (rows : List Row) → call_in entries name rows ≡ None → IsNotCalled name rows
+not_called name rows none call word given =
+    let some : None ≡ Some call = sym none ∙ only_named name rows call (word, given) in
+    absurd (cc)
 
-pub no_send : (name : Text) (rows : List Row) → name ≡ codes "send" → ((s : Letter) (m : ℕ) → IsStation rows s → IsMoment rows m → ⊥) → IsNotCalled name rows
-no_send name rows is absent Decode e given = differ _ _ refl (sym is ∙ e)
-no_send name rows is absent Encode e given = differ _ _ refl (sym is ∙ e)
-no_send name rows is absent Code e given = differ _ _ refl (sym is ∙ e)
-no_send name rows is absent (Send station moment) e given = absent station moment given.0 given.1
-no_send name rows is absent (Slots station moment) e given = absent station moment given.0 given.1
+pub call_or_none : (name : Text) (rows : List Row) → ((call : Call) × HasCall name rows call) ⊎ IsNotCalled name rows
+call_or_none name rows = go (call_in entries name rows) refl (call_in-is entries entries-sound name rows)
+  where
+    go : (o : Option Call) → call_in entries name rows ≡ o → IfSome o (HasCall name rows)
+        → ((call : Call) × HasCall name rows call) ⊎ IsNotCalled name rows
+    go (Some call) e is = inl (call, is)
+    go None e is = inr (not_called name rows e)
 
-pub no_slots : (name : Text) (rows : List Row) → name ≡ codes "slots" → ((s : Letter) (m : ℕ) → IsStation rows s → IsMoment rows m → ⊥) → IsNotCalled name rows
-no_slots name rows is absent Decode e given = differ _ _ refl (sym is ∙ e)
-no_slots name rows is absent Encode e given = differ _ _ refl (sym is ∙ e)
-no_slots name rows is absent Code e given = differ _ _ refl (sym is ∙ e)
-no_slots name rows is absent (Send station moment) e given = absent station moment given.0 given.1
-no_slots name rows is absent (Slots station moment) e given = absent station moment given.0 given.1
+-- the word of a call that takes a station and a moment, where one of them is absent, has no call
+abbrev pub LacksSlot : List Row → Type 0
+LacksSlot rows = (s : Letter) (m : ℕ) → IsStation rows s → IsNumber (codes "MOMENT") rows m → ⊥
 
--- a command and its arguments have a call, or none
-pub call_or_none : (name : Text) (rows : List Row) → IsCalled name rows ⊎ IsNotCalled name rows
-call_or_none name rows = elim (is_or_not name (codes "decode")) [
-  | inl is ↦ inl (Decode, is, tt)
-  | inr d ↦ elim (is_or_not name (codes "encode")) [
-    | inl is ↦ inl (Encode, is, tt)
-    | inr e ↦ elim (is_or_not name (codes "code")) [
-      | inl is ↦ inl (Code, is, tt)
-      | inr c ↦ elim (is_or_not name (codes "send")) [
-        | inl is ↦ elim (slot_or_none rows) [
-          | inl slot ↦ inl (Send slot.0 slot.1, is, (slot.2, slot.3))
-          | inr none ↦ inr (no_send name rows is none)
-        ]
-        | inr s ↦ elim (is_or_not name (codes "slots")) [
-          | inl is ↦ elim (slot_or_none rows) [
-            | inl slot ↦ inl (Slots slot.0 slot.1, is, (slot.2, slot.3))
-            | inr none ↦ inr (no_slots name rows is none)
-          ]
-          | inr l ↦ inr (other_word name rows d e c s l)
-        ]
-      ]
-    ]
-  ]
-]
+slot_call-absent : (make : Letter → ℕ → Call) (rows : List Row) → LacksSlot rows → slot_call make rows ≡ None
+slot_call-absent make rows absent = go (station_in rows) (number_in (codes "MOMENT") rows) (station-reads rows).is
+    (number-reads (codes "MOMENT") rows).is
+  where
+    go : (s : Option Letter) (m : Option ℕ) → IfSome s (IsStation rows) → IfSome m (IsNumber (codes "MOMENT") rows)
+        → option_and_then (λ s. option_map (λ m. make s m) m) s ≡ None
+    go None m is_s is_m = refl
+    go (Some s) None is_s is_m = refl
+    go (Some s) (Some m) is_s is_m = absurd (absent s m is_s is_m)
+
+at_word : (word name : Text) (rows : List Row) → name ≡ word → call_in entries word rows ≡ None → IsNotCalled name rows
+at_word word name rows is none =
+    let P : Text → Type 0 = λ n. IsNotCalled n rows in subst P (sym is) (not_called word rows none)
+
+pub no_send : (name : Text) (rows : List Row) → name ≡ codes "send" → LacksSlot rows → IsNotCalled name rows
+no_send name rows is absent = at_word (codes "send") name rows is (slot_call-absent (λ s m. Send s m) rows absent)
+
+pub no_slots : (name : Text) (rows : List Row) → name ≡ codes "slots" → LacksSlot rows → IsNotCalled name rows
+no_slots name rows is absent = at_word (codes "slots") name rows is (slot_call-absent (λ s m. Slots s m) rows absent)

@@ -5,13 +5,16 @@ use Rattle.nx_cli.specs.declared.fault.CallFault.{CallFault}
 use Rattle.nx_cli.specs.declared.fault.CallFault.TheVariants as call
 use Rattle.nx_cli.specs.declared.fault.Fault.{Fault}
 use Rattle.nx_cli.specs.declared.fault.Fault.TheVariants as fault
+use Rattle.nx_station.specs.declared.fault.CheckFault.{CheckFault}
+use Rattle.nx_station.specs.declared.fault.CheckFault.TheVariants as check
+use Rattle.nx_station.specs.declared.fault.EmissionFault.TheVariants as emission
 use Rattle.nx_station.specs.declared.fault.SendRunFault.{SendRunFault}
 use Rattle.nx_station.specs.declared.fault.SendRunFault.TheVariants as send
 use Rattle.nx_cli.specs.declared.words.Call.{Call}
 use Rattle.nx_fec.specs.declared.fault.RunFault.{RunFault}
 use Rattle.nx_fec.specs.declared.fault.RunFault.TheVariants as run
 use Rattle.nx_cli.specs.Program.{Ends, Exits, Performs, Succeeds, Tells, fresh}
-use Rattle.nx_cli.specs.Status.{IsStatus, call_status, fault_status, run_status, send_status, status_of}
+use Rattle.nx_cli.specs.Status.{IsStatus, call_status, check_status, fault_status, run_status, send_status, status_of}
 use Rattle.nx_fec.specs.Transfers.{Devices, devices}
 use Rattle.nx_fec.specs.Devices.{CountedDevice}
 use Rattle.nx_cli.specs.Words.{IsRefused, Names}
@@ -24,13 +27,15 @@ fresh-is {T} c device inner none =
 
 -- how a run over devices that were wrapped ends, told of fresh ones
 pub exits-fresh : {R W : Type 0} (words : List Text) (remaining : R → Option (List ℕ)) (contents : W → Option (List ℕ))
-    (input : R) (reader reader_after : CountedDevice R) (output : W) (writer writer_after : CountedDevice W) (status : ℕ)
+    (input : R) (reader reader_after : CountedDevice R) (output : W) (writer writer_after : CountedDevice W)
+        (status : ℕ)
     → reader.inner ≡ input → reader.failures ≡ 0 → writer.inner ≡ output → writer.failures ≡ 0
     → Exits words (devices remaining contents reader reader_after writer writer_after) status
     → Exits words (devices remaining contents (fresh input) reader_after (fresh output) writer_after) status
 exits-fresh {R} {W} words remaining contents input reader reader_after output writer writer_after status input_is unread output_is unwritten exits =
     let P : Devices R W → Type 0 = λ d. Exits words d status in
-    let on : CountedDevice R → CountedDevice W → Devices R W = λ r w. devices remaining contents r reader_after w writer_after in
+    let on : CountedDevice R → CountedDevice W
+        → Devices R W = λ r w. devices remaining contents r reader_after w writer_after in
     subst P (ap₂ on (fresh-is reader input input_is unread) (fresh-is writer output output_is unwritten)) exits
 
 -- a fault of a call has status 1 or 2
@@ -56,9 +61,18 @@ send-status (send.LineCut line) = inr refl
 send-status (send.Open line) = inr refl
 send-status (send.Send why) = inr refl
 
+check-status : (why : CheckFault) → (check_status why ≡ 1) ⊎ (check_status why ≡ 2)
+check-status (check.Run why) = run-status why
+check-status (check.Emission (emission.Ragged bits)) = inr refl
+check-status (check.Emission (emission.WrongWord slot)) = inr refl
+check-status (check.Emission (emission.Unpaired position)) = inr refl
+check-status (check.Emission emission.BadEnvelope) = inr refl
+check-status (check.Emission (emission.Memory want)) = inl refl
+
 call-status : (why : CallFault) → (call_status why ≡ 1) ⊎ (call_status why ≡ 2)
 call-status (call.Run why) = run-status why
 call-status (call.Send why) = send-status why
+call-status (call.Check why) = check-status why
 call-status call.NoSlot = inr refl
 
 fault-status : (why : Fault) → (fault_status why ≡ 1) ⊎ ((fault_status why ≡ 2) ⊎ (fault_status why ≡ 64))
@@ -72,11 +86,13 @@ outcome-status (Ok done) = inl refl
 outcome-status (Err why) = inr (fault-status why)
 
 -- a run exits with one of the statuses
-pub status-exits : {R W : Type 0} (words : List Text) (d : Devices R W) (status : ℕ) → Exits words d status → IsStatus status
+pub status-exits : {R W : Type 0} (words : List Text) (d : Devices R W) (status : ℕ) → Exits words d status
+    → IsStatus status
 status-exits words d status exits =
     let P : ℕ → Type 0 = λ n. IsStatus n in subst P (sym exits.status_is) (outcome-status exits.outcome)
 
-success-ends : {R W : Type 0} (words : List Text) (d : Devices R W) (outcome : Result (Unit {0}) Fault) → Ends words d outcome → status_of outcome ≡ 0 → Succeeds words d
+success-ends : {R W : Type 0} (words : List Text) (d : Devices R W) (outcome : Result (Unit {0}) Fault)
+    → Ends words d outcome → status_of outcome ≡ 0 → Succeeds words d
 success-ends words d (Ok done) ends zero = ends
 success-ends words d (Err why) ends zero = elim (fault-status why) [
   | inl one ↦ absurd (omega arith)
@@ -84,21 +100,26 @@ success-ends words d (Err why) ends zero = elim (fault-status why) [
 ]
 
 -- status 0 is a success
-pub success-exits : {R W : Type 0} (words : List Text) (d : Devices R W) (status : ℕ) → Exits words d status → status ≡ 0 → Succeeds words d
+pub success-exits : {R W : Type 0} (words : List Text) (d : Devices R W) (status : ℕ) → Exits words d status
+    → status ≡ 0 → Succeeds words d
 success-exits words d status exits zero = success-ends words d exits.outcome exits.ends (sym exits.status_is ∙ zero)
 
-words-end : {R W : Type 0} (words : List Text) (d : Devices R W) (outcome : Result (Unit {0}) Fault) → Ends words d outcome → status_of outcome ≡ 64 → IsRefused words
+words-end : {R W : Type 0} (words : List Text) (d : Devices R W) (outcome : Result (Unit {0}) Fault)
+    → Ends words d outcome → status_of outcome ≡ 64 → IsRefused words
 words-end words d (Ok done) ends is = absurd (omega arith)
 words-end words d (Err (fault.Words answer)) ends is = inl ends.0
 words-end words d (Err fault.NoText) ends is = absurd ends
 words-end words d (Err fault.Station) ends is = inr ends.0
-words-end words d (Err (fault.Call why)) ends is = elim (call-status why) [ inl one ↦ absurd (omega arith) | inr two ↦ absurd (omega arith) ]
+words-end words d (Err (fault.Call why)) ends is = elim (call-status why) [ inl one ↦ absurd
+    (omega arith) | inr two ↦ absurd (omega arith) ]
 
 -- status 64 is a refusal of the words
-pub words-exit : {R W : Type 0} (words : List Text) (d : Devices R W) (status : ℕ) → Exits words d status → status ≡ 64 → IsRefused words
+pub words-exit : {R W : Type 0} (words : List Text) (d : Devices R W) (status : ℕ) → Exits words d status
+    → status ≡ 64 → IsRefused words
 words-exit words d status exits is = words-end words d exits.outcome exits.ends (sym exits.status_is ∙ is)
 
-refused-ends : {R W : Type 0} (words : List Text) (d : Devices R W) (outcome : Result (Unit {0}) Fault) → Ends words d outcome → IsRefused words → (status_of outcome ≡ 64) ⊎ (status_of outcome ≡ 1)
+refused-ends : {R W : Type 0} (words : List Text) (d : Devices R W) (outcome : Result (Unit {0}) Fault)
+    → Ends words d outcome → IsRefused words → (status_of outcome ≡ 64) ⊎ (status_of outcome ≡ 1)
 refused-ends words d (Ok done) ends refused = elim ends [
   | inl runs ↦ absurd (named_not_refused words runs.call runs.named refused)
   | inr help ↦ absurd (help_not_refused words help.asked refused)
@@ -115,24 +136,29 @@ refused-ends words d (Err (fault.Call why)) ends refused = elim ends [
 ]
 
 -- words that are refused end with status 64, or with 1 for want of memory
-pub refused-exits : {R W : Type 0} (words : List Text) (d : Devices R W) (status : ℕ) → Exits words d status → IsRefused words → (status ≡ 64) ⊎ (status ≡ 1)
+pub refused-exits : {R W : Type 0} (words : List Text) (d : Devices R W) (status : ℕ) → Exits words d status
+    → IsRefused words → (status ≡ 64) ⊎ (status ≡ 1)
 refused-exits words d status exits refused = elim (refused-ends words d exits.outcome exits.ends refused) [
   | inl is ↦ inl (exits.status_is ∙ is)
   | inr is ↦ inr (exits.status_is ∙ is)
 ]
 
 -- a success of words that name a call is the success of that call
-pub success-named : {R W : Type 0} (words : List Text) (d : Devices R W) (call : Call) → Names words call → Succeeds words d → Performs call d (Ok tt)
+pub success-named : {R W : Type 0} (words : List Text) (d : Devices R W) (call : Call) → Names words call
+    → Succeeds words d → Performs call d (Ok tt)
 success-named words d call named success = elim success [
-  | inl runs ↦ let P : Call → Type 0 = λ c. Performs c d (Ok tt) in subst P (named_once words runs.call call runs.named named) runs.performed
+  | inl runs ↦ let P : Call → Type 0 = λ c. Performs c d (Ok tt) in
+      subst P (named_once words runs.call call runs.named named) runs.performed
   | inr help ↦ absurd (named_not_help words call named help.asked)
 ]
 
 -- what a run answered is told
-pub tells-ok : {N F : Type 0} (name : F → CallFault) (answers : Result N F → Type 0) (answer : N) → answers (Ok answer) → Tells name answers (Ok tt)
+pub tells-ok : {N F : Type 0} (name : F → CallFault) (answers : Result N F → Type 0) (answer : N)
+    → answers (Ok answer) → Tells name answers (Ok tt)
 tells-ok name answers answer answered = record { own = Ok answer; answered = answered; told = refl }
 
-pub tells-err : {N F : Type 0} (name : F → CallFault) (answers : Result N F → Type 0) (outcome : Result (Unit {0}) CallFault) (why : F) (fault : CallFault) → answers (Err why)
+pub tells-err : {N F : Type 0} (name : F → CallFault) (answers : Result N F
+    → Type 0) (outcome : Result (Unit {0}) CallFault) (why : F) (fault : CallFault) → answers (Err why)
     → outcome ≡ Err fault → fault ≡ name why → Tells name answers outcome
 tells-err name answers outcome why fault answered is named = record {
   own = Err why;

@@ -19,12 +19,13 @@ use Rattle.clap.specs.declared.parser.matches.SubCommand.{SubCommand}
 use Rattle.nx_cli.specs.declared.words.Call.{Call}
 use Rattle.nx_cli.specs.declared.words.WordsFault.{WordsFault}
 use Rattle.nx_cli.specs.declared.words.WordsFault.TheVariants.{Help, Refused, Station, Memory}
-use Rattle.nx_cli.specs.Words.{AsksForHelp, ExplainsWords, HasArguments, IsMoment, IsRefused, IsStation, LacksStation, Names, Sorts, navtex, command_name}
+use Rattle.nx_cli.specs.Words.{AsksForHelp, ExplainsWords, HasArguments, IsNumber, IsRefused, IsStation, LacksStation, Names, Sorts, navtex, command_name}
 use Rattle.nx_cli.proofs.EachFound.{Each, found_is}
-use Rattle.nx_cli.proofs.MomentGiven.{moment-given, taken-command}
-use Rattle.nx_cli.proofs.OneCall.{call_or_none, differ, moment_once, same_call}
+use Rattle.nx_cli.proofs.CommandsTaken.{IsPlainWord, IsSlotWord, taken-command}
+use Rattle.nx_cli.proofs.NumbersGiven.{GivesNumber, number-given}
+use Rattle.nx_cli.proofs.OneCall.{IsNotCalled, call_or_none, differ, number_once, same_call}
 use Rattle.nx_envelope.specs.declared.letter.Letter.{Letter}
-use Rattle.nx_cli.specs.declared.words.Call.TheVariants.{Code, Decode, Encode, Send, Slots}
+use Rattle.nx_cli.specs.declared.words.Call.TheVariants.{Check, Code, Decode, Encode, Send, Show, Slots}
 use Rattle.nx_cli.proofs.FaultKinds.{HasNoHelp, IsUniform, kinds_cases, level-nil, u-level, u-none, u-option, uniform_excludes}
 
 pub navtex-is_simple : is_simple navtex ≡ true
@@ -35,7 +36,8 @@ pub navtex-is_simple_and_free : is_simple_and_free navtex ≡ true
 unfolding clap_on_literals
 navtex-is_simple_and_free = refl
 
-pub explained : (words : List Text) (error : Error) (fault : WordsFault) → HasKind (fault_of navtex words) error → Sorts error fault → ExplainsWords words fault
+pub explained : (words : List Text) (error : Error) (fault : WordsFault) → HasKind (fault_of navtex words) error
+    → Sorts error fault → ExplainsWords words fault
 explained words error (Help answer) kinds sorts = elim kinds [
   | inl memory ↦ absurd (let e : OutOfMemory ≡ DisplayHelp = sym memory ∙ sorts.1 in cc)
   | inr among ↦ let P : ErrorKind → Type 0 = λ k. IsAmong k (fault_of navtex words) in subst P sorts.1 among
@@ -47,7 +49,8 @@ explained words error (Refused answer) kinds sorts = elim kinds [
 explained words error Station kinds sorts = absurd sorts
 explained words error (Memory want) kinds sorts = tt
 
-name_at : (b : Option (Box SubCommand Global)) → option_map (λ b. (out-SubCommand (box_value b)).name.now) b ≡ option_map (λ p. p.0) (subcommand_rows b)
+name_at : (b : Option (Box SubCommand Global))
+    → option_map (λ b. (out-SubCommand (box_value b)).name.now) b ≡ option_map (λ p. p.0) (subcommand_rows b)
 name_at None = refl
 name_at (Some b) = refl
 
@@ -56,7 +59,8 @@ pub name_of_rows : (m : ArgMatches) → subcommand_name_of m ≡ option_map (λ 
 name_of_rows m = name_at (out-ArgMatches m).subcommand
 
 -- a pair from its parts
-pair_from : {A B : Type 0} (e : Option (A × B)) (a : A) (b : B) → option_map (λ p. p.0) e ≡ Some a → option_map (λ p. p.1) e ≡ Some b → e ≡ Some (a, b)
+pair_from : {A B : Type 0} (e : Option (A × B)) (a : A) (b : B) → option_map (λ p. p.0) e ≡ Some a
+    → option_map (λ p. p.1) e ≡ Some b → e ≡ Some (a, b)
 pair_from None a b first second = absurd (cc)
 pair_from (Some p) a b first second =
     let is_a : p.0 ≡ a = cc in
@@ -64,8 +68,10 @@ pair_from (Some p) a b first second =
     ap₂ (λ x y. Some (x, y)) is_a is_b
 
 -- the words enter the command that the parse found, with its arguments
-pub entered_pair : (words : List Text) (m : ArgMatches) (name : Text) (arguments : List Row) → subcommand_rows_of m ≡ subcommand_of navtex words
-    → subcommand_name_of m ≡ Some name → option_map (λ p. p.1) (subcommand_rows_of m) ≡ Some arguments → subcommand_of navtex words ≡ Some (name, arguments)
+pub entered_pair : (words : List Text) (m : ArgMatches) (name : Text) (arguments : List Row)
+    → subcommand_rows_of m ≡ subcommand_of navtex words
+    → subcommand_name_of m ≡ Some name → option_map (λ p. p.1) (subcommand_rows_of m) ≡ Some arguments
+        → subcommand_of navtex words ≡ Some (name, arguments)
 entered_pair words m name arguments rows name_is arguments_are =
     sym rows ∙ pair_from (subcommand_rows_of m) name arguments (sym (name_of_rows m) ∙ name_is) arguments_are
 
@@ -74,7 +80,7 @@ none_among [] k e among = among
 none_among (x ∷ xs) k e among = absurd (cc)
 
 calls_without_help : Each HasNoHelp (built navtex).subs
-calls_without_help = (refl, (refl, (refl, (refl, (refl, tt)))))
+calls_without_help = (refl, (refl, (refl, (refl, (refl, (refl, (refl, tt)))))))
 
 IfSome-weaker : {X : Type 0} (o : Option X) (P Q : X → Type 0) → ((x : X) → P x → Q x) → IfSome o P → IfSome o Q
 IfSome-weaker None P Q weaker some = tt
@@ -83,13 +89,16 @@ IfSome-weaker (Some x) P Q weaker some = weaker x some
 u-entered : (stop : Option (Text × List Text)) → IsUniform (entered_fault (built navtex) stop)
 u-entered None = u-none
 u-entered (Some p) =
-    u-option _ _ [] (IfSome-weaker _ _ _ (λ s no. u-level s [] nothing_held p.1 false [] no u-none) (found_is HasNoHelp (λ s. answers_to p.0 (label_of s)) (built navtex).subs calls_without_help)) u-none
+    u-option _ _ [] (IfSome-weaker _ _ _ (λ s no. u-level s [] nothing_held p.1 false [] no u-none)
+        (found_is HasNoHelp (λ s. answers_to p.0 (label_of s)) (built navtex).subs calls_without_help)) u-none
 
 -- clap's faults of the words are all help or all no help
 pub faults_are_uniform : (words : List Text) → IsUniform (fault_of navtex words)
 faults_are_uniform words =
-    let stop = (walk (built navtex).top.rules (names_of (built navtex)) nothing_held (argument_words navtex words)).stopped in
-    u-level (built navtex).top (names_of (built navtex)) nothing_held (argument_words navtex words) (is_some (entered (built navtex) stop))
+    let stop = (walk (built navtex).top.rules (names_of (built navtex)) nothing_held
+        (argument_words navtex words)).stopped in
+    u-level (built navtex).top (names_of (built navtex)) nothing_held (argument_words navtex words) (is_some
+        (entered (built navtex) stop))
     (entered_fault (built navtex) stop) refl (u-entered stop)
 
 pub help_not_refused : (words : List Text) → AsksForHelp words → IsRefused words → ⊥
@@ -100,82 +109,112 @@ help_not_refused words help (inr lacks) = none_among (fault_of navtex words) Dis
 pub named_not_help : (words : List Text) (call : Call) → Names words call → AsksForHelp words → ⊥
 named_not_help words call named help = none_among (fault_of navtex words) DisplayHelp named.taken help
 
--- a call whose word is that of a command that wants a station has one
-has-station : (call : Call) (arguments : List Row) → (command_name call ≡ codes "send") ⊎ (command_name call ≡ codes "slots") → HasArguments call arguments
+-- the arguments with which the words enter this command
+entered_once : (words : List Text) (a b : Text) (first second : List Row)
+    → subcommand_of navtex words ≡ Some (a, first) → subcommand_of navtex words ≡ Some (b, second)
+    → (a ≡ b) × (first ≡ second)
+entered_once words a b first second one other =
+    let same : Some (a, first) ≡ Some (b, second) = sym one ∙ other in
+    let is : (a, first) ≡ (b, second) = cc in
+    (ap (λ (p : Text × List Row). p.0) is, ap (λ (p : Text × List Row). p.1) is)
+
+-- a call of the word of a slot has a station
+has-station : (call : Call) (arguments : List Row) → IsSlotWord (command_name call) → HasArguments call arguments
     → (letter : Letter) × IsStation arguments letter
 has-station Decode arguments wants given = absurd (elim wants [ inl e ↦ differ _ _ refl e | inr e ↦ differ _ _ refl e ])
 has-station Encode arguments wants given = absurd (elim wants [ inl e ↦ differ _ _ refl e | inr e ↦ differ _ _ refl e ])
 has-station Code arguments wants given = absurd (elim wants [ inl e ↦ differ _ _ refl e | inr e ↦ differ _ _ refl e ])
+has-station Show arguments wants given = absurd (elim wants [ inl e ↦ differ _ _ refl e | inr e ↦ differ _ _ refl e ])
+has-station Check arguments wants given = absurd (elim wants [ inl e ↦ differ _ _ refl e | inr e ↦ differ _ _ refl e ])
 has-station (Send station moment) arguments wants given = (station, given.0)
 has-station (Slots station moment) arguments wants given = (station, given.0)
 
-abbrev entry : Text → List Row → Text × List Row
-entry name rows = (name, rows)
-
-named-lacks : (call : Call) (name : Text) (rows other : List Row) → (name ≡ codes "send") ⊎ (name ≡ codes "slots") → Some (entry (command_name call) rows) ≡ Some (entry name other)
-    → HasArguments call rows → ((letter : Letter) → IsStation other letter → ⊥) → ⊥
-named-lacks call name rows other wants same given none =
-    let pair : entry (command_name call) rows ≡ entry name other = cc in
-    let word = ap (λ (p : Text × List Row). p.0) pair in
-    let station = has-station call rows (elim wants [ inl e ↦ inl (word ∙ e) | inr e ↦ inr (word ∙ e) ]) given in
-    let P : List Row → Type 0 = λ r. IsStation r station.0 in
-    none station.0 (subst P (ap (λ (p : Text × List Row). p.1) pair) station.1)
+named-lacks_station : (words : List Text) (call : Call) → Names words call → LacksStation words → ⊥
+named-lacks_station words call named lacks = elim lacks.entered [
+  | inl send ↦ go (codes "send") (inl refl) (entered_once words _ _ _ _ named.command send)
+  | inr slots ↦ go (codes "slots") (inr refl) (entered_once words _ _ _ _ named.command slots)
+]
+  where
+    go : (name : Text) → IsSlotWord name → (command_name call ≡ name) × (named.arguments ≡ lacks.arguments) → ⊥
+    go name is same =
+        let P : Text → Type 0 = λ word. IsSlotWord word in
+        let station = has-station call named.arguments (subst P (sym same.0) is) named.given in
+        let Q : List Row → Type 0 = λ rows. IsStation rows station.0 in
+        lacks.no_letter station.0 (subst Q same.1 station.1)
 
 pub named_not_refused : (words : List Text) (call : Call) → Names words call → IsRefused words → ⊥
 named_not_refused words call named (inl refused) = none_among (fault_of navtex words) refused.0 named.taken refused.2
-named_not_refused words call named (inr lacks) = elim lacks.entered [
-  | inl send ↦ named-lacks call _ named.arguments lacks.arguments (inl refl) (sym named.command ∙ send) named.given lacks.no_letter
-  | inr slots ↦ named-lacks call _ named.arguments lacks.arguments (inr refl) (sym named.command ∙ slots) named.given lacks.no_letter
-]
+named_not_refused words call named (inr lacks) = named-lacks_station words call named lacks
+
+-- words with no call, which clap takes, and whose command is that of a slot
+pub no_station : (words : List Text) (name : Text) (arguments : List Row) → fault_of navtex words ≡ []
+    → subcommand_of navtex words ≡ Some (name, arguments)
+    → IsSlotWord name → GivesNumber (codes "MOMENT") 32503679999 arguments → IsNotCalled name arguments
+        → LacksStation words
+no_station words name arguments taken entered is gives none =
+    let moment = number-given _ _ arguments gives in
+    record {
+      taken = taken;
+      arguments = arguments;
+      entered = elim is [
+        | inl send ↦ inl (entered ∙ ap (λ (t : Text). Some (t, arguments)) send)
+        | inr slots ↦ inr (entered ∙ ap (λ (t : Text). Some (t, arguments)) slots)
+      ];
+      no_letter = λ letter found. elim is [
+        | inl send ↦ none (Send letter moment.0) send (found, moment.1)
+        | inr slots ↦ none (Slots letter moment.0) slots (found, moment.1)
+      ];
+    }
 
 -- words with no call, which clap takes, lack a station
-pub lacks_station : (words : List Text) (name : Text) (arguments : List Row) → fault_of navtex words ≡ [] → subcommand_of navtex words ≡ Some (name, arguments)
-    → ((call : Call) → name ≡ command_name call → HasArguments call arguments → ⊥) → LacksStation words
-lacks_station words name arguments taken entered none = elim (taken-command words name arguments taken entered) [
-  | inl decode ↦ absurd (none Decode decode tt)
-  | inr (inl encode) ↦ absurd (none Encode encode tt)
-  | inr (inr (inl code)) ↦ absurd (none Code code tt)
-  | inr (inr (inr (inl send, gives))) ↦ record {
-    taken = taken;
-    arguments = arguments;
-    entered = inl (entered ∙ ap (λ (t : Text). Some (t, arguments)) send);
-    no_letter = λ letter is.
-        let moment = moment-given arguments gives in none (Send letter moment.0) send (is, moment.1);
-  }
-  | inr (inr (inr (inr slots, gives))) ↦ record {
-    taken = taken;
-    arguments = arguments;
-    entered = inr (entered ∙ ap (λ (t : Text). Some (t, arguments)) slots);
-    no_letter = λ letter is.
-        let moment = moment-given arguments gives in none (Slots letter moment.0) slots (is, moment.1);
-  }
+lacks_argument : (words : List Text) (name : Text) (arguments : List Row) → fault_of navtex words ≡ []
+    → subcommand_of navtex words ≡ Some (name, arguments) → IsNotCalled name arguments → LacksStation words
+lacks_argument words name arguments taken entered none = elim (taken-command words name arguments taken entered) [
+  | inl plain ↦ absurd (none plain.0 plain.1 (plain.2 arguments))
+  | inr slot ↦ no_station words name arguments taken entered slot.0 slot.1 none
 ]
 
--- the moment of a call of this word is in its range
-moment-bound : (words : List Text) (name : Text) (arguments : List Row) (moment : ℕ) → fault_of navtex words ≡ [] → subcommand_of navtex words ≡ Some (name, arguments)
-    → (name ≡ codes "send") ⊎ (name ≡ codes "slots") → IsMoment arguments moment → moment ≤ 32503679999
-moment-bound words name arguments moment taken entered wants is = elim (taken-command words name arguments taken entered) [
-  | inl decode ↦ absurd (elim wants [ inl e ↦ differ _ _ refl (sym decode ∙ e) | inr e ↦ differ _ _ refl (sym decode ∙ e) ])
-  | inr (inl encode) ↦ absurd (elim wants [ inl e ↦ differ _ _ refl (sym encode ∙ e) | inr e ↦ differ _ _ refl (sym encode ∙ e) ])
-  | inr (inr (inl code)) ↦ absurd (elim wants [ inl e ↦ differ _ _ refl (sym code ∙ e) | inr e ↦ differ _ _ refl (sym code ∙ e) ])
-  | inr (inr (inr command)) ↦
-      let given = moment-given arguments command.1 in
+-- a call without arguments has no number among them
+no_numbers : (name : Text) (number : ℕ) → IsNumber name [] number → ⊥
+no_numbers name number is =
+    let bad : None ≡ Some is.text = is.given in
+    absurd (cc)
+
+-- the moment of a call of a slot is in its range
+moment-bound : (words : List Text) (call : Call) (named : Names words call) (station : Letter) (moment : ℕ)
+    → IsSlotWord (command_name call)
+    → ((rows : List Row) → HasArguments call rows → IsNumber (codes "MOMENT") rows moment) → moment ≤ 32503679999
+moment-bound words call named station moment wants gives = elim (taken-command words
+    (command_name call) named.arguments named.taken named.command) [
+  | inl plain ↦ absurd (
+      let same = same_call plain.0 call named.arguments (sym plain.1) (plain.2 named.arguments) named.given in
+      let P : Call → Type 0 = λ c. HasArguments c [] in
+      no_numbers (codes "MOMENT") moment (gives [] (subst P same (plain.2 [])))
+      )
+  | inr slot ↦
+      let given = number-given _ _ named.arguments slot.1 in
       let P : ℕ → Type 0 = λ n. n ≤ 32503679999 in
-      subst P (moment_once arguments given.0 moment given.1 is) given.2
+      subst P (number_once (codes "MOMENT") named.arguments given.0 moment given.1
+          (gives named.arguments named.given)) given.2
 ]
 
-pub send-bound : (words : List Text) (station : Letter) (moment : ℕ) → Names words (Send station moment) → moment ≤ 32503679999
-send-bound words station moment named = moment-bound words (codes "send") named.arguments moment named.taken named.command (inl refl) named.given.1
+pub send-bound : (words : List Text) (station : Letter) (moment : ℕ) → Names words (Send station moment)
+    → moment ≤ 32503679999
+send-bound words station moment named = moment-bound words (Send station moment) named station moment (inl refl)
+    (λ rows given. given.1)
 
-pub slots-bound : (words : List Text) (station : Letter) (moment : ℕ) → Names words (Slots station moment) → moment ≤ 32503679999
-slots-bound words station moment named = moment-bound words (codes "slots") named.arguments moment named.taken named.command (inr refl) named.given.1
+pub slots-bound : (words : List Text) (station : Letter) (moment : ℕ) → Names words (Slots station moment)
+    → moment ≤ 32503679999
+slots-bound words station moment named = moment-bound words (Slots station moment) named station moment (inr refl)
+    (λ rows given. given.1)
 
 -- where clap takes the words, they enter a command
 pub taken_enters : (words : List Text) → fault_of navtex words ≡ [] → is_some (subcommand_of navtex words) ≡ true
 taken_enters words taken =
     level-nil (built navtex).top (names_of (built navtex)) nothing_held (argument_words navtex words) _ _ refl taken
 
-named_by : (words : List Text) → fault_of navtex words ≡ [] → (e : Option (Text × List Row)) → subcommand_of navtex words ≡ e → is_some e ≡ true
+named_by : (words : List Text) → fault_of navtex words ≡ [] → (e : Option (Text × List Row))
+    → subcommand_of navtex words ≡ e → is_some e ≡ true
     → ((call : Call) × Names words call) ⊎ LacksStation words
 named_by words taken None entered some = absurd (cc)
 named_by words taken (Some p) entered some = elim (call_or_none p.0 p.1) [
@@ -184,11 +223,11 @@ named_by words taken (Some p) entered some = elim (call_or_none p.0 p.1) [
     record {
       taken = taken;
       arguments = p.1;
-      command = entered ∙ ap (λ (t : Text). Some (t, p.1)) call.1;
-      given = call.2;
+      command = entered ∙ ap (λ (t : Text). Some (t, p.1)) call.1.0;
+      given = call.1.1;
     },
   )
-  | inr none ↦ inr (lacks_station words p.0 p.1 taken entered none)
+  | inr none ↦ inr (lacks_argument words p.0 p.1 taken entered none)
 ]
 
 -- each list of words names a call, asks for help or is refused
@@ -205,15 +244,18 @@ read_as_one words = elim (kinds_cases (fault_of navtex words)) [
 -- and it names at most one
 pub named_once : (words : List Text) (a b : Call) → Names words a → Names words b → a ≡ b
 named_once words a b first second =
-    let same : Some (command_name a, first.arguments) ≡ Some (command_name b, second.arguments) = sym first.command ∙ second.command in
+    let same : Some (command_name a, first.arguments) ≡ Some (command_name b, second.arguments) = sym first.command
+        ∙ second.command in
     let is : (command_name a, first.arguments) ≡ (command_name b, second.arguments) = cc in
     let P : List Row → Type 0 = λ rows. HasArguments b rows in
     same_call a b first.arguments (ap (λ (q : Text × List Row). q.0) is) first.given
     (subst P (sym (ap (λ (q : Text × List Row). q.1) is)) second.given)
 
 -- the outcome of reading the words, by the call that their command and its arguments have
-pub outcome-named : (words : List Text) (name : Text) (arguments : List Row) (found : Option Call) (outcome : Result Call WordsFault) → fault_of navtex words ≡ []
-    → subcommand_of navtex words ≡ Some (name, arguments) → IfSome found (λ call. (name ≡ command_name call) × HasArguments call arguments)
+pub outcome-named : (words : List Text) (name : Text) (arguments : List Row) (found : Option Call)
+    (outcome : Result Call WordsFault) → fault_of navtex words ≡ []
+    → subcommand_of navtex words ≡ Some (name, arguments)
+    → IfSome found (λ call. (name ≡ command_name call) × HasArguments call arguments)
     → outcome ≡ ok_or found Station → IfOk outcome (Names words)
 outcome-named words name arguments None outcome taken entered some is = rw is tt
 outcome-named words name arguments (Some call) outcome taken entered some is =
@@ -224,10 +266,12 @@ outcome-named words name arguments (Some call) outcome taken entered some is =
       given = some.1;
     })
 
-pub outcome-refused : (words : List Text) (name : Text) (arguments : List Row) (found : Option Call) (outcome : Result Call WordsFault) → fault_of navtex words ≡ []
-    → subcommand_of navtex words ≡ Some (name, arguments) → IfNone found ((call : Call) → name ≡ command_name call → HasArguments call arguments → ⊥)
+pub outcome-refused : (words : List Text) (name : Text) (arguments : List Row) (found : Option Call)
+    (outcome : Result Call WordsFault) → fault_of navtex words ≡ []
+    → subcommand_of navtex words ≡ Some (name, arguments) → IfNone found (IsNotCalled name arguments)
     → outcome ≡ ok_or found Station → IfErr outcome (ExplainsWords words)
-outcome-refused words name arguments None outcome taken entered none is = rw is (lacks_station words name arguments taken entered none)
+outcome-refused words name arguments None outcome taken entered none is =
+    rw is (lacks_argument words name arguments taken entered none)
 outcome-refused words name arguments (Some call) outcome taken entered none is = rw is tt
 
 pub unknown_is_not_help : kind.UnknownArgument ≢ DisplayHelp

@@ -6,15 +6,16 @@ use Rattle.clap.specs.Words.{Text}
 use Rattle.nx_envelope.specs.Moment.{IsShownAs}
 use Rattle.std.specs.Fmt.{decimal}
 use Rattle.nx_fec.specs.Devices.{CountedDevice, WroteSome}
-use Rattle.nx_fec.specs.Runs.{Decodes, Encodes}
+use Rattle.nx_fec.specs.Runs.{Decodes, Encodes, Shows}
 use Rattle.nx_fec.specs.TableText.{table_text}
+use Rattle.nx_station.specs.Checking.{Checks}
 use Rattle.nx_station.specs.Runs.{Sends}
 use Rattle.nx_fec.specs.Transfers.{Devices, devices}
 use Rattle.nx_fec.specs.declared.fault.RunFault.{RunFault}
 use Rattle.nx_fec.specs.declared.fault.RunFault.TheVariants as run
 use Rattle.nx_station.specs.Slots.{HasNoSlot, IsNextSlot}
 use Rattle.nx_cli.specs.declared.words.Call.{Call}
-use Rattle.nx_cli.specs.declared.words.Call.TheVariants.{Code, Decode, Encode, Send, Slots}
+use Rattle.nx_cli.specs.declared.words.Call.TheVariants.{Check, Code, Decode, Encode, Send, Show, Slots}
 use Rattle.nx_cli.specs.declared.fault.CallFault.{CallFault}
 use Rattle.nx_cli.specs.declared.fault.CallFault.TheVariants as call
 use Rattle.nx_cli.specs.declared.fault.Fault.{Fault}
@@ -35,38 +36,48 @@ pub record IsUntouched {R W : Type 0} (d : Devices R W) : Type 0 where
   pub reader : d.reader_after ≡ d.reader
   pub writer : d.writer_after ≡ d.writer
 
--- the outcome of a run as the program tells it: what a success answers is dropped, and a fault gets this name
+-- the outcome of a run as the program tells it: what a success answers is dropped, and a fault
+-- gets this name
 abbrev pub told_as : {N F : Type 0} → (F → CallFault) → Result N F → Result (Unit {0}) CallFault
 told_as name (Ok answer) = Ok tt
 told_as name (Err why) = Err (name why)
 
 -- the run had an outcome of its own, of which this holds, and the program tells it so
-pub record Tells {N F : Type 0} (name : F → CallFault) (answers : Result N F → Type 0) (outcome : Result (Unit {0}) CallFault) : Type 0 where
+pub record Tells {N F : Type 0} (name : F → CallFault) (answers : Result N F → Type 0)
+    (outcome : Result (Unit {0}) CallFault) : Type 0 where
   pub own : Result N F
   pub answered : answers own
   pub told : outcome ≡ told_as name own
 
--- A text of which this holds was written whole, or as far as the fault says; or memory ran out before it was written.
-abbrev pub WritesText : {W : Type 0} → (List ℕ → Type 0) → (W → Option (List ℕ)) → CountedDevice W → CountedDevice W → Result (Unit {0}) RunFault → Type 0
+-- A text of which this holds was written whole, or as far as the fault says; or memory ran out
+-- before it was written.
+abbrev pub WritesText : {W : Type 0} → (List ℕ → Type 0) → (W → Option (List ℕ)) → CountedDevice W
+    → CountedDevice W → Result (Unit {0}) RunFault → Type 0
 WritesText IsText contents old new (Ok done) =
-    (text : List ℕ) × IsText text × Appends (contents old.inner) (contents new.inner) text × (new.failures ≡ 0)
+    (text : List ℕ) × IsText text × Appends (contents old.inner) (contents new.inner) text
+    × (new.failures ≡ 0)
 WritesText IsText contents old new (Err (run.Write written)) =
-    (text : List ℕ) × IsText text × WroteSome (contents old.inner) (contents new.inner) text written × (new.failures ≡ 1)
+    (text : List ℕ) × IsText text
+    × WroteSome (contents old.inner) (contents new.inner) text written × (new.failures ≡ 1)
 WritesText IsText contents old new (Err (run.Memory want)) = new ≡ old
 WritesText IsText contents old new (Err _) = ⊥
 
--- the line of a slot: the moment at which it begins, in decimal, a space (32), its civil time and a newline (10)
+-- the line of a slot: the moment at which it begins, in decimal, a space (32), its civil time and a
+-- newline (10)
 pub record IsSlotLine (slot : ℕ) (line : List ℕ) : Type 0 where
   pub time : List ℕ
   pub shown : IsShownAs slot time
   pub whole : line ≡ decimal slot ++ 32 ∷ time ++ 10 ∷ []
 
 -- the line of the station's next slot was written, or it has none
-abbrev pub ShowsSlot : {W : Type 0} → ℕ → ℕ → (W → Option (List ℕ)) → CountedDevice W → CountedDevice W → Result (Unit {0}) CallFault → Type 0
+abbrev pub ShowsSlot : {W : Type 0} → ℕ → ℕ → (W → Option (List ℕ)) → CountedDevice W
+    → CountedDevice W → Result (Unit {0}) CallFault → Type 0
 ShowsSlot station moment contents old new (Ok done) =
-    (slot : ℕ) × IsNextSlot station moment slot × WritesText (IsSlotLine slot) contents old new (Ok done)
+    (slot : ℕ) × IsNextSlot station moment slot
+    × WritesText (IsSlotLine slot) contents old new (Ok done)
 ShowsSlot station moment contents old new (Err (call.Run why)) =
-    (slot : ℕ) × IsNextSlot station moment slot × WritesText (IsSlotLine slot) contents old new (Err why)
+    (slot : ℕ) × IsNextSlot station moment slot
+    × WritesText (IsSlotLine slot) contents old new (Err why)
 ShowsSlot station moment contents old new (Err call.NoSlot) = HasNoSlot station moment × (new ≡ old)
 ShowsSlot station moment contents old new (Err _) = ⊥
 
@@ -75,22 +86,29 @@ abbrev pub Performs : {R W : Type 0} → Call → Devices R W → Result (Unit {
 Performs Decode d outcome = Tells (λ why. call.Run why) (Decodes d) outcome
 Performs Encode d outcome = Tells (λ why. call.Run why) (Encodes d) outcome
 Performs Code d outcome =
-    IsUnread d × Tells (λ why. call.Run why) (WritesText (λ text. text ≡ table_text) d.contents d.writer d.writer_after) outcome
-Performs (Send station moment) d outcome = Tells (λ why. call.Send why) (Sends d station.byte moment) outcome
+    IsUnread d × Tells (λ why. call.Run why)
+    (WritesText (λ text. text ≡ table_text) d.contents d.writer d.writer_after) outcome
+Performs Show d outcome = Tells (λ why. call.Run why) (Shows d) outcome
+Performs Check d outcome = Tells (λ why. call.Check why) (Checks d) outcome
+Performs (Send station moment) d outcome =
+    Tells (λ why. call.Send why) (Sends d station.byte moment) outcome
 Performs (Slots station moment) d outcome =
     IsUnread d × ShowsSlot station.byte moment d.contents d.writer d.writer_after outcome
 
 -- the words name a call, which had this outcome
-pub record RunsCall {R W : Type 0} (words : List Text) (d : Devices R W) (outcome : Result (Unit {0}) CallFault) : Type 0 where
+pub record RunsCall {R W : Type 0} (words : List Text) (d : Devices R W)
+    (outcome : Result (Unit {0}) CallFault) : Type 0 where
   pub call : Call
   pub named : Names words call
   pub performed : Performs call d outcome
 
 -- the words ask for help, and a text was written; which text that is, clap leaves open
-pub record GivesHelp {R W : Type 0} (words : List Text) (d : Devices R W) (outcome : Result (Unit {0}) CallFault) : Type 0 where
+pub record GivesHelp {R W : Type 0} (words : List Text) (d : Devices R W)
+    (outcome : Result (Unit {0}) CallFault) : Type 0 where
   pub asked : AsksForHelp words
   pub unread : IsUnread d
-  pub written : Tells (λ why. call.Run why) (WritesText (λ text. ⊤) d.contents d.writer d.writer_after) outcome
+  pub written : Tells (λ why. call.Run why)
+      (WritesText (λ text. ⊤) d.contents d.writer d.writer_after) outcome
 
 -- memory ran out before a device was called
 pub record LacksMemory {R W : Type 0} (d : Devices R W) (why : CallFault) : Type 0 where
@@ -103,7 +121,8 @@ Ends words d (Ok done) = RunsCall words d (Ok done) ⊎ GivesHelp words d (Ok do
 Ends words d (Err (fault.Words answer)) = IsRefusedByClap words × IsUntouched d
 Ends words d (Err fault.NoText) = ⊥
 Ends words d (Err fault.Station) = LacksStation words × IsUntouched d
-Ends words d (Err (fault.Call why)) = RunsCall words d (Err why) ⊎ (GivesHelp words d (Err why) ⊎ LacksMemory d why)
+Ends words d (Err (fault.Call why)) =
+    RunsCall words d (Err why) ⊎ (GivesHelp words d (Err why) ⊎ LacksMemory d why)
 
 -- the program ends so on these devices, with this status
 pub record Exits {R W : Type 0} (words : List Text) (d : Devices R W) (status : ℕ) : Type 0 where

@@ -2,6 +2,9 @@
 use Rattle.std.specs.Prelude.{◌≡◌, ◌⊎◌, ℕ, Result, Ok, Err}
 use Rattle.nx_fec.specs.declared.fault.RunFault.{RunFault}
 use Rattle.nx_fec.specs.declared.fault.RunFault.TheVariants as run
+use Rattle.nx_station.specs.declared.fault.CheckFault.{CheckFault}
+use Rattle.nx_station.specs.declared.fault.CheckFault.TheVariants as check
+use Rattle.nx_station.specs.declared.fault.EmissionFault.TheVariants as emission
 use Rattle.nx_station.specs.declared.fault.SendRunFault.{SendRunFault}
 use Rattle.nx_station.specs.declared.fault.SendRunFault.TheVariants as send
 use Rattle.nx_cli.specs.declared.fault.CallFault.{CallFault}
@@ -9,7 +12,7 @@ use Rattle.nx_cli.specs.declared.fault.CallFault.TheVariants as call
 use Rattle.nx_cli.specs.declared.fault.Fault.{Fault}
 use Rattle.nx_cli.specs.declared.fault.Fault.TheVariants as fault
 
--- the status of a fault: 1 for a device or memory, 2 for a bad file, line or value, 64 for the words
+-- the status of a fault: 1 for a device or memory, 2 for a bad file, line or value, 64 for words
 abbrev pub run_status : RunFault → ℕ
 run_status run.Read = 1
 run_status (run.Write written) = 1
@@ -22,9 +25,15 @@ send_status (send.Write written) = 1
 send_status (send.Memory want) = 1
 send_status _ = 2
 
+abbrev pub check_status : CheckFault → ℕ
+check_status (check.Run why) = run_status why
+check_status (check.Emission (emission.Memory want)) = 1
+check_status (check.Emission _) = 2
+
 abbrev pub call_status : CallFault → ℕ
 call_status (call.Run why) = run_status why
 call_status (call.Send why) = send_status why
+call_status (call.Check why) = check_status why
 call_status call.NoSlot = 2
 
 abbrev pub fault_status : Fault → ℕ

@@ -1,5 +1,5 @@
 -- What the words of the command line name, by clap's own reading of them (this profile).
-use Rattle.std.specs.Prelude.{◌≡◌, ◌≢◌, ◌⊎◌, ◌<◌, ◌∷◌, ◌^◌, ⊤, ℕ, List, [], Some, codes, false, true}
+use Rattle.std.specs.Prelude.{◌≡◌, ◌≢◌, ◌⊎◌, ◌<◌, ◌∷◌, ◌^◌, ⊤, ℕ, List, [], Some, codes, false, true, fold}
 use Rattle.std.specs.Str.Parse.{IsNumeral, digits_value, without_leading_plus}
 use Rattle.clap.specs.Words.{App, IsAmong, Row, Rule, Text, app_of, fault_of, first_of, kind_of, new_app, new_rule, one_of, subcommand_of}
 use Rattle.clap.specs.Words.{with_rule, with_subcommand}
@@ -12,7 +12,7 @@ use Rattle.clap.specs.declared.error.kind.ErrorKind.{ErrorKind}
 use Rattle.clap.specs.declared.error.kind.ErrorKind.TheVariants.{DisplayHelp, OutOfMemory}
 use Rattle.nx_envelope.specs.declared.letter.Letter.{Letter}
 use Rattle.nx_cli.specs.declared.words.Call.{Call}
-use Rattle.nx_cli.specs.declared.words.Call.TheVariants.{Code, Decode, Encode, Send, Slots}
+use Rattle.nx_cli.specs.declared.words.Call.TheVariants.{Check, Code, Decode, Encode, Send, Show, Slots}
 use Rattle.nx_cli.specs.declared.words.WordsFault.{WordsFault}
 use Rattle.nx_cli.specs.declared.words.WordsFault.TheVariants.{Help, Refused, Station, Memory}
 
@@ -21,6 +21,8 @@ abbrev pub command_name : Call → Text
 command_name Decode = codes "decode"
 command_name Encode = codes "encode"
 command_name Code = codes "code"
+command_name Show = codes "show"
+command_name Check = codes "check"
 command_name (Send station moment) = codes "send"
 command_name (Slots station moment) = codes "slots"
 
@@ -28,29 +30,37 @@ command_name (Slots station moment) = codes "slots"
 abbrev pub plain : Text → App
 plain word = new_app word
 
--- the argument STATION, which is any text
-abbrev pub station_rule : Rule
-station_rule = record (new_rule (codes "STATION")) { required = true }
+-- an argument of this name, which is any text and must be given
+abbrev pub text_rule : Text → Rule
+text_rule name = record (new_rule name) { required = true }
 
--- the argument MOMENT, which is a whole number from 0 to the last moment
-abbrev pub moment_rule : Rule
-moment_rule = record (new_rule (codes "MOMENT")) { required = true; parser = Some (parser.Unsigned 0 32503679999) }
+-- an argument of this name, which is a whole number up to the most and must be given
+abbrev pub number_rule : Text → ℕ → Rule
+number_rule name most =
+    record (new_rule name) { required = true; parser = Some (parser.Unsigned 0 most) }
 
--- a command that takes a station and a moment
+-- a command that takes a station and a moment, which is at most the last moment
 abbrev pub of_slot : Text → App
-of_slot word = with_rule (with_rule (new_app word) station_rule) moment_rule
+of_slot word =
+    let of_station = with_rule (new_app word) (text_rule (codes "STATION")) in
+    with_rule of_station (number_rule (codes "MOMENT") 32503679999)
 
 -- the program without its commands: one of them must be given, and there is no command `help`
 abbrev pub bare : App
 bare =
-    on_top (λ s. record s { disable_help_subcommand = true; subcommand_required = true }) (new_app (codes "navtex"))
+    on_top (λ s. record s { disable_help_subcommand = true; subcommand_required = true })
+    (new_app (codes "navtex"))
+
+-- the commands of the program
+abbrev pub commands : List App
+commands =
+    plain (codes "decode") ∷ plain (codes "encode") ∷ plain (codes "code")
+    ∷ plain (codes "show") ∷ plain (codes "check")
+    ∷ of_slot (codes "send") ∷ of_slot (codes "slots") ∷ []
 
 -- the command tree of the program
 abbrev pub navtex : App
-navtex =
-    let plain_ones = with_subcommand (with_subcommand (with_subcommand bare
-    (plain (codes "decode")).top) (plain (codes "encode")).top) (plain (codes "code")).top in
-    with_subcommand (with_subcommand plain_ones (of_slot (codes "send")).top) (of_slot (codes "slots")).top
+navtex = fold (λ (tree command : App). with_subcommand tree command.top) bare commands
 
 -- the command is built as this tree says
 pub record IsBuiltAs (app : App) (command : Command) : Type 0 where
@@ -61,21 +71,25 @@ pub record IsBuiltAs (app : App) (command : Command) : Type 0 where
 abbrev pub IsStation : List Row → Letter → Type 0
 IsStation arguments station = first_of (codes "STATION") arguments ≡ Some (station.byte ∷ [])
 
--- the argument MOMENT is this number: one decimal digit or more, before which a plus may stand
-pub record IsMoment (arguments : List Row) (moment : ℕ) : Type 0 where
+-- the argument of this name is this number: one decimal digit or more, with a plus before them or not
+pub record IsNumber (name : Text) (arguments : List Row) (number : ℕ) : Type 0 where
   pub text : Text
-  pub given : one_of (codes "MOMENT") arguments ≡ Some text
+  pub given : one_of name arguments ≡ Some text
   pub numeral : IsNumeral 10 (without_leading_plus text)
-  pub value : moment ≡ digits_value 10 (without_leading_plus text)
-  pub fits : moment < 2 ^ 64
+  pub value : number ≡ digits_value 10 (without_leading_plus text)
+  pub fits : number < 2 ^ 64
 
 -- the arguments are those of the call
 abbrev pub HasArguments : Call → List Row → Type 0
 HasArguments Decode arguments = ⊤
 HasArguments Encode arguments = ⊤
 HasArguments Code arguments = ⊤
-HasArguments (Send station moment) arguments = IsStation arguments station × IsMoment arguments moment
-HasArguments (Slots station moment) arguments = IsStation arguments station × IsMoment arguments moment
+HasArguments Show arguments = ⊤
+HasArguments Check arguments = ⊤
+HasArguments (Send station moment) arguments =
+    IsStation arguments station × IsNumber (codes "MOMENT") arguments moment
+HasArguments (Slots station moment) arguments =
+    IsStation arguments station × IsNumber (codes "MOMENT") arguments moment
 
 -- the words, of which the first is the program's name, name the call: clap finds no fault in them
 -- and enters the call's command with the call's arguments
@@ -91,13 +105,16 @@ AsksForHelp words = IsAmong DisplayHelp (fault_of navtex words)
 
 -- clap refuses the words
 abbrev pub IsRefusedByClap : List Text → Type 0
-IsRefusedByClap words = (kind : ErrorKind) × (kind ≢ DisplayHelp) × IsAmong kind (fault_of navtex words)
+IsRefusedByClap words =
+    (kind : ErrorKind) × (kind ≢ DisplayHelp) × IsAmong kind (fault_of navtex words)
 
--- clap takes the words, which enter a command that wants a station, and STATION is not one letter A to Z
+-- clap takes the words, which enter a command that wants a station, and STATION is not one letter A
+-- to Z
 pub record LacksStation (words : List Text) : Type 0 where
   pub taken : fault_of navtex words ≡ []
   pub arguments : List Row
-  pub entered : (subcommand_of navtex words ≡ Some (codes "send", arguments)) ⊎ (subcommand_of navtex words ≡ Some (codes "slots", arguments))
+  pub entered : (subcommand_of navtex words ≡ Some (codes "send", arguments))
+      ⊎ (subcommand_of navtex words ≡ Some (codes "slots", arguments))
   pub no_letter : (letter : Letter) → ¬ IsStation arguments letter
 
 -- the words are refused, by clap or for their station

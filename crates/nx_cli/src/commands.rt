@@ -57,13 +57,18 @@ fn encode_command<'a>(alloc: Global) -> Command<'a>
 
 const CODE_HELP: &str = "Print the table of the code.
 
-Reads nothing, and writes one line for each of the 35 words: its number in hexadecimal, with the
-element that is sent first in the least place; its elements in the order of sending; what it
-prints in the letter shift; and what it prints in the figure shift. A text of more
-than one letter names a signal, and none stands where nothing is printed.
+Reads nothing, and writes one line for each of the 35 words. Its four fields, with a space between
+them, are:
+  the number     two hexadecimal digits; the element that is sent first has the least place
+  the elements   seven letters B or Y, in the order of sending
+  the letter     what the word prints in the letter shift
+  the figure     what the word prints in the figure shift
+Two or more capitals in the last two fields are no text that is printed but the name of a signal:
+CR, LF, LTRS, FIGS, SPACE, BLANK, P1, BETA or P2. The figure none means that nothing is printed.
 
-Example, the first line:
-  47 BBBYYYB A -";
+Example, the first and the fourth line:
+  47 BBBYYYB A -
+  53 BBYYBYB D none";
 
 fn code_command<'a>(alloc: Global) -> Command<'a>
     ensures { IsBuiltAs (plain (codes "code")) result }
@@ -71,6 +76,56 @@ fn code_command<'a>(alloc: Global) -> Command<'a>
     Command::new(alloc, "code")
         .about("Print the table of the code")
         .long_about(CODE_HELP)
+}
+
+const SHOW_HELP: &str = "Print the words of an air file, one line for each.
+
+Reads an air file of at most 1048576 bytes from standard input, as decode does: the elements of its
+lines of B, joined, are words of seven elements each.
+
+Writes one line for each word to standard output, once all was read: its slot, from 0; DX where the
+slot is even and RX where it is odd; its number in hexadecimal, with the element that is sent first
+in the least place; and its name, which is what code prints as its letter, or wrong where the
+number of its elements B is not four.
+
+Example:
+  $ printf A | navtex encode | navtex show
+  0 DX 66 P2
+  1 RX 0F P1
+  ...
+  8 DX 47 A";
+
+fn show_command<'a>(alloc: Global) -> Command<'a>
+    ensures { IsBuiltAs (plain (codes "show")) result }
+{
+    Command::new(alloc, "show")
+        .about("Print the words of an air file")
+        .long_about(SHOW_HELP)
+}
+
+const CHECK_HELP: &str = "Print the messages of an air file that is exactly an emission.
+
+Reads an air file of at most 1048576 bytes from standard input, as decode does. The elements of its
+lines of B, joined, must be those that send writes for a list of messages, and no others: a word of
+wrong weight, a word that its second sending doesn't repeat and all else that send doesn't write
+are faults.
+
+Writes the station and the messages to standard output, once all was found right: the line station,
+a space and the station's letter, and then the message file that send reads.
+
+Example:
+  $ printf '#A01\\nTEST\\n;\\n' | navtex send E 1735689600 | navtex check
+  station E
+  #A01
+  TEST
+  ;";
+
+fn check_command<'a>(alloc: Global) -> Command<'a>
+    ensures { IsBuiltAs (plain (codes "check")) result }
+{
+    Command::new(alloc, "check")
+        .about("Print the messages of an air file that is exactly an emission")
+        .long_about(CHECK_HELP)
 }
 
 /// A command that takes a station and a moment.
@@ -159,6 +214,8 @@ pub fn navtex_command<'a>(alloc: Global) -> Result<Command<'a>, AllocError>
         .subcommand(decode_command(alloc))?
         .subcommand(encode_command(alloc))?
         .subcommand(code_command(alloc))?
+        .subcommand(show_command(alloc))?
+        .subcommand(check_command(alloc))?
         .subcommand(send_command(alloc)?)?
         .subcommand(slots_command(alloc)?)
 }

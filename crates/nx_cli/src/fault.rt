@@ -2,11 +2,11 @@
 
 ghost use Rattle.std.specs.Prelude.{◌≡◌};
 ghost use Rattle.nx_cli.specs.Status.{call_status, fault_status};
-ghost use Rattle.nx_cli.specs.declared.fault.CallFault.TheVariants.{Run, Send};
+ghost use Rattle.nx_cli.specs.declared.fault.CallFault.TheVariants.{Check, Run, Send};
 ghost use Rattle.nx_cli.specs.declared.fault.Fault.TheVariants.{Call};
 
 use nx_fec::{Counting, RunFault};
-use nx_station::SendRunFault;
+use nx_station::{CheckFault, EmissionFault, SendRunFault};
 use std::io;
 use std::io::Write;
 use thiserror::Error;
@@ -27,6 +27,9 @@ pub enum CallFault {
     /// The messages of a file were not sent.
     #[error(transparent)]
     Send(SendRunFault),
+    /// An air file was not checked, or it is no emission.
+    #[error(transparent)]
+    Check(CheckFault),
     /// The station has no slot from that moment on.
     #[error("no slot")]
     NoSlot,
@@ -41,6 +44,12 @@ impl CallFault {
                 DEVICE_OR_MEMORY,
             CallFault::Send(
                 SendRunFault::Read | SendRunFault::Write { written: _ } | SendRunFault::Memory(_),
+            ) => DEVICE_OR_MEMORY,
+            CallFault::Check(
+                CheckFault::Run(
+                    RunFault::Read | RunFault::Write { written: _ } | RunFault::Memory(_),
+                )
+                | CheckFault::Emission(EmissionFault::Memory(_)),
             ) => DEVICE_OR_MEMORY,
             _ => BAD_INPUT,
         }
@@ -105,6 +114,14 @@ impl From<SendRunFault> for CallFault {
 
     fn from(why: SendRunFault) -> CallFault {
         CallFault::Send(why)
+    }
+}
+
+impl From<CheckFault> for CallFault {
+    ghost from_gives = { λ why fault. fault ≡ Check why };
+
+    fn from(why: CheckFault) -> CallFault {
+        CallFault::Check(why)
     }
 }
 

@@ -5,15 +5,18 @@ ghost use Rattle.clap.specs.Words.{Text};
 ghost use Rattle.nx_envelope.specs.declared.letter.Letter.{Letter};
 ghost use Rattle.nx_cli.specs.Words.{AsksForHelp, IsRefused, LacksStation, Names};
 ghost use Rattle.nx_cli.specs.declared.words.Call.{Call};
-ghost use Rattle.nx_cli.specs.declared.words.Call.TheVariants.{Code, Decode, Encode, Send, Slots};
+ghost use Rattle.nx_cli.specs.declared.words.Call.TheVariants.{Check, Code, Decode, Encode, Send, Show, Slots};
 
 /// How the words are read: each list of words names one call, asks for help or is refused, and
 /// these exclude each other.
 pub fn words_read_as_one()
-    ensures some { (words : List Text) → ((call : Call) × Names words call) ⊎ (AsksForHelp words ⊎ IsRefused words) }
+    ensures some { (words : List Text)
+        → ((call : Call) × Names words call) ⊎ (AsksForHelp words ⊎ IsRefused words) }
     ensures one_call { (words : List Text) (a b : Call) → Names words a → Names words b → a ≡ b }
-    ensures named_not_help { (words : List Text) (call : Call) → Names words call → ¬ AsksForHelp words }
-    ensures named_not_refused { (words : List Text) (call : Call) → Names words call → ¬ IsRefused words }
+    ensures named_not_help { (words : List Text) (call : Call)
+        → Names words call → ¬ AsksForHelp words }
+    ensures named_not_refused { (words : List Text) (call : Call)
+        → Names words call → ¬ IsRefused words }
     ensures help_not_refused { (words : List Text) → AsksForHelp words → ¬ IsRefused words }
 {}
 
@@ -22,9 +25,12 @@ pub fn words_in_examples()
     ensures decode { (program : Text) → Names (program ∷ codes "decode" ∷ []) Decode }
     ensures encode { (program : Text) → Names (program ∷ codes "encode" ∷ []) Encode }
     ensures code { (program : Text) → Names (program ∷ codes "code" ∷ []) Code }
+    ensures show { (program : Text) → Names (program ∷ codes "show" ∷ []) Show }
+    ensures check { (program : Text) → Names (program ∷ codes "check" ∷ []) Check }
     ensures help { (program : Text) → AsksForHelp (program ∷ codes "--help" ∷ []) }
     ensures short_help { (program : Text) → AsksForHelp (program ∷ codes "-h" ∷ []) }
-    ensures help_of_call { (program : Text) → AsksForHelp (program ∷ codes "decode" ∷ codes "--help" ∷ []) }
+    ensures help_of_call { (program : Text)
+        → AsksForHelp (program ∷ codes "decode" ∷ codes "--help" ∷ []) }
     ensures unknown { (program : Text) → IsRefused (program ∷ codes "frob" ∷ []) }
     ensures none { (program : Text) → IsRefused (program ∷ []) }
     ensures surplus { (program : Text) → IsRefused (program ∷ codes "decode" ∷ codes "frob" ∷ []) }
@@ -44,7 +50,8 @@ pub fn moments_are_in_range()
 /// What words with a station and a moment are read as, whatever the program's name.
 pub fn slots_in_examples()
     ensures send { (program : Text) (station : Letter) → station.byte ≡ 69
-        → Names (program ∷ codes "send" ∷ codes "E" ∷ codes "1735689600" ∷ []) (Send station 1735689600) }
+        → Names (program ∷ codes "send" ∷ codes "E" ∷ codes "1735689600" ∷ [])
+        (Send station 1735689600) }
     ensures slots { (program : Text) (station : Letter) → station.byte ≡ 69
         → Names (program ∷ codes "slots" ∷ codes "E" ∷ codes "0" ∷ []) (Slots station 0) }
     ensures small_letter { (program : Text)

@@ -13,8 +13,8 @@ ghost use Rattle.nx_cli.specs.declared.words.Call.{Call};
 use crate::fault::{CallFault, Fault};
 use crate::slots::print_slot;
 use crate::words::{Call, WordsFault, call_of};
-use nx_fec::{Counting, RunFault, decode_run, encode_run, write_out, write_table};
-use nx_station::send;
+use nx_fec::{Counting, RunFault, decode_run, encode_run, show_run, write_out, write_table};
+use nx_station::{check_run, send};
 use std::alloc::{AllocError, Global};
 use std::convert::AsStr;
 use std::fmt::Display;
@@ -54,6 +54,12 @@ fn perform<R: Read, W: Write>(
             encode_run(alloc, reader, writer)?;
         }
         Call::Code => print_code(writer)?,
+        Call::Show => {
+            show_run(alloc, reader, writer)?;
+        }
+        Call::Check => {
+            check_run(alloc, reader, writer)?;
+        }
         Call::Send { station, moment } => {
             send(alloc, reader, writer, station, moment)?;
         }

@@ -4,12 +4,14 @@
 mod devices;
 mod failures;
 mod files;
+mod reading;
 mod station;
 mod words;
 
 use crate::program::run;
 use devices::{Sink, Source};
 use std::alloc::Global;
+use std::test::Fail;
 
 // The text `A` as an air file: four phasing positions, the letter and three end positions, by the
 // code table of M.476.
@@ -34,4 +36,18 @@ fn run_on(alloc: Global, words: &[&str], input: &[u8]) -> Ended {
         output: output.taken,
         faults: faults.taken,
     }
+}
+
+// The file with other elements at this place.
+fn with_word(
+    alloc: Global,
+    air_file: &[u8],
+    place: usize,
+    elements: &[u8; 7],
+) -> Result<Vec<u8>, Fail> {
+    let mut other = air_file.to_vec(alloc)?;
+    let end = place.checked_add(7).ok_or("a place")?;
+    let word = other.as_mut_slice().get_mut(place..end);
+    word.ok_or("a place in the file")?.copy_from_slice(elements);
+    Ok(other)
 }

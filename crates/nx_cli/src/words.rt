@@ -2,7 +2,8 @@
 
 ghost use Rattle.std.specs.Prelude.{◌≡◌, ◌≢◌, ℕ, [], ◌∷◌, IfErr, IfNone, IfOk, IfSome, map};
 ghost use Rattle.clap.specs.Words.{found_of, rows_of};
-ghost use Rattle.nx_cli.specs.Words.{ExplainsWords, HasArguments, IsMoment, IsStation, Names, Sorts, command_name};
+ghost use Rattle.nx_cli.specs.Words.{ExplainsWords, HasArguments, IsNumber, IsStation, Names, Sorts};
+ghost use Rattle.nx_cli.specs.Words.{command_name};
 ghost use Rattle.nx_cli.specs.declared.words.Call.{Call};
 ghost use Rattle.nx_cli.specs.declared.words.WordsFault.TheVariants.{Memory};
 ghost use Rattle.nx_envelope.specs.declared.letter.Letter.{Letter};
@@ -24,6 +25,10 @@ pub enum Call {
     Encode,
     /// Print the table of the code.
     Code,
+    /// Print the words of an air file.
+    Show,
+    /// Print the messages of an air file that is exactly an emission.
+    Check,
     /// Write messages as an air file, to be sent in the station's next slot.
     Send {
         /// The station whose messages they are.
@@ -80,13 +85,15 @@ impl Call {
             "decode" => Call::Decode,
             "encode" => Call::Encode,
             "code" => Call::Code,
+            "show" => Call::Show,
+            "check" => Call::Check,
             "send" => Call::Send {
                 station: station_in(arguments)?,
-                moment: moment_in(arguments)?,
+                moment: number_in(arguments, "MOMENT")?,
             },
             "slots" => Call::Slots {
                 station: station_in(arguments)?,
-                moment: moment_in(arguments)?,
+                moment: number_in(arguments, "MOMENT")?,
             },
             _ => return None,
         })
@@ -113,13 +120,13 @@ fn station_in(arguments: &ArgMatches) -> Option<Letter>
     letter_alone(arguments.get_str("STATION")?)
 }
 
-/// The argument MOMENT, where it is a number.
-fn moment_in(arguments: &ArgMatches) -> Option<u64>
-    ensures some { IfSome result (IsMoment (rows_of (found_of arguments.now))) }
-    ensures none { IfNone result ((moment : ℕ)
-        → ¬ IsMoment (rows_of (found_of arguments.now)) moment) }
+/// The argument of this name, where it is a number.
+fn number_in(arguments: &ArgMatches, name: &str) -> Option<u64>
+    ensures some { IfSome result (IsNumber name.now (rows_of (found_of arguments.now))) }
+    ensures none { IfNone result ((number : ℕ)
+        → ¬ IsNumber name.now (rows_of (found_of arguments.now)) number) }
 {
-    arguments.get_one("MOMENT")
+    arguments.get_one(name)
 }
 
 impl From<AllocError> for WordsFault {

@@ -27,7 +27,7 @@ fn passes_calls_on_until_one_fails(rt: HostRuntime) {
 #[test]
 fn stops_at_a_failed_read(rt: HostRuntime) {
     let alloc = rt.alloc();
-    for call in ["decode", "encode"] {
+    for call in ["decode", "encode", "show", "check"] {
         for failing in 1..=5u64 {
             let mut source = Source::of(b"B 01\n");
             source.piece = 1;

@@ -1,6 +1,6 @@
 //! `encode` and `decode` on files.
 
-use super::{AIR_FILE_OF_A, run_on};
+use super::{AIR_FILE_OF_A, run_on, with_word};
 use crate::program::run;
 use crate::tests::devices::{Sink, Source};
 use std::test::Fail;
@@ -8,11 +8,6 @@ use std::test::Fail;
 // The empty text: four phasing positions and three end positions.
 const AIR_FILE_OF_NOTHING: &[u8] =
     b"B 0110011111100001100111111000011001111110000110011111100011110001111000111100011110001111000\n";
-
-// The place in `AIR_FILE_OF_A` of the first element of a word, and the elements of a word.
-const FIRST_ELEMENT: usize = 2;
-
-const WORD_ELEMENTS: usize = 7;
 
 #[derive(Drop)]
 struct FaultRow<'a> {
@@ -47,6 +42,16 @@ fn names_each_fault(rt: HostRuntime) -> Result<(), Fail> {
             faults: "navtex: line 1 is longer than 514 bytes\n",
         },
         FaultRow {
+            call: "show",
+            input: b"B 0\n",
+            faults: "navtex: 1 elements are no whole words\n",
+        },
+        FaultRow {
+            call: "show",
+            input: b"B 0",
+            faults: "navtex: line 1 has no end\n",
+        },
+        FaultRow {
             call: "encode",
             input: b"a",
             faults: "navtex: no signal for the character at 0\n",
@@ -69,7 +74,7 @@ fn names_each_fault(rt: HostRuntime) -> Result<(), Fail> {
 #[test]
 fn stops_an_endless_file(rt: HostRuntime) {
     let alloc = rt.alloc();
-    for call in ["decode", "encode"] {
+    for call in ["decode", "encode", "show", "check"] {
         let mut source = Source::of(b"T 0\n");
         source.endless = true;
         let mut output = Sink::new(Vec::new(alloc));
@@ -130,32 +135,23 @@ fn encodes_and_decodes(rt: HostRuntime) {
     assert!(rt; nothing.output.is_empty() && nothing.faults.is_empty());
 }
 
-// Writes the elements of a word of `AIR_FILE_OF_A`.
-fn set_word(air_file: &mut [u8], word: usize, elements: &[u8; WORD_ELEMENTS]) -> Option<()> {
-    let start = word.checked_mul(WORD_ELEMENTS)?.checked_add(FIRST_ELEMENT)?;
-    let place = air_file.get_mut(start..start.checked_add(WORD_ELEMENTS)?)?;
-    place.copy_from_slice(elements);
-    Some(())
-}
-
-// A with its first element inverted, and B.
-const DAMAGED_A: &[u8; WORD_ELEMENTS] = b"0110001";
-
-const INTACT_B: &[u8; WORD_ELEMENTS] = b"0100111";
+// The places in `AIR_FILE_OF_A` of the words 8 and 13, the two sendings of A. The rows damage them by
+// their first elements, and the last one puts B there.
+const WORD_8: usize = 58;
+const WORD_13: usize = 93;
 
 #[test]
 fn decodes_damaged_words(rt: HostRuntime) -> Result<(), Fail> {
     let alloc = rt.alloc();
-    for (changes, text) in [
-        ([Some((8, DAMAGED_A)), None], b"A"),
-        ([Some((8, DAMAGED_A)), Some((13, DAMAGED_A))], b"*"),
-        ([Some((13, INTACT_B)), None], b"*"),
+    let one = with_word(alloc, AIR_FILE_OF_A, WORD_8, b"0110001")?;
+    let both = with_word(alloc, &one, WORD_13, b"0110001")?;
+    let other = with_word(alloc, AIR_FILE_OF_A, WORD_13, b"0100111")?;
+    for (air_file, text) in [
+        (one.as_slice(), b"A"),
+        (both.as_slice(), b"*"),
+        (other.as_slice(), b"*"),
     ] {
-        let mut air_file = AIR_FILE_OF_A.to_vec(alloc)?;
-        for (word, elements) in changes.into_iter().flatten() {
-            set_word(&mut air_file, word, elements).ok_or("a word of the file")?;
-        }
-        let ended = run_on(alloc, &["navtex", "decode"], air_file.as_slice());
+        let ended = run_on(alloc, &["navtex", "decode"], air_file);
         assert_eq!(rt; ended.status, 0);
         assert_eq!(rt; ended.output.as_slice(), text.as_slice());
     }

@@ -5,11 +5,11 @@ use std::alloc::{AllocError, Global};
 use std::test::Fail;
 
 // The message EA01 with the one line TEST.
-const MESSAGE_FILE: &[u8] = b"#A01\nTEST\n;\n";
+pub const MESSAGE_FILE: &[u8] = b"#A01\nTEST\n;\n";
 
 // Its emission at 1735692000: 72 phasing positions, 27 of the message, three of the end, in 203
 // words of the code table of M.476, each position in its DX slot and five slots later.
-const AIR_FILE_OF_X: &[u8] = b"\
+pub const AIR_FILE_OF_X: &[u8] = b"\
     T 1735692000\n\
     B 01100111111000011001111110000110011111100001100111111000011001111110000110011111100001100111111000\
     0110011111100001100111111000011001111110000110011111100001100111111000011001111110000110011111100001\
@@ -59,7 +59,7 @@ fn tells_the_next_slot(rt: HostRuntime) {
     }
 }
 
-const SEND: [&str; 4] = ["navtex", "send", "E", "1735689600"];
+pub const SEND: [&str; 4] = ["navtex", "send", "E", "1735689600"];
 
 #[test]
 fn names_each_fault_of_a_message_file(rt: HostRuntime) {

@@ -7,5 +7,8 @@ returns c =
     let decode = with_one_more _ _ _ _ _ c.in_ok-bare_command.ensures c.decode_command.ensures c.in_ok-subcommand.ensures in
     let encode = with_one_more _ _ _ _ _ decode c.encode_command.ensures c.in_ok-subcommand-2.ensures in
     let code = with_one_more _ _ _ _ _ encode c.code_command.ensures c.in_ok-subcommand-3.ensures in
-    let send = with_one_more _ _ _ _ _ code c.in_ok-send_command.ensures c.in_ok-subcommand-4.ensures in
-    IfOk-weaker c.subcommand-5.result _ _ (λ r added. with_one_more _ _ _ _ _ send c.in_ok-slots_command.ensures added) c.subcommand-5.ensures
+    let show = with_one_more _ _ _ _ _ code c.show_command.ensures c.in_ok-subcommand-4.ensures in
+    let check = with_one_more _ _ _ _ _ show c.check_command.ensures c.in_ok-subcommand-5.ensures in
+    let send = with_one_more _ _ _ _ _ check c.in_ok-send_command.ensures c.in_ok-subcommand-6.ensures in
+    IfOk-weaker c.subcommand-7.result _ _ (λ r added. with_one_more _ _ _ _ _ send c.in_ok-slots_command.ensures added)
+    c.subcommand-7.ensures

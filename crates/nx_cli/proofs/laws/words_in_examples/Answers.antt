@@ -10,6 +10,8 @@ returns c = record {
   decode = λ program. record { taken = refl; arguments = []; command = refl; given = tt };
   encode = λ program. record { taken = refl; arguments = []; command = refl; given = tt };
   code = λ program. record { taken = refl; arguments = []; command = refl; given = tt };
+  show = λ program. record { taken = refl; arguments = []; command = refl; given = tt };
+  check = λ program. record { taken = refl; arguments = []; command = refl; given = tt };
   help = λ program. inl refl;
   short_help = λ program. inl refl;
   help_of_call = λ program. inl refl;

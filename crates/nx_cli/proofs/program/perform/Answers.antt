@@ -15,11 +15,13 @@ returns-in_err-send-in-Send g c =
     let p = err_from_is_err_and outcome c.from_residual-in_err-send-in-Send.ensures.1 in
     let P : Call → Type 0 = λ call. Performs call d outcome in
     subst P (sym c.in-Send.is)
-    (tells-err (λ why. call.Send why) (Sends d c.in-Send.station.byte c.in-Send.moment) outcome c.in_err-send-in-Send.field-0.0 p.0 c.in_err-send-in-Send.ensures p.1 p.2)
+    (tells-err (λ why. call.Send why)
+        (Sends d c.in-Send.station.byte c.in-Send.moment) outcome c.in_err-send-in-Send.field-0.0 p.0 c.in_err-send-in-Send.ensures p.1 p.2)
 
 pub returns-in_ok-send-in-Send : goal.returns-in_ok-send-in-Send
 returns-in_ok-send-in-Send g c =
     let d = devices g.R.Read.remaining g.W.Write.contents c.args.reader.now c.send.new.reader c.args.writer.now c.send.new.writer in
     let P : Call → Type 0 = λ call. Performs call d (Ok tt) in
     subst P (sym c.in-Send.is)
-    (tells-ok (λ why. call.Send why) (Sends d c.in-Send.station.byte c.in-Send.moment) c.in_ok-send-in-Send.field-0 c.in_ok-send-in-Send.ensures)
+    (tells-ok (λ why. call.Send why)
+        (Sends d c.in-Send.station.byte c.in-Send.moment) c.in_ok-send-in-Send.field-0 c.in_ok-send-in-Send.ensures)

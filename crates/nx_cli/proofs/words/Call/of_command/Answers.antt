@@ -3,14 +3,16 @@ use Rattle.nx_cli.proofs.ArgumentsRead.{if_none}
 use Rattle.nx_cli.proofs.OneCall.{no_send, no_slots}
 use Rattle.nx_cli.proofs.words.Call.of_command.Goals as goal
 
-pub returns-in_err-moment_in-in-send-clause-none :
-    goal.returns-in_err-moment_in-in-send-clause-none
-returns-in_err-moment_in-in-send-clause-none c =
-    if_none c.from_residual-in_err-moment_in-in-send.result _ (no_send c.args.word.now (rows_of (found_of c.args.arguments.now)) c.in-send.is
-    (λ station moment is_station is_moment. c.in_err-moment_in-in-send.ensures.none moment is_moment))
+pub returns-in_err-number_in-in-send-clause-none :
+    goal.returns-in_err-number_in-in-send-clause-none
+returns-in_err-number_in-in-send-clause-none c =
+    if_none c.from_residual-in_err-number_in-in-send.result _ (no_send c.args.word.now (rows_of
+        (found_of c.args.arguments.now)) c.in-send.is
+    (λ station moment is_station is_moment. c.in_err-number_in-in-send.ensures.none moment is_moment))
 
-pub returns-in_err-moment_in-in-slots-clause-none :
-    goal.returns-in_err-moment_in-in-slots-clause-none
-returns-in_err-moment_in-in-slots-clause-none c =
-    if_none c.from_residual-in_err-moment_in-in-slots.result _ (no_slots c.args.word.now (rows_of (found_of c.args.arguments.now)) c.in-slots.is
-    (λ station moment is_station is_moment. c.in_err-moment_in-in-slots.ensures.none moment is_moment))
+pub returns-in_err-number_in-in-slots-clause-none :
+    goal.returns-in_err-number_in-in-slots-clause-none
+returns-in_err-number_in-in-slots-clause-none c =
+    if_none c.from_residual-in_err-number_in-in-slots.result _ (no_slots c.args.word.now (rows_of
+        (found_of c.args.arguments.now)) c.in-slots.is
+    (λ station moment is_station is_moment. c.in_err-number_in-in-slots.ensures.none moment is_moment))

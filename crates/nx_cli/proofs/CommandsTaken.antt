@@ -1,0 +1,84 @@
+-- Words that clap takes enter a command of the program, which is given the numbers that it wants.
+use Rattle.std.proofs.Common.{◌≡◌, ◌⊎◌, inl, inr, ℕ, ◌&&◌, ◌||◌, option_map, Bool, true, false, not, List, [], ◌∷◌, Option, Some, None, IfSome, refl, subst, codes, find}
+use Rattle.std.specs.Option.{option_map_or}
+use Rattle.clap.specs.Kinds.{check_kinds}
+use Rattle.clap.specs.Takes.{is_given}
+use Rattle.clap.specs.Words.{Row, Rule, Shape, Text, built, fault_of, subcommand_of}
+use Rattle.clap.specs.Simple.{argument_words, entered, filled_from, help_rule, label_of, names_of, rows_at}
+use Rattle.clap.specs.Walk.{answers_to, nothing_held, rows_after, walk}
+use Rattle.clap.specs.Faults.{entered_fault, level_fault}
+use Rattle.nx_cli.proofs.EachFound.{Each, found_is}
+use Rattle.nx_cli.proofs.NumbersGiven.{GivesNumber, IsNumeric, gets, uses-text, uses-wanted}
+use Rattle.nx_cli.proofs.RowsKept.{UsesWell, or-first, or-second}
+use Rattle.nx_cli.specs.declared.words.Call.{Call}
+use Rattle.nx_cli.specs.declared.words.Call.TheVariants.{Check, Code, Decode, Encode, Show}
+use Rattle.nx_cli.specs.Words.{HasArguments, command_name, navtex, number_rule, text_rule}
+
+-- the arguments of a command that wants a station and a moment, as they are built
+abbrev slot_rules : List Rule
+slot_rules = filled_from 1 (text_rule (codes "STATION") ∷ number_rule (codes "MOMENT") 32503679999 ∷ help_rule ∷ [])
+
+slot_rules-moment : Each (UsesWell (IsNumeric (codes "MOMENT") 32503679999)) slot_rules
+slot_rules-moment = (uses-text _ _ 1 _ refl, (uses-wanted _ _ 2, ((λ again vs rows e good. good), tt)))
+
+second_wanted : (a b : Bool) → check_kinds false false ((true && not a) || ((true && not b) ||
+    (false || false))) ≡ [] → b ≡ true
+second_wanted true true e = refl
+second_wanted true false e = absurd (cc)
+second_wanted false true e = absurd (cc)
+second_wanted false false e = absurd (cc)
+
+-- the word of a call that takes no argument
+abbrev pub IsPlainWord : Text → Type 0
+IsPlainWord name = (call : Call) × (name ≡ command_name call) × ((rows : List Row) → HasArguments call rows)
+
+-- the word of a call that takes a station and a moment
+abbrev pub IsSlotWord : Text → Type 0
+IsSlotWord name = (name ≡ codes "send") ⊎ (name ≡ codes "slots")
+
+-- the name of a command that was entered, and the moment that its arguments hold
+abbrev pub IsCommand : Text → List Row → Type 0
+IsCommand name rows =
+    IsPlainWord name ⊎ (IsSlotWord name × GivesNumber (codes "MOMENT") 32503679999 rows)
+
+abbrev IsCommandOf : Shape → Type 0
+IsCommandOf s = (words : List Text) → level_fault s [] nothing_held words false [] ≡ []
+    → IsCommand s.name (rows_after s.rules [] words)
+
+commands-are : Each IsCommandOf (built navtex).subs
+commands-are =
+    ((λ words e. inl (Decode, refl, λ rows. tt)), ((λ words e. inl (Encode, refl, λ rows. tt)),
+    ((λ words e. inl (Code, refl, λ rows. tt)), ((λ words e. inl (Show, refl, λ rows. tt)),
+    ((λ words e. inl (Check, refl, λ rows. tt)),
+    ((λ words e. inr (inl refl, gets _ _ _ slot_rules-moment (refl, (refl, (refl, tt)))
+        (λ rows checked. second_wanted (is_given (codes "STATION") rows) (is_given (codes "MOMENT") rows) checked) words e)),
+    ((λ words e. inr (inr refl, gets _ _ _ slot_rules-moment (refl, (refl, (refl, tt)))
+        (λ rows checked. second_wanted (is_given (codes "STATION") rows) (is_given (codes "MOMENT") rows) checked) words e)),
+    tt)))))))
+
+found-command : (words : List Text) (found : Option Shape) → IfSome found IsCommandOf
+    → option_map_or (λ s. level_fault s [] nothing_held words false []) found [] ≡ []
+    → (name : Text) (rows : List Row) → option_map (λ s. rows_at s words) found ≡ Some (name, rows)
+        → IsCommand name rows
+found-command words None is e name rows entered = absurd (cc)
+found-command words (Some s) is e name rows entered =
+    let same : Some (rows_at s words) ≡ Some (name, rows) = entered in
+    let pair : rows_at s words ≡ (name, rows) = cc in
+    let P : Text × List Row → Type 0 = λ p. IsCommand p.0 p.1 in
+    subst P pair (is words e)
+
+entered-command : (stop : Option (Text × List Text)) → entered_fault (built navtex) stop ≡ []
+    → (name : Text) (rows : List Row)
+    → entered (built navtex) stop ≡ Some (name, rows) → IsCommand name rows
+entered-command None e name rows is = absurd (cc)
+entered-command (Some p) e name rows is =
+    found-command p.1 (find (λ s. answers_to p.0 (label_of s)) (built navtex).subs)
+    (found_is IsCommandOf (λ s. answers_to p.0 (label_of s)) (built navtex).subs commands-are) e name rows is
+
+-- words that clap takes enter a command of the program, which is given the numbers that it wants
+pub taken-command : (words : List Text) (name : Text) (rows : List Row) → fault_of navtex words ≡ []
+    → subcommand_of navtex words ≡ Some (name, rows) → IsCommand name rows
+taken-command words name rows taken is =
+    let stop = (walk (built navtex).top.rules (names_of (built navtex)) nothing_held
+        (argument_words navtex words)).stopped in
+    entered-command stop (or-first _ _ (or-second _ _ taken)) name rows is

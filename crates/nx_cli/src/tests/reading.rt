@@ -1,0 +1,78 @@
+//! `show` and `check`.
+
+use super::station::{AIR_FILE_OF_X, MESSAGE_FILE, SEND};
+use super::{AIR_FILE_OF_A, run_on, with_word};
+use std::test::Fail;
+
+// The place of word 8 in `AIR_FILE_OF_A`, the first sending of A.
+const WORD_8: usize = 58;
+
+// The first, second and ninth word of an emission of A, and A with its first element inverted, by
+// the code table of M.476.
+#[test]
+fn shows_words(rt: HostRuntime) -> Result<(), Fail> {
+    let alloc = rt.alloc();
+    let shown = run_on(alloc, &["navtex", "show"], AIR_FILE_OF_A);
+    assert_eq!(rt; shown.status, 0);
+    assert!(rt; shown.faults.is_empty());
+    for (index, line) in [
+        (0, b"0 DX 66 P2".as_slice()),
+        (1, b"1 RX 0F P1".as_slice()),
+        (8, b"8 DX 47 A".as_slice()),
+        (15, b"".as_slice()),
+    ] {
+        let mut lines = shown.output.split(|byte| *byte == b'\n');
+        assert_eq!(rt; lines.nth(index), Some(line));
+    }
+    let damaged = with_word(alloc, AIR_FILE_OF_A, WORD_8, b"0110001")?;
+    let shown = run_on(alloc, &["navtex", "show"], &damaged);
+    let mut lines = shown.output.split(|byte| *byte == b'\n');
+    assert_eq!(rt; lines.nth(8), Some(b"8 DX 46 wrong".as_slice()));
+    Ok(())
+}
+
+#[test]
+fn checks_what_was_sent(rt: HostRuntime) {
+    let alloc = rt.alloc();
+    let sent = run_on(alloc, &SEND, MESSAGE_FILE);
+    let checked = run_on(alloc, &["navtex", "check"], &sent.output);
+    assert_eq!(rt; checked.status, 0);
+    assert!(rt; checked.faults.is_empty());
+    assert_eq!(rt;
+        checked.output.as_slice(),
+        b"station E\n#A01\nTEST\n;\n".as_slice()
+    );
+}
+
+// The place of word 150 in the file of an emission: behind the line of the moment and two lines of
+// 490 elements, the elements 70 to 76 of the third. The first rows damage it, and put A there.
+const WORD_150: usize = 1_071;
+
+#[test]
+fn refuses_what_is_not_sent(rt: HostRuntime) -> Result<(), Fail> {
+    let alloc = rt.alloc();
+    let wrong = with_word(alloc, AIR_FILE_OF_X, WORD_150, b"0100011")?;
+    let unpaired = with_word(alloc, AIR_FILE_OF_X, WORD_150, b"1110001")?;
+    let mut longer = AIR_FILE_OF_X.to_vec(alloc)?;
+    longer.extend_from_slice(b"B 1111000\n")?;
+    for (input, line) in [
+        (wrong.as_slice(), "navtex: word 150 has the wrong weight\n"),
+        (unpaired.as_slice(), "navtex: position 75 is unpaired\n"),
+        (
+            longer.as_slice(),
+            "navtex: not an emission of this profile\n",
+        ),
+        (b"".as_slice(), "navtex: not an emission of this profile\n"),
+        (
+            b"B 0\n".as_slice(),
+            "navtex: 1 elements are no whole words\n",
+        ),
+        (b"B 2\n".as_slice(), "navtex: line 1 is not understood\n"),
+    ] {
+        let ended = run_on(alloc, &["navtex", "check"], input);
+        assert_eq!(rt; ended.status, 2, "{}", line);
+        assert!(rt; ended.output.is_empty());
+        assert_eq!(rt; ended.faults.as_slice(), line.as_bytes());
+    }
+    Ok(())
+}
