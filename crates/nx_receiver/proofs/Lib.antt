@@ -10,6 +10,10 @@ pub mod WatchTakes
 pub mod ReceiverEvents
 pub mod ReceiverPrinting
 pub mod ReceiverOver
+pub mod WatchBits
+pub mod WatchWords
+pub mod WatchHears
+pub mod WatchLoops
 pub mod OnceLemmas
 pub mod LogLemmas
 pub mod ApartLemmas

@@ -1,8 +1,8 @@
 //! What a receiver keeps but its memory: it turns elements into copies, each with the moment and the selection in force
 //! at its second digit. What runs for each element or each word has a small answer.
 
-ghost use Rattle.std.specs.Prelude.{◌≡◌, ◌<◌, ◌≤◌, List, Bool, [], ◌∷◌, ◌++◌, ◌↔◌, length, take, IfOk, IfErr, IsErr, IsTrue, OnErr, OnOk};
-ghost use Rattle.nx_sync.specs.Synchroniser.{is_between_words};
+ghost use Rattle.std.specs.Prelude.{◌≡◌, ◌<◌, ◌≤◌, List, Bool, [], ◌∷◌, ◌++◌, ◌↔◌, length, not, take, IfOk, IfErr, IsErr, IsTrue, OnErr, OnOk};
+ghost use Rattle.nx_sync.specs.Synchroniser.{is_between_words, is_hunting};
 ghost use Rattle.nx_memory.specs.Vital.{is_vital};
 ghost use Rattle.nx_receiver.specs.Events as Command;
 ghost use Rattle.nx_receiver.specs.Events.{Setting, Start, first_setting, refused_after};
@@ -113,7 +113,7 @@ impl Watch {
         (at, Over::Nothing)
     }
 
-    /// Hears one or more elements: those that a hunt passes over, whole words, or one element.
+    /// Hears one or more elements: those of a hunt, whole words, or one element.
     fn hear_part(&mut self, bits: &[bool]) -> (usize, Over)
         requires { 0 < length bits.now }
         ensures within { result.0 ≤ length bits.now }
@@ -124,16 +124,32 @@ impl Watch {
         ensures force { in_force self.new ≡ in_force self.old }
         ensures tag { TagGoesOn self.old self.new }
     {
-        if !self.synchroniser.is_locked() {
-            let count = self.synchroniser.hunt(bits);
-            if count > 0 {
-                return (count, Over::Nothing);
-            }
+        if !self.is_locked() {
+            return self.hunt(bits);
         }
-        if self.synchroniser.is_between_words() && bits.len() >= ELEMENTS {
+        if self.is_between_words() && bits.len() >= ELEMENTS {
             return self.hear_words(bits);
         }
         (1, self.hear_element(bits[0]))
+    }
+
+    /// Hunts: hears elements up to and with the one that locks, all of them where none does.
+    fn hunt(&mut self, bits: &[bool]) -> (usize, Over)
+        requires hunting { IsTrue (is_hunting self.old.synchroniser) }
+        requires some { 0 < length bits.now }
+        ensures within { result.0 ≤ length bits.now }
+        ensures some { 0 < result.0 }
+        ensures hears { (first : Setting) (h : List Bool) (s : List Setting) (copies : List TaggedCopy) →
+            WatchStands first self.old h s copies
+            → Hears first self.old self.new h s copies (take result.0 bits.now) result.1 }
+        ensures force { in_force self.new ≡ in_force self.old }
+        ensures tag { TagGoesOn self.old self.new }
+    {
+        let count = self.synchroniser.hunt(bits);
+        if count == bits.len() {
+            return (count, Over::Nothing);
+        }
+        (count + 1, self.hear_element(bits[count]))
     }
 
     /// Hears whole words, as many as there are up to the first with which anything is over.
@@ -152,11 +168,27 @@ impl Watch {
         while let Some(word) = bits[at..].first_chunk::<ELEMENTS>() {
             let over = self.hear_word(word);
             at += ELEMENTS;
-            if over != Over::Nothing {
+            if over != Over::Nothing || !self.is_between_words() {
                 return (at, over);
             }
         }
         (at, Over::Nothing)
+    }
+
+    /// Whether a lock stands.
+    #[inline(always)]
+    fn is_locked(&self) -> bool
+        ensures { result ≡ not (is_hunting self.now.synchroniser) }
+    {
+        self.synchroniser.is_locked()
+    }
+
+    /// Whether a lock stands, and the next element is the first of a word.
+    #[inline(always)]
+    fn is_between_words(&self) -> bool
+        ensures { result ≡ is_between_words self.now.synchroniser }
+    {
+        self.synchroniser.is_between_words()
     }
 
     /// Hears the seven elements of the next word of the lock.
@@ -166,7 +198,6 @@ impl Watch {
         ensures hears { (first : Setting) (h : List Bool) (s : List Setting) (copies : List TaggedCopy) →
             WatchStands first self.old h s copies
             → Hears first self.old self.new h s copies bits.now result }
-        ensures limit { result ≡ Nothing → IsTrue (is_between_words self.new.synchroniser) }
         ensures force { in_force self.new ≡ in_force self.old }
         ensures tag { TagGoesOn self.old self.new }
     {
