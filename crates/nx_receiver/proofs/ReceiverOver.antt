@@ -61,7 +61,7 @@ pub handed : (first : Setting) (old new watch : Watching) (found given : Option 
     → Handed first old watch given tag h s copies
 handed first old new watch found given tag h s copies same is its force stands = record {
   stands = subst (λ l. WatchStands first watch h s l) (ap (λ t. copies ++ handed_out found t) (sym its) ∙ ap (λ f. copies ++ handed_out f tag) (sym is))
-  (subst (λ w. WatchStands first w h s (copies ++ handed_out found w.tag)) (sym same) stands);
+      (subst (λ w. WatchStands first w h s (copies ++ handed_out found w.tag)) (sym same) stands);
   force = ap in_force same ∙ force;
 }
 

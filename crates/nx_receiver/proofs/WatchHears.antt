@@ -73,7 +73,7 @@ quiet_bits first old h s copies bits (suc n) le quiet o =
     let more : take (n + 1) bits ≡ take n bits ++ x ∷ [] = take_more bits n false (omega arith) in
     let whole : h ++ take (n + 1) bits ≡ (h ++ take n bits) ++ x ∷ [] = ap (λ l. h ++ l) more ∙ sym (append_assoc h (take n bits) (x ∷ [])) in
     let force : s ++ all_in_force old (take (n + 1) bits) ≡ (s ++ all_in_force old (take n bits)) ++ in_force old ∷ [] =
-        ap (λ l. s ++ all_in_force old l) more ∙ ap (λ l. s ++ l) (all_in_force-append old (take n bits) (x ∷ [])) ∙ sym (append_assoc s (all_in_force old (take n bits)) (in_force old ∷ [])) in
+    ap (λ l. s ++ all_in_force old l) more ∙ ap (λ l. s ++ l) (all_in_force-append old (take n bits) (x ∷ [])) ∙ sym (append_assoc s (all_in_force old (take n bits)) (in_force old ∷ [])) in
     let is : IsStep ((h ++ take n bits) ++ x ∷ []) (step None None) = subst (λ (l : List Bool). IsStep l (step None None)) whole (quiet n (omega arith)) in
     let after = quiet_bit first old.reader old.tag (h ++ take n bits) x (s ++ all_in_force old (take n bits)) (in_force old) copies (step None None) before is refl in
     let next : n + 1 ≡ suc n = add-one n in
@@ -90,7 +90,7 @@ word_heard first old new sync bits h s copies r answer long stands is read w =
     let cut : bits ≡ six ++ x ∷ [] = sym (take_all 7 bits (omega arith)) ∙ take_more bits 6 false (omega arith) in
     let whole : h ++ bits ≡ (h ++ six) ++ x ∷ [] = ap (λ l. h ++ l) cut ∙ sym (append_assoc h six (x ∷ [])) in
     let force : s ++ all_in_force old bits ≡ (s ++ all_in_force old six) ++ in_force old ∷ [] =
-        ap (λ l. s ++ all_in_force old l) cut ∙ ap (λ l. s ++ l) (all_in_force-append old six (x ∷ [])) ∙ sym (append_assoc s (all_in_force old six) (in_force old ∷ [])) in
+    ap (λ l. s ++ all_in_force old l) cut ∙ ap (λ l. s ++ l) (all_in_force-append old six (x ∷ [])) ∙ sym (append_assoc s (all_in_force old six) (in_force old ∷ [])) in
     let before = quiet_bits first old h s copies bits 6 (omega arith) is.inside w.reads in
     let after = element_over first old new sync x (h ++ six) (s ++ all_in_force old six) copies r answer (subst (StandsAfter sync) whole stands) (subst (λ (l : List Bool). IsStep l r) whole is.last) read before in
     record {
@@ -129,7 +129,7 @@ pub hears_on : (first : Setting) (old mid new : Watching) (h : List Bool) (s : L
     → Hears first old new h s copies (xs ++ ys) answer
 hears_on first old mid new h s copies xs ys answer same f g =
     let split : (zs : List Bool) → s ++ all_in_force old (xs ++ zs) ≡ (s ++ all_in_force old xs) ++ all_in_force mid zs =
-        λ (zs : List Bool). ap (λ l. s ++ l) (all_in_force-append old xs zs) ∙ sym (append_assoc s (all_in_force old xs) (all_in_force old zs)) ∙ ap (λ l. (s ++ all_in_force old xs) ++ l) (all_in_force-same old mid zs (sym same)) in
+    λ (zs : List Bool). ap (λ l. s ++ l) (all_in_force-append old xs zs) ∙ sym (append_assoc s (all_in_force old xs) (all_in_force old zs)) ∙ ap (λ l. (s ++ all_in_force old xs) ++ l) (all_in_force-same old mid zs (sym same)) in
     record {
       brings = subst₂ (λ (x : List Bool) (y : List Setting). IsOver first new x y copies answer) (append_assoc h xs ys) (sym (split ys)) g.brings;
       none_before = λ k lt.

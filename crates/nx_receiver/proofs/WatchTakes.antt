@@ -110,8 +110,8 @@ lock_ended first watch reader found h s copies fresh ends over =
     let lock = over.lock in
     let text = past_text h lock in
     let closed : Closes (bytes_of text) found =
-        subst (λ (l : List ℕ). Closes l found) (sym (bytes_are_reading (first_role h lock.at) (word_at h lock.at) lock.at (lock.last + 1)))
-        (ends (first_role h lock.at) (word_at h lock.at) (lock.last + 1) over.reads) in
+    subst (λ (l : List ℕ). Closes l found) (sym (bytes_are_reading (first_role h lock.at) (word_at h lock.at) lock.at (lock.last + 1)))
+    (ends (first_role h lock.at) (word_at h lock.at) (lock.last + 1) over.reads) in
     record {
       synchroniser = over.synchroniser;
       reads = record {

@@ -71,7 +71,7 @@ tags-same first settings later text more kept low high placed h (header ∷ head
     let at = header_placed low high text header placed in_text in
     let same : place_of_header (text ++ more) header ≡ place_of_header text header = place_in-append text more (header.behind - 1) (omega (arith, length-bytes_of text, in_text.0, in_text.1)) in
     let force : setting_in first (settings ++ later) (place_of_header (text ++ more) header) ≡ setting_in first settings (place_of_header text header) =
-        ap (setting_in first (settings ++ later)) same ∙ get_or_append_left settings later first (place_of_header text header) (omega (arith, at.1, h)) in
+    ap (setting_in first (settings ++ later)) same ∙ get_or_append_left settings later first (place_of_header text header) (omega (arith, at.1, h)) in
     All-cons (IsTagOf first (settings ++ later) (text ++ more) kept) header headers
     (All-head (IsTagOf first settings text kept) header headers k ∙ ap (λ s. tag_of s header.identity) (sym force))
     (tags-same first settings later text more kept low high placed h headers (All-tail (IsHeaderIn (bytes_of text)) header headers i) (All-tail (IsTagOf first settings text kept) header headers k))
@@ -181,8 +181,8 @@ module _ (first : Setting) (settings : List Setting) (text : List PlacedByte) (w
       let one : All (IsTagOf first settings text watch.tag) (copy.header ∷ []) = subst (All (IsTagOf first settings text watch.tag)) ends.was_open k in
       let here : All (IsHeaderIn (bytes_of text)) (copy.header ∷ []) = subst (All (IsHeaderIn (bytes_of text))) ends.was_open (open_headers_in (bytes_of text)) in
       let is : watch.tag ≡ tag_of (setting_in first later (place_of_header whole copy.header)) copy.header.identity =
-          All-head (IsTagOf first later whole watch.tag) copy.header []
-          (tags-same first settings (in_force watch ∷ []) text (record { byte = byte; place = place } ∷ []) watch.tag low high placed h (copy.header ∷ []) here one) in
+      All-head (IsTagOf first later whole watch.tag) copy.header []
+      (tags-same first settings (in_force watch ∷ []) text (record { byte = byte; place = place } ∷ []) watch.tag low high placed h (copy.header ∷ []) here one) in
       record {
         new = found_copy whole copy ∷ [];
         ended = ended-push text byte place (copy ∷ []) ends.ended;

@@ -4,8 +4,8 @@
 mod entry;
 mod fault;
 mod judging;
-mod lock_reader;
 pub mod laws;
+mod lock_reader;
 mod over;
 mod receiver;
 mod watch;

@@ -116,7 +116,12 @@ fn add_entry(alloc: Global, log: &mut Vec<u8>, entry: &Entry) -> Result<(), Fail
 }
 
 /// Feeds one piece, and goes on behind each entry.
-fn hear<M: Recall>(alloc: Global, receiver: &mut Receiver<M>, bits: &[bool], log: &mut Vec<u8>) -> Result<(), Fail> {
+fn hear<M: Recall>(
+    alloc: Global,
+    receiver: &mut Receiver<M>,
+    bits: &[bool],
+    log: &mut Vec<u8>,
+) -> Result<(), Fail> {
     let mut at = 0;
     while at < bits.len() {
         let (count, entry) = receiver.feed(&bits[at..]);
@@ -129,7 +134,13 @@ fn hear<M: Recall>(alloc: Global, receiver: &mut Receiver<M>, bits: &[bool], log
 }
 
 /// Feeds elements in pieces of this length.
-fn hear_in_pieces<M: Recall>(alloc: Global, receiver: &mut Receiver<M>, bits: &[bool], length: usize, log: &mut Vec<u8>) -> Result<(), Fail>
+fn hear_in_pieces<M: Recall>(
+    alloc: Global,
+    receiver: &mut Receiver<M>,
+    bits: &[bool],
+    length: usize,
+    log: &mut Vec<u8>,
+) -> Result<(), Fail>
     requires { 0 < length }
 {
     for piece in bits.chunks(length) {
@@ -139,7 +150,12 @@ fn hear_in_pieces<M: Recall>(alloc: Global, receiver: &mut Receiver<M>, bits: &[
 }
 
 /// The log of all that a receiver is given.
-fn log_of<M: Recall>(alloc: Global, memory: M, given: &[Given], length: usize) -> Result<Vec<u8>, Fail>
+fn log_of<M: Recall>(
+    alloc: Global,
+    memory: M,
+    given: &[Given],
+    length: usize,
+) -> Result<Vec<u8>, Fail>
     requires { 0 < length }
 {
     let mut receiver = Receiver::new(alloc, memory, 0).or(Err("receiver"))?;
@@ -148,7 +164,9 @@ fn log_of<M: Recall>(alloc: Global, memory: M, given: &[Given], length: usize) -
         match one {
             Given::At(moment) => receiver.set_moment(*moment).or(Err("moment"))?,
             Given::Heard(bits) => hear_in_pieces(alloc, &mut receiver, *bits, length, &mut log)?,
-            Given::RefuseStation(byte) => receiver.refuse_station(Letter::new(*byte).ok_or("station")?),
+            Given::RefuseStation(byte) => receiver.refuse_station(Letter::new(*byte).ok_or(
+                "station",
+            )?),
             Given::RefuseSubject(byte) => {
                 receiver
                     .refuse_subject(Letter::new(*byte).ok_or("subject")?)
@@ -178,7 +196,13 @@ fn is_log(alloc: Global, given: &[Given], log: &[u8]) -> Result<bool, Fail> {
 fn x_intact_and_damaged(rt: HostRuntime) -> Result<(), Fail> {
     let mut bits = emission(rt.alloc(), &[X])?;
     assert_eq!(rt; bits.len(), 1421);
-    assert!(rt; is_log(rt.alloc(), &[Given::At(FIRST), Given::Heard(&bits)], LOG_OF_X)?);
+    assert!(rt;
+        is_log(
+            rt.alloc(),
+            &[Given::At(FIRST), Given::Heard(&bits)],
+            LOG_OF_X
+        )?
+    );
     // The figure shift is lost in both words.
     damage(&mut bits, 160);
     damage(&mut bits, 165);
@@ -188,7 +212,13 @@ fn x_intact_and_damaged(rt: HostRuntime) -> Result<(), Fail> {
     for pair in 72..102 {
         damage(&mut half, 2 * pair);
     }
-    assert!(rt; is_log(rt.alloc(), &[Given::At(FIRST), Given::Heard(&half)], LOG_OF_X)?);
+    assert!(rt;
+        is_log(
+            rt.alloc(),
+            &[Given::At(FIRST), Given::Heard(&half)],
+            LOG_OF_X
+        )?
+    );
     Ok(())
 }
 
@@ -210,7 +240,8 @@ fn repeats(rt: HostRuntime) -> Result<(), Fail> {
         Given::At(FIRST + 237_600),
         Given::Heard(&bits),
     ];
-    let log = b"[EA01 2025-01-01 00:40:00 full 0/5]\nTEST\n\n[EA01 2025-01-03 18:40:00 full 0/5]\nTEST\n\n";
+    let log =
+        b"[EA01 2025-01-01 00:40:00 full 0/5]\nTEST\n\n[EA01 2025-01-03 18:40:00 full 0/5]\nTEST\n\n";
     assert!(rt; is_log(rt.alloc(), &three_days, log)?);
     Ok(())
 }
@@ -250,7 +281,8 @@ fn refused_and_numbered_00(rt: HostRuntime) -> Result<(), Fail> {
         Given::Heard(&bits),
         Given::Heard(&bits),
     ];
-    let log = b"[EA00 2025-01-01 00:40:00 full 0/5]\nTEST\n\n[EA00 2025-01-01 00:40:00 full 0/5]\nTEST\n\n[EA00 2025-01-01 00:40:00 full 0/5]\nTEST\n\n";
+    let log =
+        b"[EA00 2025-01-01 00:40:00 full 0/5]\nTEST\n\n[EA00 2025-01-01 00:40:00 full 0/5]\nTEST\n\n[EA00 2025-01-01 00:40:00 full 0/5]\nTEST\n\n";
     assert!(rt; is_log(rt.alloc(), &thrice, log)?);
     let refused = [
         Given::RefuseStation(b'E'),
@@ -264,7 +296,13 @@ fn refused_and_numbered_00(rt: HostRuntime) -> Result<(), Fail> {
         Given::At(FIRST),
         Given::Heard(&two),
     ];
-    assert!(rt; is_log(rt.alloc(), &subject, b"[EL06 2025-01-01 00:40:00 full 0/5]\nTEST\n\n")?);
+    assert!(rt;
+        is_log(
+            rt.alloc(),
+            &subject,
+            b"[EL06 2025-01-01 00:40:00 full 0/5]\nTEST\n\n"
+        )?
+    );
     Ok(())
 }
 
@@ -289,14 +327,21 @@ fn cut_copies_and_two_messages(rt: HostRuntime) -> Result<(), Fail> {
     let alloc = rt.alloc();
     let bits = emission(alloc, &[X])?;
     let cut = &bits[..1323];
-    assert!(rt; is_log(alloc, &[Given::At(FIRST), Given::Heard(cut)], b"[EA01 2025-01-01 00:40:00 cut 0/5]\nTEST\n\n")?);
+    assert!(rt;
+        is_log(
+            alloc,
+            &[Given::At(FIRST), Given::Heard(cut)],
+            b"[EA01 2025-01-01 00:40:00 cut 0/5]\nTEST\n\n"
+        )?
+    );
     let whole = [
         Given::At(FIRST),
         Given::Heard(cut),
         Given::At(SECOND),
         Given::Heard(&bits),
     ];
-    let log = b"[EA01 2025-01-01 00:40:00 cut 3/8]\nTEST\n***\n\n[EA01 2025-01-01 04:40:00 full 0/5]\nTEST\n\n";
+    let log =
+        b"[EA01 2025-01-01 00:40:00 cut 3/8]\nTEST\n***\n\n[EA01 2025-01-01 04:40:00 full 0/5]\nTEST\n\n";
     assert!(rt; is_log(alloc, &whole, log)?);
     let two = emission(alloc, &[X, (b"EB02", b"")])?;
     assert_eq!(rt; two.len(), 2219);
@@ -306,7 +351,8 @@ fn cut_copies_and_two_messages(rt: HostRuntime) -> Result<(), Fail> {
         Given::At(SECOND),
         Given::Heard(&two),
     ];
-    let log = b"[EA01 2025-01-01 00:40:00 full 0/5]\nTEST\n\n[EB02 2025-01-01 00:40:00 full 0/0]\n\n";
+    let log =
+        b"[EA01 2025-01-01 00:40:00 full 0/5]\nTEST\n\n[EB02 2025-01-01 00:40:00 full 0/0]\n\n";
     assert!(rt; is_log(alloc, &twice, log)?);
     Ok(())
 }
@@ -346,16 +392,26 @@ fn a_long_copy(rt: HostRuntime) -> Result<(), Fail> {
 #[test]
 fn moments_and_commands(rt: HostRuntime) -> Result<(), Fail> {
     let alloc = rt.alloc();
-    assert!(rt; Receiver::new(alloc, PlainRecall::new(), 32_503_680_000).is_err_and(|fault| fault == ReceiverFault::MomentRange));
+    assert!(rt;
+        Receiver::new(alloc, PlainRecall::new(), 32_503_680_000).is_err_and(|fault| fault
+            == ReceiverFault::MomentRange)
+    );
     let mut memory = PlainRecall::new();
     memory.enter(nx_envelope::Identity::new(b'E', b'A', 1).ok_or("EA01")?, 5);
-    assert!(rt; Receiver::new(alloc, memory, 4).is_err_and(|fault| fault == ReceiverFault::MomentRange));
+    assert!(rt;
+        Receiver::new(alloc, memory, 4).is_err_and(|fault| fault == ReceiverFault::MomentRange)
+    );
     let mut receiver = Receiver::new(alloc, PlainRecall::new(), 0).or(Err("receiver"))?;
     assert_eq!(rt; receiver.set_moment(5), Ok(()));
-    assert_eq!(rt; receiver.set_moment(4), Err(MomentFault::Back { last: 5, given: 4 }));
+    assert_eq!(rt;
+        receiver.set_moment(4),
+        Err(MomentFault::Back { last: 5, given: 4 })
+    );
     assert_eq!(rt;
         receiver.set_moment(32_503_680_000),
-        Err(MomentFault::Range { given: 32_503_680_000 })
+        Err(MomentFault::Range {
+            given: 32_503_680_000
+        })
     );
     assert_eq!(rt; receiver.set_moment(5), Ok(()));
     let e = Letter::new(b'E').ok_or("E")?;
@@ -364,11 +420,18 @@ fn moments_and_commands(rt: HostRuntime) -> Result<(), Fail> {
     receiver.accept_station(e);
     assert!(rt; receiver.refuse_subject(e).is_ok());
     receiver.accept_subject(e);
-    assert!(rt; receiver.refuse_subject(d).is_err_and(|vital| vital.subject == d));
+    assert!(rt;
+        receiver
+            .refuse_subject(d)
+            .is_err_and(|vital| vital.subject == d)
+    );
     let bits = emission(alloc, &[(b"EE01", b"TEST\n")])?;
     let mut log = Vec::new(alloc);
     hear(alloc, &mut receiver, &bits, &mut log)?;
-    assert_eq!(rt; log.as_slice(), b"[EE01 1970-01-01 00:00:05 full 0/5]\nTEST\n\n".as_slice());
+    assert_eq!(rt;
+        log.as_slice(),
+        b"[EE01 1970-01-01 00:00:05 full 0/5]\nTEST\n\n".as_slice()
+    );
     assert!(rt; receiver.close().is_none());
     Ok(())
 }
