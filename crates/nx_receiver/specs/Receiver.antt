@@ -60,7 +60,12 @@ abbrev pub Refuses : ℕ → ℕ → MomentFault → Type 0
 Refuses last given (Range at) = (at ≡ given) × (last_moment < given)
 Refuses last given (Back from at) = (from ≡ last) × (at ≡ given) × (given ≤ last_moment) × (given < last)
 
--- these pieces, one after another
+-- the elements of these pieces, one after another
 unfoldable pub joined : List (List Bool) → List Bool
 joined [] = []
 joined (piece ∷ pieces) = piece ++ joined pieces
+
+-- the events of these pieces, of which one is fed after the other
+unfoldable pub fed : List (List Bool) → List Event
+fed [] = []
+fed (piece ∷ pieces) = elements piece ++ fed pieces

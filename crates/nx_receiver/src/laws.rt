@@ -15,8 +15,11 @@ ghost use Rattle.nx_receiver.specs.LawTerms.{AreRepeats, copies_of, own_bits};
 ghost use Rattle.nx_receiver.specs.LockText.{PlacedByte, bytes_of, lock_text, positions};
 ghost use Rattle.nx_receiver.specs.Log.{HasPrinted, IsLog, PrintsToEnd};
 ghost use Rattle.nx_receiver.specs.Printing.{printed_copies};
+ghost use Rattle.nx_receiver.specs.Receiver.{Receiving, Stands, fed, joined};
 ghost use Rattle.nx_receiver.specs.Tagged.{TaggedCopy};
 ghost use Rattle.nx_receiver.specs.Worked.{at_its_slot, damaged_words, heard_elements, sent_words, worked_log};
+
+use nx_memory::Recall;
 
 /// The bytes of the text of a lock are what is read of the positions that its words complete, from letters. And these
 /// positions are told by its words with their roles, as a list, alone: where two locks have the same words, they have the
@@ -106,4 +109,14 @@ pub fn a_worked_emission_is_printed()
     ensures damaged { PrintsToEnd at_its_slot (heard_elements damaged_words) (first_copy ∷ []) }
     ensures log { IsLog (first_copy ∷ []) worked_log }
     ensures bytes { length worked_log ≡ 42 }
+{}
+
+/// Where a receiver stands after events with a log, that log is what is printed of them. So it doesn't matter how elements
+/// are cut: two receivers that are fed the same elements in other pieces, after the same events, have the same log.
+pub fn cuttings_print_the_same<M: Recall>()
+    ensures printed { (start : Start) (events : List Event) (receiver : Receiving M) (log : List TaggedCopy) →
+        Stands M.content start receiver events log → HasPrinted start events log }
+    ensures same { (start : Start) (events : List Event) (pieces others : List (List Bool)) (one other : Receiving M) (log same : List TaggedCopy) →
+        joined pieces ≡ joined others → Stands M.content start one (events ++ fed pieces) log
+        → Stands M.content start other (events ++ fed others) same → log ≡ same }
 {}

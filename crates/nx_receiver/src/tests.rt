@@ -153,5 +153,6 @@ fn laws_hold(_rt: HostRuntime) -> Result<(), Fail> {
     laws::repeats_are_printed_once();
     laws::there_are_repeats();
     laws::a_worked_emission_is_printed();
+    laws::cuttings_print_the_same::<PlainRecall>();
     Ok(())
 }
