@@ -7,23 +7,14 @@ pub mod Growing
 pub mod LoggedLemmas
 pub mod WatchTexts
 pub mod WatchTakes
-<<<<<<< HEAD
 pub mod ReceiverEvents
 pub mod ReceiverPrinting
 pub mod ReceiverOver
 pub mod ReceiverFeeds
-=======
->>>>>>> wt_recv
 pub mod WatchBits
 pub mod WatchWords
 pub mod WatchHears
 pub mod WatchLoops
-<<<<<<< HEAD
-=======
-pub mod ReceiverEvents
-pub mod ReceiverPrinting
-pub mod ReceiverOver
->>>>>>> wt_recv
 pub mod OnceLemmas
 pub mod LogLemmas
 pub mod ApartLemmas
