@@ -15,9 +15,6 @@ pub mod WatchBits
 pub mod WatchWords
 pub mod WatchHears
 pub mod WatchLoops
-pub mod ReceiverEvents
-pub mod ReceiverPrinting
-pub mod ReceiverOver
 pub mod OnceLemmas
 pub mod LogLemmas
 pub mod ApartLemmas
