@@ -9,7 +9,7 @@ use Rattle.std.proofs.Math.Seq.{take-add}
 use Rattle.nx_fec.specs.AirFile.{Line, IsLine, spelling}
 use Rattle.nx_fec.specs.Devices.{HasWritten, WroteSome}
 use Rattle.nx_fec.specs.Transfers.{Devices, IsReadOut, Writes}
-use Rattle.nx_fec.specs.Lines.{IsAirFile, IsAtByte, IsCause, Scanning, Scans, StopsIn, file_of, line_bytes}
+use Rattle.nx_fec.specs.Lines.{IsAtByte, IsCause, Scanning, Scans, StopsIn, file_of, line_bytes}
 use Rattle.nx_fec.specs.LineRuns.{AnswersLines, Beginning, ExplainsLines, HasGiven, HasTaken, HasTakenAll, HasTakenSome, IsPlaced, IsRefused, IsTaking, Refusing, RunsLines, Standing, StopsAt, Waiting}
 use Rattle.nx_fec.specs.Scanner.{kind_kept}
 use Rattle.nx_fec.specs.declared.air_file.LineKind.{LineKind}

@@ -1,5 +1,5 @@
 -- What a run says of its reader follows from what its reading said of it.
-use Rattle.std.proofs.Common.{◌≡◌, ◌≢◌, ◌↔◌, ◌≤◌, ℕ, arith, List, Option, None, Some, IfSome, Result, Ok, Err, IsErrOf}
+use Rattle.std.proofs.Common.{◌≡◌, ◌≢◌, ◌↔◌, ℕ, arith, List, Option, None, Some, IfSome, Result, Ok, Err, IsErrOf}
 use Rattle.nx_fec.proofs.ReadingLaws.{Err-same}
 use Rattle.nx_fec.specs.Devices.{CountedDevice}
 use Rattle.nx_fec.specs.Transfers.{Reads, Writes}

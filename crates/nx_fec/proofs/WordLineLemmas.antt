@@ -1,7 +1,6 @@
 -- The names and the lines of words.
-use Rattle.std.proofs.Common.{◌≡◌, ℕ, ◌+◌, ◌/◌, ◌<◌, true, false, eqb, eqb-true, List, [], ◌∷◌, ◌++◌, length, map, codes, get_or, Option, None, Some, refl, sym, ap, ◌∙◌, arith, append-nil, append_assoc, subst, ◌%◌, Bool}
-use Rattle.std.specs.Fmt.{decimal}
-use Rattle.std.specs.Option.{is_some, option_map_or}
+use Rattle.std.proofs.Common.{◌≡◌, ℕ, ◌+◌, ◌/◌, ◌<◌, true, eqb, eqb-true, List, [], ◌∷◌, ◌++◌, length, map, codes, get_or, Option, None, Some, refl, sym, ap, ◌∙◌, arith, append-nil, append_assoc, subst, ◌%◌, Bool}
+use Rattle.std.specs.Option.{option_map_or}
 use Rattle.std.specs.List.{flat_map, range_with_len}
 use Rattle.std.proofs.lemmas.List.Concat.{flat_map-append}
 use Rattle.std.proofs.lemmas.List.FromFn.{map-range_with_len_more}

@@ -1,8 +1,8 @@
 use Rattle.std.proofs.Common.{◌∙◌, ◌++◌, [], length, take, subst, refl, append-nil, arith}
 use Rattle.std.specs.Io.KnownBytes.{Appends}
-use Rattle.std.proofs.KnownBytes.{Consumes-nil, Consumes-trans, Consumes-kept}
-use Rattle.nx_fec.specs.Lines.{IsCause, Scans, file_of}
-use Rattle.nx_fec.specs.LineRuns.{ExplainsLines, HasGiven, HasTaken, HasTakenSome, IsTaking}
+use Rattle.std.proofs.KnownBytes.{Consumes-trans, Consumes-kept}
+use Rattle.nx_fec.specs.Lines.{IsCause}
+use Rattle.nx_fec.specs.LineRuns.{ExplainsLines, HasGiven, HasTakenSome}
 use Rattle.nx_fec.proofs.LineRunLemmas.{ExplainsLines-not_read, ExplainsLines-piece, HasGiven-empty, HasGiven-written, HasTaken-map, IsPlaced-end, IsTaking-sent, Line-read, Line-write, Read-other, RunsLines-of, StopsAt-end, Write-other, scanned-within, taken-some}
 use Rattle.nx_fec.proofs.TransferLaws.{Ok-not_err, Writes-fault, Writes-none, Writes-sound, read_failed-none}
 use Rattle.nx_fec.proofs.line_run.run_lines.Goals as goal

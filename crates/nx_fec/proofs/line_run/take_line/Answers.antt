@@ -1,4 +1,3 @@
-use Rattle.std.proofs.Common.{◌++◌, take}
 use Rattle.nx_fec.specs.LineRuns.{HasTaken, HasGiven}
 use Rattle.nx_fec.proofs.LineRunLemmas.{IsPlaced-at_byte, StopsAt-cause, explains-refused, explains-write, no-kind, some-kind, taking-ended, taking-open}
 use Rattle.nx_fec.proofs.line_run.take_line.Goals as goal

@@ -1,4 +1,4 @@
-use Rattle.std.proofs.Common.{◌≡◌, ◌++◌, take, length, ap, sym, arith, subst, option_to_list}
+use Rattle.std.proofs.Common.{◌≡◌, ◌++◌, take, length, arith, subst, option_to_list}
 use Rattle.std.proofs.lemmas.Result.{err_from_is_err_and}
 use Rattle.nx_fec.specs.Lines.{Scans}
 use Rattle.nx_fec.proofs.ScanLemmas.{Scans-ended, Scans-inside, Scans-open, StopsIn-at}
