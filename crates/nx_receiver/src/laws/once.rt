@@ -53,18 +53,18 @@ pub fn a_message_is_printed_once()
         → IsHeardInTime start events parts message → IsPrintedOnce message log }
 {}
 
+/// What has to be met, so that a message is printed once, can be met: by EA01 with the line TEST, in
+/// the bits of its emission alone, of whose message each DX word is damaged.
+pub fn there_is_a_message_heard_in_time()
+    ensures { IsHeardInTime at_its_slot (heard_elements damaged_words)
+        (example_parts (bits_of (take 96 damaged_words)) []) example_message }
+{}
+
 /// What is printed of messages, one after another, holds the header of each message, and no other.
 pub fn printed_messages_hold_their_headers_alone()
     ensures { (messages : List MessageView) (header : Header) →
         AllByRecursion (λ (message : MessageView). AreLines message.lines) messages
         → Contains (headers (flat_map printed_text messages)) header ↔ IsHeaderOf messages header }
-{}
-
-/// What has to be met for it can be met: by EA01 with the line TEST, in the bits of its emission
-/// alone, of whose message each DX word is damaged.
-pub fn there_is_a_message_heard_in_time()
-    ensures { IsHeardInTime at_its_slot (heard_elements damaged_words)
-        (example_parts (bits_of (take 96 damaged_words)) []) example_message }
 {}
 
 #[cfg(test)]
