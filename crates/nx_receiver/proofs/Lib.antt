@@ -33,3 +33,4 @@ pub mod SendingEmissions
 pub mod SendingFound
 pub mod OnceFound
 pub mod OnceExample
+pub mod SendingHeaders

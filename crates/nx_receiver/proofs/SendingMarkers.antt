@@ -13,18 +13,18 @@ use Rattle.nx_envelope.specs.declared.found.How.TheVariants.{Full, Cut, Long}
 use Rattle.nx_envelope.proofs.Endings.{ended_both}
 
 -- a word of four letters, none of them a newline
-record IsWord (word : List ℕ) : Type 0 where
-  a : ℕ
-  b : ℕ
-  c : ℕ
-  d : ℕ
-  spelled : word ≡ a ∷ b ∷ c ∷ d ∷ []
-  first : a ≢ 10
-  second : b ≢ 10
-  third : c ≢ 10
-  fourth : d ≢ 10
+pub record IsWord (word : List ℕ) : Type 0 where
+  pub a : ℕ
+  pub b : ℕ
+  pub c : ℕ
+  pub d : ℕ
+  pub spelled : word ≡ a ∷ b ∷ c ∷ d ∷ []
+  pub first : a ≢ 10
+  pub second : b ≢ 10
+  pub third : c ≢ 10
+  pub fourth : d ≢ 10
 
-start_word : IsWord start_marker
+pub start_word : IsWord start_marker
 start_word =
     record { a = 90; b = 67; c = 90; d = 67; spelled = refl; first = λ e. absurd (omega (arith, e)); second = λ e. absurd (omega (arith, e)); third = λ e. absurd (omega (arith, e)); fourth = λ e. absurd (omega (arith, e)) }
 
@@ -33,9 +33,9 @@ end_word =
     record { a = 78; b = 78; c = 78; d = 78; spelled = refl; first = λ e. absurd (omega (arith, e)); second = λ e. absurd (omega (arith, e)); third = λ e. absurd (omega (arith, e)); fourth = λ e. absurd (omega (arith, e)) }
 
 -- where such a word begins before a newline, it ends before it
-record Begins (word line : List ℕ) : Type 0 where
-  rest : List ℕ
-  whole : line ≡ word ++ rest
+pub record Begins (word line : List ℕ) : Type 0 where
+  pub rest : List ℕ
+  pub whole : line ≡ word ++ rest
 
 begins_four : (a b c d : ℕ) (line rest back : List ℕ) → a ≢ 10 → b ≢ 10 → c ≢ 10 → d ≢ 10
     → line ++ 10 ∷ rest ≡ a ∷ b ∷ c ∷ d ∷ back → Begins (a ∷ b ∷ c ∷ d ∷ []) line
@@ -45,17 +45,17 @@ begins_four a b c d (w ∷ x ∷ []) rest back na nb nc nd e = let same : c ≡ 
 begins_four a b c d (w ∷ x ∷ y ∷ []) rest back na nb nc nd e = let same : d ≡ 10 = cc in absurd (nd same)
 begins_four a b c d (w ∷ x ∷ y ∷ z ∷ line) rest back na nb nc nd e = record { rest = line; whole = cc }
 
-begins_word : (word line rest back : List ℕ) → IsWord word → line ++ 10 ∷ rest ≡ word ++ back → Begins word line
+pub begins_word : (word line rest back : List ℕ) → IsWord word → line ++ 10 ∷ rest ≡ word ++ back → Begins word line
 begins_word word line rest back is e =
     let spelled : line ++ 10 ∷ rest ≡ is.a ∷ is.b ∷ is.c ∷ is.d ∷ back = e ∙ ap (λ w. w ++ back) is.spelled in
     subst (λ (w : List ℕ). Begins w line) (sym is.spelled) (begins_four is.a is.b is.c is.d line rest back is.first is.second is.third is.fourth spelled)
 
 -- no line holds the word
-abbrev LackWord : List ℕ → List (List ℕ) → Type 0
+abbrev pub LackWord : List ℕ → List (List ℕ) → Type 0
 LackWord word lines = All (λ (line : List ℕ). ¬ HoldsWord word line) lines
 
 -- then it begins nowhere in the text of the lines
-begins_nowhere : (word : List ℕ) → IsWord word → (lines : List (List ℕ)) → LackWord word lines
+pub begins_nowhere : (word : List ℕ) → IsWord word → (lines : List (List ℕ)) → LackWord word lines
     → (k : ℕ) (rest back : List ℕ) → k < length (text_of lines) → drop k (text_of lines ++ rest) ≡ word ++ back → ⊥
 begins_nowhere word is [] lack k rest back lt e = omega arith
 begins_nowhere word is (line ∷ lines) lack k rest back lt e =
@@ -100,7 +100,7 @@ ends_nowhere word is lines lack rest place lt h =
     ∙ ap (λ l. l ++ drop place raw) h.spelled ∙ append_assoc h.front word (drop place raw) in
     begins_nowhere word is lines lack (length h.front) rest (drop place raw) (omega arith) (ap (drop (length h.front)) whole ∙ drop_at h.front (word ++ drop place raw) (length h.front) refl)
 
-lack_start : (lines : List (List ℕ)) → AreLines lines → LackWord start_marker lines
+pub lack_start : (lines : List (List ℕ)) → AreLines lines → LackWord start_marker lines
 lack_start lines good k d lt h = (good.each k d lt).unreserved (inl h)
 
 lack_end : (lines : List (List ℕ)) → AreLines lines → LackWord end_marker lines

@@ -1,11 +1,15 @@
 //! Laws of messages that are sent, from the words of their emissions to what is printed of them.
 //! Each function does nothing; its contract is the law.
 
-ghost use Rattle.std.specs.Prelude.{◌≡◌, Bool, List, [], ◌∷◌, take};
+ghost use Rattle.std.specs.Prelude.{◌≡◌, ◌↔◌, Bool, Contains, List, [], ◌∷◌, take};
+ghost use Rattle.std.specs.List.{AllByRecursion, flat_map};
+ghost use Rattle.nx_envelope.specs.Copies.{headers};
 ghost use Rattle.nx_envelope.specs.Errors.{errors_of};
-ghost use Rattle.nx_envelope.specs.Message.{text_of};
+ghost use Rattle.nx_envelope.specs.Header.{Header};
+ghost use Rattle.nx_envelope.specs.Message.{AreLines, text_of};
 ghost use Rattle.nx_envelope.specs.MessageView.{MessageView};
 ghost use Rattle.nx_fec.specs.Emission.{bits_of};
+ghost use Rattle.nx_station.specs.Broadcast.{printed_text};
 ghost use Rattle.nx_station.specs.ChannelExample.{example_message, example_parts};
 ghost use Rattle.nx_station.specs.Sendings.{IsCut, IsReceived, IsSending, Part, ReceivedEmission, Sending};
 ghost use Rattle.nx_sync.specs.Locks.{IsNow, Lock, Now};
@@ -13,7 +17,7 @@ ghost use Rattle.nx_receiver.specs.Events.{Event, Start};
 ghost use Rattle.nx_receiver.specs.FoundCopies.{ended_so_far, found_to_end};
 ghost use Rattle.nx_receiver.specs.Log.{PrintsToEnd};
 ghost use Rattle.nx_receiver.specs.OnceHeard.{IsHeardInTime, IsPrintedOnce};
-ghost use Rattle.nx_receiver.specs.Sending.{HoldsThrough, copies_at, copy_of_sending};
+ghost use Rattle.nx_receiver.specs.Sending.{HoldsThrough, IsHeaderOf, copies_at, copy_of_sending};
 ghost use Rattle.nx_receiver.specs.Tagged.{TaggedCopy};
 ghost use Rattle.nx_receiver.specs.Worked.{at_its_slot, damaged_words, heard_elements};
 
@@ -49,11 +53,18 @@ pub fn a_message_is_printed_once()
         → IsHeardInTime start events parts message → IsPrintedOnce message log }
 {}
 
-/// What has to be met for it can be met: by EA01 with the line TEST, in the bits of its emission
-/// alone, of whose message each DX word is damaged.
+/// What has to be met, so that a message is printed once, can be met: by EA01 with the line TEST, in
+/// the bits of its emission alone, of whose message each DX word is damaged.
 pub fn there_is_a_message_heard_in_time()
     ensures { IsHeardInTime at_its_slot (heard_elements damaged_words)
         (example_parts (bits_of (take 96 damaged_words)) []) example_message }
+{}
+
+/// What is printed of messages, one after another, holds the header of each message, and no other.
+pub fn printed_messages_hold_their_headers_alone()
+    ensures { (messages : List MessageView) (header : Header) →
+        AllByRecursion (λ (message : MessageView). AreLines message.lines) messages
+        → Contains (headers (flat_map printed_text messages)) header ↔ IsHeaderOf messages header }
 {}
 
 #[cfg(test)]
@@ -66,6 +77,7 @@ mod tests {
         a_received_emission_keeps_its_lock();
         each_sending_gives_one_copy();
         a_message_is_printed_once();
+        printed_messages_hold_their_headers_alone();
         there_is_a_message_heard_in_time();
     }
 }
