@@ -1,17 +1,11 @@
 -- What one more event, or some more elements, do to what a receiver was given, and to what it stands after.
-use Rattle.std.proofs.Common.{◌≡◌, ℕ, ◌+◌, ◌≤◌, Bool, List, [], ◌∷◌, ◌++◌, length, map, take, drop, refl, sym, ap, ◌∙◌, subst, append-nil, append_assoc, arith}
-use Rattle.std.proofs.lemmas.List.{map-append}
-use Rattle.nx_code.specs.Lists.{last_of}
-use Rattle.nx_memory.specs.Memory.{most_entries}
+use Rattle.std.proofs.Common.{◌≡◌, ℕ, Bool, List, [], ◌∷◌, ◌++◌, map, refl, sym, ap, ◌∙◌, subst, append-nil}
 use Rattle.nx_memory.specs.declared.entry.MemoryEntry.{MemoryEntry}
-use Rattle.nx_receiver.specs.Events.{Event, Command, Setting, Start, at_moment, bit_in, bits_of, command, element, first_setting, setting_after, setting_after_all, setting_at_bit, settings}
-use Rattle.nx_receiver.specs.FoundCopies.{FoundCopy, ended_so_far, found_to_end}
-use Rattle.nx_receiver.specs.Log.{HasPrinted, PrintsToEnd}
-use Rattle.nx_receiver.specs.Printing.{entries_after, printed_copies}
-use Rattle.nx_receiver.specs.Receiver.{Receiving, Stands, StandsOver, elements}
-use Rattle.nx_receiver.specs.Tagged.{TaggedCopy, tagged_copies}
-use Rattle.nx_receiver.specs.Watch.{HasEnded, HasEndedAll, Watching, WatchStands, all_in_force, copies_by, in_force}
-use Rattle.nx_receiver.proofs.LoggedLemmas.{bits_of-append, settings-append, printed_copies-append, entries_after-append}
+use Rattle.nx_receiver.specs.Events.{Event, Command, Setting, Start, at_moment, bits_of, command, element, first_setting, setting_after, setting_after_all, settings}
+use Rattle.nx_receiver.specs.Receiver.{Receiving, Stands, elements}
+use Rattle.nx_receiver.specs.Tagged.{TaggedCopy}
+use Rattle.nx_receiver.specs.Watch.{Watching, WatchStands, all_in_force, in_force}
+use Rattle.nx_receiver.proofs.LoggedLemmas.{bits_of-append, settings-append}
 
 -- elements as events
 bits_of-elements : (bits : List Bool) → bits_of (elements bits) ≡ bits

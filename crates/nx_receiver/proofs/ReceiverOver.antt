@@ -1,6 +1,6 @@
 -- What is over with some elements, and is then taken and ended: what the watch stands after.
-use Rattle.std.proofs.Common.{◌≡◌, ℕ, ◌+◌, Bool, List, [], ◌∷◌, ◌++◌, map, Option, None, refl, sym, ap, ◌∙◌, subst, append-nil}
-use Rattle.nx_sync.specs.Locks.{Lock, Now, hunting, IsNow}
+use Rattle.std.proofs.Common.{◌≡◌, ℕ, ◌+◌, Bool, List, [], ◌∷◌, ◌++◌, map, Option, None, sym, ap, ◌∙◌, subst, append-nil}
+use Rattle.nx_sync.specs.Locks.{Lock, hunting}
 use Rattle.nx_sync.specs.Words.{first_role, word_at}
 use Rattle.nx_sync.proofs.Unique.{locks-unique, now-unique}
 use Rattle.nx_envelope.specs.Copies.{Copy, closed_copy, open_headers}
@@ -10,7 +10,7 @@ use Rattle.nx_envelope.specs.declared.found.Found.{Found}
 use Rattle.nx_receiver.specs.declared.over.CopyTag.{CopyTag}
 use Rattle.nx_receiver.specs.declared.over.Over.TheVariants as over
 use Rattle.nx_receiver.specs.Events.{Setting}
-use Rattle.nx_receiver.specs.FoundCopies.{FoundCopy, all_in, ended_in, ended_so_far, found_copy, open_in, past_copies, past_text}
+use Rattle.nx_receiver.specs.FoundCopies.{ended_in, ended_so_far, found_copy, past_copies, past_text}
 use Rattle.nx_receiver.specs.LockText.{bytes_of}
 use Rattle.nx_receiver.specs.Tagged.{TaggedCopy}
 use Rattle.nx_receiver.specs.Watch.{BothAreOver, LockIsOver, WatchStands, Watching, copies_by, handed_out, in_force}

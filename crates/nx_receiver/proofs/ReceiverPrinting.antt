@@ -1,5 +1,5 @@
 -- What is printed of a copy that was handed out, and entered; and what a receiver stands after with it.
-use Rattle.std.proofs.Common.{◌≡◌, ◌&&◌, ◌||◌, Bool, true, false, not, cond, List, [], ◌∷◌, ◌++◌, Option, Some, None, Result, Ok, Err, IfOk, ℕ, ◌-◌, ◌≤◌, length, drop, refl, sym, ap, ◌∙◌, subst, append-nil, arith}
+use Rattle.std.proofs.Common.{◌≡◌, Bool, true, cond, List, [], ◌∷◌, ◌++◌, Option, Some, None, Result, Ok, Err, IfOk, ◌-◌, ◌≤◌, length, drop, refl, sym, ap, ◌∙◌, subst, append-nil, arith}
 use Rattle.std.specs.Result.{MatchResult, is_ok}
 use Rattle.std.proofs.lemmas.Bool.{and_parts, true≢false}
 use Rattle.nx_code.specs.Lists.{last_of}
@@ -11,7 +11,7 @@ use Rattle.nx_receiver.specs.Events.{Event, Setting, Start, bits_of, first_setti
 use Rattle.nx_receiver.specs.FoundCopies.{FoundCopy}
 use Rattle.nx_receiver.specs.Log.{HasPrinted, PrintsToEnd}
 use Rattle.nx_receiver.specs.Printing.{entries_after, entries_made, entry_made, if_printed, is_printed, printed_copies}
-use Rattle.nx_receiver.specs.Receiver.{Receiving, Stands, StandsOver}
+use Rattle.nx_receiver.specs.Receiver.{Stands, StandsOver}
 use Rattle.nx_receiver.specs.Tagged.{TaggedCopy, tagged_copies, tagged_found}
 use Rattle.nx_receiver.specs.Watch.{HasEnded, HasEndedAll, WatchStands, Watching, copies_by, handed_out, in_force}
 use Rattle.nx_receiver.proofs.LoggedLemmas.{printed_copies-append, entries_after-append}

@@ -1,36 +1,33 @@
 -- What one more element does to what a watch stands after.
-use Rattle.std.proofs.Common.{◌≡◌, ℕ, zero, suc, ◌+◌, ◌*◌, ◌-◌, ◌/◌, ◌<◌, ◌≤◌, Bool, true, false, is_some, List, [], ◌∷◌, ◌++◌, map, length, Option, Some, None, refl, sym, ap, ◌∙◌, subst, arith, append_assoc, append-nil, add-one}
+use Rattle.std.proofs.Common.{◌≡◌, ℕ, zero, suc, ◌+◌, ◌*◌, ◌<◌, ◌≤◌, Bool, List, [], ◌∷◌, ◌++◌, length, Some, None, refl, sym, ap, ◌∙◌, subst, arith}
 use Rattle.std.specs.List.{All}
 use Rattle.std.proofs.lemmas.List.{get_or_append_left, length_push}
 use Rattle.std.proofs.lemmas.List.Elements.{All-nil, All-head, All-tail, All-weaker}
 use Rattle.nx_sync.specs.Laws.{OneMore, still_hunts, now_finds, still_stands, now_over}
 use Rattle.nx_sync.specs.Locks.{Lock, Now, hunting, locked, IsNow, Past, IsPattern}
-use Rattle.nx_sync.specs.Steps.{Brings, found, word, inside, over, hunts, IsStep, step}
-use Rattle.nx_sync.specs.Synchroniser.{StandsAfter}
-use Rattle.nx_sync.specs.Words.{word_at, first_role, role_of, whole_words, heard_word}
+use Rattle.nx_sync.specs.Steps.{Brings, found, word, inside, over, hunts, IsStep}
+use Rattle.nx_sync.specs.Words.{word_at, first_role, whole_words}
 use Rattle.nx_sync.specs.declared.step.Role.{Role}
 use Rattle.nx_sync.specs.declared.step.Step.{Step}
 use Rattle.nx_sync.proofs.Going.{one_more}
-use Rattle.nx_sync.proofs.MoreBits.{word_at-more, first_role-more, Past-within}
+use Rattle.nx_sync.proofs.MoreBits.{word_at-more, first_role-more}
 use Rattle.nx_fec.specs.Pairing.{IsLatest}
 use Rattle.nx_code.specs.Reading.{shift_after_all, text}
 use Rattle.nx_code.specs.declared.shifts.Shift.TheVariants.{Letters}
 use Rattle.nx_envelope.specs.Finder.{is_over}
 use Rattle.nx_envelope.specs.Finder as finders
 use Rattle.nx_receiver.specs.declared.over.CopyTag.{CopyTag}
-use Rattle.nx_receiver.specs.declared.over.Over.{Over}
 use Rattle.nx_receiver.specs.Events.{Setting}
-use Rattle.nx_receiver.specs.FoundCopies.{FoundCopy, ended_in, past_text, past_copies, standing_text, ended_so_far}
+use Rattle.nx_receiver.specs.FoundCopies.{FoundCopy, ended_in, past_copies, standing_text, ended_so_far}
 use Rattle.nx_receiver.specs.LockReader.{LockReading, ReadsLock, dx_words}
-use Rattle.nx_receiver.specs.LockText.{PlacedByte, bytes_of, lock_text, text_by, positions, place_of}
+use Rattle.nx_receiver.specs.LockText.{PlacedByte, lock_text, text_by}
 use Rattle.nx_receiver.specs.Tagged.{TaggedCopy, tag}
-use Rattle.nx_receiver.specs.Watch.{Watching, HasTag, IsFresh, IsOver, LockIsOver, ReadsNow, ReadsOver, ReadsWord, WatchStands, copies_by, in_force, over_with, setting_in, tag_after}
+use Rattle.nx_receiver.specs.Watch.{HasTag, ReadsNow, ReadsOver, copies_by, setting_in}
 use Rattle.nx_receiver.proofs.FoundLemmas.{IsByteIn, IsCopyIn, text_placed}
 use Rattle.nx_receiver.proofs.Growing.{past_copies-more, whole_heard}
 use Rattle.nx_receiver.proofs.LockTexts.{lock_text-more, positions-same}
 use Rattle.nx_receiver.proofs.LoggedLemmas.{ended_placed}
-use Rattle.nx_receiver.proofs.WatchTexts.{AfterWord, Brought, adds_byte, after_word, copies_by-append, tag-later}
-use Rattle.nx_receiver.proofs.WatchTakes.{tag-hunting}
+use Rattle.nx_receiver.proofs.WatchTexts.{tag-later}
 
 -- words that are the same up to a word leave the reader where it stands
 dx_words-same : (first : Role) (f g : ℕ → ℕ) (n : ℕ) → ((j : ℕ) → j < n → f j ≡ g j) → dx_words first f n ≡ dx_words first g n

@@ -1,6 +1,6 @@
 -- What a watch hears: one element, one word, the elements that a hunt passes over, and some after others.
-use Rattle.std.proofs.Common.{◌≡◌, ℕ, zero, suc, ◌+◌, ◌*◌, ◌-◌, ◌<◌, ◌≤◌, Bool, true, false, is_some, List, [], ◌∷◌, ◌++◌, map, length, take, drop, get_or, Option, Some, None, refl, sym, ap, ◌∙◌, subst, arith, inl, inr, append_assoc, append-nil, take-take, length-take, length-append, add-one, subst₂}
-use Rattle.std.proofs.lemmas.List.{length_push, map-append, take_more, take_all, take-append-le}
+use Rattle.std.proofs.Common.{◌≡◌, ℕ, zero, suc, ◌+◌, ◌-◌, ◌<◌, ◌≤◌, Bool, false, List, [], ◌∷◌, ◌++◌, map, length, take, get_or, Option, Some, None, refl, sym, ap, ◌∙◌, subst, arith, inl, inr, append_assoc, append-nil, take-take, length-take, length-append, add-one, subst₂}
+use Rattle.std.proofs.lemmas.List.{map-append, take_more, take_all, take-append-le}
 use Rattle.std.proofs.lemmas.Bool.{cases_lt}
 use Rattle.nx_sync.specs.Locks.{Past, hunting}
 use Rattle.nx_sync.specs.Steps.{IsStep, HuntsThrough, IsWordStep, step}

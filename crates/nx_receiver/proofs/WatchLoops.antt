@@ -1,5 +1,5 @@
 -- A loop over elements: those before the place were heard, and nothing was over with any of them.
-use Rattle.std.proofs.Common.{◌≡◌, ℕ, zero, suc, ◌+◌, ◌-◌, ◌<◌, ◌≤◌, Bool, false, get_or, List, [], ◌∷◌, ◌++◌, length, take, drop, refl, sym, ap, ◌∙◌, subst, arith, length-drop}
+use Rattle.std.proofs.Common.{◌≡◌, ℕ, ◌+◌, ◌-◌, ◌<◌, ◌≤◌, Bool, false, get_or, List, [], ◌∷◌, ◌++◌, length, take, drop, refl, sym, ap, ◌∙◌, subst, arith, length-drop}
 use lib.Seq.{take-add}
 use Rattle.std.specs.Array.{IsFirstChunk}
 use Rattle.std.proofs.lemmas.List.{drop_more, take_all}
@@ -7,7 +7,7 @@ use Rattle.nx_receiver.specs.declared.over.Over.{Over}
 use Rattle.nx_receiver.specs.declared.over.Over.TheVariants as over
 use Rattle.nx_receiver.specs.Events.{Setting}
 use Rattle.nx_receiver.specs.Tagged.{TaggedCopy}
-use Rattle.nx_receiver.specs.Watch.{Watching, Hears, TagGoesOn, as_it_was, WatchStands, all_in_force, in_force}
+use Rattle.nx_receiver.specs.Watch.{Watching, Hears, TagGoesOn, as_it_was, WatchStands, in_force}
 use Rattle.nx_sync.specs.Steps.{HuntsThrough}
 use Rattle.nx_sync.specs.Synchroniser.{Held, StandsAfter}
 use Rattle.nx_receiver.proofs.WatchHears.{hears_on, hunt_heard, none_heard, tag_on}

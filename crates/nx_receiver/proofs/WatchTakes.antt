@@ -1,24 +1,24 @@
 -- A copy that is over is taken, and a text ends.
-use Rattle.std.proofs.Common.{◌≡◌, ℕ, zero, suc, ◌+◌, ◌*◌, ◌≤◌, ◌⊎◌, Bool, List, [], ◌∷◌, ◌++◌, map, length, Option, Some, None, refl, sym, ap, ◌∙◌, subst, arith, append_assoc, append-nil}
+use Rattle.std.proofs.Common.{◌≡◌, ℕ, zero, ◌+◌, Bool, List, [], ◌∷◌, ◌++◌, map, Option, Some, None, sym, ap, ◌∙◌, subst, append_assoc}
 use Rattle.std.specs.Prelude.{MatchOption}
 use Rattle.std.specs.List.{All}
 use Rattle.std.proofs.lemmas.List.Elements.{All-head}
-use Rattle.nx_sync.specs.Locks.{Lock, Now, hunting, locked, IsNow}
+use Rattle.nx_sync.specs.Locks.{Now, hunting, locked}
 use Rattle.nx_sync.specs.Words.{word_at, first_role, whole_words}
 use Rattle.nx_sync.specs.declared.step.Role.{Role}
 use Rattle.nx_envelope.specs.Copies.{Copy, closed_copy, open_headers}
-use Rattle.nx_envelope.specs.Finder.{Closes, ClosesCopy, ClosesNone, HasReady}
+use Rattle.nx_envelope.specs.Finder.{Closes, HasReady}
 use Rattle.nx_envelope.specs.Found.{IsFound}
 use Rattle.nx_envelope.specs.Header.{Header}
 use Rattle.nx_envelope.specs.declared.found.Found.{Found}
 use Rattle.nx_envelope.proofs.OneOpenCopy.{open_headers-nil}
 use Rattle.nx_receiver.specs.declared.over.CopyTag.{CopyTag}
 use Rattle.nx_receiver.specs.Events.{Setting}
-use Rattle.nx_receiver.specs.FoundCopies.{all_in, ended_in, open_in, past_copies, past_text, standing_text, ended_so_far, open_so_far, found_to_end, found_copy, place_of_header}
+use Rattle.nx_receiver.specs.FoundCopies.{ended_in, open_in, past_copies, past_text, standing_text, ended_so_far, open_so_far, found_copy, place_of_header}
 use Rattle.nx_receiver.specs.LockReader.{LockReading, ReadsLock, text_after}
-use Rattle.nx_receiver.specs.LockText.{PlacedByte, bytes_of, lock_text, text_by}
-use Rattle.nx_receiver.specs.Tagged.{TaggedCopy, tag, tagged_found}
-use Rattle.nx_receiver.specs.Watch.{Watching, BothAreOver, CopyIsOver, HasEndedAll, HasTag, IsFresh, LockIsOver, ReadsNow, ReadsOver, WatchStands, copies_by, handed_out, ready_copy, setting_in, tag_of}
+use Rattle.nx_receiver.specs.LockText.{PlacedByte, bytes_of, text_by}
+use Rattle.nx_receiver.specs.Tagged.{TaggedCopy, tag}
+use Rattle.nx_receiver.specs.Watch.{Watching, BothAreOver, CopyIsOver, HasEndedAll, HasTag, IsFresh, LockIsOver, ReadsNow, WatchStands, copies_by, handed_out, ready_copy, setting_in, tag_of}
 use Rattle.nx_receiver.proofs.FoundLemmas.{all_in-parts}
 use Rattle.nx_receiver.proofs.Growing.{hunted}
 use Rattle.nx_receiver.proofs.LockTexts.{bytes_are_reading}

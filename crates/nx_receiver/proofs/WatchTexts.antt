@@ -1,10 +1,9 @@
 -- What one more word does to the text of a lock, to the copies in it and to the tag of the open one.
-use Rattle.std.proofs.Common.{◌≡◌, ◌⊎◌, ℕ, zero, suc, ◌+◌, ◌*◌, ◌-◌, ◌<◌, ◌≤◌, Bool, true, false, List, [], ◌∷◌, ◌++◌, map, length, get_or, refl, sym, ap, ◌∙◌, subst, arith, inl, inr, append_assoc, append-nil, add-one}
+use Rattle.std.proofs.Common.{◌≡◌, ℕ, suc, ◌+◌, ◌-◌, ◌<◌, ◌≤◌, Bool, true, false, List, [], ◌∷◌, ◌++◌, map, length, get_or, refl, sym, ap, ◌∙◌, subst, arith, inl, inr, append-nil, add-one}
 use Rattle.std.specs.List.{All}
-use Rattle.std.proofs.lemmas.List.{get_or_append_left, map-append, length-append, length-map, append_cancel_left}
+use Rattle.std.proofs.lemmas.List.{get_or_append_left, map-append, length-append, append_cancel_left}
 use Rattle.std.proofs.lemmas.List.Elements.{All-nil, All-cons, All-head, All-tail}
 use Rattle.nx_code.specs.Reading.{text}
-use Rattle.nx_code.specs.declared.shifts.Shift.TheVariants.{Letters}
 use Rattle.nx_sync.specs.declared.step.Role.{Role}
 use Rattle.nx_envelope.specs.Copies.{Copy, ended_copies, open_headers}
 use Rattle.nx_envelope.specs.Finder.{Begins, Ends, Keeps, HasReady, Hears, is_over}
@@ -15,8 +14,8 @@ use Rattle.nx_envelope.specs.declared.found.TextEvent.TheVariants as events
 use Rattle.nx_receiver.specs.declared.over.CopyTag.{CopyTag}
 use Rattle.nx_receiver.specs.Events.{Setting}
 use Rattle.nx_receiver.specs.FoundCopies.{FoundCopy, place_in, place_of_header, found_copy, ended_in}
-use Rattle.nx_receiver.specs.LockReader.{HearsWord, PrintsNothing, PrintsByte, text_after}
-use Rattle.nx_receiver.specs.LockText.{PlacedByte, positions, printed_after, taken_at, place_of, printed_by, text_by, bytes_of}
+use Rattle.nx_receiver.specs.LockReader.{HearsWord, text_after}
+use Rattle.nx_receiver.specs.LockText.{PlacedByte, place_of, printed_by, text_by, bytes_of}
 use Rattle.nx_receiver.specs.Tagged.{TaggedCopy, tag}
 use Rattle.nx_receiver.specs.Watch.{Watching, HasTag, copies_by, in_force, ready_copy, setting_in, tag_after, tag_of}
 use Rattle.nx_receiver.proofs.LockTexts.{bytes_are_reading, bytes_of-append, bytes-placed}

@@ -97,7 +97,10 @@ fn after_pattern(alloc: Global, gap: usize, bits: &[bool]) -> Result<Vec<bool>, 
     // The slots 0 to 3 are P2 P1 P2 P1.
     let pattern = to_bits(alloc, &positions)?;
     let mut all = Vec::new(alloc);
-    all.extend_from_slice(&pattern[..28])?;
+    let Some(words) = pattern.first_chunk::<28>() else {
+        return Err("pattern".into());
+    };
+    all.extend_from_slice(words)?;
     for _ in 0..gap {
         all.push(false)?;
     }
@@ -180,16 +183,18 @@ fn log_of<M: Recall>(
     Ok(log)
 }
 
+/// Whether this is the log of all that a receiver is given, with either memory, in pieces of this length.
+fn is_log_in_pieces(alloc: Global, given: &[Given], log: &[u8], length: usize) -> Result<bool, Fail>
+    requires { 0 < length }
+{
+    let plain = log_of(alloc, PlainRecall::new(), given, length)?;
+    let ring = log_of(alloc, RingRecall::new(alloc)?, given, length)?;
+    Ok(plain.as_slice() == log && ring.as_slice() == log)
+}
+
 /// Whether this is the log of all that a receiver is given, with either memory, in one piece and bit by bit.
 fn is_log(alloc: Global, given: &[Given], log: &[u8]) -> Result<bool, Fail> {
-    for length in [usize::MAX, 1] {
-        let plain = log_of(alloc, PlainRecall::new(), given, length)?;
-        let ring = log_of(alloc, RingRecall::new(alloc)?, given, length)?;
-        if plain.as_slice() != log || ring.as_slice() != log {
-            return Ok(false);
-        }
-    }
-    Ok(true)
+    Ok(is_log_in_pieces(alloc, given, log, usize::MAX)? && is_log_in_pieces(alloc, given, log, 1)?)
 }
 
 #[test]
@@ -317,7 +322,7 @@ fn locks_and_headers(rt: HostRuntime) -> Result<(), Fail> {
     let slip = after_pattern(alloc, 3, &bits)?;
     assert!(rt; is_log(alloc, &[Given::At(FIRST), Given::Heard(&slip)], LOG_OF_X)?);
     // The first word is lost after a lock, so that the roles are swapped.
-    let swapped = after_pattern(alloc, 0, &bits[7..])?;
+    let swapped = after_pattern(alloc, 0, bits.get(7..).ok_or("words")?)?;
     assert!(rt; is_log(alloc, &[Given::At(FIRST), Given::Heard(&swapped)], LOG_OF_X)?);
     Ok(())
 }
@@ -326,7 +331,7 @@ fn locks_and_headers(rt: HostRuntime) -> Result<(), Fail> {
 fn cut_copies_and_two_messages(rt: HostRuntime) -> Result<(), Fail> {
     let alloc = rt.alloc();
     let bits = emission(alloc, &[X])?;
-    let cut = &bits[..1323];
+    let cut = bits.get(..1323).ok_or("elements")?;
     assert!(rt;
         is_log(
             alloc,

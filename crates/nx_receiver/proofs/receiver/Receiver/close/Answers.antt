@@ -1,4 +1,4 @@
-use Rattle.std.proofs.Common.{sym, subst, ap, ◌∙◌, ◌++◌}
+use Rattle.std.proofs.Common.{sym, subst, ◌++◌}
 use Rattle.nx_receiver.specs.Events.{bits_of, first_setting, settings}
 use Rattle.nx_receiver.specs.Receiver.{Stands, entry_list}
 use Rattle.nx_receiver.specs.Watch.{HasEndedAll, handed_out}

@@ -1,5 +1,4 @@
-use Rattle.std.proofs.Common.{ap, ◌∙◌, List, Option, Bool, take, drop, length, ◌-◌}
-use Rattle.nx_receiver.specs.declared.entry.Entry.{Entry}
+use Rattle.std.proofs.Common.{ap, ◌∙◌, take, drop, length, ◌-◌}
 use Rattle.nx_receiver.proofs.ReceiverFeeds.{Finished, fed_before, fed_on, fed_to, is_none, piece_is, piece_within}
 use Rattle.nx_receiver.proofs.receiver.Receiver.feed.Goals as goal
 

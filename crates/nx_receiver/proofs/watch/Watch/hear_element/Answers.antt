@@ -1,4 +1,4 @@
-use Rattle.std.proofs.Common.{[], ◌∷◌, ◌∙◌, sym, ap, subst}
+use Rattle.std.proofs.Common.{[], ◌∷◌, ◌∙◌, ap, subst}
 use Rattle.nx_receiver.specs.Watch.{Hears, WatchStands, in_force}
 use Rattle.nx_receiver.proofs.WatchHears.{element_heard, force_on}
 use Rattle.nx_receiver.proofs.watch.Watch.hear_element.Goals as goal

@@ -1,5 +1,4 @@
-use Rattle.std.proofs.Common.{◌≡◌, ◌+◌, ◌≤◌, take, drop, length, arith, ◌∙◌, sym, ap, rules, subst}
-use Rattle.nx_receiver.specs.declared.over.Over.{Over}
+use Rattle.std.proofs.Common.{◌≡◌, rules, subst}
 use Rattle.nx_receiver.specs.declared.over.Over.TheVariants.{Nothing}
 use Rattle.nx_receiver.proofs.WatchLoops.{HearsAll, chunk_is, chunk_within, goes_first, goes_on, goes_to}
 use Rattle.nx_receiver.proofs.watch.Watch.hear_words.Goals as goal

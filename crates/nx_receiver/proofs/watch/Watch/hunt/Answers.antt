@@ -1,4 +1,4 @@
-use Rattle.std.proofs.Common.{◌≡◌, ◌+◌, ◌<◌, [], ◌∷◌, false, get_or, take, length, arith, subst}
+use Rattle.std.proofs.Common.{◌+◌, ◌<◌, [], ◌∷◌, false, get_or, take, length, arith, subst}
 use Rattle.nx_receiver.specs.Watch.{Hears, WatchStands, Watching}
 use Rattle.nx_receiver.specs.declared.over.Over.TheVariants.{Nothing}
 use Rattle.nx_receiver.proofs.WatchHears.{hunt_heard}
