@@ -1,12 +1,12 @@
 -- Emissions slot by slot, and their elements.
-use Rattle.std.proofs.Common.{◌≡◌, ℕ, ◌+◌, ◌-◌, ◌*◌, ◌/◌, ◌%◌, ◌<◌, ◌≤◌, refl, sym, ap, ◌∙◌, subst, true, ltb, Some, None, List, [], ◌∷◌, ◌++◌, length, map, get_or, take, arith, inl, inr, lit<}
+use Rattle.std.proofs.Common.{◌≡◌, ℕ, ◌+◌, ◌-◌, ◌*◌, ◌/◌, ◌%◌, ◌<◌, ◌≤◌, refl, sym, ap, ◌∙◌, subst, Some, None, List, [], ◌∷◌, ◌++◌, length, map, get_or, take, arith, inl, inr, lit<}
 use Rattle.std.specs.List.{flat_map, slice_get}
 use Rattle.std.proofs.lemmas.List.{ext_get_or, get_or_past, get_or-map, take_more, flat_map_more}
 use Rattle.nx_fec.specs.declared.positions.Position.{Position}
 use Rattle.std.proofs.lemmas.List.FromFn.{length-map-range_with_len, get_or-map-range_with_len}
 use Rattle.std.proofs.lemmas.Option.{slice_get-get_or, slice_get_past, slice_get_within, get_or_from_slice_get}
 use Rattle.nx_code.specs.Word.{elements}
-use Rattle.std.proofs.lemmas.Bool.{agree_below_at, ltb-true, cases_lt, cases_eq}
+use Rattle.std.proofs.lemmas.Bool.{cases_lt, cases_eq}
 use Rattle.std.proofs.lemmas.Bool.Decides.{nat_tests}
 use Rattle.nx_code.specs.Table.{table, words}
 use Rattle.nx_code.specs.Phasing.{phasing_1, phasing_2}

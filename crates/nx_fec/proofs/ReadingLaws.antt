@@ -2,7 +2,6 @@
 use Rattle.std.proofs.Common.{◌≡◌, ℕ, ◌+◌, ◌<◌, Bool, true, false, length, take, drop, get_or, if◌then◌else◌, option_to_list, refl, take-append-drop, List, [], ◌∷◌, ◌++◌, sym, ap, ◌∙◌, subst, append_assoc, append-nil, Option, None, Some, IfSome, Result, Err, arith}
 use Rattle.std.specs.List.{flat_map}
 use Rattle.std.specs.Io.KnownBytes.{Consumes, IsAtEnd}
-use Rattle.std.proofs.KnownBytes.{Consumes-trans}
 use Rattle.std.proofs.lemmas.List.Concat.{flat_map-append}
 use Rattle.std.proofs.lemmas.List.{drop_more, length-append}
 use Rattle.nx_fec.specs.AirFile.{Line}
@@ -67,7 +66,7 @@ ExplainsReading-weaker A B limit bytes (Write written) f h = h
 ExplainsReading-weaker A B limit bytes (Memory error) f h = tt
 
 -- the same cause, with more bytes after it
-IsCause-more : (limit front : ℕ) (lines : List Line) (rest more ys : List ℕ) (why : LineFault) → IsAtByte why → IsCause limit front lines rest more why → IsCause limit front lines rest (more ++ ys) why
+pub IsCause-more : (limit front : ℕ) (lines : List Line) (rest more ys : List ℕ) (why : LineFault) → IsAtByte why → IsCause limit front lines rest more why → IsCause limit front lines rest (more ++ ys) why
 IsCause-more limit front lines rest [] ys file.TooLong at h = absurd h
 IsCause-more limit front lines rest [] ys (file.LineLong line) at h = absurd h
 IsCause-more limit front lines rest [] ys (file.LineCut line) at h = absurd at

@@ -1,7 +1,8 @@
 -- What a run says of its reader follows from what its reading said of it.
-use Rattle.std.proofs.Common.{◌≡◌, ℕ, List, Option, None, Some, IfSome, Result, Ok, Err, IsErrOf}
+use Rattle.std.proofs.Common.{◌≡◌, ◌≢◌, ◌↔◌, ℕ, arith, List, Option, None, Some, IfSome, Result, Ok, Err, IsErrOf}
+use Rattle.nx_fec.proofs.ReadingLaws.{Err-same}
 use Rattle.nx_fec.specs.Devices.{CountedDevice}
-use Rattle.nx_fec.specs.Transfers.{Reads}
+use Rattle.nx_fec.specs.Transfers.{Reads, Writes}
 use Rattle.nx_fec.specs.declared.fault.RunFault.{RunFault}
 use Rattle.nx_fec.specs.declared.fault.RunFault.TheVariants.{Read, Write}
 
@@ -31,3 +32,29 @@ Ok-not_err x e same = cc
 -- a failed write is no failed read
 pub Write-not_read : {T : Type 0} (written : ℕ) → ◌≡◌ {A = Result T RunFault} (Err (Write written)) (Err Read) → ⊥
 Write-not_read written same = cc
+
+-- a writer of a call that answered no failed write has not failed
+pub Writes-sound : {W N F : Type 0} (new : CountedDevice W) (write : ℕ → F) (outcome : Result N F) → ((written : ℕ) → outcome ≡ Err (write written) → ⊥)
+    → Writes new write outcome → new.failures ≡ 0
+Writes-sound new write outcome other h =
+    let none : new.failures ≢ 1 = λ one. let w = h.failed.1 one in other w.0 w.1 in
+    omega (arith, h.once, none)
+
+pub Writes-none : {W N F : Type 0} (new : CountedDevice W) (write : ℕ → F) (outcome : Result N F) → ((written : ℕ) → outcome ≡ Err (write written) → ⊥)
+    → new.failures ≡ 0 → Writes new write outcome
+Writes-none new write outcome other none = record {
+  failed = (λ w. absurd (other w.0 w.1), λ one. absurd (omega (arith, none, one)));
+  once = omega (arith, none);
+}
+
+-- and so with a reader
+pub read_failed-none : {N F : Type 0} (failures : ℕ) (read : F) (outcome : Result N F) → (outcome ≡ Err read → ⊥) → failures ≡ 0
+    → IsErrOf outcome read ↔ (failures ≡ 1)
+read_failed-none failures read outcome other none = (λ e. absurd (other e), λ one. absurd (omega (arith, none, one)))
+
+-- what a fault says of the writer doesn't depend on what a success would have answered
+pub Writes-fault : {W N M F : Type 0} (new : CountedDevice W) (write : ℕ → F) (fault : F) → Writes {N = M} new write (Err fault) → Writes {N = N} new write (Err fault)
+Writes-fault new write fault h = record {
+  failed = (λ w. h.failed.0 (w.0, Err-same _ _ w.1), λ one. let w = h.failed.1 one in (w.0, Err-same _ _ w.1));
+  once = h.once;
+}

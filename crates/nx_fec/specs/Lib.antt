@@ -3,6 +3,7 @@ pub mod Aligned
 pub mod BitLines
 pub mod Devices
 pub mod Emission
+pub mod LineRuns
 pub mod Lines
 pub mod Pairing
 pub mod Runs
@@ -11,3 +12,4 @@ pub mod ScannerFields
 pub mod Transfers
 pub mod Hexadecimal
 pub mod TableText
+pub mod WordLines

@@ -1,5 +1,5 @@
 -- The lines of a whole air file, its first fault, and its elements (this profile).
-use Rattle.std.specs.Prelude.{◌≡◌, ◌≢◌, ℕ, ◌+◌, ◌<◌, ◌≤◌, Bool, List, [], ◌∷◌, ◌++◌, length, Option, ⊤}
+use Rattle.std.specs.Prelude.{◌≡◌, ◌≢◌, ℕ, ◌+◌, ◌<◌, ◌≤◌, Bool, List, [], ◌∷◌, ◌++◌, length, take, drop, Option, ⊤}
 use Rattle.std.specs.List.{flat_map, AllByRecursion}
 use Rattle.nx_fec.specs.AirFile.{Line, elements, spelling, IsLine, IsNoLine}
 use Rattle.nx_fec.specs.declared.fault.LineFault.{LineFault}
@@ -95,3 +95,11 @@ pub record Scans (limit : ℕ) (scanner : Scanning) (bytes : List ℕ) (lines : 
   pub splits : Splits bytes lines scanner.part
   pub count : scanner.lines ≡ length lines
   pub room : scanner.room + length bytes ≡ limit
+
+-- A scanner stands so after these bytes and so many of a piece, which ended no line; and the next byte is the cause of
+-- this fault, whatever follows.
+pub record StopsIn (limit : ℕ) (scanner : Scanning) (bytes piece : List ℕ) (lines : List Line) (why : LineFault) : Type 0 where
+  pub count : ℕ
+  pub within : count < length piece
+  pub scans : Scans limit scanner (bytes ++ take count piece) lines
+  pub cause : (more : List ℕ) → IsCause limit (length (bytes ++ take count piece)) lines scanner.part (drop count piece ++ more) why

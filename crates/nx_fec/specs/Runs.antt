@@ -5,6 +5,7 @@ use Rattle.std.specs.List.{flat_map}
 use Rattle.nx_fec.specs.AirFile.{Line}
 use Rattle.nx_fec.specs.Lines.{HasFault, IsBitFile, file_of, Scanning, Scans, elements_of}
 use Rattle.nx_fec.specs.Aligned.{aligned_text, words_of}
+use Rattle.nx_fec.specs.WordLines.{word_lines}
 use Rattle.nx_fec.specs.Devices.{WroteSome}
 use Rattle.nx_fec.specs.Transfers.{Devices, IsReadOut, Transfers, at_the_end}
 use Rattle.nx_fec.specs.declared.fault.LineFault.{LineFault}
@@ -102,6 +103,37 @@ Decodes d outcome =
     Transfers Read (λ written. Write written) at_the_end d outcome
     (λ bytes. AnswersDecoding (IsReadOut d) file_limit bytes (d.contents d.writer.inner) (d.contents d.writer_after.inner) outcome)
     (λ bytes. AnswersDecoding (Unit {0}) file_limit bytes (d.contents d.writer.inner) (d.contents d.writer_after.inner) outcome)
+
+-- the lines of the words of a file of elements, and how many words there are
+pub record IsShown (limit : ℕ) (bytes text : List ℕ) (count : ℕ) : Type 0 where
+  pub bits : List Bool
+  pub file : IsBitFile limit bytes bits
+  pub whole : length bits % 7 ≡ 0
+  pub shown : text ≡ word_lines (words_of bits)
+  pub count_is : count ≡ length (words_of bits)
+
+-- What a fault of showing words says: the elements are no whole words, or the lines were written in part. Each other
+-- fault is one of reading elements.
+abbrev pub ExplainsShowing : Type 0 → ℕ → List ℕ → Option (List ℕ) → Option (List ℕ) → RunFault → Type 0
+ExplainsShowing AtEnd limit bytes old new (Ragged given) =
+    AtEnd × (bits : List Bool) × IsBitFile limit bytes bits × (given ≡ length bits) × (length bits % 7 ≢ 0)
+ExplainsShowing AtEnd limit bytes old new (Write written) =
+    AtEnd × (text : List ℕ) × (count : ℕ) × IsShown limit bytes text count × WroteSome old new text written
+ExplainsShowing AtEnd limit bytes old new fault = ExplainsReading AtEnd limit bytes fault
+
+-- what showing answers to these bytes: the count of the words, whose lines were written, or a fault
+abbrev pub AnswersShowing : Type 0 → ℕ → List ℕ → Option (List ℕ) → Option (List ℕ) → Result ℕ RunFault → Type 0
+AnswersShowing AtEnd limit bytes old new (Ok count) =
+    AtEnd × (text : List ℕ) × IsShown limit bytes text count × Appends old new text
+AnswersShowing AtEnd limit bytes old new (Err fault) = ExplainsShowing AtEnd limit bytes old new fault
+
+-- A run that shows words: it answers so to the bytes that it read, and to the whole file, however it came; and it
+-- writes nothing before all else succeeded.
+abbrev pub Shows : {R W : Type 0} → Devices R W → Result ℕ RunFault → Type 0
+Shows d outcome =
+    Transfers Read (λ written. Write written) at_the_end d outcome
+    (λ bytes. AnswersShowing (IsReadOut d) file_limit bytes (d.contents d.writer.inner) (d.contents d.writer_after.inner) outcome)
+    (λ bytes. AnswersShowing (Unit {0}) file_limit bytes (d.contents d.writer.inner) (d.contents d.writer_after.inner) outcome)
 
 -- what a fault of reading a text whole says of its bytes: it is too long, or the reader or memory failed
 abbrev pub ExplainsWhole : ℕ → List ℕ → ReadFault → Type 0

@@ -1,7 +1,7 @@
 -- What contracts see of a scanner gives back all that it keeps.
-use Rattle.std.specs.Prelude.{◌≡◌, ℕ, Bool, List, [], Option, None, Some, refl}
+use Rattle.std.specs.Prelude.{◌≡◌, ℕ, Bool, List, Option, None, Some, refl}
 use Rattle.std.proofs.Common.{sym}
-use Rattle.nx_fec.specs.Scanner.{IsKept, SpellsLine, bytes_kept, elements_kept, kind_kept, kind_of, line_ended, line_with, part_of}
+use Rattle.nx_fec.specs.Scanner.{IsKept, bytes_kept, elements_kept, kind_kept, line_ended, line_with, part_of}
 use Rattle.nx_fec.specs.declared.air_file.LineKind.{LineKind}
 use Rattle.nx_fec.specs.declared.air_file.LineKind.TheVariants.{Moment, Elements, RefuseStation, AcceptStation, RefuseSubject, AcceptSubject}
 

@@ -34,7 +34,7 @@ pub fn word_in(bits: &[bool], slot: usize) -> Option<Word>
 }
 
 /// The word in a slot of elements that have it.
-fn word_of_slot(bits: &[bool], slot: usize) -> Word
+pub(crate) fn word_of_slot(bits: &[bool], slot: usize) -> Word
     requires { 7 * slot + 7 ≤ length bits.now }
     ensures { result ≡ word_in bits.now slot }
 {

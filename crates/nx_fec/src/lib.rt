@@ -4,6 +4,7 @@
 
 mod air_file;
 mod aligned;
+mod batch;
 mod counting;
 mod diversity;
 mod emission;
@@ -11,24 +12,28 @@ mod fault;
 mod hexadecimal;
 pub mod laws;
 mod line_bytes;
+mod line_run;
 mod pieces;
 mod positions;
 mod reading;
 mod runs;
 mod scanner;
 mod table_text;
+mod word_lines;
 mod writing;
 
 pub use air_file::{AirLine, LineKind, MAX_ELEMENTS, air_line};
 pub use aligned::{AlignedFault, decode_aligned, word_in};
+pub use batch::Batch;
 pub use counting::Counting;
 pub use diversity::{Diversity, Heard, combine};
 pub use emission::to_bits;
 pub use fault::{LineFault, ReadFault, RunFault, WriteFault};
+pub use line_run::{LineTaker, LinesFault, LinesRead, TakeFault, run_lines};
 pub use pieces::{Piece, next_piece};
 pub use positions::{Position, word_at};
 pub use reading::{read_bits, read_whole};
-pub use runs::{decode_run, encode_run};
+pub use runs::{decode_run, encode_run, show_run};
 pub use scanner::Scanner;
 pub use table_text::write_table;
 pub use writing::{write_bits, write_on, write_out};

@@ -1,7 +1,7 @@
 //! Whole runs: from what is read to what is written.
 ghost use Rattle.std.specs.Prelude.{◌≡◌, map, IfOk};
 ghost use Rattle.nx_fec.specs.Emission.{framed_positions, sent_position};
-ghost use Rattle.nx_fec.specs.Runs.{Decodes, Encodes};
+ghost use Rattle.nx_fec.specs.Runs.{Decodes, Encodes, Shows};
 ghost use Rattle.nx_fec.specs.Transfers.{devices};
 
 use crate::aligned::decode_aligned;
@@ -10,8 +10,9 @@ use crate::emission::to_bits;
 use crate::fault::RunFault;
 use crate::positions::Position;
 use crate::reading::{read_bits, read_whole};
+use crate::word_lines::word_lines;
 use crate::writing::{write_bits, write_out};
-use nx_code::{Comb, Shift, spell};
+use nx_code::{Comb, ELEMENTS, Shift, spell};
 use std::alloc::{AllocError, Global};
 use std::io::{Read, Write};
 
@@ -57,6 +58,28 @@ pub fn encode_run<R: Read, W: Write>(
     let bits = to_bits(alloc, &positions)?;
     write_bits(writer, &bits)?;
     Ok(positions.len() as u64)
+}
+
+/// Reads an air file to its end, and writes a line for each word of its elements, from slot 0 on: the slot, its role `DX`
+/// or `RX`, the number of the word in two digits of base 16, and the letter or the name of its signal, or `wrong` where
+/// the word has the wrong weight. Answers how many words there are.
+///
+/// The faults of `read_bits` come first; then `Ragged`, where the elements are no whole words; then `Write`. Nothing is
+/// written before all else succeeded. Memory may run out at any growth.
+pub fn show_run<R: Read, W: Write>(
+    alloc: Global,
+    reader: &mut Counting<R>,
+    writer: &mut Counting<W>,
+) -> Result<u64, RunFault>
+    requires reader { reader.old.failures ≡ 0 }
+    requires writer { writer.old.failures ≡ 0 }
+
+    ensures { Shows (devices R.remaining W.contents reader.old reader.new writer.old writer.new) result }
+{
+    let bits = read_bits(alloc, reader)?;
+    let lines = word_lines(alloc, &bits)?;
+    write_out(writer, &lines)?;
+    Ok((bits.len() / ELEMENTS) as u64)
 }
 
 /// The positions by which combinations are sent alone.
@@ -139,6 +162,34 @@ mod tests {
         let (answer, text) = decode_answer(rt.alloc(), &file)?;
         assert_eq!(rt; answer, Ok(ALL.len() as u64));
         assert_eq!(rt; text.as_slice(), ALL);
+        Ok(())
+    }
+
+    /// The first two lines, the ninth and the last of the text A, and a word of the wrong weight.
+    #[test]
+    fn show_a(rt: HostRuntime) -> Result<(), Fail> {
+        let mut writer = Counting::new(Vec::new(rt.alloc()));
+        let outcome = show_run(rt.alloc(), &mut Counting::new(FILE_OF_A), &mut writer);
+        assert_eq!(rt; outcome, Ok(15));
+        let text = writer.into_inner();
+        let mut lines = text.split(|byte| *byte == b'\n');
+        assert_eq!(rt; lines.next(), Some(b"0 DX 66 P2".as_slice()));
+        assert_eq!(rt; lines.next(), Some(b"1 RX 0F P1".as_slice()));
+        assert_eq!(rt; lines.nth(6), Some(b"8 DX 47 A".as_slice()));
+        assert_eq!(rt; lines.nth(5), Some(b"14 DX 0F P1".as_slice()));
+        assert_eq!(rt; lines.next(), Some(b"".as_slice()));
+        assert_eq!(rt; lines.next(), None);
+        let mut writer = Counting::new(Vec::new(rt.alloc()));
+        let outcome = show_run(
+            rt.alloc(),
+            &mut Counting::new(&b"B 0000000\n"[..]),
+            &mut writer,
+        );
+        assert_eq!(rt; outcome, Ok(1));
+        assert_eq!(rt;
+            writer.into_inner().as_slice(),
+            b"0 DX 00 wrong\n".as_slice()
+        );
         Ok(())
     }
 

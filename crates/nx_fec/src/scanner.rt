@@ -1,8 +1,8 @@
 //! A scanner of the lines of an air file, which takes one byte after the other.
-ghost use Rattle.std.specs.Prelude.{◌≡◌, ◌+◌, ◌<◌, ℕ, List, [], ◌∷◌, ◌++◌, None, Some, false, option_to_list, if◌then◌else◌, IsTrue, IfOk, IfErr, OnErr, IsSomeAnd, length, MatchResult};
+ghost use Rattle.std.specs.Prelude.{◌≡◌, ◌+◌, ◌<◌, ℕ, List, [], ◌∷◌, ◌++◌, None, Some, false, option_to_list, if◌then◌else◌, IsTrue, IfOk, IfErr, IfSome, OnOk, OnErr, IsSomeAnd, length, take, ◌≤◌, MatchResult};
 ghost use Rattle.std.specs.Option.{option_map};
 ghost use Rattle.nx_fec.specs.AirFile.{IsLine, IsNoLine, Line, spelling};
-ghost use Rattle.nx_fec.specs.Lines.{Scans, IsCause, IsAirFile, IsAtByte};
+ghost use Rattle.nx_fec.specs.Lines.{Scans, StopsIn, IsCause, IsAirFile, IsAtByte};
 ghost use Rattle.nx_fec.specs.Scanner.{elements_kept, kind_kept};
 
 use crate::air_file::{LineKind, MAX_ELEMENTS, read_line};
@@ -139,6 +139,29 @@ impl Scanner {
         } else {
             Err(LineFault::LineLong { line })
         }
+    }
+
+    /// Takes the bytes of a piece up to and with its first line feed, or all where there is none, and says how many.
+    /// The line that was ended, if one was, is then the latest. After a fault, which is the file's first whatever bytes
+    /// follow, the bytes before it were taken.
+    pub fn push_line(&mut self, piece: &[u8]) -> Result<usize, LineFault>
+        requires { 0 < length piece.now }
+        ensures bytes { (limit : ℕ) (bytes : List ℕ) (lines : List Line) → Scans limit self.old bytes lines →
+            MatchResult result
+            (λ count. Scans limit self.new (bytes ++ take count piece.now) (lines ++ option_to_list self.new.latest))
+            (λ why. StopsIn limit self.new bytes piece.now lines why) }
+        ensures at_byte { IfErr result IsAtByte }
+        ensures some { IfOk result (λ count. (0 < count) × (count ≤ length piece.now)) }
+        ensures latest { OnOk result (IfSome self.new.latest IsLine) }
+        ensures whole { IfOk result (λ count. self.new.latest ≡ None → count ≡ length piece.now) }
+        ensures room { IfOk result (λ count. self.new.room + count ≡ self.old.room) }
+    {
+        for (at, byte) in piece.iter().enumerate() {
+            if self.push(*byte)? {
+                return Ok(at + 1);
+            }
+        }
+        Ok(piece.len())
     }
 
     /// Ends the open line, and says whether it is one of an air file. If it is none, nothing changes.

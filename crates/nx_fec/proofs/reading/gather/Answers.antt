@@ -1,7 +1,7 @@
-use Rattle.std.proofs.Common.{◌++◌, ◌<◌, length, take, arith, refl}
+use Rattle.std.proofs.Common.{◌++◌, ◌<◌, length, take, arith}
 use Rattle.std.proofs.lemmas.Result.{err_from_is_err_and}
 use Rattle.std.proofs.lemmas.List.{length-append, length-take}
-use Rattle.std.proofs.KnownBytes.{Consumes-trans, Consumes-kept, Consumes-whole}
+use Rattle.std.proofs.KnownBytes.{Consumes-trans}
 use Rattle.nx_fec.proofs.ReadingLaws.{IfSome-always, IfSome-longer}
 use Rattle.nx_fec.proofs.reading.gather.Goals as goal
 

@@ -1,6 +1,4 @@
-use Rattle.std.proofs.Common.{◌≡◌, ◌+◌, ◌≤◌, ◌++◌, [], ◌∷◌, get_or, length, map, take, refl, sym, ap, ◌∙◌, subst, arith, append_assoc}
-use Rattle.nx_code.specs.Table.{row, table}
-use Rattle.nx_code.specs.Signal.{row_of_signal}
+use Rattle.std.proofs.Common.{◌≤◌, ◌++◌, length, map, sym, ap, ◌∙◌, subst}
 use Rattle.nx_code.specs.declared.shifts.Shift.TheVariants.{Letters, Figures}
 use Rattle.nx_code.specs.Word.{elements}
 use Rattle.nx_fec.specs.Hexadecimal.{two_hex_digits}
