@@ -6,3 +6,5 @@ pub mod Faults
 pub mod Runs
 pub mod StrictReading
 pub mod Checking
+pub mod Damage
+pub mod DamageTaker
