@@ -20,4 +20,6 @@ pub mod PrintedText
 pub mod EmissionReading
 pub mod EmissionFaults
 pub mod CheckingLaws
+pub mod DamageLemmas
+pub mod DamageLaws
 mod Examples

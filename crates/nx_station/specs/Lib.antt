@@ -9,3 +9,5 @@ pub mod Sendings
 pub mod ChannelExample
 pub mod StrictReading
 pub mod Checking
+pub mod Damage
+pub mod DamageTaker

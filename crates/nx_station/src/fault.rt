@@ -87,6 +87,29 @@ pub enum CheckFault {
     Emission(EmissionFault),
 }
 
+/// Why an air file was not damaged to its end. Lines count from 1.
+#[derive(Clone, Copy, Debug, Drop, PartialEq, Eq, Error)]
+pub enum DamageFault {
+    /// A read failed.
+    #[error("read failed")]
+    Read,
+    /// There is a byte past the limit of an air file.
+    #[error("air file longer than 268435456 bytes")]
+    AirTooLong,
+    /// The line has a 515th byte before its end.
+    #[error("line {line} is longer than 514 bytes")]
+    LineLong { line: u64 },
+    /// The file ends inside the line.
+    #[error("line {line} has no end")]
+    LineCut { line: u64 },
+    /// The line is none of an air file.
+    #[error("line {line} is not understood")]
+    BadLine { line: u64 },
+    /// A write failed, after the writer took this many bytes in the run.
+    #[error("write failed after {written} bytes")]
+    Write { written: u64 },
+}
+
 impl From<AllocError> for EmissionFault {
     ghost use Rattle.std.specs.Prelude.{◌≡◌};
     ghost use Rattle.nx_station.specs.declared.fault.EmissionFault.TheVariants.{Memory};

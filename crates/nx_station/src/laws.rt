@@ -9,6 +9,9 @@ ghost use Rattle.nx_envelope.specs.MessageView.{MessageView};
 ghost use Rattle.nx_fec.specs.Emission.{SentPosition, reception};
 ghost use Rattle.nx_station.specs.Broadcast.{IsBroadcast, IsSpelled, printed_text};
 ghost use Rattle.nx_station.specs.MessageFile.{FileMessage, FileFault, IsMessageFile, HasFirstFault};
+ghost use Rattle.nx_fec.specs.AirFile.{Line};
+ghost use Rattle.nx_fec.specs.Lines.{elements_of};
+ghost use Rattle.nx_station.specs.Damage.{Damage, IsDamaged, damaged, damaged_lines};
 ghost use Rattle.nx_station.specs.Checking.{IsChecked, station_line};
 ghost use Rattle.nx_station.specs.Runs.{IsTransmission};
 ghost use Rattle.nx_station.specs.declared.sending.Sent.{Sent};
@@ -68,4 +71,15 @@ pub fn checking_gives_back_what_was_sent()
     ensures back { (limit station from : ℕ) (file air text : List ℕ) (sent : Sent) (count : ℕ)
         → IsTransmission station from file air sent → IsChecked limit air text count
         → (text ≡ station_line station ++ file) × (count ≡ sent.messages) }
+{}
+
+/// Damage changes the elements that it names and nothing else, and twice it changes nothing: over lines, what is damaged
+/// again with the same damage is what was there; and the elements of all lines are damaged by their place among them all.
+pub fn damage_undoes_itself()
+    ensures twice { (damage : Damage) (lines : List Line) → damaged_lines damage 0 (damaged_lines damage 0 lines) ≡ lines }
+    ensures elements { (damage : Damage) (lines : List Line)
+        → flat_map elements_of (damaged_lines damage 0 lines) ≡ damaged damage 0 (flat_map elements_of lines) }
+    ensures long { (damage : Damage) (place : ℕ) (bits : List Bool) → length (damaged damage place bits) ≡ length bits }
+    ensures files { (damage : Damage) (limit : ℕ) (air once twice : List ℕ) (m n : ℕ) → IsDamaged damage limit air once m
+        → IsDamaged damage limit once twice n → twice ≡ air }
 {}

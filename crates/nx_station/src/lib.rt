@@ -3,6 +3,7 @@
 
 mod broadcast;
 mod checking;
+mod damaging;
 mod fault;
 mod heads;
 pub mod laws;
@@ -14,7 +15,8 @@ mod slots;
 
 pub use broadcast::{MAX_POSITIONS, emission};
 pub use checking::check_run;
-pub use fault::{CheckFault, EmissionFault, SendFault, SendRunFault};
+pub use damaging::{DamageKind, damage};
+pub use fault::{CheckFault, DamageFault, EmissionFault, SendFault, SendRunFault};
 pub use reading::read_emission;
 pub use sending::{Sent, send};
 pub use slots::next_slot;

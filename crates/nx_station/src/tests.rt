@@ -261,4 +261,5 @@ fn laws_can_be_called() {
     laws::messages_have_one_broadcast();
     laws::an_emission_has_one_reading();
     laws::checking_gives_back_what_was_sent();
+    laws::damage_undoes_itself();
 }

@@ -1,0 +1,245 @@
+-- What damaging answers follows from what its run over the lines said.
+use Rattle.std.proofs.Common.{◌≡◌, ◌≢◌, ℕ, ◌+◌, ◌-◌, ◌/◌, ◌%◌, ◌^◌, ◌<◌, ◌≤◌, Bool, true, List, [], ◌∷◌, ◌++◌, length, map, min, Option, Some, None, Result, Ok, Err, refl, sym, ap, ◌∙◌, subst, arith, append-nil, length-append}
+use Rattle.std.specs.List.{flat_map, AllByRecursion}
+use Rattle.std.specs.Option.{option_map, IsSomeAnd}
+use Rattle.std.specs.Io.KnownBytes.{Appends}
+use Rattle.std.proofs.lemmas.List.{length-map}
+use Rattle.std.proofs.lemmas.List.Concat.{flat_map-append}
+use Rattle.nx_fec.specs.AirFile.{Line, IsLine, element_digit, moment, elements, refuse_station, accept_station, refuse_subject, accept_subject, spelling}
+use Rattle.nx_fec.specs.Devices.{HasWritten, WroteSome}
+use Rattle.nx_fec.specs.LineRuns.{Beginning, HasTaken, HasTakenAll, HasTakenSome, IsPlaced, Refusing, RunsLines, Standing, StopsAt}
+use Rattle.nx_fec.specs.Lines.{IsCause, elements_of, file_of, line_bytes}
+use Rattle.nx_fec.specs.Transfers.{Devices}
+use Rattle.nx_fec.specs.declared.fault.LineFault.{LineFault}
+use Rattle.nx_fec.specs.declared.fault.LineFault.TheVariants as file
+use Rattle.nx_fec.specs.declared.line_run.LinesFault.{LinesFault}
+use Rattle.nx_fec.specs.declared.line_run.LinesFault.TheVariants as run
+use Rattle.nx_fec.specs.declared.line_run.LinesRead.{LinesRead}
+use Rattle.nx_fec.proofs.LineLaws.{IsAirFile-unique, spelling-IsBeginning}
+use Rattle.nx_fec.proofs.TransferLaws.{Reads-on}
+use Rattle.nx_station.specs.Damage.{Damage, Damages, ExplainsDamaging, IsDamaged, damaged_file, damaged_line, damaged_lines, inverted, line_fault}
+use Rattle.nx_station.specs.DamageTaker.{HasDamaged, IsAt, damage_of}
+use Rattle.nx_station.specs.declared.damaging.Damaging.{Damaging}
+use Rattle.nx_station.specs.declared.fault.DamageFault.{DamageFault}
+use Rattle.nx_station.specs.declared.fault.DamageFault.TheVariants.{Read, AirTooLong, LineLong, LineCut, BadLine, Write}
+use Rattle.nx_station.proofs.DamageLemmas.{inverted-append, inverted-le, length-damaged, lines-append, lines-twice}
+
+abbrev pub stands : Standing Damaging
+stands first now lines given = HasDamaged first now lines given
+
+abbrev pub begins : Beginning Damaging
+begins first lines given = given ≡ damaged_file (damage_of first) lines
+
+abbrev pub refuses : Refusing Damaging (Unit {0})
+refuses first lines line why = ⊥
+
+-- ---- where it begins, and one line more
+
+pub starts : (first : Damaging) → first.is_dx ≡ true → first.offset ≡ 0 → first.inverted ≡ 0 → HasDamaged first first [] []
+starts first dx offset none = record {
+  at = record { kind = refl; skip = omega arith; left = omega arith; is_dx = dx; offset = offset };
+  counted = omega (arith, none);
+  whole = refl;
+}
+
+elements-more : (lines : List Line) (line : Line) → flat_map elements_of (lines ++ (line ∷ [])) ≡ flat_map elements_of lines ++ elements_of line
+elements-more lines line = flat_map-append elements_of lines (line ∷ []) ∙ ap (λ l. flat_map elements_of lines ++ l) (append-nil (elements_of line))
+
+pub taken-more : (first old new : Damaging) (lines : List Line) (line : Line) (given bytes : List ℕ) → HasDamaged first old lines given
+    → ((place : ℕ) → IsAt first old place → bytes ≡ line_bytes (damaged_line (damage_of first) place line))
+    → ((place : ℕ) → IsAt first old place → IsAt first new (place + length (elements_of line)))
+    → ((place total : ℕ) → IsAt first old place → old.inverted ≡ min total (2 ^ 64 - 1) → new.inverted ≡ min (total + inverted (damage_of first) place (elements_of line)) (2 ^ 64 - 1))
+    → HasDamaged first new (lines ++ (line ∷ [])) (given ++ bytes)
+taken-more first old new lines line given bytes h written moved counted =
+    let D = damage_of first in
+    let bits = flat_map elements_of lines in
+    let more = elements-more lines line in
+    let long : length bits + length (elements_of line) ≡ length (flat_map elements_of (lines ++ (line ∷ []))) = sym (ap length more ∙ length-append bits (elements_of line)) in
+    let total : inverted D 0 bits + inverted D (length bits) (elements_of line) ≡ inverted D 0 (flat_map elements_of (lines ++ (line ∷ []))) =
+    sym (ap (inverted D 0) more ∙ inverted-append D 0 bits (elements_of line) ∙ ap (λ p. inverted D 0 bits + inverted D p (elements_of line)) (let e : 0 + length bits ≡ length bits = omega arith in e)) in
+    let place : 0 + length bits ≡ length bits = omega arith in
+    let file : damaged_file D (lines ++ (line ∷ [])) ≡ damaged_file D lines ++ line_bytes (damaged_line D (length bits) line) =
+    ap file_of (lines-append D 0 lines line) ∙ flat_map-append line_bytes _ (damaged_line D (0 + length bits) line ∷ [])
+    ∙ ap (λ l. damaged_file D lines ++ l) (append-nil (line_bytes (damaged_line D (0 + length bits) line)))
+    ∙ ap (λ p. damaged_file D lines ++ line_bytes (damaged_line D p line)) place in
+    record {
+      at = subst (IsAt first new) long (moved (length bits) h.at);
+      counted = subst (λ n. new.inverted ≡ min n (2 ^ 64 - 1)) total (counted (length bits) (inverted D 0 bits) h.at h.counted);
+      whole = ap (λ l. l ++ bytes) h.whole ∙ ap (λ l. damaged_file D lines ++ l) (written (length bits) h.at) ∙ sym file;
+    }
+
+-- a line without elements is as it was, and one that has some is a line of elements
+pub silent-line : (damage : Damage) (place : ℕ) (line : Line) → elements_of line ≡ [] → damaged_line damage place line ≡ line
+silent-line damage place (moment n) h = refl
+silent-line damage place (elements []) h = refl
+silent-line damage place (elements (b ∷ bits)) h = cc
+silent-line damage place (refuse_station letter) h = refl
+silent-line damage place (accept_station letter) h = refl
+silent-line damage place (refuse_subject letter) h = refl
+silent-line damage place (accept_subject letter) h = refl
+
+pub sounding-line : (line : Line) → elements_of line ≢ [] → line ≡ elements (elements_of line)
+sounding-line (moment n) h = absurd (h refl)
+sounding-line (elements bits) h = refl
+sounding-line (refuse_station letter) h = absurd (h refl)
+sounding-line (accept_station letter) h = absurd (h refl)
+sounding-line (refuse_subject letter) h = absurd (h refl)
+sounding-line (accept_subject letter) h = absurd (h refl)
+
+-- the text of a line that was ended has at most 514 bytes
+pub text-short : (latest : Option Line) (text : Option (List ℕ)) (bytes : List ℕ) → IsSomeAnd latest IsLine → text ≡ option_map spelling latest → text ≡ Some bytes → length bytes ≤ 514
+text-short None text bytes h e is = let clash : None ≡ Some bytes = sym e ∙ is in cc
+text-short (Some line) text bytes h e is =
+    let clash : Some (spelling line) ≡ Some bytes = sym e ∙ is in
+    let same : spelling line ≡ bytes = cc in
+    subst (λ l. length l ≤ 514) same (spelling-IsBeginning line h).short
+
+-- ---- what was taken is what is damaged
+
+elements-few : (lines : List Line) → length (flat_map elements_of lines) ≤ length (file_of lines)
+elements-few [] = omega arith
+elements-few (line ∷ lines) =
+    omega (arith, elements-few lines, line-few line, length-append (elements_of line) (flat_map elements_of lines), length-append (line_bytes line) (file_of lines))
+  where
+    line-few : (line : Line) → length (elements_of line) ≤ length (line_bytes line)
+    line-few (moment n) = omega arith
+    line-few (elements bits) = omega (arith, length-append (spelling (elements bits)) (10 ∷ []), length-map bits element_digit)
+    line-few (refuse_station letter) = omega arith
+    line-few (accept_station letter) = omega arith
+    line-few (refuse_subject letter) = omega arith
+    line-few (accept_subject letter) = omega arith
+
+taken-appends : (first now : Damaging) (lines : List Line) (old new : Option (List ℕ)) → HasTaken stands first now lines (Appends old new) → Appends old new (damaged_file (damage_of first) lines)
+taken-appends first now lines old new h = subst (Appends old new) h.stood.whole h.here
+
+some-damaged : (first : Damaging) (lines : List Line) (old new : Option (List ℕ)) (written : ℕ) → HasTakenSome begins first old new lines written → WroteSome old new (damaged_file (damage_of first) lines) written
+some-damaged first lines old new written h = subst (λ l. WroteSome old new l written) h.begun h.some
+
+stops-map : (bytes : List ℕ) (P Q : List Line → List ℕ → List ℕ → Type 0) → ((lines : List Line) (rest more : List ℕ) → P lines rest more → Q lines rest more) → StopsAt bytes P → StopsAt bytes Q
+stops-map bytes P Q f h = record { lines = h.lines; rest = h.rest; more = h.more; whole = h.whole; each = h.each; part = h.part; here = f h.lines h.rest h.more h.here }
+
+-- ---- the outcomes
+
+abbrev pub Ran : {R W : Type 0} → Damaging → Damaging → Devices R W → Result LinesRead (LinesFault (Unit {0})) → Type 0
+Ran first now d outcome = RunsLines stands begins refuses 268435456 first now d outcome
+
+ok-err : {N E : Type 0} (x : N) (e : E) → ◌≡◌ {A = Result N E} (Ok x) (Err e) → ⊥
+ok-err x e h = cc
+
+pub refused-none : {R W : Type 0} (d : Devices R W) (first now : Damaging) (line : ℕ) (why : Unit {0}) (fault : LinesFault (Unit {0})) → fault ≡ run.Refused line why → Ran first now d (Err fault) → ⊥
+refused-none d first now line why fault is h = (subst (λ f. Ran first now d (Err f)) is h).reads.answer.here.0.refused
+
+line-read : (why : LineFault) → ◌≡◌ {A = Result ℕ DamageFault} (Err (line_fault why)) (Err Read) → ⊥
+line-read file.TooLong e = cc
+line-read (file.LineLong line) e = cc
+line-read (file.LineCut line) e = cc
+line-read (file.BadLine line) e = cc
+
+line-write : (why : LineFault) (written : ℕ) → ◌≡◌ {A = Result ℕ DamageFault} (Err (line_fault why)) (Err (Write written)) → ⊥
+line-write file.TooLong written e = cc
+line-write (file.LineLong line) written e = cc
+line-write (file.LineCut line) written e = cc
+line-write (file.BadLine line) written e = cc
+
+run-line-read : (why : LineFault) → ◌≡◌ {A = Result LinesRead (LinesFault (Unit {0}))} (Err (run.Line why)) (Err run.Read) → ⊥
+run-line-read why e = cc
+
+run-line-write : (why : LineFault) (written : ℕ) → ◌≡◌ {A = Result LinesRead (LinesFault (Unit {0}))} (Err (run.Line why)) (Err (run.Write written)) → ⊥
+run-line-write why written e = cc
+
+run-read-write : (written : ℕ) → ◌≡◌ {A = Result LinesRead (LinesFault (Unit {0}))} (Err run.Read) (Err (run.Write written)) → ⊥
+run-read-write written e = cc
+
+run-write-read : (written : ℕ) → ◌≡◌ {A = Result LinesRead (LinesFault (Unit {0}))} (Err (run.Write written)) (Err run.Read) → ⊥
+run-write-read written e = cc
+
+read-write : (written : ℕ) → ◌≡◌ {A = Result ℕ DamageFault} (Err Read) (Err (Write written)) → ⊥
+read-write written e = cc
+
+write-read : (written : ℕ) → ◌≡◌ {A = Result ℕ DamageFault} (Err (Write written)) (Err Read) → ⊥
+write-read written e = cc
+
+whole-damaged : (first now : Damaging) (old new : Option (List ℕ)) (bytes : List ℕ) (read : LinesRead) → HasTakenAll stands first now old new 268435456 bytes read
+    → (text : List ℕ) × IsDamaged (damage_of first) 268435456 bytes text now.inverted × Appends old new text
+whole-damaged first now old new bytes read h =
+    let few = elements-few h.lines in
+    let bound = inverted-le (damage_of first) 0 (flat_map elements_of h.lines) in (
+      damaged_file (damage_of first) h.lines,
+      record {
+        lines = h.lines;
+        file = h.file;
+        whole = refl;
+        counted = omega (arith, h.taken.stood.counted, few, bound, h.file.within, ap length h.file.whole);
+      },
+      subst (Appends old new) h.taken.stood.whole h.taken.here.appended,
+    )
+
+pub damaged-ok : {R W : Type 0} (d : Devices R W) (first now : Damaging) (read : LinesRead) → Ran first now d (Ok read) → Damages (damage_of first) d (Ok now.inverted)
+damaged-ok d first now read h = record {
+  reads = Reads-on _ _ _ _ _ _ _ _ _ _ _ h.reads (λ bytes k. let w = whole-damaged first now _ _ bytes read k.1 in (k.0, w.0, w.1, w.2)) (λ bytes k. let w = whole-damaged first now _ _ bytes read k.1 in (tt, w.0, w.1, w.2))
+      (λ e. absurd (ok-err now.inverted Read e)) (λ e. absurd (ok-err read run.Read e));
+  writes = record { failed = (λ w. absurd (ok-err now.inverted (Write w.0) w.1), λ one. let w = h.writes.failed.1 one in absurd (ok-err read (run.Write w.0) w.1)); once = h.writes.once };
+  unwritten = tt;
+}
+
+damaged-read : {R W : Type 0} (d : Devices R W) (first now : Damaging) → Ran first now d (Err run.Read) → Damages (damage_of first) d (Err Read)
+damaged-read d first now h = record {
+  reads = Reads-on _ _ _ _ _ _ _ _ _ _ _ h.reads (λ bytes k. stops-map bytes _ _ (λ lines rest more p. (p.0, p.1, taken-appends first now lines _ _ p.2)) k)
+      (λ bytes k. stops-map bytes _ _ (λ lines rest more p. (p.0, p.1, taken-appends first now lines _ _ p.2)) k) (λ e. refl) (λ e. refl);
+  writes = record { failed = (λ w. absurd (read-write w.0 w.1), λ one. let w = h.writes.failed.1 one in absurd (run-read-write w.0 w.1)); once = h.writes.once };
+  unwritten = tt;
+}
+
+damaged-write : {R W : Type 0} (d : Devices R W) (first now : Damaging) (written : ℕ) → Ran first now d (Err (run.Write written)) → Damages (damage_of first) d (Err (Write written))
+damaged-write d first now written h = record {
+  reads = Reads-on _ _ _ _ _ _ _ _ _ _ _ h.reads (λ bytes k. stops-map bytes _ _ (λ lines rest more p. some-damaged first lines _ _ written p) k)
+      (λ bytes k. stops-map bytes _ _ (λ lines rest more p. some-damaged first lines _ _ written p) k) (λ e. absurd (write-read written e)) (λ e. absurd (run-write-read written e));
+  writes = record { failed = (λ w. h.writes.failed.0 (written, refl), λ one. (written, refl)); once = h.writes.once };
+  unwritten = tt;
+}
+
+stopped : (AtEnd : Type 0) (first now : Damaging) (old new : Option (List ℕ)) (bytes : List ℕ) (why : LineFault) (IsLeft : List ℕ → Type 0)
+    → IsPlaced AtEnd why × StopsAt bytes (λ lines rest more. IsCause 268435456 (length (file_of lines ++ rest)) lines rest more why × HasTaken stands first now lines (Appends old new))
+    → ExplainsDamaging AtEnd IsLeft 268435456 (damage_of first) old new bytes (line_fault why)
+stopped AtEnd first now old new bytes file.TooLong left k = (k.0, stops-map bytes _ _ (λ lines rest more p. (p.0, taken-appends first now lines old new p.1)) k.1)
+stopped AtEnd first now old new bytes (file.LineLong line) left k = (k.0, stops-map bytes _ _ (λ lines rest more p. (p.0, taken-appends first now lines old new p.1)) k.1)
+stopped AtEnd first now old new bytes (file.LineCut line) left k = (k.0, stops-map bytes _ _ (λ lines rest more p. (p.0, taken-appends first now lines old new p.1)) k.1)
+stopped AtEnd first now old new bytes (file.BadLine line) left k = (k.0, stops-map bytes _ _ (λ lines rest more p. (p.0, taken-appends first now lines old new p.1)) k.1)
+
+damaged-line : {R W : Type 0} (d : Devices R W) (first now : Damaging) (why : LineFault) → Ran first now d (Err (run.Line why)) → Damages (damage_of first) d (Err (line_fault why))
+damaged-line d first now why h = record {
+  reads = Reads-on _ _ _ _ _ _ _ _ _ _ _ h.reads (λ bytes k. stopped _ first now _ _ bytes why _ k) (λ bytes k. stopped _ first now _ _ bytes why _ k)
+      (λ e. absurd (line-read why e)) (λ e. absurd (run-line-read why e));
+  writes = record { failed = (λ w. absurd (line-write why w.0 w.1), λ one. let w = h.writes.failed.1 one in absurd (run-line-write why w.0 w.1)); once = h.writes.once };
+  unwritten = tt;
+}
+
+pub read-of : {R W : Type 0} (d : Devices R W) (first now : Damaging) (fault : LinesFault (Unit {0})) → fault ≡ run.Read → Ran first now d (Err fault) → Damages (damage_of first) d (Err Read)
+read-of d first now fault is h = damaged-read d first now (subst (λ f. Ran first now d (Err f)) is h)
+
+pub write-of : {R W : Type 0} (d : Devices R W) (first now : Damaging) (fault : LinesFault (Unit {0})) (written : ℕ) → fault ≡ run.Write written → Ran first now d (Err fault) → Damages (damage_of first) d (Err (Write written))
+write-of d first now fault written is h = damaged-write d first now written (subst (λ f. Ran first now d (Err f)) is h)
+
+pub line-of : {R W : Type 0} (d : Devices R W) (first now : Damaging) (fault : LinesFault (Unit {0})) (why : LineFault) (made : DamageFault) → fault ≡ run.Line why → made ≡ line_fault why → Ran first now d (Err fault)
+    → Damages (damage_of first) d (Err made)
+line-of d first now fault why made is e h = subst (λ m. Damages (damage_of first) d (Err m)) (sym e) (damaged-line d first now why (subst (λ f. Ran first now d (Err f)) is h))
+
+-- ---- twice
+
+-- lines after the damage are lines of an air file
+line-is : (damage : Damage) (place : ℕ) (line : Line) → IsLine line → IsLine (damaged_line damage place line)
+line-is damage place (moment n) h = h
+line-is damage place (elements bits) h = let long = length-damaged damage place bits in (omega (arith, h.0, long), omega (arith, h.1, long))
+line-is damage place (refuse_station letter) h = h
+line-is damage place (accept_station letter) h = h
+line-is damage place (refuse_subject letter) h = h
+line-is damage place (accept_subject letter) h = h
+
+lines-are : (damage : Damage) (place : ℕ) (lines : List Line) → AllByRecursion IsLine lines → AllByRecursion IsLine (damaged_lines damage place lines)
+lines-are damage place [] h = tt
+lines-are damage place (line ∷ lines) h = (line-is damage place line h.0, lines-are damage (place + length (elements_of line)) lines h.1)
+
+pub files-twice : (damage : Damage) (limit : ℕ) (air once twice : List ℕ) (m n : ℕ) → IsDamaged damage limit air once m → IsDamaged damage limit once twice n → twice ≡ air
+files-twice damage limit air once twice m n h k =
+    let lines = IsAirFile-unique limit once k.lines (damaged_lines damage 0 h.lines) k.file record { whole = h.whole; each = lines-are damage 0 h.lines h.file.each; within = k.file.within } in
+    k.whole ∙ ap (damaged_file damage) lines ∙ ap file_of (lines-twice damage 0 h.lines) ∙ sym h.file.whole

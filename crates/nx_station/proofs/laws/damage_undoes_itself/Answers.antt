@@ -1,0 +1,15 @@
+use Rattle.nx_station.proofs.DamageLemmas.{length-damaged, lines-elements, lines-twice}
+use Rattle.nx_station.proofs.DamageLaws.{files-twice}
+use Rattle.nx_station.proofs.laws.damage_undoes_itself.Goals as goal
+
+pub returns-clause-twice : goal.returns-clause-twice
+returns-clause-twice c damage lines = lines-twice damage 0 lines
+
+pub returns-clause-elements : goal.returns-clause-elements
+returns-clause-elements c damage lines = lines-elements damage 0 lines
+
+pub returns-clause-long : goal.returns-clause-long
+returns-clause-long c = length-damaged
+
+pub returns-clause-files : goal.returns-clause-files
+returns-clause-files c = files-twice

@@ -1,0 +1,111 @@
+-- What damaging an air file on purpose does to it (this profile).
+use Rattle.std.specs.Prelude.{◌≡◌, ℕ, ◌+◌, ◌-◌, ◌/◌, ◌%◌, ◌≤◌, ◌==◌, ◌&&◌, not, nat_lt, if◌then◌else◌, Bool, true, List, [], ◌∷◌, ◌++◌, length, Option, Result, Ok, Err}
+use Rattle.std.specs.List.{flat_map}
+use Rattle.std.specs.Io.KnownBytes.{Appends}
+use Rattle.nx_code.specs.Word.{value_of}
+use Rattle.nx_fec.specs.AirFile.{Line, elements}
+use Rattle.nx_fec.specs.Devices.{WroteSome}
+use Rattle.nx_fec.specs.LineRuns.{IsPlaced, StopsAt}
+use Rattle.nx_fec.specs.Lines.{IsAirFile, IsCause, elements_of, file_of}
+use Rattle.nx_fec.specs.Transfers.{Devices, IsReadOut, Transfers, on_the_way}
+use Rattle.nx_fec.specs.declared.fault.LineFault.{LineFault}
+use Rattle.nx_fec.specs.declared.fault.LineFault.TheVariants as file
+use Rattle.nx_station.specs.declared.damaging.DamageKind.{DamageKind}
+use Rattle.nx_station.specs.declared.damaging.DamageKind.TheVariants.{Dx, Rx, All}
+use Rattle.nx_station.specs.declared.fault.DamageFault.{DamageFault}
+use Rattle.nx_station.specs.declared.fault.DamageFault.TheVariants.{Read, AirTooLong, LineLong, LineCut, BadLine, Write}
+
+-- which words are damaged: those of a kind, among so many from a first one on
+pub record Damage : Type 0 where
+  pub kind : DamageKind
+  pub from : ℕ
+  pub count : ℕ
+
+-- whether a kind names a word: the even ones are DX words, and the odd ones RX words
+abbrev pub names : DamageKind → ℕ → Bool
+names Dx word = word % 2 == 0
+names Rx word = word % 2 == 1
+names All word = true
+
+-- whether a word is damaged: it isn't before the first one, fewer than so many lie between, and its kind is named
+abbrev pub hits : Damage → ℕ → Bool
+hits damage word = (not (nat_lt word damage.from) && nat_lt (word - damage.from) damage.count) && names damage.kind word
+
+-- whether the element at this place of all elements is inverted: it is the first of a word that is damaged, where word
+-- k has the elements 7k to 7k+6
+abbrev pub inverts : Damage → ℕ → Bool
+inverts damage place = (place % 7 == 0) && hits damage (place / 7)
+
+abbrev pub damaged_element : Damage → ℕ → Bool → Bool
+damaged_element damage place element = if inverts damage place then not element else element
+
+-- elements after the damage, and how many of them are inverted; the first stands at this place of all elements
+abbrev pub damaged : Damage → ℕ → List Bool → List Bool
+damaged damage place [] = []
+damaged damage place (element ∷ more) = damaged_element damage place element ∷ damaged damage (place + 1) more
+
+abbrev pub inverted : Damage → ℕ → List Bool → ℕ
+inverted damage place [] = 0
+inverted damage place (element ∷ more) = value_of (inverts damage place) + inverted damage (place + 1) more
+
+-- lines after the damage: those that have no elements are as they were
+abbrev pub damaged_line : Damage → ℕ → Line → Line
+damaged_line damage place (elements bits) = elements (damaged damage place bits)
+damaged_line damage place line = line
+
+abbrev pub damaged_lines : Damage → ℕ → List Line → List Line
+damaged_lines damage place [] = []
+damaged_lines damage place (line ∷ lines) = damaged_line damage place line ∷ damaged_lines damage (place + length (elements_of line)) lines
+
+-- the file that is written of lines
+abbrev pub damaged_file : Damage → List Line → List ℕ
+damaged_file damage lines = file_of (damaged_lines damage 0 lines)
+
+-- the most bytes of an air file that is damaged: 2 ^ 28
+abbrev pub air_limit : ℕ
+air_limit = 268435456
+
+-- what is written of an air file, and the count that is answered
+pub record IsDamaged (damage : Damage) (limit : ℕ) (air written : List ℕ) (count : ℕ) : Type 0 where
+  pub lines : List Line
+  pub file : IsAirFile limit air lines
+  pub whole : written ≡ damaged_file damage lines
+  pub counted : count ≡ inverted damage 0 (flat_map elements_of lines)
+
+-- the fault of damaging that stands for the fault of an air file
+abbrev pub line_fault : LineFault → DamageFault
+line_fault file.TooLong = AirTooLong
+line_fault (file.LineLong line) = LineLong line
+line_fault (file.LineCut line) = LineCut line
+line_fault (file.BadLine line) = BadLine line
+
+-- the air file has this fault, its first, and the whole lines before it were written
+abbrev pub StopsFor : Type 0 → ℕ → Damage → Option (List ℕ) → Option (List ℕ) → List ℕ → LineFault → Type 0
+StopsFor AtEnd limit damage old new air why =
+    IsPlaced AtEnd why × StopsAt air (λ lines rest more. IsCause limit (length (file_of lines ++ rest)) lines rest more why × Appends old new (damaged_file damage lines))
+
+-- What a fault says of the air file that was read. After a failed read no byte is left of which `IsLeft` doesn't hold,
+-- and the whole lines before it were written; so it is with a fault of the file; a write that failed wrote a part.
+abbrev pub ExplainsDamaging : Type 0 → (List ℕ → Type 0) → ℕ → Damage → Option (List ℕ) → Option (List ℕ) → List ℕ → DamageFault → Type 0
+ExplainsDamaging AtEnd IsLeft limit damage old new air Read =
+    StopsAt air (λ lines rest more. (length (file_of lines ++ rest) ≤ limit) × IsLeft more × Appends old new (damaged_file damage lines))
+ExplainsDamaging AtEnd IsLeft limit damage old new air AirTooLong = StopsFor AtEnd limit damage old new air file.TooLong
+ExplainsDamaging AtEnd IsLeft limit damage old new air (LineLong line) = StopsFor AtEnd limit damage old new air (file.LineLong line)
+ExplainsDamaging AtEnd IsLeft limit damage old new air (LineCut line) = StopsFor AtEnd limit damage old new air (file.LineCut line)
+ExplainsDamaging AtEnd IsLeft limit damage old new air (BadLine line) = StopsFor AtEnd limit damage old new air (file.BadLine line)
+ExplainsDamaging AtEnd IsLeft limit damage old new air (Write written) =
+    StopsAt air (λ lines rest more. WroteSome old new (damaged_file damage lines) written)
+
+-- what damaging answers to an air file: the count of the elements that it inverted, or a fault
+abbrev pub AnswersDamaging : Type 0 → (List ℕ → Type 0) → ℕ → Damage → Option (List ℕ) → Option (List ℕ) → Result ℕ DamageFault → List ℕ → Type 0
+AnswersDamaging AtEnd IsLeft limit damage old new (Ok count) air =
+    AtEnd × (text : List ℕ) × IsDamaged damage limit air text count × Appends old new text
+AnswersDamaging AtEnd IsLeft limit damage old new (Err fault) air = ExplainsDamaging AtEnd IsLeft limit damage old new air fault
+
+-- A run that damages: it answers so to the bytes that it read, and to the whole file, however it came; and it writes the
+-- whole lines that it read before each further read.
+abbrev pub Damages : {R W : Type 0} → Damage → Devices R W → Result ℕ DamageFault → Type 0
+Damages damage d outcome =
+    Transfers Read (λ written. Write written) on_the_way d outcome
+    (λ bytes. AnswersDamaging (IsReadOut d) (λ more. more ≡ []) air_limit damage (d.contents d.writer.inner) (d.contents d.writer_after.inner) outcome bytes)
+    (λ bytes. AnswersDamaging (Unit {0}) (λ more. Unit {0}) air_limit damage (d.contents d.writer.inner) (d.contents d.writer_after.inner) outcome bytes)
