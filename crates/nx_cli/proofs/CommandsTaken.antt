@@ -8,18 +8,30 @@ use Rattle.clap.specs.Simple.{argument_words, entered, filled_from, help_rule, l
 use Rattle.clap.specs.Walk.{answers_to, nothing_held, rows_after, walk}
 use Rattle.clap.specs.Faults.{entered_fault, level_fault}
 use Rattle.nx_cli.proofs.EachFound.{Each, found_is}
-use Rattle.nx_cli.proofs.NumbersGiven.{GivesNumber, IsNumeric, gets, uses-text, uses-wanted}
+use Rattle.nx_cli.proofs.NumbersGiven.{GivesNumber, IsNumeric, gets, uses-other, uses-text, uses-wanted}
 use Rattle.nx_cli.proofs.RowsKept.{UsesWell, or-first, or-second}
 use Rattle.nx_cli.specs.declared.words.Call.{Call}
 use Rattle.nx_cli.specs.declared.words.Call.TheVariants.{Check, Code, Decode, Encode, Show}
 use Rattle.nx_cli.specs.Words.{HasArguments, command_name, navtex, number_rule, text_rule}
 
--- the arguments of a command that wants a station and a moment, as they are built
+-- the arguments of a command that wants a station and a moment, and of one that wants words, as they are built
 abbrev slot_rules : List Rule
 slot_rules = filled_from 1 (text_rule (codes "STATION") ∷ number_rule (codes "MOMENT") 32503679999 ∷ help_rule ∷ [])
 
+abbrev damage_rules : List Rule
+damage_rules = filled_from 1 (text_rule (codes "KIND") ∷ number_rule (codes "FROM") 4294967295 ∷ number_rule
+    (codes "COUNT") 4294967295 ∷ help_rule ∷ [])
+
 slot_rules-moment : Each (UsesWell (IsNumeric (codes "MOMENT") 32503679999)) slot_rules
 slot_rules-moment = (uses-text _ _ 1 _ refl, (uses-wanted _ _ 2, ((λ again vs rows e good. good), tt)))
+
+damage_rules-from : Each (UsesWell (IsNumeric (codes "FROM") 4294967295)) damage_rules
+damage_rules-from = (uses-text _ _ 1 _ refl, (uses-wanted _ _ 2, (uses-other _ _ 3 _ _ refl,
+    ((λ again vs rows e good. good), tt))))
+
+damage_rules-count : Each (UsesWell (IsNumeric (codes "COUNT") 4294967295)) damage_rules
+damage_rules-count = (uses-text _ _ 1 _ refl, (uses-other _ _ 2 _ _ refl, (uses-wanted _ _ 3,
+    ((λ again vs rows e good. good), tt))))
 
 second_wanted : (a b : Bool) → check_kinds false false ((true && not a) || ((true && not b) ||
     (false || false))) ≡ [] → b ≡ true
@@ -27,6 +39,18 @@ second_wanted true true e = refl
 second_wanted true false e = absurd (cc)
 second_wanted false true e = absurd (cc)
 second_wanted false false e = absurd (cc)
+
+-- the second and the third of three arguments are given
+both_wanted : (a b c : Bool) → check_kinds false false ((true && not a) || ((true && not b) || ((true && not c) ||
+    (false || false)))) ≡ [] → (b ≡ true) × (c ≡ true)
+both_wanted true true true e = (refl, refl)
+both_wanted true true false e = absurd (cc)
+both_wanted true false true e = absurd (cc)
+both_wanted true false false e = absurd (cc)
+both_wanted false true true e = absurd (cc)
+both_wanted false true false e = absurd (cc)
+both_wanted false false true e = absurd (cc)
+both_wanted false false false e = absurd (cc)
 
 -- the word of a call that takes no argument
 abbrev pub IsPlainWord : Text → Type 0
@@ -36,25 +60,61 @@ IsPlainWord name = (call : Call) × (name ≡ command_name call) × ((rows : Lis
 abbrev pub IsSlotWord : Text → Type 0
 IsSlotWord name = (name ≡ codes "send") ⊎ (name ≡ codes "slots")
 
--- the name of a command that was entered, and the moment that its arguments hold
+-- the name of a command that was entered, and the numbers that its arguments hold
 abbrev pub IsCommand : Text → List Row → Type 0
 IsCommand name rows =
-    IsPlainWord name ⊎ (IsSlotWord name × GivesNumber (codes "MOMENT") 32503679999 rows)
+    IsPlainWord name ⊎ ((IsSlotWord name × GivesNumber (codes "MOMENT") 32503679999 rows)
+    ⊎ ((name ≡ codes "damage") × GivesNumber (codes "FROM") 4294967295 rows
+        × GivesNumber (codes "COUNT") 4294967295 rows))
 
 abbrev IsCommandOf : Shape → Type 0
 IsCommandOf s = (words : List Text) → level_fault s [] nothing_held words false [] ≡ []
     → IsCommand s.name (rows_after s.rules [] words)
 
 commands-are : Each IsCommandOf (built navtex).subs
-commands-are =
-    ((λ words e. inl (Decode, refl, λ rows. tt)), ((λ words e. inl (Encode, refl, λ rows. tt)),
-    ((λ words e. inl (Code, refl, λ rows. tt)), ((λ words e. inl (Show, refl, λ rows. tt)),
-    ((λ words e. inl (Check, refl, λ rows. tt)),
-    ((λ words e. inr (inl refl, gets _ _ _ slot_rules-moment (refl, (refl, (refl, tt)))
-        (λ rows checked. second_wanted (is_given (codes "STATION") rows) (is_given (codes "MOMENT") rows) checked) words e)),
-    ((λ words e. inr (inr refl, gets _ _ _ slot_rules-moment (refl, (refl, (refl, tt)))
-        (λ rows checked. second_wanted (is_given (codes "STATION") rows) (is_given (codes "MOMENT") rows) checked) words e)),
-    tt)))))))
+commands-are = (
+  (λ words e. inl (Decode, refl, λ rows. tt)),
+  (
+    (λ words e. inl (Encode, refl, λ rows. tt)),
+    (
+      (λ words e. inl (Code, refl, λ rows. tt)),
+      (
+        (λ words e. inl (Show, refl, λ rows. tt)),
+        (
+          (λ words e. inl (Check, refl, λ rows. tt)),
+          (
+            (λ words e. inr (inl (
+              inl refl,
+              gets _ _ _ slot_rules-moment (refl, (refl, (refl, tt)))
+                  (λ rows checked. second_wanted (is_given (codes "STATION") rows) (is_given
+                      (codes "MOMENT") rows) checked) words e,
+            ))),
+            (
+              (λ words e. inr (inl (
+                inr refl,
+                gets _ _ _ slot_rules-moment (refl, (refl, (refl, tt)))
+                    (λ rows checked. second_wanted (is_given (codes "STATION") rows) (is_given
+                        (codes "MOMENT") rows) checked) words e,
+              ))),
+              (
+                (λ words e. inr (inr (
+                  refl,
+                  gets _ _ _ damage_rules-from (refl, (refl, (refl, (refl, tt))))
+                      (λ rows checked. (both_wanted (is_given (codes "KIND") rows) (is_given (codes "FROM") rows)
+                          (is_given (codes "COUNT") rows) checked).0) words e,
+                  gets _ _ _ damage_rules-count (refl, (refl, (refl, (refl, tt))))
+                      (λ rows checked. (both_wanted (is_given (codes "KIND") rows) (is_given (codes "FROM") rows)
+                          (is_given (codes "COUNT") rows) checked).1) words e,
+                ))),
+                tt,
+              ),
+            ),
+          ),
+        ),
+      ),
+    ),
+  ),
+)
 
 found-command : (words : List Text) (found : Option Shape) → IfSome found IsCommandOf
     → option_map_or (λ s. level_fault s [] nothing_held words false []) found [] ≡ []

@@ -104,6 +104,12 @@ module _ (id : Text) (most : ℕ) where
       numeric-with_values _ _ _ _ _ (λ is. absurd (let no : false ≡ true = sym other
           ∙ is in cc)) (good-without (IsNumeric id most) _ _ good)
 
+  pub uses-other : (i : ℕ) (name : Text) (up_to : ℕ) → bytes_eq name id ≡ false
+      → UsesWell (IsNumeric id most) (built_number i name up_to)
+  uses-other i name up_to other again vs rows e good =
+      numeric-with_values _ _ _ _ _ (λ is. absurd (let no : false ≡ true = sym other
+          ∙ is in cc)) (good-without (IsNumeric id most) _ _ good)
+
   -- a row of this argument that was found has a number
   found-numeric : (rows : List Row) → Each (IsNumeric id most) rows → IfSome (find (λ r. bytes_eq r.id id) rows)
       (HasNumber most)

@@ -14,9 +14,11 @@ use Rattle.clap.proofs.ValueTestLemmas.{Accepts-accepts, accepts-Accepts}
 use Rattle.nx_code.specs.Characters.{IsCapital}
 use Rattle.nx_envelope.specs.declared.letter.Letter.{Letter}
 use Rattle.nx_cli.specs.declared.words.Call.{Call}
-use Rattle.nx_cli.specs.declared.words.Call.TheVariants.{Check, Code, Decode, Encode, Send, Show, Slots}
+use Rattle.nx_cli.specs.declared.words.Call.TheVariants.{Check, Code, Damage, Decode, Encode, Send, Show, Slots}
+use Rattle.nx_cli.specs.declared.words.DamageKind.{DamageKind}
+use Rattle.nx_cli.specs.declared.words.DamageKind.TheVariants.{Dx, Rx, All}
 use Rattle.nx_cli.proofs.EachFound.{Each}
-use Rattle.nx_cli.specs.Words.{HasArguments, IsNumber, IsStation, command_name}
+use Rattle.nx_cli.specs.Words.{HasArguments, IsKind, IsNumber, IsStation, command_name, kind_name}
 
 same_letter : (a b : Letter) → a.byte ≡ b.byte → a ≡ b
 same_letter a b e = λ i. record { byte = e i; in_range = is_prop→PathP (λ j. IsCapital (e j))
@@ -84,6 +86,49 @@ station-reads : (rows : List Row) → Reads (IsStation rows) (station_in rows)
 station-reads rows = reads-decided (IsStation rows) (station_once rows) (station_of_text (first_of
     (codes "STATION") rows))
 
+-- the kind of damage
+same_kind : (a b : DamageKind) → kind_name a ≡ kind_name b → a ≡ b
+same_kind Dx Dx e = refl
+same_kind Dx Rx e = absurd (differ _ _ refl e)
+same_kind Dx All e = absurd (differ _ _ refl e)
+same_kind Rx Dx e = absurd (differ _ _ refl e)
+same_kind Rx Rx e = refl
+same_kind Rx All e = absurd (differ _ _ refl e)
+same_kind All Dx e = absurd (differ _ _ refl e)
+same_kind All Rx e = absurd (differ _ _ refl e)
+same_kind All All e = refl
+
+kind_once : (rows : List Row) (a b : DamageKind) → IsKind rows a → IsKind rows b → a ≡ b
+kind_once rows a b first second =
+    let same : Some (kind_name a) ≡ Some (kind_name b) = sym first ∙ second in
+    same_kind a b (cc)
+
+pub no_kind : (text : Text) → text ≢ codes "dx" → text ≢ codes "rx" → text ≢ codes "all" → (kind : DamageKind)
+    → Some text ≡ Some (kind_name kind) → ⊥
+no_kind text d r a Dx e = d (cc)
+no_kind text d r a Rx e = r (cc)
+no_kind text d r a All e = a (cc)
+
+kind_of_text : (o : Option Text) → ((k : DamageKind) × (o ≡ Some (kind_name k))) ⊎ ((k : DamageKind)
+    → o ≢ Some (kind_name k))
+kind_of_text None = inr (λ k e. absurd (cc))
+kind_of_text (Some text) = elim (is_or_not text (codes "dx")) [
+  | inl dx ↦ inl (Dx, ap (λ (t : Text). Some t) dx)
+  | inr d ↦ elim (is_or_not text (codes "rx")) [
+    | inl rx ↦ inl (Rx, ap (λ (t : Text). Some t) rx)
+    | inr r ↦ elim (is_or_not text (codes "all")) [
+      | inl all ↦ inl (All, ap (λ (t : Text). Some t) all)
+      | inr a ↦ inr (no_kind text d r a)
+    ]
+  ]
+]
+
+abbrev kind_in : List Row → Option DamageKind
+kind_in rows = decided (IsKind rows) (kind_of_text (first_of (codes "KIND") rows))
+
+kind-reads : (rows : List Row) → Reads (IsKind rows) (kind_in rows)
+kind-reads rows = reads-decided (IsKind rows) (kind_once rows) (kind_of_text (first_of (codes "KIND") rows))
+
 -- a number
 pub number_once : (name : Text) (rows : List Row) (a b : ℕ) → IsNumber name rows a → IsNumber name rows b → a ≡ b
 number_once name rows a b first second =
@@ -125,15 +170,27 @@ number-reads : (name : Text) (rows : List Row) → Reads (IsNumber name rows) (n
 number-reads name rows = reads-decided (IsNumber name rows) (number_once name rows) (number_of_text name rows
     (one_of name rows) refl)
 
--- the call of a station and a moment
+-- the call of a station and a moment, and that of a kind and two numbers
 abbrev slot_call : (Letter → ℕ → Call) → List Row → Option Call
 slot_call make rows = option_and_then (λ s. option_map (λ m. make s m) (number_in (codes "MOMENT") rows))
     (station_in rows)
+
+abbrev damage_call : List Row → Option Call
+damage_call rows =
+    option_and_then (λ k. option_and_then (λ f. option_map (λ c. Damage k f c) (number_in (codes "COUNT") rows))
+        (number_in (codes "FROM") rows)) (kind_in rows)
 
 slot_call-only : (make : Letter → ℕ → Call) (rows : List Row) (s : Letter) (m : ℕ) → IsStation rows s
     → IsNumber (codes "MOMENT") rows m → slot_call make rows ≡ Some (make s m)
 slot_call-only make rows s m is_s is_m =
     rw ((station-reads rows).only s is_s, (number-reads (codes "MOMENT") rows).only m is_m) refl
+
+damage_call-only : (rows : List Row) (k : DamageKind) (f c : ℕ) → IsKind rows k → IsNumber (codes "FROM") rows f
+    → IsNumber (codes "COUNT") rows c
+    → damage_call rows ≡ Some (Damage k f c)
+damage_call-only rows k f c is_k is_f is_c =
+    rw ((kind-reads rows).only k is_k, (number-reads (codes "FROM") rows).only f is_f, (number-reads
+        (codes "COUNT") rows).only c is_c) refl
 
 -- the call has this word and these arguments
 abbrev HasCall : Text → List Row → Call → Type 0
@@ -151,6 +208,20 @@ slot_call-is name make rows has = go (station_in rows) (number_in (codes "MOMENT
     go (Some s) None is_s is_m = tt
     go (Some s) (Some m) is_s is_m = has s m is_s is_m
 
+damage_call-is : (rows : List Row) → IfSome (damage_call rows) (HasCall (codes "damage") rows)
+damage_call-is rows =
+    go (kind_in rows) (number_in (codes "FROM") rows) (number_in (codes "COUNT") rows) (kind-reads rows).is
+        (number-reads (codes "FROM") rows).is (number-reads (codes "COUNT") rows).is
+  where
+    go : (k : Option DamageKind) (f c : Option ℕ) → IfSome k (IsKind rows)
+        → IfSome f (IsNumber (codes "FROM") rows) → IfSome c (IsNumber (codes "COUNT") rows)
+        → IfSome (option_and_then (λ k. option_and_then (λ f. option_map (λ c. Damage k f c) c) f) k) (HasCall
+            (codes "damage") rows)
+    go None f c is_k is_f is_c = tt
+    go (Some k) None c is_k is_f is_c = tt
+    go (Some k) (Some f) None is_k is_f is_c = tt
+    go (Some k) (Some f) (Some c) is_k is_f is_c = (refl, (is_k, is_f, is_c))
+
 -- what each word makes of its arguments
 abbrev Entry : Type 0
 Entry = Text × (List Row → Option Call)
@@ -160,7 +231,8 @@ entries =
     (codes "decode", λ rows. Some Decode) ∷ (codes "encode", λ rows. Some Encode) ∷
         (codes "code", λ rows. Some Code) ∷ (codes "show", λ rows. Some Show)
     ∷ (codes "check", λ rows. Some Check) ∷ (codes "send", λ rows. slot_call (λ s m. Send s m) rows) ∷
-        (codes "slots", λ rows. slot_call (λ s m. Slots s m) rows) ∷ []
+        (codes "slots", λ rows. slot_call (λ s m. Slots s m) rows)
+    ∷ (codes "damage", λ rows. damage_call rows) ∷ []
 
 abbrev call_in : List Entry → Text → List Row → Option Call
 call_in [] name rows = None
@@ -170,11 +242,28 @@ abbrev IsSound : Entry → Type 0
 IsSound e = (rows : List Row) → IfSome (e.1 rows) (HasCall e.0 rows)
 
 entries-sound : Each IsSound entries
-entries-sound =
-    ((λ rows. (refl, tt)), ((λ rows. (refl, tt)), ((λ rows. (refl, tt)), ((λ rows. (refl, tt)), ((λ rows. (refl, tt)),
-    ((λ rows. slot_call-is (codes "send") (λ s m. Send s m) rows (λ s m is_s is_m. (refl, (is_s, is_m)))),
-    ((λ rows. slot_call-is (codes "slots") (λ s m. Slots s m) rows (λ s m is_s is_m. (refl, (is_s, is_m)))),
-    tt)))))))
+entries-sound = (
+  (λ rows. (refl, tt)),
+  (
+    (λ rows. (refl, tt)),
+    (
+      (λ rows. (refl, tt)),
+      (
+        (λ rows. (refl, tt)),
+        (
+          (λ rows. (refl, tt)),
+          (
+            (λ rows. slot_call-is (codes "send") (λ s m. Send s m) rows (λ s m is_s is_m. (refl, (is_s, is_m)))),
+            (
+              (λ rows. slot_call-is (codes "slots") (λ s m. Slots s m) rows (λ s m is_s is_m. (refl, (is_s, is_m)))),
+              ((λ rows. damage_call-is rows), tt),
+            ),
+          ),
+        ),
+      ),
+    ),
+  ),
+)
 
 call_in-is : (es : List Entry) → Each IsSound es → (name : Text) (rows : List Row)
     → IfSome (call_in es name rows) (HasCall name rows)
@@ -198,6 +287,7 @@ call_in-only Show rows given = refl
 call_in-only Check rows given = refl
 call_in-only (Send station moment) rows given = slot_call-only (λ s m. Send s m) rows station moment given.0 given.1
 call_in-only (Slots station moment) rows given = slot_call-only (λ s m. Slots s m) rows station moment given.0 given.1
+call_in-only (Damage kind from count) rows given = damage_call-only rows kind from count given.0 given.1 given.2
 
 only_named : (name : Text) (rows : List Row) (call : Call) → HasCall name rows call
     → call_in entries name rows ≡ Some call
@@ -252,3 +342,24 @@ no_send name rows is absent = at_word (codes "send") name rows is (slot_call-abs
 
 pub no_slots : (name : Text) (rows : List Row) → name ≡ codes "slots" → LacksSlot rows → IsNotCalled name rows
 no_slots name rows is absent = at_word (codes "slots") name rows is (slot_call-absent (λ s m. Slots s m) rows absent)
+
+-- and so the word of a call that takes a kind of damage and two numbers
+abbrev pub LacksDamage : List Row → Type 0
+LacksDamage rows =
+    (k : DamageKind) (f c : ℕ) → IsKind rows k → IsNumber (codes "FROM") rows f → IsNumber (codes "COUNT") rows c → ⊥
+
+damage_call-absent : (rows : List Row) → LacksDamage rows → damage_call rows ≡ None
+damage_call-absent rows absent =
+    go (kind_in rows) (number_in (codes "FROM") rows) (number_in (codes "COUNT") rows) (kind-reads rows).is
+        (number-reads (codes "FROM") rows).is (number-reads (codes "COUNT") rows).is
+  where
+    go : (k : Option DamageKind) (f c : Option ℕ) → IfSome k (IsKind rows)
+        → IfSome f (IsNumber (codes "FROM") rows) → IfSome c (IsNumber (codes "COUNT") rows)
+        → option_and_then (λ k. option_and_then (λ f. option_map (λ c. Damage k f c) c) f) k ≡ None
+    go None f c is_k is_f is_c = refl
+    go (Some k) None c is_k is_f is_c = refl
+    go (Some k) (Some f) None is_k is_f is_c = refl
+    go (Some k) (Some f) (Some c) is_k is_f is_c = absurd (absent k f c is_k is_f is_c)
+
+pub no_damage : (name : Text) (rows : List Row) → name ≡ codes "damage" → LacksDamage rows → IsNotCalled name rows
+no_damage name rows is absent = at_word (codes "damage") name rows is (damage_call-absent rows absent)

@@ -7,6 +7,8 @@ use Rattle.nx_cli.specs.declared.fault.Fault.{Fault}
 use Rattle.nx_cli.specs.declared.fault.Fault.TheVariants as fault
 use Rattle.nx_station.specs.declared.fault.CheckFault.{CheckFault}
 use Rattle.nx_station.specs.declared.fault.CheckFault.TheVariants as check
+use Rattle.nx_station.specs.declared.fault.DamageFault.{DamageFault}
+use Rattle.nx_station.specs.declared.fault.DamageFault.TheVariants as damage
 use Rattle.nx_station.specs.declared.fault.EmissionFault.TheVariants as emission
 use Rattle.nx_station.specs.declared.fault.SendRunFault.{SendRunFault}
 use Rattle.nx_station.specs.declared.fault.SendRunFault.TheVariants as send
@@ -14,7 +16,7 @@ use Rattle.nx_cli.specs.declared.words.Call.{Call}
 use Rattle.nx_fec.specs.declared.fault.RunFault.{RunFault}
 use Rattle.nx_fec.specs.declared.fault.RunFault.TheVariants as run
 use Rattle.nx_cli.specs.Program.{Ends, Exits, Performs, Succeeds, Tells, fresh}
-use Rattle.nx_cli.specs.Status.{IsStatus, call_status, check_status, fault_status, run_status, send_status, status_of}
+use Rattle.nx_cli.specs.Status.{IsStatus, call_status, check_status, damage_status, fault_status, run_status, send_status, status_of}
 use Rattle.nx_fec.specs.Transfers.{Devices, devices}
 use Rattle.nx_fec.specs.Devices.{CountedDevice}
 use Rattle.nx_cli.specs.Words.{IsRefused, Names}
@@ -69,16 +71,26 @@ check-status (check.Emission (emission.Unpaired position)) = inr refl
 check-status (check.Emission emission.BadEnvelope) = inr refl
 check-status (check.Emission (emission.Memory want)) = inl refl
 
+damage-status : (why : DamageFault) → (damage_status why ≡ 1) ⊎ (damage_status why ≡ 2)
+damage-status damage.Read = inl refl
+damage-status damage.AirTooLong = inr refl
+damage-status (damage.LineLong line) = inr refl
+damage-status (damage.LineCut line) = inr refl
+damage-status (damage.BadLine line) = inr refl
+damage-status (damage.Write written) = inl refl
+
 call-status : (why : CallFault) → (call_status why ≡ 1) ⊎ (call_status why ≡ 2)
 call-status (call.Run why) = run-status why
 call-status (call.Send why) = send-status why
 call-status (call.Check why) = check-status why
+call-status (call.Damage why) = damage-status why
 call-status call.NoSlot = inr refl
 
 fault-status : (why : Fault) → (fault_status why ≡ 1) ⊎ ((fault_status why ≡ 2) ⊎ (fault_status why ≡ 64))
 fault-status (fault.Words answer) = inr (inr refl)
 fault-status fault.NoText = inr (inr refl)
 fault-status fault.Station = inr (inr refl)
+fault-status fault.Kind = inr (inr refl)
 fault-status (fault.Call why) = elim (call-status why) [ inl one ↦ inl one | inr two ↦ inr (inl two) ]
 
 outcome-status : (outcome : Result (Unit {0}) Fault) → IsStatus (status_of outcome)
@@ -109,7 +121,8 @@ words-end : {R W : Type 0} (words : List Text) (d : Devices R W) (outcome : Resu
 words-end words d (Ok done) ends is = absurd (omega arith)
 words-end words d (Err (fault.Words answer)) ends is = inl ends.0
 words-end words d (Err fault.NoText) ends is = absurd ends
-words-end words d (Err fault.Station) ends is = inr ends.0
+words-end words d (Err fault.Station) ends is = inr (inl ends.0)
+words-end words d (Err fault.Kind) ends is = inr (inr ends.0)
 words-end words d (Err (fault.Call why)) ends is = elim (call-status why) [ inl one ↦ absurd
     (omega arith) | inr two ↦ absurd (omega arith) ]
 
@@ -127,6 +140,7 @@ refused-ends words d (Ok done) ends refused = elim ends [
 refused-ends words d (Err (fault.Words answer)) ends refused = inl refl
 refused-ends words d (Err fault.NoText) ends refused = absurd ends
 refused-ends words d (Err fault.Station) ends refused = inl refl
+refused-ends words d (Err fault.Kind) ends refused = inl refl
 refused-ends words d (Err (fault.Call why)) ends refused = elim ends [
   | inl runs ↦ absurd (named_not_refused words runs.call runs.named refused)
   | inr other ↦ elim other [

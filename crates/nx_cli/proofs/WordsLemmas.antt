@@ -18,14 +18,15 @@ use Rattle.clap.specs.declared.parser.matches.ArgMatches.TheViews.{out-ArgMatche
 use Rattle.clap.specs.declared.parser.matches.SubCommand.{SubCommand}
 use Rattle.nx_cli.specs.declared.words.Call.{Call}
 use Rattle.nx_cli.specs.declared.words.WordsFault.{WordsFault}
-use Rattle.nx_cli.specs.declared.words.WordsFault.TheVariants.{Help, Refused, Station, Memory}
-use Rattle.nx_cli.specs.Words.{AsksForHelp, ExplainsWords, HasArguments, IsNumber, IsRefused, IsStation, LacksStation, Names, Sorts, navtex, command_name}
+use Rattle.nx_cli.specs.declared.words.WordsFault.TheVariants.{Help, Refused, Station, Kind, Memory}
+use Rattle.nx_cli.specs.declared.words.DamageKind.{DamageKind}
+use Rattle.nx_cli.specs.Words.{AsksForHelp, ExplainsWords, HasArguments, IsKind, IsNumber, IsRefused, IsStation, LacksKind, LacksStation, Names, Sorts, navtex, command_name}
 use Rattle.nx_cli.proofs.EachFound.{Each, found_is}
 use Rattle.nx_cli.proofs.CommandsTaken.{IsPlainWord, IsSlotWord, taken-command}
 use Rattle.nx_cli.proofs.NumbersGiven.{GivesNumber, number-given}
 use Rattle.nx_cli.proofs.OneCall.{IsNotCalled, call_or_none, differ, number_once, same_call}
 use Rattle.nx_envelope.specs.declared.letter.Letter.{Letter}
-use Rattle.nx_cli.specs.declared.words.Call.TheVariants.{Check, Code, Decode, Encode, Send, Show, Slots}
+use Rattle.nx_cli.specs.declared.words.Call.TheVariants.{Check, Code, Damage, Decode, Encode, Send, Show, Slots}
 use Rattle.nx_cli.proofs.FaultKinds.{HasNoHelp, IsUniform, kinds_cases, level-nil, u-level, u-none, u-option, uniform_excludes}
 
 pub navtex-is_simple : is_simple navtex ≡ true
@@ -47,6 +48,7 @@ explained words error (Refused answer) kinds sorts = elim kinds [
   | inr among ↦ (kind_of error, sorts.1, among)
 ]
 explained words error Station kinds sorts = absurd sorts
+explained words error Kind kinds sorts = absurd sorts
 explained words error (Memory want) kinds sorts = tt
 
 name_at : (b : Option (Box SubCommand Global))
@@ -80,7 +82,7 @@ none_among [] k e among = among
 none_among (x ∷ xs) k e among = absurd (cc)
 
 calls_without_help : Each HasNoHelp (built navtex).subs
-calls_without_help = (refl, (refl, (refl, (refl, (refl, (refl, (refl, tt)))))))
+calls_without_help = (refl, (refl, (refl, (refl, (refl, (refl, (refl, (refl, tt))))))))
 
 IfSome-weaker : {X : Type 0} (o : Option X) (P Q : X → Type 0) → ((x : X) → P x → Q x) → IfSome o P → IfSome o Q
 IfSome-weaker None P Q weaker some = tt
@@ -104,7 +106,8 @@ faults_are_uniform words =
 pub help_not_refused : (words : List Text) → AsksForHelp words → IsRefused words → ⊥
 help_not_refused words help (inl refused) =
     uniform_excludes (fault_of navtex words) refused.0 (faults_are_uniform words) help refused.2 refused.1
-help_not_refused words help (inr lacks) = none_among (fault_of navtex words) DisplayHelp lacks.taken help
+help_not_refused words help (inr (inl lacks)) = none_among (fault_of navtex words) DisplayHelp lacks.taken help
+help_not_refused words help (inr (inr lacks)) = none_among (fault_of navtex words) DisplayHelp lacks.taken help
 
 pub named_not_help : (words : List Text) (call : Call) → Names words call → AsksForHelp words → ⊥
 named_not_help words call named help = none_among (fault_of navtex words) DisplayHelp named.taken help
@@ -118,7 +121,7 @@ entered_once words a b first second one other =
     let is : (a, first) ≡ (b, second) = cc in
     (ap (λ (p : Text × List Row). p.0) is, ap (λ (p : Text × List Row). p.1) is)
 
--- a call of the word of a slot has a station
+-- a call of the word of a slot has a station, and one of the word of damage has a kind
 has-station : (call : Call) (arguments : List Row) → IsSlotWord (command_name call) → HasArguments call arguments
     → (letter : Letter) × IsStation arguments letter
 has-station Decode arguments wants given = absurd (elim wants [ inl e ↦ differ _ _ refl e | inr e ↦ differ _ _ refl e ])
@@ -128,6 +131,19 @@ has-station Show arguments wants given = absurd (elim wants [ inl e ↦ differ _
 has-station Check arguments wants given = absurd (elim wants [ inl e ↦ differ _ _ refl e | inr e ↦ differ _ _ refl e ])
 has-station (Send station moment) arguments wants given = (station, given.0)
 has-station (Slots station moment) arguments wants given = (station, given.0)
+has-station (Damage kind from count) arguments wants given = absurd
+    (elim wants [ inl e ↦ differ _ _ refl e | inr e ↦ differ _ _ refl e ])
+
+has-kind : (call : Call) (arguments : List Row) → command_name call ≡ codes "damage" → HasArguments call arguments
+    → (kind : DamageKind) × IsKind arguments kind
+has-kind Decode arguments wants given = absurd (differ _ _ refl wants)
+has-kind Encode arguments wants given = absurd (differ _ _ refl wants)
+has-kind Code arguments wants given = absurd (differ _ _ refl wants)
+has-kind Show arguments wants given = absurd (differ _ _ refl wants)
+has-kind Check arguments wants given = absurd (differ _ _ refl wants)
+has-kind (Send station moment) arguments wants given = absurd (differ _ _ refl wants)
+has-kind (Slots station moment) arguments wants given = absurd (differ _ _ refl wants)
+has-kind (Damage kind from count) arguments wants given = (kind, given.0)
 
 named-lacks_station : (words : List Text) (call : Call) → Names words call → LacksStation words → ⊥
 named-lacks_station words call named lacks = elim lacks.entered [
@@ -142,11 +158,19 @@ named-lacks_station words call named lacks = elim lacks.entered [
         let Q : List Row → Type 0 = λ rows. IsStation rows station.0 in
         lacks.no_letter station.0 (subst Q same.1 station.1)
 
+named-lacks_kind : (words : List Text) (call : Call) → Names words call → LacksKind words → ⊥
+named-lacks_kind words call named lacks =
+    let same = entered_once words _ _ _ _ named.command lacks.entered in
+    let kind = has-kind call named.arguments same.0 named.given in
+    let Q : List Row → Type 0 = λ rows. IsKind rows kind.0 in
+    lacks.no_kind kind.0 (subst Q same.1 kind.1)
+
 pub named_not_refused : (words : List Text) (call : Call) → Names words call → IsRefused words → ⊥
 named_not_refused words call named (inl refused) = none_among (fault_of navtex words) refused.0 named.taken refused.2
-named_not_refused words call named (inr lacks) = named-lacks_station words call named lacks
+named_not_refused words call named (inr (inl lacks)) = named-lacks_station words call named lacks
+named_not_refused words call named (inr (inr lacks)) = named-lacks_kind words call named lacks
 
--- words with no call, which clap takes, and whose command is that of a slot
+-- words with no call, which clap takes, and whose command is that of a slot or of damage
 pub no_station : (words : List Text) (name : Text) (arguments : List Row) → fault_of navtex words ≡ []
     → subcommand_of navtex words ≡ Some (name, arguments)
     → IsSlotWord name → GivesNumber (codes "MOMENT") 32503679999 arguments → IsNotCalled name arguments
@@ -166,12 +190,28 @@ no_station words name arguments taken entered is gives none =
       ];
     }
 
--- words with no call, which clap takes, lack a station
+pub no_kind : (words : List Text) (name : Text) (arguments : List Row) → fault_of navtex words ≡ []
+    → subcommand_of navtex words ≡ Some (name, arguments)
+    → name ≡ codes "damage" → GivesNumber (codes "FROM") 4294967295 arguments
+        → GivesNumber (codes "COUNT") 4294967295 arguments → IsNotCalled name arguments → LacksKind words
+no_kind words name arguments taken entered is gives_from gives_count none =
+    let from = number-given _ _ arguments gives_from in
+    let count = number-given _ _ arguments gives_count in
+    record {
+      taken = taken;
+      arguments = arguments;
+      entered = entered ∙ ap (λ (t : Text). Some (t, arguments)) is;
+      no_kind = λ kind found. none (Damage kind from.0 count.0) is (found, from.1, count.1);
+    }
+
+-- words with no call, which clap takes, lack a station or a kind of damage
 lacks_argument : (words : List Text) (name : Text) (arguments : List Row) → fault_of navtex words ≡ []
-    → subcommand_of navtex words ≡ Some (name, arguments) → IsNotCalled name arguments → LacksStation words
+    → subcommand_of navtex words ≡ Some (name, arguments)
+    → IsNotCalled name arguments → (IsSlotWord name × LacksStation words) ⊎ ((name ≡ codes "damage") × LacksKind words)
 lacks_argument words name arguments taken entered none = elim (taken-command words name arguments taken entered) [
   | inl plain ↦ absurd (none plain.0 plain.1 (plain.2 arguments))
-  | inr slot ↦ no_station words name arguments taken entered slot.0 slot.1 none
+  | inr (inl slot) ↦ inl (slot.0, no_station words name arguments taken entered slot.0 slot.1 none)
+  | inr (inr damage) ↦ inr (damage.0, no_kind words name arguments taken entered damage.0 damage.1 damage.2 none)
 ]
 
 -- a call without arguments has no number among them
@@ -191,11 +231,13 @@ moment-bound words call named station moment wants gives = elim (taken-command w
       let P : Call → Type 0 = λ c. HasArguments c [] in
       no_numbers (codes "MOMENT") moment (gives [] (subst P same (plain.2 [])))
       )
-  | inr slot ↦
+  | inr (inl slot) ↦
       let given = number-given _ _ named.arguments slot.1 in
       let P : ℕ → Type 0 = λ n. n ≤ 32503679999 in
       subst P (number_once (codes "MOMENT") named.arguments given.0 moment given.1
           (gives named.arguments named.given)) given.2
+  | inr (inr damage) ↦ absurd (elim wants [ inl e ↦ differ _ _ refl (sym damage.0
+      ∙ e) | inr e ↦ differ _ _ refl (sym damage.0 ∙ e) ])
 ]
 
 pub send-bound : (words : List Text) (station : Letter) (moment : ℕ) → Names words (Send station moment)
@@ -208,6 +250,28 @@ pub slots-bound : (words : List Text) (station : Letter) (moment : ℕ) → Name
 slots-bound words station moment named = moment-bound words (Slots station moment) named station moment (inr refl)
     (λ rows given. given.1)
 
+-- and so are the numbers of a call that damages
+pub damage-bounds : (words : List Text) (kind : DamageKind) (from count : ℕ) → Names words (Damage kind from count)
+    → (from ≤ 4294967295) × (count ≤ 4294967295)
+damage-bounds words kind from count named = elim (taken-command words
+    (codes "damage") named.arguments named.taken named.command) [
+  | inl plain ↦ absurd (
+      let same = same_call plain.0 (Damage kind from count) named.arguments (sym plain.1)
+          (plain.2 named.arguments) named.given in
+      let P : Call → Type 0 = λ c. HasArguments c [] in
+      let given = subst P same (plain.2 []) in
+      no_numbers (codes "FROM") from given.1
+      )
+  | inr (inl slot) ↦ absurd (elim slot.0 [ inl e ↦ differ _ _ refl e | inr e ↦ differ _ _ refl e ])
+  | inr (inr damage) ↦
+      let first = number-given _ _ named.arguments damage.1 in
+      let second = number-given _ _ named.arguments damage.2 in
+      let P : ℕ → Type 0 = λ n. n ≤ 4294967295 in (
+        subst P (number_once (codes "FROM") named.arguments first.0 from first.1 named.given.1) first.2,
+        subst P (number_once (codes "COUNT") named.arguments second.0 count second.1 named.given.2) second.2,
+      )
+]
+
 -- where clap takes the words, they enter a command
 pub taken_enters : (words : List Text) → fault_of navtex words ≡ [] → is_some (subcommand_of navtex words) ≡ true
 taken_enters words taken =
@@ -215,7 +279,7 @@ taken_enters words taken =
 
 named_by : (words : List Text) → fault_of navtex words ≡ [] → (e : Option (Text × List Row))
     → subcommand_of navtex words ≡ e → is_some e ≡ true
-    → ((call : Call) × Names words call) ⊎ LacksStation words
+    → ((call : Call) × Names words call) ⊎ (LacksStation words ⊎ LacksKind words)
 named_by words taken None entered some = absurd (cc)
 named_by words taken (Some p) entered some = elim (call_or_none p.0 p.1) [
   | inl call ↦ inl (
@@ -227,7 +291,7 @@ named_by words taken (Some p) entered some = elim (call_or_none p.0 p.1) [
       given = call.1.1;
     },
   )
-  | inr none ↦ inr (lacks_argument words p.0 p.1 taken entered none)
+  | inr none ↦ inr (elim (lacks_argument words p.0 p.1 taken entered none) [ inl station ↦ inl station.1 | inr kind ↦ inr kind.1 ])
 ]
 
 -- each list of words names a call, asks for help or is refused
@@ -253,12 +317,12 @@ named_once words a b first second =
 
 -- the outcome of reading the words, by the call that their command and its arguments have
 pub outcome-named : (words : List Text) (name : Text) (arguments : List Row) (found : Option Call)
-    (outcome : Result Call WordsFault) → fault_of navtex words ≡ []
-    → subcommand_of navtex words ≡ Some (name, arguments)
-    → IfSome found (λ call. (name ≡ command_name call) × HasArguments call arguments)
-    → outcome ≡ ok_or found Station → IfOk outcome (Names words)
-outcome-named words name arguments None outcome taken entered some is = rw is tt
-outcome-named words name arguments (Some call) outcome taken entered some is =
+    (unfit : WordsFault) (outcome : Result Call WordsFault)
+    → fault_of navtex words ≡ [] → subcommand_of navtex words ≡ Some (name, arguments)
+    → IfSome found (λ call. (name ≡ command_name call) × HasArguments call arguments) → outcome ≡ ok_or found unfit
+        → IfOk outcome (Names words)
+outcome-named words name arguments None unfit outcome taken entered some is = rw is tt
+outcome-named words name arguments (Some call) unfit outcome taken entered some is =
     rw is (record {
       taken = taken;
       arguments = arguments;
@@ -267,12 +331,20 @@ outcome-named words name arguments (Some call) outcome taken entered some is =
     })
 
 pub outcome-refused : (words : List Text) (name : Text) (arguments : List Row) (found : Option Call)
-    (outcome : Result Call WordsFault) → fault_of navtex words ≡ []
-    → subcommand_of navtex words ≡ Some (name, arguments) → IfNone found (IsNotCalled name arguments)
-    → outcome ≡ ok_or found Station → IfErr outcome (ExplainsWords words)
-outcome-refused words name arguments None outcome taken entered none is =
-    rw is (lacks_argument words name arguments taken entered none)
-outcome-refused words name arguments (Some call) outcome taken entered none is = rw is tt
+    (unfit : WordsFault) (outcome : Result Call WordsFault)
+    → fault_of navtex words ≡ [] → subcommand_of navtex words ≡ Some (name, arguments)
+        → IfNone found (IsNotCalled name arguments)
+    → (name ≡ codes "damage" → unfit ≡ Kind) → (name ≢ codes "damage" → unfit ≡ Station)
+        → outcome ≡ ok_or found unfit → IfErr outcome (ExplainsWords words)
+outcome-refused words name arguments (Some call) unfit outcome taken entered none kind station is = rw is tt
+outcome-refused words name arguments None unfit outcome taken entered none kind station is = elim
+    (lacks_argument words name arguments taken entered none) [
+  | inl lacks ↦
+      let other : name ≢ codes "damage" = λ damage. elim lacks.0 [ inl e ↦ differ _ _ refl (sym e
+          ∙ damage) | inr e ↦ differ _ _ refl (sym e ∙ damage) ] in
+      rw (is, station other) lacks.1
+  | inr lacks ↦ rw (is, kind lacks.0) lacks.1
+]
 
 pub unknown_is_not_help : kind.UnknownArgument ≢ DisplayHelp
 unknown_is_not_help e = absurd (cc)

@@ -9,19 +9,20 @@ use Rattle.nx_fec.specs.Devices.{CountedDevice, WroteSome}
 use Rattle.nx_fec.specs.Runs.{Decodes, Encodes, Shows}
 use Rattle.nx_fec.specs.TableText.{table_text}
 use Rattle.nx_station.specs.Checking.{Checks}
+use Rattle.nx_station.specs.Damaging.{Damages}
 use Rattle.nx_station.specs.Runs.{Sends}
 use Rattle.nx_fec.specs.Transfers.{Devices, devices}
 use Rattle.nx_fec.specs.declared.fault.RunFault.{RunFault}
 use Rattle.nx_fec.specs.declared.fault.RunFault.TheVariants as run
 use Rattle.nx_station.specs.Slots.{HasNoSlot, IsNextSlot}
 use Rattle.nx_cli.specs.declared.words.Call.{Call}
-use Rattle.nx_cli.specs.declared.words.Call.TheVariants.{Check, Code, Decode, Encode, Send, Show, Slots}
+use Rattle.nx_cli.specs.declared.words.Call.TheVariants.{Check, Code, Damage, Decode, Encode, Send, Show, Slots}
 use Rattle.nx_cli.specs.declared.fault.CallFault.{CallFault}
 use Rattle.nx_cli.specs.declared.fault.CallFault.TheVariants as call
 use Rattle.nx_cli.specs.declared.fault.Fault.{Fault}
 use Rattle.nx_cli.specs.declared.fault.Fault.TheVariants as fault
 use Rattle.nx_cli.specs.Status.{status_of}
-use Rattle.nx_cli.specs.Words.{AsksForHelp, IsRefusedByClap, LacksStation, Names}
+use Rattle.nx_cli.specs.Words.{AsksForHelp, IsRefusedByClap, LacksKind, LacksStation, Names}
 
 -- a device on which no call has failed
 abbrev pub fresh : {T : Type 0} → T → CountedDevice T
@@ -94,6 +95,8 @@ Performs (Send station moment) d outcome =
     Tells (λ why. call.Send why) (Sends d station.byte moment) outcome
 Performs (Slots station moment) d outcome =
     IsUnread d × ShowsSlot station.byte moment d.contents d.writer d.writer_after outcome
+Performs (Damage kind from count) d outcome =
+    Tells (λ why. call.Damage why) (Damages d kind from count) outcome
 
 -- the words name a call, which had this outcome
 pub record RunsCall {R W : Type 0} (words : List Text) (d : Devices R W)
@@ -121,6 +124,7 @@ Ends words d (Ok done) = RunsCall words d (Ok done) ⊎ GivesHelp words d (Ok do
 Ends words d (Err (fault.Words answer)) = IsRefusedByClap words × IsUntouched d
 Ends words d (Err fault.NoText) = ⊥
 Ends words d (Err fault.Station) = LacksStation words × IsUntouched d
+Ends words d (Err fault.Kind) = LacksKind words × IsUntouched d
 Ends words d (Err (fault.Call why)) =
     RunsCall words d (Err why) ⊎ (GivesHelp words d (Err why) ⊎ LacksMemory d why)
 

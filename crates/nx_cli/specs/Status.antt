@@ -4,6 +4,8 @@ use Rattle.nx_fec.specs.declared.fault.RunFault.{RunFault}
 use Rattle.nx_fec.specs.declared.fault.RunFault.TheVariants as run
 use Rattle.nx_station.specs.declared.fault.CheckFault.{CheckFault}
 use Rattle.nx_station.specs.declared.fault.CheckFault.TheVariants as check
+use Rattle.nx_station.specs.declared.fault.DamageFault.{DamageFault}
+use Rattle.nx_station.specs.declared.fault.DamageFault.TheVariants as damage
 use Rattle.nx_station.specs.declared.fault.EmissionFault.TheVariants as emission
 use Rattle.nx_station.specs.declared.fault.SendRunFault.{SendRunFault}
 use Rattle.nx_station.specs.declared.fault.SendRunFault.TheVariants as send
@@ -30,16 +32,23 @@ check_status (check.Run why) = run_status why
 check_status (check.Emission (emission.Memory want)) = 1
 check_status (check.Emission _) = 2
 
+abbrev pub damage_status : DamageFault → ℕ
+damage_status damage.Read = 1
+damage_status (damage.Write written) = 1
+damage_status _ = 2
+
 abbrev pub call_status : CallFault → ℕ
 call_status (call.Run why) = run_status why
 call_status (call.Send why) = send_status why
 call_status (call.Check why) = check_status why
+call_status (call.Damage why) = damage_status why
 call_status call.NoSlot = 2
 
 abbrev pub fault_status : Fault → ℕ
 fault_status (fault.Words answer) = 64
 fault_status fault.NoText = 64
 fault_status fault.Station = 64
+fault_status fault.Kind = 64
 fault_status (fault.Call why) = call_status why
 
 abbrev pub status_of : Result (Unit {0}) Fault → ℕ

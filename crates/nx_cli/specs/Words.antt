@@ -12,9 +12,11 @@ use Rattle.clap.specs.declared.error.kind.ErrorKind.{ErrorKind}
 use Rattle.clap.specs.declared.error.kind.ErrorKind.TheVariants.{DisplayHelp, OutOfMemory}
 use Rattle.nx_envelope.specs.declared.letter.Letter.{Letter}
 use Rattle.nx_cli.specs.declared.words.Call.{Call}
-use Rattle.nx_cli.specs.declared.words.Call.TheVariants.{Check, Code, Decode, Encode, Send, Show, Slots}
+use Rattle.nx_cli.specs.declared.words.Call.TheVariants.{Check, Code, Damage, Decode, Encode, Send, Show, Slots}
 use Rattle.nx_cli.specs.declared.words.WordsFault.{WordsFault}
-use Rattle.nx_cli.specs.declared.words.WordsFault.TheVariants.{Help, Refused, Station, Memory}
+use Rattle.nx_cli.specs.declared.words.WordsFault.TheVariants.{Help, Refused, Station, Kind, Memory}
+use Rattle.nx_cli.specs.declared.words.DamageKind.{DamageKind}
+use Rattle.nx_cli.specs.declared.words.DamageKind.TheVariants.{Dx, Rx, All}
 
 -- the word by which the command line names a call
 abbrev pub command_name : Call → Text
@@ -25,6 +27,13 @@ command_name Show = codes "show"
 command_name Check = codes "check"
 command_name (Send station moment) = codes "send"
 command_name (Slots station moment) = codes "slots"
+command_name (Damage kind from count) = codes "damage"
+
+-- the word by which the command line names a kind of damage
+abbrev pub kind_name : DamageKind → Text
+kind_name Dx = codes "dx"
+kind_name Rx = codes "rx"
+kind_name All = codes "all"
 
 -- a command that takes no argument
 abbrev pub plain : Text → App
@@ -45,6 +54,13 @@ of_slot word =
     let of_station = with_rule (new_app word) (text_rule (codes "STATION")) in
     with_rule of_station (number_rule (codes "MOMENT") 32503679999)
 
+-- a command that takes a kind of damage, the first word and a count of words, each of 32 bits
+abbrev pub of_words : Text → App
+of_words word =
+    let of_kind = with_rule (new_app word) (text_rule (codes "KIND")) in
+    let of_first = with_rule of_kind (number_rule (codes "FROM") 4294967295) in
+    with_rule of_first (number_rule (codes "COUNT") 4294967295)
+
 -- the program without its commands: one of them must be given, and there is no command `help`
 abbrev pub bare : App
 bare =
@@ -56,7 +72,7 @@ abbrev pub commands : List App
 commands =
     plain (codes "decode") ∷ plain (codes "encode") ∷ plain (codes "code")
     ∷ plain (codes "show") ∷ plain (codes "check")
-    ∷ of_slot (codes "send") ∷ of_slot (codes "slots") ∷ []
+    ∷ of_slot (codes "send") ∷ of_slot (codes "slots") ∷ of_words (codes "damage") ∷ []
 
 -- the command tree of the program
 abbrev pub navtex : App
@@ -70,6 +86,10 @@ pub record IsBuiltAs (app : App) (command : Command) : Type 0 where
 -- the argument STATION is this letter alone
 abbrev pub IsStation : List Row → Letter → Type 0
 IsStation arguments station = first_of (codes "STATION") arguments ≡ Some (station.byte ∷ [])
+
+-- the argument KIND names this kind of damage
+abbrev pub IsKind : List Row → DamageKind → Type 0
+IsKind arguments kind = first_of (codes "KIND") arguments ≡ Some (kind_name kind)
 
 -- the argument of this name is this number: one decimal digit or more, with a plus before them or not
 pub record IsNumber (name : Text) (arguments : List Row) (number : ℕ) : Type 0 where
@@ -90,6 +110,9 @@ HasArguments (Send station moment) arguments =
     IsStation arguments station × IsNumber (codes "MOMENT") arguments moment
 HasArguments (Slots station moment) arguments =
     IsStation arguments station × IsNumber (codes "MOMENT") arguments moment
+HasArguments (Damage kind from count) arguments =
+    IsKind arguments kind × IsNumber (codes "FROM") arguments from
+    × IsNumber (codes "COUNT") arguments count
 
 -- the words, of which the first is the program's name, name the call: clap finds no fault in them
 -- and enters the call's command with the call's arguments
@@ -117,15 +140,23 @@ pub record LacksStation (words : List Text) : Type 0 where
       ⊎ (subcommand_of navtex words ≡ Some (codes "slots", arguments))
   pub no_letter : (letter : Letter) → ¬ IsStation arguments letter
 
--- the words are refused, by clap or for their station
+-- clap takes the words, which enter the command `damage`, and KIND is none of its kinds
+pub record LacksKind (words : List Text) : Type 0 where
+  pub taken : fault_of navtex words ≡ []
+  pub arguments : List Row
+  pub entered : subcommand_of navtex words ≡ Some (codes "damage", arguments)
+  pub no_kind : (kind : DamageKind) → ¬ IsKind arguments kind
+
+-- the words are refused, by clap, for their station or for their kind of damage
 abbrev pub IsRefused : List Text → Type 0
-IsRefused words = IsRefusedByClap words ⊎ LacksStation words
+IsRefused words = IsRefusedByClap words ⊎ (LacksStation words ⊎ LacksKind words)
 
 -- why the words name no call
 abbrev pub ExplainsWords : List Text → WordsFault → Type 0
 ExplainsWords words (Help answer) = AsksForHelp words
 ExplainsWords words (Refused answer) = IsRefusedByClap words
 ExplainsWords words Station = LacksStation words
+ExplainsWords words Kind = LacksKind words
 ExplainsWords words (Memory want) = ⊤
 
 -- an answer of clap is help, want of memory, or a refusal
@@ -134,4 +165,5 @@ Sorts error (Help answer) = (answer ≡ error) × (kind_of error ≡ DisplayHelp
 Sorts error (Refused answer) =
     (answer ≡ error) × (kind_of error ≢ DisplayHelp) × (kind_of error ≢ OutOfMemory)
 Sorts error Station = ⊥
+Sorts error Kind = ⊥
 Sorts error (Memory want) = kind_of error ≡ OutOfMemory

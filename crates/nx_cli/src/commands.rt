@@ -1,7 +1,8 @@
 //! The command tree of the program, and the texts of its help.
 
-ghost use Rattle.std.specs.Prelude.{IfOk, codes};
-ghost use Rattle.nx_cli.specs.Words.{IsBuiltAs, bare, navtex, of_slot, plain};
+ghost use Rattle.std.specs.Prelude.{◌≡◌, IfOk, codes, false};
+ghost use Rattle.clap.specs.Words.{rule_of};
+ghost use Rattle.nx_cli.specs.Words.{IsBuiltAs, bare, navtex, number_rule, of_slot, of_words, plain};
 
 use clap::builder::ValueParser;
 use clap::{Arg, Command};
@@ -186,6 +187,45 @@ fn slots_command<'a>(alloc: Global) -> Result<Command<'a>, AllocError>
     )
 }
 
+const DAMAGE_HELP: &str = "Copy an air file with some of its words damaged.
+
+Reads an air file of at most 268435456 bytes from standard input and writes it to standard output
+while it reads, line by line. Word 0 is the first seven elements of the lines of B, joined, word 1
+the next seven, and so on. Of the words from FROM on, COUNT of them, those that KIND names get
+their first element inverted, which leaves them with a wrong weight: dx names the words of even
+number, rx those of odd number, and all every word. All else is copied as it is.
+
+Example, which inverts the first element of the word 2:
+  $ printf 'B 011001111110000110011\\n' | navtex damage dx 1 2
+  B 011001111110001110011";
+
+/// An argument that is a whole number of 32 bits.
+fn number_argument<'a>(alloc: Global, name: &'a str, help: &'a str) -> Arg<'a>
+    ensures rule { rule_of result ≡ number_rule name.entry.now 4294967295 }
+    ensures local { result.global ≡ false }
+{
+    Arg::new(alloc, name)
+        .required(true)
+        .value_parser(ValueParser::unsigned(0, 0xFFFF_FFFF))
+        .help(help)
+}
+
+fn damage_command<'a>(alloc: Global) -> Result<Command<'a>, AllocError>
+    ensures { IfOk result (IsBuiltAs (of_words (codes "damage"))) }
+{
+    let kind = Arg::new(alloc, "KIND")
+        .required(true)
+        .help("The words that are meant: dx, rx or all");
+    let from = number_argument(alloc, "FROM", "The first word of the range, from 0");
+    let count = number_argument(alloc, "COUNT", "How many words the range has");
+    Command::new(alloc, "damage")
+        .about("Copy an air file with some of its words damaged")
+        .long_about(DAMAGE_HELP)
+        .arg(kind)?
+        .arg(from)?
+        .arg(count)
+}
+
 const STATUS_HELP: &str = "A command reads standard input and writes standard output. A fault is \
 one line on standard error; where words are not understood, it is a text of several lines.
 
@@ -217,5 +257,6 @@ pub fn navtex_command<'a>(alloc: Global) -> Result<Command<'a>, AllocError>
         .subcommand(show_command(alloc))?
         .subcommand(check_command(alloc))?
         .subcommand(send_command(alloc)?)?
-        .subcommand(slots_command(alloc)?)
+        .subcommand(slots_command(alloc)?)?
+        .subcommand(damage_command(alloc)?)
 }

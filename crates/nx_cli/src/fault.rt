@@ -2,11 +2,11 @@
 
 ghost use Rattle.std.specs.Prelude.{◌≡◌};
 ghost use Rattle.nx_cli.specs.Status.{call_status, fault_status};
-ghost use Rattle.nx_cli.specs.declared.fault.CallFault.TheVariants.{Check, Run, Send};
+ghost use Rattle.nx_cli.specs.declared.fault.CallFault.TheVariants.{Check, Damage, Run, Send};
 ghost use Rattle.nx_cli.specs.declared.fault.Fault.TheVariants.{Call};
 
 use nx_fec::{Counting, RunFault};
-use nx_station::{CheckFault, EmissionFault, SendRunFault};
+use nx_station::{CheckFault, DamageFault, EmissionFault, SendRunFault};
 use std::io;
 use std::io::Write;
 use thiserror::Error;
@@ -30,6 +30,9 @@ pub enum CallFault {
     /// An air file was not checked, or it is no emission.
     #[error(transparent)]
     Check(CheckFault),
+    /// An air file was not copied whole.
+    #[error(transparent)]
+    Damage(DamageFault),
     /// The station has no slot from that moment on.
     #[error("no slot")]
     NoSlot,
@@ -51,6 +54,8 @@ impl CallFault {
                 )
                 | CheckFault::Emission(EmissionFault::Memory(_)),
             ) => DEVICE_OR_MEMORY,
+            CallFault::Damage(DamageFault::Read | DamageFault::Write { written: _ }) =>
+                DEVICE_OR_MEMORY,
             _ => BAD_INPUT,
         }
     }
@@ -68,6 +73,9 @@ pub enum Fault {
     /// The station is not one letter A to Z.
     #[error("station must be one letter A to Z")]
     Station,
+    /// The kind of damage is none of those that there are.
+    #[error("kind must be dx, rx or all")]
+    Kind,
     /// The call that the words name failed, or the writing of help did.
     #[error(transparent)]
     Call(CallFault),
@@ -78,7 +86,7 @@ impl Fault {
         ensures { result ≡ fault_status self.now }
     {
         match self {
-            Fault::Words(_) | Fault::NoText | Fault::Station => BAD_WORDS,
+            Fault::Words(_) | Fault::NoText | Fault::Station | Fault::Kind => BAD_WORDS,
             Fault::Call(why) => why.status(),
         }
     }
@@ -87,7 +95,10 @@ impl Fault {
     fn write_to<E: Write>(&self, faults: &mut E) -> io::Result<()> {
         match self {
             Fault::Words(answer) => write!(faults, "{answer}"),
-            Fault::NoText | Fault::Station | Fault::Call(_) => writeln!(faults, "navtex: {self}"),
+            Fault::NoText | Fault::Station | Fault::Kind | Fault::Call(_) => writeln!(
+                faults,
+                "navtex: {self}"
+            ),
         }
     }
 
@@ -122,6 +133,14 @@ impl From<CheckFault> for CallFault {
 
     fn from(why: CheckFault) -> CallFault {
         CallFault::Check(why)
+    }
+}
+
+impl From<DamageFault> for CallFault {
+    ghost from_gives = { λ why fault. fault ≡ Damage why };
+
+    fn from(why: DamageFault) -> CallFault {
+        CallFault::Damage(why)
     }
 }
 

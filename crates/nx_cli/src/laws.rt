@@ -3,9 +3,11 @@
 ghost use Rattle.std.specs.Prelude.{◌≡◌, ◌⊎◌, ◌≤◌, ℕ, List, [], ◌∷◌, codes};
 ghost use Rattle.clap.specs.Words.{Text};
 ghost use Rattle.nx_envelope.specs.declared.letter.Letter.{Letter};
-ghost use Rattle.nx_cli.specs.Words.{AsksForHelp, IsRefused, LacksStation, Names};
+ghost use Rattle.nx_cli.specs.Words.{AsksForHelp, IsRefused, IsRefusedByClap, LacksKind, LacksStation, Names};
 ghost use Rattle.nx_cli.specs.declared.words.Call.{Call};
-ghost use Rattle.nx_cli.specs.declared.words.Call.TheVariants.{Check, Code, Decode, Encode, Send, Show, Slots};
+ghost use Rattle.nx_cli.specs.declared.words.Call.TheVariants.{Check, Code, Damage, Decode, Encode, Send, Show, Slots};
+ghost use Rattle.nx_cli.specs.declared.words.DamageKind.{DamageKind};
+ghost use Rattle.nx_cli.specs.declared.words.DamageKind.TheVariants.{All, Dx};
 
 /// How the words are read: each list of words names one call, asks for help or is refused, and
 /// these exclude each other.
@@ -39,12 +41,16 @@ pub fn words_in_examples()
     ensures help_command { (program : Text) → IsRefused (program ∷ codes "help" ∷ []) }
 {}
 
-/// The moment that words name is in its range.
-pub fn moments_are_in_range()
+/// The numbers that words name are in their ranges.
+pub fn numbers_are_in_range()
     ensures send { (words : List Text) (station : Letter) (moment : ℕ)
         → Names words (Send station moment) → moment ≤ 32503679999 }
     ensures slots { (words : List Text) (station : Letter) (moment : ℕ)
         → Names words (Slots station moment) → moment ≤ 32503679999 }
+    ensures from { (words : List Text) (kind : DamageKind) (from count : ℕ)
+        → Names words (Damage kind from count) → from ≤ 4294967295 }
+    ensures count { (words : List Text) (kind : DamageKind) (from count : ℕ)
+        → Names words (Damage kind from count) → count ≤ 4294967295 }
 {}
 
 /// What words with a station and a moment are read as, whatever the program's name.
@@ -63,4 +69,20 @@ pub fn slots_in_examples()
     ensures no_moment { (program : Text) → IsRefused (program ∷ codes "send" ∷ codes "E" ∷ []) }
     ensures no_number { (program : Text)
         → IsRefused (program ∷ codes "slots" ∷ codes "E" ∷ codes "now" ∷ []) }
+{}
+
+/// What words with a kind of damage and two numbers are read as, whatever the program's name.
+pub fn damage_in_examples()
+    ensures some { (program : Text)
+        → Names (program ∷ codes "damage" ∷ codes "dx" ∷ codes "144" ∷ codes "59" ∷ [])
+        (Damage Dx 144 59) }
+    ensures widest { (program : Text)
+        → Names (program ∷ codes "damage" ∷ codes "all" ∷ codes "0" ∷ codes "4294967295" ∷ [])
+        (Damage All 0 4294967295) }
+    ensures capitals { (program : Text)
+        → LacksKind (program ∷ codes "damage" ∷ codes "DX" ∷ codes "0" ∷ codes "1" ∷ []) }
+    ensures too_many { (program : Text) → IsRefusedByClap
+        (program ∷ codes "damage" ∷ codes "tx" ∷ codes "0" ∷ codes "4294967296" ∷ []) }
+    ensures no_count { (program : Text)
+        → IsRefused (program ∷ codes "damage" ∷ codes "rx" ∷ codes "0" ∷ []) }
 {}

@@ -14,7 +14,7 @@ use crate::fault::{CallFault, Fault};
 use crate::slots::print_slot;
 use crate::words::{Call, WordsFault, call_of};
 use nx_fec::{Counting, RunFault, decode_run, encode_run, show_run, write_out, write_table};
-use nx_station::{check_run, send};
+use nx_station::{check_run, damage, send};
 use std::alloc::{AllocError, Global};
 use std::convert::AsStr;
 use std::fmt::Display;
@@ -64,6 +64,9 @@ fn perform<R: Read, W: Write>(
             send(alloc, reader, writer, station, moment)?;
         }
         Call::Slots { station, moment } => print_slot(alloc, writer, station, moment)?,
+        Call::Damage { kind, from, count } => {
+            damage(reader, writer, kind, from, count)?;
+        }
     }
     Ok(())
 }
@@ -107,6 +110,7 @@ fn obey<S: AsStr, R: Read, W: Write>(
         }
         Err(WordsFault::Refused(answer)) => Err(Fault::Words(answer)),
         Err(WordsFault::Station) => Err(Fault::Station),
+        Err(WordsFault::Kind) => Err(Fault::Kind),
         Err(WordsFault::Memory(want)) => Err(Fault::Call(CallFault::Run(RunFault::Memory(want)))),
     }
 }

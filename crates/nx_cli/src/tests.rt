@@ -1,6 +1,7 @@
 //! The program on words and bytes: its output, its fault lines, its exit statuses, and which calls
 //! it makes on devices that fail.
 
+mod damaging;
 mod devices;
 mod failures;
 mod files;

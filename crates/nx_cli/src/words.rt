@@ -1,11 +1,12 @@
 //! The words of the command line and the call that they name, read by `clap`.
 
-ghost use Rattle.std.specs.Prelude.{◌≡◌, ◌≢◌, ℕ, [], ◌∷◌, IfErr, IfNone, IfOk, IfSome, map};
+ghost use Rattle.std.specs.Prelude.{◌≡◌, ◌≢◌, ℕ, [], ◌∷◌, IfErr, IfNone, IfOk, IfSome, codes, map};
 ghost use Rattle.clap.specs.Words.{found_of, rows_of};
-ghost use Rattle.nx_cli.specs.Words.{ExplainsWords, HasArguments, IsNumber, IsStation, Names, Sorts};
-ghost use Rattle.nx_cli.specs.Words.{command_name};
+ghost use Rattle.nx_cli.specs.Words.{ExplainsWords, HasArguments, IsKind, IsNumber, IsStation, Names, Sorts};
+ghost use Rattle.nx_cli.specs.Words.{command_name, kind_name};
 ghost use Rattle.nx_cli.specs.declared.words.Call.{Call};
-ghost use Rattle.nx_cli.specs.declared.words.WordsFault.TheVariants.{Memory};
+ghost use Rattle.nx_cli.specs.declared.words.DamageKind.{DamageKind};
+ghost use Rattle.nx_cli.specs.declared.words.WordsFault.TheVariants.{Kind, Memory, Station};
 ghost use Rattle.nx_envelope.specs.declared.letter.Letter.{Letter};
 
 use crate::commands::navtex_command;
@@ -15,6 +16,14 @@ use nx_envelope::Letter;
 use std::alloc::{AllocError, Global};
 use std::convert::AsStr;
 use thiserror::Error;
+
+/// Kinds.
+#[derive(Clone, Copy, Debug, PartialEq, Eq)]
+pub enum DamageKind {
+    Dx,
+    Rx,
+    All,
+}
 
 /// A call of the program, which the words of the command line name.
 #[derive(Clone, Copy, Debug, PartialEq, Eq)]
@@ -43,6 +52,15 @@ pub enum Call {
         /// The moment, in seconds since 1970, before which the slot doesn't begin.
         moment: u64,
     },
+    /// Copy an air file with the first element of some words inverted.
+    Damage {
+        /// Which of the words are meant.
+        kind: DamageKind,
+        /// The first word, from 0.
+        from: u64,
+        /// How many words the range has from there on.
+        count: u64,
+    },
 }
 
 /// Why the words name no call.
@@ -57,6 +75,9 @@ pub enum WordsFault {
     /// The station is not one letter A to Z.
     #[error("station must be one letter A to Z")]
     Station,
+    /// The kind of damage is none of those that there are.
+    #[error("kind must be dx, rx or all")]
+    Kind,
     /// Memory ran out while the words were read.
     #[error("out of memory")]
     Memory(AllocError),
@@ -70,7 +91,19 @@ pub fn call_of<S: AsStr>(alloc: Global, words: &[S]) -> Result<Call, WordsFault>
     let command = navtex_command(alloc)?;
     let matches = command.try_get_matches_from(words)?;
     let (word, arguments) = matches.subcommand().unwrap();
-    Call::of_command(word, arguments).ok_or(WordsFault::Station)
+    Call::of_command(word, arguments).ok_or(unfit_argument(word))
+}
+
+/// Why a command that clap takes names no call: of its arguments, one at most is any text to clap,
+/// and the program itself checks that one.
+fn unfit_argument(word: &str) -> WordsFault
+    ensures kind { word.now ≡ codes "damage" → result ≡ Kind }
+    ensures station { word.now ≢ codes "damage" → result ≡ Station }
+{
+    match word {
+        "damage" => WordsFault::Kind,
+        _ => WordsFault::Station,
+    }
 }
 
 impl Call {
@@ -95,6 +128,11 @@ impl Call {
                 station: station_in(arguments)?,
                 moment: number_in(arguments, "MOMENT")?,
             },
+            "damage" => Call::Damage {
+                kind: kind_in(arguments)?,
+                from: number_in(arguments, "FROM")?,
+                count: number_in(arguments, "COUNT")?,
+            },
             _ => return None,
         })
     }
@@ -118,6 +156,28 @@ fn station_in(arguments: &ArgMatches) -> Option<Letter>
         → ¬ IsStation (rows_of (found_of arguments.now)) station) }
 {
     letter_alone(arguments.get_str("STATION")?)
+}
+
+/// The kind of damage that the text names.
+fn kind_by_name(text: &str) -> Option<DamageKind>
+    ensures some { IfSome result (λ kind. text.now ≡ kind_name kind) }
+    ensures none { IfNone result ((kind : DamageKind) → text.now ≢ kind_name kind) }
+{
+    match text {
+        "dx" => Some(DamageKind::Dx),
+        "rx" => Some(DamageKind::Rx),
+        "all" => Some(DamageKind::All),
+        _ => None,
+    }
+}
+
+/// The argument KIND, where it names a kind of damage.
+fn kind_in(arguments: &ArgMatches) -> Option<DamageKind>
+    ensures some { IfSome result (IsKind (rows_of (found_of arguments.now))) }
+    ensures none { IfNone result ((kind : DamageKind)
+        → ¬ IsKind (rows_of (found_of arguments.now)) kind) }
+{
+    kind_by_name(arguments.get_str("KIND")?)
 }
 
 /// The argument of this name, where it is a number.

@@ -135,20 +135,19 @@ fn encodes_and_decodes(rt: HostRuntime) {
     assert!(rt; nothing.output.is_empty() && nothing.faults.is_empty());
 }
 
-// The places in `AIR_FILE_OF_A` of the words 8 and 13, the two sendings of A. The rows damage them by
-// their first elements, and the last one puts B there.
-const WORD_8: usize = 58;
+// The place of word 13 in `AIR_FILE_OF_A`, the second sending of A. The last row puts B there.
 const WORD_13: usize = 93;
 
 #[test]
 fn decodes_damaged_words(rt: HostRuntime) -> Result<(), Fail> {
     let alloc = rt.alloc();
-    let one = with_word(alloc, AIR_FILE_OF_A, WORD_8, b"0110001")?;
-    let both = with_word(alloc, &one, WORD_13, b"0110001")?;
+    let first = run_on(alloc, &["navtex", "damage", "dx", "8", "1"], AIR_FILE_OF_A);
+    let one = run_on(alloc, &["navtex", "damage", "all", "8", "1"], AIR_FILE_OF_A);
+    let both = run_on(alloc, &["navtex", "damage", "all", "13", "1"], &one.output);
     let other = with_word(alloc, AIR_FILE_OF_A, WORD_13, b"0100111")?;
     for (air_file, text) in [
-        (one.as_slice(), b"A"),
-        (both.as_slice(), b"*"),
+        (first.output.as_slice(), b"A"),
+        (both.output.as_slice(), b"*"),
         (other.as_slice(), b"*"),
     ] {
         let ended = run_on(alloc, &["navtex", "decode"], air_file);

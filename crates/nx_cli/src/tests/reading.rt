@@ -21,8 +21,10 @@ fn shows_words(rt: HostRuntime) {
         let mut lines = shown.output.split(|byte| *byte == b'\n');
         assert_eq!(rt; lines.nth(index), Some(line));
     }
-    let wrong = run_on(alloc, &["navtex", "show"], b"B 0110001\n");
-    assert_eq!(rt; wrong.output.as_slice(), b"0 DX 46 wrong\n".as_slice());
+    let damaged = run_on(alloc, &["navtex", "damage", "all", "8", "1"], AIR_FILE_OF_A);
+    let shown = run_on(alloc, &["navtex", "show"], &damaged.output);
+    let mut lines = shown.output.split(|byte| *byte == b'\n');
+    assert_eq!(rt; lines.nth(8), Some(b"8 DX 46 wrong".as_slice()));
 }
 
 #[test]
@@ -39,13 +41,14 @@ fn checks_what_was_sent(rt: HostRuntime) {
 }
 
 // The place of word 150 in the file of an emission: behind the line of the moment and two lines of
-// 490 elements, the elements 70 to 76 of the third. The first rows damage it, and put A there.
+// 490 elements, the elements 70 to 76 of the third. One row puts A there.
 const WORD_150: usize = 1_071;
 
 #[test]
 fn refuses_what_is_not_sent(rt: HostRuntime) -> Result<(), Fail> {
     let alloc = rt.alloc();
-    let wrong = with_word(alloc, AIR_FILE_OF_X, WORD_150, b"0100011")?;
+    let damage = ["navtex", "damage", "all", "150", "1"];
+    let wrong = run_on(alloc, &damage, AIR_FILE_OF_X).output;
     let unpaired = with_word(alloc, AIR_FILE_OF_X, WORD_150, b"1110001")?;
     let mut longer = AIR_FILE_OF_X.to_vec(alloc)?;
     longer.extend_from_slice(b"B 1111000\n")?;

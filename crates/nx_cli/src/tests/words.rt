@@ -1,7 +1,10 @@
 //! What the words of the command line are answered with.
 
 use super::{AIR_FILE_OF_A, run_on};
-use crate::laws::{moments_are_in_range, slots_in_examples, words_in_examples, words_read_as_one};
+use crate::laws::{
+    damage_in_examples, numbers_are_in_range, slots_in_examples, words_in_examples,
+    words_read_as_one,
+};
 use crate::program::refuse_words;
 use crate::tests::devices::Sink;
 use std::io::{Error, ErrorKind};
@@ -61,6 +64,16 @@ fn reads_its_words(rt: HostRuntime) {
             status: 0,
             answer: "Print the text of an air file.\n\nReads an air file of at most 1048576 bytes",
         },
+        WordsRow {
+            words: &["navtex", "damage", "-h"],
+            status: 0,
+            answer: "Copy an air file with some of its words damaged\n\nUsage: navtex damage <KIND> <FROM> <COUNT>\n",
+        },
+        WordsRow {
+            words: &["navtex", "damage", "tx", "0", "4294967296"],
+            status: 64,
+            answer: "error: invalid value '4294967296' for '<COUNT>'",
+        },
     ];
     for row in rows.iter() {
         let ended = run_on(alloc, row.words, AIR_FILE_OF_A);
@@ -97,6 +110,7 @@ fn answers_for_words_that_cannot_be_had(rt: HostRuntime) {
 fn states_its_laws() {
     words_read_as_one();
     words_in_examples();
-    moments_are_in_range();
+    numbers_are_in_range();
     slots_in_examples();
+    damage_in_examples();
 }

@@ -1,6 +1,7 @@
 use Rattle.std.proofs.Common.{Ok, sym, subst}
 use Rattle.std.proofs.lemmas.Result.{err_from_is_err_and}
 use Rattle.nx_fec.specs.Transfers.{devices}
+use Rattle.nx_station.specs.Damaging.{Damages}
 use Rattle.nx_station.specs.Runs.{Sends}
 use Rattle.nx_cli.specs.Program.{Performs}
 use Rattle.nx_cli.specs.declared.fault.CallFault.TheVariants as call
@@ -25,3 +26,23 @@ returns-in_ok-send-in-Send g c =
     subst P (sym c.in-Send.is)
     (tells-ok (λ why. call.Send why)
         (Sends d c.in-Send.station.byte c.in-Send.moment) c.in_ok-send-in-Send.field-0 c.in_ok-send-in-Send.ensures)
+
+pub returns-in_err-damage-in-Damage : goal.returns-in_err-damage-in-Damage
+returns-in_err-damage-in-Damage g c =
+    let d = devices g.R.Read.remaining g.W.Write.contents c.args.reader.now c.damage.new.reader c.args.writer.now
+        c.damage.new.writer in
+    let outcome = c.from_residual-in_err-damage-in-Damage.result in
+    let p = err_from_is_err_and outcome c.from_residual-in_err-damage-in-Damage.ensures.1 in
+    let P : Call → Type 0 = λ call. Performs call d outcome in
+    subst P (sym c.in-Damage.is)
+    (tells-err (λ why. call.Damage why) (Damages d c.in-Damage.kind c.in-Damage.from c.in-Damage.count) outcome
+    c.in_err-damage-in-Damage.field-0.0 p.0 c.in_err-damage-in-Damage.ensures p.1 p.2)
+
+pub returns-in_ok-damage-in-Damage : goal.returns-in_ok-damage-in-Damage
+returns-in_ok-damage-in-Damage g c =
+    let d = devices g.R.Read.remaining g.W.Write.contents c.args.reader.now c.damage.new.reader c.args.writer.now
+        c.damage.new.writer in
+    let P : Call → Type 0 = λ call. Performs call d (Ok tt) in
+    subst P (sym c.in-Damage.is)
+    (tells-ok (λ why. call.Damage why) (Damages d c.in-Damage.kind c.in-Damage.from c.in-Damage.count)
+    c.in_ok-damage-in-Damage.field-0 c.in_ok-damage-in-Damage.ensures)

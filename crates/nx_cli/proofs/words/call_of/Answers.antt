@@ -32,7 +32,7 @@ returns-clause-named g c =
     let taken = ap (λ (a : App). fault_of a words) (sym tree)
         ∙ c.in_ok-matches.ensures.kinds (ap is_simple_and_free tree ∙ navtex-is_simple_and_free) in
     outcome-named words c.unwrap.result.0.now (rows_of
-        (found_of c.unwrap.result.1.now)) c.of_command.result c.ok_or.result taken entered c.of_command.ensures.some c.ok_or.ensures.value
+        (found_of c.unwrap.result.1.now)) c.of_command.result c.unfit_argument.result c.ok_or.result taken entered c.of_command.ensures.some c.ok_or.ensures.value
 
 pub returns-clause-refused : goal.returns-clause-refused
 returns-clause-refused g c =
@@ -51,4 +51,5 @@ returns-clause-refused g c =
     let taken = ap (λ (a : App). fault_of a words) (sym tree)
         ∙ c.in_ok-matches.ensures.kinds (ap is_simple_and_free tree ∙ navtex-is_simple_and_free) in
     outcome-refused words c.unwrap.result.0.now (rows_of
-        (found_of c.unwrap.result.1.now)) c.of_command.result c.ok_or.result taken entered c.of_command.ensures.none c.ok_or.ensures.value
+        (found_of c.unwrap.result.1.now)) c.of_command.result c.unfit_argument.result c.ok_or.result taken entered c.of_command.ensures.none
+    c.unfit_argument.ensures.kind c.unfit_argument.ensures.station c.ok_or.ensures.value
