@@ -15,8 +15,8 @@ use Rattle.nx_code.specs.Characters.{IsCapital}
 use Rattle.nx_envelope.specs.declared.letter.Letter.{Letter}
 use Rattle.nx_cli.specs.declared.words.Call.{Call}
 use Rattle.nx_cli.specs.declared.words.Call.TheVariants.{Check, Code, Damage, Decode, Encode, Send, Show, Slots}
-use Rattle.nx_cli.specs.declared.words.DamageKind.{DamageKind}
-use Rattle.nx_cli.specs.declared.words.DamageKind.TheVariants.{Dx, Rx, All}
+use Rattle.nx_station.specs.declared.damaging.DamageKind.{DamageKind}
+use Rattle.nx_station.specs.declared.damaging.DamageKind.TheVariants.{Dx, Rx, All}
 use Rattle.nx_cli.proofs.EachFound.{Each}
 use Rattle.nx_cli.specs.Words.{HasArguments, IsKind, IsNumber, IsStation, command_name, kind_name}
 

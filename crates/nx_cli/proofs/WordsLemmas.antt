@@ -19,7 +19,7 @@ use Rattle.clap.specs.declared.parser.matches.SubCommand.{SubCommand}
 use Rattle.nx_cli.specs.declared.words.Call.{Call}
 use Rattle.nx_cli.specs.declared.words.WordsFault.{WordsFault}
 use Rattle.nx_cli.specs.declared.words.WordsFault.TheVariants.{Help, Refused, Station, Kind, Memory}
-use Rattle.nx_cli.specs.declared.words.DamageKind.{DamageKind}
+use Rattle.nx_station.specs.declared.damaging.DamageKind.{DamageKind}
 use Rattle.nx_cli.specs.Words.{AsksForHelp, ExplainsWords, HasArguments, IsKind, IsNumber, IsRefused, IsStation, LacksKind, LacksStation, Names, Sorts, navtex, command_name}
 use Rattle.nx_cli.proofs.EachFound.{Each, found_is}
 use Rattle.nx_cli.proofs.CommandsTaken.{IsPlainWord, IsSlotWord, taken-command}

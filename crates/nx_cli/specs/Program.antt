@@ -9,7 +9,7 @@ use Rattle.nx_fec.specs.Devices.{CountedDevice, WroteSome}
 use Rattle.nx_fec.specs.Runs.{Decodes, Encodes, Shows}
 use Rattle.nx_fec.specs.TableText.{table_text}
 use Rattle.nx_station.specs.Checking.{Checks}
-use Rattle.nx_station.specs.Damaging.{Damages}
+use Rattle.nx_station.specs.Damage.{Damages}
 use Rattle.nx_station.specs.Runs.{Sends}
 use Rattle.nx_fec.specs.Transfers.{Devices, devices}
 use Rattle.nx_fec.specs.declared.fault.RunFault.{RunFault}
@@ -96,7 +96,7 @@ Performs (Send station moment) d outcome =
 Performs (Slots station moment) d outcome =
     IsUnread d × ShowsSlot station.byte moment d.contents d.writer d.writer_after outcome
 Performs (Damage kind from count) d outcome =
-    Tells (λ why. call.Damage why) (Damages d kind from count) outcome
+    Tells (λ why. call.Damage why) (Damages (record { kind = kind; from = from; count = count }) d) outcome
 
 -- the words name a call, which had this outcome
 pub record RunsCall {R W : Type 0} (words : List Text) (d : Devices R W)

@@ -15,8 +15,8 @@ use Rattle.nx_cli.specs.declared.words.Call.{Call}
 use Rattle.nx_cli.specs.declared.words.Call.TheVariants.{Check, Code, Damage, Decode, Encode, Send, Show, Slots}
 use Rattle.nx_cli.specs.declared.words.WordsFault.{WordsFault}
 use Rattle.nx_cli.specs.declared.words.WordsFault.TheVariants.{Help, Refused, Station, Kind, Memory}
-use Rattle.nx_cli.specs.declared.words.DamageKind.{DamageKind}
-use Rattle.nx_cli.specs.declared.words.DamageKind.TheVariants.{Dx, Rx, All}
+use Rattle.nx_station.specs.declared.damaging.DamageKind.{DamageKind}
+use Rattle.nx_station.specs.declared.damaging.DamageKind.TheVariants.{Dx, Rx, All}
 
 -- the word by which the command line names a call
 abbrev pub command_name : Call → Text

@@ -6,8 +6,8 @@ ghost use Rattle.nx_envelope.specs.declared.letter.Letter.{Letter};
 ghost use Rattle.nx_cli.specs.Words.{AsksForHelp, IsRefused, IsRefusedByClap, LacksKind, LacksStation, Names};
 ghost use Rattle.nx_cli.specs.declared.words.Call.{Call};
 ghost use Rattle.nx_cli.specs.declared.words.Call.TheVariants.{Check, Code, Damage, Decode, Encode, Send, Show, Slots};
-ghost use Rattle.nx_cli.specs.declared.words.DamageKind.{DamageKind};
-ghost use Rattle.nx_cli.specs.declared.words.DamageKind.TheVariants.{All, Dx};
+ghost use Rattle.nx_station.specs.declared.damaging.DamageKind.{DamageKind};
+ghost use Rattle.nx_station.specs.declared.damaging.DamageKind.TheVariants.{All, Dx};
 
 /// How the words are read: each list of words names one call, asks for help or is refused, and
 /// these exclude each other.

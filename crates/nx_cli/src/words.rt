@@ -5,7 +5,7 @@ ghost use Rattle.clap.specs.Words.{found_of, rows_of};
 ghost use Rattle.nx_cli.specs.Words.{ExplainsWords, HasArguments, IsKind, IsNumber, IsStation, Names, Sorts};
 ghost use Rattle.nx_cli.specs.Words.{command_name, kind_name};
 ghost use Rattle.nx_cli.specs.declared.words.Call.{Call};
-ghost use Rattle.nx_cli.specs.declared.words.DamageKind.{DamageKind};
+ghost use Rattle.nx_station.specs.declared.damaging.DamageKind.{DamageKind};
 ghost use Rattle.nx_cli.specs.declared.words.WordsFault.TheVariants.{Kind, Memory, Station};
 ghost use Rattle.nx_envelope.specs.declared.letter.Letter.{Letter};
 
@@ -13,17 +13,10 @@ use crate::commands::navtex_command;
 use clap::ArgMatches;
 use clap::error::ErrorKind;
 use nx_envelope::Letter;
+use nx_station::DamageKind;
 use std::alloc::{AllocError, Global};
 use std::convert::AsStr;
 use thiserror::Error;
-
-/// Kinds.
-#[derive(Clone, Copy, Debug, PartialEq, Eq)]
-pub enum DamageKind {
-    Dx,
-    Rx,
-    All,
-}
 
 /// A call of the program, which the words of the command line name.
 #[derive(Clone, Copy, Debug, PartialEq, Eq)]

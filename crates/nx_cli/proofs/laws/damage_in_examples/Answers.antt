@@ -2,7 +2,7 @@ use Rattle.std.proofs.Common.{◌≡◌, ℕ, List, [], ◌∷◌, Some, codes, 
 use Rattle.clap.proofs.OnLiterals.{clap_on_literals}
 use Rattle.clap.specs.Words.{Row, Text}
 use Rattle.clap.specs.declared.error.kind.ErrorKind.TheVariants as kind
-use Rattle.nx_cli.specs.declared.words.DamageKind.{DamageKind}
+use Rattle.nx_station.specs.declared.damaging.DamageKind.{DamageKind}
 use Rattle.nx_cli.specs.Words.{kind_name}
 use Rattle.nx_cli.proofs.GivenArguments.{given}
 use Rattle.nx_cli.proofs.OneCall.{differ, no_kind, number-of}

@@ -1,7 +1,7 @@
 use Rattle.std.proofs.Common.{Ok, sym, subst}
 use Rattle.std.proofs.lemmas.Result.{err_from_is_err_and}
 use Rattle.nx_fec.specs.Transfers.{devices}
-use Rattle.nx_station.specs.Damaging.{Damages}
+use Rattle.nx_station.specs.Damage.{Damages}
 use Rattle.nx_station.specs.Runs.{Sends}
 use Rattle.nx_cli.specs.Program.{Performs}
 use Rattle.nx_cli.specs.declared.fault.CallFault.TheVariants as call
@@ -35,7 +35,7 @@ returns-in_err-damage-in-Damage g c =
     let p = err_from_is_err_and outcome c.from_residual-in_err-damage-in-Damage.ensures.1 in
     let P : Call → Type 0 = λ call. Performs call d outcome in
     subst P (sym c.in-Damage.is)
-    (tells-err (λ why. call.Damage why) (Damages d c.in-Damage.kind c.in-Damage.from c.in-Damage.count) outcome
+    (tells-err (λ why. call.Damage why) (Damages (record { kind = c.in-Damage.kind; from = c.in-Damage.from; count = c.in-Damage.count }) d) outcome
     c.in_err-damage-in-Damage.field-0.0 p.0 c.in_err-damage-in-Damage.ensures p.1 p.2)
 
 pub returns-in_ok-damage-in-Damage : goal.returns-in_ok-damage-in-Damage
@@ -44,5 +44,5 @@ returns-in_ok-damage-in-Damage g c =
         c.damage.new.writer in
     let P : Call → Type 0 = λ call. Performs call d (Ok tt) in
     subst P (sym c.in-Damage.is)
-    (tells-ok (λ why. call.Damage why) (Damages d c.in-Damage.kind c.in-Damage.from c.in-Damage.count)
+    (tells-ok (λ why. call.Damage why) (Damages (record { kind = c.in-Damage.kind; from = c.in-Damage.from; count = c.in-Damage.count }) d)
     c.in_ok-damage-in-Damage.field-0 c.in_ok-damage-in-Damage.ensures)
