@@ -7,6 +7,7 @@ use Rattle.nx_code.specs.Lists.{last_of}
 use Rattle.nx_memory.specs.Memory.{most_entries}
 use Rattle.nx_memory.specs.declared.entry.MemoryEntry.{MemoryEntry}
 use Rattle.nx_receiver.specs.declared.over.Over.{Over}
+use Rattle.nx_receiver.specs.declared.over.Over.TheVariants as over
 use Rattle.nx_receiver.specs.declared.entry.Entry.{Entry}
 use Rattle.nx_receiver.specs.Events.{Event, Setting, Start, bits_of, element, first_setting, setting_after_all, settings}
 use Rattle.nx_receiver.specs.Log.{HasPrinted}
@@ -125,3 +126,15 @@ piece_within bits at n within h = omega (arith, ap length (rest_is bits at), len
 pub is_none : {A : Type 0} (entry : Option A) (test : Bool) → test ≡ is_some entry → test ≡ false → entry ≡ None
 is_none None test h e = refl
 is_none (Some x) test h e = cc
+
+-- where nothing is over, nothing is handed out
+pub nothing_finished : {M : Type 0} (content : M → List MemoryEntry) (start : Start) (receiver : Receiving M) (h : List Bool) (s : List Setting) (now : Setting) (copies log : List TaggedCopy) (answer : Over) → answer ≡ over.Nothing
+    → IsOver (first_setting start) receiver.watch h s copies answer → in_force receiver.watch ≡ now → log ≡ printed_copies start.entries copies → content receiver.memory ≡ last_of most_entries (entries_after start.entries copies)
+    → StandsOver content start receiver h s now (log ++ [])
+nothing_finished content start receiver h s now copies log answer nothing is force shown holds = record {
+  copies = copies;
+  watch = subst (IsOver (first_setting start) receiver.watch h s copies) nothing is;
+  force = force;
+  printed = append-nil log ∙ shown;
+  memory = holds;
+}

@@ -155,6 +155,10 @@ impl<M: Recall> Receiver<M> {
         while at < bits.len() {
             let (count, over) = self.hear(&bits[at..]);
             at += count;
+            // Nothing is over with the last of all elements: no place for an entry is cleared.
+            if over == Over::Nothing {
+                return (at, None);
+            }
             let entry = self.finish(over);
             if entry.is_some() {
                 return (at, entry);

@@ -136,28 +136,6 @@ fn stops_at_a_failed_device(rt: HostRuntime) {
 }
 
 #[test]
-fn stops_an_endless_air_file(rt: HostRuntime) -> Result<(), Fail> {
-    let alloc = rt.alloc();
-    let mut lines = Vec::new(alloc);
-    for _ in 0..8_192u64 {
-        lines.extend_from_slice(b"T 0\n")?;
-    }
-    let mut source = Source::of(&lines);
-    source.endless = true;
-    let mut output = Sink::new(Vec::new(alloc));
-    output.discards = true;
-    let mut faults = Sink::new(Vec::new(alloc));
-    let words = ["navtex", "damage", "all", "0", "1"];
-    let status = run(alloc, &words, &mut source, &mut output, &mut faults);
-    assert_eq!(rt; status, 2);
-    assert_eq!(rt;
-        faults.taken.as_slice(),
-        b"navtex: air file longer than 268435456 bytes\n".as_slice()
-    );
-    Ok(())
-}
-
-#[test]
 fn refuses_other_kinds(rt: HostRuntime) {
     let alloc = rt.alloc();
     for kind in ["DX", "tx", ""] {
