@@ -25,7 +25,7 @@ module _ {T : Type 0} (text_of : T → Text) (name : Text) (f : Found) where
 
   pub text-none : (text : Text) → first_value f name ≡ Some text → (found : Option T)
       → IfNone found ((x : T) → text ≢ text_of x) → IfNone found ((x : T)
-          → first_of name (rows_of f) ≡ Some (text_of x) → ⊥)
+      → first_of name (rows_of f) ≡ Some (text_of x) → ⊥)
   text-none text is None none = text-not text is none
   text-none text is (Some x) none = tt
 
@@ -58,7 +58,7 @@ module _ {E : Type 0} (gives : List ℕ → Result ℕ E → Type 0) (only : (u 
       let text_is : number.text ≡ t = cc in
       let P : ℕ → Type 0 = λ n. n < 2 ^ 64 in
       let Q : Text → Type 0 = λ u. IsNumeral 10 (without_leading_plus u)
-          × (digits_value 10 (without_leading_plus u) < 2 ^ 64) in
+      × (digits_value 10 (without_leading_plus u) < 2 ^ 64) in
       only t (Err read.0) read.1 (subst Q text_is (number.numeral, subst P number.value number.fits))
 
   pub number-some : (o : Option Text) → one_text f name ≡ o → (r : Option ℕ) → (one_text f name ≡ None → r ≡ None)
@@ -69,7 +69,7 @@ module _ {E : Type 0} (gives : List ℕ → Result ℕ E → Type 0) (only : (u 
 
   pub number-none : (o : Option Text) → one_text f name ≡ o → (r : Option ℕ)
       → ((t : Text) → one_text f name ≡ Some t → ReadsOne gives t r) → IfNone r ((m : ℕ)
-          → IsNumber name (rows_of f) m → ⊥)
+      → IsNumber name (rows_of f) m → ⊥)
   number-none None is r value =
       if_none r _ (λ m number.
       let bad : None ≡ Some number.text = sym is ∙ (one_text-rows f name ∙ number.given) in

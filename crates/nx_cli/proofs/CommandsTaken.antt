@@ -26,12 +26,28 @@ slot_rules-moment : Each (UsesWell (IsNumeric (codes "MOMENT") 32503679999)) slo
 slot_rules-moment = (uses-text _ _ 1 _ refl, (uses-wanted _ _ 2, ((λ again vs rows e good. good), tt)))
 
 damage_rules-from : Each (UsesWell (IsNumeric (codes "FROM") 4294967295)) damage_rules
-damage_rules-from = (uses-text _ _ 1 _ refl, (uses-wanted _ _ 2, (uses-other _ _ 3 _ _ refl,
-    ((λ again vs rows e good. good), tt))))
+damage_rules-from = (
+  uses-text _ _ 1 _ refl,
+  (
+    uses-wanted _ _ 2,
+    (
+      uses-other _ _ 3 _ _ refl,
+      ((λ again vs rows e good. good), tt),
+    ),
+  ),
+)
 
 damage_rules-count : Each (UsesWell (IsNumeric (codes "COUNT") 4294967295)) damage_rules
-damage_rules-count = (uses-text _ _ 1 _ refl, (uses-other _ _ 2 _ _ refl, (uses-wanted _ _ 3,
-    ((λ again vs rows e good. good), tt))))
+damage_rules-count = (
+  uses-text _ _ 1 _ refl,
+  (
+    uses-other _ _ 2 _ _ refl,
+    (
+      uses-wanted _ _ 3,
+      ((λ again vs rows e good. good), tt),
+    ),
+  ),
+)
 
 second_wanted : (a b : Bool) → check_kinds false false ((true && not a) || ((true && not b) ||
     (false || false))) ≡ [] → b ≡ true
@@ -65,7 +81,7 @@ abbrev pub IsCommand : Text → List Row → Type 0
 IsCommand name rows =
     IsPlainWord name ⊎ ((IsSlotWord name × GivesNumber (codes "MOMENT") 32503679999 rows)
     ⊎ ((name ≡ codes "damage") × GivesNumber (codes "FROM") 4294967295 rows
-        × GivesNumber (codes "COUNT") 4294967295 rows))
+    × GivesNumber (codes "COUNT") 4294967295 rows))
 
 abbrev IsCommandOf : Shape → Type 0
 IsCommandOf s = (words : List Text) → level_fault s [] nothing_held words false [] ≡ []
@@ -87,24 +103,24 @@ commands-are = (
               inl refl,
               gets _ _ _ slot_rules-moment (refl, (refl, (refl, tt)))
                   (λ rows checked. second_wanted (is_given (codes "STATION") rows) (is_given
-                      (codes "MOMENT") rows) checked) words e,
+                  (codes "MOMENT") rows) checked) words e,
             ))),
             (
               (λ words e. inr (inl (
                 inr refl,
                 gets _ _ _ slot_rules-moment (refl, (refl, (refl, tt)))
                     (λ rows checked. second_wanted (is_given (codes "STATION") rows) (is_given
-                        (codes "MOMENT") rows) checked) words e,
+                    (codes "MOMENT") rows) checked) words e,
               ))),
               (
                 (λ words e. inr (inr (
                   refl,
                   gets _ _ _ damage_rules-from (refl, (refl, (refl, (refl, tt))))
                       (λ rows checked. (both_wanted (is_given (codes "KIND") rows) (is_given (codes "FROM") rows)
-                          (is_given (codes "COUNT") rows) checked).0) words e,
+                      (is_given (codes "COUNT") rows) checked).0) words e,
                   gets _ _ _ damage_rules-count (refl, (refl, (refl, (refl, tt))))
                       (λ rows checked. (both_wanted (is_given (codes "KIND") rows) (is_given (codes "FROM") rows)
-                          (is_given (codes "COUNT") rows) checked).1) words e,
+                      (is_given (codes "COUNT") rows) checked).1) words e,
                 ))),
                 tt,
               ),
@@ -119,7 +135,7 @@ commands-are = (
 found-command : (words : List Text) (found : Option Shape) → IfSome found IsCommandOf
     → option_map_or (λ s. level_fault s [] nothing_held words false []) found [] ≡ []
     → (name : Text) (rows : List Row) → option_map (λ s. rows_at s words) found ≡ Some (name, rows)
-        → IsCommand name rows
+    → IsCommand name rows
 found-command words None is e name rows entered = absurd (cc)
 found-command words (Some s) is e name rows entered =
     let same : Some (rows_at s words) ≡ Some (name, rows) = entered in
@@ -140,5 +156,5 @@ pub taken-command : (words : List Text) (name : Text) (rows : List Row) → faul
     → subcommand_of navtex words ≡ Some (name, rows) → IsCommand name rows
 taken-command words name rows taken is =
     let stop = (walk (built navtex).top.rules (names_of (built navtex)) nothing_held
-        (argument_words navtex words)).stopped in
+    (argument_words navtex words)).stopped in
     entered-command stop (or-first _ _ (or-second _ _ taken)) name rows is

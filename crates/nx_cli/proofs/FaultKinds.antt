@@ -126,7 +126,7 @@ u-use again a vs rows =
 u-settle : (c : List Rule) (again : Bool) (h : Held) → IsUniform (settle_fault c again h)
 u-settle c again h =
     u-option-each _ h.pending [] (λ p. u-option-each _ (arg_by_id c p.0) []
-        (λ a. u-use again a p.1 h.rows) u-none) u-none
+    (λ a. u-use again a p.1 h.rows) u-none) u-none
 
 u-react : (c : List Rule) (again : Bool) (a : Rule) (vs : List Text) (h : Held) → IsUniform (react_fault c again a vs h)
 u-react c again a vs h = u-or _ _ (u-settle c again h) (u-use again a vs (settled c h).rows)
@@ -149,7 +149,7 @@ u-short c again (Some a) rest h more each =
 u-bundle-step : (c : List Rule) (again : Bool) (x : Option ℕ) (flags : Text) (skip : ℕ) (h : Held) (more : Text → ℕ
     → Held → Kinds)
     → ((t : Text) (n : ℕ) (g : Held) → IsUniform (more t n g))
-        → IsUniform (bundle_step_fault c again x flags skip h more)
+    → IsUniform (bundle_step_fault c again x flags skip h more)
 u-bundle-step c again None flags skip h more each = u-none
 u-bundle-step c again (Some x) flags zero h more each =
     let rest = drop (length (encode_utf8 x)) flags in
@@ -168,7 +168,7 @@ u-flag-word : (c : List Rule) (again : Bool) (p : Option (Text × Option Text)) 
 u-flag-word c again (Some p) word h = u-long c again (arg_by_long c p.0) p.1 h
 u-flag-word c again None word h =
     u-option-each _ (short_of word) [] (λ flags. u-flags c again (length flags) flags h.skip
-        (record h { skip = 0 })) u-none
+    (record h { skip = 0 })) u-none
 
 -- a command whose words include no request `help`
 abbrev pub HasNoHelp : Shape → Type 0

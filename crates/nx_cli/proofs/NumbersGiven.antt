@@ -55,16 +55,20 @@ abbrev pub built_text : ℕ → Text → Rule
 built_text i name = record (text_rule name) { index = Some i; action = Some Set; parser = Some parser.String; range = Some (record { start_inclusive = 1; end_inclusive = 1 }) }
 
 abbrev pub built_number : ℕ → Text → ℕ → Rule
-built_number i name most = record (number_rule name most) { index = Some i; action = Some Set; range = Some
-    (record { start_inclusive = 1; end_inclusive = 1 }) }
+built_number i name most = record (number_rule name most) {
+  index = Some i;
+  action = Some Set;
+  range = Some
+      (record { start_inclusive = 1; end_inclusive = 1 });
+}
 
 -- arguments with no default leave the rows
 no_default : (xs : List Row) (a : Rule) → a.defaults ≡ [] → with_default xs a ≡ xs
 no_default xs a none = elim (has_row a.id xs) as (λ b. (if b then xs else default_rows a.id
     (reading_by a) a.defaults xs) ≡ xs) [
-  | true ↦ refl
-  | false ↦ ap (λ (ds : List Text). default_rows a.id (reading_by a) ds xs) none
-]
+      | true ↦ refl
+      | false ↦ ap (λ (ds : List Text). default_rows a.id (reading_by a) ds xs) none
+    ]
 
 no_defaults : (rules : List Rule) → Each (λ a. a.defaults ≡ []) rules → (xs : List Row)
     → fold with_default xs rules ≡ xs
@@ -80,7 +84,7 @@ pub record GivesNumber (id : Text) (most : ℕ) (rows : List Row) : Type 0 where
 module _ (id : Text) (most : ℕ) where
   numeric-with_values : (name : Text) (how : Reading) (s : ValueSource) (vs : List Text) (rows : List Row)
       → (bytes_eq name id ≡ true → AreNumbers most vs × (how ≡ AsWritten)) → Each (IsNumeric id most) rows
-          → Each (IsNumeric id most) (with_values name how s vs rows)
+      → Each (IsNumeric id most) (with_values name how s vs rows)
   numeric-with_values name how s vs rows new good =
       good-at_row (IsNumeric id most) name (more_values s vs) _ rows
       (λ r is_good. ((λ is. (numbers-append most r.values vs (is_good is).0, (is_good is).1)), tt)) (new, tt) good
@@ -97,18 +101,18 @@ module _ (id : Text) (most : ℕ) where
   pub uses-wanted : (i : ℕ) → UsesWell (IsNumeric id most) (built_number i id most)
   uses-wanted i again vs rows e good =
       numeric-with_values _ _ _ _ _ (λ is. (values-are i again vs rows e, refl)) (good-without
-          (IsNumeric id most) _ _ good)
+      (IsNumeric id most) _ _ good)
 
   pub uses-text : (i : ℕ) (name : Text) → bytes_eq name id ≡ false → UsesWell (IsNumeric id most) (built_text i name)
   uses-text i name other again vs rows e good =
       numeric-with_values _ _ _ _ _ (λ is. absurd (let no : false ≡ true = sym other
-          ∙ is in cc)) (good-without (IsNumeric id most) _ _ good)
+      ∙ is in cc)) (good-without (IsNumeric id most) _ _ good)
 
   pub uses-other : (i : ℕ) (name : Text) (up_to : ℕ) → bytes_eq name id ≡ false
       → UsesWell (IsNumeric id most) (built_number i name up_to)
   uses-other i name up_to other again vs rows e good =
       numeric-with_values _ _ _ _ _ (λ is. absurd (let no : false ≡ true = sym other
-          ∙ is in cc)) (good-without (IsNumeric id most) _ _ good)
+      ∙ is in cc)) (good-without (IsNumeric id most) _ _ good)
 
   -- a row of this argument that was found has a number
   found-numeric : (rows : List Row) → Each (IsNumeric id most) rows → IfSome (find (λ r. bytes_eq r.id id) rows)
@@ -147,7 +151,7 @@ module _ (id : Text) (most : ℕ) where
   pub gets : (s : Shape) → Each (UsesWell (IsNumeric id most)) s.rules → Each (λ a. a.defaults ≡ []) s.rules
       → ((rows : List Row) → check_fault s rows false ≡ [] → is_given id rows ≡ true)
       → (words : List Text) → level_fault s [] nothing_held words false [] ≡ []
-          → GivesNumber id most (rows_after s.rules [] words)
+      → GivesNumber id most (rows_after s.rules [] words)
   gets s each none wants words e =
       let end = (walk s.rules [] nothing_held words).held in
       let same = no_defaults s.rules none (settled s.rules end).rows in

@@ -21,8 +21,11 @@ use Rattle.nx_cli.proofs.EachFound.{Each}
 use Rattle.nx_cli.specs.Words.{HasArguments, IsKind, IsNumber, IsStation, command_name, kind_name}
 
 same_letter : (a b : Letter) → a.byte ≡ b.byte → a ≡ b
-same_letter a b e = λ i. record { byte = e i; in_range = is_prop→PathP (λ j. IsCapital (e j))
-    (λ j. ×_prop le_prop le_prop) a.in_range b.in_range i }
+same_letter a b e = λ i. record {
+  byte = e i;
+  in_range = is_prop→PathP (λ j. IsCapital (e j))
+      (λ j. ×_prop le_prop le_prop) a.in_range b.in_range i;
+}
 
 pub differ : (a b : Text) → bytes_eq a b ≡ false → a ≡ b → ⊥
 differ a b unlike e =
@@ -178,7 +181,7 @@ slot_call make rows = option_and_then (λ s. option_map (λ m. make s m) (number
 abbrev damage_call : List Row → Option Call
 damage_call rows =
     option_and_then (λ k. option_and_then (λ f. option_map (λ c. Damage k f c) (number_in (codes "COUNT") rows))
-        (number_in (codes "FROM") rows)) (kind_in rows)
+    (number_in (codes "FROM") rows)) (kind_in rows)
 
 slot_call-only : (make : Letter → ℕ → Call) (rows : List Row) (s : Letter) (m : ℕ) → IsStation rows s
     → IsNumber (codes "MOMENT") rows m → slot_call make rows ≡ Some (make s m)
@@ -189,8 +192,12 @@ damage_call-only : (rows : List Row) (k : DamageKind) (f c : ℕ) → IsKind row
     → IsNumber (codes "COUNT") rows c
     → damage_call rows ≡ Some (Damage k f c)
 damage_call-only rows k f c is_k is_f is_c =
-    rw ((kind-reads rows).only k is_k, (number-reads (codes "FROM") rows).only f is_f, (number-reads
-        (codes "COUNT") rows).only c is_c) refl
+    rw (
+      (kind-reads rows).only k is_k,
+      (number-reads (codes "FROM") rows).only f is_f,
+      (number-reads
+          (codes "COUNT") rows).only c is_c,
+    ) refl
 
 -- the call has this word and these arguments
 abbrev HasCall : Text → List Row → Call → Type 0
@@ -211,12 +218,12 @@ slot_call-is name make rows has = go (station_in rows) (number_in (codes "MOMENT
 damage_call-is : (rows : List Row) → IfSome (damage_call rows) (HasCall (codes "damage") rows)
 damage_call-is rows =
     go (kind_in rows) (number_in (codes "FROM") rows) (number_in (codes "COUNT") rows) (kind-reads rows).is
-        (number-reads (codes "FROM") rows).is (number-reads (codes "COUNT") rows).is
+    (number-reads (codes "FROM") rows).is (number-reads (codes "COUNT") rows).is
   where
     go : (k : Option DamageKind) (f c : Option ℕ) → IfSome k (IsKind rows)
         → IfSome f (IsNumber (codes "FROM") rows) → IfSome c (IsNumber (codes "COUNT") rows)
         → IfSome (option_and_then (λ k. option_and_then (λ f. option_map (λ c. Damage k f c) c) f) k) (HasCall
-            (codes "damage") rows)
+        (codes "damage") rows)
     go None f c is_k is_f is_c = tt
     go (Some k) None c is_k is_f is_c = tt
     go (Some k) (Some f) None is_k is_f is_c = tt
@@ -229,9 +236,9 @@ Entry = Text × (List Row → Option Call)
 abbrev entries : List Entry
 entries =
     (codes "decode", λ rows. Some Decode) ∷ (codes "encode", λ rows. Some Encode) ∷
-        (codes "code", λ rows. Some Code) ∷ (codes "show", λ rows. Some Show)
+    (codes "code", λ rows. Some Code) ∷ (codes "show", λ rows. Some Show)
     ∷ (codes "check", λ rows. Some Check) ∷ (codes "send", λ rows. slot_call (λ s m. Send s m) rows) ∷
-        (codes "slots", λ rows. slot_call (λ s m. Slots s m) rows)
+    (codes "slots", λ rows. slot_call (λ s m. Slots s m) rows)
     ∷ (codes "damage", λ rows. damage_call rows) ∷ []
 
 abbrev call_in : List Entry → Text → List Row → Option Call
@@ -351,7 +358,7 @@ LacksDamage rows =
 damage_call-absent : (rows : List Row) → LacksDamage rows → damage_call rows ≡ None
 damage_call-absent rows absent =
     go (kind_in rows) (number_in (codes "FROM") rows) (number_in (codes "COUNT") rows) (kind-reads rows).is
-        (number-reads (codes "FROM") rows).is (number-reads (codes "COUNT") rows).is
+    (number-reads (codes "FROM") rows).is (number-reads (codes "COUNT") rows).is
   where
     go : (k : Option DamageKind) (f c : Option ℕ) → IfSome k (IsKind rows)
         → IfSome f (IsNumber (codes "FROM") rows) → IfSome c (IsNumber (codes "COUNT") rows)

@@ -30,14 +30,14 @@ fresh-is {T} c device inner none =
 -- how a run over devices that were wrapped ends, told of fresh ones
 pub exits-fresh : {R W : Type 0} (words : List Text) (remaining : R → Option (List ℕ)) (contents : W → Option (List ℕ))
     (input : R) (reader reader_after : CountedDevice R) (output : W) (writer writer_after : CountedDevice W)
-        (status : ℕ)
+    (status : ℕ)
     → reader.inner ≡ input → reader.failures ≡ 0 → writer.inner ≡ output → writer.failures ≡ 0
     → Exits words (devices remaining contents reader reader_after writer writer_after) status
     → Exits words (devices remaining contents (fresh input) reader_after (fresh output) writer_after) status
 exits-fresh {R} {W} words remaining contents input reader reader_after output writer writer_after status input_is unread output_is unwritten exits =
     let P : Devices R W → Type 0 = λ d. Exits words d status in
     let on : CountedDevice R → CountedDevice W
-        → Devices R W = λ r w. devices remaining contents r reader_after w writer_after in
+    → Devices R W = λ r w. devices remaining contents r reader_after w writer_after in
     subst P (ap₂ on (fresh-is reader input input_is unread) (fresh-is writer output output_is unwritten)) exits
 
 -- a fault of a call has status 1 or 2
@@ -123,8 +123,11 @@ words-end words d (Err (fault.Words answer)) ends is = inl ends.0
 words-end words d (Err fault.NoText) ends is = absurd ends
 words-end words d (Err fault.Station) ends is = inr (inl ends.0)
 words-end words d (Err fault.Kind) ends is = inr (inr ends.0)
-words-end words d (Err (fault.Call why)) ends is = elim (call-status why) [ inl one ↦ absurd
-    (omega arith) | inr two ↦ absurd (omega arith) ]
+words-end words d (Err (fault.Call why)) ends is = elim (call-status why) [
+  | inl one ↦ absurd
+      (omega arith)
+  | inr two ↦ absurd (omega arith)
+]
 
 -- status 64 is a refusal of the words
 pub words-exit : {R W : Type 0} (words : List Text) (d : Devices R W) (status : ℕ) → Exits words d status

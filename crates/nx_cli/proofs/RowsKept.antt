@@ -63,7 +63,7 @@ module _ (IsGood : Row → Type 0) where
 
     good-settled_rows : (p : Option (Text × List Text)) (rows : List Row)
         → option_map_or (λ p. option_map_or (λ a. use_fault again a p.1 rows) (arg_by_id c p.0) []) p [] ≡ []
-            → Each IsGood rows → Each IsGood (settled_rows c p rows)
+        → Each IsGood rows → Each IsGood (settled_rows c p rows)
     good-settled_rows None rows e good = good
     good-settled_rows (Some p) rows e good = by_id (arg_by_id c p.0) p.1 rows (found_is UsesWell
         (λ a. bytes_eq a.id p.0) c each) e good
@@ -83,7 +83,7 @@ module _ (IsGood : Row → Type 0) where
 
     good-long_at : (a : Rule) → UsesWell a → (t : Bool) (v : Option Text) (h : Held)
         → (if t then option_fault c again a v h else
-            (if is_some v then kind.TooManyValues ∷ [] else react_fault c again a [] h)) ≡ []
+        (if is_some v then kind.TooManyValues ∷ [] else react_fault c again a [] h)) ≡ []
         → Each IsGood h.rows → Each IsGood (if t then option_met c a v h else flag_met c a v h).0.rows
     good-long_at a well true v h e good = good-option a well v h e good
     good-long_at a well false (Some v) h e good = good
@@ -98,9 +98,9 @@ module _ (IsGood : Row → Type 0) where
         → Kinds) (after : Held → Held × Outcome)
         → ((g : Held) → more g ≡ [] → Each IsGood g.rows → Each IsGood (after g).0.rows)
         → (if t then option_fault c again a (attached_value rest) h else or_else (react_fault c again a [] h) (more
-            (reacted c a [] h))) ≡ []
+        (reacted c a [] h))) ≡ []
         → Each IsGood h.rows → Each IsGood (if t then option_met c a (attached_value rest) h else after
-            (reacted c a [] h)).0.rows
+        (reacted c a [] h)).0.rows
     good-short_at a well true rest h more after goes e good = good-option a well (attached_value rest) h e good
     good-short_at a well false rest h more after goes e good = goes (reacted c a [] h) (or-second _ _ e)
         (good-reacted a well [] h (or-first _ _ e) good)
@@ -116,14 +116,14 @@ module _ (IsGood : Row → Type 0) where
     good-bundle_step : (x : Option ℕ) (flags : Text) (skip : ℕ) (so_far : Outcome) (h : Held) (more : Text → ℕ
         → Held → Kinds) (after : Text → ℕ → Outcome → Held → Held × Outcome)
         → ((t : Text) (n : ℕ) (o : Outcome) (g : Held) → more t n g ≡ [] → Each IsGood g.rows
-            → Each IsGood (after t n o g).0.rows)
+        → Each IsGood (after t n o g).0.rows)
         → bundle_step_fault c again x flags skip h more ≡ [] → Each IsGood h.rows
-            → Each IsGood (bundle_step c x flags skip so_far h after).0.rows
+        → Each IsGood (bundle_step c x flags skip so_far h after).0.rows
     good-bundle_step None flags skip so_far h more after goes e good = good
     good-bundle_step (Some x) flags zero so_far h more after goes e good =
         let rest = drop (length (encode_utf8 x)) flags in
         good-short (arg_by_short c x) (found_is UsesWell _ c each) rest h (more rest 0) (after rest 0 done)
-            (goes rest 0 done) e good
+        (goes rest 0 done) e good
     good-bundle_step (Some x) flags (suc skip) so_far h more after goes e good = goes (drop (length
         (encode_utf8 x)) flags) skip so_far h e good
 
@@ -134,7 +134,7 @@ module _ (IsGood : Row → Type 0) where
     good-bundle zero flags skip so_far h e good = good
     good-bundle (suc k) flags skip so_far h e good =
         good-bundle_step (slice_get (chars flags) 0) flags skip so_far h (flags_fault c again k) (bundle_met c k)
-            (λ t n o g. good-bundle k t n o g) e good
+        (λ t n o g. good-bundle k t n o g) e good
 
     good-option_word : (o : Option Rule) (id word : Text) (h : Held) → Each IsGood h.rows
         → Each IsGood (option_word o id word h).0.rows
@@ -156,7 +156,7 @@ module _ (IsGood : Row → Type 0) where
 
     good-short_or_plain : (waiting : Waiting) (word : Text) (flags : Option Text) (h : Held)
         → option_map_or (λ flags. flags_fault c again (length flags) flags h.skip
-            (record h { skip = 0 })) flags [] ≡ [] → Each IsGood h.rows
+        (record h { skip = 0 })) flags [] ≡ [] → Each IsGood h.rows
         → Each IsGood (short_or_plain c waiting word flags h).0.rows
     good-short_or_plain waiting word None h e good = good-plain_word waiting word h good
     good-short_or_plain waiting word (Some flags) h e good =
@@ -195,7 +195,7 @@ module _ (IsGood : Row → Type 0) where
     good-step word w h (subcommand name) e good = good
     good-step word w h value e good =
         good-to_positional s.rules s.args_override_self each (stray_fault s)
-            (arg_by_index s.rules w.position) word w h e good
+        (arg_by_index s.rules w.position) word w h e good
 
     good-other : (o : Option Text) (waiting : Waiting) (at : ℕ) (word : Text) (h : Held) → o ≡ None
         → other_fault s o word h ≡ [] → Each IsGood h.rows
@@ -219,13 +219,13 @@ module _ (IsGood : Row → Type 0) where
     good-turn_from : (stopped : Option (Text × List Text)) (w : Walk) (word : Text)
         → (if is_some stopped then [] else or_else (word_fault s [] w.is_trailing w.waiting word w.held)
         (step_fault s w.position (word_met s.rules [] w.is_trailing w.waiting w.position word w.held).0
-            (word_met s.rules [] w.is_trailing w.waiting w.position word w.held).1)) ≡ []
+        (word_met s.rules [] w.is_trailing w.waiting w.position word w.held).1)) ≡ []
         → Each IsGood w.held.rows → Each IsGood (walked_from s.rules [] stopped w word).held.rows
     good-turn_from (Some p) w word e good = good
     good-turn_from None w word e good =
         let met = word_met s.rules [] w.is_trailing w.waiting w.position word w.held in
         good-step word w met.0 met.1 (or-second _ _ e) (good-met w.is_trailing w.waiting w.position word w.held
-            (or-first _ _ e) good)
+        (or-first _ _ e) good)
 
     good-turn : (w : Walk) (word : Text) → turn_fault s [] w word ≡ [] → Each IsGood w.held.rows
         → Each IsGood (walked s.rules [] w word).held.rows
@@ -258,4 +258,4 @@ level-check s words below e =
     (or-second settling (or_else defaults last)
     (or-second below (or_else settling (or_else defaults last))
     (or-second (walk_fault s [] (walk_from nothing_held) words) (or_else below (or_else settling
-        (or_else defaults last))) e)))
+    (or_else defaults last))) e)))

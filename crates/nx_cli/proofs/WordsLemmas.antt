@@ -73,7 +73,7 @@ pair_from (Some p) a b first second =
 pub entered_pair : (words : List Text) (m : ArgMatches) (name : Text) (arguments : List Row)
     → subcommand_rows_of m ≡ subcommand_of navtex words
     → subcommand_name_of m ≡ Some name → option_map (λ p. p.1) (subcommand_rows_of m) ≡ Some arguments
-        → subcommand_of navtex words ≡ Some (name, arguments)
+    → subcommand_of navtex words ≡ Some (name, arguments)
 entered_pair words m name arguments rows name_is arguments_are =
     sym rows ∙ pair_from (subcommand_rows_of m) name arguments (sym (name_of_rows m) ∙ name_is) arguments_are
 
@@ -92,15 +92,15 @@ u-entered : (stop : Option (Text × List Text)) → IsUniform (entered_fault (bu
 u-entered None = u-none
 u-entered (Some p) =
     u-option _ _ [] (IfSome-weaker _ _ _ (λ s no. u-level s [] nothing_held p.1 false [] no u-none)
-        (found_is HasNoHelp (λ s. answers_to p.0 (label_of s)) (built navtex).subs calls_without_help)) u-none
+    (found_is HasNoHelp (λ s. answers_to p.0 (label_of s)) (built navtex).subs calls_without_help)) u-none
 
 -- clap's faults of the words are all help or all no help
 pub faults_are_uniform : (words : List Text) → IsUniform (fault_of navtex words)
 faults_are_uniform words =
     let stop = (walk (built navtex).top.rules (names_of (built navtex)) nothing_held
-        (argument_words navtex words)).stopped in
+    (argument_words navtex words)).stopped in
     u-level (built navtex).top (names_of (built navtex)) nothing_held (argument_words navtex words) (is_some
-        (entered (built navtex) stop))
+    (entered (built navtex) stop))
     (entered_fault (built navtex) stop) refl (u-entered stop)
 
 pub help_not_refused : (words : List Text) → AsksForHelp words → IsRefused words → ⊥
@@ -174,7 +174,7 @@ named_not_refused words call named (inr (inr lacks)) = named-lacks_kind words ca
 pub no_station : (words : List Text) (name : Text) (arguments : List Row) → fault_of navtex words ≡ []
     → subcommand_of navtex words ≡ Some (name, arguments)
     → IsSlotWord name → GivesNumber (codes "MOMENT") 32503679999 arguments → IsNotCalled name arguments
-        → LacksStation words
+    → LacksStation words
 no_station words name arguments taken entered is gives none =
     let moment = number-given _ _ arguments gives in
     record {
@@ -193,7 +193,7 @@ no_station words name arguments taken entered is gives none =
 pub no_kind : (words : List Text) (name : Text) (arguments : List Row) → fault_of navtex words ≡ []
     → subcommand_of navtex words ≡ Some (name, arguments)
     → name ≡ codes "damage" → GivesNumber (codes "FROM") 4294967295 arguments
-        → GivesNumber (codes "COUNT") 4294967295 arguments → IsNotCalled name arguments → LacksKind words
+    → GivesNumber (codes "COUNT") 4294967295 arguments → IsNotCalled name arguments → LacksKind words
 no_kind words name arguments taken entered is gives_from gives_count none =
     let from = number-given _ _ arguments gives_from in
     let count = number-given _ _ arguments gives_count in
@@ -226,19 +226,22 @@ moment-bound : (words : List Text) (call : Call) (named : Names words call) (sta
     → ((rows : List Row) → HasArguments call rows → IsNumber (codes "MOMENT") rows moment) → moment ≤ 32503679999
 moment-bound words call named station moment wants gives = elim (taken-command words
     (command_name call) named.arguments named.taken named.command) [
-  | inl plain ↦ absurd (
-      let same = same_call plain.0 call named.arguments (sym plain.1) (plain.2 named.arguments) named.given in
-      let P : Call → Type 0 = λ c. HasArguments c [] in
-      no_numbers (codes "MOMENT") moment (gives [] (subst P same (plain.2 [])))
-      )
-  | inr (inl slot) ↦
-      let given = number-given _ _ named.arguments slot.1 in
-      let P : ℕ → Type 0 = λ n. n ≤ 32503679999 in
-      subst P (number_once (codes "MOMENT") named.arguments given.0 moment given.1
+      | inl plain ↦ absurd (
+          let same = same_call plain.0 call named.arguments (sym plain.1) (plain.2 named.arguments) named.given in
+          let P : Call → Type 0 = λ c. HasArguments c [] in
+          no_numbers (codes "MOMENT") moment (gives [] (subst P same (plain.2 [])))
+          )
+      | inr (inl slot) ↦
+          let given = number-given _ _ named.arguments slot.1 in
+          let P : ℕ → Type 0 = λ n. n ≤ 32503679999 in
+          subst P (number_once (codes "MOMENT") named.arguments given.0 moment given.1
           (gives named.arguments named.given)) given.2
-  | inr (inr damage) ↦ absurd (elim wants [ inl e ↦ differ _ _ refl (sym damage.0
-      ∙ e) | inr e ↦ differ _ _ refl (sym damage.0 ∙ e) ])
-]
+      | inr (inr damage) ↦ absurd (elim wants [
+        | inl e ↦ differ _ _ refl (sym damage.0
+            ∙ e)
+        | inr e ↦ differ _ _ refl (sym damage.0 ∙ e)
+      ])
+    ]
 
 pub send-bound : (words : List Text) (station : Letter) (moment : ℕ) → Names words (Send station moment)
     → moment ≤ 32503679999
@@ -255,22 +258,22 @@ pub damage-bounds : (words : List Text) (kind : DamageKind) (from count : ℕ) �
     → (from ≤ 4294967295) × (count ≤ 4294967295)
 damage-bounds words kind from count named = elim (taken-command words
     (codes "damage") named.arguments named.taken named.command) [
-  | inl plain ↦ absurd (
-      let same = same_call plain.0 (Damage kind from count) named.arguments (sym plain.1)
+      | inl plain ↦ absurd (
+          let same = same_call plain.0 (Damage kind from count) named.arguments (sym plain.1)
           (plain.2 named.arguments) named.given in
-      let P : Call → Type 0 = λ c. HasArguments c [] in
-      let given = subst P same (plain.2 []) in
-      no_numbers (codes "FROM") from given.1
-      )
-  | inr (inl slot) ↦ absurd (elim slot.0 [ inl e ↦ differ _ _ refl e | inr e ↦ differ _ _ refl e ])
-  | inr (inr damage) ↦
-      let first = number-given _ _ named.arguments damage.1 in
-      let second = number-given _ _ named.arguments damage.2 in
-      let P : ℕ → Type 0 = λ n. n ≤ 4294967295 in (
-        subst P (number_once (codes "FROM") named.arguments first.0 from first.1 named.given.1) first.2,
-        subst P (number_once (codes "COUNT") named.arguments second.0 count second.1 named.given.2) second.2,
-      )
-]
+          let P : Call → Type 0 = λ c. HasArguments c [] in
+          let given = subst P same (plain.2 []) in
+          no_numbers (codes "FROM") from given.1
+          )
+      | inr (inl slot) ↦ absurd (elim slot.0 [ inl e ↦ differ _ _ refl e | inr e ↦ differ _ _ refl e ])
+      | inr (inr damage) ↦
+          let first = number-given _ _ named.arguments damage.1 in
+          let second = number-given _ _ named.arguments damage.2 in
+          let P : ℕ → Type 0 = λ n. n ≤ 4294967295 in (
+            subst P (number_once (codes "FROM") named.arguments first.0 from first.1 named.given.1) first.2,
+            subst P (number_once (codes "COUNT") named.arguments second.0 count second.1 named.given.2) second.2,
+          )
+    ]
 
 -- where clap takes the words, they enter a command
 pub taken_enters : (words : List Text) → fault_of navtex words ≡ [] → is_some (subcommand_of navtex words) ≡ true
@@ -309,7 +312,7 @@ read_as_one words = elim (kinds_cases (fault_of navtex words)) [
 pub named_once : (words : List Text) (a b : Call) → Names words a → Names words b → a ≡ b
 named_once words a b first second =
     let same : Some (command_name a, first.arguments) ≡ Some (command_name b, second.arguments) = sym first.command
-        ∙ second.command in
+    ∙ second.command in
     let is : (command_name a, first.arguments) ≡ (command_name b, second.arguments) = cc in
     let P : List Row → Type 0 = λ rows. HasArguments b rows in
     same_call a b first.arguments (ap (λ (q : Text × List Row). q.0) is) first.given
@@ -320,7 +323,7 @@ pub outcome-named : (words : List Text) (name : Text) (arguments : List Row) (fo
     (unfit : WordsFault) (outcome : Result Call WordsFault)
     → fault_of navtex words ≡ [] → subcommand_of navtex words ≡ Some (name, arguments)
     → IfSome found (λ call. (name ≡ command_name call) × HasArguments call arguments) → outcome ≡ ok_or found unfit
-        → IfOk outcome (Names words)
+    → IfOk outcome (Names words)
 outcome-named words name arguments None unfit outcome taken entered some is = rw is tt
 outcome-named words name arguments (Some call) unfit outcome taken entered some is =
     rw is (record {
@@ -333,18 +336,21 @@ outcome-named words name arguments (Some call) unfit outcome taken entered some 
 pub outcome-refused : (words : List Text) (name : Text) (arguments : List Row) (found : Option Call)
     (unfit : WordsFault) (outcome : Result Call WordsFault)
     → fault_of navtex words ≡ [] → subcommand_of navtex words ≡ Some (name, arguments)
-        → IfNone found (IsNotCalled name arguments)
+    → IfNone found (IsNotCalled name arguments)
     → (name ≡ codes "damage" → unfit ≡ Kind) → (name ≢ codes "damage" → unfit ≡ Station)
-        → outcome ≡ ok_or found unfit → IfErr outcome (ExplainsWords words)
+    → outcome ≡ ok_or found unfit → IfErr outcome (ExplainsWords words)
 outcome-refused words name arguments (Some call) unfit outcome taken entered none kind station is = rw is tt
 outcome-refused words name arguments None unfit outcome taken entered none kind station is = elim
     (lacks_argument words name arguments taken entered none) [
-  | inl lacks ↦
-      let other : name ≢ codes "damage" = λ damage. elim lacks.0 [ inl e ↦ differ _ _ refl (sym e
-          ∙ damage) | inr e ↦ differ _ _ refl (sym e ∙ damage) ] in
-      rw (is, station other) lacks.1
-  | inr lacks ↦ rw (is, kind lacks.0) lacks.1
-]
+      | inl lacks ↦
+          let other : name ≢ codes "damage" = λ damage. elim lacks.0 [
+            | inl e ↦ differ _ _ refl (sym e
+                ∙ damage)
+            | inr e ↦ differ _ _ refl (sym e ∙ damage)
+          ] in
+          rw (is, station other) lacks.1
+      | inr lacks ↦ rw (is, kind lacks.0) lacks.1
+    ]
 
 pub unknown_is_not_help : kind.UnknownArgument ≢ DisplayHelp
 unknown_is_not_help e = absurd (cc)

@@ -1,5 +1,5 @@
 -- A receiver that is fed elements: what it stands after, and what was printed before each of them.
-use Rattle.std.proofs.Common.{◌≡◌, ℕ, ◌+◌, ◌-◌, ◌<◌, ◌≤◌, Bool, List, ◌++◌, Option, None, length, take, drop, refl, sym, ap, ◌∙◌, subst, append-nil, append_assoc, arith, inl, inr, is_some, false, Some, length-drop}
+use Rattle.std.proofs.Common.{◌≡◌, ℕ, ◌+◌, ◌-◌, ◌<◌, ◌≤◌, Bool, List, [], ◌++◌, Option, None, length, take, drop, refl, sym, ap, ◌∙◌, subst, append-nil, append_assoc, arith, inl, inr, is_some, false, Some, length-drop}
 use lib.Seq.{take-add}
 use Rattle.std.proofs.lemmas.Bool.{cases_lt}
 use Rattle.std.proofs.lemmas.List.{length-take, map-append, take-take}

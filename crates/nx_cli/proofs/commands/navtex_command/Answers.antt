@@ -12,4 +12,4 @@ returns c =
     let send = with_one_more _ _ _ _ _ check c.in_ok-send_command.ensures c.in_ok-subcommand-6.ensures in
     let slots = with_one_more _ _ _ _ _ send c.in_ok-slots_command.ensures c.in_ok-subcommand-7.ensures in
     IfOk-weaker c.subcommand-8.result _ _
-        (λ r added. with_one_more _ _ _ _ _ slots c.in_ok-damage_command.ensures added) c.subcommand-8.ensures
+    (λ r added. with_one_more _ _ _ _ _ slots c.in_ok-damage_command.ensures added) c.subcommand-8.ensures

@@ -29,15 +29,23 @@ returns c = record {
     taken = refl;
     arguments = some_words;
     command = refl;
-    given = (refl, number-of (codes "FROM") some_words (codes "144") refl refl, number-of (codes "COUNT") some_words
-        (codes "59") refl refl);
+    given = (
+      refl,
+      number-of (codes "FROM") some_words (codes "144") refl refl,
+      number-of (codes "COUNT") some_words
+          (codes "59") refl refl,
+    );
   };
   widest = λ program. record {
     taken = refl;
     arguments = all_words;
     command = refl;
-    given = (refl, number-of (codes "FROM") all_words (codes "0") refl refl, number-of (codes "COUNT") all_words
-        (codes "4294967295") refl refl);
+    given = (
+      refl,
+      number-of (codes "FROM") all_words (codes "0") refl refl,
+      number-of (codes "COUNT") all_words
+          (codes "4294967295") refl refl,
+    );
   };
   capitals = λ program. record {
     taken = refl;

@@ -17,7 +17,7 @@ returns-in_err-send-in-Send g c =
     let P : Call → Type 0 = λ call. Performs call d outcome in
     subst P (sym c.in-Send.is)
     (tells-err (λ why. call.Send why)
-        (Sends d c.in-Send.station.byte c.in-Send.moment) outcome c.in_err-send-in-Send.field-0.0 p.0 c.in_err-send-in-Send.ensures p.1 p.2)
+    (Sends d c.in-Send.station.byte c.in-Send.moment) outcome c.in_err-send-in-Send.field-0.0 p.0 c.in_err-send-in-Send.ensures p.1 p.2)
 
 pub returns-in_ok-send-in-Send : goal.returns-in_ok-send-in-Send
 returns-in_ok-send-in-Send g c =
@@ -25,12 +25,12 @@ returns-in_ok-send-in-Send g c =
     let P : Call → Type 0 = λ call. Performs call d (Ok tt) in
     subst P (sym c.in-Send.is)
     (tells-ok (λ why. call.Send why)
-        (Sends d c.in-Send.station.byte c.in-Send.moment) c.in_ok-send-in-Send.field-0 c.in_ok-send-in-Send.ensures)
+    (Sends d c.in-Send.station.byte c.in-Send.moment) c.in_ok-send-in-Send.field-0 c.in_ok-send-in-Send.ensures)
 
 pub returns-in_err-damage-in-Damage : goal.returns-in_err-damage-in-Damage
 returns-in_err-damage-in-Damage g c =
     let d = devices g.R.Read.remaining g.W.Write.contents c.args.reader.now c.damage.new.reader c.args.writer.now
-        c.damage.new.writer in
+    c.damage.new.writer in
     let outcome = c.from_residual-in_err-damage-in-Damage.result in
     let p = err_from_is_err_and outcome c.from_residual-in_err-damage-in-Damage.ensures.1 in
     let P : Call → Type 0 = λ call. Performs call d outcome in
@@ -41,7 +41,7 @@ returns-in_err-damage-in-Damage g c =
 pub returns-in_ok-damage-in-Damage : goal.returns-in_ok-damage-in-Damage
 returns-in_ok-damage-in-Damage g c =
     let d = devices g.R.Read.remaining g.W.Write.contents c.args.reader.now c.damage.new.reader c.args.writer.now
-        c.damage.new.writer in
+    c.damage.new.writer in
     let P : Call → Type 0 = λ call. Performs call d (Ok tt) in
     subst P (sym c.in-Damage.is)
     (tells-ok (λ why. call.Damage why) (Damages (record { kind = c.in-Damage.kind; from = c.in-Damage.from; count = c.in-Damage.count }) d)

@@ -9,7 +9,7 @@ pub returns : goal.returns
 returns g c =
     let words = map g.S.AsStr.text c.args.words.now in
     let d = devices g.R.Read.remaining g.W.Write.contents (fresh c.args.input) c.exit_status.new.reader
-        (fresh c.args.output) c.exit_status.new.writer in
+    (fresh c.args.output) c.exit_status.new.writer in
     let exits : Exits words d c.exit_status.result = exits-fresh words g.R.Read.remaining g.W.Write.contents c.args.input c.new-reader.result
     c.exit_status.new.reader c.args.output c.new-writer.result c.exit_status.new.writer c.exit_status.result
     c.new-reader.ensures.inner c.new-reader.ensures.none c.new-writer.ensures.inner c.new-writer.ensures.none c.exit_status.ensures in
@@ -17,9 +17,12 @@ returns g c =
       exits = (c.exit_status.new.reader, c.exit_status.new.writer, exits);
       status = status-exits words d c.exit_status.result exits;
       success = λ is. (c.exit_status.new.reader, c.exit_status.new.writer, success-exits words d c.exit_status.result exits is);
-      called = λ call named is.
-          (c.exit_status.new.reader, c.exit_status.new.writer, success-named words d call named
-              (success-exits words d c.exit_status.result exits is));
+      called = λ call named is. (
+        c.exit_status.new.reader,
+        c.exit_status.new.writer,
+        success-named words d call named
+            (success-exits words d c.exit_status.result exits is),
+      );
       words = λ is. words-exit words d c.exit_status.result exits is;
       refused = λ refused. refused-exits words d c.exit_status.result exits refused;
     }

@@ -15,11 +15,11 @@ returns-clause-some c =
     let text : c.get_str.result ≡ Some c.in_ok-get_str.field-0 = search rules in
     text-some kind_name (codes "KIND") (found_of c.args.arguments.now) c.in_ok-get_str.field-0.now
     (sym c.get_str.ensures ∙ ap (λ (o : Option (Bor Text)). option_map (λ
-        (s : Bor Text). s.now) o) text) c.kind_by_name.result c.kind_by_name.ensures.some
+    (s : Bor Text). s.now) o) text) c.kind_by_name.result c.kind_by_name.ensures.some
 
 pub returns-clause-none : goal.returns-clause-none
 returns-clause-none c =
     let text : c.get_str.result ≡ Some c.in_ok-get_str.field-0 = search rules in
     text-none kind_name (codes "KIND") (found_of c.args.arguments.now) c.in_ok-get_str.field-0.now
     (sym c.get_str.ensures ∙ ap (λ (o : Option (Bor Text)). option_map (λ
-        (s : Bor Text). s.now) o) text) c.kind_by_name.result c.kind_by_name.ensures.none
+    (s : Bor Text). s.now) o) text) c.kind_by_name.result c.kind_by_name.ensures.none

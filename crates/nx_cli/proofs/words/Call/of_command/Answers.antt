@@ -7,26 +7,26 @@ pub returns-in_err-number_in-in-send-clause-none :
     goal.returns-in_err-number_in-in-send-clause-none
 returns-in_err-number_in-in-send-clause-none c =
     if_none c.from_residual-in_err-number_in-in-send.result _ (no_send c.args.word.now (rows_of
-        (found_of c.args.arguments.now)) c.in-send.is
+    (found_of c.args.arguments.now)) c.in-send.is
     (λ station moment is_station is_moment. c.in_err-number_in-in-send.ensures.none moment is_moment))
 
 pub returns-in_err-number_in-in-slots-clause-none :
     goal.returns-in_err-number_in-in-slots-clause-none
 returns-in_err-number_in-in-slots-clause-none c =
     if_none c.from_residual-in_err-number_in-in-slots.result _ (no_slots c.args.word.now (rows_of
-        (found_of c.args.arguments.now)) c.in-slots.is
+    (found_of c.args.arguments.now)) c.in-slots.is
     (λ station moment is_station is_moment. c.in_err-number_in-in-slots.ensures.none moment is_moment))
 
 pub returns-in_err-number_in-in-damage-clause-none :
     goal.returns-in_err-number_in-in-damage-clause-none
 returns-in_err-number_in-in-damage-clause-none c =
     if_none c.from_residual-in_err-number_in-in-damage.result _ (no_damage c.args.word.now (rows_of
-        (found_of c.args.arguments.now)) c.in-damage.is
+    (found_of c.args.arguments.now)) c.in-damage.is
     (λ kind from count is_kind is_from is_count. c.in_err-number_in-in-damage.ensures.none from is_from))
 
 pub returns-in_err-number_in-in-damage-2-clause-none :
     goal.returns-in_err-number_in-in-damage-2-clause-none
 returns-in_err-number_in-in-damage-2-clause-none c =
     if_none c.from_residual-in_err-number_in-in-damage-2.result _ (no_damage c.args.word.now (rows_of
-        (found_of c.args.arguments.now)) c.in-damage.is
+    (found_of c.args.arguments.now)) c.in-damage.is
     (λ kind from count is_kind is_from is_count. c.in_err-number_in-in-damage-2.ensures.none count is_count))
