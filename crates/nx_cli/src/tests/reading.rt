@@ -4,27 +4,20 @@ use super::station::{AIR_FILE_OF_X, MESSAGE_FILE, SEND};
 use super::{AIR_FILE_OF_A, run_on, with_word};
 use std::test::Fail;
 
-// The first, second and ninth word of an emission of A, and A with its first element inverted, by
-// the code table of M.476.
+// The words of an emission of A in their slots (M.625, mode B), with their numbers and names by the
+// code table of M.476.
+const WORDS_OF_A: &[u8] = b"0 DX 66 P2\n1 RX 0F P1\n2 DX 66 P2\n3 RX 0F P1\n4 DX 66 P2\n\
+5 RX 0F P1\n6 DX 66 P2\n7 RX 0F P1\n8 DX 47 A\n9 RX 0F P1\n10 DX 0F P1\n11 RX 0F P1\n\
+12 DX 0F P1\n13 RX 47 A\n14 DX 0F P1\n";
+
 #[test]
 fn shows_words(rt: HostRuntime) {
-    let alloc = rt.alloc();
-    let shown = run_on(alloc, &["navtex", "show"], AIR_FILE_OF_A);
+    let shown = run_on(rt.alloc(), &["navtex", "show"], AIR_FILE_OF_A);
     assert_eq!(rt; shown.status, 0);
     assert!(rt; shown.faults.is_empty());
-    for (index, line) in [
-        (0, b"0 DX 66 P2".as_slice()),
-        (1, b"1 RX 0F P1".as_slice()),
-        (8, b"8 DX 47 A".as_slice()),
-        (15, b"".as_slice()),
-    ] {
-        let mut lines = shown.output.split(|byte| *byte == b'\n');
-        assert_eq!(rt; lines.nth(index), Some(line));
-    }
-    let damaged = run_on(alloc, &["navtex", "damage", "all", "8", "1"], AIR_FILE_OF_A);
-    let shown = run_on(alloc, &["navtex", "show"], &damaged.output);
-    let mut lines = shown.output.split(|byte| *byte == b'\n');
-    assert_eq!(rt; lines.nth(8), Some(b"8 DX 46 wrong".as_slice()));
+    assert_eq!(rt; shown.output.as_slice(), WORDS_OF_A);
+    let wrong = run_on(rt.alloc(), &["navtex", "show"], b"B 0110001\n");
+    assert_eq!(rt; wrong.output.as_slice(), b"0 DX 46 wrong\n".as_slice());
 }
 
 #[test]
