@@ -175,6 +175,33 @@ fn a_file_is_sent(rt: HostRuntime) -> Result<(), Fail> {
     Ok(())
 }
 
+/// Of the 59 words from slot 144 on, 30 have even slots; the damage is undone by the same once more.
+#[test]
+fn damage_is_counted(rt: HostRuntime) -> Result<(), Fail> {
+    let (_, file) = sent(rt.alloc(), FILE, b'E', 1_735_689_600)?;
+    let mut once = Counting::new(Vec::new(rt.alloc()));
+    let count = damage(
+        &mut Counting::new(file.as_slice()),
+        &mut once,
+        DamageKind::Dx,
+        144,
+        59,
+    );
+    assert_eq!(rt; count, Ok(30));
+    let damaged = once.into_inner();
+    let mut twice = Counting::new(Vec::new(rt.alloc()));
+    let count = damage(
+        &mut Counting::new(damaged.as_slice()),
+        &mut twice,
+        DamageKind::Dx,
+        144,
+        59,
+    );
+    assert_eq!(rt; count, Ok(30));
+    assert_eq!(rt; twice.into_inner(), file);
+    Ok(())
+}
+
 #[test]
 fn files_are_refused(rt: HostRuntime) -> Result<(), Fail> {
     let cases: [(&[u8], u8, u64, &str); 10] = [
