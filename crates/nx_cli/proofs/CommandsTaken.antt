@@ -11,7 +11,7 @@ use Rattle.nx_cli.proofs.EachFound.{Each, found_is}
 use Rattle.nx_cli.proofs.NumbersGiven.{GivesNumber, IsNumeric, gets, uses-other, uses-text, uses-wanted}
 use Rattle.nx_cli.proofs.RowsKept.{UsesWell, or-first, or-second}
 use Rattle.nx_cli.specs.declared.words.Call.{Call}
-use Rattle.nx_cli.specs.declared.words.Call.TheVariants.{Check, Code, Decode, Encode, Show}
+use Rattle.nx_cli.specs.declared.words.Call.TheVariants.{Check, Code, Decode, Encode, Listen, Show}
 use Rattle.nx_cli.specs.Words.{HasArguments, command_name, navtex, number_rule, text_rule}
 
 -- the arguments of a command that wants a station and a moment, and of one that wants words, as they are built
@@ -99,30 +99,33 @@ commands-are = (
         (
           (λ words e. inl (Check, refl, λ rows. tt)),
           (
-            (λ words e. inr (inl (
-              inl refl,
-              gets _ _ _ slot_rules-moment (refl, (refl, (refl, tt)))
-                  (λ rows checked. second_wanted (is_given (codes "STATION") rows) (is_given
-                  (codes "MOMENT") rows) checked) words e,
-            ))),
+            (λ words e. inl (Listen, refl, λ rows. tt)),
             (
               (λ words e. inr (inl (
-                inr refl,
+                inl refl,
                 gets _ _ _ slot_rules-moment (refl, (refl, (refl, tt)))
                     (λ rows checked. second_wanted (is_given (codes "STATION") rows) (is_given
                     (codes "MOMENT") rows) checked) words e,
               ))),
               (
-                (λ words e. inr (inr (
-                  refl,
-                  gets _ _ _ damage_rules-from (refl, (refl, (refl, (refl, tt))))
-                      (λ rows checked. (both_wanted (is_given (codes "KIND") rows) (is_given (codes "FROM") rows)
-                      (is_given (codes "COUNT") rows) checked).0) words e,
-                  gets _ _ _ damage_rules-count (refl, (refl, (refl, (refl, tt))))
-                      (λ rows checked. (both_wanted (is_given (codes "KIND") rows) (is_given (codes "FROM") rows)
-                      (is_given (codes "COUNT") rows) checked).1) words e,
+                (λ words e. inr (inl (
+                  inr refl,
+                  gets _ _ _ slot_rules-moment (refl, (refl, (refl, tt)))
+                      (λ rows checked. second_wanted (is_given (codes "STATION") rows) (is_given
+                      (codes "MOMENT") rows) checked) words e,
                 ))),
-                tt,
+                (
+                  (λ words e. inr (inr (
+                    refl,
+                    gets _ _ _ damage_rules-from (refl, (refl, (refl, (refl, tt))))
+                        (λ rows checked. (both_wanted (is_given (codes "KIND") rows) (is_given (codes "FROM") rows)
+                        (is_given (codes "COUNT") rows) checked).0) words e,
+                    gets _ _ _ damage_rules-count (refl, (refl, (refl, (refl, tt))))
+                        (λ rows checked. (both_wanted (is_given (codes "KIND") rows) (is_given (codes "FROM") rows)
+                        (is_given (codes "COUNT") rows) checked).1) words e,
+                  ))),
+                  tt,
+                ),
               ),
             ),
           ),

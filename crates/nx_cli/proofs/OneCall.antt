@@ -14,7 +14,7 @@ use Rattle.clap.proofs.ValueTestLemmas.{Accepts-accepts, accepts-Accepts}
 use Rattle.nx_code.specs.Characters.{IsCapital}
 use Rattle.nx_envelope.specs.declared.letter.Letter.{Letter}
 use Rattle.nx_cli.specs.declared.words.Call.{Call}
-use Rattle.nx_cli.specs.declared.words.Call.TheVariants.{Check, Code, Damage, Decode, Encode, Send, Show, Slots}
+use Rattle.nx_cli.specs.declared.words.Call.TheVariants.{Check, Code, Damage, Decode, Encode, Listen, Send, Show, Slots}
 use Rattle.nx_station.specs.declared.damaging.DamageKind.{DamageKind}
 use Rattle.nx_station.specs.declared.damaging.DamageKind.TheVariants.{Dx, Rx, All}
 use Rattle.nx_cli.proofs.EachFound.{Each}
@@ -237,7 +237,7 @@ abbrev entries : List Entry
 entries =
     (codes "decode", λ rows. Some Decode) ∷ (codes "encode", λ rows. Some Encode) ∷
     (codes "code", λ rows. Some Code) ∷ (codes "show", λ rows. Some Show)
-    ∷ (codes "check", λ rows. Some Check) ∷ (codes "send", λ rows. slot_call (λ s m. Send s m) rows) ∷
+    ∷ (codes "check", λ rows. Some Check) ∷ (codes "listen", λ rows. Some Listen) ∷ (codes "send", λ rows. slot_call (λ s m. Send s m) rows) ∷
     (codes "slots", λ rows. slot_call (λ s m. Slots s m) rows)
     ∷ (codes "damage", λ rows. damage_call rows) ∷ []
 
@@ -260,10 +260,13 @@ entries-sound = (
         (
           (λ rows. (refl, tt)),
           (
-            (λ rows. slot_call-is (codes "send") (λ s m. Send s m) rows (λ s m is_s is_m. (refl, (is_s, is_m)))),
+            (λ rows. (refl, tt)),
             (
-              (λ rows. slot_call-is (codes "slots") (λ s m. Slots s m) rows (λ s m is_s is_m. (refl, (is_s, is_m)))),
-              ((λ rows. damage_call-is rows), tt),
+              (λ rows. slot_call-is (codes "send") (λ s m. Send s m) rows (λ s m is_s is_m. (refl, (is_s, is_m)))),
+              (
+                (λ rows. slot_call-is (codes "slots") (λ s m. Slots s m) rows (λ s m is_s is_m. (refl, (is_s, is_m)))),
+                ((λ rows. damage_call-is rows), tt),
+              ),
             ),
           ),
         ),
@@ -292,6 +295,7 @@ call_in-only Encode rows given = refl
 call_in-only Code rows given = refl
 call_in-only Show rows given = refl
 call_in-only Check rows given = refl
+call_in-only Listen rows given = refl
 call_in-only (Send station moment) rows given = slot_call-only (λ s m. Send s m) rows station moment given.0 given.1
 call_in-only (Slots station moment) rows given = slot_call-only (λ s m. Slots s m) rows station moment given.0 given.1
 call_in-only (Damage kind from count) rows given = damage_call-only rows kind from count given.0 given.1 given.2

@@ -5,6 +5,8 @@ use Rattle.nx_cli.specs.declared.fault.CallFault.{CallFault}
 use Rattle.nx_cli.specs.declared.fault.CallFault.TheVariants as call
 use Rattle.nx_cli.specs.declared.fault.Fault.{Fault}
 use Rattle.nx_cli.specs.declared.fault.Fault.TheVariants as fault
+use Rattle.nx_receiver.specs.declared.listen_fault.ListenFault.{ListenFault}
+use Rattle.nx_receiver.specs.declared.listen_fault.ListenFault.TheVariants as listen
 use Rattle.nx_station.specs.declared.fault.CheckFault.{CheckFault}
 use Rattle.nx_station.specs.declared.fault.CheckFault.TheVariants as check
 use Rattle.nx_station.specs.declared.fault.DamageFault.{DamageFault}
@@ -16,7 +18,7 @@ use Rattle.nx_cli.specs.declared.words.Call.{Call}
 use Rattle.nx_fec.specs.declared.fault.RunFault.{RunFault}
 use Rattle.nx_fec.specs.declared.fault.RunFault.TheVariants as run
 use Rattle.nx_cli.specs.Program.{Ends, Exits, Performs, Succeeds, Tells, fresh}
-use Rattle.nx_cli.specs.Status.{IsStatus, call_status, check_status, damage_status, fault_status, run_status, send_status, status_of}
+use Rattle.nx_cli.specs.Status.{IsStatus, call_status, check_status, damage_status, listen_status, fault_status, run_status, send_status, status_of}
 use Rattle.nx_fec.specs.Transfers.{Devices, devices}
 use Rattle.nx_fec.specs.Devices.{CountedDevice}
 use Rattle.nx_cli.specs.Words.{IsRefused, Names}
@@ -71,6 +73,18 @@ check-status (check.Emission (emission.Unpaired position)) = inr refl
 check-status (check.Emission emission.BadEnvelope) = inr refl
 check-status (check.Emission (emission.Memory want)) = inl refl
 
+listen-status : (why : ListenFault) → (listen_status why ≡ 1) ⊎ (listen_status why ≡ 2)
+listen-status listen.Read = inl refl
+listen-status listen.AirTooLong = inr refl
+listen-status (listen.LineLong line) = inr refl
+listen-status (listen.LineCut line) = inr refl
+listen-status (listen.BadLine line) = inr refl
+listen-status (listen.NoMoment line) = inr refl
+listen-status (listen.Moment line why) = inr refl
+listen-status (listen.Vital line subject) = inr refl
+listen-status (listen.Write written) = inl refl
+listen-status (listen.Memory want) = inl refl
+
 damage-status : (why : DamageFault) → (damage_status why ≡ 1) ⊎ (damage_status why ≡ 2)
 damage-status damage.Read = inl refl
 damage-status damage.AirTooLong = inr refl
@@ -83,6 +97,7 @@ call-status : (why : CallFault) → (call_status why ≡ 1) ⊎ (call_status why
 call-status (call.Run why) = run-status why
 call-status (call.Send why) = send-status why
 call-status (call.Check why) = check-status why
+call-status (call.Listen why) = listen-status why
 call-status (call.Damage why) = damage-status why
 call-status call.NoSlot = inr refl
 

@@ -26,7 +26,7 @@ use Rattle.nx_cli.proofs.CommandsTaken.{IsPlainWord, IsSlotWord, taken-command}
 use Rattle.nx_cli.proofs.NumbersGiven.{GivesNumber, number-given}
 use Rattle.nx_cli.proofs.OneCall.{IsNotCalled, call_or_none, differ, number_once, same_call}
 use Rattle.nx_envelope.specs.declared.letter.Letter.{Letter}
-use Rattle.nx_cli.specs.declared.words.Call.TheVariants.{Check, Code, Damage, Decode, Encode, Send, Show, Slots}
+use Rattle.nx_cli.specs.declared.words.Call.TheVariants.{Check, Code, Damage, Decode, Encode, Listen, Send, Show, Slots}
 use Rattle.nx_cli.proofs.FaultKinds.{HasNoHelp, IsUniform, kinds_cases, level-nil, u-level, u-none, u-option, uniform_excludes}
 
 pub navtex-is_simple : is_simple navtex ≡ true
@@ -82,7 +82,7 @@ none_among [] k e among = among
 none_among (x ∷ xs) k e among = absurd (cc)
 
 calls_without_help : Each HasNoHelp (built navtex).subs
-calls_without_help = (refl, (refl, (refl, (refl, (refl, (refl, (refl, (refl, tt))))))))
+calls_without_help = (refl, (refl, (refl, (refl, (refl, (refl, (refl, (refl, (refl, tt)))))))))
 
 IfSome-weaker : {X : Type 0} (o : Option X) (P Q : X → Type 0) → ((x : X) → P x → Q x) → IfSome o P → IfSome o Q
 IfSome-weaker None P Q weaker some = tt
@@ -129,6 +129,7 @@ has-station Encode arguments wants given = absurd (elim wants [ inl e ↦ differ
 has-station Code arguments wants given = absurd (elim wants [ inl e ↦ differ _ _ refl e | inr e ↦ differ _ _ refl e ])
 has-station Show arguments wants given = absurd (elim wants [ inl e ↦ differ _ _ refl e | inr e ↦ differ _ _ refl e ])
 has-station Check arguments wants given = absurd (elim wants [ inl e ↦ differ _ _ refl e | inr e ↦ differ _ _ refl e ])
+has-station Listen arguments wants given = absurd (elim wants [ inl e ↦ differ _ _ refl e | inr e ↦ differ _ _ refl e ])
 has-station (Send station moment) arguments wants given = (station, given.0)
 has-station (Slots station moment) arguments wants given = (station, given.0)
 has-station (Damage kind from count) arguments wants given = absurd
@@ -141,6 +142,7 @@ has-kind Encode arguments wants given = absurd (differ _ _ refl wants)
 has-kind Code arguments wants given = absurd (differ _ _ refl wants)
 has-kind Show arguments wants given = absurd (differ _ _ refl wants)
 has-kind Check arguments wants given = absurd (differ _ _ refl wants)
+has-kind Listen arguments wants given = absurd (differ _ _ refl wants)
 has-kind (Send station moment) arguments wants given = absurd (differ _ _ refl wants)
 has-kind (Slots station moment) arguments wants given = absurd (differ _ _ refl wants)
 has-kind (Damage kind from count) arguments wants given = (kind, given.0)

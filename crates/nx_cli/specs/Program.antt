@@ -8,6 +8,7 @@ use Rattle.std.specs.Fmt.{decimal}
 use Rattle.nx_fec.specs.Devices.{CountedDevice, WroteSome}
 use Rattle.nx_fec.specs.Runs.{Decodes, Encodes, Shows}
 use Rattle.nx_fec.specs.TableText.{table_text}
+use Rattle.nx_receiver.specs.Listen.{Listens}
 use Rattle.nx_station.specs.Checking.{Checks}
 use Rattle.nx_station.specs.Damage.{Damages}
 use Rattle.nx_station.specs.Runs.{Sends}
@@ -16,7 +17,7 @@ use Rattle.nx_fec.specs.declared.fault.RunFault.{RunFault}
 use Rattle.nx_fec.specs.declared.fault.RunFault.TheVariants as run
 use Rattle.nx_station.specs.Slots.{HasNoSlot, IsNextSlot}
 use Rattle.nx_cli.specs.declared.words.Call.{Call}
-use Rattle.nx_cli.specs.declared.words.Call.TheVariants.{Check, Code, Damage, Decode, Encode, Send, Show, Slots}
+use Rattle.nx_cli.specs.declared.words.Call.TheVariants.{Check, Code, Damage, Decode, Encode, Listen, Send, Show, Slots}
 use Rattle.nx_cli.specs.declared.fault.CallFault.{CallFault}
 use Rattle.nx_cli.specs.declared.fault.CallFault.TheVariants as call
 use Rattle.nx_cli.specs.declared.fault.Fault.{Fault}
@@ -91,6 +92,7 @@ Performs Code d outcome =
     (WritesText (λ text. text ≡ table_text) d.contents d.writer d.writer_after) outcome
 Performs Show d outcome = Tells (λ why. call.Run why) (Shows d) outcome
 Performs Check d outcome = Tells (λ why. call.Check why) (Checks d) outcome
+Performs Listen d outcome = Tells (λ why. call.Listen why) (Listens d) outcome
 Performs (Send station moment) d outcome =
     Tells (λ why. call.Send why) (Sends d station.byte moment) outcome
 Performs (Slots station moment) d outcome =

@@ -2,6 +2,8 @@
 use Rattle.std.specs.Prelude.{◌≡◌, ◌⊎◌, ℕ, Result, Ok, Err}
 use Rattle.nx_fec.specs.declared.fault.RunFault.{RunFault}
 use Rattle.nx_fec.specs.declared.fault.RunFault.TheVariants as run
+use Rattle.nx_receiver.specs.declared.listen_fault.ListenFault.{ListenFault}
+use Rattle.nx_receiver.specs.declared.listen_fault.ListenFault.TheVariants as listen
 use Rattle.nx_station.specs.declared.fault.CheckFault.{CheckFault}
 use Rattle.nx_station.specs.declared.fault.CheckFault.TheVariants as check
 use Rattle.nx_station.specs.declared.fault.DamageFault.{DamageFault}
@@ -32,6 +34,12 @@ check_status (check.Run why) = run_status why
 check_status (check.Emission (emission.Memory want)) = 1
 check_status (check.Emission _) = 2
 
+abbrev pub listen_status : ListenFault → ℕ
+listen_status listen.Read = 1
+listen_status (listen.Write written) = 1
+listen_status (listen.Memory want) = 1
+listen_status _ = 2
+
 abbrev pub damage_status : DamageFault → ℕ
 damage_status damage.Read = 1
 damage_status (damage.Write written) = 1
@@ -41,6 +49,7 @@ abbrev pub call_status : CallFault → ℕ
 call_status (call.Run why) = run_status why
 call_status (call.Send why) = send_status why
 call_status (call.Check why) = check_status why
+call_status (call.Listen why) = listen_status why
 call_status (call.Damage why) = damage_status why
 call_status call.NoSlot = 2
 

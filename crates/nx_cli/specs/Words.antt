@@ -12,7 +12,7 @@ use Rattle.clap.specs.declared.error.kind.ErrorKind.{ErrorKind}
 use Rattle.clap.specs.declared.error.kind.ErrorKind.TheVariants.{DisplayHelp, OutOfMemory}
 use Rattle.nx_envelope.specs.declared.letter.Letter.{Letter}
 use Rattle.nx_cli.specs.declared.words.Call.{Call}
-use Rattle.nx_cli.specs.declared.words.Call.TheVariants.{Check, Code, Damage, Decode, Encode, Send, Show, Slots}
+use Rattle.nx_cli.specs.declared.words.Call.TheVariants.{Check, Code, Damage, Decode, Encode, Listen, Send, Show, Slots}
 use Rattle.nx_cli.specs.declared.words.WordsFault.{WordsFault}
 use Rattle.nx_cli.specs.declared.words.WordsFault.TheVariants.{Help, Refused, Station, Kind, Memory}
 use Rattle.nx_station.specs.declared.damaging.DamageKind.{DamageKind}
@@ -25,6 +25,7 @@ command_name Encode = codes "encode"
 command_name Code = codes "code"
 command_name Show = codes "show"
 command_name Check = codes "check"
+command_name Listen = codes "listen"
 command_name (Send station moment) = codes "send"
 command_name (Slots station moment) = codes "slots"
 command_name (Damage kind from count) = codes "damage"
@@ -71,7 +72,7 @@ bare =
 abbrev pub commands : List App
 commands =
     plain (codes "decode") ∷ plain (codes "encode") ∷ plain (codes "code")
-    ∷ plain (codes "show") ∷ plain (codes "check")
+    ∷ plain (codes "show") ∷ plain (codes "check") ∷ plain (codes "listen")
     ∷ of_slot (codes "send") ∷ of_slot (codes "slots") ∷ of_words (codes "damage") ∷ []
 
 -- the command tree of the program
@@ -106,6 +107,7 @@ HasArguments Encode arguments = ⊤
 HasArguments Code arguments = ⊤
 HasArguments Show arguments = ⊤
 HasArguments Check arguments = ⊤
+HasArguments Listen arguments = ⊤
 HasArguments (Send station moment) arguments =
     IsStation arguments station × IsNumber (codes "MOMENT") arguments moment
 HasArguments (Slots station moment) arguments =

@@ -129,6 +129,34 @@ fn check_command<'a>(alloc: Global) -> Command<'a>
         .long_about(CHECK_HELP)
 }
 
+const LISTEN_HELP: &str = "Print the log of an air file.
+
+Reads an air file of at most 268435456 bytes from standard input, as long as it lasts. Its lines,
+each ended by a line feed, are:
+  B 0110011     elements in the order of sending, 1 to 512 of them: 1 is B, 0 is Y
+  T 1735692000  the moment from here on, in seconds since 1970-01-01 00:00:00 UTC; the first B
+                comes after a T, and no T is before the last one
+  RS E          refuse station E from here on; AS E accepts it again
+  RJ C          refuse subject C from here on, which A, B, D and L can't be; AJ C accepts it again
+
+Writes an entry to standard output for each copy of a message that is printed, as soon as the line
+with its last element has come: a head, the text, and an empty line. The head has the identity, the
+time of the copy, how it ended (full, cut or long), its errors and its characters. A message that
+was printed well within the last 66 hours is not printed again, but for the number 00.
+
+Example:
+  $ printf '#A01\\nTEST\\n;\\n' | navtex send E 1735689600 | navtex listen
+  [EA01 2025-01-01 00:40:00 full 0/5]
+  TEST";
+
+fn listen_command<'a>(alloc: Global) -> Command<'a>
+    ensures { IsBuiltAs (plain (codes "listen")) result }
+{
+    Command::new(alloc, "listen")
+        .about("Print the log of an air file")
+        .long_about(LISTEN_HELP)
+}
+
 /// A command that takes a station and a moment.
 fn slot_command<'a>(alloc: Global, word: &'a str) -> Result<Command<'a>, AllocError>
     ensures { IfOk result (IsBuiltAs (of_slot word.entry.now)) }
@@ -256,6 +284,7 @@ pub fn navtex_command<'a>(alloc: Global) -> Result<Command<'a>, AllocError>
         .subcommand(code_command(alloc))?
         .subcommand(show_command(alloc))?
         .subcommand(check_command(alloc))?
+        .subcommand(listen_command(alloc))?
         .subcommand(send_command(alloc)?)?
         .subcommand(slots_command(alloc)?)?
         .subcommand(damage_command(alloc)?)

@@ -2,10 +2,11 @@
 
 ghost use Rattle.std.specs.Prelude.{◌≡◌};
 ghost use Rattle.nx_cli.specs.Status.{call_status, fault_status};
-ghost use Rattle.nx_cli.specs.declared.fault.CallFault.TheVariants.{Check, Damage, Run, Send};
+ghost use Rattle.nx_cli.specs.declared.fault.CallFault.TheVariants.{Check, Damage, Listen, Run, Send};
 ghost use Rattle.nx_cli.specs.declared.fault.Fault.TheVariants.{Call};
 
 use nx_fec::{Counting, RunFault};
+use nx_receiver::ListenFault;
 use nx_station::{CheckFault, DamageFault, EmissionFault, SendRunFault};
 use std::io;
 use std::io::Write;
@@ -30,6 +31,9 @@ pub enum CallFault {
     /// An air file was not checked, or it is no emission.
     #[error(transparent)]
     Check(CheckFault),
+    /// An air file was not listened to, or not to its end.
+    #[error(transparent)]
+    Listen(ListenFault),
     /// An air file was not copied whole.
     #[error(transparent)]
     Damage(DamageFault),
@@ -53,6 +57,9 @@ impl CallFault {
                     RunFault::Read | RunFault::Write { written: _ } | RunFault::Memory(_),
                 )
                 | CheckFault::Emission(EmissionFault::Memory(_)),
+            ) => DEVICE_OR_MEMORY,
+            CallFault::Listen(
+                ListenFault::Read | ListenFault::Write { written: _ } | ListenFault::Memory(_),
             ) => DEVICE_OR_MEMORY,
             CallFault::Damage(DamageFault::Read | DamageFault::Write { written: _ }) =>
                 DEVICE_OR_MEMORY,
@@ -133,6 +140,14 @@ impl From<CheckFault> for CallFault {
 
     fn from(why: CheckFault) -> CallFault {
         CallFault::Check(why)
+    }
+}
+
+impl From<ListenFault> for CallFault {
+    ghost from_gives = { λ why fault. fault ≡ Listen why };
+
+    fn from(why: ListenFault) -> CallFault {
+        CallFault::Listen(why)
     }
 }
 

@@ -5,7 +5,7 @@ ghost use Rattle.clap.specs.Words.{Text};
 ghost use Rattle.nx_envelope.specs.declared.letter.Letter.{Letter};
 ghost use Rattle.nx_cli.specs.Words.{AsksForHelp, IsRefused, IsRefusedByClap, LacksKind, LacksStation, Names};
 ghost use Rattle.nx_cli.specs.declared.words.Call.{Call};
-ghost use Rattle.nx_cli.specs.declared.words.Call.TheVariants.{Check, Code, Damage, Decode, Encode, Send, Show, Slots};
+ghost use Rattle.nx_cli.specs.declared.words.Call.TheVariants.{Check, Code, Damage, Decode, Encode, Listen, Send, Show, Slots};
 ghost use Rattle.nx_station.specs.declared.damaging.DamageKind.{DamageKind};
 ghost use Rattle.nx_station.specs.declared.damaging.DamageKind.TheVariants.{All, Dx};
 
@@ -29,6 +29,7 @@ pub fn words_in_examples()
     ensures code { (program : Text) → Names (program ∷ codes "code" ∷ []) Code }
     ensures show { (program : Text) → Names (program ∷ codes "show" ∷ []) Show }
     ensures check { (program : Text) → Names (program ∷ codes "check" ∷ []) Check }
+    ensures listen { (program : Text) → Names (program ∷ codes "listen" ∷ []) Listen }
     ensures help { (program : Text) → AsksForHelp (program ∷ codes "--help" ∷ []) }
     ensures short_help { (program : Text) → AsksForHelp (program ∷ codes "-h" ∷ []) }
     ensures help_of_call { (program : Text)

@@ -31,6 +31,8 @@ pub enum Call {
     Show,
     /// Print the messages of an air file that is exactly an emission.
     Check,
+    /// Prints the log of an air file.
+    Listen,
     /// Write messages as an air file, to be sent in the station's next slot.
     Send {
         /// The station whose messages they are.
@@ -113,6 +115,7 @@ impl Call {
             "code" => Call::Code,
             "show" => Call::Show,
             "check" => Call::Check,
+            "listen" => Call::Listen,
             "send" => Call::Send {
                 station: station_in(arguments)?,
                 moment: number_in(arguments, "MOMENT")?,

@@ -111,6 +111,8 @@ impl Scanner {
 
     /// Takes the next byte, and says whether it ended a line, which then is the latest. After a fault, which is the
     /// file's first whatever bytes follow, the scanner is unchanged.
+    // Inlined always: it runs for each byte, from two callers.
+    #[inline(always)]
     pub fn push(&mut self, byte: u8) -> Result<bool, LineFault>
         ensures bytes { (limit : ℕ) (bytes : List ℕ) (lines : List Line) → Scans limit self.old bytes lines →
             MatchResult result
@@ -201,7 +203,9 @@ impl Scanner {
     {
         if self.ended.is_some() {
             self.kept.clear();
-            self.elements.clear();
+            if !self.elements.is_empty() {
+                self.elements.clear();
+            }
             self.ended = None;
         }
         if self.kept.len() == MAX_LINE_BYTES {

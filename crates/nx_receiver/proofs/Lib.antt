@@ -15,6 +15,12 @@ pub mod WatchBits
 pub mod WatchWords
 pub mod WatchHears
 pub mod WatchLoops
+pub mod ListenerLemmas
+pub mod ListenerLines
+pub mod ListenerEnds
+pub mod ListenMoments
+pub mod ListenRuns
+pub mod ListenOutcomes
 pub mod OnceLemmas
 pub mod LogLemmas
 pub mod ApartLemmas

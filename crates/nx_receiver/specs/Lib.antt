@@ -12,3 +12,6 @@ pub mod Example
 pub mod Worked
 pub mod Sending
 pub mod OnceHeard
+pub mod Listen
+pub mod Listener
+pub mod ListenerBegins

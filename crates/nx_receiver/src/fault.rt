@@ -18,7 +18,7 @@ pub enum ReceiverFault {
 #[derive(Clone, Copy, Debug, Drop, PartialEq, Eq, Error)]
 pub enum MomentFault {
     /// The moment is past 2999-12-31 23:59:59 UTC.
-    #[error("moment {given} is past the last one")]
+    #[error("moment {given} is out of range")]
     Range { given: u64 },
     /// The moment is before the last one that was given.
     #[error("moment {given} is before {last}")]

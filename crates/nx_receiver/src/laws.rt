@@ -19,6 +19,7 @@ ghost use Rattle.nx_receiver.specs.Receiver.{Receiving, Stands, fed, joined};
 ghost use Rattle.nx_receiver.specs.Tagged.{TaggedCopy};
 ghost use Rattle.nx_receiver.specs.Worked.{at_its_slot, damaged_words, heard_elements, sent_words, worked_log};
 
+pub mod listening;
 pub mod once;
 
 use nx_memory::Recall;

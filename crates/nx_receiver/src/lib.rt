@@ -5,6 +5,8 @@ mod entry;
 mod fault;
 mod judging;
 pub mod laws;
+mod listen_fault;
+mod listening;
 mod lock_reader;
 mod over;
 mod receiver;
@@ -14,6 +16,8 @@ mod writing;
 pub use entry::Entry;
 pub use fault::{MomentFault, ReceiverFault};
 pub use judging::judge;
+pub use listen_fault::ListenFault;
+pub use listening::{Report, listen};
 pub use receiver::Receiver;
 pub use writing::{MAX_ENTRY, entry_text};
 

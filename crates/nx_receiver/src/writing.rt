@@ -36,13 +36,21 @@ pub fn entry_text<W: Write>(entry: &Entry, writer: &mut Counting<W>) -> Result<(
     ensures once { writer.new.failures ≤ 1 }
     ensures none { OnOk result (writer.new.failures ≡ 0) }
 {
+    write_out(writer, &entry_bytes(entry))
+}
+
+/// The bytes of an entry as it stands in the log. The moment is at most the last one.
+pub(crate) fn entry_bytes(entry: &Entry) -> ArrayVec<u8, MAX_ENTRY>
+    requires { entry.now.moment ≤ last_moment }
+    ensures { IsEntry (copy_of entry.now) result.items }
+{
     let mut bytes = head_of(entry);
     append(&mut bytes, &entry.text);
     if !is_of_lines(&entry.text) {
         bytes.push(NEWLINE);
     }
     bytes.push(NEWLINE);
-    write_out(writer, &bytes)
+    bytes
 }
 
 /// The line that heads an entry.

@@ -66,3 +66,50 @@ fn refuses_what_is_not_sent(rt: HostRuntime) -> Result<(), Fail> {
     }
     Ok(())
 }
+
+#[test]
+fn listens_to_what_was_sent(rt: HostRuntime) {
+    let alloc = rt.alloc();
+    let sent = run_on(alloc, &SEND, MESSAGE_FILE);
+    let heard = run_on(alloc, &["navtex", "listen"], &sent.output);
+    assert_eq!(rt; heard.status, 0);
+    assert!(rt; heard.faults.is_empty());
+    assert_eq!(rt;
+        heard.output.as_slice(),
+        b"[EA01 2025-01-01 00:40:00 full 0/5]\nTEST\n\n".as_slice()
+    );
+    let half = run_on(
+        alloc,
+        &["navtex", "damage", "dx", "144", "59"],
+        &sent.output,
+    );
+    let heard = run_on(alloc, &["navtex", "listen"], &half.output);
+    assert_eq!(rt;
+        heard.output.as_slice(),
+        b"[EA01 2025-01-01 00:40:00 full 0/5]\nTEST\n\n".as_slice()
+    );
+}
+
+#[test]
+fn fault_lines_of_listen(rt: HostRuntime) {
+    let cases: [(&[u8], &[u8]); 6] = [
+        (b"B 0\n", b"navtex: line 1 has elements before any moment\n"),
+        (b"T 5\nT 4\n", b"navtex: line 2: moment 4 is before 5\n"),
+        (
+            b"T 32503680000\n",
+            b"navtex: line 1: moment 32503680000 is out of range\n",
+        ),
+        (
+            b"T 0\nRJ L\n",
+            b"navtex: line 2: subject L can't be refused\n",
+        ),
+        (b"T 05\n", b"navtex: line 1 is not understood\n"),
+        (b"T 5", b"navtex: line 1 has no end\n"),
+    ];
+    for (file, line) in cases {
+        let ended = run_on(rt.alloc(), &["navtex", "listen"], file);
+        assert_eq!(rt; ended.status, 2);
+        assert!(rt; ended.output.is_empty());
+        assert_eq!(rt; ended.faults.as_slice(), line);
+    }
+}

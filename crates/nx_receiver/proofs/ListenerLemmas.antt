@@ -1,0 +1,210 @@
+-- What a line does to a listener: how it stands after one more line, after some more elements, and after the end.
+use Rattle.std.proofs.Common.{◌≡◌, ◌||◌, ℕ, ◌+◌, ◌-◌, ◌<◌, ◌≤◌, Bool, true, false, IsTrue, List, [], ◌∷◌, ◌++◌, Option, Some, None, Ok, IsErr, length, take, take-append-drop, drop, refl, sym, ap, ◌∙◌, subst, append-nil, append_assoc, arith, length-append, length-drop}
+use lib.Seq.{take-add}
+use Rattle.std.proofs.lemmas.List.{length-take-le, map-append}
+use Rattle.std.proofs.lemmas.List.Concat.{flat_map-append}
+use Rattle.std.proofs.lemmas.List.Folds.{list_any-append}
+use Rattle.nx_fec.specs.AirFile.{Line, moment, elements}
+use Rattle.nx_memory.specs.declared.entry.MemoryEntry.{MemoryEntry}
+use Rattle.nx_memory.specs.Ring.{RingMemory}
+use Rattle.nx_receiver.specs.Events.{Event, bits_of, element}
+use Rattle.nx_receiver.specs.Listen.{AreTaken, AreTakenAfter, IsTakenAfter, at_zero, events_of, has_moment, in_force_after, is_moment, line_events}
+use Rattle.nx_receiver.specs.Listener.{BeginsListening, BeginsLog, HearsEvents, HearsLog, IsListening, count_of}
+use Rattle.nx_receiver.specs.ListenerBegins.{printed-so_far}
+use Rattle.nx_receiver.specs.Log.{IsEntry, IsLog}
+use Rattle.nx_receiver.specs.Receiver as receiver
+use Rattle.nx_receiver.specs.Receiver.{Receiving, Stands, entry_list}
+use Rattle.nx_receiver.specs.Tagged.{TaggedCopy, copy_of}
+use Rattle.nx_receiver.specs.declared.entry.Entry.{Entry}
+use Rattle.nx_receiver.specs.declared.listening.Listener.{Listener}
+use Rattle.nx_receiver.proofs.LogLemmas.{logs_join}
+use Rattle.nx_receiver.proofs.LoggedLemmas.{bits_of-append}
+use Rattle.nx_receiver.proofs.ReceiverEvents.{bits_of-more}
+use Rattle.nx_receiver.proofs.WatchLoops.{rest_is}
+
+-- the memory's entries, as a listener's receiver has them
+abbrev pub content : RingMemory → List MemoryEntry
+content memory = memory.content
+
+pub events_of-one : (lines : List Line) (line : Line) → events_of (lines ++ line ∷ []) ≡ events_of lines ++ line_events line
+events_of-one lines line = flat_map-append line_events lines (line ∷ []) ∙ ap (λ es. events_of lines ++ es) (append-nil (line_events line))
+
+pub taken-one : (first lines : List Line) (line : Line) → AreTakenAfter first lines → IsTakenAfter (first ++ lines) line → AreTakenAfter first (lines ++ line ∷ [])
+unfolding AreTakenAfter
+taken-one first [] line h k = (subst (λ l. IsTakenAfter l line) (append-nil first) k, tt)
+taken-one first (x ∷ xs) line h k = (h.0, taken-one (first ++ x ∷ []) xs line h.1 (subst (λ l. IsTakenAfter l line) (sym (append_assoc first (x ∷ []) xs)) k))
+
+or-none : (c d : Bool) → d ≡ false → (c || (d || false)) ≡ c
+or-none true d e = refl
+or-none false d e = ap (λ x. x || false) e
+
+or-true : (c : Bool) → (c || true) ≡ true
+or-true true = refl
+or-true false = refl
+
+-- one more line is no moment, or is one
+pub moment-other : (lines : List Line) (line : Line) (b : Bool) → b ≡ has_moment lines → is_moment line ≡ false → b ≡ has_moment (lines ++ line ∷ [])
+moment-other lines line b h none =
+    h ∙ sym (list_any-append is_moment lines (line ∷ []) ∙ or-none (has_moment lines) (is_moment line) none)
+
+pub moment-one : (lines : List Line) (n : ℕ) → true ≡ has_moment (lines ++ moment n ∷ [])
+moment-one lines n = sym (list_any-append is_moment lines (moment n ∷ []) ∙ or-true (has_moment lines))
+
+-- what is in force is what the receiver has in force
+pub force-now : (listener : Listener) (lines : List Line) (given : List ℕ) → IsListening listener lines given → listener.receiver.watch.moment ≡ (in_force_after lines).moment
+force-now listener lines given h = ap (λ s. s.moment) h.hears.hears.receiver.force
+
+-- a line that has no elements changes the receiver alone
+pub goes_on : (old new : Listener) (lines : List Line) (line : Line) (given : List ℕ) → IsListening old lines given → IsTakenAfter lines line
+    → bits_of (line_events line) ≡ [] → new.has_moment ≡ has_moment (lines ++ line ∷ []) → new.elements ≡ old.elements → new.entries ≡ old.entries
+    → ((log : List TaggedCopy) → Stands content at_zero old.receiver (events_of lines) log → Stands content at_zero new.receiver (events_of lines ++ line_events line) log)
+    → IsListening new (lines ++ line ∷ []) given
+goes_on old new lines line given h taken none said heard printed stands =
+    let log = h.hears.log in
+    let was = h.hears.hears in
+    let events = events_of (lines ++ line ∷ []) in
+    let same : bits_of events ≡ bits_of (events_of lines) =
+    ap bits_of (events_of-one lines line) ∙ bits_of-append (events_of lines) (line_events line) ∙ ap (λ bs. bits_of (events_of lines) ++ bs) none ∙ append-nil (bits_of (events_of lines)) in
+    record {
+      taken = taken-one [] lines line h.taken taken;
+      moment = said;
+      hears = record {
+        log = log;
+        hears = record {
+          receiver = subst (λ es. Stands content at_zero new.receiver es log) (sym (events_of-one lines line)) (stands log was.receiver);
+          elements = heard ∙ was.elements ∙ ap (λ bs. count_of (length bs)) (sym same);
+          entries = printed ∙ was.entries;
+          few = subst (λ bs. length log ≤ length bs) (sym same) was.few;
+        };
+        spelled = h.hears.spelled;
+      };
+    }
+
+pub counts-on : (old new m n all : ℕ) → old ≡ count_of m → new ≡ count_of (old + n) → all ≡ m + n → new ≡ count_of all
+counts-on old new m n all h k e = omega arith
+
+-- more elements were heard, and an entry was handed out with the last of them, or none
+pub hears-more : (old new : Listener) (events : List Event) (log : List TaggedCopy) (bits : List Bool) (n : ℕ) (entry : Option Entry) → HearsEvents old events log
+    → n ≤ length bits → length (entry_list entry) ≤ n
+    → Stands content at_zero new.receiver (events ++ receiver.elements (take n bits)) (log ++ entry_list entry)
+    → new.elements ≡ count_of (old.elements + n) → new.entries ≡ count_of (old.entries + length (entry_list entry))
+    → HearsEvents new (events ++ receiver.elements (take n bits)) (log ++ entry_list entry)
+hears-more old new events log bits n entry h within few stands heard printed =
+    let all : length (bits_of (events ++ receiver.elements (take n bits))) ≡ length (bits_of events) + n =
+    ap length (bits_of-more events (take n bits)) ∙ length-append (bits_of events) (take n bits) ∙ ap (λ k. length (bits_of events) + k) (length-take-le n bits within) in
+    let longer : length (log ++ entry_list entry) ≡ length log + length (entry_list entry) = length-append log (entry_list entry) in
+    record {
+      receiver = stands;
+      elements = counts-on old.elements new.elements (length (bits_of events)) n _ h.elements heard all;
+      entries = counts-on old.entries new.entries (length log) (length (entry_list entry)) _ h.entries printed longer;
+      few = omega (arith, all, longer, few, h.few);
+    }
+
+-- what fails exactly where this test is true has not failed, so the test is false
+pub ok-false : {T : Type 0} (E : Type 0) (x : T) (b : Bool) → (IsTrue b → IsErr {T = T} {E = E} (Ok x)) → b ≡ false
+ok-false E x false h = refl
+ok-false E x true h = let e = h refl in cc
+
+-- nothing was handed out with these elements
+pub heard-none : (old new : Listener) (events : List Event) (given : List ℕ) (bits : List Bool) (n : ℕ) (entry : Option Entry) → entry ≡ None → HearsLog old events given
+    → n ≤ length bits
+    → ((log : List TaggedCopy) → Stands content at_zero old.receiver events log → Stands content at_zero new.receiver (events ++ receiver.elements (take n bits)) (log ++ entry_list entry))
+    → new.elements ≡ count_of (old.elements + n) → new.entries ≡ old.entries → HearsLog new (events ++ receiver.elements (take n bits)) given
+heard-none old new events given bits n entry none h within stands heard printed =
+    let zero : length (entry_list entry) ≡ 0 = ap (λ e. length (entry_list e)) none in
+    let same : h.log ++ entry_list entry ≡ h.log = ap (λ e. h.log ++ entry_list e) none ∙ append-nil h.log in
+    let more = hears-more old new events h.log bits n entry h.hears within (omega (arith, zero)) (stands h.log h.hears.receiver) heard (omega (arith, zero, printed, h.hears.entries)) in
+    record {
+      log = h.log;
+      hears = subst (λ log. HearsEvents new (events ++ receiver.elements (take n bits)) log) same more;
+      spelled = h.spelled;
+    }
+
+-- the log of one copy
+pub one-log : (copy : TaggedCopy) (bytes : List ℕ) → IsEntry copy bytes → IsLog (copy ∷ []) bytes
+one-log copy bytes h = record { entries = bytes ∷ []; each = (h, tt); joined = sym (append-nil bytes) }
+
+-- an entry was handed out with the last of these elements, and these are its bytes
+pub heard-entry : (old new : Listener) (events : List Event) (given bytes : List ℕ) (bits : List Bool) (n : ℕ) (entry : Option Entry) (printed : Entry) → entry ≡ Some printed
+    → IsEntry (copy_of printed) bytes → HearsLog old events given → n ≤ length bits → 0 < n
+    → ((log : List TaggedCopy) → Stands content at_zero old.receiver events log → Stands content at_zero new.receiver (events ++ receiver.elements (take n bits)) (log ++ entry_list entry))
+    → new.elements ≡ count_of (old.elements + n) → new.entries ≡ count_of (old.entries + 1) → HearsLog new (events ++ receiver.elements (take n bits)) (given ++ bytes)
+heard-entry old new events given bytes bits n entry printed some is h within least stands heard counted =
+    let one : length (entry_list entry) ≡ 1 = ap (λ e. length (entry_list e)) some in
+    let same : h.log ++ entry_list entry ≡ h.log ++ copy_of printed ∷ [] = ap (λ e. h.log ++ entry_list e) some in
+    let more = hears-more old new events h.log bits n entry h.hears within (omega (arith, one)) (stands h.log h.hears.receiver) heard (counted ∙ ap (λ k. count_of (old.entries + k)) (sym one)) in
+    record {
+      log = h.log ++ copy_of printed ∷ [];
+      hears = subst (λ log. HearsEvents new (events ++ receiver.elements (take n bits)) log) same more;
+      spelled = logs_join h.log (copy_of printed ∷ []) given bytes h.spelled (one-log (copy_of printed) bytes is);
+    }
+
+-- the elements before and after a place are all
+parts : (events : List Event) (bits : List Bool) (n : ℕ) → events ++ receiver.elements bits ≡ (events ++ receiver.elements (take n bits)) ++ receiver.elements (drop n bits)
+parts events bits n =
+    ap (λ bs. events ++ receiver.elements bs) (sym (take-append-drop n bits))
+    ∙ ap (λ es. events ++ es) (map-append element (take n bits) (drop n bits))
+    ∙ sym (append_assoc events (receiver.elements (take n bits)) (receiver.elements (drop n bits)))
+
+-- a log so far is that of a beginning of more
+pub begins-more : (listener : Listener) (events : List Event) (given : List ℕ) (bits : List Bool) (n : ℕ) → HearsLog listener (events ++ receiver.elements (take n bits)) given
+    → BeginsLog (events ++ receiver.elements bits) given
+begins-more listener events given bits n h = record {
+  before = events ++ receiver.elements (take n bits);
+  later = receiver.elements (drop n bits);
+  whole = parts events bits n;
+  log = h.log;
+  printed = printed-so_far _ _ listener.receiver _ h.log h.hears.receiver;
+  spelled = h.spelled;
+}
+
+-- the next of these elements, and all that are left
+pub elements-next : (events : List Event) (bits : List Bool) (at count : ℕ)
+    → (events ++ receiver.elements (take at bits)) ++ receiver.elements (take count (take (length bits - at) (drop at bits))) ≡ events ++ receiver.elements (take (at + count) bits)
+elements-next events bits at count =
+    append_assoc events (receiver.elements (take at bits)) (receiver.elements (take count (take (length bits - at) (drop at bits))))
+    ∙ ap (λ es. events ++ es) (sym (map-append element (take at bits) (take count (take (length bits - at) (drop at bits)))))
+    ∙ ap (λ bs. events ++ receiver.elements (take at bits ++ take count bs)) (rest_is bits at)
+    ∙ ap (λ bs. events ++ receiver.elements bs) (sym (take-add at count bits))
+
+pub elements-rest : (events : List Event) (bits : List Bool) (at : ℕ)
+    → (events ++ receiver.elements (take at bits)) ++ receiver.elements (take (length bits - at) (drop at bits)) ≡ events ++ receiver.elements bits
+elements-rest events bits at =
+    ap (λ bs. (events ++ receiver.elements (take at bits)) ++ receiver.elements bs) (rest_is bits at) ∙ sym (parts events bits at)
+
+-- a listener that was made has heard nothing
+pub heard-nothing : (listener : Listener) → Stands content at_zero listener.receiver [] [] → listener.has_moment ≡ false → listener.elements ≡ 0 → listener.entries ≡ 0
+    → IsListening listener [] []
+unfolding AreTakenAfter bits_of
+heard-nothing listener stands none elements' entries' = record {
+  taken = tt;
+  moment = none;
+  hears = record {
+    log = [];
+    hears = record { receiver = stands; elements = elements'; entries = entries'; few = omega arith };
+    spelled = record { entries = []; each = tt; joined = refl };
+  };
+}
+
+-- after the elements of a line
+pub heard-line : (old new : Listener) (lines : List Line) (bits : List Bool) (given more : List ℕ) → IsListening old lines given → has_moment lines ≡ true
+    → new.has_moment ≡ old.has_moment → HearsLog new (events_of lines ++ receiver.elements bits) more → IsListening new (lines ++ elements bits ∷ []) more
+heard-line old new lines bits given more h some same heard = record {
+  taken = taken-one [] lines (elements bits) h.taken some;
+  moment = moment-other lines (elements bits) _ (same ∙ h.moment) refl;
+  hears = subst (λ es. HearsLog new es more) (sym (events_of-one lines (elements bits))) heard;
+}
+
+pub begins-line : (lines : List Line) (bits : List Bool) (given : List ℕ) → AreTaken lines → has_moment lines ≡ true → BeginsLog (events_of lines ++ receiver.elements bits) given
+    → BeginsListening (lines ++ elements bits ∷ []) given
+begins-line lines bits given taken some h = record {
+  taken = taken-one [] lines (elements bits) taken some;
+  begun = subst (λ es. BeginsLog es given) (sym (events_of-one lines (elements bits))) h;
+}
+
+pub none-left : {A : Type 0} (o : Option A) → ((x : A) → o ≡ Some x → ⊥) → o ≡ None
+none-left None h = refl
+none-left (Some x) h = absurd (h x refl)
+
+pub rest-length : (bits : List Bool) (at : ℕ) → length (take (length bits - at) (drop at bits)) ≡ length bits - at
+rest-length bits at = ap length (rest_is bits at) ∙ length-drop at bits

@@ -1,0 +1,5 @@
+use Rattle.nx_receiver.proofs.ListenMoments.{one-closed, one-open, some-closed, some-open}
+use Rattle.nx_receiver.proofs.laws.listening.an_air_file_has_one_log.Goals as goal
+
+pub returns : goal.returns
+returns c = record { some = some-closed; one = one-closed; some_open = some-open; one_open = one-open }

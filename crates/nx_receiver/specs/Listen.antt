@@ -1,0 +1,211 @@
+-- What `listen` makes of an air file: the log of its lines, and its first fault (this profile).
+use Rattle.std.specs.Prelude.{◌≡◌, ◌⊎◌, ℕ, ◌+◌, ◌<◌, ◌≤◌, Bool, true, false, List, [], ◌∷◌, ◌++◌, length, Option, Result, Ok, Err, IsTrue, ⊤}
+use Rattle.std.specs.List.{flat_map, list_any}
+use Rattle.std.specs.Io.KnownBytes.{Appends}
+use Rattle.nx_envelope.specs.Moment.{last_moment}
+use Rattle.nx_envelope.specs.declared.letter.Letter.{Letter}
+use Rattle.nx_fec.specs.AirFile.{Line, moment, elements, refuse_station, accept_station, refuse_subject, accept_subject, IsLine, spelling}
+use Rattle.nx_fec.specs.Devices.{WroteSome}
+use Rattle.nx_fec.specs.LineRuns.{StopsAt}
+use Rattle.nx_fec.specs.Lines.{IsAirFile, IsCause, file_of, line_end}
+use Rattle.nx_fec.specs.Transfers.{Devices, IsReadOut, Transfers, on_the_way}
+use Rattle.nx_fec.specs.declared.fault.LineFault.{LineFault}
+use Rattle.nx_fec.specs.declared.fault.LineFault.TheVariants as file
+use Rattle.nx_memory.specs.Vital.{is_vital}
+use Rattle.nx_receiver.specs.Events as events
+use Rattle.nx_receiver.specs.Events.{Event, Setting, Start, at_moment, bits_of, command, first_setting, setting_after_all}
+use Rattle.nx_receiver.specs.Log.{HasPrinted, IsLog, PrintsToEnd}
+use Rattle.nx_receiver.specs.Receiver as receiver
+use Rattle.nx_receiver.specs.Receiver.{Refuses}
+use Rattle.nx_receiver.specs.Tagged.{TaggedCopy}
+use Rattle.nx_receiver.specs.declared.fault.MomentFault.{MomentFault}
+use Rattle.nx_receiver.specs.declared.listen_fault.ListenFault.{ListenFault}
+use Rattle.nx_receiver.specs.declared.listen_fault.ListenFault.TheVariants.{Memory, Read, Write, AirTooLong, LineLong, LineCut, BadLine, NoMoment, Moment, Vital}
+use Rattle.nx_receiver.specs.declared.listening.Report.{Report}
+
+-- the most bytes of an air file that is listened to
+abbrev pub air_limit : ℕ
+air_limit = 268435456
+
+-- a receiver starts with an empty memory, at moment 0
+abbrev pub at_zero : Start
+at_zero = record { entries = []; moment = 0 }
+
+-- what a line gives to a receiver
+abbrev pub line_events : Line → List Event
+line_events (moment n) = at_moment n ∷ []
+line_events (elements bits) = receiver.elements bits
+line_events (refuse_station letter) = command (events.refuse_station letter) ∷ []
+line_events (accept_station letter) = command (events.accept_station letter) ∷ []
+line_events (refuse_subject letter) = command (events.refuse_subject letter) ∷ []
+line_events (accept_subject letter) = command (events.accept_subject letter) ∷ []
+
+-- what lines give to it, in order
+abbrev pub events_of : List Line → List Event
+events_of lines = flat_map line_events lines
+
+-- what is in force after these lines
+abbrev pub in_force_after : List Line → Setting
+in_force_after lines = setting_after_all (first_setting at_zero) (events_of lines)
+
+abbrev pub is_moment : Line → Bool
+is_moment (moment n) = true
+is_moment _ = false
+
+-- one of these lines is a moment
+abbrev pub has_moment : List Line → Bool
+has_moment lines = list_any is_moment lines
+
+-- A line is taken after these lines: a moment in range, and not before the one in force; elements once there was a
+-- moment; and no refusal of a vital subject (ITU-R M.540).
+abbrev pub IsTakenAfter : List Line → Line → Type 0
+IsTakenAfter lines (moment n) = ((in_force_after lines).moment ≤ n) × (n ≤ last_moment)
+IsTakenAfter lines (elements bits) = IsTrue (has_moment lines)
+IsTakenAfter lines (refuse_station letter) = ⊤
+IsTakenAfter lines (accept_station letter) = ⊤
+IsTakenAfter lines (refuse_subject letter) = is_vital letter ≡ false
+IsTakenAfter lines (accept_subject letter) = ⊤
+
+-- each of these lines is taken after the first ones and those before it
+unfoldable pub AreTakenAfter : List Line → List Line → Type 0
+AreTakenAfter first [] = ⊤
+AreTakenAfter first (line ∷ lines) = IsTakenAfter first line × AreTakenAfter (first ++ line ∷ []) lines
+
+-- each of these lines is taken after those before it
+abbrev pub AreTaken : List Line → Type 0
+AreTaken lines = AreTakenAfter [] lines
+
+-- The log of an air file that is read to its end: its lines, each taken after those before it, print these copies,
+-- where the end closes the copy that stands open, and these are the bytes of their entries.
+pub record IsLogOfFile (bytes : List ℕ) (lines : List Line) (copies : List TaggedCopy) (log : List ℕ) : Type 0 where
+  pub file : IsAirFile air_limit bytes lines
+  pub taken : AreTaken lines
+  pub printed : PrintsToEnd at_zero (events_of lines) copies
+  pub spelled : IsLog copies log
+
+-- the first half of the headline: the air file of these bytes has this log
+abbrev pub IsLogOf : List ℕ → List ℕ → Type 0
+IsLogOf bytes log = (lines : List Line) × (copies : List TaggedCopy) × IsLogOfFile bytes lines copies log
+
+-- the log of these lines, of which each is taken after those before it, where nothing is closed: only copies that have
+-- ended count
+pub record IsLogOfLines (lines : List Line) (log : List ℕ) : Type 0 where
+  pub taken : AreTaken lines
+  pub copies : List TaggedCopy
+  pub printed : HasPrinted at_zero (events_of lines) copies
+  pub spelled : IsLog copies log
+
+-- the log of the whole file was written, and the report counts its lines, its elements and its entries
+pub record HasListened (old new : Option (List ℕ)) (bytes : List ℕ) (report : Report) : Type 0 where
+  pub lines : List Line
+  pub copies : List TaggedCopy
+  pub log : List ℕ
+  pub heard : IsLogOfFile bytes lines copies log
+  pub written : Appends old new log
+  pub lines_counted : report.lines ≡ length lines
+  pub bits_counted : report.bits ≡ length (bits_of (events_of lines))
+  pub printed_counted : report.printed ≡ length copies
+
+-- the log of these lines was written
+pub record HasLogged (old new : Option (List ℕ)) (lines : List Line) : Type 0 where
+  pub log : List ℕ
+  pub logged : IsLogOfLines lines log
+  pub written : Appends old new log
+
+-- a write failed, before which the writer took the first `written` bytes of the log of these lines
+pub record HasLoggedSome (old new : Option (List ℕ)) (written : ℕ) (lines : List Line) : Type 0 where
+  pub log : List ℕ
+  pub logged : IsLogOfLines lines log
+  pub some : WroteSome old new log written
+
+-- a write failed, before which the writer took the first `written` bytes of the log of the whole file
+pub record HasLoggedSomeOfFile (old new : Option (List ℕ)) (written : ℕ) (bytes : List ℕ) : Type 0 where
+  pub log : List ℕ
+  pub logged : IsLogOf bytes log
+  pub some : WroteSome old new log written
+
+-- why elements are not taken after these lines: there was no moment yet
+abbrev pub LacksMoment : List Line → Line → Type 0
+LacksMoment lines (elements bits) = has_moment lines ≡ false
+LacksMoment lines _ = ⊥
+
+-- why a moment is not taken after these lines
+abbrev pub RefusesMoment : MomentFault → List Line → Line → Type 0
+RefusesMoment why lines (moment n) = Refuses (in_force_after lines).moment n why
+RefusesMoment why lines _ = ⊥
+
+-- why the refusal of this subject is not taken: it is vital
+abbrev pub RefusesVital : Letter → List Line → Line → Type 0
+RefusesVital subject lines (refuse_subject letter) = IsTrue (is_vital letter) × (subject.byte ≡ letter)
+RefusesVital subject lines _ = ⊥
+
+-- the next line after these, which is one of an air file within the limit, is not taken; lines count from 1
+pub record IsNextRefused (refuses : List Line → Line → Type 0) (number : ℕ) (lines : List Line) (rest more : List ℕ)
+    : Type 0 where
+  pub line : Line
+  pub after : List ℕ
+  pub good : IsLine line
+  pub spelled : rest ≡ spelling line
+  pub ended : more ≡ line_end ∷ after
+  pub within : length (file_of lines ++ rest) < air_limit
+  pub counted : number ≡ length lines + 1
+  pub refused : refuses lines line
+
+-- Good lines and the beginning of one more stand before a fault of the file, of which this is the cause; and this holds
+-- of the lines.
+abbrev pub HasFaultAfter : (List Line → Type 0) → List ℕ → LineFault → Type 0
+HasFaultAfter holds bytes why =
+    StopsAt bytes (λ lines rest more.
+    IsCause air_limit (length (file_of lines ++ rest)) lines rest more why × holds lines)
+
+-- a line is not taken after the lines before it, of which this holds
+abbrev pub IsRefusedAfter : (List Line → Type 0) → List ℕ → ℕ → (List Line → Line → Type 0) → Type 0
+IsRefusedAfter holds bytes number refuses =
+    StopsAt bytes (λ lines rest more. IsNextRefused refuses number lines rest more × holds lines)
+
+-- The first fault of an air file, by its bytes alone, and this holds of the whole lines before it. Those of devices and
+-- of memory are none of bytes.
+abbrev pub HasFirstFault : (List Line → Type 0) → List ℕ → ListenFault → Type 0
+HasFirstFault holds bytes Read = ⊥
+HasFirstFault holds bytes AirTooLong = HasFaultAfter holds bytes file.TooLong
+HasFirstFault holds bytes (LineLong line) = HasFaultAfter holds bytes (file.LineLong line)
+HasFirstFault holds bytes (LineCut line) = HasFaultAfter holds bytes (file.LineCut line)
+HasFirstFault holds bytes (BadLine line) = HasFaultAfter holds bytes (file.BadLine line)
+HasFirstFault holds bytes (NoMoment line) = IsRefusedAfter holds bytes line LacksMoment
+HasFirstFault holds bytes (Moment line why) = IsRefusedAfter holds bytes line (RefusesMoment why)
+HasFirstFault holds bytes (Vital line subject) = IsRefusedAfter holds bytes line (RefusesVital subject)
+HasFirstFault holds bytes (Write written) = ⊥
+HasFirstFault holds bytes (Memory error) = ⊥
+
+-- What a fault of `listen` says of the bytes that were read. The log of the whole lines before it was written, and
+-- nothing is closed. After a failed read no byte is left of which `IsLeft` doesn't hold. After a failed write the first
+-- bytes of the log of the lines that were read whole are written, closed if the file had ended. A want of memory says
+-- nothing of them. Each other fault is the first of the file; that of its end comes at its end.
+abbrev pub ExplainsListening : Type 0 → (List ℕ → Type 0) → Option (List ℕ) → Option (List ℕ) → List ℕ → ListenFault
+    → Type 0
+ExplainsListening AtEnd IsLeft old new bytes (Memory error) = ⊤
+ExplainsListening AtEnd IsLeft old new bytes Read =
+    StopsAt bytes (λ lines rest more.
+    (length (file_of lines ++ rest) ≤ air_limit) × IsLeft more × HasLogged old new lines)
+ExplainsListening AtEnd IsLeft old new bytes (Write written) =
+    StopsAt bytes (λ lines rest more. HasLoggedSome old new written lines)
+    ⊎ (AtEnd × HasLoggedSomeOfFile old new written bytes)
+ExplainsListening AtEnd IsLeft old new bytes (LineCut line) =
+    AtEnd × HasFirstFault (HasLogged old new) bytes (LineCut line)
+ExplainsListening AtEnd IsLeft old new bytes fault = HasFirstFault (HasLogged old new) bytes fault
+
+-- what `listen` answers of these bytes: a report, where the log of the file was written; or a fault
+abbrev pub AnswersListening : Type 0 → (List ℕ → Type 0) → Option (List ℕ) → Option (List ℕ)
+    → Result Report ListenFault → List ℕ → Type 0
+AnswersListening AtEnd IsLeft old new (Ok report) bytes = AtEnd × HasListened old new bytes report
+AnswersListening AtEnd IsLeft old new (Err fault) bytes = ExplainsListening AtEnd IsLeft old new bytes fault
+
+-- A run of `listen`: it answers so to the bytes that it read, and to the whole file, however it came; and it writes the
+-- log of the lines that it read before each further read.
+abbrev pub Listens : {R W : Type 0} → Devices R W → Result Report ListenFault → Type 0
+Listens d outcome =
+    Transfers Read (λ written. Write written) on_the_way d outcome
+    (λ bytes. AnswersListening (IsReadOut d) (λ more. more ≡ []) (d.contents d.writer.inner)
+    (d.contents d.writer_after.inner) outcome bytes)
+    (λ bytes. AnswersListening (Unit {0}) (λ more. Unit {0}) (d.contents d.writer.inner)
+    (d.contents d.writer_after.inner) outcome bytes)

@@ -1,0 +1,112 @@
+-- How the taker of lines behind `listen` stands after lines (this profile).
+use Rattle.std.specs.Prelude.{◌≡◌, ℕ, ◌+◌, ◌-◌, ◌^◌, ◌≤◌, List, ◌++◌, length, min, Option}
+use Rattle.std.specs.Io.KnownBytes.{Appends}
+use Rattle.nx_fec.specs.AirFile.{Line}
+use Rattle.nx_fec.specs.Devices.{WroteSome}
+use Rattle.nx_fec.specs.declared.fault.LineFault.TheVariants as file
+use Rattle.nx_fec.specs.declared.line_run.LinesFault.{LinesFault}
+use Rattle.nx_fec.specs.declared.line_run.LinesFault.TheVariants as run
+use Rattle.nx_memory.specs.Ring.{RingMemory}
+use Rattle.nx_receiver.specs.Events.{Event, bits_of}
+use Rattle.nx_receiver.specs.Listen.{AreTaken, LacksMoment, RefusesMoment, RefusesVital, at_zero, events_of, has_moment}
+use Rattle.nx_receiver.specs.Log.{HasPrinted, IsLog, PrintsToEnd}
+use Rattle.nx_receiver.specs.Receiver.{Stands}
+use Rattle.nx_receiver.specs.Tagged.{TaggedCopy}
+use Rattle.nx_receiver.specs.declared.listening.Listener.{Listener}
+use Rattle.nx_receiver.specs.declared.listening.Report.{Report}
+use Rattle.nx_receiver.specs.declared.listening.LineRefusal.{LineRefusal}
+use Rattle.nx_receiver.specs.declared.listening.LineRefusal.TheVariants.{NoMoment, Moment, Vital}
+use Rattle.nx_receiver.specs.declared.listen_fault.ListenFault.{ListenFault}
+use Rattle.nx_receiver.specs.declared.listen_fault.ListenFault.TheVariants as listen
+
+-- the number that counts so many, at most the greatest of 64 bits
+abbrev pub count_of : ℕ → ℕ
+count_of n = min n (2 ^ 64 - 1)
+
+-- After these events a listener printed these copies: its receiver stands so, it counted the elements and the entries,
+-- and no element ended more than one copy.
+pub record HearsEvents (listener : Listener) (events : List Event) (log : List TaggedCopy) : Type 0 where
+  pub receiver : Stands (λ (memory : RingMemory). memory.content) at_zero listener.receiver events log
+  pub elements : listener.elements ≡ count_of (length (bits_of events))
+  pub entries : listener.entries ≡ count_of (length log)
+  pub few : length log ≤ length (bits_of events)
+
+-- the same, and these bytes are the log of the copies
+pub record HearsLog (listener : Listener) (events : List Event) (given : List ℕ) : Type 0 where
+  pub log : List TaggedCopy
+  pub hears : HearsEvents listener events log
+  pub spelled : IsLog log given
+
+-- and this holds of these bytes
+pub record IsHearing (listener : Listener) (events : List Event) (holds : List ℕ → Type 0) : Type 0 where
+  pub given : List ℕ
+  pub hears : HearsLog listener events given
+  pub here : holds given
+
+-- the bytes are the log of a beginning of the events
+pub record BeginsLog (events : List Event) (given : List ℕ) : Type 0 where
+  pub before : List Event
+  pub later : List Event
+  pub whole : events ≡ before ++ later
+  pub log : List TaggedCopy
+  pub printed : HasPrinted at_zero before log
+  pub spelled : IsLog log given
+
+-- the log of a beginning of the events was written in part
+pub record HeardSome (events : List Event) (old new : Option (List ℕ)) (written : ℕ) : Type 0 where
+  pub given : List ℕ
+  pub begun : BeginsLog events given
+  pub some : WroteSome old new given written
+
+-- The listener stands so after these lines, each taken after those before it; these bytes are their log.
+pub record IsListening (listener : Listener) (lines : List Line) (given : List ℕ) : Type 0 where
+  pub taken : AreTaken lines
+  pub moment : listener.has_moment ≡ has_moment lines
+  pub hears : HearsLog listener (events_of lines) given
+
+-- the lines are taken, and the bytes are the log of a beginning of what they give
+pub record BeginsListening (lines : List Line) (given : List ℕ) : Type 0 where
+  pub taken : AreTaken lines
+  pub begun : BeginsLog (events_of lines) given
+
+-- why a line is not taken after these
+abbrev pub RefusesLine : List Line → Line → LineRefusal → Type 0
+RefusesLine lines line NoMoment = LacksMoment lines line
+RefusesLine lines line (Moment why) = RefusesMoment why lines line
+RefusesLine lines line (Vital subject) = RefusesVital subject lines line
+
+-- The file ended after these events: the log of all copies was written, with the one that the end closes, and the
+-- report counts the elements and the copies.
+pub record HasClosed (old new : Option (List ℕ)) (events : List Event) (report : Report) : Type 0 where
+  pub copies : List TaggedCopy
+  pub log : List ℕ
+  pub printed : PrintsToEnd at_zero events copies
+  pub spelled : IsLog copies log
+  pub written : Appends old new log
+  pub bits_counted : report.bits ≡ count_of (length (bits_of events))
+  pub printed_counted : report.printed ≡ count_of (length copies)
+  pub few : length copies ≤ length (bits_of events) + 1
+
+-- the file ended so, and this log was written in part
+pub record HasClosedSome (old new : Option (List ℕ)) (events : List Event) (written : ℕ) : Type 0 where
+  pub copies : List TaggedCopy
+  pub log : List ℕ
+  pub printed : PrintsToEnd at_zero events copies
+  pub spelled : IsLog copies log
+  pub some : WroteSome old new log written
+
+-- the fault of a run that stands for a line that is refused
+abbrev pub refusal_fault : ℕ → LineRefusal → ListenFault
+refusal_fault line NoMoment = listen.NoMoment line
+refusal_fault line (Moment why) = listen.Moment line why
+refusal_fault line (Vital subject) = listen.Vital line subject
+
+-- the fault of a run that stands for that of its lines
+abbrev pub lines_fault : LinesFault LineRefusal → ListenFault
+lines_fault run.Read = listen.Read
+lines_fault (run.Write written) = listen.Write written
+lines_fault (run.Line file.TooLong) = listen.AirTooLong
+lines_fault (run.Line (file.LineLong line)) = listen.LineLong line
+lines_fault (run.Line (file.LineCut line)) = listen.LineCut line
+lines_fault (run.Line (file.BadLine line)) = listen.BadLine line
+lines_fault (run.Refused line why) = refusal_fault line why

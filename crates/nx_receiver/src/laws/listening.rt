@@ -1,0 +1,40 @@
+//! Laws of the log of an air file, over the definitions. Each function does nothing; its contract is the law.
+
+ghost use Rattle.std.specs.Prelude.{◌≡◌, ℕ, List, Option};
+ghost use Rattle.nx_fec.specs.AirFile.{Line};
+ghost use Rattle.nx_fec.specs.Lines.{IsAirFile};
+ghost use Rattle.nx_receiver.specs.Listen.{AreTaken, HasFirstFault, HasLogged, IsLogOf, IsLogOfLines, air_limit};
+ghost use Rattle.nx_receiver.specs.declared.listen_fault.ListenFault.{ListenFault};
+
+/// An air file has one log: there is one, wherever each line is taken after those before it, and no other. And so have
+/// lines after which nothing is closed.
+pub fn an_air_file_has_one_log()
+    ensures some { (bytes : List ℕ) (lines : List Line) → IsAirFile air_limit bytes lines → AreTaken lines
+        → (log : List ℕ) × IsLogOf bytes log }
+    ensures one { (bytes log other : List ℕ) → IsLogOf bytes log → IsLogOf bytes other → log ≡ other }
+    ensures some_open { (lines : List Line) → AreTaken lines → (log : List ℕ) × IsLogOfLines lines log }
+    ensures one_open { (lines : List Line) (log other : List ℕ) → IsLogOfLines lines log → IsLogOfLines lines other
+        → log ≡ other }
+{}
+
+/// An air file has one outcome: its first fault, by its bytes alone, is one, whatever was written; and a file that has
+/// a log has none.
+pub fn an_air_file_has_one_outcome()
+    ensures fault { (bytes : List ℕ) (why other : ListenFault) → HasFirstFault AreTaken bytes why
+        → HasFirstFault AreTaken bytes other → why ≡ other }
+    ensures log { (bytes log : List ℕ) (why : ListenFault) → IsLogOf bytes log → HasFirstFault AreTaken bytes why → ⊥ }
+    ensures written { (old new : Option (List ℕ)) (bytes : List ℕ) (why : ListenFault)
+        → HasFirstFault (HasLogged old new) bytes why → HasFirstFault AreTaken bytes why }
+{}
+
+#[cfg(test)]
+mod tests {
+    use super::*;
+
+    /// Each law is called once.
+    #[test]
+    fn laws(_rt: HostRuntime) {
+        an_air_file_has_one_log();
+        an_air_file_has_one_outcome();
+    }
+}
