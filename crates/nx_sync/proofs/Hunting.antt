@@ -10,9 +10,9 @@ use Rattle.nx_sync.specs.declared.track.Track.{Track}
 use Rattle.nx_sync.specs.Windows.{window_before_dx, window_before_rx, is_lock_window, IsBeforeLock, role_after, window_after}
 use Rattle.nx_sync.specs.Steps.{step, IsStep, HuntsThrough}
 use Rattle.nx_sync.specs.Synchroniser.{Held, is_hunting, StandsAfter}
-use Rattle.nx_sync.specs.PrivateCalls.{track_from, heard_all, IsQuiet, EndsPattern, Skips}
+use Rattle.nx_sync.specs.PrivateCalls.{track_from, heard, heard_all, IsQuiet, EndsPattern, Skips}
 use Rattle.nx_sync.proofs.Patterns.{role_after-dx, role_after-rx, role_after-none}
-use Rattle.nx_sync.proofs.Hearing.{heard, window_after-one, same_parts, heard_all-none, heard_all-append, heard_all-add, heard_all-more}
+use Rattle.nx_sync.proofs.Hearing.{window_after-one, same_parts, heard_all-none, heard_all-append, heard_all-add, heard_all-more}
 use Rattle.nx_sync.proofs.Pushes.{IsGood, push_hunting}
 
 -- the role after a window, by whether it is a pattern

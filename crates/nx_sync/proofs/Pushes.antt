@@ -17,13 +17,12 @@ use Rattle.nx_sync.specs.Locks.{before_dx, before_rx, last_28, IsPattern, releas
 use Rattle.nx_sync.specs.Steps.{LockStands, step, found, word, inside, over, hunts, IsStep}
 use Rattle.nx_sync.specs.Synchroniser.{Held, wrong_marks, p1_marks, Follows, Tracks, StandsAfter}
 use Rattle.nx_sync.specs.Windows.{next_window, role_after}
-use Rattle.nx_sync.specs.PrivateCalls.{track_from, track_after, Begins, Fills, Completes}
+use Rattle.nx_sync.specs.PrivateCalls.{heard, track_from, track_after, Begins, Fills, Completes}
 use Rattle.nx_sync.proofs.Lists.{padded-push, length-padded}
 use Rattle.nx_sync.proofs.Numbers.{number_of-next}
 use Rattle.nx_sync.proofs.MoreBits.{word_at-more, first_role-more, Past-within}
 use Rattle.nx_sync.proofs.OneBit.{hunts_on, locks_now, stands_on, ends_now}
 use Rattle.nx_sync.proofs.Patterns.{length-last_28, IsNeither, Which, dx, rx, neither, which, first_role-dx, first_role-rx, window-heard, word-heard}
-use Rattle.nx_sync.proofs.Hearing.{heard}
 use Rattle.nx_sync.proofs.Marks.{wrong_marks-same, p1_marks-same, p1_number-next, p1_number-none, wrong_marks-next, change_of-change_at}
 use Rattle.nx_sync.proofs.Unique.{now-unique}
 

@@ -11,10 +11,10 @@ use Rattle.nx_sync.specs.Words.{is_wrong}
 use Rattle.nx_sync.specs.Windows.{next_word_window, window_after}
 use Rattle.nx_sync.specs.Steps.{step, IsStep, IsWordStep}
 use Rattle.nx_sync.specs.Synchroniser.{Held, is_at_limit, is_between_words, StandsAfter}
-use Rattle.nx_sync.specs.PrivateCalls.{track_after, Completes}
+use Rattle.nx_sync.specs.PrivateCalls.{heard, track_after, Completes}
 use Rattle.nx_sync.proofs.Lists.{length-padded, padded-append}
 use Rattle.nx_sync.proofs.Numbers.{number_of-next_word}
-use Rattle.nx_sync.proofs.Hearing.{heard, window_after-none}
+use Rattle.nx_sync.proofs.Hearing.{window_after-none}
 use Rattle.nx_sync.proofs.Pushes.{IsGood, push_locked, recent_heard}
 
 -- what is held after elements inside a word
