@@ -63,12 +63,12 @@ pub record Completes (old : Held) (track : Track) (new : Held) (s : Step) : Type
   pub over : (how : Change) → s.change ≡ Some how → new.track ≡ None
 
 -- what is held after one element was heard, before it is looked at
-abbrev pub heard : Held → Bool → Held
-heard held bit = record held { recent = next_window held.recent bit; seen = min (held.seen + 1) pattern_elements }
+abbrev pub heard_one : Held → Bool → Held
+heard_one held bit = record held { recent = next_window held.recent bit; seen = min (held.seen + 1) pattern_elements }
 
 -- what is held with the mark of one more word, whether it was wrong
-abbrev pub marked : Held → Bool → Held
-marked held wrong = record held { wrong = keep_last window_words (held.wrong ++ wrong ∷ []) }
+abbrev pub with_mark : Held → Bool → Held
+with_mark held wrong = record held { wrong = keep_last window_words (held.wrong ++ wrong ∷ []) }
 
 -- what is held after these elements were heard, before any is looked at
 abbrev pub heard_all : Held → List Bool → Held

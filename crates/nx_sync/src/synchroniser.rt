@@ -10,7 +10,7 @@ ghost use Rattle.nx_sync.specs.Words.{window_words, losing_count};
 ghost use Rattle.nx_sync.specs.Locks.{pattern_elements};
 ghost use Rattle.nx_sync.specs.Steps.{step, LockStands, LimitStands, IsStep, HuntsThrough, IsWordStep};
 ghost use Rattle.nx_sync.specs.Windows as spec;
-ghost use Rattle.nx_sync.specs.PrivateCalls.{heard, marked, track_from, Begins, Fills, Completes, Skips, SkipsEarly};
+ghost use Rattle.nx_sync.specs.PrivateCalls.{heard_one, with_mark, track_from, Begins, Fills, Completes, Skips, SkipsEarly};
 ghost use Rattle.nx_sync.specs.Synchroniser.{StandsAfter, is_hunting, is_between_words};
 
 use crate::step::{Role, Step};
@@ -174,7 +174,7 @@ impl Synchroniser {
     /// Takes one element into the last 28.
     #[inline(always)]
     fn hear(&mut self, bit: bool)
-        ensures { self.new ≡ heard self.old bit }
+        ensures { self.new ≡ heard_one self.old bit }
     {
         self.recent = next_window(self.recent, bit);
         self.seen = (self.seen + 1).min(PATTERN);
@@ -264,7 +264,7 @@ impl Synchroniser {
     /// any of them is wrong.
     #[inline(always)]
     fn mark(&mut self, is_wrong: bool) -> bool
-        ensures marks { self.new ≡ marked self.old is_wrong }
+        ensures marks { self.new ≡ with_mark self.old is_wrong }
         ensures lost { result ≡ nat_le losing_count (count_by (λ b. b) self.new.wrong) }
     {
         if !is_wrong && self.wrong_count == 0 && self.wrong.len() == WINDOW {
@@ -277,7 +277,7 @@ impl Synchroniser {
     /// whether 40 of them are wrong now.
     #[inline(always)]
     fn push_mark(&mut self, is_wrong: bool) -> bool
-        ensures marks { self.new ≡ marked self.old is_wrong }
+        ensures marks { self.new ≡ with_mark self.old is_wrong }
         ensures lost { result ≡ nat_le losing_count (count_by (λ b. b) self.new.wrong) }
     {
         let gone = self.wrong.push_back(is_wrong);
