@@ -1,12 +1,12 @@
 -- What damaging answers follows from what its run over the lines said.
-use Rattle.std.proofs.Common.{◌≡◌, ◌≢◌, ℕ, ◌+◌, ◌-◌, ◌/◌, ◌%◌, ◌^◌, ◌<◌, ◌≤◌, Bool, true, List, [], ◌∷◌, ◌++◌, length, map, min, Option, Some, None, Result, Ok, Err, refl, sym, ap, ◌∙◌, subst, arith, append-nil, length-append}
+use Rattle.std.proofs.Common.{◌≡◌, ◌≢◌, ℕ, ◌+◌, ◌-◌, ◌^◌, ◌≤◌, true, List, [], ◌∷◌, ◌++◌, length, min, Option, Some, None, Result, Ok, Err, refl, sym, ap, ◌∙◌, subst, arith, append-nil, length-append}
 use Rattle.std.specs.List.{flat_map, AllByRecursion}
 use Rattle.std.specs.Option.{option_map, IsSomeAnd}
 use Rattle.std.specs.Io.KnownBytes.{Appends}
 use Rattle.std.proofs.lemmas.List.{length-map}
 use Rattle.std.proofs.lemmas.List.Concat.{flat_map-append}
 use Rattle.nx_fec.specs.AirFile.{Line, IsLine, element_digit, moment, elements, refuse_station, accept_station, refuse_subject, accept_subject, spelling}
-use Rattle.nx_fec.specs.Devices.{HasWritten, WroteSome}
+use Rattle.nx_fec.specs.Devices.{WroteSome}
 use Rattle.nx_fec.specs.LineRuns.{Beginning, HasTaken, HasTakenAll, HasTakenSome, IsPlaced, Refusing, RunsLines, Standing, StopsAt}
 use Rattle.nx_fec.specs.Lines.{IsCause, elements_of, file_of, line_bytes}
 use Rattle.nx_fec.specs.Transfers.{Devices}
@@ -21,7 +21,7 @@ use Rattle.nx_station.specs.Damage.{Damage, Damages, ExplainsDamaging, IsDamaged
 use Rattle.nx_station.specs.DamageTaker.{HasDamaged, IsAt, damage_of}
 use Rattle.nx_station.specs.declared.damaging.Damaging.{Damaging}
 use Rattle.nx_station.specs.declared.fault.DamageFault.{DamageFault}
-use Rattle.nx_station.specs.declared.fault.DamageFault.TheVariants.{Read, AirTooLong, LineLong, LineCut, BadLine, Write}
+use Rattle.nx_station.specs.declared.fault.DamageFault.TheVariants.{Read, Write}
 use Rattle.nx_station.proofs.DamageLemmas.{inverted-append, inverted-le, length-damaged, lines-append, lines-twice}
 
 abbrev pub stands : Standing Damaging

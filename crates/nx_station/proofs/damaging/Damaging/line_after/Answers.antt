@@ -1,4 +1,4 @@
-use Rattle.std.proofs.Common.{◌≡◌, ◌∙◌, ap, sym, eq-eqb, length}
+use Rattle.std.proofs.Common.{◌∙◌, ap, sym, eq-eqb, length}
 use Rattle.std.proofs.lemmas.Bool.{false≢true}
 use Rattle.std.specs.Option.{option_map}
 use Rattle.nx_fec.specs.AirFile.{elements}
