@@ -40,3 +40,5 @@ pub mod SendingFound
 pub mod OnceFound
 pub mod OnceExample
 pub mod SendingHeaders
+pub mod ListenOnce
+pub mod ListenExample
