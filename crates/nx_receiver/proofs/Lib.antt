@@ -40,3 +40,9 @@ pub mod SendingFound
 pub mod OnceFound
 pub mod OnceExample
 pub mod SendingHeaders
+pub mod SentWords
+pub mod SentCopies
+pub mod SentHeard
+pub mod SentLog
+pub mod SentDifferent
+pub mod SentFiles

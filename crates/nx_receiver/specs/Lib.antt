@@ -15,3 +15,4 @@ pub mod OnceHeard
 pub mod Listen
 pub mod Listener
 pub mod ListenerBegins
+pub mod Sent
