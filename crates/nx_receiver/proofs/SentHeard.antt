@@ -1,5 +1,5 @@
 -- A message of an emission that is heard as it is sent is heard in time.
-use Rattle.std.proofs.Common.{◌≡◌, ◌≢◌, ℕ, zero, suc, ◌+◌, ◌-◌, ◌*◌, ◌<◌, Bool, true, false, not, ◌&&◌, List, [], ◌∷◌, ◌++◌, map, length, get_or, drop, take, refl, sym, ap, ◌∙◌, subst, arith, append-nil, IsTrue}
+use Rattle.std.proofs.Common.{◌≡◌, ◌≢◌, ℕ, zero, suc, ◌+◌, ◌-◌, ◌*◌, ◌<◌, Bool, false, not, ◌&&◌, List, [], ◌∷◌, ◌++◌, length, get_or, drop, take, refl, sym, ap, ◌∙◌, subst, arith, append-nil, IsTrue}
 use Rattle.std.specs.FinSet as set
 use Rattle.std.specs.List.{Contains, flat_map}
 use Rattle.std.specs.Ordering.{nat_cmp}
@@ -18,7 +18,7 @@ use Rattle.nx_station.specs.Sendings.{IsCut, IsReceived, Part, bits_of_parts, di
 use Rattle.nx_station.proofs.ChannelUndamaged.{undamaged-cut}
 use Rattle.nx_sync.specs.Locks.{IsNow, locked}
 use Rattle.nx_sync.specs.Words.{whole_words}
-use Rattle.nx_receiver.specs.Events.{Event, Setting, element, first_setting, settings}
+use Rattle.nx_receiver.specs.Events.{Event, Setting, first_setting, settings}
 use Rattle.nx_receiver.specs.Events.{bits_of as bits_among}
 use Rattle.nx_receiver.specs.FoundCopies.{FoundCopy, found_to_end, past_copies}
 use Rattle.nx_receiver.specs.Listen.{at_zero}

@@ -1,6 +1,6 @@
 -- The words of an emission that arrives as it is sent: they keep the lock that its first four words give, and the text of
 -- that lock is what its messages print.
-use Rattle.std.proofs.Common.{◌≡◌, ◌≢◌, ℕ, zero, suc, ◌+◌, ◌-◌, ◌*◌, ◌/◌, ◌<◌, ◌≤◌, Bool, false, not, eqb, List, [], ◌∷◌, ◌++◌, map, length, take, drop, replicate, get_or, refl, sym, ap, ap₂, ◌∙◌, subst, arith, inl, inr, lit≤, lit<, append_assoc, append-nil, take_all}
+use Rattle.std.proofs.Common.{◌≡◌, ℕ, zero, suc, ◌+◌, ◌-◌, ◌*◌, ◌/◌, ◌<◌, ◌≤◌, Bool, false, not, eqb, List, [], ◌∷◌, ◌++◌, map, length, take, drop, replicate, get_or, refl, sym, ap, ap₂, ◌∙◌, subst, arith, inl, inr, lit≤, lit<, append_assoc, append-nil, take_all}
 use Rattle.std.specs.List.{flat_map}
 use Rattle.std.proofs.lemmas.Bool.{cases_lt}
 use Rattle.std.proofs.lemmas.List.{length-append, length-replicate, map-append, get_or-drop, get_or_append_left}
