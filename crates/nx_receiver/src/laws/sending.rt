@@ -22,9 +22,10 @@ pub fn an_emission_as_sent_is_heard_in_time()
         → IsHeardInTime at_zero (events_as_sent slot spellings) (parts_as_sent messages spellings) message }
 {}
 
-/// What is printed of what was sent: an air file that `send` wrote of a message file is listened to without a fault,
-/// for it has a log. That log has the entries of what the rules of printing make of its messages: one full copy of each,
-/// in order, at the moment of the slot. Where no two messages bear one identity, it has all of these, and nothing else.
+/// What is printed of what was sent: an air file that `send` wrote of a message file is listened to without a
+/// fault, for it has a log. That log has the entries of what the rules of printing make of its messages: one full copy
+/// of each, in order, at the moment of the slot. Where no two messages bear one identity, it has all of these, and
+/// nothing else.
 pub fn what_was_sent_is_printed()
     ensures log { (station from : ℕ) (file air : List ℕ) (sent : Sent) → IsTransmission station from file air sent
         → (log : List ℕ) × IsLogOf air log }
@@ -38,9 +39,9 @@ pub fn what_was_sent_is_printed()
         → copies ≡ map (copy_as_sent sent.slot) t.messages }
 {}
 
-/// What was sent is printed once: of each message of an air file that `send` wrote, if it isn't numbered 00, and alone
-/// bears its identity, the log of the file has one entry, and no more: full, with 0 errors and its text, letter for
-/// letter.
+/// What was sent is printed once: of each message of an air file that `send` wrote, if it isn't numbered 00 and
+/// alone bears its identity, the log of the file has one entry, and no more: full, with 0 errors and its text, letter
+/// for letter.
 pub fn what_was_sent_is_printed_once()
     ensures { (station from : ℕ) (file air log : List ℕ) (sent : Sent) (message : MessageView)
         (lines : List Line) (copies : List TaggedCopy) → (t : IsTransmission station from file air sent)
