@@ -1,6 +1,6 @@
 -- The worked air file: it meets what is asked of a message that is printed once, and it has its log.
-use Rattle.std.proofs.Common.{◌≡◌, ℕ, zero, suc, ◌+◌, ◌*◌, ◌^◌, ◌<◌, ◌≤◌, Bool, List, [], ◌∷◌, ◌++◌, length, map, take, drop, get_or, refl, sym, ap, ◌∙◌, subst, arith, append-nil, length-append, lit<, lit≤}
-use Rattle.std.specs.Prelude.{slice_index_or, IsTrue}
+use Rattle.std.proofs.Common.{◌≡◌, ℕ, zero, suc, ◌+◌, ◌*◌, ◌<◌, ◌≤◌, Bool, List, [], ◌∷◌, ◌++◌, length, map, take, drop, refl, sym, ap, ◌∙◌, subst, arith, length-append, lit<, lit≤}
+use Rattle.std.specs.Prelude.{slice_index_or}
 use Rattle.std.specs.List.{AllByRecursion, Contains, range_with_len}
 use Rattle.std.specs.Int.{div_ceil}
 use Rattle.std.proofs.lemmas.List.{length-map, length-take, length-drop, map-append}
@@ -8,7 +8,7 @@ use Rattle.nx_memory.specs.Selection.{admits}
 use Rattle.nx_fec.specs.AirFile.{Line, IsLine, element_digit, elements, moment, spelling}
 use Rattle.nx_fec.specs.BitLines.{bit_line, bit_lines}
 use Rattle.nx_fec.specs.Emission.{bits_of}
-use Rattle.nx_fec.specs.Lines.{IsAirFile, IsBitFile, file_of, line_bytes}
+use Rattle.nx_fec.specs.Lines.{IsAirFile, file_of, line_bytes}
 use Rattle.nx_fec.proofs.EncodingLaws.{bit_lines-IsBitFile}
 use Rattle.nx_fec.proofs.LineLaws.{IsAirFile-unique, spelling-IsBeginning}
 use Rattle.nx_fec.proofs.RoundTripLemmas.{length-bits_of}
@@ -16,7 +16,7 @@ use Rattle.nx_station.specs.ChannelExample.{example_message, example_parts, exam
 use Rattle.nx_station.specs.Sendings.{IsCut, Sending}
 use Rattle.nx_station.proofs.ChannelExamples.{example_sent}
 use Rattle.nx_sync.specs.Locks.{locked, IsNow}
-use Rattle.nx_receiver.specs.Events.{Event, Setting, at_moment, element, first_setting, setting_after_all, settings}
+use Rattle.nx_receiver.specs.Events.{Setting, at_moment, element, first_setting, setting_after_all, settings}
 use Rattle.nx_receiver.specs.Events.{bits_of as bits_among}
 use Rattle.nx_receiver.specs.Example.{first_copy}
 use Rattle.nx_receiver.specs.FoundCopies.{FoundCopy, found_to_end}
@@ -27,7 +27,7 @@ use Rattle.nx_receiver.specs.Log.{PrintsToEnd}
 use Rattle.nx_receiver.specs.Printing.{printed_copies}
 use Rattle.nx_receiver.specs.Receiver as receiver
 use Rattle.nx_receiver.specs.Sending.{IsSentAt, copy_of_sending}
-use Rattle.nx_receiver.specs.Tagged.{TaggedCopy, tag, tagged_copies}
+use Rattle.nx_receiver.specs.Tagged.{tag, tagged_copies}
 use Rattle.nx_receiver.specs.Worked.{at_its_slot, damaged_words, worked_log}
 use Rattle.nx_receiver.proofs.ListenOnce.{heard-elements}
 use Rattle.nx_receiver.proofs.LoggedLemmas.{one_to_end}
