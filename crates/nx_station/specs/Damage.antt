@@ -40,17 +40,17 @@ abbrev pub damaged_element : Damage → ℕ → Bool → Bool
 damaged_element damage place element = if inverts damage place then not element else element
 
 -- elements after the damage, and how many of them are inverted; the first stands at this place of all elements
-abbrev pub damaged : Damage → ℕ → List Bool → List Bool
-damaged damage place [] = []
-damaged damage place (element ∷ more) = damaged_element damage place element ∷ damaged damage (place + 1) more
+abbrev pub damaged_elements : Damage → ℕ → List Bool → List Bool
+damaged_elements damage place [] = []
+damaged_elements damage place (element ∷ more) = damaged_element damage place element ∷ damaged_elements damage (place + 1) more
 
-abbrev pub inverted : Damage → ℕ → List Bool → ℕ
-inverted damage place [] = 0
-inverted damage place (element ∷ more) = value_of (inverts damage place) + inverted damage (place + 1) more
+abbrev pub inverted_count : Damage → ℕ → List Bool → ℕ
+inverted_count damage place [] = 0
+inverted_count damage place (element ∷ more) = value_of (inverts damage place) + inverted_count damage (place + 1) more
 
 -- lines after the damage: those that have no elements are as they were
 abbrev pub damaged_line : Damage → ℕ → Line → Line
-damaged_line damage place (elements bits) = elements (damaged damage place bits)
+damaged_line damage place (elements bits) = elements (damaged_elements damage place bits)
 damaged_line damage place line = line
 
 abbrev pub damaged_lines : Damage → ℕ → List Line → List Line
@@ -71,7 +71,7 @@ pub record IsDamaged (damage : Damage) (limit : ℕ) (air written : List ℕ) (c
   pub lines : List Line
   pub file : IsAirFile limit air lines
   pub whole : written ≡ damaged_file damage lines
-  pub counted : count ≡ inverted damage 0 (flat_map elements_of lines)
+  pub counted : count ≡ inverted_count damage 0 (flat_map elements_of lines)
 
 -- the fault of damaging that stands for the fault of an air file
 abbrev pub line_fault : LineFault → DamageFault

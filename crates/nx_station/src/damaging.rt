@@ -4,7 +4,7 @@ ghost use Rattle.nx_code.specs.Word.{value_of};
 ghost use Rattle.nx_fec.specs.AirFile.{IsLine, Line, elements};
 ghost use Rattle.nx_fec.specs.Lines.{elements_of, line_bytes};
 ghost use Rattle.nx_fec.specs.Transfers.{devices};
-ghost use Rattle.nx_station.specs.Damage.{Damages, damaged, damaged_element, damaged_line, inverted, inverts, line_fault, names};
+ghost use Rattle.nx_station.specs.Damage.{Damages, damaged_elements, damaged_element, damaged_line, inverted_count, inverts, line_fault, names};
 ghost use Rattle.nx_station.specs.DamageTaker.{IsAt, damage_of};
 ghost use Rattle.nx_station.specs.declared.damaging.Damaging as taker;
 
@@ -147,7 +147,7 @@ impl Damaging {
             → scanner.now.latest ≡ Some line → IsAt first self.old place
             → self.old.inverted ≡ min total (2 ^ 64 - 1)
             → self.new.inverted
-            ≡ min (total + inverted (damage_of first) place (elements_of line)) (2 ^ 64 - 1) }
+            ≡ min (total + inverted_count (damage_of first) place (elements_of line)) (2 ^ 64 - 1) }
     {
         let bits = scanner.elements();
         if bits.is_empty() {
@@ -160,13 +160,13 @@ impl Damaging {
     fn damaged_line(&mut self, bits: &[bool]) -> ArrayVec<u8, LINE_BYTES>
         requires { length bits.now ≤ 512 }
         ensures bytes { (first : taker.Damaging) (place : ℕ) → IsAt first self.old place
-            → result.items ≡ line_bytes (elements (damaged (damage_of first) place bits.now)) }
+            → result.items ≡ line_bytes (elements (damaged_elements (damage_of first) place bits.now)) }
         ensures at { (first : taker.Damaging) (place : ℕ) → IsAt first self.old place
             → IsAt first self.new (place + length bits.now) }
         ensures counted { (first : taker.Damaging) (place total : ℕ) → IsAt first self.old place
             → self.old.inverted ≡ min total (2 ^ 64 - 1)
             → self.new.inverted
-            ≡ min (total + inverted (damage_of first) place bits.now) (2 ^ 64 - 1) }
+            ≡ min (total + inverted_count (damage_of first) place bits.now) (2 ^ 64 - 1) }
     {
         let mut bytes = ArrayVec::new();
         bytes.push(b'B');

@@ -11,7 +11,7 @@ ghost use Rattle.nx_station.specs.Broadcast.{IsBroadcast, IsSpelled, printed_tex
 ghost use Rattle.nx_station.specs.MessageFile.{FileMessage, FileFault, IsMessageFile, HasFirstFault};
 ghost use Rattle.nx_fec.specs.AirFile.{Line};
 ghost use Rattle.nx_fec.specs.Lines.{elements_of};
-ghost use Rattle.nx_station.specs.Damage.{Damage, IsDamaged, damaged, damaged_lines};
+ghost use Rattle.nx_station.specs.Damage.{Damage, IsDamaged, damaged_elements, damaged_lines};
 ghost use Rattle.nx_station.specs.Checking.{IsChecked, station_line};
 ghost use Rattle.nx_station.specs.Runs.{IsTransmission};
 ghost use Rattle.nx_station.specs.declared.sending.Sent.{Sent};
@@ -96,9 +96,9 @@ pub fn damage_undoes_itself()
         → damaged_lines damage 0 (damaged_lines damage 0 lines) ≡ lines }
     ensures elements { (damage : Damage) (lines : List Line)
         → flat_map elements_of (damaged_lines damage 0 lines)
-        ≡ damaged damage 0 (flat_map elements_of lines) }
+        ≡ damaged_elements damage 0 (flat_map elements_of lines) }
     ensures long { (damage : Damage) (place : ℕ) (bits : List Bool)
-        → length (damaged damage place bits) ≡ length bits }
+        → length (damaged_elements damage place bits) ≡ length bits }
     ensures files { (damage : Damage) (limit : ℕ) (air once twice : List ℕ) (m n : ℕ)
         → IsDamaged damage limit air once m
         → IsDamaged damage limit once twice n → twice ≡ air }
