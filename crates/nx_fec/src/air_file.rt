@@ -150,15 +150,16 @@ fn read_elements(digits: &[u8], bits: &mut ArrayVec<bool, MAX_ELEMENTS>) -> bool
     if digits.is_empty() || digits.len() > MAX_ELEMENTS {
         return false;
     }
-    for digit in digits {
-        match *digit {
-            b'0' => bits.push(false),
-            b'1' => bits.push(true),
-            _ => {
-                bits.clear();
-                return false;
-            }
-        }
+    let mut elements = [false; MAX_ELEMENTS];
+    let mut wrong = false;
+    for place in 0..digits.len() {
+        elements[place] = digits[place] == b'1';
+        wrong |= digits[place] != b'0' && digits[place] != b'1';
     }
+    if wrong {
+        return false;
+    }
+    bits.try_extend_from_slice(&elements[..digits.len()])
+        .unwrap();
     true
 }
