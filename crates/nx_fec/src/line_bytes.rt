@@ -53,6 +53,7 @@ impl LineBytes {
     }
 
     /// Appends the first `count` of these bytes.
+    #[inline(always)]
     pub fn extend(&mut self, bytes: &[u8], count: usize)
         requires within { count ≤ length bytes.now }
         requires room { length self.old + count ≤ 514 }
