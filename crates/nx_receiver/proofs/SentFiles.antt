@@ -2,7 +2,7 @@
 use Rattle.std.proofs.Common.{◌≡◌, ℕ, zero, suc, ◌+◌, ◌*◌, ◌^◌, ◌<◌, ◌≤◌, Bool, true, List, [], ◌∷◌, ◌++◌, map, length, take, drop, refl, sym, ap, ◌∙◌, subst, arith, drop-drop, take_all}
 use Rattle.std.proofs.Math.Seq.{take-add}
 use Rattle.std.specs.Int.{div_ceil}
-use Rattle.std.specs.List.{AllByRecursion, flat_map, range_with_len}
+use Rattle.std.specs.List.{AllByRecursion, Contains, flat_map, range_with_len}
 use Rattle.std.proofs.lemmas.List.{length-append, length-drop, length-map, length-take, map-append}
 use Rattle.std.proofs.lemmas.List.FromFn.{length-map-range_with_len}
 use Rattle.nx_envelope.specs.MessageView.{MessageView}
@@ -14,18 +14,23 @@ use Rattle.nx_fec.proofs.EmissionLemmas.{length-emission}
 use Rattle.nx_fec.proofs.LineLaws.{IsAirFile-unique, spelling-IsBeginning}
 use Rattle.nx_fec.proofs.RoundTripLemmas.{length-bits_of}
 use Rattle.nx_station.specs.Runs.{IsTransmission}
+use Rattle.nx_station.specs.Sendings.{IsCut}
 use Rattle.nx_station.specs.declared.sending.Sent.{Sent}
 use Rattle.nx_station.proofs.BroadcastLemmas.{broadcast-one}
+use Rattle.nx_sync.specs.Locks.{IsNow}
 use Rattle.nx_receiver.specs.Events.{Event, at_moment, element, setting_after_all}
+use Rattle.nx_receiver.specs.FoundCopies.{found_to_end}
 use Rattle.nx_receiver.specs.Listen.{AreTaken, AreTakenAfter, IsLogOf, IsLogOfFile, air_limit, at_zero, events_of, has_moment}
 use Rattle.nx_receiver.specs.Log.{PrintsToEnd}
-use Rattle.nx_receiver.specs.OnceHeard.{IsPrintedOnce}
+use Rattle.nx_receiver.specs.ListenOnce.{IsHeardInTimeIn, elements_in, heard_as}
+use Rattle.nx_receiver.specs.OnceHeard.{FewBetween, IsHeardInTime, IsPrintedOnce}
 use Rattle.nx_receiver.specs.Printing.{printed_copies}
 use Rattle.nx_receiver.specs.Receiver as receiver
 use Rattle.nx_receiver.specs.Sent.{BearsAlone, copy_as_sent, events_as_sent, parts_as_sent}
 use Rattle.nx_receiver.specs.Tagged.{TaggedCopy}
 use Rattle.nx_receiver.proofs.ListenMoments.{some-closed}
 use Rattle.nx_receiver.proofs.ListenerLemmas.{moment-other}
+use Rattle.nx_receiver.proofs.ListenOnce.{heard-elements}
 use Rattle.nx_receiver.proofs.OnceFound.{printed_once}
 use Rattle.nx_receiver.proofs.SentHeard.{heard_in_time}
 use Rattle.nx_receiver.proofs.SentLog.{log_as_sent}
@@ -140,15 +145,48 @@ module _ (station from : ℕ) (file air : List ℕ) (sent : Sent) (h : IsTransmi
   abbrev combinations : List (List ℕ)
   combinations = h.broadcast.spellings
 
+  events_are : events_of lines ≡ events_as_sent sent.slot combinations
+  events_are =
+      events-as_sent sent.slot bits
+      ∙ ap (λ p. at_moment sent.slot ∷ receiver.elements (bits_of (emission p))) h.broadcast.whole
+
   -- its lines are those that were sent
   prints_as_sent : (read : List Line) (copies : List TaggedCopy) (log : List ℕ) → IsLogOfFile air read copies log
       → PrintsToEnd at_zero (events_as_sent sent.slot combinations) copies
   prints_as_sent read copies log is =
       let same : read ≡ lines = IsAirFile-unique air_limit air read lines is.file is_file in
-      let all : events_of read ≡ events_as_sent sent.slot combinations = ap events_of same
-      ∙ events-as_sent sent.slot bits
-      ∙ ap (λ p. at_moment sent.slot ∷ receiver.elements (bits_of (emission p))) h.broadcast.whole in
-      subst (λ (e : List Event). PrintsToEnd at_zero e copies) all is.printed
+      subst (λ (e : List Event). PrintsToEnd at_zero e copies) (ap events_of same ∙ events_are) is.printed
+
+  -- each of its messages is heard in time in it
+  pub sent_in_time : (message : MessageView) → BearsAlone h.messages message → 0 < message.identity.number
+      → IsHeardInTimeIn air message
+  sent_in_time message alone numbered =
+      let parts = parts_as_sent h.messages combinations in
+      let k : IsHeardInTime at_zero (events_of lines) parts message =
+      subst (λ (e : List Event). IsHeardInTime at_zero e parts message) (sym events_are) (heard_in_time h.messages combinations sent.slot message h.sendable h.broadcast.each alone numbered) in
+      let same = heard-elements lines in
+      record {
+        lines = lines;
+        spelled = is_file;
+        parts = parts;
+        cut = subst (λ (b : List Bool). IsCut b parts) same k.cut;
+        place = k.place;
+        sent = k.sent;
+        numbered = numbered;
+        copies = found_to_end (elements_in lines) k.locks k.now;
+        found = record {
+          locks = k.locks;
+          now = k.now;
+          stands = subst (λ (b : List Bool). IsNow b k.locks k.now) same k.stands;
+          whole = refl;
+        };
+        alone = λ copy there named.
+            k.alone copy (subst (λ (b : List Bool). Contains (found_to_end b k.locks k.now) copy) (sym same) there) named;
+        selected = k.selected;
+        close = k.close;
+        few =
+            subst (λ (b : List Bool). FewBetween (heard_as lines (found_to_end b k.locks k.now)) at_zero message) same k.few;
+      }
 
   -- what is printed of its messages
   pub sent_log : (read : List Line) (copies : List TaggedCopy) (log : List ℕ) → IsLogOfFile air read copies log

@@ -8,6 +8,7 @@ ghost use Rattle.nx_station.specs.Runs.{IsTransmission};
 ghost use Rattle.nx_station.specs.Sendable.{IsSendable};
 ghost use Rattle.nx_station.specs.declared.sending.Sent.{Sent};
 ghost use Rattle.nx_receiver.specs.Listen.{IsLogOf, IsLogOfFile, at_zero};
+ghost use Rattle.nx_receiver.specs.ListenOnce.{IsHeardInTimeIn};
 ghost use Rattle.nx_receiver.specs.OnceHeard.{IsHeardInTime, IsPrintedOnce};
 ghost use Rattle.nx_receiver.specs.Printing.{printed_copies};
 ghost use Rattle.nx_receiver.specs.Sent.{AreDifferent, BearsAlone, copy_as_sent, events_as_sent, parts_as_sent};
@@ -39,11 +40,15 @@ pub fn what_was_sent_is_printed()
         → copies ≡ map (copy_as_sent sent.slot) t.messages }
 {}
 
-/// What was sent is printed once: of each message of an air file that `send` wrote, if it isn't numbered 00 and
-/// alone bears its identity, the log of the file has one entry, and no more: full, with 0 errors and its text, letter
-/// for letter.
+/// What was sent is printed once: each message of an air file that `send` wrote, if it isn't numbered 00 and alone
+/// bears its identity, is heard in time in that file, so what `listen` promises of such a message holds of it. And the
+/// log of the file has one entry of it, and no more: full, with 0 errors and its text, letter for letter.
 pub fn what_was_sent_is_printed_once()
-    ensures { (station from : ℕ) (file air log : List ℕ) (sent : Sent) (message : MessageView)
+    ensures heard { (station from : ℕ) (file air : List ℕ) (sent : Sent) (message : MessageView)
+        → (t : IsTransmission station from file air sent)
+        → BearsAlone t.messages message → 0 < message.identity.number
+        → IsHeardInTimeIn air message }
+    ensures once { (station from : ℕ) (file air log : List ℕ) (sent : Sent) (message : MessageView)
         (lines : List Line) (copies : List TaggedCopy) → (t : IsTransmission station from file air sent)
         → BearsAlone t.messages message → 0 < message.identity.number
         → IsLogOfFile air lines copies log → IsPrintedOnce message copies }
