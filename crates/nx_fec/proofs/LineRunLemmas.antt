@@ -1,11 +1,10 @@
 -- A run over lines, step by step.
-use Rattle.std.proofs.Common.{◌≡◌, ◌↔◌, IsErrOf, ℕ, ◌+◌, ◌-◌, ◌<◌, ◌≤◌, length, take, drop, option_to_list, true, false, ◌⊎◌, inl, inr, Option, None, Some, IfSome, Result, Ok, Err, List, [], ◌∷◌, ◌++◌, refl, sym, ap, ◌∙◌, subst, append_assoc, append-nil, take-append-drop, arith}
+use Rattle.std.proofs.Common.{◌≡◌, ◌↔◌, IsErrOf, ℕ, ◌<◌, ◌≤◌, length, take, drop, option_to_list, true, false, ◌⊎◌, inl, inr, Option, None, Some, IfSome, Result, Ok, Err, List, [], ◌∷◌, ◌++◌, refl, sym, ap, ◌∙◌, subst, append_assoc, append-nil, arith}
 use Rattle.std.specs.List.{AllByRecursion}
 use Rattle.std.specs.Option.{is_some}
 use Rattle.std.specs.Io.KnownBytes.{Appends, Consumes, IsAtEnd}
-use Rattle.std.proofs.lemmas.List.{length-append, take_rest}
+use Rattle.std.proofs.lemmas.List.{length-append}
 use Rattle.std.proofs.lemmas.List.Concat.{flat_map-append}
-use Rattle.std.proofs.Math.Seq.{take-add}
 use Rattle.nx_fec.specs.AirFile.{Line, IsLine, spelling}
 use Rattle.nx_fec.specs.Devices.{HasWritten, WroteSome}
 use Rattle.nx_fec.specs.Transfers.{Devices, IsReadOut, Writes}

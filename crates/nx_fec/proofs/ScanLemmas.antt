@@ -1,10 +1,10 @@
 -- A scanner over the bytes of a piece.
-use Rattle.std.proofs.Common.{◌≡◌, ◌≢◌, ℕ, zero, suc, ◌+◌, ◌<◌, ◌≤◌, ◌==◌, true, length, take, drop, get_or, option_to_list, Option, None, List, [], ◌∷◌, ◌++◌, refl, sym, ap, ◌∙◌, subst, append_assoc, append-nil, arith}
+use Rattle.std.proofs.Common.{◌≡◌, ◌≢◌, ℕ, zero, suc, ◌+◌, ◌<◌, ◌≤◌, length, take, drop, get_or, option_to_list, Option, None, List, [], ◌∷◌, ◌++◌, sym, ap, ◌∙◌, subst, append_assoc, append-nil, arith}
 use Rattle.std.proofs.lemmas.Bool.{cases_eq}
-use Rattle.std.proofs.lemmas.List.{drop-append-le, drop_more, length-append, length-drop, length-take-le, take-append-drop, take-append-le, take_all, take_more}
+use Rattle.std.proofs.lemmas.List.{drop-append-le, drop_more, length-append, length-drop, length-take-le, take-append-drop, take-append-le, take_more}
 use Rattle.std.proofs.Math.Logic.{⊎_elim}
 use Rattle.nx_fec.specs.AirFile.{Line}
-use Rattle.nx_fec.specs.Lines.{IsBeginning, IsCause, Scanning, Scans, Splits, StopsIn, file_of}
+use Rattle.nx_fec.specs.Lines.{IsCause, Scanning, Scans, StopsIn, file_of}
 use Rattle.nx_fec.specs.declared.fault.LineFault.{LineFault}
 use Rattle.nx_fec.specs.declared.fault.LineFault.TheVariants.{TooLong, LineLong}
 use Rattle.nx_fec.proofs.LineLaws.{NoFeed}

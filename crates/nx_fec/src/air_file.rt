@@ -65,6 +65,7 @@ pub fn air_line(line: &[u8]) -> Option<AirLine>
 
 /// Reads a line, given without its line feed: what it says, and into `bits` its elements. None, and no elements, where
 /// it is no line of an air file.
+// Inlined always: the scanner asks it for each line, and its answer would go through memory.
 #[inline(always)]
 pub(crate) fn read_line(line: &[u8], bits: &mut ArrayVec<bool, MAX_ELEMENTS>) -> Option<LineKind>
     requires { bits.old.items ≡ [] }

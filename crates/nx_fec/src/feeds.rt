@@ -14,11 +14,12 @@ const LINE_END: u8 = b'\n';
 const LANES: usize = 32;
 
 /// The place of the first line feed of a piece, if it has one.
-// Inlined always: it runs for each line, and `memchr`, which sets out for long lines, only where the first bytes have none.
+// Inlined always: it runs for each line.
 #[inline(always)]
 pub(crate) fn first_feed(piece: &[u8]) -> Option<usize>
     ensures { IsFirstByte (is_byte line_end) piece.now result }
 {
+    // A short line ends within one vector; `memchr` sets out for long ones.
     if piece.len() >= LANES {
         let near = feeds(piece);
         if near != 0 {
@@ -29,6 +30,7 @@ pub(crate) fn first_feed(piece: &[u8]) -> Option<usize>
 }
 
 /// The line feeds among the first 32 bytes of a piece: bit k says whether byte k is one.
+// Inlined always, so that its vector stays in registers.
 #[inline(always)]
 fn feeds(piece: &[u8]) -> u64
     requires { 32 ≤ length piece.now }

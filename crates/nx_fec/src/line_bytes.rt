@@ -53,6 +53,7 @@ impl LineBytes {
     }
 
     /// Appends the first `count` of these bytes.
+    // Inlined always: it runs for each line.
     #[inline(always)]
     pub fn extend(&mut self, bytes: &[u8], count: usize)
         requires within { count ≤ length bytes.now }
@@ -70,6 +71,7 @@ impl LineBytes {
     }
 
     /// Appends bytes where there is room.
+    // Inlined always, so that a length that is known makes a copy without a call.
     #[inline(always)]
     fn append(&mut self, bytes: &[u8])
         requires { length self.old + length bytes.now ≤ 514 }

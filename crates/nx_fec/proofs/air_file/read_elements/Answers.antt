@@ -1,4 +1,4 @@
-use Rattle.std.proofs.Common.{◌≡◌, ◌≤◌, ◌<◌, ◌++◌, ◌∙◌, map, ap, arith, sym, length, take, subst}
+use Rattle.std.proofs.Common.{◌≡◌, ◌<◌, ◌++◌, ◌∙◌, map, ap, arith, sym, length, take, subst}
 use Rattle.std.proofs.lemmas.List.{length-take-le, take_all}
 use Rattle.nx_fec.specs.AirFile.{element_digit}
 use Rattle.nx_fec.proofs.Digits.{element_digits-none}

@@ -1,4 +1,4 @@
-use Rattle.std.proofs.Common.{◌≡◌, ◌≢◌, ◌<◌, ℕ, Bool, true, false, length, map, take, get_or}
+use Rattle.std.proofs.Common.{◌≡◌, ◌≢◌, ◌<◌, ℕ, true, false, length, map, take, get_or}
 use Rattle.nx_fec.specs.AirFile.{element_digit}
 use Rattle.nx_fec.proofs.air_file.read_elements.Given as goal
 

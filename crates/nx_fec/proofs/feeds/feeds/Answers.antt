@@ -1,4 +1,4 @@
-use Rattle.std.proofs.Common.{◌≡◌, ◌↔◌, ◌<◌, eqb, get_or, length, take, sym, subst, arith, w8}
+use Rattle.std.proofs.Common.{◌≡◌, ◌↔◌, ◌<◌, eqb, get_or, take, sym, subst, arith, w8}
 use Rattle.std.specs.Int.{bit_at}
 use Rattle.std.proofs.lemmas.List.{length-take-le}
 use Rattle.std.proofs.lemmas.Simd.{bitmask_splat}

@@ -1,4 +1,4 @@
-use Rattle.std.proofs.Common.{◌≡◌, ◌+◌, ◌++◌, ◌∙◌, length, take, ap, sym, arith, length-append}
+use Rattle.std.proofs.Common.{◌+◌, ◌++◌, ◌∙◌, length, take, ap, arith, length-append}
 use Rattle.std.proofs.lemmas.List.{length-take-le, take-take}
 use Rattle.std.proofs.Math.Seq.{take-append-add}
 use Rattle.nx_fec.proofs.line_bytes.LineBytes.extend.Goals as goal

@@ -1,6 +1,5 @@
 use Rattle.std.proofs.Common.{◌++◌, length, take}
 use Rattle.std.proofs.lemmas.Result.{err_from_is_err_and}
-use Rattle.memchr.specs.Find.{NoneBefore}
 use Rattle.nx_fec.proofs.FeedLemmas.{NoFeed-all, NoFeed-before, feed-found}
 use Rattle.nx_fec.proofs.ScanLemmas.{Scans-ended, Scans-open, StopsIn-feed, StopsIn-piece}
 use Rattle.nx_fec.proofs.scanner.Scanner.push_line.Goals as goal
