@@ -1,10 +1,12 @@
 //! The program on words and bytes: its output, its fault lines, its exit statuses, and which calls
 //! it makes on devices that fail.
 
+mod clocked;
 mod damaging;
 mod devices;
 mod failures;
 mod files;
+mod interrupted;
 mod reading;
 mod station;
 mod words;

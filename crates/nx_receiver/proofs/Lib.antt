@@ -41,3 +41,11 @@ pub mod SendingFound
 pub mod OnceFound
 pub mod OnceExample
 pub mod SendingHeaders
+pub mod ListenOnce
+pub mod ListenExample
+pub mod SentWords
+pub mod SentCopies
+pub mod SentHeard
+pub mod SentLog
+pub mod SentDifferent
+pub mod SentFiles

@@ -45,28 +45,28 @@ bits_are =
     ∙ ap (λ w. first_bits ++ bits_of w) same_words
     ∙ ap (λ b. first_bits ++ b) (sym (append-nil (bits_of heard_half)))
 
-abbrev events : List Event
+abbrev pub events : List Event
 events = heard_elements damaged_words
 
-events_are : bits_among events ≡ bits_of damaged_words
+pub events_are : bits_among events ≡ bits_of damaged_words
 events_are = bits_among-elements (bits_of damaged_words)
 
-cut_is : IsCut (bits_among events) (example_parts first_bits [])
+pub cut_is : IsCut (bits_among events) (example_parts first_bits [])
 cut_is =
     subst (λ (b : List Bool). IsCut b (example_parts first_bits [])) (sym (events_are ∙ bits_are)) (example_cut first_bits [])
 
-stands_is : IsNow (bits_among events) [] (locked 0 28)
+pub stands_is : IsNow (bits_among events) [] (locked 0 28)
 stands_is =
     subst (λ (b : List Bool). IsNow b [] (locked 0 28)) (sym events_are) (stands damaged_words damaged_computed)
 
-abbrev found : List FoundCopy
+abbrev pub found : List FoundCopy
 found = found_to_end (bits_among events) [] (locked 0 28)
 
 one_header : length (copies (codes "ZCZC EA01\nTEST\nNNNN\n\n")) ≡ 1
 unfolding copies headers beginnings header_at_end header_back tens_back subject_back station_back spaces_back letter_of letter_from digit_of digit_from
 one_header = refl
 
-one_found : length found ≡ 1
+pub one_found : length found ≡ 1
 unfolding found_to_end past_copies
 one_found =
     let bits = bits_of damaged_words in
@@ -76,7 +76,7 @@ one_found =
     ∙ ap (λ t. length (copies t)) (text_is damaged_words damaged_computed) ∙ one_header
 
 -- a list of one holds one
-one_in : {A : Type 0} (xs : List A) (x y : A) → length xs ≡ 1 → Contains xs x → Contains xs y → x ≡ y
+pub one_in : {A : Type 0} (xs : List A) (x y : A) → length xs ≡ 1 → Contains xs x → Contains xs y → x ≡ y
 one_in [] x y e c d = absurd (omega (arith, e))
 one_in (z ∷ (w ∷ xs)) x y e c d = absurd (omega (arith, e))
 one_in (z ∷ []) x y e c d = sym (at_zero z x c.0 c.1 c.2) ∙ at_zero z y d.0 d.1 d.2
@@ -85,11 +85,11 @@ one_in (z ∷ []) x y e c d = sym (at_zero z x c.0 c.1 c.2) ∙ at_zero z y d.0 
     at_zero z x zero lt e = e
     at_zero z x (suc k) lt e = absurd (omega arith)
 
-sent_there : Contains found (copy_of_sending (example_sending first_bits))
+pub sent_there : Contains found (copy_of_sending (example_sending first_bits))
 sent_there =
     sending_in_end (bits_among events) (example_parts first_bits []) (example_sending first_bits) [] (locked 0 28) cut_is (example_sent first_bits []) stands_is
 
-not_two : (copies before between after : List TaggedCopy) (first later : TaggedCopy) → length copies ≡ 1
+pub not_two : (copies before between after : List TaggedCopy) (first later : TaggedCopy) → length copies ≡ 1
     → copies ≡ before ++ first ∷ (between ++ later ∷ after) → ⊥
 not_two copies before between after first later one e =
     let long = ap length e ∙ length-append before (first ∷ (between ++ later ∷ after)) in

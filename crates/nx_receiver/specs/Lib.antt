@@ -15,3 +15,6 @@ pub mod OnceHeard
 pub mod Listen
 pub mod Listener
 pub mod ListenerBegins
+pub mod ListenOnce
+pub mod ListenExample
+pub mod Sent

@@ -9,6 +9,7 @@ ghost use Rattle.nx_fec.specs.LineRuns.{ExplainsTaking, HasGiven, HasTaken};
 ghost use Rattle.nx_fec.specs.Transfers.{Writes, devices};
 ghost use Rattle.nx_receiver.specs.Events.{Event};
 ghost use Rattle.nx_receiver.specs.Listen.{Listens};
+ghost use Rattle.nx_receiver.specs.ListenOnce.{KeepsHeadline};
 ghost use Rattle.nx_receiver.specs.Listener.{BeginsListening, HasClosed, HasClosedSome, HasFinished, HeardSome, HearsLog, IsHearing, IsListening, RefusesLine, lines_fault, refusal_fault};
 ghost use Rattle.nx_receiver.specs.Receiver.{elements};
 ghost use Rattle.nx_receiver.specs.declared.listen_fault.ListenFault.TheVariants.{Memory};
@@ -42,6 +43,10 @@ pub struct Report {
 /// printed, all that the lines so far print before each further read. The receiver starts with an empty memory, at
 /// moment 0. All memory is taken before the first read.
 ///
+/// Where it answers Ok, each message that is heard in time in the file has exactly one entry in the log, full, with 0
+/// errors and its text letter for letter: a message not numbered 00 that is selected whenever it is sent, whose sendings
+/// all lie within 66 hours and pass the channel while 200 identities suffice, and of whose identity nothing else is found.
+///
 /// The first fault in the order of the bytes ends the run; the line that has it has no effect. After a fault of a line,
 /// `AirTooLong` and `Read`, the log of the whole lines before it is written, and an open copy isn't closed. After
 /// `Write` the first `written` bytes of the log of the lines read whole by then are written, closed if the file had
@@ -54,6 +59,8 @@ pub fn listen<R: Read, W: Write>(
     requires reader { reader.old.failures ≡ 0 }
     requires writer { writer.old.failures ≡ 0 }
     ensures listens { Listens (devices R.remaining W.contents reader.old reader.new writer.old writer.new) result }
+    ensures once { OnOk result (KeepsHeadline
+        (devices R.remaining W.contents reader.old reader.new writer.old writer.new)) }
     ensures memory { (error : AllocError) → result ≡ Err (Memory error)
         → (reader.new ≡ reader.old) × (writer.new ≡ writer.old) }
 {

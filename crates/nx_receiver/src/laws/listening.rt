@@ -1,9 +1,16 @@
 //! Laws of the log of an air file, over the definitions. Each function does nothing; its contract is the law.
 
 ghost use Rattle.std.specs.Prelude.{◌≡◌, ℕ, List, Option};
+ghost use Rattle.nx_envelope.specs.MessageView.{MessageView};
 ghost use Rattle.nx_fec.specs.AirFile.{Line};
 ghost use Rattle.nx_fec.specs.Lines.{IsAirFile};
-ghost use Rattle.nx_receiver.specs.Listen.{AreTaken, HasFirstFault, HasLogged, IsLogOf, IsLogOfLines, air_limit};
+ghost use Rattle.nx_station.specs.ChannelExample.{example_message};
+ghost use Rattle.nx_receiver.specs.Listen.{AreTaken, HasFirstFault, HasLogged, IsLogOf, IsLogOfFile, IsLogOfLines, air_limit};
+ghost use Rattle.nx_receiver.specs.ListenExample.{example_air_file};
+ghost use Rattle.nx_receiver.specs.ListenOnce.{IsHeardInTimeIn};
+ghost use Rattle.nx_receiver.specs.OnceHeard.{IsPrintedOnce};
+ghost use Rattle.nx_receiver.specs.Tagged.{TaggedCopy};
+ghost use Rattle.nx_receiver.specs.Worked.{worked_log};
 ghost use Rattle.nx_receiver.specs.declared.listen_fault.ListenFault.{ListenFault};
 
 /// An air file has one log: there is one, wherever each line is taken after those before it, and no other. And so have
@@ -27,6 +34,20 @@ pub fn an_air_file_has_one_outcome()
         → HasFirstFault (HasLogged old new) bytes why → HasFirstFault AreTaken bytes why }
 {}
 
+/// A message that is heard in time in an air file has exactly one entry in the log of the file. The entry is full, has 0
+/// errors, and its text is the message's, letter for letter.
+pub fn a_message_heard_in_time_has_one_entry()
+    ensures { (file log : List ℕ) (lines : List Line) (copies : List TaggedCopy) (message : MessageView)
+        → IsLogOfFile file lines copies log → IsHeardInTimeIn file message → IsPrintedOnce message copies }
+{}
+
+/// There is an air file with such a message: EA01 with the line TEST, each of whose DX words is damaged. Its log is that
+/// one entry, in 42 bytes.
+pub fn there_is_an_air_file_with_a_message_heard_in_time()
+    ensures heard { IsHeardInTimeIn example_air_file example_message }
+    ensures log { IsLogOf example_air_file worked_log }
+{}
+
 #[cfg(test)]
 mod tests {
     use super::*;
@@ -36,5 +57,7 @@ mod tests {
     fn laws(_rt: HostRuntime) {
         an_air_file_has_one_log();
         an_air_file_has_one_outcome();
+        a_message_heard_in_time_has_one_entry();
+        there_is_an_air_file_with_a_message_heard_in_time();
     }
 }

@@ -2,6 +2,7 @@ use Rattle.std.proofs.Common.{Err, refl, subst, sym}
 use Rattle.nx_fec.specs.Transfers.{devices}
 use Rattle.nx_fec.proofs.TransferLaws.{Ok-not_err, Writes-sound}
 use Rattle.nx_receiver.specs.Listen.{Listens, events_of}
+use Rattle.nx_receiver.proofs.ListenOnce.{keeps-headline}
 use Rattle.nx_receiver.proofs.ListenRuns.{listens-fault, listens-memory, listens-ok, listens-part-as}
 use Rattle.nx_receiver.proofs.listening.listen.Goals as goal
 
@@ -35,3 +36,8 @@ returns-clause-listens g c =
     listens-ok g.R.Read.remaining contents first c.run_lines.new.taker c.args.reader.now c.run_lines.new.reader c.args.writer.now c.run_lines.new.writer c.close.new.writer
     c.in-Ok.read c.in_ok-report.report (c.in-Ok.ensures first c.in_ok-listener.ensures)
     (λ lines given h w. c.in_ok-report.ensures.closed (contents c.args.writer.now.inner) (events_of lines) given h.hears w) c.in_ok-report.ensures.lines c.in_ok-report.ensures.none
+
+pub returns-clause-once : goal.returns-clause-once
+returns-clause-once g c =
+    keeps-headline (devices g.R.Read.remaining g.W.Write.contents c.args.reader.now c.run_lines.new.reader c.args.writer.now c.close.new.writer)
+    c.in_ok-report.report (returns-clause-listens g c)

@@ -1,0 +1,225 @@
+-- The worked air file: it meets what is asked of a message that is printed once, and it has its log.
+use Rattle.std.proofs.Common.{◌≡◌, ℕ, zero, suc, ◌+◌, ◌*◌, ◌<◌, ◌≤◌, Bool, List, [], ◌∷◌, ◌++◌, length, map, take, drop, refl, sym, ap, ◌∙◌, subst, arith, length-append, lit<, lit≤}
+use Rattle.std.specs.Prelude.{slice_index_or}
+use Rattle.std.specs.List.{AllByRecursion, Contains, range_with_len}
+use Rattle.std.specs.Int.{div_ceil}
+use Rattle.std.proofs.lemmas.List.{length-map, length-take, length-drop, map-append}
+use Rattle.nx_memory.specs.Selection.{admits}
+use Rattle.nx_fec.specs.AirFile.{Line, IsLine, element_digit, elements, moment, spelling}
+use Rattle.nx_fec.specs.BitLines.{bit_line, bit_lines}
+use Rattle.nx_fec.specs.Emission.{bits_of}
+use Rattle.nx_fec.specs.Lines.{IsAirFile, file_of, line_bytes}
+use Rattle.nx_fec.proofs.EncodingLaws.{bit_lines-IsBitFile}
+use Rattle.nx_fec.proofs.LineLaws.{IsAirFile-unique, spelling-IsBeginning}
+use Rattle.nx_fec.proofs.RoundTripLemmas.{length-bits_of}
+use Rattle.nx_station.specs.ChannelExample.{example_message, example_parts, example_sending}
+use Rattle.nx_station.specs.Sendings.{IsCut, Sending}
+use Rattle.nx_station.proofs.ChannelExamples.{example_sent}
+use Rattle.nx_sync.specs.Locks.{locked, IsNow}
+use Rattle.nx_receiver.specs.Events.{Setting, at_moment, element, first_setting, setting_after_all, settings}
+use Rattle.nx_receiver.specs.Events.{bits_of as bits_among}
+use Rattle.nx_receiver.specs.Example.{first_copy}
+use Rattle.nx_receiver.specs.FoundCopies.{FoundCopy, found_to_end}
+use Rattle.nx_receiver.specs.Listen.{AreTaken, AreTakenAfter, IsLogOf, air_limit, at_zero, events_of}
+use Rattle.nx_receiver.specs.ListenExample.{example_air_file, example_lines}
+use Rattle.nx_receiver.specs.ListenOnce.{AreFoundIn, IsHeardInTimeIn, elements_in, in_force_at, heard_as}
+use Rattle.nx_receiver.specs.Log.{PrintsToEnd}
+use Rattle.nx_receiver.specs.Printing.{printed_copies}
+use Rattle.nx_receiver.specs.Receiver as receiver
+use Rattle.nx_receiver.specs.Sending.{IsSentAt, copy_of_sending}
+use Rattle.nx_receiver.specs.Tagged.{tag, tagged_copies}
+use Rattle.nx_receiver.specs.Worked.{at_its_slot, damaged_words, worked_log}
+use Rattle.nx_receiver.proofs.ListenOnce.{heard-elements}
+use Rattle.nx_receiver.proofs.LoggedLemmas.{one_to_end}
+use Rattle.nx_receiver.proofs.OnceExample.{cut_is, events, events_are, first_bits, found, not_two, one_found, one_in, sent_there, stands_is}
+use Rattle.nx_receiver.proofs.SendingFound.{sending_in_end}
+use Rattle.nx_receiver.proofs.WorkedLemmas.{damaged_computed}
+use Rattle.nx_receiver.proofs.WorkedLog.{all_selected, at_first, log_is, printed_to_end}
+
+abbrev bits : List Bool
+bits = bits_of damaged_words
+
+long : length bits ≡ 1421
+long = length-bits_of damaged_words ∙ omega (arith, damaged_computed.long)
+
+-- ---- the file, of a moment and three lines of elements
+
+abbrev three : List Line
+three = map (bit_line bits) (0 ∷ 1 ∷ 2 ∷ [])
+
+three-is : bit_lines bits ≡ three
+three-is = ap (λ n. map (bit_line bits) (range_with_len 0 (div_ceil n 490))) long
+
+line-good : (i : ℕ) → i ≤ 2 → IsLine (bit_line bits i)
+line-good i h =
+    let count = length-take 490 (drop (490 * i) bits) in
+    let rest = length-drop (490 * i) bits in
+    (omega (arith, long, count, rest, h), omega (arith, count))
+
+three-good : AllByRecursion IsLine three
+three-good = (line-good 0 (omega arith), (line-good 1 (omega arith), (line-good 2 (omega arith), tt)))
+
+line-short : (i : ℕ) → length (line_bytes (bit_line bits i)) ≤ 493
+line-short i =
+    let ones = take 490 (drop (490 * i) bits) in
+    let digits : length (map element_digit ones) ≡ length ones = length-map ones element_digit in
+    let few = length-take 490 (drop (490 * i) bits) in
+    omega (arith, digits, few, length-append (spelling (elements ones)) (10 ∷ []))
+
+three-short : length (file_of three) ≤ 1479
+three-short =
+    let one = line_bytes (bit_line bits 0) in
+    let two = line_bytes (bit_line bits 1) in
+    let last = line_bytes (bit_line bits 2) in
+    omega (arith, line-short 0, line-short 1, line-short 2, length-append one (two ++ (last ++ [])), length-append two (last ++ []), length-append last [])
+
+lines-good : AllByRecursion IsLine (bit_lines bits)
+lines-good = subst (AllByRecursion IsLine) (sym three-is) three-good
+
+lines-short : length (file_of (bit_lines bits)) ≤ 1479
+lines-short = subst (λ (ls : List Line). length (file_of ls) ≤ 1479) (sym three-is) three-short
+
+moment-good : IsLine (moment 1735692000)
+moment-good = lit< tt
+
+file-is : IsAirFile air_limit example_air_file example_lines
+file-is = record {
+  whole = refl;
+  each = (moment-good, lines-good);
+  within =
+      omega (arith, lines-short, (spelling-IsBeginning (moment 1735692000) moment-good).short, length-append (spelling (moment 1735692000)) (10 ∷ []), length-append (line_bytes (moment 1735692000)) (file_of (bit_lines bits)));
+}
+
+elements-are : elements_in (bit_lines bits) ≡ bits
+elements-are =
+    let within : length (file_of (bit_lines bits)) ≤ air_limit = omega (arith, lines-short) in
+    let other = bit_lines-IsBitFile air_limit bits within in
+    let mine : IsAirFile air_limit (file_of (bit_lines bits)) (bit_lines bits) = record { whole = refl; each = lines-good; within = within } in
+    ap elements_in (IsAirFile-unique air_limit (file_of (bit_lines bits)) (bit_lines bits) other.lines mine other.file) ∙ sym other.joined
+
+-- ---- what it gives to a receiver
+
+-- lines of elements give their elements
+line-events : (is : List ℕ) → events_of (map (bit_line bits) is) ≡ map element (elements_in (map (bit_line bits) is))
+line-events [] = refl
+line-events (i ∷ is) =
+    ap (λ es. receiver.elements (take 490 (drop (490 * i) bits)) ++ es) (line-events is)
+    ∙ sym (map-append element (take 490 (drop (490 * i) bits)) (elements_in (map (bit_line bits) is)))
+
+events-are : events_of example_lines ≡ at_moment 1735692000 ∷ events
+events-are = ap (λ es. at_moment 1735692000 ∷ es) (line-events (range_with_len 0 (div_ceil (length bits) 490)) ∙ ap (map element) elements-are)
+
+same : bits_among events ≡ elements_in example_lines
+same = events_are ∙ sym elements-are
+
+cut : IsCut (elements_in example_lines) (example_parts first_bits [])
+cut = subst (λ (b : List Bool). IsCut b (example_parts first_bits [])) same cut_is
+
+found-in : AreFoundIn (elements_in example_lines) found
+found-in = record {
+  locks = [];
+  now = locked 0 28;
+  stands = subst (λ (b : List Bool). IsNow b [] (locked 0 28)) same stands_is;
+  whole = ap (λ (b : List Bool). found_to_end b [] (locked 0 28)) same;
+}
+
+-- each sending of the message is the one at this element
+abbrev place : ℕ
+place = length first_bits + 517
+
+one-sending : (at : ℕ) → IsSentAt (example_parts first_bits []) example_message at → at ≡ place
+one-sending at sent =
+    let sending : Sending = record { message = example_message; place = at } in
+    let there : Contains found (copy_of_sending sending) =
+    sending_in_end (bits_among events) (example_parts first_bits []) sending [] (locked 0 28) cut_is sent stands_is in
+    ap (λ (c : FoundCopy). c.place) (one_in found (copy_of_sending sending) (copy_of_sending (example_sending first_bits)) one_found there sent_there)
+
+-- at an element the moment is that of the file's first line
+inside : (now first : Setting) (xs : List Bool) (at : ℕ) → at < length xs → slice_index_or (settings now (map element xs)) at first ≡ now
+unfolding settings
+inside now first [] at h = absurd (omega arith)
+inside now first (x ∷ xs) zero h = refl
+inside now first (x ∷ xs) (suc at) h = inside now first xs at (omega arith)
+
+place-within : place < length bits
+place-within =
+    let count : length (take 96 damaged_words) ≡ 96 = length-take 96 damaged_words ∙ omega (arith, damaged_computed.long) in
+    omega (arith, long, count, length-bits_of (take 96 damaged_words))
+
+in-force : in_force_at example_lines place ≡ first_setting at_its_slot
+unfolding settings
+in-force =
+    ap (λ es. slice_index_or (settings (first_setting at_zero) es) place (first_setting at_zero)) events-are
+    ∙ inside (first_setting at_its_slot) (first_setting at_zero) bits place place-within
+
+in-force-at : (at : ℕ) → IsSentAt (example_parts first_bits []) example_message at → in_force_at example_lines at ≡ first_setting at_its_slot
+in-force-at at sent = ap (in_force_at example_lines) (one-sending at sent) ∙ in-force
+
+one-tagged : length (heard_as example_lines found) ≡ 1
+unfolding tagged_copies
+one-tagged = length-map found _ ∙ one_found
+
+pub heard-in-time : IsHeardInTimeIn example_air_file example_message
+heard-in-time = record {
+  lines = example_lines;
+  spelled = file-is;
+  parts = example_parts first_bits [];
+  cut = cut;
+  place = place;
+  sent = example_sent first_bits [];
+  numbered = lit< tt;
+  copies = found;
+  found = found-in;
+  alone = λ copy there named.
+      subst (IsSentAt (example_parts first_bits []) example_message) (ap (λ (c : FoundCopy). c.place) (one_in found (copy_of_sending (example_sending first_bits)) copy one_found sent_there there)) (example_sent first_bits []);
+  selected = λ at sent. ap (λ (s : Setting). admits s.refused example_message.identity) (in-force-at at sent) ∙ all_selected;
+  close = λ one other a b.
+      let m = ap (λ (s : Setting). s.moment) (in-force-at one a) in
+      let n = ap (λ (s : Setting). s.moment) (in-force-at other b) in
+      omega arith;
+  few =
+      λ before between after first later e none named again. absurd (not_two (heard_as example_lines found) before between after first later one-tagged e);
+}
+
+-- ---- its log
+
+taken-after : (front : List Line) (is : List ℕ) → AreTakenAfter (moment 1735692000 ∷ front) (map (bit_line bits) is)
+unfolding AreTakenAfter
+taken-after front [] = tt
+taken-after front (i ∷ is) = (refl, taken-after (front ++ bit_line bits i ∷ []) is)
+
+taken : AreTaken example_lines
+unfolding AreTakenAfter setting_after_all
+taken = ((lit≤ tt, lit≤ tt), taken-after [] (range_with_len 0 (div_ceil (length bits) 490)))
+
+-- a list of one that holds an item is that item alone
+alone : {A : Type 0} (xs : List A) (x : A) → length xs ≡ 1 → Contains xs x → xs ≡ x ∷ []
+alone [] x one c = absurd (omega (arith, one))
+alone (y ∷ (z ∷ ys)) x one c = absurd (omega (arith, one))
+alone (y ∷ []) x one c = ap (λ w. w ∷ []) (one_in (y ∷ []) y x refl (0, omega arith, refl) c)
+
+tagged-same : heard_as example_lines found ≡ tagged_copies (first_setting at_its_slot) events found
+unfolding tagged_copies
+tagged-same =
+    let this = copy_of_sending (example_sending first_bits) in
+    let is : found ≡ this ∷ [] = alone found this one_found sent_there in
+    ap (heard_as example_lines) is
+    ∙ ap (λ (s : Setting). tag s this ∷ []) (in-force ∙ sym (at_first (first_setting at_its_slot) bits place))
+    ∙ ap (tagged_copies (first_setting at_its_slot) events) (sym is)
+
+printed : PrintsToEnd at_zero (events_of example_lines) (first_copy ∷ [])
+printed =
+    let before = printed_to_end damaged_words damaged_computed in
+    let mine : PrintsToEnd at_its_slot events (printed_copies [] (tagged_copies (first_setting at_its_slot) events found)) =
+    record { locks = []; now = locked 0 28; stands = stands_is; printed = refl } in
+    let bits-are : bits_among (events_of example_lines) ≡ bits_among events = heard-elements example_lines ∙ sym same in
+    record {
+      locks = [];
+      now = locked 0 28;
+      stands = subst (λ (b : List Bool). IsNow b [] (locked 0 28)) (sym bits-are) stands_is;
+      printed = one_to_end at_its_slot events _ _ before mine ∙ ap (printed_copies []) (sym tagged-same)
+          ∙ ap (λ (b : List Bool). printed_copies [] (heard_as example_lines (found_to_end b [] (locked 0 28)))) (sym bits-are);
+    }
+
+pub logged : IsLogOf example_air_file worked_log
+logged = (example_lines, first_copy ∷ [], record { file = file-is; taken = taken; printed = printed; spelled = log_is })
