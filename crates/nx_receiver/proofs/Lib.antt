@@ -10,6 +10,7 @@ pub mod WatchTakes
 pub mod ReceiverEvents
 pub mod ReceiverPrinting
 pub mod ReceiverOver
+pub mod ReceiverPassed
 pub mod ReceiverFeeds
 pub mod WatchBits
 pub mod WatchWords
