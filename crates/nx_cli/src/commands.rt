@@ -144,8 +144,12 @@ with its last element has come: a head, the text, and an empty line. The head ha
 time of the copy, how it ended (full, cut or long), its errors and its characters. A message that
 was printed well within the last 66 hours is not printed again, but for the number 00.
 
-Example:
-  $ printf '#A01\\nTEST\\n;\\n' | navtex send E 1735689600 | navtex listen
+Example: of message 01 of subject A of station E half the words are damaged, and it is read whole:
+  $ printf '#A01\\nTEST\\n;\\n' | navtex send E 1735689600 | navtex damage dx 144 59 > ea01.air
+  $ head -c 53 ea01.air
+  T 1735692000
+  B 01100111111000011001111110000110011111
+  $ navtex listen < ea01.air
   [EA01 2025-01-01 00:40:00 full 0/5]
   TEST";
 

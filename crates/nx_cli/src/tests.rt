@@ -1,11 +1,18 @@
 //! The program on words and bytes: its output, its fault lines, its exit statuses, and which calls
 //! it makes on devices that fail.
 
+mod air;
+mod clocked;
+mod copies;
 mod damaging;
 mod devices;
 mod failures;
 mod files;
+mod interrupted;
+mod listening;
+mod locking;
 mod reading;
+mod repeats;
 mod station;
 mod words;
 
@@ -25,6 +32,13 @@ struct Ended {
     status: u8,
     output: Vec<u8>,
     faults: Vec<u8>,
+}
+
+impl Ended {
+    // The output of a run that succeeded and reported no fault.
+    fn success(&self) -> Option<&[u8]> {
+        (self.status == 0 && self.faults.is_empty()).then_some(self.output.as_slice())
+    }
 }
 
 fn run_on(alloc: Global, words: &[&str], input: &[u8]) -> Ended {

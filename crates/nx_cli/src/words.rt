@@ -31,7 +31,7 @@ pub enum Call {
     Show,
     /// Print the messages of an air file that is exactly an emission.
     Check,
-    /// Prints the log of an air file.
+    /// Print the log of an air file.
     Listen,
     /// Write messages as an air file, to be sent in the station's next slot.
     Send {

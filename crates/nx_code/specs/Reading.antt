@@ -21,7 +21,11 @@ character_of_cell (c ∷ d ∷ cs) = None
 -- what a combination prints in a shift: a newline for 28, a space for 31, else the character of its row
 unfoldable pub character_of : ℕ → Shift → Option ℕ
 character_of number shift =
-    if number == 28 then Some 10 else (if number == 31 then Some 32 else option_and_then (λ row. character_of_cell (cell shift row)) (row_of number))
+    if number == 28
+    then Some 10
+    else (if number == 31
+    then Some 32
+    else option_and_then (λ row. character_of_cell (cell shift row)) (row_of number))
 
 -- the asterisk, which a lost position prints
 abbrev pub asterisk : ℕ
@@ -46,7 +50,8 @@ shift_after position shift = unwrap_or (shift_set position) shift
 -- the bytes that positions print, in order, from a first shift
 abbrev pub text : List Reception → Shift → List ℕ
 text [] shift = []
-text (position ∷ positions) shift = option_to_list (byte_of position shift) ++ text positions (shift_after position shift)
+text (position ∷ positions) shift =
+    option_to_list (byte_of position shift) ++ text positions (shift_after position shift)
 
 -- the shift in force after positions, from a first shift
 abbrev pub shift_after_all : List Reception → Shift → Shift

@@ -37,7 +37,8 @@ pub record Fits (shift : Shift) (number : ℕ) (rest : List ℕ) : Type 0 where
 -- each combination fits where it stands
 abbrev pub EachFits : Shift → List ℕ → Type 0
 EachFits shift [] = Unit {0}
-EachFits shift (number ∷ numbers) = Fits shift number numbers × EachFits (shift_after (combination number) shift) numbers
+EachFits shift (number ∷ numbers) =
+    Fits shift number numbers × EachFits (shift_after (combination number) shift) numbers
 
 -- the combinations spell the text from a shift
 pub record Spells (bytes : List ℕ) (shift : Shift) (numbers : List ℕ) : Type 0 where

@@ -23,7 +23,8 @@ pub fn code_to_char(comb: Comb, shift: Shift) -> Option<u8>
 /// (M.476 and M.625, conversion tables; which figures are left out, and `Case::Either`, are this profile's).
 pub fn char_to_code(character: u8) -> Option<(Comb, Case)>
     ensures in_code { IsSome result ↔ IsTrue (is_in_code character) }
-    ensures found { (number : ℕ) (shift : Shift) → 1 ≤ number → number ≤ 32 → character_of number shift ≡ Some character
+    ensures found { (number : ℕ) (shift : Shift) → 1 ≤ number → number ≤ 32
+        → character_of number shift ≡ Some character
         → IsSomeAnd result (λ code. (code.0.number ≡ number) × IsTrue (holds_in code.1 shift)) }
     ensures printed { IfSome result (λ code. (shift : Shift) → IsTrue (holds_in code.1 shift)
         → character_of code.0.number shift ≡ Some character) }

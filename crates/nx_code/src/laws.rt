@@ -21,7 +21,8 @@ pub fn reading_by_nearest_shift()
     ensures nothing { (first : Shift) → text [] first ≡ [] }
     ensures one_more { (positions : List Reception) (position : Reception) (first shift : Shift)
         → IsShiftAfter positions first shift
-        → text (positions ++ position ∷ []) first ≡ text positions first ++ option_to_list (byte_of position shift) }
+        → text (positions ++ position ∷ []) first
+        ≡ text positions first ++ option_to_list (byte_of position shift) }
     ensures some { (positions : List Reception) (first : Shift)
         → (shift : Shift) × IsShiftAfter positions first shift }
     ensures only { (positions : List Reception) (first one other : Shift)
@@ -38,7 +39,8 @@ pub fn words_are_their_elements()
 /// word is that of its signal, and without a row nothing is printed (M.476 and M.625, conversion tables).
 pub fn thirty_two_combinations()
     ensures rows { (number : ℕ) → IsSome (row_of number) ↔ ((1 ≤ number) × (number ≤ 32)) }
-    ensures words { (comb : Comb) → traffic_word comb.number ≡ number_of_signal (signals.Traffic comb) }
+    ensures words { (comb : Comb)
+        → traffic_word comb.number ≡ number_of_signal (signals.Traffic comb) }
     ensures no_word { (number : ℕ) → row_of number ≡ None → traffic_word number ≡ 128 }
     ensures no_character { (number : ℕ) (shift : Shift) → row_of number ≡ None
         → character_of number shift ≡ None }

@@ -58,9 +58,11 @@ impl Printer {
         ensures shift { self.new ≡ shift_after (reception_of taken) self.old }
 
         // For the positions so far, from letters, the byte is the next of their text.
-        ensures reading { (positions : List Reception) → self.old ≡ shift_after_all positions Letters →
-            (self.new ≡ shift_after_all (positions ++ reception_of taken ∷ []) Letters)
-            × (text (positions ++ reception_of taken ∷ []) Letters ≡ text positions Letters ++ option_to_list result) }
+        ensures reading { (positions : List Reception)
+            → self.old ≡ shift_after_all positions Letters
+            → (self.new ≡ shift_after_all (positions ++ reception_of taken ∷ []) Letters)
+            × (text (positions ++ reception_of taken ∷ []) Letters
+            ≡ text positions Letters ++ option_to_list result) }
     {
         match taken {
             Taken::Char(comb) => self.print(comb),

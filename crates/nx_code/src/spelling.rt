@@ -71,7 +71,8 @@ fn first_unknown(text: &[u8]) -> Option<usize>
 fn piece_of(character: u8, shift: Shift) -> Piece
     requires { IsTrue (is_in_code character) }
     ensures spells { Spells (character ∷ []) shift (numbers_of_piece result) }
-    ensures shift { result.shift ≡ shift_after_all (map combination (numbers_of_piece result)) shift }
+    ensures shift { result.shift
+        ≡ shift_after_all (map combination (numbers_of_piece result)) shift }
 {
     if character == NEWLINE {
         return Piece {
@@ -145,7 +146,8 @@ pub fn extent_of(text: &[u8], from: Shift) -> Option<Extent>
 /// The spelling of a text from a shift: the one list of combinations that is read as the text and has no
 /// needless shift (M.476, M.540). A byte that is not in the code is refused before any memory is taken.
 pub fn spell(alloc: Global, text: &[u8], from: Shift) -> Result<Vec<Comb>, SpellFault>
-    ensures spelling { IfOk result (λ combs. Spells text.now from (map (λ comb. comb.number) combs.items)) }
+    ensures spelling { IfOk result (λ combs.
+        Spells text.now from (map (λ comb. comb.number) combs.items)) }
     ensures reading { IfOk result (λ combs.
         reading_of (map combination (map (λ comb. comb.number) combs.items)) from ≡ text.now) }
     ensures no_such_character { (at : ℕ) → (result ≡ Err (SpellFault.NoSuchCharacter at))

@@ -41,8 +41,10 @@ impl Row {
 
     /// In which shifts the row prints this character, which it does print.
     pub(crate) fn case_of(self, character: u8) -> Case
-        requires { (character_in self Letters ≡ Some character) ⊎ (character_in self Figures ≡ Some character) }
-        ensures { (shift : Shift) → IsTrue (holds_in result shift) ↔ (character_in self shift ≡ Some character) }
+        requires { (character_in self Letters ≡ Some character)
+            ⊎ (character_in self Figures ≡ Some character) }
+        ensures { (shift : Shift) → IsTrue (holds_in result shift)
+            ↔ (character_in self shift ≡ Some character) }
     {
         if self.letter != Some(character) {
             Case::Figures
@@ -126,7 +128,8 @@ pub(crate) fn row_at(place: usize) -> Row
     requires { place < SIGNALS }
     ensures word { result.word ≡ slice_index words place }
     ensures range { result.word < 128 }
-    ensures characters { (shift : Shift) → character_in result shift ≡ character_of (place + 1) shift }
+    ensures characters { (shift : Shift) → character_in result shift
+        ≡ character_of (place + 1) shift }
 {
     TABLE[place]
 }

@@ -103,6 +103,12 @@ pub record HasReady (finder : Finder) (copy : Copy) : Type 0 where
   pub held : finder.copy ≡ held.Ready copy.header.identity copy.how
   pub text : finder.text ≡ copy.text
 
+-- the identity of the copy that is held
+abbrev pub held_identity : HeldCopy → Option Identity
+held_identity held.Nothing = None
+held_identity (held.Open identity fresh) = Some identity
+held_identity (held.Ready identity how) = Some identity
+
 abbrev pub is_ready_copy : HeldCopy → Bool
 is_ready_copy held.Nothing = false
 is_ready_copy (held.Open identity fresh) = false

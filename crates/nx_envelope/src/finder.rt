@@ -11,7 +11,6 @@ use crate::stage::Stage;
 use arrayvec::ArrayVec;
 use nx_code::ASTERISK;
 use std::marker::Model;
-use std::mem;
 
 /// The length of a marker.
 const MARKER_LEN: usize = 4;
@@ -46,7 +45,7 @@ impl Finder {
     ghost use Rattle.nx_envelope.specs.Backward.{header_back};
     ghost use Rattle.nx_envelope.specs.Copies.{Copy, open_headers};
     ghost use Rattle.nx_envelope.specs.Finder.{Brings, Closes, HasReady, Hears, HoldsOpen};
-    ghost use Rattle.nx_envelope.specs.Finder.{StandsAfter, is_over, is_ready};
+    ghost use Rattle.nx_envelope.specs.Finder.{StandsAfter, held_identity, is_over, is_ready};
     ghost use Rattle.nx_envelope.specs.Finding.{Hearing};
     ghost use Rattle.nx_envelope.specs.Found.{IsFound};
 
@@ -118,6 +117,17 @@ impl Finder {
         Some(found_of(identity, how, self.text.take()))
     }
 
+    /// The identity of the copy that is open, or that can be taken.
+    #[inline(always)]
+    pub fn identity(&self) -> Option<Identity>
+        ensures { result ≡ held_identity self.now.copy }
+    {
+        match self.copy {
+            HeldCopy::Nothing => None,
+            HeldCopy::Open(identity, _) | HeldCopy::Ready(identity, _) => Some(identity),
+        }
+    }
+
     /// Ends the text and answers the copy that stands open; the finder is then as new. A copy that
     /// could be taken is gone.
     // Not inlined, as `take_found`.
@@ -126,11 +136,24 @@ impl Finder {
         ensures closes { (text : List ℕ) → StandsAfter self.old text → Closes text result }
         ensures as_new { StandsAfter self.new [] }
     {
-        let finder = mem::replace(self, Finder::new());
-        let HeldCopy::Open(identity, _) = finder.copy else {
+        let HeldCopy::Open(identity, _) = self.copy else {
+            self.restart();
             return None;
         };
-        Some(found_of(identity, How::Cut, finder.text))
+        let found = found_of(identity, How::Cut, self.text.take());
+        self.restart();
+        Some(found)
+    }
+
+    /// Ends the text; the finder is then as new. A copy that stands open or could be taken is gone.
+    // The text that it holds stays until a copy begins, since it is long to clear.
+    pub fn restart(&mut self)
+        ensures as_new { StandsAfter self.new [] }
+        ensures text { self.new.text ≡ self.old.text }
+    {
+        self.recent = [0; MARKER_LEN];
+        self.stage = Stage::Nowhere;
+        self.copy = HeldCopy::Nothing;
     }
 
     /// Begins a copy where a header was completed.

@@ -1,11 +1,10 @@
 -- A run over lines, step by step.
-use Rattle.std.proofs.Common.{◌≡◌, ◌↔◌, IsErrOf, ℕ, ◌+◌, ◌-◌, ◌<◌, ◌≤◌, length, take, drop, option_to_list, true, false, ◌⊎◌, inl, inr, Option, None, Some, IfSome, Result, Ok, Err, List, [], ◌∷◌, ◌++◌, refl, sym, ap, ◌∙◌, subst, append_assoc, append-nil, take-append-drop, arith}
+use Rattle.std.proofs.Common.{◌≡◌, ◌↔◌, IsErrOf, ℕ, ◌<◌, ◌≤◌, length, take, drop, option_to_list, true, false, ◌⊎◌, inl, inr, Option, None, Some, IfSome, Result, Ok, Err, List, [], ◌∷◌, ◌++◌, refl, sym, ap, ◌∙◌, subst, append_assoc, append-nil, arith}
 use Rattle.std.specs.List.{AllByRecursion}
 use Rattle.std.specs.Option.{is_some}
 use Rattle.std.specs.Io.KnownBytes.{Appends, Consumes, IsAtEnd}
-use Rattle.std.proofs.lemmas.List.{length-append, take_rest}
+use Rattle.std.proofs.lemmas.List.{length-append}
 use Rattle.std.proofs.lemmas.List.Concat.{flat_map-append}
-use Rattle.std.proofs.Math.Seq.{take-add}
 use Rattle.nx_fec.specs.AirFile.{Line, IsLine, spelling}
 use Rattle.nx_fec.specs.Devices.{HasWritten, WroteSome}
 use Rattle.nx_fec.specs.Transfers.{Devices, IsReadOut, Writes}
@@ -19,6 +18,7 @@ use Rattle.nx_fec.specs.declared.line_run.LinesFault.{LinesFault}
 use Rattle.nx_fec.specs.declared.line_run.LinesFault.TheVariants as run
 use Rattle.nx_fec.specs.declared.line_run.LinesRead.{LinesRead}
 use Rattle.nx_fec.proofs.LineLaws.{spelling-IsBeginning}
+use Rattle.nx_fec.proofs.PieceLemmas.{piece-parts}
 use Rattle.nx_fec.proofs.ReadingLaws.{IsCause-more}
 
 pub IsPlaced-at_byte : (AtEnd : Type 0) (why : LineFault) → IsAtByte why → IsPlaced AtEnd why
@@ -35,27 +35,6 @@ no-kind kind (Some line) h e = let k : is_some (kind_kept (Some line)) ≡ false
 pub some-kind : (kind : Option LineKind) (latest : Option Line) → is_some kind ≡ true → kind ≡ kind_kept latest → kind_kept latest ≡ None → ⊥
 some-kind kind None h e none = let k : is_some (kind_kept None) ≡ true = subst (λ (o : Option LineKind). is_some o ≡ true) e h in cc
 some-kind kind (Some line) h e none = cc
-
--- a piece, up to an index and from it on
-piece-parts : (bytes piece more : List ℕ) (count : ℕ) → (bytes ++ piece) ++ more ≡ (bytes ++ take count piece) ++ (drop count piece ++ more)
-piece-parts bytes piece more count =
-    ap (λ l. (bytes ++ l) ++ more) (sym (take-append-drop count piece))
-    ∙ ap (λ l. l ++ more) (sym (append_assoc bytes (take count piece) (drop count piece)))
-    ∙ append_assoc (bytes ++ take count piece) (drop count piece) more
-
--- what is left of a piece after an index
-pub piece-rest : (bytes piece more : List ℕ) (at : ℕ)
-    → ((bytes ++ take at piece) ++ take (length piece - at) (drop at piece)) ++ more ≡ (bytes ++ piece) ++ more
-piece-rest bytes piece more at =
-    ap (λ l. ((bytes ++ take at piece) ++ l) ++ more) (take_rest piece at)
-    ∙ append_assoc (bytes ++ take at piece) (drop at piece) more
-    ∙ sym (piece-parts bytes piece more at)
-
--- the next bytes of a piece
-pub piece-next : (bytes piece : List ℕ) (at count : ℕ) → (bytes ++ take at piece) ++ take count (take (length piece - at) (drop at piece)) ≡ bytes ++ take (at + count) piece
-piece-next bytes piece at count =
-    append_assoc bytes (take at piece) (take count (take (length piece - at) (drop at piece)))
-    ∙ ap (λ l. bytes ++ l) (ap (λ l. take at piece ++ take count l) (take_rest piece at) ∙ sym (take-add at count piece))
 
 -- the file of one line more
 pub file_of-one : (lines : List Line) (line : Line) → file_of (lines ++ line ∷ []) ≡ file_of lines ++ line_bytes line

@@ -1,13 +1,14 @@
 -- Lemmas on what a scanner has read, and on the faults that explain why it stopped.
-use Rattle.std.proofs.Common.{◌≡◌, ℕ, ◌+◌, ◌<◌, Bool, true, false, length, take, drop, get_or, if◌then◌else◌, option_to_list, refl, take-append-drop, List, [], ◌∷◌, ◌++◌, sym, ap, ◌∙◌, subst, append_assoc, append-nil, Option, None, Some, IfSome, Result, Err, arith}
+use Rattle.std.proofs.Common.{◌≡◌, ℕ, ◌<◌, Bool, length, take, drop, option_to_list, refl, List, [], ◌∷◌, ◌++◌, sym, ap, ◌∙◌, subst, append_assoc, append-nil, Option, None, Some, IfSome, Result, Err, arith}
 use Rattle.std.specs.List.{flat_map}
 use Rattle.std.specs.Io.KnownBytes.{Consumes, IsAtEnd}
 use Rattle.std.proofs.lemmas.List.Concat.{flat_map-append}
-use Rattle.std.proofs.lemmas.List.{drop_more, length-append}
+use Rattle.std.proofs.lemmas.List.{length-append}
 use Rattle.nx_fec.specs.AirFile.{Line}
-use Rattle.nx_fec.specs.Lines.{file_of, HasFault, IsAtByte, IsCause, Scanning, Scans, Splits, elements_of, IsBitFile}
+use Rattle.nx_fec.specs.Lines.{file_of, HasFault, IsAtByte, IsCause, Scanning, Scans, Splits, StopsIn, elements_of, IsBitFile}
 use Rattle.nx_fec.specs.Scanner.{elements_kept}
 use Rattle.nx_fec.specs.Runs.{run_fault, ExplainsReading, HasRead}
+use Rattle.nx_fec.proofs.PieceLemmas.{piece-parts}
 use Rattle.nx_fec.specs.declared.fault.LineFault.{LineFault}
 use Rattle.nx_fec.specs.declared.fault.LineFault.TheVariants as file
 use Rattle.nx_fec.specs.declared.fault.RunFault.{RunFault}
@@ -122,29 +123,12 @@ pub elements_kept-list : (latest : Option Line) → flat_map elements_of (option
 elements_kept-list None = refl
 elements_kept-list (Some line) = append-nil (elements_of line)
 
--- a byte that ended a line
-pub HasRead-ended : (limit : ℕ) (old new : Scanning) (bits more : List Bool) (bytes bytes' : List ℕ) (is_end : Bool) (latest : Option Line) → is_end ≡ true
-    → (h : HasRead limit old bits bytes) → Scans limit new bytes' (h.lines ++ (if is_end then option_to_list latest else []))
-    → more ≡ bits ++ flat_map elements_of (option_to_list latest) → HasRead limit new more bytes'
-HasRead-ended limit old new bits more bytes bytes' true latest e h scans joined = HasRead-step limit old new bits more bytes bytes' (option_to_list latest) h scans joined
-HasRead-ended limit old new bits more bytes bytes' false latest e h scans joined = cc
-
--- a byte inside a line
-pub HasRead-inside : (limit : ℕ) (old new : Scanning) (bits : List Bool) (bytes bytes' : List ℕ) (is_end : Bool) (latest : Option Line) → is_end ≡ false
-    → (h : HasRead limit old bits bytes) → Scans limit new bytes' (h.lines ++ (if is_end then option_to_list latest else [])) → HasRead limit new bits bytes'
-HasRead-inside limit old new bits bytes bytes' true latest e h scans = cc
-HasRead-inside limit old new bits bytes bytes' false latest e h scans = HasRead-step limit old new bits bits bytes bytes' [] h scans (sym (append-nil bits))
-
--- the bytes up to an index, the byte there, and those after it
-pub around : (bytes piece more : List ℕ) (at : ℕ) → at < length piece
-    → (bytes ++ piece) ++ more ≡ (bytes ++ take at piece) ++ (get_or piece at 0 ∷ (drop (at + 1) piece ++ more))
-around bytes piece more at h =
-    let parts : piece ≡ take at piece ++ (get_or piece at 0 ∷ drop (at + 1) piece) =
-    sym (take-append-drop at piece) ∙ ap (λ l. take at piece ++ l) (drop_more piece at 0 h) in
-    ap (λ l. (bytes ++ l) ++ more) parts
-    ∙ append_assoc bytes (take at piece ++ (get_or piece at 0 ∷ drop (at + 1) piece)) more
-    ∙ ap (λ l. bytes ++ l) (append_assoc (take at piece) (get_or piece at 0 ∷ drop (at + 1) piece) more)
-    ∙ sym (append_assoc bytes (take at piece) (get_or piece at 0 ∷ (drop (at + 1) piece ++ more)))
+-- a scanner that stops in a piece
+pub ExplainsReading-stop : (limit : ℕ) (s : Scanning) (bytes piece more : List ℕ) (lines : List Line) (why : LineFault) → IsAtByte why → StopsIn limit s bytes piece lines why
+    → ExplainsReading ⊥ limit ((bytes ++ piece) ++ more) (run_fault why)
+ExplainsReading-stop limit s bytes piece more lines why at stops =
+    ExplainsReading-at_byte limit _ why at (subst (λ l. HasFault limit l why) (sym (piece-parts bytes piece more stops.count))
+    (HasFault-cause limit (bytes ++ take stops.count piece) lines s.part (drop stops.count piece ++ more) why stops.scans.splits (stops.cause more)))
 
 pub IfSome-always : (o : Option (List ℕ)) (P : List ℕ → Type 0) → ((xs : List ℕ) → P xs) → IfSome o P
 IfSome-always None P h = tt

@@ -65,6 +65,8 @@ pub fn air_line(line: &[u8]) -> Option<AirLine>
 
 /// Reads a line, given without its line feed: what it says, and into `bits` its elements. None, and no elements, where
 /// it is no line of an air file.
+// Inlined always: the scanner asks it for each line, and its answer would go through memory.
+#[inline(always)]
 pub(crate) fn read_line(line: &[u8], bits: &mut ArrayVec<bool, MAX_ELEMENTS>) -> Option<LineKind>
     requires { bits.old.items ≡ [] }
     ensures found { IfSome result (λ kind. SpellsLine kind bits.new.items line.now) }
@@ -150,15 +152,16 @@ fn read_elements(digits: &[u8], bits: &mut ArrayVec<bool, MAX_ELEMENTS>) -> bool
     if digits.is_empty() || digits.len() > MAX_ELEMENTS {
         return false;
     }
-    for digit in digits {
-        match *digit {
-            b'0' => bits.push(false),
-            b'1' => bits.push(true),
-            _ => {
-                bits.clear();
-                return false;
-            }
-        }
+    let mut elements = [false; MAX_ELEMENTS];
+    let mut wrong = false;
+    for place in 0..digits.len() {
+        elements[place] = digits[place] == b'1';
+        wrong |= digits[place] != b'0' && digits[place] != b'1';
     }
+    if wrong {
+        return false;
+    }
+    bits.try_extend_from_slice(&elements[..digits.len()])
+        .unwrap();
     true
 }

@@ -9,6 +9,7 @@ mod counting;
 mod diversity;
 mod emission;
 mod fault;
+mod feeds;
 mod hexadecimal;
 pub mod laws;
 mod line_bytes;

@@ -1,10 +1,13 @@
 //! The bytes of one line, without its end.
-ghost use Rattle.std.specs.Prelude.{◌≡◌, ◌<◌, ◌≤◌, [], ◌∷◌, ◌++◌, length};
+ghost use Rattle.std.specs.Prelude.{◌≡◌, ◌+◌, ◌≤◌, [], ◌++◌, length, take};
 
 use std::marker::Model;
 
 /// The most bytes of a line before its end.
 pub(crate) const MAX_LINE_BYTES: usize = 514;
+
+/// The most bytes that are copied without a call.
+const SHORT: usize = 32;
 
 /// The first bytes of a line. An `ArrayVec` would write over all of them where it is emptied.
 #[derive(Drop)]
@@ -49,19 +52,48 @@ impl LineBytes {
         &self.bytes[..self.length]
     }
 
-    /// Appends a byte where there is room.
-    pub fn push(&mut self, byte: u8)
-        requires { length self.old < 514 }
-        ensures { self.new ≡ self.old ++ byte ∷ [] }
+    /// Appends the first `count` of these bytes.
+    // Inlined always: it runs for each line.
+    #[inline(always)]
+    pub fn extend(&mut self, bytes: &[u8], count: usize)
+        requires within { count ≤ length bytes.now }
+        requires room { length self.old + count ≤ 514 }
+        ensures { self.new ≡ self.old ++ take count bytes.now }
     {
-        self.bytes[self.length] = byte;
-        self.length += 1;
+        let whole = self.len() + count;
+        // A short line is copied at once, with bytes after it, which then are dropped.
+        if count <= SHORT && SHORT <= bytes.len() && self.len() <= MAX_LINE_BYTES - SHORT {
+            self.append(&bytes[..SHORT]);
+            self.truncate(whole);
+        } else {
+            self.append(&bytes[..count]);
+        }
+    }
+
+    /// Appends bytes where there is room.
+    // Inlined always, so that a length that is known makes a copy without a call.
+    #[inline(always)]
+    fn append(&mut self, bytes: &[u8])
+        requires { length self.old + length bytes.now ≤ 514 }
+        ensures { self.new ≡ self.old ++ bytes.now }
+    {
+        let length = self.length + bytes.len();
+        self.bytes[self.length..length].copy_from_slice(bytes);
+        self.length = length;
+    }
+
+    /// Keeps the first `count` bytes.
+    fn truncate(&mut self, count: usize)
+        requires { count ≤ length self.old }
+        ensures { self.new ≡ take count self.old }
+    {
+        self.length = count;
     }
 
     /// Drops all bytes.
     pub fn clear(&mut self)
         ensures { self.new ≡ [] }
     {
-        self.length = 0;
+        self.truncate(0);
     }
 }

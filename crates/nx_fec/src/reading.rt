@@ -1,5 +1,5 @@
 //! Reading the elements of an air file from a reader.
-ghost use Rattle.std.specs.Prelude.{◌≡◌, ◌+◌, ◌-◌, ◌<◌, ◌≤◌, ℕ, List, [], ◌∷◌, ◌++◌, length, IfSome, IfOk, OnOk, IsErrOf, IsErrAnd, MatchResult, ◌⊎◌, Bool, vec_len};
+ghost use Rattle.std.specs.Prelude.{◌≡◌, ◌+◌, ◌<◌, ◌≤◌, ℕ, List, ◌++◌, take, length, IfSome, IfOk, OnOk, IsErrOf, IsErrAnd, MatchResult, ◌⊎◌, Bool, vec_len};
 ghost use Rattle.std.specs.Io.KnownBytes.{IsAtEnd};
 ghost use Rattle.nx_fec.specs.Transfers.{Reads};
 ghost use Rattle.nx_fec.specs.Lines.{IsBitFile, HasFault};
@@ -141,25 +141,28 @@ fn scan_piece(piece: &[u8], scanner: &mut Scanner, bits: &mut Vec<bool>) -> Resu
     ensures room { OnOk result (scanner.new.room + length piece.now ≡ scanner.old.room) }
     ensures no_read { IsErrOf result RunFault.Read → ⊥ }
 {
-    for byte in piece {
-        scan_byte(*byte, scanner, bits)?;
+    let mut at = 0;
+    while at < piece.len() {
+        at += scan_line(&piece[at..], scanner, bits)?;
     }
     Ok(())
 }
 
-/// Scans the next byte of a file.
-fn scan_byte(byte: u8, scanner: &mut Scanner, bits: &mut Vec<bool>) -> Result<(), RunFault>
+/// Scans the bytes of a piece up to and with its first line feed, and appends the elements of the line that they end.
+/// Answers how many bytes there were.
+fn scan_line(piece: &[u8], scanner: &mut Scanner, bits: &mut Vec<bool>) -> Result<usize, RunFault>
+    requires { 0 < length piece.now }
     ensures read { (limit : ℕ) (bytes : List ℕ) → HasRead limit scanner.old bits.old.items bytes
         → MatchResult result
-        (λ _. HasRead limit scanner.new bits.new.items (bytes ++ byte ∷ []))
-        (λ fault. (more : List ℕ) → ExplainsReading ⊥ limit (bytes ++ byte ∷ more) fault) }
-    ensures room { OnOk result (scanner.new.room + 1 ≡ scanner.old.room) }
+        (λ count. HasRead limit scanner.new bits.new.items (bytes ++ take count piece.now))
+        (λ fault. (more : List ℕ) → ExplainsReading ⊥ limit ((bytes ++ piece.now) ++ more) fault) }
+    ensures some { IfOk result (λ count. (0 < count) × (count ≤ length piece.now)
+        × (scanner.new.room + count ≡ scanner.old.room)) }
     ensures no_read { IsErrOf result RunFault.Read → ⊥ }
 {
-    if scanner.push(byte)? {
-        append_elements(scanner.elements(), bits)?;
-    }
-    Ok(())
+    let count = scanner.push_line(piece)?;
+    append_elements(scanner.elements(), bits)?;
+    Ok(count)
 }
 
 /// Appends the elements of a line, which only a line of elements has.

@@ -1,20 +1,20 @@
-//! A scanner of the lines of an air file, which takes one byte after the other.
-ghost use Rattle.std.specs.Prelude.{◌≡◌, ◌+◌, ◌<◌, ℕ, List, [], ◌∷◌, ◌++◌, None, Some, false, option_to_list, if◌then◌else◌, IsTrue, IfOk, IfErr, IfSome, OnOk, OnErr, IsSomeAnd, length, take, ◌≤◌, MatchResult};
+//! A scanner of the lines of an air file, which takes one piece after the other.
+ghost use Rattle.std.specs.Prelude.{◌≡◌, ◌≢◌, ◌+◌, ◌-◌, ◌<◌, ◌≤◌, ℕ, min, List, [], ◌∷◌, ◌++◌, None, option_to_list, IfOk, IfErr, IfSome, OnOk, OnErr, IsSomeAnd, length, take, MatchResult};
+ghost use Rattle.std.specs.List.{AllByRecursion};
 ghost use Rattle.std.specs.Option.{option_map};
-ghost use Rattle.nx_fec.specs.AirFile.{IsLine, IsNoLine, Line, spelling};
-ghost use Rattle.nx_fec.specs.Lines.{Scans, StopsIn, IsCause, IsAirFile, IsAtByte};
+ghost use Rattle.nx_fec.specs.AirFile.{IsLine, Line, spelling};
+ghost use Rattle.nx_fec.specs.Lines.{Scans, StopsIn, IsCause, IsAirFile, IsAtByte, line_end};
 ghost use Rattle.nx_fec.specs.Scanner.{elements_kept, kind_kept};
+ghost use Rattle.nx_fec.specs.declared.fault.LineFault.TheVariants.{TooLong, LineLong};
 
 use crate::air_file::{LineKind, MAX_ELEMENTS, read_line};
 use crate::fault::LineFault;
+use crate::feeds::first_feed;
 use crate::line_bytes::{LineBytes, MAX_LINE_BYTES};
 use arrayvec::ArrayVec;
 use std::marker::Model;
 
-/// The byte that ends a line.
-const LINE_END: u8 = b'\n';
-
-/// Reads the lines of an air file byte by byte: it holds the line that is open, or the one that the last byte
+/// Reads the lines of an air file piece by piece: it holds the line that is open, or the one that the last byte
 /// ended, how many lines were ended, and how many more bytes it may take.
 #[derive(Drop)]
 pub struct Scanner {
@@ -109,43 +109,11 @@ impl Scanner {
         Some(self.kept.as_slice())
     }
 
-    /// Takes the next byte, and says whether it ended a line, which then is the latest. After a fault, which is the
-    /// file's first whatever bytes follow, the scanner is unchanged.
-    // Inlined always: it runs for each byte, from two callers.
-    #[inline(always)]
-    pub fn push(&mut self, byte: u8) -> Result<bool, LineFault>
-        ensures bytes { (limit : ℕ) (bytes : List ℕ) (lines : List Line) → Scans limit self.old bytes lines →
-            MatchResult result
-            (λ is_end. Scans limit self.new (bytes ++ byte ∷ [])
-            (lines ++ (if is_end then option_to_list self.new.latest else [])))
-            (λ why. (more : List ℕ) → IsCause limit (length bytes) lines self.old.part (byte ∷ more) why) }
-        ensures at_byte { IfErr result IsAtByte }
-        ensures latest { IfOk result (λ is_end. IsTrue is_end → IsSomeAnd self.new.latest IsLine) }
-        ensures open { IfOk result (λ is_end. is_end ≡ false → self.new.latest ≡ None) }
-        ensures room { IfOk result (λ _. self.new.room + 1 ≡ self.old.room) }
-        ensures err { OnErr result (self.new ≡ self.old) }
-    {
-        if self.room == 0 {
-            return Err(LineFault::TooLong);
-        }
-        let line = self.lines + 1;
-        if byte == LINE_END {
-            return if self.end_line() {
-                Ok(true)
-            } else {
-                Err(LineFault::BadLine { line })
-            };
-        }
-        if self.go_on(byte) {
-            Ok(false)
-        } else {
-            Err(LineFault::LineLong { line })
-        }
-    }
-
     /// Takes the bytes of a piece up to and with its first line feed, or all where there is none, and says how many.
     /// The line that was ended, if one was, is then the latest. After a fault, which is the file's first whatever bytes
     /// follow, the bytes before it were taken.
+    // Inlined always, with its parts: it runs for each line, from two callers, and no large answer goes through memory.
+    #[inline(always)]
     pub fn push_line(&mut self, piece: &[u8]) -> Result<usize, LineFault>
         requires { 0 < length piece.now }
         ensures bytes { (limit : ℕ) (bytes : List ℕ) (lines : List Line) → Scans limit self.old bytes lines →
@@ -158,48 +126,45 @@ impl Scanner {
         ensures whole { IfOk result (λ count. self.new.latest ≡ None → count ≡ length piece.now) }
         ensures room { IfOk result (λ count. self.new.room + count ≡ self.old.room) }
     {
-        for (at, byte) in piece.iter().enumerate() {
-            if self.push(*byte)? {
-                return Ok(at + 1);
-            }
-        }
-        Ok(piece.len())
-    }
-
-    /// Ends the open line, and says whether it is one of an air file. If it is none, nothing changes.
-    fn end_line(&mut self) -> bool
-        requires { 0 < self.old.room }
-        ensures line { IsTrue result →
-            IsSomeAnd self.new.latest (λ line. IsLine line × (self.old.part ≡ spelling line)) }
-        ensures part { IsTrue result → self.new.part ≡ [] }
-        ensures count { IsTrue result → self.new.lines ≡ self.old.lines + 1 }
-        ensures room { IsTrue result → self.new.room + 1 ≡ self.old.room }
-        ensures none { result ≡ false → IsNoLine self.old.part }
-        ensures unchanged { result ≡ false → self.new ≡ self.old }
-    {
-        // Where the last byte ended a line, the open one is empty, and so none.
-        if self.ended.is_some() {
-            return false;
-        }
-        let Some(kind) = read_line(self.kept.as_slice(), &mut self.elements) else {
-            return false;
+        let Some(at) = first_feed(piece) else {
+            self.go_on(piece, piece.len())?;
+            return Ok(piece.len());
         };
-        self.ended = Some(kind);
-        self.lines += 1;
-        self.room -= 1;
-        true
+        self.go_on(piece, at)?;
+        self.end_line()?;
+        Ok(at + 1)
     }
 
-    /// Takes a byte of the open line, and says whether there was room in it. If there was none, nothing changes.
-    fn go_on(&mut self, byte: u8) -> bool
-        requires { 0 < self.old.room }
-        ensures part { IsTrue result → self.new.part ≡ self.old.part ++ byte ∷ [] }
-        ensures short { IsTrue result → length self.old.part < 514 }
-        ensures latest { IsTrue result → self.new.latest ≡ None }
-        ensures count { IsTrue result → self.new.lines ≡ self.old.lines }
-        ensures room { IsTrue result → self.new.room + 1 ≡ self.old.room }
-        ensures full { result ≡ false → length self.old.part ≡ 514 }
-        ensures unchanged { result ≡ false → self.new ≡ self.old }
+    /// Takes the first `count` bytes of a piece into the open line; none of them is a line feed. After a fault the bytes
+    /// before it were taken.
+    #[inline(always)]
+    fn go_on(&mut self, piece: &[u8], count: usize) -> Result<(), LineFault>
+        requires within { count ≤ length piece.now }
+        requires none { AllByRecursion (λ byte. byte ≢ line_end) (take count piece.now) }
+        ensures bytes { (limit : ℕ) (before : List ℕ) (lines : List Line) → Scans limit self.old before lines →
+            MatchResult result
+            (λ _. Scans limit self.new (before ++ take count piece.now) lines)
+            (λ why. StopsIn limit self.new before (take count piece.now) lines why) }
+        ensures at_byte { IfErr result IsAtByte }
+        ensures latest { self.new.latest ≡ None }
+        ensures room { OnOk result (self.new.room + count ≡ self.old.room) }
+    {
+        self.open();
+        let fitting = self.fitting(count);
+        self.keep(piece, fitting);
+        if fitting == count {
+            Ok(())
+        } else {
+            Err(self.fault_of_room())
+        }
+    }
+
+    /// Opens the next line where the last byte ended one.
+    fn open(&mut self)
+        ensures part { self.new.part ≡ self.old.part }
+        ensures lines { self.new.lines ≡ self.old.lines }
+        ensures room { self.new.room ≡ self.old.room }
+        ensures latest { self.new.latest ≡ None }
     {
         if self.ended.is_some() {
             self.kept.clear();
@@ -208,12 +173,72 @@ impl Scanner {
             }
             self.ended = None;
         }
-        if self.kept.len() == MAX_LINE_BYTES {
-            return false;
+    }
+
+    /// How many of so many bytes the open line and the file have room for.
+    fn fitting(&self, count: usize) -> usize
+        requires { self.now.latest ≡ None }
+        ensures count { result ≡ min count (min (514 - length self.now.part) self.now.room) }
+        ensures line { length self.now.part + result ≤ 514 }
+    {
+        let line = count.min(MAX_LINE_BYTES - self.kept.len());
+        (line as u64).min(self.room) as usize
+    }
+
+    /// Takes the first `count` bytes of a piece into the open line.
+    #[inline(always)]
+    fn keep(&mut self, piece: &[u8], count: usize)
+        requires open { self.old.latest ≡ None }
+        requires within { count ≤ length piece.now }
+        requires line { length self.old.part + count ≤ 514 }
+        requires room { count ≤ self.old.room }
+        ensures part { self.new.part ≡ self.old.part ++ take count piece.now }
+        ensures lines { self.new.lines ≡ self.old.lines }
+        ensures room { self.new.room + count ≡ self.old.room }
+        ensures latest { self.new.latest ≡ None }
+    {
+        self.kept.extend(piece, count);
+        self.room -= count as u64;
+    }
+
+    /// Why there is no room for one more byte of the open line.
+    fn fault_of_room(&self) -> LineFault
+        ensures file { self.now.room ≡ 0 → result ≡ TooLong }
+        ensures line { 0 < self.now.room → result ≡ LineLong (self.now.lines + 1) }
+    {
+        if self.room == 0 {
+            return LineFault::TooLong;
         }
-        self.kept.push(byte);
+        LineFault::LineLong {
+            line: self.lines + 1,
+        }
+    }
+
+    /// Takes a line feed, which ends the open line. After a fault nothing changed.
+    #[inline(always)]
+    fn end_line(&mut self) -> Result<(), LineFault>
+        requires { self.old.latest ≡ None }
+        ensures bytes { (limit : ℕ) (before : List ℕ) (lines : List Line) → Scans limit self.old before lines →
+            MatchResult result
+            (λ _. Scans limit self.new (before ++ line_end ∷ []) (lines ++ option_to_list self.new.latest))
+            (λ why. (more : List ℕ) → IsCause limit (length before) lines self.old.part (line_end ∷ more) why) }
+        ensures at_byte { IfErr result IsAtByte }
+        ensures latest { OnOk result (IsSomeAnd self.new.latest IsLine) }
+        ensures room { OnOk result (self.new.room + 1 ≡ self.old.room) }
+        ensures unchanged { OnErr result (self.new ≡ self.old) }
+    {
+        if self.room == 0 {
+            return Err(LineFault::TooLong);
+        }
+        let Some(kind) = read_line(self.kept.as_slice(), &mut self.elements) else {
+            return Err(LineFault::BadLine {
+                line: self.lines + 1,
+            });
+        };
+        self.ended = Some(kind);
+        self.lines += 1;
         self.room -= 1;
-        true
+        Ok(())
     }
 
     /// What the end of the file says: the lines so far are all of it, or the open line is cut.
@@ -235,33 +260,31 @@ impl Scanner {
 #[cfg(test)]
 mod tests {
     use super::*;
-    use std::test::Fail;
 
-    /// Gives a scanner these bytes, and answers how many lines they ended.
-    fn lines_in(scanner: &mut Scanner, bytes: &[u8]) -> Result<u64, Fail> {
-        let mut ended = 0u64;
-        for byte in bytes {
-            if scanner.push(*byte).ok().ok_or("a good byte")? {
-                ended = ended.wrapping_add(1);
-            }
+    /// Gives a scanner good bytes that end at most one line, and answers how many it took.
+    fn taken(scanner: &mut Scanner, bytes: &[u8]) -> Option<usize> {
+        if bytes.is_empty() {
+            return None;
         }
-        Ok(ended)
+        scanner.push_line(bytes).ok()
     }
 
     #[test]
-    fn lines_byte_by_byte(rt: HostRuntime) -> Result<(), Fail> {
+    fn lines_by_pieces(rt: HostRuntime) {
         let mut scanner = Scanner::new(20);
-        assert_eq!(rt; lines_in(&mut scanner, b"T 5\nB 01\n")?, 2);
+        assert_eq!(rt; taken(&mut scanner, b"T"), Some(1));
+        assert_eq!(rt; taken(&mut scanner, b" 5\nB 01\n"), Some(3));
+        assert_eq!(rt; scanner.latest(), Some(LineKind::Moment(5)));
+        assert_eq!(rt; taken(&mut scanner, b"B 01\n"), Some(5));
         assert_eq!(rt; scanner.lines(), 2);
         assert_eq!(rt; scanner.latest(), Some(LineKind::Elements));
         assert_eq!(rt; scanner.elements(), [false, true].as_slice());
         assert_eq!(rt; scanner.line(), Some(b"B 01".as_slice()));
-        assert_eq!(rt; lines_in(&mut scanner, b"RS EX")?, 0);
+        assert_eq!(rt; taken(&mut scanner, b"RS EX"), Some(5));
         assert_eq!(rt; scanner.latest(), None);
         assert_eq!(rt; scanner.elements().len(), 0);
         assert_eq!(rt; scanner.line(), None);
         assert_eq!(rt; scanner.end(), Err(LineFault::LineCut { line: 3 }));
-        assert_eq!(rt; scanner.push(b'\n'), Err(LineFault::BadLine { line: 3 }));
-        Ok(())
+        assert_eq!(rt; taken(&mut scanner, b"\n"), None);
     }
 }

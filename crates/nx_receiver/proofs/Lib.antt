@@ -10,6 +10,7 @@ pub mod WatchTakes
 pub mod ReceiverEvents
 pub mod ReceiverPrinting
 pub mod ReceiverOver
+pub mod ReceiverPassed
 pub mod ReceiverFeeds
 pub mod WatchBits
 pub mod WatchWords
@@ -42,3 +43,9 @@ pub mod OnceExample
 pub mod SendingHeaders
 pub mod ListenOnce
 pub mod ListenExample
+pub mod SentWords
+pub mod SentCopies
+pub mod SentHeard
+pub mod SentLog
+pub mod SentDifferent
+pub mod SentFiles

@@ -10,11 +10,11 @@ use Rattle.nx_station.specs.Sendings.{IsCut}
 use Rattle.nx_sync.specs.Locks.{IsNow}
 use Rattle.nx_receiver.specs.Events.{bits_of, first_setting}
 use Rattle.nx_receiver.specs.FoundCopies.{FoundCopy, found_to_end}
-use Rattle.nx_receiver.specs.Listen.{HasListened, IsLogOf, Listens, air_limit, at_zero, events_of, line_events}
-use Rattle.nx_receiver.specs.ListenOnce.{HasOneEntry, HasPrintedOnce, IsHeardInTimeIn, KeepsHeadline, elements_in}
+use Rattle.nx_receiver.specs.Listen.{HasListened, IsLogOfFile, Listens, air_limit, at_zero, events_of, line_events}
+use Rattle.nx_receiver.specs.ListenOnce.{HasPrintedOnce, IsHeardInTimeIn, KeepsHeadline, elements_in}
 use Rattle.nx_receiver.specs.Log.{PrintsToEnd}
-use Rattle.nx_receiver.specs.OnceHeard.{FewBetween, IsHeardInTime}
-use Rattle.nx_receiver.specs.Tagged.{tagged_copies}
+use Rattle.nx_receiver.specs.OnceHeard.{FewBetween, IsHeardInTime, IsPrintedOnce}
+use Rattle.nx_receiver.specs.Tagged.{TaggedCopy, tagged_copies}
 use Rattle.nx_receiver.specs.declared.listening.Report.{Report}
 use Rattle.nx_receiver.proofs.LoggedLemmas.{bits_of-append}
 use Rattle.nx_receiver.proofs.OnceFound.{printed_once}
@@ -62,21 +62,23 @@ in-time file message h =
     }
 
 -- it has one entry in the log of the file
-pub one-entry : (file log : List ℕ) (message : MessageView) → IsLogOf file log → IsHeardInTimeIn file message → HasOneEntry log message
-one-entry file log message l h =
-    let same = IsAirFile-unique air_limit file l.0 h.lines l.2.file h.spelled in
-    let prints = subst (λ (ls : List Line). PrintsToEnd at_zero (events_of ls) l.1) same l.2.printed in
-    record {
-      copies = l.1;
-      spelled = l.2.spelled;
-      once = printed_once at_zero (events_of h.lines) h.parts message (in-time file message h) l.1 prints;
-    }
+pub one-entry : (file log : List ℕ) (lines : List Line) (copies : List TaggedCopy) (message : MessageView)
+    → IsLogOfFile file lines copies log → IsHeardInTimeIn file message → IsPrintedOnce message copies
+one-entry file log lines copies message l h =
+    let same = IsAirFile-unique air_limit file lines h.lines l.file h.spelled in
+    let prints = subst (λ (ls : List Line). PrintsToEnd at_zero (events_of ls) copies) same l.printed in
+    printed_once at_zero (events_of h.lines) h.parts message (in-time file message h) copies prints
 
 -- so the log that was written has one
 printed-once : (old new : Option (List ℕ)) (file : List ℕ) (report : Report) → HasListened old new file report → HasPrintedOnce old new file
-printed-once old new file report h =
-    let logged : IsLogOf file h.log = (h.lines, h.copies, h.heard) in
-    record { log = h.log; logged = logged; written = h.written; once = λ message k. one-entry file h.log message logged k }
+printed-once old new file report h = record {
+  lines = h.lines;
+  copies = h.copies;
+  log = h.log;
+  logged = h.heard;
+  written = h.written;
+  once = λ message k. one-entry file h.log h.lines h.copies message h.heard k;
+}
 
 on-some : (o : Option (List ℕ)) (P Q : List ℕ → Type 0) → ((xs : List ℕ) → P xs → Q xs) → IfSome o P → IfSome o Q
 on-some None P Q f h = tt

@@ -9,14 +9,17 @@ use Rattle.nx_memory.specs.declared.entry.MemoryEntry.{MemoryEntry}
 use Rattle.nx_memory.specs.Ring.{RingMemory}
 use Rattle.nx_receiver.specs.Events.{Event, bits_of, element}
 use Rattle.nx_receiver.specs.Listen.{AreTaken, AreTakenAfter, IsTakenAfter, at_zero, events_of, has_moment, in_force_after, is_moment, line_events}
-use Rattle.nx_receiver.specs.Listener.{BeginsListening, BeginsLog, HearsEvents, HearsLog, IsListening, count_of}
+use Rattle.nx_receiver.specs.Listener.{BeginsListening, BeginsLog, HasFinished, HearsEvents, HearsLog, IsListening, count_of}
 use Rattle.nx_receiver.specs.ListenerBegins.{printed-so_far}
 use Rattle.nx_receiver.specs.Log.{IsEntry, IsLog}
 use Rattle.nx_receiver.specs.Receiver as receiver
-use Rattle.nx_receiver.specs.Receiver.{Receiving, Stands, entry_list}
+use Rattle.nx_receiver.specs.Receiver.{Awaits, Receiving, Stands, entry_list}
 use Rattle.nx_receiver.specs.Tagged.{TaggedCopy, copy_of}
 use Rattle.nx_receiver.specs.declared.entry.Entry.{Entry}
 use Rattle.nx_receiver.specs.declared.listening.Listener.{Listener}
+use Rattle.nx_receiver.specs.declared.over.Over.{Over}
+use Rattle.nx_receiver.specs.declared.over.Over.TheVariants as overs
+use Rattle.nx_receiver.proofs.ReceiverFeeds.{nothing_awaited}
 use Rattle.nx_receiver.proofs.LogLemmas.{logs_join}
 use Rattle.nx_receiver.proofs.LoggedLemmas.{bits_of-append}
 use Rattle.nx_receiver.proofs.ReceiverEvents.{bits_of-more}
@@ -124,20 +127,39 @@ heard-none old new events given bits n entry none h within stands heard printed 
 pub one-log : (copy : TaggedCopy) (bytes : List ℕ) → IsEntry copy bytes → IsLog (copy ∷ []) bytes
 one-log copy bytes h = record { entries = bytes ∷ []; each = (h, tt); joined = sym (append-nil bytes) }
 
--- an entry was handed out with the last of these elements, and these are its bytes
-pub heard-entry : (old new : Listener) (events : List Event) (given bytes : List ℕ) (bits : List Bool) (n : ℕ) (entry : Option Entry) (printed : Entry) → entry ≡ Some printed
-    → IsEntry (copy_of printed) bytes → HearsLog old events given → n ≤ length bits → 0 < n
-    → ((log : List TaggedCopy) → Stands content at_zero old.receiver events log → Stands content at_zero new.receiver (events ++ receiver.elements (take n bits)) (log ++ entry_list entry))
-    → new.elements ≡ count_of (old.elements + n) → new.entries ≡ count_of (old.entries + 1) → HearsLog new (events ++ receiver.elements (take n bits)) (given ++ bytes)
-heard-entry old new events given bytes bits n entry printed some is h within least stands heard counted =
-    let one : length (entry_list entry) ≡ 1 = ap (λ e. length (entry_list e)) some in
-    let same : h.log ++ entry_list entry ≡ h.log ++ copy_of printed ∷ [] = ap (λ e. h.log ++ entry_list e) some in
-    let more = hears-more old new events h.log bits n entry h.hears within (omega (arith, one)) (stands h.log h.hears.receiver) heard (counted ∙ ap (λ k. count_of (old.entries + k)) (sym one)) in
+-- the log of none
+pub no-log : IsLog [] []
+no-log = record { entries = []; each = tt; joined = refl }
+
+-- an entry is one copy
+at-most-one : (entry : Option Entry) → length (entry_list entry) ≤ 1
+at-most-one None = omega arith
+at-most-one (Some entry) = omega arith
+
+-- what was over with the last of these elements was finished, and these are the bytes of the entry, if one was made
+pub heard-over : (old mid new : Listener) (events : List Event) (given more : List ℕ) (bits : List Bool) (n : ℕ) (over : Over) → HasFinished mid new over more
+    → HearsLog old events given → n ≤ length bits → 0 < n
+    → ((log : List TaggedCopy) → Stands content at_zero old.receiver events log → Awaits content at_zero mid.receiver (events ++ receiver.elements (take n bits)) log over)
+    → mid.elements ≡ count_of (old.elements + n) → mid.entries ≡ old.entries → HearsLog new (events ++ receiver.elements (take n bits)) (given ++ more)
+heard-over old mid new events given more bits n over f h within least awaits heard same =
+    let entry = f.entry in
+    let few : length (entry_list entry) ≤ 1 = at-most-one entry in
     record {
-      log = h.log ++ copy_of printed ∷ [];
-      hears = subst (λ log. HearsEvents new (events ++ receiver.elements (take n bits)) log) same more;
-      spelled = logs_join h.log (copy_of printed ∷ []) given bytes h.spelled (one-log (copy_of printed) bytes is);
+      log = h.log ++ entry_list entry;
+      hears = hears-more old new events h.log bits n entry h.hears within (omega (arith, few)) (f.stands _ h.log (awaits h.log h.hears.receiver)) (f.elements ∙ heard)
+          (f.entries (omega (arith, h.hears.entries, same)) ∙ ap (λ k. count_of (k + length (entry_list entry))) same);
+      spelled = logs_join h.log (entry_list entry) given more h.spelled f.spelled;
     }
+
+-- nothing was over with these elements
+pub heard-no-over : (old new : Listener) (events : List Event) (given : List ℕ) (bits : List Bool) (n : ℕ) (over : Over) → over ≡ overs.Nothing → HearsLog old events given
+    → n ≤ length bits
+    → ((log : List TaggedCopy) → Stands content at_zero old.receiver events log → Awaits content at_zero new.receiver (events ++ receiver.elements (take n bits)) log over)
+    → new.elements ≡ count_of (old.elements + n) → new.entries ≡ old.entries → HearsLog new (events ++ receiver.elements (take n bits)) given
+heard-no-over old new events given bits n over nothing h within awaits heard printed =
+    heard-none old new events given bits n None refl h within
+    (λ log s. subst (λ l. Stands content at_zero new.receiver (events ++ receiver.elements (take n bits)) l) (sym (append-nil log)) (nothing_awaited content at_zero new.receiver _ _ _ log over nothing (awaits log s)))
+    heard printed
 
 -- the elements before and after a place are all
 parts : (events : List Event) (bits : List Bool) (n : ℕ) → events ++ receiver.elements bits ≡ (events ++ receiver.elements (take n bits)) ++ receiver.elements (drop n bits)

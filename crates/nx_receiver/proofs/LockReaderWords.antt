@@ -1,6 +1,6 @@
 -- The words of a lock: the third last of the DX words before an RX word is the word five before it; and what one word
 -- more adds to the positions.
-use Rattle.std.proofs.Common.{◌≡◌, ℕ, Option, zero, suc, ◌+◌, ◌-◌, ◌*◌, ◌<◌, ◌≤◌, cond, List, [], ◌∷◌, ◌++◌, length, map, get_or, inl, inr, refl, sym, ap, ◌∙◌, subst, add-one, append_assoc, append-nil, length-append, arith}
+use Rattle.std.proofs.Common.{◌≡◌, ℕ, Option, None, zero, suc, ◌+◌, ◌-◌, ◌*◌, ◌<◌, ◌≤◌, cond, List, [], ◌∷◌, ◌++◌, length, map, get_or, inl, inr, refl, sym, ap, ◌∙◌, subst, add-one, append_assoc, append-nil, length-append, arith}
 use Rattle.std.proofs.lemmas.Bool.{cases_lt}
 use Rattle.std.proofs.lemmas.Bool.Decides.{nat_tests}
 use Rattle.std.proofs.Math.Seq.{get_or-append_seam}
@@ -8,6 +8,10 @@ use Rattle.std.specs.Option.{option_to_list}
 use Rattle.nx_code.specs.Reading.{Reception, shift_after_all, text}
 use Rattle.nx_code.specs.declared.printing.Printer.{Printer}
 use Rattle.nx_code.specs.declared.shifts.Shift.TheVariants.{Letters}
+use Rattle.nx_envelope.specs.Finder.{ClosesNone, HoldsCopy, held_identity}
+use Rattle.nx_envelope.specs.declared.found.HeldCopy.{HeldCopy}
+use Rattle.nx_envelope.specs.declared.found.HeldCopy.TheVariants as held
+use Rattle.nx_envelope.proofs.Hearing.{closes_none}
 use Rattle.nx_fec.specs.Pairing.{Counted, IsLatest, nothing, counts_as, heard_as, pairing, third_last}
 use Rattle.nx_fec.specs.declared.diversity.Diversity.{Diversity}
 use Rattle.nx_sync.specs.Words.{role_of, other_role, is_dx}
@@ -180,3 +184,9 @@ pub has_read_dx : (first : Role) (words : ℕ → ℕ) (n : ℕ) (word : Counted
     → word ≡ counts_as (words n) → dx_words first words n ++ word ∷ [] ≡ dx_words first words (n + 1)
 has_read_dx first words n word dx counts =
     ap (λ x. dx_words first words n ++ x ∷ []) counts ∙ sym (dx_words-dx first words n dx)
+
+-- where the finder holds no copy, none stands open
+pub none_held : (copy : HeldCopy) (kept text : List ℕ) → held_identity copy ≡ None → HoldsCopy copy kept text → ClosesNone text
+none_held held.Nothing kept text e h = closes_none text h
+none_held (held.Open identity fresh) kept text e h = cc
+none_held (held.Ready identity how) kept text e h = cc

@@ -17,7 +17,7 @@ use Rattle.nx_receiver.specs.LawTerms.{copies_of, AreRepeats}
 use Rattle.nx_receiver.proofs.JudgingLemmas.{remembered, unknown, entered}
 use Rattle.nx_receiver.proofs.LoggedLemmas.{printed_copies-append, entries_after-append}
 
-abbrev bears : Identity → TaggedCopy → Bool
+abbrev pub bears : Identity → TaggedCopy → Bool
 bears identity copy = same_identity copy.identity identity
 
 -- the entries after one more copy
@@ -26,7 +26,7 @@ unfolding entries_made
 one_after entries mid c = entries_after-append entries mid (c ∷ []) ∙ ap (λ es. entries_after entries mid ++ es) (append-nil (entry_made (entries_after entries mid) c))
 
 -- no entry of these bears the identity
-abbrev Lacks : Identity → List MemoryEntry → Type 0
+abbrev pub Lacks : Identity → List MemoryEntry → Type 0
 Lacks identity entries = All (λ (entry : MemoryEntry). same_identity entry.identity identity ≡ false) entries
 
 -- the list up to its first copy of the identity
@@ -52,7 +52,7 @@ split identity (c ∷ copies) first repeats e =
     ] refl e
 
 -- what bears another name makes no entry of the identity
-made_lacks : (identity : Identity) (entries : List MemoryEntry) (copy : TaggedCopy) → bears identity copy ≡ false → Lacks identity (entry_made entries copy)
+pub made_lacks : (identity : Identity) (entries : List MemoryEntry) (copy : TaggedCopy) → bears identity copy ≡ false → Lacks identity (entry_made entries copy)
 unfolding entry_made
 made_lacks identity entries copy h =
     elim (is_entered entries copy) as (λ (b : Bool). Lacks identity (cond b (entry_of copy ∷ []) [])) [

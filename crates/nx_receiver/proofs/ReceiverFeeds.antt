@@ -12,7 +12,7 @@ use Rattle.nx_receiver.specs.declared.entry.Entry.{Entry}
 use Rattle.nx_receiver.specs.Events.{Event, Setting, Start, bits_of, element, first_setting, setting_after_all, settings}
 use Rattle.nx_receiver.specs.Log.{HasPrinted}
 use Rattle.nx_receiver.specs.Printing.{entries_after, printed_copies}
-use Rattle.nx_receiver.specs.Receiver.{Receiving, Stands, StandsOver, elements, entry_list}
+use Rattle.nx_receiver.specs.Receiver.{Awaits, AwaitsOver, Receiving, Stands, StandsOver, elements, entry_list}
 use Rattle.nx_receiver.specs.Tagged.{TaggedCopy}
 use Rattle.nx_receiver.specs.Watch.{HasEnded, Hears, IsOver, Watching, WatchStands, all_in_force, in_force}
 use Rattle.nx_receiver.proofs.ReceiverEvents.{bits_of-more, force-more, settings-more}
@@ -34,34 +34,28 @@ fed_none content old bits = record {
   before = λ start history log s k lt. absurd (omega arith);
 }
 
--- what was heard, where events were given before
-abbrev pub heard_after : Start → List Event → List Bool → List Bool
-heard_after start events bits = bits_of events ++ bits
-
--- A watch heard these elements, and what was over was finished.
-pub record Finished {M : Type 0} (content : M → List MemoryEntry) (old new : Receiving M) (watch : Watching) (bits : List Bool) (entry : Option Entry) : Type 0 where
+-- A watch heard these elements, and what was over was passed over where it brings no entry.
+pub record Passed {M : Type 0} (content : M → List MemoryEntry) (old new : Receiving M) (watch : Watching) (bits : List Bool) (left : Over) : Type 0 where
   pub answer : Over
   pub hears : (first : Setting) (h : List Bool) (s : List Setting) (copies : List TaggedCopy) → WatchStands first old.watch h s copies → Hears first old.watch watch h s copies bits answer
-  pub finishes : (start : Start) (h : List Bool) (s : List Setting) (now : Setting) (copies log : List TaggedCopy) → IsOver (first_setting start) watch h s copies answer
-      → in_force watch ≡ now → log ≡ printed_copies start.entries copies → content old.memory ≡ last_of most_entries (entries_after start.entries copies)
-      → StandsOver content start new h s now (log ++ entry_list entry)
+  pub passes : (start : Start) (h : List Bool) (s : List Setting) (now : Setting) (log : List TaggedCopy) → AwaitsOver content start (record { watch = watch; memory = old.memory }) h s now log answer
+      → AwaitsOver content start new h s now log left
   pub force : in_force watch ≡ in_force old.watch
 
-stands_on : {M : Type 0} (content : M → List MemoryEntry) (old new : Receiving M) (watch : Watching) (bits : List Bool) (entry : Option Entry) → Finished content old new watch bits entry
-    → (start : Start) (events : List Event) (log : List TaggedCopy) → Stands content start old events log → Stands content start new (events ++ elements bits) (log ++ entry_list entry)
-stands_on content old new watch bits entry f start events log s =
+pub awaits_on : {M : Type 0} (content : M → List MemoryEntry) (old new : Receiving M) (watch : Watching) (bits : List Bool) (left : Over) → Passed content old new watch bits left
+    → (start : Start) (events : List Event) (log : List TaggedCopy) → Stands content start old events log → Awaits content start new (events ++ elements bits) log left
+awaits_on content old new watch bits left f start events log s =
     let first = first_setting start in
     let heard = f.hears first (bits_of events) (settings first events) s.copies s.watch in
-    let over = f.finishes start _ _ (setting_after_all first events) s.copies log heard.brings (f.force ∙ s.force) s.printed s.memory in
-    let more = log ++ entry_list entry in
+    let over = f.passes start _ _ (setting_after_all first events) log (record { copies = s.copies; watch = heard.brings; force = f.force ∙ s.force; printed = s.printed; memory = s.memory }) in
     let all = events ++ elements bits in
-    let h = subst (λ h. StandsOver content start new h (settings first events ++ all_in_force old.watch bits) (setting_after_all first events) more) (sym (bits_of-more events bits)) over in
-    let t = subst (λ t. StandsOver content start new (bits_of all) t (setting_after_all first events) more) (sym (settings-more first old.watch events bits s.force)) h in
-    subst (λ now. StandsOver content start new (bits_of all) (settings first all) now more) (sym (force-more first events bits)) t
+    let h = subst (λ h. AwaitsOver content start new h (settings first events ++ all_in_force old.watch bits) (setting_after_all first events) log left) (sym (bits_of-more events bits)) over in
+    let t = subst (λ t. AwaitsOver content start new (bits_of all) t (setting_after_all first events) log left) (sym (settings-more first old.watch events bits s.force)) h in
+    subst (λ now. AwaitsOver content start new (bits_of all) (settings first all) now log left) (sym (force-more first events bits)) t
 
-printed_before : {M : Type 0} (content : M → List MemoryEntry) (old new : Receiving M) (watch : Watching) (bits : List Bool) (entry : Option Entry) → Finished content old new watch bits entry
+pub printed_before : {M : Type 0} (content : M → List MemoryEntry) (old new : Receiving M) (watch : Watching) (bits : List Bool) (left : Over) → Passed content old new watch bits left
     → (start : Start) (events : List Event) (log : List TaggedCopy) → Stands content start old events log → (k : ℕ) → k < length bits → HasPrinted start (events ++ elements (take k bits)) log
-printed_before content old new watch bits entry f start events log s k lt =
+printed_before content old new watch bits left f start events log s k lt =
     let first = first_setting start in
     let heard = f.hears first (bits_of events) (settings first events) s.copies s.watch in
     let ended = heard.none_before k (omega arith) in
@@ -70,34 +64,95 @@ printed_before content old new watch bits entry f start events log s k lt =
     let t = subst (λ t. HasEnded first (bits_of (events ++ elements some)) t s.copies) (sym (settings-more first old.watch events some s.force)) h in
     has_printed start (events ++ elements some) s.copies log t s.printed
 
+-- where nothing is over, nothing is awaited
+pub nothing_awaited : {M : Type 0} (content : M → List MemoryEntry) (start : Start) (receiver : Receiving M) (h : List Bool) (s : List Setting) (now : Setting) (log : List TaggedCopy) (left : Over) → left ≡ over.Nothing
+    → AwaitsOver content start receiver h s now log left → StandsOver content start receiver h s now log
+nothing_awaited content start receiver h s now log left nothing a = record {
+  copies = a.copies;
+  watch = subst (IsOver (first_setting start) receiver.watch h s a.copies) nothing a.watch;
+  force = a.force;
+  printed = a.printed;
+  memory = a.memory;
+}
+
+-- and the other way
+pub awaits_nothing : {M : Type 0} (content : M → List MemoryEntry) (start : Start) (receiver : Receiving M) (h : List Bool) (s : List Setting) (now : Setting) (log : List TaggedCopy)
+    → StandsOver content start receiver h s now log → AwaitsOver content start receiver h s now log over.Nothing
+awaits_nothing content start receiver h s now log stands = record {
+  copies = stands.copies;
+  watch = stands.watch;
+  force = stands.force;
+  printed = stands.printed;
+  memory = stands.memory;
+}
+
+-- nothing was printed with the elements before these
+abbrev pub PrintsNone : {M : Type 0} → (M → List MemoryEntry) → Receiving M → List Bool → Type 0
+PrintsNone content old bits =
+    (start : Start) (history : List Event) (log : List TaggedCopy) → Stands content start old history log → (k : ℕ) → k < length bits → HasPrinted start (history ++ elements (take k bits)) log
+
+-- nothing was printed before each of the first so many elements, and so of these alone
+pub prints_none_of : {M : Type 0} (content : M → List MemoryEntry) (old : Receiving M) (bits : List Bool) (n : ℕ) → n ≤ length bits → PrintsNone content old (take n bits)
+    → (start : Start) (history : List Event) (log : List TaggedCopy) → Stands content start old history log → (k : ℕ) → k < n → HasPrinted start (history ++ elements (take k bits)) log
+prints_none_of content old bits n within none start history log s k lt =
+    subst (λ l. HasPrinted start (history ++ elements l) log) (take-take k n bits (omega arith)) (none start history log s k (omega (arith, length-take n bits)))
+
+-- and the other way
+pub prints_none : {M : Type 0} (content : M → List MemoryEntry) (old : Receiving M) (bits : List Bool) (n : ℕ) → n ≤ length bits
+    → ((start : Start) (history : List Event) (log : List TaggedCopy) → Stands content start old history log → (k : ℕ) → k < n → HasPrinted start (history ++ elements (take k bits)) log)
+    → PrintsNone content old (take n bits)
+prints_none content old bits n within none start history log s k lt =
+    let below : k < n = omega (arith, length-take n bits) in
+    subst (λ l. HasPrinted start (history ++ elements l) log) (sym (take-take k n bits (omega arith))) (none start history log s k below)
+
+-- These elements were heard, and an entry was handed out, or none.
+pub record Finished {M : Type 0} (content : M → List MemoryEntry) (old new : Receiving M) (bits : List Bool) (entry : Option Entry) : Type 0 where
+  pub stands : (start : Start) (history : List Event) (log : List TaggedCopy) → Stands content start old history log → Stands content start new (history ++ elements bits) (log ++ entry_list entry)
+  pub before : PrintsNone content old bits
+
 -- elements and then others
 elements-after : (history : List Event) (xs ys : List Bool) → (history ++ elements xs) ++ elements ys ≡ history ++ elements (xs ++ ys)
 elements-after history xs ys = append_assoc history (elements xs) (elements ys) ∙ ap (λ es. history ++ es) (sym (map-append element xs ys))
 
--- more of them are fed
-pub fed_to : {M : Type 0} (content : M → List MemoryEntry) (old mid new : Receiving M) (watch : Watching) (bits piece : List Bool) (at n : ℕ) (entry : Option Entry)
-    → Fed content old mid bits at → piece ≡ take n (drop at bits) → Finished content mid new watch piece entry
+-- what holds with more of them
+pub fed_by : {M : Type 0} (content : M → List MemoryEntry) (old mid : Receiving M) (bits piece : List Bool) (at n : ℕ) → Fed content old mid bits at → piece ≡ take n (drop at bits)
     → (start : Start) (history : List Event) (log : List TaggedCopy) → Stands content start old history log
-    → Stands content start new (history ++ elements (take (at + n) bits)) (log ++ entry_list entry)
-fed_to content old mid new watch bits piece at n entry fed is f start history log s =
-    let before = fed.stands start history log s in
-    let on = stands_on content mid new watch piece entry f start (history ++ elements (take at bits)) log before in
+    → (P : List Event → Type 0) → ((events : List Event) → Stands content start mid events log → P (events ++ elements piece))
+    → P (history ++ elements (take (at + n) bits))
+fed_by content old mid bits piece at n fed is start history log s P on =
     let whole : (history ++ elements (take at bits)) ++ elements piece ≡ history ++ elements (take (at + n) bits) =
     elements-after history (take at bits) piece ∙ ap (λ p. history ++ elements (take at bits ++ p)) is ∙ ap (λ l. history ++ elements l) (sym (take-add at n bits)) in
-    subst (λ events. Stands content start new events (log ++ entry_list entry)) whole on
+    subst P whole (on (history ++ elements (take at bits)) (fed.stands start history log s))
 
-pub fed_before : {M : Type 0} (content : M → List MemoryEntry) (old mid new : Receiving M) (watch : Watching) (bits piece : List Bool) (at n : ℕ) (entry : Option Entry)
-    → Fed content old mid bits at → piece ≡ take n (drop at bits) → at + n ≤ length bits → Finished content mid new watch piece entry
+-- more of them are heard, and what is over is awaited
+pub awaits_to : {M : Type 0} (content : M → List MemoryEntry) (old mid new : Receiving M) (bits piece : List Bool) (at n : ℕ) (left : Over)
+    → Fed content old mid bits at → piece ≡ take n (drop at bits)
+    → ((start : Start) (history : List Event) (log : List TaggedCopy) → Stands content start mid history log → Awaits content start new (history ++ elements piece) log left)
+    → (start : Start) (history : List Event) (log : List TaggedCopy) → Stands content start old history log
+    → Awaits content start new (history ++ elements (take (at + n) bits)) log left
+awaits_to content old mid new bits piece at n left fed is f start history log s =
+    fed_by content old mid bits piece at n fed is start history log s (λ events. Awaits content start new events log left) (λ events h. f start events log h)
+
+-- more of them are fed
+pub fed_to : {M : Type 0} (content : M → List MemoryEntry) (old mid new : Receiving M) (bits piece : List Bool) (at n : ℕ) (entry : Option Entry)
+    → Fed content old mid bits at → piece ≡ take n (drop at bits) → Finished content mid new piece entry
+    → (start : Start) (history : List Event) (log : List TaggedCopy) → Stands content start old history log
+    → Stands content start new (history ++ elements (take (at + n) bits)) (log ++ entry_list entry)
+fed_to content old mid new bits piece at n entry fed is f start history log s =
+    fed_by content old mid bits piece at n fed is start history log s (λ events. Stands content start new events (log ++ entry_list entry)) (λ events h. f.stands start events log h)
+
+pub fed_before : {M : Type 0} (content : M → List MemoryEntry) (old mid : Receiving M) (bits piece : List Bool) (at n : ℕ)
+    → Fed content old mid bits at → piece ≡ take n (drop at bits) → at + n ≤ length bits → PrintsNone content mid piece
     → (start : Start) (history : List Event) (log : List TaggedCopy) → Stands content start old history log
     → (k : ℕ) → k < at + n → HasPrinted start (history ++ elements (take k bits)) log
-fed_before content old mid new watch bits piece at n entry fed is within f start history log s k lt =
+fed_before content old mid bits piece at n fed is within none start history log s k lt =
     elim (cases_lt k at) [
       | inl early ↦ fed.before start history log s k early
       | inr late ↦
           let j = k - at in
           let long : length piece ≡ n = omega (arith, ap length is, length-take n (drop at bits), length-drop at bits) in
           let before = fed.stands start history log s in
-          let on = printed_before content mid new watch piece entry f start (history ++ elements (take at bits)) log before j (omega arith) in
+          let on = none start (history ++ elements (take at bits)) log before j (omega arith) in
           let part : take j piece ≡ take j (drop at bits) = ap (take j) is ∙ take-take j n (drop at bits) (omega arith) in
           let sum : at + j ≡ k = omega arith in
           let whole : (history ++ elements (take at bits)) ++ elements (take j piece) ≡ history ++ elements (take k bits) =
@@ -107,13 +162,23 @@ fed_before content old mid new watch bits piece at n entry fed is within f start
           subst (λ events. HasPrinted start events log) whole on
     ]
 
-pub fed_on : {M : Type 0} (content : M → List MemoryEntry) (old mid new : Receiving M) (watch : Watching) (bits piece : List Bool) (at n : ℕ) (entry : Option Entry)
-    → Fed content old mid bits at → piece ≡ take n (drop at bits) → at + n ≤ length bits → Finished content mid new watch piece entry → entry ≡ None → Fed content old new bits (at + n)
-fed_on content old mid new watch bits piece at n entry fed is within f none = record {
+pub fed_on : {M : Type 0} (content : M → List MemoryEntry) (old mid new : Receiving M) (bits piece : List Bool) (at n : ℕ) (entry : Option Entry)
+    → Fed content old mid bits at → piece ≡ take n (drop at bits) → at + n ≤ length bits → Finished content mid new piece entry → entry ≡ None → Fed content old new bits (at + n)
+fed_on content old mid new bits piece at n entry fed is within f none = record {
   within = within;
   stands = λ start history log s.
-      subst (λ l. Stands content start new (history ++ elements (take (at + n) bits)) l) (ap (λ e. log ++ entry_list e) none ∙ append-nil log) (fed_to content old mid new watch bits piece at n entry fed is f start history log s);
-  before = λ start history log s k lt. fed_before content old mid new watch bits piece at n entry fed is within f start history log s k lt;
+      subst (λ l. Stands content start new (history ++ elements (take (at + n) bits)) l) (ap (λ e. log ++ entry_list e) none ∙ append-nil log) (fed_to content old mid new bits piece at n entry fed is f start history log s);
+  before = λ start history log s k lt. fed_before content old mid bits piece at n fed is within f.before start history log s k lt;
+}
+
+-- where nothing is over, no entry was handed out
+pub none_finished : {M : Type 0} (content : M → List MemoryEntry) (old new : Receiving M) (bits : List Bool) (left : Over) → left ≡ over.Nothing
+    → ((start : Start) (history : List Event) (log : List TaggedCopy) → Stands content start old history log → Awaits content start new (history ++ elements bits) log left)
+    → PrintsNone content old bits → Finished content old new bits None
+none_finished content old new bits left nothing stands before = record {
+  stands = λ start history log s.
+      subst (Stands content start new (history ++ elements bits)) (sym (append-nil log)) (nothing_awaited content start new _ _ _ log left nothing (stands start history log s));
+  before = before;
 }
 
 -- what was heard of the elements from the place on
@@ -126,15 +191,3 @@ piece_within bits at n within h = omega (arith, ap length (rest_is bits at), len
 pub is_none : {A : Type 0} (entry : Option A) (test : Bool) → test ≡ is_some entry → test ≡ false → entry ≡ None
 is_none None test h e = refl
 is_none (Some x) test h e = cc
-
--- where nothing is over, nothing is handed out
-pub nothing_finished : {M : Type 0} (content : M → List MemoryEntry) (start : Start) (receiver : Receiving M) (h : List Bool) (s : List Setting) (now : Setting) (copies log : List TaggedCopy) (answer : Over) → answer ≡ over.Nothing
-    → IsOver (first_setting start) receiver.watch h s copies answer → in_force receiver.watch ≡ now → log ≡ printed_copies start.entries copies → content receiver.memory ≡ last_of most_entries (entries_after start.entries copies)
-    → StandsOver content start receiver h s now (log ++ [])
-nothing_finished content start receiver h s now copies log answer nothing is force shown holds = record {
-  copies = copies;
-  watch = subst (IsOver (first_setting start) receiver.watch h s copies) nothing is;
-  force = force;
-  printed = append-nil log ∙ shown;
-  memory = holds;
-}

@@ -1,16 +1,17 @@
 -- What is printed of a copy that was handed out, and entered; and what a receiver stands after with it.
-use Rattle.std.proofs.Common.{◌≡◌, Bool, true, cond, List, [], ◌∷◌, ◌++◌, Option, Some, None, Result, Ok, Err, IfOk, ◌-◌, ◌≤◌, length, drop, refl, sym, ap, ◌∙◌, subst, append-nil, arith}
+use Rattle.std.proofs.Common.{◌≡◌, Bool, true, false, not, ◌==◌, ◌&&◌, ◌||◌, cond, List, [], ◌∷◌, ◌++◌, Option, Some, None, Result, Ok, Err, IfOk, ◌-◌, ◌≤◌, length, drop, refl, sym, ap, ◌∙◌, subst, append-nil, arith}
 use Rattle.std.specs.Result.{MatchResult, is_ok}
 use Rattle.std.proofs.lemmas.Bool.{and_parts, true≢false}
 use Rattle.nx_code.specs.Lists.{last_of}
-use Rattle.nx_memory.specs.Memory.{most_entries}
+use Rattle.nx_memory.specs.Memory.{is_known, most_entries}
 use Rattle.nx_memory.specs.declared.entry.MemoryEntry.{MemoryEntry}
 use Rattle.nx_envelope.specs.declared.found.Found.{Found}
+use Rattle.nx_envelope.specs.declared.identity.Identity.{Identity}
 use Rattle.nx_receiver.specs.declared.over.CopyTag.{CopyTag}
 use Rattle.nx_receiver.specs.Events.{Event, Setting, Start, bits_of, first_setting, setting_after_all, settings}
 use Rattle.nx_receiver.specs.FoundCopies.{FoundCopy}
 use Rattle.nx_receiver.specs.Log.{HasPrinted, PrintsToEnd}
-use Rattle.nx_receiver.specs.Printing.{entries_after, entries_made, entry_made, if_printed, is_printed, printed_copies}
+use Rattle.nx_receiver.specs.Printing.{entries_after, entries_made, entry_made, entry_of, if_printed, is_entered, is_good, is_number_00, is_printed, printed_copies}
 use Rattle.nx_receiver.specs.Receiver.{Stands, StandsOver}
 use Rattle.nx_receiver.specs.Tagged.{TaggedCopy, tagged_copies, tagged_found}
 use Rattle.nx_receiver.specs.Watch.{HasEnded, HasEndedAll, WatchStands, Watching, copies_by, handed_out, in_force}
@@ -42,6 +43,25 @@ pub enter_some : (entries : List MemoryEntry) (found : Option Found) (tag : Copy
 unfolding entries_made
 enter_some entries found tag copy e =
     ap (λ f. entries_after entries (handed_out f tag)) e ∙ ap (λ es. entries ++ es) (append-nil (entry_made entries (with_tag copy tag)))
+
+-- a copy that isn't printed adds nothing
+pub not_printed : (entries : List MemoryEntry) (copy : TaggedCopy) → is_printed entries copy ≡ false → printed_copies entries (copy ∷ []) ≡ []
+unfolding printed_copies if_printed
+not_printed entries copy e = append-nil (if_printed entries copy) ∙ ap (λ b. cond b (copy ∷ []) []) e
+
+pub not_entered : (entries : List MemoryEntry) (copy : TaggedCopy) → is_printed entries copy ≡ false → entries_after entries (copy ∷ []) ≡ entries
+unfolding entries_made entry_made is_entered
+not_entered entries copy e =
+    ap (λ es. entries ++ es) (append-nil (entry_made entries copy) ∙ ap (λ b. cond (b && is_good copy && not (is_number_00 copy)) (entry_of copy ∷ []) []) e)
+    ∙ append-nil entries
+
+-- whether the copy of an identity is printed, by what is remembered
+pub printed_by : (entries : List MemoryEntry) (copy : TaggedCopy) (identity : Identity) (content : List MemoryEntry) → identity ≡ copy.identity → content ≡ last_of most_entries entries
+    → (copy.selected && ((identity.number == 0) || not (is_known identity copy.moment content))) ≡ is_printed entries copy
+unfolding is_printed
+printed_by entries copy identity content named holds =
+    ap (λ (i : Identity). copy.selected && ((i.number == 0) || not (is_known i copy.moment content))) named
+    ∙ ap (λ es. copy.selected && ((copy.identity.number == 0) || not (is_known copy.identity copy.moment es))) holds
 
 -- what is printed was selected
 pub selected : (entries : List MemoryEntry) (found : Found) (tag : CopyTag) → is_printed entries (with_tag found tag) ≡ true → tagged_found found tag.moment true ≡ with_tag found tag

@@ -33,10 +33,10 @@ kept : (h : Header) (o : Option Ending) (closed : Copy) → closed.header ≡ h
 kept h None closed e = e
 kept h (Some ending) closed e = refl
 
-abbrev copy_at : List ℕ → Header → Copy
+abbrev pub copy_at : List ℕ → Header → Copy
 copy_at text h = unwrap_or (ended_copy text h) (closed_copy text h)
 
-header_of : (text : List ℕ) (h : Header) → (copy_at text h).header ≡ h
+pub header_of : (text : List ℕ) (h : Header) → (copy_at text h).header ≡ h
 unfolding ended_copy closed_copy
 header_of text h = kept h (ending_of (raw_text text h)) (closed_copy text h) refl
 
@@ -81,7 +81,7 @@ module _ (front back : List ℕ) (message : MessageView) (good : AreLines messag
   pub header_there : Contains (headers all) here
   header_there = (anywhere_both all here).1 stands_here
 
-  ended_here : ended_copy all here ≡ Some (sent_copy (length front) message)
+  pub ended_here : ended_copy all here ≡ Some (sent_copy (length front) message)
   unfolding ended_copy raw_text
   ended_here =
       ap (λ l. option_map (copy_with here) (ending_of (less_newline l))) (ap (drop (length front + 9)) parts ∙ drop_at (front ++ header message.identity) (10 ∷ behind) (length front + 9) long)

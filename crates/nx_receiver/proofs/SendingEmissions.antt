@@ -60,7 +60,7 @@ module _ (numbers : List ℕ) (spellings : List (List ℕ)) (heard : List ℕ) (
   pub long_heard : length heard ≡ 53 + 2 * length air
   long_heard = omega (arith, long_sent, passes.whole)
 
-  phasing_at : (i : ℕ) → i < 72 → position_at sent i ≡ phasing_position
+  pub phasing_at : (i : ℕ) → i < 72 → position_at sent i ≡ phasing_position
   phasing_at i lt =
       ap (λ l. get_or l i end_position) (layout-parts numbers spellings)
       ∙ get_or_append_left (replicate 72 phasing_position) (air ++ replicate 3 end_position) end_position i (omega (arith, length-replicate 72 phasing_position))

@@ -211,6 +211,17 @@ module _ (gap : List Bool) (heard : List ℕ) (k : KeepsLock heard) (l : LockedB
   through : IsLocked (early ++ more) l.locks l.p l.t
   through = stands_longer early more l.locks l.p l.t l.stands few_wrong no_end
 
+  pub stands_through : IsLocked (gap ++ bits_of heard) l.locks l.p l.t
+  stands_through = subst (λ b. IsLocked b l.locks l.p l.t) together through
+
+  pub dx_through : role_of (first_role (gap ++ bits_of heard) l.t) l.whole ≡ Dx
+  dx_through =
+      subst (λ b. role_of (first_role b l.t) l.whole ≡ Dx) together (ap (λ r. role_of r l.whole) role_is ∙ l.dx)
+
+  pub same_through : (j i : ℕ) → j + 48 ≡ i + l.whole → i < length heard
+      → word_at (gap ++ bits_of heard) l.t j ≡ word_of heard i
+  same_through j i e lt = ap (λ b. word_at b l.t j) (sym together) ∙ lock_word_is j i e lt
+
   pub lock_goes_through : LockedThrough gap heard
   lock_goes_through = record {
     locks = l.locks;
@@ -218,11 +229,11 @@ module _ (gap : List Bool) (heard : List ℕ) (k : KeepsLock heard) (l : LockedB
     t = l.t;
     begins = begins_is;
     before = l.stands;
-    stands = subst (λ b. IsLocked b l.locks l.p l.t) together through;
+    stands = stands_through;
     whole = l.whole;
     limit = limit_is;
-    dx = subst (λ b. role_of (first_role b l.t) l.whole ≡ Dx) together (ap (λ r. role_of r l.whole) role_is ∙ l.dx);
-    same = λ j i e lt. ap (λ b. word_at b l.t j) (sym together) ∙ lock_word_is j i e lt;
+    dx = dx_through;
+    same = same_through;
   }
 
 -- whatever bits came before

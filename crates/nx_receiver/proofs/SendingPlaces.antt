@@ -44,13 +44,13 @@ text_rises first f t (suc n) =
     (All-weaker (λ (b : PlacedByte). place_of t n ≤ b.place) (λ (b : PlacedByte). t + 7 * n ≤ b.place) (λ b h. omega arith) (printed_by first f t n) (placed_at (place_of t n) (printed_after (positions first f n) (taken_at first f n))))
 
 -- in such a list a later item has a greater key
-above_later : {A : Type 0} (key : A → ℕ) (n : ℕ) (xs : List A) (j : ℕ) (d : A) → Above key n xs → j < length xs
+pub above_later : {A : Type 0} (key : A → ℕ) (n : ℕ) (xs : List A) (j : ℕ) (d : A) → Above key n xs → j < length xs
     → n < key (get_or xs j d)
 above_later key n [] j d h lt = absurd (omega arith)
 above_later key n (x ∷ xs) zero d h lt = h.0
 above_later key n (x ∷ xs) (suc j) d h lt = above_later key n xs j d h.1 (omega arith)
 
-rises_at : {A : Type 0} (key : A → ℕ) (xs : List A) (i j : ℕ) (d : A) → Rises key xs → i < j → j < length xs
+pub rises_at : {A : Type 0} (key : A → ℕ) (xs : List A) (i j : ℕ) (d : A) → Rises key xs → i < j → j < length xs
     → key (get_or xs i d) < key (get_or xs j d)
 rises_at key [] i j d h lt in' = absurd (omega arith)
 rises_at key (x ∷ xs) i zero d h lt in' = absurd (omega arith)

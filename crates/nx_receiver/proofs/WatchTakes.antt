@@ -1,5 +1,5 @@
 -- A copy that is over is taken, and a text ends.
-use Rattle.std.proofs.Common.{◌≡◌, ℕ, zero, ◌+◌, Bool, List, [], ◌∷◌, ◌++◌, map, Option, Some, None, sym, ap, ◌∙◌, subst, append_assoc}
+use Rattle.std.proofs.Common.{◌≡◌, ℕ, zero, ◌+◌, Bool, List, [], ◌∷◌, ◌++◌, map, Option, Some, None, sym, ap, ◌∙◌, subst, append-nil, append_assoc}
 use Rattle.std.specs.Prelude.{MatchOption}
 use Rattle.std.specs.List.{All}
 use Rattle.std.proofs.lemmas.List.Elements.{All-head}
@@ -127,6 +127,13 @@ lock_ended first watch reader found h s copies fresh ends over =
         has_tag = tag-hunting first s watch.tag;
       };
     }
+
+-- where no copy stands open in it, none is handed out
+pub lock_ended_none : (first : Setting) (watch : Watching) (reader : LockReading) (h : List Bool) (s : List Setting) (copies : List TaggedCopy)
+    → IsFresh reader → ((first : Role) (words : ℕ → ℕ) (n : ℕ) → ReadsLock watch.reader first words n → Closes (text_after first words n) None)
+    → LockIsOver first watch h s copies → WatchStands first (record watch { reader = reader }) h s copies
+lock_ended_none first watch reader h s copies fresh ends over =
+    subst (λ l. WatchStands first (record watch { reader = reader }) h s l) (append-nil copies) (lock_ended first watch reader None h s copies fresh ends over)
 
 -- what the reader stands after is the text of what stands
 stands_in : (reader : LockReading) (found : Option Found) → ((first : Role) (words : ℕ → ℕ) (n : ℕ) → ReadsLock reader first words n → Closes (text_after first words n) found)

@@ -17,3 +17,4 @@ pub mod Listener
 pub mod ListenerBegins
 pub mod ListenOnce
 pub mod ListenExample
+pub mod Sent

@@ -13,8 +13,7 @@ use Rattle.nx_station.specs.Sendings.{Part, IsCut}
 use Rattle.nx_sync.specs.Locks.{Lock, Now, IsNow}
 use Rattle.nx_receiver.specs.Events.{Setting, first_setting}
 use Rattle.nx_receiver.specs.FoundCopies.{FoundCopy, found_to_end}
-use Rattle.nx_receiver.specs.Listen.{IsLogOf, air_limit, at_zero, events_of}
-use Rattle.nx_receiver.specs.Log.{IsLog}
+use Rattle.nx_receiver.specs.Listen.{IsLogOfFile, air_limit, at_zero, events_of}
 use Rattle.nx_receiver.specs.OnceHeard.{FewBetween, IsPrintedOnce, setting_of}
 use Rattle.nx_receiver.specs.Sending.{IsSentAt}
 use Rattle.nx_receiver.specs.Tagged.{TaggedCopy, tagged_copies}
@@ -65,20 +64,16 @@ pub record IsHeardInTimeIn (file : List ℕ) (message : MessageView) : Type 0 wh
   -- 200 identities suffice: fewer than 200 entries are made between its first copy and any later one.
   pub few : FewBetween (heard_as lines copies) at_zero message
 
--- The bytes of a log are those of entries of which exactly one bears the identity of the message: it is full, has 0
--- errors, and its text is the message's, letter for letter.
-pub record HasOneEntry (log : List ℕ) (message : MessageView) : Type 0 where
-  pub copies : List TaggedCopy
-  pub spelled : IsLog copies log
-  pub once : IsPrintedOnce message copies
-
--- Both halves of the headline: the log of the file of these bytes was written, and each message that is heard in time in
--- the file has one entry in it.
+-- Both halves of the headline: the log of the file of these bytes was written, and of its entries exactly one bears the
+-- identity of each message that is heard in time in the file: it is full, has 0 errors, and its text is the message's,
+-- letter for letter.
 pub record HasPrintedOnce (old new : Option (List ℕ)) (file : List ℕ) : Type 0 where
+  pub lines : List Line
+  pub copies : List TaggedCopy
   pub log : List ℕ
-  pub logged : IsLogOf file log
+  pub logged : IsLogOfFile file lines copies log
   pub written : Appends old new log
-  pub once : (message : MessageView) → IsHeardInTimeIn file message → HasOneEntry log message
+  pub once : (message : MessageView) → IsHeardInTimeIn file message → IsPrintedOnce message copies
 
 -- Both halves of the headline hold of the bytes that a run read and wrote; and of the whole input, where it is known,
 -- however it came.

@@ -10,14 +10,16 @@ use Rattle.nx_memory.specs.Ring.{RingMemory}
 use Rattle.nx_receiver.specs.Events.{Event, bits_of}
 use Rattle.nx_receiver.specs.Listen.{AreTaken, LacksMoment, RefusesMoment, RefusesVital, at_zero, events_of, has_moment}
 use Rattle.nx_receiver.specs.Log.{HasPrinted, IsLog, PrintsToEnd}
-use Rattle.nx_receiver.specs.Receiver.{Stands}
+use Rattle.nx_receiver.specs.Receiver.{Awaits, Stands, entry_list}
 use Rattle.nx_receiver.specs.Tagged.{TaggedCopy}
+use Rattle.nx_receiver.specs.declared.entry.Entry.{Entry}
 use Rattle.nx_receiver.specs.declared.listening.Listener.{Listener}
 use Rattle.nx_receiver.specs.declared.listening.Report.{Report}
 use Rattle.nx_receiver.specs.declared.listening.LineRefusal.{LineRefusal}
 use Rattle.nx_receiver.specs.declared.listening.LineRefusal.TheVariants.{NoMoment, Moment, Vital}
 use Rattle.nx_receiver.specs.declared.listen_fault.ListenFault.{ListenFault}
 use Rattle.nx_receiver.specs.declared.listen_fault.ListenFault.TheVariants as listen
+use Rattle.nx_receiver.specs.declared.over.Over.{Over}
 
 -- the number that counts so many, at most the greatest of 64 bits
 abbrev pub count_of : ℕ → ℕ
@@ -57,6 +59,15 @@ pub record HeardSome (events : List Event) (old new : Option (List ℕ)) (writte
   pub given : List ℕ
   pub begun : BeginsLog events given
   pub some : WroteSome old new given written
+
+-- What was over was finished: it brought this entry, or none, which was counted, and these are its bytes.
+pub record HasFinished (old new : Listener) (over : Over) (given : List ℕ) : Type 0 where
+  pub entry : Option Entry
+  pub stands : (events : List Event) (log : List TaggedCopy) → Awaits (λ (memory : RingMemory). memory.content) at_zero old.receiver events log over
+      → Stands (λ (memory : RingMemory). memory.content) at_zero new.receiver events (log ++ entry_list entry)
+  pub spelled : IsLog (entry_list entry) given
+  pub elements : new.elements ≡ old.elements
+  pub entries : old.entries ≤ 2 ^ 64 - 1 → new.entries ≡ count_of (old.entries + length (entry_list entry))
 
 -- The listener stands so after these lines, each taken after those before it; these bytes are their log.
 pub record IsListening (listener : Listener) (lines : List Line) (given : List ℕ) : Type 0 where

@@ -12,7 +12,8 @@ use Rattle.nx_receiver.specs.declared.fault.MomentFault.TheVariants.{Range, Back
 use Rattle.nx_receiver.specs.Events.{Event, Start, Setting, element, bits_of, first_setting, settings, setting_after_all}
 use Rattle.nx_receiver.specs.Printing.{printed_copies, entries_after}
 use Rattle.nx_receiver.specs.Tagged.{TaggedCopy, copy_of}
-use Rattle.nx_receiver.specs.Watch.{Watching, WatchStands, in_force}
+use Rattle.nx_receiver.specs.declared.over.Over.{Over}
+use Rattle.nx_receiver.specs.Watch.{IsOver, Watching, WatchStands, in_force}
 
 -- what contracts see of a receiver: its watch, and its memory
 pub record Receiving (M : Type 0) : Type 0 where
@@ -29,6 +30,19 @@ pub record StandsOver {M : Type 0} (content : M → List MemoryEntry) (start : S
   pub force : in_force receiver.watch ≡ now
   pub printed : log ≡ printed_copies start.entries copies
   pub memory : content receiver.memory ≡ last_of most_entries (entries_after start.entries copies)
+
+-- The receiver stands after these elements but for what is over with the last of them, which is yet to be finished: the
+-- log is what is printed of the copies that ended before it.
+pub record AwaitsOver {M : Type 0} (content : M → List MemoryEntry) (start : Start) (receiver : Receiving M) (bits : List Bool) (settings : List Setting) (now : Setting) (log : List TaggedCopy) (over : Over) : Type 0 where
+  pub copies : List TaggedCopy
+  pub watch : IsOver (first_setting start) receiver.watch bits settings copies over
+  pub force : in_force receiver.watch ≡ now
+  pub printed : log ≡ printed_copies start.entries copies
+  pub memory : content receiver.memory ≡ last_of most_entries (entries_after start.entries copies)
+
+abbrev pub Awaits : {M : Type 0} → (M → List MemoryEntry) → Start → Receiving M → List Event → List TaggedCopy → Over → Type 0
+Awaits content start receiver events log over =
+    AwaitsOver content start receiver (bits_of events) (settings (first_setting start) events) (setting_after_all (first_setting start) events) log over
 
 abbrev pub Stands : {M : Type 0} → (M → List MemoryEntry) → Start → Receiving M → List Event → List TaggedCopy → Type 0
 Stands content start receiver events log =

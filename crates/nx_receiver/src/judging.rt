@@ -8,7 +8,7 @@ ghost use Rattle.nx_receiver.specs.Printing as spec;
 ghost use Rattle.nx_receiver.specs.Printing.{entry_made, is_good_text};
 ghost use Rattle.nx_receiver.specs.Tagged.{tagged_found};
 
-use nx_envelope::{Found, How};
+use nx_envelope::{Found, How, Identity};
 use nx_memory::Recall;
 
 /// A copy is good where this many times its errors is less than its characters: fewer than 4 per cent are lost.
@@ -27,20 +27,25 @@ pub fn judge<M: Recall>(found: &Found, moment: u64, selected: bool, memory: &mut
         → M.content memory.new ≡ last_of most_entries (entries ++ entry_made entries (tagged_found found.now moment selected)) }
     ensures not_before { newest_moment (M.content memory.new) ≤ moment }
 {
-    let printed = is_printed(found, moment, selected, memory);
+    let printed = is_printed(&found.identity, moment, selected, memory);
     if is_entered(found, printed) {
         memory.enter(found.identity, moment);
     }
     printed
 }
 
-/// Whether a copy is selected, and is numbered 00 or unknown to the memory.
-fn is_printed<M: Recall>(found: &Found, moment: u64, selected: bool, memory: &M) -> bool
+/// Whether a copy of this identity is selected, and is numbered 00 or unknown to the memory.
+pub(crate) fn is_printed<M: Recall>(
+    identity: &Identity,
+    moment: u64,
+    selected: bool,
+    memory: &M,
+) -> bool
     requires { newest_moment (M.content memory.now) ≤ moment }
-    ensures { result ≡ (selected && ((found.now.identity.number == 0)
-        || not (is_known found.now.identity moment (M.content memory.now)))) }
+    ensures { result ≡ (selected && ((identity.now.number == 0)
+        || not (is_known identity.now moment (M.content memory.now)))) }
 {
-    selected && (found.identity.number() == 0 || !memory.knows(&found.identity, moment))
+    selected && (identity.number() == 0 || !memory.knows(identity, moment))
 }
 
 /// Whether a copy is printed, as the caller says, and is good and not numbered 00.

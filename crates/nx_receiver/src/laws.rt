@@ -21,6 +21,7 @@ ghost use Rattle.nx_receiver.specs.Worked.{at_its_slot, damaged_words, heard_ele
 
 pub mod listening;
 pub mod once;
+pub mod sending;
 
 use nx_memory::Recall;
 

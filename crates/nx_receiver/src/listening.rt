@@ -4,18 +4,19 @@ ghost use Rattle.std.specs.Prelude.{◌≡◌, ◌+◌, ◌<◌, ◌≤◌, ◌�
 ghost use Rattle.nx_code.specs.Characters.{IsCapital};
 ghost use Rattle.nx_fec.specs.AirFile.{Line};
 ghost use Rattle.nx_fec.specs.AirFile as line;
-ghost use Rattle.nx_fec.specs.Devices.{HasWritten};
+ghost use Rattle.nx_fec.specs.Devices.{HasWritten, WroteSome};
 ghost use Rattle.nx_fec.specs.LineRuns.{ExplainsTaking, HasGiven, HasTaken};
 ghost use Rattle.nx_fec.specs.Transfers.{Writes, devices};
 ghost use Rattle.nx_receiver.specs.Events.{Event};
 ghost use Rattle.nx_receiver.specs.Listen.{Listens};
 ghost use Rattle.nx_receiver.specs.ListenOnce.{KeepsHeadline};
-ghost use Rattle.nx_receiver.specs.Listener.{BeginsListening, HasClosed, HasClosedSome, HeardSome, HearsLog, IsHearing, IsListening, RefusesLine, lines_fault, refusal_fault};
+ghost use Rattle.nx_receiver.specs.Listener.{BeginsListening, HasClosed, HasClosedSome, HasFinished, HeardSome, HearsLog, IsHearing, IsListening, RefusesLine, lines_fault, refusal_fault};
 ghost use Rattle.nx_receiver.specs.Receiver.{elements};
 ghost use Rattle.nx_receiver.specs.declared.listen_fault.ListenFault.TheVariants.{Memory};
 
 use crate::fault::{MomentFault, ReceiverFault};
 use crate::listen_fault::ListenFault;
+use crate::over::Over;
 use crate::receiver::Receiver;
 use crate::writing::entry_bytes;
 use nx_envelope::Letter;
@@ -171,8 +172,6 @@ impl Listener {
 
     /// Hears elements up to and with the one that ends the first copy that is printed, and gives its entry. Answers how
     /// many it heard.
-    // Not inlined, so that no loop over elements has a place for an entry.
-    #[inline(never)]
     fn hear<W: Write>(
         &mut self,
         bits: &[bool],
@@ -192,16 +191,41 @@ impl Listener {
         ensures once { writer.new.failures ≤ 1 }
         ensures none { OnOk result (writer.new.failures ≡ 0) }
     {
-        let (count, entry) = self.receiver.feed(bits);
+        let (count, over) = self.receiver.hear(bits);
         self.elements = self.elements.saturating_add(count as u64);
-        let Some(entry) = entry else {
+        if over == Over::Nothing {
             return Ok(count);
-        };
-        self.entries = self.entries.saturating_add(1);
-        match batch.give(writer, &entry_bytes(&entry)) {
+        }
+        match self.finish(over, writer, batch) {
             Ok(()) => Ok(count),
             Err(fault) => Err(fault),
         }
+    }
+
+    /// Finishes what is over, and gives the entry that it brings, if it brings one.
+    // Not inlined, so that no loop over elements has a place for an entry.
+    #[inline(never)]
+    fn finish<W: Write>(
+        &mut self,
+        over: Over,
+        writer: &mut Counting<W>,
+        batch: &mut Batch,
+    ) -> Result<(), WriteFault>
+        requires { writer.old.failures ≡ 0 }
+        ensures finished { (given : List ℕ) × HasFinished self.old self.new over given
+            × ((old : Option (List ℕ)) (before : List ℕ) → HasGiven old (W.contents writer.old.inner) batch.old before
+            → MatchResult result (λ _. HasGiven old (W.contents writer.new.inner) batch.new (before ++ given))
+            (λ fault. WroteSome old (W.contents writer.new.inner) (before ++ given) fault.written)) }
+        ensures moment { self.new.has_moment ≡ self.old.has_moment }
+        ensures failed { IsErr result ↔ (writer.new.failures ≡ 1) }
+        ensures once { writer.new.failures ≤ 1 }
+        ensures none { OnOk result (writer.new.failures ≡ 0) }
+    {
+        let Some(entry) = self.receiver.finish(over) else {
+            return Ok(());
+        };
+        self.entries = self.entries.saturating_add(1);
+        batch.give(writer, &entry_bytes(&entry))
     }
 
     /// Hears the elements of a line, and gives the entries of the copies that they end.

@@ -1,15 +1,15 @@
 //! The text of one lock, read from its words.
 
-ghost use Rattle.std.specs.Prelude.{◌≡◌, ◌↔◌, ◌+◌, ℕ, false, IsNone, MatchOption};
+ghost use Rattle.std.specs.Prelude.{◌≡◌, ◌↔◌, ◌+◌, ℕ, false, None, IsNone, MatchOption};
 ghost use Rattle.nx_sync.specs.Words.{role_of};
 ghost use Rattle.nx_sync.specs.declared.step.Role.{Role};
 ghost use Rattle.nx_envelope.specs.Copies.{Copy};
-ghost use Rattle.nx_envelope.specs.Finder.{Closes, HasReady, is_over, is_ready};
+ghost use Rattle.nx_envelope.specs.Finder.{Closes, ClosesNone, HasReady, held_identity, is_over, is_ready};
 ghost use Rattle.nx_envelope.specs.Found.{IsFound};
 ghost use Rattle.nx_receiver.specs.LockReader.{HearsWord, ReadsLock, text_after};
 
 use nx_code::{Printer, Word};
-use nx_envelope::{Finder, Found, TextEvent};
+use nx_envelope::{Finder, Found, Identity, TextEvent};
 use nx_fec::{Diversity, Heard};
 use nx_sync::Role;
 use std::marker::Model;
@@ -75,6 +75,14 @@ impl LockReader {
         }
     }
 
+    /// The identity of the copy that stands open, or that can be taken.
+    #[inline(always)]
+    pub(crate) fn identity(&self) -> Option<Identity>
+        ensures { result ≡ held_identity self.now.finder.copy }
+    {
+        self.finder.identity()
+    }
+
     /// The copy that the last word ended, where it was not taken yet.
     // Not inlined, so that no loop over words has a place for a text of 4,100.
     #[inline(never)]
@@ -93,14 +101,25 @@ impl LockReader {
     /// for the next lock. A copy that could be taken is gone.
     // Not inlined, as `take_found`.
     #[inline(never)]
-    #[tactic(auto, unfolding(crate::specs::LockReader::dx_words, crate::specs::LockText::positions))]
     pub(crate) fn end(&mut self) -> Option<Found>
         ensures closes { (first : Role) (words : ℕ → ℕ) (n : ℕ) → ReadsLock self.old first words n
             → Closes (text_after first words n) result }
         ensures as_new { (first : Role) (words : ℕ → ℕ) → ReadsLock self.new first words 0 }
     {
+        let found = self.finder.end();
+        self.restart();
+        found
+    }
+
+    /// Ends the text; the reader is then as new, for the next lock. A copy that stands open or could be taken is gone.
+    #[tactic(auto, unfolding(crate::specs::LockReader::dx_words, crate::specs::LockText::positions))]
+    pub(crate) fn restart(&mut self)
+        ensures none { (first : Role) (words : ℕ → ℕ) (n : ℕ) → ReadsLock self.old first words n
+            → held_identity self.old.finder.copy ≡ None → ClosesNone (text_after first words n) }
+        ensures as_new { (first : Role) (words : ℕ → ℕ) → ReadsLock self.new first words 0 }
+    {
         self.diversity = Diversity::new();
         self.printer = Printer::new();
-        self.finder.end()
+        self.finder.restart();
     }
 }

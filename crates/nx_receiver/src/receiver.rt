@@ -1,26 +1,26 @@
 //! The receiver: elements, moments and commands in, entries out.
 
-ghost use Rattle.std.specs.Prelude.{◌≡◌, ◌↔◌, ℕ, ◌+◌, ◌<◌, ◌≤◌, Bool, List, [], ◌∷◌, ◌++◌, length, take, IfErr, IfOk, IfSome, IsErr, IsNone, IsSome, IsTrue, OnErr, OnOk};
+ghost use Rattle.std.specs.Prelude.{◌≡◌, ◌↔◌, ℕ, ◌+◌, ◌<◌, ◌≤◌, ◌==◌, ◌&&◌, ◌||◌, not, Bool, List, [], ◌∷◌, ◌++◌, length, take, IfErr, IfOk, IfSome, IsErr, IsNone, IsSome, IsTrue, OnErr, OnOk};
 ghost use Rattle.nx_envelope.specs.Moment.{last_moment};
 ghost use Rattle.nx_code.specs.Lists.{last_of};
-ghost use Rattle.nx_memory.specs.Memory.{most_entries, newest_moment};
+ghost use Rattle.nx_memory.specs.Memory.{is_known, most_entries, newest_moment};
 ghost use Rattle.nx_memory.specs.declared.entry.MemoryEntry.{MemoryEntry};
 ghost use Rattle.nx_memory.specs.Vital.{is_vital};
 ghost use Rattle.nx_receiver.specs.Events as events;
-ghost use Rattle.nx_receiver.specs.Events.{Event, Setting, Start, at_moment, command, first_setting};
+ghost use Rattle.nx_receiver.specs.Events.{Event, Setting, Start, at_moment, command};
 ghost use Rattle.nx_receiver.specs.Log.{HasPrinted, PrintsToEnd};
 ghost use Rattle.nx_receiver.specs.Printing.{entries_after, printed_copies};
-ghost use Rattle.nx_receiver.specs.Receiver.{Refuses, RefusesStart, Stands, StandsOver, elements, entry_list};
+ghost use Rattle.nx_receiver.specs.Receiver.{Awaits, AwaitsOver, Refuses, RefusesStart, Stands, elements, entry_list};
 ghost use Rattle.nx_receiver.specs.Tagged.{TaggedCopy};
-ghost use Rattle.nx_receiver.specs.Watch.{Hears, IsOver, WatchStands, handed_out, in_force};
-ghost use Rattle.nx_receiver.specs.declared.over.Over.TheVariants.{Nothing};
+ghost use Rattle.nx_receiver.specs.Watch.{handed_out};
+ghost use Rattle.nx_receiver.specs.declared.over.Over.TheVariants.{Copy, Lock, Nothing};
 
 use crate::entry::Entry;
 use crate::fault::{MomentFault, ReceiverFault};
-use crate::judging::judge;
+use crate::judging::{is_printed, judge};
 use crate::over::{CopyTag, Over};
 use crate::watch::Watch;
-use nx_envelope::{Found, LAST_MOMENT, Letter};
+use nx_envelope::{Found, Identity, LAST_MOMENT, Letter};
 use nx_memory::{Recall, Vital};
 use std::alloc::Global;
 use std::marker::Model;
@@ -181,29 +181,113 @@ impl<M: Recall> Receiver<M> {
         print_copy(found, watch.tag(), &mut memory)
     }
 
-    /// Hears elements up to and with the first one with which anything is over.
-    fn hear(&mut self, bits: &[bool]) -> (usize, Over)
+    /// Hears elements up to and with the first one with which something is over that may bring an entry, all of them
+    /// where nothing is; says how many, and what is over: `finish` is due then, before anything else is heard.
+    // Not inlined, so that its loops have their registers to themselves; its answer is small.
+    #[inline(never)]
+    pub(crate) fn hear(&mut self, bits: &[bool]) -> (usize, Over)
         ensures within { result.0 ≤ length bits.now }
-        ensures hears { (first : Setting) (h : List Bool) (s : List Setting) (copies : List TaggedCopy) →
-            WatchStands first self.old.watch h s copies
-            → Hears first self.old.watch self.new.watch h s copies (take result.0 bits.now) result.1 }
+        ensures stands { (start : Start) (history : List Event) (log : List TaggedCopy) →
+            Stands M.content start self.old history log → Awaits M.content start self.new
+            (history ++ elements (take result.0 bits.now)) log result.1 }
+        ensures first { (start : Start) (history : List Event) (log : List TaggedCopy) →
+            Stands M.content start self.old history log
+            → (k : ℕ) → k < result.0 → HasPrinted start (history ++ elements (take k bits.now)) log }
         ensures all { result.1 ≡ Nothing → result.0 ≡ length bits.now }
         ensures some { 0 < length bits.now → 0 < result.0 }
-        ensures force { in_force self.new.watch ≡ in_force self.old.watch }
-        ensures memory { self.new.memory ≡ self.old.memory }
     {
-        self.watch.hear(bits)
+        let mut at = 0;
+        while at < bits.len() {
+            let (count, over) = self.hear_part(&bits[at..]);
+            at += count;
+            if over != Over::Nothing {
+                return (at, over);
+            }
+        }
+        (at, Over::Nothing)
+    }
+
+    /// Hears elements up to and with the first one with which anything is over, and passes over it where it surely
+    /// brings no entry.
+    #[inline(always)]
+    fn hear_part(&mut self, bits: &[bool]) -> (usize, Over)
+        ensures within { result.0 ≤ length bits.now }
+        ensures stands { (start : Start) (history : List Event) (log : List TaggedCopy) →
+            Stands M.content start self.old history log → Awaits M.content start self.new
+            (history ++ elements (take result.0 bits.now)) log result.1 }
+        ensures first { (start : Start) (history : List Event) (log : List TaggedCopy) →
+            Stands M.content start self.old history log
+            → (k : ℕ) → k < result.0 → HasPrinted start (history ++ elements (take k bits.now)) log }
+        ensures some { 0 < length bits.now → 0 < result.0 }
+    {
+        let (count, over) = self.watch.hear(bits);
+        (count, self.pass_over(over))
+    }
+
+    /// Passes over what is over where it surely brings no entry: a copy that can be taken and isn't printed, and a lock
+    /// in which no copy stands open. Answers what is over then.
+    #[inline(always)]
+    fn pass_over(&mut self, over: Over) -> Over
+        ensures { (start : Start) (h : List Bool) (s : List Setting) (now : Setting) (log : List TaggedCopy) →
+            AwaitsOver M.content start self.old h s now log over
+            → AwaitsOver M.content start self.new h s now log result }
+    {
+        if over == Over::Nothing {
+            return over;
+        }
+        self.judge_over(over)
+    }
+
+    /// What is left of what is over, something, by the copy that is held.
+    // Not inlined, since it is rarely called.
+    #[inline(never)]
+    fn judge_over(&mut self, over: Over) -> Over
+        ensures { (start : Start) (h : List Bool) (s : List Setting) (now : Setting) (log : List TaggedCopy) →
+            AwaitsOver M.content start self.old h s now log over
+            → AwaitsOver M.content start self.new h s now log result }
+    {
+        match over {
+            Over::Copy => self.judge_copy(),
+            Over::Lock => self.judge_lock(),
+            Over::Nothing | Over::CopyAndLock => over,
+        }
+    }
+
+    /// What is left where a copy is over, which can be taken: nothing where it isn't printed.
+    fn judge_copy(&self) -> Over
+        ensures { (start : Start) (h : List Bool) (s : List Setting) (now : Setting) (log : List TaggedCopy) →
+            AwaitsOver M.content start self.now h s now log Copy
+            → AwaitsOver M.content start self.now h s now log result }
+    {
+        let Some(identity) = self.watch.identity() else {
+            return Over::Copy;
+        };
+        if self.prints(&identity) {
+            return Over::Copy;
+        }
+        Over::Nothing
+    }
+
+    /// What is left where a lock is over: nothing where no copy stands open in it.
+    fn judge_lock(&mut self) -> Over
+        ensures { (start : Start) (h : List Bool) (s : List Setting) (now : Setting) (log : List TaggedCopy) →
+            AwaitsOver M.content start self.old h s now log Lock
+            → AwaitsOver M.content start self.new h s now log result }
+    {
+        if self.watch.identity().is_some() {
+            return Over::Lock;
+        }
+        self.watch.restart();
+        Over::Nothing
     }
 
     /// The entry of the copy that is over, where one is and it is printed.
     // Not inlined, so that no loop over elements has a place for an entry.
     #[inline(never)]
-    fn finish(&mut self, over: Over) -> Option<Entry>
-        ensures stands { (start : Start) (h : List Bool) (s : List Setting) (now : Setting) (copies log : List TaggedCopy) →
-            IsOver (first_setting start) self.old.watch h s copies over → in_force self.old.watch ≡ now
-            → log ≡ printed_copies start.entries copies
-            → M.content self.old.memory ≡ last_of most_entries (entries_after start.entries copies)
-            → StandsOver M.content start self.new h s now (log ++ entry_list result) }
+    pub(crate) fn finish(&mut self, over: Over) -> Option<Entry>
+        ensures stands { (start : Start) (history : List Event) (log : List TaggedCopy) →
+            Awaits M.content start self.old history log over
+            → Stands M.content start self.new history (log ++ entry_list result) }
         ensures none { over ≡ Nothing → IsNone result }
         ensures moment { IfSome result (λ entry. entry.moment ≤ last_moment) }
     {
@@ -219,6 +303,18 @@ impl<M: Recall> Receiver<M> {
         };
         let tag = self.watch.tag();
         print_copy(found, tag, &mut self.memory)
+    }
+
+    /// Whether a copy of this identity, the one that is held, is printed.
+    fn prints(&self, identity: &Identity) -> bool
+        ensures { result ≡ (self.now.watch.tag.is_selected && ((identity.now.number == 0)
+            || not (is_known identity.now self.now.watch.tag.moment (M.content self.now.memory)))) }
+    {
+        let CopyTag {
+            moment,
+            is_selected,
+        } = self.watch.tag();
+        is_printed(identity, moment, is_selected, &self.memory)
     }
 }
 

@@ -3,6 +3,7 @@
 ghost use Rattle.std.specs.Prelude.{◌≤◌};
 ghost use Rattle.nx_memory.specs.Memory.{newest_moment};
 
+mod emissions;
 mod listening;
 mod receiver;
 

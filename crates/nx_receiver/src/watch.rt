@@ -1,8 +1,9 @@
 //! What a receiver keeps but its memory: it turns elements into copies, each with the moment and the selection in force
 //! at its second digit. What runs for each element or each word has a small answer.
 
-ghost use Rattle.std.specs.Prelude.{◌≡◌, ◌<◌, ◌≤◌, List, Bool, [], ◌∷◌, ◌++◌, ◌↔◌, length, not, take, IfOk, IfErr, IsErr, IsTrue, OnErr, OnOk};
+ghost use Rattle.std.specs.Prelude.{◌≡◌, ◌<◌, ◌≤◌, List, Bool, [], ◌∷◌, ◌++◌, ◌↔◌, length, not, take, None, IfOk, IfErr, IsErr, IsTrue, OnErr, OnOk};
 ghost use Rattle.nx_sync.specs.Synchroniser.{is_between_words, is_hunting};
+ghost use Rattle.nx_envelope.specs.Finder.{held_identity};
 ghost use Rattle.nx_memory.specs.Vital.{is_vital};
 ghost use Rattle.nx_receiver.specs.Events as Command;
 ghost use Rattle.nx_receiver.specs.Events.{Setting, Start, first_setting, refused_after};
@@ -13,7 +14,7 @@ ghost use Rattle.nx_receiver.specs.declared.over.Over.TheVariants.{Nothing};
 use crate::lock_reader::LockReader;
 use crate::over::{CopyTag, Over};
 use nx_code::{ELEMENTS, Word};
-use nx_envelope::{Found, Letter, TextEvent};
+use nx_envelope::{Found, Identity, Letter, TextEvent};
 use nx_memory::{Selection, Vital};
 use nx_sync::{Role, Step, Synchroniser};
 use std::alloc::{AllocError, Global};
@@ -278,16 +279,39 @@ impl Watch {
         self.reader.end()
     }
 
+    /// The identity of the copy that stands open, or that can be taken.
+    #[inline(always)]
+    pub(crate) fn identity(&self) -> Option<Identity>
+        ensures { result ≡ held_identity self.now.reader.finder.copy }
+    {
+        self.reader.identity()
+    }
+
+    /// Ends the text of a lock that is over, where no copy stands open: it hands out none.
+    pub(crate) fn restart(&mut self)
+        ensures lock { (first : Setting) (h : List Bool) (s : List Setting) (copies : List TaggedCopy) →
+            LockIsOver first self.old h s copies → held_identity self.old.reader.finder.copy ≡ None
+            → WatchStands first self.new h s copies }
+        ensures force { in_force self.new ≡ in_force self.old }
+        ensures tag { self.new.tag ≡ self.old.tag }
+    {
+        self.reader.restart();
+    }
+
     /// Refuses the station.
     pub(crate) fn refuse_station(&mut self, station: Letter)
-        ensures { self.new ≡ record self.old { refused = refused_after self.old.refused (Command.refuse_station station.byte) } }
+        ensures { self.new ≡ record self.old {
+          refused = refused_after self.old.refused (Command.refuse_station station.byte);
+        } }
     {
         self.selection.refuse_station(station);
     }
 
     /// Refuses the station no longer.
     pub(crate) fn accept_station(&mut self, station: Letter)
-        ensures { self.new ≡ record self.old { refused = refused_after self.old.refused (Command.accept_station station.byte) } }
+        ensures { self.new ≡ record self.old {
+          refused = refused_after self.old.refused (Command.accept_station station.byte);
+        } }
     {
         self.selection.accept_station(station);
     }
@@ -296,7 +320,9 @@ impl Watch {
     pub(crate) fn refuse_subject(&mut self, subject: Letter) -> Result<(), Vital>
         ensures vital { IsErr result ↔ IsTrue (is_vital subject.byte) }
         ensures fault { IfErr result (λ vital. vital.subject ≡ subject) }
-        ensures refused { OnOk result (self.new ≡ record self.old { refused = refused_after self.old.refused (Command.refuse_subject subject.byte) }) }
+        ensures refused { OnOk result (self.new ≡ record self.old {
+          refused = refused_after self.old.refused (Command.refuse_subject subject.byte);
+        }) }
         ensures unchanged { OnErr result (self.new ≡ self.old) }
     {
         self.selection.refuse_subject(subject)
@@ -304,7 +330,9 @@ impl Watch {
 
     /// Refuses the subject no longer.
     pub(crate) fn accept_subject(&mut self, subject: Letter)
-        ensures { self.new ≡ record self.old { refused = refused_after self.old.refused (Command.accept_subject subject.byte) } }
+        ensures { self.new ≡ record self.old {
+          refused = refused_after self.old.refused (Command.accept_subject subject.byte);
+        } }
     {
         self.selection.accept_subject(subject);
     }

@@ -1,13 +1,12 @@
 -- Under the channel: few words are wrong, no DX word before the end is phasing signal 1, and each position is taken as it
 -- was sent.
-use Rattle.std.proofs.Common.{◌≡◌, ◌≢◌, ℕ, zero, suc, ◌+◌, ◌-◌, ◌*◌, ◌/◌, ◌%◌, ◌<◌, ◌≤◌, ◌⊎◌, cond, List, length, get_or, refl, sym, ap, ◌∙◌, subst, arith, inl, inr, lit<}
-use Rattle.std.proofs.lemmas.Bool.{cases_lt, cases_eq, eq-eqb, eqb-true}
-use Rattle.std.specs.Option.{is_some}
+use Rattle.std.proofs.Common.{◌≡◌, ◌≢◌, ℕ, zero, suc, ◌+◌, ◌-◌, ◌*◌, ◌/◌, ◌%◌, ◌<◌, ◌≤◌, ◌⊎◌, cond, List, length, refl, sym, ap, ◌∙◌, subst, arith, inl, inr, lit<}
+use Rattle.std.proofs.lemmas.Bool.{cases_lt, cases_eq, eq-eqb}
 use Rattle.nx_code.specs.Phasing.{phasing_1, phasing_2}
 use Rattle.nx_code.specs.Word.{weight}
-use Rattle.nx_code.specs.Table.{traffic_word, words}
+use Rattle.nx_code.specs.Table.{traffic_word}
 use Rattle.nx_code.specs.Reading.{combination, lost}
-use Rattle.nx_code.proofs.TableLemmas.{weight-place_of, place_of-words, traffic_word-is, words-lt}
+use Rattle.nx_code.proofs.TableLemmas.{traffic_word-is}
 use Rattle.nx_fec.specs.Emission.{SentPosition, phasing_position, traffic_position, end_position, dx_word, rx_word, position_at, word_sent, reception, IsInCode}
 use Rattle.nx_fec.specs.Pairing.{Counted, traffic, idle_signal, nothing, counts_as, pairing}
 use Rattle.nx_fec.proofs.EmissionLemmas.{phasing_1-words, phasing_2-words, word_sent-dx, word_sent-rx}
@@ -15,31 +14,9 @@ use Rattle.nx_fec.proofs.PairingLemmas.{counts_as-words, counts_as-combination, 
 use Rattle.nx_station.specs.Channel.{PassesChannel, IsAsSent, IsWrongIn, heard_in, first_slot, message_slot, slots_of, one_if_wrong, wrong_words}
 use Rattle.nx_station.proofs.ChannelCounts.{right-counts_none, one_if_wrong-le, wrong_words-add, wrong_words-le, wrong_words-none, wrong_words-one}
 use Rattle.nx_station.proofs.ChannelPositions.{HasInner, IsInner, inner-no_end, position-end, position-inner}
+use Rattle.nx_station.proofs.WordWeights.{phasing_1-weight, dx-weight, rx-weight}
 
 -- ---- the words that are sent
-
-words-weight : (at : ℕ) → at < 35 → weight (get_or words at 0) ≡ 4
-words-weight at h =
-    eqb-true (weight (get_or words at 0)) 4 (weight-place_of (get_or words at 0) (words-lt at h) ∙ ap is_some (place_of-words at h))
-
-phasing_1-weight : weight phasing_1 ≡ 4
-phasing_1-weight = ap weight (sym phasing_1-words) ∙ words-weight 32 (lit< tt)
-
-phasing_2-weight : weight phasing_2 ≡ 4
-phasing_2-weight = ap weight (sym phasing_2-words) ∙ words-weight 34 (lit< tt)
-
-traffic-weight : (number : ℕ) → 1 ≤ number → number ≤ 32 → weight (traffic_word number) ≡ 4
-traffic-weight number low high = ap weight (traffic_word-is number low high) ∙ words-weight (number - 1) (omega arith)
-
-dx-weight : (position : SentPosition) → IsInCode position → weight (dx_word position) ≡ 4
-dx-weight phasing_position h = phasing_2-weight
-dx-weight (traffic_position number) h = traffic-weight number h.0 h.1
-dx-weight end_position h = phasing_1-weight
-
-rx-weight : (position : SentPosition) → IsInCode position → weight (rx_word position) ≡ 4
-rx-weight phasing_position h = phasing_1-weight
-rx-weight (traffic_position number) h = traffic-weight number h.0 h.1
-rx-weight end_position h = phasing_1-weight
 
 -- the words of a position count as it does
 phasing_1-counts : counts_as phasing_1 ≡ idle_signal

@@ -1,12 +1,12 @@
 -- What damaging answers follows from what its run over the lines said.
-use Rattle.std.proofs.Common.{◌≡◌, ◌≢◌, ℕ, ◌+◌, ◌-◌, ◌/◌, ◌%◌, ◌^◌, ◌<◌, ◌≤◌, Bool, true, List, [], ◌∷◌, ◌++◌, length, map, min, Option, Some, None, Result, Ok, Err, refl, sym, ap, ◌∙◌, subst, arith, append-nil, length-append}
+use Rattle.std.proofs.Common.{◌≡◌, ◌≢◌, ℕ, ◌+◌, ◌-◌, ◌^◌, ◌≤◌, true, List, [], ◌∷◌, ◌++◌, length, min, Option, Some, None, Result, Ok, Err, refl, sym, ap, ◌∙◌, subst, arith, append-nil, length-append}
 use Rattle.std.specs.List.{flat_map, AllByRecursion}
 use Rattle.std.specs.Option.{option_map, IsSomeAnd}
 use Rattle.std.specs.Io.KnownBytes.{Appends}
 use Rattle.std.proofs.lemmas.List.{length-map}
 use Rattle.std.proofs.lemmas.List.Concat.{flat_map-append}
 use Rattle.nx_fec.specs.AirFile.{Line, IsLine, element_digit, moment, elements, refuse_station, accept_station, refuse_subject, accept_subject, spelling}
-use Rattle.nx_fec.specs.Devices.{HasWritten, WroteSome}
+use Rattle.nx_fec.specs.Devices.{WroteSome}
 use Rattle.nx_fec.specs.LineRuns.{Beginning, HasTaken, HasTakenAll, HasTakenSome, IsPlaced, Refusing, RunsLines, Standing, StopsAt}
 use Rattle.nx_fec.specs.Lines.{IsCause, elements_of, file_of, line_bytes}
 use Rattle.nx_fec.specs.Transfers.{Devices}
@@ -17,11 +17,11 @@ use Rattle.nx_fec.specs.declared.line_run.LinesFault.TheVariants as run
 use Rattle.nx_fec.specs.declared.line_run.LinesRead.{LinesRead}
 use Rattle.nx_fec.proofs.LineLaws.{IsAirFile-unique, spelling-IsBeginning}
 use Rattle.nx_fec.proofs.TransferLaws.{Reads-on}
-use Rattle.nx_station.specs.Damage.{Damage, Damages, ExplainsDamaging, IsDamaged, damaged_file, damaged_line, damaged_lines, inverted, line_fault}
+use Rattle.nx_station.specs.Damage.{Damage, Damages, ExplainsDamaging, IsDamaged, damaged_file, damaged_line, damaged_lines, inverted_count, line_fault}
 use Rattle.nx_station.specs.DamageTaker.{HasDamaged, IsAt, damage_of}
 use Rattle.nx_station.specs.declared.damaging.Damaging.{Damaging}
 use Rattle.nx_station.specs.declared.fault.DamageFault.{DamageFault}
-use Rattle.nx_station.specs.declared.fault.DamageFault.TheVariants.{Read, AirTooLong, LineLong, LineCut, BadLine, Write}
+use Rattle.nx_station.specs.declared.fault.DamageFault.TheVariants.{Read, Write}
 use Rattle.nx_station.proofs.DamageLemmas.{inverted-append, inverted-le, length-damaged, lines-append, lines-twice}
 
 abbrev pub stands : Standing Damaging
@@ -48,15 +48,15 @@ elements-more lines line = flat_map-append elements_of lines (line ∷ []) ∙ a
 pub taken-more : (first old new : Damaging) (lines : List Line) (line : Line) (given bytes : List ℕ) → HasDamaged first old lines given
     → ((place : ℕ) → IsAt first old place → bytes ≡ line_bytes (damaged_line (damage_of first) place line))
     → ((place : ℕ) → IsAt first old place → IsAt first new (place + length (elements_of line)))
-    → ((place total : ℕ) → IsAt first old place → old.inverted ≡ min total (2 ^ 64 - 1) → new.inverted ≡ min (total + inverted (damage_of first) place (elements_of line)) (2 ^ 64 - 1))
+    → ((place total : ℕ) → IsAt first old place → old.inverted ≡ min total (2 ^ 64 - 1) → new.inverted ≡ min (total + inverted_count (damage_of first) place (elements_of line)) (2 ^ 64 - 1))
     → HasDamaged first new (lines ++ (line ∷ [])) (given ++ bytes)
 taken-more first old new lines line given bytes h written moved counted =
     let D = damage_of first in
     let bits = flat_map elements_of lines in
     let more = elements-more lines line in
     let long : length bits + length (elements_of line) ≡ length (flat_map elements_of (lines ++ (line ∷ []))) = sym (ap length more ∙ length-append bits (elements_of line)) in
-    let total : inverted D 0 bits + inverted D (length bits) (elements_of line) ≡ inverted D 0 (flat_map elements_of (lines ++ (line ∷ []))) =
-    sym (ap (inverted D 0) more ∙ inverted-append D 0 bits (elements_of line) ∙ ap (λ p. inverted D 0 bits + inverted D p (elements_of line)) (let e : 0 + length bits ≡ length bits = omega arith in e)) in
+    let total : inverted_count D 0 bits + inverted_count D (length bits) (elements_of line) ≡ inverted_count D 0 (flat_map elements_of (lines ++ (line ∷ []))) =
+    sym (ap (inverted_count D 0) more ∙ inverted-append D 0 bits (elements_of line) ∙ ap (λ p. inverted_count D 0 bits + inverted_count D p (elements_of line)) (let e : 0 + length bits ≡ length bits = omega arith in e)) in
     let place : 0 + length bits ≡ length bits = omega arith in
     let file : damaged_file D (lines ++ (line ∷ [])) ≡ damaged_file D lines ++ line_bytes (damaged_line D (length bits) line) =
     ap file_of (lines-append D 0 lines line) ∙ flat_map-append line_bytes _ (damaged_line D (0 + length bits) line ∷ [])
@@ -64,7 +64,7 @@ taken-more first old new lines line given bytes h written moved counted =
     ∙ ap (λ p. damaged_file D lines ++ line_bytes (damaged_line D p line)) place in
     record {
       at = subst (IsAt first new) long (moved (length bits) h.at);
-      counted = subst (λ n. new.inverted ≡ min n (2 ^ 64 - 1)) total (counted (length bits) (inverted D 0 bits) h.at h.counted);
+      counted = subst (λ n. new.inverted ≡ min n (2 ^ 64 - 1)) total (counted (length bits) (inverted_count D 0 bits) h.at h.counted);
       whole = ap (λ l. l ++ bytes) h.whole ∙ ap (λ l. damaged_file D lines ++ l) (written (length bits) h.at) ∙ sym file;
     }
 

@@ -1,13 +1,12 @@
 -- Damage of elements and of lines, one more after the others; and twice.
-use Rattle.std.proofs.Common.{◌≡◌, ℕ, ◌+◌, ◌-◌, ◌/◌, ◌%◌, ◌<◌, ◌≤◌, ◌==◌, Bool, true, false, cond, not, eqb, List, [], ◌∷◌, ◌++◌, length, map, get_or, take, inl, inr, refl, sym, ap, ◌∙◌, subst, arith, length-append}
+use Rattle.std.proofs.Common.{◌≡◌, ℕ, ◌+◌, ◌%◌, ◌<◌, ◌≤◌, ◌==◌, Bool, true, false, cond, not, List, [], ◌∷◌, ◌++◌, length, map, get_or, take, inl, inr, refl, sym, ap, ◌∙◌, arith, length-append}
 use Rattle.std.specs.List.{flat_map}
 use Rattle.std.proofs.lemmas.Bool.{cases_eq, eq-eqb, ne_eqb}
 use Rattle.std.proofs.lemmas.List.{length-take-le, map-append, take_more}
-use Rattle.std.proofs.lemmas.List.Concat.{flat_map-append}
 use Rattle.nx_code.specs.Word.{value_of}
 use Rattle.nx_fec.specs.AirFile.{Line, element_digit, moment, elements, refuse_station, accept_station, refuse_subject, accept_subject}
 use Rattle.nx_fec.specs.Lines.{elements_of}
-use Rattle.nx_station.specs.Damage.{Damage, damaged, damaged_element, damaged_line, damaged_lines, inverted, inverts}
+use Rattle.nx_station.specs.Damage.{Damage, damaged_elements, damaged_element, damaged_line, damaged_lines, inverted_count, inverts}
 
 -- ---- even and odd
 
@@ -27,23 +26,23 @@ parity-odd k =
 
 -- ---- elements
 
-pub damaged-append : (damage : Damage) (place : ℕ) (xs ys : List Bool) → damaged damage place (xs ++ ys) ≡ damaged damage place xs ++ damaged damage (place + length xs) ys
-damaged-append damage place [] ys = ap (λ p. damaged damage p ys) (let e : place ≡ place + 0 = omega arith in e)
+pub damaged-append : (damage : Damage) (place : ℕ) (xs ys : List Bool) → damaged_elements damage place (xs ++ ys) ≡ damaged_elements damage place xs ++ damaged_elements damage (place + length xs) ys
+damaged-append damage place [] ys = ap (λ p. damaged_elements damage p ys) (let e : place ≡ place + 0 = omega arith in e)
 damaged-append damage place (x ∷ xs) ys =
     let e : (place + 1) + length xs ≡ place + length (x ∷ xs) = omega arith in
-    ap (λ l. damaged_element damage place x ∷ l) (damaged-append damage (place + 1) xs ys ∙ ap (λ p. damaged damage (place + 1) xs ++ damaged damage p ys) e)
+    ap (λ l. damaged_element damage place x ∷ l) (damaged-append damage (place + 1) xs ys ∙ ap (λ p. damaged_elements damage (place + 1) xs ++ damaged_elements damage p ys) e)
 
-pub inverted-append : (damage : Damage) (place : ℕ) (xs ys : List Bool) → inverted damage place (xs ++ ys) ≡ inverted damage place xs + inverted damage (place + length xs) ys
+pub inverted-append : (damage : Damage) (place : ℕ) (xs ys : List Bool) → inverted_count damage place (xs ++ ys) ≡ inverted_count damage place xs + inverted_count damage (place + length xs) ys
 inverted-append damage place [] ys =
     let e : place ≡ place + 0 = omega arith in
-    let same = ap (λ p. inverted damage p ys) e in
+    let same = ap (λ p. inverted_count damage p ys) e in
     omega (arith, same)
 inverted-append damage place (x ∷ xs) ys =
     let e : (place + 1) + length xs ≡ place + length (x ∷ xs) = omega arith in
-    let later = inverted-append damage (place + 1) xs ys ∙ ap (λ p. inverted damage (place + 1) xs + inverted damage p ys) e in
+    let later = inverted-append damage (place + 1) xs ys ∙ ap (λ p. inverted_count damage (place + 1) xs + inverted_count damage p ys) e in
     omega (arith, later)
 
-pub length-damaged : (damage : Damage) (place : ℕ) (xs : List Bool) → length (damaged damage place xs) ≡ length xs
+pub length-damaged : (damage : Damage) (place : ℕ) (xs : List Bool) → length (damaged_elements damage place xs) ≡ length xs
 length-damaged damage place [] = refl
 length-damaged damage place (x ∷ xs) = omega (arith, length-damaged damage (place + 1) xs)
 
@@ -51,7 +50,7 @@ value-le : (b : Bool) → value_of b ≤ 1
 value-le true = omega arith
 value-le false = omega arith
 
-pub inverted-le : (damage : Damage) (place : ℕ) (xs : List Bool) → inverted damage place xs ≤ length xs
+pub inverted-le : (damage : Damage) (place : ℕ) (xs : List Bool) → inverted_count damage place xs ≤ length xs
 inverted-le damage place [] = omega arith
 inverted-le damage place (x ∷ xs) = omega (arith, value-le (inverts damage place), inverted-le damage (place + 1) xs)
 
@@ -60,7 +59,7 @@ twice-element true true = refl
 twice-element true false = refl
 twice-element false x = refl
 
-pub damaged-twice : (damage : Damage) (place : ℕ) (xs : List Bool) → damaged damage place (damaged damage place xs) ≡ xs
+pub damaged-twice : (damage : Damage) (place : ℕ) (xs : List Bool) → damaged_elements damage place (damaged_elements damage place xs) ≡ xs
 damaged-twice damage place [] = refl
 damaged-twice damage place (x ∷ xs) =
     let heads : damaged_element damage place (damaged_element damage place x) ≡ x = twice-element (inverts damage place) x in
@@ -78,7 +77,7 @@ lines-append damage place (l ∷ ls) line =
     ap (λ m. damaged_line damage place l ∷ m)
     (lines-append damage (place + length (elements_of l)) ls line ∙ ap (λ p. damaged_lines damage (place + length (elements_of l)) ls ++ (damaged_line damage p line ∷ [])) e)
 
-pub line-elements : (damage : Damage) (place : ℕ) (line : Line) → elements_of (damaged_line damage place line) ≡ damaged damage place (elements_of line)
+pub line-elements : (damage : Damage) (place : ℕ) (line : Line) → elements_of (damaged_line damage place line) ≡ damaged_elements damage place (elements_of line)
 line-elements damage place (moment n) = refl
 line-elements damage place (elements bits) = refl
 line-elements damage place (refuse_station letter) = refl
@@ -95,11 +94,11 @@ line-twice damage place (refuse_subject letter) = refl
 line-twice damage place (accept_subject letter) = refl
 
 -- the elements of damaged lines are the damaged elements of all lines
-pub lines-elements : (damage : Damage) (place : ℕ) (lines : List Line) → flat_map elements_of (damaged_lines damage place lines) ≡ damaged damage place (flat_map elements_of lines)
+pub lines-elements : (damage : Damage) (place : ℕ) (lines : List Line) → flat_map elements_of (damaged_lines damage place lines) ≡ damaged_elements damage place (flat_map elements_of lines)
 lines-elements damage place [] = refl
 lines-elements damage place (line ∷ lines) =
     ap (λ l. l ++ flat_map elements_of (damaged_lines damage (place + length (elements_of line)) lines)) (line-elements damage place line)
-    ∙ ap (λ l. damaged damage place (elements_of line) ++ l) (lines-elements damage (place + length (elements_of line)) lines)
+    ∙ ap (λ l. damaged_elements damage place (elements_of line) ++ l) (lines-elements damage (place + length (elements_of line)) lines)
     ∙ sym (damaged-append damage place (elements_of line) (flat_map elements_of lines))
 
 pub lines-twice : (damage : Damage) (place : ℕ) (lines : List Line) → damaged_lines damage place (damaged_lines damage place lines) ≡ lines
@@ -113,20 +112,20 @@ lines-twice damage place (line ∷ lines) =
 
 -- the line of one element more
 pub line-more : (damage : Damage) (place i : ℕ) (bits : List Bool) (items new : List ℕ) (after : Bool) → i < length bits
-    → items ≡ 66 ∷ 32 ∷ map element_digit (damaged damage place (take i bits)) → after ≡ damaged_element damage (place + i) (get_or bits i false) → new ≡ items ++ (element_digit after ∷ [])
-    → new ≡ 66 ∷ 32 ∷ map element_digit (damaged damage place (take (i + 1) bits))
+    → items ≡ 66 ∷ 32 ∷ map element_digit (damaged_elements damage place (take i bits)) → after ≡ damaged_element damage (place + i) (get_or bits i false) → new ≡ items ++ (element_digit after ∷ [])
+    → new ≡ 66 ∷ 32 ∷ map element_digit (damaged_elements damage place (take (i + 1) bits))
 line-more damage place i bits items new after lt h k e =
     let x = get_or bits i false in
     let n : length (take i bits) ≡ i = length-take-le i bits (omega (arith, lt)) in
-    let grown : damaged damage place (take (i + 1) bits) ≡ damaged damage place (take i bits) ++ (damaged_element damage (place + i) x ∷ []) =
-    ap (damaged damage place) (take_more bits i false lt) ∙ damaged-append damage place (take i bits) (x ∷ []) ∙ ap (λ m. damaged damage place (take i bits) ++ (damaged_element damage (place + m) x ∷ [])) n in
-    e ∙ ap (λ l. l ++ (element_digit after ∷ [])) h ∙ ap (λ b. 66 ∷ 32 ∷ (map element_digit (damaged damage place (take i bits)) ++ (element_digit b ∷ []))) k
-    ∙ ap (λ l. 66 ∷ 32 ∷ l) (sym (ap (map element_digit) grown ∙ map-append element_digit (damaged damage place (take i bits)) (damaged_element damage (place + i) x ∷ [])))
+    let grown : damaged_elements damage place (take (i + 1) bits) ≡ damaged_elements damage place (take i bits) ++ (damaged_element damage (place + i) x ∷ []) =
+    ap (damaged_elements damage place) (take_more bits i false lt) ∙ damaged-append damage place (take i bits) (x ∷ []) ∙ ap (λ m. damaged_elements damage place (take i bits) ++ (damaged_element damage (place + m) x ∷ [])) n in
+    e ∙ ap (λ l. l ++ (element_digit after ∷ [])) h ∙ ap (λ b. 66 ∷ 32 ∷ (map element_digit (damaged_elements damage place (take i bits)) ++ (element_digit b ∷ []))) k
+    ∙ ap (λ l. 66 ∷ 32 ∷ l) (sym (ap (map element_digit) grown ∙ map-append element_digit (damaged_elements damage place (take i bits)) (damaged_element damage (place + i) x ∷ [])))
 
 pub count-more : (damage : Damage) (place i : ℕ) (bits : List Bool) → i < length bits
-    → inverted damage place (take (i + 1) bits) ≡ inverted damage place (take i bits) + value_of (inverts damage (place + i))
+    → inverted_count damage place (take (i + 1) bits) ≡ inverted_count damage place (take i bits) + value_of (inverts damage (place + i))
 count-more damage place i bits lt =
     let x = get_or bits i false in
     let n : length (take i bits) ≡ i = length-take-le i bits (omega (arith, lt)) in
-    let grown = ap (inverted damage place) (take_more bits i false lt) ∙ inverted-append damage place (take i bits) (x ∷ []) ∙ ap (λ m. inverted damage place (take i bits) + (value_of (inverts damage (place + m)) + 0)) n in
+    let grown = ap (inverted_count damage place) (take_more bits i false lt) ∙ inverted-append damage place (take i bits) (x ∷ []) ∙ ap (λ m. inverted_count damage place (take i bits) + (value_of (inverts damage (place + m)) + 0)) n in
     omega (arith, grown)

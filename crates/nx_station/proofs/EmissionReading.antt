@@ -1,22 +1,19 @@
 -- What is read of the emission of messages: right words, pairs, and their text; so the emission is of one list.
-use Rattle.std.proofs.Common.{◌≡◌, ◌≢◌, ℕ, ◌+◌, ◌-◌, ◌*◌, ◌/◌, ◌%◌, ◌<◌, ◌≤◌, zero, suc, Bool, true, List, [], ◌∷◌, ◌++◌, length, get_or, take, map, replicate, eqb, inl, inr, refl, sym, ap, ◌∙◌, subst, append_assoc, arith, append-nil, length-append}
+use Rattle.std.proofs.Common.{◌≡◌, ◌≢◌, ℕ, ◌+◌, ◌-◌, ◌*◌, ◌/◌, ◌%◌, ◌<◌, ◌≤◌, zero, suc, Bool, List, [], ◌∷◌, ◌++◌, length, get_or, take, map, replicate, inl, inr, refl, sym, ap, ◌∙◌, subst, append_assoc, arith, append-nil, length-append}
 use Rattle.std.specs.List.{flat_map, AllByRecursion}
-use Rattle.std.proofs.lemmas.Bool.{agree_below_at, eqb-true, cases_lt, cases_eq}
+use Rattle.std.proofs.lemmas.Bool.{cases_lt, cases_eq}
 use Rattle.std.proofs.lemmas.List.{map-append, take_at}
 use Rattle.std.proofs.lemmas.List.Elements.{All-from_recursion}
-use Rattle.nx_code.specs.Phasing.{phasing_1, phasing_2}
 use Rattle.nx_code.specs.Reading.{combination, idle, shift_after, shift_after_all, text}
 use Rattle.nx_code.specs.Spelling.{EachFits}
-use Rattle.nx_code.specs.Table.{words, table}
-use Rattle.nx_code.specs.Word.{weight, elements, elements_from}
+use Rattle.nx_code.specs.Word.{weight}
 use Rattle.nx_code.specs.declared.shifts.Shift.{Shift}
 use Rattle.nx_code.specs.declared.shifts.Shift.TheVariants.{Letters, Figures}
 use Rattle.nx_code.proofs.ReadingLemmas.{text-append}
-use Rattle.nx_code.proofs.TableLemmas.{traffic_word-is}
 use Rattle.nx_envelope.specs.MessageView.{MessageView}
 use Rattle.nx_envelope.specs.declared.identity.Identity.{Identity}
 use Rattle.nx_fec.specs.Aligned.{aligned_text, words_of}
-use Rattle.nx_fec.specs.Emission.{SentPosition, AreInCode, IsInCode, bits_of, dx_word, emission, end_position, phasing_position, position_at, reception, rx_word, traffic_position, word_sent}
+use Rattle.nx_fec.specs.Emission.{SentPosition, AreInCode, IsInCode, bits_of, emission, end_position, phasing_position, position_at, reception, traffic_position, word_sent}
 use Rattle.nx_fec.proofs.EmissionLemmas.{AreWords-emission, IsEmission-emission, get_or-emission, length-emission, word_sent-dx, word_sent-rx}
 use Rattle.nx_fec.proofs.RoundTripLemmas.{length-bits_of, receptions-IsEmission, words_of-bits_of}
 use Rattle.nx_station.specs.Broadcast.{AreSpelled, IsBroadcast, IsSpelled, ending, head, layout, letter_combination, phasing_and_message, printed_text}
@@ -24,6 +21,7 @@ use Rattle.nx_station.specs.StrictReading.{IsEmissionOf, AreRight, ArePaired, Ar
 use Rattle.nx_station.proofs.HeadLemmas.{digit_combination-range}
 use Rattle.nx_station.proofs.PrintedText.{printed-one}
 use Rattle.nx_station.proofs.ReadingBack.{broadcast-prints}
+use Rattle.nx_station.proofs.WordWeights.{phasing_1-weight, dx-weight, rx-weight}
 
 -- ---- the positions of messages are in the code
 
@@ -169,31 +167,6 @@ emission-one one other bits h k = printed-one one other h.sendable.sound k.senda
 
 -- ---- the words of an emission
 
-word-weight : (place : ℕ) → place < 35 → weight (get_or words place 0) ≡ 4
-unfolding words table weight elements elements_from
-word-weight place h = eqb-true (weight (get_or words place 0)) 4 (agree_below_at (λ i. eqb (weight (get_or words i 0)) 4) (λ _. true) 35 place refl h)
-
-p1-weight : weight phasing_1 ≡ 4
-unfolding weight elements elements_from
-p1-weight = refl
-
-p2-weight : weight phasing_2 ≡ 4
-unfolding weight elements elements_from
-p2-weight = refl
-
-traffic-weight : (number : ℕ) → 1 ≤ number → number ≤ 32 → weight (dx_word (traffic_position number)) ≡ 4
-traffic-weight number low high = ap weight (traffic_word-is number low high) ∙ word-weight (number - 1) (omega (arith, low, high))
-
-dx-weight : (position : SentPosition) → IsInCode position → weight (dx_word position) ≡ 4
-dx-weight phasing_position h = p2-weight
-dx-weight (traffic_position number) h = traffic-weight number h.0 h.1
-dx-weight end_position h = p1-weight
-
-rx-weight : (position : SentPosition) → IsInCode position → weight (rx_word position) ≡ 4
-rx-weight phasing_position h = p1-weight
-rx-weight (traffic_position number) h = traffic-weight number h.0 h.1
-rx-weight end_position h = p1-weight
-
 -- the word of each slot is one of a position, or P1
 record IsSlotWord (positions : List SentPosition) (slot : ℕ) : Type 0 where
   right : weight (get_or (emission positions) slot 0) ≡ 4
@@ -214,10 +187,10 @@ slot-early positions slot lt odd early =
     let sent = IsEmission-emission positions in
     let long = length-emission positions in
     elim (cases_eq slot 1) [
-      | inl e ↦ ap (λ s. weight (get_or (emission positions) s 0)) e ∙ ap weight (sent.first_rx (omega (arith, long, lt, e))) ∙ p1-weight
+      | inl e ↦ ap (λ s. weight (get_or (emission positions) s 0)) e ∙ ap weight (sent.first_rx (omega (arith, long, lt, e))) ∙ phasing_1-weight
       | inr other ↦
           let e : slot ≡ 3 = omega (arith, odd, early, other) in
-          ap (λ s. weight (get_or (emission positions) s 0)) e ∙ ap weight (sent.second_rx (omega (arith, long, lt, e))) ∙ p1-weight
+          ap (λ s. weight (get_or (emission positions) s 0)) e ∙ ap weight (sent.second_rx (omega (arith, long, lt, e))) ∙ phasing_1-weight
     ]
 
 slot-right : (positions : List SentPosition) (slot : ℕ) → AreInCode positions → slot < 2 * length positions - 1 → weight (get_or (emission positions) slot 0) ≡ 4

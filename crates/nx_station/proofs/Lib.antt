@@ -2,6 +2,7 @@ pub mod LineLemmas
 pub mod MessageFaultLemmas
 pub mod FileLaws
 pub mod HeadLemmas
+mod WordWeights
 pub mod BroadcastLemmas
 pub mod StationLemmas
 pub mod ReadingBack

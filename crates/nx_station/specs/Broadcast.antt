@@ -1,5 +1,5 @@
--- The positions of a message and of a list of messages (ITU-R M.540, form of a message; ITU-R M.625, mode B, for phasing
--- and the end; how many positions of phasing are sent is this profile's).
+-- The positions of a message and of a list of messages (ITU-R M.540, form of a message; ITU-R M.625, mode B, for
+-- phasing and the end; how many positions of phasing are sent is this profile's).
 use Rattle.std.specs.Prelude.{◌≡◌, ℕ, ◌-◌, ◌/◌, ◌%◌, List, [], ◌∷◌, ◌++◌, length, map, replicate, slice_index}
 use Rattle.std.specs.List.{flat_map}
 use Rattle.nx_code.specs.Reading.{combination, shift_after_all}
@@ -67,7 +67,8 @@ phasing_and_message count numbers = replicate count phasing_position ++ map traf
 -- of phasing, and three of the end
 unfoldable pub layout : List (List ℕ) → List SentPosition
 layout [] = []
-layout (numbers ∷ spellings) = phasing_and_message 72 numbers ++ (flat_map (phasing_and_message 36) spellings ++ replicate 3 end_position)
+layout (numbers ∷ spellings) =
+    phasing_and_message 72 numbers ++ (flat_map (phasing_and_message 36) spellings ++ replicate 3 end_position)
 
 -- the positions of a list of messages
 pub record IsBroadcast (messages : List MessageView) (positions : List SentPosition) : Type 0 where

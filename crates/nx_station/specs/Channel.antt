@@ -29,15 +29,16 @@ IsAsSent positions heard slot = heard_in heard slot ≡ word_sent positions slot
 abbrev pub IsWrongIn : List ℕ → ℕ → Type 0
 IsWrongIn heard slot = weight (heard_in heard slot) ≢ 4
 
--- The emission of these positions passes the channel, and these are the words that are heard from slot 96 on, to its last
--- slot, each by its number. The words of slots 96 to 143 are as sent; each later word is as sent or has the wrong weight;
--- and of each position from 72 on that isn't one of the end, at least one of its two words, in the slots 2i and 2i+5, is as
--- sent.
+-- The emission of these positions passes the channel, and these are the words that are heard from slot 96 on, to its
+-- last slot, each by its number. The words of slots 96 to 143 are as sent; each later word is as sent or has the wrong
+-- weight; and of each position from 72 on that isn't one of the end, at least one of its two words, in the slots 2i and
+-- 2i+5, is as sent.
 pub record PassesChannel (positions : List SentPosition) (heard : List ℕ) : Type 0 where
   pub words : AreWords heard
   pub whole : first_slot + length heard ≡ slots_of positions
   pub phasing : (slot : ℕ) → first_slot ≤ slot → slot < message_slot → IsAsSent positions heard slot
-  pub later : (slot : ℕ) → message_slot ≤ slot → slot < slots_of positions → IsAsSent positions heard slot ⊎ IsWrongIn heard slot
+  pub later : (slot : ℕ) → message_slot ≤ slot → slot < slots_of positions
+      → IsAsSent positions heard slot ⊎ IsWrongIn heard slot
   pub one_of_two : (i : ℕ) → 72 ≤ i → i < length positions → position_at positions i ≢ end_position
       → IsAsSent positions heard (2 * i) ⊎ IsAsSent positions heard (2 * i + 5)
 

@@ -23,7 +23,8 @@ example_message = record { identity = ea01; lines = codes "TEST" ∷ [] }
 -- its combinations: LTRS Z C Z C SPACE E A FIGS 0 1 CR LF, LTRS T E S T CR LF, N N N N CR LF LF
 unfoldable pub example_numbers : List ℕ
 example_numbers =
-    29 ∷ 26 ∷ 3 ∷ 26 ∷ 3 ∷ 31 ∷ 5 ∷ 1 ∷ 30 ∷ 16 ∷ 17 ∷ 27 ∷ 28 ∷ 29 ∷ 20 ∷ 5 ∷ 19 ∷ 20 ∷ 27 ∷ 28 ∷ 14 ∷ 14 ∷ 14 ∷ 14 ∷ 27 ∷ 28 ∷ 28 ∷ []
+    29 ∷ 26 ∷ 3 ∷ 26 ∷ 3 ∷ 31 ∷ 5 ∷ 1 ∷ 30 ∷ 16 ∷ 17 ∷ 27 ∷ 28 ∷
+    29 ∷ 20 ∷ 5 ∷ 19 ∷ 20 ∷ 27 ∷ 28 ∷ 14 ∷ 14 ∷ 14 ∷ 14 ∷ 27 ∷ 28 ∷ 28 ∷ []
 
 -- the words of its emission from slot 144 on as they are sent, a DX word and an RX word in each pair
 unfoldable pub example_words : List ℕ

@@ -33,8 +33,8 @@ pub record IsChecked (limit : ℕ) (air written : List ℕ) (count : ℕ) : Type
   pub whole : written ≡ report station messages
   pub counted : count ≡ length messages
 
--- What a fault of checking says of the air file that was read: a fault of reading its elements, or of writing, or of its
--- elements.
+-- What a fault of checking says of the air file that was read: a fault of reading its elements, or of writing, or of
+-- its elements.
 abbrev pub ExplainsChecking : Type 0 → ℕ → List ℕ → Option (List ℕ) → Option (List ℕ) → CheckFault → Type 0
 ExplainsChecking AtEnd limit air old new (Run (run.Write written)) =
     AtEnd × (text : List ℕ) × (count : ℕ) × IsChecked limit air text count × WroteSome old new text written
@@ -53,5 +53,7 @@ AnswersChecking AtEnd limit air old new (Err fault) = ExplainsChecking AtEnd lim
 abbrev pub Checks : {R W : Type 0} → Devices R W → Result ℕ CheckFault → Type 0
 Checks d outcome =
     Transfers (Run run.Read) (λ written. Run (run.Write written)) at_the_end d outcome
-    (λ bytes. AnswersChecking (IsReadOut d) file_limit bytes (d.contents d.writer.inner) (d.contents d.writer_after.inner) outcome)
-    (λ bytes. AnswersChecking (Unit {0}) file_limit bytes (d.contents d.writer.inner) (d.contents d.writer_after.inner) outcome)
+    (λ bytes. AnswersChecking (IsReadOut d) file_limit bytes
+    (d.contents d.writer.inner) (d.contents d.writer_after.inner) outcome)
+    (λ bytes. AnswersChecking (Unit {0}) file_limit bytes
+    (d.contents d.writer.inner) (d.contents d.writer_after.inner) outcome)

@@ -40,22 +40,23 @@ abbrev pub damaged_element : Damage → ℕ → Bool → Bool
 damaged_element damage place element = if inverts damage place then not element else element
 
 -- elements after the damage, and how many of them are inverted; the first stands at this place of all elements
-abbrev pub damaged : Damage → ℕ → List Bool → List Bool
-damaged damage place [] = []
-damaged damage place (element ∷ more) = damaged_element damage place element ∷ damaged damage (place + 1) more
+abbrev pub damaged_elements : Damage → ℕ → List Bool → List Bool
+damaged_elements damage place [] = []
+damaged_elements damage place (element ∷ more) = damaged_element damage place element ∷ damaged_elements damage (place + 1) more
 
-abbrev pub inverted : Damage → ℕ → List Bool → ℕ
-inverted damage place [] = 0
-inverted damage place (element ∷ more) = value_of (inverts damage place) + inverted damage (place + 1) more
+abbrev pub inverted_count : Damage → ℕ → List Bool → ℕ
+inverted_count damage place [] = 0
+inverted_count damage place (element ∷ more) = value_of (inverts damage place) + inverted_count damage (place + 1) more
 
 -- lines after the damage: those that have no elements are as they were
 abbrev pub damaged_line : Damage → ℕ → Line → Line
-damaged_line damage place (elements bits) = elements (damaged damage place bits)
+damaged_line damage place (elements bits) = elements (damaged_elements damage place bits)
 damaged_line damage place line = line
 
 abbrev pub damaged_lines : Damage → ℕ → List Line → List Line
 damaged_lines damage place [] = []
-damaged_lines damage place (line ∷ lines) = damaged_line damage place line ∷ damaged_lines damage (place + length (elements_of line)) lines
+damaged_lines damage place (line ∷ lines) =
+    damaged_line damage place line ∷ damaged_lines damage (place + length (elements_of line)) lines
 
 -- the file that is written of lines
 abbrev pub damaged_file : Damage → List Line → List ℕ
@@ -70,7 +71,7 @@ pub record IsDamaged (damage : Damage) (limit : ℕ) (air written : List ℕ) (c
   pub lines : List Line
   pub file : IsAirFile limit air lines
   pub whole : written ≡ damaged_file damage lines
-  pub counted : count ≡ inverted damage 0 (flat_map elements_of lines)
+  pub counted : count ≡ inverted_count damage 0 (flat_map elements_of lines)
 
 -- the fault of damaging that stands for the fault of an air file
 abbrev pub line_fault : LineFault → DamageFault
@@ -82,30 +83,41 @@ line_fault (file.BadLine line) = BadLine line
 -- the air file has this fault, its first, and the whole lines before it were written
 abbrev pub StopsFor : Type 0 → ℕ → Damage → Option (List ℕ) → Option (List ℕ) → List ℕ → LineFault → Type 0
 StopsFor AtEnd limit damage old new air why =
-    IsPlaced AtEnd why × StopsAt air (λ lines rest more. IsCause limit (length (file_of lines ++ rest)) lines rest more why × Appends old new (damaged_file damage lines))
+    IsPlaced AtEnd why
+    × StopsAt air (λ lines rest more. IsCause limit (length (file_of lines ++ rest)) lines rest more why
+    × Appends old new (damaged_file damage lines))
 
 -- What a fault says of the air file that was read. After a failed read no byte is left of which `IsLeft` doesn't hold,
 -- and the whole lines before it were written; so it is with a fault of the file; a write that failed wrote a part.
-abbrev pub ExplainsDamaging : Type 0 → (List ℕ → Type 0) → ℕ → Damage → Option (List ℕ) → Option (List ℕ) → List ℕ → DamageFault → Type 0
+abbrev pub ExplainsDamaging : Type 0 → (List ℕ → Type 0) → ℕ → Damage → Option (List ℕ) → Option (List ℕ) → List ℕ
+    → DamageFault → Type 0
 ExplainsDamaging AtEnd IsLeft limit damage old new air Read =
-    StopsAt air (λ lines rest more. (length (file_of lines ++ rest) ≤ limit) × IsLeft more × Appends old new (damaged_file damage lines))
+    StopsAt air (λ lines rest more. (length (file_of lines ++ rest) ≤ limit) × IsLeft more
+    × Appends old new (damaged_file damage lines))
 ExplainsDamaging AtEnd IsLeft limit damage old new air AirTooLong = StopsFor AtEnd limit damage old new air file.TooLong
-ExplainsDamaging AtEnd IsLeft limit damage old new air (LineLong line) = StopsFor AtEnd limit damage old new air (file.LineLong line)
-ExplainsDamaging AtEnd IsLeft limit damage old new air (LineCut line) = StopsFor AtEnd limit damage old new air (file.LineCut line)
-ExplainsDamaging AtEnd IsLeft limit damage old new air (BadLine line) = StopsFor AtEnd limit damage old new air (file.BadLine line)
+ExplainsDamaging AtEnd IsLeft limit damage old new air (LineLong line) =
+    StopsFor AtEnd limit damage old new air (file.LineLong line)
+ExplainsDamaging AtEnd IsLeft limit damage old new air (LineCut line) =
+    StopsFor AtEnd limit damage old new air (file.LineCut line)
+ExplainsDamaging AtEnd IsLeft limit damage old new air (BadLine line) =
+    StopsFor AtEnd limit damage old new air (file.BadLine line)
 ExplainsDamaging AtEnd IsLeft limit damage old new air (Write written) =
     StopsAt air (λ lines rest more. WroteSome old new (damaged_file damage lines) written)
 
 -- what damaging answers to an air file: the count of the elements that it inverted, or a fault
-abbrev pub AnswersDamaging : Type 0 → (List ℕ → Type 0) → ℕ → Damage → Option (List ℕ) → Option (List ℕ) → Result ℕ DamageFault → List ℕ → Type 0
+abbrev pub AnswersDamaging : Type 0 → (List ℕ → Type 0) → ℕ → Damage → Option (List ℕ) → Option (List ℕ)
+    → Result ℕ DamageFault → List ℕ → Type 0
 AnswersDamaging AtEnd IsLeft limit damage old new (Ok count) air =
     AtEnd × (text : List ℕ) × IsDamaged damage limit air text count × Appends old new text
-AnswersDamaging AtEnd IsLeft limit damage old new (Err fault) air = ExplainsDamaging AtEnd IsLeft limit damage old new air fault
+AnswersDamaging AtEnd IsLeft limit damage old new (Err fault) air =
+    ExplainsDamaging AtEnd IsLeft limit damage old new air fault
 
--- A run that damages: it answers so to the bytes that it read, and to the whole file, however it came; and it writes the
--- whole lines that it read before each further read.
+-- A run that damages: it answers so to the bytes that it read, and to the whole file, however it came; and it writes
+-- the whole lines that it read before each further read.
 abbrev pub Damages : {R W : Type 0} → Damage → Devices R W → Result ℕ DamageFault → Type 0
 Damages damage d outcome =
     Transfers Read (λ written. Write written) on_the_way d outcome
-    (λ bytes. AnswersDamaging (IsReadOut d) (λ more. more ≡ []) air_limit damage (d.contents d.writer.inner) (d.contents d.writer_after.inner) outcome bytes)
-    (λ bytes. AnswersDamaging (Unit {0}) (λ more. Unit {0}) air_limit damage (d.contents d.writer.inner) (d.contents d.writer_after.inner) outcome bytes)
+    (λ bytes. AnswersDamaging (IsReadOut d) (λ more. more ≡ []) air_limit damage
+    (d.contents d.writer.inner) (d.contents d.writer_after.inner) outcome bytes)
+    (λ bytes. AnswersDamaging (Unit {0}) (λ more. Unit {0}) air_limit damage
+    (d.contents d.writer.inner) (d.contents d.writer_after.inner) outcome bytes)

@@ -1,9 +1,9 @@
 -- What the taker of lines that damages them holds.
-use Rattle.std.specs.Prelude.{◌≡◌, ℕ, ◌-◌, ◌/◌, ◌%◌, ◌^◌, ◌==◌, Bool, List, length, min}
+use Rattle.std.specs.Prelude.{◌≡◌, ℕ, ◌-◌, ◌/◌, ◌%◌, ◌^◌, ◌==◌, List, length, min}
 use Rattle.std.specs.List.{flat_map}
 use Rattle.nx_fec.specs.AirFile.{Line}
 use Rattle.nx_fec.specs.Lines.{elements_of}
-use Rattle.nx_station.specs.Damage.{Damage, damaged_file, inverted}
+use Rattle.nx_station.specs.Damage.{Damage, damaged_file, inverted_count}
 use Rattle.nx_station.specs.declared.damaging.Damaging.{Damaging}
 
 -- the damage that it was made for: so many words are to be skipped at first, and so many are left after them
@@ -21,5 +21,5 @@ pub record IsAt (first now : Damaging) (place : ℕ) : Type 0 where
 -- it stands so after these lines, for which it gave these bytes; its count goes up to the greatest number of 64 bits
 pub record HasDamaged (first now : Damaging) (lines : List Line) (given : List ℕ) : Type 0 where
   pub at : IsAt first now (length (flat_map elements_of lines))
-  pub counted : now.inverted ≡ min (inverted (damage_of first) 0 (flat_map elements_of lines)) (2 ^ 64 - 1)
+  pub counted : now.inverted ≡ min (inverted_count (damage_of first) 0 (flat_map elements_of lines)) (2 ^ 64 - 1)
   pub whole : given ≡ damaged_file (damage_of first) lines

@@ -16,7 +16,11 @@ pub record FileMessage : Type 0 where
 
 -- what a file says of this message
 abbrev pub file_message_of : MessageView → FileMessage
-file_message_of message = record { subject = message.identity.b2.byte; number = message.identity.number; lines = message.lines }
+file_message_of message = record {
+  subject = message.identity.b2.byte;
+  number = message.identity.number;
+  lines = message.lines;
+}
 
 -- the byte that ends each line
 abbrev pub line_feed : ℕ
@@ -124,8 +128,9 @@ IsOfLines (message.Reserved line) = ⊤
 IsOfLines message.LongText = ⊤
 IsOfLines (message.Memory error) = ⊥
 
--- the fault of a message file, with the number of a line, from 1: a line that begins no message; a message, by its first
--- line, whose lines have this fault; the line in which the file ends; the message, by its first line, in which it ends
+-- the fault of a message file, with the number of a line, from 1: a line that begins no message; a message, by its
+-- first line, whose lines have this fault; the line in which the file ends; the message, by its first line, in which it
+-- ends
 pub data FileFault : Type 0 where
   bad_line : ℕ → FileFault
   bad_text : ℕ → MessageFault → FileFault

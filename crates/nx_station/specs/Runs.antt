@@ -19,8 +19,8 @@ use Rattle.nx_station.specs.declared.fault.SendRunFault.{SendRunFault}
 use Rattle.nx_station.specs.declared.fault.SendRunFault.TheVariants.{Read, FileTooLong, BadLine, Text, LineCut, Open, Send, Write, Memory}
 use Rattle.nx_station.specs.declared.sending.Sent.{Sent}
 
--- The air file that is written of a message file. It has messages, all of that station, which may be sent. Its first line
--- is the moment at which the station's next slot begins, and the others are the elements of the emission.
+-- The air file that is written of a message file. It has messages, all of that station, which may be sent. Its first
+-- line is the moment at which the station's next slot begins, and the others are the elements of the emission.
 pub record IsTransmission (station from : ℕ) (file written : List ℕ) (sent : Sent) : Type 0 where
   pub messages : List MessageView
   pub is_file : IsMessageFile file (map file_message_of messages)
@@ -82,21 +82,27 @@ abbrev pub ExplainsSending : Type 0 → ℕ → ℕ → ℕ → List ℕ → Opt
 ExplainsSending AtEnd limit station from file old new Read = ⊤
 ExplainsSending AtEnd limit station from file old new (Memory error) = ⊤
 ExplainsSending AtEnd limit station from file old new FileTooLong = limit < length file
-ExplainsSending AtEnd limit station from file old new (Send refused) = AtEnd × (length file ≤ limit) × ExplainsRefusal station from file refused
+ExplainsSending AtEnd limit station from file old new (Send refused) =
+    AtEnd × (length file ≤ limit) × ExplainsRefusal station from file refused
 ExplainsSending AtEnd limit station from file old new (Write written) =
-    AtEnd × (length file ≤ limit) × (air : List ℕ) × (sent : Sent) × IsTransmission station from file air sent × WroteSome old new air written
+    AtEnd × (length file ≤ limit)
+    × (air : List ℕ) × (sent : Sent) × IsTransmission station from file air sent × WroteSome old new air written
 ExplainsSending AtEnd limit station from file old new fault = AtEnd × (length file ≤ limit) × ExplainsFile file fault
 
 -- what sending answers to a message file, which is written as an air file
-abbrev pub AnswersSending : Type 0 → ℕ → ℕ → ℕ → List ℕ → Option (List ℕ) → Option (List ℕ) → Result Sent SendRunFault → Type 0
+abbrev pub AnswersSending : Type 0 → ℕ → ℕ → ℕ → List ℕ → Option (List ℕ) → Option (List ℕ) → Result Sent SendRunFault
+    → Type 0
 AnswersSending AtEnd limit station from file old new (Ok sent) =
     AtEnd × (length file ≤ limit) × (air : List ℕ) × IsTransmission station from file air sent × Appends old new air
-AnswersSending AtEnd limit station from file old new (Err fault) = ExplainsSending AtEnd limit station from file old new fault
+AnswersSending AtEnd limit station from file old new (Err fault) =
+    ExplainsSending AtEnd limit station from file old new fault
 
--- A run that sends: it answers so to the bytes that it read, and to the whole file, however it came; and it writes nothing
--- before all else succeeded.
+-- A run that sends: it answers so to the bytes that it read, and to the whole file, however it came; and it writes
+-- nothing before all else succeeded.
 abbrev pub Sends : {R W : Type 0} → Devices R W → ℕ → ℕ → Result Sent SendRunFault → Type 0
 Sends d station from outcome =
     Transfers Read (λ written. Write written) at_the_end d outcome
-    (λ bytes. AnswersSending (IsReadOut d) file_limit station from bytes (d.contents d.writer.inner) (d.contents d.writer_after.inner) outcome)
-    (λ bytes. AnswersSending (Unit {0}) file_limit station from bytes (d.contents d.writer.inner) (d.contents d.writer_after.inner) outcome)
+    (λ bytes. AnswersSending (IsReadOut d) file_limit station from bytes
+    (d.contents d.writer.inner) (d.contents d.writer_after.inner) outcome)
+    (λ bytes. AnswersSending (Unit {0}) file_limit station from bytes
+    (d.contents d.writer.inner) (d.contents d.writer_after.inner) outcome)

@@ -1,4 +1,5 @@
--- Sendings: the messages of the emissions that are received in a list of bits, with any bits between them (this profile).
+-- Sendings: the messages of the emissions that are received in a list of bits, with any bits between them (this
+-- profile).
 use Rattle.std.specs.Prelude.{◌≡◌, ℕ, ◌+◌, ◌-◌, ◌*◌, Bool, List, [], ◌∷◌, ◌++◌, ◌≤◌, length, map, take, slice_get, Some}
 use Rattle.std.specs.List.{AllByRecursion, flat_map}
 use Rattle.nx_envelope.specs.MessageView.{MessageView}
@@ -42,8 +43,8 @@ pub record IsCut (bits : List Bool) (parts : List Part) : Type 0 where
   pub whole : bits ≡ bits_of_parts parts
   pub each : AllByRecursion IsSound parts
 
--- How many positions are sent before the message that follows messages with these combinations: 72 of phasing before the
--- first message, and 36 before each further one.
+-- How many positions are sent before the message that follows messages with these combinations: 72 of phasing before
+-- the first message, and 36 before each further one.
 abbrev pub positions_before : List (List ℕ) → ℕ
 positions_before [] = 72
 positions_before (numbers ∷ spellings) = (length numbers + 36) + positions_before spellings

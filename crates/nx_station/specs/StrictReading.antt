@@ -1,5 +1,6 @@
 -- What strict reading finds in elements: the messages of an emission, or the first of its faults (ITU-R M.625, mode B,
--- for words and pairs; ITU-R M.540, form of a message; that all else is refused, and in which order, is this profile's).
+-- for words and pairs; ITU-R M.540, form of a message; that all else is refused, and in which order, is this
+-- profile's).
 use Rattle.std.specs.Prelude.{◌≡◌, ◌≢◌, ℕ, ◌+◌, ◌*◌, ◌%◌, ◌<◌, Bool, List, ◌∷◌, ◌++◌, length, slice_index, ⊤}
 use Rattle.std.specs.List.{flat_map, AllByRecursion}
 use Rattle.nx_code.specs.Word.{weight}
@@ -64,7 +65,8 @@ AreOfNone bits = (messages : List MessageView) → ¬ IsEmissionOf messages bits
 abbrev pub ExplainsEmission : List Bool → EmissionFault → Type 0
 ExplainsEmission bits (Ragged given) = (given ≡ length bits) × (length bits % 7 ≢ 0)
 ExplainsEmission bits (WrongWord slot) = AreWhole bits × IsLeast (IsWrongWord (words_of bits)) slot
-ExplainsEmission bits (Unpaired position) = AreWhole bits × AreRight bits × IsLeast (IsUnpaired (words_of bits)) position
+ExplainsEmission bits (Unpaired position) =
+    AreWhole bits × AreRight bits × IsLeast (IsUnpaired (words_of bits)) position
 ExplainsEmission bits BadEnvelope = AreWhole bits × AreRight bits × ArePaired bits × AreOfNone bits
 ExplainsEmission bits (Memory error) = AreWhole bits × AreRight bits × ArePaired bits
 
@@ -86,7 +88,8 @@ ended_lines lines more = text_of lines ++ (end_marker ++ line_feed ∷ more)
 abbrev pub AreSound : List MessageView → Type 0
 AreSound messages = AllByRecursion (λ (message : MessageView). AreLines message.lines) messages
 
--- what a fault says of a printed text: it begins with no lines that are ended, with no message, or is that of no messages
+-- what a fault says of a printed text: it begins with no lines that are ended, with no message, or is that of no
+-- messages
 abbrev pub ExplainsLines : List ℕ → EmissionFault → Type 0
 ExplainsLines bytes BadEnvelope =
     (lines : List (List ℕ)) (more : List ℕ) → AllByRecursion IsUnended lines → bytes ≢ ended_lines lines more
@@ -100,6 +103,7 @@ ExplainsFirstPrinted bytes (Memory error) = ⊤
 ExplainsFirstPrinted bytes _ = ⊥
 
 abbrev pub ExplainsPrinted : List ℕ → EmissionFault → Type 0
-ExplainsPrinted bytes BadEnvelope = (messages : List MessageView) → AreSound messages → bytes ≢ flat_map printed_text messages
+ExplainsPrinted bytes BadEnvelope = (messages : List MessageView) → AreSound messages
+    → bytes ≢ flat_map printed_text messages
 ExplainsPrinted bytes (Memory error) = ⊤
 ExplainsPrinted bytes _ = ⊥

@@ -40,7 +40,8 @@ const LINE_END: u64 = 2;
 /// `NoMessages`, then `MixedStations` where a message is of another station than the first, then `NoSlot` where that
 /// station is Y or Z, then `SlotFull`, all before any memory is taken; then `Memory`.
 pub fn emission(alloc: Global, messages: &[Message]) -> Result<Vec<Position>, SendFault>
-    ensures positions { IfOk result (λ positions. IsBroadcast messages.now (map sent_position positions.items)) }
+    ensures positions { IfOk result (λ positions.
+        IsBroadcast messages.now (map sent_position positions.items)) }
     ensures sendable { IfOk result (λ positions. IsSendable messages.now) }
     ensures refused { IfErr result (IsRefusal messages.now) }
 {
@@ -75,7 +76,8 @@ fn check_stations(messages: &[Message]) -> Result<(), SendFault>
 
 /// The least index of a message that is of another station.
 fn first_of_another(station: Letter, messages: &[Message]) -> Option<usize>
-    ensures { result ≡ position (λ (message : MessageView). not (message.identity.b1.byte == station.byte)) messages.now }
+    ensures { result ≡ position
+        (λ (message : MessageView). not (message.identity.b1.byte == station.byte)) messages.now }
 {
     messages
         .iter()
@@ -86,7 +88,8 @@ fn first_of_another(station: Letter, messages: &[Message]) -> Option<usize>
 fn count_positions(messages: &[Message]) -> u128
     requires { messages.now ≢ [] }
     ensures count { HavePositions messages.now result }
-    ensures sound { AllByRecursion (λ (message : MessageView). AreLines message.lines) messages.now }
+    ensures sound { AllByRecursion
+        (λ (message : MessageView). AreLines message.lines) messages.now }
 {
     let mut count = 0u128;
     for message in messages {
@@ -97,7 +100,8 @@ fn count_positions(messages: &[Message]) -> u128
 
 /// How many combinations a message has.
 fn count_combs(message: &Message) -> u64
-    ensures spelled { (numbers : List ℕ) × IsSpelled message.now numbers × (result ≡ length numbers) }
+    ensures spelled { (numbers : List ℕ) × IsSpelled message.now numbers
+        × (result ≡ length numbers) }
     ensures few { result ≤ 8213 }
     ensures sound { AreLines message.now.lines }
 {
@@ -131,7 +135,8 @@ fn line_at(message: &Message, i: u64) -> &[u8]
     requires { i < length message.now.lines }
     ensures line { result.now ≡ slice_index_or message.now.lines i [] }
     ensures in_code { IsTrue (list_all is_in_code result.now) }
-    ensures text { text_of (take (i + 1) message.now.lines) ≡ text_of (take i message.now.lines) ++ (result.now ++ 10 ∷ []) }
+    ensures text { text_of (take (i + 1) message.now.lines)
+        ≡ text_of (take i message.now.lines) ++ (result.now ++ 10 ∷ []) }
     ensures few { length (text_of (take (i + 1) message.now.lines)) ≤ 4096 }
 {
     message.line(i).unwrap()
@@ -139,7 +144,8 @@ fn line_at(message: &Message, i: u64) -> &[u8]
 
 /// The positions of messages.
 fn broadcast(alloc: Global, messages: &[Message]) -> Result<Vec<Position>, AllocError>
-    ensures { IfOk result (λ positions. IsBroadcast messages.now (map sent_position positions.items)) }
+    ensures { IfOk result (λ positions.
+        IsBroadcast messages.now (map sent_position positions.items)) }
 {
     let mut positions = Vec::new(alloc);
     let Some((first, others)) = messages.split_first() else {
@@ -161,7 +167,8 @@ fn push_message(
     message: &Message,
 ) -> Result<(), AllocError>
     ensures { OnOk result ((numbers : List ℕ) × IsSpelled message.now numbers
-        × (map sent_position positions.new.items ≡ map sent_position positions.old.items ++ phasing_and_message phasing numbers)) }
+        × (map sent_position positions.new.items
+        ≡ map sent_position positions.old.items ++ phasing_and_message phasing numbers)) }
 {
     push_many(positions, phasing, Position::Phasing)?;
     push_combs(positions, &head_of(message.identity()))?;
@@ -186,7 +193,8 @@ fn push_ending(positions: &mut Vec<Position>, shift: Shift) -> Result<(), AllocE
 
 /// The text of a message, spelled from the figure shift of its head on.
 fn spelled_text(alloc: Global, message: &Message) -> Result<Vec<Comb>, AllocError>
-    ensures { IfOk result (λ combs. Spells (text_of message.now.lines) Figures (map (λ comb. comb.number) combs.items)) }
+    ensures { IfOk result (λ combs.
+        Spells (text_of message.now.lines) Figures (map (λ comb. comb.number) combs.items)) }
 {
     let text = text_bytes(alloc, message)?;
     match spell(alloc, &text, Shift::Figures) {
@@ -228,7 +236,8 @@ fn push_many(
 /// Appends combinations.
 fn push_combs(positions: &mut Vec<Position>, combs: &[Comb]) -> Result<(), AllocError>
     ensures { OnOk result (map sent_position positions.new.items
-        ≡ map sent_position positions.old.items ++ map traffic_position (map (λ comb. comb.number) combs.now)) }
+        ≡ map sent_position positions.old.items
+        ++ map traffic_position (map (λ comb. comb.number) combs.now)) }
 {
     for comb in combs {
         positions.push(Position::Traffic(*comb))?;

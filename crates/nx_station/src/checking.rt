@@ -12,11 +12,11 @@ use nx_fec::{Counting, read_bits, write_out};
 use std::alloc::{AllocError, Global};
 use std::io::{Read, Write};
 
-/// Reads an air file to its end, reads its elements as an emission, and writes the line `station E`, with the station of
-/// its messages for E, and their message file. Answers how many messages there are.
+/// Reads an air file to its end, reads its elements as an emission, and writes the line `station E`, with the station
+/// of its messages for E, and their message file. Answers how many messages there are.
 ///
-/// The faults of `read_bits` come first, as `Run`; then those of `read_emission`, as `Emission`; then `Write`, as `Run`.
-/// Nothing is written before all else succeeded. Memory may run out at any growth.
+/// The faults of `read_bits` come first, as `Run`; then those of `read_emission`, as `Emission`; then `Write`, as
+/// `Run`. Nothing is written before all else succeeded. Memory may run out at any growth.
 pub fn check_run<R: Read, W: Write>(
     alloc: Global,
     reader: &mut Counting<R>,
@@ -24,7 +24,8 @@ pub fn check_run<R: Read, W: Write>(
 ) -> Result<u64, CheckFault>
     requires reader { reader.old.failures ≡ 0 }
     requires writer { writer.old.failures ≡ 0 }
-    ensures { Checks (devices R.remaining W.contents reader.old reader.new writer.old writer.new) result }
+    ensures { Checks
+        (devices R.remaining W.contents reader.old reader.new writer.old writer.new) result }
 {
     let bits = read_bits(alloc, reader)?;
     let messages = read_emission(alloc, &bits)?;
@@ -49,7 +50,8 @@ fn report_of(alloc: Global, station: Letter, messages: &[Message]) -> Result<Vec
 
 /// Appends a message as a message file has it.
 fn push_entry(alloc: Global, file: &mut Vec<u8>, message: &Message) -> Result<(), AllocError>
-    ensures { OnOk result (file.new.items ≡ file.old.items ++ spelling (file_message_of message.now)) }
+    ensures { OnOk result (file.new.items
+        ≡ file.old.items ++ spelling (file_message_of message.now)) }
 {
     let [_, subject, tens, units] = message.identity().bytes();
     let text = text_bytes(alloc, message)?;

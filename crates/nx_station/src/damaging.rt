@@ -4,7 +4,7 @@ ghost use Rattle.nx_code.specs.Word.{value_of};
 ghost use Rattle.nx_fec.specs.AirFile.{IsLine, Line, elements};
 ghost use Rattle.nx_fec.specs.Lines.{elements_of, line_bytes};
 ghost use Rattle.nx_fec.specs.Transfers.{devices};
-ghost use Rattle.nx_station.specs.Damage.{Damages, damaged, damaged_element, damaged_line, inverted, inverts, line_fault, names};
+ghost use Rattle.nx_station.specs.Damage.{Damages, damaged_elements, damaged_element, damaged_line, inverted_count, inverts, line_fault, names};
 ghost use Rattle.nx_station.specs.DamageTaker.{IsAt, damage_of};
 ghost use Rattle.nx_station.specs.declared.damaging.Damaging as taker;
 
@@ -44,13 +44,14 @@ struct Damaging {
     inverted: u64,
 }
 
-/// Copies an air file line by line, and inverts element 1 of each word k with `k >= from` and `k - from < count` that the
-/// kind names. Word k is the elements 7k to 7k+6 of all lines of elements together; an incomplete last word is treated
-/// alike. Answers how many elements it inverted. It takes no memory, and holds no more than a piece of the file and a line.
+/// Copies an air file line by line, and inverts element 1 of each word k with `k >= from` and `k - from < count` that
+/// the kind names. Word k is the elements 7k to 7k+6 of all lines of elements together; an incomplete last word is
+/// treated alike. Answers how many elements it inverted. It takes no memory, and holds no more than a piece of the file
+/// and a line.
 ///
-/// The faults are those of an air file of at most 268,435,456 bytes, in the order of its bytes: `AirTooLong`, `LineLong`,
-/// `LineCut`, `BadLine`; `Read` where a read failed. The whole lines before them were written. After `Write` the first
-/// `written` bytes were.
+/// The faults are those of an air file of at most 268,435,456 bytes, in the order of its bytes: `AirTooLong`,
+/// `LineLong`, `LineCut`, `BadLine`; `Read` where a read failed. The whole lines before them were written. After
+/// `Write` the first `written` bytes were.
 pub fn damage<R: Read, W: Write>(
     reader: &mut Counting<R>,
     writer: &mut Counting<W>,
@@ -136,13 +137,17 @@ impl Damaging {
     /// The bytes, after the damage, of the line that a scanner's last byte ended.
     fn line_after(&mut self, scanner: &Scanner) -> ArrayVec<u8, LINE_BYTES>
         requires { IsSomeAnd scanner.now.latest IsLine }
-        ensures bytes { (first : taker.Damaging) (place : ℕ) (line : Line) → scanner.now.latest ≡ Some line → IsAt first self.old place
+        ensures bytes { (first : taker.Damaging) (place : ℕ) (line : Line)
+            → scanner.now.latest ≡ Some line → IsAt first self.old place
             → result.items ≡ line_bytes (damaged_line (damage_of first) place line) }
-        ensures at { (first : taker.Damaging) (place : ℕ) (line : Line) → scanner.now.latest ≡ Some line → IsAt first self.old place
+        ensures at { (first : taker.Damaging) (place : ℕ) (line : Line)
+            → scanner.now.latest ≡ Some line → IsAt first self.old place
             → IsAt first self.new (place + length (elements_of line)) }
-        ensures counted { (first : taker.Damaging) (place total : ℕ) (line : Line) → scanner.now.latest ≡ Some line → IsAt first self.old place
+        ensures counted { (first : taker.Damaging) (place total : ℕ) (line : Line)
+            → scanner.now.latest ≡ Some line → IsAt first self.old place
             → self.old.inverted ≡ min total (2 ^ 64 - 1)
-            → self.new.inverted ≡ min (total + inverted (damage_of first) place (elements_of line)) (2 ^ 64 - 1) }
+            → self.new.inverted
+            ≡ min (total + inverted_count (damage_of first) place (elements_of line)) (2 ^ 64 - 1) }
     {
         let bits = scanner.elements();
         if bits.is_empty() {
@@ -155,10 +160,13 @@ impl Damaging {
     fn damaged_line(&mut self, bits: &[bool]) -> ArrayVec<u8, LINE_BYTES>
         requires { length bits.now ≤ 512 }
         ensures bytes { (first : taker.Damaging) (place : ℕ) → IsAt first self.old place
-            → result.items ≡ line_bytes (elements (damaged (damage_of first) place bits.now)) }
-        ensures at { (first : taker.Damaging) (place : ℕ) → IsAt first self.old place → IsAt first self.new (place + length bits.now) }
-        ensures counted { (first : taker.Damaging) (place total : ℕ) → IsAt first self.old place → self.old.inverted ≡ min total (2 ^ 64 - 1)
-            → self.new.inverted ≡ min (total + inverted (damage_of first) place bits.now) (2 ^ 64 - 1) }
+            → result.items ≡ line_bytes (elements (damaged_elements (damage_of first) place bits.now)) }
+        ensures at { (first : taker.Damaging) (place : ℕ) → IsAt first self.old place
+            → IsAt first self.new (place + length bits.now) }
+        ensures counted { (first : taker.Damaging) (place total : ℕ) → IsAt first self.old place
+            → self.old.inverted ≡ min total (2 ^ 64 - 1)
+            → self.new.inverted
+            ≡ min (total + inverted_count (damage_of first) place bits.now) (2 ^ 64 - 1) }
     {
         let mut bytes = ArrayVec::new();
         bytes.push(b'B');
@@ -174,9 +182,12 @@ impl Damaging {
     fn pass(&mut self, element: bool) -> bool
         ensures element { (first : taker.Damaging) (place : ℕ) → IsAt first self.old place
             → result ≡ damaged_element (damage_of first) place element }
-        ensures at { (first : taker.Damaging) (place : ℕ) → IsAt first self.old place → IsAt first self.new (place + 1) }
-        ensures counted { (first : taker.Damaging) (place total : ℕ) → IsAt first self.old place → self.old.inverted ≡ min total (2 ^ 64 - 1)
-            → self.new.inverted ≡ min (total + value_of (inverts (damage_of first) place)) (2 ^ 64 - 1) }
+        ensures at { (first : taker.Damaging) (place : ℕ) → IsAt first self.old place
+            → IsAt first self.new (place + 1) }
+        ensures counted { (first : taker.Damaging) (place total : ℕ) → IsAt first self.old place
+            → self.old.inverted ≡ min total (2 ^ 64 - 1)
+            → self.new.inverted
+            ≡ min (total + value_of (inverts (damage_of first) place)) (2 ^ 64 - 1) }
     {
         let inverts = self.inverts();
         if inverts {
@@ -188,14 +199,16 @@ impl Damaging {
 
     /// Whether the next element is inverted.
     fn inverts(&self) -> bool
-        ensures { (first : taker.Damaging) (place : ℕ) → IsAt first self.now place → result ≡ inverts (damage_of first) place }
+        ensures { (first : taker.Damaging) (place : ℕ) → IsAt first self.now place
+            → result ≡ inverts (damage_of first) place }
     {
         self.offset == 0 && self.skip == 0 && self.left > 0 && self.is_named()
     }
 
     /// Whether the kind names the word.
     fn is_named(&self) -> bool
-        ensures { (word : ℕ) → self.now.is_dx ≡ (word % 2 == 0) → result ≡ names self.now.kind word }
+        ensures { (word : ℕ) → self.now.is_dx ≡ (word % 2 == 0)
+            → result ≡ names self.now.kind word }
     {
         match self.kind {
             DamageKind::Dx => self.is_dx,
@@ -206,7 +219,8 @@ impl Damaging {
 
     /// Goes on to the next element.
     fn advance(&mut self)
-        ensures at { (first : taker.Damaging) (place : ℕ) → IsAt first self.old place → IsAt first self.new (place + 1) }
+        ensures at { (first : taker.Damaging) (place : ℕ) → IsAt first self.old place
+            → IsAt first self.new (place + 1) }
         ensures inverted { self.new.inverted ≡ self.old.inverted }
     {
         self.offset = self.offset.saturating_add(1);

@@ -11,7 +11,7 @@ ghost use Rattle.nx_station.specs.Broadcast.{IsBroadcast, IsSpelled, printed_tex
 ghost use Rattle.nx_station.specs.MessageFile.{FileMessage, FileFault, IsMessageFile, HasFirstFault};
 ghost use Rattle.nx_fec.specs.AirFile.{Line};
 ghost use Rattle.nx_fec.specs.Lines.{elements_of};
-ghost use Rattle.nx_station.specs.Damage.{Damage, IsDamaged, damaged, damaged_lines};
+ghost use Rattle.nx_station.specs.Damage.{Damage, IsDamaged, damaged_elements, damaged_lines};
 ghost use Rattle.nx_station.specs.Checking.{IsChecked, station_line};
 ghost use Rattle.nx_station.specs.Runs.{IsTransmission};
 ghost use Rattle.nx_station.specs.declared.sending.Sent.{Sent};
@@ -22,64 +22,84 @@ pub mod channel;
 
 /// A message file has one spelling, and one list of messages.
 pub fn a_message_file_has_one_reading()
-    ensures spelling { (one other : List ℕ) (entries : List FileMessage) → IsMessageFile one entries → IsMessageFile other entries → one ≡ other }
-    ensures list { (bytes : List ℕ) (one other : List FileMessage) → IsMessageFile bytes one → IsMessageFile bytes other → one ≡ other }
+    ensures spelling { (one other : List ℕ) (entries : List FileMessage) → IsMessageFile one entries
+        → IsMessageFile other entries → one ≡ other }
+    ensures list { (bytes : List ℕ) (one other : List FileMessage) → IsMessageFile bytes one
+        → IsMessageFile bytes other → one ≡ other }
 {}
 
 /// A file has one outcome: its messages, or one fault.
 pub fn a_file_has_one_outcome()
-    ensures messages { (bytes : List ℕ) (entries : List FileMessage) (why : FileFault) → IsMessageFile bytes entries → HasFirstFault bytes why → ⊥ }
-    ensures fault { (bytes : List ℕ) (one other : FileFault) → HasFirstFault bytes one → HasFirstFault bytes other → one ≡ other }
+    ensures messages { (bytes : List ℕ) (entries : List FileMessage) (why : FileFault)
+        → IsMessageFile bytes entries → HasFirstFault bytes why → ⊥ }
+    ensures fault { (bytes : List ℕ) (one other : FileFault) → HasFirstFault bytes one
+        → HasFirstFault bytes other → one ≡ other }
 {}
 
-/// What is sent of a message reads back: its header, a newline, its text, NNNN and two newlines, from whatever shift. It
-/// leaves letters in force, so the next message is read as well; phasing and the end print nothing.
+/// What is sent of a message reads back: its header, a newline, its text, NNNN and two newlines, from whatever shift.
+/// It leaves letters in force, so the next message is read as well; phasing and the end print nothing.
 pub fn messages_read_back()
-    ensures message { (message : MessageView) (numbers : List ℕ) (first : Shift) → IsSpelled message numbers
+    ensures message { (message : MessageView) (numbers : List ℕ) (first : Shift)
+        → IsSpelled message numbers
         → text (map combination numbers) first ≡ printed_text message }
-    ensures shift { (message : MessageView) (numbers : List ℕ) (first : Shift) → IsSpelled message numbers
+    ensures shift { (message : MessageView) (numbers : List ℕ) (first : Shift)
+        → IsSpelled message numbers
         → shift_after_all (map combination numbers) first ≡ Letters }
-    ensures all { (messages : List MessageView) (positions : List SentPosition) (first : Shift) → IsBroadcast messages positions
+    ensures all { (messages : List MessageView) (positions : List SentPosition) (first : Shift)
+        → IsBroadcast messages positions
         → text (map reception positions) first ≡ flat_map printed_text messages }
 {}
 
 /// Messages have one list of positions.
 pub fn messages_have_one_broadcast()
-    ensures some { (messages : List MessageView) → AllByRecursion (λ (message : MessageView). AreLines message.lines) messages
+    ensures some { (messages : List MessageView)
+        → AllByRecursion (λ (message : MessageView). AreLines message.lines) messages
         → (positions : List SentPosition) × IsBroadcast messages positions }
-    ensures only { (messages : List MessageView) (one other : List SentPosition) → IsBroadcast messages one → IsBroadcast messages other
+    ensures only { (messages : List MessageView) (one other : List SentPosition)
+        → IsBroadcast messages one → IsBroadcast messages other
         → one ≡ other }
 {}
 
-/// Elements are the emission of one list of messages at most, so strict reading of an emission gives back what was sent;
-/// and they have one outcome: the messages, or one fault. Want of memory excludes nothing.
+/// Elements are the emission of one list of messages at most, so strict reading of an emission gives back what was
+/// sent; and they have one outcome: the messages, or one fault. Want of memory excludes nothing.
 pub fn an_emission_has_one_reading()
-    ensures list { (bits : List Bool) (one other : List MessageView) → IsEmissionOf one bits → IsEmissionOf other bits → one ≡ other }
-    ensures messages { (bits : List Bool) (messages : List MessageView) (why : EmissionFault) → IsEmissionOf messages bits
+    ensures list { (bits : List Bool) (one other : List MessageView) → IsEmissionOf one bits
+        → IsEmissionOf other bits → one ≡ other }
+    ensures messages { (bits : List Bool) (messages : List MessageView) (why : EmissionFault)
+        → IsEmissionOf messages bits
         → ExplainsEmission bits why → IsMemory why }
-    ensures fault { (bits : List Bool) (one other : EmissionFault) → ExplainsEmission bits one → ExplainsEmission bits other
+    ensures fault { (bits : List Bool) (one other : EmissionFault) → ExplainsEmission bits one
+        → ExplainsEmission bits other
         → IsMemory one ⊎ (IsMemory other ⊎ (one ≡ other)) }
 {}
 
-/// Checking gives back what was sent: an air file that sending wrote of a message file is checked, where it keeps to the
-/// limit, and the report is the line of the station and then the very bytes that were sent. An air file has one report.
+/// Checking gives back what was sent: an air file that sending wrote of a message file is checked, where it keeps to
+/// the limit, and the report is the line of the station and then the very bytes that were sent. An air file has one
+/// report.
 pub fn checking_gives_back_what_was_sent()
-    ensures checked { (limit station from : ℕ) (file air : List ℕ) (sent : Sent) → IsTransmission station from file air sent
+    ensures checked { (limit station from : ℕ) (file air : List ℕ) (sent : Sent)
+        → IsTransmission station from file air sent
         → length air ≤ limit → IsChecked limit air (station_line station ++ file) sent.messages }
-    ensures only { (limit : ℕ) (air one other : List ℕ) (m n : ℕ) → IsChecked limit air one m → IsChecked limit air other n
+    ensures only { (limit : ℕ) (air one other : List ℕ) (m n : ℕ) → IsChecked limit air one m
+        → IsChecked limit air other n
         → (one ≡ other) × (m ≡ n) }
     ensures back { (limit station from : ℕ) (file air text : List ℕ) (sent : Sent) (count : ℕ)
         → IsTransmission station from file air sent → IsChecked limit air text count
         → (text ≡ station_line station ++ file) × (count ≡ sent.messages) }
 {}
 
-/// Damage changes the elements that it names and nothing else, and twice it changes nothing: over lines, what is damaged
-/// again with the same damage is what was there; and the elements of all lines are damaged by their place among them all.
+/// Damage changes the elements that it names and nothing else, and twice it changes nothing: over lines, what is
+/// damaged again with the same damage is what was there; and the elements of all lines are damaged by their place among
+/// them all.
 pub fn damage_undoes_itself()
-    ensures twice { (damage : Damage) (lines : List Line) → damaged_lines damage 0 (damaged_lines damage 0 lines) ≡ lines }
+    ensures twice { (damage : Damage) (lines : List Line)
+        → damaged_lines damage 0 (damaged_lines damage 0 lines) ≡ lines }
     ensures elements { (damage : Damage) (lines : List Line)
-        → flat_map elements_of (damaged_lines damage 0 lines) ≡ damaged damage 0 (flat_map elements_of lines) }
-    ensures long { (damage : Damage) (place : ℕ) (bits : List Bool) → length (damaged damage place bits) ≡ length bits }
-    ensures files { (damage : Damage) (limit : ℕ) (air once twice : List ℕ) (m n : ℕ) → IsDamaged damage limit air once m
+        → flat_map elements_of (damaged_lines damage 0 lines)
+        ≡ damaged_elements damage 0 (flat_map elements_of lines) }
+    ensures long { (damage : Damage) (place : ℕ) (bits : List Bool)
+        → length (damaged_elements damage place bits) ≡ length bits }
+    ensures files { (damage : Damage) (limit : ℕ) (air once twice : List ℕ) (m n : ℕ)
+        → IsDamaged damage limit air once m
         → IsDamaged damage limit once twice n → twice ≡ air }
 {}

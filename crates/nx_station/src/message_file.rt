@@ -36,9 +36,11 @@ pub(crate) fn messages_in(
     station: Letter,
     file: &[u8],
 ) -> Result<Vec<Message>, SendRunFault>
-    ensures messages { IfOk result (λ messages. IsMessageFile file.now (map file_message_of messages.items)) }
+    ensures messages { IfOk result (λ messages.
+        IsMessageFile file.now (map file_message_of messages.items)) }
     ensures station { IfOk result (λ messages.
-        AllByRecursion (λ (message : MessageView). message.identity.b1.byte ≡ station.byte) messages.items) }
+        AllByRecursion
+        (λ (message : MessageView). message.identity.b1.byte ≡ station.byte) messages.items) }
     ensures fault { IfErr result (ExplainsFile file.now) }
 {
     let mut messages = Vec::new(alloc);
@@ -64,7 +66,8 @@ fn first_message<'a>(
 ) -> Result<Part<'a>, SendRunFault>
     requires some { 0 < length bytes.now }
     requires room { before + length bytes.now < 2 ^ 64 - 1 }
-    ensures whole { IfOk result (λ part. bytes.now ≡ spelling (file_message_of part.message) ++ part.rest.now) }
+    ensures whole { IfOk result (λ part.
+        bytes.now ≡ spelling (file_message_of part.message) ++ part.rest.now) }
     ensures sound { IfOk result (λ part. IsFileMessage (file_message_of part.message)) }
     ensures station { IfOk result (λ part. part.message.identity.b1.byte ≡ station.byte) }
     ensures lines { IfOk result (λ part. part.lines ≡ 2 + length part.message.lines) }
@@ -109,9 +112,11 @@ pub(crate) fn split_line(bytes: &[u8]) -> Option<(&[u8], &[u8])>
 
 /// The identity of a message of this station that begins with this line; None where the line begins none.
 fn identity_in(station: Letter, line: &[u8]) -> Option<Identity>
-    ensures named { IfSome result (λ identity. line.now ≡ heading identity.b2.byte identity.number) }
+    ensures named { IfSome result (λ identity.
+        line.now ≡ heading identity.b2.byte identity.number) }
     ensures station { IfSome result (λ identity. identity.b1.byte ≡ station.byte) }
-    ensures none { IsNone result → (subject number : ℕ) → IsNamed subject number → line.now ≢ heading subject number }
+    ensures none { IsNone result → (subject number : ℕ) → IsNamed subject number
+        → line.now ≢ heading subject number }
 {
     let [b'#', subject, tens, units] = line else {
         return None;
@@ -129,7 +134,8 @@ fn text_lines<'a>(alloc: Global, bytes: &'a [u8], before: u64) -> Result<Body<'a
     requires { before + length bytes.now < 2 ^ 64 - 2 }
     ensures whole { IfOk result (λ body.
         bytes.now ≡ text_of (map (λ line. line.now) body.lines.items) ++ 59 ∷ 10 ∷ body.rest.now) }
-    ensures inside { IfOk result (λ body. AllByRecursion IsInside (map (λ line. line.now) body.lines.items)) }
+    ensures inside { IfOk result (λ body.
+        AllByRecursion IsInside (map (λ line. line.now) body.lines.items)) }
     ensures fault { IfErr result (λ fault. (subject number : ℕ) → IsNamed subject number
         → ExplainsFirst before (heading subject number ++ 10 ∷ bytes.now) fault) }
 {

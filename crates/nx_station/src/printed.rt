@@ -89,7 +89,8 @@ fn identity_of_header(line: &[u8]) -> Option<Identity>
 /// The identity that is written so, as `EA01`.
 fn identity_named(name: &[u8]) -> Option<Identity>
     ensures some { IfSome result (λ identity. name.now ≡ identity_bytes identity) }
-    ensures none { IsNone result → (identity : named.Identity) → name.now ≢ identity_bytes identity }
+    ensures none { IsNone result → (identity : named.Identity)
+        → name.now ≢ identity_bytes identity }
 {
     let [b1, b2, tens, units] = name else {
         return None;
@@ -103,8 +104,10 @@ fn identity_named(name: &[u8]) -> Option<Identity>
 
 /// The lines of a message up to the line NNNN.
 fn lines_printed<'a>(alloc: Global, text: &'a [u8]) -> Result<Body<'a>, EmissionFault>
-    ensures whole { IfOk result (λ body. text.now ≡ ended_lines (map (λ line. line.now) body.lines.items) body.rest.now) }
-    ensures inside { IfOk result (λ body. AllByRecursion IsUnended (map (λ line. line.now) body.lines.items)) }
+    ensures whole { IfOk result (λ body.
+        text.now ≡ ended_lines (map (λ line. line.now) body.lines.items) body.rest.now) }
+    ensures inside { IfOk result (λ body.
+        AllByRecursion IsUnended (map (λ line. line.now) body.lines.items)) }
     ensures fault { IfErr result (ExplainsLines text.now) }
 {
     let mut lines = Vec::new(alloc);

@@ -28,12 +28,12 @@ pub struct Sent {
     pub messages: u64,
 }
 
-/// Reads a message file whole, and writes the air file of its emission in the station's next slot from a moment on: a line
-/// `T` with the moment at which the slot begins, and the elements in lines of 490.
+/// Reads a message file whole, and writes the air file of its emission in the station's next slot from a moment on: a
+/// line `T` with the moment at which the slot begins, and the elements in lines of 490.
 ///
 /// `Read` and `FileTooLong` come first; then the first fault in the file, `BadLine`, `Text`, `LineCut` or `Open`; then
-/// `Send` with `NoMessages`, `NoSlot` (also where there is no next slot) or `SlotFull`; then `Write`. Nothing is written
-/// before all else succeeded. Memory may run out at any growth.
+/// `Send` with `NoMessages`, `NoSlot` (also where there is no next slot) or `SlotFull`; then `Write`. Nothing is
+/// written before all else succeeded. Memory may run out at any growth.
 pub fn send<R: Read, W: Write>(
     alloc: Global,
     reader: &mut Counting<R>,
@@ -43,7 +43,8 @@ pub fn send<R: Read, W: Write>(
 ) -> Result<Sent, SendRunFault>
     requires reader { reader.old.failures ≡ 0 }
     requires writer { writer.old.failures ≡ 0 }
-    ensures { Sends (devices R.remaining W.contents reader.old reader.new writer.old writer.new) station.byte moment result }
+    ensures { Sends (devices R.remaining W.contents reader.old reader.new writer.old writer.new)
+        station.byte moment result }
 {
     let file = read_whole(alloc, reader)?;
     let messages = messages_in(alloc, station, &file)?;
@@ -79,9 +80,11 @@ fn write_air<W: Write>(
 ) -> Result<(), WriteFault>
     requires { writer.old.failures ≡ 0 }
     ensures ok { OnOk result
-        (Appends (W.contents writer.old.inner) (W.contents writer.new.inner) (line.now ++ file_of (bit_lines bits.now))) }
+        (Appends (W.contents writer.old.inner) (W.contents writer.new.inner)
+        (line.now ++ file_of (bit_lines bits.now))) }
     ensures err { IfErr result (λ fault.
-        WroteSome (W.contents writer.old.inner) (W.contents writer.new.inner) (line.now ++ file_of (bit_lines bits.now)) fault.written) }
+        WroteSome (W.contents writer.old.inner) (W.contents writer.new.inner)
+        (line.now ++ file_of (bit_lines bits.now)) fault.written) }
     ensures failed { IsErr result ↔ (writer.new.failures ≡ 1) }
     ensures once { writer.new.failures ≤ 1 }
     ensures none { OnOk result (writer.new.failures ≡ 0) }

@@ -7,10 +7,6 @@ use Rattle.nx_sync.specs.Windows.{next_window, window_after}
 use Rattle.nx_sync.specs.Synchroniser.{Held}
 use Rattle.nx_sync.specs.PrivateCalls.{heard_all}
 
--- what is held after one element was heard, before it is looked at
-abbrev pub heard : Held → Bool → Held
-heard s b = record s { recent = next_window s.recent b; seen = min (s.seen + 1) 28 }
-
 -- one element and then more
 pub window_after-append : (xs ys : List Bool) (window : ℕ) → window_after window (xs ++ ys) ≡ window_after (window_after window xs) ys
 unfolding window_after

@@ -10,9 +10,9 @@ use Rattle.nx_sync.specs.declared.track.Track.{Track}
 use Rattle.nx_sync.specs.Windows.{window_before_dx, window_before_rx, is_lock_window, IsBeforeLock, role_after, window_after}
 use Rattle.nx_sync.specs.Steps.{step, IsStep, HuntsThrough}
 use Rattle.nx_sync.specs.Synchroniser.{Held, is_hunting, StandsAfter}
-use Rattle.nx_sync.specs.PrivateCalls.{track_from, heard_all, IsQuiet, EndsPattern, Skips}
+use Rattle.nx_sync.specs.PrivateCalls.{track_from, heard_one, heard_all, IsQuiet, EndsPattern, Skips}
 use Rattle.nx_sync.proofs.Patterns.{role_after-dx, role_after-rx, role_after-none}
-use Rattle.nx_sync.proofs.Hearing.{heard, window_after-one, same_parts, heard_all-none, heard_all-append, heard_all-add, heard_all-more}
+use Rattle.nx_sync.proofs.Hearing.{window_after-one, same_parts, heard_all-none, heard_all-append, heard_all-add, heard_all-more}
 use Rattle.nx_sync.proofs.Pushes.{IsGood, push_hunting}
 
 -- the role after a window, by whether it is a pattern
@@ -104,19 +104,19 @@ record RunsOn (held : Held) (before bits : List Bool) : Type 0 where
   pub stands : StandsAfter (heard_all held bits) (before ++ bits)
   pub quiet : (k : ℕ) → k < length bits → IsStep (before ++ take (k + 1) bits) (step None None)
 
-heard_one : (held : Held) (b : Bool) → heard_all held (b ∷ []) ≡ heard held b
-heard_one held b = ap (λ w. record held { recent = w; seen = min (held.seen + 1) 28 }) (window_after-one held.recent b)
+heard_all-one : (held : Held) (b : Bool) → heard_all held (b ∷ []) ≡ heard_one held b
+heard_all-one held b = ap (λ w. record held { recent = w; seen = min (held.seen + 1) 28 }) (window_after-one held.recent b)
 
 -- one quiet element
-quiet_push : (held : Held) (before : List Bool) (b : Bool) → StandsAfter held before → held.track ≡ None → IsQuiet (heard held b) → IsGood (heard held b) (before ++ b ∷ []) (step None None)
+quiet_push : (held : Held) (before : List Bool) (b : Bool) → StandsAfter held before → held.track ≡ None → IsQuiet (heard_one held b) → IsGood (heard_one held b) (before ++ b ∷ []) (step None None)
 quiet_push held before b a none (inl early) =
-    push_hunting held before b a (heard held b) (step None None) none (λ h. (refl, refl)) (λ h. (refl, refl)) (λ role late h. absurd (omega arith))
+    push_hunting held before b a (heard_one held b) (step None None) none (λ h. (refl, refl)) (λ h. (refl, refl)) (λ role late h. absurd (omega arith))
 quiet_push held before b a none (inr quiet) =
-    push_hunting held before b a (heard held b) (step None None) none (λ h. (refl, refl)) (λ h. (refl, refl)) (λ role late h. let e : Some role ≡ None = sym h ∙ quiet in cc)
+    push_hunting held before b a (heard_one held b) (step None None) none (λ h. (refl, refl)) (λ h. (refl, refl)) (λ role late h. let e : Some role ≡ None = sym h ∙ quiet in cc)
 
 -- an element and then more
-heard_all-front : (held : Held) (b : Bool) (bits : List Bool) → heard_all (heard held b) bits ≡ heard_all held (b ∷ bits)
-heard_all-front held b bits = ap (λ h. heard_all h bits) (sym (heard_one held b)) ∙ heard_all-append held (b ∷ []) bits
+heard_all-front : (held : Held) (b : Bool) (bits : List Bool) → heard_all (heard_one held b) bits ≡ heard_all held (b ∷ bits)
+heard_all-front held b bits = ap (λ h. heard_all h bits) (sym (heard_all-one held b)) ∙ heard_all-append held (b ∷ []) bits
 
 -- many quiet elements
 runs_on : (bits : List Bool) (held : Held) (before : List Bool) → StandsAfter held before → held.track ≡ None
@@ -128,9 +128,9 @@ runs_on [] held before a none quiet =
       quiet = λ k h. absurd (omega arith);
     }
 runs_on (b ∷ bits) held before a none quiet =
-    let one = quiet_push held before b a none (subst IsQuiet (heard_one held b) (quiet 0 (omega arith))) in
+    let one = quiet_push held before b a none (subst IsQuiet (heard_all-one held b) (quiet 0 (omega arith))) in
     let next : (k : ℕ) → k + 1 + 1 ≡ suc (k + 1) = λ k. omega arith in
-    let rest = runs_on bits (heard held b) (before ++ b ∷ []) one.stands none (λ k h. subst IsQuiet (ap (λ i. heard_all held (take i (b ∷ bits))) (next k) ∙ sym (heard_all-front held b (take (k + 1) bits))) (quiet (k + 1) (omega arith))) in
+    let rest = runs_on bits (heard_one held b) (before ++ b ∷ []) one.stands none (λ k h. subst IsQuiet (ap (λ i. heard_all held (take i (b ∷ bits))) (next k) ∙ sym (heard_all-front held b (take (k + 1) bits))) (quiet (k + 1) (omega arith))) in
     record {
       stands = subst₂ StandsAfter (heard_all-front held b bits) (append_assoc before (b ∷ []) bits) rest.stands;
       quiet = λ k h. elim (cases_lt 0 k) [
@@ -143,16 +143,16 @@ runs_on (b ∷ bits) held before a none quiet =
     }
 
 -- an element that ends a pattern
-locking_push : (held : Held) (before : List Bool) (b : Bool) → StandsAfter held before → held.track ≡ None → EndsPattern (heard held b) → IsStep (before ++ b ∷ []) (step None (Some Locked))
+locking_push : (held : Held) (before : List Bool) (b : Bool) → StandsAfter held before → held.track ≡ None → EndsPattern (heard_one held b) → IsStep (before ++ b ∷ []) (step None (Some Locked))
 locking_push held before b a none ends =
     let enough = ends.enough in
-    (push_hunting held before b a (record (heard held b) { track = Some (track_from ends.role); wrong = [] }) (step None (Some Locked)) none
+    (push_hunting held before b a (record (heard_one held b) { track = Some (track_from ends.role); wrong = [] }) (step None (Some Locked)) none
     (λ h. absurd (omega arith))
     (λ h. let e : Some ends.role ≡ None = sym ends.here ∙ h in cc)
     (λ role late h.
     let e : Some ends.role ≡ Some role = sym ends.here ∙ h in
     let same : ends.role ≡ role = cc in
-    (ap (λ role. record (heard held b) { track = Some (track_from role); wrong = [] }) same, refl))).step
+    (ap (λ role. record (heard_one held b) { track = Some (track_from role); wrong = [] }) same, refl))).step
 
 -- so what a hunt heard is what its pushes say
 module _ (old new : Held) (before bits : List Bool) (n : ℕ) (a : StandsAfter old before) (none : old.track ≡ None) (s : Skips old bits n new) where

@@ -17,13 +17,12 @@ use Rattle.nx_sync.specs.Locks.{before_dx, before_rx, last_28, IsPattern, releas
 use Rattle.nx_sync.specs.Steps.{LockStands, step, found, word, inside, over, hunts, IsStep}
 use Rattle.nx_sync.specs.Synchroniser.{Held, wrong_marks, p1_marks, Follows, Tracks, StandsAfter}
 use Rattle.nx_sync.specs.Windows.{next_window, role_after}
-use Rattle.nx_sync.specs.PrivateCalls.{track_from, track_after, Begins, Fills, Completes}
+use Rattle.nx_sync.specs.PrivateCalls.{heard_one, track_from, track_after, Begins, Fills, Completes}
 use Rattle.nx_sync.proofs.Lists.{padded-push, length-padded}
 use Rattle.nx_sync.proofs.Numbers.{number_of-next}
 use Rattle.nx_sync.proofs.MoreBits.{word_at-more, first_role-more, Past-within}
 use Rattle.nx_sync.proofs.OneBit.{hunts_on, locks_now, stands_on, ends_now}
 use Rattle.nx_sync.proofs.Patterns.{length-last_28, IsNeither, Which, dx, rx, neither, which, first_role-dx, first_role-rx, window-heard, word-heard}
-use Rattle.nx_sync.proofs.Hearing.{heard}
 use Rattle.nx_sync.proofs.Marks.{wrong_marks-same, p1_marks-same, p1_number-next, p1_number-none, wrong_marks-next, change_of-change_at}
 use Rattle.nx_sync.proofs.Unique.{now-unique}
 
@@ -50,17 +49,17 @@ good_at : (s x : Held) (bits : List Bool) (r y : Step) → s ≡ x → r ≡ y �
 good_at s x bits r y e h good = subst₂ (λ s r. IsGood s bits r) (sym e) (sym h) good
 
 module _ (s : Held) (bits : List Bool) (b : Bool) (a : StandsAfter s bits) where
-  pub recent_heard : (heard s b).recent ≡ number_of (keep_last 28 (replicate 28 false ++ (bits ++ b ∷ [])))
+  pub recent_heard : (heard_one s b).recent ≡ number_of (keep_last 28 (replicate 28 false ++ (bits ++ b ∷ [])))
   recent_heard =
       let xs : List Bool = keep_last 28 (replicate 28 false ++ bits) in
       ap (λ n. next_window n b) a.recent
       ∙ (sym (number_of-next 27 xs b (length-padded 28 bits)) ∙ ap number_of (padded-push 28 bits b (omega arith)))
 
-  seen_heard : (heard s b).seen ≡ min 28 (length (bits ++ b ∷ []))
+  seen_heard : (heard_one s b).seen ≡ min 28 (length (bits ++ b ∷ []))
   seen_heard = omega (arith, a.seen, length_push bits b)
 
   -- hunting goes on
-  goes_on : (locks : List Lock) (p : ℕ) → s.track ≡ None → IsHunting (bits ++ b ∷ []) locks p → p ≤ length bits → IsGood (heard s b) (bits ++ b ∷ []) (step None None)
+  goes_on : (locks : List Lock) (p : ℕ) → s.track ≡ None → IsHunting (bits ++ b ∷ []) locks p → p ≤ length bits → IsGood (heard_one s b) (bits ++ b ∷ []) (step None None)
   goes_on locks p none now within = record {
     stands = record {
       locks = locks;
@@ -79,7 +78,7 @@ module _ (s : Held) (bits : List Bool) (b : Bool) (a : StandsAfter s bits) where
   }
 
   -- a lock is found
-  finds : (locks : List Lock) (p : ℕ) (role : Role) → IsLocked (bits ++ b ∷ []) locks p (length bits + 1) → first_role (bits ++ b ∷ []) (length bits + 1) ≡ role → IsGood (record (heard s b) { track = Some (track_from role); wrong = [] }) (bits ++ b ∷ []) (step None (Some Locked))
+  finds : (locks : List Lock) (p : ℕ) (role : Role) → IsLocked (bits ++ b ∷ []) locks p (length bits + 1) → first_role (bits ++ b ∷ []) (length bits + 1) ≡ role → IsGood (record (heard_one s b) { track = Some (track_from role); wrong = [] }) (bits ++ b ∷ []) (step None (Some Locked))
   unfolding role_of wrong_marks
   finds locks p role now first = record {
     stands = record {
@@ -122,34 +121,34 @@ module _ (s : Held) (bits : List Bool) (b : Bool) (a : StandsAfter s bits) where
 
   -- a push while hunting, where 28 bits were heard
   hunts_at : (x : Held) (r : Step) (locks : List Lock) (p : ℕ) → s.track ≡ None → IsHunting bits locks p → p ≤ length bits → 28 ≤ length (bits ++ b ∷ [])
-      → (role_after (heard s b).recent ≡ None → (x ≡ heard s b) × (r ≡ step None None))
-      → ((role : Role) → 28 ≤ (heard s b).seen → role_after (heard s b).recent ≡ Some role → Begins (heard s b) role x r)
+      → (role_after (heard_one s b).recent ≡ None → (x ≡ heard_one s b) × (r ≡ step None None))
+      → ((role : Role) → 28 ≤ (heard_one s b).seen → role_after (heard_one s b).recent ≡ Some role → Begins (heard_one s b) role x r)
       → Which (last_28 (bits ++ b ∷ []) (length (bits ++ b ∷ [])))
       → IsGood x (bits ++ b ∷ []) r
   hunts_at x r locks p none now within enough quiet finding (neither not e) =
       let window = recent_heard ∙ ap number_of (window-heard (bits ++ b ∷ []) enough) in
       let result = quiet (ap role_after window ∙ e) in
-      good_at x (heard s b) (bits ++ b ∷ []) r (step None None) result.0 result.1
+      good_at x (heard_one s b) (bits ++ b ∷ []) r (step None None) result.0 result.1
       (goes_on locks p none (hunts_on bits b locks p now (no_pattern enough not)) within)
   hunts_at x r locks p none now within enough quiet finding (dx d e) =
       let window = recent_heard ∙ ap number_of (window-heard (bits ++ b ∷ []) enough) in
       let result = finding Dx (omega (arith, seen_heard)) (ap role_after window ∙ e) in
       let first = first_role-dx (bits ++ b ∷ []) (length (bits ++ b ∷ [])) enough (omega arith) d in
       let first' : first_role (bits ++ b ∷ []) (length bits + 1) ≡ Dx = subst (λ t. first_role (bits ++ b ∷ []) t ≡ Dx) (length_push bits b) first in
-      good_at x (record (heard s b) { track = Some (track_from Dx); wrong = [] }) (bits ++ b ∷ []) r (step None (Some Locked)) result.0 result.1
+      good_at x (record (heard_one s b) { track = Some (track_from Dx); wrong = [] }) (bits ++ b ∷ []) r (step None (Some Locked)) result.0 result.1
       (finds locks p Dx (locks_now bits b locks p now (a_pattern enough (inl d))) first')
   hunts_at x r locks p none now within enough quiet finding (rx d e) =
       let window = recent_heard ∙ ap number_of (window-heard (bits ++ b ∷ []) enough) in
       let result = finding Rx (omega (arith, seen_heard)) (ap role_after window ∙ e) in
       let first = first_role-rx (bits ++ b ∷ []) (length (bits ++ b ∷ [])) enough (omega arith) d in
       let first' : first_role (bits ++ b ∷ []) (length bits + 1) ≡ Rx = subst (λ t. first_role (bits ++ b ∷ []) t ≡ Rx) (length_push bits b) first in
-      good_at x (record (heard s b) { track = Some (track_from Rx); wrong = [] }) (bits ++ b ∷ []) r (step None (Some Locked)) result.0 result.1
+      good_at x (record (heard_one s b) { track = Some (track_from Rx); wrong = [] }) (bits ++ b ∷ []) r (step None (Some Locked)) result.0 result.1
       (finds locks p Rx (locks_now bits b locks p now (a_pattern enough (inr d))) first')
 
   hunts_by : (x : Held) (r : Step) (locks : List Lock) (now : Now) → IsNow bits locks now → Tracks bits now s.wrong s.track → s.track ≡ None
-      → ((heard s b).seen < 28 → (x ≡ heard s b) × (r ≡ step None None))
-      → (role_after (heard s b).recent ≡ None → (x ≡ heard s b) × (r ≡ step None None))
-      → ((role : Role) → 28 ≤ (heard s b).seen → role_after (heard s b).recent ≡ Some role → Begins (heard s b) role x r)
+      → ((heard_one s b).seen < 28 → (x ≡ heard_one s b) × (r ≡ step None None))
+      → (role_after (heard_one s b).recent ≡ None → (x ≡ heard_one s b) × (r ≡ step None None))
+      → ((role : Role) → 28 ≤ (heard_one s b).seen → role_after (heard_one s b).recent ≡ Some role → Begins (heard_one s b) role x r)
       → IsGood x (bits ++ b ∷ []) r
   hunts_by x r locks (locked p t) n f none early quiet finding = let is = f.is in absurd (cc)
   hunts_by x r locks (hunting p) n f none early quiet finding =
@@ -157,21 +156,21 @@ module _ (s : Held) (bits : List Bool) (b : Bool) (a : StandsAfter s bits) where
       elim (cases_lt (length (bits ++ b ∷ [])) 28) [
         | inl few ↦
             let result = early (omega (arith, seen_heard)) in
-            good_at x (heard s b) (bits ++ b ∷ []) r (step None None) result.0 result.1
+            good_at x (heard_one s b) (bits ++ b ∷ []) r (step None None) result.0 result.1
             (goes_on locks p none (hunts_on bits b locks p n (λ here. absurd (omega (arith, here.enough, length_push bits b)))) within)
         | inr enough ↦ hunts_at x r locks p none n within enough quiet finding (which (last_28 (bits ++ b ∷ []) (length (bits ++ b ∷ []))) (length-last_28 (bits ++ b ∷ []) (length (bits ++ b ∷ [])) enough (omega arith)))
       ]
 
   -- a push while hunting
   pub push_hunting : (x : Held) (r : Step) → s.track ≡ None
-      → ((heard s b).seen < 28 → (x ≡ heard s b) × (r ≡ step None None))
-      → (role_after (heard s b).recent ≡ None → (x ≡ heard s b) × (r ≡ step None None))
-      → ((role : Role) → 28 ≤ (heard s b).seen → role_after (heard s b).recent ≡ Some role → Begins (heard s b) role x r)
+      → ((heard_one s b).seen < 28 → (x ≡ heard_one s b) × (r ≡ step None None))
+      → (role_after (heard_one s b).recent ≡ None → (x ≡ heard_one s b) × (r ≡ step None None))
+      → ((role : Role) → 28 ≤ (heard_one s b).seen → role_after (heard_one s b).recent ≡ Some role → Begins (heard_one s b) role x r)
       → IsGood x (bits ++ b ∷ []) r
   push_hunting x r none early quiet finding = hunts_by x r a.locks a.now a.stands a.tracks none early quiet finding
 
   -- a push inside a word
-  goes_inside : (locks : List Lock) (p t : ℕ) (track : Track) → IsLocked bits locks p t → Follows bits t s.wrong track → track.filled + 1 < 7 → IsGood (record (heard s b) { track = Some (record track { filled = track.filled + 1 }) }) (bits ++ b ∷ []) (step None None)
+  goes_inside : (locks : List Lock) (p t : ℕ) (track : Track) → IsLocked bits locks p t → Follows bits t s.wrong track → track.filled + 1 < 7 → IsGood (record (heard_one s b) { track = Some (record track { filled = track.filled + 1 }) }) (bits ++ b ∷ []) (step None None)
   goes_inside locks p t track now f short =
       let low = now.found.here.enough in
       let within = now.found.here.heard in
@@ -207,7 +206,7 @@ module _ (s : Held) (bits : List Bool) (b : Bool) (a : StandsAfter s bits) where
       }
 
   -- the number of the word that the bit completes
-  word_heard : (t k : ℕ) → 28 ≤ t → length bits + 1 ≡ t + 7 * (k + 1) → (heard s b).recent / 2 ^ 21 ≡ word_at (bits ++ b ∷ []) t k
+  word_heard : (t k : ℕ) → 28 ≤ t → length bits + 1 ≡ t + 7 * (k + 1) → (heard_one s b).recent / 2 ^ 21 ≡ word_at (bits ++ b ∷ []) t k
   unfolding word_at
   word_heard t k low e =
       let enough : 28 ≤ length (bits ++ b ∷ []) = omega (arith, length_push bits b) in
@@ -216,7 +215,7 @@ module _ (s : Held) (bits : List Bool) (b : Bool) (a : StandsAfter s bits) where
       ∙ (word-heard (bits ++ b ∷ []) enough ∙ ap (λ j. number_of (take 7 (drop j (bits ++ b ∷ [])))) i)
 
   -- a push that completes a word
-  module _ (locks : List Lock) (p t : ℕ) (track : Track) (now : IsLocked bits locks p t) (f : Follows bits t s.wrong track) (last : track.filled ≡ 6) (x : Held) (r : Step) (c : Completes (heard s b) track x r) where
+  module _ (locks : List Lock) (p t : ℕ) (track : Track) (now : IsLocked bits locks p t) (f : Follows bits t s.wrong track) (last : track.filled ≡ 6) (x : Held) (r : Step) (c : Completes (heard_one s b) track x r) where
     place_after : length bits + 1 ≡ t + 7 * (f.whole + 1)
     place_after = omega (arith, f.place)
 
@@ -226,7 +225,7 @@ module _ (s : Held) (bits : List Bool) (b : Bool) (a : StandsAfter s bits) where
     first_same : first_role bits t ≡ first_role (bits ++ b ∷ []) t
     first_same = sym (first_role-more bits (b ∷ []) t now.found.here.enough now.found.here.heard)
 
-    number_is : (heard s b).recent / 2 ^ 21 ≡ word_at (bits ++ b ∷ []) t f.whole
+    number_is : (heard_one s b).recent / 2 ^ 21 ≡ word_at (bits ++ b ∷ []) t f.whole
     number_is = word_heard t f.whole now.found.here.enough place_after
 
     role_is : track.role ≡ role_of (first_role (bits ++ b ∷ []) t) f.whole
@@ -238,7 +237,7 @@ module _ (s : Held) (bits : List Bool) (b : Bool) (a : StandsAfter s bits) where
     marks_are : x.wrong ≡ keep_last 64 (wrong_marks (word_at (bits ++ b ∷ []) t) (f.whole + 1))
     marks_are =
         c.marks
-        ∙ (ap (λ xs. keep_last 64 (xs ++ is_wrong ((heard s b).recent / 2 ^ 21) ∷ [])) (f.marks ∙ ap (keep_last 64) (wrong_marks-same (word_at bits t) (word_at (bits ++ b ∷ []) t) f.whole words_same))
+        ∙ (ap (λ xs. keep_last 64 (xs ++ is_wrong ((heard_one s b).recent / 2 ^ 21) ∷ [])) (f.marks ∙ ap (keep_last 64) (wrong_marks-same (word_at bits t) (word_at (bits ++ b ∷ []) t) f.whole words_same))
         ∙ (ap (λ w. keep_last 64 (keep_last 64 (wrong_marks (word_at (bits ++ b ∷ []) t) f.whole) ++ is_wrong w ∷ [])) number_is
         ∙ wrong_marks-next (word_at (bits ++ b ∷ []) t) f.whole))
 
@@ -274,7 +273,7 @@ module _ (s : Held) (bits : List Bool) (b : Bool) (a : StandsAfter s bits) where
             recent = recent_after;
             seen = seen_after;
             tracks = record {
-              one = track_after track ((heard s b).recent / 2 ^ 21);
+              one = track_after track ((heard_one s b).recent / 2 ^ 21);
               is = c.goes_on quiet;
               follows = record {
                 whole = f.whole + 1;
@@ -314,8 +313,8 @@ module _ (s : Held) (bits : List Bool) (b : Bool) (a : StandsAfter s bits) where
         }
 
   follows_by : (x : Held) (r : Step) (track : Track) (locks : List Lock) (now : Now) → IsNow bits locks now → Tracks bits now s.wrong s.track → s.track ≡ Some track → track.filled < 7
-      → (track.filled + 1 < 7 → Fills (heard s b) track x r)
-      → (track.filled ≡ 6 → Completes (heard s b) track x r)
+      → (track.filled + 1 < 7 → Fills (heard_one s b) track x r)
+      → (track.filled ≡ 6 → Completes (heard_one s b) track x r)
       → IsGood x (bits ++ b ∷ []) r
   follows_by x r track locks (hunting p) n f one short inner whole = absurd (cc)
   follows_by x r track locks (locked p t) n f one short inner whole =
@@ -324,7 +323,7 @@ module _ (s : Held) (bits : List Bool) (b : Bool) (a : StandsAfter s bits) where
       elim (cases_lt (track.filled + 1) 7) [
         | inl more ↦
             let result = inner more in
-            good_at x (record (heard s b) { track = Some (record track { filled = track.filled + 1 }) }) (bits ++ b ∷ []) r (step None None) result.0 result.1
+            good_at x (record (heard_one s b) { track = Some (record track { filled = track.filled + 1 }) }) (bits ++ b ∷ []) r (step None None) result.0 result.1
             (goes_inside locks p t track n g more)
         | inr full ↦
             let last : track.filled ≡ 6 = omega arith in
@@ -333,8 +332,8 @@ module _ (s : Held) (bits : List Bool) (b : Bool) (a : StandsAfter s bits) where
 
   -- a push while a lock stands
   pub push_locked : (x : Held) (r : Step) (track : Track) → s.track ≡ Some track → track.filled < 7
-      → (track.filled + 1 < 7 → Fills (heard s b) track x r)
-      → (track.filled ≡ 6 → Completes (heard s b) track x r)
+      → (track.filled + 1 < 7 → Fills (heard_one s b) track x r)
+      → (track.filled ≡ 6 → Completes (heard_one s b) track x r)
       → IsGood x (bits ++ b ∷ []) r
   push_locked x r track one short inner whole = follows_by x r track a.locks a.now a.stands a.tracks one short inner whole
 
@@ -349,14 +348,14 @@ pub record Followed (y : Held) (track : Track) (x : Held) (r : Step) : Type 0 wh
   pub inner : track.filled + 1 < 7 → Fills y track x r
   pub whole : track.filled ≡ 6 → Completes y track x r
 
-pub good_hunting : (s y x : Held) (bits : List Bool) (b : Bool) (r : Step) → StandsAfter s bits → y ≡ heard s b → y.track ≡ None → Hunted y x r → IsGood x (bits ++ b ∷ []) r
+pub good_hunting : (s y x : Held) (bits : List Bool) (b : Bool) (r : Step) → StandsAfter s bits → y ≡ heard_one s b → y.track ≡ None → Hunted y x r → IsGood x (bits ++ b ∷ []) r
 good_hunting s y x bits b r a e none h =
-    let h' : Hunted (heard s b) x r = subst (λ y. Hunted y x r) e h in
+    let h' : Hunted (heard_one s b) x r = subst (λ y. Hunted y x r) e h in
     let none' : s.track ≡ None = sym (ap (λ y. y.track) e) ∙ none in
     push_hunting s bits b a x r none' h'.early h'.quiet h'.finding
 
-pub good_locked : (s y x : Held) (bits : List Bool) (b : Bool) (r : Step) (track : Track) → StandsAfter s bits → y ≡ heard s b → y.track ≡ Some track → track.filled < 7 → Followed y track x r → IsGood x (bits ++ b ∷ []) r
+pub good_locked : (s y x : Held) (bits : List Bool) (b : Bool) (r : Step) (track : Track) → StandsAfter s bits → y ≡ heard_one s b → y.track ≡ Some track → track.filled < 7 → Followed y track x r → IsGood x (bits ++ b ∷ []) r
 good_locked s y x bits b r track a e one short h =
-    let h' : Followed (heard s b) track x r = subst (λ y. Followed y track x r) e h in
+    let h' : Followed (heard_one s b) track x r = subst (λ y. Followed y track x r) e h in
     let one' : s.track ≡ Some track = sym (ap (λ y. y.track) e) ∙ one in
     push_locked s bits b a x r track one' short h'.inner h'.whole

@@ -11,10 +11,10 @@ use Rattle.nx_sync.specs.Words.{is_wrong}
 use Rattle.nx_sync.specs.Windows.{next_word_window, window_after}
 use Rattle.nx_sync.specs.Steps.{step, IsStep, IsWordStep}
 use Rattle.nx_sync.specs.Synchroniser.{Held, is_at_limit, is_between_words, StandsAfter}
-use Rattle.nx_sync.specs.PrivateCalls.{track_after, Completes}
+use Rattle.nx_sync.specs.PrivateCalls.{heard_one, track_after, Completes}
 use Rattle.nx_sync.proofs.Lists.{length-padded, padded-append}
 use Rattle.nx_sync.proofs.Numbers.{number_of-next_word}
-use Rattle.nx_sync.proofs.Hearing.{heard, window_after-none}
+use Rattle.nx_sync.proofs.Hearing.{window_after-none}
 use Rattle.nx_sync.proofs.Pushes.{IsGood, push_locked, recent_heard}
 
 -- what is held after elements inside a word
@@ -38,10 +38,10 @@ filled_on-none held track seen is =
     ∙ same_filled held track held.recent (window_after held.recent []) held.seen (min (held.seen + 0) 28) track.filled (track.filled + 0) (sym (window_after-none held.recent)) (omega arith) (omega arith)
 
 filled_on-front : (held : Held) (track : Track) (b : Bool) (bits : List Bool)
-    → filled_on (record (heard held b) { track = Some (record track { filled = track.filled + 1 }) }) (record track { filled = track.filled + 1 }) bits ≡ filled_on held track (b ∷ bits)
+    → filled_on (record (heard_one held b) { track = Some (record track { filled = track.filled + 1 }) }) (record track { filled = track.filled + 1 }) bits ≡ filled_on held track (b ∷ bits)
 unfolding window_after
 filled_on-front held track b bits =
-    same_filled held track (window_after (heard held b).recent bits) (window_after held.recent (b ∷ bits))
+    same_filled held track (window_after (heard_one held b).recent bits) (window_after held.recent (b ∷ bits))
     (min (min (held.seen + 1) 28 + length bits) 28) (min (held.seen + length (b ∷ bits)) 28)
     (track.filled + 1 + length bits) (track.filled + length (b ∷ bits)) refl (omega arith) (omega arith)
 
@@ -58,7 +58,7 @@ runs_inside [] held track before a is short =
     }
 runs_inside (b ∷ bits) held track before a is short =
     let further : Track = record track { filled = track.filled + 1 } in
-    let next : Held = record (heard held b) { track = Some further } in
+    let next : Held = record (heard_one held b) { track = Some further } in
     let one : IsGood next (before ++ b ∷ []) (step None None) = push_locked held before b a next (step None None) track is (omega arith) (λ h. (refl, refl)) (λ h. absurd (omega arith)) in
     let rest = runs_inside bits next further (before ++ b ∷ []) one.stands refl (omega arith) in
     record {
@@ -105,7 +105,7 @@ module _ (old : Held) (before bits : List Bool) (track : Track) (a : StandsAfter
   all-heard : (before ++ take 6 bits) ++ get_or bits 6 false ∷ [] ≡ before ++ bits
   all-heard = append_assoc before (take 6 bits) (get_or bits 6 false ∷ []) ∙ ap (λ xs. before ++ xs) all-bits
 
-  same_recent : next_word_window old.recent (number_of bits) ≡ (heard (filled_on old track (take 6 bits)) (get_or bits 6 false)).recent
+  same_recent : next_word_window old.recent (number_of bits) ≡ (heard_one (filled_on old track (take 6 bits)) (get_or bits 6 false)).recent
   same_recent =
       let xs : List Bool = keep_last 28 (replicate 28 false ++ before) in
       ap (λ n. next_word_window n (number_of bits)) a.recent
@@ -119,7 +119,7 @@ module _ (old : Held) (before bits : List Bool) (track : Track) (a : StandsAfter
   last_push x r c =
       let mid : Held = filled_on old track (take 6 bits) in
       let further : Track = record track { filled = track.filled + length (take 6 bits) } in
-      let whole : Completes (heard mid (get_or bits 6 false)) further x r = same_word old (next_word_window old.recent (number_of bits)) (heard mid (get_or bits 6 false)).recent old.seen (heard mid (get_or bits 6 false)).seen track (track.filled + length (take 6 bits)) (Some further) x r same_recent (omega (arith, full, length-six)) c in
+      let whole : Completes (heard_one mid (get_or bits 6 false)) further x r = same_word old (next_word_window old.recent (number_of bits)) (heard_one mid (get_or bits 6 false)).recent old.seen (heard_one mid (get_or bits 6 false)).seen track (track.filled + length (take 6 bits)) (Some further) x r same_recent (omega (arith, full, length-six)) c in
       subst (λ xs. IsGood x xs r) all-heard (push_locked mid (before ++ take 6 bits) (get_or bits 6 false) inside_word.stands x r further refl (omega (arith, length-six)) (λ h. absurd (omega (arith, length-six))) (λ h. whole))
 
   pub word_stands : (x : Held) (r : Step) → Completes (record old { recent = next_word_window old.recent (number_of bits) }) track x r → StandsAfter x (before ++ bits)

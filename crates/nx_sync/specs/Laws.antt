@@ -49,8 +49,10 @@ pub data GoesOn : List Lock → Now → List Lock → Now → Type 0 where
   hunts_on : {locks : List Lock} {p : ℕ} → GoesOn locks (hunting p) locks (hunting p)
   finds_one : {locks : List Lock} {p t : ℕ} → GoesOn locks (hunting p) locks (locked p t)
   stands_still : {locks : List Lock} {p t : ℕ} → GoesOn locks (locked p t) locks (locked p t)
-  found_and_past : {older locks : List Lock} {p : ℕ} {now : Now} (lock : Lock) → lock.from ≡ p → Extends locks (lock ∷ older) → GoesOn older (hunting p) locks now
-  is_past : {older locks : List Lock} {p t : ℕ} {now : Now} (lock : Lock) → lock.from ≡ p → lock.at ≡ t → Extends locks (lock ∷ older) → GoesOn older (locked p t) locks now
+  found_and_past : {older locks : List Lock} {p : ℕ} {now : Now} (lock : Lock) → lock.from ≡ p
+      → Extends locks (lock ∷ older) → GoesOn older (hunting p) locks now
+  is_past : {older locks : List Lock} {p t : ℕ} {now : Now} (lock : Lock) → lock.from ≡ p → lock.at ≡ t
+      → Extends locks (lock ∷ older) → GoesOn older (locked p t) locks now
 
 -- what stood after these bits, where these locks and this state stand after more
 pub record Stood (bits : List Bool) (locks : List Lock) (now : Now) : Type 0 where
@@ -65,15 +67,16 @@ pub data OneMore (bits : List Bool) : List Lock → Now → List Lock → Now �
   still_hunts : {locks : List Lock} {p : ℕ} → OneMore bits locks (hunting p) locks (hunting p)
   now_finds : {locks : List Lock} {p t : ℕ} → length bits ≡ t → OneMore bits locks (hunting p) locks (locked p t)
   still_stands : {locks : List Lock} {p t : ℕ} → OneMore bits locks (locked p t) locks (locked p t)
-  now_over : {older : List Lock} {p t q : ℕ} (lock : Lock) → lock.from ≡ p → lock.at ≡ t → length bits ≡ q → OneMore bits older (locked p t) (lock ∷ older) (hunting q)
+  now_over : {older : List Lock} {p t q : ℕ} (lock : Lock) → lock.from ≡ p → lock.at ≡ t
+      → length bits ≡ q → OneMore bits older (locked p t) (lock ∷ older) (hunting q)
 
 -- P2 P1, so many times: phasing as it is sent (M.476, M.625)
 unfoldable pub phasing : ℕ → List Bool
 phasing zero = []
 phasing (suc n) = elements_of_phasing_2 ++ elements_of_phasing_1 ++ phasing n
 
--- The lock at t is on the word limits and roles of a phasing that begins after n bits: word g of it, a DX word, is where
--- pair a of the phasing begins.
+-- The lock at t is on the word limits and roles of a phasing that begins after n bits: word g of it, a DX word, is
+-- where pair a of the phasing begins.
 pub record IsOnPhasing (bits : List Bool) (n t : ℕ) : Type 0 where
   pub g : ℕ
   pub a : ℕ

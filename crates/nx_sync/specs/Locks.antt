@@ -46,12 +46,14 @@ unfoldable pub releases_as_ended : Role → (ℕ → ℕ) → ℕ → Bool
 releases_as_ended first words k =
     nat_le 5 k && is_dx (role_of first (k - 3)) && (words (k - 3) == phasing_1) && (words (k - 5) == phasing_1)
 
--- Which change word k would bring to a lock that still stands there, by its words and the role of word 0: Ended where it
--- releases the lock as ended, else LostLock where at least 40 of the last 64 words, or of all where they are fewer, are
--- wrong.
+-- Which change word k would bring to a lock that still stands there, by its words and the role of word 0: Ended where
+-- it releases the lock as ended, else LostLock where at least 40 of the last 64 words, or of all where they are fewer,
+-- are wrong.
 unfoldable pub change_at : Role → (ℕ → ℕ) → ℕ → Option Change
 change_at first words k =
-    if releases_as_ended first words k then Some Ended else (if nat_le losing_count (wrong_until words k) then Some LostLock else None)
+    if releases_as_ended first words k
+    then Some Ended
+    else (if nat_le losing_count (wrong_until words k) then Some LostLock else None)
 
 -- which change word k would bring to the lock at t
 abbrev pub release : List Bool → ℕ → ℕ → Option Change

@@ -11,7 +11,7 @@ use Rattle.nx_sync.specs.declared.step.Change.{Change}
 use Rattle.nx_sync.specs.declared.step.Change.TheVariants.{Locked, Ended, LostLock}
 use Rattle.nx_sync.specs.Words.{window_words, losing_count, other_role, is_dx, is_wrong}
 use Rattle.nx_sync.specs.Locks.{pattern_elements}
-use Rattle.nx_sync.specs.Windows.{role_after, window_after}
+use Rattle.nx_sync.specs.Windows.{role_after, next_window, window_after}
 use Rattle.nx_sync.specs.Steps.{step}
 use Rattle.nx_sync.specs.Synchroniser.{Held}
 
@@ -62,9 +62,20 @@ pub record Completes (old : Held) (track : Track) (new : Held) (s : Step) : Type
   pub goes_on : s.change ≡ None → new.track ≡ Some (track_after track (old.recent / 2 ^ 21))
   pub over : (how : Change) → s.change ≡ Some how → new.track ≡ None
 
+-- what is held after one element was heard, before it is looked at
+abbrev pub heard_one : Held → Bool → Held
+heard_one held bit = record held { recent = next_window held.recent bit; seen = min (held.seen + 1) pattern_elements }
+
+-- what is held with the mark of one more word, whether it was wrong
+abbrev pub with_mark : Held → Bool → Held
+with_mark held wrong = record held { wrong = keep_last window_words (held.wrong ++ wrong ∷ []) }
+
 -- what is held after these elements were heard, before any is looked at
 abbrev pub heard_all : Held → List Bool → Held
-heard_all held bits = record held { recent = window_after held.recent bits; seen = min (held.seen + length bits) pattern_elements }
+heard_all held bits = record held {
+  recent = window_after held.recent bits;
+  seen = min (held.seen + length bits) pattern_elements;
+}
 
 -- too few elements were heard for a pattern, or the last 28 are none
 abbrev pub IsQuiet : Held → Type 0

@@ -8,7 +8,8 @@ use Rattle.nx_sync.specs.Words.{window_words, is_wrong, word_at, first_role, rol
 use Rattle.nx_sync.specs.Locks.{pattern_elements, Lock, Now, hunting, locked, IsNow}
 
 -- what contracts see of a synchroniser: the last 28 bits as a number, the oldest in the least place, how many of them
--- were heard, the word that is being filled where a lock stands, and whether each of the last words of the lock was wrong
+-- were heard, the word that is being filled where a lock stands, and whether each of the last words of the lock was
+-- wrong
 pub record Held : Type 0 where
   pub recent : ℕ
   pub seen : ℕ

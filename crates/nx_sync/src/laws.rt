@@ -59,8 +59,8 @@ pub fn a_word_is_appended()
     ensures stands { (bits : List Bool) (bit : Bool) (s : Step) (locks : List Lock) (p t : ℕ)
         → IsLocked bits locks p t → Brings (bits ++ bit ∷ []) s locks (locked p t)
         → words_heard (bits ++ bit ∷ []) t ≡ words_heard bits t ++ word_of_step s }
-    ensures over { (bits : List Bool) (bit : Bool) (s : Step) (lock : Lock) (older : List Lock) (p q : ℕ)
-        → IsLocked bits older p lock.at → IsHunting (bits ++ bit ∷ []) (lock ∷ older) q
+    ensures over { (bits : List Bool) (bit : Bool) (s : Step) (lock : Lock) (older : List Lock)
+        (p q : ℕ) → IsLocked bits older p lock.at → IsHunting (bits ++ bit ∷ []) (lock ∷ older) q
         → Brings (bits ++ bit ∷ []) s (lock ∷ older) (hunting q)
         → words_of_past (bits ++ bit ∷ []) lock ≡ words_heard bits lock.at ++ word_of_step s }
     ensures next { (bits : List Bool) (t k : ℕ)
@@ -143,7 +143,8 @@ pub fn a_lock_between_limits_is_lost()
 pub fn a_lock_with_swapped_roles_ends()
     ensures second { (earlier : List Bool) (t k : ℕ) → t + 7 * k ≡ length earlier
         → role_of (first_role (earlier ++ phasing 24) t) k ≡ RoleOf.Rx
-        → IsSecondPhasing1 (first_role (earlier ++ phasing 24) t) (word_at (earlier ++ phasing 24) t) (k + 3) }
+        → IsSecondPhasing1 (first_role (earlier ++ phasing 24) t)
+        (word_at (earlier ++ phasing 24) t) (k + 3) }
     ensures released { (earlier : List Bool) (t k : ℕ) → t + 7 * k ≡ length earlier
         → role_of (first_role (earlier ++ phasing 24) t) k ≡ RoleOf.Rx
         → IsReleasedBy (earlier ++ phasing 24) t (length earlier + 49) }

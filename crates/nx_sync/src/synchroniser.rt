@@ -10,7 +10,7 @@ ghost use Rattle.nx_sync.specs.Words.{window_words, losing_count};
 ghost use Rattle.nx_sync.specs.Locks.{pattern_elements};
 ghost use Rattle.nx_sync.specs.Steps.{step, LockStands, LimitStands, IsStep, HuntsThrough, IsWordStep};
 ghost use Rattle.nx_sync.specs.Windows as spec;
-ghost use Rattle.nx_sync.specs.PrivateCalls.{track_from, Begins, Fills, Completes, Skips, SkipsEarly};
+ghost use Rattle.nx_sync.specs.PrivateCalls.{heard_one, with_mark, track_from, Begins, Fills, Completes, Skips, SkipsEarly};
 ghost use Rattle.nx_sync.specs.Synchroniser.{StandsAfter, is_hunting, is_between_words};
 
 use crate::step::{Role, Step};
@@ -57,14 +57,31 @@ impl Model for Synchroniser {
 
     ghost Value = { Held };
 
-    ghost view = { λ s. record { recent = s.recent; seen = s.seen; track = s.track; wrong = s.wrong.items } };
+    ghost view = { λ s. record {
+      recent = s.recent;
+      seen = s.seen;
+      track = s.track;
+      wrong = s.wrong.items;
+    } };
 
-    ghost invariant = { λ s. (s.recent < 2 ^ pattern_elements) × (s.seen ≤ pattern_elements) × (s.wrong.capacity ≡ window_words) × (length s.wrong.items ≤ window_words) × (s.wrong_count ≡ count_by (λ b. b) s.wrong.items) × ForSome s.track (λ t. (t.filled < 7) × (s.seen ≡ pattern_elements)) };
+    ghost invariant = { λ s. (s.recent < 2 ^ pattern_elements)
+        × (s.seen ≤ pattern_elements)
+        × (s.wrong.capacity ≡ window_words)
+        × (length s.wrong.items ≤ window_words)
+        × (s.wrong_count ≡ count_by (λ b. b) s.wrong.items)
+        × ForSome s.track (λ t. (t.filled < 7) × (s.seen ≡ pattern_elements)) };
 
     // Each field is given back by what contracts see, so that nothing else can be kept: no history.
-    ghost inverse = { λ h. record { recent = h.recent; seen = h.seen; track = h.track; wrong = buffer h.wrong window_words; wrong_count = count_by (λ b. b) h.wrong } };
+    ghost inverse = { λ h. record {
+      recent = h.recent;
+      seen = h.seen;
+      track = h.track;
+      wrong = buffer h.wrong window_words;
+      wrong_count = count_by (λ b. b) h.wrong;
+    } };
 
-    ghost inverse_ok = { λ s h. ap₂ (λ n m. record s { wrong = buffer s.wrong.items n; wrong_count = m }) (sym h.2) (sym h.4) };
+    ghost inverse_ok = { λ s h.
+        ap₂ (λ n m. record s { wrong = buffer s.wrong.items n; wrong_count = m }) (sym h.2) (sym h.4) };
 }
 
 impl Synchroniser {
@@ -157,7 +174,7 @@ impl Synchroniser {
     /// Takes one element into the last 28.
     #[inline(always)]
     fn hear(&mut self, bit: bool)
-        ensures { self.new ≡ record self.old { recent = spec.next_window self.old.recent bit; seen = min (self.old.seen + 1) pattern_elements } }
+        ensures { self.new ≡ heard_one self.old bit }
     {
         self.recent = next_window(self.recent, bit);
         self.seen = (self.seen + 1).min(PATTERN);
@@ -166,7 +183,8 @@ impl Synchroniser {
     /// Takes a word of a lock into the last 28 elements.
     #[inline(always)]
     fn hear_word(&mut self, word: Word)
-        ensures held { self.new ≡ record self.old { recent = spec.next_word_window self.old.recent word } }
+        ensures held { self.new
+            ≡ record self.old { recent = spec.next_word_window self.old.recent word } }
         ensures last { self.new.recent / 2 ^ 21 ≡ word }
     {
         self.recent = next_word_window(self.recent, word);
@@ -175,7 +193,8 @@ impl Synchroniser {
     /// Locks where the last 28 elements are one of the patterns.
     #[inline(always)]
     fn hunt_on(&mut self) -> Step
-        ensures early { self.old.seen < pattern_elements → (self.new ≡ self.old) × (result ≡ step None None) }
+        ensures early { self.old.seen < pattern_elements → (self.new ≡ self.old)
+            × (result ≡ step None None) }
         ensures none { spec.role_after self.old.recent ≡ None → (self.new ≡ self.old)
             × (result ≡ step None None) }
         ensures found { (role : Role) → pattern_elements ≤ self.old.seen
@@ -245,7 +264,7 @@ impl Synchroniser {
     /// any of them is wrong.
     #[inline(always)]
     fn mark(&mut self, is_wrong: bool) -> bool
-        ensures marks { self.new ≡ record self.old { wrong = keep_last window_words (self.old.wrong ++ is_wrong ∷ []) } }
+        ensures marks { self.new ≡ with_mark self.old is_wrong }
         ensures lost { result ≡ nat_le losing_count (count_by (λ b. b) self.new.wrong) }
     {
         if !is_wrong && self.wrong_count == 0 && self.wrong.len() == WINDOW {
@@ -258,7 +277,7 @@ impl Synchroniser {
     /// whether 40 of them are wrong now.
     #[inline(always)]
     fn push_mark(&mut self, is_wrong: bool) -> bool
-        ensures marks { self.new ≡ record self.old { wrong = keep_last window_words (self.old.wrong ++ is_wrong ∷ []) } }
+        ensures marks { self.new ≡ with_mark self.old is_wrong }
         ensures lost { result ≡ nat_le losing_count (count_by (λ b. b) self.new.wrong) }
     {
         let gone = self.wrong.push_back(is_wrong);

@@ -54,6 +54,7 @@ impl Track {
     {
         self.role == Role::Rx && self.was_p1 % 2 == 1 && self.was_p1 / 4 % 2 == 1
     }
+
     /// Which change the word that is being filled brings, by whether it loses the lock. Asked first
     /// whether there is one, since mostly there is none.
     #[inline(always)]

@@ -1,5 +1,6 @@
 //! `encode` and `decode` on files.
 
+use super::station::SEND;
 use super::{AIR_FILE_OF_A, run_on, with_word};
 use crate::program::run;
 use crate::tests::devices::{Sink, Source};
@@ -74,18 +75,18 @@ fn names_each_fault(rt: HostRuntime) -> Result<(), Fail> {
 #[test]
 fn stops_an_endless_file(rt: HostRuntime) {
     let alloc = rt.alloc();
-    for call in ["decode", "encode", "show", "check"] {
-        let mut source = Source::of(b"T 0\n");
+    for (words, line) in [
+        (["navtex", "decode"].as_slice(), b"T 0\n".as_slice()),
+        (["navtex", "encode"].as_slice(), b"T 0\n".as_slice()),
+        (["navtex", "show"].as_slice(), b"T 0\n".as_slice()),
+        (["navtex", "check"].as_slice(), b"T 0\n".as_slice()),
+        (SEND.as_slice(), b"#A01\n".as_slice()),
+    ] {
+        let mut source = Source::of(line);
         source.endless = true;
         let mut output = Sink::new(Vec::new(alloc));
         let mut faults = Sink::new(Vec::new(alloc));
-        let status = run(
-            alloc,
-            &["navtex", call],
-            &mut source,
-            &mut output,
-            &mut faults,
-        );
+        let status = run(alloc, words, &mut source, &mut output, &mut faults);
         assert_eq!(rt; status, 2);
         assert_eq!(rt; output.calls, 0);
         assert_eq!(rt;

@@ -5,9 +5,11 @@ ghost use Rattle.nx_envelope.specs.MessageView.{MessageView};
 ghost use Rattle.nx_fec.specs.AirFile.{Line};
 ghost use Rattle.nx_fec.specs.Lines.{IsAirFile};
 ghost use Rattle.nx_station.specs.ChannelExample.{example_message};
-ghost use Rattle.nx_receiver.specs.Listen.{AreTaken, HasFirstFault, HasLogged, IsLogOf, IsLogOfLines, air_limit};
+ghost use Rattle.nx_receiver.specs.Listen.{AreTaken, HasFirstFault, HasLogged, IsLogOf, IsLogOfFile, IsLogOfLines, air_limit};
 ghost use Rattle.nx_receiver.specs.ListenExample.{example_air_file};
-ghost use Rattle.nx_receiver.specs.ListenOnce.{HasOneEntry, IsHeardInTimeIn};
+ghost use Rattle.nx_receiver.specs.ListenOnce.{IsHeardInTimeIn};
+ghost use Rattle.nx_receiver.specs.OnceHeard.{IsPrintedOnce};
+ghost use Rattle.nx_receiver.specs.Tagged.{TaggedCopy};
 ghost use Rattle.nx_receiver.specs.Worked.{worked_log};
 ghost use Rattle.nx_receiver.specs.declared.listen_fault.ListenFault.{ListenFault};
 
@@ -35,8 +37,8 @@ pub fn an_air_file_has_one_outcome()
 /// A message that is heard in time in an air file has exactly one entry in the log of the file. The entry is full, has 0
 /// errors, and its text is the message's, letter for letter.
 pub fn a_message_heard_in_time_has_one_entry()
-    ensures { (file log : List ℕ) (message : MessageView) → IsLogOf file log → IsHeardInTimeIn file message
-        → HasOneEntry log message }
+    ensures { (file log : List ℕ) (lines : List Line) (copies : List TaggedCopy) (message : MessageView)
+        → IsLogOfFile file lines copies log → IsHeardInTimeIn file message → IsPrintedOnce message copies }
 {}
 
 /// There is an air file with such a message: EA01 with the line TEST, each of whose DX words is damaged. Its log is that

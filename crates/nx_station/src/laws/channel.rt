@@ -11,36 +11,41 @@ ghost use Rattle.nx_station.specs.Channel.{PassesChannel, first_slot, heard_in, 
 ghost use Rattle.nx_station.specs.ChannelExample.{example_emission, example_numbers, example_parts, example_sending, heard_half, heard_without_75};
 ghost use Rattle.nx_station.specs.Sendings.{IsCut, IsReceived, IsSending, StandsFrom, digit_slot, positions_before};
 
-/// Under the channel any 64 successive words from slot 96 on, and any fewer, have at most 35 of wrong weight. So have the
-/// last 64 words of a lock, up to each word from slot 144 on, whatever words of the lock came before slot 96: `whole` is
-/// the word of the lock that stands in slot 144.
+/// Under the channel any 64 successive words from slot 96 on, and any fewer, have at most 35 of wrong weight. So have
+/// the last 64 words of a lock, up to each word from slot 144 on, whatever words of the lock came before slot 96:
+/// `whole` is the word of the lock that stands in slot 144.
 pub fn few_words_are_wrong()
     ensures few { (messages : List MessageView) (positions : List SentPosition) (heard : List ℕ)
         → IsBroadcast messages positions → PassesChannel positions heard
-        → (first n : ℕ) → n ≤ 64 → count_by (λ word. not (weight word == 4)) (take n (drop first heard)) ≤ 35 }
-    ensures by_slots { (messages : List MessageView) (positions : List SentPosition) (heard : List ℕ)
+        → (first n : ℕ) → n ≤ 64
+        → count_by (λ word. not (weight word == 4)) (take n (drop first heard)) ≤ 35 }
+    ensures by_slots { (messages : List MessageView) (positions : List SentPosition)
+        (heard : List ℕ)
         → IsBroadcast messages positions → PassesChannel positions heard
         → (slot n : ℕ) → first_slot ≤ slot → n ≤ 64 → slot + n ≤ slots_of positions
         → wrong_words (heard_in heard) slot n ≤ 35 }
-    ensures in_a_lock { (messages : List MessageView) (positions : List SentPosition) (heard : List ℕ)
+    ensures in_a_lock { (messages : List MessageView) (positions : List SentPosition)
+        (heard : List ℕ)
         → IsBroadcast messages positions → PassesChannel positions heard
         → (words : ℕ → ℕ) (whole : ℕ)
-        → ((k slot : ℕ) → k + message_slot ≡ slot + whole → first_slot ≤ slot → slot < slots_of positions
+        → ((k slot : ℕ) → k + message_slot ≡ slot + whole → first_slot ≤ slot
+        → slot < slots_of positions
         → words k ≡ heard_in heard slot)
-        → (k slot : ℕ) → k + message_slot ≡ slot + whole → message_slot ≤ slot → slot < slots_of positions
+        → (k slot : ℕ) → k + message_slot ≡ slot + whole → message_slot ≤ slot
+        → slot < slots_of positions
         → wrong_words words (k + 1 - 64) (k + 1 - (k + 1 - 64)) ≤ 35 }
 {}
 
-/// Under the channel no DX word from slot 96 on is phasing signal 1 before the three positions of the end, so no two in a
-/// row are: a word that is damaged has the wrong weight, and so is no phasing signal.
+/// Under the channel no DX word from slot 96 on is phasing signal 1 before the three positions of the end, so no two in
+/// a row are: a word that is damaged has the wrong weight, and so is no phasing signal.
 pub fn no_phasing_1_before_the_end()
     ensures { (messages : List MessageView) (positions : List SentPosition) (heard : List ℕ)
         → IsBroadcast messages positions → PassesChannel positions heard
         → (i : ℕ) → 48 ≤ i → i + 3 < length positions → heard_in heard (2 * i) ≢ phasing_1 }
 {}
 
-/// Under the channel each position from 48 on, but for the three of the end, is taken as it was sent: from its two words,
-/// in the slots 2i and 2i+5.
+/// Under the channel each position from 48 on, but for the three of the end, is taken as it was sent: from its two
+/// words, in the slots 2i and 2i+5.
 pub fn positions_are_taken_as_sent()
     ensures { (messages : List MessageView) (positions : List SentPosition) (heard : List ℕ)
         → IsBroadcast messages positions → PassesChannel positions heard
@@ -49,28 +54,33 @@ pub fn positions_are_taken_as_sent()
         ≡ reception (position_at positions i) }
 {}
 
-/// What is heard under the channel begins with 48 phasing words as sent. And each word that is heard stands in the bits,
-/// whatever stands before and after.
+/// What is heard under the channel begins with 48 phasing words as sent. And each word that is heard stands in the
+/// bits, whatever stands before and after.
 pub fn words_stand_in_the_bits()
     ensures phasing { (messages : List MessageView) (positions : List SentPosition) (heard : List ℕ)
-        → IsBroadcast messages positions → PassesChannel positions heard → take 48 heard ≡ phasing_words 24 }
+        → IsBroadcast messages positions → PassesChannel positions heard
+        → take 48 heard ≡ phasing_words 24 }
     ensures word { (messages : List MessageView) (positions : List SentPosition) (heard : List ℕ)
         → IsBroadcast messages positions → PassesChannel positions heard
         → (before after : List Bool) (slot : ℕ) → first_slot ≤ slot → slot < slots_of positions
-        → word_from (before ++ (bits_of heard ++ after)) (length before + 7 * (slot - first_slot)) ≡ heard_in heard slot }
+        → word_from (before ++ (bits_of heard ++ after)) (length before + 7 * (slot - first_slot))
+        ≡ heard_in heard slot }
 {}
 
 /// Each message of a list stands in the positions of the list, from the place that is counted by those before it; and
 /// the RX of its second digit is sent in the slot that a sending names.
 pub fn messages_stand_in_their_emission()
-    ensures stands { (messages : List MessageView) (spellings : List (List ℕ)) (i : ℕ) (message : MessageView)
+    ensures stands { (messages : List MessageView) (spellings : List (List ℕ)) (i : ℕ)
+        (message : MessageView)
         → AreSpelled messages spellings → slice_get messages i ≡ Some message
         → StandsFrom (layout spellings) message (positions_before (take i spellings)) }
-    ensures digit { (messages : List MessageView) (spellings : List (List ℕ)) (i : ℕ) (message : MessageView)
+    ensures digit { (messages : List MessageView) (spellings : List (List ℕ)) (i : ℕ)
+        (message : MessageView)
         → AreSpelled messages spellings → slice_get messages i ≡ Some message
         → word_sent (layout spellings) (digit_slot spellings i)
         ≡ traffic_word (digit_combination (message.identity.number % 10)) }
-    ensures within { (messages : List MessageView) (spellings : List (List ℕ)) (i : ℕ) (message : MessageView)
+    ensures within { (messages : List MessageView) (spellings : List (List ℕ)) (i : ℕ)
+        (message : MessageView)
         → AreSpelled messages spellings → slice_get messages i ≡ Some message
         → digit_slot spellings i < slots_of (layout spellings) }
 {}
@@ -92,7 +102,8 @@ pub fn an_example_is_received()
     ensures received { IsReceived example_emission }
     ensures cut { (before after : List Bool)
         → IsCut (before ++ (bits_of heard_half ++ after)) (example_parts before after) }
-    ensures sending { (before after : List Bool) → IsSending (example_parts before after) (example_sending before) }
+    ensures sending { (before after : List Bool)
+        → IsSending (example_parts before after) (example_sending before) }
     ensures outside { PassesChannel (layout (example_numbers ∷ [])) heard_without_75 → ⊥ }
 {}
 

@@ -1,4 +1,4 @@
-use Rattle.std.proofs.Common.{◌≡◌, true, refl}
+use Rattle.std.proofs.Common.{true, refl}
 use Rattle.nx_station.specs.declared.damaging.Damaging.{Damaging}
 use Rattle.nx_station.proofs.DamageLaws.{damaged-ok, line-of, read-of, refused-none, starts, write-of}
 use Rattle.nx_station.proofs.damaging.damage.Goals as goal

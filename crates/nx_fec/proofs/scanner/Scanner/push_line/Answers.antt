@@ -1,32 +1,38 @@
-use Rattle.std.proofs.Common.{◌≡◌, ◌++◌, take, length, arith, subst, option_to_list}
+use Rattle.std.proofs.Common.{◌++◌, length, take}
 use Rattle.std.proofs.lemmas.Result.{err_from_is_err_and}
-use Rattle.nx_fec.specs.Lines.{Scans}
-use Rattle.nx_fec.proofs.ScanLemmas.{Scans-ended, Scans-inside, Scans-open, StopsIn-at}
+use Rattle.nx_fec.proofs.FeedLemmas.{NoFeed-all, NoFeed-before, feed-found}
+use Rattle.nx_fec.proofs.ScanLemmas.{Scans-ended, Scans-open, StopsIn-feed, StopsIn-piece}
 use Rattle.nx_fec.proofs.scanner.Scanner.push_line.Goals as goal
 
-pub returns-in_err-push-clause-bytes : goal.returns-in_err-push-clause-bytes
-returns-in_err-push-clause-bytes c = λ limit bytes lines h.
+pub go_on-requires-clause-none : goal.go_on-requires-clause-none
+go_on-requires-clause-none c = NoFeed-all c.args.piece.now c.in_default.ensures
+
+pub returns-in_err-go_on-clause-bytes : goal.returns-in_err-go_on-clause-bytes
+returns-in_err-go_on-clause-bytes c = λ limit bytes lines h.
     let p = err_from_is_err_and c.from_residual.result c.from_residual.ensures.1 in
-    let before = c.loop-at.invariant.scans limit bytes lines h in
-    rw (p.1, p.2) (StopsIn-at limit c.loop-at.self c.push.new.self bytes c.args.piece.now c.loop-at.at lines _ c.loop-at-test.true
-    c.in_err-push.ensures.err before (λ more. c.in_err-push.ensures.bytes limit (bytes ++ take c.loop-at.at c.args.piece.now) lines before more))
+    rw (p.1, p.2) (StopsIn-piece limit _ bytes c.args.piece.now (length c.args.piece.now) lines _ (c.in_err-go_on.ensures.bytes limit bytes lines h))
 
-pub returns-then-branch-clause-bytes : goal.returns-then-branch-clause-bytes
-returns-then-branch-clause-bytes c = λ limit bytes lines h.
-    Scans-ended limit _ bytes c.args.piece.now c.loop-at.at lines _ c.in_ok-push.field-0 c.if-branch.true c.loop-at-test.true
-    (c.in_ok-push.ensures.bytes limit (bytes ++ take c.loop-at.at c.args.piece.now) lines (c.loop-at.invariant.scans limit bytes lines h))
+pub returns-in_default-clause-bytes : goal.returns-in_default-clause-bytes
+returns-in_default-clause-bytes c = λ limit bytes lines h.
+    Scans-open limit c.go_on.new.self _ lines c.go_on.new.self.latest c.go_on.ensures.latest (c.in_ok-go_on.ensures.bytes limit bytes lines h)
 
-pub loop-at-preserved : goal.loop-at-preserved
-loop-at-preserved c = record {
-  scans = λ limit bytes lines h.
-      Scans-inside limit _ bytes c.args.piece.now c.loop-at.at lines (option_to_list c.push.new.self.latest) c.in_ok-push.field-0 c.if-branch.false c.loop-at-test.true
-      (c.in_ok-push.ensures.bytes limit (bytes ++ take c.loop-at.at c.args.piece.now) lines (c.loop-at.invariant.scans limit bytes lines h));
-  room = omega (arith, c.in_ok-push.ensures.room, c.loop-at.invariant.room);
-  latest = λ _. c.in_ok-push.ensures.open c.if-branch.false;
-}
+pub go_on-requires-2-clause-none : goal.go_on-requires-2-clause-none
+go_on-requires-2-clause-none c = NoFeed-before c.args.piece.now c.in-Some.at c.in-Some.ensures.0.before
+
+pub returns-in_err-go_on-2-clause-bytes : goal.returns-in_err-go_on-2-clause-bytes
+returns-in_err-go_on-2-clause-bytes c = λ limit bytes lines h.
+    let p = err_from_is_err_and c.from_residual-in_err-go_on-2.result c.from_residual-in_err-go_on-2.ensures.1 in
+    rw (p.1, p.2) (StopsIn-piece limit _ bytes c.args.piece.now c.in-Some.at lines _ (c.in_err-go_on-2.ensures.bytes limit bytes lines h))
+
+pub returns-in_err-end_line-clause-bytes : goal.returns-in_err-end_line-clause-bytes
+returns-in_err-end_line-clause-bytes c = λ limit bytes lines h.
+    let p = err_from_is_err_and c.from_residual-in_err-end_line.result c.from_residual-in_err-end_line.ensures.1 in
+    let before = c.in_ok-go_on-2.ensures.bytes limit bytes lines h in
+    rw (p.1, p.2) (StopsIn-feed limit c.go_on-2.new.self _ bytes c.args.piece.now c.in-Some.at lines _ c.in-Some.ensures.0.high
+    (feed-found c.args.piece.now c.in-Some.at c.in-Some.ensures.1) c.in_err-end_line.ensures.unchanged before
+    (c.in_err-end_line.ensures.bytes limit (bytes ++ take c.in-Some.at c.args.piece.now) lines before))
 
 pub returns-clause-bytes : goal.returns-clause-bytes
 returns-clause-bytes c = λ limit bytes lines h.
-    let all : c.loop-at.at ≡ length c.args.piece.now = omega (arith, c.loop-at-test.false, c.loop-at.auto.at-end) in
-    Scans-open limit c.loop-at.self _ lines c.loop-at.self.latest (c.loop-at.invariant.latest (omega (arith, all, c.requires)))
-    (subst (λ n. Scans limit c.loop-at.self (bytes ++ take n c.args.piece.now) lines) all (c.loop-at.invariant.scans limit bytes lines h))
+    Scans-ended limit _ bytes c.args.piece.now c.in-Some.at _ c.in-Some.ensures.0.high (feed-found c.args.piece.now c.in-Some.at c.in-Some.ensures.1)
+    (c.in_ok-end_line.ensures.bytes limit (bytes ++ take c.in-Some.at c.args.piece.now) lines (c.in_ok-go_on-2.ensures.bytes limit bytes lines h))

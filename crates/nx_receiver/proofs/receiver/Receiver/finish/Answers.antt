@@ -1,5 +1,5 @@
 use Rattle.std.proofs.Common.{◌≡◌, ◌++◌, sym, refl, subst, ap, ◌∙◌, None, IsNone}
-use Rattle.nx_receiver.specs.Events.{first_setting}
+use Rattle.nx_receiver.specs.Events.{bits_of, first_setting, setting_after_all, settings}
 use Rattle.nx_receiver.specs.Receiver.{entry_list}
 use Rattle.nx_receiver.specs.Watch.{IsOver, WatchStands, handed_out, in_force}
 use Rattle.nx_receiver.proofs.ReceiverOver.{Handed, apart-nothing, apart-nothing-lock, apart-nothing-both, both_ended, handed, none_handed}
@@ -8,8 +8,13 @@ use Rattle.nx_receiver.proofs.receiver.Receiver.finish.Goals as goal
 use Rattle.nx_receiver.proofs.receiver.Receiver.finish.Goals.{in-Nothing, in-Copy, in-Lock, in-CopyAndLock}
 
 pub returns-clause-stands : goal.returns-clause-stands
-returns-clause-stands g c start h s now copies log over force printed memory =
+returns-clause-stands g c start history log awaits =
     let first = first_setting start in
+    let h = bits_of history in
+    let s = settings first history in
+    let now = setting_after_all first history in
+    let copies = awaits.copies in
+    let over = awaits.watch in
     let content = g.M.Recall.content in
     let inside = c.self.inside.watch in
     let watch = c.match-over.self-inside.watch in
@@ -53,9 +58,9 @@ returns-clause-stands g c start h s now copies log over force printed memory =
     ] in
     stands_with content start watch c.match-over.self-inside.memory c.print_copy.new.memory h s now copies log found tag (entry_list c.print_copy.result)
     after.stands
-    (after.force ∙ ap (λ r. in_force r.watch) c.self.view_is ∙ force)
-    printed
-    (ap content same ∙ ap (λ r. content r.memory) c.self.view_is ∙ memory)
+    (after.force ∙ ap (λ r. in_force r.watch) c.self.view_is ∙ awaits.force)
+    awaits.printed
+    (ap content same ∙ ap (λ r. content r.memory) c.self.view_is ∙ awaits.memory)
     c.print_copy.ensures.printed
     c.print_copy.ensures.entered
 

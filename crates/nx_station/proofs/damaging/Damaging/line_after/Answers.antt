@@ -1,10 +1,10 @@
-use Rattle.std.proofs.Common.{◌≡◌, ◌∙◌, ap, sym, eq-eqb, length}
+use Rattle.std.proofs.Common.{◌∙◌, ap, sym, eq-eqb, length}
 use Rattle.std.proofs.lemmas.Bool.{false≢true}
 use Rattle.std.specs.Option.{option_map}
 use Rattle.nx_fec.specs.AirFile.{elements}
 use Rattle.nx_fec.specs.Lines.{line_bytes}
 use Rattle.nx_fec.specs.Scanner.{elements_kept}
-use Rattle.nx_station.specs.Damage.{damaged, damaged_line}
+use Rattle.nx_station.specs.Damage.{damaged_elements, damaged_line}
 use Rattle.nx_station.specs.DamageTaker.{damage_of}
 use Rattle.nx_station.proofs.DamageLaws.{sounding-line, text-short}
 use Rattle.nx_station.proofs.damaging.Damaging.line_after.Goals as goal
@@ -17,4 +17,4 @@ pub returns-clause-bytes : goal.returns-clause-bytes
 returns-clause-bytes c first place line e at =
     let bits = c.elements-bits.ensures ∙ ap elements_kept e in
     let is = sounding-line line (λ none. false≢true (c.if-is_empty.ensures ∙ eq-eqb _ _ (ap length (bits ∙ none)))) in
-    c.damaged_line.ensures.bytes first place at ∙ ap (λ b. line_bytes (elements (damaged (damage_of first) place b))) bits ∙ ap line_bytes (sym (ap (damaged_line (damage_of first) place) is))
+    c.damaged_line.ensures.bytes first place at ∙ ap (λ b. line_bytes (elements (damaged_elements (damage_of first) place b))) bits ∙ ap line_bytes (sym (ap (damaged_line (damage_of first) place) is))

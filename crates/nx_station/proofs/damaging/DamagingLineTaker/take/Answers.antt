@@ -1,4 +1,4 @@
-use Rattle.std.proofs.Common.{◌≡◌, ◌∙◌, ◌++◌}
+use Rattle.std.proofs.Common.{◌∙◌, ◌++◌}
 use Rattle.nx_station.proofs.DamageLaws.{taken-more}
 use Rattle.nx_station.proofs.damaging.DamagingLineTaker.take.Goals as goal
 

@@ -1,6 +1,6 @@
 use Rattle.std.proofs.Common.{◌≡◌, ℕ, ◌<◌, ◌≤◌, List, Bool, false, length, take, get_or, sym, ap, ◌∙◌, arith, length-take, get_or-take}
-use Rattle.nx_sync.specs.PrivateCalls.{heard_all}
-use Rattle.nx_sync.proofs.Hearing.{heard, heard_all-none, heard_all-more}
+use Rattle.nx_sync.specs.PrivateCalls.{heard_one, heard_all}
+use Rattle.nx_sync.proofs.Hearing.{heard_all-none, heard_all-more}
 use Rattle.nx_sync.proofs.synchroniser.Synchroniser.skip_early.Goals as goal
 
 pub loop-bit-init : goal.loop-bit-init
@@ -15,7 +15,7 @@ loop-bit-preserved c =
     let l : length (take c.min-count.result bits) ≡ c.min-count.result = simp length-take (omega (arith, c.min-count.ensures)) in
     let low : i < c.min-count.result = omega (arith, c.loop-bit-test.true, l) in
     let b = get_or-take c.min-count.result bits i false low in
-    c.hear.ensures ∙ (ap (λ b. heard c.loop-bit.self b) b ∙ (ap (λ h. heard h (get_or bits i false)) c.loop-bit.invariant ∙ heard_all-more c.args.self.now bits i (omega (arith, c.min-count.ensures))))
+    c.hear.ensures ∙ (ap (λ b. heard_one c.loop-bit.self b) b ∙ (ap (λ h. heard_one h (get_or bits i false)) c.loop-bit.invariant ∙ heard_all-more c.args.self.now bits i (omega (arith, c.min-count.ensures))))
 
 pub returns : goal.returns
 returns c =

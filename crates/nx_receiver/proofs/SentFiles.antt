@@ -1,0 +1,203 @@
+-- What `send` writes of messages, as an air file that is listened to.
+use Rattle.std.proofs.Common.{◌≡◌, ℕ, zero, suc, ◌+◌, ◌*◌, ◌^◌, ◌<◌, ◌≤◌, Bool, true, List, [], ◌∷◌, ◌++◌, map, length, take, drop, refl, sym, ap, ◌∙◌, subst, arith, drop-drop, take_all}
+use Rattle.std.proofs.Math.Seq.{take-add}
+use Rattle.std.specs.Int.{div_ceil}
+use Rattle.std.specs.List.{AllByRecursion, Contains, flat_map, range_with_len}
+use Rattle.std.proofs.lemmas.List.{length-append, length-drop, length-map, length-take, map-append}
+use Rattle.std.proofs.lemmas.List.FromFn.{length-map-range_with_len}
+use Rattle.nx_envelope.specs.MessageView.{MessageView}
+use Rattle.nx_fec.specs.AirFile.{Line, IsLine, element_digit, elements, moment, spelling}
+use Rattle.nx_fec.specs.BitLines.{bit_line, bit_lines}
+use Rattle.nx_fec.specs.Emission.{bits_of, emission}
+use Rattle.nx_fec.specs.Lines.{IsAirFile, elements_of, file_of, line_bytes}
+use Rattle.nx_fec.proofs.EmissionLemmas.{length-emission}
+use Rattle.nx_fec.proofs.LineLaws.{IsAirFile-unique, spelling-IsBeginning}
+use Rattle.nx_fec.proofs.RoundTripLemmas.{length-bits_of}
+use Rattle.nx_station.specs.Runs.{IsTransmission}
+use Rattle.nx_station.specs.Sendings.{IsCut}
+use Rattle.nx_station.specs.declared.sending.Sent.{Sent}
+use Rattle.nx_station.proofs.BroadcastLemmas.{broadcast-one}
+use Rattle.nx_sync.specs.Locks.{IsNow}
+use Rattle.nx_receiver.specs.Events.{Event, at_moment, element, setting_after_all}
+use Rattle.nx_receiver.specs.FoundCopies.{found_to_end}
+use Rattle.nx_receiver.specs.Listen.{AreTaken, AreTakenAfter, IsLogOf, IsLogOfFile, air_limit, at_zero, events_of, has_moment}
+use Rattle.nx_receiver.specs.Log.{PrintsToEnd}
+use Rattle.nx_receiver.specs.ListenOnce.{IsHeardInTimeIn, elements_in, heard_as}
+use Rattle.nx_receiver.specs.OnceHeard.{FewBetween, IsHeardInTime, IsPrintedOnce}
+use Rattle.nx_receiver.specs.Printing.{printed_copies}
+use Rattle.nx_receiver.specs.Receiver as receiver
+use Rattle.nx_receiver.specs.Sent.{BearsAlone, copy_as_sent, events_as_sent, parts_as_sent}
+use Rattle.nx_receiver.specs.Tagged.{TaggedCopy}
+use Rattle.nx_receiver.proofs.ListenMoments.{some-closed}
+use Rattle.nx_receiver.proofs.ListenerLemmas.{moment-other}
+use Rattle.nx_receiver.proofs.ListenOnce.{heard-elements}
+use Rattle.nx_receiver.proofs.OnceFound.{printed_once}
+use Rattle.nx_receiver.proofs.SentHeard.{heard_in_time}
+use Rattle.nx_receiver.proofs.SentLog.{log_as_sent}
+
+-- ---- lines of elements
+
+abbrev lines_of : (ℕ → List Bool) → List ℕ → List Line
+lines_of bits indices = map (λ i. elements (bits i)) indices
+
+-- what they give to a receiver
+events-lines : (bits : ℕ → List Bool) (indices : List ℕ)
+    → events_of (lines_of bits indices) ≡ receiver.elements (flat_map elements_of (lines_of bits indices))
+events-lines bits [] = refl
+events-lines bits (i ∷ indices) =
+    ap (λ l. receiver.elements (bits i) ++ l) (events-lines bits indices)
+    ∙ sym (map-append element (bits i) (flat_map elements_of (lines_of bits indices)))
+
+-- they are taken once there was a moment
+taken-lines : (first : List Line) (bits : ℕ → List Bool) (indices : List ℕ) → has_moment first ≡ true
+    → AreTakenAfter first (lines_of bits indices)
+unfolding AreTakenAfter
+taken-lines first bits [] h = tt
+taken-lines first bits (i ∷ indices) h =
+    (h, taken-lines (first ++ elements (bits i) ∷ []) bits indices (sym (moment-other first (elements (bits i)) true (sym h) refl)))
+
+-- how many bytes they have
+length-lines : (bits : ℕ → List Bool) (indices : List ℕ) → ((i : ℕ) → length (bits i) ≤ 490)
+    → length (file_of (lines_of bits indices)) ≤ 493 * length indices
+length-lines bits [] short = omega arith
+length-lines bits (i ∷ indices) short =
+    let rest = length-lines bits indices short in
+    let one = length-append (line_bytes (elements (bits i))) (file_of (lines_of bits indices)) in
+    let line = length-append (spelling (elements (bits i))) (10 ∷ []) in
+    let digits = length-map (bits i) element_digit in
+    omega (arith, short i)
+
+-- ---- the lines of a transmission
+
+abbrev lines_as_sent : ℕ → List Bool → List Line
+lines_as_sent slot bits = moment slot ∷ bit_lines bits
+
+joined-from : (bits : List Bool) (from n : ℕ)
+    → flat_map elements_of (map (bit_line bits) (range_with_len from n)) ≡ take (490 * n) (drop (490 * from) bits)
+joined-from bits from zero = refl
+joined-from bits from (suc n) =
+    let next : 490 * (from + 1) ≡ 490 * from + 490 = omega arith in
+    let size : 490 + 490 * n ≡ 490 * suc n = omega arith in
+    let here = drop (490 * from) bits in
+    ap (λ l. take 490 here ++ l) (joined-from bits (from + 1) n)
+    ∙ ap (λ k. take 490 here ++ take (490 * n) (drop k bits)) next
+    ∙ ap (λ l. take 490 here ++ take (490 * n) l) (sym (drop-drop 490 (490 * from) bits))
+    ∙ sym (take-add 490 (490 * n) here) ∙ ap (λ k. take k here) size
+
+joined-lines : (bits : List Bool) → flat_map elements_of (bit_lines bits) ≡ bits
+joined-lines bits =
+    joined-from bits 0 (div_ceil (length bits) 490) ∙ take_all (490 * div_ceil (length bits) 490) bits (omega arith)
+
+good-from : (bits : List Bool) (from n : ℕ) → ((i : ℕ) → i < n → 490 * (from + i) < length bits)
+    → AllByRecursion IsLine (map (bit_line bits) (range_with_len from n))
+good-from bits from zero h = tt
+good-from bits from (suc n) h =
+    let some = h 0 (omega arith) in
+    let count = length-take 490 (drop (490 * from) bits) in
+    let rest = length-drop (490 * from) bits in
+    ((omega arith, omega arith), good-from bits (from + 1) n (λ i lt. let later = h (i + 1) (omega arith) in omega arith))
+
+good-lines : (bits : List Bool) → AllByRecursion IsLine (bit_lines bits)
+good-lines bits = good-from bits 0 (div_ceil (length bits) 490) (λ i lt. omega arith)
+
+events-as_sent : (slot : ℕ) (bits : List Bool)
+    → events_of (lines_as_sent slot bits) ≡ at_moment slot ∷ receiver.elements bits
+events-as_sent slot bits =
+    ap (λ l. at_moment slot ∷ l) (events-lines _ (range_with_len 0 (div_ceil (length bits) 490)) ∙ ap receiver.elements (joined-lines bits))
+
+module _ (station from : ℕ) (file air : List ℕ) (sent : Sent) (h : IsTransmission station from file air sent) where
+  abbrev bits : List Bool
+  bits = bits_of (emission h.positions)
+
+  abbrev lines : List Line
+  lines = lines_as_sent sent.slot bits
+
+  few_positions : length h.positions ≤ 4286
+  few_positions =
+      let same = broadcast-one h.messages h.positions h.sendable.positions.positions h.broadcast h.sendable.positions.broadcast in
+      omega (arith, ap length same, h.sendable.positions.counted, h.sendable.fits)
+
+  within : length air ≤ air_limit
+  within =
+      let size : length bits ≤ 59997 = omega (arith, length-bits_of (emission h.positions), length-emission h.positions, few_positions) in
+      let count : div_ceil (length bits) 490 ≤ 123 = omega arith in
+      let all : length (file_of (bit_lines bits)) ≤ 493 * length (range_with_len 0 (div_ceil (length bits) 490)) =
+      length-lines (λ i. take 490 (drop (490 * i) bits)) (range_with_len 0 (div_ceil (length bits) 490)) (λ i. omega (arith, length-take 490 (drop (490 * i) bits))) in
+      let indices = sym (length-map (range_with_len 0 (div_ceil (length bits) 490)) (λ (i : ℕ). i)) ∙ length-map-range_with_len (λ (i : ℕ). i) 0 (div_ceil (length bits) 490) in
+      let good : sent.slot < 10 ^ 11 = omega (arith, h.next.in_range) in
+      let first = (spelling-IsBeginning (moment sent.slot) good).short in
+      let line = length-append (spelling (moment sent.slot)) (10 ∷ []) in
+      let whole = ap length h.whole ∙ length-append (line_bytes (moment sent.slot)) (file_of (bit_lines bits)) in
+      omega arith
+
+  is_file : IsAirFile air_limit air lines
+  is_file = record { whole = h.whole; each = (omega (arith, h.next.in_range), good-lines bits); within = within }
+
+  are_taken : AreTaken lines
+  unfolding AreTakenAfter setting_after_all
+  are_taken =
+      ((omega arith, h.next.in_range), taken-lines (moment sent.slot ∷ []) _ (range_with_len 0 (div_ceil (length bits) 490)) refl)
+
+  -- it has a log
+  pub log_of_sent : (log : List ℕ) × IsLogOf air log
+  log_of_sent = some-closed air lines is_file are_taken
+
+  abbrev combinations : List (List ℕ)
+  combinations = h.broadcast.spellings
+
+  events_are : events_of lines ≡ events_as_sent sent.slot combinations
+  events_are =
+      events-as_sent sent.slot bits
+      ∙ ap (λ p. at_moment sent.slot ∷ receiver.elements (bits_of (emission p))) h.broadcast.whole
+
+  -- its lines are those that were sent
+  prints_as_sent : (read : List Line) (copies : List TaggedCopy) (log : List ℕ) → IsLogOfFile air read copies log
+      → PrintsToEnd at_zero (events_as_sent sent.slot combinations) copies
+  prints_as_sent read copies log is =
+      let same : read ≡ lines = IsAirFile-unique air_limit air read lines is.file is_file in
+      subst (λ (e : List Event). PrintsToEnd at_zero e copies) (ap events_of same ∙ events_are) is.printed
+
+  -- each of its messages is heard in time in it
+  pub sent_in_time : (message : MessageView) → BearsAlone h.messages message → 0 < message.identity.number
+      → IsHeardInTimeIn air message
+  sent_in_time message alone numbered =
+      let parts = parts_as_sent h.messages combinations in
+      let k : IsHeardInTime at_zero (events_of lines) parts message =
+      subst (λ (e : List Event). IsHeardInTime at_zero e parts message) (sym events_are) (heard_in_time h.messages combinations sent.slot message h.sendable h.broadcast.each alone numbered) in
+      let same = heard-elements lines in
+      record {
+        lines = lines;
+        spelled = is_file;
+        parts = parts;
+        cut = subst (λ (b : List Bool). IsCut b parts) same k.cut;
+        place = k.place;
+        sent = k.sent;
+        numbered = numbered;
+        copies = found_to_end (elements_in lines) k.locks k.now;
+        found = record {
+          locks = k.locks;
+          now = k.now;
+          stands = subst (λ (b : List Bool). IsNow b k.locks k.now) same k.stands;
+          whole = refl;
+        };
+        alone = λ copy there named.
+            k.alone copy (subst (λ (b : List Bool). Contains (found_to_end b k.locks k.now) copy) (sym same) there) named;
+        selected = k.selected;
+        close = k.close;
+        few =
+            subst (λ (b : List Bool). FewBetween (heard_as lines (found_to_end b k.locks k.now)) at_zero message) same k.few;
+      }
+
+  -- what is printed of its messages
+  pub sent_log : (read : List Line) (copies : List TaggedCopy) (log : List ℕ) → IsLogOfFile air read copies log
+      → copies ≡ printed_copies [] (map (copy_as_sent sent.slot) h.messages)
+  sent_log read copies log is =
+      log_as_sent h.messages combinations sent.slot copies h.sendable h.broadcast.each (prints_as_sent read copies log is)
+
+  -- each of them once
+  pub sent_once : (message : MessageView) (read : List Line) (copies : List TaggedCopy) (log : List ℕ) → BearsAlone h.messages message
+      → 0 < message.identity.number → IsLogOfFile air read copies log → IsPrintedOnce message copies
+  sent_once message read copies log alone numbered is =
+      printed_once at_zero (events_as_sent sent.slot combinations) (parts_as_sent h.messages combinations) message
+      (heard_in_time h.messages combinations sent.slot message h.sendable h.broadcast.each alone numbered)
+      copies (prints_as_sent read copies log is)

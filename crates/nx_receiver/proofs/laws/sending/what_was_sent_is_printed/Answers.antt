@@ -1,0 +1,12 @@
+use Rattle.std.proofs.Common.{◌∙◌}
+use Rattle.nx_receiver.proofs.SentDifferent.{all_printed}
+use Rattle.nx_receiver.proofs.SentFiles.{log_of_sent, sent_log}
+use Rattle.nx_receiver.proofs.laws.sending.what_was_sent_is_printed.Goals as goal
+
+pub returns : goal.returns
+returns c = record {
+  log = log_of_sent;
+  printed = λ station from file air log sent lines copies t is. sent_log station from file air sent t lines copies log is;
+  different = λ station from file air log sent lines copies t different is.
+      sent_log station from file air sent t lines copies log is ∙ all_printed sent.slot t.messages different;
+}

@@ -1,0 +1,17 @@
+use Rattle.std.proofs.Common.{sym, subst, ap, ◌≡◌, ◌∙◌, None}
+use Rattle.nx_envelope.specs.Finder.{held_identity}
+use Rattle.nx_receiver.specs.Events.{first_setting}
+use Rattle.nx_receiver.specs.Receiver.{AwaitsOver}
+use Rattle.nx_receiver.specs.declared.over.Over.TheVariants.{Lock}
+use Rattle.nx_receiver.proofs.ReceiverFeeds.{is_none}
+use Rattle.nx_receiver.proofs.ReceiverPassed.{lock_passed}
+use Rattle.nx_receiver.proofs.receiver.Receiver.judge_lock.Goals as goal
+
+pub returns : goal.returns
+returns g c start h s now log awaits =
+    let content = g.M.Recall.content in
+    let none : held_identity c.self.inside.watch.reader.finder.copy ≡ None = sym c.identity.ensures ∙ is_none c.identity.result c.is_some.result c.is_some.ensures c.if-is_some.false in
+    lock_passed content start (record { watch = c.self.inside.watch; memory = c.self.inside.memory }) c.restart.new.self h s now log
+    (λ copies over. c.restart.ensures.lock (first_setting start) h s copies over none)
+    c.restart.ensures.force
+    (subst (λ r. AwaitsOver content start r h s now log Lock) (sym c.self.view_is) awaits)
