@@ -1,5 +1,5 @@
--- The second half of the headline, over bytes: what has to be met in an air file, so that a message is printed once; and
--- that it is (this profile).
+-- The second half of the headline, over bytes: what has to be met in an air file, so that a message is printed once;
+-- and that it is (this profile).
 use Rattle.std.specs.Prelude.{◌≡◌, ℕ, ◌+◌, ◌<◌, Bool, List, Option, Contains, IfSome, IsTrue}
 use Rattle.std.specs.List.{flat_map}
 use Rattle.std.specs.Io.KnownBytes.{Appends, Consumes}

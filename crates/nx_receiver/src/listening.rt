@@ -44,8 +44,9 @@ pub struct Report {
 /// moment 0. All memory is taken before the first read.
 ///
 /// Where it answers Ok, each message that is heard in time in the file has exactly one entry in the log, full, with 0
-/// errors and its text letter for letter: a message not numbered 00 that is selected whenever it is sent, whose sendings
-/// all lie within 66 hours and pass the channel while 200 identities suffice, and of whose identity nothing else is found.
+/// errors and its text letter for letter: a message not numbered 00 that is selected whenever it is sent, whose
+/// sendings all lie within 66 hours and pass the channel while 200 identities suffice, and of whose identity nothing
+/// else is found.
 ///
 /// The first fault in the order of the bytes ends the run; the line that has it has no effect. After a fault of a line,
 /// `AirTooLong` and `Read`, the log of the whole lines before it is written, and an open copy isn't closed. After
