@@ -6,6 +6,7 @@ mod clocked;
 mod copies;
 mod damaging;
 mod devices;
+mod endings;
 mod failures;
 mod files;
 mod interrupted;

@@ -5,81 +5,16 @@ ghost use Rattle.nx_envelope.specs.Moment.{last_moment};
 
 use super::AIR_FILE_OF_A;
 use super::clocked::{Clock, Reader, Writer};
+use super::endings::Ending;
 use super::station::{AIR_FILE_OF_X, MESSAGE_FILE};
-use nx_envelope::{Finder, FinderStep, LAST_MOMENT, Letter};
-use nx_fec::{
-    Counting, RunFault, WriteFault, decode_run, encode_run, read_bits, show_run, write_bits,
-    write_table,
-};
-use nx_receiver::{Entry, ListenFault, entry_text, listen};
-use nx_station::{CheckFault, DamageFault, DamageKind, SendRunFault, check_run, damage, send};
+use nx_envelope::{Finder, FinderStep, Letter};
+use nx_fec::{Counting, decode_run, encode_run, read_bits, show_run, write_bits, write_table};
+use nx_receiver::{Entry, entry_text, listen};
+use nx_station::{DamageKind, check_run, damage, send};
 use std::alloc::Global;
 use std::io::{Read, Write};
 use std::process::Abort;
 use std::test::Fail;
-
-/// Why a call ended early.
-#[derive(Clone, Copy, Debug, PartialEq, Eq)]
-enum Ending {
-    Read,
-    Write(u64),
-    Other,
-}
-
-impl From<RunFault> for Ending {
-    fn from(fault: RunFault) -> Ending {
-        match fault {
-            RunFault::Read => Ending::Read,
-            RunFault::Write { written } => Ending::Write(written),
-            _ => Ending::Other,
-        }
-    }
-}
-
-impl From<WriteFault> for Ending {
-    fn from(fault: WriteFault) -> Ending {
-        Ending::Write(fault.written)
-    }
-}
-
-impl From<SendRunFault> for Ending {
-    fn from(fault: SendRunFault) -> Ending {
-        match fault {
-            SendRunFault::Read => Ending::Read,
-            SendRunFault::Write { written } => Ending::Write(written),
-            _ => Ending::Other,
-        }
-    }
-}
-
-impl From<CheckFault> for Ending {
-    fn from(fault: CheckFault) -> Ending {
-        match fault {
-            CheckFault::Run(fault) => Ending::from(fault),
-            CheckFault::Emission(_) => Ending::Other,
-        }
-    }
-}
-
-impl From<DamageFault> for Ending {
-    fn from(fault: DamageFault) -> Ending {
-        match fault {
-            DamageFault::Read => Ending::Read,
-            DamageFault::Write { written } => Ending::Write(written),
-            _ => Ending::Other,
-        }
-    }
-}
-
-impl From<ListenFault> for Ending {
-    fn from(fault: ListenFault) -> Ending {
-        match fault {
-            ListenFault::Read => Ending::Read,
-            ListenFault::Write { written } => Ending::Write(written),
-            _ => Ending::Other,
-        }
-    }
-}
 
 /// A call over a reader and a writer, or over one of them.
 #[derive(Clone, Copy, Debug, PartialEq, Eq)]
@@ -103,6 +38,8 @@ struct Given {
     station: Letter,
     entry: Entry,
     bits: Vec<bool>,
+    /// The air file of X with 100 elements in each line, so that its copy is open behind some of them.
+    short_lines: Vec<u8>,
 }
 
 const MOMENT: u64 = 1_735_689_600;
@@ -191,11 +128,26 @@ fn given_to_calls(alloc: Global) -> Result<Given, Fail>
     ensures { IfOk result (λ given. given.entry.moment ≤ last_moment) }
 {
     let mut file = Counting::new(AIR_FILE_OF_X);
+    let bits = read_bits(alloc, &mut file).or(Err("elements"))?;
     Ok(Given {
         station: Letter::new(b'E').ok_or("a station")?,
         entry: entry_of_x()?,
-        bits: read_bits(alloc, &mut file).or(Err("elements"))?,
+        short_lines: in_short_lines(alloc, &bits)?,
+        bits,
     })
+}
+
+/// X at its moment, with 100 elements in each line.
+fn in_short_lines(alloc: Global, bits: &[bool]) -> Result<Vec<u8>, Fail> {
+    let mut file = b"T 1735692000\n".to_vec(alloc)?;
+    for line in bits.chunks(100) {
+        file.extend_from_slice(b"B ")?;
+        for bit in line {
+            file.push(if *bit { b'1' } else { b'0' })?;
+        }
+        file.push(b'\n')?;
+    }
+    Ok(file)
 }
 
 /// A call, what it reads, and what it writes.
@@ -204,14 +156,16 @@ struct Case<'a> {
     call: Call,
     input: &'a [u8],
     output: &'a [u8],
+    /// Of `listen`, how much of the input has the line that ends the copy, and all before it.
+    heard: usize,
 }
 
 impl Case<'_> {
     /// How many bytes are written where so many were read, and the next read fails. `damage` writes each line that
-    /// it has read, `listen` an entry with the line that ends its copy, here the last; the others write at the end.
+    /// it has read, `listen` an entry with the line that ends its copy; the others write at the end.
     fn written_after(&self, read: usize) -> usize {
         if self.call != Call::Damage {
-            let is_logged = self.call == Call::Listen && read == self.input.len();
+            let is_logged = self.call == Call::Listen && read >= self.heard;
             return if is_logged { self.output.len() } else { 0 };
         }
         let mut lines = 0;
@@ -232,10 +186,20 @@ impl Case<'_> {
     }
 }
 
-fn cases<'a>() -> [Case<'a>; 12] {
+/// The copy of X ends with the word of slot 195, its element 1,372. With 100 elements in each line that is in the 14th
+/// of 103 bytes, behind the line of the moment.
+const HEARD_IN_SHORT_LINES: usize = LINE_OF_MOMENT + 14 * 103;
+
+fn cases<'a>(given: &'a Given) -> [Case<'a>; 13] {
     [
         row(Call::Send, MESSAGE_FILE, AIR_FILE_OF_X),
         row(Call::Listen, AIR_FILE_OF_X, LOG_OF_X),
+        Case {
+            call: Call::Listen,
+            input: &given.short_lines,
+            output: LOG_OF_X,
+            heard: HEARD_IN_SHORT_LINES,
+        },
         row(Call::Listen, LINES, b""),
         row(Call::ReadBits, LINES, b""),
         row(Call::DecodeRun, AIR_FILE_OF_X, b"ZCZC EA01\nTEST\nNNNN\n\n"),
@@ -253,11 +217,13 @@ fn cases<'a>() -> [Case<'a>; 12] {
     ]
 }
 
+/// A case in which `listen`, where it is the call, ends its copy with the last line.
 fn row<'a>(call: Call, input: &'a [u8], output: &'a [u8]) -> Case<'a> {
     Case {
         call,
         input,
         output,
+        heard: input.len(),
     }
 }
 
@@ -331,7 +297,7 @@ fn fail_reads(rt: &impl Abort, alloc: Global, case: &Case, given: &Given, piece:
 #[test]
 fn stops_at_each_failed_read(rt: HostRuntime) -> Result<(), Fail> {
     let given = given_to_calls(rt.alloc())?;
-    for case in &cases() {
+    for case in &cases(&given) {
         fail_reads(&rt, rt.alloc(), case, &given, usize::MAX);
         fail_reads(&rt, rt.alloc(), case, &given, LINE_OF_MOMENT);
         if case.input.len() < 200 {
@@ -365,7 +331,7 @@ fn fail_writes(rt: &impl Abort, alloc: Global, case: &Case, given: &Given)
 #[test]
 fn stops_behind_each_byte(rt: HostRuntime) -> Result<(), Fail> {
     let given = given_to_calls(rt.alloc())?;
-    for case in &cases() {
+    for case in &cases(&given) {
         if case.call != Call::Send {
             fail_writes(&rt, rt.alloc(), case, &given);
         }
@@ -376,7 +342,7 @@ fn stops_behind_each_byte(rt: HostRuntime) -> Result<(), Fail> {
 #[test]
 fn stops_behind_each_byte_of_an_emission(rt: HostRuntime) -> Result<(), Fail> {
     let given = given_to_calls(rt.alloc())?;
-    for case in &cases() {
+    for case in &cases(&given) {
         if case.call == Call::Send {
             fail_writes(&rt, rt.alloc(), case, &given);
         }
