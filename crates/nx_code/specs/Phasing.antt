@@ -1,5 +1,6 @@
--- The two phasing signals (ITU-R M.476 and M.625): phasing signal 1 is idle signal alpha, and phasing signal 2 is
--- signal repetition. That these are their words in the table is the law `phasing_signals_are_in_the_table`.
+-- The two phasing signals (ITU-R M.476 and M.625): phasing signal 1 is idle signal alpha, and
+-- phasing signal 2 is signal repetition. That these are their words in the table is the law
+-- `phasing_signals_are_in_the_table`.
 use Rattle.std.specs.Prelude.{ℕ, Bool, true, false, List, [], ◌∷◌}
 
 -- the numbers of their words

@@ -1,12 +1,13 @@
--- What is printed of the positions that were taken (ITU-R M.476 and M.625; `*` for a lost position is this
--- profile's, as is that 32 and the figures of D, F, G, H and J print nothing).
+-- What is printed of the positions that were taken (ITU-R M.476 and M.625; `*` for a lost position
+-- is this profile's, as is that 32 and the figures of D, F, G, H and J print nothing).
 use Rattle.std.specs.Prelude.{◌≡◌, ◌⊎◌, ℕ, ◌==◌, if◌then◌else◌, List, [], ◌∷◌, ◌++◌, Option, Some, None, unwrap_or}
 use Rattle.std.specs.Option.{option_and_then, option_to_list}
 use Rattle.nx_code.specs.declared.shifts.Shift.{Shift}
 use Rattle.nx_code.specs.declared.shifts.Shift.TheVariants.{Letters, Figures}
 use Rattle.nx_code.specs.Table.{cell, row_of}
 
--- a position that was taken: a traffic combination by its number, an idle signal, or one that is lost
+-- a position that was taken: a traffic combination by its number, an idle signal, or one that is
+-- lost
 pub data Reception : Type 0 where
   combination : ℕ → Reception
   idle : Reception
@@ -18,7 +19,8 @@ character_of_cell [] = None
 character_of_cell (c ∷ []) = Some c
 character_of_cell (c ∷ d ∷ cs) = None
 
--- what a combination prints in a shift: a newline for 28, a space for 31, else the character of its row
+-- what a combination prints in a shift: a newline for 28, a space for 31, else the character of its
+-- row
 unfoldable pub character_of : ℕ → Shift → Option ℕ
 character_of number shift =
     if number == 28
@@ -39,7 +41,10 @@ byte_of lost shift = Some asterisk
 
 -- the shift that a position sets: letters for combination 29, figures for 30
 abbrev pub shift_set : Reception → Option Shift
-shift_set (combination number) = if number == 29 then Some Letters else (if number == 30 then Some Figures else None)
+shift_set (combination number) =
+    if number == 29
+    then Some Letters
+    else (if number == 30 then Some Figures else None)
 shift_set idle = None
 shift_set lost = None
 
@@ -56,7 +61,8 @@ text (position ∷ positions) shift =
 -- the shift in force after positions, from a first shift
 abbrev pub shift_after_all : List Reception → Shift → Shift
 shift_after_all [] shift = shift
-shift_after_all (position ∷ positions) shift = shift_after_all positions (shift_after position shift)
+shift_after_all (position ∷ positions) shift =
+    shift_after_all positions (shift_after position shift)
 
 -- no position sets a shift
 abbrev pub SetsNone : List Reception → Type 0
@@ -72,6 +78,8 @@ pub record IsLastSet (positions : List Reception) (shift : Shift) : Type 0 where
   pub sets : shift_set position ≡ Some shift
   pub none_later : SetsNone back
 
--- the shift of the nearest position before the end that sets one, and the first shift where there is none
+-- the shift of the nearest position before the end that sets one, and the first shift where there
+-- is none
 abbrev pub IsShiftAfter : List Reception → Shift → Shift → Type 0
-IsShiftAfter positions first shift = IsLastSet positions shift ⊎ (SetsNone positions × (shift ≡ first))
+IsShiftAfter positions first shift =
+    IsLastSet positions shift ⊎ (SetsNone positions × (shift ≡ first))

@@ -1,4 +1,5 @@
--- The code's own table, its rows and indexes. What the calls answer by them is said by the table of specs/Table.antt.
+-- The code's own table, its rows and indexes. What the calls answer by them is said by the table of
+-- specs/Table.antt.
 use Rattle.std.specs.Prelude.{ℕ, nat_lt, if◌then◌else◌, Option, Some, None, List, codes}
 use Rattle.std.specs.Option.{option_to_list, option_map_or}
 use Rattle.nx_code.specs.declared.names.Name.{Name}

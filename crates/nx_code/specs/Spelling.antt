@@ -1,5 +1,5 @@
--- How a text is spelled in combinations (ITU-R M.476, M.625 and M.540; that a shift is sent only where it is
--- needed, and carriage return only before a line feed, is this profile's).
+-- How a text is spelled in combinations (ITU-R M.476, M.625 and M.540; that a shift is sent only
+-- where it is needed, and carriage return only before a line feed, is this profile's).
 use Rattle.std.specs.Prelude.{◌≡◌, ◌≢◌, ◌≤◌, ◌↔◌, ℕ, List, [], ◌∷◌, Option, Some, None, map, IsSome}
 use Rattle.nx_code.specs.declared.shifts.Shift.{Shift}
 use Rattle.nx_code.specs.Shifts.{other}
@@ -14,10 +14,11 @@ first_of (x ∷ xs) = Some x
 abbrev pub IsOnlyIn : Shift → Option ℕ → Type 0
 IsOnlyIn shift None = ⊥
 IsOnlyIn shift (Some number) =
-    IsSome (character_of number shift) × (character_of number (other shift) ≢ character_of number shift)
+    IsSome (character_of number shift)
+    × (character_of number (other shift) ≢ character_of number shift)
 
--- a combination that in this shift prints nothing, sets no shift and is no carriage return (which these are, says the
--- law `silent_combinations`)
+-- a combination that in this shift prints nothing, sets no shift and is no carriage return (which
+-- these are, says the law `silent_combinations`)
 pub record IsSilent (shift : Shift) (number : ℕ) : Type 0 where
   pub prints_nothing : character_of number shift ≡ None
   pub sets_no_shift : shift_set (combination number) ≡ None
@@ -31,8 +32,10 @@ pub record Fits (shift : Shift) (number : ℕ) (rest : List ℕ) : Type 0 where
   pub not_silent : ¬ IsSilent shift number
   -- a carriage return stands directly before each line feed, and nowhere else
   pub carriage_return : (number ≡ 27) ↔ (first_of rest ≡ Some 28)
-  -- a shift is not the one in force, and stands directly before a character that has only that shift
-  pub needed : (s : Shift) → shift_set (combination number) ≡ Some s → (s ≢ shift) × IsOnlyIn s (first_of rest)
+  -- a shift is not the one in force, and stands directly before a character that has only that
+  -- shift
+  pub needed : (s : Shift) → shift_set (combination number) ≡ Some s
+      → (s ≢ shift) × IsOnlyIn s (first_of rest)
 
 -- each combination fits where it stands
 abbrev pub EachFits : Shift → List ℕ → Type 0

@@ -1,11 +1,12 @@
--- The table of the signals (ITU-R M.476 and M.625; the numbering of the words is this project's own).
+-- The table of the signals (ITU-R M.476 and M.625; the numbering of the words is this project's
+-- own).
 use Rattle.std.specs.Prelude.{ℕ, zero, suc, ◌==◌, List, [], ◌∷◌, Option, None, codes, map, position, slice_get, take}
 use Rattle.std.specs.Option.{option_map_or}
 use Rattle.nx_code.specs.declared.shifts.Shift.{Shift}
 use Rattle.nx_code.specs.declared.shifts.Shift.TheVariants.{Letters, Figures}
 
--- A row: the number of the word, and what stands in the columns Letter and Figure. One character stands for
--- itself, and a longer text is the name of a signal. An empty figure prints nothing.
+-- A row: the number of the word, and what stands in the columns Letter and Figure. One character
+-- stands for itself, and a longer text is the name of a signal. An empty figure prints nothing.
 pub record Row : Type 0 where
   pub word : ℕ
   pub letter : List ℕ
@@ -14,8 +15,8 @@ pub record Row : Type 0 where
 abbrev pub row : ℕ → List ℕ → List ℕ → Row
 row word letter figure = record { word = word; letter = letter; figure = figure }
 
--- The 35 rows: the combinations 1 to 32, then idle alpha (phasing signal 1), idle beta and signal repetition
--- (phasing signal 2).
+-- The 35 rows: the combinations 1 to 32, then idle alpha (phasing signal 1), idle beta and signal
+-- repetition (phasing signal 2).
 unfoldable pub table : List Row
 table =
     row 0x47 (codes "A") (codes "-")
@@ -73,6 +74,7 @@ unfoldable pub row_of : ℕ → Option Row
 row_of zero = None
 row_of (suc place) = slice_get (take 32 table) place
 
--- the number of the word of a combination, by its number from 1 to 32; for any other number 128, which is no word's
+-- the number of the word of a combination, by its number from 1 to 32; for any other number 128,
+-- which is no word's
 unfoldable pub traffic_word : ℕ → ℕ
 traffic_word number = option_map_or (λ row. row.word) (row_of number) 128

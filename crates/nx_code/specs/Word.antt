@@ -1,7 +1,9 @@
--- Words and their elements (ITU-R M.476 and M.625: seven elements, each B or Y; four B and three Y in a signal).
+-- Words and their elements (ITU-R M.476 and M.625: seven elements, each B or Y; four B and three Y
+-- in a signal).
 use Rattle.std.specs.Prelude.{ℕ, ◌+◌, ◌*◌, ◌/◌, ◌%◌, ◌==◌, Bool, true, false, List, [], ◌∷◌, sum_by, take, drop, zero, suc}
 
--- the lowest elements of a number, so many of them, in the order of sending: the least place first, 1 is B
+-- the lowest elements of a number, so many of them, in the order of sending: the least place first,
+-- 1 is B
 unfoldable pub elements_from : ℕ → ℕ → List Bool
 elements_from zero number = []
 elements_from (suc count) number = (number % 2 == 1) ∷ elements_from count (number / 2)

@@ -10,17 +10,18 @@ use crate::shifts::{Case, Shift};
 use crate::signals::Comb;
 use crate::table::row_at;
 
-/// The byte that a combination prints in a shift: a letter or a figure, a newline for combination 28, a
-/// space for 31; None where nothing is printed (M.476 and M.625, conversion tables; that 32 and the figures
-/// of D, F, G, H and J print nothing is this profile's).
+/// The byte that a combination prints in a shift: a letter or a figure, a newline for combination
+/// 28, a space for 31; None where nothing is printed (M.476 and M.625, conversion tables; that 32
+/// and the figures of D, F, G, H and J print nothing is this profile's).
 pub fn code_to_char(comb: Comb, shift: Shift) -> Option<u8>
     ensures { result ≡ character_of comb.number shift }
 {
     row_at(usize::from(comb.number - 1)).character(shift)
 }
 
-/// The combination that prints a character, and in which shift; None for a byte that is not in the code
-/// (M.476 and M.625, conversion tables; which figures are left out, and `Case::Either`, are this profile's).
+/// The combination that prints a character, and in which shift; None for a byte that is not in the
+/// code (M.476 and M.625, conversion tables; which figures are left out, and `Case::Either`, are
+/// this profile's).
 pub fn char_to_code(character: u8) -> Option<(Comb, Case)>
     ensures in_code { IsSome result ↔ IsTrue (is_in_code character) }
     ensures found { (number : ℕ) (shift : Shift) → 1 ≤ number → number ≤ 32

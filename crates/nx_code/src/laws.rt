@@ -15,8 +15,9 @@ ghost use Rattle.nx_code.specs.declared.signals.Signal.TheVariants as signals;
 ghost use Rattle.nx_code.specs.declared.shifts.Shift.{Shift};
 ghost use Rattle.nx_code.specs.declared.shifts.Shift.TheVariants as shifts;
 
-/// The reading of positions, by the nearest shift: each position prints in the shift that the nearest
-/// position before it sets, and in the first shift where none does. There is one such shift (M.476).
+/// The reading of positions, by the nearest shift: each position prints in the shift that the
+/// nearest position before it sets, and in the first shift where none does. There is one such shift
+/// (M.476).
 pub fn reading_by_nearest_shift()
     ensures nothing { (first : Shift) → text [] first ≡ [] }
     ensures one_more { (positions : List Reception) (position : Reception) (first shift : Shift)
@@ -35,8 +36,9 @@ pub fn words_are_their_elements()
     ensures bits { (bits : List Bool) → length bits ≡ 7 → elements (number_of bits) ≡ bits }
 {}
 
-/// There are the combinations 1 to 32 and no others: a combination has a row at just these numbers, its
-/// word is that of its signal, and without a row nothing is printed (M.476 and M.625, conversion tables).
+/// There are the combinations 1 to 32 and no others: a combination has a row at just these numbers,
+/// its word is that of its signal, and without a row nothing is printed (M.476 and M.625,
+/// conversion tables).
 pub fn thirty_two_combinations()
     ensures rows { (number : ℕ) → IsSome (row_of number) ↔ ((1 ≤ number) × (number ≤ 32)) }
     ensures words { (comb : Comb)
@@ -46,8 +48,8 @@ pub fn thirty_two_combinations()
         → character_of number shift ≡ None }
 {}
 
-/// The phasing signals are the words of idle signal alpha and of signal repetition in the table, their
-/// elements are those of their numbers, and both have the weight of a signal (M.476, M.625).
+/// The phasing signals are the words of idle signal alpha and of signal repetition in the table,
+/// their elements are those of their numbers, and both have the weight of a signal (M.476, M.625).
 pub fn phasing_signals_are_in_the_table()
     ensures first_signal { number_of_signal signals.Alpha ≡ phasing_1 }
     ensures second_signal { number_of_signal signals.Repeat ≡ phasing_2 }
@@ -58,8 +60,8 @@ pub fn phasing_signals_are_in_the_table()
     ensures weights { (weight phasing_1 ≡ 4) × (weight phasing_2 ≡ 4) }
 {}
 
-/// What is printed of positions and then of more is what is printed of each, the later ones from the
-/// shift in force after the earlier ones.
+/// What is printed of positions and then of more is what is printed of each, the later ones from
+/// the shift in force after the earlier ones.
 pub fn reading_goes_on()
     ensures text { (earlier later : List Reception) (first : Shift)
         → text (earlier ++ later) first
@@ -69,8 +71,8 @@ pub fn reading_goes_on()
         ≡ shift_after_all later (shift_after_all earlier first) }
 {}
 
-/// A text has a spelling exactly where each of its bytes is in the code, and then it has one (M.476,
-/// M.540; which of the spellings that are read alike is sent is this profile's).
+/// A text has a spelling exactly where each of its bytes is in the code, and then it has one
+/// (M.476, M.540; which of the spellings that are read alike is sent is this profile's).
 pub fn a_text_has_one_spelling()
     ensures some { (bytes : List ℕ) (shift : Shift) → IsTrue (list_all is_in_code bytes)
         → (numbers : List ℕ) × Spells bytes shift numbers }
@@ -80,8 +82,8 @@ pub fn a_text_has_one_spelling()
         → Spells bytes shift one → Spells bytes shift two → one ≡ two }
 {}
 
-/// The combinations that no spelling has, since they are silent: 32 in both shifts, and the figures of D, F,
-/// G, H and J (M.476; that these print nothing is this profile's).
+/// The combinations that no spelling has, since they are silent: 32 in both shifts, and the figures
+/// of D, F, G, H and J (M.476; that these print nothing is this profile's).
 pub fn silent_combinations()
     ensures { (shift : Shift) (number : ℕ) → 1 ≤ number → number ≤ 32
         → IsSilent shift number
@@ -89,8 +91,8 @@ pub fn silent_combinations()
         × IsTrue (list_any (λ other. other == number) (4 ∷ 6 ∷ 7 ∷ 8 ∷ 10 ∷ [])))) }
 {}
 
-/// A spelling of a text, and then one of more text from the shift in force after it, is the spelling of
-/// the whole (M.476, M.540).
+/// A spelling of a text, and then one of more text from the shift in force after it, is the
+/// spelling of the whole (M.476, M.540).
 pub fn a_spelling_goes_on()
     ensures whole { (one two : List ℕ) (from : Shift) (earlier later : List ℕ)
         → Spells one from earlier

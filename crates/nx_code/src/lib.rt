@@ -1,5 +1,5 @@
-//! The code of NAVTEX: words of seven elements, the signals that they stand for, the characters that
-//! the signals print, and the spelling of a text.
+//! The code of NAVTEX: words of seven elements, the signals that they stand for, the characters
+//! that the signals print, and the spelling of a text.
 #![tactic(auto)]
 
 mod characters;

@@ -1,5 +1,5 @@
-//! Where words and characters stand in the table. The two indexes save a search of the table for each word
-//! and each character; that they answer as the search would is proved.
+//! Where words and characters stand in the table. The two indexes save a search of the table for
+//! each word and each character; that they answer as the search would is proved.
 
 ghost use Rattle.std.specs.Prelude.{◌≡◌, ℕ, ◌+◌, ◌-◌, ◌≤◌, ◌<◌, Some, IfSome};
 ghost use Rattle.nx_code.specs.Reading.{character_of};

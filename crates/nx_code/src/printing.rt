@@ -22,8 +22,9 @@ pub enum Taken {
     Lost,
 }
 
-/// A reader of text, one position at a time (M.476 and M.625, conversion tables; that a lost position prints
-/// `*` is this profile's). It starts in letters. Contracts see it as the shift in force.
+/// A reader of text, one position at a time (M.476 and M.625, conversion tables; that a lost
+/// position prints `*` is this profile's). It starts in letters. Contracts see it as the shift in
+/// force.
 #[derive(Clone, Copy, Debug)]
 pub struct Printer {
     shift: Shift,

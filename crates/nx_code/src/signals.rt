@@ -7,8 +7,9 @@ pub(crate) const LETTER_SHIFT: u8 = 29;
 
 pub(crate) const FIGURE_SHIFT: u8 = 30;
 
-/// A traffic combination by its number, 1 to 32: the order of the letters, then carriage return, line feed,
-/// letter shift, figure shift, space and the unperforated tape (M.476 and M.625, conversion tables).
+/// A traffic combination by its number, 1 to 32: the order of the letters, then carriage return,
+/// line feed, letter shift, figure shift, space and the unperforated tape (M.476 and M.625,
+/// conversion tables).
 #[derive(Clone, Copy, Debug, PartialEq, Eq)]
 pub struct Comb {
     pub number: u8,

@@ -118,8 +118,8 @@ pub struct Extent {
     pub shift: Shift,
 }
 
-/// The extent of the spelling of a text from a shift; None where a byte is not in the code. It takes no
-/// memory.
+/// The extent of the spelling of a text from a shift; None where a byte is not in the code. It
+/// takes no memory.
 pub fn extent_of(text: &[u8], from: Shift) -> Option<Extent>
     ensures in_code { IsSome result ↔ IsTrue (list_all is_in_code text.now) }
     ensures length { IfSome result (λ extent. (numbers : List ℕ) → Spells text.now from numbers
@@ -143,8 +143,9 @@ pub fn extent_of(text: &[u8], from: Shift) -> Option<Extent>
     Some(extent)
 }
 
-/// The spelling of a text from a shift: the one list of combinations that is read as the text and has no
-/// needless shift (M.476, M.540). A byte that is not in the code is refused before any memory is taken.
+/// The spelling of a text from a shift: the one list of combinations that is read as the text and
+/// has no needless shift (M.476, M.540). A byte that is not in the code is refused before any
+/// memory is taken.
 pub fn spell(alloc: Global, text: &[u8], from: Shift) -> Result<Vec<Comb>, SpellFault>
     ensures spelling { IfOk result (λ combs.
         Spells text.now from (map (λ comb. comb.number) combs.items)) }

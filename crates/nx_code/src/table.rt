@@ -18,8 +18,8 @@ use crate::signals::{Comb, Signal};
 use crate::words::Word;
 use std::slice;
 
-/// A row of the table: the number of its word, the characters that it prints in letters and in figures, and
-/// the name of a signal that stands for no letter.
+/// A row of the table: the number of its word, the characters that it prints in letters and in
+/// figures, and the name of a signal that stands for no letter.
 #[derive(Clone, Copy, Debug)]
 pub(crate) struct Row {
     word: u8,
@@ -134,8 +134,8 @@ pub(crate) fn row_at(place: usize) -> Row
     TABLE[place]
 }
 
-/// The signal at a place of the table, from 0: the combinations 1 to 32, idle signal alpha, idle signal beta
-/// and signal repetition.
+/// The signal at a place of the table, from 0: the combinations 1 to 32, idle signal alpha, idle
+/// signal beta and signal repetition.
 pub fn signal_at(at: usize) -> Signal
     requires { at < SIGNALS }
     ensures { place result ≡ at }
@@ -179,9 +179,9 @@ pub fn word_of(signal: Signal) -> Word
     Word::at(row_at(place_of_signal(signal)).word)
 }
 
-/// What stands for a signal in the table's column Letter or Figure, the column of the shift: a character, a
-/// name in capitals, or nothing for a figure that is not printed (M.476 and M.625, conversion tables; the
-/// names are this profile's).
+/// What stands for a signal in the table's column Letter or Figure, the column of the shift: a
+/// character, a name in capitals, or nothing for a figure that is not printed (M.476 and M.625,
+/// conversion tables; the names are this profile's).
 pub fn cell_of(signal: Signal, shift: Shift) -> &'static [u8]
     ensures { result.now ≡ cell_of_signal signal shift }
 {

@@ -1,5 +1,6 @@
-//! Worked examples of the code. Words, characters and names are those of the conversion tables of M.476 and
-//! M.625, in the numbering of this profile; the spelling of the example is counted out by hand.
+//! Worked examples of the code. Words, characters and names are those of the conversion tables of
+//! M.476 and M.625, in the numbering of this profile; the spelling of the example is counted out by
+//! hand.
 
 use super::*;
 use std::alloc::AllocError;
