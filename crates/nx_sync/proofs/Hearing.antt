@@ -3,7 +3,7 @@ use Rattle.std.proofs.Common.{◌≡◌, ℕ, ◌+◌, ◌^◌, ◌<◌, ◌≤�
 use Rattle.std.proofs.Math.Seq.{take-add}
 use Rattle.std.proofs.lemmas.List.{take_more, get_or-set_same, get_or-set_other}
 use Rattle.nx_code.proofs.WordLemmas.{value_of-le}
-use Rattle.nx_sync.specs.Windows.{next_window, window_after}
+use Rattle.nx_sync.specs.PrivateWindows.{next_window, window_after}
 use Rattle.nx_sync.specs.Synchroniser.{Held}
 use Rattle.nx_sync.specs.PrivateCalls.{heard_all}
 

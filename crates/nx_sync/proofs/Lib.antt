@@ -1,14 +1,14 @@
 pub mod Lists
 pub mod Numbers
-pub mod MoreBits
+pub mod ThePastIsKept
 pub mod OneBit
 pub mod Patterns
 pub mod Hearing
 pub mod Lanes
 pub mod Marks
-pub mod Unique
+pub mod WhatStandsIsUnique
 pub mod Pushes
-pub mod Going
+pub mod WhatStoodGoesOn
 pub mod Releases
 pub mod Phasing
 pub mod Counts

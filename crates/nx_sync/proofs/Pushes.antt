@@ -16,15 +16,15 @@ use Rattle.nx_sync.specs.Words.{other_role, is_wrong, word_at, first_role, role_
 use Rattle.nx_sync.specs.Locks.{before_dx, before_rx, last_28, IsPattern, release, Lock, Now, hunting, locked, IsHunting, IsLocked, IsNow}
 use Rattle.nx_sync.specs.Steps.{LockStands, step, found, word, inside, over, hunts, IsStep}
 use Rattle.nx_sync.specs.Synchroniser.{Held, wrong_marks, p1_marks, Follows, Tracks, StandsAfter}
-use Rattle.nx_sync.specs.Windows.{next_window, role_after}
-use Rattle.nx_sync.specs.PrivateCalls.{heard_one, track_from, track_after, Begins, Fills, Completes}
+use Rattle.nx_sync.specs.PrivateWindows.{next_window, role_after}
+use Rattle.nx_sync.specs.PrivateCalls.{heard_one, track_from, track_after, BeginsLock, Fills, Completes}
 use Rattle.nx_sync.proofs.Lists.{padded-push, length-padded}
 use Rattle.nx_sync.proofs.Numbers.{number_of-next}
-use Rattle.nx_sync.proofs.MoreBits.{word_at-more, first_role-more, Past-within}
+use Rattle.nx_sync.proofs.ThePastIsKept.{word_at-more, first_role-more, Past-within}
 use Rattle.nx_sync.proofs.OneBit.{hunts_on, locks_now, stands_on, ends_now}
 use Rattle.nx_sync.proofs.Patterns.{length-last_28, IsNeither, Which, dx, rx, neither, which, first_role-dx, first_role-rx, window-heard, word-heard}
 use Rattle.nx_sync.proofs.Marks.{wrong_marks-same, p1_marks-same, p1_number-next, p1_number-none, wrong_marks-next, change_of-change_at}
-use Rattle.nx_sync.proofs.Unique.{now-unique}
+use Rattle.nx_sync.proofs.WhatStandsIsUnique.{now-unique}
 
 -- whether a track is there says whether a lock stands
 track_iff : (bits : List Bool) (locks : List Lock) (now : Now) (wrong : List Bool) (track : Option Track) → IsNow bits locks now → Tracks bits now wrong track → (is_some track ≡ true → LockStands bits) × (LockStands bits → is_some track ≡ true)
@@ -122,7 +122,7 @@ module _ (s : Held) (bits : List Bool) (b : Bool) (a : StandsAfter s bits) where
   -- a push while hunting, where 28 bits were heard
   hunts_at : (x : Held) (r : Step) (locks : List Lock) (p : ℕ) → s.track ≡ None → IsHunting bits locks p → p ≤ length bits → 28 ≤ length (bits ++ b ∷ [])
       → (role_after (heard_one s b).recent ≡ None → (x ≡ heard_one s b) × (r ≡ step None None))
-      → ((role : Role) → 28 ≤ (heard_one s b).seen → role_after (heard_one s b).recent ≡ Some role → Begins (heard_one s b) role x r)
+      → ((role : Role) → 28 ≤ (heard_one s b).seen → role_after (heard_one s b).recent ≡ Some role → BeginsLock (heard_one s b) role x r)
       → Which (last_28 (bits ++ b ∷ []) (length (bits ++ b ∷ [])))
       → IsGood x (bits ++ b ∷ []) r
   hunts_at x r locks p none now within enough quiet finding (neither not e) =
@@ -148,7 +148,7 @@ module _ (s : Held) (bits : List Bool) (b : Bool) (a : StandsAfter s bits) where
   hunts_by : (x : Held) (r : Step) (locks : List Lock) (now : Now) → IsNow bits locks now → Tracks bits now s.wrong s.track → s.track ≡ None
       → ((heard_one s b).seen < 28 → (x ≡ heard_one s b) × (r ≡ step None None))
       → (role_after (heard_one s b).recent ≡ None → (x ≡ heard_one s b) × (r ≡ step None None))
-      → ((role : Role) → 28 ≤ (heard_one s b).seen → role_after (heard_one s b).recent ≡ Some role → Begins (heard_one s b) role x r)
+      → ((role : Role) → 28 ≤ (heard_one s b).seen → role_after (heard_one s b).recent ≡ Some role → BeginsLock (heard_one s b) role x r)
       → IsGood x (bits ++ b ∷ []) r
   hunts_by x r locks (locked p t) n f none early quiet finding = let is = f.is in absurd (cc)
   hunts_by x r locks (hunting p) n f none early quiet finding =
@@ -165,7 +165,7 @@ module _ (s : Held) (bits : List Bool) (b : Bool) (a : StandsAfter s bits) where
   pub push_hunting : (x : Held) (r : Step) → s.track ≡ None
       → ((heard_one s b).seen < 28 → (x ≡ heard_one s b) × (r ≡ step None None))
       → (role_after (heard_one s b).recent ≡ None → (x ≡ heard_one s b) × (r ≡ step None None))
-      → ((role : Role) → 28 ≤ (heard_one s b).seen → role_after (heard_one s b).recent ≡ Some role → Begins (heard_one s b) role x r)
+      → ((role : Role) → 28 ≤ (heard_one s b).seen → role_after (heard_one s b).recent ≡ Some role → BeginsLock (heard_one s b) role x r)
       → IsGood x (bits ++ b ∷ []) r
   push_hunting x r none early quiet finding = hunts_by x r a.locks a.now a.stands a.tracks none early quiet finding
 
@@ -341,7 +341,7 @@ module _ (s : Held) (bits : List Bool) (b : Bool) (a : StandsAfter s bits) where
 pub record Hunted (y x : Held) (r : Step) : Type 0 where
   pub early : y.seen < 28 → (x ≡ y) × (r ≡ step None None)
   pub quiet : role_after y.recent ≡ None → (x ≡ y) × (r ≡ step None None)
-  pub finding : (role : Role) → 28 ≤ y.seen → role_after y.recent ≡ Some role → Begins y role x r
+  pub finding : (role : Role) → 28 ≤ y.seen → role_after y.recent ≡ Some role → BeginsLock y role x r
 
 -- what `follow` ensures, from what was held before it
 pub record Followed (y : Held) (track : Track) (x : Held) (r : Step) : Type 0 where

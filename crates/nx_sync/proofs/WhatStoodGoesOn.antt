@@ -4,9 +4,9 @@ use Rattle.std.proofs.lemmas.List.{length_push}
 use Rattle.std.proofs.lemmas.Bool.{cases_lt, cases_eq}
 use Rattle.nx_sync.specs.declared.step.Change.{Change}
 use Rattle.nx_sync.specs.Locks.{last_28, IsPattern, release, Lock, Past, Now, hunting, locked, IsLocked, IsNow}
-use Rattle.nx_sync.specs.Laws.{Standing, Extends, same, newer, GoesOn, hunts_on, finds_one, stands_still, found_and_past, is_past, Stood, OneMore, still_hunts, now_finds, still_stands, now_over}
+use Rattle.nx_sync.specs.Laws.{WhatStands, Extends, same, newer, GoesOn, hunts_on, finds_one, stands_still, found_and_past, is_past, Stood, OneMore, still_hunts, now_finds, still_stands, now_over}
 use Rattle.nx_sync.proofs.Patterns.{dx, rx, neither, which, length-last_28}
-use Rattle.nx_sync.proofs.Unique.{locks-unique, now-unique}
+use Rattle.nx_sync.proofs.WhatStandsIsUnique.{locks-unique, now-unique}
 use Rattle.nx_sync.proofs.OneBit as one
 
 -- whether a pattern ends at t
@@ -34,7 +34,7 @@ word_or_not n t =
 
 -- what one bit more makes of what stood
 record Onward (bits : List Bool) (locks : List Lock) (now : Now) : Type 0 where
-  standing : Standing bits
+  standing : WhatStands bits
   one : OneMore bits locks now standing.locks standing.now
 
 onward_locked : (bits : List Bool) (b : Bool) (locks : List Lock) (p t k : ℕ) → IsLocked bits locks p t → length bits + 1 ≡ t + 7 * (k + 1) → (how : Option Change) → release (bits ++ b ∷ []) t k ≡ how → Onward (bits ++ b ∷ []) locks (locked p t)
@@ -92,7 +92,7 @@ GoesOn-one bits (now_over lock e f g) = is_past lock e f same
 
 -- what stood goes on to what stands after these bits
 record From (locks : List Lock) (now : Now) (bits : List Bool) : Type 0 where
-  standing : Standing bits
+  standing : WhatStands bits
   goes : GoesOn locks now standing.locks standing.now
 
 pub Extends-trans : {a b c : List Lock} → Extends a b → Extends b c → Extends a c
@@ -143,7 +143,7 @@ first_hunt = record {
 }
 
 -- something stands after every list of bits
-pub standing_after : (bits : List Bool) → Standing bits
+pub standing_after : (bits : List Bool) → WhatStands bits
 standing_after bits = (more_bits bits [] [] (hunting 0) first_hunt).standing
 
 -- what stands after more bits goes on from what stood

@@ -8,7 +8,7 @@ use Rattle.nx_code.specs.Word.{number_of}
 use Rattle.nx_sync.specs.declared.step.Step.{Step}
 use Rattle.nx_sync.specs.declared.track.Track.{Track}
 use Rattle.nx_sync.specs.Words.{is_wrong}
-use Rattle.nx_sync.specs.Windows.{next_word_window, window_after}
+use Rattle.nx_sync.specs.PrivateWindows.{next_word_window, window_after}
 use Rattle.nx_sync.specs.Steps.{step, IsStep, IsWordStep}
 use Rattle.nx_sync.specs.Synchroniser.{Held, is_at_limit, is_between_words, StandsAfter}
 use Rattle.nx_sync.specs.PrivateCalls.{heard_one, track_after, Completes}

@@ -8,8 +8,9 @@ use Rattle.nx_code.specs.Phasing.{phasing_1, elements_of_phasing_1, elements_of_
 use Rattle.nx_sync.specs.Words.{losing_count, first_role, role_of, wrong_until}
 use Rattle.nx_sync.specs.Locks.{IsReleased, Lock, Now, hunting, locked, IsLocked, IsNow}
 
--- Word k is the second of two DX words in a row that are phasing signal 1: it is a DX word, at least word 2, and it and
--- word k - 2 are phasing signal 1. The word that releases the lock is then word k + 3 (this profile).
+-- Word k is the second of two DX words in a row that are phasing signal 1: it is a DX word, at
+-- least word 2, and it and word k - 2 are phasing signal 1. The word that releases the lock is then
+-- word k + 3 (this profile).
 pub record IsSecondPhasing1 (first : Role) (words : ℕ → ℕ) (k : ℕ) : Type 0 where
   pub two : 2 ≤ k
   pub dx : role_of first k ≡ Dx
@@ -22,18 +23,21 @@ pub record EndedAt (first : Role) (words : ℕ → ℕ) (w : ℕ) : Type 0 where
   pub here : IsSecondPhasing1 first words (w - 3)
   pub least : (k : ℕ) → k < w - 3 → IsSecondPhasing1 first words k → ⊥
 
--- Lost at word w: the least word with at least 40 wrong ones among the last 64 words up to it (this profile).
+-- Lost at word w: the least word with at least 40 wrong ones among the last 64 words up to it (this
+-- profile).
 pub record LostAt (words : ℕ → ℕ) (w : ℕ) : Type 0 where
   pub here : losing_count ≤ wrong_until words w
   pub least : (k : ℕ) → k < w → wrong_until words k < losing_count
 
--- Word w is the earlier of the word of Ended and the word of Lost; where they are the same, it is Ended (this profile).
+-- Word w is the earlier of the word of Ended and the word of Lost; where they are the same, it is
+-- Ended (this profile).
 pub data IsEarlier (first : Role) (words : ℕ → ℕ) (w : ℕ) : Change → Type 0 where
   ended : EndedAt first words w → ((v : ℕ) → LostAt words v → w ≤ v) → IsEarlier first words w Ended
-  lost : LostAt words w → ((v : ℕ) → EndedAt first words v → w < v) → IsEarlier first words w LostLock
+  lost : LostAt words w → ((v : ℕ) → EndedAt first words v → w < v)
+      → IsEarlier first words w LostLock
 
 -- what stands after these bits, together
-pub record Standing (bits : List Bool) : Type 0 where
+pub record WhatStands (bits : List Bool) : Type 0 where
   pub locks : List Lock
   pub now : Now
   pub stands : IsNow bits locks now
@@ -41,18 +45,19 @@ pub record Standing (bits : List Bool) : Type 0 where
 -- these past locks are the older ones with, perhaps, newer ones before them in the list
 pub data Extends : List Lock → List Lock → Type 0 where
   same : {locks : List Lock} → Extends locks locks
-  newer : {lock : Lock} {locks older : List Lock} → Extends locks older → Extends (lock ∷ locks) older
+  newer : {lock : Lock} {locks older : List Lock} → Extends locks older
+      → Extends (lock ∷ locks) older
 
--- How what stood goes on when more bits come: hunting, a lock that is found, a lock that still stands; or else the
--- search, or the lock, that stood led to the next past lock.
+-- How what stood goes on when more bits come: hunting, a lock that is found, a lock that still
+-- stands; or else the search, or the lock, that stood led to the next past lock.
 pub data GoesOn : List Lock → Now → List Lock → Now → Type 0 where
   hunts_on : {locks : List Lock} {p : ℕ} → GoesOn locks (hunting p) locks (hunting p)
   finds_one : {locks : List Lock} {p t : ℕ} → GoesOn locks (hunting p) locks (locked p t)
   stands_still : {locks : List Lock} {p t : ℕ} → GoesOn locks (locked p t) locks (locked p t)
   found_and_past : {older locks : List Lock} {p : ℕ} {now : Now} (lock : Lock) → lock.from ≡ p
       → Extends locks (lock ∷ older) → GoesOn older (hunting p) locks now
-  is_past : {older locks : List Lock} {p t : ℕ} {now : Now} (lock : Lock) → lock.from ≡ p → lock.at ≡ t
-      → Extends locks (lock ∷ older) → GoesOn older (locked p t) locks now
+  is_past : {older locks : List Lock} {p t : ℕ} {now : Now} (lock : Lock)
+      → lock.from ≡ p → lock.at ≡ t → Extends locks (lock ∷ older) → GoesOn older (locked p t) locks now
 
 -- what stood after these bits, where these locks and this state stand after more
 pub record Stood (bits : List Bool) (locks : List Lock) (now : Now) : Type 0 where
@@ -61,11 +66,12 @@ pub record Stood (bits : List Bool) (locks : List Lock) (now : Now) : Type 0 whe
   pub stood : IsNow bits older was
   pub goes_on : GoesOn older was locks now
 
--- What the last of these bits makes of what stood before it: hunting goes on; a lock is found at it; the lock still
--- stands; or the lock is over, and hunting begins after it.
+-- What the last of these bits makes of what stood before it: hunting goes on; a lock is found at
+-- it; the lock still stands; or the lock is over, and hunting begins after it.
 pub data OneMore (bits : List Bool) : List Lock → Now → List Lock → Now → Type 0 where
   still_hunts : {locks : List Lock} {p : ℕ} → OneMore bits locks (hunting p) locks (hunting p)
-  now_finds : {locks : List Lock} {p t : ℕ} → length bits ≡ t → OneMore bits locks (hunting p) locks (locked p t)
+  now_finds : {locks : List Lock} {p t : ℕ} → length bits ≡ t
+      → OneMore bits locks (hunting p) locks (locked p t)
   still_stands : {locks : List Lock} {p t : ℕ} → OneMore bits locks (locked p t) locks (locked p t)
   now_over : {older : List Lock} {p t q : ℕ} (lock : Lock) → lock.from ≡ p → lock.at ≡ t
       → length bits ≡ q → OneMore bits older (locked p t) (lock ∷ older) (hunting q)
@@ -75,8 +81,8 @@ unfoldable pub phasing : ℕ → List Bool
 phasing zero = []
 phasing (suc n) = elements_of_phasing_2 ++ elements_of_phasing_1 ++ phasing n
 
--- The lock at t is on the word limits and roles of a phasing that begins after n bits: word g of it, a DX word, is
--- where pair a of the phasing begins.
+-- The lock at t is on the word limits and roles of a phasing that begins after n bits: word g of
+-- it, a DX word, is where pair a of the phasing begins.
 pub record IsOnPhasing (bits : List Bool) (n t : ℕ) : Type 0 where
   pub g : ℕ
   pub a : ℕ

@@ -1,5 +1,5 @@
--- What the parts of a push, a word and a hunt answer, for the contracts of the synchroniser's private functions. The
--- contracts of the public ones speak of the locks over all bits.
+-- What the parts of a push, a word and a hunt answer, for the contracts of the synchroniser's
+-- private functions. The contracts of the public ones speak of the locks over all bits.
 use Rattle.std.specs.Prelude.{◌≡◌, ℕ, ◌+◌, ◌*◌, ◌/◌, ◌%◌, ◌^◌, ◌<◌, ◌≤◌, ◌==◌, nat_le, min, Bool, not, ◌&&◌, ◌⊎◌, List, [], ◌∷◌, ◌++◌, length, take, count_by, Option, Some, None, if◌then◌else◌}
 use Rattle.circular_buffer.specs.Buffer.{keep_last}
 use Rattle.nx_code.specs.Phasing.{phasing_1}
@@ -9,9 +9,9 @@ use Rattle.nx_sync.specs.declared.step.Step.{Step}
 use Rattle.nx_sync.specs.declared.step.Role.{Role}
 use Rattle.nx_sync.specs.declared.step.Change.{Change}
 use Rattle.nx_sync.specs.declared.step.Change.TheVariants.{Locked, Ended, LostLock}
-use Rattle.nx_sync.specs.Words.{window_words, losing_count, other_role, is_dx, is_wrong}
+use Rattle.nx_sync.specs.Words.{marked_words, losing_count, other_role, is_dx, is_wrong}
 use Rattle.nx_sync.specs.Locks.{pattern_elements}
-use Rattle.nx_sync.specs.Windows.{role_after, next_window, window_after}
+use Rattle.nx_sync.specs.PrivateWindows.{role_after, next_window, window_after}
 use Rattle.nx_sync.specs.Steps.{step}
 use Rattle.nx_sync.specs.Synchroniser.{Held}
 
@@ -27,36 +27,42 @@ track_after track word = record {
   was_p1 = track.was_p1 / 2 + 2 ^ 4 * value_of (word == phasing_1);
 }
 
--- whether the word that the track fills releases the lock as Ended: it is an RX word, and the words three and five
--- before it are phasing signal 1
+-- whether the word that the track fills releases the lock as Ended: it is an RX word, and the words
+-- three and five before it are phasing signal 1
 abbrev pub fills_releasing_word : Track → Bool
-fills_releasing_word track = not (is_dx track.role) && (track.was_p1 % 2 == 1) && (track.was_p1 / 4 % 2 == 1)
+fills_releasing_word track =
+    not (is_dx track.role) && (track.was_p1 % 2 == 1) && (track.was_p1 / 4 % 2 == 1)
 
 -- which change a word brings, by the track before it and by whether it loses the lock
 abbrev pub change_by : Track → Bool → Option Change
-change_by track is_lost = if fills_releasing_word track then Some Ended else (if is_lost then Some LostLock else None)
+change_by track is_lost =
+    if fills_releasing_word track
+    then Some Ended
+    else (if is_lost then Some LostLock else None)
 
 -- which change a word brings, by the track before it and the marks of the last words with its own
 abbrev pub change_of : Track → List Bool → Option Change
 change_of track wrong = change_by track (nat_le losing_count (count_by (λ b. b) wrong))
 
--- A lock begins: it is followed from a first word with this role, no mark is left, and the step says that a lock was
--- found.
-abbrev pub Begins : Held → Role → Held → Step → Type 0
-Begins old role new s =
-    (new ≡ record old { track = Some (track_from role); wrong = [] }) × (s ≡ step None (Some Locked))
+-- A lock begins: it is followed from a first word with this role, no mark is left, and the step
+-- says that a lock was found.
+abbrev pub BeginsLock : Held → Role → Held → Step → Type 0
+BeginsLock old role new s =
+    (new ≡ record old { track = Some (track_from role); wrong = [] })
+    × (s ≡ step None (Some Locked))
 
 -- An element fills a word further: the track counts it, and the step brings nothing.
 abbrev pub Fills : Held → Track → Held → Step → Type 0
 Fills old track new s =
-    (new ≡ record old { track = Some (record track { filled = track.filled + 1 }) }) × (s ≡ step None None)
+    (new ≡ record old { track = Some (record track { filled = track.filled + 1 }) })
+    × (s ≡ step None None)
 
--- A word is complete: its number is that of the last seven bits, its mark is added, and the track goes on, or there is
--- none any more where the word brings a change.
+-- A word is complete: its number is that of the last seven bits, its mark is added, and the track
+-- goes on, or there is none any more where the word brings a change.
 pub record Completes (old : Held) (track : Track) (new : Held) (s : Step) : Type 0 where
   pub recent : new.recent ≡ old.recent
   pub seen : new.seen ≡ old.seen
-  pub marks : new.wrong ≡ keep_last window_words (old.wrong ++ is_wrong (old.recent / 2 ^ 21) ∷ [])
+  pub marks : new.wrong ≡ keep_last marked_words (old.wrong ++ is_wrong (old.recent / 2 ^ 21) ∷ [])
   pub change : s.change ≡ change_of track new.wrong
   pub word : s.word ≡ Some (old.recent / 2 ^ 21, track.role)
   pub goes_on : s.change ≡ None → new.track ≡ Some (track_after track (old.recent / 2 ^ 21))
@@ -64,11 +70,14 @@ pub record Completes (old : Held) (track : Track) (new : Held) (s : Step) : Type
 
 -- what is held after one element was heard, before it is looked at
 abbrev pub heard_one : Held → Bool → Held
-heard_one held bit = record held { recent = next_window held.recent bit; seen = min (held.seen + 1) pattern_elements }
+heard_one held bit = record held {
+  recent = next_window held.recent bit;
+  seen = min (held.seen + 1) pattern_elements;
+}
 
 -- what is held with the mark of one more word, whether it was wrong
 abbrev pub with_mark : Held → Bool → Held
-with_mark held wrong = record held { wrong = keep_last window_words (held.wrong ++ wrong ∷ []) }
+with_mark held wrong = record held { wrong = keep_last marked_words (held.wrong ++ wrong ∷ []) }
 
 -- what is held after these elements were heard, before any is looked at
 abbrev pub heard_all : Held → List Bool → Held
@@ -87,14 +96,16 @@ pub record EndsPattern (held : Held) : Type 0 where
   pub role : Role
   pub here : role_after held.recent ≡ Some role
 
--- The first n of these elements were heard, none of which ends a pattern; the next one does, if there is one.
+-- The first n of these elements were heard, none of which ends a pattern; the next one does, if
+-- there is one.
 pub record Skips (old : Held) (bits : List Bool) (n : ℕ) (new : Held) : Type 0 where
   pub within : n ≤ length bits
   pub held : new ≡ heard_all old (take n bits)
   pub quiet : (k : ℕ) → k < n → IsQuiet (heard_all old (take (k + 1) bits))
   pub stops : n < length bits → EndsPattern (heard_all old (take (n + 1) bits))
 
--- The first n of these elements were heard, all of them too early for a pattern; the next one, if there is one, is not.
+-- The first n of these elements were heard, all of them too early for a pattern; the next one, if
+-- there is one, is not.
 pub record SkipsEarly (old : Held) (bits : List Bool) (n : ℕ) (new : Held) : Type 0 where
   pub within : n ≤ length bits
   pub held : new ≡ heard_all old (take n bits)

@@ -1,5 +1,6 @@
 -- What one element brings, by what stands after it: the contract of a push.
 use Rattle.std.specs.Prelude.{◌≡◌, ℕ, ◌+◌, ◌*◌, ◌<◌, ◌≤◌, Bool, List, [], ◌∷◌, ◌++◌, length, take, Option, Some, None}
+use Rattle.std.specs.Option.{option_to_list}
 use Rattle.nx_sync.specs.declared.step.Role.{Role}
 use Rattle.nx_sync.specs.declared.step.Change.{Change}
 use Rattle.nx_sync.specs.declared.step.Change.TheVariants.{Locked}
@@ -26,8 +27,9 @@ pub record LimitStands (bits : List Bool) : Type 0 where
 abbrev pub step : Option (ℕ × Role) → Option Change → Step
 step word change = record { word = word; change = change }
 
--- What the last of these bits brought, by what stands after them: a lock just found; word k of the lock; a bit inside
--- a word; the word that released the newest past lock; or nothing, while hunting.
+-- What the last of these bits brought, by what stands after them: a lock just found; word k of the
+-- lock; a bit inside a word; the word that released the newest past lock; or nothing, while
+-- hunting.
 pub data Brings (bits : List Bool) (s : Step) : List Lock → Now → Type 0 where
   found : {locks : List Lock} {p t : ℕ} → length bits ≡ t → s ≡ step None (Some Locked)
       → Brings bits s locks (locked p t)
@@ -36,8 +38,10 @@ pub data Brings (bits : List Bool) (s : Step) : List Lock → Now → Type 0 whe
   inside : {locks : List Lock} {p t : ℕ} (k r : ℕ) → length bits ≡ t + 7 * k + r → 0 < r → r < 7
       → s ≡ step None None → Brings bits s locks (locked p t)
   over : {lock : Lock} {older : List Lock} {p : ℕ} → length bits ≡ p
-      → s ≡ step (Some (heard_word bits lock.at lock.last)) (Some lock.how) → Brings bits s (lock ∷ older) (hunting p)
-  hunts : {locks : List Lock} {p : ℕ} → p < length bits → s ≡ step None None → Brings bits s locks (hunting p)
+      → s ≡ step (Some (heard_word bits lock.at lock.last)) (Some lock.how)
+      → Brings bits s (lock ∷ older) (hunting p)
+  hunts : {locks : List Lock} {p : ℕ} → p < length bits → s ≡ step None None
+      → Brings bits s locks (hunting p)
 
 -- s is what the last of these bits brought
 pub record IsStep (bits : List Bool) (s : Step) : Type 0 where
@@ -46,23 +50,20 @@ pub record IsStep (bits : List Bool) (s : Step) : Type 0 where
   pub stands : IsNow bits locks now
   pub brings : Brings bits s locks now
 
-abbrev pub one_or_none : Option (ℕ × Role) → List (ℕ × Role)
-one_or_none None = []
-one_or_none (Some one) = one ∷ []
-
--- Of these bits, which come after others, n are heard by a hunt: the push of none of them answers that a lock was
--- found, nor anything else, and the push of the next one, if there is one, answers that a lock was found.
+-- Of these bits, which come after others, n are heard by a hunt: the push of none of them answers
+-- that a lock was found, nor anything else, and the push of the next one, if there is one, answers
+-- that a lock was found.
 pub record HuntsThrough (before bits : List Bool) (n : ℕ) : Type 0 where
   pub within : n ≤ length bits
   pub quiet : (k : ℕ) → k < n → IsStep (before ++ take (k + 1) bits) (step None None)
   pub locks : n < length bits → IsStep (before ++ take (n + 1) bits) (step None (Some Locked))
 
--- Seven bits, which come after others, complete one word: the pushes of the first six answer nothing, and that of the
--- last one answers s.
+-- Seven bits, which come after others, complete one word: the pushes of the first six answer
+-- nothing, and that of the last one answers s.
 pub record IsWordStep (before bits : List Bool) (s : Step) : Type 0 where
   pub inside : (k : ℕ) → k < 6 → IsStep (before ++ take (k + 1) bits) (step None None)
   pub last : IsStep (before ++ bits) s
 
 -- the word that a step completed, as a list of one, or of none
 abbrev pub word_of_step : Step → List (ℕ × Role)
-word_of_step s = one_or_none s.word
+word_of_step s = option_to_list s.word

@@ -1,15 +1,16 @@
--- What a synchroniser holds, and after which bits: the layer contract. How it is held is this profile's.
+-- What a synchroniser holds, and after which bits: the layer contract. How it is held is this
+-- profile's.
 use Rattle.std.specs.Prelude.{◌≡◌, ℕ, zero, suc, ◌+◌, ◌-◌, ◌*◌, ◌<◌, ◌==◌, nat_le, min, Bool, false, not, is_some, ◌&&◌, List, [], ◌∷◌, ◌++◌, length, replicate, Option, Some, None}
 use Rattle.circular_buffer.specs.Buffer.{keep_last}
 use Rattle.nx_sync.specs.declared.track.Track.{Track}
 use Rattle.nx_code.specs.Phasing.{phasing_1}
 use Rattle.nx_code.specs.Word.{number_of}
-use Rattle.nx_sync.specs.Words.{window_words, is_wrong, word_at, first_role, role_of}
+use Rattle.nx_sync.specs.Words.{marked_words, is_wrong, word_at, first_role, role_of}
 use Rattle.nx_sync.specs.Locks.{pattern_elements, Lock, Now, hunting, locked, IsNow}
 
--- what contracts see of a synchroniser: the last 28 bits as a number, the oldest in the least place, how many of them
--- were heard, the word that is being filled where a lock stands, and whether each of the last words of the lock was
--- wrong
+-- what contracts see of a synchroniser: the last 28 bits as a number, the oldest in the least
+-- place, how many of them were heard, the word that is being filled where a lock stands, and
+-- whether each of the last words of the lock was wrong
 pub record Held : Type 0 where
   pub recent : ℕ
   pub seen : ℕ
@@ -40,18 +41,21 @@ was_p1 words i = nat_le 5 i && (words (i - 5) == phasing_1)
 -- whether each of the five words before word n is phasing signal 1
 unfoldable pub p1_marks : (ℕ → ℕ) → ℕ → List Bool
 p1_marks words n =
-    was_p1 words n ∷ was_p1 words (n + 1) ∷ was_p1 words (n + 2) ∷ was_p1 words (n + 3) ∷ was_p1 words (n + 4) ∷ []
+    was_p1 words n ∷ was_p1 words (n + 1) ∷ was_p1 words (n + 2)
+    ∷ was_p1 words (n + 3) ∷ was_p1 words (n + 4) ∷ []
 
--- the track follows the lock at t: `whole` words are complete, and `filled` bits of the next one were heard
+-- the track follows the lock at t: `whole` words are complete, and `filled` bits of the next one
+-- were heard
 pub record Follows (bits : List Bool) (t : ℕ) (wrong : List Bool) (track : Track) : Type 0 where
   pub whole : ℕ
   pub place : length bits ≡ t + (7 * whole + track.filled)
   pub short : track.filled < 7
   pub role : track.role ≡ role_of (first_role bits t) whole
   pub phasing : track.was_p1 ≡ number_of (p1_marks (word_at bits t) whole)
-  pub marks : wrong ≡ keep_last window_words (wrong_marks (word_at bits t) whole)
+  pub marks : wrong ≡ keep_last marked_words (wrong_marks (word_at bits t) whole)
 
-pub record IsFollowed (bits : List Bool) (t : ℕ) (wrong : List Bool) (track : Option Track) : Type 0 where
+pub record IsFollowed (bits : List Bool) (t : ℕ) (wrong : List Bool) (track : Option Track)
+    : Type 0 where
   pub one : Track
   pub is : track ≡ Some one
   pub follows : Follows bits t wrong one
@@ -60,12 +64,13 @@ abbrev pub Tracks : List Bool → Now → List Bool → Option Track → Type 0
 Tracks bits (hunting p) wrong track = track ≡ None
 Tracks bits (locked p t) wrong track = IsFollowed bits t wrong track
 
--- The layer contract: this is what a synchroniser holds after these bits. `locks` and `now` are what stands then by
--- the definition of the locks.
+-- The layer contract: this is what a synchroniser holds after these bits. `locks` and `now` are
+-- what stands then by the definition of the locks.
 pub record StandsAfter (held : Held) (bits : List Bool) : Type 0 where
   pub locks : List Lock
   pub now : Now
   pub stands : IsNow bits locks now
-  pub recent : held.recent ≡ number_of (keep_last pattern_elements (replicate pattern_elements false ++ bits))
+  pub recent : held.recent
+      ≡ number_of (keep_last pattern_elements (replicate pattern_elements false ++ bits))
   pub seen : held.seen ≡ min pattern_elements (length bits)
   pub tracks : Tracks bits now held.wrong held.track

@@ -1,5 +1,5 @@
--- The words of a lock: where they stand, their roles, and how many of them have the wrong weight. A bit is an element,
--- B is true; words have seven elements (ITU-R M.476 and M.625).
+-- The words of a lock: where they stand, their roles, and how many of them have the wrong weight. A
+-- bit is an element, B is true; words have seven elements (ITU-R M.476 and M.625).
 use Rattle.std.specs.Prelude.{ℕ, zero, suc, ◌+◌, ◌-◌, ◌*◌, ◌/◌, ◌==◌, Bool, true, false, not, List, [], ◌∷◌, ◌++◌, length, if◌then◌else◌}
 use Rattle.nx_code.specs.Phasing.{phasing_1}
 use Rattle.nx_code.specs.Word.{weight, word_from}
@@ -7,19 +7,20 @@ use Rattle.nx_sync.specs.declared.step.Role.{Role}
 use Rattle.nx_sync.specs.declared.step.Role.TheVariants.{Dx, Rx}
 
 -- of how many of its last words a lock counts the wrong ones (this profile)
-abbrev pub window_words : ℕ
-window_words = 64
+abbrev pub marked_words : ℕ
+marked_words = 64
 
 -- how many wrong ones among them lose it (this profile)
 abbrev pub losing_count : ℕ
 losing_count = 40
 
--- the number of word k of the lock at t, the bits t + 7k to t + 7k + 6 (seven elements a word: M.476, M.625)
+-- the number of word k of the lock at t, the bits t + 7k to t + 7k + 6 (seven elements a word:
+-- M.476, M.625)
 unfoldable pub word_at : List Bool → ℕ → ℕ → ℕ
 word_at bits t k = word_from bits (t + 7 * k)
 
--- the role of word 0 of the lock at t: DX where the pattern ended with phasing signal 1, else RX (in M.625's mode B
--- phasing signal 2 is sent as DX and phasing signal 1 as RX)
+-- the role of word 0 of the lock at t: DX where the pattern ended with phasing signal 1, else RX
+-- (in M.625's mode B phasing signal 2 is sent as DX and phasing signal 1 as RX)
 unfoldable pub first_role : List Bool → ℕ → Role
 first_role bits t = if word_from bits (t - 7) == phasing_1 then Dx else Rx
 
@@ -48,9 +49,10 @@ unfoldable pub wrong_in : (ℕ → ℕ) → ℕ → ℕ → ℕ
 wrong_in words i zero = 0
 wrong_in words i (suc n) = wrong_in words i n + one_if (is_wrong (words (i + n)))
 
--- how many of the last 64 words up to word k, or of all up to it where they are fewer, have the wrong weight
+-- how many of the last 64 words up to word k, or of all up to it where they are fewer, have the
+-- wrong weight
 abbrev pub wrong_until : (ℕ → ℕ) → ℕ → ℕ
-wrong_until words k = wrong_in words (k + 1 - window_words) (k + 1 - (k + 1 - window_words))
+wrong_until words k = wrong_in words (k + 1 - marked_words) (k + 1 - (k + 1 - marked_words))
 
 -- word k of the lock at t, by its number and its role
 abbrev pub heard_word : List Bool → ℕ → ℕ → ℕ × Role

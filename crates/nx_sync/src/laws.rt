@@ -8,10 +8,10 @@ ghost use Rattle.nx_sync.specs.declared.step.Role.{Role as RoleOf};
 ghost use Rattle.nx_sync.specs.declared.step.Step.{Step};
 ghost use Rattle.nx_code.specs.Word.{number_of};
 ghost use Rattle.nx_code.specs.Phasing.{phasing_1};
-ghost use Rattle.nx_sync.specs.Words.{is_wrong, words_of, words_heard, heard_word, window_words, losing_count, word_at, first_role, role_of, wrong_in, wrong_until};
-ghost use Rattle.nx_sync.specs.Locks.{before_dx, before_rx, hunting, locked, IsHunting, words_of_past, IsPattern, Finds, release, IsReleased, Lock, Past, Now, IsLocked, IsNow};
+ghost use Rattle.nx_sync.specs.Words.{is_wrong, words_of, words_heard, heard_word, marked_words, losing_count, word_at, first_role, role_of, wrong_in, wrong_until};
+ghost use Rattle.nx_sync.specs.Locks.{pattern_elements, before_dx, before_rx, hunting, locked, IsHunting, words_of_past, IsPattern, Finds, release, IsReleased, Lock, Past, Now, IsLocked, IsNow};
 ghost use Rattle.nx_sync.specs.Steps.{Brings, IsStep, word_of_step};
-ghost use Rattle.nx_sync.specs.Laws.{IsOnPhasing, IsBetweenLimits, IsReleasedBy, IsSecondPhasing1, IsEarlier, Standing, GoesOn, Stood, OneMore, phasing, LockedBeforeDx};
+ghost use Rattle.nx_sync.specs.Laws.{IsOnPhasing, IsBetweenLimits, IsReleasedBy, IsSecondPhasing1, IsEarlier, WhatStands, GoesOn, Stood, OneMore, phasing, LockedBeforeDx};
 
 /// The two patterns as numbers, their oldest element in the least place.
 pub fn patterns_have_these_numbers()
@@ -22,7 +22,7 @@ pub fn patterns_have_these_numbers()
 /// After every list of bits something stands, and only one thing: the past locks, and hunting or a
 /// lock.
 pub fn what_stands_is_unique()
-    ensures stands { (bits : List Bool) → Standing bits }
+    ensures stands { (bits : List Bool) → WhatStands bits }
     ensures locks { (bits : List Bool) (locks others : List Lock) (now was : Now)
         → IsNow bits locks now → IsNow bits others was → locks ≡ others }
     ensures now { (bits : List Bool) (locks others : List Lock) (now was : Now)
@@ -109,7 +109,7 @@ pub fn the_earlier_releases()
 /// and no two DX words in a row are phasing signal 1.
 pub fn a_good_lock_is_kept()
     ensures { (bits : List Bool) (locks : List Lock) (p t : ℕ) → Past bits locks p → Finds bits p t
-        → ((i n : ℕ) → n ≤ window_words → t + 7 * (i + n) ≤ length bits
+        → ((i n : ℕ) → n ≤ marked_words → t + 7 * (i + n) ≤ length bits
         → wrong_in (word_at bits t) i n < losing_count)
         → ((k : ℕ) → t + 7 * (k + 3) ≤ length bits → role_of (first_role bits t) k ≡ RoleOf.Dx
         → word_at bits t k ≡ phasing_1 → word_at bits t (k + 2) ≡ phasing_1 → ⊥)
@@ -120,7 +120,8 @@ pub fn a_good_lock_is_kept()
 /// their bits or more, the search finds the next word limit, and the lock has the limits and roles
 /// of the phasing.
 pub fn a_hunt_locks_in_phasing()
-    ensures { (earlier : List Bool) (i p : ℕ) (locks : List Lock) → 28 ≤ i → i < 336
+    ensures { (earlier : List Bool) (i p : ℕ) (locks : List Lock)
+        → pattern_elements ≤ i → i < 336
         → IsHunting (earlier ++ take i (phasing 24)) locks p
         → Finds (earlier ++ phasing 24) p (length earlier + 7 * (i / 7 + 1))
         × IsOnPhasing (earlier ++ phasing 24) (length earlier) (length earlier + 7 * (i / 7 + 1)) }
@@ -153,7 +154,8 @@ pub fn a_lock_with_swapped_roles_ends()
 /// A lock on the word limits and roles of 48 phasing words as sent, which stands after 28 of their
 /// bits or more, stands after all of them.
 pub fn a_right_lock_stays()
-    ensures { (earlier : List Bool) (i p t : ℕ) (locks : List Lock) → 28 ≤ i → i ≤ 336
+    ensures { (earlier : List Bool) (i p t : ℕ) (locks : List Lock)
+        → pattern_elements ≤ i → i ≤ 336
         → IsLocked (earlier ++ take i (phasing 24)) locks p t
         → IsOnPhasing (earlier ++ phasing 24) (length earlier) t
         → IsLocked (earlier ++ phasing 24) locks p t }

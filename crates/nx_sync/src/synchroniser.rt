@@ -1,16 +1,16 @@
 //! The synchroniser. It keeps the last 28 elements and, where a lock stands, a few facts on its
-//! last words. Calls that run for each element or each word are inlined always, since their answers
-//! would go through memory otherwise.
+//! last words. Calls that run for each element, each word or each stride are inlined always, since
+//! their answers would go through memory otherwise.
 
 ghost use Rattle.std.specs.Prelude.{◌≡◌, ℕ, ◌+◌, ◌-◌, ◌/◌, ◌^◌, ◌<◌, ◌≤◌, ◌↔◌, List, Bool, [], ◌∷◌, ◌++◌, length, take, min, nat_le, not, IsTrue, IfOk};
 ghost use Rattle.std.specs.List.{count_by};
 ghost use Rattle.circular_buffer.specs.Buffer.{keep_last};
 ghost use Rattle.nx_sync.specs.declared.step.Change.TheVariants.{Locked};
-ghost use Rattle.nx_sync.specs.Words.{window_words, losing_count};
+ghost use Rattle.nx_sync.specs.Words.{marked_words, losing_count};
 ghost use Rattle.nx_sync.specs.Locks.{pattern_elements};
 ghost use Rattle.nx_sync.specs.Steps.{step, LockStands, LimitStands, IsStep, HuntsThrough, IsWordStep};
-ghost use Rattle.nx_sync.specs.Windows as spec;
-ghost use Rattle.nx_sync.specs.PrivateCalls.{heard_one, with_mark, track_from, Begins, Fills, Completes, Skips, SkipsEarly};
+ghost use Rattle.nx_sync.specs.PrivateWindows as spec;
+ghost use Rattle.nx_sync.specs.PrivateCalls.{heard_one, with_mark, track_from, BeginsLock, Fills, Completes, Skips, SkipsEarly};
 ghost use Rattle.nx_sync.specs.Synchroniser.{StandsAfter, is_hunting, is_between_words};
 
 use crate::step::{Role, Step};
@@ -24,11 +24,11 @@ use nx_code::{ELEMENTS, Word, check_bits};
 use std::alloc::{AllocError, Global};
 use std::marker::Model;
 
-/// Of how many of its last words a lock remembers whether they were wrong (this profile).
-const WINDOW: usize = 64;
+/// How many marks of its last words a lock keeps, whether each was wrong (this profile).
+const MARKS: usize = 64;
 
-/// How many wrong words among these lose the lock (this profile).
-const LOST: u32 = 40;
+/// How many wrong words among the marked ones lose the lock (this profile).
+const LOSING_COUNT: u32 = 40;
 
 /// The synchroniser of a receiver. It keeps no history but the last 28 elements, and whether each
 /// of the last 64 words of a lock was wrong.
@@ -51,7 +51,7 @@ impl Model for Synchroniser {
     ghost use Rattle.std.specs.Option.{ForSome};
     ghost use Rattle.std.proofs.Common.{sym, ap, ap₂};
     ghost use Rattle.circular_buffer.specs.Buffer.{buffer};
-    ghost use Rattle.nx_sync.specs.Words.{window_words};
+    ghost use Rattle.nx_sync.specs.Words.{marked_words};
     ghost use Rattle.nx_sync.specs.Locks.{pattern_elements};
     ghost use Rattle.nx_sync.specs.Synchroniser.{Held};
 
@@ -66,8 +66,8 @@ impl Model for Synchroniser {
 
     ghost invariant = { λ s. (s.recent < 2 ^ pattern_elements)
         × (s.seen ≤ pattern_elements)
-        × (s.wrong.capacity ≡ window_words)
-        × (length s.wrong.items ≤ window_words)
+        × (s.wrong.capacity ≡ marked_words)
+        × (length s.wrong.items ≤ marked_words)
         × (s.wrong_count ≡ count_by (λ b. b) s.wrong.items)
         × ForSome s.track (λ t. (t.filled < 7) × (s.seen ≡ pattern_elements)) };
 
@@ -76,12 +76,13 @@ impl Model for Synchroniser {
       recent = h.recent;
       seen = h.seen;
       track = h.track;
-      wrong = buffer h.wrong window_words;
+      wrong = buffer h.wrong marked_words;
       wrong_count = count_by (λ b. b) h.wrong;
     } };
 
     ghost inverse_ok = { λ s h.
-        ap₂ (λ n m. record s { wrong = buffer s.wrong.items n; wrong_count = m }) (sym h.2) (sym h.4) };
+        ap₂ (λ n m. record s { wrong = buffer s.wrong.items n; wrong_count = m })
+        (sym h.2) (sym h.4) };
 }
 
 impl Synchroniser {
@@ -91,7 +92,7 @@ impl Synchroniser {
         ensures stands { IfOk result (λ s. StandsAfter s []) }
         ensures hunting { IfOk result (λ s. IsTrue (is_hunting s)) }
     {
-        let wrong = HeapCircularBuffer::with_capacity(alloc, WINDOW)?;
+        let wrong = HeapCircularBuffer::with_capacity(alloc, MARKS)?;
         Ok(Synchroniser {
             recent: 0,
             seen: 0,
@@ -199,7 +200,7 @@ impl Synchroniser {
             × (result ≡ step None None) }
         ensures found { (role : Role) → pattern_elements ≤ self.old.seen
             → spec.role_after self.old.recent ≡ Some role
-            → Begins self.old role self.new result }
+            → BeginsLock self.old role self.new result }
     {
         if self.seen < PATTERN {
             return Step::NOTHING;
@@ -267,7 +268,7 @@ impl Synchroniser {
         ensures marks { self.new ≡ with_mark self.old is_wrong }
         ensures lost { result ≡ nat_le losing_count (count_by (λ b. b) self.new.wrong) }
     {
-        if !is_wrong && self.wrong_count == 0 && self.wrong.len() == WINDOW {
+        if !is_wrong && self.wrong_count == 0 && self.wrong.len() == MARKS {
             return false;
         }
         self.push_mark(is_wrong)
@@ -285,7 +286,7 @@ impl Synchroniser {
         if gone == Some(true) {
             self.wrong_count -= 1;
         }
-        self.wrong_count >= LOST
+        self.wrong_count >= LOSING_COUNT
     }
 
     /// Hears elements as long as none ends a pattern, and says how many.

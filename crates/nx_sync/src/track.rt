@@ -1,4 +1,5 @@
-//! How a lock is followed. What runs for each word is inlined always.
+//! How a lock is followed. What runs for each word is inlined always, since a call would cost more
+//! than its few instructions.
 
 ghost use Rattle.std.specs.Prelude.{◌≡◌, ◌<◌};
 ghost use Rattle.nx_sync.specs.PrivateCalls.{track_from, track_after, fills_releasing_word, change_by};
@@ -49,7 +50,7 @@ impl Track {
     /// Whether the word that is being filled releases the lock as ended: the words three and five
     /// before it, which are DX words, are both phasing signal 1.
     #[inline(always)]
-    pub(crate) fn fills_releasing_word(self) -> bool
+    fn fills_releasing_word(self) -> bool
         ensures { result ≡ fills_releasing_word self }
     {
         self.role == Role::Rx && self.was_p1 % 2 == 1 && self.was_p1 / 4 % 2 == 1
@@ -61,11 +62,11 @@ impl Track {
     pub(crate) fn change(self, is_lost: bool) -> Option<Change>
         ensures { result ≡ change_by self is_lost }
     {
-        let is_end = self.fills_releasing_word();
-        if !is_end && !is_lost {
+        let is_ended = self.fills_releasing_word();
+        if !is_ended && !is_lost {
             return None;
         }
-        Some(if is_end {
+        Some(if is_ended {
             Change::Ended
         } else {
             Change::LostLock

@@ -1,11 +1,14 @@
 //! Windows: the last 28 elements as a number, the oldest in the least place, and the patterns that
-//! give a lock. What runs for each element is inlined always.
+//! give a lock. What runs for each element, each stride or each block of windows is inlined always,
+//! since a call would cost more than its few instructions.
 
 ghost use Rattle.std.specs.Prelude.{◌≡◌, ℕ, ◌+◌, ◌/◌, ◌^◌, ◌<◌, ◌≤◌, length, take, slice_index, IfSome, IsTrue, false};
 ghost use Rattle.nx_code.specs.Word.{word_from};
 ghost use Rattle.nx_sync.specs.Locks.{pattern_elements};
-ghost use Rattle.nx_sync.specs.Windows as spec;
-ghost use Rattle.nx_sync.specs.Windows.{IsFirstLock, IsBeforeLock, HasNoLock};
+ghost use Rattle.nx_sync.specs.Windows as locking;
+ghost use Rattle.nx_sync.specs.Windows.{IsFirstLock, HasNoLock};
+ghost use Rattle.nx_sync.specs.PrivateWindows as spec;
+ghost use Rattle.nx_sync.specs.PrivateWindows.{IsBeforeLock};
 
 use crate::step::Role;
 use nx_code::Word;
@@ -63,7 +66,7 @@ pub(crate) fn last_word(window: u32) -> Word
 /// Whether a window is one of the patterns.
 #[inline(always)]
 fn is_lock_window(window: u32) -> bool
-    ensures { result ≡ spec.is_lock_window window }
+    ensures { result ≡ locking.is_lock_window window }
 {
     window == BEFORE_DX || window == BEFORE_RX
 }
@@ -172,7 +175,7 @@ fn clear_blocks(windows: &[u32]) -> usize
 fn is_clear(windows: &[u32], at: usize) -> bool
     requires { at + 8 ≤ length windows.now }
     ensures { IsTrue result → (k : ℕ) → at ≤ k → k < at + 8
-        → spec.is_lock_window (slice_index windows.now k) ≡ false }
+        → locking.is_lock_window (slice_index windows.now k) ≡ false }
 {
     let block = u32x8::from_slice(&windows[at..]);
     let dx = block.simd_eq(u32x8::splat(BEFORE_DX)).to_bitmask();

@@ -1,6 +1,6 @@
 use Rattle.std.proofs.Common.{◌≡◌, List, Bool, Some, sym, ap, subst, ◌∙◌}
 use Rattle.nx_sync.specs.declared.track.Track.{Track}
-use Rattle.nx_sync.specs.Windows.{next_word_window}
+use Rattle.nx_sync.specs.PrivateWindows.{next_word_window}
 use Rattle.nx_sync.specs.Synchroniser.{Held}
 use Rattle.nx_sync.specs.PrivateCalls.{Completes}
 use Rattle.nx_sync.proofs.WholeWords.{word_stands, word_step, between}

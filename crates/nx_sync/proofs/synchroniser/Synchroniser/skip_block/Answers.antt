@@ -1,5 +1,5 @@
 use Rattle.std.proofs.Common.{◌≡◌, ℕ, ◌+◌, ◌-◌, ◌≤◌, List, Bool, length, take, get_or, refl, sym, ap, subst, ◌∙◌, arith}
-use Rattle.nx_sync.specs.Windows.{window_after}
+use Rattle.nx_sync.specs.PrivateWindows.{window_after}
 use Rattle.nx_sync.specs.Synchroniser.{Held}
 use Rattle.nx_sync.specs.PrivateCalls.{heard_all, Skips}
 use Rattle.nx_sync.proofs.Hearing.{heard_all-none}

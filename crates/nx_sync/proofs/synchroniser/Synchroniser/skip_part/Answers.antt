@@ -1,5 +1,5 @@
 use Rattle.std.proofs.Common.{◌≡◌, ◌≤◌, ◌/◌, ◌^◌, List, Bool, false, length, sym, ap, subst, ◌∙◌, arith}
-use Rattle.nx_sync.specs.Windows.{is_in_phasing}
+use Rattle.nx_sync.specs.PrivateWindows.{is_in_phasing}
 use Rattle.nx_sync.specs.Synchroniser.{Held}
 use Rattle.nx_sync.specs.PrivateCalls.{Skips}
 use Rattle.nx_sync.proofs.Strides.{stride_skips}
