@@ -14,7 +14,7 @@ use Rattle.nx_envelope.proofs.Identities.{same_identity-true}
 use Rattle.nx_station.specs.Broadcast.{header, printed_text}
 use Rattle.nx_station.specs.Faults.{unmade_fault}
 use Rattle.nx_station.specs.MessageFile.{IsOneLine}
-use Rattle.nx_station.specs.StrictReading.{AreSound, ExplainsFirstPrinted, ExplainsLines, ExplainsPrinted, IsUnended, ended_lines}
+use Rattle.nx_station.specs.PrintedText.{AreSound, ExplainsFirstPrinted, ExplainsPrintedLines, ExplainsPrinted, IsTextLine, ended_lines}
 use Rattle.nx_station.specs.declared.fault.EmissionFault.{EmissionFault}
 use Rattle.nx_station.specs.declared.fault.EmissionFault.TheVariants.{Ragged, WrongWord, Unpaired, BadEnvelope, Memory}
 use Rattle.nx_station.proofs.LineLemmas.{digits-same, ended-not_one, first_line, line_bytes, text-cons}
@@ -26,7 +26,7 @@ end_marker-one_line : IsOneLine end_marker
 end_marker-one_line = ((λ e. absurd (omega (arith, e))), ((λ e. absurd (omega (arith, e))), ((λ e. absurd (omega (arith, e))), ((λ e. absurd (omega (arith, e))), tt))))
 
 -- two ended texts
-pub marked-same : (ls ms : List (List ℕ)) (x y : List ℕ) → AllByRecursion IsUnended ls → AllByRecursion IsUnended ms → ended_lines ls x ≡ ended_lines ms y → (ls ≡ ms) × (x ≡ y)
+pub marked-same : (ls ms : List (List ℕ)) (x y : List ℕ) → AllByRecursion IsTextLine ls → AllByRecursion IsTextLine ms → ended_lines ls x ≡ ended_lines ms y → (ls ≡ ms) × (x ≡ y)
 marked-same [] [] x y h k e = (refl, cc)
 marked-same [] (m ∷ ms) x y h k e =
     absurd (k.0.goes_on (sym (first_line end_marker m x (ended_lines ms y) end_marker-one_line k.0.one_line (e ∙ text-cons m ms (end_marker ++ (10 ∷ y)))).0))
@@ -40,7 +40,7 @@ marked-same (l ∷ ls) (m ∷ ms) x y h k e =
     (cc (r.0, heads), r.1)
 
 -- an ended text and one that isn't
-pub marked-open : (ls ms : List (List ℕ)) (x r : List ℕ) → AllByRecursion IsUnended ls → AllByRecursion IsUnended ms → IsOneLine r → ended_lines ls x ≡ text_of ms ++ r → ⊥
+pub marked-open : (ls ms : List (List ℕ)) (x r : List ℕ) → AllByRecursion IsTextLine ls → AllByRecursion IsTextLine ms → IsOneLine r → ended_lines ls x ≡ text_of ms ++ r → ⊥
 marked-open [] [] x r h k one e = ended-not_one end_marker x (subst IsOneLine (sym e) one)
 marked-open [] (m ∷ ms) x r h k one e =
     absurd (k.0.goes_on (sym (first_line end_marker m x (text_of ms ++ r) end_marker-one_line k.0.one_line (e ∙ text-cons m ms r)).0))
@@ -51,17 +51,17 @@ marked-open (l ∷ ls) (m ∷ ms) x r h k one e =
     (sym (text-cons l ls (end_marker ++ (10 ∷ x))) ∙ e ∙ text-cons m ms r) in
     marked-open ls ms x r h.1 k.1 one p.1
 
-line-IsUnended : (line : List ℕ) → IsLine line → IsUnended line
+line-IsUnended : (line : List ℕ) → IsLine line → IsTextLine line
 line-IsUnended line h = record {
   one_line = line_bytes line (recursion_from_All IsLineByte line h.in_code);
   goes_on = λ e. h.unreserved (inr (record { front = []; back = []; spelled = e }));
 }
 
-lines-unended : (lines : List (List ℕ)) → AllByRecursion IsLine lines → AllByRecursion IsUnended lines
+lines-unended : (lines : List (List ℕ)) → AllByRecursion IsLine lines → AllByRecursion IsTextLine lines
 lines-unended [] h = tt
 lines-unended (line ∷ lines) h = (line-IsUnended line h.0, lines-unended lines h.1)
 
-pub AreLines-unended : (lines : List (List ℕ)) → AreLines lines → AllByRecursion IsUnended lines
+pub AreLines-unended : (lines : List (List ℕ)) → AreLines lines → AllByRecursion IsTextLine lines
 AreLines-unended lines h = lines-unended lines (recursion_from_All IsLine lines h.each)
 
 -- ---- headers
@@ -164,7 +164,7 @@ left-fault text rest messages (Unpaired position) h sound some first = absurd fi
 
 -- ---- a message that isn't read
 
-pub lines-fault : (text line rest : List ℕ) (fault : EmissionFault) → text ≡ line ++ (10 ∷ rest) → IsOneLine line → ExplainsLines rest fault → ExplainsFirstPrinted text fault
+pub lines-fault : (text line rest : List ℕ) (fault : EmissionFault) → text ≡ line ++ (10 ∷ rest) → IsOneLine line → ExplainsPrintedLines rest fault → ExplainsFirstPrinted text fault
 lines-fault text line rest BadEnvelope h one none = λ message more sound e.
     none message.lines (10 ∷ more) (AreLines-unended message.lines sound) (printed-header text line rest more message h one e).1
 lines-fault text line rest (Memory error) h one none = tt
@@ -174,17 +174,17 @@ lines-fault text line rest (Unpaired position) h one none = absurd none
 
 -- the lines of a message were read: another message has the same, and what is left behind it begins with its empty line
 pub lines-read : (text line rest after more : List ℕ) (lines : List (List ℕ)) (message : MessageView) → text ≡ line ++ (10 ∷ rest) → IsOneLine line → rest ≡ ended_lines lines after
-    → AllByRecursion IsUnended lines → AreLines message.lines → text ≡ printed_text message ++ more → (lines ≡ message.lines) × (after ≡ 10 ∷ more)
+    → AllByRecursion IsTextLine lines → AreLines message.lines → text ≡ printed_text message ++ more → (lines ≡ message.lines) × (after ≡ 10 ∷ more)
 lines-read text line rest after more lines message h one k inside sound e =
     marked-same lines message.lines after (10 ∷ more) inside (AreLines-unended message.lines sound) (sym k ∙ (printed-header text line rest more message h one e).1)
 
 unmade : (lines : List (List ℕ)) (fault : MessageFault) (text line rest after : List ℕ) → text ≡ line ++ (10 ∷ rest) → IsOneLine line → rest ≡ ended_lines lines after
-    → AllByRecursion IsUnended lines → ((given : List (List ℕ)) → AreLines given → lines ≡ given → ⊥) → ExplainsFirstPrinted text BadEnvelope
+    → AllByRecursion IsTextLine lines → ((given : List (List ℕ)) → AreLines given → lines ≡ given → ⊥) → ExplainsFirstPrinted text BadEnvelope
 unmade lines fault text line rest after h one k inside none = λ message more sound e.
     none message.lines sound (lines-read text line rest after more lines message h one k inside sound e).0
 
 pub unmade-fault : (lines : List (List ℕ)) (fault : MessageFault) (text line rest after : List ℕ) → text ≡ line ++ (10 ∷ rest) → IsOneLine line → rest ≡ ended_lines lines after
-    → AllByRecursion IsUnended lines → IsMessageFault lines fault → ExplainsFirstPrinted text (unmade_fault fault)
+    → AllByRecursion IsTextLine lines → IsMessageFault lines fault → ExplainsFirstPrinted text (unmade_fault fault)
 unmade-fault lines (message.Memory error) text line rest after h one k inside faulty = tt
 unmade-fault lines (message.LongLine n) text line rest after h one k inside faulty =
     unmade lines (message.LongLine n) text line rest after h one k inside (λ given good e. none_of_message given (message.LongLine n) good tt (subst (λ l. IsMessageFault l (message.LongLine n)) e faulty))

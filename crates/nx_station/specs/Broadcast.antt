@@ -1,5 +1,6 @@
--- The positions of a message and of a list of messages (ITU-R M.540, form of a message; ITU-R M.625, mode B, for
--- phasing and the end; how many positions of phasing are sent is this profile's).
+-- The positions of a message and of a list of messages (ITU-R M.540, form of a message; ITU-R
+-- M.625, mode B, for phasing and the end; how many positions of phasing are sent is this
+-- profile's).
 use Rattle.std.specs.Prelude.{◌≡◌, ℕ, ◌-◌, ◌/◌, ◌%◌, List, [], ◌∷◌, ◌++◌, length, map, replicate, slice_index}
 use Rattle.std.specs.List.{flat_map}
 use Rattle.nx_code.specs.Reading.{combination, shift_after_all}
@@ -24,8 +25,8 @@ letter_combination byte = byte - 64
 abbrev pub digit_combination : ℕ → ℕ
 digit_combination digit = slice_index (16 ∷ 17 ∷ 23 ∷ 5 ∷ 18 ∷ 20 ∷ 25 ∷ 21 ∷ 9 ∷ 15 ∷ []) digit
 
--- The head of a message: letter shift (29), Z, C, Z, C, space (31), station, subject, figure shift (30), the two digits
--- of the number, carriage return (27) and line feed (28).
+-- The head of a message: letter shift (29), Z, C, Z, C, space (31), station, subject, figure shift
+-- (30), the two digits of the number, carriage return (27) and line feed (28).
 unfoldable pub head : Identity → List ℕ
 head identity =
     29 ∷ 26 ∷ 3 ∷ 26 ∷ 3 ∷ 31
@@ -33,8 +34,8 @@ head identity =
     ∷ 30 ∷ digit_combination (identity.number / 10) ∷ digit_combination (identity.number % 10)
     ∷ 27 ∷ 28 ∷ []
 
--- The end of a message, by the shift that its text leaves in force: a letter shift if that is figures; N, N, N, N,
--- carriage return, line feed, line feed.
+-- The end of a message, by the shift that its text leaves in force: a letter shift if that is
+-- figures; N, N, N, N, carriage return, line feed, line feed.
 unfoldable pub ending : Shift → List ℕ
 ending Letters = 14 ∷ 14 ∷ 14 ∷ 14 ∷ 27 ∷ 28 ∷ 28 ∷ []
 ending Figures = 29 ∷ 14 ∷ 14 ∷ 14 ∷ 14 ∷ 27 ∷ 28 ∷ 28 ∷ []
@@ -43,7 +44,8 @@ ending Figures = 29 ∷ 14 ∷ 14 ∷ 14 ∷ 14 ∷ 27 ∷ 28 ∷ 28 ∷ []
 pub record IsSpelled (message : MessageView) (numbers : List ℕ) : Type 0 where
   pub text : List ℕ
   pub spells : Spells (text_of message.lines) Figures text
-  pub whole : numbers ≡ head message.identity ++ (text ++ ending (shift_after_all (map combination text) Figures))
+  pub whole : numbers ≡ head message.identity
+      ++ (text ++ ending (shift_after_all (map combination text) Figures))
 
 -- the extent of the spelling of a text, from the figure shift on
 pub record IsExtent (bytes : List ℕ) (extent : Extent) : Type 0 where
@@ -57,18 +59,20 @@ abbrev pub AreSpelled : List MessageView → List (List ℕ) → Type 0
 AreSpelled [] [] = Unit {0}
 AreSpelled [] (numbers ∷ spellings) = ⊥
 AreSpelled (message ∷ messages) [] = ⊥
-AreSpelled (message ∷ messages) (numbers ∷ spellings) = IsSpelled message numbers × AreSpelled messages spellings
+AreSpelled (message ∷ messages) (numbers ∷ spellings) =
+    IsSpelled message numbers × AreSpelled messages spellings
 
 -- positions of phasing, so many, and after them a message
 abbrev pub phasing_and_message : ℕ → List ℕ → List SentPosition
 phasing_and_message count numbers = replicate count phasing_position ++ map traffic_position numbers
 
--- the positions in which spelled messages are sent: 72 of phasing and the first message, before each further message 36
--- of phasing, and three of the end
+-- the positions in which spelled messages are sent: 72 of phasing and the first message, before
+-- each further message 36 of phasing, and three of the end
 unfoldable pub layout : List (List ℕ) → List SentPosition
 layout [] = []
 layout (numbers ∷ spellings) =
-    phasing_and_message 72 numbers ++ (flat_map (phasing_and_message 36) spellings ++ replicate 3 end_position)
+    phasing_and_message 72 numbers
+    ++ (flat_map (phasing_and_message 36) spellings ++ replicate 3 end_position)
 
 -- the positions of a list of messages
 pub record IsBroadcast (messages : List MessageView) (positions : List SentPosition) : Type 0 where
@@ -83,4 +87,5 @@ header identity = start_marker ++ (space ∷ identity_bytes identity)
 -- what is printed of a message: its header and a newline, its text, NNNN and two newlines
 abbrev pub printed_text : MessageView → List ℕ
 printed_text message =
-    header message.identity ++ newline ∷ (text_of message.lines ++ (end_marker ++ newline ∷ newline ∷ []))
+    header message.identity
+    ++ newline ∷ (text_of message.lines ++ (end_marker ++ newline ∷ newline ∷ []))

@@ -1,11 +1,12 @@
--- The channel: in which words an emission may be received (this profile). Words are those of slots; what arrives of the
--- slots before slot 96 belongs to the gap before the emission.
+-- The channel: in which words an emission may be received (this profile). Words are those of slots;
+-- what arrives of the slots before slot 96 belongs to the gap before the emission.
 use Rattle.std.specs.Prelude.{◌≡◌, ◌≢◌, ℕ, zero, suc, ◌+◌, ◌-◌, ◌*◌, ◌<◌, ◌≤◌, ◌==◌, ◌⊎◌, if◌then◌else◌, List, [], ◌∷◌, length, slice_index}
 use Rattle.nx_code.specs.Phasing.{phasing_1, phasing_2}
 use Rattle.nx_code.specs.Word.{weight}
 use Rattle.nx_fec.specs.Emission.{SentPosition, end_position, position_at, word_sent, AreWords}
 
--- the first slot whose word is received: the last 48 words of the phasing before the first message begin there
+-- the first slot whose word is received: the last 48 words of the phasing before the first message
+-- begin there
 abbrev pub first_slot : ℕ
 first_slot = 96
 
@@ -29,10 +30,10 @@ IsAsSent positions heard slot = heard_in heard slot ≡ word_sent positions slot
 abbrev pub IsWrongIn : List ℕ → ℕ → Type 0
 IsWrongIn heard slot = weight (heard_in heard slot) ≢ 4
 
--- The emission of these positions passes the channel, and these are the words that are heard from slot 96 on, to its
--- last slot, each by its number. The words of slots 96 to 143 are as sent; each later word is as sent or has the wrong
--- weight; and of each position from 72 on that isn't one of the end, at least one of its two words, in the slots 2i and
--- 2i+5, is as sent.
+-- The emission of these positions passes the channel, and these are the words that are heard from
+-- slot 96 on, to its last slot, each by its number. The words of slots 96 to 143 are as sent; each
+-- later word is as sent or has the wrong weight; and of each position from 72 on that isn't one of
+-- the end, at least one of its two words, in the slots 2i and 2i+5, is as sent.
 pub record PassesChannel (positions : List SentPosition) (heard : List ℕ) : Type 0 where
   pub words : AreWords heard
   pub whole : first_slot + length heard ≡ slots_of positions

@@ -3,11 +3,11 @@ use Rattle.std.specs.Prelude.{◌≡◌, ℕ, Bool, List, [], ◌∷◌, ◌++�
 use Rattle.std.specs.Io.KnownBytes.{Appends}
 use Rattle.nx_envelope.specs.MessageView.{MessageView}
 use Rattle.nx_fec.specs.Devices.{WroteSome}
-use Rattle.nx_fec.specs.Lines.{IsBitFile}
+use Rattle.nx_fec.specs.Lines.{IsBitFile, line_end}
 use Rattle.nx_fec.specs.Runs.{ExplainsReading, file_limit}
 use Rattle.nx_fec.specs.Transfers.{Devices, IsReadOut, Transfers, at_the_end}
 use Rattle.nx_fec.specs.declared.fault.RunFault.TheVariants as run
-use Rattle.nx_station.specs.MessageFile.{file_message_of, file_of, line_feed}
+use Rattle.nx_station.specs.MessageFile.{file_message_of, entries_file}
 use Rattle.nx_station.specs.Sendable.{AreOf}
 use Rattle.nx_station.specs.StrictReading.{ExplainsEmission, IsEmissionOf}
 use Rattle.nx_station.specs.declared.fault.CheckFault.{CheckFault}
@@ -15,14 +15,14 @@ use Rattle.nx_station.specs.declared.fault.CheckFault.TheVariants.{Run, Emission
 
 -- the line of the station
 abbrev pub station_line : ℕ → List ℕ
-station_line station = codes "station " ++ station ∷ line_feed ∷ []
+station_line station = codes "station " ++ station ∷ line_end ∷ []
 
 -- what is written of messages: the line of their station, and their message file
 abbrev pub report : ℕ → List MessageView → List ℕ
-report station messages = station_line station ++ file_of (map file_message_of messages)
+report station messages = station_line station ++ entries_file (map file_message_of messages)
 
--- What is written of an air file, and the count that is answered: its elements are the emission of messages, all of one
--- station.
+-- What is written of an air file, and the count that is answered: its elements are the emission of
+-- messages, all of one station.
 pub record IsChecked (limit : ℕ) (air written : List ℕ) (count : ℕ) : Type 0 where
   pub bits : List Bool
   pub file : IsBitFile limit air bits
@@ -33,23 +33,27 @@ pub record IsChecked (limit : ℕ) (air written : List ℕ) (count : ℕ) : Type
   pub whole : written ≡ report station messages
   pub counted : count ≡ length messages
 
--- What a fault of checking says of the air file that was read: a fault of reading its elements, or of writing, or of
--- its elements.
-abbrev pub ExplainsChecking : Type 0 → ℕ → List ℕ → Option (List ℕ) → Option (List ℕ) → CheckFault → Type 0
+-- What a fault of checking says of the air file that was read: a fault of reading its elements, or
+-- of writing, or of its elements.
+abbrev pub ExplainsChecking : Type 0 → ℕ → List ℕ → Option (List ℕ) → Option (List ℕ)
+    → CheckFault → Type 0
 ExplainsChecking AtEnd limit air old new (Run (run.Write written)) =
-    AtEnd × (text : List ℕ) × (count : ℕ) × IsChecked limit air text count × WroteSome old new text written
+    AtEnd × (text : List ℕ) × (count : ℕ) × IsChecked limit air text count
+    × WroteSome old new text written
 ExplainsChecking AtEnd limit air old new (Run fault) = ExplainsReading AtEnd limit air fault
 ExplainsChecking AtEnd limit air old new (Emission fault) =
     AtEnd × (bits : List Bool) × IsBitFile limit air bits × ExplainsEmission bits fault
 
--- what checking answers to an air file: the count of its messages, whose report was written, or a fault
-abbrev pub AnswersChecking : Type 0 → ℕ → List ℕ → Option (List ℕ) → Option (List ℕ) → Result ℕ CheckFault → Type 0
+-- what checking answers to an air file: the count of its messages, whose report was written, or a
+-- fault
+abbrev pub AnswersChecking : Type 0 → ℕ → List ℕ → Option (List ℕ) → Option (List ℕ)
+    → Result ℕ CheckFault → Type 0
 AnswersChecking AtEnd limit air old new (Ok count) =
     AtEnd × (text : List ℕ) × IsChecked limit air text count × Appends old new text
 AnswersChecking AtEnd limit air old new (Err fault) = ExplainsChecking AtEnd limit air old new fault
 
--- A run that checks: it answers so to the bytes that it read, and to the whole file, however it came; and it writes
--- nothing before all else succeeded.
+-- A run that checks: it answers so to the bytes that it read, and to the whole file, however it
+-- came; and it writes nothing before all else succeeded.
 abbrev pub Checks : {R W : Type 0} → Devices R W → Result ℕ CheckFault → Type 0
 Checks d outcome =
     Transfers (Run run.Read) (λ written. Run (run.Write written)) at_the_end d outcome

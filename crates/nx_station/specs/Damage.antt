@@ -27,26 +27,32 @@ names Dx word = word % 2 == 0
 names Rx word = word % 2 == 1
 names All word = true
 
--- whether a word is damaged: it isn't before the first one, fewer than so many lie between, and its kind is named
+-- whether a word is damaged: it isn't before the first one, fewer than so many lie between, and its
+-- kind is named
 abbrev pub hits : Damage → ℕ → Bool
-hits damage word = (not (nat_lt word damage.from) && nat_lt (word - damage.from) damage.count) && names damage.kind word
+hits damage word =
+    (not (nat_lt word damage.from) && nat_lt (word - damage.from) damage.count)
+    && names damage.kind word
 
--- whether the element at this place of all elements is inverted: it is the first of a word that is damaged, where word
--- k has the elements 7k to 7k+6
+-- whether the element at this place of all elements is inverted: it is the first of a word that is
+-- damaged, where word k has the elements 7k to 7k+6
 abbrev pub inverts : Damage → ℕ → Bool
 inverts damage place = (place % 7 == 0) && hits damage (place / 7)
 
 abbrev pub damaged_element : Damage → ℕ → Bool → Bool
 damaged_element damage place element = if inverts damage place then not element else element
 
--- elements after the damage, and how many of them are inverted; the first stands at this place of all elements
+-- elements after the damage, and how many of them are inverted; the first stands at this place of
+-- all elements
 abbrev pub damaged_elements : Damage → ℕ → List Bool → List Bool
 damaged_elements damage place [] = []
-damaged_elements damage place (element ∷ more) = damaged_element damage place element ∷ damaged_elements damage (place + 1) more
+damaged_elements damage place (element ∷ more) =
+    damaged_element damage place element ∷ damaged_elements damage (place + 1) more
 
 abbrev pub inverted_count : Damage → ℕ → List Bool → ℕ
 inverted_count damage place [] = 0
-inverted_count damage place (element ∷ more) = value_of (inverts damage place) + inverted_count damage (place + 1) more
+inverted_count damage place (element ∷ more) =
+    value_of (inverts damage place) + inverted_count damage (place + 1) more
 
 -- lines after the damage: those that have no elements are as they were
 abbrev pub damaged_line : Damage → ℕ → Line → Line
@@ -81,20 +87,24 @@ line_fault (file.LineCut line) = LineCut line
 line_fault (file.BadLine line) = BadLine line
 
 -- the air file has this fault, its first, and the whole lines before it were written
-abbrev pub StopsFor : Type 0 → ℕ → Damage → Option (List ℕ) → Option (List ℕ) → List ℕ → LineFault → Type 0
+abbrev pub StopsFor : Type 0 → ℕ → Damage → Option (List ℕ) → Option (List ℕ) → List ℕ → LineFault
+    → Type 0
 StopsFor AtEnd limit damage old new air why =
     IsPlaced AtEnd why
-    × StopsAt air (λ lines rest more. IsCause limit (length (file_of lines ++ rest)) lines rest more why
+    × StopsAt air (λ lines rest more.
+    IsCause limit (length (file_of lines ++ rest)) lines rest more why
     × Appends old new (damaged_file damage lines))
 
--- What a fault says of the air file that was read. After a failed read no byte is left of which `IsLeft` doesn't hold,
--- and the whole lines before it were written; so it is with a fault of the file; a write that failed wrote a part.
-abbrev pub ExplainsDamaging : Type 0 → (List ℕ → Type 0) → ℕ → Damage → Option (List ℕ) → Option (List ℕ) → List ℕ
-    → DamageFault → Type 0
+-- What a fault says of the air file that was read. After a failed read no byte is left of which
+-- `IsLeft` doesn't hold, and the whole lines before it were written; so it is with a fault of the
+-- file; a write that failed wrote a part.
+abbrev pub ExplainsDamaging : Type 0 → (List ℕ → Type 0) → ℕ → Damage
+    → Option (List ℕ) → Option (List ℕ) → List ℕ → DamageFault → Type 0
 ExplainsDamaging AtEnd IsLeft limit damage old new air Read =
     StopsAt air (λ lines rest more. (length (file_of lines ++ rest) ≤ limit) × IsLeft more
     × Appends old new (damaged_file damage lines))
-ExplainsDamaging AtEnd IsLeft limit damage old new air AirTooLong = StopsFor AtEnd limit damage old new air file.TooLong
+ExplainsDamaging AtEnd IsLeft limit damage old new air AirTooLong =
+    StopsFor AtEnd limit damage old new air file.TooLong
 ExplainsDamaging AtEnd IsLeft limit damage old new air (LineLong line) =
     StopsFor AtEnd limit damage old new air (file.LineLong line)
 ExplainsDamaging AtEnd IsLeft limit damage old new air (LineCut line) =
@@ -105,15 +115,15 @@ ExplainsDamaging AtEnd IsLeft limit damage old new air (Write written) =
     StopsAt air (λ lines rest more. WroteSome old new (damaged_file damage lines) written)
 
 -- what damaging answers to an air file: the count of the elements that it inverted, or a fault
-abbrev pub AnswersDamaging : Type 0 → (List ℕ → Type 0) → ℕ → Damage → Option (List ℕ) → Option (List ℕ)
-    → Result ℕ DamageFault → List ℕ → Type 0
+abbrev pub AnswersDamaging : Type 0 → (List ℕ → Type 0) → ℕ → Damage
+    → Option (List ℕ) → Option (List ℕ) → Result ℕ DamageFault → List ℕ → Type 0
 AnswersDamaging AtEnd IsLeft limit damage old new (Ok count) air =
     AtEnd × (text : List ℕ) × IsDamaged damage limit air text count × Appends old new text
 AnswersDamaging AtEnd IsLeft limit damage old new (Err fault) air =
     ExplainsDamaging AtEnd IsLeft limit damage old new air fault
 
--- A run that damages: it answers so to the bytes that it read, and to the whole file, however it came; and it writes
--- the whole lines that it read before each further read.
+-- A run that damages: it answers so to the bytes that it read, and to the whole file, however it
+-- came; and it writes the whole lines that it read before each further read.
 abbrev pub Damages : {R W : Type 0} → Damage → Devices R W → Result ℕ DamageFault → Type 0
 Damages damage d outcome =
     Transfers Read (λ written. Write written) on_the_way d outcome

@@ -8,6 +8,7 @@ pub mod Channel
 pub mod Sendings
 pub mod ChannelExample
 pub mod StrictReading
+pub mod PrintedText
 pub mod Checking
 pub mod Damage
 pub mod DamageTaker

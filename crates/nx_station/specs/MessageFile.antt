@@ -2,6 +2,7 @@
 use Rattle.std.specs.Prelude.{◌≡◌, ◌≢◌, ℕ, ◌+◌, ◌≤◌, List, [], ◌∷◌, ◌++◌, length, Option, Some, None, ⊤}
 use Rattle.std.specs.List.{flat_map, AllByRecursion}
 use Rattle.nx_envelope.specs.Digits.{two_digits}
+use Rattle.nx_fec.specs.Lines.{line_end}
 use Rattle.nx_code.specs.Characters.{IsCapital}
 use Rattle.nx_envelope.specs.Message.{AreLines, IsMessageFault, text_of}
 use Rattle.nx_envelope.specs.MessageView.{MessageView}
@@ -22,10 +23,6 @@ file_message_of message = record {
   lines = message.lines;
 }
 
--- the byte that ends each line
-abbrev pub line_feed : ℕ
-line_feed = 10
-
 -- the first line of a message, without its end: `#`, the subject, two digits
 abbrev pub heading : ℕ → ℕ → List ℕ
 heading subject number = 35 ∷ subject ∷ two_digits number
@@ -36,15 +33,15 @@ closing = 59 ∷ []
 
 -- the lines of a message up to the last line of its text
 abbrev pub opening : FileMessage → List ℕ
-opening entry = heading entry.subject entry.number ++ line_feed ∷ text_of entry.lines
+opening entry = heading entry.subject entry.number ++ line_end ∷ text_of entry.lines
 
 -- all lines of a message
-abbrev pub spelling : FileMessage → List ℕ
-spelling entry = opening entry ++ (closing ++ line_feed ∷ [])
+abbrev pub entry_bytes : FileMessage → List ℕ
+entry_bytes entry = opening entry ++ (closing ++ line_end ∷ [])
 
 -- the file of these messages
-abbrev pub file_of : List FileMessage → List ℕ
-file_of entries = flat_map spelling entries
+abbrev pub entries_file : List FileMessage → List ℕ
+entries_file entries = flat_map entry_bytes entries
 
 -- a subject is a letter, and a number has two digits
 pub record IsNamed (subject number : ℕ) : Type 0 where
@@ -58,12 +55,12 @@ pub record IsFileMessage (entry : FileMessage) : Type 0 where
 
 -- the file of these bytes is these messages
 pub record IsMessageFile (bytes : List ℕ) (entries : List FileMessage) : Type 0 where
-  pub whole : bytes ≡ file_of entries
+  pub whole : bytes ≡ entries_file entries
   pub each : AllByRecursion IsFileMessage entries
 
 -- bytes without a line feed
 abbrev pub IsOneLine : List ℕ → Type 0
-IsOneLine line = AllByRecursion (λ byte. byte ≢ line_feed) line
+IsOneLine line = AllByRecursion (λ byte. byte ≢ line_end) line
 
 -- a line inside a message that doesn't end it
 pub record IsInside (line : List ℕ) : Type 0 where
@@ -92,7 +89,7 @@ IsBegunIf (Some entry) = IsBegun entry
 pub record IsBadLine (bytes : List ℕ) : Type 0 where
   pub line : List ℕ
   pub more : List ℕ
-  pub whole : bytes ≡ line ++ line_feed ∷ more
+  pub whole : bytes ≡ line ++ line_end ∷ more
   pub one_line : IsOneLine line
   pub begins_none : (subject number : ℕ) → IsNamed subject number → line ≢ heading subject number
 
@@ -100,12 +97,12 @@ pub record IsBadLine (bytes : List ℕ) : Type 0 where
 pub record IsBadText (bytes : List ℕ) (fault : MessageFault) : Type 0 where
   pub entry : FileMessage
   pub more : List ℕ
-  pub whole : bytes ≡ spelling entry ++ more
+  pub whole : bytes ≡ entry_bytes entry ++ more
   pub begun : IsBegun entry
   pub faulty : IsMessageFault entry.lines fault
 
 -- the file ends inside a line, which stands behind so many others
-pub record IsCut (bytes : List ℕ) (behind : ℕ) : Type 0 where
+pub record EndsInLine (bytes : List ℕ) (behind : ℕ) : Type 0 where
   pub before : Option FileMessage
   pub line : List ℕ
   pub whole : bytes ≡ bytes_begun before ++ line
@@ -128,21 +125,23 @@ IsOfLines (message.Reserved line) = ⊤
 IsOfLines message.LongText = ⊤
 IsOfLines (message.Memory error) = ⊥
 
--- the fault of a message file, with the number of a line, from 1: a line that begins no message; a message, by its
--- first line, whose lines have this fault; the line in which the file ends; the message, by its first line, in which it
--- ends
+-- the fault of a message file, with the number of a line, from 1: a line that begins no message; a
+-- message, by its first line, whose lines have this fault; the line in which the file ends; the
+-- message, by its first line, in which it ends
 pub data FileFault : Type 0 where
   bad_line : ℕ → FileFault
   bad_text : ℕ → MessageFault → FileFault
   line_cut : ℕ → FileFault
   not_ended : ℕ → FileFault
 
--- The fault stands in the first message of these bytes, or in the first line where that begins none. So many lines
--- stand before them in the file, and lines count from 1.
+-- The fault stands in the first message of these bytes, or in the first line where that begins
+-- none. So many lines stand before them in the file, and lines count from 1.
 abbrev pub IsFirstFault : ℕ → List ℕ → FileFault → Type 0
 IsFirstFault before bytes (bad_line line) = (line ≡ before + 1) × IsBadLine bytes
-IsFirstFault before bytes (bad_text line fault) = (line ≡ before + 1) × IsBadText bytes fault × IsOfLines fault
-IsFirstFault before bytes (line_cut line) = (behind : ℕ) × (line ≡ before + behind + 1) × IsCut bytes behind
+IsFirstFault before bytes (bad_text line fault) =
+    (line ≡ before + 1) × IsBadText bytes fault × IsOfLines fault
+IsFirstFault before bytes (line_cut line) =
+    (behind : ℕ) × (line ≡ before + behind + 1) × EndsInLine bytes behind
 IsFirstFault before bytes (not_ended line) = (line ≡ before + 1) × IsOpen bytes
 
 -- how many lines messages have in a file
@@ -154,6 +153,6 @@ lines_of (entry ∷ entries) = (2 + length entry.lines) + lines_of entries
 pub record HasFirstFault (bytes : List ℕ) (why : FileFault) : Type 0 where
   pub entries : List FileMessage
   pub rest : List ℕ
-  pub whole : bytes ≡ file_of entries ++ rest
+  pub whole : bytes ≡ entries_file entries ++ rest
   pub each : AllByRecursion IsFileMessage entries
   pub first : IsFirstFault (lines_of entries) rest why

@@ -19,8 +19,9 @@ use Rattle.nx_station.specs.declared.fault.SendRunFault.{SendRunFault}
 use Rattle.nx_station.specs.declared.fault.SendRunFault.TheVariants.{Read, FileTooLong, BadLine, Text, LineCut, Open, Send, Write, Memory}
 use Rattle.nx_station.specs.declared.sending.Sent.{Sent}
 
--- The air file that is written of a message file. It has messages, all of that station, which may be sent. Its first
--- line is the moment at which the station's next slot begins, and the others are the elements of the emission.
+-- The air file that is written of a message file. It has messages, all of that station, which may
+-- be sent. Its first line is the moment at which the station's next slot begins, and the others are
+-- the elements of the emission.
 pub record IsTransmission (station from : ℕ) (file written : List ℕ) (sent : Sent) : Type 0 where
   pub messages : List MessageView
   pub is_file : IsMessageFile file (map file_message_of messages)
@@ -40,7 +41,8 @@ pub record IsLate (station from : ℕ) (file : List ℕ) : Type 0 where
   pub of_station : AreOf station messages
   pub none : HasNoSlot station from
 
--- the file has messages of that station, which has a next slot, and they have so many positions, too many for it
+-- the file has messages of that station, which has a next slot, and they have so many positions,
+-- too many for it
 pub record IsTooLong (station from : ℕ) (file : List ℕ) (count : ℕ) : Type 0 where
   pub messages : List MessageView
   pub is_file : IsMessageFile file (map file_message_of messages)
@@ -55,10 +57,12 @@ abbrev pub ExplainsRefusal : ℕ → ℕ → List ℕ → SendFault → Type 0
 ExplainsRefusal station from file refusal.NoMessages = IsMessageFile file []
 ExplainsRefusal station from file (refusal.MixedStations at) = ⊥
 ExplainsRefusal station from file refusal.NoSlot = IsLate station from file
-ExplainsRefusal station from file (refusal.SlotFull positions) = IsTooLong station from file positions
+ExplainsRefusal station from file (refusal.SlotFull positions) =
+    IsTooLong station from file positions
 ExplainsRefusal station from file (refusal.Memory error) = ⊥
 
--- what a fault says of the first message of these bytes, before which so many lines stand; want of memory says nothing
+-- what a fault says of the first message of these bytes, before which so many lines stand; want of
+-- memory says nothing
 abbrev pub ExplainsFirst : ℕ → List ℕ → SendRunFault → Type 0
 ExplainsFirst before bytes (BadLine line) = IsFirstFault before bytes (bad_line line)
 ExplainsFirst before bytes (Text line fault) = IsFirstFault before bytes (bad_text line fault)
@@ -76,9 +80,11 @@ ExplainsFile file (Open line) = HasFirstFault file (not_ended line)
 ExplainsFile file (Memory error) = ⊤
 ExplainsFile file _ = ⊥
 
--- What a fault of sending says of the file. That it is the first means that it is that of the whole file, so `AtEnd`
--- holds: the file was read to its end. A read that failed and a want of memory say nothing of it.
-abbrev pub ExplainsSending : Type 0 → ℕ → ℕ → ℕ → List ℕ → Option (List ℕ) → Option (List ℕ) → SendRunFault → Type 0
+-- What a fault of sending says of the file. That it is the first means that it is that of the whole
+-- file, so `AtEnd` holds: the file was read to its end. A read that failed and a want of memory say
+-- nothing of it.
+abbrev pub ExplainsSending : Type 0 → ℕ → ℕ → ℕ → List ℕ → Option (List ℕ) → Option (List ℕ)
+    → SendRunFault → Type 0
 ExplainsSending AtEnd limit station from file old new Read = ⊤
 ExplainsSending AtEnd limit station from file old new (Memory error) = ⊤
 ExplainsSending AtEnd limit station from file old new FileTooLong = limit < length file
@@ -86,19 +92,22 @@ ExplainsSending AtEnd limit station from file old new (Send refused) =
     AtEnd × (length file ≤ limit) × ExplainsRefusal station from file refused
 ExplainsSending AtEnd limit station from file old new (Write written) =
     AtEnd × (length file ≤ limit)
-    × (air : List ℕ) × (sent : Sent) × IsTransmission station from file air sent × WroteSome old new air written
-ExplainsSending AtEnd limit station from file old new fault = AtEnd × (length file ≤ limit) × ExplainsFile file fault
+    × (air : List ℕ) × (sent : Sent) × IsTransmission station from file air sent
+    × WroteSome old new air written
+ExplainsSending AtEnd limit station from file old new fault =
+    AtEnd × (length file ≤ limit) × ExplainsFile file fault
 
 -- what sending answers to a message file, which is written as an air file
-abbrev pub AnswersSending : Type 0 → ℕ → ℕ → ℕ → List ℕ → Option (List ℕ) → Option (List ℕ) → Result Sent SendRunFault
-    → Type 0
+abbrev pub AnswersSending : Type 0 → ℕ → ℕ → ℕ → List ℕ → Option (List ℕ) → Option (List ℕ)
+    → Result Sent SendRunFault → Type 0
 AnswersSending AtEnd limit station from file old new (Ok sent) =
-    AtEnd × (length file ≤ limit) × (air : List ℕ) × IsTransmission station from file air sent × Appends old new air
+    AtEnd × (length file ≤ limit)
+    × (air : List ℕ) × IsTransmission station from file air sent × Appends old new air
 AnswersSending AtEnd limit station from file old new (Err fault) =
     ExplainsSending AtEnd limit station from file old new fault
 
--- A run that sends: it answers so to the bytes that it read, and to the whole file, however it came; and it writes
--- nothing before all else succeeded.
+-- A run that sends: it answers so to the bytes that it read, and to the whole file, however it
+-- came; and it writes nothing before all else succeeded.
 abbrev pub Sends : {R W : Type 0} → Devices R W → ℕ → ℕ → Result Sent SendRunFault → Type 0
 Sends d station from outcome =
     Transfers Read (λ written. Write written) at_the_end d outcome

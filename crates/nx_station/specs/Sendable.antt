@@ -24,7 +24,8 @@ pub record HavePositions (messages : List MessageView) (count : ℕ) : Type 0 wh
   pub broadcast : IsBroadcast messages positions
   pub counted : count ≡ length positions
 
--- a station may send the messages: they are some, all of one station that has slots, and fit into a slot
+-- a station may send the messages: they are some, all of one station that has slots, and fit into a
+-- slot
 pub record IsSendable (messages : List MessageView) : Type 0 where
   pub station : ℕ
   pub of_one : AreOf station messages
@@ -38,7 +39,9 @@ pub record IsSendable (messages : List MessageView) : Type 0 where
 abbrev pub first_of_another : List MessageView → Option ℕ
 first_of_another [] = None
 first_of_another (first ∷ messages) =
-    position (λ (message : MessageView). not (message.identity.b1.byte == first.identity.b1.byte)) (first ∷ messages)
+    position
+    (λ (message : MessageView). not (message.identity.b1.byte == first.identity.b1.byte))
+    (first ∷ messages)
 
 -- the messages are of one station, which has no slots
 pub record HaveNoSlot (messages : List MessageView) : Type 0 where

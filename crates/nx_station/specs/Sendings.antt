@@ -1,5 +1,5 @@
--- Sendings: the messages of the emissions that are received in a list of bits, with any bits between them (this
--- profile).
+-- Sendings: the messages of the emissions that are received in a list of bits, with any bits
+-- between them (this profile).
 use Rattle.std.specs.Prelude.{◌≡◌, ℕ, ◌+◌, ◌-◌, ◌*◌, Bool, List, [], ◌∷◌, ◌++◌, ◌≤◌, length, map, take, slice_get, Some}
 use Rattle.std.specs.List.{AllByRecursion, flat_map}
 use Rattle.nx_envelope.specs.MessageView.{MessageView}
@@ -8,13 +8,15 @@ use Rattle.nx_station.specs.Broadcast.{AreSpelled, IsSpelled, layout}
 use Rattle.nx_station.specs.Channel.{PassesChannel, first_slot}
 use Rattle.nx_station.specs.Sendable.{IsSendable}
 
--- an emission that is received: its messages, the combinations of each, and the words that are heard from slot 96 on
+-- an emission that is received: its messages, the combinations of each, and the words that are
+-- heard from slot 96 on
 pub record ReceivedEmission : Type 0 where
   pub messages : List MessageView
   pub spellings : List (List ℕ)
   pub heard : List ℕ
 
--- a station may send the messages, these are their combinations, and their emission passes the channel as these words
+-- a station may send the messages, these are their combinations, and their emission passes the
+-- channel as these words
 pub record IsReceived (emission : ReceivedEmission) : Type 0 where
   pub sendable : IsSendable emission.messages
   pub spelled : AreSpelled emission.messages emission.spellings
@@ -43,8 +45,8 @@ pub record IsCut (bits : List Bool) (parts : List Part) : Type 0 where
   pub whole : bits ≡ bits_of_parts parts
   pub each : AllByRecursion IsSound parts
 
--- How many positions are sent before the message that follows messages with these combinations: 72 of phasing before
--- the first message, and 36 before each further one.
+-- How many positions are sent before the message that follows messages with these combinations: 72
+-- of phasing before the first message, and 36 before each further one.
 abbrev pub positions_before : List (List ℕ) → ℕ
 positions_before [] = 72
 positions_before (numbers ∷ spellings) = (length numbers + 36) + positions_before spellings
@@ -53,8 +55,8 @@ positions_before (numbers ∷ spellings) = (length numbers + 36) + positions_bef
 abbrev pub digit_slot : List (List ℕ) → ℕ → ℕ
 digit_slot spellings i = 2 * (positions_before (take i spellings) + 10) + 5
 
--- A message that is sent, and the place of its header: the index, among all bits, of the last bit of the RX word of its
--- second digit.
+-- A message that is sent, and the place of its header: the index, among all bits, of the last bit
+-- of the RX word of its second digit.
 pub record Sending : Type 0 where
   pub message : MessageView
   pub place : ℕ
@@ -67,10 +69,13 @@ pub record IsSending (parts : List Part) (sending : Sending) : Type 0 where
   pub among : parts ≡ before ++ received emission ∷ after
   pub index : ℕ
   pub message : slice_get emission.messages index ≡ Some sending.message
-  pub place : sending.place ≡ length (bits_of_parts before) + 7 * (digit_slot emission.spellings index - first_slot) + 6
+  pub place : sending.place ≡ length (bits_of_parts before)
+      + 7 * (digit_slot emission.spellings index - first_slot) + 6
 
--- a message stands in the positions from a place on: its combinations are sent there, one after another
-pub record StandsFrom (positions : List SentPosition) (message : MessageView) (from : ℕ) : Type 0 where
+-- a message stands in the positions from a place on: its combinations are sent there, one after
+-- another
+pub record StandsFrom (positions : List SentPosition) (message : MessageView) (from : ℕ)
+    : Type 0 where
   pub numbers : List ℕ
   pub spelled : IsSpelled message numbers
   pub front : List SentPosition

@@ -1,5 +1,5 @@
--- The slots of stations (ITU-R M.540: the stations of an area send by turns; that the turns are ten minutes of each
--- four hours, counted from 1970-01-01 00:00:00 UTC, is this profile's).
+-- The slots of stations (ITU-R M.540: the stations of an area send by turns; that the turns are ten
+-- minutes of each four hours, counted from 1970-01-01 00:00:00 UTC, is this profile's).
 use Rattle.std.specs.Prelude.{◌≡◌, ℕ, ◌+◌, ◌-◌, ◌*◌, ◌<◌, ◌≤◌}
 use Rattle.nx_envelope.specs.Moment.{last_moment}
 
@@ -7,14 +7,16 @@ use Rattle.nx_envelope.specs.Moment.{last_moment}
 abbrev pub HasSlots : ℕ → Type 0
 HasSlots station = station ≤ 88
 
--- A slot of the station begins at this moment. In each round of 14,400 seconds each station has one, which begins 600
--- seconds after that of the station before it; that of A begins with the round.
+-- A slot of the station begins at this moment. In each round of 14,400 seconds each station has
+-- one, which begins 600 seconds after that of the station before it; that of A begins with the
+-- round.
 pub record IsSlot (station moment : ℕ) : Type 0 where
   pub has_slots : HasSlots station
   pub round : ℕ
   pub begins : moment ≡ 14400 * round + 600 * (station - 65)
 
--- the next slot of the station, from a moment on: the least that isn't before it, and no later than the last moment
+-- the next slot of the station, from a moment on: the least that isn't before it, and no later than
+-- the last moment
 pub record IsNextSlot (station moment slot : ℕ) : Type 0 where
   pub is_slot : IsSlot station slot
   pub not_before : moment ≤ slot

@@ -1,16 +1,12 @@
--- What strict reading finds in elements: the messages of an emission, or the first of its faults (ITU-R M.625, mode B,
--- for words and pairs; ITU-R M.540, form of a message; that all else is refused, and in which order, is this
--- profile's).
-use Rattle.std.specs.Prelude.{◌≡◌, ◌≢◌, ℕ, ◌+◌, ◌*◌, ◌%◌, ◌<◌, Bool, List, ◌∷◌, ◌++◌, length, slice_index, ⊤}
-use Rattle.std.specs.List.{flat_map, AllByRecursion}
+-- What strict reading finds in elements: the messages of an emission, or the first of its faults
+-- (ITU-R M.625, mode B, for words and pairs; ITU-R M.540, form of a message; that all else is
+-- refused, and in which order, is this profile's).
+use Rattle.std.specs.Prelude.{◌≡◌, ◌≢◌, ℕ, ◌+◌, ◌*◌, ◌%◌, ◌<◌, Bool, List, length, slice_index, ⊤}
 use Rattle.nx_code.specs.Word.{weight}
-use Rattle.nx_envelope.specs.Marker.{end_marker}
-use Rattle.nx_envelope.specs.Message.{AreLines, text_of}
 use Rattle.nx_envelope.specs.MessageView.{MessageView}
 use Rattle.nx_fec.specs.Aligned.{words_of}
 use Rattle.nx_fec.specs.Emission.{SentPosition, IsInCode, bits_of, dx_word, emission, rx_word}
-use Rattle.nx_station.specs.Broadcast.{IsBroadcast, printed_text}
-use Rattle.nx_station.specs.MessageFile.{IsOneLine, line_feed}
+use Rattle.nx_station.specs.Broadcast.{IsBroadcast}
 use Rattle.nx_station.specs.Sendable.{IsSendable}
 use Rattle.nx_station.specs.declared.fault.EmissionFault.{EmissionFault}
 use Rattle.nx_station.specs.declared.fault.EmissionFault.TheVariants.{Ragged, WrongWord, Unpaired, BadEnvelope, Memory}
@@ -32,7 +28,8 @@ pub record IsWrongWord (words : List ℕ) (slot : ℕ) : Type 0 where
   pub within : slot < length words
   pub wrong : weight (slice_index words slot) ≢ 4
 
--- two words are those of a position that is sent: one traffic word twice, P2 and then P1, or P1 twice
+-- two words are those of a position that is sent: one traffic word twice, P2 and then P1, or P1
+-- twice
 pub record IsPair (dx rx : ℕ) : Type 0 where
   pub position : SentPosition
   pub in_code : IsInCode position
@@ -60,8 +57,9 @@ ArePaired bits = (position : ℕ) → ¬ IsUnpaired (words_of bits) position
 abbrev pub AreOfNone : List Bool → Type 0
 AreOfNone bits = (messages : List MessageView) → ¬ IsEmissionOf messages bits
 
--- What a fault of strict reading says of the elements. Each one says that those before it don't hold: no whole words;
--- then the least slot of a wrong word; then the least unpaired position; then all else. Memory is taken after these.
+-- What a fault of strict reading says of the elements. Each one says that those before it don't
+-- hold: no whole words; then the least slot of a wrong word; then the least unpaired position; then
+-- all else. Memory is taken after these.
 abbrev pub ExplainsEmission : List Bool → EmissionFault → Type 0
 ExplainsEmission bits (Ragged given) = (given ≡ length bits) × (length bits % 7 ≢ 0)
 ExplainsEmission bits (WrongWord slot) = AreWhole bits × IsLeast (IsWrongWord (words_of bits)) slot
@@ -74,36 +72,3 @@ ExplainsEmission bits (Memory error) = AreWhole bits × AreRight bits × ArePair
 abbrev pub IsMemory : EmissionFault → Type 0
 IsMemory (Memory error) = ⊤
 IsMemory _ = ⊥
-
--- a line of a printed text that doesn't end a message
-pub record IsUnended (line : List ℕ) : Type 0 where
-  pub one_line : IsOneLine line
-  pub goes_on : line ≢ end_marker
-
--- lines, and after them the end of a message, as they are printed
-abbrev pub ended_lines : List (List ℕ) → List ℕ → List ℕ
-ended_lines lines more = text_of lines ++ (end_marker ++ line_feed ∷ more)
-
--- the lines of each message are those of a message
-abbrev pub AreSound : List MessageView → Type 0
-AreSound messages = AllByRecursion (λ (message : MessageView). AreLines message.lines) messages
-
--- what a fault says of a printed text: it begins with no lines that are ended, with no message, or is that of no
--- messages
-abbrev pub ExplainsLines : List ℕ → EmissionFault → Type 0
-ExplainsLines bytes BadEnvelope =
-    (lines : List (List ℕ)) (more : List ℕ) → AllByRecursion IsUnended lines → bytes ≢ ended_lines lines more
-ExplainsLines bytes (Memory error) = ⊤
-ExplainsLines bytes _ = ⊥
-
-abbrev pub ExplainsFirstPrinted : List ℕ → EmissionFault → Type 0
-ExplainsFirstPrinted bytes BadEnvelope =
-    (message : MessageView) (more : List ℕ) → AreLines message.lines → bytes ≢ printed_text message ++ more
-ExplainsFirstPrinted bytes (Memory error) = ⊤
-ExplainsFirstPrinted bytes _ = ⊥
-
-abbrev pub ExplainsPrinted : List ℕ → EmissionFault → Type 0
-ExplainsPrinted bytes BadEnvelope = (messages : List MessageView) → AreSound messages
-    → bytes ≢ flat_map printed_text messages
-ExplainsPrinted bytes (Memory error) = ⊤
-ExplainsPrinted bytes _ = ⊥

@@ -1,4 +1,5 @@
-//! The emission of a list of messages (M.540, form of a message; M.625, mode B, for phasing and the end).
+//! The emission of a list of messages (M.540, form of a message; M.625, mode B, for phasing and the
+//! end).
 ghost use Rattle.std.specs.Prelude.{◌≡◌, ◌≢◌, ◌<◌, ◌≤◌, ◌==◌, ◌+◌, ◌++◌, ◌∷◌, ℕ, List, [], IfOk, IfErr, IsTrue, OnOk, length, map, not, position, replicate, slice_index_or, take};
 ghost use Rattle.std.specs.List.{AllByRecursion, list_all};
 ghost use Rattle.nx_code.specs.Characters.{is_in_code};
@@ -20,7 +21,7 @@ use nx_fec::Position;
 use std::alloc::{AllocError, Global};
 
 /// The most positions of an emission, which a slot has room for.
-pub const MAX_POSITIONS: u128 = 4286;
+const MAX_POSITIONS: u128 = 4286;
 
 /// How many positions of phasing come before the first message.
 const FIRST_PHASING: usize = 72;
@@ -32,13 +33,15 @@ const FURTHER_PHASING: usize = 36;
 const ENDS: usize = 3;
 
 /// How many combinations end a line of text, carriage return and line feed.
-const LINE_END: u64 = 2;
+const LINE_END_COMBS: u64 = 2;
 
-/// The emission of messages of one station, at most 4,286 positions (M.540; the counts of phasing are this profile's):
-/// 72 positions of phasing and the first message, 36 of phasing before each further message, and three of the end.
+/// The emission of messages of one station, at most 4,286 positions (M.540; the counts of phasing
+/// are this profile's): 72 positions of phasing and the first message, 36 of phasing before each
+/// further message, and three of the end.
 ///
-/// `NoMessages`, then `MixedStations` where a message is of another station than the first, then `NoSlot` where that
-/// station is Y or Z, then `SlotFull`, all before any memory is taken; then `Memory`.
+/// `NoMessages`, then `MixedStations` where a message is of another station than the first, then
+/// `NoSlot` where that station is Y or Z, then `SlotFull`, all before any memory is taken; then
+/// `Memory`.
 pub fn emission(alloc: Global, messages: &[Message]) -> Result<Vec<Position>, SendFault>
     ensures positions { IfOk result (λ positions.
         IsBroadcast messages.now (map sent_position positions.items)) }
@@ -123,7 +126,7 @@ fn extent_of_text(message: &Message) -> Extent
         let line = line_at(message, i);
         let more = extent_of(line, extent.shift).unwrap();
         extent = Extent {
-            length: extent.length + more.length + LINE_END,
+            length: extent.length + more.length + LINE_END_COMBS,
             shift: more.shift,
         };
     }

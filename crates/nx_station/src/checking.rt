@@ -2,7 +2,7 @@
 ghost use Rattle.std.specs.Prelude.{◌≡◌, ◌++◌, IfOk, OnOk};
 ghost use Rattle.nx_fec.specs.Transfers.{devices};
 ghost use Rattle.nx_station.specs.Checking.{Checks, report};
-ghost use Rattle.nx_station.specs.MessageFile.{file_message_of, spelling};
+ghost use Rattle.nx_station.specs.MessageFile.{file_message_of, entry_bytes};
 
 use crate::broadcast::text_bytes;
 use crate::fault::CheckFault;
@@ -12,11 +12,13 @@ use nx_fec::{Counting, read_bits, write_out};
 use std::alloc::{AllocError, Global};
 use std::io::{Read, Write};
 
-/// Reads an air file to its end, reads its elements as an emission, and writes the line `station E`, with the station
-/// of its messages for E, and their message file. Answers how many messages there are.
+/// Reads an air file to its end, reads its elements as an emission, and writes the line `station
+/// E`, with the station of its messages for E, and their message file. Answers how many messages
+/// there are.
 ///
-/// The faults of `read_bits` come first, as `Run`; then those of `read_emission`, as `Emission`; then `Write`, as
-/// `Run`. Nothing is written before all else succeeded. Memory may run out at any growth.
+/// The faults of `read_bits` come first, as `Run`; then those of `read_emission`, as `Emission`;
+/// then `Write`, as `Run`. Nothing is written before all else succeeded. Memory may run out at any
+/// growth.
 pub fn check_run<R: Read, W: Write>(
     alloc: Global,
     reader: &mut Counting<R>,
@@ -51,7 +53,7 @@ fn report_of(alloc: Global, station: Letter, messages: &[Message]) -> Result<Vec
 /// Appends a message as a message file has it.
 fn push_entry(alloc: Global, file: &mut Vec<u8>, message: &Message) -> Result<(), AllocError>
     ensures { OnOk result (file.new.items
-        ≡ file.old.items ++ spelling (file_message_of message.now)) }
+        ≡ file.old.items ++ entry_bytes (file_message_of message.now)) }
 {
     let [_, subject, tens, units] = message.identity().bytes();
     let text = text_bytes(alloc, message)?;

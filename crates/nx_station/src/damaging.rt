@@ -44,14 +44,14 @@ struct Damaging {
     inverted: u64,
 }
 
-/// Copies an air file line by line, and inverts element 1 of each word k with `k >= from` and `k - from < count` that
-/// the kind names. Word k is the elements 7k to 7k+6 of all lines of elements together; an incomplete last word is
-/// treated alike. Answers how many elements it inverted. It takes no memory, and holds no more than a piece of the file
-/// and a line.
+/// Copies an air file line by line, and inverts element 1 of each word k with `k >= from` and `k -
+/// from < count` that the kind names. Word k is the elements 7k to 7k+6 of all lines of elements
+/// together; an incomplete last word is treated alike. Answers how many elements it inverted. It
+/// takes no memory, and holds no more than a piece of the file and a line.
 ///
-/// The faults are those of an air file of at most 268,435,456 bytes, in the order of its bytes: `AirTooLong`,
-/// `LineLong`, `LineCut`, `BadLine`; `Read` where a read failed. The whole lines before them were written. After
-/// `Write` the first `written` bytes were.
+/// The faults are those of an air file of at most 268,435,456 bytes, in the order of its bytes:
+/// `AirTooLong`, `LineLong`, `LineCut`, `BadLine`; `Read` where a read failed. The whole lines
+/// before them were written. After `Write` the first `written` bytes were.
 pub fn damage<R: Read, W: Write>(
     reader: &mut Counting<R>,
     writer: &mut Counting<W>,
@@ -160,7 +160,8 @@ impl Damaging {
     fn damaged_line(&mut self, bits: &[bool]) -> ArrayVec<u8, LINE_BYTES>
         requires { length bits.now ≤ 512 }
         ensures bytes { (first : taker.Damaging) (place : ℕ) → IsAt first self.old place
-            → result.items ≡ line_bytes (elements (damaged_elements (damage_of first) place bits.now)) }
+            → result.items
+            ≡ line_bytes (elements (damaged_elements (damage_of first) place bits.now)) }
         ensures at { (first : taker.Damaging) (place : ℕ) → IsAt first self.old place
             → IsAt first self.new (place + length bits.now) }
         ensures counted { (first : taker.Damaging) (place total : ℕ) → IsAt first self.old place

@@ -26,8 +26,8 @@ pub(crate) const ENDING: [Comb; 7] = [
     Comb::LINE_FEED,
 ];
 
-/// The head of a message: letter shift, ZCZC, space, station, subject, figure shift, two digits, carriage return, line
-/// feed.
+/// The head of a message: letter shift, ZCZC, space, station, subject, figure shift, two digits,
+/// carriage return, line feed.
 pub(crate) fn head_of(identity: Identity) -> [Comb; HEAD]
     ensures { map (λ comb. comb.number) result ≡ head identity }
 {

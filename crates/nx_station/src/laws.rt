@@ -36,8 +36,9 @@ pub fn a_file_has_one_outcome()
         → HasFirstFault bytes other → one ≡ other }
 {}
 
-/// What is sent of a message reads back: its header, a newline, its text, NNNN and two newlines, from whatever shift.
-/// It leaves letters in force, so the next message is read as well; phasing and the end print nothing.
+/// What is sent of a message reads back: its header, a newline, its text, NNNN and two newlines,
+/// from whatever shift. It leaves letters in force, so the next message is read as well; phasing
+/// and the end print nothing.
 pub fn messages_read_back()
     ensures message { (message : MessageView) (numbers : List ℕ) (first : Shift)
         → IsSpelled message numbers
@@ -60,8 +61,9 @@ pub fn messages_have_one_broadcast()
         → one ≡ other }
 {}
 
-/// Elements are the emission of one list of messages at most, so strict reading of an emission gives back what was
-/// sent; and they have one outcome: the messages, or one fault. Want of memory excludes nothing.
+/// Elements are the emission of one list of messages at most, so strict reading of an emission
+/// gives back what was sent; and they have one outcome: the messages, or one fault. Want of memory
+/// excludes nothing.
 pub fn an_emission_has_one_reading()
     ensures list { (bits : List Bool) (one other : List MessageView) → IsEmissionOf one bits
         → IsEmissionOf other bits → one ≡ other }
@@ -73,9 +75,9 @@ pub fn an_emission_has_one_reading()
         → IsMemory one ⊎ (IsMemory other ⊎ (one ≡ other)) }
 {}
 
-/// Checking gives back what was sent: an air file that sending wrote of a message file is checked, where it keeps to
-/// the limit, and the report is the line of the station and then the very bytes that were sent. An air file has one
-/// report.
+/// Checking gives back what was sent: an air file that sending wrote of a message file is checked,
+/// where it keeps to the limit, and the report is the line of the station and then the very bytes
+/// that were sent. An air file has one report.
 pub fn checking_gives_back_what_was_sent()
     ensures checked { (limit station from : ℕ) (file air : List ℕ) (sent : Sent)
         → IsTransmission station from file air sent
@@ -88,9 +90,9 @@ pub fn checking_gives_back_what_was_sent()
         → (text ≡ station_line station ++ file) × (count ≡ sent.messages) }
 {}
 
-/// Damage changes the elements that it names and nothing else, and twice it changes nothing: over lines, what is
-/// damaged again with the same damage is what was there; and the elements of all lines are damaged by their place among
-/// them all.
+/// Damage changes the elements that it names and nothing else, and twice it changes nothing: over
+/// lines, what is damaged again with the same damage is what was there; and the elements of all
+/// lines are damaged by their place among them all.
 pub fn damage_undoes_itself()
     ensures twice { (damage : Damage) (lines : List Line)
         → damaged_lines damage 0 (damaged_lines damage 0 lines) ≡ lines }

@@ -1,4 +1,5 @@
-//! A broadcast station (M.540): the slots of stations, the emissions of their messages, and message files.
+//! A broadcast station (M.540): the slots of stations, the emissions of their messages, and message
+//! files.
 #![tactic(auto)]
 
 mod broadcast;
@@ -13,7 +14,7 @@ mod reading;
 mod sending;
 mod slots;
 
-pub use broadcast::{MAX_POSITIONS, emission};
+pub use broadcast::emission;
 pub use checking::check_run;
 pub use damaging::{DamageKind, damage};
 pub use fault::{CheckFault, DamageFault, EmissionFault, SendFault, SendRunFault};

@@ -4,7 +4,7 @@ ghost use Rattle.std.specs.List.{AllByRecursion};
 ghost use Rattle.nx_envelope.specs.Message.{text_of};
 ghost use Rattle.nx_envelope.specs.MessageView.{MessageView};
 ghost use Rattle.nx_station.specs.Faults.{text_fault};
-ghost use Rattle.nx_station.specs.MessageFile.{IsFileMessage, IsInside, IsMessageFile, IsNamed, IsOneLine, file_message_of, heading, spelling};
+ghost use Rattle.nx_station.specs.MessageFile.{IsFileMessage, IsInside, IsMessageFile, IsNamed, IsOneLine, file_message_of, heading, entry_bytes};
 ghost use Rattle.nx_station.specs.Runs.{ExplainsFile, ExplainsFirst};
 
 use crate::fault::SendRunFault;
@@ -29,8 +29,8 @@ struct Body<'a> {
     rest: &'a [u8],
 }
 
-/// The messages of a message file, all of this station. The fault is the first in the file; memory may run out at any
-/// growth.
+/// The messages of a message file, all of this station. The fault is the first in the file; memory
+/// may run out at any growth.
 pub(crate) fn messages_in(
     alloc: Global,
     station: Letter,
@@ -67,7 +67,7 @@ fn first_message<'a>(
     requires some { 0 < length bytes.now }
     requires room { before + length bytes.now < 2 ^ 64 - 1 }
     ensures whole { IfOk result (λ part.
-        bytes.now ≡ spelling (file_message_of part.message) ++ part.rest.now) }
+        bytes.now ≡ entry_bytes (file_message_of part.message) ++ part.rest.now) }
     ensures sound { IfOk result (λ part. IsFileMessage (file_message_of part.message)) }
     ensures station { IfOk result (λ part. part.message.identity.b1.byte ≡ station.byte) }
     ensures lines { IfOk result (λ part. part.lines ≡ 2 + length part.message.lines) }
@@ -100,7 +100,8 @@ fn text_fault(line: u64, fault: MessageFault) -> SendRunFault
     }
 }
 
-/// The first line of some bytes, without its end, and what follows it; None where they have no end of a line.
+/// The first line of some bytes, without its end, and what follows it; None where they have no end
+/// of a line.
 pub(crate) fn split_line(bytes: &[u8]) -> Option<(&[u8], &[u8])>
     ensures one_line { IfSome result (λ parts. IsOneLine parts.0.now) }
     ensures whole { IfSome result (λ parts. bytes.now ≡ parts.0.now ++ 10 ∷ parts.1.now) }
@@ -110,7 +111,8 @@ pub(crate) fn split_line(bytes: &[u8]) -> Option<(&[u8], &[u8])>
     Some((&bytes[..end], &bytes[end + 1..]))
 }
 
-/// The identity of a message of this station that begins with this line; None where the line begins none.
+/// The identity of a message of this station that begins with this line; None where the line begins
+/// none.
 fn identity_in(station: Letter, line: &[u8]) -> Option<Identity>
     ensures named { IfSome result (λ identity.
         line.now ≡ heading identity.b2.byte identity.number) }
@@ -128,8 +130,8 @@ fn identity_in(station: Letter, line: &[u8]) -> Option<Identity>
     Identity::new(station.byte(), *subject, number)
 }
 
-/// The lines of a message behind its first, up to the line that ends it. So many lines stand before the message in its
-/// file.
+/// The lines of a message behind its first, up to the line that ends it. So many lines stand before
+/// the message in its file.
 fn text_lines<'a>(alloc: Global, bytes: &'a [u8], before: u64) -> Result<Body<'a>, SendRunFault>
     requires { before + length bytes.now < 2 ^ 64 - 2 }
     ensures whole { IfOk result (λ body.

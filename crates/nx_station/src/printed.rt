@@ -5,7 +5,7 @@ ghost use Rattle.nx_envelope.specs.Identity.{identity_bytes};
 ghost use Rattle.nx_envelope.specs.Message.{AreLines};
 ghost use Rattle.nx_envelope.specs.declared.identity.Identity as named;
 ghost use Rattle.nx_station.specs.Broadcast.{header, printed_text};
-ghost use Rattle.nx_station.specs.StrictReading.{AreSound, ExplainsFirstPrinted, ExplainsLines, ExplainsPrinted, IsUnended, ended_lines};
+ghost use Rattle.nx_station.specs.PrintedText.{AreSound, ExplainsFirstPrinted, ExplainsPrintedLines, ExplainsPrinted, IsTextLine, ended_lines};
 
 use crate::fault::EmissionFault;
 use crate::message_file::split_line;
@@ -107,8 +107,8 @@ fn lines_printed<'a>(alloc: Global, text: &'a [u8]) -> Result<Body<'a>, Emission
     ensures whole { IfOk result (λ body.
         text.now ≡ ended_lines (map (λ line. line.now) body.lines.items) body.rest.now) }
     ensures inside { IfOk result (λ body.
-        AllByRecursion IsUnended (map (λ line. line.now) body.lines.items)) }
-    ensures fault { IfErr result (ExplainsLines text.now) }
+        AllByRecursion IsTextLine (map (λ line. line.now) body.lines.items)) }
+    ensures fault { IfErr result (ExplainsPrintedLines text.now) }
 {
     let mut lines = Vec::new(alloc);
     let mut rest = text;

@@ -14,14 +14,16 @@ use std::alloc::{AllocError, Global};
 /// How many slots the RX word of a position comes after its DX word.
 const SPREAD: usize = 5;
 
-/// The messages whose emission has just these elements: one list at most has them. The words are read as text, and the
-/// emission of what was read is compared with all elements, so nothing is left to chance: a needless shift, a character
-/// that prints nothing, or a word that isn't sent again are refused with the rest.
+/// The messages whose emission has just these elements: one list at most has them. The words are
+/// read as text, and the emission of what was read is compared with all elements, so nothing is
+/// left to chance: a needless shift, a character that prints nothing, or a word that isn't sent
+/// again are refused with the rest.
 ///
-/// `Ragged` where the elements are no whole words; then `WrongWord` with the least slot of a word of the wrong weight;
-/// then `Unpaired` with the least position whose two words are there and are neither one traffic word twice, nor P2 and
-/// then P1, nor P1 twice; then `BadEnvelope` for everything else. Memory is taken after the first three, and may run
-/// out at any growth (M.625, mode B, and M.540; what is refused, and in which order, is this profile's).
+/// `Ragged` where the elements are no whole words; then `WrongWord` with the least slot of a word
+/// of the wrong weight; then `Unpaired` with the least position whose two words are there and are
+/// neither one traffic word twice, nor P2 and then P1, nor P1 twice; then `BadEnvelope` for
+/// everything else. Memory is taken after the first three, and may run out at any growth (M.625,
+/// mode B, and M.540; what is refused, and in which order, is this profile's).
 pub fn read_emission(alloc: Global, bits: &[bool]) -> Result<Vec<Message>, EmissionFault>
     ensures messages { IfOk result (λ messages. IsEmissionOf messages.items bits.now) }
     ensures fault { IfErr result (ExplainsEmission bits.now) }
@@ -37,7 +39,8 @@ pub fn read_emission(alloc: Global, bits: &[bool]) -> Result<Vec<Message>, Emiss
     Ok(messages)
 }
 
-/// Checks the words: that they are whole, that each has the right weight, and that each position has a pair.
+/// Checks the words: that they are whole, that each has the right weight, and that each position
+/// has a pair.
 fn check_words(bits: &[bool]) -> Result<(), EmissionFault>
     ensures whole { OnOk result (AreWhole bits.now) }
     ensures right { OnOk result (AreRight bits.now) }
@@ -109,7 +112,8 @@ fn is_unpaired(bits: &[bool], position: usize) -> bool
     }
 }
 
-/// Whether two words are those of one position: one traffic word twice, P2 and then P1, or P1 twice.
+/// Whether two words are those of one position: one traffic word twice, P2 and then P1, or P1
+/// twice.
 fn is_pair(dx: Word, rx: Word) -> bool
     ensures { IsTrue result ↔ IsPair dx rx }
 {

@@ -28,12 +28,14 @@ pub struct Sent {
     pub messages: u64,
 }
 
-/// Reads a message file whole, and writes the air file of its emission in the station's next slot from a moment on: a
-/// line `T` with the moment at which the slot begins, and the elements in lines of 490.
+/// Reads a message file whole, and writes the air file of its emission in the station's next slot
+/// from a moment on: a line `T` with the moment at which the slot begins, and the elements in lines
+/// of 490.
 ///
-/// `Read` and `FileTooLong` come first; then the first fault in the file, `BadLine`, `Text`, `LineCut` or `Open`; then
-/// `Send` with `NoMessages`, `NoSlot` (also where there is no next slot) or `SlotFull`; then `Write`. Nothing is
-/// written before all else succeeded. Memory may run out at any growth.
+/// `Read` and `FileTooLong` come first; then the first fault in the file, `BadLine`, `Text`,
+/// `LineCut` or `Open`; then `Send` with `NoMessages`, `NoSlot` (also where there is no next slot)
+/// or `SlotFull`; then `Write`. Nothing is written before all else succeeded. Memory may run out at
+/// any growth.
 pub fn send<R: Read, W: Write>(
     alloc: Global,
     reader: &mut Counting<R>,

@@ -20,8 +20,9 @@ pub(crate) fn has_slots(station: Letter) -> bool
     u64::from(station.byte() - b'A') < STATIONS
 }
 
-/// The moment at which the station's next slot begins, in seconds since 1970-01-01 00:00:00 UTC: the least that is not
-/// before the moment. None for Y and Z, which have no slots, and where it would pass the last moment.
+/// The moment at which the station's next slot begins, in seconds since 1970-01-01 00:00:00 UTC:
+/// the least that is not before the moment. None for Y and Z, which have no slots, and where it
+/// would pass the last moment.
 pub fn next_slot(station: Letter, moment: u64) -> Option<u64>
     ensures next { IfSome result (IsNextSlot station.byte moment) }
     ensures none { IsNone result → HasNoSlot station.byte moment }

@@ -1,4 +1,5 @@
-//! Worked examples of slots, emissions and message files.
+//! Worked examples of slots, emissions and message files. The expected slots, words and counts are
+//! those of the profile's worked examples, which were worked out apart from this program.
 
 mod checks;
 
@@ -8,7 +9,8 @@ use nx_fec::{Counting, read_bits, to_bits, word_at};
 use std::alloc::{AllocError, Global};
 use std::test::Fail;
 
-/// The words of the emission of EA01 with the one line TEST, from slot 144 on; before it P2 and P1 alternate.
+/// The words of the emission of EA01 with the one line TEST, from slot 144 on; before it P2 and P1
+/// alternate.
 static WORDS: [u8; 59] = [
     0x5A, 0x0F, 0x63, 0x0F, 0x1D, 0x5A, 0x63, 0x63, 0x1D, 0x1D, 0x5C, 0x63, 0x56, 0x1D, 0x47, 0x5C,
     0x36, 0x56, 0x2D, 0x47, 0x2E, 0x36, 0x78, 0x2D, 0x6C, 0x2E, 0x5A, 0x78, 0x74, 0x6C, 0x56, 0x5A,
@@ -175,7 +177,8 @@ fn a_file_is_sent(rt: HostRuntime) -> Result<(), Fail> {
     Ok(())
 }
 
-/// Of the 59 words from slot 144 on, 30 have even slots; the damage is undone by the same once more.
+/// Of the 59 words from slot 144 on, 30 have even slots; the damage is undone by the same once
+/// more.
 #[test]
 fn damage_is_counted(rt: HostRuntime) -> Result<(), Fail> {
     let (_, file) = sent(rt.alloc(), FILE, b'E', 1_735_689_600)?;

@@ -11,9 +11,9 @@ ghost use Rattle.nx_station.specs.Channel.{PassesChannel, first_slot, heard_in, 
 ghost use Rattle.nx_station.specs.ChannelExample.{example_emission, example_numbers, example_parts, example_sending, heard_half, heard_without_75};
 ghost use Rattle.nx_station.specs.Sendings.{IsCut, IsReceived, IsSending, StandsFrom, digit_slot, positions_before};
 
-/// Under the channel any 64 successive words from slot 96 on, and any fewer, have at most 35 of wrong weight. So have
-/// the last 64 words of a lock, up to each word from slot 144 on, whatever words of the lock came before slot 96:
-/// `whole` is the word of the lock that stands in slot 144.
+/// Under the channel any 64 successive words from slot 96 on, and any fewer, have at most 35 of
+/// wrong weight. So have the last 64 words of a lock, up to each word from slot 144 on, whatever
+/// words of the lock came before slot 96: `whole` is the word of the lock that stands in slot 144.
 pub fn few_words_are_wrong()
     ensures few { (messages : List MessageView) (positions : List SentPosition) (heard : List ℕ)
         → IsBroadcast messages positions → PassesChannel positions heard
@@ -36,16 +36,17 @@ pub fn few_words_are_wrong()
         → wrong_words words (k + 1 - 64) (k + 1 - (k + 1 - 64)) ≤ 35 }
 {}
 
-/// Under the channel no DX word from slot 96 on is phasing signal 1 before the three positions of the end, so no two in
-/// a row are: a word that is damaged has the wrong weight, and so is no phasing signal.
+/// Under the channel no DX word from slot 96 on is phasing signal 1 before the three positions of
+/// the end, so no two in a row are: a word that is damaged has the wrong weight, and so is no
+/// phasing signal.
 pub fn no_phasing_1_before_the_end()
     ensures { (messages : List MessageView) (positions : List SentPosition) (heard : List ℕ)
         → IsBroadcast messages positions → PassesChannel positions heard
         → (i : ℕ) → 48 ≤ i → i + 3 < length positions → heard_in heard (2 * i) ≢ phasing_1 }
 {}
 
-/// Under the channel each position from 48 on, but for the three of the end, is taken as it was sent: from its two
-/// words, in the slots 2i and 2i+5.
+/// Under the channel each position from 48 on, but for the three of the end, is taken as it was
+/// sent: from its two words, in the slots 2i and 2i+5.
 pub fn positions_are_taken_as_sent()
     ensures { (messages : List MessageView) (positions : List SentPosition) (heard : List ℕ)
         → IsBroadcast messages positions → PassesChannel positions heard
@@ -54,8 +55,8 @@ pub fn positions_are_taken_as_sent()
         ≡ reception (position_at positions i) }
 {}
 
-/// What is heard under the channel begins with 48 phasing words as sent. And each word that is heard stands in the
-/// bits, whatever stands before and after.
+/// What is heard under the channel begins with 48 phasing words as sent. And each word that is
+/// heard stands in the bits, whatever stands before and after.
 pub fn words_stand_in_the_bits()
     ensures phasing { (messages : List MessageView) (positions : List SentPosition) (heard : List ℕ)
         → IsBroadcast messages positions → PassesChannel positions heard
@@ -67,8 +68,8 @@ pub fn words_stand_in_the_bits()
         ≡ heard_in heard slot }
 {}
 
-/// Each message of a list stands in the positions of the list, from the place that is counted by those before it; and
-/// the RX of its second digit is sent in the slot that a sending names.
+/// Each message of a list stands in the positions of the list, from the place that is counted by
+/// those before it; and the RX of its second digit is sent in the slot that a sending names.
 pub fn messages_stand_in_their_emission()
     ensures stands { (messages : List MessageView) (spellings : List (List ℕ)) (i : ℕ)
         (message : MessageView)
@@ -85,8 +86,8 @@ pub fn messages_stand_in_their_emission()
         → digit_slot spellings i < slots_of (layout spellings) }
 {}
 
-/// An emission that arrives as it is sent passes the channel: the bits of its slots before slot 96 belong to the gap
-/// before it, and those from there on are received.
+/// An emission that arrives as it is sent passes the channel: the bits of its slots before slot 96
+/// belong to the gap before it, and those from there on are received.
 pub fn an_undamaged_emission_is_received()
     ensures passes { (messages : List MessageView) (positions : List SentPosition)
         → messages ≢ [] → IsBroadcast messages positions
@@ -95,9 +96,9 @@ pub fn an_undamaged_emission_is_received()
         ≡ bits_of (take 96 (emission positions)) ++ bits_of (drop 96 (emission positions)) }
 {}
 
-/// The definitions at a worked emission, of EA01 with the line TEST: it is received where the first half of its phasing
-/// is damaged, or is lost in any way, and one word of each position of the message; where both words of one position
-/// are damaged, it isn't.
+/// The definitions at a worked emission, of EA01 with the line TEST: it is received where the first
+/// half of its phasing is damaged, or is lost in any way, and one word of each position of the
+/// message; where both words of one position are damaged, it isn't.
 pub fn an_example_is_received()
     ensures received { IsReceived example_emission }
     ensures cut { (before after : List Bool)

@@ -1,4 +1,5 @@
-//! Worked examples of strict reading and of checking.
+//! Worked examples of strict reading and of checking, worked out apart from this program: the fault
+//! of an emission follows from the place and the word that is changed.
 
 use super::*;
 use nx_code::{Comb, ELEMENTS, Word};

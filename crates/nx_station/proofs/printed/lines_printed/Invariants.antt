@@ -1,13 +1,13 @@
 use Rattle.std.proofs.Common.{◌≡◌, ◌++◌, length, map}
 use Rattle.std.specs.List.{AllByRecursion}
 use Rattle.nx_envelope.specs.Message.{text_of}
-use Rattle.nx_station.specs.StrictReading.{IsUnended}
+use Rattle.nx_station.specs.PrintedText.{IsTextLine}
 use Rattle.nx_station.proofs.printed.lines_printed.Given as goal
 
 abbrev pub invariant-loop-line : goal.invariant-loop-line
 invariant-loop-line l = record {
   whole : l.text ≡ text_of (map (λ line. line.now) l.lines.items) ++ l.rest;
-  inside : AllByRecursion IsUnended (map (λ line. line.now) l.lines.items);
+  inside : AllByRecursion IsTextLine (map (λ line. line.now) l.lines.items);
 }
 
 abbrev pub decreases-loop-line : goal.decreases-loop-line
