@@ -1,14 +1,14 @@
 pub mod Lists
 pub mod Numbers
-pub mod ThePastIsKept
+pub mod MoreBits
 pub mod OneBit
 pub mod Patterns
 pub mod Hearing
 pub mod Lanes
 pub mod Marks
-pub mod WhatStandsIsUnique
+pub mod Unique
 pub mod Pushes
-pub mod WhatStoodGoesOn
+pub mod Going
 pub mod Releases
 pub mod Phasing
 pub mod Counts
