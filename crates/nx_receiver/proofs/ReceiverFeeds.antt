@@ -1,17 +1,14 @@
 -- A receiver that is fed elements: what it stands after, and what was printed before each of them.
-use Rattle.std.proofs.Common.{◌≡◌, ℕ, ◌+◌, ◌-◌, ◌<◌, ◌≤◌, Bool, List, [], ◌++◌, Option, None, length, take, drop, refl, sym, ap, ◌∙◌, subst, append-nil, append_assoc, arith, inl, inr, is_some, false, Some, length-drop}
+use Rattle.std.proofs.Common.{◌≡◌, ℕ, ◌+◌, ◌-◌, ◌<◌, ◌≤◌, Bool, List, ◌++◌, Option, None, length, take, drop, refl, sym, ap, ◌∙◌, subst, append-nil, append_assoc, arith, inl, inr, is_some, false, Some, length-drop}
 use lib.Seq.{take-add}
 use Rattle.std.proofs.lemmas.Bool.{cases_lt}
 use Rattle.std.proofs.lemmas.List.{length-take, map-append, take-take}
-use Rattle.nx_code.specs.Lists.{last_of}
-use Rattle.nx_memory.specs.Memory.{most_entries}
 use Rattle.nx_memory.specs.declared.entry.MemoryEntry.{MemoryEntry}
 use Rattle.nx_receiver.specs.declared.over.Over.{Over}
 use Rattle.nx_receiver.specs.declared.over.Over.TheVariants as over
 use Rattle.nx_receiver.specs.declared.entry.Entry.{Entry}
 use Rattle.nx_receiver.specs.Events.{Event, Setting, Start, bits_of, element, first_setting, setting_after_all, settings}
 use Rattle.nx_receiver.specs.Log.{HasPrinted}
-use Rattle.nx_receiver.specs.Printing.{entries_after, printed_copies}
 use Rattle.nx_receiver.specs.Receiver.{Awaits, AwaitsOver, Receiving, Stands, StandsOver, elements, entry_list}
 use Rattle.nx_receiver.specs.Tagged.{TaggedCopy}
 use Rattle.nx_receiver.specs.Watch.{HasEnded, Hears, IsOver, Watching, WatchStands, all_in_force, in_force}

@@ -8,7 +8,7 @@ ghost use Rattle.nx_envelope.specs.Moment.{last_moment};
 ghost use Rattle.nx_envelope.specs.declared.identity.Identity.{Identity};
 ghost use Rattle.nx_sync.specs.Words.{word_at, first_role, words_of};
 ghost use Rattle.nx_sync.specs.Locks.{Lock, Now, IsLocked, IsNow, Past};
-ghost use Rattle.nx_receiver.specs.Events.{Event, Start, bits_of};
+ghost use Rattle.nx_receiver.specs.Events.{Event, Start};
 ghost use Rattle.nx_receiver.specs.Example.{ea01, example_copies, first_copy, repeated_copy};
 ghost use Rattle.nx_receiver.specs.FoundCopies.{FoundCopy, ended_so_far, open_so_far, found_to_end};
 ghost use Rattle.nx_receiver.specs.LawTerms.{AreRepeats, copies_of, own_bits};
