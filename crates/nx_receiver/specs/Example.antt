@@ -1,5 +1,5 @@
--- An example of repeats: EA01 with the text TEST is heard, then EB02 without a text, then EB02 again, cut short, and EA01
--- again, four hours after the first.
+-- An example of repeats: EA01 with the text TEST is heard, then EB02 without a text, then EB02
+-- again, cut short, and EA01 again, four hours after the first.
 use Rattle.std.specs.Prelude.{ℕ, true, List, [], ◌∷◌, codes}
 use Rattle.std.proofs.Common.{lit≤}
 use Rattle.nx_envelope.specs.declared.found.How.{How}
@@ -40,4 +40,5 @@ repeated_copy = heard_at 1735706400 ea01 Full (codes "TEST\n")
 -- all that was heard
 abbrev pub example_copies : List TaggedCopy
 example_copies =
-    first_copy ∷ heard_at 1735692000 eb02 Full [] ∷ heard_at 1735706400 eb02 Cut (codes "TE") ∷ repeated_copy ∷ []
+    first_copy ∷ heard_at 1735692000 eb02 Full [] ∷ heard_at 1735706400 eb02 Cut (codes "TE")
+    ∷ repeated_copy ∷ []

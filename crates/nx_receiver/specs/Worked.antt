@@ -1,5 +1,6 @@
--- A worked emission: the station E sends the message EA01 with the one line TEST (its words are those of ITU-R M.625's
--- mode B for the positions of this profile's emissions). And what a receiver prints of it.
+-- A worked emission: the station E sends the message EA01 with the one line TEST (its words are
+-- those of ITU-R M.625's mode B for the positions of this profile's emissions). And what a receiver
+-- prints of it.
 use Rattle.std.specs.Prelude.{ℕ, zero, suc, ◌+◌, ◌-◌, ◌%◌, ◌==◌, if◌then◌else◌, List, [], ◌∷◌, ◌++◌, map, codes}
 use Rattle.nx_fec.specs.Emission.{bits_of}
 use Rattle.nx_receiver.specs.Events.{Event, element, Start}
@@ -9,8 +10,8 @@ unfoldable pub phasing_words : ℕ → List ℕ
 phasing_words zero = []
 phasing_words (suc n) = 0x66 ∷ 0x0F ∷ phasing_words n
 
--- The words from slot 144 on, a DX word and an RX word in each pair: the positions LTRS Z C Z C SPACE E A FIGS 0 1 CR LF
--- LTRS T E S T CR LF N N N N CR LF LF, and three of the end.
+-- The words from slot 144 on, a DX word and an RX word in each pair: the positions LTRS Z C Z C
+-- SPACE E A FIGS 0 1 CR LF LTRS T E S T CR LF N N N N CR LF LF, and three of the end.
 unfoldable pub message_words : List ℕ
 message_words =
     0x5A ∷ 0x0F ∷ 0x63 ∷ 0x0F ∷ 0x1D ∷ 0x5A ∷ 0x63 ∷ 0x63 ∷ 0x1D ∷ 0x1D ∷ 0x5C ∷ 0x63 ∷ 0x56 ∷ 0x1D ∷ 0x47 ∷ 0x5C
