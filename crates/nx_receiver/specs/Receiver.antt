@@ -56,6 +56,14 @@ Stands content start receiver events log =
     StandsOver content start receiver (bits_of events) (settings (first_setting start) events)
     (setting_after_all (first_setting start) events) log
 
+-- Whatever awaits to be finished, some of it may be passed over: then this is left of what is over.
+abbrev pub PassesOver : {M : Type 0} → (M → List MemoryEntry) → Receiving M → Receiving M → Over
+    → Over → Type 0
+PassesOver content old new over left =
+    (start : Start) (bits : List Bool) (settings : List Setting) (now : Setting)
+    (log : List TaggedCopy) → AwaitsOver content start old bits settings now log over
+    → AwaitsOver content start new bits settings now log left
+
 -- the moment of the memory's newest entry, that of the open copy, the one in force and the last one
 -- rise in this order
 pub record IsInOrder (newest copy now : ℕ) : Type 0 where

@@ -164,6 +164,12 @@ pub record Hears (first : Setting) (old new : Watching) (bits : List Bool) (sett
   pub none_before : (k : ℕ) → k + 1 ≤ length heard
       → HasEnded first (bits ++ take k heard) (settings ++ all_in_force old (take k heard)) copies
 
+-- whatever a watch heard before, it hears these elements after that, and this is over with the last
+pub record HearsAll (old new : Watching) (heard : List Bool) (answer : Over) : Type 0 where
+  pub hears : (first : Setting) (bits : List Bool) (settings : List Setting)
+      (copies : List TaggedCopy) → WatchStands first old bits settings copies
+      → Hears first old new bits settings copies heard answer
+
 -- the copy that was handed out, with its tag
 abbrev pub handed_out : Option Found → CopyTag → List TaggedCopy
 handed_out None kept = []

@@ -1,16 +1,16 @@
 //! The receiver: elements, moments and commands in, entries out.
 
-ghost use Rattle.std.specs.Prelude.{◌≡◌, ◌↔◌, ℕ, ◌+◌, ◌<◌, ◌≤◌, ◌==◌, ◌&&◌, ◌||◌, not, Bool, List, [], ◌∷◌, ◌++◌, length, take, IfErr, IfOk, IfSome, IsErr, IsNone, IsSome, IsTrue, OnErr, OnOk};
+ghost use Rattle.std.specs.Prelude.{◌≡◌, ◌↔◌, ℕ, ◌+◌, ◌<◌, ◌≤◌, ◌==◌, ◌&&◌, ◌||◌, not, List, [], ◌∷◌, ◌++◌, length, take, IfErr, IfOk, IfSome, IsErr, IsNone, IsSome, IsTrue, OnErr, OnOk};
 ghost use Rattle.nx_envelope.specs.Moment.{last_moment};
 ghost use Rattle.nx_code.specs.Lists.{last_of};
 ghost use Rattle.nx_memory.specs.Memory.{is_known, most_entries, newest_moment};
 ghost use Rattle.nx_memory.specs.declared.entry.MemoryEntry.{MemoryEntry};
 ghost use Rattle.nx_memory.specs.Vital.{is_vital};
 ghost use Rattle.nx_receiver.specs.Events as events;
-ghost use Rattle.nx_receiver.specs.Events.{Event, Setting, Start, at_moment, command};
+ghost use Rattle.nx_receiver.specs.Events.{Event, Start, at_moment, command};
 ghost use Rattle.nx_receiver.specs.Log.{HasPrinted, PrintsToEnd};
 ghost use Rattle.nx_receiver.specs.Printing.{entries_after, printed_copies};
-ghost use Rattle.nx_receiver.specs.Receiver.{Awaits, AwaitsOver, Refuses, RefusesStart, Stands, elements, entry_list};
+ghost use Rattle.nx_receiver.specs.Receiver.{Awaits, PassesOver, Refuses, RefusesStart, Stands, elements, entry_list};
 ghost use Rattle.nx_receiver.specs.Tagged.{TaggedCopy};
 ghost use Rattle.nx_receiver.specs.Watch.{handed_out};
 ghost use Rattle.nx_receiver.specs.declared.over.Over.TheVariants.{Copy, Lock, Nothing};
@@ -240,9 +240,7 @@ impl<M: Recall> Receiver<M> {
     /// printed, and a lock in which no copy stands open. Answers what is over then.
     #[inline(always)]
     fn pass_over(&mut self, over: Over) -> Over
-        ensures { (start : Start) (h : List Bool) (s : List Setting) (now : Setting)
-            (log : List TaggedCopy) → AwaitsOver M.content start self.old h s now log over
-            → AwaitsOver M.content start self.new h s now log result }
+        ensures { PassesOver M.content self.old self.new over result }
     {
         if over == Over::Nothing {
             return over;
@@ -254,9 +252,7 @@ impl<M: Recall> Receiver<M> {
     // Not inlined, since it is rarely called.
     #[inline(never)]
     fn judge_over(&mut self, over: Over) -> Over
-        ensures { (start : Start) (h : List Bool) (s : List Setting) (now : Setting)
-            (log : List TaggedCopy) → AwaitsOver M.content start self.old h s now log over
-            → AwaitsOver M.content start self.new h s now log result }
+        ensures { PassesOver M.content self.old self.new over result }
     {
         match over {
             Over::Copy => self.judge_copy(),
@@ -267,9 +263,7 @@ impl<M: Recall> Receiver<M> {
 
     /// What is left where a copy is over, which can be taken: nothing where it isn't printed.
     fn judge_copy(&self) -> Over
-        ensures { (start : Start) (h : List Bool) (s : List Setting) (now : Setting)
-            (log : List TaggedCopy) → AwaitsOver M.content start self.now h s now log Copy
-            → AwaitsOver M.content start self.now h s now log result }
+        ensures { PassesOver M.content self.now self.now Copy result }
     {
         let Some(identity) = self.watch.identity() else {
             return Over::Copy;
@@ -282,9 +276,7 @@ impl<M: Recall> Receiver<M> {
 
     /// What is left where a lock is over: nothing where no copy stands open in it.
     fn judge_lock(&mut self) -> Over
-        ensures { (start : Start) (h : List Bool) (s : List Setting) (now : Setting)
-            (log : List TaggedCopy) → AwaitsOver M.content start self.old h s now log Lock
-            → AwaitsOver M.content start self.new h s now log result }
+        ensures { PassesOver M.content self.old self.new Lock result }
     {
         if self.watch.identity().is_some() {
             return Over::Lock;

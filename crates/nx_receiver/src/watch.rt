@@ -9,7 +9,7 @@ ghost use Rattle.nx_memory.specs.Vital.{is_vital};
 ghost use Rattle.nx_receiver.specs.Events as Command;
 ghost use Rattle.nx_receiver.specs.Events.{Setting, Start, first_setting, refused_after};
 ghost use Rattle.nx_receiver.specs.Tagged.{TaggedCopy};
-ghost use Rattle.nx_receiver.specs.Watch.{BothAreOver, CopyIsOver, HasEndedAll, Hears, LockIsOver, ReadsStep, ReadsWord, TagGoesOn, WatchStands, handed_out, in_force};
+ghost use Rattle.nx_receiver.specs.Watch.{BothAreOver, CopyIsOver, HasEndedAll, HearsAll, LockIsOver, ReadsStep, ReadsWord, TagGoesOn, WatchStands, handed_out, in_force};
 ghost use Rattle.nx_receiver.specs.declared.over.Over.TheVariants.{Nothing};
 
 use crate::lock_reader::LockReader;
@@ -110,9 +110,7 @@ impl Watch {
     /// nothing is; says how many, and what is over.
     pub(crate) fn hear(&mut self, bits: &[bool]) -> (usize, Over)
         ensures within { result.0 ≤ length bits.now }
-        ensures hears { (first : Setting) (h : List Bool) (s : List Setting)
-            (copies : List TaggedCopy) → WatchStands first self.old h s copies
-            → Hears first self.old self.new h s copies (take result.0 bits.now) result.1 }
+        ensures hears { HearsAll self.old self.new (take result.0 bits.now) result.1 }
         ensures all { result.1 ≡ Nothing → result.0 ≡ length bits.now }
         ensures some { 0 < length bits.now → 0 < result.0 }
         ensures force { in_force self.new ≡ in_force self.old }
@@ -134,9 +132,7 @@ impl Watch {
         requires { 0 < length bits.now }
         ensures within { result.0 ≤ length bits.now }
         ensures some { 0 < result.0 }
-        ensures hears { (first : Setting) (h : List Bool) (s : List Setting)
-            (copies : List TaggedCopy) → WatchStands first self.old h s copies
-            → Hears first self.old self.new h s copies (take result.0 bits.now) result.1 }
+        ensures hears { HearsAll self.old self.new (take result.0 bits.now) result.1 }
         ensures force { in_force self.new ≡ in_force self.old }
         ensures tag { TagGoesOn self.old self.new }
     {
@@ -155,9 +151,7 @@ impl Watch {
         requires some { 0 < length bits.now }
         ensures within { result.0 ≤ length bits.now }
         ensures some { 0 < result.0 }
-        ensures hears { (first : Setting) (h : List Bool) (s : List Setting)
-            (copies : List TaggedCopy) → WatchStands first self.old h s copies
-            → Hears first self.old self.new h s copies (take result.0 bits.now) result.1 }
+        ensures hears { HearsAll self.old self.new (take result.0 bits.now) result.1 }
         ensures force { in_force self.new ≡ in_force self.old }
         ensures tag { TagGoesOn self.old self.new }
     {
@@ -174,9 +168,7 @@ impl Watch {
         requires some { 7 ≤ length bits.now }
         ensures within { result.0 ≤ length bits.now }
         ensures some { 0 < result.0 }
-        ensures hears { (first : Setting) (h : List Bool) (s : List Setting)
-            (copies : List TaggedCopy) → WatchStands first self.old h s copies
-            → Hears first self.old self.new h s copies (take result.0 bits.now) result.1 }
+        ensures hears { HearsAll self.old self.new (take result.0 bits.now) result.1 }
         ensures force { in_force self.new ≡ in_force self.old }
         ensures tag { TagGoesOn self.old self.new }
     {
@@ -211,9 +203,7 @@ impl Watch {
     #[inline(always)]
     fn hear_word(&mut self, bits: &[bool; ELEMENTS]) -> Over
         requires { IsTrue (is_between_words self.old.synchroniser) }
-        ensures hears { (first : Setting) (h : List Bool) (s : List Setting)
-            (copies : List TaggedCopy) → WatchStands first self.old h s copies
-            → Hears first self.old self.new h s copies bits.now result }
+        ensures hears { HearsAll self.old self.new bits.now result }
         ensures force { in_force self.new ≡ in_force self.old }
         ensures tag { TagGoesOn self.old self.new }
     {
@@ -224,9 +214,7 @@ impl Watch {
     /// Hears one element.
     #[inline(always)]
     fn hear_element(&mut self, bit: bool) -> Over
-        ensures hears { (first : Setting) (h : List Bool) (s : List Setting)
-            (copies : List TaggedCopy) → WatchStands first self.old h s copies
-            → Hears first self.old self.new h s copies (bit ∷ []) result }
+        ensures hears { HearsAll self.old self.new (bit ∷ []) result }
         ensures force { in_force self.new ≡ in_force self.old }
         ensures tag { TagGoesOn self.old self.new }
     {
