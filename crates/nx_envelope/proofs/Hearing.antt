@@ -22,7 +22,8 @@ use Rattle.nx_envelope.specs.declared.identity.Identity.{Identity}
 use Rattle.nx_envelope.specs.declared.stage.Stage.{Stage}
 use Rattle.nx_envelope.specs.declared.stage.Stage.TheVariants.{Nowhere}
 use Rattle.nx_envelope.proofs.Beginnings.{reverse-push}
-use Rattle.nx_envelope.proofs.OneOpenCopy.{OneOpen, open_headers-one, open_headers-nil, parts, still_none, opens, drops_newline, adds, ends_marked, ends_long, copies_none, copies_one}
+use Rattle.nx_envelope.proofs.OneMoreByte.{OneOpen, open_headers-one, still_none, opens, drops_newline, adds, ends_marked, ends_long}
+use Rattle.nx_envelope.proofs.OneOpenCopy.{open_headers-nil, parts, copies_none, copies_one}
 use Rattle.nx_envelope.proofs.RawTexts.{empty_is, found_is, raw-push, raw-newline, raw-none}
 
 pub stage-nil : IsStageOf Nowhere []

@@ -9,6 +9,7 @@ pub mod Hearing
 pub mod Identities
 pub mod LettersAndDigits
 pub mod MessageLines
+pub mod OneMoreByte
 pub mod OneOpenCopy
 pub mod OneText
 pub mod RawTexts

@@ -32,11 +32,21 @@ impl Model for Finder {
 
     ghost Value = { FinderView };
 
-    ghost view = { λ f. record { recent = f.recent; stage = f.stage; copy = f.copy; text = f.text.items } };
+    ghost view = { λ f. record {
+      recent = f.recent;
+      stage = f.stage;
+      copy = f.copy;
+      text = f.text.items;
+    } };
 
     ghost invariant = { λ f. HasRoom f.copy f.text.items };
 
-    ghost inverse = { λ v. record { recent = v.recent; stage = v.stage; copy = v.copy; text = record { items = v.text } } };
+    ghost inverse = { λ v. record {
+      recent = v.recent;
+      stage = v.stage;
+      copy = v.copy;
+      text = record { items = v.text };
+    } };
 }
 
 impl Finder {

@@ -72,7 +72,10 @@ impl Model for Message {
 
     ghost use Rattle.nx_envelope.specs.Message.{AreLines};
 
-    ghost view = { λ m. record { identity = m.identity; lines = map (λ line. line.items) m.lines.items } };
+    ghost view = { λ m. record {
+      identity = m.identity;
+      lines = map (λ line. line.items) m.lines.items;
+    } };
 
     ghost invariant = { λ m. AreLines (map (λ line. line.items) m.lines.items) };
 }

@@ -70,13 +70,13 @@ bit_line-IsLine bits i some =
 first_lines-more : (bits : List Bool) (n : ℕ) → first_lines bits (suc n) ≡ first_lines bits n ++ (bit_line bits n ∷ [])
 first_lines-more bits n = ap (first_lines bits) (sym (add-one n)) ∙ map-range_with_len_more (bit_line bits) 0 n n (omega arith)
 
-first_lines-each : (bits : List Bool) (n : ℕ) → ((i : ℕ) → i < n → 490 * i < length bits) → AllByRecursion IsLine (first_lines bits n)
+pub first_lines-each : (bits : List Bool) (n : ℕ) → ((i : ℕ) → i < n → 490 * i < length bits) → AllByRecursion IsLine (first_lines bits n)
 first_lines-each bits zero h = tt
 first_lines-each bits (suc n) h =
     subst (AllByRecursion IsLine) (sym (first_lines-more bits n))
     (All-push (first_lines bits n) (bit_line bits n) (first_lines-each bits n (λ i below. h i (omega arith))) (bit_line-IsLine bits n (h n (omega arith))))
 
-first_lines-elements : (bits : List Bool) (n : ℕ) → flat_map elements_of (first_lines bits n) ≡ take (490 * n) bits
+pub first_lines-elements : (bits : List Bool) (n : ℕ) → flat_map elements_of (first_lines bits n) ≡ take (490 * n) bits
 first_lines-elements bits zero = refl
 first_lines-elements bits (suc n) =
     let size : 490 * n + 490 ≡ 490 * suc n = omega arith in

@@ -71,7 +71,7 @@ no_feed-front : (p q : List ℕ) → NoFeed (p ++ q) → NoFeed p
 no_feed-front [] q h = tt
 no_feed-front (x ∷ p) q h = (h.0, no_feed-front p q h.1)
 
-no_feed-not : (p q : List ℕ) → NoFeed (p ++ (10 ∷ q)) → ⊥
+pub no_feed-not : (p q : List ℕ) → NoFeed (p ++ (10 ∷ q)) → ⊥
 no_feed-not [] q h = h.0 refl
 no_feed-not (x ∷ p) q h = no_feed-not p q h.1
 
@@ -79,7 +79,7 @@ no_feed-last : (p : List ℕ) (x : ℕ) → NoFeed (p ++ (x ∷ [])) → x ≢ 1
 no_feed-last [] x h = h.0
 no_feed-last (y ∷ p) x h = no_feed-last p x h.1
 
-first_feed : (p q x y : List ℕ) → NoFeed p → NoFeed q → p ++ (10 ∷ x) ≡ q ++ (10 ∷ y) → (p ≡ q) × (x ≡ y)
+pub first_feed : (p q x y : List ℕ) → NoFeed p → NoFeed q → p ++ (10 ∷ x) ≡ q ++ (10 ∷ y) → (p ≡ q) × (x ≡ y)
 first_feed [] [] x y h k e = (refl, cc)
 first_feed [] (b ∷ q) x y h k e = let same : b ≡ 10 = cc in absurd (k.0 same)
 first_feed (a ∷ p) [] x y h k e = let same : a ≡ 10 = cc in absurd (h.0 same)
@@ -89,7 +89,7 @@ first_feed (a ∷ p) (b ∷ q) x y h k e =
     let r = first_feed p q x y h.1 k.1 tails in
     (cc (r.0, heads), r.1)
 
-regroup : (a : Line) (lines : List Line) (rest : List ℕ) → file_of (a ∷ lines) ++ rest ≡ spelling a ++ (10 ∷ (file_of lines ++ rest))
+pub regroup : (a : Line) (lines : List Line) (rest : List ℕ) → file_of (a ∷ lines) ++ rest ≡ spelling a ++ (10 ∷ (file_of lines ++ rest))
 regroup a lines rest = append_assoc (line_bytes a) (file_of lines) rest ∙ append_assoc (spelling a) (10 ∷ []) (file_of lines ++ rest)
 
 pub reading-unique : (l1 l2 : List Line) (r1 r2 : List ℕ) → AllByRecursion IsLine l1 → AllByRecursion IsLine l2 → IsBeginning r1 → IsBeginning r2
@@ -112,7 +112,7 @@ Splits-unique bytes l1 l2 r1 r2 h k = reading-unique l1 l2 r1 r2 h.each k.each h
 -- ---- the beginnings of a file are beginnings of files
 
 -- of two fronts of one list, one is a front of the other
-split : (p x q y : List ℕ) → p ++ x ≡ q ++ y
+pub split : (p x q y : List ℕ) → p ++ x ≡ q ++ y
     → ((t : List ℕ) × (q ≡ p ++ t) × (x ≡ t ++ y)) ⊎ ((t : List ℕ) × (p ≡ q ++ t) × (y ≡ t ++ x))
 split [] x q y e = inl (q, refl, e)
 split (a ∷ p) x [] y e = inr ((a ∷ p), refl, sym e)

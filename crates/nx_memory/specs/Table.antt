@@ -36,7 +36,8 @@ is_moment moment (Some last) = last == moment
 pub record IsTableOf (content : List MemoryEntry) (moments : List (Option ℕ)) : Type 0 where
   pub size : length moments ≡ identities
   pub last :
-      (identity : Identity) → get_or moments (index_of identity) None ≡ moment_of_last identity content
+      (identity : Identity)
+      → get_or moments (index_of identity) None ≡ moment_of_last identity content
 
 -- the moment that stands at the identity of an entry is the entry's own
 abbrev pub holds_moment : List (Option ℕ) → MemoryEntry → Bool

@@ -51,5 +51,6 @@ pub fn identities_have_places_of_their_own()
 /// before it.
 pub fn the_last_entry_tells()
     ensures { (content : List MemoryEntry) (identity : Identity) (moment : ℕ) → IsContent content →
-        is_known identity moment content ≡ is_recent_moment moment (moment_of_last identity content) }
+        is_known identity moment content
+        ≡ is_recent_moment moment (moment_of_last identity content) }
 {}

@@ -22,6 +22,7 @@ pub mod ListenerEnds
 pub mod ListenMoments
 pub mod ListenRuns
 pub mod ListenOutcomes
+pub mod ElementLines
 pub mod OnceLemmas
 pub mod LogLemmas
 pub mod ApartLemmas

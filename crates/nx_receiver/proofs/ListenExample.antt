@@ -1,16 +1,15 @@
 -- The worked air file: it meets what is asked of a message that is printed once, and it has its log.
-use Rattle.std.proofs.Common.{◌≡◌, ℕ, zero, suc, ◌+◌, ◌*◌, ◌<◌, ◌≤◌, Bool, List, [], ◌∷◌, ◌++◌, length, map, take, drop, refl, sym, ap, ◌∙◌, subst, arith, length-append, lit<, lit≤}
+use Rattle.std.proofs.Common.{◌≡◌, ℕ, zero, suc, ◌+◌, ◌*◌, ◌<◌, ◌≤◌, Bool, List, [], ◌∷◌, length, map, take, refl, sym, ap, ◌∙◌, subst, arith, length-append, lit<, lit≤}
 use Rattle.std.specs.Prelude.{slice_index_or}
-use Rattle.std.specs.List.{AllByRecursion, Contains, range_with_len}
+use Rattle.std.specs.List.{Contains}
 use Rattle.std.specs.Int.{div_ceil}
-use Rattle.std.proofs.lemmas.List.{length-map, length-take, length-drop, map-append}
+use Rattle.std.proofs.lemmas.List.{length-map, length-take}
 use Rattle.nx_memory.specs.Selection.{admits}
-use Rattle.nx_fec.specs.AirFile.{Line, IsLine, element_digit, elements, moment, spelling}
-use Rattle.nx_fec.specs.BitLines.{bit_line, bit_lines}
+use Rattle.nx_fec.specs.AirFile.{IsLine, moment, spelling}
+use Rattle.nx_fec.specs.BitLines.{bit_lines}
 use Rattle.nx_fec.specs.Emission.{bits_of}
 use Rattle.nx_fec.specs.Lines.{IsAirFile, file_of, line_bytes}
-use Rattle.nx_fec.proofs.EncodingLaws.{bit_lines-IsBitFile}
-use Rattle.nx_fec.proofs.LineLaws.{IsAirFile-unique, spelling-IsBeginning}
+use Rattle.nx_fec.proofs.LineLaws.{spelling-IsBeginning}
 use Rattle.nx_fec.proofs.RoundTripLemmas.{length-bits_of}
 use Rattle.nx_station.specs.ChannelExample.{example_message, example_parts, example_sending}
 use Rattle.nx_station.specs.Sendings.{IsCut, Sending}
@@ -25,10 +24,10 @@ use Rattle.nx_receiver.specs.ListenExample.{example_air_file, example_lines}
 use Rattle.nx_receiver.specs.ListenOnce.{AreFoundIn, IsHeardInTimeIn, elements_in, in_force_at, heard_as}
 use Rattle.nx_receiver.specs.Log.{PrintsToEnd}
 use Rattle.nx_receiver.specs.Printing.{printed_copies}
-use Rattle.nx_receiver.specs.Receiver as receiver
 use Rattle.nx_receiver.specs.Sending.{IsSentAt, copy_of_sending}
 use Rattle.nx_receiver.specs.Tagged.{tag, tagged_copies}
 use Rattle.nx_receiver.specs.Worked.{at_its_slot, damaged_words, worked_log}
+use Rattle.nx_receiver.proofs.ElementLines.{events-lines, good-lines, joined-lines, length-lines, taken-lines}
 use Rattle.nx_receiver.proofs.ListenOnce.{heard-elements}
 use Rattle.nx_receiver.proofs.LoggedLemmas.{one_to_end}
 use Rattle.nx_receiver.proofs.OnceExample.{cut_is, events, events_are, first_bits, found, not_two, one_found, one_in, sent_there, stands_is}
@@ -44,40 +43,10 @@ long = length-bits_of damaged_words ∙ omega (arith, damaged_computed.long)
 
 -- ---- the file, of a moment and three lines of elements
 
-abbrev three : List Line
-three = map (bit_line bits) (0 ∷ 1 ∷ 2 ∷ [])
-
-three-is : bit_lines bits ≡ three
-three-is = ap (λ n. map (bit_line bits) (range_with_len 0 (div_ceil n 490))) long
-
-line-good : (i : ℕ) → i ≤ 2 → IsLine (bit_line bits i)
-line-good i h =
-    let count = length-take 490 (drop (490 * i) bits) in
-    let rest = length-drop (490 * i) bits in
-    (omega (arith, long, count, rest, h), omega (arith, count))
-
-three-good : AllByRecursion IsLine three
-three-good = (line-good 0 (omega arith), (line-good 1 (omega arith), (line-good 2 (omega arith), tt)))
-
-line-short : (i : ℕ) → length (line_bytes (bit_line bits i)) ≤ 493
-line-short i =
-    let ones = take 490 (drop (490 * i) bits) in
-    let digits : length (map element_digit ones) ≡ length ones = length-map ones element_digit in
-    let few = length-take 490 (drop (490 * i) bits) in
-    omega (arith, digits, few, length-append (spelling (elements ones)) (10 ∷ []))
-
-three-short : length (file_of three) ≤ 1479
-three-short =
-    let one = line_bytes (bit_line bits 0) in
-    let two = line_bytes (bit_line bits 1) in
-    let last = line_bytes (bit_line bits 2) in
-    omega (arith, line-short 0, line-short 1, line-short 2, length-append one (two ++ (last ++ [])), length-append two (last ++ []), length-append last [])
-
-lines-good : AllByRecursion IsLine (bit_lines bits)
-lines-good = subst (AllByRecursion IsLine) (sym three-is) three-good
-
 lines-short : length (file_of (bit_lines bits)) ≤ 1479
-lines-short = subst (λ (ls : List Line). length (file_of ls) ≤ 1479) (sym three-is) three-short
+lines-short =
+    let size : 493 * div_ceil (length bits) 490 ≡ 1479 = ap (λ n. 493 * div_ceil n 490) long in
+    omega (arith, length-lines bits, size)
 
 moment-good : IsLine (moment 1735692000)
 moment-good = lit< tt
@@ -85,29 +54,18 @@ moment-good = lit< tt
 file-is : IsAirFile air_limit example_air_file example_lines
 file-is = record {
   whole = refl;
-  each = (moment-good, lines-good);
+  each = (moment-good, good-lines bits);
   within =
       omega (arith, lines-short, (spelling-IsBeginning (moment 1735692000) moment-good).short, length-append (spelling (moment 1735692000)) (10 ∷ []), length-append (line_bytes (moment 1735692000)) (file_of (bit_lines bits)));
 }
 
 elements-are : elements_in (bit_lines bits) ≡ bits
-elements-are =
-    let within : length (file_of (bit_lines bits)) ≤ air_limit = omega (arith, lines-short) in
-    let other = bit_lines-IsBitFile air_limit bits within in
-    let mine : IsAirFile air_limit (file_of (bit_lines bits)) (bit_lines bits) = record { whole = refl; each = lines-good; within = within } in
-    ap elements_in (IsAirFile-unique air_limit (file_of (bit_lines bits)) (bit_lines bits) other.lines mine other.file) ∙ sym other.joined
+elements-are = joined-lines bits
 
 -- ---- what it gives to a receiver
 
--- lines of elements give their elements
-line-events : (is : List ℕ) → events_of (map (bit_line bits) is) ≡ map element (elements_in (map (bit_line bits) is))
-line-events [] = refl
-line-events (i ∷ is) =
-    ap (λ es. receiver.elements (take 490 (drop (490 * i) bits)) ++ es) (line-events is)
-    ∙ sym (map-append element (take 490 (drop (490 * i) bits)) (elements_in (map (bit_line bits) is)))
-
 events-are : events_of example_lines ≡ at_moment 1735692000 ∷ events
-events-are = ap (λ es. at_moment 1735692000 ∷ es) (line-events (range_with_len 0 (div_ceil (length bits) 490)) ∙ ap (map element) elements-are)
+events-are = ap (λ es. at_moment 1735692000 ∷ es) (events-lines bits)
 
 same : bits_among events ≡ elements_in example_lines
 same = events_are ∙ sym elements-are
@@ -183,14 +141,9 @@ heard-in-time = record {
 
 -- ---- its log
 
-taken-after : (front : List Line) (is : List ℕ) → AreTakenAfter (moment 1735692000 ∷ front) (map (bit_line bits) is)
-unfolding AreTakenAfter
-taken-after front [] = tt
-taken-after front (i ∷ is) = (refl, taken-after (front ++ bit_line bits i ∷ []) is)
-
 taken : AreTaken example_lines
 unfolding AreTakenAfter setting_after_all
-taken = ((lit≤ tt, lit≤ tt), taken-after [] (range_with_len 0 (div_ceil (length bits) 490)))
+taken = ((lit≤ tt, lit≤ tt), taken-lines (moment 1735692000 ∷ []) bits refl)
 
 -- a list of one that holds an item is that item alone
 alone : {A : Type 0} (xs : List A) (x : A) → length xs ≡ 1 → Contains xs x → xs ≡ x ∷ []

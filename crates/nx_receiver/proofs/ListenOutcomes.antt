@@ -1,16 +1,16 @@
 -- An air file has one outcome: one first fault, or a log.
-use Rattle.std.proofs.Common.{◌≡◌, ◌≢◌, ◌⊎◌, inl, inr, ℕ, ◌+◌, ◌<◌, ◌≤◌, List, [], ◌∷◌, ◌++◌, Option, length, refl, sym, ap, ◌∙◌, subst, append-nil, append_assoc, arith, length-append}
+use Rattle.std.proofs.Common.{◌≡◌, inl, inr, ℕ, ◌+◌, ◌<◌, ◌≤◌, List, [], ◌∷◌, ◌++◌, Option, length, refl, sym, ap, ◌∙◌, subst, append-nil, append_assoc, arith, length-append}
 use Rattle.std.specs.List.{AllByRecursion}
 use Rattle.std.proofs.lemmas.Bool.{true≢false}
 use Rattle.nx_envelope.proofs.LettersAndDigits.{same_letter}
 use Rattle.nx_fec.specs.AirFile.{Line, IsLine, spelling, moment, elements, refuse_station, accept_station, refuse_subject, accept_subject}
 use Rattle.nx_fec.specs.LineRuns.{StopsAt}
-use Rattle.nx_fec.specs.Lines.{HasFault, IsAirFile, IsCause, file_of, line_bytes, line_end}
+use Rattle.nx_fec.specs.Lines.{HasFault, IsAirFile, IsCause, file_of, line_bytes}
 use Rattle.nx_fec.specs.declared.fault.LineFault.{LineFault}
 use Rattle.nx_fec.specs.declared.fault.LineFault.TheVariants as file
 use Rattle.nx_fec.specs.declared.line_run.LinesFault.{LinesFault}
 use Rattle.nx_fec.specs.declared.line_run.LinesFault.TheVariants as run
-use Rattle.nx_fec.proofs.LineLaws.{HasFault-unique, IsAirFile-good, reading-unique, spelling-IsBeginning, spelling-injective}
+use Rattle.nx_fec.proofs.LineLaws.{HasFault-unique, IsAirFile-good, NoFeed, first_feed, no_feed-not, reading-unique, regroup, spelling-IsBeginning, spelling-injective, split}
 use Rattle.nx_fec.proofs.LineRunLemmas.{file_of-one}
 use Rattle.nx_receiver.specs.Listen.{AreTaken, AreTakenAfter, HasFirstFault, HasLogged, IsLogOf, IsNextRefused, IsTakenAfter, air_limit}
 use Rattle.nx_receiver.specs.Listener.{RefusesLine, lines_fault}
@@ -89,26 +89,6 @@ taken-at first (x ∷ before) line after h =
 
 -- ---- lines at the front of a file
 
-abbrev NoFeed : List ℕ → Type 0
-NoFeed bytes = AllByRecursion (λ byte. byte ≢ line_end) bytes
-
-no_feed-not : (p q : List ℕ) → NoFeed (p ++ (10 ∷ q)) → ⊥
-no_feed-not [] q h = h.0 refl
-no_feed-not (x ∷ p) q h = no_feed-not p q h.1
-
-first_feed : (p q x y : List ℕ) → NoFeed p → NoFeed q → p ++ (10 ∷ x) ≡ q ++ (10 ∷ y) → (p ≡ q) × (x ≡ y)
-first_feed [] [] x y h k e = (refl, cc)
-first_feed [] (b ∷ q) x y h k e = let same : b ≡ 10 = cc in absurd (k.0 same)
-first_feed (a ∷ p) [] x y h k e = let same : a ≡ 10 = cc in absurd (h.0 same)
-first_feed (a ∷ p) (b ∷ q) x y h k e =
-    let tails : p ++ (10 ∷ x) ≡ q ++ (10 ∷ y) = cc in
-    let heads : a ≡ b = cc in
-    let r = first_feed p q x y h.1 k.1 tails in
-    (cc (r.0, heads), r.1)
-
-regroup : (a : Line) (lines : List Line) (rest : List ℕ) → file_of (a ∷ lines) ++ rest ≡ spelling a ++ (10 ∷ (file_of lines ++ rest))
-regroup a lines rest = append_assoc (line_bytes a) (file_of lines) rest ∙ append_assoc (spelling a) (10 ∷ []) (file_of lines ++ rest)
-
 -- where the bytes of lines begin with those of others, the lines do
 front-lines : (xs ys : List Line) (x r : List ℕ) → AllByRecursion IsLine xs → AllByRecursion IsLine ys → NoFeed r → file_of xs ++ x ≡ file_of ys ++ r
     → (rest : List Line) × (ys ≡ xs ++ rest)
@@ -120,17 +100,6 @@ front-lines (a ∷ xs) (b ∷ ys) x r g k none e =
     let heads : a ≡ b = spelling-injective a b g.0 k.0 parts.0 in
     let more = front-lines xs ys x r g.1 k.1 none parts.1 in
     (more.0, cc (heads, more.1))
-
-split : (p x q y : List ℕ) → p ++ x ≡ q ++ y → ((t : List ℕ) × (q ≡ p ++ t)) ⊎ ((t : List ℕ) × (p ≡ q ++ t) × (y ≡ t ++ x))
-split [] x q y e = inl (q, refl)
-split (a ∷ p) x [] y e = inr ((a ∷ p), refl, sym e)
-split (a ∷ p) x (b ∷ q) y e =
-    let heads : a ≡ b = cc in
-    let tails : p ++ x ≡ q ++ y = cc in
-    elim (split p x q y tails) [
-      | inl s ↦ inl (s.0, (cc (heads, s.1)))
-      | inr s ↦ inr (s.0, (cc (heads, s.1)), s.2)
-    ]
 
 good-more : (lines : List Line) (line : Line) → AllByRecursion IsLine lines → IsLine line → AllByRecursion IsLine (lines ++ line ∷ [])
 good-more [] line g h = (h, tt)

@@ -13,8 +13,8 @@ use Rattle.nx_receiver.specs.Listener.{BeginsListening, BeginsLog, HasFinished, 
 use Rattle.nx_receiver.specs.ListenerBegins.{printed-so_far}
 use Rattle.nx_receiver.specs.Log.{IsEntry, IsLog}
 use Rattle.nx_receiver.specs.Receiver as receiver
-use Rattle.nx_receiver.specs.Receiver.{Awaits, Receiving, Stands, entry_list}
-use Rattle.nx_receiver.specs.Tagged.{TaggedCopy, copy_of}
+use Rattle.nx_receiver.specs.Receiver.{Awaits, Stands, entry_list}
+use Rattle.nx_receiver.specs.Tagged.{TaggedCopy}
 use Rattle.nx_receiver.specs.declared.entry.Entry.{Entry}
 use Rattle.nx_receiver.specs.declared.listening.Listener.{Listener}
 use Rattle.nx_receiver.specs.declared.over.Over.{Over}

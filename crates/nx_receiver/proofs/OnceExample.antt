@@ -10,7 +10,7 @@ use Rattle.nx_envelope.specs.Backward.{letter_from, letter_of, digit_from, digit
 use Rattle.nx_envelope.specs.Copies.{beginnings, header_at_end, headers, copies}
 use Rattle.nx_fec.specs.Emission.{bits_of}
 use Rattle.nx_station.specs.Channel.{phasing_words}
-use Rattle.nx_station.specs.ChannelExample.{damaged_in, example_message, example_parts, example_sending, example_words, heard_half}
+use Rattle.nx_station.specs.ChannelExample.{example_message, example_parts, example_sending, heard_half}
 use Rattle.nx_station.specs.Sendings.{IsCut}
 use Rattle.nx_station.proofs.ChannelExamples.{example_cut, example_sent}
 use Rattle.nx_sync.specs.Locks.{locked, IsNow}
@@ -23,15 +23,14 @@ use Rattle.nx_receiver.specs.LockText.{lock_text, bytes_of}
 use Rattle.nx_receiver.specs.OnceHeard.{IsHeardInTime}
 use Rattle.nx_receiver.specs.Sending.{copy_of_sending, IsSentAt}
 use Rattle.nx_receiver.specs.Tagged.{TaggedCopy, tagged_copies}
-use Rattle.nx_receiver.specs.Worked.{at_its_slot, damaged_words, dx_damaged, heard_elements, message_words}
-use Rattle.nx_receiver.specs.Worked.{phasing_words as worked_phasing}
+use Rattle.nx_receiver.specs.Worked.{at_its_slot, damaged_words, heard_elements}
 use Rattle.nx_receiver.proofs.SendingFound.{sending_in_end}
 use Rattle.nx_receiver.proofs.WorkedLemmas.{damaged_computed, stands, text_is}
 use Rattle.nx_receiver.proofs.WorkedLog.{all_selected, at_first, bits_among-elements}
 
 -- the words from slot 96 on are those that are heard in the worked emission of the channel
 same_words : drop 96 damaged_words ≡ heard_half
-unfolding damaged_words dx_damaged message_words worked_phasing heard_half damaged_in example_words phasing_words
+unfolding damaged_words phasing_words
 same_words = refl
 
 abbrev pub first_bits : List Bool

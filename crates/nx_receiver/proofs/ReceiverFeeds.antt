@@ -1,20 +1,17 @@
 -- A receiver that is fed elements: what it stands after, and what was printed before each of them.
-use Rattle.std.proofs.Common.{◌≡◌, ℕ, ◌+◌, ◌-◌, ◌<◌, ◌≤◌, Bool, List, [], ◌++◌, Option, None, length, take, drop, refl, sym, ap, ◌∙◌, subst, append-nil, append_assoc, arith, inl, inr, is_some, false, Some, length-drop}
+use Rattle.std.proofs.Common.{◌≡◌, ℕ, ◌+◌, ◌-◌, ◌<◌, ◌≤◌, Bool, List, ◌++◌, Option, None, length, take, drop, refl, sym, ap, ◌∙◌, subst, append-nil, append_assoc, arith, inl, inr, is_some, false, Some, length-drop}
 use lib.Seq.{take-add}
 use Rattle.std.proofs.lemmas.Bool.{cases_lt}
 use Rattle.std.proofs.lemmas.List.{length-take, map-append, take-take}
-use Rattle.nx_code.specs.Lists.{last_of}
-use Rattle.nx_memory.specs.Memory.{most_entries}
 use Rattle.nx_memory.specs.declared.entry.MemoryEntry.{MemoryEntry}
 use Rattle.nx_receiver.specs.declared.over.Over.{Over}
 use Rattle.nx_receiver.specs.declared.over.Over.TheVariants as over
 use Rattle.nx_receiver.specs.declared.entry.Entry.{Entry}
 use Rattle.nx_receiver.specs.Events.{Event, Setting, Start, bits_of, element, first_setting, setting_after_all, settings}
 use Rattle.nx_receiver.specs.Log.{HasPrinted}
-use Rattle.nx_receiver.specs.Printing.{entries_after, printed_copies}
-use Rattle.nx_receiver.specs.Receiver.{Awaits, AwaitsOver, Receiving, Stands, StandsOver, elements, entry_list}
+use Rattle.nx_receiver.specs.Receiver.{Awaits, AwaitsOver, PassesOver, Receiving, Stands, StandsOver, elements, entry_list}
 use Rattle.nx_receiver.specs.Tagged.{TaggedCopy}
-use Rattle.nx_receiver.specs.Watch.{HasEnded, Hears, IsOver, Watching, WatchStands, all_in_force, in_force}
+use Rattle.nx_receiver.specs.Watch.{HasEnded, HearsAll, IsOver, Watching, all_in_force, in_force}
 use Rattle.nx_receiver.proofs.ReceiverEvents.{bits_of-more, force-more, settings-more}
 use Rattle.nx_receiver.proofs.ReceiverPrinting.{has_printed}
 use Rattle.nx_receiver.proofs.WatchLoops.{rest_is}
@@ -37,16 +34,15 @@ fed_none content old bits = record {
 -- A watch heard these elements, and what was over was passed over where it brings no entry.
 pub record Passed {M : Type 0} (content : M → List MemoryEntry) (old new : Receiving M) (watch : Watching) (bits : List Bool) (left : Over) : Type 0 where
   pub answer : Over
-  pub hears : (first : Setting) (h : List Bool) (s : List Setting) (copies : List TaggedCopy) → WatchStands first old.watch h s copies → Hears first old.watch watch h s copies bits answer
-  pub passes : (start : Start) (h : List Bool) (s : List Setting) (now : Setting) (log : List TaggedCopy) → AwaitsOver content start (record { watch = watch; memory = old.memory }) h s now log answer
-      → AwaitsOver content start new h s now log left
+  pub hears : HearsAll old.watch watch bits answer
+  pub passes : PassesOver content (record { watch = watch; memory = old.memory }) new answer left
   pub force : in_force watch ≡ in_force old.watch
 
 pub awaits_on : {M : Type 0} (content : M → List MemoryEntry) (old new : Receiving M) (watch : Watching) (bits : List Bool) (left : Over) → Passed content old new watch bits left
     → (start : Start) (events : List Event) (log : List TaggedCopy) → Stands content start old events log → Awaits content start new (events ++ elements bits) log left
 awaits_on content old new watch bits left f start events log s =
     let first = first_setting start in
-    let heard = f.hears first (bits_of events) (settings first events) s.copies s.watch in
+    let heard = f.hears.hears first (bits_of events) (settings first events) s.copies s.watch in
     let over = f.passes start _ _ (setting_after_all first events) log (record { copies = s.copies; watch = heard.brings; force = f.force ∙ s.force; printed = s.printed; memory = s.memory }) in
     let all = events ++ elements bits in
     let h = subst (λ h. AwaitsOver content start new h (settings first events ++ all_in_force old.watch bits) (setting_after_all first events) log left) (sym (bits_of-more events bits)) over in
@@ -57,7 +53,7 @@ pub printed_before : {M : Type 0} (content : M → List MemoryEntry) (old new : 
     → (start : Start) (events : List Event) (log : List TaggedCopy) → Stands content start old events log → (k : ℕ) → k < length bits → HasPrinted start (events ++ elements (take k bits)) log
 printed_before content old new watch bits left f start events log s k lt =
     let first = first_setting start in
-    let heard = f.hears first (bits_of events) (settings first events) s.copies s.watch in
+    let heard = f.hears.hears first (bits_of events) (settings first events) s.copies s.watch in
     let ended = heard.none_before k (omega arith) in
     let some = take k bits in
     let h = subst (λ h. HasEnded first h (settings first events ++ all_in_force old.watch some) s.copies) (sym (bits_of-more events some)) ended in

@@ -1,5 +1,5 @@
 -- What is passed over, since it brings no entry: a copy that isn't printed, and a lock in which no copy stands open.
-use Rattle.std.proofs.Common.{◌≡◌, Bool, false, not, ◌==◌, ◌&&◌, ◌||◌, List, [], ◌∷◌, ◌++◌, Option, Some, None, sym, ap, ◌∙◌, append-nil}
+use Rattle.std.proofs.Common.{◌≡◌, Bool, false, not, ◌==◌, ◌&&◌, ◌||◌, List, [], ◌∷◌, ◌++◌, Some, sym, ap, ◌∙◌, append-nil}
 use Rattle.nx_code.specs.Lists.{last_of}
 use Rattle.nx_memory.specs.Memory.{is_known, most_entries}
 use Rattle.nx_memory.specs.declared.entry.MemoryEntry.{MemoryEntry}

@@ -1,15 +1,13 @@
 -- What `send` writes of messages, as an air file that is listened to.
-use Rattle.std.proofs.Common.{◌≡◌, ℕ, zero, suc, ◌+◌, ◌*◌, ◌^◌, ◌<◌, ◌≤◌, Bool, true, List, [], ◌∷◌, ◌++◌, map, length, take, drop, refl, sym, ap, ◌∙◌, subst, arith, drop-drop, take_all}
-use Rattle.std.proofs.Math.Seq.{take-add}
+use Rattle.std.proofs.Common.{◌≡◌, ℕ, ◌^◌, ◌<◌, ◌≤◌, Bool, List, [], ◌∷◌, map, length, refl, sym, ap, ◌∙◌, subst, arith}
 use Rattle.std.specs.Int.{div_ceil}
-use Rattle.std.specs.List.{AllByRecursion, Contains, flat_map, range_with_len}
-use Rattle.std.proofs.lemmas.List.{length-append, length-drop, length-map, length-take, map-append}
-use Rattle.std.proofs.lemmas.List.FromFn.{length-map-range_with_len}
+use Rattle.std.specs.List.{Contains}
+use Rattle.std.proofs.lemmas.List.{length-append}
 use Rattle.nx_envelope.specs.MessageView.{MessageView}
-use Rattle.nx_fec.specs.AirFile.{Line, IsLine, element_digit, elements, moment, spelling}
-use Rattle.nx_fec.specs.BitLines.{bit_line, bit_lines}
+use Rattle.nx_fec.specs.AirFile.{Line, moment, spelling}
+use Rattle.nx_fec.specs.BitLines.{bit_lines}
 use Rattle.nx_fec.specs.Emission.{bits_of, emission}
-use Rattle.nx_fec.specs.Lines.{IsAirFile, elements_of, file_of, line_bytes}
+use Rattle.nx_fec.specs.Lines.{IsAirFile, file_of, line_bytes}
 use Rattle.nx_fec.proofs.EmissionLemmas.{length-emission}
 use Rattle.nx_fec.proofs.LineLaws.{IsAirFile-unique, spelling-IsBeginning}
 use Rattle.nx_fec.proofs.RoundTripLemmas.{length-bits_of}
@@ -18,9 +16,9 @@ use Rattle.nx_station.specs.Sendings.{IsCut}
 use Rattle.nx_station.specs.declared.sending.Sent.{Sent}
 use Rattle.nx_station.proofs.BroadcastLemmas.{broadcast-one}
 use Rattle.nx_sync.specs.Locks.{IsNow}
-use Rattle.nx_receiver.specs.Events.{Event, at_moment, element, setting_after_all}
+use Rattle.nx_receiver.specs.Events.{Event, at_moment, setting_after_all}
 use Rattle.nx_receiver.specs.FoundCopies.{found_to_end}
-use Rattle.nx_receiver.specs.Listen.{AreTaken, AreTakenAfter, IsLogOf, IsLogOfFile, air_limit, at_zero, events_of, has_moment}
+use Rattle.nx_receiver.specs.Listen.{AreTaken, AreTakenAfter, IsLogOf, IsLogOfFile, air_limit, at_zero, events_of}
 use Rattle.nx_receiver.specs.Log.{PrintsToEnd}
 use Rattle.nx_receiver.specs.ListenOnce.{IsHeardInTimeIn, elements_in, heard_as}
 use Rattle.nx_receiver.specs.OnceHeard.{FewBetween, IsHeardInTime, IsPrintedOnce}
@@ -28,82 +26,22 @@ use Rattle.nx_receiver.specs.Printing.{printed_copies}
 use Rattle.nx_receiver.specs.Receiver as receiver
 use Rattle.nx_receiver.specs.Sent.{BearsAlone, copy_as_sent, events_as_sent, parts_as_sent}
 use Rattle.nx_receiver.specs.Tagged.{TaggedCopy}
+use Rattle.nx_receiver.proofs.ElementLines.{events-lines, good-lines, length-lines, taken-lines}
 use Rattle.nx_receiver.proofs.ListenMoments.{some-closed}
-use Rattle.nx_receiver.proofs.ListenerLemmas.{moment-other}
 use Rattle.nx_receiver.proofs.ListenOnce.{heard-elements}
 use Rattle.nx_receiver.proofs.OnceFound.{printed_once}
 use Rattle.nx_receiver.proofs.SentHeard.{heard_in_time}
 use Rattle.nx_receiver.proofs.SentLog.{log_as_sent}
-
--- ---- lines of elements
-
-abbrev lines_of : (ℕ → List Bool) → List ℕ → List Line
-lines_of bits indices = map (λ i. elements (bits i)) indices
-
--- what they give to a receiver
-events-lines : (bits : ℕ → List Bool) (indices : List ℕ)
-    → events_of (lines_of bits indices) ≡ receiver.elements (flat_map elements_of (lines_of bits indices))
-events-lines bits [] = refl
-events-lines bits (i ∷ indices) =
-    ap (λ l. receiver.elements (bits i) ++ l) (events-lines bits indices)
-    ∙ sym (map-append element (bits i) (flat_map elements_of (lines_of bits indices)))
-
--- they are taken once there was a moment
-taken-lines : (first : List Line) (bits : ℕ → List Bool) (indices : List ℕ) → has_moment first ≡ true
-    → AreTakenAfter first (lines_of bits indices)
-unfolding AreTakenAfter
-taken-lines first bits [] h = tt
-taken-lines first bits (i ∷ indices) h =
-    (h, taken-lines (first ++ elements (bits i) ∷ []) bits indices (sym (moment-other first (elements (bits i)) true (sym h) refl)))
-
--- how many bytes they have
-length-lines : (bits : ℕ → List Bool) (indices : List ℕ) → ((i : ℕ) → length (bits i) ≤ 490)
-    → length (file_of (lines_of bits indices)) ≤ 493 * length indices
-length-lines bits [] short = omega arith
-length-lines bits (i ∷ indices) short =
-    let rest = length-lines bits indices short in
-    let one = length-append (line_bytes (elements (bits i))) (file_of (lines_of bits indices)) in
-    let line = length-append (spelling (elements (bits i))) (10 ∷ []) in
-    let digits = length-map (bits i) element_digit in
-    omega (arith, short i)
 
 -- ---- the lines of a transmission
 
 abbrev lines_as_sent : ℕ → List Bool → List Line
 lines_as_sent slot bits = moment slot ∷ bit_lines bits
 
-joined-from : (bits : List Bool) (from n : ℕ)
-    → flat_map elements_of (map (bit_line bits) (range_with_len from n)) ≡ take (490 * n) (drop (490 * from) bits)
-joined-from bits from zero = refl
-joined-from bits from (suc n) =
-    let next : 490 * (from + 1) ≡ 490 * from + 490 = omega arith in
-    let size : 490 + 490 * n ≡ 490 * suc n = omega arith in
-    let here = drop (490 * from) bits in
-    ap (λ l. take 490 here ++ l) (joined-from bits (from + 1) n)
-    ∙ ap (λ k. take 490 here ++ take (490 * n) (drop k bits)) next
-    ∙ ap (λ l. take 490 here ++ take (490 * n) l) (sym (drop-drop 490 (490 * from) bits))
-    ∙ sym (take-add 490 (490 * n) here) ∙ ap (λ k. take k here) size
-
-joined-lines : (bits : List Bool) → flat_map elements_of (bit_lines bits) ≡ bits
-joined-lines bits =
-    joined-from bits 0 (div_ceil (length bits) 490) ∙ take_all (490 * div_ceil (length bits) 490) bits (omega arith)
-
-good-from : (bits : List Bool) (from n : ℕ) → ((i : ℕ) → i < n → 490 * (from + i) < length bits)
-    → AllByRecursion IsLine (map (bit_line bits) (range_with_len from n))
-good-from bits from zero h = tt
-good-from bits from (suc n) h =
-    let some = h 0 (omega arith) in
-    let count = length-take 490 (drop (490 * from) bits) in
-    let rest = length-drop (490 * from) bits in
-    ((omega arith, omega arith), good-from bits (from + 1) n (λ i lt. let later = h (i + 1) (omega arith) in omega arith))
-
-good-lines : (bits : List Bool) → AllByRecursion IsLine (bit_lines bits)
-good-lines bits = good-from bits 0 (div_ceil (length bits) 490) (λ i lt. omega arith)
-
 events-as_sent : (slot : ℕ) (bits : List Bool)
     → events_of (lines_as_sent slot bits) ≡ at_moment slot ∷ receiver.elements bits
 events-as_sent slot bits =
-    ap (λ l. at_moment slot ∷ l) (events-lines _ (range_with_len 0 (div_ceil (length bits) 490)) ∙ ap receiver.elements (joined-lines bits))
+    ap (λ l. at_moment slot ∷ l) (events-lines bits)
 
 module _ (station from : ℕ) (file air : List ℕ) (sent : Sent) (h : IsTransmission station from file air sent) where
   abbrev bits : List Bool
@@ -121,9 +59,7 @@ module _ (station from : ℕ) (file air : List ℕ) (sent : Sent) (h : IsTransmi
   within =
       let size : length bits ≤ 59997 = omega (arith, length-bits_of (emission h.positions), length-emission h.positions, few_positions) in
       let count : div_ceil (length bits) 490 ≤ 123 = omega arith in
-      let all : length (file_of (bit_lines bits)) ≤ 493 * length (range_with_len 0 (div_ceil (length bits) 490)) =
-      length-lines (λ i. take 490 (drop (490 * i) bits)) (range_with_len 0 (div_ceil (length bits) 490)) (λ i. omega (arith, length-take 490 (drop (490 * i) bits))) in
-      let indices = sym (length-map (range_with_len 0 (div_ceil (length bits) 490)) (λ (i : ℕ). i)) ∙ length-map-range_with_len (λ (i : ℕ). i) 0 (div_ceil (length bits) 490) in
+      let all = length-lines bits in
       let good : sent.slot < 10 ^ 11 = omega (arith, h.next.in_range) in
       let first = (spelling-IsBeginning (moment sent.slot) good).short in
       let line = length-append (spelling (moment sent.slot)) (10 ∷ []) in
@@ -136,7 +72,7 @@ module _ (station from : ℕ) (file air : List ℕ) (sent : Sent) (h : IsTransmi
   are_taken : AreTaken lines
   unfolding AreTakenAfter setting_after_all
   are_taken =
-      ((omega arith, h.next.in_range), taken-lines (moment sent.slot ∷ []) _ (range_with_len 0 (div_ceil (length bits) 490)) refl)
+      ((omega arith, h.next.in_range), taken-lines (moment sent.slot ∷ []) bits refl)
 
   -- it has a log
   pub log_of_sent : (log : List ℕ) × IsLogOf air log

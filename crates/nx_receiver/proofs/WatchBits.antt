@@ -14,7 +14,6 @@ use Rattle.nx_sync.proofs.MoreBits.{word_at-more, first_role-more}
 use Rattle.nx_fec.specs.Pairing.{IsLatest}
 use Rattle.nx_code.specs.Reading.{shift_after_all, text}
 use Rattle.nx_code.specs.declared.shifts.Shift.TheVariants.{Letters}
-use Rattle.nx_envelope.specs.Finder.{is_over}
 use Rattle.nx_envelope.specs.Finder as finders
 use Rattle.nx_receiver.specs.declared.over.CopyTag.{CopyTag}
 use Rattle.nx_receiver.specs.Events.{Setting}

@@ -5,16 +5,10 @@ use Rattle.std.specs.Array.{IsFirstChunk}
 use Rattle.std.proofs.lemmas.List.{drop_more, take_all}
 use Rattle.nx_receiver.specs.declared.over.Over.{Over}
 use Rattle.nx_receiver.specs.declared.over.Over.TheVariants as over
-use Rattle.nx_receiver.specs.Events.{Setting}
-use Rattle.nx_receiver.specs.Tagged.{TaggedCopy}
-use Rattle.nx_receiver.specs.Watch.{Watching, Hears, TagGoesOn, as_it_was, WatchStands, in_force}
+use Rattle.nx_receiver.specs.Watch.{Watching, Hears, HearsAll, TagGoesOn, as_it_was, in_force}
 use Rattle.nx_sync.specs.Steps.{HuntsThrough}
 use Rattle.nx_sync.specs.Synchroniser.{Held, StandsAfter}
 use Rattle.nx_receiver.proofs.WatchHears.{hears_on, hunt_heard, none_heard, tag_on}
-
--- whatever was heard before, these elements are heard, and this is over with the last of them
-pub record HearsAll (old new : Watching) (bits : List Bool) (answer : Over) : Type 0 where
-  pub hears : (first : Setting) (h : List Bool) (s : List Setting) (copies : List TaggedCopy) → WatchStands first old h s copies → Hears first old new h s copies bits answer
 
 -- the first so many of these elements were heard, and nothing was over with any of them
 pub record Goes (old now : Watching) (bits : List Bool) (at : ℕ) : Type 0 where

@@ -12,6 +12,8 @@ use Rattle.nx_fec.specs.Emission.{bits_of, AreWords}
 use Rattle.nx_fec.specs.Pairing.{counts_as}
 use Rattle.nx_fec.proofs.AlignedLemmas.{get_or-words_of}
 use Rattle.nx_fec.proofs.RoundTripLemmas.{length-bits_of, words_of-bits_of}
+use Rattle.nx_station.specs.Channel.{phasing_words}
+use Rattle.nx_station.specs.ChannelExample.{damaged_in, example_words, heard_half}
 use Rattle.nx_sync.specs.Words.{word_at, first_role, role_of, wrong_in, wrong_until, losing_count, whole_words}
 use Rattle.nx_sync.specs.Locks.{before_dx, last_28, releases_as_ended, change_at, Past, IsLocked}
 use Rattle.nx_sync.specs.declared.step.Role.TheVariants.{Dx, Rx}
@@ -19,7 +21,7 @@ use Rattle.nx_sync.specs.declared.step.Change.TheVariants.{Ended, LostLock}
 use Rattle.nx_sync.proofs.Counts.{wrong_in-add}
 use Rattle.nx_sync.proofs.MoreBits.{change_at-same}
 use Rattle.nx_receiver.specs.LockText.{taken_at, positions, lock_text, bytes_of}
-use Rattle.nx_receiver.specs.Worked.{phasing_words, message_words, dx_damaged, sent_words, damaged_words}
+use Rattle.nx_receiver.specs.Worked.{sent_words, damaged_words}
 use Rattle.nx_receiver.proofs.LockTexts.{positions-same, bytes_are_reading}
 
 -- word k of a lock at bit 28, by the words that were heard
@@ -37,11 +39,11 @@ pub record Computed (sent : List ℕ) : Type 0 where
   pub reads : text (positions Dx (lock_word sent) 199) Letters ≡ codes "ZCZC EA01\nTEST\nNNNN\n\n"
 
 pub sent_computed : Computed sent_words
-unfolding positions taken_at role_of counts_as place_of words table character_of row_of sent_words message_words phasing_words before_dx bits_of elements elements_from wrong_in weight releases_as_ended
+unfolding positions taken_at role_of counts_as place_of words table character_of row_of sent_words example_words phasing_words before_dx bits_of elements elements_from wrong_in weight releases_as_ended
 sent_computed = record { long = refl; are_words = refl; pattern = refl; before = refl; no_end = refl; few_wrong = lit≤ tt; reads = refl }
 
 pub damaged_computed : Computed damaged_words
-unfolding positions taken_at role_of counts_as place_of words table character_of row_of damaged_words dx_damaged message_words phasing_words before_dx bits_of elements elements_from wrong_in weight releases_as_ended
+unfolding positions taken_at role_of counts_as place_of words table character_of row_of damaged_words heard_half damaged_in example_words phasing_words before_dx bits_of elements elements_from wrong_in weight releases_as_ended
 damaged_computed = record { long = refl; are_words = refl; pattern = refl; before = refl; no_end = refl; few_wrong = lit≤ tt; reads = refl }
 
 module _ (sent : List ℕ) (is : Computed sent) where

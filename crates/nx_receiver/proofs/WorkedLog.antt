@@ -15,6 +15,7 @@ use Rattle.nx_envelope.proofs.Examples.{slot_of_e}
 use Rattle.nx_envelope.proofs.Identities.{same_identity-true}
 use Rattle.nx_memory.specs.Selection.{admits}
 use Rattle.nx_fec.specs.Emission.{bits_of}
+use Rattle.nx_station.specs.ChannelExample.{ea01}
 use Rattle.nx_sync.specs.Words.{whole_words}
 use Rattle.nx_sync.specs.Locks.{locked, IsNow}
 use Rattle.nx_receiver.specs.Events.{element, Setting, settings, setting_at, first_setting}
@@ -24,7 +25,7 @@ use Rattle.nx_receiver.specs.FoundCopies.{found_copy, past_copies, found_to_end}
 use Rattle.nx_receiver.specs.Tagged.{tag, tagged_copies}
 use Rattle.nx_receiver.specs.Printing.{printed_copies, if_printed, is_printed}
 use Rattle.nx_receiver.specs.Log.{entry_head, is_of_lines, missing_newline, entry_with, IsLog, printed_of, PrintsToEnd}
-use Rattle.nx_receiver.specs.Example.{ea01, first_copy}
+use Rattle.nx_receiver.specs.Example.{first_copy}
 use Rattle.nx_receiver.specs.Worked.{at_its_slot, heard_elements, worked_log}
 use Rattle.nx_receiver.proofs.WorkedLemmas.{Computed, stands, text_is}
 

@@ -1,5 +1,5 @@
--- What a receiver is given, in order: moments, elements one by one, and commands of selection (this profile). And
--- what is in force when an element is heard.
+-- What a receiver is given, in order: moments, elements one by one, and commands of selection (this
+-- profile). And what is in force when an element is heard.
 use Rattle.std.specs.Prelude.{ℕ, Bool, if◌then◌else◌, List, [], ◌∷◌, ◌++◌, slice_index_or}
 use Rattle.std.specs.FinSet as set
 use Rattle.nx_memory.specs.declared.entry.MemoryEntry.{MemoryEntry}
@@ -13,7 +13,8 @@ pub data Command : Type 0 where
   refuse_subject : ℕ → Command
   accept_subject : ℕ → Command
 
--- the moment from here on, in seconds since 1970-01-01 00:00:00 UTC; one element, true for B; or a command
+-- the moment from here on, in seconds since 1970-01-01 00:00:00 UTC; one element, true for B; or a
+-- command
 pub data Event : Type 0 where
   at_moment : ℕ → Event
   element : Bool → Event
@@ -26,11 +27,15 @@ pub record Setting : Type 0 where
 
 -- what is refused after a command; a vital subject can't be refused (ITU-R M.540)
 abbrev pub refused_after : Refused → Command → Refused
-refused_after refused (refuse_station letter) = record refused { stations = set.insert refused.stations letter }
-refused_after refused (accept_station letter) = record refused { stations = set.remove refused.stations letter }
+refused_after refused (refuse_station letter) =
+    record refused { stations = set.insert refused.stations letter }
+refused_after refused (accept_station letter) =
+    record refused { stations = set.remove refused.stations letter }
 refused_after refused (refuse_subject letter) =
-    if is_vital letter then refused else record refused { subjects = set.insert refused.subjects letter }
-refused_after refused (accept_subject letter) = record refused { subjects = set.remove refused.subjects letter }
+    if is_vital letter then refused
+    else record refused { subjects = set.insert refused.subjects letter }
+refused_after refused (accept_subject letter) =
+    record refused { subjects = set.remove refused.subjects letter }
 
 -- what is in force after an event
 abbrev pub setting_after : Setting → Event → Setting
@@ -58,7 +63,8 @@ setting_at_bit setting (command c) = []
 -- what is in force at each element, in order, from what is in force at first
 unfoldable pub settings : Setting → List Event → List Setting
 settings setting [] = []
-settings setting (event ∷ events) = setting_at_bit setting event ++ settings (setting_after setting event) events
+settings setting (event ∷ events) =
+    setting_at_bit setting event ++ settings (setting_after setting event) events
 
 -- what is in force after all events
 unfoldable pub setting_after_all : Setting → List Event → Setting
@@ -69,7 +75,8 @@ setting_after_all setting (event ∷ events) = setting_after_all (setting_after 
 abbrev pub setting_at : Setting → List Event → ℕ → Setting
 setting_at first events place = slice_index_or (settings first events) place first
 
--- with what a receiver starts: the entries of the memory that it was made with, oldest first, and its first moment
+-- with what a receiver starts: the entries of the memory that it was made with, oldest first, and
+-- its first moment
 pub record Start : Type 0 where
   pub entries : List MemoryEntry
   pub moment : ℕ

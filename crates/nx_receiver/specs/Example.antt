@@ -1,29 +1,21 @@
--- An example of repeats: EA01 with the text TEST is heard, then EB02 without a text, then EB02 again, cut short, and EA01
--- again, four hours after the first.
+-- An example of repeats: EA01 with the text TEST is heard, then EB02 without a text, then EB02
+-- again, cut short, and EA01 again, four hours after the first.
 use Rattle.std.specs.Prelude.{ℕ, true, List, [], ◌∷◌, codes}
 use Rattle.std.proofs.Common.{lit≤}
 use Rattle.nx_envelope.specs.declared.found.How.{How}
 use Rattle.nx_envelope.specs.declared.found.How.TheVariants.{Full, Cut}
 use Rattle.nx_envelope.specs.declared.identity.Identity.{Identity}
-use Rattle.nx_envelope.specs.declared.letter.Letter.{Letter}
+use Rattle.nx_station.specs.ChannelExample.{ea01}
 use Rattle.nx_receiver.specs.Tagged.{TaggedCopy}
 
--- the letters A, B and E
-abbrev pub letter_a : Letter
-letter_a = record { byte = 65; in_range = (lit≤ tt, lit≤ tt) }
-
-abbrev pub letter_b : Letter
-letter_b = record { byte = 66; in_range = (lit≤ tt, lit≤ tt) }
-
-abbrev pub letter_e : Letter
-letter_e = record { byte = 69; in_range = (lit≤ tt, lit≤ tt) }
-
--- station E, subject A, number 01; and subject B, number 02
-abbrev pub ea01 : Identity
-ea01 = record { b1 = letter_e; b2 = letter_a; number = 1; two_digits = lit≤ tt }
-
+-- station E, subject B, number 02
 abbrev pub eb02 : Identity
-eb02 = record { b1 = letter_e; b2 = letter_b; number = 2; two_digits = lit≤ tt }
+eb02 = record {
+  b1 = ea01.b1;
+  b2 = record { byte = 66; in_range = (lit≤ tt, lit≤ tt) };
+  number = 2;
+  two_digits = lit≤ tt;
+}
 
 -- a copy that is selected
 abbrev pub heard_at : ℕ → Identity → How → List ℕ → TaggedCopy
@@ -40,4 +32,5 @@ repeated_copy = heard_at 1735706400 ea01 Full (codes "TEST\n")
 -- all that was heard
 abbrev pub example_copies : List TaggedCopy
 example_copies =
-    first_copy ∷ heard_at 1735692000 eb02 Full [] ∷ heard_at 1735706400 eb02 Cut (codes "TE") ∷ repeated_copy ∷ []
+    first_copy ∷ heard_at 1735692000 eb02 Full [] ∷ heard_at 1735706400 eb02 Cut (codes "TE")
+    ∷ repeated_copy ∷ []

@@ -1,6 +1,6 @@
--- The copies of messages in the bits that a receiver has heard: those in the texts of its locks (the form of a message
--- is that of ITU-R M.540). No copy reaches from one lock into another, since each lock has a text of its own (this
--- profile).
+-- The copies of messages in the bits that a receiver has heard: those in the texts of its locks
+-- (the form of a message is that of ITU-R M.540). No copy reaches from one lock into another, since
+-- each lock has a text of its own (this profile).
 use Rattle.std.specs.Prelude.{ℕ, ◌+◌, ◌-◌, Bool, List, [], ◌∷◌, ◌++◌, map, slice_get, unwrap_or}
 use Rattle.std.specs.Option.{option_map}
 use Rattle.nx_envelope.specs.Header.{Header}
@@ -11,7 +11,8 @@ use Rattle.nx_sync.specs.Locks.{Lock, Now, hunting, locked}
 use Rattle.nx_sync.specs.Words.{whole_words}
 use Rattle.nx_receiver.specs.LockText.{PlacedByte, bytes_of, lock_text}
 
--- a copy that is found: its identity, how it ended, its text, and its place, which is that of its second digit
+-- a copy that is found: its identity, how it ended, its text, and its place, which is that of its
+-- second digit
 pub record FoundCopy : Type 0 where
   pub identity : Identity
   pub how : How
@@ -41,7 +42,9 @@ ended_in text = map (found_copy text) (ended_copies (bytes_of text))
 
 -- the copy that stands open after the text, as it is if the text ends there; there is at most one
 abbrev pub open_in : List PlacedByte → List FoundCopy
-open_in text = map (λ header. found_copy text (closed_copy (bytes_of text) header)) (open_headers (bytes_of text))
+open_in text =
+    map (λ header. found_copy text (closed_copy (bytes_of text) header))
+    (open_headers (bytes_of text))
 
 -- all copies of a text that is at its end, in the order of their headers
 abbrev pub all_in : List PlacedByte → List FoundCopy
@@ -51,7 +54,8 @@ all_in text = map (found_copy text) (copies (bytes_of text))
 abbrev pub past_text : List Bool → Lock → List PlacedByte
 past_text bits lock = lock_text bits lock.at (lock.last + 1)
 
--- the copies of the locks that were released, which stand newest first; the text of each is at its end
+-- the copies of the locks that were released, which stand newest first; the text of each is at its
+-- end
 unfoldable pub past_copies : List Bool → List Lock → List FoundCopy
 past_copies bits [] = []
 past_copies bits (lock ∷ older) = past_copies bits older ++ all_in (past_text bits lock)

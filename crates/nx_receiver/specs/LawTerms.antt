@@ -6,8 +6,8 @@ use Rattle.nx_memory.specs.Memory.{seconds_known, most_entries}
 use Rattle.nx_receiver.specs.Tagged.{TaggedCopy}
 use Rattle.nx_receiver.specs.Printing.{is_good, entries_made, entries_after}
 
--- The bits of the lock at t with n words: those of the words, and of the word before them, which says the role of the
--- first.
+-- The bits of the lock at t with n words: those of the words, and of the word before them, which
+-- says the role of the first.
 abbrev pub own_bits : List Bool → ℕ → ℕ → List Bool
 own_bits bits t n = take (7 * n + 7) (drop (t - 7) bits)
 
@@ -15,16 +15,18 @@ own_bits bits t n = take (7 * n + 7) (drop (t - 7) bits)
 unfoldable pub copies_of : Identity → List TaggedCopy → List TaggedCopy
 copies_of identity copies = filter (λ copy. same_identity copy.identity identity) copies
 
--- Of these copies, `first` and then `repeats` bear the identity, which is not numbered 00. All of them are good and
--- selected. They lie within 66 hours of each other. And fewer than 200 entries are made, after an empty first list,
--- between the first and any later one.
-pub record AreRepeats (identity : Identity) (copies : List TaggedCopy) (first : TaggedCopy) (repeats : List TaggedCopy)
+-- Of these copies, `first` and then `repeats` bear the identity, which is not numbered 00. All of
+-- them are good and selected. They lie within 66 hours of each other. And fewer than 200 entries
+-- are made, after an empty first list, between the first and any later one.
+pub record AreRepeats (identity : Identity) (copies : List TaggedCopy) (first : TaggedCopy)
+    (repeats : List TaggedCopy)
     : Type 0 where
   pub heard : copies_of identity copies ≡ first ∷ repeats
   pub numbered : 0 < identity.number
   pub good : All (λ copy. IsTrue (is_good copy)) (first ∷ repeats)
   pub selected : All (λ copy. IsTrue copy.selected) (first ∷ repeats)
-  pub close : (one other : TaggedCopy) → Contains (first ∷ repeats) one → Contains (first ∷ repeats) other
+  pub close : (one other : TaggedCopy) → Contains (first ∷ repeats) one
+      → Contains (first ∷ repeats) other
       → one.moment < other.moment + seconds_known
   pub few : (before between after : List TaggedCopy) (later : TaggedCopy)
       → copies ≡ before ++ first ∷ (between ++ later ∷ after)

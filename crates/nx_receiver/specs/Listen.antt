@@ -56,8 +56,8 @@ is_moment _ = false
 abbrev pub has_moment : List Line → Bool
 has_moment lines = list_any is_moment lines
 
--- A line is taken after these lines: a moment in range, and not before the one in force; elements once there was a
--- moment; and no refusal of a vital subject (ITU-R M.540).
+-- A line is taken after these lines: a moment in range, and not before the one in force; elements
+-- once there was a moment; and no refusal of a vital subject (ITU-R M.540).
 abbrev pub IsTakenAfter : List Line → Line → Type 0
 IsTakenAfter lines (moment n) = ((in_force_after lines).moment ≤ n) × (n ≤ last_moment)
 IsTakenAfter lines (elements bits) = IsTrue (has_moment lines)
@@ -69,15 +69,18 @@ IsTakenAfter lines (accept_subject letter) = ⊤
 -- each of these lines is taken after the first ones and those before it
 unfoldable pub AreTakenAfter : List Line → List Line → Type 0
 AreTakenAfter first [] = ⊤
-AreTakenAfter first (line ∷ lines) = IsTakenAfter first line × AreTakenAfter (first ++ line ∷ []) lines
+AreTakenAfter first (line ∷ lines) =
+    IsTakenAfter first line × AreTakenAfter (first ++ line ∷ []) lines
 
 -- each of these lines is taken after those before it
 abbrev pub AreTaken : List Line → Type 0
 AreTaken lines = AreTakenAfter [] lines
 
--- The log of an air file that is read to its end: its lines, each taken after those before it, print these copies,
--- where the end closes the copy that stands open, and these are the bytes of their entries.
-pub record IsLogOfFile (bytes : List ℕ) (lines : List Line) (copies : List TaggedCopy) (log : List ℕ) : Type 0 where
+-- The log of an air file that is read to its end: its lines, each taken after those before it,
+-- print these copies, where the end closes the copy that stands open, and these are the bytes of
+-- their entries.
+pub record IsLogOfFile (bytes : List ℕ) (lines : List Line) (copies : List TaggedCopy)
+    (log : List ℕ) : Type 0 where
   pub file : IsAirFile air_limit bytes lines
   pub taken : AreTaken lines
   pub printed : PrintsToEnd at_zero (events_of lines) copies
@@ -85,17 +88,19 @@ pub record IsLogOfFile (bytes : List ℕ) (lines : List Line) (copies : List Tag
 
 -- the first half of the headline: the air file of these bytes has this log
 abbrev pub IsLogOf : List ℕ → List ℕ → Type 0
-IsLogOf bytes log = (lines : List Line) × (copies : List TaggedCopy) × IsLogOfFile bytes lines copies log
+IsLogOf bytes log =
+    (lines : List Line) × (copies : List TaggedCopy) × IsLogOfFile bytes lines copies log
 
--- the log of these lines, of which each is taken after those before it, where nothing is closed: only copies that have
--- ended count
+-- the log of these lines, of which each is taken after those before it, where nothing is closed:
+-- only copies that have ended count
 pub record IsLogOfLines (lines : List Line) (log : List ℕ) : Type 0 where
   pub taken : AreTaken lines
   pub copies : List TaggedCopy
   pub printed : HasPrinted at_zero (events_of lines) copies
   pub spelled : IsLog copies log
 
--- the log of the whole file was written, and the report counts its lines, its elements and its entries
+-- the log of the whole file was written, and the report counts its lines, its elements and its
+-- entries
 pub record HasListened (old new : Option (List ℕ)) (bytes : List ℕ) (report : Report) : Type 0 where
   pub lines : List Line
   pub copies : List TaggedCopy
@@ -113,13 +118,16 @@ pub record HasLogged (old new : Option (List ℕ)) (lines : List Line) : Type 0 
   pub written : Appends old new log
 
 -- a write failed, before which the writer took the first `written` bytes of the log of these lines
-pub record HasLoggedSome (old new : Option (List ℕ)) (written : ℕ) (lines : List Line) : Type 0 where
+pub record HasLoggedSome (old new : Option (List ℕ)) (written : ℕ) (lines : List Line)
+    : Type 0 where
   pub log : List ℕ
   pub logged : IsLogOfLines lines log
   pub some : WroteSome old new log written
 
--- a write failed, before which the writer took the first `written` bytes of the log of the whole file
-pub record HasLoggedSomeOfFile (old new : Option (List ℕ)) (written : ℕ) (bytes : List ℕ) : Type 0 where
+-- a write failed, before which the writer took the first `written` bytes of the log of the whole
+-- file
+pub record HasLoggedSomeOfFile (old new : Option (List ℕ)) (written : ℕ) (bytes : List ℕ)
+    : Type 0 where
   pub log : List ℕ
   pub logged : IsLogOf bytes log
   pub some : WroteSome old new log written
@@ -136,11 +144,14 @@ RefusesMoment why lines _ = ⊥
 
 -- why the refusal of this subject is not taken: it is vital
 abbrev pub RefusesVital : Letter → List Line → Line → Type 0
-RefusesVital subject lines (refuse_subject letter) = IsTrue (is_vital letter) × (subject.byte ≡ letter)
+RefusesVital subject lines (refuse_subject letter) =
+    IsTrue (is_vital letter) × (subject.byte ≡ letter)
 RefusesVital subject lines _ = ⊥
 
--- the next line after these, which is one of an air file within the limit, is not taken; lines count from 1
-pub record IsNextRefused (refuses : List Line → Line → Type 0) (number : ℕ) (lines : List Line) (rest more : List ℕ)
+-- the next line after these, which is one of an air file within the limit, is not taken; lines
+-- count from 1
+pub record IsNextRefused (refuses : List Line → Line → Type 0) (number : ℕ) (lines : List Line)
+    (rest more : List ℕ)
     : Type 0 where
   pub line : Line
   pub after : List ℕ
@@ -151,8 +162,8 @@ pub record IsNextRefused (refuses : List Line → Line → Type 0) (number : ℕ
   pub counted : number ≡ length lines + 1
   pub refused : refuses lines line
 
--- Good lines and the beginning of one more stand before a fault of the file, of which this is the cause; and this holds
--- of the lines.
+-- Good lines and the beginning of one more stand before a fault of the file, of which this is the
+-- cause; and this holds of the lines.
 abbrev pub HasFaultAfter : (List Line → Type 0) → List ℕ → LineFault → Type 0
 HasFaultAfter holds bytes why =
     StopsAt bytes (λ lines rest more.
@@ -163,8 +174,8 @@ abbrev pub IsRefusedAfter : (List Line → Type 0) → List ℕ → ℕ → (Lis
 IsRefusedAfter holds bytes number refuses =
     StopsAt bytes (λ lines rest more. IsNextRefused refuses number lines rest more × holds lines)
 
--- The first fault of an air file, by its bytes alone, and this holds of the whole lines before it. Those of devices and
--- of memory are none of bytes.
+-- The first fault of an air file, by its bytes alone, and this holds of the whole lines before it.
+-- Those of devices and of memory are none of bytes.
 abbrev pub HasFirstFault : (List Line → Type 0) → List ℕ → ListenFault → Type 0
 HasFirstFault holds bytes Read = ⊥
 HasFirstFault holds bytes AirTooLong = HasFaultAfter holds bytes file.TooLong
@@ -173,15 +184,18 @@ HasFirstFault holds bytes (LineCut line) = HasFaultAfter holds bytes (file.LineC
 HasFirstFault holds bytes (BadLine line) = HasFaultAfter holds bytes (file.BadLine line)
 HasFirstFault holds bytes (NoMoment line) = IsRefusedAfter holds bytes line LacksMoment
 HasFirstFault holds bytes (Moment line why) = IsRefusedAfter holds bytes line (RefusesMoment why)
-HasFirstFault holds bytes (Vital line subject) = IsRefusedAfter holds bytes line (RefusesVital subject)
+HasFirstFault holds bytes (Vital line subject) =
+    IsRefusedAfter holds bytes line (RefusesVital subject)
 HasFirstFault holds bytes (Write written) = ⊥
 HasFirstFault holds bytes (Memory error) = ⊥
 
--- What a fault of `listen` says of the bytes that were read. The log of the whole lines before it was written, and
--- nothing is closed. After a failed read no byte is left of which `IsLeft` doesn't hold. After a failed write the first
--- bytes of the log of the lines that were read whole are written, closed if the file had ended. A want of memory says
--- nothing of them. Each other fault is the first of the file; that of its end comes at its end.
-abbrev pub ExplainsListening : Type 0 → (List ℕ → Type 0) → Option (List ℕ) → Option (List ℕ) → List ℕ → ListenFault
+-- What a fault of `listen` says of the bytes that were read. The log of the whole lines before it
+-- was written, and nothing is closed. After a failed read no byte is left of which `IsLeft` doesn't
+-- hold. After a failed write the first bytes of the log of the lines that were read whole are
+-- written, closed if the file had ended. A want of memory says nothing of them. Each other fault is
+-- the first of the file; that of its end comes at its end.
+abbrev pub ExplainsListening : Type 0 → (List ℕ → Type 0) → Option (List ℕ) → Option (List ℕ)
+    → List ℕ → ListenFault
     → Type 0
 ExplainsListening AtEnd IsLeft old new bytes (Memory error) = ⊤
 ExplainsListening AtEnd IsLeft old new bytes Read =
@@ -198,10 +212,11 @@ ExplainsListening AtEnd IsLeft old new bytes fault = HasFirstFault (HasLogged ol
 abbrev pub AnswersListening : Type 0 → (List ℕ → Type 0) → Option (List ℕ) → Option (List ℕ)
     → Result Report ListenFault → List ℕ → Type 0
 AnswersListening AtEnd IsLeft old new (Ok report) bytes = AtEnd × HasListened old new bytes report
-AnswersListening AtEnd IsLeft old new (Err fault) bytes = ExplainsListening AtEnd IsLeft old new bytes fault
+AnswersListening AtEnd IsLeft old new (Err fault) bytes =
+    ExplainsListening AtEnd IsLeft old new bytes fault
 
--- A run of `listen`: it answers so to the bytes that it read, and to the whole file, however it came; and it writes the
--- log of the lines that it read before each further read.
+-- A run of `listen`: it answers so to the bytes that it read, and to the whole file, however it
+-- came; and it writes the log of the lines that it read before each further read.
 abbrev pub Listens : {R W : Type 0} → Devices R W → Result Report ListenFault → Type 0
 Listens d outcome =
     Transfers Read (λ written. Write written) on_the_way d outcome

@@ -1,5 +1,6 @@
--- A worked air file: what arrives of the message EA01 with the one line TEST, sent in the slot of station E, where
--- each DX word of the message is damaged (its words are those of ITU-R M.625's mode B).
+-- A worked air file: what arrives of the message EA01 with the one line TEST, sent in the slot of
+-- station E, where each DX word of the message is damaged (its words are those of ITU-R M.625's
+-- mode B).
 use Rattle.std.specs.Prelude.{ℕ, List, ◌∷◌}
 use Rattle.nx_fec.specs.AirFile.{Line, moment}
 use Rattle.nx_fec.specs.BitLines.{bit_lines}

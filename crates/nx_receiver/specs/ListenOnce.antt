@@ -1,5 +1,5 @@
--- The second half of the headline, over bytes: what has to be met in an air file, so that a message is printed once;
--- and that it is (this profile).
+-- The second half of the headline, over bytes: what has to be met in an air file, so that a message
+-- is printed once; and that it is (this profile).
 use Rattle.std.specs.Prelude.{◌≡◌, ℕ, ◌+◌, ◌<◌, Bool, List, Option, Contains, IfSome, IsTrue}
 use Rattle.std.specs.List.{flat_map}
 use Rattle.std.specs.Io.KnownBytes.{Appends, Consumes}
@@ -30,7 +30,8 @@ in_force_at lines place = setting_of at_zero (events_of lines) place
 abbrev pub heard_as : List Line → List FoundCopy → List TaggedCopy
 heard_as lines copies = tagged_copies (first_setting at_zero) (events_of lines) copies
 
--- These are all copies that are found in the elements, where the end of the file closes the one that stands open.
+-- These are all copies that are found in the elements, where the end of the file closes the one
+-- that stands open.
 pub record AreFoundIn (elements : List Bool) (copies : List FoundCopy) : Type 0 where
   pub locks : List Lock
   pub now : Now
@@ -42,10 +43,12 @@ pub record IsHeardInTimeIn (file : List ℕ) (message : MessageView) : Type 0 wh
   -- The file has these lines.
   pub lines : List Line
   pub spelled : IsAirFile air_limit file lines
-  -- Their elements are cut into gaps of any bits and emissions that are received as the channel says.
+  -- Their elements are cut into gaps of any bits and emissions that are received as the channel
+  -- says.
   pub parts : List Part
   pub cut : IsCut (elements_in lines) parts
-  -- The message is sent in these emissions, once or more often: a header of it ends at this element.
+  -- The message is sent in these emissions, once or more often: a header of it ends at this
+  -- element.
   pub place : ℕ
   pub sent : IsSentAt parts message place
   -- It is not numbered 00.
@@ -61,12 +64,13 @@ pub record IsHeardInTimeIn (file : List ℕ) (message : MessageView) : Type 0 wh
   -- Any two sendings lie less than 66 hours apart.
   pub close : (one other : ℕ) → IsSentAt parts message one → IsSentAt parts message other
       → (in_force_at lines one).moment < (in_force_at lines other).moment + seconds_known
-  -- 200 identities suffice: fewer than 200 entries are made between its first copy and any later one.
+  -- 200 identities suffice: fewer than 200 entries are made between its first copy and any later
+  -- one.
   pub few : FewBetween (heard_as lines copies) at_zero message
 
--- Both halves of the headline: the log of the file of these bytes was written, and of its entries exactly one bears the
--- identity of each message that is heard in time in the file: it is full, has 0 errors, and its text is the message's,
--- letter for letter.
+-- Both halves of the headline: the log of the file of these bytes was written, and of its entries
+-- exactly one bears the identity of each message that is heard in time in the file: it is full, has
+-- 0 errors, and its text is the message's, letter for letter.
 pub record HasPrintedOnce (old new : Option (List ℕ)) (file : List ℕ) : Type 0 where
   pub lines : List Line
   pub copies : List TaggedCopy
@@ -75,8 +79,8 @@ pub record HasPrintedOnce (old new : Option (List ℕ)) (file : List ℕ) : Type
   pub written : Appends old new log
   pub once : (message : MessageView) → IsHeardInTimeIn file message → IsPrintedOnce message copies
 
--- Both halves of the headline hold of the bytes that a run read and wrote; and of the whole input, where it is known,
--- however it came.
+-- Both halves of the headline hold of the bytes that a run read and wrote; and of the whole input,
+-- where it is known, however it came.
 pub record KeepsHeadline {R W : Type 0} (d : Devices R W) : Type 0 where
   pub bytes : List ℕ
   pub consumed : Consumes (d.remaining d.reader.inner) (d.remaining d.reader_after.inner) bytes

@@ -25,10 +25,12 @@ use Rattle.nx_receiver.specs.declared.over.Over.{Over}
 abbrev pub count_of : ℕ → ℕ
 count_of n = min n (2 ^ 64 - 1)
 
--- After these events a listener printed these copies: its receiver stands so, it counted the elements and the entries,
--- and no element ended more than one copy.
-pub record HearsEvents (listener : Listener) (events : List Event) (log : List TaggedCopy) : Type 0 where
-  pub receiver : Stands (λ (memory : RingMemory). memory.content) at_zero listener.receiver events log
+-- After these events a listener printed these copies: its receiver stands so, it counted the
+-- elements and the entries, and no element ended more than one copy.
+pub record HearsEvents (listener : Listener) (events : List Event) (log : List TaggedCopy)
+    : Type 0 where
+  pub receiver :
+      Stands (λ (memory : RingMemory). memory.content) at_zero listener.receiver events log
   pub elements : listener.elements ≡ count_of (length (bits_of events))
   pub entries : listener.entries ≡ count_of (length log)
   pub few : length log ≤ length (bits_of events)
@@ -40,7 +42,8 @@ pub record HearsLog (listener : Listener) (events : List Event) (given : List �
   pub spelled : IsLog log given
 
 -- and this holds of these bytes
-pub record IsHearing (listener : Listener) (events : List Event) (holds : List ℕ → Type 0) : Type 0 where
+pub record IsHearing (listener : Listener) (events : List Event) (holds : List ℕ → Type 0)
+    : Type 0 where
   pub given : List ℕ
   pub hears : HearsLog listener events given
   pub here : holds given
@@ -60,16 +63,21 @@ pub record HeardSome (events : List Event) (old new : Option (List ℕ)) (writte
   pub begun : BeginsLog events given
   pub some : WroteSome old new given written
 
--- What was over was finished: it brought this entry, or none, which was counted, and these are its bytes.
+-- What was over was finished: it brought this entry, or none, which was counted, and these are its
+-- bytes.
 pub record HasFinished (old new : Listener) (over : Over) (given : List ℕ) : Type 0 where
   pub entry : Option Entry
-  pub stands : (events : List Event) (log : List TaggedCopy) → Awaits (λ (memory : RingMemory). memory.content) at_zero old.receiver events log over
-      → Stands (λ (memory : RingMemory). memory.content) at_zero new.receiver events (log ++ entry_list entry)
+  pub stands : (events : List Event) (log : List TaggedCopy)
+      → Awaits (λ (memory : RingMemory). memory.content) at_zero old.receiver events log over
+      → Stands (λ (memory : RingMemory). memory.content) at_zero new.receiver events
+      (log ++ entry_list entry)
   pub spelled : IsLog (entry_list entry) given
   pub elements : new.elements ≡ old.elements
-  pub entries : old.entries ≤ 2 ^ 64 - 1 → new.entries ≡ count_of (old.entries + length (entry_list entry))
+  pub entries : old.entries ≤ 2 ^ 64 - 1
+      → new.entries ≡ count_of (old.entries + length (entry_list entry))
 
--- The listener stands so after these lines, each taken after those before it; these bytes are their log.
+-- The listener stands so after these lines, each taken after those before it; these bytes are their
+-- log.
 pub record IsListening (listener : Listener) (lines : List Line) (given : List ℕ) : Type 0 where
   pub taken : AreTaken lines
   pub moment : listener.has_moment ≡ has_moment lines
@@ -86,9 +94,10 @@ RefusesLine lines line NoMoment = LacksMoment lines line
 RefusesLine lines line (Moment why) = RefusesMoment why lines line
 RefusesLine lines line (Vital subject) = RefusesVital subject lines line
 
--- The file ended after these events: the log of all copies was written, with the one that the end closes, and the
--- report counts the elements and the copies.
-pub record HasClosed (old new : Option (List ℕ)) (events : List Event) (report : Report) : Type 0 where
+-- The file ended after these events: the log of all copies was written, with the one that the end
+-- closes, and the report counts the elements and the copies.
+pub record HasClosed (old new : Option (List ℕ)) (events : List Event) (report : Report)
+    : Type 0 where
   pub copies : List TaggedCopy
   pub log : List ℕ
   pub printed : PrintsToEnd at_zero events copies
@@ -99,7 +108,8 @@ pub record HasClosed (old new : Option (List ℕ)) (events : List Event) (report
   pub few : length copies ≤ length (bits_of events) + 1
 
 -- the file ended so, and this log was written in part
-pub record HasClosedSome (old new : Option (List ℕ)) (events : List Event) (written : ℕ) : Type 0 where
+pub record HasClosedSome (old new : Option (List ℕ)) (events : List Event) (written : ℕ)
+    : Type 0 where
   pub copies : List TaggedCopy
   pub log : List ℕ
   pub printed : PrintsToEnd at_zero events copies

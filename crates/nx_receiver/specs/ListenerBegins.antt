@@ -14,12 +14,14 @@ use Rattle.nx_receiver.specs.Tagged.{TaggedCopy, tagged_copies}
 use Rattle.nx_receiver.specs.Watch.{copies_by}
 use Rattle.nx_receiver.specs.declared.listening.Listener.{Listener}
 
-tagged-by : (first : Setting) (events : List Event) (copies : List FoundCopy) → copies_by first (settings first events) copies ≡ tagged_copies first events copies
+tagged-by : (first : Setting) (events : List Event) (copies : List FoundCopy)
+    → copies_by first (settings first events) copies ≡ tagged_copies first events copies
 unfolding copies_by tagged_copies
 tagged-by first events copies = refl
 
 -- what a receiver handed out is what is printed so far
-pub printed-so_far : {M : Type 0} (content : M → List MemoryEntry) (start : Start) (receiver : Receiving M) (events : List Event) (log : List TaggedCopy)
+pub printed-so_far : {M : Type 0} (content : M → List MemoryEntry) (start : Start)
+    (receiver : Receiving M) (events : List Event) (log : List TaggedCopy)
     → Stands content start receiver events log → HasPrinted start events log
 printed-so_far content start receiver events log s =
     let r = s.watch.reads in
@@ -27,11 +29,14 @@ printed-so_far content start receiver events log s =
       locks = r.locks;
       now = r.now;
       stands = r.stands;
-      printed = s.printed ∙ ap (printed_copies start.entries) (r.ended ∙ tagged-by (first_setting start) events _);
+      printed =
+          s.printed
+          ∙ ap (printed_copies start.entries) (r.ended ∙ tagged-by (first_setting start) events _);
     }
 
 -- the log so far is that of a beginning
-pub begins-log : (listener : Listener) (events : List Event) (given : List ℕ) → HearsLog listener events given → BeginsLog events given
+pub begins-log : (listener : Listener) (events : List Event) (given : List ℕ)
+    → HearsLog listener events given → BeginsLog events given
 begins-log listener events given h = record {
   before = events;
   later = [];
@@ -41,5 +46,7 @@ begins-log listener events given h = record {
   spelled = h.spelled;
 }
 
-pub begins-listening : (now : Listener) (lines : List Line) (given : List ℕ) → IsListening now lines given → BeginsListening lines given
-begins-listening now lines given h = record { taken = h.taken; begun = begins-log now (events_of lines) given h.hears }
+pub begins-listening : (now : Listener) (lines : List Line) (given : List ℕ)
+    → IsListening now lines given → BeginsListening lines given
+begins-listening now lines given h =
+    record { taken = h.taken; begun = begins-log now (events_of lines) given h.hears }

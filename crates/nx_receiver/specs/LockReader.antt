@@ -1,6 +1,7 @@
--- A reader of the text of a lock, which is given its words one by one, and after which words it stands (ITU-R M.625,
--- mode B, and M.476 for what is printed; that each lock has a text of its own, from letters, is this profile's).
--- `first` is the role of word 0 of the lock, and `words` gives each word's number.
+-- A reader of the text of a lock, which is given its words one by one, and after which words it
+-- stands (ITU-R M.625, mode B, and M.476 for what is printed; that each lock has a text of its own,
+-- from letters, is this profile's). `first` is the role of word 0 of the lock, and `words` gives
+-- each word's number.
 use Rattle.std.specs.Prelude.{◌≡◌, ◌⊎◌, ℕ, zero, suc, if◌then◌else◌, List, [], ◌∷◌, ◌++◌}
 use Rattle.nx_code.specs.Reading.{shift_after_all, text}
 use Rattle.nx_code.specs.declared.printing.Printer.{Printer}
@@ -15,8 +16,8 @@ use Rattle.nx_envelope.specs.declared.found.TextEvent.{TextEvent}
 use Rattle.nx_envelope.specs.declared.found.TextEvent.TheVariants.{Nothing}
 use Rattle.nx_receiver.specs.LockText.{positions}
 
--- what contracts see of a reader: what arrived of the latest three DX words, the shift in force, and the finder of the
--- copies in the text
+-- what contracts see of a reader: what arrived of the latest three DX words, the shift in force,
+-- and the finder of the copies in the text
 pub record LockReading : Type 0 where
   pub diversity : Diversity
   pub printer : Printer
@@ -32,8 +33,9 @@ dx_words first words (suc n) =
 abbrev pub text_after : Role → (ℕ → ℕ) → ℕ → List ℕ
 text_after first words n = text (positions first words n) Letters
 
--- The reader stands after the first n words of a lock: it has the latest three DX words among them, the shift that
--- their positions leave, and the copies of their text; and nothing of any other lock.
+-- The reader stands after the first n words of a lock: it has the latest three DX words among them,
+-- the shift that their positions leave, and the copies of their text; and nothing of any other
+-- lock.
 pub record ReadsLock (reader : LockReading) (first : Role) (words : ℕ → ℕ) (n : ℕ) : Type 0 where
   pub latest : IsLatest reader.diversity (dx_words first words n)
   pub shift : reader.printer ≡ shift_after_all (positions first words n) Letters
@@ -50,6 +52,8 @@ pub record PrintsByte (before after : List ℕ) (finder : Finder) (event : TextE
   pub grows : after ≡ before ++ byte ∷ []
   pub hears : Hears before byte finder event
 
--- the event is what a word brings that makes the one text of the other, and the finder has the copy that it ends
+-- the event is what a word brings that makes the one text of the other, and the finder has the copy
+-- that it ends
 abbrev pub HearsWord : List ℕ → List ℕ → Finder → TextEvent → Type 0
-HearsWord before after finder event = PrintsNothing before after event ⊎ PrintsByte before after finder event
+HearsWord before after finder event =
+    PrintsNothing before after event ⊎ PrintsByte before after finder event

@@ -1,6 +1,7 @@
--- The text of a lock (ITU-R M.625, mode B: each position is sent as DX, and again as RX five words later; M.476 and
--- M.625 for what is printed; that each lock has a text of its own, from letters, is this profile's). `first` is the
--- role of word 0 of the lock, and `words` gives each word's number.
+-- The text of a lock (ITU-R M.625, mode B: each position is sent as DX, and again as RX five words
+-- later; M.476 and M.625 for what is printed; that each lock has a text of its own, from letters,
+-- is this profile's). `first` is the role of word 0 of the lock, and `words` gives each word's
+-- number.
 use Rattle.std.specs.Prelude.{ℕ, zero, suc, ◌+◌, ◌-◌, ◌*◌, nat_lt, if◌then◌else◌, Bool, List, [], ◌∷◌, ◌++◌, map}
 use Rattle.std.specs.Option.{option_to_list}
 use Rattle.nx_code.specs.Reading.{Reception, byte_of, shift_after_all}
@@ -9,12 +10,13 @@ use Rattle.nx_fec.specs.Pairing.{Counted, nothing, counts_as, pairing}
 use Rattle.nx_sync.specs.Words.{word_at, first_role, role_of, is_dx}
 use Rattle.nx_sync.specs.declared.step.Role.{Role}
 
--- what the word five words before word k counts as: nothing where k < 5, since the words before the lock are no words
--- of it
+-- what the word five words before word k counts as: nothing where k < 5, since the words before the
+-- lock are no words of it
 abbrev pub five_before : (ℕ → ℕ) → ℕ → Counted
 five_before words k = if nat_lt k 5 then nothing else counts_as (words (k - 5))
 
--- the position that word k completes: an RX word is paired with the word five before it; a DX word completes none
+-- the position that word k completes: an RX word is paired with the word five before it; a DX word
+-- completes none
 unfoldable pub taken_at : Role → (ℕ → ℕ) → ℕ → List Reception
 taken_at first words k =
     if is_dx (role_of first k) then [] else pairing (five_before words k) (counts_as (words k)) ∷ []
@@ -24,7 +26,8 @@ unfoldable pub positions : Role → (ℕ → ℕ) → ℕ → List Reception
 positions first words zero = []
 positions first words (suc n) = positions first words n ++ taken_at first words n
 
--- a byte of the text of a lock, and its place: the index, among all bits, of the last bit of the RX word that prints it
+-- a byte of the text of a lock, and its place: the index, among all bits, of the last bit of the RX
+-- word that prints it
 pub record PlacedByte : Type 0 where
   pub byte : ℕ
   pub place : ℕ
@@ -32,7 +35,8 @@ pub record PlacedByte : Type 0 where
 -- the bytes that positions print after others, from letters
 abbrev pub printed_after : List Reception → List Reception → List ℕ
 printed_after before [] = []
-printed_after before (position ∷ more) = option_to_list (byte_of position (shift_after_all before Letters))
+printed_after before (position ∷ more) =
+    option_to_list (byte_of position (shift_after_all before Letters))
 
 -- the place of word k of the lock at t: the index of its last bit
 abbrev pub place_of : ℕ → ℕ → ℕ
@@ -41,7 +45,8 @@ place_of t k = t + 7 * k + 6
 -- what word k of the lock at t prints, with its place
 unfoldable pub printed_by : Role → (ℕ → ℕ) → ℕ → ℕ → List PlacedByte
 printed_by first words t k =
-    map (λ b. record { byte = b; place = place_of t k }) (printed_after (positions first words k) (taken_at first words k))
+    map (λ b. record { byte = b; place = place_of t k })
+    (printed_after (positions first words k) (taken_at first words k))
 
 -- the text that the first n words of the lock at t print, each byte with its place
 unfoldable pub text_by : Role → (ℕ → ℕ) → ℕ → ℕ → List PlacedByte

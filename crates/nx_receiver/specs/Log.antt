@@ -20,24 +20,28 @@ how_name Full = codes "full"
 how_name Cut = codes "cut"
 how_name Long = codes "long"
 
--- The line that heads an entry: `[`, the identity, the civil time, how the copy ended, its errors, `/`, its
--- characters, `]` and a newline, where 91 is the bracket, 32 a space and 47 the slash.
+-- The line that heads an entry: `[`, the identity, the civil time, how the copy ended, its errors,
+-- `/`, its characters, `]` and a newline, where 91 is the bracket, 32 a space and 47 the slash.
 unfoldable pub entry_head : TaggedCopy → List ℕ → List ℕ
 entry_head copy civil =
     91 ∷ identity_bytes copy.identity ++ 32 ∷ civil
-    ++ 32 ∷ how_name copy.how ++ 32 ∷ decimal (errors_of copy.text) ++ 47 ∷ decimal (length copy.text) ++ codes "]\n"
+    ++ 32 ∷ how_name copy.how ++ 32 ∷ decimal (errors_of copy.text)
+    ++ 47 ∷ decimal (length copy.text) ++ codes "]\n"
 
 -- the text is empty or ends with a newline
 unfoldable pub is_of_lines : List ℕ → Bool
-is_of_lines text = unwrap_or (option_map (λ b. b == newline) (slice_get text (length text - 1))) true
+is_of_lines text =
+    unwrap_or (option_map (λ b. b == newline) (slice_get text (length text - 1))) true
 
 -- the newline that ends the last line of a text which doesn't end with one
 unfoldable pub missing_newline : List ℕ → List ℕ
 missing_newline text = if is_of_lines text then [] else newline ∷ []
 
--- an entry: its head, the text, a newline where the text isn't empty and doesn't end with one, and a newline
+-- an entry: its head, the text, a newline where the text isn't empty and doesn't end with one, and
+-- a newline
 unfoldable pub entry_with : TaggedCopy → List ℕ → List ℕ
-entry_with copy civil = entry_head copy civil ++ copy.text ++ missing_newline copy.text ++ newline ∷ []
+entry_with copy civil =
+    entry_head copy civil ++ copy.text ++ missing_newline copy.text ++ newline ∷ []
 
 -- the bytes are the entry of a copy, with the civil time of its moment
 pub record IsEntry (copy : TaggedCopy) (bytes : List ℕ) : Type 0 where
@@ -53,7 +57,8 @@ pub record IsLog (copies : List TaggedCopy) (bytes : List ℕ) : Type 0 where
 
 -- of the copies that were found, those that are printed
 abbrev pub printed_of : Start → List Event → List FoundCopy → List TaggedCopy
-printed_of start events copies = printed_copies start.entries (tagged_copies (first_setting start) events copies)
+printed_of start events copies =
+    printed_copies start.entries (tagged_copies (first_setting start) events copies)
 
 -- What is printed of the copies that have ended after these events.
 pub record HasPrinted (start : Start) (events : List Event) (log : List TaggedCopy) : Type 0 where

@@ -1,4 +1,5 @@
--- A message that is sent one or more times and is printed once: what has to be met, and what is printed (this profile).
+-- A message that is sent one or more times and is printed once: what has to be met, and what is
+-- printed (this profile).
 use Rattle.std.specs.Prelude.{◌≡◌, ℕ, ◌+◌, ◌<◌, List, [], ◌∷◌, ◌++◌, length, Contains, IsTrue}
 use Rattle.nx_envelope.specs.Errors.{errors_of}
 use Rattle.nx_envelope.specs.Identity.{same_identity}
@@ -20,17 +21,20 @@ use Rattle.nx_receiver.specs.Tagged.{TaggedCopy, tagged_copies}
 abbrev pub setting_of : Start → List Event → ℕ → Setting
 setting_of start events place = setting_at (first_setting start) events place
 
--- Fewer than 200 entries are made between the first of the copies that bear the identity of the message and any later
--- one of them.
+-- Fewer than 200 entries are made between the first of the copies that bear the identity of the
+-- message and any later one of them.
 abbrev pub FewBetween : List TaggedCopy → Start → MessageView → Type 0
 FewBetween copies start message =
     (before between after : List TaggedCopy) (first later : TaggedCopy)
     → copies ≡ before ++ first ∷ (between ++ later ∷ after) → copies_of message.identity before ≡ []
-    → IsTrue (same_identity first.identity message.identity) → IsTrue (same_identity later.identity message.identity)
-    → length (entries_made (entries_after start.entries (before ++ first ∷ [])) between) < most_entries
+    → IsTrue (same_identity first.identity message.identity)
+    → IsTrue (same_identity later.identity message.identity)
+    → length (entries_made (entries_after start.entries (before ++ first ∷ [])) between)
+    < most_entries
 
 -- What has to be met, so that a message is printed once of all that a receiver is given.
-pub record IsHeardInTime (start : Start) (events : List Event) (parts : List Part) (message : MessageView) : Type 0 where
+pub record IsHeardInTime (start : Start) (events : List Event) (parts : List Part)
+    (message : MessageView) : Type 0 where
   -- the receiver starts with an empty memory
   pub empty : start.entries ≡ []
   -- its bits are cut into gaps of any bits and emissions that are received as the channel says
@@ -50,12 +54,15 @@ pub record IsHeardInTime (start : Start) (events : List Event) (parts : List Par
       → IsTrue (admits (setting_of start events at).refused message.identity)
   -- any two sendings lie less than 66 hours apart
   pub close : (one other : ℕ) → IsSentAt parts message one → IsSentAt parts message other
-      → (setting_of start events one).moment < (setting_of start events other).moment + seconds_known
+      → (setting_of start events one).moment
+      < (setting_of start events other).moment + seconds_known
   -- 200 identities suffice
-  pub few : FewBetween (tagged_copies (first_setting start) events (found_to_end (bits_of events) locks now)) start message
+  pub few : FewBetween
+      (tagged_copies (first_setting start) events (found_to_end (bits_of events) locks now))
+      start message
 
--- Exactly one of the printed copies bears the identity of the message: it is full, has 0 errors, and its text is the
--- message's, letter for letter.
+-- Exactly one of the printed copies bears the identity of the message: it is full, has 0 errors,
+-- and its text is the message's, letter for letter.
 pub record IsPrintedOnce (message : MessageView) (log : List TaggedCopy) : Type 0 where
   pub copy : TaggedCopy
   pub one : copies_of message.identity log ≡ copy ∷ []

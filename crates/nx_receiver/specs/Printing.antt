@@ -1,5 +1,5 @@
--- Good, printed and entered: which copies are printed, and which of them the memory keeps (ITU-R M.540 for the number
--- 00, which is printed each time; all else is this profile's).
+-- Good, printed and entered: which copies are printed, and which of them the memory keeps (ITU-R
+-- M.540 for the number 00, which is printed each time; all else is this profile's).
 use Rattle.std.specs.Prelude.{ℕ, ◌*◌, ◌==◌, nat_lt, max, Bool, true, false, not, ◌&&◌, ◌||◌, if◌then◌else◌, List, [], ◌∷◌, ◌++◌, length}
 use Rattle.nx_envelope.specs.Errors.{errors_of}
 use Rattle.nx_envelope.specs.declared.found.How.{How}
@@ -14,8 +14,8 @@ is_full Full = true
 is_full Cut = false
 is_full Long = false
 
--- a copy is good where it is full, and 25 times its errors is less than the larger of 1 and its characters: fewer than
--- 4 per cent are lost
+-- a copy is good where it is full, and 25 times its errors is less than the larger of 1 and its
+-- characters: fewer than 4 per cent are lost
 abbrev pub is_good_text : How → List ℕ → Bool
 is_good_text how text = is_full how && nat_lt (25 * errors_of text) (max 1 (length text))
 
@@ -26,11 +26,13 @@ is_good copy = is_good_text copy.how copy.text
 abbrev pub is_number_00 : TaggedCopy → Bool
 is_number_00 copy = copy.identity.number == 0
 
--- an entry of its identity is live, of all these: it is less than 66 hours old, and among the last 200
+-- an entry of its identity is live, of all these: it is less than 66 hours old, and among the last
+-- 200
 abbrev pub is_remembered : List MemoryEntry → TaggedCopy → Bool
 is_remembered entries copy = is_known copy.identity copy.moment (last_of most_entries entries)
 
--- A copy is printed, after these entries, where it is selected, and is numbered 00 or no entry of its identity is live.
+-- A copy is printed, after these entries, where it is selected, and is numbered 00 or no entry of
+-- its identity is live.
 unfoldable pub is_printed : List MemoryEntry → TaggedCopy → Bool
 is_printed entries copy = copy.selected && (is_number_00 copy || not (is_remembered entries copy))
 

@@ -20,35 +20,52 @@ pub record Receiving (M : Type 0) : Type 0 where
   pub watch : Watching
   pub memory : M
 
--- The receiver stands after these events, which begin with this start, and this is the log of what it handed out: its
--- watch stands after the elements, with what is in force at each; what is in force is so after all events; the log is
--- what is printed of the copies that have ended; and the memory, whose content this function tells, holds the last of
--- all entries made.
-pub record StandsOver {M : Type 0} (content : M → List MemoryEntry) (start : Start) (receiver : Receiving M) (bits : List Bool) (settings : List Setting) (now : Setting) (log : List TaggedCopy) : Type 0 where
+-- The receiver stands after these events, which begin with this start, and this is the log of what
+-- it handed out: its watch stands after the elements, with what is in force at each; what is in
+-- force is so after all events; the log is what is printed of the copies that have ended; and the
+-- memory, whose content this function tells, holds the last of all entries made.
+pub record StandsOver {M : Type 0} (content : M → List MemoryEntry) (start : Start)
+    (receiver : Receiving M) (bits : List Bool) (settings : List Setting) (now : Setting)
+    (log : List TaggedCopy) : Type 0 where
   pub copies : List TaggedCopy
   pub watch : WatchStands (first_setting start) receiver.watch bits settings copies
   pub force : in_force receiver.watch ≡ now
   pub printed : log ≡ printed_copies start.entries copies
   pub memory : content receiver.memory ≡ last_of most_entries (entries_after start.entries copies)
 
--- The receiver stands after these elements but for what is over with the last of them, which is yet to be finished: the
--- log is what is printed of the copies that ended before it.
-pub record AwaitsOver {M : Type 0} (content : M → List MemoryEntry) (start : Start) (receiver : Receiving M) (bits : List Bool) (settings : List Setting) (now : Setting) (log : List TaggedCopy) (over : Over) : Type 0 where
+-- The receiver stands after these elements but for what is over with the last of them, which is yet
+-- to be finished: the log is what is printed of the copies that ended before it.
+pub record AwaitsOver {M : Type 0} (content : M → List MemoryEntry) (start : Start)
+    (receiver : Receiving M) (bits : List Bool) (settings : List Setting) (now : Setting)
+    (log : List TaggedCopy) (over : Over) : Type 0 where
   pub copies : List TaggedCopy
   pub watch : IsOver (first_setting start) receiver.watch bits settings copies over
   pub force : in_force receiver.watch ≡ now
   pub printed : log ≡ printed_copies start.entries copies
   pub memory : content receiver.memory ≡ last_of most_entries (entries_after start.entries copies)
 
-abbrev pub Awaits : {M : Type 0} → (M → List MemoryEntry) → Start → Receiving M → List Event → List TaggedCopy → Over → Type 0
+abbrev pub Awaits : {M : Type 0} → (M → List MemoryEntry) → Start → Receiving M → List Event
+    → List TaggedCopy → Over → Type 0
 Awaits content start receiver events log over =
-    AwaitsOver content start receiver (bits_of events) (settings (first_setting start) events) (setting_after_all (first_setting start) events) log over
+    AwaitsOver content start receiver (bits_of events) (settings (first_setting start) events)
+    (setting_after_all (first_setting start) events) log over
 
-abbrev pub Stands : {M : Type 0} → (M → List MemoryEntry) → Start → Receiving M → List Event → List TaggedCopy → Type 0
+abbrev pub Stands : {M : Type 0} → (M → List MemoryEntry) → Start → Receiving M → List Event
+    → List TaggedCopy → Type 0
 Stands content start receiver events log =
-    StandsOver content start receiver (bits_of events) (settings (first_setting start) events) (setting_after_all (first_setting start) events) log
+    StandsOver content start receiver (bits_of events) (settings (first_setting start) events)
+    (setting_after_all (first_setting start) events) log
 
--- the moment of the memory's newest entry, that of the open copy, the one in force and the last one rise in this order
+-- Whatever awaits to be finished, some of it may be passed over: then this is left of what is over.
+abbrev pub PassesOver : {M : Type 0} → (M → List MemoryEntry) → Receiving M → Receiving M → Over
+    → Over → Type 0
+PassesOver content old new over left =
+    (start : Start) (bits : List Bool) (settings : List Setting) (now : Setting)
+    (log : List TaggedCopy) → AwaitsOver content start old bits settings now log over
+    → AwaitsOver content start new bits settings now log left
+
+-- the moment of the memory's newest entry, that of the open copy, the one in force and the last one
+-- rise in this order
 pub record IsInOrder (newest copy now : ℕ) : Type 0 where
   pub newest_first : newest ≤ copy
   pub copy_next : copy ≤ now
@@ -63,8 +80,8 @@ abbrev pub entry_list : Option Entry → List TaggedCopy
 entry_list None = []
 entry_list (Some entry) = copy_of entry ∷ []
 
--- why a receiver is not made: its first moment is past the last one, or before the newest of its memory; or else there
--- is no memory for it
+-- why a receiver is not made: its first moment is past the last one, or before the newest of its
+-- memory; or else there is no memory for it
 abbrev pub RefusesStart : ℕ → ℕ → ReceiverFault → Type 0
 RefusesStart newest moment MomentRange = (last_moment < moment) ⊎ (moment < newest)
 RefusesStart newest moment (Memory refused) = (moment ≤ last_moment) × (newest ≤ moment)
@@ -72,7 +89,8 @@ RefusesStart newest moment (Memory refused) = (moment ≤ last_moment) × (newes
 -- why a moment is refused: it is past the last one; or else it is before the one in force
 abbrev pub Refuses : ℕ → ℕ → MomentFault → Type 0
 Refuses last given (Range at) = (at ≡ given) × (last_moment < given)
-Refuses last given (Back from at) = (from ≡ last) × (at ≡ given) × (given ≤ last_moment) × (given < last)
+Refuses last given (Back from at) =
+    (from ≡ last) × (at ≡ given) × (given ≤ last_moment) × (given < last)
 
 -- the elements of these pieces, one after another
 unfoldable pub joined : List (List Bool) → List Bool

@@ -18,8 +18,9 @@ use Rattle.nx_receiver.specs.FoundCopies.{FoundCopy}
 abbrev pub phasing_elements : ℕ
 phasing_elements = 336
 
--- A lock holds through words that are heard from slot 96 on: their first 48 are phasing as it is sent; they leave a lock
--- whose word `whole` is that of slot 144, a DX word; and it stands after each further bit, to the last.
+-- A lock holds through words that are heard from slot 96 on: their first 48 are phasing as it is
+-- sent; they leave a lock whose word `whole` is that of slot 144, a DX word; and it stands after
+-- each further bit, to the last.
 pub record HoldsThrough (earlier : List Bool) (heard : List ℕ) : Type 0 where
   pub begins : take phasing_elements (bits_of heard) ≡ phasing 24
   pub locks : List Lock
@@ -35,7 +36,8 @@ pub record HoldsThrough (earlier : List Bool) (heard : List ℕ) : Type 0 where
 unfoldable pub copies_at : ℕ → List FoundCopy → List FoundCopy
 copies_at place copies = filter (λ copy. copy.place == place) copies
 
--- the copy that a sending gives: it begins with the header of the sending, is full, and its text is the message's
+-- the copy that a sending gives: it begins with the header of the sending, is full, and its text is
+-- the message's
 abbrev pub copy_of_sending : Sending → FoundCopy
 copy_of_sending sending = record {
   identity = sending.message.identity;
@@ -44,12 +46,14 @@ copy_of_sending sending = record {
   place = sending.place;
 }
 
--- the message is sent in one of the received emissions, with the second digit of its header at this place
+-- the message is sent in one of the received emissions, with the second digit of its header at this
+-- place
 abbrev pub IsSentAt : List Part → MessageView → ℕ → Type 0
 IsSentAt parts message place = IsSending parts (record { message = message; place = place })
 
--- The header is that of one of the messages, in what is printed of them, one after another: it bears the identity of the
--- message, and stands where its printed text begins, which is `ZCZC`, a space and the identity in nine characters.
+-- The header is that of one of the messages, in what is printed of them, one after another: it
+-- bears the identity of the message, and stands where its printed text begins, which is `ZCZC`, a
+-- space and the identity in nine characters.
 pub record IsHeaderOf (messages : List MessageView) (header : Header) : Type 0 where
   pub before : List MessageView
   pub message : MessageView

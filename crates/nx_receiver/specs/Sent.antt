@@ -16,13 +16,15 @@ use Rattle.nx_receiver.specs.Tagged.{TaggedCopy}
 -- of these messages, this one alone bears its identity
 abbrev pub BearsAlone : List MessageView → MessageView → Type 0
 BearsAlone messages message =
-    filter (λ (one : MessageView). same_identity one.identity message.identity) messages ≡ message ∷ []
+    filter (λ (one : MessageView). same_identity one.identity message.identity) messages
+    ≡ message ∷ []
 
 -- no two of these messages bear one identity
 abbrev pub AreDifferent : List MessageView → Type 0
 AreDifferent [] = ⊤
 AreDifferent (message ∷ messages) =
-    AllByRecursion (λ (other : MessageView). same_identity message.identity other.identity ≡ false) messages
+    AllByRecursion
+    (λ (other : MessageView). same_identity message.identity other.identity ≡ false) messages
     × AreDifferent messages
 
 -- the words of the emission of messages with these combinations
@@ -33,11 +35,16 @@ words_of spellings = emission (layout spellings)
 abbrev pub events_as_sent : ℕ → List (List ℕ) → List Event
 events_as_sent slot spellings = at_moment slot ∷ elements (bits_of (words_of spellings))
 
--- the parts of these elements: what comes before slot 96 is a gap, and from there on the emission is received
+-- the parts of these elements: what comes before slot 96 is a gap, and from there on the emission
+-- is received
 abbrev pub parts_as_sent : List MessageView → List (List ℕ) → List Part
 parts_as_sent messages spellings =
     gap (bits_of (take first_slot (words_of spellings)))
-    ∷ received (record { messages = messages; spellings = spellings; heard = drop first_slot (words_of spellings) })
+    ∷ received (record {
+      messages = messages;
+      spellings = spellings;
+      heard = drop first_slot (words_of spellings);
+    })
     ∷ []
 
 -- the copy that is heard of a message: full, with its text, at the moment of the slot, and selected

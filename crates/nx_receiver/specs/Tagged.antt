@@ -1,5 +1,5 @@
--- Tagged copies (this profile): a copy bears the moment and the selection that are in force at the place of its second
--- digit.
+-- Tagged copies (this profile): a copy bears the moment and the selection that are in force at the
+-- place of its second digit.
 use Rattle.std.specs.Prelude.{ℕ, Bool, true, List, map}
 use Rattle.nx_envelope.specs.declared.found.Found.{Found}
 use Rattle.nx_envelope.specs.declared.found.How.{How}
@@ -17,7 +17,8 @@ pub record TaggedCopy : Type 0 where
   pub moment : ℕ
   pub selected : Bool
 
--- the copy with what is in force at its second digit: it is selected where its station and its subject aren't refused
+-- the copy with what is in force at its second digit: it is selected where its station and its
+-- subject aren't refused
 unfoldable pub tag : Setting → FoundCopy → TaggedCopy
 tag setting copy = record {
   identity = copy.identity;
@@ -29,14 +30,25 @@ tag setting copy = record {
 
 -- copies with what is in force at the second digit of each, in the same order
 unfoldable pub tagged_copies : Setting → List Event → List FoundCopy → List TaggedCopy
-tagged_copies first events copies = map (λ copy. tag (setting_at first events copy.place) copy) copies
+tagged_copies first events copies =
+    map (λ copy. tag (setting_at first events copy.place) copy) copies
 
 -- what the finder hands out, with a moment and whether it is selected
 abbrev pub tagged_found : Found → ℕ → Bool → TaggedCopy
-tagged_found found moment selected =
-    record { identity = found.identity; how = found.how; text = found.text.items; moment = moment; selected = selected }
+tagged_found found moment selected = record {
+  identity = found.identity;
+  how = found.how;
+  text = found.text.items;
+  moment = moment;
+  selected = selected;
+}
 
 -- the copy that an entry prints, which was selected
 abbrev pub copy_of : Entry → TaggedCopy
-copy_of entry =
-    record { identity = entry.identity; how = entry.how; text = entry.text.items; moment = entry.moment; selected = true }
+copy_of entry = record {
+  identity = entry.identity;
+  how = entry.how;
+  text = entry.text.items;
+  moment = entry.moment;
+  selected = true;
+}

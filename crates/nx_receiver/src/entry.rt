@@ -11,7 +11,8 @@ use nx_envelope::{Found, How, Identity, MAX_FOUND};
 pub struct Entry {
     /// The identity in its header.
     pub identity: Identity,
-    /// The moment in force at the second digit of its header, in whole seconds since 1970-01-01 00:00:00 UTC.
+    /// The moment in force at the second digit of its header, in whole seconds since 1970-01-01
+    /// 00:00:00 UTC.
     pub moment: u64,
     /// How it ended.
     pub how: How,

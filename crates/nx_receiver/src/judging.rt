@@ -11,20 +11,25 @@ ghost use Rattle.nx_receiver.specs.Tagged.{tagged_found};
 use nx_envelope::{Found, How, Identity};
 use nx_memory::Recall;
 
-/// A copy is good where this many times its errors is less than its characters: fewer than 4 per cent are lost.
+/// A copy is good where this many times its errors is less than its characters: fewer than 4 per
+/// cent are lost.
 const GOOD_SHARE: usize = 25;
 
-/// Whether a copy that was found is printed, by whether it is selected and by its moment, which isn't before the
-/// newest of the memory. It is printed where it is selected, and is numbered 00 (ITU-R M.540) or unknown. A good copy
-/// that is printed and not numbered 00 is entered into the memory.
+/// Whether a copy that was found is printed, by whether it is selected and by its moment, which
+/// isn't before the newest of the memory. It is printed where it is selected, and is numbered 00
+/// (ITU-R M.540) or unknown. A good copy that is printed and not numbered 00 is entered into the
+/// memory.
 ///
 /// The memory holds the last 200 of all the entries made so far, whichever they are.
 pub fn judge<M: Recall>(found: &Found, moment: u64, selected: bool, memory: &mut M) -> bool
     requires { newest_moment (M.content memory.old) ≤ moment }
-    ensures printed { (entries : List MemoryEntry) → M.content memory.old ≡ last_of most_entries entries
+    ensures printed { (entries : List MemoryEntry)
+        → M.content memory.old ≡ last_of most_entries entries
         → result ≡ spec.is_printed entries (tagged_found found.now moment selected) }
-    ensures entered { (entries : List MemoryEntry) → M.content memory.old ≡ last_of most_entries entries
-        → M.content memory.new ≡ last_of most_entries (entries ++ entry_made entries (tagged_found found.now moment selected)) }
+    ensures entered { (entries : List MemoryEntry)
+        → M.content memory.old ≡ last_of most_entries entries
+        → M.content memory.new ≡ last_of most_entries
+        (entries ++ entry_made entries (tagged_found found.now moment selected)) }
     ensures not_before { newest_moment (M.content memory.new) ≤ moment }
 {
     let printed = is_printed(&found.identity, moment, selected, memory);

@@ -1,15 +1,16 @@
-//! Laws of what is printed, over whole lists of elements, moments and commands. Each function does nothing; its
-//! contract is the law.
+//! Laws of what is printed, over whole lists of elements, moments and commands. Each function does
+//! nothing; its contract is the law.
 
 ghost use Rattle.std.specs.Prelude.{◌≡◌, ℕ, ◌+◌, ◌*◌, ◌<◌, ◌≤◌, Bool, List, [], ◌∷◌, ◌++◌, length, All};
 ghost use Rattle.nx_code.specs.Reading.{text};
 ghost use Rattle.nx_code.specs.declared.shifts.Shift.TheVariants.{Letters};
 ghost use Rattle.nx_envelope.specs.Moment.{last_moment};
 ghost use Rattle.nx_envelope.specs.declared.identity.Identity.{Identity};
+ghost use Rattle.nx_station.specs.ChannelExample.{ea01};
 ghost use Rattle.nx_sync.specs.Words.{word_at, first_role, words_of};
 ghost use Rattle.nx_sync.specs.Locks.{Lock, Now, IsLocked, IsNow, Past};
-ghost use Rattle.nx_receiver.specs.Events.{Event, Start, bits_of};
-ghost use Rattle.nx_receiver.specs.Example.{ea01, example_copies, first_copy, repeated_copy};
+ghost use Rattle.nx_receiver.specs.Events.{Event, Start};
+ghost use Rattle.nx_receiver.specs.Example.{example_copies, first_copy, repeated_copy};
 ghost use Rattle.nx_receiver.specs.FoundCopies.{FoundCopy, ended_so_far, open_so_far, found_to_end};
 ghost use Rattle.nx_receiver.specs.LawTerms.{AreRepeats, copies_of, own_bits};
 ghost use Rattle.nx_receiver.specs.LockText.{PlacedByte, bytes_of, lock_text, positions};
@@ -25,20 +26,23 @@ pub mod sending;
 
 use nx_memory::Recall;
 
-/// The bytes of the text of a lock are what is read of the positions that its words complete, from letters. And these
-/// positions are told by its words with their roles, as a list, alone: where two locks have the same words, they have the
-/// same positions.
+/// The bytes of the text of a lock are what is read of the positions that its words complete, from
+/// letters. And these positions are told by its words with their roles, as a list, alone: where two
+/// locks have the same words, they have the same positions.
 pub fn a_text_is_read_of_positions()
     ensures read { (bits : List Bool) (t n : ℕ) → bytes_of (lock_text bits t n)
         ≡ text (positions (first_role bits t) (word_at bits t) n) Letters }
     ensures words { (bits others : List Bool) (t u n : ℕ) → words_of bits t n ≡ words_of others u n
-        → positions (first_role bits t) (word_at bits t) n ≡ positions (first_role others u) (word_at others u) n }
+        → positions (first_role bits t) (word_at bits t) n
+        ≡ positions (first_role others u) (word_at others u) n }
 {}
 
-/// Locks share nothing: the text of a lock, and so each copy in it, is made of its own bits alone; each byte of it
-/// stands at one of these bits; and the last word of a lock is over before the next lock begins.
+/// Locks share nothing: the text of a lock, and so each copy in it, is made of its own bits alone;
+/// each byte of it stands at one of these bits; and the last word of a lock is over before the next
+/// lock begins.
 pub fn locks_share_nothing()
-    ensures own { (bits others : List Bool) (t n : ℕ) → 7 ≤ t → own_bits bits t n ≡ own_bits others t n
+    ensures own { (bits others : List Bool) (t n : ℕ)
+        → 7 ≤ t → own_bits bits t n ≡ own_bits others t n
         → lock_text bits t n ≡ lock_text others t n }
     ensures within { (bits : List Bool) (t n : ℕ) →
         All (λ (b : PlacedByte). (t ≤ b.place) × (b.place < t + 7 * n)) (lock_text bits t n) }
@@ -48,19 +52,21 @@ pub fn locks_share_nothing()
         IsLocked bits (lock ∷ locks) p t → lock.at + 7 * (lock.last + 1) < t }
 {}
 
-/// What the end of the bits adds to the copies that have ended is the copy that stands open, cut there; there is at most
-/// one.
+/// What the end of the bits adds to the copies that have ended is the copy that stands open, cut
+/// there; there is at most one.
 pub fn the_end_closes_the_open_copy()
     ensures adds { (bits : List Bool) (locks : List Lock) (now : Now) →
         found_to_end bits locks now ≡ ended_so_far bits locks now ++ open_so_far bits now }
     ensures one { (bits : List Bool) (now : Now) → length (open_so_far bits now) ≤ 1 }
 {}
 
-/// More bits and more events change nothing that was found or printed: later copies and later entries come behind it.
+/// More bits and more events change nothing that was found or printed: later copies and later
+/// entries come behind it.
 pub fn more_events_keep_the_log()
-    ensures found { (bits more : List Bool) (older locks : List Lock) (was now : Now) → IsNow bits older was
-        → IsNow (bits ++ more) locks now
-        → (rest : List FoundCopy) × (ended_so_far (bits ++ more) locks now ≡ ended_so_far bits older was ++ rest) }
+    ensures found { (bits more : List Bool) (older locks : List Lock) (was now : Now)
+        → IsNow bits older was → IsNow (bits ++ more) locks now
+        → (rest : List FoundCopy)
+        × (ended_so_far (bits ++ more) locks now ≡ ended_so_far bits older was ++ rest) }
     ensures printed { (start : Start) (events more : List Event) (log later : List TaggedCopy) →
         HasPrinted start events log → HasPrinted start (events ++ more) later
         → (rest : List TaggedCopy) × (later ≡ log ++ rest) }
@@ -72,14 +78,16 @@ pub fn more_events_keep_the_log()
 /// All that a receiver was given has one log: one list of printed copies; and, where
 /// their moments are at most the last, one list of bytes for it.
 pub fn there_is_one_log()
-    ensures some { (start : Start) (events : List Event) → (log : List TaggedCopy) × HasPrinted start events log }
+    ensures some { (start : Start) (events : List Event)
+        → (log : List TaggedCopy) × HasPrinted start events log }
     ensures one { (start : Start) (events : List Event) (log other : List TaggedCopy) →
         HasPrinted start events log → HasPrinted start events other → log ≡ other }
     ensures some_closed { (start : Start) (events : List Event) →
         (log : List TaggedCopy) × PrintsToEnd start events log }
     ensures one_closed { (start : Start) (events : List Event) (log other : List TaggedCopy) →
         PrintsToEnd start events log → PrintsToEnd start events other → log ≡ other }
-    ensures some_bytes { (copies : List TaggedCopy) → All (λ (copy : TaggedCopy). copy.moment ≤ last_moment) copies
+    ensures some_bytes { (copies : List TaggedCopy)
+        → All (λ (copy : TaggedCopy). copy.moment ≤ last_moment) copies
         → (bytes : List ℕ) × IsLog copies bytes }
     ensures one_bytes { (copies : List TaggedCopy) (bytes others : List ℕ) →
         IsLog copies bytes → IsLog copies others → bytes ≡ others }
@@ -89,25 +97,30 @@ pub fn there_is_one_log()
 pub fn logs_go_on()
     ensures begins { (front back : List TaggedCopy) (bytes whole : List ℕ) → IsLog front bytes
         → IsLog (front ++ back) whole → (more : List ℕ) × (whole ≡ bytes ++ more) }
-    ensures join { (front back : List TaggedCopy) (bytes more : List ℕ) → IsLog front bytes → IsLog back more
+    ensures join { (front back : List TaggedCopy) (bytes more : List ℕ)
+        → IsLog front bytes → IsLog back more
         → IsLog (front ++ back) (bytes ++ more) }
 {}
 
-/// A message that is repeated is printed once. After an empty first list of entries: where all copies of one identity,
-/// one or more and not numbered 00, are good and selected and lie within 66 hours of each other, and fewer than 200
-/// entries are made between the first and any later one, the first of them is printed, and no other.
+/// A message that is repeated is printed once. After an empty first list of entries: where all
+/// copies of one identity, one or more and not numbered 00, are good and selected and lie within 66
+/// hours of each other, and fewer than 200 entries are made between the first and any later one,
+/// the first of them is printed, and no other.
 pub fn repeats_are_printed_once()
-    ensures { (identity : Identity) (copies : List TaggedCopy) (first : TaggedCopy) (repeats : List TaggedCopy) →
-        AreRepeats identity copies first repeats → copies_of identity (printed_copies [] copies) ≡ first ∷ [] }
+    ensures { (identity : Identity) (copies : List TaggedCopy) (first : TaggedCopy)
+        (repeats : List TaggedCopy) → AreRepeats identity copies first repeats
+        → copies_of identity (printed_copies [] copies) ≡ first ∷ [] }
 {}
 
-/// There are such repeats: EA01 is heard, then EB02 twice, and EA01 again four hours after the first.
+/// There are such repeats: EA01 is heard, then EB02 twice, and EA01 again four hours after the
+/// first.
 pub fn there_are_repeats()
     ensures { AreRepeats ea01 example_copies first_copy (repeated_copy ∷ []) }
 {}
 
-/// The definitions on a worked emission, from its elements to its log. Station E sends the message EA01 with the one line
-/// TEST in its slot. Heard as it is sent, and heard with each DX word of the message damaged, its log is the same 42 bytes.
+/// The definitions on a worked emission, from its elements to its log. Station E sends the message
+/// EA01 with the one line TEST in its slot. Heard as it is sent, and heard with each DX word of the
+/// message damaged, its log is the same 42 bytes.
 pub fn a_worked_emission_is_printed()
     ensures sent { PrintsToEnd at_its_slot (heard_elements sent_words) (first_copy ∷ []) }
     ensures damaged { PrintsToEnd at_its_slot (heard_elements damaged_words) (first_copy ∷ []) }
@@ -115,12 +128,15 @@ pub fn a_worked_emission_is_printed()
     ensures bytes { length worked_log ≡ 42 }
 {}
 
-/// Where a receiver stands after events with a log, that log is what is printed of them. So it doesn't matter how elements
-/// are cut: two receivers that are fed the same elements in other pieces, after the same events, have the same log.
+/// Where a receiver stands after events with a log, that log is what is printed of them. So it
+/// doesn't matter how elements are cut: two receivers that are fed the same elements in other
+/// pieces, after the same events, have the same log.
 pub fn cuttings_print_the_same<M: Recall>()
-    ensures printed { (start : Start) (events : List Event) (receiver : Receiving M) (log : List TaggedCopy) →
-        Stands M.content start receiver events log → HasPrinted start events log }
-    ensures same { (start : Start) (events : List Event) (pieces others : List (List Bool)) (one other : Receiving M) (log same : List TaggedCopy) →
-        joined pieces ≡ joined others → Stands M.content start one (events ++ fed pieces) log
+    ensures printed { (start : Start) (events : List Event) (receiver : Receiving M)
+        (log : List TaggedCopy)
+        → Stands M.content start receiver events log → HasPrinted start events log }
+    ensures same { (start : Start) (events : List Event) (pieces others : List (List Bool))
+        (one other : Receiving M) (log same : List TaggedCopy)
+        → joined pieces ≡ joined others → Stands M.content start one (events ++ fed pieces) log
         → Stands M.content start other (events ++ fed others) same → log ≡ same }
 {}

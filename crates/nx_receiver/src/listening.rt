@@ -39,19 +39,20 @@ pub struct Report {
     pub printed: u64,
 }
 
-/// Listens to an air file of at most 268,435,456 bytes to its end, and writes its log: an entry for each copy that is
-/// printed, all that the lines so far print before each further read. The receiver starts with an empty memory, at
-/// moment 0. All memory is taken before the first read.
+/// Listens to an air file of at most 268,435,456 bytes to its end, and writes its log: an entry for
+/// each copy that is printed, all that the lines so far print before each further read. The
+/// receiver starts with an empty memory, at moment 0. All memory is taken before the first read.
 ///
-/// Where it answers Ok, each message that is heard in time in the file has exactly one entry in the log, full, with 0
-/// errors and its text letter for letter: a message not numbered 00 that is selected whenever it is sent, whose
-/// sendings all lie within 66 hours and pass the channel while 200 identities suffice, and of whose identity nothing
-/// else is found.
+/// Where it answers Ok, each message that is heard in time in the file has exactly one entry in the
+/// log, full, with 0 errors and its text letter for letter: a message not numbered 00 that is
+/// selected whenever it is sent, whose sendings all lie within 66 hours and pass the channel while
+/// 200 identities suffice, and of whose identity nothing else is found.
 ///
-/// The first fault in the order of the bytes ends the run; the line that has it has no effect. After a fault of a line,
-/// `AirTooLong` and `Read`, the log of the whole lines before it is written, and an open copy isn't closed. After
-/// `Write` the first `written` bytes of the log of the lines read whole by then are written, closed if the file had
-/// ended. After `Memory` nothing was read.
+/// The first fault in the order of the bytes ends the run; the line that has it has no effect.
+/// After a fault of a line, `AirTooLong` and `Read`, the log of the whole lines before it is
+/// written, and an open copy isn't closed. After `Write` the first `written` bytes of the log of
+/// the lines read whole by then are written, closed if the file had ended. After `Memory` nothing
+/// was read.
 pub fn listen<R: Read, W: Write>(
     alloc: Global,
     reader: &mut Counting<R>,
@@ -59,7 +60,8 @@ pub fn listen<R: Read, W: Write>(
 ) -> Result<Report, ListenFault>
     requires reader { reader.old.failures ≡ 0 }
     requires writer { writer.old.failures ≡ 0 }
-    ensures listens { Listens (devices R.remaining W.contents reader.old reader.new writer.old writer.new) result }
+    ensures listens { Listens
+        (devices R.remaining W.contents reader.old reader.new writer.old writer.new) result }
     ensures once { OnOk result (KeepsHeadline
         (devices R.remaining W.contents reader.old reader.new writer.old writer.new)) }
     ensures memory { (error : AllocError) → result ≡ Err (Memory error)
@@ -116,7 +118,8 @@ pub enum LineRefusal {
 struct Listener {
     receiver: Receiver<RingRecall>,
     has_moment: bool,
-    /// How many elements were heard, and how many entries were given, each at most the greatest u64.
+    /// How many elements were heard, and how many entries were given, each at most the greatest
+    /// u64.
     elements: u64,
     entries: u64,
 }
@@ -141,7 +144,8 @@ impl Listener {
 
     /// Takes a moment.
     fn take_moment(&mut self, moment: u64) -> Result<(), LineRefusal>
-        ensures taken { (lines : List Line) (given : List ℕ) → IsListening self.old lines given → MatchResult result
+        ensures taken { (lines : List Line) (given : List ℕ) → IsListening self.old lines given
+            → MatchResult result
             (λ _. IsListening self.new (lines ++ line.moment moment ∷ []) given)
             (λ why. RefusesLine lines (line.moment moment) why) }
         ensures unchanged { OnErr result (self.new ≡ self.old) }
@@ -158,7 +162,8 @@ impl Listener {
     /// Takes a command to refuse a subject.
     fn refuse_subject(&mut self, byte: u8) -> Result<(), LineRefusal>
         requires { IsCapital byte }
-        ensures taken { (lines : List Line) (given : List ℕ) → IsListening self.old lines given → MatchResult result
+        ensures taken { (lines : List Line) (given : List ℕ) → IsListening self.old lines given
+            → MatchResult result
             (λ _. IsListening self.new (lines ++ line.refuse_subject byte ∷ []) given)
             (λ why. RefusesLine lines (line.refuse_subject byte) why) }
         ensures unchanged { OnErr result (self.new ≡ self.old) }
@@ -171,8 +176,8 @@ impl Listener {
         }
     }
 
-    /// Hears elements up to and with the one that ends the first copy that is printed, and gives its entry. Answers how
-    /// many it heard.
+    /// Hears elements up to and with the one that ends the first copy that is printed, and gives
+    /// its entry. Answers how many it heard.
     fn hear<W: Write>(
         &mut self,
         bits: &[bool],
@@ -182,10 +187,12 @@ impl Listener {
         requires some { 0 < length bits.now }
         requires none { writer.old.failures ≡ 0 }
         ensures heard { (old : Option (List ℕ)) (events : List Event)
-            → IsHearing self.old events (HasGiven old (W.contents writer.old.inner) batch.old) → MatchResult result
+            → IsHearing self.old events (HasGiven old (W.contents writer.old.inner) batch.old)
+            → MatchResult result
             (λ count. IsHearing self.new (events ++ elements (take count bits.now))
             (HasGiven old (W.contents writer.new.inner) batch.new))
-            (λ fault. HeardSome (events ++ elements bits.now) old (W.contents writer.new.inner) fault.written) }
+            (λ fault. HeardSome (events ++ elements bits.now) old (W.contents writer.new.inner)
+            fault.written) }
         ensures within { IfOk result (λ count. (0 < count) × (count ≤ length bits.now)) }
         ensures moment { self.new.has_moment ≡ self.old.has_moment }
         ensures failed { IsErr result ↔ (writer.new.failures ≡ 1) }
@@ -214,9 +221,12 @@ impl Listener {
     ) -> Result<(), WriteFault>
         requires { writer.old.failures ≡ 0 }
         ensures finished { (given : List ℕ) × HasFinished self.old self.new over given
-            × ((old : Option (List ℕ)) (before : List ℕ) → HasGiven old (W.contents writer.old.inner) batch.old before
-            → MatchResult result (λ _. HasGiven old (W.contents writer.new.inner) batch.new (before ++ given))
-            (λ fault. WroteSome old (W.contents writer.new.inner) (before ++ given) fault.written)) }
+            × ((old : Option (List ℕ)) (before : List ℕ)
+            → HasGiven old (W.contents writer.old.inner) batch.old before
+            → MatchResult result
+            (λ _. HasGiven old (W.contents writer.new.inner) batch.new (before ++ given))
+            (λ fault. WroteSome old (W.contents writer.new.inner) (before ++ given)
+            fault.written)) }
         ensures moment { self.new.has_moment ≡ self.old.has_moment }
         ensures failed { IsErr result ↔ (writer.new.failures ≡ 1) }
         ensures once { writer.new.failures ≤ 1 }
@@ -238,10 +248,12 @@ impl Listener {
     ) -> Result<(), WriteFault>
         requires { writer.old.failures ≡ 0 }
         ensures heard { (old : Option (List ℕ)) (events : List Event)
-            → IsHearing self.old events (HasGiven old (W.contents writer.old.inner) batch.old) → MatchResult result
+            → IsHearing self.old events (HasGiven old (W.contents writer.old.inner) batch.old)
+            → MatchResult result
             (λ _. IsHearing self.new (events ++ elements bits.now)
             (HasGiven old (W.contents writer.new.inner) batch.new))
-            (λ fault. HeardSome (events ++ elements bits.now) old (W.contents writer.new.inner) fault.written) }
+            (λ fault. HeardSome (events ++ elements bits.now) old (W.contents writer.new.inner)
+            fault.written) }
         ensures moment { self.new.has_moment ≡ self.old.has_moment }
         ensures failed { IsErr result ↔ (writer.new.failures ≡ 1) }
         ensures once { writer.new.failures ≤ 1 }
@@ -269,10 +281,13 @@ impl Listener {
             → HasTaken (λ _ now before given. IsListening now before given) first self.old lines
             (HasGiven old (W.contents writer.old.inner) batch.old) → MatchResult result
             (λ _. HasTaken (λ _ now before given. IsListening now before given) first self.new
-            (lines ++ line.elements bits.now ∷ []) (HasGiven old (W.contents writer.new.inner) batch.new))
+            (lines ++ line.elements bits.now ∷ [])
+            (HasGiven old (W.contents writer.new.inner) batch.new))
             (λ fault. ExplainsTaking (λ _ now before given. IsListening now before given)
-            (λ _ before given. BeginsListening before given) (λ _ before refused why. RefusesLine before refused why)
-            first self.new old (W.contents writer.new.inner) batch.new lines (line.elements bits.now) fault) }
+            (λ _ before given. BeginsListening before given)
+            (λ _ before refused why. RefusesLine before refused why)
+            first self.new old (W.contents writer.new.inner) batch.new lines
+            (line.elements bits.now) fault) }
         ensures writes { Writes writer.new TakeFault.Write result }
     {
         if !self.has_moment {
@@ -284,14 +299,16 @@ impl Listener {
         }
     }
 
-    /// Ends the file: writes the entry of the copy that its end closes, where that is printed, and counts.
+    /// Ends the file: writes the entry of the copy that its end closes, where that is printed, and
+    /// counts.
     fn close<W: Write>(
         self,
         writer: &mut Counting<W>,
         read: LinesRead,
     ) -> Result<Report, WriteFault>
         requires { writer.old.failures ≡ 0 }
-        ensures closed { (old : Option (List ℕ)) (events : List Event) (given : List ℕ) → HearsLog self events given
+        ensures closed { (old : Option (List ℕ)) (events : List Event) (given : List ℕ)
+            → HearsLog self events given
             → HasWritten old (W.contents writer.old.inner) given read.written → MatchResult result
             (λ report. HasClosed old (W.contents writer.new.inner) events report)
             (λ fault. HasClosedSome old (W.contents writer.new.inner) events fault.written) }
@@ -357,7 +374,8 @@ impl LineTaker for Listener {
 
 /// A line that is refused, as a fault of taking it.
 fn refused(taken: Result<(), LineRefusal>) -> Result<(), TakeFault<LineRefusal>>
-    ensures { MatchResult taken (λ _. result ≡ Ok tt) (λ why. result ≡ Err (TakeFault.Refused why)) }
+    ensures { MatchResult taken (λ _. result ≡ Ok tt)
+        (λ why. result ≡ Err (TakeFault.Refused why)) }
 {
     match taken {
         Ok(()) => Ok(()),

@@ -14,9 +14,11 @@ use nx_fec::{Diversity, Heard};
 use nx_sync::Role;
 use std::marker::Model;
 
-/// Reads the text of a lock, of which it is given one word after the other, and finds the copies in it.
+/// Reads the text of a lock, of which it is given one word after the other, and finds the copies in
+/// it.
 ///
-/// It holds the latest three DX words, the shift in force, and what the finder holds; nothing of an earlier lock.
+/// It holds the latest three DX words, the shift in force, and what the finder holds; nothing of an
+/// earlier lock.
 #[derive(Drop)]
 pub(crate) struct LockReader {
     diversity: Diversity,
@@ -29,10 +31,19 @@ impl Model for LockReader {
 
     ghost Value = { LockReading };
 
-    ghost view = { λ r. record { diversity = r.diversity; printer = r.printer; finder = r.finder } };
+    ghost view = { λ r. record {
+      diversity = r.diversity;
+      printer = r.printer;
+      finder = r.finder;
+    } };
 
-    // What contracts see gives every field back, so that nothing else can be kept: no word, no text, no history.
-    ghost inverse = { λ v. record { diversity = v.diversity; printer = v.printer; finder = v.finder } };
+    // What contracts see gives every field back, so that nothing else can be kept: no word, no
+    // text, no history.
+    ghost inverse = { λ v. record {
+      diversity = v.diversity;
+      printer = v.printer;
+      finder = v.finder;
+    } };
 }
 
 impl LockReader {
@@ -48,8 +59,8 @@ impl LockReader {
         }
     }
 
-    /// Hears the next word of the lock, which has that role, and answers what it brings. A copy that it ends can be
-    /// taken before the next word.
+    /// Hears the next word of the lock, which has that role, and answers what it brings. A copy
+    /// that it ends can be taken before the next word.
     // Inlined, since it is called for each word.
     #[inline(always)]
     pub(crate) fn hear(&mut self, word: Word, role: Role) -> TextEvent
@@ -57,8 +68,10 @@ impl LockReader {
             → words n ≡ word → role ≡ role_of first n → ReadsLock self.new first words (n + 1) }
         ensures hears { (first : Role) (words : ℕ → ℕ) (n : ℕ) → ReadsLock self.old first words n
             → words n ≡ word → role ≡ role_of first n
-            → HearsWord (text_after first words n) (text_after first words (n + 1)) self.new.finder result }
-        ensures ready { is_ready self.old.finder ≡ false → is_ready self.new.finder ≡ is_over result }
+            → HearsWord (text_after first words n) (text_after first words (n + 1)) self.new.finder
+            result }
+        ensures ready { is_ready self.old.finder ≡ false
+            → is_ready self.new.finder ≡ is_over result }
     {
         match role {
             Role::Dx => {
@@ -97,8 +110,8 @@ impl LockReader {
         self.finder.take_found()
     }
 
-    /// Ends the text, as the lock or the bits end, and answers the copy that stands open; the reader is then as new,
-    /// for the next lock. A copy that could be taken is gone.
+    /// Ends the text, as the lock or the bits end, and answers the copy that stands open; the
+    /// reader is then as new, for the next lock. A copy that could be taken is gone.
     // Not inlined, as `take_found`.
     #[inline(never)]
     pub(crate) fn end(&mut self) -> Option<Found>
@@ -111,7 +124,8 @@ impl LockReader {
         found
     }
 
-    /// Ends the text; the reader is then as new, for the next lock. A copy that stands open or could be taken is gone.
+    /// Ends the text; the reader is then as new, for the next lock. A copy that stands open or
+    /// could be taken is gone.
     #[tactic(auto, unfolding(crate::specs::LockReader::dx_words, crate::specs::LockText::positions))]
     pub(crate) fn restart(&mut self)
         ensures none { (first : Role) (words : ℕ → ℕ) (n : ℕ) → ReadsLock self.old first words n

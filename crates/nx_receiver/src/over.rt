@@ -3,8 +3,8 @@
 ghost use Rattle.std.specs.Prelude.{◌≡◌};
 ghost use Rattle.nx_receiver.specs.Watch.{over_with};
 
-/// What is over with an element that was heard. It is copied for each element, so it is small; a copy that is over is
-/// left with the finder.
+/// What is over with an element that was heard. It is copied for each element, so it is small; a
+/// copy that is over is left with the finder.
 #[derive(Clone, Copy, Debug, PartialEq, Eq)]
 pub(crate) enum Over {
     /// No copy and no lock.

@@ -1,16 +1,16 @@
 //! The receiver: elements, moments and commands in, entries out.
 
-ghost use Rattle.std.specs.Prelude.{◌≡◌, ◌↔◌, ℕ, ◌+◌, ◌<◌, ◌≤◌, ◌==◌, ◌&&◌, ◌||◌, not, Bool, List, [], ◌∷◌, ◌++◌, length, take, IfErr, IfOk, IfSome, IsErr, IsNone, IsSome, IsTrue, OnErr, OnOk};
+ghost use Rattle.std.specs.Prelude.{◌≡◌, ◌↔◌, ℕ, ◌+◌, ◌<◌, ◌≤◌, ◌==◌, ◌&&◌, ◌||◌, not, List, [], ◌∷◌, ◌++◌, length, take, IfErr, IfOk, IfSome, IsErr, IsNone, IsSome, IsTrue, OnErr, OnOk};
 ghost use Rattle.nx_envelope.specs.Moment.{last_moment};
 ghost use Rattle.nx_code.specs.Lists.{last_of};
 ghost use Rattle.nx_memory.specs.Memory.{is_known, most_entries, newest_moment};
 ghost use Rattle.nx_memory.specs.declared.entry.MemoryEntry.{MemoryEntry};
 ghost use Rattle.nx_memory.specs.Vital.{is_vital};
 ghost use Rattle.nx_receiver.specs.Events as events;
-ghost use Rattle.nx_receiver.specs.Events.{Event, Setting, Start, at_moment, command};
+ghost use Rattle.nx_receiver.specs.Events.{Event, Start, at_moment, command};
 ghost use Rattle.nx_receiver.specs.Log.{HasPrinted, PrintsToEnd};
 ghost use Rattle.nx_receiver.specs.Printing.{entries_after, printed_copies};
-ghost use Rattle.nx_receiver.specs.Receiver.{Awaits, AwaitsOver, Refuses, RefusesStart, Stands, elements, entry_list};
+ghost use Rattle.nx_receiver.specs.Receiver.{Awaits, PassesOver, Refuses, RefusesStart, Stands, elements, entry_list};
 ghost use Rattle.nx_receiver.specs.Tagged.{TaggedCopy};
 ghost use Rattle.nx_receiver.specs.Watch.{handed_out};
 ghost use Rattle.nx_receiver.specs.declared.over.Over.TheVariants.{Copy, Lock, Nothing};
@@ -25,11 +25,11 @@ use nx_memory::{Recall, Vital};
 use std::alloc::Global;
 use std::marker::Model;
 
-/// A receiver of NAVTEX, which is given elements, moments and commands, and hands out an entry for each copy that is
-/// printed.
+/// A receiver of NAVTEX, which is given elements, moments and commands, and hands out an entry for
+/// each copy that is printed.
 ///
-/// It keeps what it needs for the next element and no history: the synchroniser, the text of the open copy, the
-/// selection, the moment, and a memory of identities.
+/// It keeps what it needs for the next element and no history: the synchroniser, the text of the
+/// open copy, the selection, the moment, and a memory of identities.
 #[derive(Drop)]
 pub struct Receiver<M: Recall> {
     watch: Watch,
@@ -48,23 +48,27 @@ impl<M: Recall> Model for Receiver<M> {
 
     ghost view = { λ r. record { watch = r.watch; memory = r.memory } };
 
-    ghost invariant = { λ r. IsInOrder (newest_moment (M.content r.memory)) r.watch.tag.moment r.watch.moment };
+    ghost invariant = { λ r.
+        IsInOrder (newest_moment (M.content r.memory)) r.watch.tag.moment r.watch.moment };
 
-    // What contracts see gives every field back, so that nothing else can be kept: no element, no history.
+    // What contracts see gives every field back, so that nothing else can be kept: no element, no
+    // history.
     ghost inverse = { λ v. record { watch = v.watch; memory = v.memory } };
 }
 
 impl<M: Recall> Receiver<M> {
-    /// A receiver that has heard nothing, with a memory and the first moment, in whole seconds since
-    /// 1970-01-01 00:00:00 UTC. Everything is selected.
+    /// A receiver that has heard nothing, with a memory and the first moment, in whole seconds
+    /// since 1970-01-01 00:00:00 UTC. Everything is selected.
     ///
-    /// `MomentRange` where the moment is past 2999-12-31 23:59:59 or before the newest of the memory; else `Memory`
-    /// where there is none for the synchroniser. The memory of identities is then let go.
+    /// `MomentRange` where the moment is past 2999-12-31 23:59:59 or before the newest of the
+    /// memory; else `Memory` where there is none for the synchroniser. The memory of identities is
+    /// then let go.
     pub fn new(alloc: Global, memory: M, moment: u64) -> Result<Receiver<M>, ReceiverFault>
         ensures stands { (start : Start) → start.entries ≡ M.content memory → start.moment ≡ moment
             → IfOk result (λ r. Stands M.content start r [] []) }
         ensures refused { IfErr result (RefusesStart (newest_moment (M.content memory)) moment) }
-        ensures taken { OnOk result ((newest_moment (M.content memory) ≤ moment) × (moment ≤ last_moment)) }
+        ensures taken { OnOk result
+            ((newest_moment (M.content memory) ≤ moment) × (moment ≤ last_moment)) }
     {
         if moment > LAST_MOMENT || memory.newest().is_some_and(|newest| moment < newest) {
             return Err(ReceiverFault::MomentRange);
@@ -74,7 +78,8 @@ impl<M: Recall> Receiver<M> {
     }
 
     /// Sets the moment, in whole seconds since 1970-01-01 00:00:00 UTC. `Range` where it is past
-    /// 2999-12-31 23:59:59, else `Back` where it is before the last one; the receiver then stays as it was.
+    /// 2999-12-31 23:59:59, else `Back` where it is before the last one; the receiver then stays as
+    /// it was.
     pub fn set_moment(&mut self, moment: u64) -> Result<(), MomentFault>
         ensures stands { (start : Start) (history : List Event) (log : List TaggedCopy) →
             Stands M.content start self.old history log
@@ -115,11 +120,12 @@ impl<M: Recall> Receiver<M> {
         self.watch.accept_station(station);
     }
 
-    /// Refuses the subject, of all stations, from here on. `Vital` where it is A, B, D or L (ITU-R M.540); the receiver
-    /// then stays as it was.
+    /// Refuses the subject, of all stations, from here on. `Vital` where it is A, B, D or L (ITU-R
+    /// M.540); the receiver then stays as it was.
     pub fn refuse_subject(&mut self, subject: Letter) -> Result<(), Vital>
         ensures stands { (start : Start) (history : List Event) (log : List TaggedCopy) →
-            Stands M.content start self.old history log → OnOk result (Stands M.content start self.new
+            Stands M.content start self.old history log
+            → OnOk result (Stands M.content start self.new
             (history ++ command (events.refuse_subject subject.byte) ∷ []) log) }
         ensures vital { IsErr result ↔ IsTrue (is_vital subject.byte) }
         ensures fault { IfErr result (λ vital. vital.subject ≡ subject) }
@@ -137,8 +143,8 @@ impl<M: Recall> Receiver<M> {
         self.watch.accept_subject(subject);
     }
 
-    /// Hears elements, true for B, up to and with the one that ends the first copy that is printed; says how many it
-    /// heard, and hands out the entry. With `None` it heard all.
+    /// Hears elements, true for B, up to and with the one that ends the first copy that is printed;
+    /// says how many it heard, and hands out the entry. With `None` it heard all.
     pub fn feed(&mut self, bits: &[bool]) -> (usize, Option<Entry>)
         ensures within { result.0 ≤ length bits.now }
         ensures stands { (start : Start) (history : List Event) (log : List TaggedCopy) →
@@ -146,7 +152,8 @@ impl<M: Recall> Receiver<M> {
             (history ++ elements (take result.0 bits.now)) (log ++ entry_list result.1) }
         ensures first { (start : Start) (history : List Event) (log : List TaggedCopy) →
             Stands M.content start self.old history log
-            → (k : ℕ) → k < result.0 → HasPrinted start (history ++ elements (take k bits.now)) log }
+            → (k : ℕ) → k < result.0
+            → HasPrinted start (history ++ elements (take k bits.now)) log }
         ensures all { IsNone result.1 → result.0 ≡ length bits.now }
         ensures some { IsSome result.1 → 0 < result.0 }
         ensures moment { IfSome result.1 (λ entry. entry.moment ≤ last_moment) }
@@ -167,10 +174,12 @@ impl<M: Recall> Receiver<M> {
         (at, None)
     }
 
-    /// Ends the elements, and hands out the entry that their end prints: that of the open copy, where it is printed.
+    /// Ends the elements, and hands out the entry that their end prints: that of the open copy,
+    /// where it is printed.
     pub fn close(self) -> Option<Entry>
         ensures stands { (start : Start) (history : List Event) (log : List TaggedCopy) →
-            Stands M.content start self history log → PrintsToEnd start history (log ++ entry_list result) }
+            Stands M.content start self history log
+            → PrintsToEnd start history (log ++ entry_list result) }
         ensures moment { IfSome result (λ entry. entry.moment ≤ last_moment) }
     {
         let Receiver {
@@ -181,8 +190,9 @@ impl<M: Recall> Receiver<M> {
         print_copy(found, watch.tag(), &mut memory)
     }
 
-    /// Hears elements up to and with the first one with which something is over that may bring an entry, all of them
-    /// where nothing is; says how many, and what is over: `finish` is due then, before anything else is heard.
+    /// Hears elements up to and with the first one with which something is over that may bring an
+    /// entry, all of them where nothing is; says how many, and what is over: `finish` is due then,
+    /// before anything else is heard.
     // Not inlined, so that its loops have their registers to themselves; its answer is small.
     #[inline(never)]
     pub(crate) fn hear(&mut self, bits: &[bool]) -> (usize, Over)
@@ -192,7 +202,8 @@ impl<M: Recall> Receiver<M> {
             (history ++ elements (take result.0 bits.now)) log result.1 }
         ensures first { (start : Start) (history : List Event) (log : List TaggedCopy) →
             Stands M.content start self.old history log
-            → (k : ℕ) → k < result.0 → HasPrinted start (history ++ elements (take k bits.now)) log }
+            → (k : ℕ) → k < result.0
+            → HasPrinted start (history ++ elements (take k bits.now)) log }
         ensures all { result.1 ≡ Nothing → result.0 ≡ length bits.now }
         ensures some { 0 < length bits.now → 0 < result.0 }
     {
@@ -207,8 +218,8 @@ impl<M: Recall> Receiver<M> {
         (at, Over::Nothing)
     }
 
-    /// Hears elements up to and with the first one with which anything is over, and passes over it where it surely
-    /// brings no entry.
+    /// Hears elements up to and with the first one with which anything is over, and passes over it
+    /// where it surely brings no entry.
     #[inline(always)]
     fn hear_part(&mut self, bits: &[bool]) -> (usize, Over)
         ensures within { result.0 ≤ length bits.now }
@@ -217,20 +228,19 @@ impl<M: Recall> Receiver<M> {
             (history ++ elements (take result.0 bits.now)) log result.1 }
         ensures first { (start : Start) (history : List Event) (log : List TaggedCopy) →
             Stands M.content start self.old history log
-            → (k : ℕ) → k < result.0 → HasPrinted start (history ++ elements (take k bits.now)) log }
+            → (k : ℕ) → k < result.0
+            → HasPrinted start (history ++ elements (take k bits.now)) log }
         ensures some { 0 < length bits.now → 0 < result.0 }
     {
         let (count, over) = self.watch.hear(bits);
         (count, self.pass_over(over))
     }
 
-    /// Passes over what is over where it surely brings no entry: a copy that can be taken and isn't printed, and a lock
-    /// in which no copy stands open. Answers what is over then.
+    /// Passes over what is over where it surely brings no entry: a copy that can be taken and isn't
+    /// printed, and a lock in which no copy stands open. Answers what is over then.
     #[inline(always)]
     fn pass_over(&mut self, over: Over) -> Over
-        ensures { (start : Start) (h : List Bool) (s : List Setting) (now : Setting) (log : List TaggedCopy) →
-            AwaitsOver M.content start self.old h s now log over
-            → AwaitsOver M.content start self.new h s now log result }
+        ensures { PassesOver M.content self.old self.new over result }
     {
         if over == Over::Nothing {
             return over;
@@ -242,9 +252,7 @@ impl<M: Recall> Receiver<M> {
     // Not inlined, since it is rarely called.
     #[inline(never)]
     fn judge_over(&mut self, over: Over) -> Over
-        ensures { (start : Start) (h : List Bool) (s : List Setting) (now : Setting) (log : List TaggedCopy) →
-            AwaitsOver M.content start self.old h s now log over
-            → AwaitsOver M.content start self.new h s now log result }
+        ensures { PassesOver M.content self.old self.new over result }
     {
         match over {
             Over::Copy => self.judge_copy(),
@@ -255,9 +263,7 @@ impl<M: Recall> Receiver<M> {
 
     /// What is left where a copy is over, which can be taken: nothing where it isn't printed.
     fn judge_copy(&self) -> Over
-        ensures { (start : Start) (h : List Bool) (s : List Setting) (now : Setting) (log : List TaggedCopy) →
-            AwaitsOver M.content start self.now h s now log Copy
-            → AwaitsOver M.content start self.now h s now log result }
+        ensures { PassesOver M.content self.now self.now Copy result }
     {
         let Some(identity) = self.watch.identity() else {
             return Over::Copy;
@@ -270,9 +276,7 @@ impl<M: Recall> Receiver<M> {
 
     /// What is left where a lock is over: nothing where no copy stands open in it.
     fn judge_lock(&mut self) -> Over
-        ensures { (start : Start) (h : List Bool) (s : List Setting) (now : Setting) (log : List TaggedCopy) →
-            AwaitsOver M.content start self.old h s now log Lock
-            → AwaitsOver M.content start self.new h s now log result }
+        ensures { PassesOver M.content self.old self.new Lock result }
     {
         if self.watch.identity().is_some() {
             return Over::Lock;
@@ -321,10 +325,13 @@ impl<M: Recall> Receiver<M> {
 /// The entry of a copy that was handed out, where one was and it is printed.
 fn print_copy<M: Recall>(found: Option<Found>, tag: CopyTag, memory: &mut M) -> Option<Entry>
     requires { newest_moment (M.content memory.old) ≤ tag.moment }
-    ensures printed { (entries : List MemoryEntry) → M.content memory.old ≡ last_of most_entries entries
+    ensures printed { (entries : List MemoryEntry)
+        → M.content memory.old ≡ last_of most_entries entries
         → entry_list result ≡ printed_copies entries (handed_out found tag) }
-    ensures entered { (entries : List MemoryEntry) → M.content memory.old ≡ last_of most_entries entries
-        → M.content memory.new ≡ last_of most_entries (entries_after entries (handed_out found tag)) }
+    ensures entered { (entries : List MemoryEntry)
+        → M.content memory.old ≡ last_of most_entries entries
+        → M.content memory.new
+        ≡ last_of most_entries (entries_after entries (handed_out found tag)) }
     ensures not_before { newest_moment (M.content memory.new) ≤ tag.moment }
     ensures moment { IfSome result (λ entry. entry.moment ≡ tag.moment) }
     ensures none { IsNone found → IsNone result }

@@ -1,5 +1,6 @@
-//! What a receiver keeps but its memory: it turns elements into copies, each with the moment and the selection in force
-//! at its second digit. What runs for each element or each word has a small answer.
+//! What a receiver keeps but its memory: it turns elements into copies, each with the moment and
+//! the selection in force at its second digit. What runs for each element or each word has a small
+//! answer.
 
 ghost use Rattle.std.specs.Prelude.{◌≡◌, ◌<◌, ◌≤◌, List, Bool, [], ◌∷◌, ◌++◌, ◌↔◌, length, not, take, None, IfOk, IfErr, IsErr, IsTrue, OnErr, OnOk};
 ghost use Rattle.nx_sync.specs.Synchroniser.{is_between_words, is_hunting};
@@ -8,7 +9,7 @@ ghost use Rattle.nx_memory.specs.Vital.{is_vital};
 ghost use Rattle.nx_receiver.specs.Events as Command;
 ghost use Rattle.nx_receiver.specs.Events.{Setting, Start, first_setting, refused_after};
 ghost use Rattle.nx_receiver.specs.Tagged.{TaggedCopy};
-ghost use Rattle.nx_receiver.specs.Watch.{BothAreOver, CopyIsOver, HasEndedAll, Hears, LockIsOver, ReadsStep, ReadsWord, TagGoesOn, WatchStands, handed_out, in_force};
+ghost use Rattle.nx_receiver.specs.Watch.{BothAreOver, CopyIsOver, HasEndedAll, HearsAll, LockIsOver, ReadsStep, ReadsWord, TagGoesOn, WatchStands, handed_out, in_force};
 ghost use Rattle.nx_receiver.specs.declared.over.Over.TheVariants.{Nothing};
 
 use crate::lock_reader::LockReader;
@@ -22,8 +23,8 @@ use std::marker::Model;
 
 /// A watch over the elements that arrive.
 ///
-/// It holds what the synchroniser and the reader of a lock hold, what is refused, the moment, and what was in force at
-/// the header that was heard last; no element and no text but the open one.
+/// It holds what the synchroniser and the reader of a lock hold, what is refused, the moment, and
+/// what was in force at the header that was heard last; no element and no text but the open one.
 #[derive(Drop)]
 pub(crate) struct Watch {
     synchroniser: Synchroniser,
@@ -42,14 +43,28 @@ impl Model for Watch {
 
     ghost coded = { Prim.hlevel (codes, refused_code) };
 
-    ghost view = { λ w. record { synchroniser = w.synchroniser; reader = w.reader; refused = w.selection; moment = w.moment; tag = w.tag } };
+    ghost view = { λ w. record {
+      synchroniser = w.synchroniser;
+      reader = w.reader;
+      refused = w.selection;
+      moment = w.moment;
+      tag = w.tag;
+    } };
 
-    // What contracts see gives every field back, so that nothing else can be kept: no element, no history.
-    ghost inverse = { λ v. record { synchroniser = v.synchroniser; reader = v.reader; selection = v.refused; moment = v.moment; tag = v.tag } };
+    // What contracts see gives every field back, so that nothing else can be kept: no element, no
+    // history.
+    ghost inverse = { λ v. record {
+      synchroniser = v.synchroniser;
+      reader = v.reader;
+      selection = v.refused;
+      moment = v.moment;
+      tag = v.tag;
+    } };
 }
 
 impl Watch {
-    /// A watch that has heard nothing, from this moment on. Fails where there is no memory for the synchroniser.
+    /// A watch that has heard nothing, from this moment on. Fails where there is no memory for the
+    /// synchroniser.
     pub(crate) fn new(alloc: Global, moment: u64) -> Result<Watch, AllocError>
         ensures stands { IfOk result (λ w. (first : Setting) → WatchStands first w [] [] []) }
         ensures force { (start : Start) → start.moment ≡ moment
@@ -91,13 +106,11 @@ impl Watch {
         self.moment = moment;
     }
 
-    /// Hears elements up to and with the first one with which anything is over, all of them where nothing is; says how
-    /// many, and what is over.
+    /// Hears elements up to and with the first one with which anything is over, all of them where
+    /// nothing is; says how many, and what is over.
     pub(crate) fn hear(&mut self, bits: &[bool]) -> (usize, Over)
         ensures within { result.0 ≤ length bits.now }
-        ensures hears { (first : Setting) (h : List Bool) (s : List Setting) (copies : List TaggedCopy) →
-            WatchStands first self.old h s copies
-            → Hears first self.old self.new h s copies (take result.0 bits.now) result.1 }
+        ensures hears { HearsAll self.old self.new (take result.0 bits.now) result.1 }
         ensures all { result.1 ≡ Nothing → result.0 ≡ length bits.now }
         ensures some { 0 < length bits.now → 0 < result.0 }
         ensures force { in_force self.new ≡ in_force self.old }
@@ -119,9 +132,7 @@ impl Watch {
         requires { 0 < length bits.now }
         ensures within { result.0 ≤ length bits.now }
         ensures some { 0 < result.0 }
-        ensures hears { (first : Setting) (h : List Bool) (s : List Setting) (copies : List TaggedCopy) →
-            WatchStands first self.old h s copies
-            → Hears first self.old self.new h s copies (take result.0 bits.now) result.1 }
+        ensures hears { HearsAll self.old self.new (take result.0 bits.now) result.1 }
         ensures force { in_force self.new ≡ in_force self.old }
         ensures tag { TagGoesOn self.old self.new }
     {
@@ -140,9 +151,7 @@ impl Watch {
         requires some { 0 < length bits.now }
         ensures within { result.0 ≤ length bits.now }
         ensures some { 0 < result.0 }
-        ensures hears { (first : Setting) (h : List Bool) (s : List Setting) (copies : List TaggedCopy) →
-            WatchStands first self.old h s copies
-            → Hears first self.old self.new h s copies (take result.0 bits.now) result.1 }
+        ensures hears { HearsAll self.old self.new (take result.0 bits.now) result.1 }
         ensures force { in_force self.new ≡ in_force self.old }
         ensures tag { TagGoesOn self.old self.new }
     {
@@ -159,9 +168,7 @@ impl Watch {
         requires some { 7 ≤ length bits.now }
         ensures within { result.0 ≤ length bits.now }
         ensures some { 0 < result.0 }
-        ensures hears { (first : Setting) (h : List Bool) (s : List Setting) (copies : List TaggedCopy) →
-            WatchStands first self.old h s copies
-            → Hears first self.old self.new h s copies (take result.0 bits.now) result.1 }
+        ensures hears { HearsAll self.old self.new (take result.0 bits.now) result.1 }
         ensures force { in_force self.new ≡ in_force self.old }
         ensures tag { TagGoesOn self.old self.new }
     {
@@ -196,9 +203,7 @@ impl Watch {
     #[inline(always)]
     fn hear_word(&mut self, bits: &[bool; ELEMENTS]) -> Over
         requires { IsTrue (is_between_words self.old.synchroniser) }
-        ensures hears { (first : Setting) (h : List Bool) (s : List Setting) (copies : List TaggedCopy) →
-            WatchStands first self.old h s copies
-            → Hears first self.old self.new h s copies bits.now result }
+        ensures hears { HearsAll self.old self.new bits.now result }
         ensures force { in_force self.new ≡ in_force self.old }
         ensures tag { TagGoesOn self.old self.new }
     {
@@ -209,9 +214,7 @@ impl Watch {
     /// Hears one element.
     #[inline(always)]
     fn hear_element(&mut self, bit: bool) -> Over
-        ensures hears { (first : Setting) (h : List Bool) (s : List Setting) (copies : List TaggedCopy) →
-            WatchStands first self.old h s copies
-            → Hears first self.old self.new h s copies (bit ∷ []) result }
+        ensures hears { HearsAll self.old self.new (bit ∷ []) result }
         ensures force { in_force self.new ≡ in_force self.old }
         ensures tag { TagGoesOn self.old self.new }
     {
@@ -253,11 +256,11 @@ impl Watch {
 
     /// The copy that is over, which can be taken.
     pub(crate) fn take_copy(&mut self) -> Option<Found>
-        ensures copy { (first : Setting) (h : List Bool) (s : List Setting) (copies : List TaggedCopy) →
-            CopyIsOver first self.old h s copies
+        ensures copy { (first : Setting) (h : List Bool) (s : List Setting)
+            (copies : List TaggedCopy) → CopyIsOver first self.old h s copies
             → WatchStands first self.new h s (copies ++ handed_out result self.new.tag) }
-        ensures both { (first : Setting) (h : List Bool) (s : List Setting) (copies : List TaggedCopy) →
-            BothAreOver first self.old h s copies
+        ensures both { (first : Setting) (h : List Bool) (s : List Setting)
+            (copies : List TaggedCopy) → BothAreOver first self.old h s copies
             → LockIsOver first self.new h s (copies ++ handed_out result self.new.tag) }
         ensures force { in_force self.new ≡ in_force self.old }
         ensures tag { self.new.tag ≡ self.old.tag }
@@ -267,11 +270,11 @@ impl Watch {
 
     /// Ends the text of the lock, and answers the copy that stands open, which is over then.
     pub(crate) fn end_text(&mut self) -> Option<Found>
-        ensures lock { (first : Setting) (h : List Bool) (s : List Setting) (copies : List TaggedCopy) →
-            LockIsOver first self.old h s copies
+        ensures lock { (first : Setting) (h : List Bool) (s : List Setting)
+            (copies : List TaggedCopy) → LockIsOver first self.old h s copies
             → WatchStands first self.new h s (copies ++ handed_out result self.new.tag) }
-        ensures all { (first : Setting) (h : List Bool) (s : List Setting) (copies : List TaggedCopy) →
-            WatchStands first self.old h s copies
+        ensures all { (first : Setting) (h : List Bool) (s : List Setting)
+            (copies : List TaggedCopy) → WatchStands first self.old h s copies
             → HasEndedAll first h s (copies ++ handed_out result self.new.tag) }
         ensures force { in_force self.new ≡ in_force self.old }
         ensures tag { self.new.tag ≡ self.old.tag }
@@ -289,7 +292,8 @@ impl Watch {
 
     /// Ends the text of a lock that is over, where no copy stands open: it hands out none.
     pub(crate) fn restart(&mut self)
-        ensures lock { (first : Setting) (h : List Bool) (s : List Setting) (copies : List TaggedCopy) →
+        ensures lock { (first : Setting) (h : List Bool) (s : List Setting)
+            (copies : List TaggedCopy) →
             LockIsOver first self.old h s copies → held_identity self.old.reader.finder.copy ≡ None
             → WatchStands first self.new h s copies }
         ensures force { in_force self.new ≡ in_force self.old }

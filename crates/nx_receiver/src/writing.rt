@@ -1,6 +1,6 @@
 //! The text of an entry.
 
-ghost use Rattle.std.specs.Prelude.{◌≡◌, ◌+◌, ◌≤◌, ◌↔◌, ℕ, List, [], ◌∷◌, ◌++◌, length, IsErr, OnOk, MatchResult};
+ghost use Rattle.std.specs.Prelude.{◌≡◌, ◌+◌, ◌≤◌, ◌↔◌, ℕ, List, ◌++◌, length, IsErr, OnOk, MatchResult};
 ghost use Rattle.std.specs.Io.KnownBytes.{Appends};
 ghost use Rattle.arrayvec.specs.ArrayVec.{array_vec_len};
 ghost use Rattle.nx_envelope.specs.Moment.{IsShownAs, last_moment};
@@ -16,14 +16,15 @@ use nx_envelope::{CIVIL_LEN, How, MAX_FOUND, NEWLINE, civil};
 use nx_fec::{Counting, WriteFault, write_out};
 use std::io::Write;
 
-/// The most bytes of the line that heads an entry: a number of at most 5 digits, one of at most 20, and the rest.
+/// The most bytes of the line that heads an entry: a number of at most 5 digits, one of at most 20,
+/// and the rest.
 const MAX_HEAD: usize = CIVIL_LEN + 40;
 
 /// The most bytes of an entry: its head, its text and two newlines.
 pub const MAX_ENTRY: usize = MAX_HEAD + MAX_FOUND + 2;
 
-/// Writes an entry as it stands in the log: its head, its text, and newlines. The moment is at most the last one, as
-/// that of every copy is. Takes no memory.
+/// Writes an entry as it stands in the log: its head, its text, and newlines. The moment is at most
+/// the last one, as that of every copy is. Takes no memory.
 ///
 /// Where a write fails, the first `written` bytes of the entry were written.
 pub fn entry_text<W: Write>(entry: &Entry, writer: &mut Counting<W>) -> Result<(), WriteFault>
@@ -31,7 +32,8 @@ pub fn entry_text<W: Write>(entry: &Entry, writer: &mut Counting<W>) -> Result<(
     requires moment { entry.now.moment ≤ last_moment }
     ensures written { (bytes : List ℕ) × IsEntry (copy_of entry.now) bytes × MatchResult result
         (λ _. Appends (W.contents writer.old.inner) (W.contents writer.new.inner) bytes)
-        (λ fault. WroteSome (W.contents writer.old.inner) (W.contents writer.new.inner) bytes fault.written) }
+        (λ fault. WroteSome (W.contents writer.old.inner) (W.contents writer.new.inner) bytes
+        fault.written) }
     ensures failed { IsErr result ↔ (writer.new.failures ≡ 1) }
     ensures once { writer.new.failures ≤ 1 }
     ensures none { OnOk result (writer.new.failures ≡ 0) }

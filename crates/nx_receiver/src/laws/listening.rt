@@ -1,4 +1,5 @@
-//! Laws of the log of an air file, over the definitions. Each function does nothing; its contract is the law.
+//! Laws of the log of an air file, over the definitions. Each function does nothing; its contract
+//! is the law.
 
 ghost use Rattle.std.specs.Prelude.{◌≡◌, ℕ, List, Option};
 ghost use Rattle.nx_envelope.specs.MessageView.{MessageView};
@@ -13,36 +14,42 @@ ghost use Rattle.nx_receiver.specs.Tagged.{TaggedCopy};
 ghost use Rattle.nx_receiver.specs.Worked.{worked_log};
 ghost use Rattle.nx_receiver.specs.declared.listen_fault.ListenFault.{ListenFault};
 
-/// An air file has one log: there is one, wherever each line is taken after those before it, and no other. And so have
-/// lines after which nothing is closed.
+/// An air file has one log: there is one, wherever each line is taken after those before it, and no
+/// other. And so have lines after which nothing is closed.
 pub fn an_air_file_has_one_log()
-    ensures some { (bytes : List ℕ) (lines : List Line) → IsAirFile air_limit bytes lines → AreTaken lines
+    ensures some { (bytes : List ℕ) (lines : List Line) → IsAirFile air_limit bytes lines
+        → AreTaken lines
         → (log : List ℕ) × IsLogOf bytes log }
-    ensures one { (bytes log other : List ℕ) → IsLogOf bytes log → IsLogOf bytes other → log ≡ other }
-    ensures some_open { (lines : List Line) → AreTaken lines → (log : List ℕ) × IsLogOfLines lines log }
-    ensures one_open { (lines : List Line) (log other : List ℕ) → IsLogOfLines lines log → IsLogOfLines lines other
+    ensures one { (bytes log other : List ℕ) → IsLogOf bytes log → IsLogOf bytes other
+        → log ≡ other }
+    ensures some_open { (lines : List Line) → AreTaken lines
+        → (log : List ℕ) × IsLogOfLines lines log }
+    ensures one_open { (lines : List Line) (log other : List ℕ) → IsLogOfLines lines log
+        → IsLogOfLines lines other
         → log ≡ other }
 {}
 
-/// An air file has one outcome: its first fault, by its bytes alone, is one, whatever was written; and a file that has
-/// a log has none.
+/// An air file has one outcome: its first fault, by its bytes alone, is one, whatever was written;
+/// and a file that has a log has none.
 pub fn an_air_file_has_one_outcome()
     ensures fault { (bytes : List ℕ) (why other : ListenFault) → HasFirstFault AreTaken bytes why
         → HasFirstFault AreTaken bytes other → why ≡ other }
-    ensures log { (bytes log : List ℕ) (why : ListenFault) → IsLogOf bytes log → HasFirstFault AreTaken bytes why → ⊥ }
+    ensures log { (bytes log : List ℕ) (why : ListenFault) → IsLogOf bytes log
+        → HasFirstFault AreTaken bytes why → ⊥ }
     ensures written { (old new : Option (List ℕ)) (bytes : List ℕ) (why : ListenFault)
         → HasFirstFault (HasLogged old new) bytes why → HasFirstFault AreTaken bytes why }
 {}
 
-/// A message that is heard in time in an air file has exactly one entry in the log of the file. The entry is full, has 0
-/// errors, and its text is the message's, letter for letter.
+/// A message that is heard in time in an air file has exactly one entry in the log of the file. The
+/// entry is full, has 0 errors, and its text is the message's, letter for letter.
 pub fn a_message_heard_in_time_has_one_entry()
-    ensures { (file log : List ℕ) (lines : List Line) (copies : List TaggedCopy) (message : MessageView)
-        → IsLogOfFile file lines copies log → IsHeardInTimeIn file message → IsPrintedOnce message copies }
+    ensures { (file log : List ℕ) (lines : List Line) (copies : List TaggedCopy)
+        (message : MessageView) → IsLogOfFile file lines copies log → IsHeardInTimeIn file message
+        → IsPrintedOnce message copies }
 {}
 
-/// There is an air file with such a message: EA01 with the line TEST, each of whose DX words is damaged. Its log is that
-/// one entry, in 42 bytes.
+/// There is an air file with such a message: EA01 with the line TEST, each of whose DX words is
+/// damaged. Its log is that one entry, in 42 bytes.
 pub fn there_is_an_air_file_with_a_message_heard_in_time()
     ensures heard { IsHeardInTimeIn example_air_file example_message }
     ensures log { IsLogOf example_air_file worked_log }

@@ -30,8 +30,8 @@ pub fn a_received_emission_keeps_its_lock()
 {}
 
 /// Under the channel each sending gives exactly one copy that begins with its header, whatever bits
-/// come before it and behind it: it has ended, is full, has 0 errors, and its text is the message's,
-/// letter for letter.
+/// come before it and behind it: it has ended, is full, has 0 errors, and its text is the
+/// message's, letter for letter.
 pub fn each_sending_gives_one_copy()
     ensures found { (bits : List Bool) (parts : List Part) (sending : Sending) (locks : List Lock)
         (now : Now) → IsCut bits parts → IsSending parts sending → IsNow bits locks now
@@ -53,8 +53,8 @@ pub fn a_message_is_printed_once()
         → IsHeardInTime start events parts message → IsPrintedOnce message log }
 {}
 
-/// What has to be met, so that a message is printed once, can be met: by EA01 with the line TEST, in
-/// the bits of its emission alone, of whose message each DX word is damaged.
+/// What has to be met, so that a message is printed once, can be met: by EA01 with the line TEST,
+/// in the bits of its emission alone, of whose message each DX word is damaged.
 pub fn there_is_a_message_heard_in_time()
     ensures { IsHeardInTime at_its_slot (heard_elements damaged_words)
         (example_parts (bits_of (take 96 damaged_words)) []) example_message }

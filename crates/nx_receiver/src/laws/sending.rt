@@ -1,4 +1,5 @@
-//! Laws that tie what a station sends to what a receiver prints. Each function does nothing; its contract is the law.
+//! Laws that tie what a station sends to what a receiver prints. Each function does nothing; its
+//! contract is the law.
 
 ghost use Rattle.std.specs.Prelude.{◌≡◌, ℕ, ◌<◌, List, [], map};
 ghost use Rattle.nx_envelope.specs.MessageView.{MessageView};
@@ -14,21 +15,23 @@ ghost use Rattle.nx_receiver.specs.Printing.{printed_copies};
 ghost use Rattle.nx_receiver.specs.Sent.{AreDifferent, BearsAlone, copy_as_sent, events_as_sent, parts_as_sent};
 ghost use Rattle.nx_receiver.specs.Tagged.{TaggedCopy};
 
-/// An emission that is heard as it is sent: each of its messages that isn't numbered 00, and that alone bears its
-/// identity, is heard in time, at whatever moment.
+/// An emission that is heard as it is sent: each of its messages that isn't numbered 00, and that
+/// alone bears its identity, is heard in time, at whatever moment.
 pub fn an_emission_as_sent_is_heard_in_time()
-    ensures { (messages : List MessageView) (spellings : List (List ℕ)) (slot : ℕ) (message : MessageView)
-        → IsSendable messages → AreSpelled messages spellings
+    ensures { (messages : List MessageView) (spellings : List (List ℕ)) (slot : ℕ)
+        (message : MessageView) → IsSendable messages → AreSpelled messages spellings
         → BearsAlone messages message → 0 < message.identity.number
-        → IsHeardInTime at_zero (events_as_sent slot spellings) (parts_as_sent messages spellings) message }
+        → IsHeardInTime at_zero (events_as_sent slot spellings)
+        (parts_as_sent messages spellings) message }
 {}
 
-/// What is printed of what was sent: an air file that `send` wrote of a message file is listened to without a
-/// fault, for it has a log. That log has the entries of what the rules of printing make of its messages: one full copy
-/// of each, in order, at the moment of the slot. Where no two messages bear one identity, it has all of these, and
-/// nothing else.
+/// What is printed of what was sent: an air file that `send` wrote of a message file is listened to
+/// without a fault, for it has a log. That log has the entries of what the rules of printing make
+/// of its messages: one full copy of each, in order, at the moment of the slot. Where no two
+/// messages bear one identity, it has all of these, and nothing else.
 pub fn what_was_sent_is_printed()
-    ensures log { (station from : ℕ) (file air : List ℕ) (sent : Sent) → IsTransmission station from file air sent
+    ensures log { (station from : ℕ) (file air : List ℕ) (sent : Sent)
+        → IsTransmission station from file air sent
         → (log : List ℕ) × IsLogOf air log }
     ensures printed { (station from : ℕ) (file air log : List ℕ) (sent : Sent) (lines : List Line)
         (copies : List TaggedCopy) → (t : IsTransmission station from file air sent)
@@ -40,16 +43,18 @@ pub fn what_was_sent_is_printed()
         → copies ≡ map (copy_as_sent sent.slot) t.messages }
 {}
 
-/// What was sent is printed once: each message of an air file that `send` wrote, if it isn't numbered 00 and alone
-/// bears its identity, is heard in time in that file, so what `listen` promises of such a message holds of it. And the
-/// log of the file has one entry of it, and no more: full, with 0 errors and its text, letter for letter.
+/// What was sent is printed once: each message of an air file that `send` wrote, if it isn't
+/// numbered 00 and alone bears its identity, is heard in time in that file, so what `listen`
+/// promises of such a message holds of it. And the log of the file has one entry of it, and no
+/// more: full, with 0 errors and its text, letter for letter.
 pub fn what_was_sent_is_printed_once()
     ensures heard { (station from : ℕ) (file air : List ℕ) (sent : Sent) (message : MessageView)
         → (t : IsTransmission station from file air sent)
         → BearsAlone t.messages message → 0 < message.identity.number
         → IsHeardInTimeIn air message }
     ensures once { (station from : ℕ) (file air log : List ℕ) (sent : Sent) (message : MessageView)
-        (lines : List Line) (copies : List TaggedCopy) → (t : IsTransmission station from file air sent)
+        (lines : List Line) (copies : List TaggedCopy)
+        → (t : IsTransmission station from file air sent)
         → BearsAlone t.messages message → 0 < message.identity.number
         → IsLogOfFile air lines copies log → IsPrintedOnce message copies }
 {}

@@ -1,4 +1,5 @@
-//! Emissions of messages for the tests, by the layout of an emission and the worked examples' own damage.
+//! Emissions of messages for the tests, by the layout of an emission and the worked examples' own
+//! damage.
 
 use nx_code::{Comb, Shift, spell};
 use nx_fec::{Position, to_bits};

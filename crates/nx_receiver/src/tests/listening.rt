@@ -174,7 +174,8 @@ fn failing_devices(rt: HostRuntime) -> Result<(), Fail> {
     let (outcome, log) = heard(rt.alloc(), cut)?;
     assert_eq!(rt; outcome, Err(ListenFault::Read));
     assert!(rt; log.is_empty());
-    // An entry whose lines came is written before the read that fails, and an open copy isn't closed.
+    // An entry whose lines came is written before the read that fails, and an open copy isn't
+    // closed.
     let failing = Slow {
         rest: &file,
         fails: true,

@@ -101,7 +101,8 @@ fn log_of<M: Recall>(
     Ok(log)
 }
 
-/// Whether this is the log of all that a receiver is given, with either memory, in pieces of this length.
+/// Whether this is the log of all that a receiver is given, with either memory, in pieces of this
+/// length.
 fn is_log_in_pieces(alloc: Global, given: &[Given], log: &[u8], length: usize) -> Result<bool, Fail>
     requires { 0 < length }
 {
@@ -110,7 +111,8 @@ fn is_log_in_pieces(alloc: Global, given: &[Given], log: &[u8], length: usize) -
     Ok(plain.as_slice() == log && ring.as_slice() == log)
 }
 
-/// Whether this is the log of all that a receiver is given, with either memory, in one piece and bit by bit.
+/// Whether this is the log of all that a receiver is given, with either memory, in one piece and
+/// bit by bit.
 fn is_log(alloc: Global, given: &[Given], log: &[u8]) -> Result<bool, Fail> {
     Ok(is_log_in_pieces(alloc, given, log, usize::MAX)? && is_log_in_pieces(alloc, given, log, 1)?)
 }

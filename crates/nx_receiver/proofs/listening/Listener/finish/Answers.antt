@@ -1,11 +1,10 @@
-use Rattle.std.proofs.Common.{◌++◌, [], None, Some, ap, refl, sym, subst, append-nil, arith}
+use Rattle.std.proofs.Common.{◌++◌, [], None, Some, refl, sym, subst, append-nil, arith}
 use Rattle.nx_fec.specs.LineRuns.{HasGiven}
 use Rattle.nx_receiver.specs.Listen.{at_zero}
 use Rattle.nx_receiver.specs.Listener.{HasFinished}
-use Rattle.nx_receiver.specs.Log.{IsEntry, IsLog}
+use Rattle.nx_receiver.specs.Log.{IsEntry}
 use Rattle.nx_receiver.specs.Receiver.{Stands, entry_list}
 use Rattle.nx_receiver.specs.Tagged.{copy_of}
-use Rattle.nx_receiver.specs.declared.listening.Listener.{Listener}
 use Rattle.nx_receiver.proofs.ListenerLemmas.{content, no-log, none-left, one-log}
 use Rattle.nx_receiver.proofs.listening.Listener.finish.Goals as goal
 

@@ -1,4 +1,4 @@
-use Rattle.std.proofs.Common.{ap, ◌≡◌, ◌∙◌, sym, subst, take, length, length-take, min, rules, arith}
+use Rattle.std.proofs.Common.{sym, subst, take}
 use Rattle.nx_receiver.specs.Receiver.{Receiving, Stands}
 use Rattle.nx_receiver.proofs.ReceiverFeeds.{Passed, awaits_on, printed_before, prints_none_of}
 use Rattle.nx_receiver.proofs.receiver.Receiver.hear_part.Goals as goal

@@ -1,4 +1,4 @@
-use Rattle.std.proofs.Common.{sym, subst, ap, ◌≡◌, ◌∙◌, None}
+use Rattle.std.proofs.Common.{sym, subst, ◌≡◌, ◌∙◌, None}
 use Rattle.nx_envelope.specs.Finder.{held_identity}
 use Rattle.nx_receiver.specs.Events.{first_setting}
 use Rattle.nx_receiver.specs.Receiver.{AwaitsOver}

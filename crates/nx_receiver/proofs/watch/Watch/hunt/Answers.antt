@@ -1,23 +1,23 @@
 use Rattle.std.proofs.Common.{◌+◌, ◌<◌, [], ◌∷◌, false, get_or, take, length, arith, subst}
-use Rattle.nx_receiver.specs.Watch.{Hears, WatchStands, Watching}
+use Rattle.nx_receiver.specs.Watch.{HearsAll, Watching}
 use Rattle.nx_receiver.specs.declared.over.Over.TheVariants.{Nothing}
-use Rattle.nx_receiver.proofs.WatchHears.{hunt_heard}
 use Rattle.nx_receiver.proofs.WatchLoops.{goes_to, hunt_goes, one_is}
 use Rattle.nx_receiver.proofs.watch.Watch.hunt.Goals as goal
 
 pub returns-then-count-bits-clause-hears : goal.returns-then-count-bits-clause-hears
-returns-then-count-bits-clause-hears c first h s copies =
+returns-then-count-bits-clause-hears c =
     let hunt = c.hunt-count.ensures in
     let bits = c.args.bits.now in
+    let n = c.hunt-count.result in
     let new : Watching = record { synchroniser = c.hunt-count.new.self; reader = c.self.inside.reader; refused = c.self.inside.selection; moment = c.self.inside.moment; tag = c.self.inside.tag } in
-    subst (λ w. WatchStands first w h s copies → Hears first w new h s copies (take c.hunt-count.result bits) Nothing) c.self.view_is
-    (λ v. hunt_heard first _ c.hunt-count.new.self bits c.hunt-count.result h s copies (hunt.stands h v.synchroniser) (hunt.pushes h v.synchroniser) v)
+    subst (λ w. HearsAll w new (take n bits) Nothing) c.self.view_is
+    (hunt_goes _ c.hunt-count.new.self bits n hunt.within hunt.stands hunt.pushes).heard
 
 pub returns-clause-hears : goal.returns-clause-hears
-returns-clause-hears c first h s copies =
+returns-clause-hears c =
     let hunt = c.hunt-count.ensures in
     let bits = c.args.bits.now in
     let n = c.hunt-count.result in
     let short : n < length bits = omega arith in
-    subst (λ w. WatchStands first w h s copies → Hears first w c.hear_element.new.self h s copies (take (n + 1) bits) c.hear_element.result) c.self.view_is
-    (λ v. (goes_to _ _ c.hear_element.new.self bits (get_or bits n false ∷ []) n 1 c.hear_element.result (hunt_goes _ c.hunt-count.new.self bits n hunt.within hunt.stands hunt.pushes) (one_is bits n short) (record { hears = c.hear_element.ensures.hears })).hears first h s copies v)
+    subst (λ w. HearsAll w c.hear_element.new.self (take (n + 1) bits) c.hear_element.result) c.self.view_is
+    (goes_to _ _ c.hear_element.new.self bits (get_or bits n false ∷ []) n 1 c.hear_element.result (hunt_goes _ c.hunt-count.new.self bits n hunt.within hunt.stands hunt.pushes) (one_is bits n short) c.hear_element.ensures.hears)
