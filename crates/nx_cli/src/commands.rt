@@ -74,6 +74,7 @@ One character is printed as it stands. CR, LF, LTRS, FIGS, SPACE, BLANK, P1, BET
 of signals, of which LF prints a newline and SPACE a space; none means that nothing is printed.
 
 Example, the first and the fourth line:
+  $ navtex code | sed -n '1p;4p'
   47 BBBYYYB A -
   53 BBYYBYB D none";
 
@@ -95,11 +96,10 @@ slot is even and RX where it is odd; its number in hexadecimal, with the element
 in the least place; and its name, which is what code prints as its letter, or wrong where the
 number of its elements B is not four.
 
-Example:
-  $ printf A | navtex encode | navtex show
+Example, of which the first two lines and the ninth are shown:
+  $ printf A | navtex encode | navtex show | sed -n '1,2p;9p'
   0 DX 66 P2
   1 RX 0F P1
-  ...
   8 DX 47 A";
 
 fn show_command<'a>(alloc: Global) -> Command<'a>
@@ -272,9 +272,9 @@ fn damage_command<'a>(alloc: Global) -> Result<Command<'a>, AllocError>
         .arg(count)
 }
 
-const STATUS_HELP: &str = "A command reads standard input and writes standard output; code and \
-slots read nothing. A fault is one line on standard error; where words are not understood, it may \
-be a text of several lines. --help after a command says what it reads and writes.
+const STATUS_HELP: &str = "A command reads standard input and writes standard output; code and slots
+read nothing. --help after a command says what it reads and writes. A fault is one line on standard
+error; where words are not understood, it may be a text of several lines.
 
 Example:
   $ printf A | navtex encode | navtex decode
