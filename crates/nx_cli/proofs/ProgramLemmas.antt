@@ -17,7 +17,7 @@ use Rattle.nx_station.specs.declared.fault.SendRunFault.TheVariants as send
 use Rattle.nx_cli.specs.declared.words.Call.{Call}
 use Rattle.nx_fec.specs.declared.fault.RunFault.{RunFault}
 use Rattle.nx_fec.specs.declared.fault.RunFault.TheVariants as run
-use Rattle.nx_cli.specs.Program.{Ends, Exits, Performs, Succeeds, Tells, fresh}
+use Rattle.nx_cli.specs.Program.{Ends, Exits, Performs, Succeeds, Tells, fresh_device}
 use Rattle.nx_cli.specs.Status.{IsStatus, call_status, check_status, damage_status, listen_status, fault_status, run_status, send_status, status_of}
 use Rattle.nx_fec.specs.Transfers.{Devices, devices}
 use Rattle.nx_fec.specs.Devices.{CountedDevice}
@@ -25,7 +25,7 @@ use Rattle.nx_cli.specs.Words.{IsRefused, Names}
 use Rattle.nx_cli.proofs.WordsLemmas.{help_not_refused, named_not_help, named_not_refused, named_once}
 
 -- what was wrapped, with no failed call
-fresh-is : {T : Type 0} (c : CountedDevice T) (device : T) → c.inner ≡ device → c.failures ≡ 0 → c ≡ fresh device
+fresh-is : {T : Type 0} (c : CountedDevice T) (device : T) → c.inner ≡ device → c.failures ≡ 0 → c ≡ fresh_device device
 fresh-is {T} c device inner none =
     let make : T → ℕ → CountedDevice T = λ i n. record { inner = i; failures = n } in ap₂ make inner none
 
@@ -35,7 +35,7 @@ pub exits-fresh : {R W : Type 0} (words : List Text) (remaining : R → Option (
     (status : ℕ)
     → reader.inner ≡ input → reader.failures ≡ 0 → writer.inner ≡ output → writer.failures ≡ 0
     → Exits words (devices remaining contents reader reader_after writer writer_after) status
-    → Exits words (devices remaining contents (fresh input) reader_after (fresh output) writer_after) status
+    → Exits words (devices remaining contents (fresh_device input) reader_after (fresh_device output) writer_after) status
 exits-fresh {R} {W} words remaining contents input reader reader_after output writer writer_after status input_is unread output_is unwritten exits =
     let P : Devices R W → Type 0 = λ d. Exits words d status in
     let on : CountedDevice R → CountedDevice W

@@ -20,7 +20,7 @@ use Rattle.nx_cli.specs.declared.words.Call.{Call}
 use Rattle.nx_cli.specs.declared.words.WordsFault.{WordsFault}
 use Rattle.nx_cli.specs.declared.words.WordsFault.TheVariants.{Help, Refused, Station, Kind, Memory}
 use Rattle.nx_station.specs.declared.damaging.DamageKind.{DamageKind}
-use Rattle.nx_cli.specs.Words.{AsksForHelp, ExplainsWords, HasArguments, IsKind, IsNumber, IsRefused, IsStation, LacksKind, LacksStation, Names, Sorts, navtex, command_name}
+use Rattle.nx_cli.specs.Words.{AsksForHelp, ExplainsWords, HasArguments, IsKind, IsNumber, IsRefused, IsStation, LacksKind, LacksStation, Names, IsSortedAs, navtex, command_name}
 use Rattle.nx_cli.proofs.EachFound.{Each, found_is}
 use Rattle.nx_cli.proofs.CommandsTaken.{IsPlainWord, IsSlotWord, taken-command}
 use Rattle.nx_cli.proofs.NumbersGiven.{GivesNumber, number-given}
@@ -38,7 +38,7 @@ unfolding clap_on_literals
 navtex-is_simple_and_free = refl
 
 pub explained : (words : List Text) (error : Error) (fault : WordsFault) → HasKind (fault_of navtex words) error
-    → Sorts error fault → ExplainsWords words fault
+    → IsSortedAs error fault → ExplainsWords words fault
 explained words error (Help answer) kinds sorts = elim kinds [
   | inl memory ↦ absurd (let e : OutOfMemory ≡ DisplayHelp = sym memory ∙ sorts.1 in cc)
   | inr among ↦ let P : ErrorKind → Type 0 = λ k. IsAmong k (fault_of navtex words) in subst P sorts.1 among

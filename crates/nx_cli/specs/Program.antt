@@ -1,6 +1,7 @@
 -- How a run of the program ends: what it leaves on its devices, by the contracts of the calls, and
 -- the status with which it exits (this profile).
-use Rattle.std.specs.Prelude.{◌≡◌, ◌⊎◌, ◌∷◌, ◌++◌, ℕ, List, [], Option, Result, Ok, Err, IfSome, alloc_error, ⊤}
+use Rattle.std.specs.Prelude.{◌≡◌, ◌⊎◌, ◌∷◌, ◌++◌, ⊤, ℕ, List, [], Option, Result, Ok, Err, IfSome}
+use Rattle.std.specs.Prelude.{alloc_error}
 use Rattle.std.specs.Io.KnownBytes.{Appends}
 use Rattle.clap.specs.Words.{Text}
 use Rattle.nx_envelope.specs.Moment.{IsShownAs}
@@ -17,7 +18,8 @@ use Rattle.nx_fec.specs.declared.fault.RunFault.{RunFault}
 use Rattle.nx_fec.specs.declared.fault.RunFault.TheVariants as run
 use Rattle.nx_station.specs.Slots.{HasNoSlot, IsNextSlot}
 use Rattle.nx_cli.specs.declared.words.Call.{Call}
-use Rattle.nx_cli.specs.declared.words.Call.TheVariants.{Check, Code, Damage, Decode, Encode, Listen, Send, Show, Slots}
+use Rattle.nx_cli.specs.declared.words.Call.TheVariants.{Check, Code, Decode, Encode, Listen, Show}
+use Rattle.nx_cli.specs.declared.words.Call.TheVariants.{Damage, Send, Slots}
 use Rattle.nx_cli.specs.declared.fault.CallFault.{CallFault}
 use Rattle.nx_cli.specs.declared.fault.CallFault.TheVariants as call
 use Rattle.nx_cli.specs.declared.fault.Fault.{Fault}
@@ -26,8 +28,8 @@ use Rattle.nx_cli.specs.Status.{status_of}
 use Rattle.nx_cli.specs.Words.{AsksForHelp, IsRefusedByClap, LacksKind, LacksStation, Names}
 
 -- a device on which no call has failed
-abbrev pub fresh : {T : Type 0} → T → CountedDevice T
-fresh device = record { inner = device; failures = 0 }
+abbrev pub fresh_device : {T : Type 0} → T → CountedDevice T
+fresh_device device = record { inner = device; failures = 0 }
 
 -- nothing was read, and no read was tried
 abbrev pub IsUnread : {R W : Type 0} → Devices R W → Type 0
@@ -40,16 +42,17 @@ pub record IsUntouched {R W : Type 0} (d : Devices R W) : Type 0 where
 
 -- the outcome of a run as the program tells it: what a success answers is dropped, and a fault
 -- gets this name
-abbrev pub told_as : {N F : Type 0} → (F → CallFault) → Result N F → Result (Unit {0}) CallFault
-told_as name (Ok answer) = Ok tt
-told_as name (Err why) = Err (name why)
+abbrev pub program_outcome : {N F : Type 0} → (F → CallFault) → Result N F
+    → Result (Unit {0}) CallFault
+program_outcome name (Ok answer) = Ok tt
+program_outcome name (Err why) = Err (name why)
 
 -- the run had an outcome of its own, of which this holds, and the program tells it so
 pub record Tells {N F : Type 0} (name : F → CallFault) (answers : Result N F → Type 0)
     (outcome : Result (Unit {0}) CallFault) : Type 0 where
   pub own : Result N F
   pub answered : answers own
-  pub told : outcome ≡ told_as name own
+  pub told : outcome ≡ program_outcome name own
 
 -- A text of which this holds was written whole, or as far as the fault says; or memory ran out
 -- before it was written.
@@ -98,7 +101,8 @@ Performs (Send station moment) d outcome =
 Performs (Slots station moment) d outcome =
     IsUnread d × ShowsSlot station.byte moment d.contents d.writer d.writer_after outcome
 Performs (Damage kind from count) d outcome =
-    Tells (λ why. call.Damage why) (Damages (record { kind = kind; from = from; count = count }) d) outcome
+    Tells (λ why. call.Damage why)
+    (Damages (record { kind = kind; from = from; count = count }) d) outcome
 
 -- the words name a call, which had this outcome
 pub record RunsCall {R W : Type 0} (words : List Text) (d : Devices R W)

@@ -1,8 +1,9 @@
 -- What the words of the command line name, by clap's own reading of them (this profile).
-use Rattle.std.specs.Prelude.{◌≡◌, ◌≢◌, ◌⊎◌, ◌<◌, ◌∷◌, ◌^◌, ⊤, ℕ, List, [], Some, codes, false, true, fold}
+use Rattle.std.specs.Prelude.{◌≡◌, ◌≢◌, ◌⊎◌, ◌<◌, ◌∷◌, ◌^◌, ⊤, ℕ, List, [], Some, codes, fold}
+use Rattle.std.specs.Prelude.{false, true}
 use Rattle.std.specs.Str.Parse.{IsNumeral, digits_value, without_leading_plus}
-use Rattle.clap.specs.Words.{App, IsAmong, Row, Rule, Text, app_of, fault_of, first_of, kind_of, new_app, new_rule, one_of, subcommand_of}
-use Rattle.clap.specs.Words.{with_rule, with_subcommand}
+use Rattle.clap.specs.Words.{App, IsAmong, Row, Rule, Text, app_of, fault_of, first_of, kind_of}
+use Rattle.clap.specs.Words.{new_app, new_rule, one_of, subcommand_of, with_rule, with_subcommand}
 use Rattle.clap.specs.Simple.{on_top}
 use Rattle.clap.specs.declared.builder.command.Command.{Command}
 use Rattle.clap.specs.declared.builder.command.Command.TheViews.{out-Command}
@@ -12,7 +13,8 @@ use Rattle.clap.specs.declared.error.kind.ErrorKind.{ErrorKind}
 use Rattle.clap.specs.declared.error.kind.ErrorKind.TheVariants.{DisplayHelp, OutOfMemory}
 use Rattle.nx_envelope.specs.declared.letter.Letter.{Letter}
 use Rattle.nx_cli.specs.declared.words.Call.{Call}
-use Rattle.nx_cli.specs.declared.words.Call.TheVariants.{Check, Code, Damage, Decode, Encode, Listen, Send, Show, Slots}
+use Rattle.nx_cli.specs.declared.words.Call.TheVariants.{Check, Code, Decode, Encode, Listen, Show}
+use Rattle.nx_cli.specs.declared.words.Call.TheVariants.{Damage, Send, Slots}
 use Rattle.nx_cli.specs.declared.words.WordsFault.{WordsFault}
 use Rattle.nx_cli.specs.declared.words.WordsFault.TheVariants.{Help, Refused, Station, Kind, Memory}
 use Rattle.nx_station.specs.declared.damaging.DamageKind.{DamageKind}
@@ -37,8 +39,8 @@ kind_name Rx = codes "rx"
 kind_name All = codes "all"
 
 -- a command that takes no argument
-abbrev pub plain : Text → App
-plain word = new_app word
+abbrev pub plain_tree : Text → App
+plain_tree word = new_app word
 
 -- an argument of this name, which is any text and must be given
 abbrev pub text_rule : Text → Rule
@@ -50,34 +52,34 @@ number_rule name most =
     record (new_rule name) { required = true; parser = Some (parser.Unsigned 0 most) }
 
 -- a command that takes a station and a moment, which is at most the last moment
-abbrev pub of_slot : Text → App
-of_slot word =
-    let of_station = with_rule (new_app word) (text_rule (codes "STATION")) in
-    with_rule of_station (number_rule (codes "MOMENT") 32503679999)
+abbrev pub slot_tree : Text → App
+slot_tree word =
+    let with_station = with_rule (new_app word) (text_rule (codes "STATION")) in
+    with_rule with_station (number_rule (codes "MOMENT") 32503679999)
 
 -- a command that takes a kind of damage, the first word and a count of words, each of 32 bits
-abbrev pub of_words : Text → App
-of_words word =
-    let of_kind = with_rule (new_app word) (text_rule (codes "KIND")) in
-    let of_first = with_rule of_kind (number_rule (codes "FROM") 4294967295) in
-    with_rule of_first (number_rule (codes "COUNT") 4294967295)
+abbrev pub damage_tree : Text → App
+damage_tree word =
+    let with_kind = with_rule (new_app word) (text_rule (codes "KIND")) in
+    let with_first = with_rule with_kind (number_rule (codes "FROM") 4294967295) in
+    with_rule with_first (number_rule (codes "COUNT") 4294967295)
 
 -- the program without its commands: one of them must be given, and there is no command `help`
-abbrev pub bare : App
-bare =
+abbrev pub bare_tree : App
+bare_tree =
     on_top (λ s. record s { disable_help_subcommand = true; subcommand_required = true })
     (new_app (codes "navtex"))
 
 -- the commands of the program
 abbrev pub commands : List App
 commands =
-    plain (codes "decode") ∷ plain (codes "encode") ∷ plain (codes "code")
-    ∷ plain (codes "show") ∷ plain (codes "check") ∷ plain (codes "listen")
-    ∷ of_slot (codes "send") ∷ of_slot (codes "slots") ∷ of_words (codes "damage") ∷ []
+    plain_tree (codes "decode") ∷ plain_tree (codes "encode") ∷ plain_tree (codes "code")
+    ∷ plain_tree (codes "show") ∷ plain_tree (codes "check") ∷ plain_tree (codes "listen")
+    ∷ slot_tree (codes "send") ∷ slot_tree (codes "slots") ∷ damage_tree (codes "damage") ∷ []
 
 -- the command tree of the program
 abbrev pub navtex : App
-navtex = fold (λ (tree command : App). with_subcommand tree command.top) bare commands
+navtex = fold (λ (tree command : App). with_subcommand tree command.top) bare_tree commands
 
 -- the command is built as this tree says
 pub record IsBuiltAs (app : App) (command : Command) : Type 0 where
@@ -92,7 +94,8 @@ IsStation arguments station = first_of (codes "STATION") arguments ≡ Some (sta
 abbrev pub IsKind : List Row → DamageKind → Type 0
 IsKind arguments kind = first_of (codes "KIND") arguments ≡ Some (kind_name kind)
 
--- the argument of this name is this number: one decimal digit or more, with a plus before them or not
+-- the argument of this name is this number: one decimal digit or more, before which a plus may
+-- stand
 pub record IsNumber (name : Text) (arguments : List Row) (number : ℕ) : Type 0 where
   pub text : Text
   pub given : one_of name arguments ≡ Some text
@@ -162,10 +165,10 @@ ExplainsWords words Kind = LacksKind words
 ExplainsWords words (Memory want) = ⊤
 
 -- an answer of clap is help, want of memory, or a refusal
-abbrev pub Sorts : Error → WordsFault → Type 0
-Sorts error (Help answer) = (answer ≡ error) × (kind_of error ≡ DisplayHelp)
-Sorts error (Refused answer) =
+abbrev pub IsSortedAs : Error → WordsFault → Type 0
+IsSortedAs error (Help answer) = (answer ≡ error) × (kind_of error ≡ DisplayHelp)
+IsSortedAs error (Refused answer) =
     (answer ≡ error) × (kind_of error ≢ DisplayHelp) × (kind_of error ≢ OutOfMemory)
-Sorts error Station = ⊥
-Sorts error Kind = ⊥
-Sorts error (Memory want) = kind_of error ≡ OutOfMemory
+IsSortedAs error Station = ⊥
+IsSortedAs error Kind = ⊥
+IsSortedAs error (Memory want) = kind_of error ≡ OutOfMemory

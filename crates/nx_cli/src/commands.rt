@@ -2,7 +2,8 @@
 
 ghost use Rattle.std.specs.Prelude.{◌≡◌, IfOk, codes, false};
 ghost use Rattle.clap.specs.Words.{rule_of};
-ghost use Rattle.nx_cli.specs.Words.{IsBuiltAs, bare, navtex, number_rule, of_slot, of_words, plain};
+ghost use Rattle.nx_cli.specs.Words.{IsBuiltAs, bare_tree, damage_tree, navtex, number_rule};
+ghost use Rattle.nx_cli.specs.Words.{plain_tree, slot_tree};
 
 use clap::builder::ValueParser;
 use clap::{Arg, Command};
@@ -19,16 +20,20 @@ feed, are:
 The elements of the B lines, joined, are the words of one emission from its first word on, seven
 elements each. The other lines are checked and skipped.
 
-Writes the text to standard output and nothing else, once all was read. A lost character is an
-asterisk.
+Writes the text to standard output and nothing else, once all was read. A character is sent in two
+words. Where one of them is damaged, with other than four B, the other one counts; where neither can
+be relied on, the character is an asterisk.
 
-Example, whose text is A:
+Example, the letter A as encode sends it, here in three lines:
+  $ cat a.air
   B 01100111111000011001111110000110011
   B 11110000110011111100011100011111000
-  B 11110001111000111100011100011111000";
+  B 11110001111000111100011100011111000
+  $ navtex decode < a.air
+  A";
 
 fn decode_command<'a>(alloc: Global) -> Command<'a>
-    ensures { IsBuiltAs (plain (codes "decode")) result }
+    ensures { IsBuiltAs (plain_tree (codes "decode")) result }
 {
     Command::new(alloc, "decode")
         .about("Print the text of an air file")
@@ -42,14 +47,15 @@ newline and -?:().,'=+/
 
 Writes an air file to standard output: lines of B, a space and up to 490 elements in the order of
 sending, 1 for B and 0 for Y, each ended by a line feed. They are the elements of four phasing
-positions, the text from the letter shift, and three end positions.
+positions, the text from the letter shift, and three end positions. Of a long text they may be more
+than the 1048576 bytes that decode takes.
 
 Example, which decode prints as A again:
   $ printf A | navtex encode
   B 011001111110000110011111100001100111111000011001111110001110001111100011110001111000111100011100011111000";
 
 fn encode_command<'a>(alloc: Global) -> Command<'a>
-    ensures { IsBuiltAs (plain (codes "encode")) result }
+    ensures { IsBuiltAs (plain_tree (codes "encode")) result }
 {
     Command::new(alloc, "encode")
         .about("Write a text as an air file")
@@ -64,15 +70,16 @@ them, are:
   the elements   seven letters B or Y, in the order of sending
   the letter     what the word prints in the letter shift
   the figure     what the word prints in the figure shift
-Two or more capitals in the last two fields are no text that is printed but the name of a signal:
-CR, LF, LTRS, FIGS, SPACE, BLANK, P1, BETA or P2. The figure none means that nothing is printed.
+One character is printed as it stands. CR, LF, LTRS, FIGS, SPACE, BLANK, P1, BETA and P2 are names
+of signals, of which LF prints a newline and SPACE a space; none means that nothing is printed.
 
 Example, the first and the fourth line:
+  $ navtex code | sed -n '1p;4p'
   47 BBBYYYB A -
   53 BBYYBYB D none";
 
 fn code_command<'a>(alloc: Global) -> Command<'a>
-    ensures { IsBuiltAs (plain (codes "code")) result }
+    ensures { IsBuiltAs (plain_tree (codes "code")) result }
 {
     Command::new(alloc, "code")
         .about("Print the table of the code")
@@ -89,15 +96,14 @@ slot is even and RX where it is odd; its number in hexadecimal, with the element
 in the least place; and its name, which is what code prints as its letter, or wrong where the
 number of its elements B is not four.
 
-Example:
-  $ printf A | navtex encode | navtex show
+Example, of which the first two lines and the ninth are shown:
+  $ printf A | navtex encode | navtex show | sed -n '1,2p;9p'
   0 DX 66 P2
   1 RX 0F P1
-  ...
   8 DX 47 A";
 
 fn show_command<'a>(alloc: Global) -> Command<'a>
-    ensures { IsBuiltAs (plain (codes "show")) result }
+    ensures { IsBuiltAs (plain_tree (codes "show")) result }
 {
     Command::new(alloc, "show")
         .about("Print the words of an air file")
@@ -122,7 +128,7 @@ Example:
   ;";
 
 fn check_command<'a>(alloc: Global) -> Command<'a>
-    ensures { IsBuiltAs (plain (codes "check")) result }
+    ensures { IsBuiltAs (plain_tree (codes "check")) result }
 {
     Command::new(alloc, "check")
         .about("Print the messages of an air file that is exactly an emission")
@@ -131,8 +137,8 @@ fn check_command<'a>(alloc: Global) -> Command<'a>
 
 const LISTEN_HELP: &str = "Print the log of an air file.
 
-Reads an air file of at most 268435456 bytes from standard input, as long as it lasts. Its lines,
-each ended by a line feed, are:
+Reads an air file of at most 268435456 bytes from standard input, to its end. Its lines, each ended
+by a line feed, are:
   B 0110011     elements in the order of sending, 1 to 512 of them: 1 is B, 0 is Y
   T 1735692000  the moment from here on, in seconds since 1970-01-01 00:00:00 UTC; the first B
                 comes after a T, and no T is before the last one
@@ -141,10 +147,12 @@ each ended by a line feed, are:
 
 Writes an entry to standard output for each copy of a message that is printed, as soon as the line
 with its last element has come: a head, the text, and an empty line. The head has the identity, the
-time of the copy, how it ended (full, cut or long), its errors and its characters. A message that
-was printed well within the last 66 hours is not printed again, but for the number 00.
+time of the copy, how it ended (full, cut or long), its errors, which are asterisks in the text, and
+its characters. A message that was printed full, with less than 4 per cent of errors, is not printed
+again within 66 hours, unless 200 others came in between; one numbered 00 is printed each time.
 
-Example: of message 01 of subject A of station E half the words are damaged, and it is read whole:
+Example: of message 01 of subject A of station E the first sending of each letter is damaged, and it
+is printed whole:
   $ printf '#A01\\nTEST\\n;\\n' | navtex send E 1735689600 | navtex damage dx 144 59 > ea01.air
   $ head -c 53 ea01.air
   T 1735692000
@@ -154,7 +162,7 @@ Example: of message 01 of subject A of station E half the words are damaged, and
   TEST";
 
 fn listen_command<'a>(alloc: Global) -> Command<'a>
-    ensures { IsBuiltAs (plain (codes "listen")) result }
+    ensures { IsBuiltAs (plain_tree (codes "listen")) result }
 {
     Command::new(alloc, "listen")
         .about("Print the log of an air file")
@@ -163,7 +171,7 @@ fn listen_command<'a>(alloc: Global) -> Command<'a>
 
 /// A command that takes a station and a moment.
 fn slot_command<'a>(alloc: Global, word: &'a str) -> Result<Command<'a>, AllocError>
-    ensures { IfOk result (IsBuiltAs (of_slot word.entry.now)) }
+    ensures { IfOk result (IsBuiltAs (slot_tree word.entry.now)) }
 {
     let station = Arg::new(alloc, "STATION")
         .required(true)
@@ -180,17 +188,22 @@ const SEND_HELP: &str = "Write messages as an air file, to be sent in the statio
 Reads a message file of at most 1048576 bytes from standard input. Its lines are each ended by a
 line feed. A message begins with the line of #, its subject (a letter A to Z) and its number (two
 digits), and ends with the line ; alone. Between them stand its lines of text, each of at most 69
-characters A to Z, 0 to 9, space and -?:().,'=+/
+characters A to Z, 0 to 9, space and -?:().,'=+/ without ZCZC and NNNN; together they have at most
+4096 characters, with one more for each line's end.
 
 Writes an air file to standard output: the line of T, a space and the moment at which the first
 slot of the station begins that is not before MOMENT, and lines of B, a space and the elements of
 the emission. Stations A to X have a slot of ten minutes in each four hours, Y and Z have none.
 
-Example, whose air file begins with the line T 1735692000:
-  $ printf '#A01\\nTEST\\n;\\n' | navtex send E 1735689600";
+Example, of which the first 40 columns are shown:
+  $ printf '#A01\\nTEST\\n;\\n' | navtex send E 1735689600 | cut -c1-40
+  T 1735692000
+  B 01100111111000011001111110000110011111
+  B 01100111111000011001111110000110011111
+  B 01100111111000011001111110000101101111";
 
 fn send_command<'a>(alloc: Global) -> Result<Command<'a>, AllocError>
-    ensures { IfOk result (IsBuiltAs (of_slot (codes "send"))) }
+    ensures { IfOk result (IsBuiltAs (slot_tree (codes "send"))) }
 {
     Ok(
         slot_command(alloc, "send")?
@@ -210,7 +223,7 @@ Example:
   1735692000 2025-01-01 00:40:00";
 
 fn slots_command<'a>(alloc: Global) -> Result<Command<'a>, AllocError>
-    ensures { IfOk result (IsBuiltAs (of_slot (codes "slots"))) }
+    ensures { IfOk result (IsBuiltAs (slot_tree (codes "slots"))) }
 {
     Ok(
         slot_command(alloc, "slots")?
@@ -224,8 +237,9 @@ const DAMAGE_HELP: &str = "Copy an air file with some of its words damaged.
 Reads an air file of at most 268435456 bytes from standard input and writes it to standard output
 while it reads, line by line. Word 0 is the first seven elements of the lines of B, joined, word 1
 the next seven, and so on. Of the words from FROM on, COUNT of them, those that KIND names get
-their first element inverted, which leaves them with a wrong weight: dx names the words of even
-number, rx those of odd number, and all every word. All else is copied as it is.
+their first element inverted: dx names the words of even number, rx those of odd number, and all
+every word. A good word, with four B, is then a damaged one. All else is copied as it is, and the
+same command on the output gives the file back.
 
 Example, which inverts the first element of the word 2:
   $ printf 'B 011001111110000110011\\n' | navtex damage dx 1 2
@@ -243,7 +257,7 @@ fn number_argument<'a>(alloc: Global, name: &'a str, help: &'a str) -> Arg<'a>
 }
 
 fn damage_command<'a>(alloc: Global) -> Result<Command<'a>, AllocError>
-    ensures { IfOk result (IsBuiltAs (of_words (codes "damage"))) }
+    ensures { IfOk result (IsBuiltAs (damage_tree (codes "damage"))) }
 {
     let kind = Arg::new(alloc, "KIND")
         .required(true)
@@ -258,8 +272,13 @@ fn damage_command<'a>(alloc: Global) -> Result<Command<'a>, AllocError>
         .arg(count)
 }
 
-const STATUS_HELP: &str = "A command reads standard input and writes standard output. A fault is \
-one line on standard error; where words are not understood, it is a text of several lines.
+const STATUS_HELP: &str = "A command reads standard input and writes standard output; code and slots
+read nothing. --help after a command says what it reads and writes. A fault is one line on standard
+error; where words are not understood, it may be a text of several lines.
+
+Example:
+  $ printf A | navtex encode | navtex decode
+  A
 
 Exit status:
   0   success, or help
@@ -268,7 +287,7 @@ Exit status:
   64  words that are not understood";
 
 fn bare_command<'a>(alloc: Global) -> Result<Command<'a>, AllocError>
-    ensures { IfOk result (IsBuiltAs bare) }
+    ensures { IfOk result (IsBuiltAs bare_tree) }
 {
     Command::new(alloc, "navtex")
         .about("A NAVTEX broadcast station and receiver")

@@ -2,7 +2,8 @@
 
 ghost use Rattle.std.specs.Prelude.{◌≡◌};
 ghost use Rattle.nx_cli.specs.Status.{call_status, fault_status};
-ghost use Rattle.nx_cli.specs.declared.fault.CallFault.TheVariants.{Check, Damage, Listen, Run, Send};
+ghost use Rattle.nx_cli.specs.declared.fault.CallFault.TheVariants.{Check, Damage, Listen};
+ghost use Rattle.nx_cli.specs.declared.fault.CallFault.TheVariants.{Run, Send};
 ghost use Rattle.nx_cli.specs.declared.fault.Fault.TheVariants.{Call};
 
 use nx_fec::{Counting, RunFault};

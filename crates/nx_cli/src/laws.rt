@@ -3,9 +3,11 @@
 ghost use Rattle.std.specs.Prelude.{◌≡◌, ◌⊎◌, ◌≤◌, ℕ, List, [], ◌∷◌, codes};
 ghost use Rattle.clap.specs.Words.{Text};
 ghost use Rattle.nx_envelope.specs.declared.letter.Letter.{Letter};
-ghost use Rattle.nx_cli.specs.Words.{AsksForHelp, IsRefused, IsRefusedByClap, LacksKind, LacksStation, Names};
+ghost use Rattle.nx_cli.specs.Words.{AsksForHelp, IsRefused, IsRefusedByClap, LacksKind};
+ghost use Rattle.nx_cli.specs.Words.{LacksStation, Names};
 ghost use Rattle.nx_cli.specs.declared.words.Call.{Call};
-ghost use Rattle.nx_cli.specs.declared.words.Call.TheVariants.{Check, Code, Damage, Decode, Encode, Listen, Send, Show, Slots};
+ghost use Rattle.nx_cli.specs.declared.words.Call.TheVariants.{Check, Code, Decode, Encode, Listen, Show};
+ghost use Rattle.nx_cli.specs.declared.words.Call.TheVariants.{Damage, Send, Slots};
 ghost use Rattle.nx_station.specs.declared.damaging.DamageKind.{DamageKind};
 ghost use Rattle.nx_station.specs.declared.damaging.DamageKind.TheVariants.{All, Dx};
 

@@ -2,7 +2,7 @@
 
 ghost use Rattle.std.specs.IoError.{error_kind};
 ghost use Rattle.std.specs.Prelude.{◌≡◌, ◌≢◌, ◌⊎◌, IfSome, map};
-ghost use Rattle.nx_cli.specs.Program.{Ends, Exits, Performs, Succeeds, WritesText, fresh};
+ghost use Rattle.nx_cli.specs.Program.{Ends, Exits, Performs, Succeeds, WritesText, fresh_device};
 ghost use Rattle.nx_cli.specs.Status.{IsStatus};
 ghost use Rattle.nx_cli.specs.Words.{IsRefused, Names};
 ghost use Rattle.nx_fec.specs.Devices.{CountedDevice};
@@ -151,20 +151,20 @@ pub fn run<S: AsStr, R: Read + Drop, W: Write + Drop, E: Write + Drop>(
     // How the program ended, by what its call ensures of the devices.
     ensures exits { (reader : CountedDevice R) × (writer : CountedDevice W)
         × Exits (map S.text words.now)
-        (devices R.remaining W.contents (fresh input) reader (fresh output) writer)
+        (devices R.remaining W.contents (fresh_device input) reader (fresh_device output) writer)
         result }
     ensures status { IsStatus result }
 
     // Success comes only from a call that succeeded, or from help that was written.
     ensures success { result ≡ 0 → (reader : CountedDevice R) × (writer : CountedDevice W)
         × Succeeds (map S.text words.now)
-        (devices R.remaining W.contents (fresh input) reader (fresh output) writer) }
+        (devices R.remaining W.contents (fresh_device input) reader (fresh_device output) writer) }
 
     // A success of words that name a call is the success of that call.
     ensures called { (call : Call) → Names (map S.text words.now) call → result ≡ 0
         → (reader : CountedDevice R) × (writer : CountedDevice W)
         × Performs call
-        (devices R.remaining W.contents (fresh input) reader (fresh output) writer)
+        (devices R.remaining W.contents (fresh_device input) reader (fresh_device output) writer)
         (Ok tt) }
     ensures words { result ≡ 64 → IsRefused (map S.text words.now) }
     ensures refused { IsRefused (map S.text words.now)

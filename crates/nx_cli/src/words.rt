@@ -2,8 +2,8 @@
 
 ghost use Rattle.std.specs.Prelude.{◌≡◌, ◌≢◌, ℕ, [], ◌∷◌, IfErr, IfNone, IfOk, IfSome, codes, map};
 ghost use Rattle.clap.specs.Words.{found_of, rows_of};
-ghost use Rattle.nx_cli.specs.Words.{ExplainsWords, HasArguments, IsKind, IsNumber, IsStation, Names, Sorts};
-ghost use Rattle.nx_cli.specs.Words.{command_name, kind_name};
+ghost use Rattle.nx_cli.specs.Words.{ExplainsWords, HasArguments, IsKind, IsNumber, IsSortedAs};
+ghost use Rattle.nx_cli.specs.Words.{IsStation, Names, command_name, kind_name};
 ghost use Rattle.nx_cli.specs.declared.words.Call.{Call};
 ghost use Rattle.nx_station.specs.declared.damaging.DamageKind.{DamageKind};
 ghost use Rattle.nx_cli.specs.declared.words.WordsFault.TheVariants.{Kind, Memory, Station};
@@ -135,7 +135,7 @@ impl Call {
 }
 
 /// The letter that the text is alone, A to Z.
-fn letter_alone(text: &str) -> Option<Letter>
+fn single_letter(text: &str) -> Option<Letter>
     ensures some { IfSome result (λ letter. text.now ≡ letter.byte ∷ []) }
     ensures none { IfNone result ((letter : Letter) → text.now ≢ letter.byte ∷ []) }
 {
@@ -151,7 +151,7 @@ fn station_in(arguments: &ArgMatches) -> Option<Letter>
     ensures none { IfNone result ((station : Letter)
         → ¬ IsStation (rows_of (found_of arguments.now)) station) }
 {
-    letter_alone(arguments.get_str("STATION")?)
+    single_letter(arguments.get_str("STATION")?)
 }
 
 /// The kind of damage that the text names.
@@ -194,7 +194,7 @@ impl From<AllocError> for WordsFault {
 }
 
 impl From<clap::Error> for WordsFault {
-    ghost from_gives = { Sorts };
+    ghost from_gives = { IsSortedAs };
 
     fn from(error: clap::Error) -> WordsFault {
         match error.kind() {

@@ -5,9 +5,10 @@ ghost use Rattle.nx_envelope.specs.Moment.{last_moment};
 ghost use Rattle.nx_code.specs.Lists.{last_of};
 ghost use Rattle.nx_memory.specs.Memory.{is_known, most_entries, newest_moment};
 ghost use Rattle.nx_memory.specs.declared.entry.MemoryEntry.{MemoryEntry};
+ghost use Rattle.nx_memory.specs.Selection.{admits};
 ghost use Rattle.nx_memory.specs.Vital.{is_vital};
 ghost use Rattle.nx_receiver.specs.Events as events;
-ghost use Rattle.nx_receiver.specs.Events.{Event, Start, at_moment, command};
+ghost use Rattle.nx_receiver.specs.Events.{Event, Start, at_moment, command, first_setting, setting_after_all};
 ghost use Rattle.nx_receiver.specs.Log.{HasPrinted, PrintsToEnd};
 ghost use Rattle.nx_receiver.specs.Printing.{entries_after, printed_copies};
 ghost use Rattle.nx_receiver.specs.Receiver.{Awaits, PassesOver, Refuses, RefusesStart, Stands, elements, entry_list};
@@ -141,6 +142,18 @@ impl<M: Recall> Receiver<M> {
             (history ++ command (events.accept_subject subject.byte) ∷ []) log }
     {
         self.watch.accept_subject(subject);
+    }
+
+    /// Whether a copy whose header came now would be selected: neither the station nor the subject of
+    /// its identity is refused (ITU-R M.540; that a station is refused for all its subjects is this
+    /// profile).
+    pub fn admits(&self, identity: &Identity) -> bool
+        ensures { (start : Start) (history : List Event) (log : List TaggedCopy) →
+            Stands M.content start self.now history log
+            → result
+            ≡ admits (setting_after_all (first_setting start) history).refused identity.now }
+    {
+        self.watch.admits(identity)
     }
 
     /// Hears elements, true for B, up to and with the one that ends the first copy that is printed;

@@ -5,6 +5,7 @@
 ghost use Rattle.std.specs.Prelude.{◌≡◌, ◌<◌, ◌≤◌, List, Bool, [], ◌∷◌, ◌++◌, ◌↔◌, length, not, take, None, IfOk, IfErr, IsErr, IsTrue, OnErr, OnOk};
 ghost use Rattle.nx_sync.specs.Synchroniser.{is_between_words, is_hunting};
 ghost use Rattle.nx_envelope.specs.Finder.{held_identity};
+ghost use Rattle.nx_memory.specs.Selection.{admits};
 ghost use Rattle.nx_memory.specs.Vital.{is_vital};
 ghost use Rattle.nx_receiver.specs.Events as Command;
 ghost use Rattle.nx_receiver.specs.Events.{Setting, Start, first_setting, refused_after};
@@ -97,6 +98,13 @@ impl Watch {
         ensures { result ≡ self.now.tag }
     {
         self.tag
+    }
+
+    /// Whether a copy of this identity is selected.
+    pub(crate) fn admits(&self, identity: &Identity) -> bool
+        ensures { result ≡ admits self.now.refused identity.now }
+    {
+        self.selection.admits(identity)
     }
 
     /// Sets the moment in force.

@@ -20,7 +20,7 @@ pub const HEADER_OF_X: [u8; 13] = [29, 26, 3, 26, 3, 31, 5, 1, 30, 16, 17, 27, 2
 pub const REST_OF_X: [u8; 14] = [29, 20, 5, 19, 20, 27, 28, 14, 14, 14, 14, 27, 28, 28];
 
 /// The pieces in a row.
-pub fn joined(alloc: Global, pieces: &[&[u8]]) -> Result<Vec<u8>, AllocError> {
+pub fn join(alloc: Global, pieces: &[&[u8]]) -> Result<Vec<u8>, AllocError> {
     let mut whole = Vec::new(alloc);
     for piece in pieces {
         whole.extend_from_slice(piece)?;
@@ -77,17 +77,17 @@ pub fn elements_sent(alloc: Global, combinations: &[u8]) -> Result<Vec<u8>, Fail
 }
 
 /// What `send` writes of a message file of station E from this moment on.
-pub fn sent(alloc: Global, moment: &str, message_file: &[u8]) -> Vec<u8> {
+pub fn send_from(alloc: Global, moment: &str, message_file: &[u8]) -> Vec<u8> {
     run_on(alloc, &["navtex", "send", "E", moment], message_file).output
 }
 
 /// What `damage` writes of a file.
-pub fn damaged(alloc: Global, kind: &str, from: &str, count: &str, air_file: &[u8]) -> Vec<u8> {
+pub fn damage_in(alloc: Global, kind: &str, from: &str, count: &str, air_file: &[u8]) -> Vec<u8> {
     run_on(alloc, &["navtex", "damage", kind, from, count], air_file).output
 }
 
 /// What `listen` leaves behind of a file that these pieces make in a row.
-pub fn heard(alloc: Global, pieces: &[&[u8]]) -> Result<Ended, AllocError> {
-    let air_file = joined(alloc, pieces)?;
+pub fn listen_to(alloc: Global, pieces: &[&[u8]]) -> Result<Ended, AllocError> {
+    let air_file = join(alloc, pieces)?;
     Ok(run_on(alloc, &["navtex", "listen"], &air_file))
 }

@@ -3,7 +3,8 @@
 use std::cell::Cell;
 use std::io::{Error, ErrorKind, Read, Result as IoResult, Write};
 
-/// Counts the calls on a reader and a writer together, so that a call on either after a failure shows.
+/// Counts the calls on a reader and a writer together, so that a call on either after a failure
+/// shows.
 #[derive(Drop)]
 pub struct Clock {
     calls: Cell<u64>,

@@ -6,10 +6,11 @@ use crate::program::run;
 use crate::tests::devices::{Sink, Source};
 use std::test::Fail;
 
-// The empty text: four phasing positions and three end positions.
+// The empty text: four phasing positions and three end positions, by the code table of M.476.
 const AIR_FILE_OF_NOTHING: &[u8] =
     b"B 0110011111100001100111111000011001111110000110011111100011110001111000111100011110001111000\n";
 
+// A call, what it reads, and this profile's line for its fault.
 #[derive(Drop)]
 struct FaultRow<'a> {
     call: &'a str,
@@ -96,6 +97,7 @@ fn stops_an_endless_file(rt: HostRuntime) {
     }
 }
 
+// A text, and what is written of it, where that is told apart from its reading.
 #[derive(Drop)]
 struct TextRow<'a> {
     text: &'a [u8],

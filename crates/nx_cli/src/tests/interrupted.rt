@@ -1,4 +1,5 @@
-//! Each call over a reader and a writer, interrupted at each of its reads, and behind each byte that it writes.
+//! Each call over a reader and a writer, interrupted at each of its reads, and behind each byte
+//! that it writes.
 
 ghost use Rattle.std.specs.Prelude.{◌≡◌, ◌≤◌, IfOk};
 ghost use Rattle.nx_envelope.specs.Moment.{last_moment};
@@ -38,7 +39,8 @@ struct Given {
     station: Letter,
     entry: Entry,
     bits: Vec<bool>,
-    /// The air file of X with 100 elements in each line, so that its copy is open behind some of them.
+    /// The air file of X with 100 elements in each line, so that its copy is open behind some of
+    /// them.
     short_lines: Vec<u8>,
 }
 
@@ -161,8 +163,9 @@ struct Case<'a> {
 }
 
 impl Case<'_> {
-    /// How many bytes are written where so many were read, and the next read fails. `damage` writes each line that
-    /// it has read, `listen` an entry with the line that ends its copy; the others write at the end.
+    /// How many bytes are written where so many were read, and the next read fails. `damage` writes
+    /// each line that it has read, `listen` an entry with the line that ends its copy; the others
+    /// write at the end.
     fn written_after(&self, read: usize) -> usize {
         if self.call != Call::Damage {
             let is_logged = self.call == Call::Listen && read >= self.heard;
@@ -177,7 +180,8 @@ impl Case<'_> {
         lines
     }
 
-    /// How often the call reads, where one read gives so many bytes at most: a call that reads sees the end too.
+    /// How often the call reads, where one read gives so many bytes at most: a call that reads sees
+    /// the end too.
     fn reads(&self, piece: usize) -> usize {
         match self.call {
             Call::EntryText | Call::WriteBits | Call::WriteTable => 0,
@@ -186,8 +190,8 @@ impl Case<'_> {
     }
 }
 
-/// The copy of X ends with the word of slot 195, its element 1,372. With 100 elements in each line that is in the 14th
-/// of 103 bytes, behind the line of the moment.
+/// The copy of X ends with the word of slot 195, its element 1,372. With 100 elements in each line
+/// that is in the 14th of 103 bytes, behind the line of the moment.
 const HEARD_IN_SHORT_LINES: usize = LINE_OF_MOMENT + 14 * 103;
 
 fn cases<'a>(given: &'a Given) -> [Case<'a>; 13] {
@@ -227,8 +231,8 @@ fn row<'a>(call: Call, input: &'a [u8], output: &'a [u8]) -> Case<'a> {
     }
 }
 
-/// How a call ended, what was written, how many bytes were read, and whether a call on a device came after the one
-/// that failed.
+/// How a call ended, what was written, how many bytes were read, and whether the call on a device
+/// that failed was the last one on either.
 #[derive(Drop)]
 struct Ended {
     ending: Result<(), Ending>,
@@ -237,7 +241,8 @@ struct Ended {
     stopped: bool,
 }
 
-/// Makes the call with a reader that gives pieces and fails after so many calls, and a writer with so much room.
+/// Makes the call with a reader that gives pieces and fails after so many calls, and a writer with
+/// so much room.
 fn interrupt(
     alloc: Global,
     case: &Case,

@@ -1,6 +1,6 @@
 //! `listen` on a whole file, on a part of one, on faulty ones and on devices that fail.
 
-use super::air::{LOG_OF_X, elements_of, heard, joined, lines_of};
+use super::air::{LOG_OF_X, elements_of, join, lines_of, listen_to};
 use super::devices::{Sink, Source};
 use super::station::{AIR_FILE_OF_X, MESSAGE_FILE, SEND};
 use super::{Ended, run_on};
@@ -9,7 +9,7 @@ use std::alloc::Global;
 use std::test::Fail;
 
 // The program on devices that may fail or give and take little.
-fn listened(alloc: Global, source: &mut Source, output: &mut Sink) -> (u8, Vec<u8>) {
+fn listen_between(alloc: Global, source: &mut Source, output: &mut Sink) -> (u8, Vec<u8>) {
     let mut faults = Sink::new(Vec::new(alloc));
     let words = ["navtex", "listen"];
     let status = run(alloc, &words, source, output, &mut faults);
@@ -20,19 +20,22 @@ fn listened(alloc: Global, source: &mut Source, output: &mut Sink) -> (u8, Vec<u
 fn listens_to_what_was_sent(rt: HostRuntime) -> Result<(), Fail> {
     let alloc = rt.alloc();
     let sent = run_on(alloc, &SEND, MESSAGE_FILE);
-    assert_eq!(rt; heard(alloc, &[&sent.output])?.success(), Some(LOG_OF_X));
+    assert_eq!(rt;
+        listen_to(alloc, &[&sent.output])?.success(),
+        Some(LOG_OF_X)
+    );
     // The same with one element in each line.
     let elements = elements_of(alloc, AIR_FILE_OF_X)?;
     let lines = lines_of(alloc, &elements, 1)?;
     assert_eq!(rt; lines.iter().filter(|byte| **byte == b'\n').count(), 1_421);
-    let ended = heard(alloc, &[b"T 1735692000\n", &lines])?;
+    let ended = listen_to(alloc, &[b"T 1735692000\n", &lines])?;
     assert_eq!(rt; ended.success(), Some(LOG_OF_X));
     // The same from a reader that gives one byte at a time, to a writer that takes one.
     let mut source = Source::of(AIR_FILE_OF_X);
     source.piece = 1;
     let mut output = Sink::new(Vec::new(alloc));
     output.piece = 1;
-    let (status, faults) = listened(alloc, &mut source, &mut output);
+    let (status, faults) = listen_between(alloc, &mut source, &mut output);
     assert_eq!(rt; status, 0);
     assert!(rt; faults.is_empty());
     assert_eq!(rt; output.taken.as_slice(), LOG_OF_X);
@@ -43,6 +46,7 @@ fn listens_to_what_was_sent(rt: HostRuntime) -> Result<(), Fail> {
 fn stops_at_a_fault_of_a_line(rt: HostRuntime) -> Result<(), Fail> {
     let alloc = rt.alloc();
     let zeros = vec![in alloc; b'0'; 513]?;
+    // What is read, in two pieces, and this profile's line for its first fault.
     let cases: [(&[u8], &[u8], &str); 9] = [
         (b"T 5\n", b"T 4\n", "navtex: line 2: moment 4 is before 5\n"),
         (
@@ -71,12 +75,12 @@ fn stops_at_a_fault_of_a_line(rt: HostRuntime) -> Result<(), Fail> {
         (b"T 0\nRJ C\n\n", b"", "navtex: line 3 is not understood\n"),
     ];
     for (first, second, line) in cases {
-        let ended = heard(alloc, &[first, second])?;
+        let ended = listen_to(alloc, &[first, second])?;
         assert_eq!(rt; ended.status, 2, "{}", line);
         assert!(rt; ended.output.is_empty());
         assert_eq!(rt; ended.faults.as_slice(), line.as_bytes());
     }
-    let nothing = heard(alloc, &[])?;
+    let nothing = listen_to(alloc, &[])?;
     assert_eq!(rt; nothing.success(), Some(b"".as_slice()));
     Ok(())
 }
@@ -84,7 +88,7 @@ fn stops_at_a_fault_of_a_line(rt: HostRuntime) -> Result<(), Fail> {
 #[test]
 fn writes_the_log_before_a_fault(rt: HostRuntime) -> Result<(), Fail> {
     let alloc = rt.alloc();
-    let ended = heard(alloc, &[AIR_FILE_OF_X, b"T 1735692000\nT 0\n"])?;
+    let ended = listen_to(alloc, &[AIR_FILE_OF_X, b"T 1735692000\nT 0\n"])?;
     assert_eq!(rt; ended.status, 2);
     assert_eq!(rt; ended.output.as_slice(), LOG_OF_X);
     assert_eq!(rt;
@@ -95,9 +99,9 @@ fn writes_the_log_before_a_fault(rt: HostRuntime) -> Result<(), Fail> {
 }
 
 // The first bytes of the air file of EA01, as many as said.
-fn heard_of_first(alloc: Global, length: usize) -> Result<Ended, Fail> {
+fn listen_to_first(alloc: Global, length: usize) -> Result<Ended, Fail> {
     let part = AIR_FILE_OF_X.get(..length).ok_or("a part")?;
-    Ok(heard(alloc, &[part])?)
+    Ok(listen_to(alloc, &[part])?)
 }
 
 #[test]
@@ -124,16 +128,16 @@ fn names_the_line_in_which_a_file_is_cut(rt: HostRuntime) -> Result<(), Fail> {
             "navtex: line 4 has no end\n",
         ),
     ] {
-        let whole = heard_of_first(alloc, begin)?;
+        let whole = listen_to_first(alloc, begin)?;
         assert_eq!(rt; whole.success(), Some(b"".as_slice()), "{}", line);
         for length in lengths {
-            let cut = heard_of_first(alloc, length)?;
+            let cut = listen_to_first(alloc, length)?;
             assert_eq!(rt; cut.status, 2);
             assert!(rt; cut.output.is_empty());
             assert_eq!(rt; cut.faults.as_slice(), line.as_bytes());
         }
     }
-    let all = heard_of_first(alloc, 1_443)?;
+    let all = listen_to_first(alloc, 1_443)?;
     assert_eq!(rt; all.success(), Some(LOG_OF_X));
     Ok(())
 }
@@ -146,7 +150,7 @@ fn listens_on_devices_that_fail(rt: HostRuntime) -> Result<(), Fail> {
     let mut output = Sink::new(Vec::new(alloc));
     output.piece = 10;
     output.fails_at = Some(2);
-    let (status, faults) = listened(alloc, &mut source, &mut output);
+    let (status, faults) = listen_between(alloc, &mut source, &mut output);
     assert_eq!(rt; status, 1);
     assert_eq!(rt;
         faults.as_slice(),
@@ -159,7 +163,7 @@ fn listens_on_devices_that_fail(rt: HostRuntime) -> Result<(), Fail> {
     let elements = elements_of(alloc, AIR_FILE_OF_X)?;
     let part = elements.get(..1_323).ok_or("elements")?;
     let lines = lines_of(alloc, part, 490)?;
-    let open = joined(alloc, &[b"T 1735692000\n", &lines])?;
+    let open = join(alloc, &[b"T 1735692000\n", &lines])?;
     for (given, log) in [
         (b"T 1735692000\n".as_slice(), b"".as_slice()),
         (AIR_FILE_OF_X, LOG_OF_X),
@@ -168,7 +172,7 @@ fn listens_on_devices_that_fail(rt: HostRuntime) -> Result<(), Fail> {
         let mut source = Source::of(given);
         source.fails_at = Some(2);
         let mut output = Sink::new(Vec::new(alloc));
-        let (status, faults) = listened(alloc, &mut source, &mut output);
+        let (status, faults) = listen_between(alloc, &mut source, &mut output);
         assert_eq!(rt; status, 1);
         assert_eq!(rt; source.calls, 2);
         assert_eq!(rt; faults.as_slice(), b"navtex: read failed\n".as_slice());

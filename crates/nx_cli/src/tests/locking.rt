@@ -2,8 +2,8 @@
 //! log nevertheless, or nothing.
 
 use super::air::{
-    HEADER_OF_X, LOG_OF_X, REST_OF_X, damaged, elements_of, elements_sent, heard, joined, lines_of,
-    lines_of_x,
+    HEADER_OF_X, LOG_OF_X, REST_OF_X, damage_in, elements_of, elements_sent, join, lines_of,
+    lines_of_x, listen_to,
 };
 use super::station::AIR_FILE_OF_X;
 use super::{Ended, run_on};
@@ -18,7 +18,7 @@ fn lines_of_x_from(alloc: Global, element: usize) -> Result<Vec<u8>, Fail> {
 }
 
 // What `listen` leaves behind of these lines after the moment and four words of phasing.
-fn heard_after_four_words(alloc: Global, gap: &[u8], lines: &[u8]) -> Result<Ended, AllocError> {
+fn listen_after_four_words(alloc: Global, gap: &[u8], lines: &[u8]) -> Result<Ended, AllocError> {
     let mut air_file = Vec::new(alloc);
     air_file.extend_from_slice(b"T 1735692000\nB 0110011111100001100111111000\n")?;
     air_file.extend_from_slice(gap)?;
@@ -31,17 +31,17 @@ fn finds_the_emission_after_other_elements(rt: HostRuntime) -> Result<(), Fail> 
     let alloc = rt.alloc();
     let x = lines_of_x()?;
     // Three elements slip in behind the four words, or one that makes a false lock.
-    let slipped = heard_after_four_words(alloc, b"B 000\n", x)?;
+    let slipped = listen_after_four_words(alloc, b"B 000\n", x)?;
     assert_eq!(rt; slipped.success(), Some(LOG_OF_X));
-    let falsely_locked = heard_after_four_words(alloc, b"B 1\n", x)?;
+    let falsely_locked = listen_after_four_words(alloc, b"B 1\n", x)?;
     assert_eq!(rt; falsely_locked.success(), Some(LOG_OF_X));
     // The first word is lost, so the roles of the words are swapped.
     let but_one_word = lines_of_x_from(alloc, 7)?;
-    let swapped = heard_after_four_words(alloc, b"", &but_one_word)?;
+    let swapped = listen_after_four_words(alloc, b"", &but_one_word)?;
     assert_eq!(rt; swapped.success(), Some(LOG_OF_X));
     // The receiver hears the last 749 elements alone, from word 96 on.
     let last_749 = lines_of_x_from(alloc, 672)?;
-    let late = heard(alloc, &[b"T 1735692000\n", &last_749])?;
+    let late = listen_to(alloc, &[b"T 1735692000\n", &last_749])?;
     assert_eq!(rt; late.success(), Some(LOG_OF_X));
     Ok(())
 }
@@ -50,16 +50,16 @@ fn finds_the_emission_after_other_elements(rt: HostRuntime) -> Result<(), Fail> 
 fn prints_a_damaged_emission(rt: HostRuntime) -> Result<(), Fail> {
     let alloc = rt.alloc();
     // Of each position of the message the first sending is lost.
-    let half = damaged(alloc, "dx", "144", "59", AIR_FILE_OF_X);
-    assert_eq!(rt; heard(alloc, &[&half])?.success(), Some(LOG_OF_X));
+    let half = damage_in(alloc, "dx", "144", "59", AIR_FILE_OF_X);
+    assert_eq!(rt; listen_to(alloc, &[&half])?.success(), Some(LOG_OF_X));
     // The first 96 words are lost too, so the lock comes late.
-    let late = damaged(alloc, "all", "0", "96", AIR_FILE_OF_X);
-    let late_half = damaged(alloc, "dx", "144", "59", &late);
-    assert_eq!(rt; heard(alloc, &[&late_half])?.success(), Some(LOG_OF_X));
+    let late = damage_in(alloc, "all", "0", "96", AIR_FILE_OF_X);
+    let late_half = damage_in(alloc, "dx", "144", "59", &late);
+    assert_eq!(rt; listen_to(alloc, &[&late_half])?.success(), Some(LOG_OF_X));
     // Both sendings of the figure shift are lost, so EA*PQ is read, and no header.
-    let first = damaged(alloc, "all", "160", "1", AIR_FILE_OF_X);
-    let no_figures = damaged(alloc, "all", "165", "1", &first);
-    let ended = heard(alloc, &[&no_figures])?;
+    let first = damage_in(alloc, "all", "160", "1", AIR_FILE_OF_X);
+    let no_figures = damage_in(alloc, "all", "165", "1", &first);
+    let ended = listen_to(alloc, &[&no_figures])?;
     assert_eq!(rt; ended.success(), Some(b"".as_slice()));
     Ok(())
 }
@@ -68,10 +68,10 @@ fn prints_a_damaged_emission(rt: HostRuntime) -> Result<(), Fail> {
 fn finds_a_header_behind_its_own_letters(rt: HostRuntime) -> Result<(), Fail> {
     let alloc = rt.alloc();
     // Z and C come before the letter shift: the text reads ZCZCZC EA01.
-    let combinations = joined(alloc, &[&[26, 3], &HEADER_OF_X, &REST_OF_X])?;
+    let combinations = join(alloc, &[&[26, 3], &HEADER_OF_X, &REST_OF_X])?;
     let elements = elements_sent(alloc, &combinations)?;
     let lines = lines_of(alloc, &elements, 490)?;
-    let ended = heard(alloc, &[b"T 1735692000\n", &lines])?;
+    let ended = listen_to(alloc, &[b"T 1735692000\n", &lines])?;
     assert_eq!(rt; ended.success(), Some(LOG_OF_X));
     Ok(())
 }

@@ -45,6 +45,7 @@ fn refuses_what_is_not_sent(rt: HostRuntime) -> Result<(), Fail> {
     let unpaired = with_word(alloc, AIR_FILE_OF_X, WORD_150, b"1110001")?;
     let mut longer = AIR_FILE_OF_X.to_vec(alloc)?;
     longer.extend_from_slice(b"B 1111000\n")?;
+    // The first of the faults of strict reading, in this profile's order, and its line.
     for (input, line) in [
         (wrong.as_slice(), "navtex: word 150 has the wrong weight\n"),
         (unpaired.as_slice(), "navtex: position 75 is unpaired\n"),

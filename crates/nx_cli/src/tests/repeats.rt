@@ -1,6 +1,6 @@
 //! What `listen` prints of messages that are sent again, and of those that are refused.
 
-use super::air::{LOG_OF_X, damaged, heard, lines_of_x, sent};
+use super::air::{LOG_OF_X, damage_in, lines_of_x, listen_to, send_from};
 use super::run_on;
 use super::station::{AIR_FILE_OF_X, MESSAGE_FILE};
 use std::test::Fail;
@@ -12,9 +12,9 @@ const THREE_SLOTS: [&str; 3] = ["1735689600", "1735692001", "1735706401"];
 fn prints_again_after_66_hours(rt: HostRuntime) -> Result<(), Fail> {
     let alloc = rt.alloc();
     let x = lines_of_x()?;
-    let ended = heard(alloc, &[b"T 1735692000\n", x, b"T 1735706400\n", x])?;
+    let ended = listen_to(alloc, &[b"T 1735692000\n", x, b"T 1735706400\n", x])?;
     assert_eq!(rt; ended.success(), Some(LOG_OF_X));
-    let ended = heard(
+    let ended = listen_to(
         alloc,
         &[
             b"T 1735692000\n",
@@ -37,6 +37,7 @@ fn prints_again_after_66_hours(rt: HostRuntime) -> Result<(), Fail> {
 #[test]
 fn prints_a_repeat_of_what_was_heard_badly(rt: HostRuntime) -> Result<(), Fail> {
     let alloc = rt.alloc();
+    // One character of 25 is lost, which is not less than 4 per cent; or one of 26, which is.
     let cases: [(&[u8], &[u8]); 2] = [
         (
             b"#A01\nABCDEFGHIJKLMNOPQRSTUVWX\n;\n",
@@ -50,11 +51,11 @@ fn prints_a_repeat_of_what_was_heard_badly(rt: HostRuntime) -> Result<(), Fail> 
     ];
     for (message_file, log) in cases {
         // Both sendings of the letter A, which is position 86, are damaged in the first emission.
-        let first = sent(alloc, THREE_SLOTS[0], message_file);
-        let once = damaged(alloc, "all", "172", "1", &first);
-        let twice = damaged(alloc, "all", "177", "1", &once);
-        let again = sent(alloc, THREE_SLOTS[1], message_file);
-        assert_eq!(rt; heard(alloc, &[&twice, &again])?.success(), Some(log));
+        let first = send_from(alloc, THREE_SLOTS[0], message_file);
+        let once = damage_in(alloc, "all", "172", "1", &first);
+        let twice = damage_in(alloc, "all", "177", "1", &once);
+        let again = send_from(alloc, THREE_SLOTS[1], message_file);
+        assert_eq!(rt; listen_to(alloc, &[&twice, &again])?.success(), Some(log));
     }
     Ok(())
 }
@@ -64,16 +65,16 @@ fn prints_the_number_00_each_time(rt: HostRuntime) -> Result<(), Fail> {
     let alloc = rt.alloc();
     let mut air_file = Vec::new(alloc);
     for moment in THREE_SLOTS {
-        air_file.extend_from_slice(&sent(alloc, moment, b"#A00\nTEST\n;\n"))?;
+        air_file.extend_from_slice(&send_from(alloc, moment, b"#A00\nTEST\n;\n"))?;
     }
     assert_eq!(rt;
-        heard(alloc, &[&air_file])?.success(),
+        listen_to(alloc, &[&air_file])?.success(),
         Some(b"[EA00 2025-01-01 00:40:00 full 0/5]\nTEST\n\n\
             [EA00 2025-01-01 04:40:00 full 0/5]\nTEST\n\n\
             [EA00 2025-01-01 08:40:00 full 0/5]\nTEST\n\n"
             .as_slice())
     );
-    let refused = heard(alloc, &[b"RS E\n", &air_file])?;
+    let refused = listen_to(alloc, &[b"RS E\n", &air_file])?;
     assert_eq!(rt; refused.success(), Some(b"".as_slice()));
     Ok(())
 }
@@ -82,8 +83,8 @@ fn prints_the_number_00_each_time(rt: HostRuntime) -> Result<(), Fail> {
 fn leaves_out_a_refused_subject(rt: HostRuntime) -> Result<(), Fail> {
     let alloc = rt.alloc();
     let message_file = b"#C05\nTEST\n;\n#L06\nTEST\n;\n";
-    let air_file = sent(alloc, THREE_SLOTS[0], message_file);
-    let ended = heard(alloc, &[b"RJ C\n", &air_file])?;
+    let air_file = send_from(alloc, THREE_SLOTS[0], message_file);
+    let ended = listen_to(alloc, &[b"RJ C\n", &air_file])?;
     assert_eq!(rt;
         ended.success(),
         Some(b"[EL06 2025-01-01 00:40:00 full 0/5]\nTEST\n\n".as_slice())
@@ -97,10 +98,13 @@ fn prints_each_message_of_an_emission_once(rt: HostRuntime) -> Result<(), Fail> 
     let message_file = b"#A01\nTEST\n;\n#B02\n;\n";
     let log = b"[EA01 2025-01-01 00:40:00 full 0/5]\nTEST\n\n\
         [EB02 2025-01-01 00:40:00 full 0/0]\n\n";
-    let first = sent(alloc, THREE_SLOTS[0], message_file);
-    assert_eq!(rt; heard(alloc, &[&first])?.success(), Some(log.as_slice()));
-    let again = sent(alloc, THREE_SLOTS[1], message_file);
-    let ended = heard(alloc, &[&first, &again])?;
+    let first = send_from(alloc, THREE_SLOTS[0], message_file);
+    assert_eq!(rt;
+        listen_to(alloc, &[&first])?.success(),
+        Some(log.as_slice())
+    );
+    let again = send_from(alloc, THREE_SLOTS[1], message_file);
+    let ended = listen_to(alloc, &[&first, &again])?;
     assert_eq!(rt; ended.success(), Some(log.as_slice()));
     Ok(())
 }
@@ -109,9 +113,9 @@ fn prints_each_message_of_an_emission_once(rt: HostRuntime) -> Result<(), Fail> 
 fn leaves_out_a_repeat_after_a_gap(rt: HostRuntime) -> Result<(), Fail> {
     let alloc = rt.alloc();
     // Four elements between two emissions, of which the second has lost second sendings.
-    let again = sent(alloc, THREE_SLOTS[1], MESSAGE_FILE);
-    let worse = damaged(alloc, "rx", "145", "57", &again);
-    let ended = heard(alloc, &[AIR_FILE_OF_X, b"B 0110\n", &worse])?;
+    let again = send_from(alloc, THREE_SLOTS[1], MESSAGE_FILE);
+    let worse = damage_in(alloc, "rx", "145", "57", &again);
+    let ended = listen_to(alloc, &[AIR_FILE_OF_X, b"B 0110\n", &worse])?;
     assert_eq!(rt; ended.success(), Some(LOG_OF_X));
     Ok(())
 }
@@ -120,9 +124,9 @@ fn leaves_out_a_repeat_after_a_gap(rt: HostRuntime) -> Result<(), Fail> {
 fn prints_a_repeat_of_what_had_no_header(rt: HostRuntime) -> Result<(), Fail> {
     let alloc = rt.alloc();
     // Both sendings of a letter of the first header are lost.
-    let once = damaged(alloc, "all", "150", "1", AIR_FILE_OF_X);
-    let mut air_file = damaged(alloc, "all", "155", "1", &once);
-    air_file.extend_from_slice(&sent(alloc, THREE_SLOTS[1], MESSAGE_FILE))?;
+    let once = damage_in(alloc, "all", "150", "1", AIR_FILE_OF_X);
+    let mut air_file = damage_in(alloc, "all", "155", "1", &once);
+    air_file.extend_from_slice(&send_from(alloc, THREE_SLOTS[1], MESSAGE_FILE))?;
     let ended = run_on(alloc, &["navtex", "listen"], &air_file);
     assert_eq!(rt;
         ended.success(),

@@ -45,6 +45,8 @@ fn sends_a_message(rt: HostRuntime) {
 #[test]
 fn tells_the_next_slot(rt: HostRuntime) {
     let alloc = rt.alloc();
+    // The slots of a station begin at 14,400k + 600i, of E (i is 4) 40 minutes past each fourth hour
+    // and of X (i is 23) 3 hours and 50 minutes (this profile).
     for (station, moment, line) in [
         ("E", "1735689600", "1735692000 2025-01-01 00:40:00\n"),
         ("E", "1735692000", "1735692000 2025-01-01 00:40:00\n"),
@@ -64,6 +66,7 @@ pub const SEND: [&str; 4] = ["navtex", "send", "E", "1735689600"];
 #[test]
 fn names_each_fault_of_a_message_file(rt: HostRuntime) {
     let alloc = rt.alloc();
+    // The lines are those of this profile for each fault.
     for (input, line) in [
         (b"".as_slice(), "navtex: no messages\n"),
         (b"TEST\n".as_slice(), "navtex: line 1 is not understood\n"),
@@ -91,6 +94,7 @@ fn names_each_fault_of_a_message_file(rt: HostRuntime) {
 #[test]
 fn names_each_fault_of_a_station(rt: HostRuntime) {
     let alloc = rt.alloc();
+    // The lines and statuses are those of this profile for each fault.
     for (words, status, line) in [
         (
             ["navtex", "send", "Y", "1735689600"],
@@ -161,6 +165,10 @@ fn long_file(
 #[test]
 fn fills_a_slot(rt: HostRuntime) -> Result<(), Fail> {
     let alloc = rt.alloc();
+    // A message alone costs 72 positions of phasing, 13 of its head, 7 of its end and three of the end
+    // of the emission, one for the letter shift before the first A, 71 for a line of 69 A and 2 for an
+    // empty line: with 58 and 36 of these 4,286, the most that a slot takes. The second has a 1 with
+    // its figure shift in place of two A, and so a letter shift before its end.
     for (full_lines, letters, end, empty_lines, line) in [
         (58, 0, b"".as_slice(), 35, None),
         (
@@ -199,6 +207,7 @@ fn prints_the_table(rt: HostRuntime) {
     let ended = run_on(rt.alloc(), &["navtex", "code"], b"");
     assert_eq!(rt; ended.status, 0);
     assert!(rt; ended.faults.is_empty());
+    // By the code table of M.476, with the numbers and names of this profile.
     for (index, line) in [
         (0, b"47 BBBYYYB A -".as_slice()),
         (3, b"53 BBYYBYB D none".as_slice()),

@@ -9,8 +9,8 @@ use crate::program::refuse_words;
 use crate::tests::devices::Sink;
 use std::io::{Error, ErrorKind};
 
-// The words, the status, and how the answer begins: help on standard output, a refusal on standard
-// error.
+// The words, the status, and how the answer begins, in clap's words: help on standard output, a
+// refusal on standard error.
 #[derive(Drop)]
 struct WordsRow<'a> {
     words: &'a [&'a str],

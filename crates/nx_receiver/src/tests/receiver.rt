@@ -9,7 +9,7 @@ use super::emissions::{
 use super::{FIRST, SECOND};
 use crate::{Entry, MomentFault, Receiver, ReceiverFault, entry_text};
 use nx_code::{Comb, Shift};
-use nx_envelope::Letter;
+use nx_envelope::{Identity, Letter};
 use nx_fec::{Counting, Position, to_bits};
 use nx_memory::{PlainRecall, Recall, RingRecall};
 use std::alloc::Global;
@@ -322,7 +322,7 @@ fn moments_and_commands(rt: HostRuntime) -> Result<(), Fail> {
             == ReceiverFault::MomentRange)
     );
     let mut memory = PlainRecall::new();
-    memory.enter(nx_envelope::Identity::new(b'E', b'A', 1).ok_or("EA01")?, 5);
+    memory.enter(Identity::new(b'E', b'A', 1).ok_or("EA01")?, 5);
     assert!(rt;
         Receiver::new(alloc, memory, 4).is_err_and(|fault| fault == ReceiverFault::MomentRange)
     );
@@ -341,10 +341,16 @@ fn moments_and_commands(rt: HostRuntime) -> Result<(), Fail> {
     assert_eq!(rt; receiver.set_moment(5), Ok(()));
     let e = Letter::new(b'E').ok_or("E")?;
     let d = Letter::new(b'D').ok_or("D")?;
+    let ee01 = Identity::new(b'E', b'E', 1).ok_or("EE01")?;
+    assert_eq!(rt; receiver.admits(&ee01), true);
     receiver.refuse_station(e);
+    assert_eq!(rt; receiver.admits(&ee01), false);
     receiver.accept_station(e);
+    assert_eq!(rt; receiver.admits(&ee01), true);
     assert!(rt; receiver.refuse_subject(e).is_ok());
+    assert_eq!(rt; receiver.admits(&ee01), false);
     receiver.accept_subject(e);
+    assert_eq!(rt; receiver.admits(&ee01), true);
     assert!(rt;
         receiver
             .refuse_subject(d)

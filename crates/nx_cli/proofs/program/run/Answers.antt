@@ -1,15 +1,15 @@
 use Rattle.std.proofs.Common.{List, ℕ, map}
 use Rattle.clap.specs.Words.{Text}
 use Rattle.nx_cli.proofs.ProgramLemmas.{exits-fresh, refused-exits, status-exits, success-exits, success-named, words-exit}
-use Rattle.nx_cli.specs.Program.{Exits, fresh}
+use Rattle.nx_cli.specs.Program.{Exits, fresh_device}
 use Rattle.nx_fec.specs.Transfers.{devices}
 use Rattle.nx_cli.proofs.program.run.Goals as goal
 
 pub returns : goal.returns
 returns g c =
     let words = map g.S.AsStr.text c.args.words.now in
-    let d = devices g.R.Read.remaining g.W.Write.contents (fresh c.args.input) c.exit_status.new.reader
-    (fresh c.args.output) c.exit_status.new.writer in
+    let d = devices g.R.Read.remaining g.W.Write.contents (fresh_device c.args.input) c.exit_status.new.reader
+    (fresh_device c.args.output) c.exit_status.new.writer in
     let exits : Exits words d c.exit_status.result = exits-fresh words g.R.Read.remaining g.W.Write.contents c.args.input c.new-reader.result
     c.exit_status.new.reader c.args.output c.new-writer.result c.exit_status.new.writer c.exit_status.result
     c.new-reader.ensures.inner c.new-reader.ensures.none c.new-writer.ensures.inner c.new-writer.ensures.none c.exit_status.ensures in

@@ -18,11 +18,11 @@ returns-clause-some c =
     let text : c.get_str.result ≡ Some c.in_ok-get_str.field-0 = search rules in
     text-some alone (codes "STATION") (found_of c.args.arguments.now) c.in_ok-get_str.field-0.now
     (sym c.get_str.ensures ∙ ap (λ (o : Option (Bor Text)). option_map (λ
-    (s : Bor Text). s.now) o) text) c.letter_alone.result c.letter_alone.ensures.some
+    (s : Bor Text). s.now) o) text) c.single_letter.result c.single_letter.ensures.some
 
 pub returns-clause-none : goal.returns-clause-none
 returns-clause-none c =
     let text : c.get_str.result ≡ Some c.in_ok-get_str.field-0 = search rules in
     text-none alone (codes "STATION") (found_of c.args.arguments.now) c.in_ok-get_str.field-0.now
     (sym c.get_str.ensures ∙ ap (λ (o : Option (Bor Text)). option_map (λ
-    (s : Bor Text). s.now) o) text) c.letter_alone.result c.letter_alone.ensures.none
+    (s : Bor Text). s.now) o) text) c.single_letter.result c.single_letter.ensures.none
