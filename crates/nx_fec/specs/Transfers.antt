@@ -1,5 +1,5 @@
 -- What a run says of its devices: of the bytes that it read and wrote, and of the calls that failed (this profile).
-use Rattle.std.specs.Prelude.{◌≡◌, ◌≢◌, ◌<◌, ◌≤◌, ◌↔◌, ℕ, List, length, take, Option, Result, Err, IfErr, IfSome, IsErrOf, ⊤}
+use Rattle.std.specs.Prelude.{◌≡◌, ◌≢◌, ◌<◌, ◌≤◌, ◌↔◌, ℕ, List, length, take, Option, Result, Err, IfErr, IfSome, IsErrOf, MatchResult, ⊤}
 use Rattle.std.specs.Io.KnownBytes.{Consumes, IsAtEnd, Keeps}
 use Rattle.nx_fec.specs.Devices.{CountedDevice}
 use Rattle.nx_fec.specs.declared.pieces.Piece.{Piece}
@@ -25,6 +25,17 @@ pub record Reads {R N F : Type 0} (remaining : R → Option (List ℕ)) (old new
   pub file : IfSome (remaining old.inner) whole
   pub failed : IsErrOf outcome read ↔ (new.failures ≡ 1)
   pub once : new.failures ≤ 1
+
+-- What a run says of its reader that reads a file to its end: its answer is good for the bytes that it read, which are
+-- then all, or its fault explains itself by them, at the end of the file or before it. And so it is for the whole file.
+abbrev pub ReadsToEnd : {R N F : Type 0} → (R → Option (List ℕ)) → CountedDevice R → CountedDevice R → F → Result N F
+    → (N → List ℕ → Type 0) → (Type 0 → List ℕ → F → Type 0) → Type 0
+ReadsToEnd remaining old new read outcome good explains =
+    Reads remaining old new read outcome
+    (λ bytes. MatchResult outcome
+    (λ answer. IsAtEnd (remaining new.inner) × good answer bytes)
+    (λ fault. explains (IsAtEnd (remaining new.inner)) bytes fault))
+    (λ bytes. MatchResult outcome (λ answer. good answer bytes) (λ fault. explains (Unit {0}) bytes fault))
 
 -- What a run says of its writer: the count of failures rose, by one, exactly where the outcome is a fault `write`.
 pub record Writes {W N F : Type 0} (new : CountedDevice W) (write : ℕ → F) (outcome : Result N F) : Type 0 where
