@@ -1,13 +1,14 @@
 -- What a run over an air file answers (this profile).
-use Rattle.std.specs.Prelude.{◌≡◌, ◌≢◌, ℕ, ◌%◌, ◌<◌, ◌≤◌, Bool, not, List, length, position, Option, Some, Result, Ok, Err, ⊤}
-use Rattle.std.specs.Io.KnownBytes.{Appends}
+use Rattle.std.specs.Prelude.{◌≡◌, ◌≢◌, ℕ, ◌%◌, ◌<◌, ◌≤◌, Bool, not, List, length, position, Option, Some, Result, Ok, Err, MatchResult, ⊤}
+use Rattle.std.specs.Global.{Vec}
+use Rattle.std.specs.Io.KnownBytes.{Appends, IsAtEnd}
 use Rattle.std.specs.List.{flat_map}
 use Rattle.nx_fec.specs.AirFile.{Line}
 use Rattle.nx_fec.specs.Lines.{HasFault, IsBitFile, file_of, Scanning, Scans, elements_of}
 use Rattle.nx_fec.specs.Aligned.{aligned_text, words_of}
 use Rattle.nx_fec.specs.WordLines.{word_lines}
-use Rattle.nx_fec.specs.Devices.{WroteSome}
-use Rattle.nx_fec.specs.Transfers.{Devices, IsReadOut, Transfers, at_the_end}
+use Rattle.nx_fec.specs.Devices.{CountedDevice, WroteSome}
+use Rattle.nx_fec.specs.Transfers.{Devices, IsReadOut, Reads, ReadsToEnd, Transfers, at_the_end}
 use Rattle.nx_fec.specs.declared.fault.LineFault.{LineFault}
 use Rattle.nx_fec.specs.declared.fault.LineFault.TheVariants as file
 use Rattle.nx_fec.specs.BitLines.{bit_lines}
@@ -73,6 +74,15 @@ pub record HasRead (limit : ℕ) (scanner : Scanning) (bits : List Bool) (bytes 
   pub lines : List Line
   pub scans : Scans limit scanner bytes lines
   pub joined : bits ≡ flat_map elements_of lines
+
+-- What a run says of its reader that reads an air file to its end: the elements of its lines are those of the bytes that
+-- it read, which are then all, or a fault is theirs. And so it is for the whole file, however it came.
+abbrev pub ReadsElements : {R : Type 0} → (R → Option (List ℕ)) → CountedDevice R → CountedDevice R
+    → Result (Vec Bool) RunFault → Type 0
+ReadsElements remaining old new outcome =
+    ReadsToEnd remaining old new Read outcome
+    (λ bits bytes. IsBitFile file_limit bytes bits.items)
+    (λ AtEnd bytes fault. ExplainsReading AtEnd file_limit bytes fault)
 
 -- the text of a file of elements, whose first word is that of slot 0
 pub record IsDecoded (limit : ℕ) (bytes text : List ℕ) : Type 0 where
@@ -140,6 +150,19 @@ abbrev pub ExplainsWhole : ℕ → List ℕ → ReadFault → Type 0
 ExplainsWhole limit bytes read.Read = ⊤
 ExplainsWhole limit bytes read.FileTooLong = limit < length bytes
 ExplainsWhole limit bytes (read.Memory error) = ⊤
+
+-- What a run says of its reader that reads a file whole: the text is the bytes that it read, which are then all, or a
+-- fault is theirs. And so it is for the whole file, however it came.
+abbrev pub ReadsWhole : {R : Type 0} → (R → Option (List ℕ)) → CountedDevice R → CountedDevice R
+    → Result (Vec ℕ) ReadFault → Type 0
+ReadsWhole remaining old new outcome =
+    Reads remaining old new read.Read outcome
+    (λ bytes. MatchResult outcome
+    (λ text. IsAtEnd (remaining new.inner) × (length bytes ≤ file_limit) × (text.items ≡ bytes))
+    (λ fault. ExplainsWhole file_limit bytes fault))
+    (λ bytes. MatchResult outcome
+    (λ text. (length bytes ≤ file_limit) × (text.items ≡ bytes))
+    (λ fault. ExplainsWhole file_limit bytes fault))
 
 -- The file that a text is encoded as, and how many positions it has: the text is spelled from letters, with four
 -- positions of phasing before it and three of the end after it, and the bits of their emission stand in lines.

@@ -1,10 +1,8 @@
 //! Reading the elements of an air file from a reader.
 ghost use Rattle.std.specs.Prelude.{◌≡◌, ◌+◌, ◌<◌, ◌≤◌, ℕ, List, ◌++◌, take, length, IfSome, IfOk, OnOk, IsErrOf, IsErrAnd, MatchResult, ◌⊎◌, Bool, vec_len};
-ghost use Rattle.std.specs.Io.KnownBytes.{IsAtEnd};
-ghost use Rattle.nx_fec.specs.Transfers.{Reads};
 ghost use Rattle.nx_fec.specs.Lines.{IsBitFile, HasFault};
 ghost use Rattle.nx_fec.specs.declared.fault.LineFault.{LineFault};
-ghost use Rattle.nx_fec.specs.Runs.{ExplainsReading, ExplainsWhole, HasRead, IsOutside, file_limit, run_fault};
+ghost use Rattle.nx_fec.specs.Runs.{ExplainsReading, HasRead, IsOutside, ReadsElements, ReadsWhole, file_limit, run_fault};
 
 use crate::counting::Counting;
 use crate::fault::{ReadFault, RunFault};
@@ -26,13 +24,7 @@ pub fn read_bits<R: Read>(alloc: Global, reader: &mut Counting<R>) -> Result<Vec
     requires { reader.old.failures ≡ 0 }
 
     // The answer is that of the bytes that were read, and that of the whole file, however it came.
-    ensures reads { Reads R.remaining reader.old reader.new RunFault.Read result
-        (λ bytes. MatchResult result
-        (λ bits. IsAtEnd (R.remaining reader.new.inner) × IsBitFile file_limit bytes bits.items)
-        (λ fault. ExplainsReading (IsAtEnd (R.remaining reader.new.inner)) file_limit bytes fault))
-        (λ bytes. MatchResult result
-        (λ bits. IsBitFile file_limit bytes bits.items)
-        (λ fault. ExplainsReading (Unit {0}) file_limit bytes fault)) }
+    ensures reads { ReadsElements R.remaining reader.old reader.new result }
 
     // So a fault of the file is the answer, and so are the elements of a file without a fault, unless the reader or
     // memory failed.
@@ -53,13 +45,7 @@ fn read_through<R: Read>(
 ) -> Result<Vec<bool>, RunFault>
     requires none { reader.old.failures ≡ 0 }
     requires room { 0 < length buffer.old }
-    ensures { Reads R.remaining reader.old reader.new RunFault.Read result
-        (λ bytes. MatchResult result
-        (λ bits. IsAtEnd (R.remaining reader.new.inner) × IsBitFile file_limit bytes bits.items)
-        (λ fault. ExplainsReading (IsAtEnd (R.remaining reader.new.inner)) file_limit bytes fault))
-        (λ bytes. MatchResult result
-        (λ bits. IsBitFile file_limit bytes bits.items)
-        (λ fault. ExplainsReading (Unit {0}) file_limit bytes fault)) }
+    ensures { ReadsElements R.remaining reader.old reader.new result }
 {
     let mut file = BitFile {
         scanner: Scanner::new(FILE_LIMIT),
@@ -78,13 +64,7 @@ pub fn read_whole<R: Read>(alloc: Global, reader: &mut Counting<R>) -> Result<Ve
     requires { reader.old.failures ≡ 0 }
 
     // The answer is that of the bytes that were read, and that of the whole file, however it came.
-    ensures { Reads R.remaining reader.old reader.new ReadFault.Read result
-        (λ bytes. MatchResult result
-        (λ text. IsAtEnd (R.remaining reader.new.inner) × (length bytes ≤ file_limit) × (text.items ≡ bytes))
-        (λ fault. ExplainsWhole file_limit bytes fault))
-        (λ bytes. MatchResult result
-        (λ text. (length bytes ≤ file_limit) × (text.items ≡ bytes))
-        (λ fault. ExplainsWhole file_limit bytes fault)) }
+    ensures { ReadsWhole R.remaining reader.old reader.new result }
 {
     let mut space = blank(alloc, CHUNK)?;
     let mut file = WholeFile {
