@@ -28,10 +28,12 @@ pub fn read_bits<R: Read>(alloc: Global, reader: &mut Counting<R>) -> Result<Vec
 
     // So a fault of the file is the answer, and so are the elements of a file without a fault, unless the reader or
     // memory failed.
-    ensures fault { IfSome (R.remaining reader.old.inner) (λ xs. (why : LineFault) → HasFault file_limit xs why →
+    ensures fault { IfSome (R.remaining reader.old.inner)
+        (λ xs. (why : LineFault) → HasFault file_limit xs why →
         IsErrAnd result (λ fault. (fault ≡ run_fault why) ⊎ IsOutside fault)) }
     ensures good { IfSome (R.remaining reader.old.inner) (λ xs. (elements : List Bool)
-        → IsBitFile file_limit xs elements → MatchResult result (λ bits. bits.items ≡ elements) IsOutside) }
+        → IsBitFile file_limit xs elements
+        → MatchResult result (λ bits. bits.items ≡ elements) IsOutside) }
 {
     let mut space = blank(alloc, CHUNK)?;
     read_through(alloc, reader, space.as_mut_slice())
@@ -126,7 +128,8 @@ impl PieceTaker for WholeFile {
 
     type Fault = ReadFault;
 
-    ghost stands = { λ file bytes. (file.room + length bytes ≡ file_limit) × (file.bytes.items ≡ bytes) };
+    ghost stands = { λ file bytes. (file.room + length bytes ≡ file_limit)
+        × (file.bytes.items ≡ bytes) };
 
     ghost explains = { λ bytes fault. ExplainsWhole file_limit bytes fault };
 
