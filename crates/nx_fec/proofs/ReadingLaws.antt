@@ -1,11 +1,9 @@
 -- Lemmas on what a scanner has read, and on the faults that explain why it stopped.
-use Rattle.std.proofs.Common.{◌≡◌, ℕ, ◌<◌, Bool, length, take, drop, option_to_list, refl, List, [], ◌∷◌, ◌++◌, sym, ap, ◌∙◌, subst, append_assoc, append-nil, Option, None, Some, IfSome, Result, Err, arith}
+use Rattle.std.proofs.Common.{◌≡◌, ℕ, Bool, length, take, drop, option_to_list, refl, List, [], ◌∷◌, ◌++◌, sym, ap, ◌∙◌, subst, append-nil, Option, None, Some, IfSome, Result, Err}
 use Rattle.std.specs.List.{flat_map}
-use Rattle.std.specs.Io.KnownBytes.{Consumes, IsAtEnd}
 use Rattle.std.proofs.lemmas.List.Concat.{flat_map-append}
-use Rattle.std.proofs.lemmas.List.{length-append}
 use Rattle.nx_fec.specs.AirFile.{Line}
-use Rattle.nx_fec.specs.Lines.{file_of, HasFault, IsAtByte, IsCause, Scanning, Scans, Splits, StopsIn, elements_of, IsBitFile}
+use Rattle.nx_fec.specs.Lines.{HasFault, IsAtByte, IsCause, Scanning, Scans, Splits, StopsIn, elements_of}
 use Rattle.nx_fec.specs.Scanner.{elements_kept}
 use Rattle.nx_fec.specs.Runs.{run_fault, ExplainsReading, HasRead}
 use Rattle.nx_fec.proofs.PieceLemmas.{piece-parts}
@@ -26,6 +24,10 @@ HasFault-cause limit bytes lines rest more why s cause = record {
   part = s.part;
   cause = subst (λ l. IsCause limit (length l) lines rest more why) s.whole cause;
 }
+
+-- a scanner before the first byte
+pub HasRead-first : (limit : ℕ) (scanner : Scanning) (bits : List Bool) → Scans limit scanner [] [] → bits ≡ [] → HasRead limit scanner bits []
+HasRead-first limit scanner bits scans none = record { lines = []; scans = scans; joined = none }
 
 -- one more step of the scanner, over the bytes of some more lines
 pub HasRead-step : (limit : ℕ) (old new : Scanning) (bits more : List Bool) (bytes bytes' : List ℕ) (some : List Line) (h : HasRead limit old bits bytes)
@@ -77,47 +79,6 @@ IsCause-more limit front lines rest (byte ∷ more) ys (file.LineLong line) at h
 IsCause-more limit front lines rest (byte ∷ more) ys (file.LineCut line) at h = absurd at
 IsCause-more limit front lines rest (byte ∷ more) ys (file.BadLine line) at h = h
 
--- a fault at a byte stays, whatever comes after it
-pub HasFault-more : (limit : ℕ) (bytes ys : List ℕ) (why : LineFault) → IsAtByte why → HasFault limit bytes why → HasFault limit (bytes ++ ys) why
-HasFault-more limit bytes ys why at h = record {
-  lines = h.lines;
-  rest = h.rest;
-  more = h.more ++ ys;
-  whole = ap (λ l. l ++ ys) h.whole ∙ append_assoc (file_of h.lines ++ h.rest) h.more ys;
-  each = h.each;
-  part = h.part;
-  cause = IsCause-more limit _ h.lines h.rest h.more ys why at h.cause;
-}
-
--- the fault of the bytes that were read is that of the whole file
-pub ExplainsReading-whole : (limit : ℕ) (bytes ys : List ℕ) (fault : RunFault) → ExplainsReading (ys ≡ []) limit bytes fault → ExplainsReading (Unit {0}) limit (bytes ++ ys) fault
-ExplainsReading-whole limit bytes ys Read h = tt
-ExplainsReading-whole limit bytes ys FileTooLong h = HasFault-more limit bytes ys file.TooLong tt h
-ExplainsReading-whole limit bytes ys (LineLong line) h = HasFault-more limit bytes ys (file.LineLong line) tt h
-ExplainsReading-whole limit bytes ys (LineCut line) h =
-    (tt, subst (λ l. HasFault limit l (file.LineCut line)) (sym (ap (λ l. bytes ++ l) h.0 ∙ append-nil bytes)) h.1)
-ExplainsReading-whole limit bytes ys (BadLine line) h = HasFault-more limit bytes ys (file.BadLine line) tt h
-ExplainsReading-whole limit bytes ys (Ragged bits) h = absurd h
-ExplainsReading-whole limit bytes ys (NoSuchCharacter at) h = absurd h
-ExplainsReading-whole limit bytes ys (Write written) h = absurd h
-ExplainsReading-whole limit bytes ys (Memory error) h = tt
-
--- the same, where the reader's bytes may be unknown
-pub ExplainsReading-file : (old new : Option (List ℕ)) (limit : ℕ) (bytes : List ℕ) (fault : RunFault) → Consumes old new bytes
-    → ExplainsReading (IsAtEnd new) limit bytes fault → IfSome old (λ xs. ExplainsReading (Unit {0}) limit xs fault)
-ExplainsReading-file None new limit bytes fault consumed h = tt
-ExplainsReading-file (Some xs) None limit bytes fault consumed h = absurd consumed
-ExplainsReading-file (Some xs) (Some ys) limit bytes fault consumed h =
-    subst (λ l. ExplainsReading (Unit {0}) limit l fault) (sym consumed) (ExplainsReading-whole limit bytes ys fault h)
-
--- and where the file was read to its end
-pub IsBitFile-file : (old new : Option (List ℕ)) (limit : ℕ) (bytes : List ℕ) (bits : List Bool) → Consumes old new bytes → IsAtEnd new
-    → IsBitFile limit bytes bits → IfSome old (λ xs. IsBitFile limit xs bits)
-IsBitFile-file None new limit bytes bits consumed end h = tt
-IsBitFile-file (Some xs) None limit bytes bits consumed end h = absurd consumed
-IsBitFile-file (Some xs) (Some ys) limit bytes bits consumed end h =
-    subst (λ l. IsBitFile limit l bits) (sym (consumed ∙ ap (λ l. bytes ++ l) end ∙ append-nil bytes)) h
-
 -- the elements that a scanner keeps are those of the line that was ended
 pub elements_kept-list : (latest : Option Line) → flat_map elements_of (option_to_list latest) ≡ elements_kept latest
 elements_kept-list None = refl
@@ -133,21 +94,6 @@ ExplainsReading-stop limit s bytes piece more lines why at stops =
 pub IfSome-always : (o : Option (List ℕ)) (P : List ℕ → Type 0) → ((xs : List ℕ) → P xs) → IfSome o P
 IfSome-always None P h = tt
 IfSome-always (Some xs) P h = h xs
-
-pub IfSome-map : (o : Option (List ℕ)) (P Q : List ℕ → Type 0) → ((xs : List ℕ) → P xs → Q xs) → IfSome o P → IfSome o Q
-IfSome-map None P Q f h = tt
-IfSome-map (Some xs) P Q f h = f xs h
-
--- a fault that stands in the bytes, whatever comes after them
-pub ExplainsReading-piece : (AtEnd : Type 0) (limit : ℕ) (bytes : List ℕ) (fault : RunFault) → ((more : List ℕ) → ExplainsReading ⊥ limit (bytes ++ more) fault) → ExplainsReading AtEnd limit bytes fault
-ExplainsReading-piece AtEnd limit bytes fault h =
-    ExplainsReading-weaker ⊥ AtEnd limit bytes fault (λ x. absurd x) (subst (λ l. ExplainsReading ⊥ limit l fault) (append-nil bytes) (h []))
-
--- a longer front of the file
-pub IfSome-longer : (old new : Option (List ℕ)) (bytes : List ℕ) (limit : ℕ) → Consumes old new bytes → limit < length bytes → IfSome old (λ xs. limit < length xs)
-IfSome-longer None new bytes limit consumed h = tt
-IfSome-longer (Some xs) None bytes limit consumed h = absurd consumed
-IfSome-longer (Some xs) (Some ys) bytes limit consumed h = omega (arith, h, ap length consumed, length-append bytes ys)
 
 -- a fault of the file is no failed read
 pub run_fault-not_read : {T : Type 0} (why : LineFault) → ◌≡◌ {A = Result T RunFault} (Err (run_fault why)) (Err Read) → ⊥

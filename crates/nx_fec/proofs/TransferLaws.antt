@@ -1,8 +1,9 @@
 -- What a run says of its reader follows from what its reading said of it.
-use Rattle.std.proofs.Common.{◌≡◌, ◌≢◌, ◌↔◌, ℕ, arith, List, Option, None, Some, IfSome, Result, Ok, Err, IsErrOf}
-use Rattle.nx_fec.proofs.ReadingLaws.{Err-same}
+use Rattle.std.proofs.Common.{◌≡◌, ◌≢◌, ◌↔◌, ◌∙◌, ℕ, arith, List, [], ◌++◌, append-nil, ap, refl, subst, sym, Option, None, Some, IfSome, Result, Ok, Err, IsErrOf}
+use Rattle.std.specs.Io.KnownBytes.{Consumes, IsAtEnd}
+use Rattle.nx_fec.proofs.ReadingLaws.{Err-same, IfSome-always}
 use Rattle.nx_fec.specs.Devices.{CountedDevice}
-use Rattle.nx_fec.specs.Transfers.{Reads, Writes}
+use Rattle.nx_fec.specs.Transfers.{Reads, ReadsToEnd, Writes}
 use Rattle.nx_fec.specs.declared.fault.RunFault.{RunFault}
 use Rattle.nx_fec.specs.declared.fault.RunFault.TheVariants.{Read, Write}
 
@@ -58,3 +59,52 @@ Writes-fault new write fault h = record {
   failed = (λ w. h.failed.0 (w.0, Err-same _ _ w.1), λ one. let w = h.failed.1 one in (w.0, Err-same _ _ w.1));
   once = h.once;
 }
+
+-- what holds of the bytes that were read, whatever comes after them, holds of the whole file
+pub IfSome-front : (old new : Option (List ℕ)) (bytes : List ℕ) (P : List ℕ → Type 0) → Consumes old new bytes → ((more : List ℕ) → P (bytes ++ more)) → IfSome old P
+IfSome-front None new bytes P consumed h = tt
+IfSome-front (Some xs) None bytes P consumed h = absurd consumed
+IfSome-front (Some xs) (Some ys) bytes P consumed h = subst P (sym consumed) (h ys)
+
+-- and so does what holds of them at the end of the file
+pub IfSome-end : (old new : Option (List ℕ)) (bytes : List ℕ) (P : List ℕ → Type 0) → Consumes old new bytes → IsAtEnd new → P bytes → IfSome old P
+IfSome-end None new bytes P consumed end h = tt
+IfSome-end (Some xs) None bytes P consumed end h = absurd consumed
+IfSome-end (Some xs) (Some ys) bytes P consumed end h = subst P (sym (consumed ∙ ap (λ l. bytes ++ l) end ∙ append-nil bytes)) h
+
+module _ {R N F : Type 0} (remaining : R → Option (List ℕ)) (old new : CountedDevice R) (unread : F) (good : N → List ℕ → Type 0) (explains : List ℕ → F → Type 0)
+    (bytes : List ℕ) (consumed : Consumes (remaining old.inner) (remaining new.inner) bytes) where
+  -- a file is read to its end
+  pub ReadsToEnd-ended : (answer : N) → IsAtEnd (remaining new.inner) → good answer bytes → new.failures ≡ 0
+      → ReadsToEnd remaining old new unread (Ok answer) good (λ _. explains)
+  ReadsToEnd-ended answer end h none = record {
+    bytes = bytes;
+    consumed = consumed;
+    answer = (end, h);
+    file = IfSome-end _ _ bytes (good answer) consumed end h;
+    failed = read_failed-none _ _ _ (Ok-not_err _ _) none;
+    once = omega (arith, none);
+  }
+
+  -- or it has a fault
+  pub ReadsToEnd-stopped : (fault : F) → ((more : List ℕ) → explains (bytes ++ more) fault) → (◌≡◌ {A = Result N F} (Err fault) (Err unread) → ⊥)
+      → new.failures ≡ 0 → ReadsToEnd remaining old new unread (Err fault) good (λ _. explains)
+  ReadsToEnd-stopped fault h other none = record {
+    bytes = bytes;
+    consumed = consumed;
+    answer = subst (λ l. explains l fault) (append-nil bytes) (h []);
+    file = IfSome-front _ _ bytes (λ xs. explains xs fault) consumed h;
+    failed = read_failed-none _ _ _ other none;
+    once = omega (arith, none);
+  }
+
+  -- or a read fails
+  pub ReadsToEnd-failed : ((xs : List ℕ) → explains xs unread) → new.failures ≡ 1 → ReadsToEnd {N = N} remaining old new unread (Err unread) good (λ _. explains)
+  ReadsToEnd-failed h one = record {
+    bytes = bytes;
+    consumed = consumed;
+    answer = h bytes;
+    file = IfSome-always _ _ h;
+    failed = (λ e. one, λ o. refl);
+    once = omega (arith, one);
+  }

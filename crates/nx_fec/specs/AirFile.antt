@@ -5,7 +5,8 @@ use Rattle.nx_code.specs.Characters.{IsCapital}
 use Rattle.nx_fec.specs.declared.air_file.AirLine.{AirLine}
 use Rattle.nx_fec.specs.declared.air_file.AirLine.TheVariants.{Moment, Bits, RefuseStation, AcceptStation, RefuseSubject, AcceptSubject}
 
--- what a line says: the moment from here on, elements in the order of sending, or a command of selection for a letter
+-- what a line says: the moment from here on, elements in the order of sending, or a command of
+-- selection for a letter
 pub data Line : Type 0 where
   moment : ℕ → Line
   elements : List Bool → Line

@@ -16,14 +16,17 @@ word_in bits slot = word_from bits (7 * slot)
 unfoldable pub words_of : List Bool → List ℕ
 words_of bits = map (word_in bits) (range_with_len 0 (length bits / 7))
 
--- what the word five slots before counts as, where the words begin at slot 0: before that none was seen
+-- what the word five slots before counts as, where the words begin at slot 0: before that none was
+-- seen
 abbrev pub five_before : List ℕ → ℕ → Counted
 five_before words slot = if nat_lt slot 5 then nothing else counts_as (slice_index words (slot - 5))
 
--- What the first DX words of a lock count as, so many of them, oldest first. The first of them is word 0, or word 1 of a
--- lock that begins with an RX word. RX word k comes after those before it: `k ≡ 2 * count + first - 1`.
+-- What the first DX words of a lock count as, so many of them, oldest first. The first of them is
+-- word 0, or word 1 of a lock that begins with an RX word. RX word k comes after those before it:
+-- `k ≡ 2 * count + first - 1`.
 unfoldable pub dx_words : List ℕ → ℕ → ℕ → List Counted
-dx_words words first count = map (λ i. counts_as (slice_index words (2 * i + first))) (range_with_len 0 count)
+dx_words words first count =
+    map (λ i. counts_as (slice_index words (2 * i + first))) (range_with_len 0 count)
 
 -- what is taken at an RX slot: its word is paired with the one five slots before it
 unfoldable pub taken_at : List ℕ → ℕ → Reception

@@ -8,6 +8,7 @@ use Rattle.nx_fec.specs.AirFile.{Line, elements}
 abbrev pub bit_line : List Bool → ℕ → Line
 bit_line bits i = elements (take 490 (drop (490 * i) bits))
 
--- as many lines as hold all elements: each of 490 elements, but for the last, and none where there is no element
+-- as many lines as hold all elements: each of 490 elements, but for the last, and none where there
+-- is no element
 abbrev pub bit_lines : List Bool → List Line
 bit_lines bits = map (bit_line bits) (range_with_len 0 (div_ceil (length bits) 490))

@@ -11,17 +11,18 @@ pub record CountedDevice (T : Type 0) : Type 0 where
 -- it is stored as the pair of its parts
 abbrev pub counted_code : {T : Type 0} → Coded T → Coded (CountedDevice T)
 counted_code {T} code =
-    code_by (T × ℕ) (coded× code coded_ℕ) (λ c. (c.inner, c.failures)) (λ p. record { inner = p.0; failures = p.1 }) (λ _. refl)
+    code_by (T × ℕ) (coded× code coded_ℕ) (λ c. (c.inner, c.failures))
+    (λ p. record { inner = p.0; failures = p.1 }) (λ _. refl)
 
--- One call: a success leaves the count, and a failure raises it by one, up to its greatest value. Once the count is
--- above 0, the call fails and isn't passed on.
+-- One call: a success leaves the count, and a failure raises it by one, up to its greatest value.
+-- Once the count is above 0, the call fails and isn't passed on.
 pub record Counts {T R E : Type 0} (old new : CountedDevice T) (result : Result R E) : Type 0 where
   pub ok : OnOk result (new.failures ≡ old.failures)
   pub err : OnErr result (new.failures ≡ min (old.failures + 1) (2 ^ 64 - 1))
   pub stopped : 0 < old.failures → IsErr result × (new.inner ≡ old.inner)
 
--- A failed write: the writer took some first of these bytes, but not all, and `written` counts them, at most to the
--- greatest number of 64 bits.
+-- A failed write: the writer took some first of these bytes, but not all, and `written` counts
+-- them, at most to the greatest number of 64 bits.
 pub record WroteSome (old new : Option (List ℕ)) (bytes : List ℕ) (written : ℕ) : Type 0 where
   pub taken : ℕ
   pub fewer : taken < length bytes

@@ -36,19 +36,22 @@ rx_word end_position = phasing_1
 abbrev pub position_at : List SentPosition → ℕ → SentPosition
 position_at positions i = slice_index_or positions i end_position
 
--- P positions are sent in 2P-1 words, and none in none. Position i has its DX word in slot 2i and its RX word in
--- slot 2i+5, where that is at most 2P-2; slots 1 and 3 hold P1.
+-- P positions are sent in 2P-1 words, and none in none. Position i has its DX word in slot 2i and
+-- its RX word in slot 2i+5, where that is at most 2P-2; slots 1 and 3 hold P1.
 pub record IsEmission (positions : List SentPosition) (sent : List ℕ) : Type 0 where
   pub slots : length sent ≡ 2 * length positions - 1
-  pub dx : (i : ℕ) → i < length positions → slice_index sent (2 * i) ≡ dx_word (position_at positions i)
-  pub rx : (i : ℕ) → 2 * i + 5 ≤ 2 * length positions - 2 → slice_index sent (2 * i + 5) ≡ rx_word (position_at positions i)
+  pub dx : (i : ℕ) → i < length positions
+      → slice_index sent (2 * i) ≡ dx_word (position_at positions i)
+  pub rx : (i : ℕ) → 2 * i + 5 ≤ 2 * length positions - 2
+      → slice_index sent (2 * i + 5) ≡ rx_word (position_at positions i)
   pub first_rx : 1 < length sent → slice_index sent 1 ≡ phasing_1
   pub second_rx : 3 < length sent → slice_index sent 3 ≡ phasing_1
 
 -- the word of a slot, and the words of all slots
 unfoldable pub word_sent : List SentPosition → ℕ → ℕ
 word_sent positions slot =
-    if slot % 2 == 0 then dx_word (position_at positions (slot / 2)) else (if nat_lt slot 5 then phasing_1 else rx_word (position_at positions ((slot - 5) / 2)))
+    if slot % 2 == 0 then dx_word (position_at positions (slot / 2))
+    else (if nat_lt slot 5 then phasing_1 else rx_word (position_at positions ((slot - 5) / 2)))
 
 unfoldable pub emission : List SentPosition → List ℕ
 emission positions = map (word_sent positions) (range_with_len 0 (2 * length positions - 1))
@@ -63,7 +66,8 @@ AreWords sent = EachIndex sent (λ slot. slice_index sent slot < 128)
 
 -- these are numbers of combinations
 abbrev pub AreCombinations : List ℕ → Type 0
-AreCombinations numbers = EachIndex numbers (λ i. (1 ≤ slice_index numbers i) × (slice_index numbers i ≤ 32))
+AreCombinations numbers =
+    EachIndex numbers (λ i. (1 ≤ slice_index numbers i) × (slice_index numbers i ≤ 32))
 
 -- a traffic position has a combination
 abbrev pub IsInCode : SentPosition → Type 0
@@ -80,6 +84,8 @@ reception phasing_position = idle
 reception (traffic_position number) = combination number
 reception end_position = idle
 
--- the positions by which combinations are sent alone: four of phasing, the combinations, three of the end
+-- the positions by which combinations are sent alone: four of phasing, the combinations, three of
+-- the end
 unfoldable pub framed_positions : List ℕ → List SentPosition
-framed_positions numbers = replicate 4 phasing_position ++ map traffic_position numbers ++ replicate 3 end_position
+framed_positions numbers =
+    replicate 4 phasing_position ++ map traffic_position numbers ++ replicate 3 end_position

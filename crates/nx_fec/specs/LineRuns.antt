@@ -25,8 +25,9 @@ pub record HasGiven (old new : Option (List ℕ)) (batch : Waiting) (given : Lis
   pub written : HasWritten old new done batch.sent
   pub whole : given ≡ done ++ batch.bytes
 
--- A taker of lines that stood so at `first` stands so now, after these lines, for which it gave these bytes; a beginning
--- of what it gives for these lines; and why it refuses the next line after these.
+-- A taker of lines that stood so at `first` stands so now, after these lines, for which it gave
+-- these bytes; a beginning of what it gives for these lines; and why it refuses the next line after
+-- these.
 abbrev pub Standing : Type 0 → Type 1
 Standing T = T → T → List Line → List ℕ → Type 0
 
@@ -37,19 +38,22 @@ abbrev pub Refusing : Type 0 → Type 0 → Type 1
 Refusing T F = T → List Line → Line → F → Type 0
 
 -- a taker stands so after these lines, and this holds of the bytes that it gave for them
-pub record HasTaken {T : Type 0} (stands : Standing T) (first now : T) (lines : List Line) (holds : List ℕ → Type 0) : Type 0 where
+pub record HasTaken {T : Type 0} (stands : Standing T) (first now : T) (lines : List Line)
+    (holds : List ℕ → Type 0) : Type 0 where
   pub given : List ℕ
   pub stood : stands first now lines given
   pub here : holds given
 
 -- a beginning of what a taker gives for these lines was written in part
-pub record HasTakenSome {T : Type 0} (begins : Beginning T) (first : T) (old new : Option (List ℕ)) (lines : List Line) (written : ℕ) : Type 0 where
+pub record HasTakenSome {T : Type 0} (begins : Beginning T) (first : T) (old new : Option (List ℕ))
+    (lines : List Line) (written : ℕ) : Type 0 where
   pub given : List ℕ
   pub begun : begins first lines given
   pub some : WroteSome old new given written
 
 -- what a fault of taking the next line says: it is refused, and nothing changed; or a write failed
-abbrev pub ExplainsTaking : {T F : Type 0} → Standing T → Beginning T → Refusing T F → T → T → Option (List ℕ) → Option (List ℕ) → Waiting
+abbrev pub ExplainsTaking : {T F : Type 0} → Standing T → Beginning T → Refusing T F → T → T
+    → Option (List ℕ) → Option (List ℕ) → Waiting
     → List Line → Line → TakeFault F → Type 0
 ExplainsTaking stands begins refuses first now old new batch lines line (take.Refused why) =
     refuses first lines line why × HasTaken stands first now lines (HasGiven old new batch)
@@ -66,8 +70,10 @@ pub record StopsAt (bytes : List ℕ) (holds : List Line → List ℕ → List �
   pub part : IsBeginning rest
   pub here : holds lines rest more
 
--- the next line after these, which is one of an air file within the limit, is refused; lines count from 1
-pub record IsRefused {T F : Type 0} (refuses : Refusing T F) (first : T) (limit : ℕ) (lines : List Line) (rest more : List ℕ) (number : ℕ) (why : F) : Type 0 where
+-- the next line after these, which is one of an air file within the limit, is refused; lines count
+-- from 1
+pub record IsRefused {T F : Type 0} (refuses : Refusing T F) (first : T) (limit : ℕ)
+    (lines : List Line) (rest more : List ℕ) (number : ℕ) (why : F) : Type 0 where
   pub line : Line
   pub after : List ℕ
   pub good : IsLine line
@@ -84,45 +90,63 @@ IsPlaced AtEnd (LineLong line) = ⊤
 IsPlaced AtEnd (LineCut line) = AtEnd
 IsPlaced AtEnd (BadLine line) = ⊤
 
--- What a fault of a run over lines says of the bytes that were read. The whole lines before it were taken, and `wrote`
--- holds of what they gave: after a failed read no byte is left of which `IsLeft` doesn't hold; a fault of the air file
--- is its first; a line was refused; or a write failed, with a beginning of what the lines read by then give.
-abbrev pub ExplainsLines : {T F : Type 0} → Standing T → Beginning T → Refusing T F → Type 0 → (List ℕ → Type 0) → ℕ → T → T
+-- What a fault of a run over lines says of the bytes that were read. The whole lines before it were
+-- taken, and `wrote` holds of what they gave: after a failed read no byte is left of which `IsLeft`
+-- doesn't hold; a fault of the air file is its first; a line was refused; or a write failed, with a
+-- beginning of what the lines read by then give.
+abbrev pub ExplainsLines : {T F : Type 0} → Standing T → Beginning T → Refusing T F → Type 0
+    → (List ℕ → Type 0) → ℕ → T → T
     → Option (List ℕ) → Option (List ℕ) → (List ℕ → Type 0) → List ℕ → LinesFault F → Type 0
 ExplainsLines stands begins refuses AtEnd IsLeft limit first now old new wrote bytes run.Read =
-    StopsAt bytes (λ lines rest more. (length (file_of lines ++ rest) ≤ limit) × IsLeft more × HasTaken stands first now lines wrote)
-ExplainsLines stands begins refuses AtEnd IsLeft limit first now old new wrote bytes (run.Line why) =
-    IsPlaced AtEnd why × StopsAt bytes (λ lines rest more. IsCause limit (length (file_of lines ++ rest)) lines rest more why × HasTaken stands first now lines wrote)
-ExplainsLines stands begins refuses AtEnd IsLeft limit first now old new wrote bytes (run.Refused line why) =
-    StopsAt bytes (λ lines rest more. IsRefused refuses first limit lines rest more line why × HasTaken stands first now lines wrote)
-ExplainsLines stands begins refuses AtEnd IsLeft limit first now old new wrote bytes (run.Write written) =
+    StopsAt bytes (λ lines rest more. (length (file_of lines ++ rest) ≤ limit) × IsLeft more
+    × HasTaken stands first now lines wrote)
+ExplainsLines stands begins refuses AtEnd IsLeft limit first now old new wrote bytes
+    (run.Line why) =
+    IsPlaced AtEnd why × StopsAt bytes
+    (λ lines rest more. IsCause limit (length (file_of lines ++ rest)) lines rest more why
+    × HasTaken stands first now lines wrote)
+ExplainsLines stands begins refuses AtEnd IsLeft limit first now old new wrote bytes
+    (run.Refused line why) =
+    StopsAt bytes (λ lines rest more. IsRefused refuses first limit lines rest more line why
+    × HasTaken stands first now lines wrote)
+ExplainsLines stands begins refuses AtEnd IsLeft limit first now old new wrote bytes
+    (run.Write written) =
     StopsAt bytes (λ lines rest more. HasTakenSome begins first old new lines written)
 
 -- a file was read to its end: all its lines were taken, and what they gave was written
-pub record HasTakenAll {T : Type 0} (stands : Standing T) (first now : T) (old new : Option (List ℕ)) (limit : ℕ) (bytes : List ℕ) (read : LinesRead) : Type 0 where
+pub record HasTakenAll {T : Type 0} (stands : Standing T) (first now : T)
+    (old new : Option (List ℕ)) (limit : ℕ) (bytes : List ℕ) (read : LinesRead) : Type 0 where
   pub lines : List Line
   pub file : IsAirFile limit bytes lines
   pub taken : HasTaken stands first now lines (λ given. HasWritten old new given read.written)
   pub counted : read.lines ≡ length lines
 
 -- what a run over lines answers of these bytes
-abbrev pub AnswersLines : {T F : Type 0} → Standing T → Beginning T → Refusing T F → Type 0 → (List ℕ → Type 0) → ℕ → T → T
+abbrev pub AnswersLines : {T F : Type 0} → Standing T → Beginning T → Refusing T F → Type 0
+    → (List ℕ → Type 0) → ℕ → T → T
     → Option (List ℕ) → Option (List ℕ) → Result LinesRead (LinesFault F) → List ℕ → Type 0
 AnswersLines stands begins refuses AtEnd IsLeft limit first now old new (Ok read) bytes =
     AtEnd × HasTakenAll stands first now old new limit bytes read
 AnswersLines stands begins refuses AtEnd IsLeft limit first now old new (Err fault) bytes =
-    ExplainsLines stands begins refuses AtEnd IsLeft limit first now old new (Appends old new) bytes fault
+    ExplainsLines stands begins refuses AtEnd IsLeft limit first now old new
+    (Appends old new) bytes fault
 
--- A run over lines: it answers so to the bytes that it read, and to the whole file, however it came; and it writes what
--- the lines give before each further read.
-abbrev pub RunsLines : {R W T F : Type 0} → Standing T → Beginning T → Refusing T F → ℕ → T → T → Devices R W → Result LinesRead (LinesFault F) → Type 0
+-- A run over lines: it answers so to the bytes that it read, and to the whole file, however it
+-- came; and it writes what the lines give before each further read.
+abbrev pub RunsLines : {R W T F : Type 0} → Standing T → Beginning T → Refusing T F → ℕ → T → T
+    → Devices R W → Result LinesRead (LinesFault F) → Type 0
 RunsLines stands begins refuses limit first now d outcome =
     Transfers run.Read (λ written. run.Write written) on_the_way d outcome
-    (λ bytes. AnswersLines stands begins refuses (IsReadOut d) (λ more. more ≡ []) limit first now (d.contents d.writer.inner) (d.contents d.writer_after.inner) outcome bytes)
-    (λ bytes. AnswersLines stands begins refuses (Unit {0}) (λ more. Unit {0}) limit first now (d.contents d.writer.inner) (d.contents d.writer_after.inner) outcome bytes)
+    (λ bytes. AnswersLines stands begins refuses (IsReadOut d) (λ more. more ≡ []) limit first now
+    (d.contents d.writer.inner) (d.contents d.writer_after.inner) outcome bytes)
+    (λ bytes. AnswersLines stands begins refuses (Unit {0}) (λ more. Unit {0}) limit first now
+    (d.contents d.writer.inner) (d.contents d.writer_after.inner) outcome bytes)
 
--- while a run goes on: the scanner stands so after these bytes, and all lines that they ended were taken
-pub record IsTaking {T : Type 0} (stands : Standing T) (first now : T) (limit : ℕ) (scanner : Scanning) (old new : Option (List ℕ)) (batch : Waiting) (bytes : List ℕ) : Type 0 where
+-- while a run goes on: the scanner stands so after these bytes, and all lines that they ended were
+-- taken
+pub record IsTaking {T : Type 0} (stands : Standing T) (first now : T) (limit : ℕ)
+    (scanner : Scanning) (old new : Option (List ℕ)) (batch : Waiting)
+    (bytes : List ℕ) : Type 0 where
   pub lines : List Line
   pub scans : Scans limit scanner bytes lines
   pub taken : HasTaken stands first now lines (HasGiven old new batch)

@@ -32,13 +32,15 @@ pub record Splits (bytes : List ℕ) (lines : List Line) (rest : List ℕ) : Typ
   pub each : AllByRecursion IsLine lines
   pub part : IsBeginning rest
 
--- After `lines` and the beginning `rest` of one more, which are `front` bytes, comes the fault: at the next byte, the
--- first of `more`, or at the end of the file. A byte past the limit isn't looked at. The 515th byte of a line is too
--- many. A line feed ends a line, which has to be one of the air file. At the end of the file no line is open.
+-- After `lines` and the beginning `rest` of one more, which are `front` bytes, comes the fault: at
+-- the next byte, the first of `more`, or at the end of the file. A byte past the limit isn't looked
+-- at. The 515th byte of a line is too many. A line feed ends a line, which has to be one of the air
+-- file. At the end of the file no line is open.
 abbrev pub IsCause : ℕ → ℕ → List Line → List ℕ → List ℕ → LineFault → Type 0
 IsCause limit front lines rest [] TooLong = ⊥
 IsCause limit front lines rest [] (LineLong line) = ⊥
-IsCause limit front lines rest [] (LineCut line) = (front ≤ limit) × (0 < length rest) × (line ≡ length lines + 1)
+IsCause limit front lines rest [] (LineCut line) =
+    (front ≤ limit) × (0 < length rest) × (line ≡ length lines + 1)
 IsCause limit front lines rest [] (BadLine line) = ⊥
 IsCause limit front lines rest (byte ∷ more) TooLong = front ≡ limit
 IsCause limit front lines rest (byte ∷ more) (LineLong line) =
@@ -47,8 +49,8 @@ IsCause limit front lines rest (byte ∷ more) (LineCut line) = ⊥
 IsCause limit front lines rest (byte ∷ more) (BadLine line) =
     (front < limit) × (byte ≡ line_end) × IsNoLine rest × (line ≡ length lines + 1)
 
--- The file of these bytes has this fault. Good lines and the beginning of one more stand before it, so it is the
--- earliest; any bytes may come after it.
+-- The file of these bytes has this fault. Good lines and the beginning of one more stand before it,
+-- so it is the earliest; any bytes may come after it.
 pub record HasFault (limit : ℕ) (bytes : List ℕ) (why : LineFault) : Type 0 where
   pub lines : List Line
   pub rest : List ℕ
@@ -82,8 +84,8 @@ pub record IsBitFile (limit : ℕ) (bytes : List ℕ) (bits : List Bool) : Type 
   pub file : IsAirFile limit bytes lines
   pub joined : bits ≡ flat_map elements_of lines
 
--- what a scanner of lines holds: the open line, how many lines were ended, how many more bytes it may take, and the
--- line that the last byte ended, if it did
+-- what a scanner of lines holds: the open line, how many lines were ended, how many more bytes it
+-- may take, and the line that the last byte ended, if it did
 pub record Scanning : Type 0 where
   pub part : List ℕ
   pub lines : ℕ
@@ -91,15 +93,19 @@ pub record Scanning : Type 0 where
   pub latest : Option Line
 
 -- a scanner stands so after these bytes, which ended these lines
-pub record Scans (limit : ℕ) (scanner : Scanning) (bytes : List ℕ) (lines : List Line) : Type 0 where
+pub record Scans (limit : ℕ) (scanner : Scanning) (bytes : List ℕ)
+    (lines : List Line) : Type 0 where
   pub splits : Splits bytes lines scanner.part
   pub count : scanner.lines ≡ length lines
   pub room : scanner.room + length bytes ≡ limit
 
--- A scanner stands so after these bytes and so many of a piece, which ended no line; and the next byte is the cause of
--- this fault, whatever follows.
-pub record StopsIn (limit : ℕ) (scanner : Scanning) (bytes piece : List ℕ) (lines : List Line) (why : LineFault) : Type 0 where
+-- A scanner stands so after these bytes and so many of a piece, which ended no line; and the next
+-- byte is the cause of this fault, whatever follows.
+pub record StopsIn (limit : ℕ) (scanner : Scanning) (bytes piece : List ℕ) (lines : List Line)
+    (why : LineFault) : Type 0 where
   pub count : ℕ
   pub within : count < length piece
   pub scans : Scans limit scanner (bytes ++ take count piece) lines
-  pub cause : (more : List ℕ) → IsCause limit (length (bytes ++ take count piece)) lines scanner.part (drop count piece ++ more) why
+  pub cause : (more : List ℕ)
+      → IsCause limit (length (bytes ++ take count piece)) lines scanner.part
+      (drop count piece ++ more) why

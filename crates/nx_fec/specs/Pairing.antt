@@ -1,5 +1,5 @@
--- Pairing (ITU-R M.625, collective mode B: each position is sent twice, as DX and, five slots later, as RX;
--- that differing signals are lost is this profile's).
+-- Pairing (ITU-R M.625, collective mode B: each position is sent twice, as DX and, five slots
+-- later, as RX; that differing signals are lost is this profile's).
 use Rattle.std.specs.Prelude.{◌≡◌, ◌≢◌, ℕ, ◌+◌, ◌-◌, ◌==◌, nat_lt, if◌then◌else◌, List, Option, Some, None, length, drop, map, slice_index_or}
 use Rattle.nx_code.specs.declared.signals.Signal.TheVariants.{Traffic, Alpha, Beta, Repeat}
 use Rattle.nx_code.specs.Word.{weight}
@@ -9,7 +9,8 @@ use Rattle.nx_code.specs.Reading.{Reception, combination, idle, lost}
 use Rattle.nx_fec.specs.declared.diversity.Heard.{Heard}
 use Rattle.nx_fec.specs.declared.diversity.Heard.TheVariants.{Intact, Wrong}
 
--- what a word counts as: a traffic combination by its number, an idle signal (P1, P2 or beta), or nothing
+-- what a word counts as: a traffic combination by its number, an idle signal (P1, P2 or beta), or
+-- nothing
 pub data Counted : Type 0 where
   traffic : ℕ → Counted
   idle_signal : Counted
@@ -30,7 +31,8 @@ reception_alone (traffic n) = Some (combination n)
 reception_alone idle_signal = Some idle
 reception_alone nothing = None
 
--- what is taken of a DX and an RX: where they count alike, or only one of them counts, that, and else nothing
+-- what is taken of a DX and an RX: where they count alike, or only one of them counts, that, and
+-- else nothing
 abbrev pub pairing : Counted → Counted → Reception
 pairing (traffic m) (traffic n) = if m == n then combination m else lost
 pairing (traffic m) idle_signal = lost
@@ -42,10 +44,11 @@ pairing nothing (traffic n) = combination n
 pairing nothing idle_signal = idle
 pairing nothing nothing = lost
 
--- the DX of the RX that comes next, where these are the DX words so far, oldest first: it is the third last,
--- or a word that wasn't seen
+-- the DX of the RX that comes next, where these are the DX words so far, oldest first: it is the
+-- third last, or a word that wasn't seen
 abbrev pub third_last : List Counted → Counted
-third_last words = if nat_lt (length words) 3 then nothing else slice_index_or words (length words - 3) nothing
+third_last words =
+    if nat_lt (length words) 3 then nothing else slice_index_or words (length words - 3) nothing
 
 -- what arrived of a word counts as the word does
 abbrev pub heard_as : Heard → Counted

@@ -1,13 +1,14 @@
 -- What a run over an air file answers (this profile).
-use Rattle.std.specs.Prelude.{◌≡◌, ◌≢◌, ℕ, ◌%◌, ◌<◌, ◌≤◌, Bool, not, List, length, position, Option, Some, Result, Ok, Err, ⊤}
-use Rattle.std.specs.Io.KnownBytes.{Appends}
+use Rattle.std.specs.Prelude.{◌≡◌, ◌≢◌, ℕ, ◌%◌, ◌<◌, ◌≤◌, Bool, not, List, length, position, Option, Some, Result, Ok, Err, MatchResult, ⊤}
+use Rattle.std.specs.Global.{Vec}
+use Rattle.std.specs.Io.KnownBytes.{Appends, IsAtEnd}
 use Rattle.std.specs.List.{flat_map}
 use Rattle.nx_fec.specs.AirFile.{Line}
 use Rattle.nx_fec.specs.Lines.{HasFault, IsBitFile, file_of, Scanning, Scans, elements_of}
 use Rattle.nx_fec.specs.Aligned.{aligned_text, words_of}
 use Rattle.nx_fec.specs.WordLines.{word_lines}
-use Rattle.nx_fec.specs.Devices.{WroteSome}
-use Rattle.nx_fec.specs.Transfers.{Devices, IsReadOut, Transfers, at_the_end}
+use Rattle.nx_fec.specs.Devices.{CountedDevice, WroteSome}
+use Rattle.nx_fec.specs.Transfers.{Devices, IsReadOut, Reads, ReadsToEnd, Transfers, at_the_end}
 use Rattle.nx_fec.specs.declared.fault.LineFault.{LineFault}
 use Rattle.nx_fec.specs.declared.fault.LineFault.TheVariants as file
 use Rattle.nx_fec.specs.BitLines.{bit_lines}
@@ -51,8 +52,9 @@ abbrev pub spell_fault : SpellFault → RunFault
 spell_fault (spelling.NoSuchCharacter at) = NoSuchCharacter at
 spell_fault (spelling.Memory error) = Memory error
 
--- What a fault of reading elements says of the bytes that were read: a fault of the file is theirs, and at the end of
--- the file `AtEnd` holds. A read that failed and a want of memory say nothing of them, and there are no other faults.
+-- What a fault of reading elements says of the bytes that were read: a fault of the file is theirs,
+-- and at the end of the file `AtEnd` holds. A read that failed and a want of memory say nothing of
+-- them, and there are no other faults.
 abbrev pub ExplainsReading : Type 0 → ℕ → List ℕ → RunFault → Type 0
 ExplainsReading AtEnd limit bytes Read = ⊤
 ExplainsReading AtEnd limit bytes (Memory error) = ⊤
@@ -69,10 +71,21 @@ IsOutside (Memory error) = ⊤
 IsOutside _ = ⊥
 
 -- the scanner stands so after these bytes, and the elements are those of the lines that they ended
-pub record HasRead (limit : ℕ) (scanner : Scanning) (bits : List Bool) (bytes : List ℕ) : Type 0 where
+pub record HasRead (limit : ℕ) (scanner : Scanning) (bits : List Bool)
+    (bytes : List ℕ) : Type 0 where
   pub lines : List Line
   pub scans : Scans limit scanner bytes lines
   pub joined : bits ≡ flat_map elements_of lines
+
+-- What a run says of its reader that reads an air file to its end: the elements of its lines are
+-- those of the bytes that it read, which are then all, or a fault is theirs. And so it is for the
+-- whole file, however it came.
+abbrev pub ReadsElements : {R : Type 0} → (R → Option (List ℕ)) → CountedDevice R → CountedDevice R
+    → Result (Vec Bool) RunFault → Type 0
+ReadsElements remaining old new outcome =
+    ReadsToEnd remaining old new Read outcome
+    (λ bits bytes. IsBitFile file_limit bytes bits.items)
+    (λ AtEnd bytes fault. ExplainsReading AtEnd file_limit bytes fault)
 
 -- the text of a file of elements, whose first word is that of slot 0
 pub record IsDecoded (limit : ℕ) (bytes text : List ℕ) : Type 0 where
@@ -81,28 +94,36 @@ pub record IsDecoded (limit : ℕ) (bytes text : List ℕ) : Type 0 where
   pub whole : length bits % 7 ≡ 0
   pub read : text ≡ aligned_text (words_of bits)
 
--- What a fault of decoding says: its elements are no whole words, or the text was written in part. Each other fault is
--- one of reading elements.
-abbrev pub ExplainsDecoding : Type 0 → ℕ → List ℕ → Option (List ℕ) → Option (List ℕ) → RunFault → Type 0
+-- What a fault of decoding says: its elements are no whole words, or the text was written in part.
+-- Each other fault is one of reading elements.
+abbrev pub ExplainsDecoding : Type 0 → ℕ → List ℕ → Option (List ℕ) → Option (List ℕ) → RunFault
+    → Type 0
 ExplainsDecoding AtEnd limit bytes old new (Ragged given) =
-    AtEnd × (bits : List Bool) × IsBitFile limit bytes bits × (given ≡ length bits) × (length bits % 7 ≢ 0)
+    AtEnd × (bits : List Bool) × IsBitFile limit bytes bits × (given ≡ length bits)
+    × (length bits % 7 ≢ 0)
 ExplainsDecoding AtEnd limit bytes old new (Write written) =
     AtEnd × (text : List ℕ) × IsDecoded limit bytes text × WroteSome old new text written
 ExplainsDecoding AtEnd limit bytes old new fault = ExplainsReading AtEnd limit bytes fault
 
--- what decoding answers of these bytes: the count of the bytes of the text, which was written, or a fault
-abbrev pub AnswersDecoding : Type 0 → ℕ → List ℕ → Option (List ℕ) → Option (List ℕ) → Result ℕ RunFault → Type 0
+-- what decoding answers of these bytes: the count of the bytes of the text, which was written, or a
+-- fault
+abbrev pub AnswersDecoding : Type 0 → ℕ → List ℕ → Option (List ℕ) → Option (List ℕ)
+    → Result ℕ RunFault → Type 0
 AnswersDecoding AtEnd limit bytes old new (Ok count) =
-    AtEnd × (text : List ℕ) × IsDecoded limit bytes text × Appends old new text × (count ≡ length text)
-AnswersDecoding AtEnd limit bytes old new (Err fault) = ExplainsDecoding AtEnd limit bytes old new fault
+    AtEnd × (text : List ℕ) × IsDecoded limit bytes text × Appends old new text
+    × (count ≡ length text)
+AnswersDecoding AtEnd limit bytes old new (Err fault) =
+    ExplainsDecoding AtEnd limit bytes old new fault
 
--- A run that decodes: it answers so to the bytes that it read, and to the whole file, however it came; and it writes
--- nothing before all else succeeded.
+-- A run that decodes: it answers so to the bytes that it read, and to the whole file, however it
+-- came; and it writes nothing before all else succeeded.
 abbrev pub Decodes : {R W : Type 0} → Devices R W → Result ℕ RunFault → Type 0
 Decodes d outcome =
     Transfers Read (λ written. Write written) at_the_end d outcome
-    (λ bytes. AnswersDecoding (IsReadOut d) file_limit bytes (d.contents d.writer.inner) (d.contents d.writer_after.inner) outcome)
-    (λ bytes. AnswersDecoding (Unit {0}) file_limit bytes (d.contents d.writer.inner) (d.contents d.writer_after.inner) outcome)
+    (λ bytes. AnswersDecoding (IsReadOut d) file_limit bytes (d.contents d.writer.inner)
+    (d.contents d.writer_after.inner) outcome)
+    (λ bytes. AnswersDecoding (Unit {0}) file_limit bytes (d.contents d.writer.inner)
+    (d.contents d.writer_after.inner) outcome)
 
 -- the lines of the words of a file of elements, and how many words there are
 pub record IsShown (limit : ℕ) (bytes text : List ℕ) (count : ℕ) : Type 0 where
@@ -112,65 +133,94 @@ pub record IsShown (limit : ℕ) (bytes text : List ℕ) (count : ℕ) : Type 0 
   pub shown : text ≡ word_lines (words_of bits)
   pub count_is : count ≡ length (words_of bits)
 
--- What a fault of showing words says: the elements are no whole words, or the lines were written in part. Each other
--- fault is one of reading elements.
-abbrev pub ExplainsShowing : Type 0 → ℕ → List ℕ → Option (List ℕ) → Option (List ℕ) → RunFault → Type 0
+-- What a fault of showing words says: the elements are no whole words, or the lines were written in
+-- part. Each other fault is one of reading elements.
+abbrev pub ExplainsShowing : Type 0 → ℕ → List ℕ → Option (List ℕ) → Option (List ℕ) → RunFault
+    → Type 0
 ExplainsShowing AtEnd limit bytes old new (Ragged given) =
-    AtEnd × (bits : List Bool) × IsBitFile limit bytes bits × (given ≡ length bits) × (length bits % 7 ≢ 0)
+    AtEnd × (bits : List Bool) × IsBitFile limit bytes bits × (given ≡ length bits)
+    × (length bits % 7 ≢ 0)
 ExplainsShowing AtEnd limit bytes old new (Write written) =
-    AtEnd × (text : List ℕ) × (count : ℕ) × IsShown limit bytes text count × WroteSome old new text written
+    AtEnd × (text : List ℕ) × (count : ℕ) × IsShown limit bytes text count
+    × WroteSome old new text written
 ExplainsShowing AtEnd limit bytes old new fault = ExplainsReading AtEnd limit bytes fault
 
 -- what showing answers to these bytes: the count of the words, whose lines were written, or a fault
-abbrev pub AnswersShowing : Type 0 → ℕ → List ℕ → Option (List ℕ) → Option (List ℕ) → Result ℕ RunFault → Type 0
+abbrev pub AnswersShowing : Type 0 → ℕ → List ℕ → Option (List ℕ) → Option (List ℕ)
+    → Result ℕ RunFault → Type 0
 AnswersShowing AtEnd limit bytes old new (Ok count) =
     AtEnd × (text : List ℕ) × IsShown limit bytes text count × Appends old new text
-AnswersShowing AtEnd limit bytes old new (Err fault) = ExplainsShowing AtEnd limit bytes old new fault
+AnswersShowing AtEnd limit bytes old new (Err fault) =
+    ExplainsShowing AtEnd limit bytes old new fault
 
--- A run that shows words: it answers so to the bytes that it read, and to the whole file, however it came; and it
--- writes nothing before all else succeeded.
+-- A run that shows words: it answers so to the bytes that it read, and to the whole file, however
+-- it came; and it writes nothing before all else succeeded.
 abbrev pub Shows : {R W : Type 0} → Devices R W → Result ℕ RunFault → Type 0
 Shows d outcome =
     Transfers Read (λ written. Write written) at_the_end d outcome
-    (λ bytes. AnswersShowing (IsReadOut d) file_limit bytes (d.contents d.writer.inner) (d.contents d.writer_after.inner) outcome)
-    (λ bytes. AnswersShowing (Unit {0}) file_limit bytes (d.contents d.writer.inner) (d.contents d.writer_after.inner) outcome)
+    (λ bytes. AnswersShowing (IsReadOut d) file_limit bytes (d.contents d.writer.inner)
+    (d.contents d.writer_after.inner) outcome)
+    (λ bytes. AnswersShowing (Unit {0}) file_limit bytes (d.contents d.writer.inner)
+    (d.contents d.writer_after.inner) outcome)
 
--- what a fault of reading a text whole says of its bytes: it is too long, or the reader or memory failed
+-- what a fault of reading a text whole says of its bytes: it is too long, or the reader or memory
+-- failed
 abbrev pub ExplainsWhole : ℕ → List ℕ → ReadFault → Type 0
 ExplainsWhole limit bytes read.Read = ⊤
 ExplainsWhole limit bytes read.FileTooLong = limit < length bytes
 ExplainsWhole limit bytes (read.Memory error) = ⊤
 
--- The file that a text is encoded as, and how many positions it has: the text is spelled from letters, with four
--- positions of phasing before it and three of the end after it, and the bits of their emission stand in lines.
+-- What a run says of its reader that reads a file whole: the text is the bytes that it read, which
+-- are then all, or a fault is theirs. And so it is for the whole file, however it came.
+abbrev pub ReadsWhole : {R : Type 0} → (R → Option (List ℕ)) → CountedDevice R → CountedDevice R
+    → Result (Vec ℕ) ReadFault → Type 0
+ReadsWhole remaining old new outcome =
+    Reads remaining old new read.Read outcome
+    (λ bytes. MatchResult outcome
+    (λ text. IsAtEnd (remaining new.inner) × (length bytes ≤ file_limit) × (text.items ≡ bytes))
+    (λ fault. ExplainsWhole file_limit bytes fault))
+    (λ bytes. MatchResult outcome
+    (λ text. (length bytes ≤ file_limit) × (text.items ≡ bytes))
+    (λ fault. ExplainsWhole file_limit bytes fault))
+
+-- The file that a text is encoded as, and how many positions it has: the text is spelled from
+-- letters, with four positions of phasing before it and three of the end after it, and the bits of
+-- their emission stand in lines.
 pub record IsEncoded (text file : List ℕ) (positions : ℕ) : Type 0 where
   pub numbers : List ℕ
   pub spells : Spells text Letters numbers
   pub written : file ≡ file_of (bit_lines (bits_of (emission (framed_positions numbers))))
   pub count : positions ≡ length (framed_positions numbers)
 
--- What a fault of encoding says: the text is too long, or it has a character that isn't in the code, the first at this
--- index, or its file was written in part; or the reader or memory failed.
-abbrev pub ExplainsEncoding : Type 0 → ℕ → List ℕ → Option (List ℕ) → Option (List ℕ) → RunFault → Type 0
+-- What a fault of encoding says: the text is too long, or it has a character that isn't in the
+-- code, the first at this index, or its file was written in part; or the reader or memory failed.
+abbrev pub ExplainsEncoding : Type 0 → ℕ → List ℕ → Option (List ℕ) → Option (List ℕ) → RunFault
+    → Type 0
 ExplainsEncoding AtEnd limit bytes old new Read = ⊤
 ExplainsEncoding AtEnd limit bytes old new (Memory error) = ⊤
 ExplainsEncoding AtEnd limit bytes old new FileTooLong = limit < length bytes
 ExplainsEncoding AtEnd limit bytes old new (NoSuchCharacter at) =
     AtEnd × (length bytes ≤ limit) × (position (λ byte. not (is_in_code byte)) bytes ≡ Some at)
 ExplainsEncoding AtEnd limit bytes old new (Write written) =
-    AtEnd × (length bytes ≤ limit) × (file : List ℕ) × (positions : ℕ) × IsEncoded bytes file positions × WroteSome old new file written
+    AtEnd × (length bytes ≤ limit) × (file : List ℕ) × (positions : ℕ)
+    × IsEncoded bytes file positions × WroteSome old new file written
 ExplainsEncoding AtEnd limit bytes old new _ = ⊥
 
 -- what encoding answers to a text: the count of its positions, whose file was written, or a fault
-abbrev pub AnswersEncoding : Type 0 → ℕ → List ℕ → Option (List ℕ) → Option (List ℕ) → Result ℕ RunFault → Type 0
+abbrev pub AnswersEncoding : Type 0 → ℕ → List ℕ → Option (List ℕ) → Option (List ℕ)
+    → Result ℕ RunFault → Type 0
 AnswersEncoding AtEnd limit bytes old new (Ok positions) =
-    AtEnd × (length bytes ≤ limit) × (file : List ℕ) × IsEncoded bytes file positions × Appends old new file
-AnswersEncoding AtEnd limit bytes old new (Err fault) = ExplainsEncoding AtEnd limit bytes old new fault
+    AtEnd × (length bytes ≤ limit) × (file : List ℕ) × IsEncoded bytes file positions
+    × Appends old new file
+AnswersEncoding AtEnd limit bytes old new (Err fault) =
+    ExplainsEncoding AtEnd limit bytes old new fault
 
--- A run that encodes: it answers so to the bytes that it read, and to the whole text, however it came; and it writes
--- nothing before all else succeeded.
+-- A run that encodes: it answers so to the bytes that it read, and to the whole text, however it
+-- came; and it writes nothing before all else succeeded.
 abbrev pub Encodes : {R W : Type 0} → Devices R W → Result ℕ RunFault → Type 0
 Encodes d outcome =
     Transfers Read (λ written. Write written) at_the_end d outcome
-    (λ bytes. AnswersEncoding (IsReadOut d) file_limit bytes (d.contents d.writer.inner) (d.contents d.writer_after.inner) outcome)
-    (λ bytes. AnswersEncoding (Unit {0}) file_limit bytes (d.contents d.writer.inner) (d.contents d.writer_after.inner) outcome)
+    (λ bytes. AnswersEncoding (IsReadOut d) file_limit bytes (d.contents d.writer.inner)
+    (d.contents d.writer_after.inner) outcome)
+    (λ bytes. AnswersEncoding (Unit {0}) file_limit bytes (d.contents d.writer.inner)
+    (d.contents d.writer_after.inner) outcome)

@@ -1,4 +1,5 @@
--- What the parts of a scanner say of the line that is open, or of the line that the last byte ended (this profile).
+-- What the parts of a scanner say of the line that is open, or of the line that the last byte ended
+-- (this profile).
 use Rattle.std.specs.Prelude.{◌≡◌, ℕ, Bool, List, [], Option, Some, None}
 use Rattle.nx_fec.specs.AirFile.{IsLine, Line, accept_station, accept_subject, elements, moment, refuse_station, refuse_subject, spelling}
 use Rattle.nx_fec.specs.Lines.{elements_of}
@@ -29,7 +30,8 @@ pub record SpellsLine (kind : LineKind) (bits : List Bool) (bytes : List ℕ) : 
   pub spelled : bytes ≡ spelling (line_with kind bits)
   pub own : elements_of (line_with kind bits) ≡ bits
 
--- the line that was ended, and the bytes of the line that is open: those that are kept, unless they ended
+-- the line that was ended, and the bytes of the line that is open: those that are kept, unless they
+-- ended
 abbrev pub line_ended : Option LineKind → List Bool → Option Line
 line_ended None bits = None
 line_ended (Some kind) bits = Some (line_with kind bits)

@@ -10,7 +10,8 @@ pub record Back (ended : Option LineKind) (bits : List Bool) (kept : List ℕ) :
   pub kind : kind_kept (line_ended ended bits) ≡ ended
   pub elements : elements_kept (line_ended ended bits) ≡ bits
 
-kind_of-line_with : (kind : LineKind) (bits : List Bool) → kind_kept (Some (line_with kind bits)) ≡ Some kind
+kind_of-line_with : (kind : LineKind) (bits : List Bool)
+    → kind_kept (Some (line_with kind bits)) ≡ Some kind
 kind_of-line_with (Moment n) bits = refl
 kind_of-line_with Elements bits = refl
 kind_of-line_with (RefuseStation letter) bits = refl
@@ -18,6 +19,8 @@ kind_of-line_with (AcceptStation letter) bits = refl
 kind_of-line_with (RefuseSubject letter) bits = refl
 kind_of-line_with (AcceptSubject letter) bits = refl
 
-pub kept-back : (ended : Option LineKind) (bits : List Bool) (kept : List ℕ) → IsKept ended bits kept → Back ended bits kept
+pub kept-back : (ended : Option LineKind) (bits : List Bool) (kept : List ℕ)
+    → IsKept ended bits kept → Back ended bits kept
 kept-back None bits kept h = record { bytes = refl; kind = refl; elements = sym h }
-kept-back (Some kind) bits kept h = record { bytes = sym h.spelled; kind = kind_of-line_with kind bits; elements = h.own }
+kept-back (Some kind) bits kept h =
+    record { bytes = sym h.spelled; kind = kind_of-line_with kind bits; elements = h.own }

@@ -15,10 +15,12 @@ abbrev pub cell_text : List ℕ → List ℕ
 cell_text [] = codes "none"
 cell_text (c ∷ cs) = c ∷ cs
 
--- the line of a row: number, elements, letter and figure, with a space between two of them, and a line feed
+-- the line of a row: number, elements, letter and figure, with a space between two of them, and a
+-- line feed
 unfoldable pub table_line : Row → List ℕ
 table_line row =
-    two_hex_digits row.word ++ 32 ∷ map element_letter (elements row.word) ++ 32 ∷ cell_text row.letter ++ 32 ∷ cell_text row.figure ++ 10 ∷ []
+    two_hex_digits row.word ++ 32 ∷ map element_letter (elements row.word)
+    ++ 32 ∷ cell_text row.letter ++ 32 ∷ cell_text row.figure ++ 10 ∷ []
 
 -- the lines of all 35 rows, in the order of the table
 unfoldable pub table_text : List ℕ

@@ -1,23 +1,29 @@
--- What a run says of its devices: of the bytes that it read and wrote, and of the calls that failed (this profile).
-use Rattle.std.specs.Prelude.{◌≡◌, ◌≢◌, ◌<◌, ◌≤◌, ◌↔◌, ℕ, List, length, take, Option, Result, Err, IfErr, IfSome, IsErrOf, ⊤}
+-- What a run says of its devices: of the bytes that it read and wrote, and of the calls that failed
+-- (this profile).
+use Rattle.std.specs.Prelude.{◌≡◌, ◌≢◌, ◌<◌, ◌≤◌, ◌↔◌, ℕ, List, length, take, Option, Result, Err, IfErr, IfSome, IsErrOf, MatchResult, ⊤}
 use Rattle.std.specs.Io.KnownBytes.{Consumes, IsAtEnd, Keeps}
 use Rattle.nx_fec.specs.Devices.{CountedDevice}
 use Rattle.nx_fec.specs.declared.pieces.Piece.{Piece}
 use Rattle.nx_fec.specs.declared.pieces.Piece.TheVariants.{End, Failed, Bytes}
 
--- What a read gave: the end of the input, a failure, or so many bytes, at least one, at the front of the buffer.
-abbrev pub IsNextPiece : {R : Type 0} → (R → Option (List ℕ)) → CountedDevice R → CountedDevice R → List ℕ → Piece → Type 0
+-- What a read gave: the end of the input, a failure, or so many bytes, at least one, at the front
+-- of the buffer.
+abbrev pub IsNextPiece : {R : Type 0} → (R → Option (List ℕ)) → CountedDevice R → CountedDevice R
+    → List ℕ → Piece → Type 0
 IsNextPiece remaining old new buffer End =
-    Keeps (remaining old.inner) (remaining new.inner) × IsAtEnd (remaining new.inner) × (new.failures ≡ 0)
+    Keeps (remaining old.inner) (remaining new.inner) × IsAtEnd (remaining new.inner)
+    × (new.failures ≡ 0)
 IsNextPiece remaining old new buffer Failed =
     Keeps (remaining old.inner) (remaining new.inner) × (new.failures ≡ 1)
 IsNextPiece remaining old new buffer (Bytes count) =
-    (0 < count) × (count ≤ length buffer) × Consumes (remaining old.inner) (remaining new.inner) (take count buffer) × (new.failures ≡ 0)
+    (0 < count) × (count ≤ length buffer)
+    × Consumes (remaining old.inner) (remaining new.inner) (take count buffer) × (new.failures ≡ 0)
 
--- What a run says of its reader. It read these bytes, and `known` holds of them, whatever the reader tells of its bytes.
--- Where they are known, `whole` holds of all that was left, however it came. The count of failures rose, by one, exactly
--- where the outcome is the fault `read`.
-pub record Reads {R N F : Type 0} (remaining : R → Option (List ℕ)) (old new : CountedDevice R) (read : F) (outcome : Result N F)
+-- What a run says of its reader. It read these bytes, and `known` holds of them, whatever the
+-- reader tells of its bytes. Where they are known, `whole` holds of all that was left, however it
+-- came. The count of failures rose, by one, exactly where the outcome is the fault `read`.
+pub record Reads {R N F : Type 0} (remaining : R → Option (List ℕ)) (old new : CountedDevice R)
+    (read : F) (outcome : Result N F)
     (known whole : List ℕ → Type 0) : Type 0 where
   pub bytes : List ℕ
   pub consumed : Consumes (remaining old.inner) (remaining new.inner) bytes
@@ -26,13 +32,29 @@ pub record Reads {R N F : Type 0} (remaining : R → Option (List ℕ)) (old new
   pub failed : IsErrOf outcome read ↔ (new.failures ≡ 1)
   pub once : new.failures ≤ 1
 
--- What a run says of its writer: the count of failures rose, by one, exactly where the outcome is a fault `write`.
-pub record Writes {W N F : Type 0} (new : CountedDevice W) (write : ℕ → F) (outcome : Result N F) : Type 0 where
+-- What a run says of its reader that reads a file to its end: its answer is good for the bytes that
+-- it read, which are then all, or its fault explains itself by them, at the end of the file or
+-- before it. And so it is for the whole file.
+abbrev pub ReadsToEnd : {R N F : Type 0} → (R → Option (List ℕ)) → CountedDevice R → CountedDevice R
+    → F → Result N F
+    → (N → List ℕ → Type 0) → (Type 0 → List ℕ → F → Type 0) → Type 0
+ReadsToEnd remaining old new read outcome good explains =
+    Reads remaining old new read outcome
+    (λ bytes. MatchResult outcome
+    (λ answer. IsAtEnd (remaining new.inner) × good answer bytes)
+    (λ fault. explains (IsAtEnd (remaining new.inner)) bytes fault))
+    (λ bytes. MatchResult outcome (λ answer. good answer bytes)
+    (λ fault. explains (Unit {0}) bytes fault))
+
+-- What a run says of its writer: the count of failures rose, by one, exactly where the outcome is a
+-- fault `write`.
+pub record Writes {W N F : Type 0} (new : CountedDevice W) (write : ℕ → F)
+    (outcome : Result N F) : Type 0 where
   pub failed : ((written : ℕ) × (outcome ≡ Err (write written))) ↔ (new.failures ≡ 1)
   pub once : new.failures ≤ 1
 
--- A reader and a writer, as they stand before a run and after it, and what they tell of their bytes: those that are left
--- to read, and those that are written.
+-- A reader and a writer, as they stand before a run and after it, and what they tell of their
+-- bytes: those that are left to read, and those that are written.
 pub record Devices (R W : Type 0) : Type 0 where
   pub remaining : R → Option (List ℕ)
   pub contents : W → Option (List ℕ)
@@ -41,7 +63,8 @@ pub record Devices (R W : Type 0) : Type 0 where
   pub writer : CountedDevice W
   pub writer_after : CountedDevice W
 
-abbrev pub devices : {R W : Type 0} → (R → Option (List ℕ)) → (W → Option (List ℕ)) → CountedDevice R → CountedDevice R
+abbrev pub devices : {R W : Type 0} → (R → Option (List ℕ)) → (W → Option (List ℕ))
+    → CountedDevice R → CountedDevice R
     → CountedDevice W → CountedDevice W → Devices R W
 devices remaining contents reader reader_after writer writer_after = record {
   remaining = remaining;
@@ -67,9 +90,11 @@ IsUnwritten at_the_end write d outcome =
     IfErr outcome (λ why. ((written : ℕ) → why ≢ write written) → d.writer_after ≡ d.writer)
 IsUnwritten on_the_way write d outcome = ⊤
 
--- What a run from a reader to a writer says of both. Its faults for a failed read and a failed write are `read` and
--- `write`; `known` holds of the bytes that it read, and `whole` of all the input, where that is known.
-pub record Transfers {R W N F : Type 0} (read : F) (write : ℕ → F) (writing : Writing) (d : Devices R W) (outcome : Result N F)
+-- What a run from a reader to a writer says of both. Its faults for a failed read and a failed
+-- write are `read` and `write`; `known` holds of the bytes that it read, and `whole` of all the
+-- input, where that is known.
+pub record Transfers {R W N F : Type 0} (read : F) (write : ℕ → F) (writing : Writing)
+    (d : Devices R W) (outcome : Result N F)
     (known whole : List ℕ → Type 0) : Type 0 where
   pub reads : Reads d.remaining d.reader d.reader_after read outcome known whole
   pub writes : Writes d.writer_after write outcome

@@ -6,17 +6,23 @@ use Rattle.std.specs.Option.{option_map_or}
 use Rattle.nx_code.specs.Table.{row, table, place_of}
 use Rattle.nx_fec.specs.Hexadecimal.{two_hex_digits}
 
--- the name of a word: what stands in the column Letter of its row, and `wrong` for a word that has none
+-- the name of a word: what stands in the column Letter of its row, and `wrong` for a word that has
+-- none
 unfoldable pub word_name : ℕ → List ℕ
-word_name word = option_map_or (λ place. (slice_index_or table place (row 0x00 [] [])).letter) (place_of word) (codes "wrong")
+word_name word =
+    option_map_or (λ place. (slice_index_or table place (row 0x00 [] [])).letter) (place_of word)
+    (codes "wrong")
 
 -- the role of a slot: those with an even number are DX, and the others RX
 abbrev pub role_name : ℕ → List ℕ
 role_name slot = if slot % 2 == 0 then codes "DX" else codes "RX"
 
--- the line of a word in a slot: slot, role, number and name, with a space between two of them, and a line feed
+-- the line of a word in a slot: slot, role, number and name, with a space between two of them, and
+-- a line feed
 unfoldable pub word_line : ℕ → ℕ → List ℕ
-word_line slot word = decimal slot ++ 32 ∷ role_name slot ++ 32 ∷ two_hex_digits word ++ 32 ∷ word_name word ++ 10 ∷ []
+word_line slot word =
+    decimal slot ++ 32 ∷ role_name slot ++ 32 ∷ two_hex_digits word ++ 32 ∷ word_name word
+    ++ 10 ∷ []
 
 -- the words of the first slots, so many of them, each with its slot
 abbrev pub first_slots : List ℕ → ℕ → List (ℕ × ℕ)

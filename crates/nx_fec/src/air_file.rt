@@ -49,7 +49,8 @@ pub enum LineKind {
 
 /// Reads a line, given without its line feed. None where it is no line of an air file.
 pub fn air_line(line: &[u8]) -> Option<AirLine>
-    ensures found { IfSome result (λ found. IsLine (line_of found) × (line.now ≡ spelling (line_of found))) }
+    ensures found { IfSome result
+        (λ found. IsLine (line_of found) × (line.now ≡ spelling (line_of found))) }
     ensures none { IfNone result (IsNoLine line.now) }
 {
     let mut bits = ArrayVec::new();
@@ -145,7 +146,8 @@ fn read_elements(digits: &[u8], bits: &mut ArrayVec<bool, MAX_ELEMENTS>) -> bool
     requires { bits.old.items ≡ [] }
     ensures found { IsTrue result → (0 < length bits.new.items) × (length bits.new.items ≤ 512)
         × (digits.now ≡ map element_digit bits.new.items) }
-    ensures none { result ≡ false → (elements : List Bool) → 0 < length elements → length elements ≤ 512
+    ensures none { result ≡ false → (elements : List Bool) → 0 < length elements
+        → length elements ≤ 512
         → digits.now ≢ map element_digit elements }
     ensures unread { result ≡ false → bits.new.items ≡ [] }
 {

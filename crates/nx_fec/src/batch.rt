@@ -60,7 +60,8 @@ impl Batch {
         ensures bytes { (first : Option (List ℕ)) (before : List ℕ)
             → HasGiven first (W.contents writer.old.inner) self.old before → MatchResult result
             (λ _. HasGiven first (W.contents writer.new.inner) self.new (before ++ bytes.now))
-            (λ fault. WroteSome first (W.contents writer.new.inner) (before ++ bytes.now) fault.written) }
+            (λ fault. WroteSome first (W.contents writer.new.inner)
+            (before ++ bytes.now) fault.written) }
         ensures failed { IsErr result ↔ (writer.new.failures ≡ 1) }
         ensures once { writer.new.failures ≤ 1 }
         ensures none { OnOk result (writer.new.failures ≡ 0) }

@@ -73,7 +73,8 @@ impl<R: Read> Read for Counting<R> {
 
     fn read(&mut self, buf: &mut [u8]) -> io::Result<usize>
         ensures bound { ReadsAtMost result buf.new }
-        ensures bytes { ReadConsumes (R.remaining self.old.inner) (R.remaining self.new.inner) result buf.new }
+        ensures bytes { ReadConsumes (R.remaining self.old.inner)
+            (R.remaining self.new.inner) result buf.new }
         ensures counted { Counts self.old self.new result }
     {
         if self.is_stopped() {
@@ -105,7 +106,8 @@ impl<W: Write> Write for Counting<W> {
 
     fn write(&mut self, buf: &[u8]) -> io::Result<usize>
         ensures bound { WritesAtMost result buf.now }
-        ensures bytes { WriteAppends (W.contents self.old.inner) (W.contents self.new.inner) result buf.now }
+        ensures bytes { WriteAppends (W.contents self.old.inner)
+            (W.contents self.new.inner) result buf.now }
         ensures counted { Counts self.old self.new result }
         ensures some { IfOk result (λ count. count ≡ 0 → buf.now ≡ []) }
     {

@@ -110,7 +110,8 @@ impl Diversity {
     /// Takes the next RX word, and answers the position that it completes: it is paired with the third last
     /// DX word that was given, or with a wrong weight where fewer than three were.
     pub fn rx(&mut self, heard: Heard) -> Taken
-        ensures paired { reception_of result ≡ pairing (third_last (map heard_as self.old)) (heard_as heard) }
+        ensures paired { reception_of result
+            ≡ pairing (third_last (map heard_as self.old)) (heard_as heard) }
         ensures stands { (words : List Counted) → IsLatest self.old words
             → reception_of result ≡ pairing (third_last words) (heard_as heard) }
         ensures unchanged { self.new ≡ self.old }

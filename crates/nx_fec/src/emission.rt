@@ -9,7 +9,8 @@ use std::alloc::{AllocError, Global};
 /// The elements of the emission of these positions, slot by slot, each in the order of sending; true is B (ITU-R
 /// M.625, mode B).
 pub fn to_bits(alloc: Global, positions: &[Position]) -> Result<Vec<bool>, AllocError>
-    ensures { IfOk result (λ bits. bits.items ≡ bits_of (emission (map sent_position positions.now))) }
+    ensures { IfOk result
+        (λ bits. bits.items ≡ bits_of (emission (map sent_position positions.now))) }
 {
     let mut bits = Vec::new(alloc);
     let mut slot = 0;

@@ -20,7 +20,8 @@ pub fn emissions()
     ensures one { (positions : List SentPosition) → IsEmission positions (emission positions) }
     ensures only { (positions : List SentPosition) (sent : List ℕ) → IsEmission positions sent
         → sent ≡ emission positions }
-    ensures sound { (positions : List SentPosition) → AreInCode positions → AreWords (emission positions) }
+    ensures sound { (positions : List SentPosition) → AreInCode positions
+        → AreWords (emission positions) }
 {}
 
 /// Words and their elements give each other back.
@@ -35,13 +36,15 @@ pub fn words_and_bits()
 /// weren't seen, and then all positions but the last three, whose RX words aren't sent.
 pub fn receptions_of_emissions()
     ensures { (positions : List SentPosition) → AreInCode positions → 3 ≤ length positions
-        → receptions (emission positions) ≡ idle ∷ idle ∷ map reception (take (length positions - 3) positions) }
+        → receptions (emission positions)
+        ≡ idle ∷ idle ∷ map reception (take (length positions - 3) positions) }
 {}
 
 /// Nothing is lost of combinations that are sent alone: the text of their emission is their text.
 pub fn decoded_emissions()
     ensures { (numbers : List ℕ) → AreCombinations numbers
-        → aligned_text (words_of (bits_of (emission (framed_positions numbers)))) ≡ text (map combination numbers) Letters }
+        → aligned_text (words_of (bits_of (emission (framed_positions numbers))))
+        ≡ text (map combination numbers) Letters }
 {}
 
 /// Each line has a spelling of its own.
@@ -51,7 +54,8 @@ pub fn one_spelling()
 
 /// Bytes are lines and the beginning of one more in one way only.
 pub fn one_reading()
-    ensures { (bytes : List ℕ) (a b : List Line) (x y : List ℕ) → Splits bytes a x → Splits bytes b y
+    ensures { (bytes : List ℕ) (a b : List Line) (x y : List ℕ) → Splits bytes a x
+        → Splits bytes b y
         → (a ≡ b) × (x ≡ y) }
 {}
 
@@ -62,7 +66,8 @@ pub fn one_outcome()
     ensures lines { (limit : ℕ) (bytes : List ℕ) (lines : List Line) (why : LineFault)
         → IsAirFile limit bytes lines → HasFault limit bytes why → ⊥ }
     // What stands before a fault has none at a byte of its own: so the fault is the one at the earliest byte.
-    ensures earliest { (limit : ℕ) (front : List ℕ) (lines : List Line) (rest : List ℕ) (why : LineFault)
+    ensures earliest { (limit : ℕ) (front : List ℕ) (lines : List Line) (rest : List ℕ)
+        (why : LineFault)
         → Splits front lines rest
         → length front ≤ limit → IsAtByte why → HasFault limit front why → ⊥ }
     ensures elements { (limit : ℕ) (bytes : List ℕ) (a b : List Bool) → IsBitFile limit bytes a
@@ -79,7 +84,8 @@ pub fn reading_of_writing()
 pub fn decoding_of_encoding()
     ensures text { (limit : ℕ) (text file : List ℕ) (positions : ℕ) → IsEncoded text file positions
         → length file ≤ limit → IsDecoded limit file text }
-    ensures only { (limit : ℕ) (file a b : List ℕ) → IsDecoded limit file a → IsDecoded limit file b → a ≡ b }
+    ensures only { (limit : ℕ) (file a b : List ℕ) → IsDecoded limit file a → IsDecoded limit file b
+        → a ≡ b }
 {}
 
 /// The third last of the DX words before RX word k is word k-5, and unseen where k < 5, whichever role the first word of
@@ -97,7 +103,8 @@ pub fn dx_words_of_locks()
 
 /// Where a cause stands after good lines and the beginning of one more, it is the fault of the file, whatever follows.
 pub fn causes_of_faults()
-    ensures { (limit : ℕ) (bytes : List ℕ) (lines : List Line) (rest more : List ℕ) (why : LineFault)
+    ensures { (limit : ℕ) (bytes : List ℕ) (lines : List Line) (rest more : List ℕ)
+        (why : LineFault)
         → Splits bytes lines rest
         → IsCause limit (length bytes) lines rest more why → HasFault limit (bytes ++ more) why }
 {}
@@ -107,7 +114,8 @@ pub fn writes_in_turn()
     ensures after { (a b c : Option (List ℕ)) (xs ys : List ℕ) (written : ℕ) → Appends a b xs
         → WroteSome b c ys written
         → WroteSome a c (xs ++ ys) (min (length xs + written) (2 ^ 64 - 1)) }
-    ensures before { (a b : Option (List ℕ)) (xs ys : List ℕ) (written : ℕ) → WroteSome a b xs written
+    ensures before { (a b : Option (List ℕ)) (xs ys : List ℕ) (written : ℕ)
+        → WroteSome a b xs written
         → WroteSome a b (xs ++ ys) written }
 {}
 

@@ -44,16 +44,19 @@ pub trait LineTaker: Drop {
         requires none { writer.old.failures ≡ 0 }
         ensures taken { (first : Self) (old : Option (List ℕ)) (lines : List Line) (line : Line)
             → scanner.now.latest ≡ Some line
-            → HasTaken stands first self.old lines (HasGiven old (W.contents writer.old.inner) batch.old)
+            → HasTaken stands first self.old lines
+            (HasGiven old (W.contents writer.old.inner) batch.old)
             → MatchResult result
             (λ _. HasTaken stands first self.new (lines ++ line ∷ [])
             (HasGiven old (W.contents writer.new.inner) batch.new))
-            (λ fault. ExplainsTaking stands begins refuses first self.new old (W.contents writer.new.inner) batch.new
+            (λ fault. ExplainsTaking stands begins refuses first self.new old
+            (W.contents writer.new.inner) batch.new
             lines line fault) }
         ensures writes { Writes writer.new TakeFault.Write result };
 
     /// What was given is a beginning of itself.
-    ghost whole: { (first now : Self) (lines : List Line) (given : List ℕ) → stands first now lines given
+    ghost whole: { (first now : Self) (lines : List Line) (given : List ℕ)
+        → stands first now lines given
         → begins first lines given };
 }
 
@@ -100,7 +103,8 @@ pub fn run_lines<R: Read, W: Write, T: LineTaker>(
 ) -> Result<LinesRead, LinesFault<T::Refusal>>
     requires reader { reader.old.failures ≡ 0 }
     requires writer { writer.old.failures ≡ 0 }
-    ensures { (first : T) → T.stands first taker.old [] [] → RunsLines T.stands T.begins T.refuses 268435456 first taker.new
+    ensures { (first : T) → T.stands first taker.old [] []
+        → RunsLines T.stands T.begins T.refuses 268435456 first taker.new
         (devices R.remaining W.contents reader.old reader.new writer.old writer.new) result }
 {
     let mut buffer = [0; CHUNK];
@@ -138,11 +142,14 @@ fn take_piece<W: Write, T: LineTaker>(
 ) -> Result<(), LinesFault<T::Refusal>>
     requires { writer.old.failures ≡ 0 }
     ensures taken { (first : T) (old : Option (List ℕ)) (limit : ℕ) (bytes : List ℕ)
-        → IsTaking T.stands first taker.old limit scanner.old old (W.contents writer.old.inner) batch.old bytes
+        → IsTaking T.stands first taker.old limit scanner.old old
+        (W.contents writer.old.inner) batch.old bytes
         → MatchResult result
-        (λ _. IsTaking T.stands first taker.new limit scanner.new old (W.contents writer.new.inner) batch.new
+        (λ _. IsTaking T.stands first taker.new limit scanner.new old
+        (W.contents writer.new.inner) batch.new
         (bytes ++ piece.now))
-        (λ fault. (more : List ℕ) → ExplainsLines T.stands T.begins T.refuses ⊥ (λ _. ⊥) limit first taker.new
+        (λ fault. (more : List ℕ)
+        → ExplainsLines T.stands T.begins T.refuses ⊥ (λ _. ⊥) limit first taker.new
         old (W.contents writer.new.inner) (HasGiven old (W.contents writer.new.inner) batch.new)
         ((bytes ++ piece.now) ++ more) fault) }
     ensures room { OnOk result (scanner.new.room + length piece.now ≡ scanner.old.room) }
@@ -170,11 +177,14 @@ fn take_line<W: Write, T: LineTaker>(
     requires some { 0 < length piece.now }
     requires writer { writer.old.failures ≡ 0 }
     ensures taken { (first : T) (old : Option (List ℕ)) (limit : ℕ) (bytes : List ℕ)
-        → IsTaking T.stands first taker.old limit scanner.old old (W.contents writer.old.inner) batch.old bytes
+        → IsTaking T.stands first taker.old limit scanner.old old
+        (W.contents writer.old.inner) batch.old bytes
         → MatchResult result
-        (λ count. IsTaking T.stands first taker.new limit scanner.new old (W.contents writer.new.inner) batch.new
+        (λ count. IsTaking T.stands first taker.new limit scanner.new old
+        (W.contents writer.new.inner) batch.new
         (bytes ++ take count piece.now))
-        (λ fault. (more : List ℕ) → ExplainsLines T.stands T.begins T.refuses ⊥ (λ _. ⊥) limit first taker.new
+        (λ fault. (more : List ℕ)
+        → ExplainsLines T.stands T.begins T.refuses ⊥ (λ _. ⊥) limit first taker.new
         old (W.contents writer.new.inner) (HasGiven old (W.contents writer.new.inner) batch.new)
         ((bytes ++ piece.now) ++ more) fault) }
     ensures some { IfOk result (λ count. (0 < count) × (count ≤ length piece.now)
@@ -206,9 +216,11 @@ fn settle<W: Write, T: LineTaker>(
 ) -> LinesFault<T::Refusal>
     requires { Writes {N = Unit {0}} writer.old LinesFault.Write (Err fault) }
     ensures settled { (first now : T) (old : Option (List ℕ)) (limit : ℕ) (bytes : List ℕ)
-        → ExplainsLines T.stands T.begins T.refuses ⊥ (λ _. ⊥) limit first now old (W.contents writer.old.inner)
+        → ExplainsLines T.stands T.begins T.refuses ⊥ (λ _. ⊥) limit first now old
+        (W.contents writer.old.inner)
         (HasGiven old (W.contents writer.old.inner) batch.old) bytes fault
-        → ExplainsLines T.stands T.begins T.refuses ⊥ (λ _. ⊥) limit first now old (W.contents writer.new.inner)
+        → ExplainsLines T.stands T.begins T.refuses ⊥ (λ _. ⊥) limit first now old
+        (W.contents writer.new.inner)
         (Appends old (W.contents writer.new.inner)) bytes result }
     ensures writes { Writes {N = Unit {0}} writer.new LinesFault.Write (Err result) }
 {

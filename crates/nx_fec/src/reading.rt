@@ -1,14 +1,12 @@
 //! Reading the elements of an air file from a reader.
 ghost use Rattle.std.specs.Prelude.{◌≡◌, ◌+◌, ◌<◌, ◌≤◌, ℕ, List, ◌++◌, take, length, IfSome, IfOk, OnOk, IsErrOf, IsErrAnd, MatchResult, ◌⊎◌, Bool, vec_len};
-ghost use Rattle.std.specs.Io.KnownBytes.{IsAtEnd};
-ghost use Rattle.nx_fec.specs.Transfers.{Reads};
 ghost use Rattle.nx_fec.specs.Lines.{IsBitFile, HasFault};
 ghost use Rattle.nx_fec.specs.declared.fault.LineFault.{LineFault};
-ghost use Rattle.nx_fec.specs.Runs.{ExplainsReading, ExplainsWhole, HasRead, IsOutside, file_limit, run_fault};
+ghost use Rattle.nx_fec.specs.Runs.{ExplainsReading, HasRead, IsOutside, ReadsElements, ReadsWhole, file_limit, run_fault};
 
 use crate::counting::Counting;
 use crate::fault::{ReadFault, RunFault};
-use crate::pieces::{Piece, next_piece};
+use crate::pieces::{PieceTaker, read_pieces};
 use crate::scanner::Scanner;
 use std::alloc::{AllocError, Global};
 use std::io::Read;
@@ -26,20 +24,16 @@ pub fn read_bits<R: Read>(alloc: Global, reader: &mut Counting<R>) -> Result<Vec
     requires { reader.old.failures ≡ 0 }
 
     // The answer is that of the bytes that were read, and that of the whole file, however it came.
-    ensures reads { Reads R.remaining reader.old reader.new RunFault.Read result
-        (λ bytes. MatchResult result
-        (λ bits. IsAtEnd (R.remaining reader.new.inner) × IsBitFile file_limit bytes bits.items)
-        (λ fault. ExplainsReading (IsAtEnd (R.remaining reader.new.inner)) file_limit bytes fault))
-        (λ bytes. MatchResult result
-        (λ bits. IsBitFile file_limit bytes bits.items)
-        (λ fault. ExplainsReading (Unit {0}) file_limit bytes fault)) }
+    ensures reads { ReadsElements R.remaining reader.old reader.new result }
 
     // So a fault of the file is the answer, and so are the elements of a file without a fault, unless the reader or
     // memory failed.
-    ensures fault { IfSome (R.remaining reader.old.inner) (λ xs. (why : LineFault) → HasFault file_limit xs why →
+    ensures fault { IfSome (R.remaining reader.old.inner)
+        (λ xs. (why : LineFault) → HasFault file_limit xs why →
         IsErrAnd result (λ fault. (fault ≡ run_fault why) ⊎ IsOutside fault)) }
     ensures good { IfSome (R.remaining reader.old.inner) (λ xs. (elements : List Bool)
-        → IsBitFile file_limit xs elements → MatchResult result (λ bits. bits.items ≡ elements) IsOutside) }
+        → IsBitFile file_limit xs elements
+        → MatchResult result (λ bits. bits.items ≡ elements) IsOutside) }
 {
     let mut space = blank(alloc, CHUNK)?;
     read_through(alloc, reader, space.as_mut_slice())
@@ -53,24 +47,14 @@ fn read_through<R: Read>(
 ) -> Result<Vec<bool>, RunFault>
     requires none { reader.old.failures ≡ 0 }
     requires room { 0 < length buffer.old }
-    ensures { Reads R.remaining reader.old reader.new RunFault.Read result
-        (λ bytes. MatchResult result
-        (λ bits. IsAtEnd (R.remaining reader.new.inner) × IsBitFile file_limit bytes bits.items)
-        (λ fault. ExplainsReading (IsAtEnd (R.remaining reader.new.inner)) file_limit bytes fault))
-        (λ bytes. MatchResult result
-        (λ bits. IsBitFile file_limit bytes bits.items)
-        (λ fault. ExplainsReading (Unit {0}) file_limit bytes fault)) }
+    ensures { ReadsElements R.remaining reader.old reader.new result }
 {
-    let mut scanner = Scanner::new(FILE_LIMIT);
-    let mut bits = Vec::new(alloc);
-    loop {
-        let count = match next_piece(reader, buffer) {
-            Piece::Bytes(count) => count,
-            Piece::End => break,
-            Piece::Failed => return Err(RunFault::Read),
-        };
-        scan_piece(&buffer[..count], &mut scanner, &mut bits)?;
-    }
+    let mut file = BitFile {
+        scanner: Scanner::new(FILE_LIMIT),
+        bits: Vec::new(alloc),
+    };
+    read_pieces(reader, buffer, &mut file)?;
+    let BitFile { scanner, bits } = file;
     scanner.end()?;
     Ok(bits)
 }
@@ -82,47 +66,15 @@ pub fn read_whole<R: Read>(alloc: Global, reader: &mut Counting<R>) -> Result<Ve
     requires { reader.old.failures ≡ 0 }
 
     // The answer is that of the bytes that were read, and that of the whole file, however it came.
-    ensures { Reads R.remaining reader.old reader.new ReadFault.Read result
-        (λ bytes. MatchResult result
-        (λ text. IsAtEnd (R.remaining reader.new.inner) × (length bytes ≤ file_limit) × (text.items ≡ bytes))
-        (λ fault. ExplainsWhole file_limit bytes fault))
-        (λ bytes. MatchResult result
-        (λ text. (length bytes ≤ file_limit) × (text.items ≡ bytes))
-        (λ fault. ExplainsWhole file_limit bytes fault)) }
+    ensures { ReadsWhole R.remaining reader.old reader.new result }
 {
     let mut space = blank(alloc, CHUNK)?;
-    gather(alloc, reader, space.as_mut_slice())
-}
-
-/// Reads a file whole through this buffer.
-fn gather<R: Read>(
-    alloc: Global,
-    reader: &mut Counting<R>,
-    buffer: &mut [u8],
-) -> Result<Vec<u8>, ReadFault>
-    requires none { reader.old.failures ≡ 0 }
-    requires room { 0 < length buffer.old }
-    ensures { Reads R.remaining reader.old reader.new ReadFault.Read result
-        (λ bytes. MatchResult result
-        (λ text. IsAtEnd (R.remaining reader.new.inner) × (length bytes ≤ file_limit) × (text.items ≡ bytes))
-        (λ fault. ExplainsWhole file_limit bytes fault))
-        (λ bytes. MatchResult result
-        (λ text. (length bytes ≤ file_limit) × (text.items ≡ bytes))
-        (λ fault. ExplainsWhole file_limit bytes fault)) }
-{
-    let mut whole = Vec::new(alloc);
-    loop {
-        let count = match next_piece(reader, buffer) {
-            Piece::Bytes(count) => count,
-            Piece::End => break,
-            Piece::Failed => return Err(ReadFault::Read),
-        };
-        if count as u64 > FILE_LIMIT - whole.len() as u64 {
-            return Err(ReadFault::FileTooLong);
-        }
-        whole.extend_from_slice(&buffer[..count])?;
-    }
-    Ok(whole)
+    let mut file = WholeFile {
+        bytes: Vec::new(alloc),
+        room: FILE_LIMIT,
+    };
+    read_pieces(reader, space.as_mut_slice(), &mut file)?;
+    Ok(file.bytes)
 }
 
 /// A buffer of this many bytes.
@@ -130,6 +82,74 @@ fn blank(alloc: Global, length: usize) -> Result<Vec<u8>, AllocError>
     ensures { IfOk result (λ buffer. vec_len buffer ≡ length) }
 {
     vec![in alloc; 0; length]
+}
+
+/// The elements of the lines of an air file, of which the pieces come one after the other.
+#[derive(Drop)]
+struct BitFile {
+    scanner: Scanner,
+    bits: Vec<bool>,
+}
+
+impl PieceTaker for BitFile {
+    ghost use Rattle.nx_fec.specs.Runs.{ExplainsReading, HasRead, file_limit};
+    ghost use Rattle.nx_fec.specs.declared.fault.RunFault.TheVariants.{Read};
+
+    type Fault = RunFault;
+
+    ghost stands = { λ file bytes. HasRead file_limit file.scanner file.bits.items bytes };
+
+    ghost explains = { λ bytes fault. ExplainsReading ⊥ file_limit bytes fault };
+
+    ghost room = { λ file. file.scanner.room };
+
+    ghost UNREAD = { Read };
+
+    const UNREAD: RunFault = RunFault::Read;
+
+    fn take(&mut self, piece: &[u8]) -> Result<(), RunFault> {
+        scan_piece(piece, &mut self.scanner, &mut self.bits)
+    }
+
+    ghost unread = { λ bytes. tt };
+}
+
+/// The bytes of a file, of which the pieces come one after the other, and how many more it may have.
+#[derive(Drop)]
+struct WholeFile {
+    bytes: Vec<u8>,
+    room: u64,
+}
+
+impl PieceTaker for WholeFile {
+    ghost use Rattle.std.specs.Prelude.{◌≡◌, ◌+◌, length};
+    ghost use Rattle.nx_fec.specs.Runs.{ExplainsWhole, file_limit};
+    ghost use Rattle.nx_fec.specs.declared.fault.ReadFault.TheVariants.{Read};
+
+    type Fault = ReadFault;
+
+    ghost stands = { λ file bytes. (file.room + length bytes ≡ file_limit)
+        × (file.bytes.items ≡ bytes) };
+
+    ghost explains = { λ bytes fault. ExplainsWhole file_limit bytes fault };
+
+    ghost room = { λ file. file.room };
+
+    ghost UNREAD = { Read };
+
+    const UNREAD: ReadFault = ReadFault::Read;
+
+    fn take(&mut self, piece: &[u8]) -> Result<(), ReadFault> {
+        let count = piece.len() as u64;
+        if count > self.room {
+            return Err(ReadFault::FileTooLong);
+        }
+        self.bytes.extend_from_slice(piece)?;
+        self.room -= count;
+        Ok(())
+    }
+
+    ghost unread = { λ bytes. tt };
 }
 
 /// Scans the next bytes of a file, and appends the elements of the lines that they end.
@@ -178,6 +198,7 @@ fn append_elements(elements: &[bool], bits: &mut Vec<bool>) -> Result<(), AllocE
 #[cfg(test)]
 mod tests {
     use super::*;
+    use crate::pieces::{Piece, next_piece};
     use std::test::Fail;
 
     #[test]

@@ -29,7 +29,8 @@ pub fn decode_run<R: Read, W: Write>(
     requires reader { reader.old.failures ≡ 0 }
     requires writer { writer.old.failures ≡ 0 }
 
-    ensures { Decodes (devices R.remaining W.contents reader.old reader.new writer.old writer.new) result }
+    ensures { Decodes
+        (devices R.remaining W.contents reader.old reader.new writer.old writer.new) result }
 {
     let bits = read_bits(alloc, reader)?;
     let text = decode_aligned(alloc, &bits)?;
@@ -50,7 +51,8 @@ pub fn encode_run<R: Read, W: Write>(
     requires reader { reader.old.failures ≡ 0 }
     requires writer { writer.old.failures ≡ 0 }
 
-    ensures { Encodes (devices R.remaining W.contents reader.old reader.new writer.old writer.new) result }
+    ensures { Encodes
+        (devices R.remaining W.contents reader.old reader.new writer.old writer.new) result }
 {
     let text = read_whole(alloc, reader)?;
     let combs = spell(alloc, &text, Shift::Letters)?;
@@ -74,7 +76,8 @@ pub fn show_run<R: Read, W: Write>(
     requires reader { reader.old.failures ≡ 0 }
     requires writer { writer.old.failures ≡ 0 }
 
-    ensures { Shows (devices R.remaining W.contents reader.old reader.new writer.old writer.new) result }
+    ensures { Shows
+        (devices R.remaining W.contents reader.old reader.new writer.old writer.new) result }
 {
     let bits = read_bits(alloc, reader)?;
     let lines = word_lines(alloc, &bits)?;
@@ -85,7 +88,8 @@ pub fn show_run<R: Read, W: Write>(
 /// The positions by which combinations are sent alone.
 fn framed_positions(alloc: Global, combs: &[Comb]) -> Result<Vec<Position>, AllocError>
     ensures { IfOk result (λ positions.
-        map sent_position positions.items ≡ framed_positions (map (λ comb. comb.number) combs.now)) }
+        map sent_position positions.items
+        ≡ framed_positions (map (λ comb. comb.number) combs.now)) }
 {
     let mut positions = Vec::new(alloc);
     positions.extend_from_slice(&[Position::Phasing; 4])?;

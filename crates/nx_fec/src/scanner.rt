@@ -116,9 +116,11 @@ impl Scanner {
     #[inline(always)]
     pub fn push_line(&mut self, piece: &[u8]) -> Result<usize, LineFault>
         requires { 0 < length piece.now }
-        ensures bytes { (limit : ℕ) (bytes : List ℕ) (lines : List Line) → Scans limit self.old bytes lines →
+        ensures bytes { (limit : ℕ) (bytes : List ℕ) (lines : List Line)
+            → Scans limit self.old bytes lines →
             MatchResult result
-            (λ count. Scans limit self.new (bytes ++ take count piece.now) (lines ++ option_to_list self.new.latest))
+            (λ count. Scans limit self.new (bytes ++ take count piece.now)
+            (lines ++ option_to_list self.new.latest))
             (λ why. StopsIn limit self.new bytes piece.now lines why) }
         ensures at_byte { IfErr result IsAtByte }
         ensures some { IfOk result (λ count. (0 < count) × (count ≤ length piece.now)) }
@@ -141,7 +143,8 @@ impl Scanner {
     fn go_on(&mut self, piece: &[u8], count: usize) -> Result<(), LineFault>
         requires within { count ≤ length piece.now }
         requires none { AllByRecursion (λ byte. byte ≢ line_end) (take count piece.now) }
-        ensures bytes { (limit : ℕ) (before : List ℕ) (lines : List Line) → Scans limit self.old before lines →
+        ensures bytes { (limit : ℕ) (before : List ℕ) (lines : List Line)
+            → Scans limit self.old before lines →
             MatchResult result
             (λ _. Scans limit self.new (before ++ take count piece.now) lines)
             (λ why. StopsIn limit self.new before (take count piece.now) lines why) }
@@ -218,10 +221,13 @@ impl Scanner {
     #[inline(always)]
     fn end_line(&mut self) -> Result<(), LineFault>
         requires { self.old.latest ≡ None }
-        ensures bytes { (limit : ℕ) (before : List ℕ) (lines : List Line) → Scans limit self.old before lines →
+        ensures bytes { (limit : ℕ) (before : List ℕ) (lines : List Line)
+            → Scans limit self.old before lines →
             MatchResult result
-            (λ _. Scans limit self.new (before ++ line_end ∷ []) (lines ++ option_to_list self.new.latest))
-            (λ why. (more : List ℕ) → IsCause limit (length before) lines self.old.part (line_end ∷ more) why) }
+            (λ _. Scans limit self.new (before ++ line_end ∷ [])
+            (lines ++ option_to_list self.new.latest))
+            (λ why. (more : List ℕ)
+            → IsCause limit (length before) lines self.old.part (line_end ∷ more) why) }
         ensures at_byte { IfErr result IsAtByte }
         ensures latest { OnOk result (IsSomeAnd self.new.latest IsLine) }
         ensures room { OnOk result (self.new.room + 1 ≡ self.old.room) }
@@ -243,7 +249,8 @@ impl Scanner {
 
     /// What the end of the file says: the lines so far are all of it, or the open line is cut.
     pub fn end(&self) -> Result<(), LineFault>
-        ensures { (limit : ℕ) (bytes : List ℕ) (lines : List Line) → Scans limit self.now bytes lines →
+        ensures { (limit : ℕ) (bytes : List ℕ) (lines : List Line)
+            → Scans limit self.now bytes lines →
             MatchResult result
             (λ _. IsAirFile limit bytes lines)
             (λ why. IsCause limit (length bytes) lines self.now.part [] why) }

@@ -29,9 +29,11 @@ const TEXT_BYTES: usize = SIGNALS * LINE_BYTES;
 /// Where a write fails, the first `written` bytes of those lines were written.
 pub fn write_table<W: Write>(writer: &mut Counting<W>) -> Result<(), WriteFault>
     requires { writer.old.failures ≡ 0 }
-    ensures ok { OnOk result (Appends (W.contents writer.old.inner) (W.contents writer.new.inner) table_text) }
+    ensures ok { OnOk result
+        (Appends (W.contents writer.old.inner) (W.contents writer.new.inner) table_text) }
     ensures err { IfErr result (λ fault.
-        WroteSome (W.contents writer.old.inner) (W.contents writer.new.inner) table_text fault.written) }
+        WroteSome (W.contents writer.old.inner)
+        (W.contents writer.new.inner) table_text fault.written) }
     ensures failed { IsErr result ↔ (writer.new.failures ≡ 1) }
     ensures once { writer.new.failures ≤ 1 }
     ensures none { OnOk result (writer.new.failures ≡ 0) }

@@ -24,9 +24,11 @@ const BATCH_BYTES: usize = 64 * LINE_BYTES;
 /// Writes all these bytes, by as many calls as the writer needs. It stops at the first write that fails.
 pub fn write_out<W: Write>(writer: &mut Counting<W>, bytes: &[u8]) -> Result<(), WriteFault>
     requires { writer.old.failures ≡ 0 }
-    ensures ok { OnOk result (Appends (W.contents writer.old.inner) (W.contents writer.new.inner) bytes.now) }
+    ensures ok { OnOk result
+        (Appends (W.contents writer.old.inner) (W.contents writer.new.inner) bytes.now) }
     ensures err { IfErr result (λ fault.
-        WroteSome (W.contents writer.old.inner) (W.contents writer.new.inner) bytes.now fault.written) }
+        WroteSome (W.contents writer.old.inner)
+        (W.contents writer.new.inner) bytes.now fault.written) }
     ensures failed { IsErr result ↔ (writer.new.failures ≡ 1) }
     ensures once { writer.new.failures ≤ 1 }
     ensures none { OnOk result (writer.new.failures ≡ 0) }
@@ -47,7 +49,8 @@ pub fn write_out<W: Write>(writer: &mut Counting<W>, bytes: &[u8]) -> Result<(),
 pub fn write_bits<W: Write>(writer: &mut Counting<W>, bits: &[bool]) -> Result<(), WriteFault>
     requires { writer.old.failures ≡ 0 }
     ensures ok { OnOk result
-        (Appends (W.contents writer.old.inner) (W.contents writer.new.inner) (file_of (bit_lines bits.now))) }
+        (Appends (W.contents writer.old.inner) (W.contents writer.new.inner)
+        (file_of (bit_lines bits.now))) }
     ensures err { IfErr result (λ fault.
         WroteSome (W.contents writer.old.inner) (W.contents writer.new.inner)
         (file_of (bit_lines bits.now)) fault.written) }
@@ -80,7 +83,8 @@ pub fn write_on<W: Write>(
     ensures bytes { (first : Option (List ℕ)) (before : List ℕ)
         → HasWritten first (W.contents writer.old.inner) before sent → MatchResult result
         (λ count. HasWritten first (W.contents writer.new.inner) (before ++ bytes.now) count)
-        (λ fault. WroteSome first (W.contents writer.new.inner) (before ++ bytes.now) fault.written) }
+        (λ fault. WroteSome first (W.contents writer.new.inner)
+        (before ++ bytes.now) fault.written) }
     ensures failed { IsErr result ↔ (writer.new.failures ≡ 1) }
     ensures once { writer.new.failures ≤ 1 }
     ensures none { OnOk result (writer.new.failures ≡ 0) }
