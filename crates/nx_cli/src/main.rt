@@ -14,6 +14,7 @@ use program::{refuse_words, run};
 use std::process::ExitCode;
 use std::{env, io};
 
+/// The words of the process, of which the first is the program's name.
 fn words_of(rt: &HostRuntime) -> io::Result<Vec<String>> {
     Ok(env::args(rt)?.collect(rt.alloc())?)
 }

@@ -128,6 +128,7 @@ impl Finder {
     }
 
     /// The identity of the copy that is open, or that can be taken.
+    // Inlined, since its answer is small and asked where it is used.
     #[inline(always)]
     pub fn identity(&self) -> Option<Identity>
         ensures { result ≡ held_identity self.now.copy }

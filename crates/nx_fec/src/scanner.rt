@@ -139,6 +139,7 @@ impl Scanner {
 
     /// Takes the first `count` bytes of a piece into the open line; none of them is a line feed. After a fault the bytes
     /// before it were taken.
+    // Inlined always, as a part of `push_line`.
     #[inline(always)]
     fn go_on(&mut self, piece: &[u8], count: usize) -> Result<(), LineFault>
         requires within { count ≤ length piece.now }
@@ -189,6 +190,7 @@ impl Scanner {
     }
 
     /// Takes the first `count` bytes of a piece into the open line.
+    // Inlined always, as a part of `push_line`.
     #[inline(always)]
     fn keep(&mut self, piece: &[u8], count: usize)
         requires open { self.old.latest ≡ None }
@@ -218,6 +220,7 @@ impl Scanner {
     }
 
     /// Takes a line feed, which ends the open line. After a fault nothing changed.
+    // Inlined always, as a part of `push_line`.
     #[inline(always)]
     fn end_line(&mut self) -> Result<(), LineFault>
         requires { self.old.latest ≡ None }

@@ -89,6 +89,7 @@ impl LockReader {
     }
 
     /// The identity of the copy that stands open, or that can be taken.
+    // Inlined, since its answer is small and asked where it is used.
     #[inline(always)]
     pub(crate) fn identity(&self) -> Option<Identity>
         ensures { result ≡ held_identity self.now.finder.copy }

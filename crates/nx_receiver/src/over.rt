@@ -19,6 +19,7 @@ pub(crate) enum Over {
 
 impl Over {
     /// What is over, by whether a copy is and whether the lock is.
+    // Inlined, since it is called for each word.
     #[inline(always)]
     pub(crate) fn of(is_copy_over: bool, is_lock_over: bool) -> Over
         ensures { result ≡ over_with is_copy_over is_lock_over }

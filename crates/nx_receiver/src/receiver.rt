@@ -233,6 +233,7 @@ impl<M: Recall> Receiver<M> {
 
     /// Hears elements up to and with the first one with which anything is over, and passes over it
     /// where it surely brings no entry.
+    // Inlined, since `hear` alone calls it.
     #[inline(always)]
     fn hear_part(&mut self, bits: &[bool]) -> (usize, Over)
         ensures within { result.0 ≤ length bits.now }
@@ -251,6 +252,7 @@ impl<M: Recall> Receiver<M> {
 
     /// Passes over what is over where it surely brings no entry: a copy that can be taken and isn't
     /// printed, and a lock in which no copy stands open. Answers what is over then.
+    // Inlined, so that nothing over costs a comparison and no call.
     #[inline(always)]
     fn pass_over(&mut self, over: Over) -> Over
         ensures { PassesOver M.content self.old self.new over result }

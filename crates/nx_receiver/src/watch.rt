@@ -192,6 +192,7 @@ impl Watch {
     }
 
     /// Whether a lock stands.
+    // Inlined, since it is asked for each part that is heard.
     #[inline(always)]
     fn is_locked(&self) -> bool
         ensures { result ≡ not (is_hunting self.now.synchroniser) }
@@ -200,6 +201,7 @@ impl Watch {
     }
 
     /// Whether a lock stands, and the next element is the first of a word.
+    // Inlined, since it is asked for each word.
     #[inline(always)]
     fn is_between_words(&self) -> bool
         ensures { result ≡ is_between_words self.now.synchroniser }
@@ -208,6 +210,7 @@ impl Watch {
     }
 
     /// Hears the seven elements of the next word of the lock.
+    // Inlined, since it is called for each word.
     #[inline(always)]
     fn hear_word(&mut self, bits: &[bool; ELEMENTS]) -> Over
         requires { IsTrue (is_between_words self.old.synchroniser) }
@@ -220,6 +223,7 @@ impl Watch {
     }
 
     /// Hears one element.
+    // Inlined, as `hear_word`.
     #[inline(always)]
     fn hear_element(&mut self, bit: bool) -> Over
         ensures hears { HearsAll self.old self.new (bit ∷ []) result }
@@ -231,6 +235,7 @@ impl Watch {
     }
 
     /// Reads the word that a step of the synchroniser completes, if it completes one.
+    // Inlined, so that the step is read where it is made.
     #[inline(always)]
     fn read(&mut self, step: Step) -> Over
         ensures step { ReadsStep self.old self.new step result }
@@ -244,6 +249,7 @@ impl Watch {
     }
 
     /// Reads a word of the lock, which may bring a change.
+    // Inlined, since it is called for each word.
     #[inline(always)]
     fn read_word(&mut self, word: Word, role: Role, is_changed: bool) -> Over
         ensures word { ReadsWord self.old self.new word role is_changed result }
@@ -291,6 +297,7 @@ impl Watch {
     }
 
     /// The identity of the copy that stands open, or that can be taken.
+    // Inlined, as that of the reader.
     #[inline(always)]
     pub(crate) fn identity(&self) -> Option<Identity>
         ensures { result ≡ held_identity self.now.reader.finder.copy }
