@@ -334,6 +334,7 @@ module _ {T F : Type 0} (stands : Standing T) (begins : Beginning T) (refuses : 
       consumed = consumed;
       answer = answer;
       file = AnswersLines-file (d.remaining d.reader.inner) (d.remaining d.reader_after.inner) first now limit _ _ bytes outcome consumed answer;
+      before = λ e. tt;
       failed = failed;
       once = once;
     };

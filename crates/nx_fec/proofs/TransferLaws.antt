@@ -13,15 +13,16 @@ IfSome-later (Some xs) P Q f h = f xs h
 
 -- the run goes on after it read, and fails to read exactly where its reading did
 pub Reads-on : {R N M F G : Type 0} (remaining : R → Option (List ℕ)) (old new : CountedDevice R) (read : F) (run_read : G) (outcome : Result N F) (run_outcome : Result M G)
-    (known whole run_known run_whole : List ℕ → Type 0) → Reads remaining old new read outcome known whole
+    (known whole run_known run_whole : List ℕ → Type 0) {faultless : List ℕ → Type 0} → Reads remaining old new read outcome faultless known whole
     → ((bytes : List ℕ) → known bytes → run_known bytes) → ((bytes : List ℕ) → whole bytes → run_whole bytes)
     → (IsErrOf run_outcome run_read → IsErrOf outcome read) → (IsErrOf outcome read → IsErrOf run_outcome run_read)
-    → Reads remaining old new run_read run_outcome run_known run_whole
+    → Reads remaining old new run_read run_outcome faultless run_known run_whole
 Reads-on remaining old new read run_read outcome run_outcome known whole run_known run_whole h k w there here = record {
   bytes = h.bytes;
   consumed = h.consumed;
   answer = k h.bytes h.answer;
   file = IfSome-later (remaining old.inner) whole run_whole w h.file;
+  before = λ e. h.before (there e);
   failed = (λ e. h.failed.0 (there e), λ one. here (h.failed.1 one));
   once = h.once;
 }
@@ -72,39 +73,43 @@ IfSome-end None new bytes P consumed end h = tt
 IfSome-end (Some xs) None bytes P consumed end h = absurd consumed
 IfSome-end (Some xs) (Some ys) bytes P consumed end h = subst P (sym (consumed ∙ ap (λ l. bytes ++ l) end ∙ append-nil bytes)) h
 
-module _ {R N F : Type 0} (remaining : R → Option (List ℕ)) (old new : CountedDevice R) (unread : F) (good : N → List ℕ → Type 0) (explains : List ℕ → F → Type 0)
+module _ {R N F : Type 0} (remaining : R → Option (List ℕ)) (old new : CountedDevice R) (unread : F) (faultless : List ℕ → Type 0) (good : N → List ℕ → Type 0) (explains : List ℕ → F → Type 0)
     (bytes : List ℕ) (consumed : Consumes (remaining old.inner) (remaining new.inner) bytes) where
   -- a file is read to its end
   pub ReadsToEnd-ended : (answer : N) → IsAtEnd (remaining new.inner) → good answer bytes → new.failures ≡ 0
-      → ReadsToEnd remaining old new unread (Ok answer) good (λ _. explains)
+      → ReadsToEnd remaining old new unread (Ok answer) faultless good (λ _. explains)
   ReadsToEnd-ended answer end h none = record {
     bytes = bytes;
     consumed = consumed;
     answer = (end, h);
     file = IfSome-end _ _ bytes (good answer) consumed end h;
+    before = λ e. absurd (Ok-not_err _ _ e);
     failed = read_failed-none _ _ _ (Ok-not_err _ _) none;
     once = omega (arith, none);
   }
 
   -- or it has a fault
   pub ReadsToEnd-stopped : (fault : F) → ((more : List ℕ) → explains (bytes ++ more) fault) → (◌≡◌ {A = Result N F} (Err fault) (Err unread) → ⊥)
-      → new.failures ≡ 0 → ReadsToEnd remaining old new unread (Err fault) good (λ _. explains)
+      → new.failures ≡ 0 → ReadsToEnd remaining old new unread (Err fault) faultless good (λ _. explains)
   ReadsToEnd-stopped fault h other none = record {
     bytes = bytes;
     consumed = consumed;
     answer = subst (λ l. explains l fault) (append-nil bytes) (h []);
     file = IfSome-front _ _ bytes (λ xs. explains xs fault) consumed h;
+    before = λ e. absurd (other e);
     failed = read_failed-none _ _ _ other none;
     once = omega (arith, none);
   }
 
   -- or a read fails
-  pub ReadsToEnd-failed : ((xs : List ℕ) → explains xs unread) → new.failures ≡ 1 → ReadsToEnd {N = N} remaining old new unread (Err unread) good (λ _. explains)
-  ReadsToEnd-failed h one = record {
+  pub ReadsToEnd-failed : ((xs : List ℕ) → explains xs unread) → faultless bytes → new.failures ≡ 1
+      → ReadsToEnd {N = N} remaining old new unread (Err unread) faultless good (λ _. explains)
+  ReadsToEnd-failed h none one = record {
     bytes = bytes;
     consumed = consumed;
     answer = h bytes;
     file = IfSome-always _ _ h;
+    before = λ e. none;
     failed = (λ e. one, λ o. refl);
     once = omega (arith, one);
   }

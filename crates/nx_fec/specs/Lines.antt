@@ -32,6 +32,14 @@ pub record Splits (bytes : List ℕ) (lines : List Line) (rest : List ℕ) : Typ
   pub each : AllByRecursion IsLine lines
   pub part : IsBeginning rest
 
+-- No fault stands in the bytes, whatever comes after them: they are good lines, and maybe the
+-- beginning of one more, within the limit.
+pub record IsFaultless (limit : ℕ) (bytes : List ℕ) : Type 0 where
+  pub lines : List Line
+  pub rest : List ℕ
+  pub splits : Splits bytes lines rest
+  pub within : length bytes ≤ limit
+
 -- After `lines` and the beginning `rest` of one more, which are `front` bytes, comes the fault: at
 -- the next byte, the first of `more`, or at the end of the file. A byte past the limit isn't looked
 -- at. The 515th byte of a line is too many. A line feed ends a line, which has to be one of the air

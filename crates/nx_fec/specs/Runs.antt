@@ -4,7 +4,7 @@ use Rattle.std.specs.Global.{Vec}
 use Rattle.std.specs.Io.KnownBytes.{Appends, IsAtEnd}
 use Rattle.std.specs.List.{flat_map}
 use Rattle.nx_fec.specs.AirFile.{Line}
-use Rattle.nx_fec.specs.Lines.{HasFault, IsBitFile, file_of, Scanning, Scans, elements_of}
+use Rattle.nx_fec.specs.Lines.{HasFault, IsBitFile, IsFaultless, file_of, Scanning, Scans, elements_of}
 use Rattle.nx_fec.specs.Aligned.{aligned_text, words_of}
 use Rattle.nx_fec.specs.WordLines.{word_lines}
 use Rattle.nx_fec.specs.Devices.{CountedDevice, WroteSome}
@@ -83,7 +83,7 @@ pub record HasRead (limit : ℕ) (scanner : Scanning) (bits : List Bool)
 abbrev pub ReadsElements : {R : Type 0} → (R → Option (List ℕ)) → CountedDevice R → CountedDevice R
     → Result (Vec Bool) RunFault → Type 0
 ReadsElements remaining old new outcome =
-    ReadsToEnd remaining old new Read outcome
+    ReadsToEnd remaining old new Read outcome (IsFaultless file_limit)
     (λ bits bytes. IsBitFile file_limit bytes bits.items)
     (λ AtEnd bytes fault. ExplainsReading AtEnd file_limit bytes fault)
 
@@ -119,7 +119,7 @@ AnswersDecoding AtEnd limit bytes old new (Err fault) =
 -- came; and it writes nothing before all else succeeded.
 abbrev pub Decodes : {R W : Type 0} → Devices R W → Result ℕ RunFault → Type 0
 Decodes d outcome =
-    Transfers Read (λ written. Write written) at_the_end d outcome
+    Transfers Read (λ written. Write written) at_the_end d outcome (IsFaultless file_limit)
     (λ bytes. AnswersDecoding (IsReadOut d) file_limit bytes (d.contents d.writer.inner)
     (d.contents d.writer_after.inner) outcome)
     (λ bytes. AnswersDecoding (Unit {0}) file_limit bytes (d.contents d.writer.inner)
@@ -157,11 +157,15 @@ AnswersShowing AtEnd limit bytes old new (Err fault) =
 -- it came; and it writes nothing before all else succeeded.
 abbrev pub Shows : {R W : Type 0} → Devices R W → Result ℕ RunFault → Type 0
 Shows d outcome =
-    Transfers Read (λ written. Write written) at_the_end d outcome
+    Transfers Read (λ written. Write written) at_the_end d outcome (IsFaultless file_limit)
     (λ bytes. AnswersShowing (IsReadOut d) file_limit bytes (d.contents d.writer.inner)
     (d.contents d.writer_after.inner) outcome)
     (λ bytes. AnswersShowing (Unit {0}) file_limit bytes (d.contents d.writer.inner)
     (d.contents d.writer_after.inner) outcome)
+
+-- no fault stands in the bytes of a text that is read whole: it isn't too long
+abbrev pub IsWithin : ℕ → List ℕ → Type 0
+IsWithin limit bytes = length bytes ≤ limit
 
 -- what a fault of reading a text whole says of its bytes: it is too long, or the reader or memory
 -- failed
@@ -175,7 +179,7 @@ ExplainsWhole limit bytes (read.Memory error) = ⊤
 abbrev pub ReadsWhole : {R : Type 0} → (R → Option (List ℕ)) → CountedDevice R → CountedDevice R
     → Result (Vec ℕ) ReadFault → Type 0
 ReadsWhole remaining old new outcome =
-    Reads remaining old new read.Read outcome
+    Reads remaining old new read.Read outcome (IsWithin file_limit)
     (λ bytes. MatchResult outcome
     (λ text. IsAtEnd (remaining new.inner) × (length bytes ≤ file_limit) × (text.items ≡ bytes))
     (λ fault. ExplainsWhole file_limit bytes fault))
@@ -219,7 +223,7 @@ AnswersEncoding AtEnd limit bytes old new (Err fault) =
 -- came; and it writes nothing before all else succeeded.
 abbrev pub Encodes : {R W : Type 0} → Devices R W → Result ℕ RunFault → Type 0
 Encodes d outcome =
-    Transfers Read (λ written. Write written) at_the_end d outcome
+    Transfers Read (λ written. Write written) at_the_end d outcome (IsWithin file_limit)
     (λ bytes. AnswersEncoding (IsReadOut d) file_limit bytes (d.contents d.writer.inner)
     (d.contents d.writer_after.inner) outcome)
     (λ bytes. AnswersEncoding (Unit {0}) file_limit bytes (d.contents d.writer.inner)

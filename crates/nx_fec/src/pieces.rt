@@ -40,6 +40,9 @@ pub trait PieceTaker: Drop {
     /// What a fault says of the bytes that were read.
     ghost explains: { List ℕ → Self.Fault → Type 0 };
 
+    /// No fault stands in these bytes.
+    ghost faultless: { List ℕ → Type 0 };
+
     /// How many more bytes it takes at most.
     ghost room: { Self → ℕ };
 
@@ -56,8 +59,11 @@ pub trait PieceTaker: Drop {
         ensures room { OnOk result (room self.new + length piece.now ≡ room self.old) }
         ensures read { IsErrOf result UNREAD → ⊥ };
 
-    /// A failed read says nothing of the bytes.
+    /// A failed read says nothing of all the bytes.
     ghost unread: { (bytes : List ℕ) → explains bytes UNREAD };
+
+    /// No fault stands in the bytes that were taken.
+    ghost clean: { (now : Self) (bytes : List ℕ) → stands now bytes → faultless bytes };
 }
 
 /// Reads an input to its end, and gives each piece to the taker, through this buffer. It takes no memory of its own.
@@ -69,7 +75,7 @@ pub fn read_pieces<R: Read, T: PieceTaker>(
     requires none { reader.old.failures ≡ 0 }
     requires room { 0 < length buffer.old }
     ensures { T.stands taker.old [] → ReadsToEnd R.remaining reader.old reader.new T.UNREAD result
-        (λ _. T.stands taker.new) (λ _. T.explains) }
+        T.faultless (λ _. T.stands taker.new) (λ _. T.explains) }
 {
     loop {
         match next_piece(reader, buffer) {

@@ -92,6 +92,8 @@ struct BitFile {
 }
 
 impl PieceTaker for BitFile {
+    ghost use Rattle.std.proofs.Common.{arith};
+    ghost use Rattle.nx_fec.specs.Lines.{IsFaultless};
     ghost use Rattle.nx_fec.specs.Runs.{ExplainsReading, HasRead, file_limit};
     ghost use Rattle.nx_fec.specs.declared.fault.RunFault.TheVariants.{Read};
 
@@ -100,6 +102,8 @@ impl PieceTaker for BitFile {
     ghost stands = { λ file bytes. HasRead file_limit file.scanner file.bits.items bytes };
 
     ghost explains = { λ bytes fault. ExplainsReading ⊥ file_limit bytes fault };
+
+    ghost faultless = { λ bytes. IsFaultless file_limit bytes };
 
     ghost room = { λ file. file.scanner.room };
 
@@ -112,6 +116,13 @@ impl PieceTaker for BitFile {
     }
 
     ghost unread = { λ bytes. tt };
+
+    ghost clean = { λ file bytes h. record {
+      lines = h.lines;
+      rest = file.scanner.part;
+      splits = h.scans.splits;
+      within = omega (arith, h.scans.room);
+    } };
 }
 
 /// The bytes of a file, of which the pieces come one after the other, and how many more it may have.
@@ -123,7 +134,8 @@ struct WholeFile {
 
 impl PieceTaker for WholeFile {
     ghost use Rattle.std.specs.Prelude.{◌≡◌, ◌+◌, length};
-    ghost use Rattle.nx_fec.specs.Runs.{ExplainsWhole, file_limit};
+    ghost use Rattle.std.proofs.Common.{arith};
+    ghost use Rattle.nx_fec.specs.Runs.{ExplainsWhole, IsWithin, file_limit};
     ghost use Rattle.nx_fec.specs.declared.fault.ReadFault.TheVariants.{Read};
 
     type Fault = ReadFault;
@@ -132,6 +144,8 @@ impl PieceTaker for WholeFile {
         × (file.bytes.items ≡ bytes) };
 
     ghost explains = { λ bytes fault. ExplainsWhole file_limit bytes fault };
+
+    ghost faultless = { λ bytes. IsWithin file_limit bytes };
 
     ghost room = { λ file. file.room };
 
@@ -150,6 +164,8 @@ impl PieceTaker for WholeFile {
     }
 
     ghost unread = { λ bytes. tt };
+
+    ghost clean = { λ file bytes h. omega (arith, h.0) };
 }
 
 /// Scans the next bytes of a file, and appends the elements of the lines that they end.

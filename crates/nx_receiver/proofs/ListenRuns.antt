@@ -241,6 +241,7 @@ listens-memory remaining contents reader writer error outcome failed fault read 
         consumed = Consumes-nil (remaining reader.inner);
         answer = tt;
         file = whatever (remaining reader.inner);
+        before = λ e. tt;
         failed = read_failed-none _ _ _ (memory-read error) read;
         once = omega (arith, read);
       };

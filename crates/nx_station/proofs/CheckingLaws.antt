@@ -6,7 +6,7 @@ use Rattle.nx_fec.specs.AirFile.{moment}
 use Rattle.nx_fec.specs.BitLines.{bit_lines}
 use Rattle.nx_fec.specs.Devices.{WroteSome}
 use Rattle.nx_fec.specs.Emission.{bits_of, emission}
-use Rattle.nx_fec.specs.Lines.{IsBitFile, line_bytes}
+use Rattle.nx_fec.specs.Lines.{IsBitFile, IsFaultless, line_bytes}
 use Rattle.nx_fec.specs.Lines.{file_of as air_file_of}
 use Rattle.nx_fec.specs.Transfers.{Devices, IsReadOut, Reads}
 use Rattle.nx_fec.specs.declared.fault.RunFault.{RunFault}
@@ -43,7 +43,7 @@ write-read written e = cc
 
 -- the elements have a fault
 pub unread : {R W N : Type 0} (d : Devices R W) (bits : N) (items given : List Bool) (fault : EmissionFault)
-    → Reads d.remaining d.reader d.reader_after run.Read (as_read {N = N} (Ok bits)) (λ bytes. IsReadOut d × IsBitFile 1048576 bytes items) (λ bytes. IsBitFile 1048576 bytes items)
+    → Reads d.remaining d.reader d.reader_after run.Read (as_read {N = N} (Ok bits)) (IsFaultless 1048576) (λ bytes. IsReadOut d × IsBitFile 1048576 bytes items) (λ bytes. IsBitFile 1048576 bytes items)
     → d.writer_after ≡ d.writer → d.writer.failures ≡ 0 → given ≡ items → ExplainsEmission given fault → Checks d (Err (Emission fault))
 unread d bits items given fault reads same none is explains =
     let h = subst (λ l. ExplainsEmission l fault) is explains in record {
@@ -75,7 +75,7 @@ checked-of air items text count file h = record {
 
 -- the report is written in part
 pub unwritten : {R W N : Type 0} (d : Devices R W) (bits : N) (items : List Bool) (text : List ℕ) (count written : ℕ)
-    → Reads d.remaining d.reader d.reader_after run.Read (as_read {N = N} (Ok bits)) (λ bytes. IsReadOut d × IsBitFile 1048576 bytes items) (λ bytes. IsBitFile 1048576 bytes items)
+    → Reads d.remaining d.reader d.reader_after run.Read (as_read {N = N} (Ok bits)) (IsFaultless 1048576) (λ bytes. IsReadOut d × IsBitFile 1048576 bytes items) (λ bytes. IsBitFile 1048576 bytes items)
     → d.writer_after.failures ≡ 1 → AreReported items text count → WroteSome (d.contents d.writer.inner) (d.contents d.writer_after.inner) text written
     → Checks d (Err (Run (run.Write written)))
 unwritten d bits items text count written reads one is wrote = record {
@@ -89,7 +89,7 @@ unwritten d bits items text count written reads one is wrote = record {
 
 -- it is written whole
 pub checked-all : {R W N : Type 0} (d : Devices R W) (bits : N) (items : List Bool) (text : List ℕ) (count : ℕ)
-    → Reads d.remaining d.reader d.reader_after run.Read (as_read {N = N} (Ok bits)) (λ bytes. IsReadOut d × IsBitFile 1048576 bytes items) (λ bytes. IsBitFile 1048576 bytes items)
+    → Reads d.remaining d.reader d.reader_after run.Read (as_read {N = N} (Ok bits)) (IsFaultless 1048576) (λ bytes. IsReadOut d × IsBitFile 1048576 bytes items) (λ bytes. IsBitFile 1048576 bytes items)
     → d.writer_after.failures ≡ 0 → AreReported items text count → Appends (d.contents d.writer.inner) (d.contents d.writer_after.inner) text
     → Checks d (Ok count)
 checked-all d bits items text count reads none is wrote = record {

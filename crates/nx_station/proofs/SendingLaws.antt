@@ -10,7 +10,7 @@ use Rattle.nx_fec.specs.Emission.{SentPosition, bits_of, emission}
 use Rattle.nx_fec.specs.BitLines.{bit_lines}
 use Rattle.nx_fec.specs.Lines.{file_of, line_bytes}
 use Rattle.nx_fec.specs.AirFile.{moment}
-use Rattle.nx_fec.specs.Runs.{ExplainsWhole}
+use Rattle.nx_fec.specs.Runs.{ExplainsWhole, IsWithin}
 use Rattle.nx_fec.specs.Transfers.{Devices, IsReadOut, Reads}
 use Rattle.nx_fec.specs.declared.fault.ReadFault.{ReadFault}
 use Rattle.nx_fec.specs.declared.fault.ReadFault.TheVariants as read
@@ -74,7 +74,7 @@ whole-write read.FileTooLong written e = cc
 whole-write (read.Memory error) written e = cc
 
 pub unread : {R W N : Type 0} (d : Devices R W) (station from : ℕ) (why : ReadFault)
-    → Reads d.remaining d.reader d.reader_after read.Read (as_read {N = N} (Err why)) (λ bytes. ExplainsWhole 1048576 bytes why) (λ bytes. ExplainsWhole 1048576 bytes why)
+    → Reads d.remaining d.reader d.reader_after read.Read (as_read {N = N} (Err why)) (IsWithin 1048576) (λ bytes. ExplainsWhole 1048576 bytes why) (λ bytes. ExplainsWhole 1048576 bytes why)
     → d.writer_after ≡ d.writer → d.writer.failures ≡ 0 → Sends d station from (Err (read_fault why))
 unread d station from why reads same none = record {
   reads = Reads-on _ _ _ _ _ _ _ _ _ _ _ reads (λ bytes k. whole-explains _ station from bytes _ _ why k) (λ bytes k. whole-explains _ station from bytes _ _ why k) (whole-read why) (read-whole why);
@@ -86,7 +86,7 @@ unread d station from why reads same none = record {
 
 -- the fault comes before anything is written
 pub unsent : {R W N : Type 0} (d : Devices R W) (station from : ℕ) (text : N) (items : List ℕ) (fault : SendRunFault)
-    → Reads d.remaining d.reader d.reader_after read.Read (as_read {N = N} (Ok text)) (λ bytes. IsReadOut d × (length bytes ≤ 1048576) × (items ≡ bytes)) (λ bytes. (length bytes ≤ 1048576) × (items ≡ bytes))
+    → Reads d.remaining d.reader d.reader_after read.Read (as_read {N = N} (Ok text)) (IsWithin 1048576) (λ bytes. IsReadOut d × (length bytes ≤ 1048576) × (items ≡ bytes)) (λ bytes. (length bytes ≤ 1048576) × (items ≡ bytes))
     → d.writer_after ≡ d.writer → d.writer.failures ≡ 0 → IsInside fault
     → ((AtEnd : Type 0) → AtEnd → length items ≤ 1048576 → ExplainsSending AtEnd 1048576 station from items (d.contents d.writer.inner) (d.contents d.writer_after.inner) fault)
     → Sends d station from (Err fault)
@@ -101,7 +101,7 @@ unsent d station from text items fault reads same none inside explains = record 
 
 -- the file is written, or a part of it
 pub unwritten : {R W N : Type 0} (d : Devices R W) (station from : ℕ) (text : N) (items air : List ℕ) (sent : Sent) (written : ℕ)
-    → Reads d.remaining d.reader d.reader_after read.Read (as_read {N = N} (Ok text)) (λ bytes. IsReadOut d × (length bytes ≤ 1048576) × (items ≡ bytes)) (λ bytes. (length bytes ≤ 1048576) × (items ≡ bytes))
+    → Reads d.remaining d.reader d.reader_after read.Read (as_read {N = N} (Ok text)) (IsWithin 1048576) (λ bytes. IsReadOut d × (length bytes ≤ 1048576) × (items ≡ bytes)) (λ bytes. (length bytes ≤ 1048576) × (items ≡ bytes))
     → d.writer_after.failures ≡ 1 → IsTransmission station from items air sent → WroteSome (d.contents d.writer.inner) (d.contents d.writer_after.inner) air written
     → Sends d station from (Err (Write written))
 unwritten d station from text items air sent written reads one is wrote = record {
@@ -114,7 +114,7 @@ unwritten d station from text items air sent written reads one is wrote = record
 }
 
 pub sent-all : {R W N : Type 0} (d : Devices R W) (station from : ℕ) (text : N) (items air : List ℕ) (sent : Sent)
-    → Reads d.remaining d.reader d.reader_after read.Read (as_read {N = N} (Ok text)) (λ bytes. IsReadOut d × (length bytes ≤ 1048576) × (items ≡ bytes)) (λ bytes. (length bytes ≤ 1048576) × (items ≡ bytes))
+    → Reads d.remaining d.reader d.reader_after read.Read (as_read {N = N} (Ok text)) (IsWithin 1048576) (λ bytes. IsReadOut d × (length bytes ≤ 1048576) × (items ≡ bytes)) (λ bytes. (length bytes ≤ 1048576) × (items ≡ bytes))
     → d.writer_after.failures ≡ 0 → IsTransmission station from items air sent → Appends (d.contents d.writer.inner) (d.contents d.writer_after.inner) air
     → Sends d station from (Ok sent)
 sent-all d station from text items air sent reads none is wrote = record {

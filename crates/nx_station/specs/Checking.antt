@@ -3,7 +3,7 @@ use Rattle.std.specs.Prelude.{◌≡◌, ℕ, Bool, List, [], ◌∷◌, ◌++�
 use Rattle.std.specs.Io.KnownBytes.{Appends}
 use Rattle.nx_envelope.specs.MessageView.{MessageView}
 use Rattle.nx_fec.specs.Devices.{WroteSome}
-use Rattle.nx_fec.specs.Lines.{IsBitFile, line_end}
+use Rattle.nx_fec.specs.Lines.{IsBitFile, IsFaultless, line_end}
 use Rattle.nx_fec.specs.Runs.{ExplainsReading, file_limit}
 use Rattle.nx_fec.specs.Transfers.{Devices, IsReadOut, Transfers, at_the_end}
 use Rattle.nx_fec.specs.declared.fault.RunFault.TheVariants as run
@@ -57,6 +57,7 @@ AnswersChecking AtEnd limit air old new (Err fault) = ExplainsChecking AtEnd lim
 abbrev pub Checks : {R W : Type 0} → Devices R W → Result ℕ CheckFault → Type 0
 Checks d outcome =
     Transfers (Run run.Read) (λ written. Run (run.Write written)) at_the_end d outcome
+    (IsFaultless file_limit)
     (λ bytes. AnswersChecking (IsReadOut d) file_limit bytes
     (d.contents d.writer.inner) (d.contents d.writer_after.inner) outcome)
     (λ bytes. AnswersChecking (Unit {0}) file_limit bytes

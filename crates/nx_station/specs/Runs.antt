@@ -7,7 +7,7 @@ use Rattle.nx_fec.specs.BitLines.{bit_lines}
 use Rattle.nx_fec.specs.Devices.{WroteSome}
 use Rattle.nx_fec.specs.Emission.{SentPosition, bits_of, emission}
 use Rattle.nx_fec.specs.Lines.{file_of}
-use Rattle.nx_fec.specs.Runs.{file_limit}
+use Rattle.nx_fec.specs.Runs.{IsWithin, file_limit}
 use Rattle.nx_fec.specs.Transfers.{Devices, IsReadOut, Transfers, at_the_end}
 use Rattle.nx_station.specs.Broadcast.{IsBroadcast}
 use Rattle.nx_station.specs.MessageFile.{IsMessageFile, IsFirstFault, HasFirstFault, bad_line, bad_text, line_cut, not_ended, file_message_of}
@@ -110,7 +110,7 @@ AnswersSending AtEnd limit station from file old new (Err fault) =
 -- came; and it writes nothing before all else succeeded.
 abbrev pub Sends : {R W : Type 0} → Devices R W → ℕ → ℕ → Result Sent SendRunFault → Type 0
 Sends d station from outcome =
-    Transfers Read (λ written. Write written) at_the_end d outcome
+    Transfers Read (λ written. Write written) at_the_end d outcome (IsWithin file_limit)
     (λ bytes. AnswersSending (IsReadOut d) file_limit station from bytes
     (d.contents d.writer.inner) (d.contents d.writer_after.inner) outcome)
     (λ bytes. AnswersSending (Unit {0}) file_limit station from bytes

@@ -284,6 +284,31 @@ fn texts_of_faults(rt: HostRuntime) -> Result<(), Fail> {
 }
 
 #[test]
+fn texts_of_faults_of_damage(rt: HostRuntime) -> Result<(), Fail> {
+    let cases = [
+        (DamageFault::Read, "read failed"),
+        (
+            DamageFault::AirTooLong,
+            "air file longer than 268435456 bytes",
+        ),
+        (
+            DamageFault::LineLong { line: 2 },
+            "line 2 is longer than 514 bytes",
+        ),
+        (DamageFault::LineCut { line: 3 }, "line 3 has no end"),
+        (DamageFault::BadLine { line: 4 }, "line 4 is not understood"),
+        (
+            DamageFault::Write { written: 10 },
+            "write failed after 10 bytes",
+        ),
+    ];
+    for (fault, text) in cases {
+        assert_eq!(rt; fault.to_string(rt.alloc())?.as_str(), text);
+    }
+    Ok(())
+}
+
+#[test]
 fn laws_can_be_called() {
     laws::a_message_file_has_one_reading();
     laws::a_file_has_one_outcome();
