@@ -12,7 +12,7 @@ use Rattle.nx_fec.specs.TableText.{table_text}
 use Rattle.nx_receiver.specs.Listen.{Listens}
 use Rattle.nx_station.specs.Checking.{Checks}
 use Rattle.nx_station.specs.Damage.{Damages}
-use Rattle.nx_station.specs.Runs.{Sends}
+use Rattle.nx_station.specs.FileSending.{Sends}
 use Rattle.nx_fec.specs.Transfers.{Devices, devices}
 use Rattle.nx_fec.specs.declared.fault.RunFault.{RunFault}
 use Rattle.nx_fec.specs.declared.fault.RunFault.TheVariants as run

@@ -2,7 +2,7 @@
 use Rattle.std.proofs.Common.{◌≡◌, ℕ, ◌+◌, ◌<◌, List, [], ◌∷◌, ◌++◌, map, get_or, length, take, arith, length-append}
 use Rattle.std.specs.Prelude.{All}
 use Rattle.std.proofs.lemmas.List.{map_push, map_more, take-map, take_more, flat_map_more}
-use Rattle.nx_envelope.specs.Message.{IsLine, IsLineFault, IsMessageFault, text_of}
+use Rattle.nx_envelope.specs.Message.{IsMessageLine, IsLineFault, IsMessageFault, text_of}
 use Rattle.nx_envelope.specs.declared.message.MessageFault.{MessageFault}
 use Rattle.nx_envelope.specs.declared.message.MessageFault.TheVariants.{LongLine, BadCharacter, Reserved, LongText, Memory}
 
@@ -23,7 +23,7 @@ text_more lines i lt =
     rw (next, ← joined) (omega (arith, length-append {A = ℕ}))
 
 -- the fault of a line before which all are good is the fault of the lines
-pub first_fault : (lines : List (List ℕ)) (i n : ℕ) (fault : MessageFault) → n ≡ i → i < length lines → All IsLine (take i lines) → IsLineFault (n + 1) (get_or lines i []) fault → IsMessageFault lines fault
+pub first_fault : (lines : List (List ℕ)) (i n : ℕ) (fault : MessageFault) → n ≡ i → i < length lines → All IsMessageLine (take i lines) → IsLineFault (n + 1) (get_or lines i []) fault → IsMessageFault lines fault
 first_fault lines i n (LongLine m) e lt good h = record { at = i; within = lt; good_before = good; here = rw e at h }
 first_fault lines i n (BadCharacter m at) e lt good h = record { at = i; within = lt; good_before = good; here = rw e at h }
 first_fault lines i n (Reserved m) e lt good h = record { at = i; within = lt; good_before = good; here = rw e at h }

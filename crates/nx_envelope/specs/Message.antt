@@ -17,7 +17,7 @@ abbrev pub HasReservedWord : List ℕ → Type 0
 HasReservedWord line = HoldsWord start_marker line ⊎ HoldsWord end_marker line
 
 -- a line of a message: at most 69 characters, each in the code, and no marker among them
-pub record IsLine (line : List ℕ) : Type 0 where
+pub record IsMessageLine (line : List ℕ) : Type 0 where
   pub fits : length line ≤ 69
   pub in_code : All IsLineByte line
   pub unreserved : ¬ HasReservedWord line
@@ -29,7 +29,7 @@ text_of = flat_map (λ line. line ++ newline ∷ [])
 -- the lines of a message: lines of which each is good, and together at most 4,096 characters of
 -- text
 pub record AreLines (lines : List (List ℕ)) : Type 0 where
-  pub each : All IsLine lines
+  pub each : All IsMessageLine lines
   pub fits : length (text_of lines) ≤ 4096
 
 -- the byte at that place is the first that may not stand in a line
@@ -53,13 +53,13 @@ IsLineFault n line (Memory e) = ⊥
 pub record IsFirstLineFault (lines : List (List ℕ)) (fault : MessageFault) : Type 0 where
   pub at : ℕ
   pub within : at < length lines
-  pub good_before : All IsLine (take at lines)
+  pub good_before : All IsMessageLine (take at lines)
   pub here : IsLineFault (at + 1) (slice_index_or lines at []) fault
 
 -- the fault for which lines are refused: the first of a line, after all lines the length of the
 -- text, and want of memory only where the lines are those of a message
 abbrev pub IsMessageFault : List (List ℕ) → MessageFault → Type 0
-IsMessageFault lines LongText = All IsLine lines × (4096 < length (text_of lines))
+IsMessageFault lines LongText = All IsMessageLine lines × (4096 < length (text_of lines))
 IsMessageFault lines (Memory e) = AreLines lines
 IsMessageFault lines (LongLine m) = IsFirstLineFault lines (LongLine m)
 IsMessageFault lines (BadCharacter m at) = IsFirstLineFault lines (BadCharacter m at)

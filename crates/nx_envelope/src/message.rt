@@ -80,7 +80,7 @@ impl Model for Message {
     ghost invariant = { λ m. AreLines (map (λ line. line.items) m.lines.items) };
 }
 
-ghost use Rattle.nx_envelope.specs.Message.{AreLines, IsLine, IsLineByte, IsLineFault, IsMessageFault};
+ghost use Rattle.nx_envelope.specs.Message.{AreLines, IsMessageLine, IsLineByte, IsLineFault, IsMessageFault};
 
 impl Message {
     /// The message of an identity and lines, which are looked at in order.
@@ -143,7 +143,7 @@ fn holds_word(line: &[u8], word: &[u8; 4]) -> bool
 
 /// Checks one line, whose number counts from 1.
 fn check_line(number: u64, line: &[u8]) -> Result<(), MessageFault>
-    ensures good { OnOk result (IsLine line.now) }
+    ensures good { OnOk result (IsMessageLine line.now) }
     ensures fault { IfErr result (IsLineFault number line.now) }
 {
     if line.len() > MAX_LINE {

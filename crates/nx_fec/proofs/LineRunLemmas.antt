@@ -9,7 +9,7 @@ use Rattle.nx_fec.specs.AirFile.{Line, IsLine, spelling}
 use Rattle.nx_fec.specs.Devices.{HasWritten, WroteSome}
 use Rattle.nx_fec.specs.Transfers.{Devices, IsReadOut, Writes}
 use Rattle.nx_fec.specs.Lines.{IsAtByte, IsCause, Scanning, Scans, StopsIn, file_of, line_bytes}
-use Rattle.nx_fec.specs.LineRuns.{AnswersLines, Beginning, ExplainsLines, HasGiven, HasTaken, HasTakenAll, HasTakenSome, IsPlaced, IsRefused, IsTaking, Refusing, RunsLines, Standing, StopsAt, Waiting}
+use Rattle.nx_fec.specs.LineRuns.{AnswersLines, Beginning, ExplainsLines, HasGiven, HasTaken, HasTakenAll, HasTakenSome, IsPlaced, IsLineRefused, IsTaking, Refusing, RunsLines, Standing, StopsAt, Waiting}
 use Rattle.nx_fec.specs.Scanner.{kind_kept}
 use Rattle.nx_fec.specs.declared.air_file.LineKind.{LineKind}
 use Rattle.nx_fec.specs.declared.fault.LineFault.{LineFault}
@@ -228,8 +228,8 @@ module _ {T F : Type 0} (stands : Standing T) (begins : Beginning T) (refuses : 
       → HasTaken stands first now lines G → HasTakenSome begins first old new lines lost
   taken-some first now old new G lines lost law f h = record { given = h.given; begun = law lines h.given h.stood; some = f h.given h.here }
 
-  refused-longer : (first : T) (limit : ℕ) (lines : List Line) (rest more ys : List ℕ) (number : ℕ) (why : F) → IsRefused refuses first limit lines rest more number why
-      → IsRefused refuses first limit lines rest (more ++ ys) number why
+  refused-longer : (first : T) (limit : ℕ) (lines : List Line) (rest more ys : List ℕ) (number : ℕ) (why : F) → IsLineRefused refuses first limit lines rest more number why
+      → IsLineRefused refuses first limit lines rest (more ++ ys) number why
   refused-longer first limit lines rest more ys number why h = record {
     line = h.line;
     after = h.after ++ ys;

@@ -14,6 +14,10 @@ use Rattle.nx_fec.specs.declared.line_run.TakeFault.{TakeFault}
 use Rattle.nx_fec.specs.declared.line_run.TakeFault.TheVariants as take
 use Rattle.nx_fec.specs.declared.line_run.LinesRead.{LinesRead}
 
+-- the most bytes of an air file that is read as it comes: 2 ^ 28
+abbrev pub air_limit : ℕ
+air_limit = 268435456
+
 -- bytes that wait to be written, and how many were written before them
 pub record Waiting : Type 0 where
   pub bytes : List ℕ
@@ -72,7 +76,7 @@ pub record StopsAt (bytes : List ℕ) (holds : List Line → List ℕ → List �
 
 -- the next line after these, which is one of an air file within the limit, is refused; lines count
 -- from 1
-pub record IsRefused {T F : Type 0} (refuses : Refusing T F) (first : T) (limit : ℕ)
+pub record IsLineRefused {T F : Type 0} (refuses : Refusing T F) (first : T) (limit : ℕ)
     (lines : List Line) (rest more : List ℕ) (number : ℕ) (why : F) : Type 0 where
   pub line : Line
   pub after : List ℕ
@@ -107,7 +111,7 @@ ExplainsLines stands begins refuses AtEnd IsLeft limit first now old new wrote b
     × HasTaken stands first now lines wrote)
 ExplainsLines stands begins refuses AtEnd IsLeft limit first now old new wrote bytes
     (run.Refused line why) =
-    StopsAt bytes (λ lines rest more. IsRefused refuses first limit lines rest more line why
+    StopsAt bytes (λ lines rest more. IsLineRefused refuses first limit lines rest more line why
     × HasTaken stands first now lines wrote)
 ExplainsLines stands begins refuses AtEnd IsLeft limit first now old new wrote bytes
     (run.Write written) =

@@ -43,7 +43,7 @@ impl Batch {
     }
 
     /// How many bytes were written, at most the greatest u64.
-    pub fn sent(&self) -> u64
+    pub fn bytes_sent(&self) -> u64
         ensures { result ≡ self.now.sent }
     {
         self.sent

@@ -32,7 +32,7 @@ pub use emission::to_bits;
 pub use fault::{LineFault, ReadFault, RunFault, WriteFault};
 pub use line_run::{LineTaker, LinesFault, LinesRead, TakeFault, run_lines};
 pub use pieces::{Piece, next_piece};
-pub use positions::{Position, word_at};
+pub use positions::{Position, SPREAD, word_at};
 pub use reading::{read_bits, read_whole};
 pub use runs::{decode_run, encode_run, show_run};
 pub use scanner::Scanner;

@@ -2,7 +2,7 @@
 ghost use Rattle.std.specs.Prelude.{◌≡◌, ◌+◌, ◌<◌, ◌≤◌, ℕ, Option, List, [], ◌∷◌, ◌++◌, length, take, MatchResult, IsErrOf, IsSomeAnd, OnOk, IfOk};
 ghost use Rattle.std.specs.Io.KnownBytes.{Appends};
 ghost use Rattle.nx_fec.specs.AirFile.{IsLine, Line};
-ghost use Rattle.nx_fec.specs.LineRuns.{ExplainsLines, ExplainsTaking, HasGiven, HasTaken, IsTaking, RunsLines};
+ghost use Rattle.nx_fec.specs.LineRuns.{ExplainsLines, ExplainsTaking, HasGiven, HasTaken, IsTaking, RunsLines, air_limit};
 ghost use Rattle.nx_fec.specs.Transfers.{Writes, devices};
 
 use crate::batch::Batch;
@@ -104,7 +104,7 @@ pub fn run_lines<R: Read, W: Write, T: LineTaker>(
     requires reader { reader.old.failures ≡ 0 }
     requires writer { writer.old.failures ≡ 0 }
     ensures { (first : T) → T.stands first taker.old [] []
-        → RunsLines T.stands T.begins T.refuses 268435456 first taker.new
+        → RunsLines T.stands T.begins T.refuses air_limit first taker.new
         (devices R.remaining W.contents reader.old reader.new writer.old writer.new) result }
 {
     let mut buffer = [0; CHUNK];
@@ -128,7 +128,7 @@ pub fn run_lines<R: Read, W: Write, T: LineTaker>(
     }
     Ok(LinesRead {
         lines: scanner.lines(),
-        written: batch.sent(),
+        written: batch.bytes_sent(),
     })
 }
 

@@ -16,8 +16,9 @@ pub enum Position {
     End,
 }
 
-/// How many slots the RX word of a position comes after its DX word.
-const SPREAD: usize = 5;
+/// How many slots the RX word of a position comes after its DX word: the time diversity of mode B
+/// (ITU-R M.476 and M.625).
+pub const SPREAD: usize = 5;
 
 impl Position {
     /// The word that is sent first.

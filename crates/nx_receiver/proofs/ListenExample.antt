@@ -19,7 +19,8 @@ use Rattle.nx_receiver.specs.Events.{Setting, at_moment, element, first_setting,
 use Rattle.nx_receiver.specs.Events.{bits_of as bits_among}
 use Rattle.nx_receiver.specs.Example.{first_copy}
 use Rattle.nx_receiver.specs.FoundCopies.{FoundCopy, found_to_end}
-use Rattle.nx_receiver.specs.Listen.{AreTaken, AreTakenAfter, IsLogOf, air_limit, at_zero, events_of}
+use Rattle.nx_fec.specs.LineRuns.{air_limit}
+use Rattle.nx_receiver.specs.Listen.{AreTaken, AreTakenAfter, IsLogOf, at_zero, events_of}
 use Rattle.nx_receiver.specs.ListenExample.{example_air_file, example_lines}
 use Rattle.nx_receiver.specs.ListenOnce.{AreFoundIn, IsHeardInTimeIn, elements_in, in_force_at, heard_as}
 use Rattle.nx_receiver.specs.Log.{PrintsToEnd}

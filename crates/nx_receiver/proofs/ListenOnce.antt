@@ -10,7 +10,8 @@ use Rattle.nx_station.specs.Sendings.{IsCut}
 use Rattle.nx_sync.specs.Locks.{IsNow}
 use Rattle.nx_receiver.specs.Events.{bits_of, first_setting}
 use Rattle.nx_receiver.specs.FoundCopies.{FoundCopy, found_to_end}
-use Rattle.nx_receiver.specs.Listen.{HasListened, IsLogOfFile, Listens, air_limit, at_zero, events_of, line_events}
+use Rattle.nx_fec.specs.LineRuns.{air_limit}
+use Rattle.nx_receiver.specs.Listen.{HasListened, IsLogOfFile, Listens, at_zero, events_of, line_events}
 use Rattle.nx_receiver.specs.ListenOnce.{HasPrintedOnce, IsHeardInTimeIn, KeepsHeadline, elements_in}
 use Rattle.nx_receiver.specs.Log.{PrintsToEnd}
 use Rattle.nx_receiver.specs.OnceHeard.{FewBetween, IsHeardInTime, IsPrintedOnce}

@@ -4,7 +4,7 @@ use Rattle.std.specs.List.{AllByRecursion}
 use Rattle.std.proofs.lemmas.Bool.{true≢false}
 use Rattle.nx_envelope.proofs.LettersAndDigits.{same_letter}
 use Rattle.nx_fec.specs.AirFile.{Line, IsLine, spelling, moment, elements, refuse_station, accept_station, refuse_subject, accept_subject}
-use Rattle.nx_fec.specs.LineRuns.{StopsAt}
+use Rattle.nx_fec.specs.LineRuns.{StopsAt, air_limit}
 use Rattle.nx_fec.specs.Lines.{HasFault, IsAirFile, IsCause, file_of, line_bytes}
 use Rattle.nx_fec.specs.declared.fault.LineFault.{LineFault}
 use Rattle.nx_fec.specs.declared.fault.LineFault.TheVariants as file
@@ -12,7 +12,7 @@ use Rattle.nx_fec.specs.declared.line_run.LinesFault.{LinesFault}
 use Rattle.nx_fec.specs.declared.line_run.LinesFault.TheVariants as run
 use Rattle.nx_fec.proofs.LineLaws.{HasFault-unique, IsAirFile-good, NoFeed, first_feed, no_feed-not, reading-unique, regroup, spelling-IsBeginning, spelling-injective, split}
 use Rattle.nx_fec.proofs.LineRunLemmas.{file_of-one}
-use Rattle.nx_receiver.specs.Listen.{AreTaken, AreTakenAfter, HasFirstFault, HasLogged, IsLogOf, IsNextRefused, IsTakenAfter, air_limit}
+use Rattle.nx_receiver.specs.Listen.{AreTaken, AreTakenAfter, HasListenFault, HasLogged, IsLogOf, IsNextRefused, IsTakenAfter}
 use Rattle.nx_receiver.specs.Listener.{RefusesLine, lines_fault}
 use Rattle.nx_receiver.specs.Receiver.{Refuses}
 use Rattle.nx_receiver.specs.declared.fault.MomentFault.{MomentFault}
@@ -155,7 +155,7 @@ record HasStopped (bytes : List ℕ) (why : ListenFault) : Type 0 where
   is : why ≡ lines_fault fault
   stops : StopsWith bytes fault
 
-has-stopped : (bytes : List ℕ) (why : ListenFault) → HasFirstFault AreTaken bytes why → HasStopped bytes why
+has-stopped : (bytes : List ℕ) (why : ListenFault) → HasListenFault AreTaken bytes why → HasStopped bytes why
 unfolding StopsWith
 has-stopped bytes Read h = absurd h
 has-stopped bytes (Write written) h = absurd h
@@ -263,7 +263,7 @@ one-stop bytes (run.Line v) (run.Write written) h k = absurd k
 one-stop bytes (run.Refused n v) run.Read h k = absurd k
 one-stop bytes (run.Refused n v) (run.Write written) h k = absurd k
 
-pub one-first_fault : (bytes : List ℕ) (a b : ListenFault) → HasFirstFault AreTaken bytes a → HasFirstFault AreTaken bytes b → a ≡ b
+pub one-first_fault : (bytes : List ℕ) (a b : ListenFault) → HasListenFault AreTaken bytes a → HasListenFault AreTaken bytes b → a ≡ b
 one-first_fault bytes a b h k =
     let s = has-stopped bytes a h in
     let t = has-stopped bytes b k in
@@ -279,7 +279,7 @@ no-stop bytes lines (run.Refused n v) good taken h =
 no-stop bytes lines run.Read good taken h = h
 no-stop bytes lines (run.Write written) good taken h = h
 
-pub no-first_fault : (bytes log : List ℕ) (why : ListenFault) → IsLogOf bytes log → HasFirstFault AreTaken bytes why → ⊥
+pub no-first_fault : (bytes log : List ℕ) (why : ListenFault) → IsLogOf bytes log → HasListenFault AreTaken bytes why → ⊥
 no-first_fault bytes log why l h =
     let s = has-stopped bytes why h in
     no-stop bytes l.0 s.fault l.2.file l.2.taken s.stops
@@ -290,7 +290,7 @@ stop-taken bytes P holds f h =
     record { lines = h.lines; rest = h.rest; more = h.more; whole = h.whole; each = h.each; part = h.part; here = (h.here.0, f h.lines h.here.1) }
 
 -- whatever was written, the lines before a fault were taken
-pub first_fault-taken : (old new : Option (List ℕ)) (bytes : List ℕ) (why : ListenFault) → HasFirstFault (HasLogged old new) bytes why → HasFirstFault AreTaken bytes why
+pub first_fault-taken : (old new : Option (List ℕ)) (bytes : List ℕ) (why : ListenFault) → HasListenFault (HasLogged old new) bytes why → HasListenFault AreTaken bytes why
 first_fault-taken old new bytes Read h = h
 first_fault-taken old new bytes (Write written) h = h
 first_fault-taken old new bytes (Memory error) h = h

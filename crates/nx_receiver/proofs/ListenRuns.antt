@@ -7,7 +7,7 @@ use Rattle.std.proofs.KnownBytes.{Consumes-nil}
 use Rattle.std.proofs.lemmas.List.{length-map}
 use Rattle.nx_fec.specs.AirFile.{Line, moment, elements, refuse_station, accept_station, refuse_subject, accept_subject, element_digit, spelling}
 use Rattle.nx_fec.specs.Devices.{CountedDevice, HasWritten}
-use Rattle.nx_fec.specs.LineRuns.{ExplainsLines, HasTaken, HasTakenAll, IsRefused, RunsLines, StopsAt}
+use Rattle.nx_fec.specs.LineRuns.{ExplainsLines, HasTaken, HasTakenAll, IsLineRefused, RunsLines, StopsAt, air_limit}
 use Rattle.nx_fec.specs.Lines.{file_of, line_bytes}
 use Rattle.nx_fec.specs.Transfers.{Devices, devices}
 use Rattle.nx_fec.specs.declared.fault.LineFault.TheVariants as file
@@ -16,7 +16,7 @@ use Rattle.nx_fec.specs.declared.line_run.LinesFault.TheVariants as run
 use Rattle.nx_fec.specs.declared.line_run.LinesRead.{LinesRead}
 use Rattle.nx_fec.proofs.TransferLaws.{Ok-not_err, Reads-on, Writes-none, read_failed-none}
 use Rattle.nx_receiver.specs.Events.{bits_of}
-use Rattle.nx_receiver.specs.Listen.{ExplainsListening, HasListened, HasLogged, HasLoggedSomeOfFile, IsNextRefused, Listens, air_limit, events_of, line_events}
+use Rattle.nx_receiver.specs.Listen.{ExplainsListening, HasListened, HasLogged, HasLoggedSomeOfFile, IsNextRefused, Listens, events_of, line_events}
 use Rattle.nx_receiver.specs.ListenerBegins.{printed-so_far}
 use Rattle.nx_receiver.specs.Listener.{HasClosed, HasClosedSome, IsListening, RefusesLine, lines_fault}
 use Rattle.nx_receiver.specs.declared.listen_fault.ListenFault.{ListenFault}
@@ -47,7 +47,7 @@ stops-on : (bytes : List ℕ) (P Q : List Line → List ℕ → List ℕ → Typ
     → StopsAt bytes P → StopsAt bytes Q
 stops-on bytes P Q f h = record { lines = h.lines; rest = h.rest; more = h.more; whole = h.whole; each = h.each; part = h.part; here = f h.lines h.rest h.more h.here }
 
-next-refused : (first : Listener) (number : ℕ) (lines : List Line) (rest more : List ℕ) (why : LineRefusal) → IsRefused refuses first air_limit lines rest more number why
+next-refused : (first : Listener) (number : ℕ) (lines : List Line) (rest more : List ℕ) (why : LineRefusal) → IsLineRefused refuses first air_limit lines rest more number why
     → IsNextRefused (λ before line. RefusesLine before line why) number lines rest more
 next-refused first number lines rest more why h =
     record { line = h.line; after = h.after; good = h.good; spelled = h.spelled; ended = h.ended; within = h.within; counted = h.counted; refused = h.refused }

@@ -2,17 +2,17 @@
 use Rattle.std.proofs.Common.{◌≡◌, ℕ, zero, suc, ◌<◌, Bool, List, refl, ap, ◌∙◌, subst, arith, inl, inr}
 use Rattle.std.proofs.lemmas.Bool.{cases_lt}
 use Rattle.std.proofs.lemmas.List.{same_from_push}
-use Rattle.nx_sync.specs.Words.{word_at, first_role, role_of, heard_word, words_of}
+use Rattle.nx_sync.specs.Words.{word_at, first_role, role_of, heard_word, lock_words}
 use Rattle.nx_receiver.specs.LockText.{positions}
 use Rattle.nx_receiver.proofs.LockTexts.{positions-same}
 
 -- in the same list, word j is the same in both
-heard_word-told : (bits others : List Bool) (t u n : ℕ) → words_of bits t n ≡ words_of others u n
+heard_word-told : (bits others : List Bool) (t u n : ℕ) → lock_words bits t n ≡ lock_words others u n
     → (j : ℕ) → j < n → heard_word bits t j ≡ heard_word others u j
-unfolding words_of
+unfolding lock_words
 heard_word-told bits others t u zero e j lt = absurd (omega (arith, lt))
 heard_word-told bits others t u (suc n) e j lt =
-    let both = same_from_push (words_of bits t n) (words_of others u n) (heard_word bits t n) (heard_word others u n) e in
+    let both = same_from_push (lock_words bits t n) (lock_words others u n) (heard_word bits t n) (heard_word others u n) e in
     elim (cases_lt j n) [
       | inl early ↦ heard_word-told bits others t u n both.0 j early
       | inr late ↦
@@ -20,7 +20,7 @@ heard_word-told bits others t u (suc n) e j lt =
           subst (λ (i : ℕ). heard_word bits t i ≡ heard_word others u i) last both.1
     ]
 
-pub positions-told : (bits others : List Bool) (t u n : ℕ) → words_of bits t n ≡ words_of others u n
+pub positions-told : (bits others : List Bool) (t u n : ℕ) → lock_words bits t n ≡ lock_words others u n
     → positions (first_role bits t) (word_at bits t) n ≡ positions (first_role others u) (word_at others u) n
 unfolding positions role_of
 positions-told bits others t u zero e = refl

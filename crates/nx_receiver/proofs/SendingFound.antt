@@ -8,7 +8,7 @@ use Rattle.std.proofs.lemmas.List.Elements.{All-head, All-tail, Contains-append_
 use Rattle.std.proofs.lemmas.List.Sums.{sum_by-cons, sum_by-append}
 use Rattle.nx_code.specs.Characters.{is_in_code, characters}
 use Rattle.nx_envelope.specs.Errors.{errors_of}
-use Rattle.nx_envelope.specs.Message.{AreLines, IsLine, IsLineByte, text_of}
+use Rattle.nx_envelope.specs.Message.{AreLines, IsMessageLine, IsLineByte, text_of}
 use Rattle.nx_envelope.specs.declared.found.How.TheVariants.{Full}
 use Rattle.nx_fec.specs.Emission.{bits_of}
 use Rattle.nx_station.specs.Sendings.{Part, received, part_bits, bits_of_parts, IsSound, IsCut, IsReceived, ReceivedEmission, Sending, IsSending}
@@ -110,11 +110,11 @@ line_errors (b ∷ line) h =
     sum_by-cons star_count b line
     ∙ ap₂ ◌+◌ (no_star b (All-head IsLineByte b line h)) (line_errors line (All-tail IsLineByte b line h))
 
-text_errors : (lines : List (List ℕ)) → All IsLine lines → errors_of (text_of lines) ≡ 0
+text_errors : (lines : List (List ℕ)) → All IsMessageLine lines → errors_of (text_of lines) ≡ 0
 text_errors [] h = refl
 text_errors (line ∷ lines) h =
     errors-append (line ++ 10 ∷ []) (text_of lines)
-    ∙ ap₂ ◌+◌ (errors-append line (10 ∷ []) ∙ ap (λ n. n + errors_of (10 ∷ [])) (line_errors line (All-head IsLine line lines h).in_code)) (text_errors lines (All-tail IsLine line lines h))
+    ∙ ap₂ ◌+◌ (errors-append line (10 ∷ []) ∙ ap (λ n. n + errors_of (10 ∷ [])) (line_errors line (All-head IsMessageLine line lines h).in_code)) (text_errors lines (All-tail IsMessageLine line lines h))
 
 pub sending_errors : (bits : List Bool) (parts : List Part) (sending : Sending) → IsCut bits parts
     → IsSending parts sending → errors_of (text_of sending.message.lines) ≡ 0

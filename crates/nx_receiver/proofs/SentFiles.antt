@@ -11,14 +11,15 @@ use Rattle.nx_fec.specs.Lines.{IsAirFile, file_of, line_bytes}
 use Rattle.nx_fec.proofs.EmissionLemmas.{length-emission}
 use Rattle.nx_fec.proofs.LineLaws.{IsAirFile-unique, spelling-IsBeginning}
 use Rattle.nx_fec.proofs.RoundTripLemmas.{length-bits_of}
-use Rattle.nx_station.specs.Runs.{IsTransmission}
+use Rattle.nx_station.specs.FileSending.{IsTransmission}
 use Rattle.nx_station.specs.Sendings.{IsCut}
 use Rattle.nx_station.specs.declared.sending.Sent.{Sent}
 use Rattle.nx_station.proofs.BroadcastLemmas.{broadcast-one}
 use Rattle.nx_sync.specs.Locks.{IsNow}
 use Rattle.nx_receiver.specs.Events.{Event, at_moment, setting_after_all}
 use Rattle.nx_receiver.specs.FoundCopies.{found_to_end}
-use Rattle.nx_receiver.specs.Listen.{AreTaken, AreTakenAfter, IsLogOf, IsLogOfFile, air_limit, at_zero, events_of}
+use Rattle.nx_fec.specs.LineRuns.{air_limit}
+use Rattle.nx_receiver.specs.Listen.{AreTaken, AreTakenAfter, IsLogOf, IsLogOfFile, at_zero, events_of}
 use Rattle.nx_receiver.specs.Log.{PrintsToEnd}
 use Rattle.nx_receiver.specs.ListenOnce.{IsHeardInTimeIn, elements_in, heard_as}
 use Rattle.nx_receiver.specs.OnceHeard.{FewBetween, IsHeardInTime, IsPrintedOnce}

@@ -26,7 +26,7 @@ use Rattle.nx_receiver.specs.LockText.{PlacedByte, bytes_of, lock_text}
 use Rattle.nx_receiver.specs.OnceHeard.{FewBetween, IsHeardInTime, setting_of}
 use Rattle.nx_receiver.specs.Receiver.{elements}
 use Rattle.nx_receiver.specs.Sending.{IsSentAt, copy_of_sending}
-use Rattle.nx_receiver.specs.Sent.{BearsAlone, events_as_sent, parts_as_sent, words_of}
+use Rattle.nx_receiver.specs.Sent.{BearsAlone, events_as_sent, parts_as_sent, words_sent}
 use Rattle.nx_receiver.specs.Tagged.{TaggedCopy, tag, tagged_copies}
 use Rattle.nx_receiver.proofs.SendingFound.{sending_in_end}
 use Rattle.nx_receiver.proofs.SendingPlaces.{found_rise}
@@ -59,19 +59,19 @@ module _ (messages : List MessageView) (numbers : List ℕ) (others : List (List
   parts = parts_as_sent messages spellings
 
   abbrev sent_bits : List Bool
-  sent_bits = bits_of (words_of spellings)
+  sent_bits = bits_of (words_sent spellings)
 
   pub bits_are : bits_among events ≡ sent_bits
   unfolding bits_among
   bits_are = bits_among-elements sent_bits
 
-  is_received : IsReceived (record { messages = messages; spellings = spellings; heard = drop first_slot (words_of spellings) })
+  is_received : IsReceived (record { messages = messages; spellings = spellings; heard = drop first_slot (words_sent spellings) })
   is_received = record { sendable = sendable; spelled = spelled; passes = passes messages numbers others spelled }
 
   cut : IsCut (bits_among events) parts
   cut = record {
     whole = bits_are ∙ undamaged-cut (layout spellings)
-        ∙ ap (λ b. bits_of (take first_slot (words_of spellings)) ++ b) (sym (append-nil (bits_of (drop first_slot (words_of spellings)))));
+        ∙ ap (λ b. bits_of (take first_slot (words_sent spellings)) ++ b) (sym (append-nil (bits_of (drop first_slot (words_sent spellings)))));
     each = (tt, (is_received, tt));
   }
 
@@ -102,12 +102,12 @@ module _ (messages : List MessageView) (numbers : List ℕ) (others : List (List
 
     abbrev place : ℕ
     place =
-        length (bits_of_parts (gap (bits_of (take first_slot (words_of spellings))) ∷ [])) + 7 * (digit_slot spellings at_index.index - first_slot) + 6
+        length (bits_of_parts (gap (bits_of (take first_slot (words_sent spellings))) ∷ [])) + 7 * (digit_slot spellings at_index.index - first_slot) + 6
 
     is_sent : IsSentAt parts message place
     is_sent = record {
-      before = gap (bits_of (take first_slot (words_of spellings))) ∷ [];
-      emission = record { messages = messages; spellings = spellings; heard = drop first_slot (words_of spellings) };
+      before = gap (bits_of (take first_slot (words_sent spellings))) ∷ [];
+      emission = record { messages = messages; spellings = spellings; heard = drop first_slot (words_sent spellings) };
       after = [];
       among = refl;
       index = at_index.index;

@@ -28,7 +28,7 @@ use Rattle.nx_receiver.specs.OnceHeard.{setting_of}
 use Rattle.nx_receiver.specs.Printing.{printed_copies}
 use Rattle.nx_receiver.specs.Receiver.{elements}
 use Rattle.nx_receiver.specs.Sending.{IsHeaderOf}
-use Rattle.nx_receiver.specs.Sent.{copy_as_sent, events_as_sent, words_of}
+use Rattle.nx_receiver.specs.Sent.{copy_as_sent, events_as_sent, words_sent}
 use Rattle.nx_receiver.specs.Tagged.{TaggedCopy, tag, tagged_copies}
 use Rattle.nx_receiver.proofs.FoundLemmas.{all_in_placed, text_placed}
 use Rattle.nx_receiver.proofs.OnceRising.{Above, Rises, rises_from}
@@ -245,7 +245,7 @@ module _ (messages : List MessageView) (numbers : List ℕ) (others : List (List
   setting_is : (place : ℕ) → place < length all_bits → setting_of at_zero events_of place ≡ at_slot
   unfolding settings
   setting_is place lt =
-      in_force at_slot (first_setting at_zero) (bits_of (words_of (numbers ∷ others))) place (omega (arith, ap length (bits_are messages numbers others sendable spelled slot)))
+      in_force at_slot (first_setting at_zero) (bits_of (words_sent (numbers ∷ others))) place (omega (arith, ap length (bits_are messages numbers others sendable spelled slot)))
 
   all_tagged : tagged_copies (first_setting at_zero) events_of all_found ≡ map (copy_as_sent slot) messages
   unfolding tagged_copies

@@ -6,7 +6,7 @@ use Rattle.nx_envelope.specs.Moment.{last_moment}
 use Rattle.nx_envelope.specs.declared.letter.Letter.{Letter}
 use Rattle.nx_fec.specs.AirFile.{Line, moment, elements, refuse_station, accept_station, refuse_subject, accept_subject, IsLine, spelling}
 use Rattle.nx_fec.specs.Devices.{WroteSome}
-use Rattle.nx_fec.specs.LineRuns.{StopsAt}
+use Rattle.nx_fec.specs.LineRuns.{StopsAt, air_limit}
 use Rattle.nx_fec.specs.Lines.{IsAirFile, IsCause, file_of, line_end}
 use Rattle.nx_fec.specs.Transfers.{Devices, IsReadOut, Transfers, on_the_way}
 use Rattle.nx_fec.specs.declared.fault.LineFault.{LineFault}
@@ -22,10 +22,6 @@ use Rattle.nx_receiver.specs.declared.fault.MomentFault.{MomentFault}
 use Rattle.nx_receiver.specs.declared.listen_fault.ListenFault.{ListenFault}
 use Rattle.nx_receiver.specs.declared.listen_fault.ListenFault.TheVariants.{Memory, Read, Write, AirTooLong, LineLong, LineCut, BadLine, NoMoment, Moment, Vital}
 use Rattle.nx_receiver.specs.declared.listening.Report.{Report}
-
--- the most bytes of an air file that is listened to
-abbrev pub air_limit : ℕ
-air_limit = 268435456
 
 -- a receiver starts with an empty memory, at moment 0
 abbrev pub at_zero : Start
@@ -176,18 +172,18 @@ IsRefusedAfter holds bytes number refuses =
 
 -- The first fault of an air file, by its bytes alone, and this holds of the whole lines before it.
 -- Those of devices and of memory are none of bytes.
-abbrev pub HasFirstFault : (List Line → Type 0) → List ℕ → ListenFault → Type 0
-HasFirstFault holds bytes Read = ⊥
-HasFirstFault holds bytes AirTooLong = HasFaultAfter holds bytes file.TooLong
-HasFirstFault holds bytes (LineLong line) = HasFaultAfter holds bytes (file.LineLong line)
-HasFirstFault holds bytes (LineCut line) = HasFaultAfter holds bytes (file.LineCut line)
-HasFirstFault holds bytes (BadLine line) = HasFaultAfter holds bytes (file.BadLine line)
-HasFirstFault holds bytes (NoMoment line) = IsRefusedAfter holds bytes line LacksMoment
-HasFirstFault holds bytes (Moment line why) = IsRefusedAfter holds bytes line (RefusesMoment why)
-HasFirstFault holds bytes (Vital line subject) =
+abbrev pub HasListenFault : (List Line → Type 0) → List ℕ → ListenFault → Type 0
+HasListenFault holds bytes Read = ⊥
+HasListenFault holds bytes AirTooLong = HasFaultAfter holds bytes file.TooLong
+HasListenFault holds bytes (LineLong line) = HasFaultAfter holds bytes (file.LineLong line)
+HasListenFault holds bytes (LineCut line) = HasFaultAfter holds bytes (file.LineCut line)
+HasListenFault holds bytes (BadLine line) = HasFaultAfter holds bytes (file.BadLine line)
+HasListenFault holds bytes (NoMoment line) = IsRefusedAfter holds bytes line LacksMoment
+HasListenFault holds bytes (Moment line why) = IsRefusedAfter holds bytes line (RefusesMoment why)
+HasListenFault holds bytes (Vital line subject) =
     IsRefusedAfter holds bytes line (RefusesVital subject)
-HasFirstFault holds bytes (Write written) = ⊥
-HasFirstFault holds bytes (Memory error) = ⊥
+HasListenFault holds bytes (Write written) = ⊥
+HasListenFault holds bytes (Memory error) = ⊥
 
 -- What a fault of `listen` says of the bytes that were read. The log of the whole lines before it
 -- was written, and nothing is closed. After a failed read no byte is left of which `IsLeft` doesn't
@@ -205,8 +201,8 @@ ExplainsListening AtEnd IsLeft old new bytes (Write written) =
     StopsAt bytes (λ lines rest more. HasLoggedSome old new written lines)
     ⊎ (AtEnd × HasLoggedSomeOfFile old new written bytes)
 ExplainsListening AtEnd IsLeft old new bytes (LineCut line) =
-    AtEnd × HasFirstFault (HasLogged old new) bytes (LineCut line)
-ExplainsListening AtEnd IsLeft old new bytes fault = HasFirstFault (HasLogged old new) bytes fault
+    AtEnd × HasListenFault (HasLogged old new) bytes (LineCut line)
+ExplainsListening AtEnd IsLeft old new bytes fault = HasListenFault (HasLogged old new) bytes fault
 
 -- what `listen` answers of these bytes: a report, where the log of the file was written; or a fault
 abbrev pub AnswersListening : Type 0 → (List ℕ → Type 0) → Option (List ℕ) → Option (List ℕ)

@@ -13,7 +13,8 @@ use Rattle.nx_station.specs.Sendings.{Part, IsCut}
 use Rattle.nx_sync.specs.Locks.{Lock, Now, IsNow}
 use Rattle.nx_receiver.specs.Events.{Setting, first_setting}
 use Rattle.nx_receiver.specs.FoundCopies.{FoundCopy, found_to_end}
-use Rattle.nx_receiver.specs.Listen.{IsLogOfFile, air_limit, at_zero, events_of}
+use Rattle.nx_fec.specs.LineRuns.{air_limit}
+use Rattle.nx_receiver.specs.Listen.{IsLogOfFile, at_zero, events_of}
 use Rattle.nx_receiver.specs.OnceHeard.{FewBetween, IsPrintedOnce, setting_of}
 use Rattle.nx_receiver.specs.Sending.{IsSentAt}
 use Rattle.nx_receiver.specs.Tagged.{TaggedCopy, tagged_copies}

@@ -93,11 +93,11 @@ Refuses last given (Back from at) =
     (from ≡ last) × (at ≡ given) × (given ≤ last_moment) × (given < last)
 
 -- the elements of these pieces, one after another
-unfoldable pub joined : List (List Bool) → List Bool
-joined [] = []
-joined (piece ∷ pieces) = piece ++ joined pieces
+unfoldable pub elements_of_pieces : List (List Bool) → List Bool
+elements_of_pieces [] = []
+elements_of_pieces (piece ∷ pieces) = piece ++ elements_of_pieces pieces
 
 -- the events of these pieces, of which one is fed after the other
-unfoldable pub fed : List (List Bool) → List Event
-fed [] = []
-fed (piece ∷ pieces) = elements piece ++ fed pieces
+unfoldable pub events_of_pieces : List (List Bool) → List Event
+events_of_pieces [] = []
+events_of_pieces (piece ∷ pieces) = elements piece ++ events_of_pieces pieces

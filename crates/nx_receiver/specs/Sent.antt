@@ -28,22 +28,22 @@ AreDifferent (message ∷ messages) =
     × AreDifferent messages
 
 -- the words of the emission of messages with these combinations
-abbrev pub words_of : List (List ℕ) → List ℕ
-words_of spellings = emission (layout spellings)
+abbrev pub words_sent : List (List ℕ) → List ℕ
+words_sent spellings = emission (layout spellings)
 
 -- what is heard of it as it is sent: the moment at which its slot begins, and then its elements
 abbrev pub events_as_sent : ℕ → List (List ℕ) → List Event
-events_as_sent slot spellings = at_moment slot ∷ elements (bits_of (words_of spellings))
+events_as_sent slot spellings = at_moment slot ∷ elements (bits_of (words_sent spellings))
 
 -- the parts of these elements: what comes before slot 96 is a gap, and from there on the emission
 -- is received
 abbrev pub parts_as_sent : List MessageView → List (List ℕ) → List Part
 parts_as_sent messages spellings =
-    gap (bits_of (take first_slot (words_of spellings)))
+    gap (bits_of (take first_slot (words_sent spellings)))
     ∷ received (record {
       messages = messages;
       spellings = spellings;
-      heard = drop first_slot (words_of spellings);
+      heard = drop first_slot (words_sent spellings);
     })
     ∷ []
 

@@ -7,7 +7,7 @@ ghost use Rattle.nx_code.specs.declared.shifts.Shift.TheVariants.{Letters};
 ghost use Rattle.nx_envelope.specs.Moment.{last_moment};
 ghost use Rattle.nx_envelope.specs.declared.identity.Identity.{Identity};
 ghost use Rattle.nx_station.specs.ChannelExample.{ea01};
-ghost use Rattle.nx_sync.specs.Words.{word_at, first_role, words_of};
+ghost use Rattle.nx_sync.specs.Words.{word_at, first_role, lock_words};
 ghost use Rattle.nx_sync.specs.Locks.{Lock, Now, IsLocked, IsNow, Past};
 ghost use Rattle.nx_receiver.specs.Events.{Event, Start};
 ghost use Rattle.nx_receiver.specs.Example.{example_copies, first_copy, repeated_copy};
@@ -16,7 +16,7 @@ ghost use Rattle.nx_receiver.specs.LawTerms.{AreRepeats, copies_of, own_bits};
 ghost use Rattle.nx_receiver.specs.LockText.{PlacedByte, bytes_of, lock_text, positions};
 ghost use Rattle.nx_receiver.specs.Log.{HasPrinted, IsLog, PrintsToEnd};
 ghost use Rattle.nx_receiver.specs.Printing.{printed_copies};
-ghost use Rattle.nx_receiver.specs.Receiver.{Receiving, Stands, fed, joined};
+ghost use Rattle.nx_receiver.specs.Receiver.{Receiving, Stands, elements_of_pieces, events_of_pieces};
 ghost use Rattle.nx_receiver.specs.Tagged.{TaggedCopy};
 ghost use Rattle.nx_receiver.specs.Worked.{at_its_slot, damaged_words, heard_elements, sent_words, worked_log};
 
@@ -32,7 +32,8 @@ use nx_memory::Recall;
 pub fn a_text_is_read_of_positions()
     ensures read { (bits : List Bool) (t n : ℕ) → bytes_of (lock_text bits t n)
         ≡ text (positions (first_role bits t) (word_at bits t) n) Letters }
-    ensures words { (bits others : List Bool) (t u n : ℕ) → words_of bits t n ≡ words_of others u n
+    ensures words { (bits others : List Bool) (t u n : ℕ)
+        → lock_words bits t n ≡ lock_words others u n
         → positions (first_role bits t) (word_at bits t) n
         ≡ positions (first_role others u) (word_at others u) n }
 {}
@@ -137,6 +138,8 @@ pub fn cuttings_print_the_same<M: Recall>()
         → Stands M.content start receiver events log → HasPrinted start events log }
     ensures same { (start : Start) (events : List Event) (pieces others : List (List Bool))
         (one other : Receiving M) (log same : List TaggedCopy)
-        → joined pieces ≡ joined others → Stands M.content start one (events ++ fed pieces) log
-        → Stands M.content start other (events ++ fed others) same → log ≡ same }
+        → elements_of_pieces pieces ≡ elements_of_pieces others
+        → Stands M.content start one (events ++ events_of_pieces pieces) log
+        → Stands M.content start other (events ++ events_of_pieces others) same
+        → log ≡ same }
 {}

@@ -359,11 +359,11 @@ impl LineTaker for Listener {
             return Ok(());
         };
         match kind {
-            LineKind::Moment(moment) => return refused(self.take_moment(moment)),
+            LineKind::Moment(moment) => return taking_of(self.take_moment(moment)),
             LineKind::Elements => return self.take_elements(scanner.elements(), writer, batch),
             LineKind::RefuseStation(byte) => self.receiver.refuse_station(letter(byte)),
             LineKind::AcceptStation(byte) => self.receiver.accept_station(letter(byte)),
-            LineKind::RefuseSubject(byte) => return refused(self.refuse_subject(byte)),
+            LineKind::RefuseSubject(byte) => return taking_of(self.refuse_subject(byte)),
             LineKind::AcceptSubject(byte) => self.receiver.accept_subject(letter(byte)),
         }
         Ok(())
@@ -372,8 +372,8 @@ impl LineTaker for Listener {
     ghost whole = { λ first now lines given h. begins-listening now lines given h };
 }
 
-/// A line that is refused, as a fault of taking it.
-fn refused(taken: Result<(), LineRefusal>) -> Result<(), TakeFault<LineRefusal>>
+/// What came of taking a line that may be refused.
+fn taking_of(taken: Result<(), LineRefusal>) -> Result<(), TakeFault<LineRefusal>>
     ensures { MatchResult taken (λ _. result ≡ Ok tt)
         (λ why. result ≡ Err (TakeFault.Refused why)) }
 {

@@ -17,7 +17,7 @@ use Rattle.nx_code.specs.Spelling.{Spells}
 use Rattle.nx_code.specs.declared.shifts.Shift.{Shift}
 use Rattle.nx_code.specs.declared.shifts.Shift.TheVariants.{Letters, Figures}
 use Rattle.nx_code.proofs.OneSpelling.{spelling-exists, spelling-one}
-use Rattle.nx_envelope.specs.Message.{AreLines, IsLine, IsLineByte, text_of}
+use Rattle.nx_envelope.specs.Message.{AreLines, IsMessageLine, IsLineByte, text_of}
 use Rattle.nx_envelope.specs.MessageView.{MessageView}
 use Rattle.nx_fec.specs.Emission.{SentPosition, phasing_position, traffic_position, end_position}
 use Rattle.nx_station.specs.Sendable.{HavePositions}
@@ -33,19 +33,19 @@ and_newline : (line : List ℕ) (rest : List ℕ) → AllByRecursion IsLineByte 
 and_newline [] rest h k = and_from _ _ newline-in_code k
 and_newline (b ∷ line) rest h k = and_from _ _ h.0.0 (and_newline line rest h.1 k)
 
-lines-in_code : (lines : List (List ℕ)) → AllByRecursion IsLine lines → list_all is_in_code (text_of lines) ≡ true
+lines-in_code : (lines : List (List ℕ)) → AllByRecursion IsMessageLine lines → list_all is_in_code (text_of lines) ≡ true
 lines-in_code [] h = refl
 lines-in_code (line ∷ lines) h =
     and_newline line (text_of lines) (recursion_from_All IsLineByte line h.0.in_code) (lines-in_code lines h.1)
 
 pub text-in_code : (lines : List (List ℕ)) → AreLines lines → list_all is_in_code (text_of lines) ≡ true
-text-in_code lines h = lines-in_code lines (recursion_from_All IsLine lines h.each)
+text-in_code lines h = lines-in_code lines (recursion_from_All IsMessageLine lines h.each)
 
 bytes-in_code : (line : List ℕ) → AllByRecursion IsLineByte line → list_all is_in_code line ≡ true
 bytes-in_code [] h = refl
 bytes-in_code (b ∷ line) h = and_from _ _ h.0.0 (bytes-in_code line h.1)
 
-pub line-in_code : (line : List ℕ) → IsLine line → list_all is_in_code line ≡ true
+pub line-in_code : (line : List ℕ) → IsMessageLine line → list_all is_in_code line ≡ true
 line-in_code line h = bytes-in_code line (recursion_from_All IsLineByte line h.in_code)
 
 -- where all bytes are in the code, none is found that isn't

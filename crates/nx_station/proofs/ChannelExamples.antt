@@ -10,7 +10,7 @@ use Rattle.nx_code.specs.Table.{row_of, table, traffic_word}
 use Rattle.nx_code.specs.Word.{elements, elements_from, weight}
 use Rattle.nx_code.specs.declared.shifts.Shift.TheVariants.{Letters, Figures}
 use Rattle.nx_code.proofs.SpellingLemmas.{Spells-push, spells_here, spells_newline, spells_there}
-use Rattle.nx_envelope.specs.Message.{AreLines, IsLine, IsLineByte}
+use Rattle.nx_envelope.specs.Message.{AreLines, IsMessageLine, IsLineByte}
 use Rattle.nx_envelope.proofs.WordsInTexts.{holds_none}
 use Rattle.nx_fec.specs.Emission.{SentPosition, phasing_position, traffic_position, end_position, bits_of, position_at, word_sent}
 use Rattle.nx_station.specs.Broadcast.{IsSpelled, ending, head, layout}
@@ -142,7 +142,7 @@ test_bytes = ((refl, λ e. omega arith), ((refl, λ e. omega arith), ((refl, λ 
 no_marker : (word : List ℕ) → 0 < length word → each_below (λ k. not (starts_with eqb (drop k (codes "TEST")) word)) 4 ≡ true → (k : ℕ) → k < 4 → starts_with eqb (drop k (codes "TEST")) word ≡ false
 no_marker word some h k lt = not-true _ (below (λ k. not (starts_with eqb (drop k (codes "TEST")) word)) 4 k h lt)
 
-example_line : IsLine (codes "TEST")
+example_line : IsMessageLine (codes "TEST")
 example_line = record {
   fits = lit≤ tt;
   in_code = All-from_recursion IsLineByte (codes "TEST") test_bytes;
@@ -153,7 +153,7 @@ example_line = record {
 }
 
 example_lines : AreLines (codes "TEST" ∷ [])
-example_lines = record { each = All-from_recursion IsLine (codes "TEST" ∷ []) (example_line, tt); fits = lit≤ tt }
+example_lines = record { each = All-from_recursion IsMessageLine (codes "TEST" ∷ []) (example_line, tt); fits = lit≤ tt }
 
 positions-example : length (layout (example_numbers ∷ [])) ≡ 102
 unfolding layout example_numbers

@@ -15,7 +15,7 @@ use Rattle.nx_fec.proofs.EncodingLaws.{bit_lines-IsBitFile}
 use Rattle.nx_fec.proofs.LineLaws.{IsBitFile-unique}
 use Rattle.nx_fec.proofs.TransferLaws.{Reads-on}
 use Rattle.nx_station.specs.Checking.{Checks, IsChecked, report, station_line}
-use Rattle.nx_station.specs.Runs.{IsTransmission}
+use Rattle.nx_station.specs.FileSending.{IsTransmission}
 use Rattle.nx_station.specs.Sendable.{AreOf}
 use Rattle.nx_station.specs.StrictReading.{ExplainsEmission, IsEmissionOf}
 use Rattle.nx_station.specs.declared.fault.CheckFault.{CheckFault}

@@ -8,7 +8,7 @@ use Rattle.nx_envelope.specs.declared.message.MessageFault.{MessageFault}
 use Rattle.nx_station.specs.MessageFile.{FileMessage, IsOneLine, IsInside, IsNamed, IsFileMessage, IsOfLines, IsFirstFault, IsMessageFile, bad_line, bad_text, line_cut, not_ended, file_message_of, heading, opening, entry_bytes, entries_file, lines_of}
 use Rattle.nx_envelope.specs.declared.message.MessageFault.TheVariants as message
 use Rattle.nx_station.specs.Faults.{text_fault}
-use Rattle.nx_station.specs.Runs.{ExplainsFirst, ExplainsFile}
+use Rattle.nx_station.specs.FileSending.{ExplainsFirst, ExplainsFile}
 use Rattle.nx_station.specs.declared.fault.SendRunFault.{SendRunFault}
 use Rattle.nx_station.specs.declared.fault.SendRunFault.TheVariants.{Read, FileTooLong, BadLine, Text, LineCut, Open, Send, Write, Memory}
 use Rattle.nx_station.proofs.LineLemmas.{spelling-line}

@@ -6,7 +6,7 @@ use Rattle.std.proofs.lemmas.Bool.{false≢true}
 use Rattle.std.proofs.lemmas.List.Elements.{recursion_from_All}
 use Rattle.nx_code.specs.Characters.{is_in_code, characters}
 use Rattle.nx_envelope.specs.Digits.{two_digits}
-use Rattle.nx_envelope.specs.Message.{IsLine, IsLineByte, text_of}
+use Rattle.nx_envelope.specs.Message.{IsMessageLine, IsLineByte, text_of}
 use Rattle.nx_station.specs.MessageFile.{FileMessage, IsOneLine, IsInside, IsNamed, IsFileMessage, IsBegun, heading, closing, opening, entry_bytes}
 
 -- ---- lines that are ended by a line feed
@@ -102,18 +102,18 @@ pub line_bytes : (line : List ℕ) → AllByRecursion IsLineByte line → IsOneL
 line_bytes [] h = tt
 line_bytes (b ∷ line) h = (h.0.1, line_bytes line h.1)
 
-line-IsInside : (line : List ℕ) → IsLine line → IsInside line
+line-IsInside : (line : List ℕ) → IsMessageLine line → IsInside line
 line-IsInside line h = record {
   one_line = line_bytes line (recursion_from_All IsLineByte line h.in_code);
   goes_on = λ e. let bad = subst (All IsLineByte) e h.in_code 0 0 (omega arith) in false≢true (sym closing-not_in_code ∙ bad.0);
 }
 
-lines-inside : (lines : List (List ℕ)) → AllByRecursion IsLine lines → AllByRecursion IsInside lines
+lines-inside : (lines : List (List ℕ)) → AllByRecursion IsMessageLine lines → AllByRecursion IsInside lines
 lines-inside [] h = tt
 lines-inside (line ∷ lines) h = (line-IsInside line h.0, lines-inside lines h.1)
 
 pub IsFileMessage-IsBegun : (entry : FileMessage) → IsFileMessage entry → IsBegun entry
-IsFileMessage-IsBegun entry h = record { named = h.named; lines = lines-inside entry.lines (recursion_from_All IsLine entry.lines h.lines.each) }
+IsFileMessage-IsBegun entry h = record { named = h.named; lines = lines-inside entry.lines (recursion_from_All IsMessageLine entry.lines h.lines.each) }
 
 -- ---- where the bytes of an entry stand
 

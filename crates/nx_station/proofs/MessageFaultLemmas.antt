@@ -3,7 +3,7 @@ use Rattle.std.proofs.Common.{◌≡◌, ℕ, ◌+◌, ◌<◌, ◌≤◌, List,
 use Rattle.std.specs.Prelude.{All}
 use Rattle.std.proofs.lemmas.List.{get_or-take, length-take}
 use Rattle.std.proofs.lemmas.Bool.{cases_lt}
-use Rattle.nx_envelope.specs.Message.{IsLine, IsLineByte, IsFirstBadByte, IsLineFault, IsFirstLineFault, IsMessageFault, AreLines}
+use Rattle.nx_envelope.specs.Message.{IsMessageLine, IsLineByte, IsFirstBadByte, IsLineFault, IsFirstLineFault, IsMessageFault, AreLines}
 use Rattle.nx_envelope.specs.declared.message.MessageFault.{MessageFault}
 use Rattle.nx_envelope.specs.declared.message.MessageFault.TheVariants.{LongLine, BadCharacter, Reserved, LongText, Memory}
 use Rattle.nx_station.specs.MessageFile.{IsOfLines}
@@ -22,7 +22,7 @@ one_place a b h k = elim (cases_lt a b) [
 ]
 
 -- a line with a fault is none of a message
-good-none : (n : ℕ) (line : List ℕ) (fault : MessageFault) → IsLineFault n line fault → IsLine line → ⊥
+good-none : (n : ℕ) (line : List ℕ) (fault : MessageFault) → IsLineFault n line fault → IsMessageLine line → ⊥
 good-none n line (LongLine m) h good = absurd (omega (arith, h.1, good.fits))
 good-none n line (BadCharacter m at) h good = h.2.bad (good.in_code at 0 h.2.within)
 good-none n line (Reserved m) h good = good.unreserved h.3
@@ -55,13 +55,13 @@ one_fault n line a (Memory e) h k = absurd k
 -- of several lines the first that has a fault, and its fault, are one
 one_line_fault : (lines : List (List ℕ)) (a b : MessageFault) → IsFirstLineFault lines a → IsFirstLineFault lines b → a ≡ b
 one_line_fault lines a b h k =
-    let not_before : h.at < k.at → ⊥ = λ lt. good-none (h.at + 1) (get_or lines h.at []) a h.here (at_front IsLine lines h.at k.at [] lt (omega (arith, k.within)) k.good_before) in
-    let not_behind : k.at < h.at → ⊥ = λ lt. good-none (k.at + 1) (get_or lines k.at []) b k.here (at_front IsLine lines k.at h.at [] lt (omega (arith, h.within)) h.good_before) in
+    let not_before : h.at < k.at → ⊥ = λ lt. good-none (h.at + 1) (get_or lines h.at []) a h.here (at_front IsMessageLine lines h.at k.at [] lt (omega (arith, k.within)) k.good_before) in
+    let not_behind : k.at < h.at → ⊥ = λ lt. good-none (k.at + 1) (get_or lines k.at []) b k.here (at_front IsMessageLine lines k.at h.at [] lt (omega (arith, h.within)) h.good_before) in
     let same : h.at ≡ k.at = one_place h.at k.at not_before not_behind in
     one_fault (k.at + 1) (get_or lines k.at []) a b (subst (λ i. IsLineFault (i + 1) (get_or lines i []) a) same h.here) k.here
 
 -- lines that are all good have no fault of a line
-none_of_good : (lines : List (List ℕ)) (a : MessageFault) → All IsLine lines → IsFirstLineFault lines a → ⊥
+none_of_good : (lines : List (List ℕ)) (a : MessageFault) → All IsMessageLine lines → IsFirstLineFault lines a → ⊥
 none_of_good lines a good h = good-none (h.at + 1) (get_or lines h.at []) a h.here (good h.at [] h.within)
 
 -- lines have one fault

@@ -5,7 +5,7 @@ use Rattle.std.proofs.lemmas.Bool.{and_from, eq-eqb}
 use Rattle.std.proofs.lemmas.List.Elements.{recursion_from_All}
 use Rattle.nx_envelope.specs.Digits.{two_digits}
 use Rattle.nx_envelope.specs.Marker.{end_marker}
-use Rattle.nx_envelope.specs.Message.{AreLines, IsLine, IsLineByte, IsMessageFault, text_of}
+use Rattle.nx_envelope.specs.Message.{AreLines, IsMessageLine, IsLineByte, IsMessageFault, text_of}
 use Rattle.nx_envelope.specs.MessageView.{MessageView}
 use Rattle.nx_envelope.specs.declared.identity.Identity.{Identity}
 use Rattle.nx_envelope.specs.declared.message.MessageFault.{MessageFault}
@@ -51,18 +51,18 @@ marked-open (l ∷ ls) (m ∷ ms) x r h k one e =
     (sym (text-cons l ls (end_marker ++ (10 ∷ x))) ∙ e ∙ text-cons m ms r) in
     marked-open ls ms x r h.1 k.1 one p.1
 
-line-IsUnended : (line : List ℕ) → IsLine line → IsTextLine line
+line-IsUnended : (line : List ℕ) → IsMessageLine line → IsTextLine line
 line-IsUnended line h = record {
   one_line = line_bytes line (recursion_from_All IsLineByte line h.in_code);
   goes_on = λ e. h.unreserved (inr (record { front = []; back = []; spelled = e }));
 }
 
-lines-unended : (lines : List (List ℕ)) → AllByRecursion IsLine lines → AllByRecursion IsTextLine lines
+lines-unended : (lines : List (List ℕ)) → AllByRecursion IsMessageLine lines → AllByRecursion IsTextLine lines
 lines-unended [] h = tt
 lines-unended (line ∷ lines) h = (line-IsUnended line h.0, lines-unended lines h.1)
 
 pub AreLines-unended : (lines : List (List ℕ)) → AreLines lines → AllByRecursion IsTextLine lines
-AreLines-unended lines h = lines-unended lines (recursion_from_All IsLine lines h.each)
+AreLines-unended lines h = lines-unended lines (recursion_from_All IsMessageLine lines h.each)
 
 -- ---- headers
 

@@ -18,7 +18,7 @@ use Rattle.nx_fec.proofs.TransferLaws.{Reads-on}
 use Rattle.nx_station.specs.Broadcast.{IsBroadcast}
 use Rattle.nx_station.specs.Faults.{read_fault, send_fault}
 use Rattle.nx_station.specs.MessageFile.{IsMessageFile, file_message_of}
-use Rattle.nx_station.specs.Runs.{ExplainsFile, ExplainsSending, IsTransmission, Sends}
+use Rattle.nx_station.specs.FileSending.{ExplainsFile, ExplainsSending, IsTransmission, Sends}
 use Rattle.nx_station.specs.Sendable.{AreOf, IsRefusal, IsSendable, first_of_another}
 use Rattle.nx_station.specs.Slots.{HasSlots, IsNextSlot}
 use Rattle.nx_station.specs.declared.fault.SendFault.{SendFault}

@@ -5,7 +5,7 @@ use Rattle.std.specs.Io.KnownBytes.{Appends}
 use Rattle.nx_code.specs.Word.{value_of}
 use Rattle.nx_fec.specs.AirFile.{Line, elements}
 use Rattle.nx_fec.specs.Devices.{WroteSome}
-use Rattle.nx_fec.specs.LineRuns.{IsPlaced, StopsAt}
+use Rattle.nx_fec.specs.LineRuns.{IsPlaced, StopsAt, air_limit}
 use Rattle.nx_fec.specs.Lines.{IsAirFile, IsCause, elements_of, file_of}
 use Rattle.nx_fec.specs.Transfers.{Devices, IsReadOut, Transfers, on_the_way}
 use Rattle.nx_fec.specs.declared.fault.LineFault.{LineFault}
@@ -67,10 +67,6 @@ damaged_lines damage place (line ∷ lines) =
 -- the file that is written of lines
 abbrev pub damaged_file : Damage → List Line → List ℕ
 damaged_file damage lines = file_of (damaged_lines damage 0 lines)
-
--- the most bytes of an air file that is damaged: 2 ^ 28
-abbrev pub air_limit : ℕ
-air_limit = 268435456
 
 -- what is written of an air file, and the count that is answered
 pub record IsDamaged (damage : Damage) (limit : ℕ) (air written : List ℕ) (count : ℕ) : Type 0 where

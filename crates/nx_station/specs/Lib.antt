@@ -3,7 +3,7 @@ pub mod Broadcast
 pub mod Sendable
 pub mod MessageFile
 pub mod Faults
-pub mod Runs
+pub mod FileSending
 pub mod Channel
 pub mod Sendings
 pub mod ChannelExample

@@ -13,7 +13,7 @@ ghost use Rattle.nx_fec.specs.AirFile.{Line};
 ghost use Rattle.nx_fec.specs.Lines.{elements_of};
 ghost use Rattle.nx_station.specs.Damage.{Damage, IsDamaged, damaged_elements, damaged_lines};
 ghost use Rattle.nx_station.specs.Checking.{IsChecked, station_line};
-ghost use Rattle.nx_station.specs.Runs.{IsTransmission};
+ghost use Rattle.nx_station.specs.FileSending.{IsTransmission};
 ghost use Rattle.nx_station.specs.declared.sending.Sent.{Sent};
 ghost use Rattle.nx_station.specs.StrictReading.{ExplainsEmission, IsEmissionOf, IsMemory};
 ghost use Rattle.nx_station.specs.declared.fault.EmissionFault.{EmissionFault};

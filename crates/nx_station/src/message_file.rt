@@ -5,7 +5,7 @@ ghost use Rattle.nx_envelope.specs.Message.{text_of};
 ghost use Rattle.nx_envelope.specs.MessageView.{MessageView};
 ghost use Rattle.nx_station.specs.Faults.{text_fault};
 ghost use Rattle.nx_station.specs.MessageFile.{IsFileMessage, IsInside, IsMessageFile, IsNamed, IsOneLine, file_message_of, heading, entry_bytes};
-ghost use Rattle.nx_station.specs.Runs.{ExplainsFile, ExplainsFirst};
+ghost use Rattle.nx_station.specs.FileSending.{ExplainsFile, ExplainsFirst};
 
 use crate::fault::SendRunFault;
 use nx_envelope::{Identity, Letter, Message, MessageFault, NEWLINE};

@@ -8,11 +8,8 @@ use crate::fault::EmissionFault;
 use crate::printed::messages_printed;
 use nx_code::{ELEMENTS, Signal, Word, check_bits, signal_of, word_of};
 use nx_envelope::Message;
-use nx_fec::{AlignedFault, decode_aligned, to_bits, word_in};
+use nx_fec::{AlignedFault, SPREAD, decode_aligned, to_bits, word_in};
 use std::alloc::{AllocError, Global};
-
-/// How many slots the RX word of a position comes after its DX word.
-const SPREAD: usize = 5;
 
 /// The messages whose emission has just these elements: one list at most has them. The words are
 /// read as text, and the emission of what was read is compared with all elements, so nothing is

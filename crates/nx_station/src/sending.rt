@@ -6,7 +6,7 @@ ghost use Rattle.nx_fec.specs.BitLines.{bit_lines};
 ghost use Rattle.nx_fec.specs.Devices.{WroteSome};
 ghost use Rattle.nx_fec.specs.Lines.{file_of, line_bytes};
 ghost use Rattle.nx_fec.specs.Transfers.{devices};
-ghost use Rattle.nx_station.specs.Runs.{Sends};
+ghost use Rattle.nx_station.specs.FileSending.{Sends};
 
 use crate::broadcast::emission;
 use crate::fault::{SendFault, SendRunFault};

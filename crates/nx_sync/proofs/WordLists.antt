@@ -3,16 +3,16 @@ use Rattle.std.proofs.Common.{◌≡◌, ℕ, zero, suc, ◌+◌, ◌*◌, ◌�
 use Rattle.std.proofs.lemmas.List.{length_push}
 use Rattle.nx_sync.specs.declared.step.Role.{Role}
 use Rattle.nx_sync.specs.declared.step.Step.{Step}
-use Rattle.nx_sync.specs.Words.{role_of, heard_word, words_of, whole_words, words_heard}
+use Rattle.nx_sync.specs.Words.{role_of, heard_word, lock_words, whole_words, words_heard}
 use Rattle.nx_sync.specs.Locks.{Finds, release, Lock, Past, Now, hunting, locked, IsHunting, IsLocked, words_of_past}
 use Rattle.nx_sync.specs.Steps.{step, Brings, found, word, inside, over, hunts, IsStep, word_of_step}
 use Rattle.nx_sync.proofs.MoreBits.{word_at-more, first_role-more, release-more}
 use Rattle.nx_sync.proofs.Unique.{locks-unique, now-unique}
 
 -- one more word
-pub words_of-next : (bits : List Bool) (t k : ℕ) → words_of bits t (k + 1) ≡ words_of bits t k ++ heard_word bits t k ∷ []
-unfolding words_of
-words_of-next bits t k = let e : k + 1 ≡ suc k = omega arith in ap (words_of bits t) e
+pub words_of-next : (bits : List Bool) (t k : ℕ) → lock_words bits t (k + 1) ≡ lock_words bits t k ++ heard_word bits t k ∷ []
+unfolding lock_words
+words_of-next bits t k = let e : k + 1 ≡ suc k = omega arith in ap (lock_words bits t) e
 
 module _ (bits more : List Bool) where
   heard_word-more : (t k : ℕ) → 28 ≤ t → t + 7 * (k + 1) ≤ length bits → heard_word (bits ++ more) t k ≡ heard_word bits t k
@@ -21,26 +21,26 @@ module _ (bits more : List Bool) where
       ap₂ make (word_at-more bits more t k h) (ap (λ r. role_of r k) (first_role-more bits more t low (omega arith)))
 
   -- more bits leave the words that were heard whole
-  pub words_of-more : (t n : ℕ) → 28 ≤ t → t + 7 * n ≤ length bits → words_of (bits ++ more) t n ≡ words_of bits t n
-  unfolding words_of
+  pub words_of-more : (t n : ℕ) → 28 ≤ t → t + 7 * n ≤ length bits → lock_words (bits ++ more) t n ≡ lock_words bits t n
+  unfolding lock_words
   words_of-more t zero low h = refl
   words_of-more t (suc n) low h =
       ap₂ (λ ws w. ws ++ w ∷ []) (words_of-more t n low (omega arith)) (heard_word-more t n low (omega arith))
 
 -- a lock that was just found has no words
 pub words_heard-found : (bits : List Bool) (p t : ℕ) → Finds bits p t → length bits ≡ t → words_heard bits t ≡ []
-unfolding words_of
+unfolding lock_words
 words_heard-found bits p t f e =
     let z : whole_words bits t ≡ 0 = omega (arith, e) in
-    ap (words_of bits t) z
+    ap (lock_words bits t) z
 
 module _ (bits : List Bool) (b : Bool) where
   -- k words before the bit, and one more with it
-  completed : (t k : ℕ) (s : Step) → 28 ≤ t → length (bits ++ b ∷ []) ≡ t + 7 * (k + 1) → word_of_step s ≡ heard_word (bits ++ b ∷ []) t k ∷ [] → words_of (bits ++ b ∷ []) t (k + 1) ≡ words_heard bits t ++ word_of_step s
+  completed : (t k : ℕ) (s : Step) → 28 ≤ t → length (bits ++ b ∷ []) ≡ t + 7 * (k + 1) → word_of_step s ≡ heard_word (bits ++ b ∷ []) t k ∷ [] → lock_words (bits ++ b ∷ []) t (k + 1) ≡ words_heard bits t ++ word_of_step s
   completed t k s low e w =
       let n : whole_words bits t ≡ k = omega (arith, e, length_push bits b) in
       words_of-next (bits ++ b ∷ []) t k
-      ∙ (ap (λ ws. ws ++ heard_word (bits ++ b ∷ []) t k ∷ []) (words_of-more bits (b ∷ []) t k low (omega (arith, e, length_push bits b)) ∙ ap (words_of bits t) (sym n))
+      ∙ (ap (λ ws. ws ++ heard_word (bits ++ b ∷ []) t k ∷ []) (words_of-more bits (b ∷ []) t k low (omega (arith, e, length_push bits b)) ∙ ap (lock_words bits t) (sym n))
       ∙ ap (λ ws. words_heard bits t ++ ws) (sym w))
 
   -- what a step adds to the words of a lock that stands on
@@ -48,13 +48,13 @@ module _ (bits : List Bool) (b : Bool) where
   words_heard-stands s locks p t now (found e h) = absurd (omega (arith, e, length_push bits b, now.found.here.heard))
   words_heard-stands s locks p t now (word k e h) =
       let n : whole_words (bits ++ b ∷ []) t ≡ k + 1 = omega (arith, e) in
-      ap (words_of (bits ++ b ∷ []) t) n ∙ completed t k s now.found.here.enough e (ap word_of_step h)
+      ap (lock_words (bits ++ b ∷ []) t) n ∙ completed t k s now.found.here.enough e (ap word_of_step h)
   words_heard-stands s locks p t now (inside k r e low high h) =
       let n : whole_words (bits ++ b ∷ []) t ≡ k = omega (arith, e) in
       let m : whole_words bits t ≡ k = omega (arith, e, length_push bits b) in
-      ap (words_of (bits ++ b ∷ []) t) n
+      ap (lock_words (bits ++ b ∷ []) t) n
       ∙ (words_of-more bits (b ∷ []) t k now.found.here.enough (omega (arith, e, length_push bits b))
-      ∙ (ap (words_of bits t) (sym m)
+      ∙ (ap (lock_words bits t) (sym m)
       ∙ (sym (append-nil (words_heard bits t))
       ∙ ap (λ ws. words_heard bits t ++ ws) (sym (ap word_of_step h)))))
 

@@ -5,7 +5,7 @@ use Rattle.nx_sync.specs.declared.step.Role.{Role}
 use Rattle.nx_sync.specs.declared.step.Change.{Change}
 use Rattle.nx_sync.specs.declared.step.Change.TheVariants.{Ended, LostLock}
 use Rattle.nx_code.specs.Phasing.{phasing_1, elements_of_phasing_1, elements_of_phasing_2}
-use Rattle.nx_sync.specs.Words.{losing_count, word_at, first_role, role_of, is_dx, wrong_until, words_of}
+use Rattle.nx_sync.specs.Words.{losing_count, word_at, first_role, role_of, is_dx, wrong_until, lock_words}
 
 -- How many elements the patterns have that give a lock: four words (this profile).
 abbrev pub pattern_elements : ℕ
@@ -86,7 +86,7 @@ pub record Lock : Type 0 where
 
 -- the words of a lock that was released, each with its role, the releasing word among them
 abbrev pub words_of_past : List Bool → Lock → List (ℕ × Role)
-words_of_past bits lock = words_of bits lock.at (lock.last + 1)
+words_of_past bits lock = lock_words bits lock.at (lock.last + 1)
 
 -- the lock was found by a search from its `from`, and was released, and p is the bit count after
 -- its last word

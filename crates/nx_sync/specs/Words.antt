@@ -59,9 +59,9 @@ abbrev pub heard_word : List Bool → ℕ → ℕ → ℕ × Role
 heard_word bits t k = (word_at bits t k, role_of (first_role bits t) k)
 
 -- the first n words of the lock at t, each with its role, in order
-unfoldable pub words_of : List Bool → ℕ → ℕ → List (ℕ × Role)
-words_of bits t zero = []
-words_of bits t (suc n) = words_of bits t n ++ heard_word bits t n ∷ []
+unfoldable pub lock_words : List Bool → ℕ → ℕ → List (ℕ × Role)
+lock_words bits t zero = []
+lock_words bits t (suc n) = lock_words bits t n ++ heard_word bits t n ∷ []
 
 -- how many words of the lock at t were heard whole
 abbrev pub whole_words : List Bool → ℕ → ℕ
@@ -69,4 +69,4 @@ whole_words bits t = (length bits - t) / 7
 
 -- the words of the lock at t that were heard whole
 abbrev pub words_heard : List Bool → ℕ → List (ℕ × Role)
-words_heard bits t = words_of bits t (whole_words bits t)
+words_heard bits t = lock_words bits t (whole_words bits t)

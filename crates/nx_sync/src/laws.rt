@@ -8,7 +8,7 @@ ghost use Rattle.nx_sync.specs.declared.step.Role.{Role as RoleOf};
 ghost use Rattle.nx_sync.specs.declared.step.Step.{Step};
 ghost use Rattle.nx_code.specs.Word.{number_of};
 ghost use Rattle.nx_code.specs.Phasing.{phasing_1};
-ghost use Rattle.nx_sync.specs.Words.{is_wrong, words_of, words_heard, heard_word, marked_words, losing_count, word_at, first_role, role_of, wrong_in, wrong_until};
+ghost use Rattle.nx_sync.specs.Words.{is_wrong, lock_words, words_heard, heard_word, marked_words, losing_count, word_at, first_role, role_of, wrong_in, wrong_until};
 ghost use Rattle.nx_sync.specs.Locks.{pattern_elements, before_dx, before_rx, hunting, locked, IsHunting, words_of_past, IsPattern, Finds, release, IsReleased, Lock, Past, Now, IsLocked, IsNow};
 ghost use Rattle.nx_sync.specs.Steps.{Brings, IsStep, word_of_step};
 ghost use Rattle.nx_sync.specs.Laws.{IsOnPhasing, IsBetweenLimits, IsReleasedBy, IsSecondPhasing1, IsEarlier, WhatStands, GoesOn, Stood, OneMore, phasing, LockedBeforeDx};
@@ -64,9 +64,9 @@ pub fn a_word_is_appended()
         → Brings (bits ++ bit ∷ []) s (lock ∷ older) (hunting q)
         → words_of_past (bits ++ bit ∷ []) lock ≡ words_heard bits lock.at ++ word_of_step s }
     ensures next { (bits : List Bool) (t k : ℕ)
-        → words_of bits t (k + 1) ≡ words_of bits t k ++ heard_word bits t k ∷ [] }
+        → lock_words bits t (k + 1) ≡ lock_words bits t k ++ heard_word bits t k ∷ [] }
     ensures more { (bits more : List Bool) (t n : ℕ) → IsPattern bits t → t + 7 * n ≤ length bits
-        → words_of (bits ++ more) t n ≡ words_of bits t n }
+        → lock_words (bits ++ more) t n ≡ lock_words bits t n }
 {}
 
 /// What stands after more bits comes from what stood: hunting goes on, finds a lock, or led to the

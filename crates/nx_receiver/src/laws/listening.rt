@@ -6,7 +6,8 @@ ghost use Rattle.nx_envelope.specs.MessageView.{MessageView};
 ghost use Rattle.nx_fec.specs.AirFile.{Line};
 ghost use Rattle.nx_fec.specs.Lines.{IsAirFile};
 ghost use Rattle.nx_station.specs.ChannelExample.{example_message};
-ghost use Rattle.nx_receiver.specs.Listen.{AreTaken, HasFirstFault, HasLogged, IsLogOf, IsLogOfFile, IsLogOfLines, air_limit};
+ghost use Rattle.nx_fec.specs.LineRuns.{air_limit};
+ghost use Rattle.nx_receiver.specs.Listen.{AreTaken, HasListenFault, HasLogged, IsLogOf, IsLogOfFile, IsLogOfLines};
 ghost use Rattle.nx_receiver.specs.ListenExample.{example_air_file};
 ghost use Rattle.nx_receiver.specs.ListenOnce.{IsHeardInTimeIn};
 ghost use Rattle.nx_receiver.specs.OnceHeard.{IsPrintedOnce};
@@ -32,12 +33,12 @@ pub fn an_air_file_has_one_log()
 /// An air file has one outcome: its first fault, by its bytes alone, is one, whatever was written;
 /// and a file that has a log has none.
 pub fn an_air_file_has_one_outcome()
-    ensures fault { (bytes : List ℕ) (why other : ListenFault) → HasFirstFault AreTaken bytes why
-        → HasFirstFault AreTaken bytes other → why ≡ other }
+    ensures fault { (bytes : List ℕ) (why other : ListenFault) → HasListenFault AreTaken bytes why
+        → HasListenFault AreTaken bytes other → why ≡ other }
     ensures log { (bytes log : List ℕ) (why : ListenFault) → IsLogOf bytes log
-        → HasFirstFault AreTaken bytes why → ⊥ }
+        → HasListenFault AreTaken bytes why → ⊥ }
     ensures written { (old new : Option (List ℕ)) (bytes : List ℕ) (why : ListenFault)
-        → HasFirstFault (HasLogged old new) bytes why → HasFirstFault AreTaken bytes why }
+        → HasListenFault (HasLogged old new) bytes why → HasListenFault AreTaken bytes why }
 {}
 
 /// A message that is heard in time in an air file has exactly one entry in the log of the file. The

@@ -5,7 +5,7 @@ ghost use Rattle.std.specs.Prelude.{◌≡◌, ℕ, ◌<◌, List, [], map};
 ghost use Rattle.nx_envelope.specs.MessageView.{MessageView};
 ghost use Rattle.nx_fec.specs.AirFile.{Line};
 ghost use Rattle.nx_station.specs.Broadcast.{AreSpelled};
-ghost use Rattle.nx_station.specs.Runs.{IsTransmission};
+ghost use Rattle.nx_station.specs.FileSending.{IsTransmission};
 ghost use Rattle.nx_station.specs.Sendable.{IsSendable};
 ghost use Rattle.nx_station.specs.declared.sending.Sent.{Sent};
 ghost use Rattle.nx_receiver.specs.Listen.{IsLogOf, IsLogOfFile, at_zero};

@@ -2,7 +2,7 @@ use Rattle.std.proofs.Common.{Ok, sym, subst}
 use Rattle.std.proofs.lemmas.Result.{err_from_is_err_and}
 use Rattle.nx_fec.specs.Transfers.{devices}
 use Rattle.nx_station.specs.Damage.{Damages}
-use Rattle.nx_station.specs.Runs.{Sends}
+use Rattle.nx_station.specs.FileSending.{Sends}
 use Rattle.nx_cli.specs.Program.{Performs}
 use Rattle.nx_cli.specs.declared.fault.CallFault.TheVariants as call
 use Rattle.nx_cli.specs.declared.words.Call.{Call}

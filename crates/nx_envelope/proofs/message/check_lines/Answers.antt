@@ -2,7 +2,7 @@ use Rattle.std.proofs.Common.{◌<◌, List, ℕ, [], length, map, arith}
 use Rattle.std.proofs.lemmas.List.{get_or-map, length-map}
 use Rattle.std.proofs.lemmas.List.Elements.{All-more}
 use Rattle.std.proofs.lemmas.Result.{err_from_is_err_and}
-use Rattle.nx_envelope.specs.Message.{IsLine}
+use Rattle.nx_envelope.specs.Message.{IsMessageLine}
 use Rattle.nx_envelope.proofs.MessageLines.{first_fault, text_more}
 use Rattle.nx_envelope.proofs.message.check_lines.Goals as goal
 
@@ -24,6 +24,6 @@ loop-line-preserved c =
     let sum = c.saturating_add-text_len.ensures in
     record {
       counted = omega arith;
-      good = All-more IsLine lines c.loop-line.line-index [] in_map c.loop-line.invariant.good (rw here c.in_ok-check_line.ensures.good);
+      good = All-more IsMessageLine lines c.loop-line.line-index [] in_map c.loop-line.invariant.good (rw here c.in_ok-check_line.ensures.good);
       text = rw (text, here) (omega (arith, sum, c.loop-line.invariant.text));
     }

@@ -100,7 +100,7 @@ returns g c = λ first s.
         lines = r.2.lines;
         file = c.in_default-end.ensures 268435456 r.0 r.2.lines r.2.scans;
         taken = HasTaken-map t.stands first c.loop-fault.taker r.2.lines (HasGiven old (g.W.Write.contents c.loop-fault.writer.inner) c.loop-fault.batch) _
-            (λ given k. HasGiven-written old new c.send.new.self given c.sent.result c.in_default.ensures.empty c.sent.ensures (c.in_default.ensures.bytes old given k)) r.2.taken;
+            (λ given k. HasGiven-written old new c.send.new.self given c.bytes_sent.result c.in_default.ensures.empty c.bytes_sent.ensures (c.in_default.ensures.bytes old given k)) r.2.taken;
         counted = c.lines.ensures ∙ r.2.scans.count;
       },
     )

@@ -3,17 +3,17 @@ use Rattle.std.proofs.lemmas.List.{map-append}
 use Rattle.nx_memory.specs.declared.entry.MemoryEntry.{MemoryEntry}
 use Rattle.nx_receiver.specs.Events.{Event, Start, element}
 use Rattle.nx_receiver.specs.Log.{HasPrinted}
-use Rattle.nx_receiver.specs.Receiver.{Receiving, Stands, elements, fed, joined}
+use Rattle.nx_receiver.specs.Receiver.{Receiving, Stands, elements, events_of_pieces, elements_of_pieces}
 use Rattle.nx_receiver.specs.Tagged.{TaggedCopy}
 use Rattle.nx_receiver.proofs.LoggedLemmas.{one_printed}
 use Rattle.nx_receiver.proofs.ReceiverPrinting.{has_printed}
 use Rattle.nx_receiver.proofs.WatchHears.{has_ended}
 use Rattle.nx_receiver.proofs.laws.cuttings_print_the_same.Goals as goal
 
-fed-joined : (pieces : List (List Bool)) → fed pieces ≡ elements (joined pieces)
-unfolding fed joined
-fed-joined [] = refl
-fed-joined (piece ∷ pieces) = ap (λ es. elements piece ++ es) (fed-joined pieces) ∙ sym (map-append element piece (joined pieces))
+events-of_elements : (pieces : List (List Bool)) → events_of_pieces pieces ≡ elements (elements_of_pieces pieces)
+unfolding events_of_pieces elements_of_pieces
+events-of_elements [] = refl
+events-of_elements (piece ∷ pieces) = ap (λ es. elements piece ++ es) (events-of_elements pieces) ∙ sym (map-append element piece (elements_of_pieces pieces))
 
 prints : {M : Type 0} (content : M → List MemoryEntry) (start : Start) (events : List Event) (receiver : Receiving M) (log : List TaggedCopy) → Stands content start receiver events log → HasPrinted start events log
 prints content start events receiver log stands =
@@ -24,8 +24,8 @@ pub returns : goal.returns
 returns g c = record {
   printed = λ start events receiver log stands. prints g.M.Recall.content start events receiver log stands;
   same = λ start events pieces others one other log same e f h.
-      let alike : fed pieces ≡ fed others = fed-joined pieces ∙ ap elements e ∙ sym (fed-joined others) in
-      one_printed start (events ++ fed others) log same
-      (subst (λ (es : List Event). HasPrinted start (events ++ es) log) alike (prints g.M.Recall.content start (events ++ fed pieces) one log f))
-      (prints g.M.Recall.content start (events ++ fed others) other same h);
+      let alike : events_of_pieces pieces ≡ events_of_pieces others = events-of_elements pieces ∙ ap elements e ∙ sym (events-of_elements others) in
+      one_printed start (events ++ events_of_pieces others) log same
+      (subst (λ (es : List Event). HasPrinted start (events ++ es) log) alike (prints g.M.Recall.content start (events ++ events_of_pieces pieces) one log f))
+      (prints g.M.Recall.content start (events ++ events_of_pieces others) other same h);
 }

@@ -10,13 +10,13 @@ use Rattle.nx_receiver.proofs.listening.ListenerLineTaker.take.Goals as goal
 
 pub returns-in-Moment-clause-taken : goal.returns-in-Moment-clause-taken
 returns-in-Moment-clause-taken g c = λ first old lines line latest h.
-    taken-line first c.args.self.now c.take_moment.new.self old _ c.args.batch.now lines line (moment c.in-Moment.moment) c.take_moment.result c.refused.result
-    (said _ _ _ _ line latest c.latest.ensures c.in-Some.is c.in-Moment.is) h c.refused.ensures (λ given s. c.take_moment.ensures.taken lines given s) c.take_moment.ensures.unchanged
+    taken-line first c.args.self.now c.take_moment.new.self old _ c.args.batch.now lines line (moment c.in-Moment.moment) c.take_moment.result c.taking_of.result
+    (said _ _ _ _ line latest c.latest.ensures c.in-Some.is c.in-Moment.is) h c.taking_of.ensures (λ given s. c.take_moment.ensures.taken lines given s) c.take_moment.ensures.unchanged
 
 pub returns-in-RefuseSubject-clause-taken : goal.returns-in-RefuseSubject-clause-taken
 returns-in-RefuseSubject-clause-taken g c = λ first old lines line latest h.
-    taken-line first c.args.self.now c.refuse_subject.new.self old _ c.args.batch.now lines line (refuse_subject c.in-RefuseSubject.byte) c.refuse_subject.result c.refused-in-RefuseSubject.result
-    (said _ _ _ _ line latest c.latest.ensures c.in-Some.is c.in-RefuseSubject.is) h c.refused-in-RefuseSubject.ensures (λ given s. c.refuse_subject.ensures.taken lines given s) c.refuse_subject.ensures.unchanged
+    taken-line first c.args.self.now c.refuse_subject.new.self old _ c.args.batch.now lines line (refuse_subject c.in-RefuseSubject.byte) c.refuse_subject.result c.taking_of-in-RefuseSubject.result
+    (said _ _ _ _ line latest c.latest.ensures c.in-Some.is c.in-RefuseSubject.is) h c.taking_of-in-RefuseSubject.ensures (λ given s. c.refuse_subject.ensures.taken lines given s) c.refuse_subject.ensures.unchanged
 
 pub returns-in-RefuseStation-clause-taken : goal.returns-in-RefuseStation-clause-taken
 unfolding bits_of
