@@ -53,8 +53,8 @@ spell_fault (spelling.NoSuchCharacter at) = NoSuchCharacter at
 spell_fault (spelling.Memory error) = Memory error
 
 -- What a fault of reading elements says of the bytes that were read: a fault of the file is theirs,
--- and at the end of the file `AtEnd` holds. A read that failed and a want of memory say nothing of
--- them, and there are no other faults.
+-- and at the end of the file `AtEnd` holds. A want of memory says nothing of them, nor does a failed
+-- read, of which `Reads` says what stands before it. There are no other faults.
 abbrev pub ExplainsReading : Type 0 → ℕ → List ℕ → RunFault → Type 0
 ExplainsReading AtEnd limit bytes Read = ⊤
 ExplainsReading AtEnd limit bytes (Memory error) = ⊤
