@@ -94,36 +94,45 @@ pub record IsDecoded (limit : ℕ) (bytes text : List ℕ) : Type 0 where
   pub whole : length bits % 7 ≡ 0
   pub read : text ≡ aligned_text (words_of bits)
 
--- What a fault of decoding says: its elements are no whole words, or the text was written in part.
--- Each other fault is one of reading elements.
-abbrev pub ExplainsDecoding : Type 0 → ℕ → List ℕ → Option (List ℕ) → Option (List ℕ) → RunFault
-    → Type 0
-ExplainsDecoding AtEnd limit bytes old new (Ragged given) =
+-- What a fault of a run over the words of a file says: its elements are no whole words, or their
+-- text was written in part. `IsText` holds of that text and of what the run counts. Each other
+-- fault is one of reading elements.
+abbrev pub ExplainsWords : (List ℕ → ℕ → Type 0) → Type 0 → ℕ → List ℕ → Option (List ℕ)
+    → Option (List ℕ)
+    → RunFault → Type 0
+ExplainsWords IsText AtEnd limit bytes old new (Ragged given) =
     AtEnd × (bits : List Bool) × IsBitFile limit bytes bits × (given ≡ length bits)
     × (length bits % 7 ≢ 0)
-ExplainsDecoding AtEnd limit bytes old new (Write written) =
-    AtEnd × (text : List ℕ) × IsDecoded limit bytes text × WroteSome old new text written
-ExplainsDecoding AtEnd limit bytes old new fault = ExplainsReading AtEnd limit bytes fault
+ExplainsWords IsText AtEnd limit bytes old new (Write written) =
+    AtEnd × (text : List ℕ) × (count : ℕ) × IsText text count × WroteSome old new text written
+ExplainsWords IsText AtEnd limit bytes old new fault = ExplainsReading AtEnd limit bytes fault
 
--- what decoding answers of these bytes: the count of the bytes of the text, which was written, or a
--- fault
-abbrev pub AnswersDecoding : Type 0 → ℕ → List ℕ → Option (List ℕ) → Option (List ℕ)
+-- what a run over the words of a file answers of these bytes: its count, with the text written, or
+-- a fault
+abbrev pub AnswersWords : (List ℕ → ℕ → Type 0) → Type 0 → ℕ → List ℕ → Option (List ℕ)
+    → Option (List ℕ)
     → Result ℕ RunFault → Type 0
-AnswersDecoding AtEnd limit bytes old new (Ok count) =
-    AtEnd × (text : List ℕ) × IsDecoded limit bytes text × Appends old new text
-    × (count ≡ length text)
-AnswersDecoding AtEnd limit bytes old new (Err fault) =
-    ExplainsDecoding AtEnd limit bytes old new fault
+AnswersWords IsText AtEnd limit bytes old new (Ok count) =
+    AtEnd × (text : List ℕ) × IsText text count × Appends old new text
+AnswersWords IsText AtEnd limit bytes old new (Err fault) =
+    ExplainsWords IsText AtEnd limit bytes old new fault
 
--- A run that decodes: it answers so to the bytes that it read, and to the whole file, however it
--- came; and it writes nothing before all else succeeded.
+-- A run over the words of a file: it answers so to the bytes that it read, and to the whole file,
+-- however it came; and it writes nothing before all else succeeded.
+abbrev pub RunsWords : {R W : Type 0} → (List ℕ → List ℕ → ℕ → Type 0) → Devices R W
+    → Result ℕ RunFault → Type 0
+RunsWords IsText d outcome =
+    Transfers Read (λ written. Write written) at_the_end d outcome (IsFaultless file_limit)
+    (λ bytes. AnswersWords (IsText bytes) (IsReadOut d) file_limit bytes
+    (d.contents d.writer.inner) (d.contents d.writer_after.inner) outcome)
+    (λ bytes. AnswersWords (IsText bytes) (Unit {0}) file_limit bytes
+    (d.contents d.writer.inner) (d.contents d.writer_after.inner) outcome)
+
+-- a run that decodes: it writes the text of the words, and counts its bytes
 abbrev pub Decodes : {R W : Type 0} → Devices R W → Result ℕ RunFault → Type 0
 Decodes d outcome =
-    Transfers Read (λ written. Write written) at_the_end d outcome (IsFaultless file_limit)
-    (λ bytes. AnswersDecoding (IsReadOut d) file_limit bytes (d.contents d.writer.inner)
-    (d.contents d.writer_after.inner) outcome)
-    (λ bytes. AnswersDecoding (Unit {0}) file_limit bytes (d.contents d.writer.inner)
-    (d.contents d.writer_after.inner) outcome)
+    RunsWords (λ bytes text count. IsDecoded file_limit bytes text
+    × (count ≡ length text)) d outcome
 
 -- the lines of the words of a file of elements, and how many words there are
 pub record IsShown (limit : ℕ) (bytes text : List ℕ) (count : ℕ) : Type 0 where
@@ -133,35 +142,9 @@ pub record IsShown (limit : ℕ) (bytes text : List ℕ) (count : ℕ) : Type 0 
   pub shown : text ≡ word_lines (words_of bits)
   pub count_is : count ≡ length (words_of bits)
 
--- What a fault of showing words says: the elements are no whole words, or the lines were written in
--- part. Each other fault is one of reading elements.
-abbrev pub ExplainsShowing : Type 0 → ℕ → List ℕ → Option (List ℕ) → Option (List ℕ) → RunFault
-    → Type 0
-ExplainsShowing AtEnd limit bytes old new (Ragged given) =
-    AtEnd × (bits : List Bool) × IsBitFile limit bytes bits × (given ≡ length bits)
-    × (length bits % 7 ≢ 0)
-ExplainsShowing AtEnd limit bytes old new (Write written) =
-    AtEnd × (text : List ℕ) × (count : ℕ) × IsShown limit bytes text count
-    × WroteSome old new text written
-ExplainsShowing AtEnd limit bytes old new fault = ExplainsReading AtEnd limit bytes fault
-
--- what showing answers to these bytes: the count of the words, whose lines were written, or a fault
-abbrev pub AnswersShowing : Type 0 → ℕ → List ℕ → Option (List ℕ) → Option (List ℕ)
-    → Result ℕ RunFault → Type 0
-AnswersShowing AtEnd limit bytes old new (Ok count) =
-    AtEnd × (text : List ℕ) × IsShown limit bytes text count × Appends old new text
-AnswersShowing AtEnd limit bytes old new (Err fault) =
-    ExplainsShowing AtEnd limit bytes old new fault
-
--- A run that shows words: it answers so to the bytes that it read, and to the whole file, however
--- it came; and it writes nothing before all else succeeded.
+-- a run that shows words: it writes their lines, and counts them
 abbrev pub Shows : {R W : Type 0} → Devices R W → Result ℕ RunFault → Type 0
-Shows d outcome =
-    Transfers Read (λ written. Write written) at_the_end d outcome (IsFaultless file_limit)
-    (λ bytes. AnswersShowing (IsReadOut d) file_limit bytes (d.contents d.writer.inner)
-    (d.contents d.writer_after.inner) outcome)
-    (λ bytes. AnswersShowing (Unit {0}) file_limit bytes (d.contents d.writer.inner)
-    (d.contents d.writer_after.inner) outcome)
+Shows d outcome = RunsWords (λ bytes text count. IsShown file_limit bytes text count) d outcome
 
 -- no fault stands in the bytes of a text that is read whole: it isn't too long
 abbrev pub IsWithin : ℕ → List ℕ → Type 0
