@@ -97,41 +97,41 @@ pub record IsDecoded (limit : ℕ) (bytes text : List ℕ) : Type 0 where
 -- What a fault of a run over the words of a file says: its elements are no whole words, or their
 -- text was written in part. `IsText` holds of that text and of what the run counts. Each other
 -- fault is one of reading elements.
-abbrev pub ExplainsWords : (List ℕ → ℕ → Type 0) → Type 0 → ℕ → List ℕ → Option (List ℕ)
+abbrev pub ExplainsWordRun : (List ℕ → ℕ → Type 0) → Type 0 → ℕ → List ℕ → Option (List ℕ)
     → Option (List ℕ)
     → RunFault → Type 0
-ExplainsWords IsText AtEnd limit bytes old new (Ragged given) =
+ExplainsWordRun IsText AtEnd limit bytes old new (Ragged given) =
     AtEnd × (bits : List Bool) × IsBitFile limit bytes bits × (given ≡ length bits)
     × (length bits % 7 ≢ 0)
-ExplainsWords IsText AtEnd limit bytes old new (Write written) =
+ExplainsWordRun IsText AtEnd limit bytes old new (Write written) =
     AtEnd × (text : List ℕ) × (count : ℕ) × IsText text count × WroteSome old new text written
-ExplainsWords IsText AtEnd limit bytes old new fault = ExplainsReading AtEnd limit bytes fault
+ExplainsWordRun IsText AtEnd limit bytes old new fault = ExplainsReading AtEnd limit bytes fault
 
 -- what a run over the words of a file answers of these bytes: its count, with the text written, or
 -- a fault
-abbrev pub AnswersWords : (List ℕ → ℕ → Type 0) → Type 0 → ℕ → List ℕ → Option (List ℕ)
+abbrev pub AnswersWordRun : (List ℕ → ℕ → Type 0) → Type 0 → ℕ → List ℕ → Option (List ℕ)
     → Option (List ℕ)
     → Result ℕ RunFault → Type 0
-AnswersWords IsText AtEnd limit bytes old new (Ok count) =
+AnswersWordRun IsText AtEnd limit bytes old new (Ok count) =
     AtEnd × (text : List ℕ) × IsText text count × Appends old new text
-AnswersWords IsText AtEnd limit bytes old new (Err fault) =
-    ExplainsWords IsText AtEnd limit bytes old new fault
+AnswersWordRun IsText AtEnd limit bytes old new (Err fault) =
+    ExplainsWordRun IsText AtEnd limit bytes old new fault
 
 -- A run over the words of a file: it answers so to the bytes that it read, and to the whole file,
 -- however it came; and it writes nothing before all else succeeded.
-abbrev pub RunsWords : {R W : Type 0} → (List ℕ → List ℕ → ℕ → Type 0) → Devices R W
+abbrev pub IsWordRun : {R W : Type 0} → (List ℕ → List ℕ → ℕ → Type 0) → Devices R W
     → Result ℕ RunFault → Type 0
-RunsWords IsText d outcome =
+IsWordRun IsText d outcome =
     Transfers Read (λ written. Write written) at_the_end d outcome (IsFaultless file_limit)
-    (λ bytes. AnswersWords (IsText bytes) (IsReadOut d) file_limit bytes
+    (λ bytes. AnswersWordRun (IsText bytes) (IsReadOut d) file_limit bytes
     (d.contents d.writer.inner) (d.contents d.writer_after.inner) outcome)
-    (λ bytes. AnswersWords (IsText bytes) (Unit {0}) file_limit bytes
+    (λ bytes. AnswersWordRun (IsText bytes) (Unit {0}) file_limit bytes
     (d.contents d.writer.inner) (d.contents d.writer_after.inner) outcome)
 
 -- a run that decodes: it writes the text of the words, and counts its bytes
 abbrev pub Decodes : {R W : Type 0} → Devices R W → Result ℕ RunFault → Type 0
 Decodes d outcome =
-    RunsWords (λ bytes text count. IsDecoded file_limit bytes text
+    IsWordRun (λ bytes text count. IsDecoded file_limit bytes text
     × (count ≡ length text)) d outcome
 
 -- the lines of the words of a file of elements, and how many words there are
@@ -144,7 +144,7 @@ pub record IsShown (limit : ℕ) (bytes text : List ℕ) (count : ℕ) : Type 0 
 
 -- a run that shows words: it writes their lines, and counts them
 abbrev pub Shows : {R W : Type 0} → Devices R W → Result ℕ RunFault → Type 0
-Shows d outcome = RunsWords (λ bytes text count. IsShown file_limit bytes text count) d outcome
+Shows d outcome = IsWordRun (λ bytes text count. IsShown file_limit bytes text count) d outcome
 
 -- no fault stands in the bytes of a text that is read whole: it isn't too long
 abbrev pub IsWithin : ℕ → List ℕ → Type 0
