@@ -5,8 +5,8 @@ use Rattle.std.proofs.lemmas.Bool.{cases_lt}
 use Rattle.nx_sync.specs.Words.{whole_words, first_role, word_at}
 use Rattle.nx_sync.specs.Locks.{Lock, Now, hunting, locked, IsNow, Past, IsPast, IsPattern}
 use Rattle.nx_sync.specs.Laws.{Extends, same, newer, GoesOn, hunts_on, finds_one, stands_still, found_and_past, is_past}
-use Rattle.nx_sync.proofs.Going.{goes-on, Extends-trans}
-use Rattle.nx_sync.proofs.MoreBits.{release-more}
+use Rattle.nx_sync.proofs.StateChanges.{goes-on, Extends-trans}
+use Rattle.nx_sync.proofs.KeptPast.{release-more}
 use Rattle.nx_envelope.specs.Copies.{ended_copies, open_headers, headers, beginnings, header_at_end}
 use Rattle.nx_envelope.specs.Backward.{header_back}
 use Rattle.nx_receiver.specs.LockText.{PlacedByte, bytes_of, lock_text}

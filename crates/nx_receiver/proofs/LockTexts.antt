@@ -9,7 +9,7 @@ use Rattle.nx_fec.specs.Pairing.{counts_as, pairing, nothing}
 use Rattle.nx_sync.specs.Words.{word_at, first_role, role_of, is_dx}
 use Rattle.nx_sync.specs.Locks.{IsPattern}
 use Rattle.nx_sync.specs.declared.step.Role.{Role}
-use Rattle.nx_sync.proofs.MoreBits.{word_at-more, first_role-more}
+use Rattle.nx_sync.proofs.KeptPast.{word_at-more, first_role-more}
 use Rattle.nx_receiver.specs.LockText.{five_before, taken_at, positions, PlacedByte, printed_after, place_of, printed_by, text_by, lock_text, bytes_of}
 
 -- words that are the same up to a word give the same text up to there

@@ -9,7 +9,7 @@ use Rattle.nx_envelope.specs.MessageView.{MessageView}
 use Rattle.nx_envelope.proofs.Identities.{same_identity-true, same_itself}
 use Rattle.nx_memory.specs.Memory.{seconds_known, most_entries}
 use Rattle.nx_station.specs.Sendings.{Part, Sending}
-use Rattle.nx_sync.proofs.Unique.{locks-unique, now-unique}
+use Rattle.nx_sync.proofs.UniqueStates.{locks-unique, now-unique}
 use Rattle.nx_receiver.specs.Events.{Event, Start, bits_of, first_setting}
 use Rattle.nx_receiver.specs.FoundCopies.{FoundCopy, found_to_end}
 use Rattle.nx_receiver.specs.LawTerms.{AreRepeats, copies_of}

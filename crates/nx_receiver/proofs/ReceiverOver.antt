@@ -2,7 +2,7 @@
 use Rattle.std.proofs.Common.{◌≡◌, ℕ, ◌+◌, Bool, List, [], ◌∷◌, ◌++◌, map, Option, None, sym, ap, ◌∙◌, subst, append-nil}
 use Rattle.nx_sync.specs.Locks.{Lock, hunting}
 use Rattle.nx_sync.specs.Words.{first_role, word_at}
-use Rattle.nx_sync.proofs.Unique.{locks-unique, now-unique}
+use Rattle.nx_sync.proofs.UniqueStates.{locks-unique, now-unique}
 use Rattle.nx_envelope.specs.Copies.{Copy, closed_copy, open_headers}
 use Rattle.nx_envelope.specs.Finder.{HasReady, HoldsCopy, StandsAfter}
 use Rattle.nx_envelope.specs.declared.finder.Finder.{Finder}

@@ -14,7 +14,7 @@ use Rattle.nx_fec.specs.Emission.{bits_of}
 use Rattle.nx_station.specs.Sendings.{Part, received, part_bits, bits_of_parts, IsSound, IsCut, IsReceived, ReceivedEmission, Sending, IsSending}
 use Rattle.nx_sync.specs.Laws.{phasing}
 use Rattle.nx_sync.specs.Locks.{Lock, Now, IsNow, IsLocked}
-use Rattle.nx_sync.proofs.MoreBits.{Finds-more, Past-more, release-more}
+use Rattle.nx_sync.proofs.KeptPast.{Finds-more, Past-more, release-more}
 use Rattle.nx_receiver.specs.FoundCopies.{FoundCopy, ended_so_far, open_so_far, found_to_end}
 use Rattle.nx_receiver.specs.Sending.{HoldsThrough, copies_at, copy_of_sending}
 use Rattle.nx_receiver.proofs.LoggedLemmas.{end_adds}

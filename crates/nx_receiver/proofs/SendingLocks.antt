@@ -16,7 +16,7 @@ use Rattle.nx_sync.specs.Laws.{IsSecondPhasing1, LockedBeforeDx, phasing}
 use Rattle.nx_sync.specs.declared.step.Role.{Role}
 use Rattle.nx_sync.specs.declared.step.Role.TheVariants.{Dx, Rx}
 use Rattle.nx_sync.proofs.Counts.{wrong_in-add, wrong_in-le, wrong_in-none, role_of-even}
-use Rattle.nx_sync.proofs.MoreBits.{first_role-more}
+use Rattle.nx_sync.proofs.KeptPast.{first_role-more}
 use Rattle.nx_sync.proofs.Phasing.{phasing_locks, phasing_heard}
 use Rattle.nx_sync.proofs.Releases.{stands_longer}
 

@@ -17,7 +17,7 @@ use Rattle.nx_station.specs.Broadcast.{AreSpelled, header, printed_text}
 use Rattle.nx_station.specs.Sendable.{IsSendable}
 use Rattle.nx_sync.specs.Locks.{IsNow, locked}
 use Rattle.nx_sync.specs.Words.{first_role, whole_words, word_at}
-use Rattle.nx_sync.proofs.Unique.{locks-unique, now-unique}
+use Rattle.nx_sync.proofs.UniqueStates.{locks-unique, now-unique}
 use Rattle.nx_receiver.specs.Events.{Event, Setting, first_setting, settings}
 use Rattle.nx_receiver.specs.Events.{bits_of as bits_among}
 use Rattle.nx_receiver.specs.FoundCopies.{FoundCopy, all_in, found_copy, found_to_end, past_copies}

@@ -9,8 +9,8 @@ use Rattle.nx_sync.specs.Steps.{Brings, found, word, inside, over, hunts, IsStep
 use Rattle.nx_sync.specs.Words.{word_at, first_role, whole_words}
 use Rattle.nx_sync.specs.declared.step.Role.{Role}
 use Rattle.nx_sync.specs.declared.step.Step.{Step}
-use Rattle.nx_sync.proofs.Going.{one_more}
-use Rattle.nx_sync.proofs.MoreBits.{word_at-more, first_role-more}
+use Rattle.nx_sync.proofs.StateChanges.{one_more}
+use Rattle.nx_sync.proofs.KeptPast.{word_at-more, first_role-more}
 use Rattle.nx_fec.specs.Pairing.{IsLatest}
 use Rattle.nx_code.specs.Reading.{shift_after_all, text}
 use Rattle.nx_code.specs.declared.shifts.Shift.TheVariants.{Letters}

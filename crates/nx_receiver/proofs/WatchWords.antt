@@ -8,8 +8,8 @@ use Rattle.nx_sync.specs.Synchroniser.{StandsAfter}
 use Rattle.nx_sync.specs.Words.{word_at, first_role, role_of, whole_words, heard_word}
 use Rattle.nx_sync.specs.declared.step.Role.{Role}
 use Rattle.nx_sync.specs.declared.step.Step.{Step}
-use Rattle.nx_sync.proofs.Going.{one_more}
-use Rattle.nx_sync.proofs.MoreBits.{Past-within}
+use Rattle.nx_sync.proofs.StateChanges.{one_more}
+use Rattle.nx_sync.proofs.KeptPast.{Past-within}
 use Rattle.nx_envelope.specs.Finder.{is_over}
 use Rattle.nx_receiver.specs.declared.over.CopyTag.{CopyTag}
 use Rattle.nx_receiver.specs.declared.over.Over.{Over}

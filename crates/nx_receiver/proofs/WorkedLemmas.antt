@@ -19,7 +19,7 @@ use Rattle.nx_sync.specs.Locks.{before_dx, last_28, releases_as_ended, change_at
 use Rattle.nx_sync.specs.declared.step.Role.TheVariants.{Dx, Rx}
 use Rattle.nx_sync.specs.declared.step.Change.TheVariants.{Ended, LostLock}
 use Rattle.nx_sync.proofs.Counts.{wrong_in-add}
-use Rattle.nx_sync.proofs.MoreBits.{change_at-same}
+use Rattle.nx_sync.proofs.KeptPast.{change_at-same}
 use Rattle.nx_receiver.specs.LockText.{taken_at, positions, lock_text, bytes_of}
 use Rattle.nx_receiver.specs.Worked.{sent_words, damaged_words}
 use Rattle.nx_receiver.proofs.LockTexts.{positions-same, bytes_are_reading}

@@ -1,14 +1,14 @@
 pub mod Lists
 pub mod Numbers
-pub mod MoreBits
+pub mod KeptPast
 pub mod OneBit
 pub mod Patterns
 pub mod Hearing
 pub mod Lanes
 pub mod Marks
-pub mod Unique
+pub mod UniqueStates
 pub mod Pushes
-pub mod Going
+pub mod StateChanges
 pub mod Releases
 pub mod Phasing
 pub mod Counts

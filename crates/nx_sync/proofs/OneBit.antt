@@ -4,7 +4,7 @@ use Rattle.std.proofs.lemmas.List.{length_push}
 use Rattle.std.proofs.lemmas.Bool.{cases_lt}
 use Rattle.nx_sync.specs.declared.step.Change.{Change}
 use Rattle.nx_sync.specs.Locks.{IsPattern, release, Lock, Past, IsHunting, IsLocked}
-use Rattle.nx_sync.proofs.MoreBits.{release-more, IsPattern-less, Finds-more, Past-more, Past-within}
+use Rattle.nx_sync.proofs.KeptPast.{release-more, IsPattern-less, Finds-more, Past-more, Past-within}
 
 module _ (bits : List Bool) (b : Bool) where
   -- hunting goes on where no pattern ends with the bit

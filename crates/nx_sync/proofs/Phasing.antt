@@ -14,7 +14,7 @@ use Rattle.nx_sync.specs.Laws.{phasing, IsSecondPhasing1, LockedBeforeDx}
 use Rattle.nx_sync.proofs.Counts.{wrong_in-add, wrong_in-all, wrong_in-none, wrong_in-le, role_of-even}
 use Rattle.nx_sync.proofs.Patterns.{last_word-window}
 use Rattle.nx_sync.proofs.Releases.{IsSecondPhasing1-from, IsSecondPhasing1-to, at_none, ByTests, by_end, by_loss, by_tests}
-use Rattle.nx_sync.proofs.Going.{standing_after}
+use Rattle.nx_sync.proofs.StateChanges.{standing_after}
 
 -- the word that begins at place i of n phasing pairs
 pub phase : ℕ → ℕ → ℕ

@@ -11,7 +11,7 @@ use Rattle.nx_sync.specs.Words.{other_role, is_wrong, word_at, first_role, role_
 use Rattle.nx_sync.specs.Locks.{before_dx, before_rx, IsPattern, Finds, release, Lock, IsHunting, IsLocked}
 use Rattle.nx_sync.specs.Laws.{phasing, IsSecondPhasing1, IsOnPhasing, IsBetweenLimits, IsReleasedBy}
 use Rattle.nx_sync.proofs.Counts.{wrong_in-add, wrong_in-all, wrong_in-none, role_of-even}
-use Rattle.nx_sync.proofs.MoreBits.{wrong_in-same, IsPattern-less, word_at-more, Past-within}
+use Rattle.nx_sync.proofs.KeptPast.{wrong_in-same, IsPattern-less, word_at-more, Past-within}
 use Rattle.nx_sync.proofs.Releases.{least_true, none, some, IsSecondPhasing1-to, at_none, stands_longer}
 use Rattle.nx_sync.proofs.Phasing.{phase_at, length-phasing, limit-true, limit-zero, role_of-three_on, word_in, phasing_heard, inside_aligned}
 

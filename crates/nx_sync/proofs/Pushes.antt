@@ -20,11 +20,11 @@ use Rattle.nx_sync.specs.PrivateWindows.{next_window, role_after}
 use Rattle.nx_sync.specs.PrivateCalls.{heard_one, track_from, track_after, BeginsLock, Fills, Completes}
 use Rattle.nx_sync.proofs.Lists.{padded-push, length-padded}
 use Rattle.nx_sync.proofs.Numbers.{number_of-next}
-use Rattle.nx_sync.proofs.MoreBits.{word_at-more, first_role-more, Past-within}
+use Rattle.nx_sync.proofs.KeptPast.{word_at-more, first_role-more, Past-within}
 use Rattle.nx_sync.proofs.OneBit.{hunts_on, locks_now, stands_on, ends_now}
 use Rattle.nx_sync.proofs.Patterns.{length-last_28, IsNeither, Which, dx, rx, neither, which, first_role-dx, first_role-rx, window-heard, word-heard}
 use Rattle.nx_sync.proofs.Marks.{wrong_marks-same, p1_marks-same, p1_number-next, p1_number-none, wrong_marks-next, change_of-change_at}
-use Rattle.nx_sync.proofs.Unique.{now-unique}
+use Rattle.nx_sync.proofs.UniqueStates.{now-unique}
 
 -- whether a track is there says whether a lock stands
 track_iff : (bits : List Bool) (locks : List Lock) (now : Now) (wrong : List Bool) (track : Option Track) → IsNow bits locks now → Tracks bits now wrong track → (is_some track ≡ true → LockStands bits) × (LockStands bits → is_some track ≡ true)

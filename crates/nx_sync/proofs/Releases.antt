@@ -9,7 +9,7 @@ use Rattle.nx_code.specs.Phasing.{phasing_1}
 use Rattle.nx_sync.specs.Words.{losing_count, other_role, is_dx, role_of, wrong_in, wrong_until, word_at, first_role}
 use Rattle.nx_sync.specs.Locks.{releases_as_ended, change_at, Finds, Lock, Past, IsLocked}
 use Rattle.nx_sync.specs.Laws.{IsSecondPhasing1, EndedAt, LostAt, IsEarlier, ended, lost}
-use Rattle.nx_sync.proofs.MoreBits.{release-more, Finds-more, Past-more}
+use Rattle.nx_sync.proofs.KeptPast.{release-more, Finds-more, Past-more}
 
 -- the least number that passes a test, if one below n does
 pub data Least (f : ℕ → Bool) (n : ℕ) : Type 0 where

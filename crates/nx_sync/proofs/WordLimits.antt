@@ -5,7 +5,7 @@ use Rattle.nx_sync.specs.declared.track.Track.{Track}
 use Rattle.nx_sync.specs.Locks.{Lock, Now, hunting, locked, IsNow}
 use Rattle.nx_sync.specs.Steps.{LimitStands}
 use Rattle.nx_sync.specs.Synchroniser.{Held, is_at_limit, Tracks, StandsAfter}
-use Rattle.nx_sync.proofs.Unique.{now-unique}
+use Rattle.nx_sync.proofs.UniqueStates.{now-unique}
 
 limit_iff : (bits : List Bool) (locks : List Lock) (now : Now) (wrong : List Bool) (track : Option Track) → IsNow bits locks now → Tracks bits now wrong track → (is_at_limit track ≡ true → LimitStands bits) × (LimitStands bits → is_at_limit track ≡ true)
 limit_iff bits locks (hunting p) wrong track n t = (

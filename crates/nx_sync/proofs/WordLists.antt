@@ -6,8 +6,8 @@ use Rattle.nx_sync.specs.declared.step.Step.{Step}
 use Rattle.nx_sync.specs.Words.{role_of, heard_word, lock_words, whole_words, words_heard}
 use Rattle.nx_sync.specs.Locks.{Finds, release, Lock, Past, Now, hunting, locked, IsHunting, IsLocked, words_of_past}
 use Rattle.nx_sync.specs.Steps.{step, Brings, found, word, inside, over, hunts, IsStep, word_of_step}
-use Rattle.nx_sync.proofs.MoreBits.{word_at-more, first_role-more, release-more}
-use Rattle.nx_sync.proofs.Unique.{locks-unique, now-unique}
+use Rattle.nx_sync.proofs.KeptPast.{word_at-more, first_role-more, release-more}
+use Rattle.nx_sync.proofs.UniqueStates.{locks-unique, now-unique}
 
 -- one more word
 pub words_of-next : (bits : List Bool) (t k : ℕ) → lock_words bits t (k + 1) ≡ lock_words bits t k ++ heard_word bits t k ∷ []

@@ -1,4 +1,4 @@
-use Rattle.nx_sync.proofs.MoreBits.{Past-more, Finds-more, IsReleased-more, word_at-more, first_role-more, release-more}
+use Rattle.nx_sync.proofs.KeptPast.{Past-more, Finds-more, IsReleased-more, word_at-more, first_role-more, release-more}
 use Rattle.nx_sync.proofs.laws.more_bits_keep_the_past.Goals as goal
 
 pub returns : goal.returns
