@@ -17,7 +17,7 @@ use Rattle.nx_station.specs.declared.fault.SendRunFault.TheVariants as send
 use Rattle.nx_cli.specs.declared.words.Call.{Call}
 use Rattle.nx_fec.specs.declared.fault.RunFault.{RunFault}
 use Rattle.nx_fec.specs.declared.fault.RunFault.TheVariants as run
-use Rattle.nx_cli.specs.Program.{Ends, Exits, Performs, Succeeds, Tells, fresh_device}
+use Rattle.nx_cli.specs.Program.{EndsRun, Exits, Performs, Succeeds, Tells, fresh_device}
 use Rattle.nx_cli.specs.Status.{IsStatus, call_status, check_status, damage_status, listen_status, fault_status, run_status, send_status, status_of}
 use Rattle.nx_fec.specs.Transfers.{Devices, devices}
 use Rattle.nx_fec.specs.Devices.{CountedDevice}
@@ -119,7 +119,7 @@ status-exits words d status exits =
     let P : ℕ → Type 0 = λ n. IsStatus n in subst P (sym exits.status_is) (outcome-status exits.outcome)
 
 success-ends : {R W : Type 0} (words : List Text) (d : Devices R W) (outcome : Result (Unit {0}) Fault)
-    → Ends words d outcome → status_of outcome ≡ 0 → Succeeds words d
+    → EndsRun words d outcome → status_of outcome ≡ 0 → Succeeds words d
 success-ends words d (Ok done) ends zero = ends
 success-ends words d (Err why) ends zero = elim (fault-status why) [
   | inl one ↦ absurd (omega arith)
@@ -132,7 +132,7 @@ pub success-exits : {R W : Type 0} (words : List Text) (d : Devices R W) (status
 success-exits words d status exits zero = success-ends words d exits.outcome exits.ends (sym exits.status_is ∙ zero)
 
 words-end : {R W : Type 0} (words : List Text) (d : Devices R W) (outcome : Result (Unit {0}) Fault)
-    → Ends words d outcome → status_of outcome ≡ 64 → IsRefused words
+    → EndsRun words d outcome → status_of outcome ≡ 64 → IsRefused words
 words-end words d (Ok done) ends is = absurd (omega arith)
 words-end words d (Err (fault.Words answer)) ends is = inl ends.0
 words-end words d (Err fault.NoText) ends is = absurd ends
@@ -150,7 +150,7 @@ pub words-exit : {R W : Type 0} (words : List Text) (d : Devices R W) (status : 
 words-exit words d status exits is = words-end words d exits.outcome exits.ends (sym exits.status_is ∙ is)
 
 refused-ends : {R W : Type 0} (words : List Text) (d : Devices R W) (outcome : Result (Unit {0}) Fault)
-    → Ends words d outcome → IsRefused words → (status_of outcome ≡ 64) ⊎ (status_of outcome ≡ 1)
+    → EndsRun words d outcome → IsRefused words → (status_of outcome ≡ 64) ⊎ (status_of outcome ≡ 1)
 refused-ends words d (Ok done) ends refused = elim ends [
   | inl runs ↦ absurd (named_not_refused words runs.call runs.named refused)
   | inr help ↦ absurd (help_not_refused words help.asked refused)

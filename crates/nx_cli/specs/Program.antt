@@ -13,7 +13,7 @@ use Rattle.nx_receiver.specs.Listen.{Listens}
 use Rattle.nx_station.specs.Checking.{Checks}
 use Rattle.nx_station.specs.Damage.{Damages}
 use Rattle.nx_station.specs.FileSending.{Sends}
-use Rattle.nx_fec.specs.Transfers.{Devices, devices}
+use Rattle.nx_fec.specs.Transfers.{Devices}
 use Rattle.nx_fec.specs.declared.fault.RunFault.{RunFault}
 use Rattle.nx_fec.specs.declared.fault.RunFault.TheVariants as run
 use Rattle.nx_station.specs.Slots.{HasNoSlot, IsNextSlot}
@@ -125,21 +125,21 @@ pub record LacksMemory {R W : Type 0} (d : Devices R W) (why : CallFault) : Type
   pub memory : why ≡ call.Run (run.Memory alloc_error)
 
 -- how the program ends
-abbrev pub Ends : {R W : Type 0} → List Text → Devices R W → Result (Unit {0}) Fault → Type 0
-Ends words d (Ok done) = RunsCall words d (Ok done) ⊎ GivesHelp words d (Ok done)
-Ends words d (Err (fault.Words answer)) = IsRefusedByClap words × IsUntouched d
-Ends words d (Err fault.NoText) = ⊥
-Ends words d (Err fault.Station) = LacksStation words × IsUntouched d
-Ends words d (Err fault.Kind) = LacksKind words × IsUntouched d
-Ends words d (Err (fault.Call why)) =
+abbrev pub EndsRun : {R W : Type 0} → List Text → Devices R W → Result (Unit {0}) Fault → Type 0
+EndsRun words d (Ok done) = RunsCall words d (Ok done) ⊎ GivesHelp words d (Ok done)
+EndsRun words d (Err (fault.Words answer)) = IsRefusedByClap words × IsUntouched d
+EndsRun words d (Err fault.NoText) = ⊥
+EndsRun words d (Err fault.Station) = LacksStation words × IsUntouched d
+EndsRun words d (Err fault.Kind) = LacksKind words × IsUntouched d
+EndsRun words d (Err (fault.Call why)) =
     RunsCall words d (Err why) ⊎ (GivesHelp words d (Err why) ⊎ LacksMemory d why)
 
 -- the program ends so on these devices, with this status
 pub record Exits {R W : Type 0} (words : List Text) (d : Devices R W) (status : ℕ) : Type 0 where
   pub outcome : Result (Unit {0}) Fault
-  pub ends : Ends words d outcome
+  pub ends : EndsRun words d outcome
   pub status_is : status ≡ status_of outcome
 
 -- the call that the words name succeeded, or they ask for help, which was written
 abbrev pub Succeeds : {R W : Type 0} → List Text → Devices R W → Type 0
-Succeeds words d = Ends words d (Ok tt)
+Succeeds words d = EndsRun words d (Ok tt)

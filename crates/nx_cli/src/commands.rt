@@ -142,14 +142,15 @@ by a line feed, are:
   B 0110011     elements in the order of sending, 1 to 512 of them: 1 is B, 0 is Y
   T 1735692000  the moment from here on, in seconds since 1970-01-01 00:00:00 UTC; the first B
                 comes after a T, and no T is before the last one
-  RS E          refuse station E from here on; AS E accepts it again
+  RS E          refuse station E from here on, for all its subjects; AS E accepts it again
   RJ C          refuse subject C from here on, which A, B, D and L can't be; AJ C accepts it again
 
 Writes an entry to standard output for each copy of a message that is printed, as soon as the line
 with its last element has come: a head, the text, and an empty line. The head has the identity, the
 time of the copy, how it ended (full, cut or long), its errors, which are asterisks in the text, and
 its characters. A message that was printed full, with less than 4 per cent of errors, is not printed
-again within 66 hours, unless 200 others came in between; one numbered 00 is printed each time.
+again within 66 hours, unless 200 others came in between; one numbered 00 is printed each time that
+it is selected.
 
 Example: of message 01 of subject A of station E the first sending of each letter is damaged, and it
 is printed whole:
@@ -179,7 +180,7 @@ fn slot_command<'a>(alloc: Global, word: &'a str) -> Result<Command<'a>, AllocEr
     let moment = Arg::new(alloc, "MOMENT")
         .required(true)
         .value_parser(ValueParser::unsigned(0, LAST_MOMENT))
-        .help("The moment, in whole seconds since 1970-01-01 00:00:00 UTC");
+        .help("The moment, in whole seconds since 1970-01-01 00:00:00 UTC, 0 to 32503679999");
     Command::new(alloc, word).arg(station)?.arg(moment)
 }
 
@@ -262,8 +263,16 @@ fn damage_command<'a>(alloc: Global) -> Result<Command<'a>, AllocError>
     let kind = Arg::new(alloc, "KIND")
         .required(true)
         .help("The words that are meant: dx, rx or all");
-    let from = number_argument(alloc, "FROM", "The first word of the range, from 0");
-    let count = number_argument(alloc, "COUNT", "How many words the range has");
+    let from = number_argument(
+        alloc,
+        "FROM",
+        "The first word of the range, 0 to 4294967295",
+    );
+    let count = number_argument(
+        alloc,
+        "COUNT",
+        "How many words the range has, 0 to 4294967295",
+    );
     Command::new(alloc, "damage")
         .about("Copy an air file with some of its words damaged")
         .long_about(DAMAGE_HELP)

@@ -2,7 +2,7 @@
 
 ghost use Rattle.std.specs.IoError.{error_kind};
 ghost use Rattle.std.specs.Prelude.{◌≡◌, ◌≢◌, ◌⊎◌, IfSome, map};
-ghost use Rattle.nx_cli.specs.Program.{Ends, Exits, Performs, Succeeds, WritesText, fresh_device};
+ghost use Rattle.nx_cli.specs.Program.{EndsRun, Exits, Performs, Succeeds, WritesText, fresh_device};
 ghost use Rattle.nx_cli.specs.Status.{IsStatus};
 ghost use Rattle.nx_cli.specs.Words.{IsRefused, Names};
 ghost use Rattle.nx_fec.specs.Devices.{CountedDevice};
@@ -99,7 +99,7 @@ fn obey<S: AsStr, R: Read, W: Write>(
 ) -> Result<(), Fault>
     requires reader { reader.old.failures ≡ 0 }
     requires writer { writer.old.failures ≡ 0 }
-    ensures { Ends (map S.text words.now)
+    ensures { EndsRun (map S.text words.now)
         (devices R.remaining W.contents reader.old reader.new writer.old writer.new)
         result }
 {

@@ -78,7 +78,9 @@ pub enum WordsFault {
     Memory(AllocError),
 }
 
-/// The call that the words name, of which the first is the program's name.
+/// The call that the words name, of which the first is the program's name. `Help` where they ask for
+/// help, `Refused` where clap doesn't understand them, `Station` and `Kind` where that argument is
+/// none, and `Memory` where it ran out.
 pub fn call_of<S: AsStr>(alloc: Global, words: &[S]) -> Result<Call, WordsFault>
     ensures named { IfOk result (Names (map S.text words.now)) }
     ensures refused { IfErr result (ExplainsWords (map S.text words.now)) }

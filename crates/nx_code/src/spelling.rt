@@ -145,7 +145,7 @@ pub fn extent_of(text: &[u8], from: Shift) -> Option<Extent>
 
 /// The spelling of a text from a shift: the one list of combinations that is read as the text and
 /// has no needless shift (M.476, M.540). A byte that is not in the code is refused before any
-/// memory is taken.
+/// memory is taken, the first by its place (`NoSuchCharacter`); `Memory` where it ran out.
 pub fn spell(alloc: Global, text: &[u8], from: Shift) -> Result<Vec<Comb>, SpellFault>
     ensures spelling { IfOk result (λ combs.
         Spells text.now from (map (λ comb. comb.number) combs.items)) }

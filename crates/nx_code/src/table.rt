@@ -137,7 +137,7 @@ pub(crate) fn row_at(place: usize) -> Row
 /// The signal at a place of the table, from 0: the combinations 1 to 32, idle signal alpha, idle
 /// signal beta and signal repetition.
 pub fn signal_at(at: usize) -> Signal
-    requires { at < SIGNALS }
+    requires { at < 35 }
     ensures { place result ≡ at }
 {
     match at {

@@ -54,7 +54,7 @@ fn civil_time(moment: u64) -> Option<CivilTime>
 }
 
 /// The text of a civil time, `YYYY-MM-DD HH:MM:SS`.
-fn text_of(time: CivilTime) -> [u8; CIVIL_LEN]
+fn civil_bytes(time: CivilTime) -> [u8; CIVIL_LEN]
     requires { IsCivilTime time }
     ensures { result ≡ civil_text time }
 {
@@ -77,5 +77,5 @@ pub fn civil(moment: u64) -> Option<[u8; CIVIL_LEN]>
     ensures shown { IfSome result (IsShownAs moment) }
 {
     let time = civil_time(moment)?;
-    Some(text_of(time))
+    Some(civil_bytes(time))
 }

@@ -25,7 +25,7 @@ use Rattle.nx_fec.specs.declared.fault.ReadFault.TheVariants as read
 use Rattle.nx_fec.specs.declared.fault.RunFault.{RunFault}
 use Rattle.nx_fec.specs.declared.fault.RunFault.TheVariants.{Read, FileTooLong, LineLong, LineCut, BadLine, Ragged, NoSuchCharacter, Write, Memory}
 
--- the most bytes of a file that is read whole: 2 ^ 20
+-- the most bytes of a file, but for the air files that are read line by line: 2 ^ 20
 abbrev pub file_limit : ℕ
 file_limit = 1048576
 
@@ -53,8 +53,8 @@ spell_fault (spelling.NoSuchCharacter at) = NoSuchCharacter at
 spell_fault (spelling.Memory error) = Memory error
 
 -- What a fault of reading elements says of the bytes that were read: a fault of the file is theirs,
--- and at the end of the file `AtEnd` holds. A want of memory says nothing of them, nor does a failed
--- read, of which `Reads` says what stands before it. There are no other faults.
+-- and at the end of the file `AtEnd` holds. A want of memory says nothing of them, nor does a
+-- failed read, of which `Reads` says what stands before it. There are no other faults.
 abbrev pub ExplainsReading : Type 0 → ℕ → List ℕ → RunFault → Type 0
 ExplainsReading AtEnd limit bytes Read = ⊤
 ExplainsReading AtEnd limit bytes (Memory error) = ⊤

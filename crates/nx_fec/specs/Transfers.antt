@@ -21,8 +21,8 @@ IsNextPiece remaining old new buffer (Bytes count) =
 
 -- What a run says of its reader. It read these bytes, and `known` holds of them, whatever the
 -- reader tells of its bytes. Where they are known, `whole` holds of all that was left, however it
--- came. The outcome is the fault `read` only where no fault stands in the bytes before the read that
--- failed: `faultless` holds of them. The count of failures rose, by one, exactly then.
+-- came. The outcome is the fault `read` only where no fault stands in the bytes before the read
+-- that failed: `faultless` holds of them. The count of failures rose, by one, exactly then.
 pub record Reads {R N F : Type 0} (remaining : R → Option (List ℕ)) (old new : CountedDevice R)
     (read : F) (outcome : Result N F)
     (faultless known whole : List ℕ → Type 0) : Type 0 where
@@ -93,8 +93,8 @@ IsUnwritten at_the_end write d outcome =
 IsUnwritten on_the_way write d outcome = ⊤
 
 -- What a run from a reader to a writer says of both. Its faults for a failed read and a failed
--- write are `read` and `write`; `known` holds of the bytes that it read, `faultless` of those before
--- a failed read, and `whole` of all the input, where that is known.
+-- write are `read` and `write`; `known` holds of the bytes that it read, `faultless` of those
+-- before a failed read, and `whole` of all the input, where that is known.
 pub record Transfers {R W N F : Type 0} (read : F) (write : ℕ → F) (writing : Writing)
     (d : Devices R W) (outcome : Result N F)
     (faultless known whole : List ℕ → Type 0) : Type 0 where

@@ -50,7 +50,7 @@ impl Batch {
     }
 
     /// Gives bytes to be written. Where there is no room for them, those that wait are written, and so are they
-    /// themselves where they are more than may wait.
+    /// themselves where they are more than may wait. Where a write failed, the fault says how many bytes were written.
     pub fn give<W: Write>(
         &mut self,
         writer: &mut Counting<W>,

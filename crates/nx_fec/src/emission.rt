@@ -7,7 +7,7 @@ use crate::positions::{Position, word_at};
 use std::alloc::{AllocError, Global};
 
 /// The elements of the emission of these positions, slot by slot, each in the order of sending; true is B (ITU-R
-/// M.625, mode B).
+/// M.625, mode B). Fails where memory ran out.
 pub fn to_bits(alloc: Global, positions: &[Position]) -> Result<Vec<bool>, AllocError>
     ensures { IfOk result
         (λ bits. bits.items ≡ bits_of (emission (map sent_position positions.now))) }

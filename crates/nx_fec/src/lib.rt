@@ -1,5 +1,5 @@
 //! Forward error correction of collective mode B: each position is sent in two words, and received from both; and the
-//! bit files that carry an emission.
+//! air files that carry an emission.
 #![tactic(auto)]
 
 mod air_file;

@@ -7,16 +7,13 @@ ghost use Rattle.nx_fec.specs.Transfers.{Writes, devices};
 
 use crate::batch::Batch;
 use crate::counting::Counting;
-use crate::fault::{LineFault, WriteFault};
-use crate::pieces::{Piece, next_piece};
+use crate::fault::LineFault;
+use crate::pieces::{CHUNK, Piece, next_piece};
 use crate::scanner::Scanner;
 use std::io::{Read, Write};
 
 /// The most bytes of an air file.
 const AIR_LIMIT: u64 = 268_435_456;
-
-/// How many bytes one read asks for.
-const CHUNK: usize = 65_536;
 
 /// Takes the lines of an air file one after the other, and gives bytes to write for them.
 pub trait LineTaker: Drop {

@@ -5,6 +5,9 @@ ghost use Rattle.nx_fec.specs.Transfers.{IsNextPiece, ReadsToEnd};
 use crate::counting::Counting;
 use std::io::Read;
 
+/// How many bytes one read asks for.
+pub(crate) const CHUNK: usize = 65_536;
+
 /// What one read gave.
 #[derive(Clone, Copy, Debug, PartialEq, Eq)]
 pub enum Piece {

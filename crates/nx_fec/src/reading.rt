@@ -1,4 +1,4 @@
-//! Reading the elements of an air file from a reader.
+//! Reading the elements of an air file, or a text whole, from a reader.
 ghost use Rattle.std.specs.Prelude.{◌≡◌, ◌+◌, ◌<◌, ◌≤◌, ℕ, List, ◌++◌, take, length, IfSome, IfOk, OnOk, IsErrOf, IsErrAnd, MatchResult, ◌⊎◌, Bool, vec_len};
 ghost use Rattle.nx_fec.specs.Lines.{IsBitFile, HasFault};
 ghost use Rattle.nx_fec.specs.declared.fault.LineFault.{LineFault};
@@ -6,20 +6,18 @@ ghost use Rattle.nx_fec.specs.Runs.{ExplainsReading, HasRead, IsOutside, ReadsEl
 
 use crate::counting::Counting;
 use crate::fault::{ReadFault, RunFault};
-use crate::pieces::{PieceTaker, read_pieces};
+use crate::pieces::{CHUNK, PieceTaker, read_pieces};
 use crate::scanner::Scanner;
 use std::alloc::{AllocError, Global};
 use std::io::Read;
 
-/// The most bytes of a file that is read whole.
+/// The most bytes of a text, and of an air file that is read to its end before it is used.
 const FILE_LIMIT: u64 = 1_048_576;
-
-/// How many bytes one read asks for.
-const CHUNK: usize = 65_536;
 
 /// Reads an air file to its end, and joins the elements of all its lines. The other lines are checked and skipped.
 ///
-/// The fault is the first in the order of the bytes. Memory may run out at any growth.
+/// The fault is the first in the order of the bytes: `LineLong`, `LineCut` or `BadLine`, or `FileTooLong` where there
+/// is a byte past 1,048,576; `Read` where a read failed before any of them; and `Memory` where it ran out.
 pub fn read_bits<R: Read>(alloc: Global, reader: &mut Counting<R>) -> Result<Vec<bool>, RunFault>
     requires { reader.old.failures ≡ 0 }
 

@@ -110,8 +110,9 @@ impl Scanner {
     }
 
     /// Takes the bytes of a piece up to and with its first line feed, or all where there is none, and says how many.
-    /// The line that was ended, if one was, is then the latest. After a fault, which is the file's first whatever bytes
-    /// follow, the bytes before it were taken.
+    /// The line that was ended, if one was, is then the latest. `LineLong` at the 515th byte
+    /// of a line, `BadLine` at the end of one that is none of an air file's, `TooLong` at a byte past the limit. After a
+    /// fault, which is the file's first whatever bytes follow, the bytes before it were taken.
     // Inlined always, with its parts: it runs for each line, from two callers, and no large answer goes through memory.
     #[inline(always)]
     pub fn push_line(&mut self, piece: &[u8]) -> Result<usize, LineFault>

@@ -1,4 +1,4 @@
-//! Writing the elements of an air file to a writer.
+//! Writing bytes, and the elements of an air file, to a writer.
 ghost use Rattle.std.specs.Prelude.{◌≡◌, ◌+◌, ◌≤◌, ◌↔◌, ℕ, List, ◌++◌, length, Option, IfErr, OnOk, IsErr, MatchResult};
 ghost use Rattle.std.specs.Io.KnownBytes.{Appends};
 ghost use Rattle.arrayvec.specs.ArrayVec.{array_vec_len};
@@ -21,7 +21,8 @@ const LINE_BYTES: usize = LINE_ELEMENTS + 3;
 /// How many bytes are gathered for one write, which is 64 lines.
 const BATCH_BYTES: usize = 64 * LINE_BYTES;
 
-/// Writes all these bytes, by as many calls as the writer needs. It stops at the first write that fails.
+/// Writes all these bytes, by as many calls as the writer needs. It stops at the first write that fails,
+/// and its fault says how many of the bytes were written.
 pub fn write_out<W: Write>(writer: &mut Counting<W>, bytes: &[u8]) -> Result<(), WriteFault>
     requires { writer.old.failures ≡ 0 }
     ensures ok { OnOk result

@@ -32,7 +32,7 @@ pub trait Recall: Drop {
 
     /// Enters the identity with the moment, which isn't before the newest; where there are 200
     /// entries already the oldest is forgotten. What is known isn't entered again, and the number
-    /// 00 never is, since a message so numbered is always printed (ITU-R M.540).
+    /// 00 never is, since a message so numbered that is selected is always printed (ITU-R M.540).
     fn enter(&mut self, identity: Identity, moment: u64)
         requires not_before { newest_moment (content self.old) ≤ moment }
         requires unknown { is_known identity moment (content self.old) ≡ false }

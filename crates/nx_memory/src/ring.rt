@@ -39,7 +39,7 @@ impl Model for RingRecall {
 }
 
 impl RingRecall {
-    /// A memory with no entry. Its calls take no memory from then on.
+    /// A memory with no entry. Its calls take no memory from then on. Fails where memory ran out.
     pub fn new(alloc: Global) -> Result<Self, AllocError>
         ensures { IfOk result (λ memory. memory.content ≡ []) }
     {

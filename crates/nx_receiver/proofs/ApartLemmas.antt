@@ -3,7 +3,7 @@ use Rattle.std.proofs.Common.{◌≡◌, ℕ, ◌+◌, ◌-◌, ◌*◌, ◌<◌
 use Rattle.std.proofs.lemmas.List.{drop-take, drop-drop, take-take}
 use Rattle.nx_code.specs.Word.{number_of}
 use Rattle.nx_code.specs.Phasing.{phasing_1}
-use Rattle.nx_sync.specs.Words.{word_at, first_role}
+use Rattle.nx_sync.specs.Words.{word_of_lock, first_role}
 use Rattle.nx_sync.specs.Locks.{Lock, IsLocked, Past}
 use Rattle.nx_sync.specs.declared.step.Role.TheVariants.{Dx, Rx}
 use Rattle.nx_receiver.specs.LockText.{lock_text, text_by}
@@ -24,11 +24,11 @@ same_part bits others i m k j e h at =
 
 -- the text of a lock is made of its own bits alone
 pub own_text : (bits others : List Bool) (t n : ℕ) → 7 ≤ t → own_bits bits t n ≡ own_bits others t n → lock_text bits t n ≡ lock_text others t n
-unfolding word_at first_role
+unfolding word_of_lock first_role
 own_text bits others t n h e =
     let role : first_role bits t ≡ first_role others t = ap (λ w. cond (number_of w == phasing_1) Dx Rx) (same_part bits others (t - 7) (7 * n + 7) 0 (t - 7) e (omega arith) (omega arith)) in
-    ap (λ first. text_by first (word_at bits t) t n) role
-    ∙ text_by-same (first_role others t) (word_at bits t) (word_at others t) t n (λ k lt. ap number_of (same_part bits others (t - 7) (7 * n + 7) (7 + 7 * k) (t + 7 * k) e (omega arith) (omega arith)))
+    ap (λ first. text_by first (word_of_lock bits t) t n) role
+    ∙ text_by-same (first_role others t) (word_of_lock bits t) (word_of_lock others t) t n (λ k lt. ap number_of (same_part bits others (t - 7) (7 * n + 7) (7 + 7 * k) (t + 7 * k) e (omega arith) (omega arith)))
 
 -- a lock's last word is over before the next lock begins
 pub apart : (bits : List Bool) (newer older : Lock) (locks : List Lock) (p : ℕ) → Past bits (newer ∷ older ∷ locks) p → older.at + 7 * (older.last + 1) < newer.at

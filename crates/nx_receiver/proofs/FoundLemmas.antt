@@ -12,7 +12,7 @@ use Rattle.nx_envelope.specs.Laws.{Grows}
 use Rattle.nx_envelope.proofs.Anywhere.{anywhere_both}
 use Rattle.nx_envelope.proofs.OneOpenCopy.{grown, copies_parts, one_at_most}
 use Rattle.nx_sync.specs.declared.step.Role.{Role}
-use Rattle.nx_receiver.specs.LockText.{PlacedByte, place_of, printed_by, text_by, bytes_of}
+use Rattle.nx_receiver.specs.LockText.{PlacedByte, word_place, printed_by, text_by, bytes_of}
 use Rattle.nx_receiver.specs.FoundCopies.{FoundCopy, place_in, place_of_header, found_copy, ended_in, open_in, all_in}
 use Rattle.nx_receiver.proofs.LockTexts.{GoesOnAs, bytes_of-append}
 
@@ -37,7 +37,7 @@ text_placed first f t zero = All-nil (IsByteIn t (t + 7 * 0))
 text_placed first f t (suc n) =
     All-append (IsByteIn t (t + 7 * suc n)) (text_by first f t n) _
     (All-weaker (IsByteIn t (t + 7 * n)) (IsByteIn t (t + 7 * suc n)) (λ b h. (h.0, omega arith)) (text_by first f t n) (text_placed first f t n))
-    (all_at (place_of t n) t (t + 7 * suc n) (omega arith) (omega arith) _)
+    (all_at (word_place t n) t (t + 7 * suc n) (omega arith) (omega arith) _)
 
 -- a header stands behind its letters
 abbrev pub IsHeaderIn : List ℕ → Header → Type 0

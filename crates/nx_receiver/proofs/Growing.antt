@@ -2,7 +2,7 @@
 use Rattle.std.proofs.Common.{◌≡◌, ℕ, ◌+◌, ◌*◌, ◌≤◌, Bool, List, [], ◌∷◌, ◌++◌, length, refl, sym, ap, ◌∙◌, subst, arith, Some, None, inl, inr, append-nil}
 use Rattle.std.proofs.lemmas.List.{length-append}
 use Rattle.std.proofs.lemmas.Bool.{cases_lt}
-use Rattle.nx_sync.specs.Words.{whole_words, first_role, word_at}
+use Rattle.nx_sync.specs.Words.{whole_words, first_role, word_of_lock}
 use Rattle.nx_sync.specs.Locks.{Lock, Now, hunting, locked, IsNow, Past, IsPast, IsPattern}
 use Rattle.nx_sync.specs.Laws.{Extends, same, newer, GoesOn, hunts_on, finds_one, stands_still, found_and_past, is_past}
 use Rattle.nx_sync.proofs.StateChanges.{goes-on, Extends-trans}
@@ -42,7 +42,7 @@ standing_more : (bits more : List Bool) (t n : ℕ) → IsPattern bits t → who
 standing_more bits more t n here h =
     let w = whole_words bits t in
     let kept = lock_text-more bits more t w here (whole_heard bits t here.heard) in
-    let grows = text_by-grows (first_role (bits ++ more) t) (word_at (bits ++ more) t) t w n h in
+    let grows = text_by-grows (first_role (bits ++ more) t) (word_of_lock (bits ++ more) t) t w n h in
     subst (λ (x : List PlacedByte). GoesOnAs (ended_in x) (ended_in (lock_text (bits ++ more) t n))) kept (ended_in-grows (lock_text (bits ++ more) t w) (lock_text (bits ++ more) t n) grows)
 
 -- a lock that stood, and is past after more bits, had no more words than it has in all

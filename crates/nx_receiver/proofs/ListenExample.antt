@@ -15,14 +15,13 @@ use Rattle.nx_station.specs.ChannelExample.{example_message, example_parts, exam
 use Rattle.nx_station.specs.Sendings.{IsCut, Sending}
 use Rattle.nx_station.proofs.ChannelExamples.{example_sent}
 use Rattle.nx_sync.specs.Locks.{locked, IsNow}
-use Rattle.nx_receiver.specs.Events.{Setting, at_moment, element, first_setting, setting_after_all, settings}
-use Rattle.nx_receiver.specs.Events.{bits_of as bits_among}
+use Rattle.nx_receiver.specs.Events.{Setting, at_moment, element, first_setting, setting_after_all, settings, elements_among}
 use Rattle.nx_receiver.specs.Example.{first_copy}
 use Rattle.nx_receiver.specs.FoundCopies.{FoundCopy, found_to_end}
 use Rattle.nx_fec.specs.LineRuns.{air_limit}
 use Rattle.nx_receiver.specs.Listen.{AreTaken, AreTakenAfter, IsLogOf, at_zero, events_of}
 use Rattle.nx_receiver.specs.ListenExample.{example_air_file, example_lines}
-use Rattle.nx_receiver.specs.ListenOnce.{AreFoundIn, IsHeardInTimeIn, elements_in, in_force_at, heard_as}
+use Rattle.nx_receiver.specs.ListenOnce.{AreFoundIn, IsHeardInTimeIn, elements_in, in_force_at, copies_heard}
 use Rattle.nx_receiver.specs.Log.{PrintsToEnd}
 use Rattle.nx_receiver.specs.Printing.{printed_copies}
 use Rattle.nx_receiver.specs.Sending.{IsSentAt, copy_of_sending}
@@ -68,7 +67,7 @@ elements-are = joined-lines bits
 events-are : events_of example_lines ≡ at_moment 1735692000 ∷ events
 events-are = ap (λ es. at_moment 1735692000 ∷ es) (events-lines bits)
 
-same : bits_among events ≡ elements_in example_lines
+same : elements_among events ≡ elements_in example_lines
 same = events_are ∙ sym elements-are
 
 cut : IsCut (elements_in example_lines) (example_parts first_bits [])
@@ -90,7 +89,7 @@ one-sending : (at : ℕ) → IsSentAt (example_parts first_bits []) example_mess
 one-sending at sent =
     let sending : Sending = record { message = example_message; place = at } in
     let there : Contains found (copy_of_sending sending) =
-    sending_in_end (bits_among events) (example_parts first_bits []) sending [] (locked 0 28) cut_is sent stands_is in
+    sending_in_end (elements_among events) (example_parts first_bits []) sending [] (locked 0 28) cut_is sent stands_is in
     ap (λ (c : FoundCopy). c.place) (one_in found (copy_of_sending sending) (copy_of_sending (example_sending first_bits)) one_found there sent_there)
 
 -- at an element the moment is that of the file's first line
@@ -114,7 +113,7 @@ in-force =
 in-force-at : (at : ℕ) → IsSentAt (example_parts first_bits []) example_message at → in_force_at example_lines at ≡ first_setting at_its_slot
 in-force-at at sent = ap (in_force_at example_lines) (one-sending at sent) ∙ in-force
 
-one-tagged : length (heard_as example_lines found) ≡ 1
+one-tagged : length (copies_heard example_lines found) ≡ 1
 unfolding tagged_copies
 one-tagged = length-map found _ ∙ one_found
 
@@ -137,7 +136,7 @@ heard-in-time = record {
       let n = ap (λ (s : Setting). s.moment) (in-force-at other b) in
       omega arith;
   few =
-      λ before between after first later e none named again. absurd (not_two (heard_as example_lines found) before between after first later one-tagged e);
+      λ before between after first later e none named again. absurd (not_two (copies_heard example_lines found) before between after first later one-tagged e);
 }
 
 -- ---- its log
@@ -152,12 +151,12 @@ alone [] x one c = absurd (omega (arith, one))
 alone (y ∷ (z ∷ ys)) x one c = absurd (omega (arith, one))
 alone (y ∷ []) x one c = ap (λ w. w ∷ []) (one_in (y ∷ []) y x refl (0, omega arith, refl) c)
 
-tagged-same : heard_as example_lines found ≡ tagged_copies (first_setting at_its_slot) events found
+tagged-same : copies_heard example_lines found ≡ tagged_copies (first_setting at_its_slot) events found
 unfolding tagged_copies
 tagged-same =
     let this = copy_of_sending (example_sending first_bits) in
     let is : found ≡ this ∷ [] = alone found this one_found sent_there in
-    ap (heard_as example_lines) is
+    ap (copies_heard example_lines) is
     ∙ ap (λ (s : Setting). tag s this ∷ []) (in-force ∙ sym (at_first (first_setting at_its_slot) bits place))
     ∙ ap (tagged_copies (first_setting at_its_slot) events) (sym is)
 
@@ -166,13 +165,13 @@ printed =
     let before = printed_to_end damaged_words damaged_computed in
     let mine : PrintsToEnd at_its_slot events (printed_copies [] (tagged_copies (first_setting at_its_slot) events found)) =
     record { locks = []; now = locked 0 28; stands = stands_is; printed = refl } in
-    let bits-are : bits_among (events_of example_lines) ≡ bits_among events = heard-elements example_lines ∙ sym same in
+    let bits-are : elements_among (events_of example_lines) ≡ elements_among events = heard-elements example_lines ∙ sym same in
     record {
       locks = [];
       now = locked 0 28;
       stands = subst (λ (b : List Bool). IsNow b [] (locked 0 28)) (sym bits-are) stands_is;
       printed = one_to_end at_its_slot events _ _ before mine ∙ ap (printed_copies []) (sym tagged-same)
-          ∙ ap (λ (b : List Bool). printed_copies [] (heard_as example_lines (found_to_end b [] (locked 0 28)))) (sym bits-are);
+          ∙ ap (λ (b : List Bool). printed_copies [] (copies_heard example_lines (found_to_end b [] (locked 0 28)))) (sym bits-are);
     }
 
 pub logged : IsLogOf example_air_file worked_log

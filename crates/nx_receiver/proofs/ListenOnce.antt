@@ -8,7 +8,7 @@ use Rattle.nx_fec.specs.Transfers.{Devices}
 use Rattle.nx_fec.proofs.LineLaws.{IsAirFile-unique}
 use Rattle.nx_station.specs.Sendings.{IsCut}
 use Rattle.nx_sync.specs.Locks.{IsNow}
-use Rattle.nx_receiver.specs.Events.{bits_of, first_setting}
+use Rattle.nx_receiver.specs.Events.{elements_among, first_setting}
 use Rattle.nx_receiver.specs.FoundCopies.{FoundCopy, found_to_end}
 use Rattle.nx_fec.specs.LineRuns.{air_limit}
 use Rattle.nx_receiver.specs.Listen.{HasListened, IsLogOfFile, Listens, at_zero, events_of, line_events}
@@ -22,8 +22,8 @@ use Rattle.nx_receiver.proofs.OnceFound.{printed_once}
 use Rattle.nx_receiver.proofs.ReceiverEvents.{bits_of-more}
 
 -- the elements among what lines give to a receiver are those of the lines
-line-elements : (line : Line) → bits_of (line_events line) ≡ elements_of line
-unfolding bits_of
+line-elements : (line : Line) → elements_among (line_events line) ≡ elements_of line
+unfolding elements_among
 line-elements (moment n) = refl
 line-elements (elements bits) = bits_of-more [] bits
 line-elements (refuse_station letter) = refl
@@ -31,19 +31,19 @@ line-elements (accept_station letter) = refl
 line-elements (refuse_subject letter) = refl
 line-elements (accept_subject letter) = refl
 
-pub heard-elements : (lines : List Line) → bits_of (events_of lines) ≡ elements_in lines
-unfolding bits_of
+pub heard-elements : (lines : List Line) → elements_among (events_of lines) ≡ elements_in lines
+unfolding elements_among
 heard-elements [] = refl
 heard-elements (line ∷ lines) =
     bits_of-append (line_events line) (events_of lines)
-    ∙ ap (λ b. b ++ bits_of (events_of lines)) (line-elements line)
+    ∙ ap (λ b. b ++ elements_among (events_of lines)) (line-elements line)
     ∙ ap (λ b. elements_of line ++ b) (heard-elements lines)
 
 -- what is heard in time in an air file is so among what its lines give
 in-time : (file : List ℕ) (message : MessageView) (h : IsHeardInTimeIn file message) → IsHeardInTime at_zero (events_of h.lines) h.parts message
 in-time file message h =
     let same = heard-elements h.lines in
-    let bits = bits_of (events_of h.lines) in
+    let bits = elements_among (events_of h.lines) in
     let copies-are : h.copies ≡ found_to_end bits h.found.locks h.found.now =
     h.found.whole ∙ ap (λ b. found_to_end b h.found.locks h.found.now) (sym same) in
     record {

@@ -15,7 +15,7 @@ use Rattle.nx_fec.specs.declared.line_run.LinesFault.{LinesFault}
 use Rattle.nx_fec.specs.declared.line_run.LinesFault.TheVariants as run
 use Rattle.nx_fec.specs.declared.line_run.LinesRead.{LinesRead}
 use Rattle.nx_fec.proofs.TransferLaws.{Ok-not_err, Reads-on, Writes-none, read_failed-none}
-use Rattle.nx_receiver.specs.Events.{bits_of}
+use Rattle.nx_receiver.specs.Events.{elements_among}
 use Rattle.nx_receiver.specs.Listen.{ExplainsListening, HasListened, HasLogged, HasLoggedSomeOfFile, IsNextRefused, Listens, events_of, line_events}
 use Rattle.nx_receiver.specs.ListenerBegins.{printed-so_far}
 use Rattle.nx_receiver.specs.Listener.{HasClosed, HasClosedSome, IsListening, RefusesLine, lines_fault}
@@ -124,11 +124,11 @@ listens-fault first now d fault h = record {
 }
 
 -- lines have fewer elements than bytes
-line-fewer : (line : Line) → length (bits_of (line_events line)) ≤ length (line_bytes line)
-unfolding bits_of
+line-fewer : (line : Line) → length (elements_among (line_events line)) ≤ length (line_bytes line)
+unfolding elements_among
 line-fewer (moment n) = omega arith
 line-fewer (elements bits) =
-    let heard : length (bits_of (line_events (elements bits))) ≡ length bits = ap length (bits_of-more [] bits) in
+    let heard : length (elements_among (line_events (elements bits))) ≡ length bits = ap length (bits_of-more [] bits) in
     let digits : length (map element_digit bits) ≡ length bits = simp length-map in
     omega (arith, heard, digits, length-append (spelling (elements bits)) (10 ∷ []), length-append (codes "B ") (map element_digit bits))
 line-fewer (refuse_station letter) = omega arith
@@ -136,12 +136,12 @@ line-fewer (accept_station letter) = omega arith
 line-fewer (refuse_subject letter) = omega arith
 line-fewer (accept_subject letter) = omega arith
 
-lines-fewer : (lines : List Line) → length (bits_of (events_of lines)) ≤ length (file_of lines)
-unfolding bits_of
+lines-fewer : (lines : List Line) → length (elements_among (events_of lines)) ≤ length (file_of lines)
+unfolding elements_among
 lines-fewer [] = omega arith
 lines-fewer (line ∷ lines) =
-    let heard : length (bits_of (events_of (line ∷ lines))) ≡ length (bits_of (line_events line)) + length (bits_of (events_of lines)) =
-    ap length (bits_of-append (line_events line) (events_of lines)) ∙ length-append (bits_of (line_events line)) (bits_of (events_of lines)) in
+    let heard : length (elements_among (events_of (line ∷ lines))) ≡ length (elements_among (line_events line)) + length (elements_among (events_of lines)) =
+    ap length (bits_of-append (line_events line) (events_of lines)) ∙ length-append (elements_among (line_events line)) (elements_among (events_of lines)) in
     omega (arith, heard, line-fewer line, lines-fewer lines, length-append (line_bytes line) (file_of lines))
 
 -- the whole file was read, and its end printed
@@ -151,7 +151,7 @@ listened : (first now : Listener) (old mid new : Option (List ℕ)) (bytes : Lis
 listened first now old mid new bytes read report h closed counted =
     let t = h.taken in
     let e = closed h.lines t.given t.stood t.here in
-    let few : length (bits_of (events_of h.lines)) ≤ 268435456 = omega (arith, lines-fewer h.lines, ap length h.file.whole, h.file.within) in
+    let few : length (elements_among (events_of h.lines)) ≤ 268435456 = omega (arith, lines-fewer h.lines, ap length h.file.whole, h.file.within) in
     record {
       lines = h.lines;
       copies = e.copies;

@@ -7,8 +7,8 @@ use Rattle.std.proofs.lemmas.List.Folds.{list_any-append}
 use Rattle.nx_fec.specs.AirFile.{Line, moment, elements}
 use Rattle.nx_memory.specs.declared.entry.MemoryEntry.{MemoryEntry}
 use Rattle.nx_memory.specs.Ring.{RingMemory}
-use Rattle.nx_receiver.specs.Events.{Event, bits_of, element}
-use Rattle.nx_receiver.specs.Listen.{AreTaken, AreTakenAfter, IsTakenAfter, at_zero, events_of, has_moment, in_force_after, is_moment, line_events}
+use Rattle.nx_receiver.specs.Events.{Event, elements_among, element}
+use Rattle.nx_receiver.specs.Listen.{AreTaken, AreTakenAfter, IsTakenAfter, at_zero, events_of, has_moment, in_force_after, is_moment_line, line_events}
 use Rattle.nx_receiver.specs.Listener.{BeginsListening, BeginsLog, HasFinished, HearsEvents, HearsLog, IsListening, count_of}
 use Rattle.nx_receiver.specs.ListenerBegins.{printed-so_far}
 use Rattle.nx_receiver.specs.Log.{IsEntry, IsLog}
@@ -46,12 +46,12 @@ or-true true = refl
 or-true false = refl
 
 -- one more line is no moment, or is one
-pub moment-other : (lines : List Line) (line : Line) (b : Bool) → b ≡ has_moment lines → is_moment line ≡ false → b ≡ has_moment (lines ++ line ∷ [])
+pub moment-other : (lines : List Line) (line : Line) (b : Bool) → b ≡ has_moment lines → is_moment_line line ≡ false → b ≡ has_moment (lines ++ line ∷ [])
 moment-other lines line b h none =
-    h ∙ sym (list_any-append is_moment lines (line ∷ []) ∙ or-none (has_moment lines) (is_moment line) none)
+    h ∙ sym (list_any-append is_moment_line lines (line ∷ []) ∙ or-none (has_moment lines) (is_moment_line line) none)
 
 pub moment-one : (lines : List Line) (n : ℕ) → true ≡ has_moment (lines ++ moment n ∷ [])
-moment-one lines n = sym (list_any-append is_moment lines (moment n ∷ []) ∙ or-true (has_moment lines))
+moment-one lines n = sym (list_any-append is_moment_line lines (moment n ∷ []) ∙ or-true (has_moment lines))
 
 -- what is in force is what the receiver has in force
 pub force-now : (listener : Listener) (lines : List Line) (given : List ℕ) → IsListening listener lines given → listener.receiver.watch.moment ≡ (in_force_after lines).moment
@@ -59,15 +59,15 @@ force-now listener lines given h = ap (λ s. s.moment) h.hears.hears.receiver.fo
 
 -- a line that has no elements changes the receiver alone
 pub goes_on : (old new : Listener) (lines : List Line) (line : Line) (given : List ℕ) → IsListening old lines given → IsTakenAfter lines line
-    → bits_of (line_events line) ≡ [] → new.has_moment ≡ has_moment (lines ++ line ∷ []) → new.elements ≡ old.elements → new.entries ≡ old.entries
+    → elements_among (line_events line) ≡ [] → new.has_moment ≡ has_moment (lines ++ line ∷ []) → new.elements ≡ old.elements → new.entries ≡ old.entries
     → ((log : List TaggedCopy) → Stands content at_zero old.receiver (events_of lines) log → Stands content at_zero new.receiver (events_of lines ++ line_events line) log)
     → IsListening new (lines ++ line ∷ []) given
 goes_on old new lines line given h taken none said heard printed stands =
     let log = h.hears.log in
     let was = h.hears.hears in
     let events = events_of (lines ++ line ∷ []) in
-    let same : bits_of events ≡ bits_of (events_of lines) =
-    ap bits_of (events_of-one lines line) ∙ bits_of-append (events_of lines) (line_events line) ∙ ap (λ bs. bits_of (events_of lines) ++ bs) none ∙ append-nil (bits_of (events_of lines)) in
+    let same : elements_among events ≡ elements_among (events_of lines) =
+    ap elements_among (events_of-one lines line) ∙ bits_of-append (events_of lines) (line_events line) ∙ ap (λ bs. elements_among (events_of lines) ++ bs) none ∙ append-nil (elements_among (events_of lines)) in
     record {
       taken = taken-one [] lines line h.taken taken;
       moment = said;
@@ -93,12 +93,12 @@ pub hears-more : (old new : Listener) (events : List Event) (log : List TaggedCo
     → new.elements ≡ count_of (old.elements + n) → new.entries ≡ count_of (old.entries + length (entry_list entry))
     → HearsEvents new (events ++ receiver.elements (take n bits)) (log ++ entry_list entry)
 hears-more old new events log bits n entry h within few stands heard printed =
-    let all : length (bits_of (events ++ receiver.elements (take n bits))) ≡ length (bits_of events) + n =
-    ap length (bits_of-more events (take n bits)) ∙ length-append (bits_of events) (take n bits) ∙ ap (λ k. length (bits_of events) + k) (length-take-le n bits within) in
+    let all : length (elements_among (events ++ receiver.elements (take n bits))) ≡ length (elements_among events) + n =
+    ap length (bits_of-more events (take n bits)) ∙ length-append (elements_among events) (take n bits) ∙ ap (λ k. length (elements_among events) + k) (length-take-le n bits within) in
     let longer : length (log ++ entry_list entry) ≡ length log + length (entry_list entry) = length-append log (entry_list entry) in
     record {
       receiver = stands;
-      elements = counts-on old.elements new.elements (length (bits_of events)) n _ h.elements heard all;
+      elements = counts-on old.elements new.elements (length (elements_among events)) n _ h.elements heard all;
       entries = counts-on old.entries new.entries (length log) (length (entry_list entry)) _ h.entries printed longer;
       few = omega (arith, all, longer, few, h.few);
     }
@@ -197,7 +197,7 @@ elements-rest events bits at =
 -- a listener that was made has heard nothing
 pub heard-nothing : (listener : Listener) → Stands content at_zero listener.receiver [] [] → listener.has_moment ≡ false → listener.elements ≡ 0 → listener.entries ≡ 0
     → IsListening listener [] []
-unfolding AreTakenAfter bits_of
+unfolding AreTakenAfter elements_among
 heard-nothing listener stands none elements' entries' = record {
   taken = tt;
   moment = none;

@@ -6,11 +6,11 @@ use Rattle.nx_code.specs.Reading.{Reception, text, shift_after_all}
 use Rattle.nx_code.specs.declared.shifts.Shift.TheVariants.{Letters}
 use Rattle.nx_code.proofs.ReadingLemmas.{text-append}
 use Rattle.nx_fec.specs.Pairing.{counts_as, pairing, nothing}
-use Rattle.nx_sync.specs.Words.{word_at, first_role, role_of, is_dx}
+use Rattle.nx_sync.specs.Words.{word_of_lock, first_role, role_of, is_dx}
 use Rattle.nx_sync.specs.Locks.{IsPattern}
 use Rattle.nx_sync.specs.declared.step.Role.{Role}
 use Rattle.nx_sync.proofs.KeptPast.{word_at-more, first_role-more}
-use Rattle.nx_receiver.specs.LockText.{five_before, taken_at, positions, PlacedByte, printed_after, place_of, printed_by, text_by, lock_text, bytes_of}
+use Rattle.nx_receiver.specs.LockText.{five_before, taken_at, positions, PlacedByte, printed_after, word_place, printed_by, text_by, lock_text, bytes_of}
 
 -- words that are the same up to a word give the same text up to there
 five_before-same : (f g : ℕ → ℕ) (k : ℕ) → ((j : ℕ) → j < k → f j ≡ g j) → five_before f k ≡ five_before g k
@@ -34,7 +34,7 @@ positions-same first f g (suc n) same =
 printed_by-same : (first : Role) (f g : ℕ → ℕ) (t k : ℕ) → ((j : ℕ) → j < k + 1 → f j ≡ g j) → printed_by first f t k ≡ printed_by first g t k
 unfolding printed_by
 printed_by-same first f g t k same =
-    ap (map (λ b. record { byte = b; place = place_of t k })) (ap (λ ps. printed_after ps (taken_at first f k)) (positions-same first f g k (λ j h. same j (omega arith))) ∙ ap (printed_after (positions first g k)) (taken_at-same first f g k same))
+    ap (map (λ b. record { byte = b; place = word_place t k })) (ap (λ ps. printed_after ps (taken_at first f k)) (positions-same first f g k (λ j h. same j (omega arith))) ∙ ap (printed_after (positions first g k)) (taken_at-same first f g k same))
 
 pub text_by-same : (first : Role) (f g : ℕ → ℕ) (t n : ℕ) → ((j : ℕ) → j < n → f j ≡ g j) → text_by first f t n ≡ text_by first g t n
 unfolding text_by
@@ -45,8 +45,8 @@ text_by-same first f g t (suc n) same =
 -- more bits leave the text of the words that were heard whole
 pub lock_text-more : (bits more : List Bool) (t n : ℕ) → IsPattern bits t → t + 7 * n ≤ length bits → lock_text (bits ++ more) t n ≡ lock_text bits t n
 lock_text-more bits more t n here h =
-    ap (λ first. text_by first (word_at (bits ++ more) t) t n) (first_role-more bits more t here.enough here.heard)
-    ∙ text_by-same (first_role bits t) (word_at (bits ++ more) t) (word_at bits t) t n (λ j lt. word_at-more bits more t j (omega arith))
+    ap (λ first. text_by first (word_of_lock (bits ++ more) t) t n) (first_role-more bits more t here.enough here.heard)
+    ∙ text_by-same (first_role bits t) (word_of_lock (bits ++ more) t) (word_of_lock bits t) t n (λ j lt. word_at-more bits more t j (omega arith))
 
 -- a list that goes on
 pub record GoesOnAs {A : Type 0} (xs ys : List A) : Type 0 where
@@ -99,7 +99,7 @@ bytes_are_reading first f t zero = refl
 bytes_are_reading first f t (suc n) =
     bytes_of-append (text_by first f t n) (printed_by first f t n)
     ∙ ap (λ xs. xs ++ bytes_of (printed_by first f t n)) (bytes_are_reading first f t n)
-    ∙ ap (λ ys. text (positions first f n) Letters ++ ys) (bytes-placed (place_of t n) _ ∙ printed-is_text (positions first f n) (taken_at first f n) (one_taken first f n))
+    ∙ ap (λ ys. text (positions first f n) Letters ++ ys) (bytes-placed (word_place t n) _ ∙ printed-is_text (positions first f n) (taken_at first f n) (one_taken first f n))
     ∙ sym (text-append (positions first f n) (taken_at first f n) Letters)
 
 -- each byte stands at the end of a word of the lock

@@ -2,7 +2,7 @@
 use Rattle.std.proofs.Common.{◌≡◌, ℕ, zero, suc, ◌<◌, Bool, List, refl, ap, ◌∙◌, subst, arith, inl, inr}
 use Rattle.std.proofs.lemmas.Bool.{cases_lt}
 use Rattle.std.proofs.lemmas.List.{same_from_push}
-use Rattle.nx_sync.specs.Words.{word_at, first_role, role_of, heard_word, lock_words}
+use Rattle.nx_sync.specs.Words.{word_of_lock, first_role, role_of, heard_word, lock_words}
 use Rattle.nx_receiver.specs.LockText.{positions}
 use Rattle.nx_receiver.proofs.LockTexts.{positions-same}
 
@@ -21,11 +21,11 @@ heard_word-told bits others t u (suc n) e j lt =
     ]
 
 pub positions-told : (bits others : List Bool) (t u n : ℕ) → lock_words bits t n ≡ lock_words others u n
-    → positions (first_role bits t) (word_at bits t) n ≡ positions (first_role others u) (word_at others u) n
+    → positions (first_role bits t) (word_of_lock bits t) n ≡ positions (first_role others u) (word_of_lock others u) n
 unfolding positions role_of
 positions-told bits others t u zero e = refl
 positions-told bits others t u (suc n) e =
     let told = heard_word-told bits others t u (suc n) e in
     let first : first_role bits t ≡ first_role others u = ap (λ w. w.1) (told 0 (omega arith)) in
-    ap (λ role. positions role (word_at bits t) (suc n)) first
-    ∙ positions-same (first_role others u) (word_at bits t) (word_at others u) (suc n) (λ j lt. ap (λ w. w.0) (told j lt))
+    ap (λ role. positions role (word_of_lock bits t) (suc n)) first
+    ∙ positions-same (first_role others u) (word_of_lock bits t) (word_of_lock others u) (suc n) (λ j lt. ap (λ w. w.0) (told j lt))

@@ -16,8 +16,7 @@ use Rattle.nx_station.proofs.ChannelExamples.{example_cut, example_sent}
 use Rattle.nx_sync.specs.Locks.{locked, IsNow}
 use Rattle.nx_sync.specs.Words.{whole_words}
 use Rattle.nx_memory.specs.Selection.{admits}
-use Rattle.nx_receiver.specs.Events.{Event, Setting, first_setting}
-use Rattle.nx_receiver.specs.Events.{bits_of as bits_among}
+use Rattle.nx_receiver.specs.Events.{Event, Setting, first_setting, elements_among}
 use Rattle.nx_receiver.specs.FoundCopies.{FoundCopy, found_copy, past_copies, found_to_end}
 use Rattle.nx_receiver.specs.LockText.{lock_text, bytes_of}
 use Rattle.nx_receiver.specs.OnceHeard.{IsHeardInTime}
@@ -47,19 +46,19 @@ bits_are =
 abbrev pub events : List Event
 events = heard_elements damaged_words
 
-pub events_are : bits_among events ≡ bits_of damaged_words
+pub events_are : elements_among events ≡ bits_of damaged_words
 events_are = bits_among-elements (bits_of damaged_words)
 
-pub cut_is : IsCut (bits_among events) (example_parts first_bits [])
+pub cut_is : IsCut (elements_among events) (example_parts first_bits [])
 cut_is =
     subst (λ (b : List Bool). IsCut b (example_parts first_bits [])) (sym (events_are ∙ bits_are)) (example_cut first_bits [])
 
-pub stands_is : IsNow (bits_among events) [] (locked 0 28)
+pub stands_is : IsNow (elements_among events) [] (locked 0 28)
 stands_is =
     subst (λ (b : List Bool). IsNow b [] (locked 0 28)) (sym events_are) (stands damaged_words damaged_computed)
 
 abbrev pub found : List FoundCopy
-found = found_to_end (bits_among events) [] (locked 0 28)
+found = found_to_end (elements_among events) [] (locked 0 28)
 
 one_header : length (copies (codes "ZCZC EA01\nTEST\nNNNN\n\n")) ≡ 1
 unfolding copies headers beginnings header_at_end header_back tens_back subject_back station_back spaces_back letter_of letter_from digit_of digit_from
@@ -86,7 +85,7 @@ one_in (z ∷ []) x y e c d = sym (at_zero z x c.0 c.1 c.2) ∙ at_zero z y d.0 
 
 pub sent_there : Contains found (copy_of_sending (example_sending first_bits))
 sent_there =
-    sending_in_end (bits_among events) (example_parts first_bits []) (example_sending first_bits) [] (locked 0 28) cut_is (example_sent first_bits []) stands_is
+    sending_in_end (elements_among events) (example_parts first_bits []) (example_sending first_bits) [] (locked 0 28) cut_is (example_sent first_bits []) stands_is
 
 pub not_two : (copies before between after : List TaggedCopy) (first later : TaggedCopy) → length copies ≡ 1
     → copies ≡ before ++ first ∷ (between ++ later ∷ after) → ⊥

@@ -10,7 +10,7 @@ use Rattle.nx_envelope.proofs.Identities.{same_identity-true, same_itself}
 use Rattle.nx_memory.specs.Memory.{seconds_known, most_entries}
 use Rattle.nx_station.specs.Sendings.{Part, Sending}
 use Rattle.nx_sync.proofs.UniqueStates.{locks-unique, now-unique}
-use Rattle.nx_receiver.specs.Events.{Event, Start, bits_of, first_setting}
+use Rattle.nx_receiver.specs.Events.{Event, Start, elements_among, first_setting}
 use Rattle.nx_receiver.specs.FoundCopies.{FoundCopy, found_to_end}
 use Rattle.nx_receiver.specs.LawTerms.{AreRepeats, copies_of}
 use Rattle.nx_receiver.specs.Log.{PrintsToEnd, printed_of}
@@ -71,7 +71,7 @@ no_errors-good text none = lt-ltb (25 * errors_of text) (max 1 (length text)) (o
 
 module _ (start : Start) (events : List Event) (parts : List Part) (message : MessageView) (h : IsHeardInTime start events parts message) where
   abbrev found : List FoundCopy
-  found = found_to_end (bits_of events) h.locks h.now
+  found = found_to_end (elements_among events) h.locks h.now
 
   abbrev heard : List TaggedCopy
   heard = tagged_copies (first_setting start) events found
@@ -92,9 +92,9 @@ module _ (start : Start) (events : List Event) (parts : List Part) (message : Me
   of_found copy there named =
       let sent = h.alone copy there (same_identity-true copy.identity message.identity named) in
       let sending : Sending = record { message = message; place = copy.place } in
-      let one = one_found (bits_of events) parts sending h.locks h.now h.cut sent h.stands in
+      let one = one_found (elements_among events) parts sending h.locks h.now h.cut sent h.stands in
       let this =
-      one_of_key (λ (c : FoundCopy). c.place) found copy (found_rise (bits_of events) h.locks h.now h.stands) there in
+      one_of_key (λ (c : FoundCopy). c.place) found copy (found_rise (elements_among events) h.locks h.now h.stands) there in
       let same : copy ∷ [] ≡ copy_of_sending sending ∷ [] = sym this ∙ one in
       let is : copy ≡ copy_of_sending sending = cc in
       record { place = copy.place; sent = sent; is = ap (tag (setting_of start events copy.place)) is }
@@ -111,13 +111,13 @@ module _ (start : Start) (events : List Event) (parts : List Part) (message : Me
   unfolding copies_of tagged_copies tag
   some_heard =
       let there : Contains found (copy_of_sending (record { message = message; place = h.place })) =
-      sending_in_end (bits_of events) parts (record { message = message; place = h.place }) h.locks h.now h.cut h.sent h.stands in
+      sending_in_end (elements_among events) parts (record { message = message; place = h.place }) h.locks h.now h.cut h.sent h.stands in
       contains_filter (λ (c : TaggedCopy). same_identity c.identity message.identity) heard (copy_at h.place)
       (contains_map (λ (copy : FoundCopy). tag (setting_of start events copy.place) copy) found (copy_of_sending (record { message = message; place = h.place })) there)
       (same_itself message.identity)
 
   no_errors : errors_of (text_of message.lines) ≡ 0
-  no_errors = sending_errors (bits_of events) parts (record { message = message; place = h.place }) h.cut h.sent
+  no_errors = sending_errors (elements_among events) parts (record { message = message; place = h.place }) h.cut h.sent
 
   good_of : (copy : TaggedCopy) → IsOfSending copy → IsTrue (is_good copy)
   unfolding tag
@@ -166,8 +166,8 @@ module _ (start : Start) (events : List Event) (parts : List Part) (message : Me
       All-head IsOfSending start_of.first start_of.rest (subst (All IsOfSending) start_of.whole all_of_sendings) in
       let log_is : log ≡ printed_copies [] heard =
       prints.printed
-      ∙ ap (λ ls. printed_of start events (found_to_end (bits_of events) ls prints.now)) (locks-unique (bits_of events) prints.locks h.locks prints.now h.now prints.stands h.stands)
-      ∙ ap (λ n. printed_of start events (found_to_end (bits_of events) h.locks n)) (now-unique (bits_of events) prints.locks h.locks prints.now h.now prints.stands h.stands)
+      ∙ ap (λ ls. printed_of start events (found_to_end (elements_among events) ls prints.now)) (locks-unique (elements_among events) prints.locks h.locks prints.now h.now prints.stands h.stands)
+      ∙ ap (λ n. printed_of start events (found_to_end (elements_among events) h.locks n)) (now-unique (elements_among events) prints.locks h.locks prints.now h.now prints.stands h.stands)
       ∙ ap (λ es. printed_copies es heard) h.empty in
       let text : start_of.first.text ≡ text_of message.lines = ap (λ (c : TaggedCopy). c.text) of.is in
       record {

@@ -1,15 +1,15 @@
 -- What one more event, or some more elements, do to what a receiver was given, and to what it stands after.
 use Rattle.std.proofs.Common.{◌≡◌, ℕ, Bool, List, [], ◌∷◌, ◌++◌, map, refl, sym, ap, ◌∙◌, subst, append-nil}
 use Rattle.nx_memory.specs.declared.entry.MemoryEntry.{MemoryEntry}
-use Rattle.nx_receiver.specs.Events.{Event, Command, Setting, Start, at_moment, bits_of, command, element, first_setting, setting_after, setting_after_all, settings}
+use Rattle.nx_receiver.specs.Events.{Event, Command, Setting, Start, at_moment, elements_among, command, element, first_setting, setting_after, setting_after_all, settings}
 use Rattle.nx_receiver.specs.Receiver.{Receiving, Stands, elements}
 use Rattle.nx_receiver.specs.Tagged.{TaggedCopy}
 use Rattle.nx_receiver.specs.Watch.{Watching, WatchStands, all_in_force, in_force}
 use Rattle.nx_receiver.proofs.LoggedLemmas.{bits_of-append, settings-append}
 
 -- elements as events
-bits_of-elements : (bits : List Bool) → bits_of (elements bits) ≡ bits
-unfolding bits_of
+bits_of-elements : (bits : List Bool) → elements_among (elements bits) ≡ bits
+unfolding elements_among
 bits_of-elements [] = refl
 bits_of-elements (bit ∷ bits) = ap (λ bs. bit ∷ bs) (bits_of-elements bits)
 
@@ -29,8 +29,8 @@ force-append now [] ys = refl
 force-append now (x ∷ xs) ys = force-append (setting_after now x) xs ys
 
 -- elements after other events
-pub bits_of-more : (events : List Event) (bits : List Bool) → bits_of (events ++ elements bits) ≡ bits_of events ++ bits
-bits_of-more events bits = bits_of-append events (elements bits) ∙ ap (λ bs. bits_of events ++ bs) (bits_of-elements bits)
+pub bits_of-more : (events : List Event) (bits : List Bool) → elements_among (events ++ elements bits) ≡ elements_among events ++ bits
+bits_of-more events bits = bits_of-append events (elements bits) ∙ ap (λ bs. elements_among events ++ bs) (bits_of-elements bits)
 
 pub settings-more : (first : Setting) (watch : Watching) (events : List Event) (bits : List Bool) → in_force watch ≡ setting_after_all first events
     → settings first (events ++ elements bits) ≡ settings first events ++ all_in_force watch bits
@@ -48,8 +48,8 @@ pub data IsNoElement : Event → Type 0 where
   a_moment : {n : ℕ} → IsNoElement (at_moment n)
   a_command : {c : Command} → IsNoElement (command c)
 
-bits_of-one : (event : Event) → IsNoElement event → bits_of (event ∷ []) ≡ []
-unfolding bits_of
+bits_of-one : (event : Event) → IsNoElement event → elements_among (event ∷ []) ≡ []
+unfolding elements_among
 bits_of-one (at_moment n) a_moment = refl
 bits_of-one (element bit) none = elim none [ ]
 bits_of-one (command c) a_command = refl
@@ -75,16 +75,16 @@ pub stands_after : {M : Type 0} (content : M → List MemoryEntry) (old : Receiv
     → Stands content start (record { watch = watch; memory = old.memory }) (history ++ event ∷ []) log
 stands_after content old watch event none change start history log stands =
     let first = first_setting start in
-    let bits = bits_of (history ++ event ∷ []) in
-    let before : bits_of history ≡ bits =
-    sym (bits_of-append history (event ∷ []) ∙ ap (λ bs. bits_of history ++ bs) (bits_of-one event none) ∙ append-nil (bits_of history)) in
+    let bits = elements_among (history ++ event ∷ []) in
+    let before : elements_among history ≡ bits =
+    sym (bits_of-append history (event ∷ []) ∙ ap (λ bs. elements_among history ++ bs) (bits_of-one event none) ∙ append-nil (elements_among history)) in
     let same : settings first history ≡ settings first (history ++ event ∷ []) =
     sym (settings-append first history (event ∷ [])
     ∙ ap (λ ss. settings first history ++ ss) (settings-one (setting_after_all first history) event none)
     ∙ append-nil (settings first history)) in
     let was = stands.watch in
-    let new : WatchStands first watch (bits_of history) (settings first history) stands.copies =
-    subst (λ w. WatchStands first w (bits_of history) (settings first history) stands.copies) (sym change) (record { synchroniser = was.synchroniser; reads = was.reads }) in
+    let new : WatchStands first watch (elements_among history) (settings first history) stands.copies =
+    subst (λ w. WatchStands first w (elements_among history) (settings first history) stands.copies) (sym change) (record { synchroniser = was.synchroniser; reads = was.reads }) in
     record {
       copies = stands.copies;
       watch = subst (λ ss. WatchStands first watch bits ss stands.copies) same (subst (λ bs. WatchStands first watch bs (settings first history) stands.copies) before new);

@@ -7,7 +7,7 @@ use Rattle.nx_memory.specs.declared.entry.MemoryEntry.{MemoryEntry}
 use Rattle.nx_receiver.specs.declared.over.Over.{Over}
 use Rattle.nx_receiver.specs.declared.over.Over.TheVariants as over
 use Rattle.nx_receiver.specs.declared.entry.Entry.{Entry}
-use Rattle.nx_receiver.specs.Events.{Event, Setting, Start, bits_of, element, first_setting, setting_after_all, settings}
+use Rattle.nx_receiver.specs.Events.{Event, Setting, Start, elements_among, element, first_setting, setting_after_all, settings}
 use Rattle.nx_receiver.specs.Log.{HasPrinted}
 use Rattle.nx_receiver.specs.Receiver.{Awaits, AwaitsOver, PassesOver, Receiving, Stands, StandsOver, elements, entry_list}
 use Rattle.nx_receiver.specs.Tagged.{TaggedCopy}
@@ -42,22 +42,22 @@ pub awaits_on : {M : Type 0} (content : M → List MemoryEntry) (old new : Recei
     → (start : Start) (events : List Event) (log : List TaggedCopy) → Stands content start old events log → Awaits content start new (events ++ elements bits) log left
 awaits_on content old new watch bits left f start events log s =
     let first = first_setting start in
-    let heard = f.hears.hears first (bits_of events) (settings first events) s.copies s.watch in
+    let heard = f.hears.hears first (elements_among events) (settings first events) s.copies s.watch in
     let over = f.passes start _ _ (setting_after_all first events) log (record { copies = s.copies; watch = heard.brings; force = f.force ∙ s.force; printed = s.printed; memory = s.memory }) in
     let all = events ++ elements bits in
     let h = subst (λ h. AwaitsOver content start new h (settings first events ++ all_in_force old.watch bits) (setting_after_all first events) log left) (sym (bits_of-more events bits)) over in
-    let t = subst (λ t. AwaitsOver content start new (bits_of all) t (setting_after_all first events) log left) (sym (settings-more first old.watch events bits s.force)) h in
-    subst (λ now. AwaitsOver content start new (bits_of all) (settings first all) now log left) (sym (force-more first events bits)) t
+    let t = subst (λ t. AwaitsOver content start new (elements_among all) t (setting_after_all first events) log left) (sym (settings-more first old.watch events bits s.force)) h in
+    subst (λ now. AwaitsOver content start new (elements_among all) (settings first all) now log left) (sym (force-more first events bits)) t
 
 pub printed_before : {M : Type 0} (content : M → List MemoryEntry) (old new : Receiving M) (watch : Watching) (bits : List Bool) (left : Over) → Passed content old new watch bits left
     → (start : Start) (events : List Event) (log : List TaggedCopy) → Stands content start old events log → (k : ℕ) → k < length bits → HasPrinted start (events ++ elements (take k bits)) log
 printed_before content old new watch bits left f start events log s k lt =
     let first = first_setting start in
-    let heard = f.hears.hears first (bits_of events) (settings first events) s.copies s.watch in
+    let heard = f.hears.hears first (elements_among events) (settings first events) s.copies s.watch in
     let ended = heard.none_before k (omega arith) in
     let some = take k bits in
     let h = subst (λ h. HasEnded first h (settings first events ++ all_in_force old.watch some) s.copies) (sym (bits_of-more events some)) ended in
-    let t = subst (λ t. HasEnded first (bits_of (events ++ elements some)) t s.copies) (sym (settings-more first old.watch events some s.force)) h in
+    let t = subst (λ t. HasEnded first (elements_among (events ++ elements some)) t s.copies) (sym (settings-more first old.watch events some s.force)) h in
     has_printed start (events ++ elements some) s.copies log t s.printed
 
 -- where nothing is over, nothing is awaited

@@ -1,7 +1,7 @@
 -- What is over with some elements, and is then taken and ended: what the watch stands after.
 use Rattle.std.proofs.Common.{◌≡◌, ℕ, ◌+◌, Bool, List, [], ◌∷◌, ◌++◌, map, Option, None, sym, ap, ◌∙◌, subst, append-nil}
 use Rattle.nx_sync.specs.Locks.{Lock, hunting}
-use Rattle.nx_sync.specs.Words.{first_role, word_at}
+use Rattle.nx_sync.specs.Words.{first_role, word_of_lock}
 use Rattle.nx_sync.proofs.UniqueStates.{locks-unique, now-unique}
 use Rattle.nx_envelope.specs.Copies.{Copy, closed_copy, open_headers}
 use Rattle.nx_envelope.specs.Finder.{HasReady, HoldsCopy, StandsAfter}
@@ -42,7 +42,7 @@ both_ended first old taken new h s copies these more both over stands =
     locks-unique h (lock ∷ both.lock.older) (over.lock ∷ over.older) (hunting both.lock.from) (hunting over.from) both.lock.stands over.stands in
     let one : lock ≡ over.lock = cc in
     let none : open_headers (bytes_of (past_text h lock)) ≡ [] =
-    ap open_headers (bytes_are_reading (first_role h lock.at) (word_at h lock.at) lock.at (lock.last + 1))
+    ap open_headers (bytes_are_reading (first_role h lock.at) (word_of_lock h lock.at) lock.at (lock.last + 1))
     ∙ none_open old.reader.finder _ both.copy both.ready both.lock.reads.finder in
     let reads = stands.reads in
     stands.reads.ended

@@ -8,7 +8,7 @@ use Rattle.nx_memory.specs.declared.entry.MemoryEntry.{MemoryEntry}
 use Rattle.nx_envelope.specs.declared.found.Found.{Found}
 use Rattle.nx_envelope.specs.declared.identity.Identity.{Identity}
 use Rattle.nx_receiver.specs.declared.over.CopyTag.{CopyTag}
-use Rattle.nx_receiver.specs.Events.{Event, Setting, Start, bits_of, first_setting, setting_after_all, settings}
+use Rattle.nx_receiver.specs.Events.{Event, Setting, Start, elements_among, first_setting, setting_after_all, settings}
 use Rattle.nx_receiver.specs.FoundCopies.{FoundCopy}
 use Rattle.nx_receiver.specs.Log.{HasPrinted, PrintsToEnd}
 use Rattle.nx_receiver.specs.Printing.{entries_after, entries_made, entry_made, entry_of, if_printed, is_entered, is_good, is_number_00, is_printed, printed_copies}
@@ -94,7 +94,7 @@ tagged-by first events copies = refl
 
 -- A watch stands after the elements of these events: what is printed of its copies is the log.
 pub has_printed : (start : Start) (events : List Event) (copies log : List TaggedCopy)
-    → HasEnded (first_setting start) (bits_of events) (settings (first_setting start) events) copies → log ≡ printed_copies start.entries copies → HasPrinted start events log
+    → HasEnded (first_setting start) (elements_among events) (settings (first_setting start) events) copies → log ≡ printed_copies start.entries copies → HasPrinted start events log
 has_printed start events copies log ended printed = record {
   locks = ended.locks;
   now = ended.now;
@@ -104,7 +104,7 @@ has_printed start events copies log ended printed = record {
 
 -- The end of the text handed out a copy, or none; what is printed of it is the last of the log.
 pub prints_to_end : {M : Type 0} (content : M → List MemoryEntry) (start : Start) (events : List Event) (memory : M) (copies log : List TaggedCopy) (found : Option Found) (tag : CopyTag) (more : List TaggedCopy)
-    → HasEndedAll (first_setting start) (bits_of events) (settings (first_setting start) events) (copies ++ handed_out found tag)
+    → HasEndedAll (first_setting start) (elements_among events) (settings (first_setting start) events) (copies ++ handed_out found tag)
     → log ≡ printed_copies start.entries copies → content memory ≡ last_of most_entries (entries_after start.entries copies)
     → ((entries : List MemoryEntry) → content memory ≡ last_of most_entries entries → more ≡ printed_copies entries (handed_out found tag))
     → PrintsToEnd start events (log ++ more)
@@ -122,7 +122,7 @@ prints_to_end content start events memory copies log found tag more ended printe
 pub begins : {M : Type 0} (content : M → List MemoryEntry) (start : Start) (memory : M) (watch : Watching) → ((first : Setting) → WatchStands first watch [] [] [])
     → in_force watch ≡ first_setting start → start.entries ≡ content memory → length (content memory) ≤ most_entries
     → Stands content start (record { watch = watch; memory = memory }) [] []
-unfolding bits_of settings setting_after_all printed_copies entries_made
+unfolding elements_among settings setting_after_all printed_copies entries_made
 begins content start memory watch stands force entries few =
     let all : last_of most_entries (content memory) ≡ content memory = ap (λ n. drop n (content memory)) (let e : length (content memory) - most_entries ≡ 0 = omega arith in e) in
     record {

@@ -17,10 +17,10 @@ use Rattle.nx_station.specs.Channel.{PassesChannel, heard_in, wrong_words, first
 use Rattle.nx_station.specs.Sendings.{IsReceived, digit_slot}
 use Rattle.nx_station.proofs.ChannelLaws.{few-wrong, no-phasing_1, taken-as_sent}
 use Rattle.nx_station.proofs.ChannelPositions.{HasInner, layout-inner}
-use Rattle.nx_sync.specs.Words.{word_at, first_role, one_if, is_wrong, wrong_in, whole_words}
+use Rattle.nx_sync.specs.Words.{word_of_lock, first_role, one_if, is_wrong, wrong_in, whole_words}
 use Rattle.nx_sync.specs.Locks.{Lock, Now, locked, IsNow}
 use Rattle.nx_receiver.specs.FoundCopies.{FoundCopy, ended_in, past_copies, ended_so_far}
-use Rattle.nx_receiver.specs.LockText.{place_of, lock_text}
+use Rattle.nx_receiver.specs.LockText.{word_place, lock_text}
 use Rattle.nx_receiver.proofs.Growing.{ended_go_on}
 use Rattle.nx_receiver.proofs.SendingLocks.{KeepsLock, LockedThrough, word_of, locked_through}
 use Rattle.nx_receiver.proofs.SendingPositions.{AreTaken}
@@ -148,10 +148,10 @@ module _ (gap : List Bool) (messages : List MessageView) (numbers : List ℕ) (s
     abbrev before : List SentPosition
     before = on_air_before 36 (take index (numbers ∷ spellings))
 
-    hears : HearsMessage (first_role all_bits l.t) (word_at all_bits l.t) l.whole air_of message
+    hears : HearsMessage (first_role all_bits l.t) (word_of_lock all_bits l.t) l.whole air_of message
     hears = record {
       dx = l.dx;
-      taken = taken_of_lock numbers spellings heard has_inner is.passes (word_at all_bits l.t) l.whole l.same;
+      taken = taken_of_lock numbers spellings heard has_inner is.passes (word_of_lock all_bits l.t) l.whole l.same;
       numbers = among.numbers;
       spelled = among.spelled;
       before = before;
@@ -168,7 +168,7 @@ module _ (gap : List Bool) (messages : List MessageView) (numbers : List ℕ) (s
         let e : length all_bits - l.t ≡ 7 * (l.whole + 5 + 2 * length air_of) = omega (arith, l.limit) in
         omega arith
 
-    place_is : place_of l.t (digit_word l.whole before) ≡ length gap + 7 * (digit_slot (numbers ∷ spellings) index - first_slot) + 6
+    place_is : word_place l.t (digit_word l.whole before) ≡ length gap + 7 * (digit_slot (numbers ∷ spellings) index - first_slot) + 6
     place_is = omega (arith, l.limit, positions-before (take index (numbers ∷ spellings)))
 
     copy_in_lock : Contains (ended_in (lock_text all_bits l.t (whole_words all_bits l.t))) (emission_copy (length gap) (numbers ∷ spellings) index message)
@@ -176,7 +176,7 @@ module _ (gap : List Bool) (messages : List MessageView) (numbers : List ℕ) (s
     copy_in_lock =
         subst (λ n. Contains (ended_in (lock_text all_bits l.t n)) (emission_copy (length gap) (numbers ∷ spellings) index message)) (sym count_is)
         (subst (λ p. Contains (ended_in (lock_text all_bits l.t (l.whole + 5 + 2 * length air_of))) (record { identity = message.identity; how = Full; text = text_of message.lines; place = p })) place_is
-        (message_found (first_role all_bits l.t) (word_at all_bits l.t) l.t l.whole air_of message hears (lines_at messages index message is.sendable.sound at)))
+        (message_found (first_role all_bits l.t) (word_of_lock all_bits l.t) l.t l.whole air_of message hears (lines_at messages index message is.sendable.sound at)))
 
     copy_ended : Contains (ended_so_far all_bits l.locks (locked l.p l.t)) (emission_copy (length gap) (numbers ∷ spellings) index message)
     unfolding ended_so_far

@@ -10,7 +10,7 @@ use Rattle.nx_fec.specs.Aligned.{word_in}
 use Rattle.nx_fec.specs.Emission.{bits_of, AreWords}
 use Rattle.nx_fec.proofs.AlignedLemmas.{get_or-words_of}
 use Rattle.nx_fec.proofs.RoundTripLemmas.{length-bits_of, words_of-bits_of}
-use Rattle.nx_sync.specs.Words.{word_at, first_role, role_of, other_role, one_if, is_wrong, wrong_in, wrong_until, losing_count}
+use Rattle.nx_sync.specs.Words.{word_of_lock, first_role, role_of, other_role, one_if, is_wrong, wrong_in, wrong_until, losing_count}
 use Rattle.nx_sync.specs.Locks.{Lock, IsLocked}
 use Rattle.nx_sync.specs.Laws.{IsSecondPhasing1, LockedBeforeDx, phasing}
 use Rattle.nx_sync.specs.declared.step.Role.{Role}
@@ -125,7 +125,7 @@ pub record LockedThrough (gap : List Bool) (heard : List ℕ) : Type 0 where
   pub whole : ℕ
   pub limit : length gap + 336 ≡ t + 7 * whole
   pub dx : role_of (first_role (gap ++ bits_of heard) t) whole ≡ Dx
-  pub same : (j i : ℕ) → j + 48 ≡ i + whole → i < length heard → word_at (gap ++ bits_of heard) t j ≡ word_of heard i
+  pub same : (j i : ℕ) → j + 48 ≡ i + whole → i < length heard → word_of_lock (gap ++ bits_of heard) t j ≡ word_of heard i
 
 module _ (gap : List Bool) (heard : List ℕ) (k : KeepsLock heard) (l : LockedBeforeDx (gap ++ phasing 24)) where
   abbrev early : List Bool
@@ -156,10 +156,10 @@ module _ (gap : List Bool) (heard : List ℕ) (k : KeepsLock heard) (l : LockedB
       ap length together ∙ length-append gap (bits_of heard) ∙ ap (λ n. length gap + n) (length-bits_of heard)
 
   abbrev lock_word : ℕ → ℕ
-  lock_word = word_at (early ++ more) l.t
+  lock_word = word_of_lock (early ++ more) l.t
 
   lock_word_is : (j i : ℕ) → j + 48 ≡ i + l.whole → i < length heard → lock_word j ≡ word_of heard i
-  unfolding word_at
+  unfolding word_of_lock
   lock_word_is j i e lt =
       let at : l.t + 7 * j ≡ length gap + 7 * i = omega (arith, limit_is) in
       ap (λ b. word_from b (l.t + 7 * j)) together ∙ ap (word_from (gap ++ bits_of heard)) at
@@ -219,8 +219,8 @@ module _ (gap : List Bool) (heard : List ℕ) (k : KeepsLock heard) (l : LockedB
       subst (λ b. role_of (first_role b l.t) l.whole ≡ Dx) together (ap (λ r. role_of r l.whole) role_is ∙ l.dx)
 
   pub same_through : (j i : ℕ) → j + 48 ≡ i + l.whole → i < length heard
-      → word_at (gap ++ bits_of heard) l.t j ≡ word_of heard i
-  same_through j i e lt = ap (λ b. word_at b l.t j) (sym together) ∙ lock_word_is j i e lt
+      → word_of_lock (gap ++ bits_of heard) l.t j ≡ word_of heard i
+  same_through j i e lt = ap (λ b. word_of_lock b l.t j) (sym together) ∙ lock_word_is j i e lt
 
   pub lock_goes_through : LockedThrough gap heard
   lock_goes_through = record {

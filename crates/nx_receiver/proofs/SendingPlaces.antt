@@ -7,8 +7,8 @@ use Rattle.nx_code.specs.Reading.{Reception}
 use Rattle.nx_envelope.specs.Copies.{Copy, copies}
 use Rattle.nx_sync.specs.declared.step.Role.{Role}
 use Rattle.nx_sync.specs.Locks.{Lock, Past, Now, hunting, locked, IsNow}
-use Rattle.nx_sync.specs.Words.{word_at, first_role, whole_words}
-use Rattle.nx_receiver.specs.LockText.{PlacedByte, place_of, printed_after, positions, taken_at, printed_by, text_by, lock_text, bytes_of}
+use Rattle.nx_sync.specs.Words.{word_of_lock, first_role, whole_words}
+use Rattle.nx_receiver.specs.LockText.{PlacedByte, word_place, printed_after, positions, taken_at, printed_by, text_by, lock_text, bytes_of}
 use Rattle.nx_receiver.specs.FoundCopies.{FoundCopy, place_in, found_copy, all_in, past_text, past_copies, found_to_end}
 use Rattle.nx_receiver.proofs.FoundLemmas.{text_placed, place_in-get_or, all_in_placed, length-bytes_of}
 use Rattle.nx_receiver.proofs.OnceRising.{Above, Rises, rises_append, rises_map}
@@ -39,9 +39,9 @@ unfolding text_by printed_by
 text_rises first f t zero = tt
 text_rises first f t (suc n) =
     rises_append (λ (b : PlacedByte). b.place) (t + 7 * n) (text_by first f t n) (printed_by first f t n) (text_rises first f t n)
-    (one_placed (place_of t n) (printed_after (positions first f n) (taken_at first f n)) (one_printed (positions first f n) (taken_at first f n)))
+    (one_placed (word_place t n) (printed_after (positions first f n) (taken_at first f n)) (one_printed (positions first f n) (taken_at first f n)))
     (All-weaker (λ (b : PlacedByte). (t ≤ b.place) × (b.place < t + 7 * n)) (λ (b : PlacedByte). b.place < t + 7 * n) (λ b h. h.1) (text_by first f t n) (text_placed first f t n))
-    (All-weaker (λ (b : PlacedByte). place_of t n ≤ b.place) (λ (b : PlacedByte). t + 7 * n ≤ b.place) (λ b h. omega arith) (printed_by first f t n) (placed_at (place_of t n) (printed_after (positions first f n) (taken_at first f n))))
+    (All-weaker (λ (b : PlacedByte). word_place t n ≤ b.place) (λ (b : PlacedByte). t + 7 * n ≤ b.place) (λ b h. omega arith) (printed_by first f t n) (placed_at (word_place t n) (printed_after (positions first f n) (taken_at first f n))))
 
 -- in such a list a later item has a greater key
 pub above_later : {A : Type 0} (key : A → ℕ) (n : ℕ) (xs : List A) (j : ℕ) (d : A) → Above key n xs → j < length xs
@@ -83,7 +83,7 @@ past_below bits [] p past = All-nil (λ (c : FoundCopy). c.place < p)
 past_below bits (lock ∷ older) p past =
     let after = past.0.found.after in
     let next = past.0.next in
-    let within = text_placed (first_role bits lock.at) (word_at bits lock.at) lock.at (lock.last + 1) in
+    let within = text_placed (first_role bits lock.at) (word_of_lock bits lock.at) lock.at (lock.last + 1) in
     All-append (λ (c : FoundCopy). c.place < p) (past_copies bits older) (all_in (past_text bits lock))
     (All-weaker (λ (c : FoundCopy). c.place < lock.from) (λ (c : FoundCopy). c.place < p) (λ c h. omega arith) (past_copies bits older) (past_below bits older lock.from past.1))
     (All-weaker (λ (c : FoundCopy). (lock.at ≤ c.place) × (c.place < lock.at + 7 * (lock.last + 1))) (λ (c : FoundCopy). c.place < p) (λ c h. omega (arith, h.1)) (all_in (past_text bits lock)) (all_in_placed lock.at (lock.at + 7 * (lock.last + 1)) (past_text bits lock) within))
@@ -92,7 +92,7 @@ from_lock : (bits : List Bool) (t n low : ℕ) → low < t
     → All (λ (c : FoundCopy). low ≤ c.place) (all_in (lock_text bits t n))
 from_lock bits t n low lt =
     All-weaker (λ (c : FoundCopy). (t ≤ c.place) × (c.place < t + 7 * n)) (λ (c : FoundCopy). low ≤ c.place) (λ c h. omega (arith, h.0)) (all_in (lock_text bits t n))
-    (all_in_placed t (t + 7 * n) (lock_text bits t n) (text_placed (first_role bits t) (word_at bits t) t n))
+    (all_in_placed t (t + 7 * n) (lock_text bits t n) (text_placed (first_role bits t) (word_of_lock bits t) t n))
 
 past_rises : (bits : List Bool) (locks : List Lock) (p : ℕ) → Past bits locks p
     → Rises (λ (c : FoundCopy). c.place) (past_copies bits locks)
@@ -100,7 +100,7 @@ unfolding Past past_copies
 past_rises bits [] p past = tt
 past_rises bits (lock ∷ older) p past =
     rises_append (λ (c : FoundCopy). c.place) lock.from (past_copies bits older) (all_in (past_text bits lock)) (past_rises bits older lock.from past.1)
-    (all_in_rises (past_text bits lock) (text_rises (first_role bits lock.at) (word_at bits lock.at) lock.at (lock.last + 1)))
+    (all_in_rises (past_text bits lock) (text_rises (first_role bits lock.at) (word_of_lock bits lock.at) lock.at (lock.last + 1)))
     (past_below bits older lock.from past.1)
     (from_lock bits lock.at (lock.last + 1) lock.from past.0.found.after)
 
@@ -113,6 +113,6 @@ found_rise bits locks (hunting p) is =
     (All-weaker (λ (c : FoundCopy). (p ≤ c.place) × (c.place < p)) (λ (c : FoundCopy). p ≤ c.place) (λ c h. h.0) (all_in []) (all_in_placed p p [] (All-nil (λ (b : PlacedByte). (p ≤ b.place) × (b.place < p)))))
 found_rise bits locks (locked p t) is =
     rises_append (λ (c : FoundCopy). c.place) p (past_copies bits locks) (all_in (lock_text bits t (whole_words bits t))) (past_rises bits locks p is.past)
-    (all_in_rises (lock_text bits t (whole_words bits t)) (text_rises (first_role bits t) (word_at bits t) t (whole_words bits t)))
+    (all_in_rises (lock_text bits t (whole_words bits t)) (text_rises (first_role bits t) (word_of_lock bits t) t (whole_words bits t)))
     (past_below bits locks p is.past)
     (from_lock bits t (whole_words bits t) p is.found.after)

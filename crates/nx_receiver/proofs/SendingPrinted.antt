@@ -17,7 +17,7 @@ use Rattle.nx_sync.specs.Words.{role_of}
 use Rattle.nx_sync.specs.declared.step.Role.{Role}
 use Rattle.nx_sync.specs.declared.step.Role.TheVariants.{Dx}
 use Rattle.nx_receiver.specs.FoundCopies.{place_in, found_copy, ended_in}
-use Rattle.nx_receiver.specs.LockText.{PlacedByte, place_of, printed_after, positions, taken_at, printed_by, text_by, bytes_of}
+use Rattle.nx_receiver.specs.LockText.{PlacedByte, word_place, printed_after, positions, taken_at, printed_by, text_by, bytes_of}
 use Rattle.nx_receiver.proofs.FoundLemmas.{place_in-get_or, length-bytes_of}
 use Rattle.nx_receiver.proofs.LockTexts.{text_by-grows, bytes_are_reading}
 use Rattle.nx_receiver.proofs.OnceRising.{contains_map}
@@ -145,14 +145,14 @@ module _ (first : Role) (words : ℕ → ℕ) (t w : ℕ) (sent : List SentPosit
       ∙ ap (λ p. reception p ∷ []) (get_or_at up_to_digit (traffic_position (second_digit message.identity)) digit_parts.0 end_position (length up_to_digit) refl)
 
   abbrev digit_byte : PlacedByte
-  digit_byte = record { byte = 48 + message.identity.number % 10; place = place_of t here }
+  digit_byte = record { byte = 48 + message.identity.number % 10; place = word_place t here }
 
   printed_here : printed_by first words t here ≡ digit_byte ∷ []
   unfolding printed_by
   printed_here =
-      ap (λ l. map (λ b. record { byte = b; place = place_of t here }) (printed_after (positions first words here) l)) taken_here
-      ∙ ap (λ s. map (λ b. record { byte = b; place = place_of t here }) (option_to_list (byte_of (combination (second_digit message.identity)) s))) shift_is
-      ∙ ap (λ o. map (λ b. record { byte = b; place = place_of t here }) (option_to_list o)) (digit-prints message.identity)
+      ap (λ l. map (λ b. record { byte = b; place = word_place t here }) (printed_after (positions first words here) l)) taken_here
+      ∙ ap (λ s. map (λ b. record { byte = b; place = word_place t here }) (option_to_list (byte_of (combination (second_digit message.identity)) s))) shift_is
+      ∙ ap (λ o. map (λ b. record { byte = b; place = word_place t here }) (option_to_list o)) (digit-prints message.identity)
 
   long_here : length (text_by first words t here) ≡ length front + 8
   long_here =
@@ -165,7 +165,7 @@ module _ (first : Role) (words : ℕ → ℕ) (t w : ℕ) (sent : List SentPosit
       let e : here + 1 ≡ suc here = omega arith in
       ap (text_by first words t) e ∙ ap (λ l. text_by first words t here ++ l) printed_here
 
-  digit_place : place_in (text_by first words t all) (length front + 8) ≡ place_of t here
+  digit_place : place_in (text_by first words t all) (length front + 8) ≡ word_place t here
   digit_place =
       let g = text_by-grows first words t (here + 1) all (omega (arith, digit_index, long_up_to)) in
       let whole : text_by first words t all ≡ text_by first words t here ++ digit_byte ∷ g.rest =
@@ -179,13 +179,13 @@ module _ (first : Role) (words : ℕ → ℕ) (t w : ℕ) (sent : List SentPosit
       ∙ ap (λ b. b.place) (get_or_at (text_by first words t here) digit_byte g.rest d (length front + 8) long_here)
 
   -- the copy of the message, at the place of its second digit
-  pub message_found : Contains (ended_in (text_by first words t all)) (record { identity = message.identity; how = Full; text = text_of message.lines; place = place_of t here })
+  pub message_found : Contains (ended_in (text_by first words t all)) (record { identity = message.identity; how = Full; text = text_of message.lines; place = word_place t here })
   unfolding found_copy
   message_found =
       let ended : Contains (ended_copies (bytes_of (text_by first words t all))) (sent_copy (length front) message) =
       subst (λ l. Contains (ended_copies l) (sent_copy (length front) message)) (sym whole_bytes) (ended_there front behind_bytes message good) in
       let at : length front + 9 - 1 ≡ length front + 8 = omega arith in
-      let place : place_in (text_by first words t all) (length front + 9 - 1) ≡ place_of t here = ap (place_in (text_by first words t all)) at
+      let place : place_in (text_by first words t all) (length front + 9 - 1) ≡ word_place t here = ap (place_in (text_by first words t all)) at
       ∙ digit_place in
       subst (λ (p : ℕ). Contains (ended_in (text_by first words t all)) (record { identity = message.identity; how = Full; text = text_of message.lines; place = p })) place
       (contains_map (found_copy (text_by first words t all)) (ended_copies (bytes_of (text_by first words t all))) (sent_copy (length front) message) ended)

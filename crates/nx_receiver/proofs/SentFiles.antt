@@ -21,7 +21,7 @@ use Rattle.nx_receiver.specs.FoundCopies.{found_to_end}
 use Rattle.nx_fec.specs.LineRuns.{air_limit}
 use Rattle.nx_receiver.specs.Listen.{AreTaken, AreTakenAfter, IsLogOf, IsLogOfFile, at_zero, events_of}
 use Rattle.nx_receiver.specs.Log.{PrintsToEnd}
-use Rattle.nx_receiver.specs.ListenOnce.{IsHeardInTimeIn, elements_in, heard_as}
+use Rattle.nx_receiver.specs.ListenOnce.{IsHeardInTimeIn, elements_in, copies_heard}
 use Rattle.nx_receiver.specs.OnceHeard.{FewBetween, IsHeardInTime, IsPrintedOnce}
 use Rattle.nx_receiver.specs.Printing.{printed_copies}
 use Rattle.nx_receiver.specs.Receiver as receiver
@@ -122,7 +122,7 @@ module _ (station from : ℕ) (file air : List ℕ) (sent : Sent) (h : IsTransmi
         selected = k.selected;
         close = k.close;
         few =
-            subst (λ (b : List Bool). FewBetween (heard_as lines (found_to_end b k.locks k.now)) at_zero message) same k.few;
+            subst (λ (b : List Bool). FewBetween (copies_heard lines (found_to_end b k.locks k.now)) at_zero message) same k.few;
       }
 
   -- what is printed of its messages

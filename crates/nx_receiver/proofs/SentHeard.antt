@@ -18,8 +18,7 @@ use Rattle.nx_station.specs.Sendings.{IsCut, IsReceived, Part, bits_of_parts, di
 use Rattle.nx_station.proofs.ChannelUndamaged.{undamaged-cut}
 use Rattle.nx_sync.specs.Locks.{IsNow, locked}
 use Rattle.nx_sync.specs.Words.{whole_words}
-use Rattle.nx_receiver.specs.Events.{Event, Setting, first_setting, settings}
-use Rattle.nx_receiver.specs.Events.{bits_of as bits_among}
+use Rattle.nx_receiver.specs.Events.{Event, Setting, first_setting, settings, elements_among}
 use Rattle.nx_receiver.specs.FoundCopies.{FoundCopy, found_to_end, past_copies}
 use Rattle.nx_receiver.specs.Listen.{at_zero}
 use Rattle.nx_receiver.specs.LockText.{PlacedByte, bytes_of, lock_text}
@@ -61,14 +60,14 @@ module _ (messages : List MessageView) (numbers : List ℕ) (others : List (List
   abbrev sent_bits : List Bool
   sent_bits = bits_of (words_sent spellings)
 
-  pub bits_are : bits_among events ≡ sent_bits
-  unfolding bits_among
+  pub bits_are : elements_among events ≡ sent_bits
+  unfolding elements_among
   bits_are = bits_among-elements sent_bits
 
   is_received : IsReceived (record { messages = messages; spellings = spellings; heard = drop first_slot (words_sent spellings) })
   is_received = record { sendable = sendable; spelled = spelled; passes = passes messages numbers others spelled }
 
-  cut : IsCut (bits_among events) parts
+  cut : IsCut (elements_among events) parts
   cut = record {
     whole = bits_are ∙ undamaged-cut (layout spellings)
         ∙ ap (λ b. bits_of (take first_slot (words_sent spellings)) ++ b) (sym (append-nil (bits_of (drop first_slot (words_sent spellings)))));
@@ -76,18 +75,18 @@ module _ (messages : List MessageView) (numbers : List ℕ) (others : List (List
   }
 
   -- the lock of its first four words, and its text
-  pub stands : IsNow (bits_among events) [] (locked 0 28)
+  pub stands : IsNow (elements_among events) [] (locked 0 28)
   stands = subst (λ (b : List Bool). IsNow b [] (locked 0 28)) (sym bits_are) (lock_stands messages numbers others spelled)
 
   abbrev pub text : List PlacedByte
-  text = lock_text (bits_among events) 28 (whole_words (bits_among events) 28)
+  text = lock_text (elements_among events) 28 (whole_words (elements_among events) 28)
 
   pub reads : bytes_of text ≡ flat_map printed_text messages
   reads =
       ap (λ (b : List Bool). bytes_of (lock_text b 28 (whole_words b 28))) bits_are ∙ text_is messages numbers others spelled
 
   abbrev pub found : List FoundCopy
-  found = found_to_end (bits_among events) [] (locked 0 28)
+  found = found_to_end (elements_among events) [] (locked 0 28)
 
   module _ (message : MessageView) (alone : BearsAlone messages message) (numbered : 0 < message.identity.number) where
     -- one copy bears the identity
@@ -120,7 +119,7 @@ module _ (messages : List MessageView) (numbers : List ℕ) (others : List (List
 
     is_found : (at : ℕ) → IsSentAt parts message at → Contains found (copy_at at)
     is_found at sent =
-        sending_in_end (bits_among events) parts (record { message = message; place = at }) [] (locked 0 28) cut sent stands
+        sending_in_end (elements_among events) parts (record { message = message; place = at }) [] (locked 0 28) cut sent stands
 
     copy_is_sent : (copy : FoundCopy) → Contains found copy → copy.identity ≡ message.identity
         → IsSentAt parts message copy.place
@@ -157,7 +156,7 @@ module _ (messages : List MessageView) (numbers : List ℕ) (others : List (List
     no_two : FewBetween (tagged_copies (first_setting at_zero) events found) at_zero message
     unfolding tagged_copies
     no_two before between after first later e none named again =
-        let two = has_two tagging (λ (c : FoundCopy). c.place) found (copy_at place) before between after first later (found_rise (bits_among events) [] (locked 0 28) stands) e in
+        let two = has_two tagging (λ (c : FoundCopy). c.place) found (copy_at place) before between after first later (found_rise (elements_among events) [] (locked 0 28) stands) e in
         let same = one_alone two.one two.other two.one_in two.other_in (identity_is two.one first two.first_is named) (identity_is two.other later two.later_is again) in
         absurd (omega (arith, two.below, ap (λ (c : FoundCopy). c.place) same))
 

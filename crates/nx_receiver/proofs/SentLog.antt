@@ -16,10 +16,9 @@ use Rattle.nx_memory.specs.Selection.{admits}
 use Rattle.nx_station.specs.Broadcast.{AreSpelled, header, printed_text}
 use Rattle.nx_station.specs.Sendable.{IsSendable}
 use Rattle.nx_sync.specs.Locks.{IsNow, locked}
-use Rattle.nx_sync.specs.Words.{first_role, whole_words, word_at}
+use Rattle.nx_sync.specs.Words.{first_role, whole_words, word_of_lock}
 use Rattle.nx_sync.proofs.UniqueStates.{locks-unique, now-unique}
-use Rattle.nx_receiver.specs.Events.{Event, Setting, first_setting, settings}
-use Rattle.nx_receiver.specs.Events.{bits_of as bits_among}
+use Rattle.nx_receiver.specs.Events.{Event, Setting, first_setting, settings, elements_among}
 use Rattle.nx_receiver.specs.FoundCopies.{FoundCopy, all_in, found_copy, found_to_end, past_copies}
 use Rattle.nx_receiver.specs.Listen.{at_zero}
 use Rattle.nx_receiver.specs.LockText.{PlacedByte}
@@ -214,7 +213,7 @@ module _ (messages : List MessageView) (numbers : List ℕ) (others : List (List
   events_of = events messages numbers others sendable spelled slot
 
   abbrev all_bits : List Bool
-  all_bits = bits_among events_of
+  all_bits = elements_among events_of
 
   abbrev text_of_lock : List PlacedByte
   text_of_lock = text messages numbers others sendable spelled slot
@@ -237,7 +236,7 @@ module _ (messages : List MessageView) (numbers : List ℕ) (others : List (List
       let n : ℕ = whole_words all_bits 28 in
       let heard = now_is.found.here.heard in
       All-weaker (λ (c : FoundCopy). (28 ≤ c.place) × (c.place < 28 + 7 * n)) (λ (c : FoundCopy). c.place < length all_bits) (λ c h. omega (arith, h.1)) (all_in text_of_lock)
-      (all_in_placed 28 (28 + 7 * n) text_of_lock (text_placed (first_role all_bits 28) (word_at all_bits 28) 28 n))
+      (all_in_placed 28 (28 + 7 * n) text_of_lock (text_placed (first_role all_bits 28) (word_of_lock all_bits 28) 28 n))
 
   abbrev at_slot : Setting
   at_slot = record (first_setting at_zero) { moment = slot }

@@ -23,7 +23,7 @@ use Rattle.nx_station.proofs.ChannelUndamaged.{undamaged-received}
 use Rattle.nx_station.proofs.ReadingBack.{broadcast-prints}
 use Rattle.nx_sync.specs.Laws.{IsOnPhasing, LockedBeforeDx, phasing}
 use Rattle.nx_sync.specs.Locks.{IsLocked, Past, before_dx, last_28}
-use Rattle.nx_sync.specs.Words.{first_role, is_wrong, losing_count, role_of, whole_words, word_at, wrong_in}
+use Rattle.nx_sync.specs.Words.{first_role, is_wrong, losing_count, role_of, whole_words, word_of_lock, wrong_in}
 use Rattle.nx_sync.specs.declared.step.Role.TheVariants.{Dx}
 use Rattle.nx_sync.proofs.Counts.{role_of-even, wrong_in-none}
 use Rattle.nx_sync.proofs.Patterns.{first_role-dx}
@@ -197,7 +197,7 @@ module _ (messages : List MessageView) (numbers : List ℕ) (spellings : List (L
   unfolding first_lock
   lock_stands = stands_through [] heard keeps first_lock
 
-  word_is : (k : ℕ) → k + 4 < length heard → word_at bits 28 k ≡ word_of heard (k + 4)
+  word_is : (k : ℕ) → k + 4 < length heard → word_of_lock bits 28 k ≡ word_of heard (k + 4)
   unfolding first_lock
   word_is k lt = same_through [] heard keeps first_lock k (k + 4) (omega arith) lt
 
@@ -244,7 +244,7 @@ module _ (messages : List MessageView) (numbers : List ℕ) (spellings : List (L
       ∙ get_or_append_left taken ends end_position i lt
 
   abbrev lock_word : ℕ → ℕ
-  lock_word = word_at bits 28
+  lock_word = word_of_lock bits 28
 
   are_taken : AreTaken lock_word 0 taken
   are_taken i lt =

@@ -6,7 +6,7 @@ use Rattle.std.proofs.lemmas.List.Elements.{All-nil, All-head, All-tail, All-wea
 use Rattle.nx_sync.specs.Laws.{OneMore, still_hunts, now_finds, still_stands, now_over}
 use Rattle.nx_sync.specs.Locks.{Lock, Now, hunting, locked, IsNow, Past, IsPattern}
 use Rattle.nx_sync.specs.Steps.{Brings, found, word, inside, over, hunts, IsStep}
-use Rattle.nx_sync.specs.Words.{word_at, first_role, whole_words}
+use Rattle.nx_sync.specs.Words.{word_of_lock, first_role, whole_words}
 use Rattle.nx_sync.specs.declared.step.Role.{Role}
 use Rattle.nx_sync.specs.declared.step.Step.{Step}
 use Rattle.nx_sync.proofs.StateChanges.{one_more}
@@ -45,9 +45,9 @@ reads-same reader first other f g n e same r =
 
 -- more elements leave the reader where it stands in a lock
 pub reads-more : (reader : LockReading) (bits more : List Bool) (t n : ℕ) → IsPattern bits t → t + 7 * n ≤ length bits
-    → ReadsLock reader (first_role bits t) (word_at bits t) n → ReadsLock reader (first_role (bits ++ more) t) (word_at (bits ++ more) t) n
+    → ReadsLock reader (first_role bits t) (word_of_lock bits t) n → ReadsLock reader (first_role (bits ++ more) t) (word_of_lock (bits ++ more) t) n
 reads-more reader bits more t n here h r =
-    reads-same reader (first_role bits t) (first_role (bits ++ more) t) (word_at bits t) (word_at (bits ++ more) t) n (sym (first_role-more bits more t here.enough here.heard)) (λ j lt. sym (word_at-more bits more t j (omega arith))) r
+    reads-same reader (first_role bits t) (first_role (bits ++ more) t) (word_of_lock bits t) (word_of_lock (bits ++ more) t) n (sym (first_role-more bits more t here.enough here.heard)) (λ j lt. sym (word_at-more bits more t j (omega arith))) r
 
 -- copies whose second digits were heard keep their tags
 pub copies_by-later : (first : Setting) (settings later : List Setting) (n : ℕ) → n ≤ length settings → (copies : List FoundCopy) → All (IsCopyIn 0 n) copies
@@ -118,7 +118,7 @@ module _ (first : Setting) (bits : List Bool) (b : Bool) (settings : List Settin
   quiet_case reader kept locks (hunting p) is reads k r none newer (hunting q) on (over e f) still_hunts = absurd (no_word r _ none (ap (λ x. x.word) f))
   quiet_case reader kept locks (hunting p) is reads k r none newer (locked q t) on (found e f) (now_finds g) =
       let whole : whole_words bits' t ≡ 0 = omega (arith, g) in
-      keeps_text reader kept locks (hunting p) (locked p t) is on (ap (lock_text bits' t) whole) (subst (ReadsLock reader (first_role bits' t) (word_at bits' t)) (sym whole) (reads.fresh (first_role bits' t) (word_at bits' t))) k
+      keeps_text reader kept locks (hunting p) (locked p t) is on (ap (lock_text bits' t) whole) (subst (ReadsLock reader (first_role bits' t) (word_of_lock bits' t)) (sym whole) (reads.fresh (first_role bits' t) (word_of_lock bits' t))) k
   quiet_case reader kept locks (hunting p) is reads k r none newer (locked q t) on (word n e f) (now_finds g) = absurd (no_word r _ none (ap (λ x. x.word) f))
   quiet_case reader kept locks (hunting p) is reads k r none newer (locked q t) on (inside n i e pos lt f) (now_finds g) = absurd (omega (arith, e, g, pos))
   quiet_case reader kept locks (locked p t) is reads k r none newer (locked q u) on (found e f) still_stands = absurd (omega (arith, e, one_longer, is.found.here.heard))
@@ -128,7 +128,7 @@ module _ (first : Setting) (bits : List Bool) (b : Bool) (settings : List Settin
       let heard = whole_heard bits t is.found.here.heard in
       keeps_text reader kept locks (locked p t) (locked p t) is on
       (ap (lock_text bits' t) now_whole ∙ lock_text-more bits (b ∷ []) t (whole_words bits t) is.found.here heard)
-      (subst (ReadsLock reader (first_role bits' t) (word_at bits' t)) (sym now_whole) (reads-more reader bits (b ∷ []) t (whole_words bits t) is.found.here heard reads)) k
+      (subst (ReadsLock reader (first_role bits' t) (word_of_lock bits' t)) (sym now_whole) (reads-more reader bits (b ∷ []) t (whole_words bits t) is.found.here heard reads)) k
   quiet_case reader kept locks (locked p t) is reads k r none newer (hunting q) on (over e f) (now_over lock x y z) = absurd (no_word r _ none (ap (λ x. x.word) f))
   quiet_case reader kept locks (locked p t) is reads k r none newer (hunting q) on (hunts h e) (now_over lock x y z) = absurd (omega (arith, h, z))
 

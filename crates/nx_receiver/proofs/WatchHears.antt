@@ -13,7 +13,7 @@ use Rattle.nx_receiver.specs.declared.over.Over.TheVariants as over
 use Rattle.nx_receiver.specs.Events.{Setting}
 use Rattle.nx_receiver.specs.LockReader.{LockReading}
 use Rattle.nx_receiver.specs.Tagged.{TaggedCopy}
-use Rattle.nx_receiver.specs.Watch.{Watching, HasEnded, Hears, IsOver, ReadsOver, ReadsStep, TagGoesOn, as_it_was, now_in_force, IsFresh, WatchStands, all_in_force, copies_by, in_force}
+use Rattle.nx_receiver.specs.Watch.{Watching, HasEnded, HearsBits, IsOver, ReadsOver, ReadsStep, TagGoesOn, as_it_was, now_in_force, IsFresh, WatchStands, all_in_force, copies_by, in_force}
 use Rattle.nx_receiver.specs.FoundCopies.{past_copies}
 use Rattle.nx_receiver.proofs.Growing.{hunted}
 use Rattle.nx_receiver.proofs.WatchTakes.{tag-hunting}
@@ -50,7 +50,7 @@ element_over first old new sync bit h s copies r answer stands is read o =
 
 pub element_heard : (first : Setting) (old new : Watching) (sync : Held) (bit : Bool) (h : List Bool) (s : List Setting) (copies : List TaggedCopy) (r : Step) (answer : Over)
     → StandsAfter sync (h ++ bit ∷ []) → IsStep (h ++ bit ∷ []) r → ReadsStep (record old { synchroniser = sync }) new r answer
-    → WatchStands first old h s copies → Hears first old new h s copies (bit ∷ []) answer
+    → WatchStands first old h s copies → HearsBits first old new h s copies (bit ∷ []) answer
 unfolding all_in_force
 element_heard first old new sync bit h s copies r answer stands is read w = record {
   brings = element_over first old new sync bit h s copies r answer stands is read w.reads;
@@ -82,7 +82,7 @@ quiet_bits first old h s copies bits (suc n) le quiet o =
 
 pub word_heard : (first : Setting) (old new : Watching) (sync : Held) (bits : List Bool) (h : List Bool) (s : List Setting) (copies : List TaggedCopy) (r : Step) (answer : Over)
     → length bits ≡ 7 → StandsAfter sync (h ++ bits) → IsWordStep h bits r → ReadsStep (record old { synchroniser = sync }) new r answer
-    → WatchStands first old h s copies → Hears first old new h s copies bits answer
+    → WatchStands first old h s copies → HearsBits first old new h s copies bits answer
 unfolding all_in_force
 word_heard first old new sync bits h s copies r answer long stands is read w =
     let x = get_or bits 6 false in
@@ -100,7 +100,7 @@ word_heard first old new sync bits h s copies r answer long stands is read w =
 
 pub hunt_heard : (first : Setting) (old : Watching) (sync : Held) (bits : List Bool) (n : ℕ) (h : List Bool) (s : List Setting) (copies : List TaggedCopy)
     → StandsAfter sync (h ++ take n bits) → HuntsThrough h bits n
-    → WatchStands first old h s copies → Hears first old (record old { synchroniser = sync }) h s copies (take n bits) over.Nothing
+    → WatchStands first old h s copies → HearsBits first old (record old { synchroniser = sync }) h s copies (take n bits) over.Nothing
 hunt_heard first old sync bits n h s copies stands hunt w = record {
   brings = record { synchroniser = stands; reads = quiet_bits first old h s copies bits n hunt.within hunt.quiet w.reads };
   none_before = λ k lt.
@@ -110,7 +110,7 @@ hunt_heard first old sync bits n h s copies stands hunt w = record {
       subst (λ (l : List Bool). HasEnded first (h ++ l) (s ++ all_in_force old l) copies) (sym same) here;
 }
 
-pub none_heard : (first : Setting) (watch : Watching) (h : List Bool) (s : List Setting) (copies : List TaggedCopy) → WatchStands first watch h s copies → Hears first watch watch h s copies [] over.Nothing
+pub none_heard : (first : Setting) (watch : Watching) (h : List Bool) (s : List Setting) (copies : List TaggedCopy) → WatchStands first watch h s copies → HearsBits first watch watch h s copies [] over.Nothing
 unfolding all_in_force
 none_heard first watch h s copies w = record {
   brings = subst₂ (λ (x : List Bool) (y : List Setting). WatchStands first watch x y copies) (sym (append-nil h)) (sym (append-nil s)) w;
@@ -125,8 +125,8 @@ take_into (x ∷ xs) ys (suc k) h = let e : k - length xs ≡ suc k - suc (lengt
 
 -- some elements are heard after others
 pub hears_on : (first : Setting) (old mid new : Watching) (h : List Bool) (s : List Setting) (copies : List TaggedCopy) (xs ys : List Bool) (answer : Over)
-    → in_force mid ≡ in_force old → Hears first old mid h s copies xs over.Nothing → Hears first mid new (h ++ xs) (s ++ all_in_force old xs) copies ys answer
-    → Hears first old new h s copies (xs ++ ys) answer
+    → in_force mid ≡ in_force old → HearsBits first old mid h s copies xs over.Nothing → HearsBits first mid new (h ++ xs) (s ++ all_in_force old xs) copies ys answer
+    → HearsBits first old new h s copies (xs ++ ys) answer
 hears_on first old mid new h s copies xs ys answer same f g =
     let split : (zs : List Bool) → s ++ all_in_force old (xs ++ zs) ≡ (s ++ all_in_force old xs) ++ all_in_force mid zs =
     λ (zs : List Bool). ap (λ l. s ++ l) (all_in_force-append old xs zs) ∙ sym (append_assoc s (all_in_force old xs) (all_in_force old zs)) ∙ ap (λ l. (s ++ all_in_force old xs) ++ l) (all_in_force-same old mid zs (sym same)) in

@@ -5,7 +5,7 @@ use Rattle.std.specs.Array.{IsFirstChunk}
 use Rattle.std.proofs.lemmas.List.{drop_more, take_all}
 use Rattle.nx_receiver.specs.declared.over.Over.{Over}
 use Rattle.nx_receiver.specs.declared.over.Over.TheVariants as over
-use Rattle.nx_receiver.specs.Watch.{Watching, Hears, HearsAll, TagGoesOn, as_it_was, in_force}
+use Rattle.nx_receiver.specs.Watch.{Watching, HearsBits, HearsAll, TagGoesOn, as_it_was, in_force}
 use Rattle.nx_sync.specs.Steps.{HuntsThrough}
 use Rattle.nx_sync.specs.Synchroniser.{Held, StandsAfter}
 use Rattle.nx_receiver.proofs.WatchHears.{hears_on, hunt_heard, none_heard, tag_on}
@@ -31,7 +31,7 @@ goes_to old mid new bits piece at n answer g is more = record {
   hears = λ first h s copies w.
       let f = g.heard.hears first h s copies w in
       let whole : take at bits ++ piece ≡ take (at + n) bits = ap (λ l. take at bits ++ l) is ∙ sym (take-add at n bits) in
-      subst (λ (l : List Bool). Hears first old new h s copies l answer) whole
+      subst (λ (l : List Bool). HearsBits first old new h s copies l answer) whole
       (hears_on first old mid new h s copies (take at bits) piece answer g.force f (more.hears first (h ++ take at bits) _ copies f.brings));
 }
 

@@ -4,7 +4,7 @@ use Rattle.std.specs.Prelude.{MatchOption}
 use Rattle.std.specs.List.{All}
 use Rattle.std.proofs.lemmas.List.Elements.{All-head}
 use Rattle.nx_sync.specs.Locks.{Now, hunting, locked}
-use Rattle.nx_sync.specs.Words.{word_at, first_role, whole_words}
+use Rattle.nx_sync.specs.Words.{word_of_lock, first_role, whole_words}
 use Rattle.nx_sync.specs.declared.step.Role.{Role}
 use Rattle.nx_envelope.specs.Copies.{Copy, closed_copy, open_headers}
 use Rattle.nx_envelope.specs.Finder.{Closes, HasReady}
@@ -36,7 +36,7 @@ StandsWhere old new = (first : Role) (words : ℕ → ℕ) (n : ℕ) → ReadsLo
 
 reads_on : (old new : LockReading) → StandsWhere old new → (bits : List Bool) (now : Now) → ReadsNow old bits now → ReadsNow new bits now
 reads_on old new on bits (hunting p) r = record { fresh = λ first words. on first words 0 (r.fresh first words) }
-reads_on old new on bits (locked p t) r = on (first_role bits t) (word_at bits t) (whole_words bits t) r
+reads_on old new on bits (locked p t) r = on (first_role bits t) (word_of_lock bits t) (whole_words bits t) r
 
 -- the copy that was taken is the one that the finder had
 taken : (copy : Copy) (found : Option Found) (kept : CopyTag) → MatchOption found ⊥ (IsFound copy) → handed_out found kept ≡ ready_copy copy kept ∷ []
@@ -77,7 +77,7 @@ both_taken first watch reader found h s copies on is both =
       stands = r.stands;
       many = r.many;
       ended = ap (λ l. copies ++ l) (taken both.copy found watch.tag (is both.copy both.ready)) ∙ r.ended;
-      reads = on (first_role h r.lock.at) (word_at h r.lock.at) (r.lock.last + 1) r.reads;
+      reads = on (first_role h r.lock.at) (word_of_lock h r.lock.at) (r.lock.last + 1) r.reads;
       has_tag = r.has_tag;
     }
 
@@ -110,8 +110,8 @@ lock_ended first watch reader found h s copies fresh ends over =
     let lock = over.lock in
     let text = past_text h lock in
     let closed : Closes (bytes_of text) found =
-    subst (λ (l : List ℕ). Closes l found) (sym (bytes_are_reading (first_role h lock.at) (word_at h lock.at) lock.at (lock.last + 1)))
-    (ends (first_role h lock.at) (word_at h lock.at) (lock.last + 1) over.reads) in
+    subst (λ (l : List ℕ). Closes l found) (sym (bytes_are_reading (first_role h lock.at) (word_of_lock h lock.at) lock.at (lock.last + 1)))
+    (ends (first_role h lock.at) (word_of_lock h lock.at) (lock.last + 1) over.reads) in
     record {
       synchroniser = over.synchroniser;
       reads = record {
@@ -140,9 +140,9 @@ stands_in : (reader : LockReading) (found : Option Found) → ((first : Role) (w
     → (bits : List Bool) (now : Now) → ReadsNow reader bits now → Closes (bytes_of (standing_text bits now)) found
 unfolding text_by
 stands_in reader found ends bits (hunting p) r =
-    subst (λ (l : List ℕ). Closes l found) (sym (bytes_are_reading (first_role bits 0) (word_at bits 0) 0 zero)) (ends (first_role bits 0) (word_at bits 0) 0 (r.fresh (first_role bits 0) (word_at bits 0)))
+    subst (λ (l : List ℕ). Closes l found) (sym (bytes_are_reading (first_role bits 0) (word_of_lock bits 0) 0 zero)) (ends (first_role bits 0) (word_of_lock bits 0) 0 (r.fresh (first_role bits 0) (word_of_lock bits 0)))
 stands_in reader found ends bits (locked p t) r =
-    subst (λ (l : List ℕ). Closes l found) (sym (bytes_are_reading (first_role bits t) (word_at bits t) t (whole_words bits t))) (ends (first_role bits t) (word_at bits t) (whole_words bits t) r)
+    subst (λ (l : List ℕ). Closes l found) (sym (bytes_are_reading (first_role bits t) (word_of_lock bits t) t (whole_words bits t))) (ends (first_role bits t) (word_of_lock bits t) (whole_words bits t) r)
 
 pub all_ended : (first : Setting) (watch : Watching) (found : Option Found) (h : List Bool) (s : List Setting) (copies : List TaggedCopy)
     → ((first : Role) (words : ℕ → ℕ) (n : ℕ) → ReadsLock watch.reader first words n → Closes (text_after first words n) found)

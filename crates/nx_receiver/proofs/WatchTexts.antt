@@ -15,7 +15,7 @@ use Rattle.nx_receiver.specs.declared.over.CopyTag.{CopyTag}
 use Rattle.nx_receiver.specs.Events.{Setting}
 use Rattle.nx_receiver.specs.FoundCopies.{FoundCopy, place_in, place_of_header, found_copy, ended_in}
 use Rattle.nx_receiver.specs.LockReader.{HearsWord, text_after}
-use Rattle.nx_receiver.specs.LockText.{PlacedByte, place_of, printed_by, text_by, bytes_of}
+use Rattle.nx_receiver.specs.LockText.{PlacedByte, word_place, printed_by, text_by, bytes_of}
 use Rattle.nx_receiver.specs.Tagged.{TaggedCopy, tag}
 use Rattle.nx_receiver.specs.Watch.{Watching, HasTag, copies_by, in_force, ready_copy, setting_in, tag_after, tag_of}
 use Rattle.nx_receiver.proofs.LockTexts.{bytes_are_reading, bytes_of-append, bytes-placed}
@@ -43,13 +43,13 @@ added first words t n more e =
     (sym (bytes_of-append (text_by first words t n) (printed_by first words t n)) ∙ after ∙ e ∙ ap (λ l. l ++ more) (sym before))
 
 pub adds_byte : (first : Role) (words : ℕ → ℕ) (t n : ℕ) (finder : Finder) (event : TextEvent) → HearsWord (text_after first words n) (text_after first words (n + 1)) finder event
-    → AddsByte (text_by first words t n) (text_by first words t (n + 1)) (place_of t n) finder event
+    → AddsByte (text_by first words t n) (text_by first words t (n + 1)) (word_place t n) finder event
 unfolding text_by printed_by
 adds_byte first words t n finder event (inl h) =
-    let none = placed-same (place_of t n) _ [] (added first words t n [] (h.same ∙ sym (append-nil (text_after first words n)))) in
+    let none = placed-same (word_place t n) _ [] (added first words t n [] (h.same ∙ sym (append-nil (text_after first words n)))) in
     no_byte (ap (text_by first words t) (add-one n) ∙ ap (λ l. text_by first words t n ++ l) none ∙ append-nil (text_by first words t n)) h.nothing
 adds_byte first words t n finder event (inr h) =
-    let one = placed-same (place_of t n) _ (h.byte ∷ []) (added first words t n (h.byte ∷ []) h.grows) in
+    let one = placed-same (word_place t n) _ (h.byte ∷ []) (added first words t n (h.byte ∷ []) h.grows) in
     a_byte h.byte (ap (text_by first words t) (add-one n) ∙ ap (λ l. text_by first words t n ++ l) one)
     (subst (λ (l : List ℕ). Hears l h.byte finder event) (sym (bytes_are_reading first words t n)) h.hears)
 

@@ -5,7 +5,7 @@ use Rattle.nx_sync.specs.Laws.{OneMore, still_hunts, now_finds, still_stands, no
 use Rattle.nx_sync.specs.Locks.{Lock, Now, hunting, locked, IsNow, Past, IsPattern}
 use Rattle.nx_sync.specs.Steps.{Brings, found, word, inside, over, hunts, IsStep, step}
 use Rattle.nx_sync.specs.Synchroniser.{StandsAfter}
-use Rattle.nx_sync.specs.Words.{word_at, first_role, role_of, whole_words, heard_word}
+use Rattle.nx_sync.specs.Words.{word_of_lock, first_role, role_of, whole_words, heard_word}
 use Rattle.nx_sync.specs.declared.step.Role.{Role}
 use Rattle.nx_sync.specs.declared.step.Step.{Step}
 use Rattle.nx_sync.proofs.StateChanges.{one_more}
@@ -16,7 +16,7 @@ use Rattle.nx_receiver.specs.declared.over.Over.{Over}
 use Rattle.nx_receiver.specs.Events.{Setting}
 use Rattle.nx_receiver.specs.FoundCopies.{FoundCopy, ended_in, past_copies, standing_text, ended_so_far}
 use Rattle.nx_receiver.specs.LockReader.{ReadsLock}
-use Rattle.nx_receiver.specs.LockText.{PlacedByte, lock_text, place_of}
+use Rattle.nx_receiver.specs.LockText.{PlacedByte, lock_text, word_place}
 use Rattle.nx_receiver.specs.Tagged.{TaggedCopy}
 use Rattle.nx_receiver.specs.Watch.{Watching, HasTag, IsOver, LockIsOver, ReadsNow, ReadsOver, ReadsWord, WatchStands, copies_by, in_force, over_with, tag_after}
 use Rattle.nx_receiver.proofs.FoundLemmas.{text_placed}
@@ -57,22 +57,22 @@ module _ (first : Setting) (bits : List Bool) (b : Bool) (settings : List Settin
   pub record WordRead (t k : ℕ) (is_changed : Bool) : Type 0 where
     pub is_copy_over : Bool
     pub after : AfterWord first settings' (lock_text bits t k) (lock_text bits' t (k + 1)) new.tag new.reader.finder is_copy_over
-    pub reads : ReadsLock new.reader (first_role bits' t) (word_at bits' t) (k + 1)
+    pub reads : ReadsLock new.reader (first_role bits' t) (word_of_lock bits' t) (k + 1)
     pub is : answer ≡ over_with is_copy_over is_changed
 
-  word_read : (t k : ℕ) → IsPattern bits t → length bits' ≡ t + 7 * (k + 1) → ReadsLock old.reader (first_role bits t) (word_at bits t) k → HasTag first settings (lock_text bits t k) old.tag
-      → (w : ℕ) (role : Role) (is_changed : Bool) → word_at bits' t k ≡ w → role ≡ role_of (first_role bits' t) k → ReadsWord old new w role is_changed answer → WordRead t k is_changed
+  word_read : (t k : ℕ) → IsPattern bits t → length bits' ≡ t + 7 * (k + 1) → ReadsLock old.reader (first_role bits t) (word_of_lock bits t) k → HasTag first settings (lock_text bits t k) old.tag
+      → (w : ℕ) (role : Role) (is_changed : Bool) → word_of_lock bits' t k ≡ w → role ≡ role_of (first_role bits' t) k → ReadsWord old new w role is_changed answer → WordRead t k is_changed
   word_read t k here e reads has_tag w role is_changed is_word is_role r =
       let heard : t + 7 * k ≤ length bits = omega (arith, e, longer) in
       let at = reads-more old.reader bits (b ∷ []) t k here heard reads in
       let same = lock_text-more bits (b ∷ []) t k here heard in
-      let adds = adds_byte (first_role bits' t) (word_at bits' t) t k new.reader.finder r.event (r.hears (first_role bits' t) (word_at bits' t) k at is_word is_role) in
-      let after = after_word first settings (lock_text bits' t k) (lock_text bits' t (k + 1)) old t (t + 7 * k) (place_of t k) new.reader.finder r.event (text_placed (first_role bits' t) (word_at bits' t) t k) (omega (arith, heard, many)) (omega (arith, e, longer, many)) (subst (λ (l : List PlacedByte). HasTag first settings l old.tag) (sym same) has_tag) adds in
+      let adds = adds_byte (first_role bits' t) (word_of_lock bits' t) t k new.reader.finder r.event (r.hears (first_role bits' t) (word_of_lock bits' t) k at is_word is_role) in
+      let after = after_word first settings (lock_text bits' t k) (lock_text bits' t (k + 1)) old t (t + 7 * k) (word_place t k) new.reader.finder r.event (text_placed (first_role bits' t) (word_of_lock bits' t) t k) (omega (arith, heard, many)) (omega (arith, e, longer, many)) (subst (λ (l : List PlacedByte). HasTag first settings l old.tag) (sym same) has_tag) adds in
       record {
         is_copy_over = is_over r.event;
         after = subst (λ (kept : CopyTag). AfterWord first settings' (lock_text bits t k) (lock_text bits' t (k + 1)) kept new.reader.finder (is_over r.event)) (sym r.kept)
             (subst (λ (l : List PlacedByte). AfterWord first settings' l (lock_text bits' t (k + 1)) (tag_after old r.event) new.reader.finder (is_over r.event)) same after);
-        reads = r.stands (first_role bits' t) (word_at bits' t) k at is_word is_role;
+        reads = r.stands (first_role bits' t) (word_of_lock bits' t) k at is_word is_role;
         is = r.is;
       }
 
@@ -100,7 +100,7 @@ module _ (first : Setting) (bits : List Bool) (b : Bool) (settings : List Settin
       let whole : whole_words bits t ≡ n = omega (arith, e, longer) in
       let both : Some (heard_word bits' t n) ≡ Some (w, role) = sym (ap (λ x. x.word) f) ∙ one in
       let pair : heard_word bits' t n ≡ (w, role) = cc in
-      let read = word_read t n is.found.here e (subst (ReadsLock old.reader (first_role bits t) (word_at bits t)) whole reads) (subst (λ (m : ℕ). HasTag first settings (lock_text bits t m) old.tag) whole k) w role (is_some r.change) (ap (λ x. x.0) pair) (sym (ap (λ x. x.1) pair)) wr in
+      let read = word_read t n is.found.here e (subst (ReadsLock old.reader (first_role bits t) (word_of_lock bits t)) whole reads) (subst (λ (m : ℕ). HasTag first settings (lock_text bits t m) old.tag) whole k) w role (is_some r.change) (ap (λ x. x.0) pair) (sym (ap (λ x. x.1) pair)) wr in
       let changed : is_some r.change ≡ true = ap (λ x. is_some x.change) f in
       subst (IsOver first new bits' settings' (copies_by first settings (ended_so_far bits locks (locked p t)))) (sym (read.is ∙ ap (over_with read.is_copy_over) changed))
       (be_over first new bits' settings' (copies_by first settings (ended_so_far bits locks (locked p t))) (copies_by first settings' read.after.new) read.is_copy_over read.after.brought (record {
@@ -132,7 +132,7 @@ module _ (first : Setting) (bits : List Bool) (b : Bool) (settings : List Settin
       let now_whole : n + 1 ≡ whole_words bits' t = omega (arith, e) in
       let both : Some (heard_word bits' t n) ≡ Some (w, role) = sym (ap (λ x. x.word) f) ∙ one in
       let pair : heard_word bits' t n ≡ (w, role) = cc in
-      let read = word_read t n is.found.here e (subst (ReadsLock old.reader (first_role bits t) (word_at bits t)) whole reads) (subst (λ (m : ℕ). HasTag first settings (lock_text bits t m) old.tag) whole k) w role (is_some r.change) (ap (λ x. x.0) pair) (sym (ap (λ x. x.1) pair)) wr in
+      let read = word_read t n is.found.here e (subst (ReadsLock old.reader (first_role bits t) (word_of_lock bits t)) whole reads) (subst (λ (m : ℕ). HasTag first settings (lock_text bits t m) old.tag) whole k) w role (is_some r.change) (ap (λ x. x.0) pair) (sym (ap (λ x. x.1) pair)) wr in
       let still : is_some r.change ≡ false = ap (λ x. is_some x.change) f in
       subst (IsOver first new bits' settings' (copies_by first settings (ended_so_far bits locks (locked p t)))) (sym (read.is ∙ ap (over_with read.is_copy_over) still))
       (stand_on first new bits' settings' (copies_by first settings (ended_so_far bits locks (locked p t))) (copies_by first settings' read.after.new) read.is_copy_over read.after.brought (record {
@@ -143,7 +143,7 @@ module _ (first : Setting) (bits : List Bool) (b : Bool) (settings : List Settin
           stands = on;
           many = as_many;
           ended = ended_with locks p t n is whole read.after.new read.after.ended ∙ ap (λ (m : ℕ). copies_by first settings' (past_copies bits' locks ++ ended_in (lock_text bits' t m))) now_whole;
-          reads = subst (ReadsLock new.reader (first_role bits' t) (word_at bits' t)) now_whole read.reads;
+          reads = subst (ReadsLock new.reader (first_role bits' t) (word_of_lock bits' t)) now_whole read.reads;
           has_tag = subst (λ (m : ℕ). HasTag first settings' (lock_text bits' t m) new.tag) now_whole read.after.has_tag;
         };
       }))

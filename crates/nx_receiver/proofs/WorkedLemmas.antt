@@ -14,14 +14,14 @@ use Rattle.nx_fec.proofs.AlignedLemmas.{get_or-words_of}
 use Rattle.nx_fec.proofs.RoundTripLemmas.{length-bits_of, words_of-bits_of}
 use Rattle.nx_station.specs.Channel.{phasing_words}
 use Rattle.nx_station.specs.ChannelExample.{damaged_in, example_words, heard_half}
-use Rattle.nx_sync.specs.Words.{word_at, first_role, role_of, wrong_in, wrong_until, losing_count, whole_words}
+use Rattle.nx_sync.specs.Words.{word_of_lock, first_role, role_of, wrong_in, wrong_until, losing_count, whole_words}
 use Rattle.nx_sync.specs.Locks.{before_dx, last_28, releases_as_ended, change_at, Past, IsLocked}
 use Rattle.nx_sync.specs.declared.step.Role.TheVariants.{Dx, Rx}
 use Rattle.nx_sync.specs.declared.step.Change.TheVariants.{Ended, LostLock}
 use Rattle.nx_sync.proofs.Counts.{wrong_in-add}
 use Rattle.nx_sync.proofs.KeptPast.{change_at-same}
 use Rattle.nx_receiver.specs.LockText.{taken_at, positions, lock_text, bytes_of}
-use Rattle.nx_receiver.specs.Worked.{sent_words, damaged_words}
+use Rattle.nx_receiver.specs.Worked.{worked_words, damaged_words}
 use Rattle.nx_receiver.proofs.LockTexts.{positions-same, bytes_are_reading}
 
 -- word k of a lock at bit 28, by the words that were heard
@@ -38,8 +38,8 @@ pub record Computed (sent : List ℕ) : Type 0 where
   pub few_wrong : wrong_in (lock_word sent) 0 199 ≤ 30
   pub reads : text (positions Dx (lock_word sent) 199) Letters ≡ codes "ZCZC EA01\nTEST\nNNNN\n\n"
 
-pub sent_computed : Computed sent_words
-unfolding positions taken_at role_of counts_as place_of words table character_of row_of sent_words example_words phasing_words before_dx bits_of elements elements_from wrong_in weight releases_as_ended
+pub sent_computed : Computed worked_words
+unfolding positions taken_at role_of counts_as place_of words table character_of row_of worked_words example_words phasing_words before_dx bits_of elements elements_from wrong_in weight releases_as_ended
 sent_computed = record { long = refl; are_words = refl; pattern = refl; before = refl; no_end = refl; few_wrong = lit≤ tt; reads = refl }
 
 pub damaged_computed : Computed damaged_words
@@ -59,8 +59,8 @@ module _ (sent : List ℕ) (is : Computed sent) where
   word_is slot h =
       sym (get_or-words_of (bits_of sent) slot (omega (arith, bit_count))) ∙ ap (λ ws. get_or ws slot 0) (words_of-bits_of sent are_words)
 
-  lock_word_is : (k : ℕ) → k < 199 → word_at (bits_of sent) 28 k ≡ lock_word sent k
-  unfolding word_at
+  lock_word_is : (k : ℕ) → k < 199 → word_of_lock (bits_of sent) 28 k ≡ lock_word sent k
+  unfolding word_of_lock
   lock_word_is k h = ap (word_from (bits_of sent)) (at k) ∙ word_is (k + 4) (omega arith)
     where
       at : (k : ℕ) → 28 + 7 * k ≡ 7 * (k + 4)
@@ -96,7 +96,7 @@ module _ (sent : List ℕ) (is : Computed sent) where
       least = λ s after before here. absurd (omega (arith, before, here.enough));
     };
     holds = record {
-      never = λ k h. ap (λ first. change_at first (word_at (bits_of sent) 28) k) role_is ∙ change_at-same Dx (word_at (bits_of sent) 28) (lock_word sent) k (λ j le. lock_word_is j (omega (arith, bit_count))) ∙ quiet k (omega (arith, bit_count));
+      never = λ k h. ap (λ first. change_at first (word_of_lock (bits_of sent) 28) k) role_is ∙ change_at-same Dx (word_of_lock (bits_of sent) 28) (lock_word sent) k (λ j le. lock_word_is j (omega (arith, bit_count))) ∙ quiet k (omega (arith, bit_count));
     };
   }
 
@@ -105,7 +105,7 @@ module _ (sent : List ℕ) (is : Computed sent) where
   text_is =
       let n : whole_words (bits_of sent) 28 ≡ 199 = ap (λ l. (l - 28) / 7) bit_count in
       ap (λ n. bytes_of (lock_text (bits_of sent) 28 n)) n
-      ∙ bytes_are_reading (first_role (bits_of sent) 28) (word_at (bits_of sent) 28) 28 199
-      ∙ ap (λ first. text (positions first (word_at (bits_of sent) 28) 199) Letters) role_is
-      ∙ ap (λ ps. text ps Letters) (positions-same Dx (word_at (bits_of sent) 28) (lock_word sent) 199 lock_word_is)
+      ∙ bytes_are_reading (first_role (bits_of sent) 28) (word_of_lock (bits_of sent) 28) 28 199
+      ∙ ap (λ first. text (positions first (word_of_lock (bits_of sent) 28) 199) Letters) role_is
+      ∙ ap (λ ps. text ps Letters) (positions-same Dx (word_of_lock (bits_of sent) 28) (lock_word sent) 199 lock_word_is)
       ∙ is.reads

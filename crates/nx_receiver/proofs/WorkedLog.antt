@@ -18,8 +18,7 @@ use Rattle.nx_fec.specs.Emission.{bits_of}
 use Rattle.nx_station.specs.ChannelExample.{ea01}
 use Rattle.nx_sync.specs.Words.{whole_words}
 use Rattle.nx_sync.specs.Locks.{locked, IsNow}
-use Rattle.nx_receiver.specs.Events.{element, Setting, settings, setting_at, first_setting}
-use Rattle.nx_receiver.specs.Events.{bits_of as bits_among}
+use Rattle.nx_receiver.specs.Events.{element, Setting, settings, setting_at, first_setting, elements_among}
 use Rattle.nx_receiver.specs.LockText.{PlacedByte, lock_text}
 use Rattle.nx_receiver.specs.FoundCopies.{found_copy, past_copies, found_to_end}
 use Rattle.nx_receiver.specs.Tagged.{tag, tagged_copies}
@@ -30,8 +29,8 @@ use Rattle.nx_receiver.specs.Worked.{at_its_slot, heard_elements, worked_log}
 use Rattle.nx_receiver.proofs.WorkedLemmas.{Computed, stands, text_is}
 
 -- the elements are those of the events
-pub bits_among-elements : (bits : List Bool) → bits_among (map element bits) ≡ bits
-unfolding bits_among
+pub bits_among-elements : (bits : List Bool) → elements_among (map element bits) ≡ bits
+unfolding elements_among
 bits_among-elements [] = refl
 bits_among-elements (b ∷ bits) = ap (λ bs. b ∷ bs) (bits_among-elements bits)
 

@@ -50,9 +50,9 @@ bit_in (element bit) = bit ∷ []
 bit_in (command c) = []
 
 -- the elements among the events, in order
-unfoldable pub bits_of : List Event → List Bool
-bits_of [] = []
-bits_of (event ∷ events) = bit_in event ++ bits_of events
+unfoldable pub elements_among : List Event → List Bool
+elements_among [] = []
+elements_among (event ∷ events) = bit_in event ++ elements_among events
 
 -- what is in force at an event, where it is an element
 abbrev pub setting_at_bit : Setting → Event → List Setting

@@ -13,7 +13,7 @@ use Rattle.nx_fec.specs.declared.fault.LineFault.{LineFault}
 use Rattle.nx_fec.specs.declared.fault.LineFault.TheVariants as file
 use Rattle.nx_memory.specs.Vital.{is_vital}
 use Rattle.nx_receiver.specs.Events as events
-use Rattle.nx_receiver.specs.Events.{Event, Setting, Start, at_moment, bits_of, command, first_setting, setting_after_all}
+use Rattle.nx_receiver.specs.Events.{Event, Setting, Start, at_moment, elements_among, command, first_setting, setting_after_all}
 use Rattle.nx_receiver.specs.Log.{HasPrinted, IsLog, PrintsToEnd}
 use Rattle.nx_receiver.specs.Receiver as receiver
 use Rattle.nx_receiver.specs.Receiver.{Refuses}
@@ -44,13 +44,13 @@ events_of lines = flat_map line_events lines
 abbrev pub in_force_after : List Line → Setting
 in_force_after lines = setting_after_all (first_setting at_zero) (events_of lines)
 
-abbrev pub is_moment : Line → Bool
-is_moment (moment n) = true
-is_moment _ = false
+abbrev pub is_moment_line : Line → Bool
+is_moment_line (moment n) = true
+is_moment_line _ = false
 
 -- one of these lines is a moment
 abbrev pub has_moment : List Line → Bool
-has_moment lines = list_any is_moment lines
+has_moment lines = list_any is_moment_line lines
 
 -- A line is taken after these lines: a moment in range, and not before the one in force; elements
 -- once there was a moment; and no refusal of a vital subject (ITU-R M.540).
@@ -104,7 +104,7 @@ pub record HasListened (old new : Option (List ℕ)) (bytes : List ℕ) (report 
   pub heard : IsLogOfFile bytes lines copies log
   pub written : Appends old new log
   pub lines_counted : report.lines ≡ length lines
-  pub bits_counted : report.bits ≡ length (bits_of (events_of lines))
+  pub bits_counted : report.bits ≡ length (elements_among (events_of lines))
   pub printed_counted : report.printed ≡ length copies
 
 -- the log of these lines was written

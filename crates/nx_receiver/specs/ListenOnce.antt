@@ -28,8 +28,8 @@ abbrev pub in_force_at : List Line → ℕ → Setting
 in_force_at lines place = setting_of at_zero (events_of lines) place
 
 -- these copies, with what is in force at the second digit of each
-abbrev pub heard_as : List Line → List FoundCopy → List TaggedCopy
-heard_as lines copies = tagged_copies (first_setting at_zero) (events_of lines) copies
+abbrev pub copies_heard : List Line → List FoundCopy → List TaggedCopy
+copies_heard lines copies = tagged_copies (first_setting at_zero) (events_of lines) copies
 
 -- These are all copies that are found in the elements, where the end of the file closes the one
 -- that stands open.
@@ -67,7 +67,7 @@ pub record IsHeardInTimeIn (file : List ℕ) (message : MessageView) : Type 0 wh
       → (in_force_at lines one).moment < (in_force_at lines other).moment + seconds_known
   -- 200 identities suffice: fewer than 200 entries are made between its first copy and any later
   -- one.
-  pub few : FewBetween (heard_as lines copies) at_zero message
+  pub few : FewBetween (copies_heard lines copies) at_zero message
 
 -- Both halves of the headline: the log of the file of these bytes was written, and of its entries
 -- exactly one bears the identity of each message that is heard in time in the file: it is full, has

@@ -7,7 +7,7 @@ use Rattle.nx_fec.specs.declared.fault.LineFault.TheVariants as file
 use Rattle.nx_fec.specs.declared.line_run.LinesFault.{LinesFault}
 use Rattle.nx_fec.specs.declared.line_run.LinesFault.TheVariants as run
 use Rattle.nx_memory.specs.Ring.{RingMemory}
-use Rattle.nx_receiver.specs.Events.{Event, bits_of}
+use Rattle.nx_receiver.specs.Events.{Event, elements_among}
 use Rattle.nx_receiver.specs.Listen.{AreTaken, LacksMoment, RefusesMoment, RefusesVital, at_zero, events_of, has_moment}
 use Rattle.nx_receiver.specs.Log.{HasPrinted, IsLog, PrintsToEnd}
 use Rattle.nx_receiver.specs.Receiver.{Awaits, Stands, entry_list}
@@ -31,9 +31,9 @@ pub record HearsEvents (listener : Listener) (events : List Event) (log : List T
     : Type 0 where
   pub receiver :
       Stands (λ (memory : RingMemory). memory.content) at_zero listener.receiver events log
-  pub elements : listener.elements ≡ count_of (length (bits_of events))
+  pub elements : listener.elements ≡ count_of (length (elements_among events))
   pub entries : listener.entries ≡ count_of (length log)
-  pub few : length log ≤ length (bits_of events)
+  pub few : length log ≤ length (elements_among events)
 
 -- the same, and these bytes are the log of the copies
 pub record HearsLog (listener : Listener) (events : List Event) (given : List ℕ) : Type 0 where
@@ -103,9 +103,9 @@ pub record HasClosed (old new : Option (List ℕ)) (events : List Event) (report
   pub printed : PrintsToEnd at_zero events copies
   pub spelled : IsLog copies log
   pub written : Appends old new log
-  pub bits_counted : report.bits ≡ count_of (length (bits_of events))
+  pub bits_counted : report.bits ≡ count_of (length (elements_among events))
   pub printed_counted : report.printed ≡ count_of (length copies)
-  pub few : length copies ≤ length (bits_of events) + 1
+  pub few : length copies ≤ length (elements_among events) + 1
 
 -- the file ended so, and this log was written in part
 pub record HasClosedSome (old new : Option (List ℕ)) (events : List Event) (written : ℕ)

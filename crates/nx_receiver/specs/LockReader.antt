@@ -34,8 +34,7 @@ abbrev pub text_after : Role → (ℕ → ℕ) → ℕ → List ℕ
 text_after first words n = text (positions first words n) Letters
 
 -- The reader stands after the first n words of a lock: it has the latest three DX words among them,
--- the shift that their positions leave, and the copies of their text; and nothing of any other
--- lock.
+-- the shift that their positions leave, and the copies of their text.
 pub record ReadsLock (reader : LockReading) (first : Role) (words : ℕ → ℕ) (n : ℕ) : Type 0 where
   pub latest : IsLatest reader.diversity (dx_words first words n)
   pub shift : reader.printer ≡ shift_after_all (positions first words n) Letters

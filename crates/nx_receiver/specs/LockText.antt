@@ -7,7 +7,7 @@ use Rattle.std.specs.Option.{option_to_list}
 use Rattle.nx_code.specs.Reading.{Reception, byte_of, shift_after_all}
 use Rattle.nx_code.specs.declared.shifts.Shift.TheVariants.{Letters}
 use Rattle.nx_fec.specs.Pairing.{Counted, nothing, counts_as, pairing}
-use Rattle.nx_sync.specs.Words.{word_at, first_role, role_of, is_dx}
+use Rattle.nx_sync.specs.Words.{word_of_lock, first_role, role_of, is_dx}
 use Rattle.nx_sync.specs.declared.step.Role.{Role}
 
 -- what the word five words before word k counts as: nothing where k < 5, since the words before the
@@ -39,13 +39,13 @@ printed_after before (position ∷ more) =
     option_to_list (byte_of position (shift_after_all before Letters))
 
 -- the place of word k of the lock at t: the index of its last bit
-abbrev pub place_of : ℕ → ℕ → ℕ
-place_of t k = t + 7 * k + 6
+abbrev pub word_place : ℕ → ℕ → ℕ
+word_place t k = t + 7 * k + 6
 
 -- what word k of the lock at t prints, with its place
 unfoldable pub printed_by : Role → (ℕ → ℕ) → ℕ → ℕ → List PlacedByte
 printed_by first words t k =
-    map (λ b. record { byte = b; place = place_of t k })
+    map (λ b. record { byte = b; place = word_place t k })
     (printed_after (positions first words k) (taken_at first words k))
 
 -- the text that the first n words of the lock at t print, each byte with its place
@@ -55,7 +55,7 @@ text_by first words t (suc n) = text_by first words t n ++ printed_by first word
 
 -- the text of the first n words of the lock at t, in these bits
 abbrev pub lock_text : List Bool → ℕ → ℕ → List PlacedByte
-lock_text bits t n = text_by (first_role bits t) (word_at bits t) t n
+lock_text bits t n = text_by (first_role bits t) (word_of_lock bits t) t n
 
 -- the bytes alone
 unfoldable pub bytes_of : List PlacedByte → List ℕ

@@ -9,7 +9,7 @@ use Rattle.nx_envelope.specs.Newline.{newline}
 use Rattle.nx_envelope.specs.declared.found.How.{How}
 use Rattle.nx_envelope.specs.declared.found.How.TheVariants.{Full, Cut, Long}
 use Rattle.nx_sync.specs.Locks.{Lock, Now, IsNow}
-use Rattle.nx_receiver.specs.Events.{Event, Start, bits_of, first_setting}
+use Rattle.nx_receiver.specs.Events.{Event, Start, elements_among, first_setting}
 use Rattle.nx_receiver.specs.FoundCopies.{FoundCopy, ended_so_far, found_to_end}
 use Rattle.nx_receiver.specs.Tagged.{TaggedCopy, tagged_copies}
 use Rattle.nx_receiver.specs.Printing.{printed_copies}
@@ -64,12 +64,12 @@ printed_of start events copies =
 pub record HasPrinted (start : Start) (events : List Event) (log : List TaggedCopy) : Type 0 where
   pub locks : List Lock
   pub now : Now
-  pub stands : IsNow (bits_of events) locks now
-  pub printed : log ≡ printed_of start events (ended_so_far (bits_of events) locks now)
+  pub stands : IsNow (elements_among events) locks now
+  pub printed : log ≡ printed_of start events (ended_so_far (elements_among events) locks now)
 
 -- What is printed where these events are all: the end closes the copy that stands open.
 pub record PrintsToEnd (start : Start) (events : List Event) (log : List TaggedCopy) : Type 0 where
   pub locks : List Lock
   pub now : Now
-  pub stands : IsNow (bits_of events) locks now
-  pub printed : log ≡ printed_of start events (found_to_end (bits_of events) locks now)
+  pub stands : IsNow (elements_among events) locks now
+  pub printed : log ≡ printed_of start events (found_to_end (elements_among events) locks now)

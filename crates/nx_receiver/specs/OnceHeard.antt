@@ -10,7 +10,7 @@ use Rattle.nx_memory.specs.Memory.{seconds_known, most_entries}
 use Rattle.nx_memory.specs.Selection.{admits}
 use Rattle.nx_station.specs.Sendings.{Part, IsCut}
 use Rattle.nx_sync.specs.Locks.{Lock, Now, IsNow}
-use Rattle.nx_receiver.specs.Events.{Event, Setting, Start, bits_of, first_setting, setting_at}
+use Rattle.nx_receiver.specs.Events.{Event, Setting, Start, elements_among, first_setting, setting_at}
 use Rattle.nx_receiver.specs.FoundCopies.{FoundCopy, found_to_end}
 use Rattle.nx_receiver.specs.LawTerms.{copies_of}
 use Rattle.nx_receiver.specs.Printing.{entries_made, entries_after}
@@ -38,7 +38,7 @@ pub record IsHeardInTime (start : Start) (events : List Event) (parts : List Par
   -- the receiver starts with an empty memory
   pub empty : start.entries ≡ []
   -- its bits are cut into gaps of any bits and emissions that are received as the channel says
-  pub cut : IsCut (bits_of events) parts
+  pub cut : IsCut (elements_among events) parts
   -- the message isn't numbered 00, and is sent, once or more often
   pub numbered : 0 < message.identity.number
   pub place : ℕ
@@ -46,8 +46,8 @@ pub record IsHeardInTime (start : Start) (events : List Event) (parts : List Par
   -- each copy that is found with its identity is one of its sendings, so all carry the same text
   pub locks : List Lock
   pub now : Now
-  pub stands : IsNow (bits_of events) locks now
-  pub alone : (copy : FoundCopy) → Contains (found_to_end (bits_of events) locks now) copy
+  pub stands : IsNow (elements_among events) locks now
+  pub alone : (copy : FoundCopy) → Contains (found_to_end (elements_among events) locks now) copy
       → copy.identity ≡ message.identity → IsSentAt parts message copy.place
   -- it is selected at each sending
   pub selected : (at : ℕ) → IsSentAt parts message at
@@ -58,7 +58,7 @@ pub record IsHeardInTime (start : Start) (events : List Event) (parts : List Par
       < (setting_of start events other).moment + seconds_known
   -- 200 identities suffice
   pub few : FewBetween
-      (tagged_copies (first_setting start) events (found_to_end (bits_of events) locks now))
+      (tagged_copies (first_setting start) events (found_to_end (elements_among events) locks now))
       start message
 
 -- Exactly one of the printed copies bears the identity of the message: it is full, has 0 errors,

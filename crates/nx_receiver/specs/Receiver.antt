@@ -9,7 +9,7 @@ use Rattle.nx_receiver.specs.declared.fault.ReceiverFault.{ReceiverFault}
 use Rattle.nx_receiver.specs.declared.fault.ReceiverFault.TheVariants.{MomentRange, Memory}
 use Rattle.nx_receiver.specs.declared.fault.MomentFault.{MomentFault}
 use Rattle.nx_receiver.specs.declared.fault.MomentFault.TheVariants.{Range, Back}
-use Rattle.nx_receiver.specs.Events.{Event, Start, Setting, element, bits_of, first_setting, settings, setting_after_all}
+use Rattle.nx_receiver.specs.Events.{Event, Start, Setting, element, elements_among, first_setting, settings, setting_after_all}
 use Rattle.nx_receiver.specs.Printing.{printed_copies, entries_after}
 use Rattle.nx_receiver.specs.Tagged.{TaggedCopy, copy_of}
 use Rattle.nx_receiver.specs.declared.over.Over.{Over}
@@ -47,13 +47,15 @@ pub record AwaitsOver {M : Type 0} (content : M → List MemoryEntry) (start : S
 abbrev pub Awaits : {M : Type 0} → (M → List MemoryEntry) → Start → Receiving M → List Event
     → List TaggedCopy → Over → Type 0
 Awaits content start receiver events log over =
-    AwaitsOver content start receiver (bits_of events) (settings (first_setting start) events)
+    AwaitsOver content start receiver (elements_among events)
+    (settings (first_setting start) events)
     (setting_after_all (first_setting start) events) log over
 
 abbrev pub Stands : {M : Type 0} → (M → List MemoryEntry) → Start → Receiving M → List Event
     → List TaggedCopy → Type 0
 Stands content start receiver events log =
-    StandsOver content start receiver (bits_of events) (settings (first_setting start) events)
+    StandsOver content start receiver (elements_among events)
+    (settings (first_setting start) events)
     (setting_after_all (first_setting start) events) log
 
 -- Whatever awaits to be finished, some of it may be passed over: then this is left of what is over.
@@ -64,8 +66,8 @@ PassesOver content old new over left =
     (log : List TaggedCopy) → AwaitsOver content start old bits settings now log over
     → AwaitsOver content start new bits settings now log left
 
--- the moment of the memory's newest entry, that of the open copy, the one in force and the last one
--- rise in this order
+-- the moment of the memory's newest entry, that of the header that was heard last, the one in force
+-- and the last one rise in this order
 pub record IsInOrder (newest copy now : ℕ) : Type 0 where
   pub newest_first : newest ≤ copy
   pub copy_next : copy ≤ now

@@ -5,7 +5,7 @@ use Rattle.std.specs.Prelude.{◌≡◌, ℕ, ◌+◌, ◌≤◌, Bool, true, fa
 use Rattle.std.specs.List.{All}
 use Rattle.nx_sync.specs.Synchroniser.{Held, StandsAfter}
 use Rattle.nx_sync.specs.Locks.{Lock, Now, hunting, locked, IsNow}
-use Rattle.nx_sync.specs.Words.{word_at, first_role, role_of, whole_words}
+use Rattle.nx_sync.specs.Words.{word_of_lock, first_role, role_of, whole_words}
 use Rattle.nx_sync.specs.declared.step.Step.{Step}
 use Rattle.nx_sync.specs.declared.step.Role.{Role}
 use Rattle.nx_envelope.specs.Copies.{Copy, open_headers}
@@ -68,7 +68,7 @@ pub record IsFresh (reader : LockReading) : Type 0 where
 abbrev pub ReadsNow : LockReading → List Bool → Now → Type 0
 ReadsNow reader bits (hunting p) = IsFresh reader
 ReadsNow reader bits (locked p t) =
-    ReadsLock reader (first_role bits t) (word_at bits t) (whole_words bits t)
+    ReadsLock reader (first_role bits t) (word_of_lock bits t) (whole_words bits t)
 
 -- After these elements, with what is in force at each, these copies have ended, in order.
 pub record HasEnded (first : Setting) (bits : List Bool) (settings : List Setting)
@@ -117,7 +117,7 @@ pub record LockIsOver (first : Setting) (watch : Watching) (bits : List Bool)
   pub ended :
       copies ≡ copies_by first settings (past_copies bits older ++ ended_in (past_text bits lock))
   pub reads :
-      ReadsLock watch.reader (first_role bits lock.at) (word_at bits lock.at) (lock.last + 1)
+      ReadsLock watch.reader (first_role bits lock.at) (word_of_lock bits lock.at) (lock.last + 1)
   pub has_tag : HasTag first settings (past_text bits lock) watch.tag
 
 -- a copy that the finder has, with its tag
@@ -158,8 +158,9 @@ all_in_force watch bits = map (λ bit. in_force watch) bits
 
 -- The watch heard these elements after others, and this is what is over with the last of them; with
 -- none before it any copy ended.
-pub record Hears (first : Setting) (old new : Watching) (bits : List Bool) (settings : List Setting)
-    (copies : List TaggedCopy) (heard : List Bool) (answer : Over) : Type 0 where
+pub record HearsBits (first : Setting) (old new : Watching) (bits : List Bool)
+    (settings : List Setting) (copies : List TaggedCopy) (heard : List Bool)
+    (answer : Over) : Type 0 where
   pub brings : IsOver first new (bits ++ heard) (settings ++ all_in_force old heard) copies answer
   pub none_before : (k : ℕ) → k + 1 ≤ length heard
       → HasEnded first (bits ++ take k heard) (settings ++ all_in_force old (take k heard)) copies
@@ -168,7 +169,7 @@ pub record Hears (first : Setting) (old new : Watching) (bits : List Bool) (sett
 pub record HearsAll (old new : Watching) (heard : List Bool) (answer : Over) : Type 0 where
   pub hears : (first : Setting) (bits : List Bool) (settings : List Setting)
       (copies : List TaggedCopy) → WatchStands first old bits settings copies
-      → Hears first old new bits settings copies heard answer
+      → HearsBits first old new bits settings copies heard answer
 
 -- the copy that was handed out, with its tag
 abbrev pub handed_out : Option Found → CopyTag → List TaggedCopy

@@ -7,8 +7,8 @@ use Rattle.nx_station.specs.ChannelExample.{example_words, heard_half}
 use Rattle.nx_receiver.specs.Events.{Event, element, Start}
 
 -- the emission as it is sent: 72 positions of phasing, and the message
-unfoldable pub sent_words : List ℕ
-sent_words = phasing_words 72 ++ example_words
+unfoldable pub worked_words : List ℕ
+worked_words = phasing_words 72 ++ example_words
 
 -- and as it arrives where each DX word of the message is damaged; the first 48 positions of phasing
 -- stand before slot 96

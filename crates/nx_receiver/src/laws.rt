@@ -7,7 +7,7 @@ ghost use Rattle.nx_code.specs.declared.shifts.Shift.TheVariants.{Letters};
 ghost use Rattle.nx_envelope.specs.Moment.{last_moment};
 ghost use Rattle.nx_envelope.specs.declared.identity.Identity.{Identity};
 ghost use Rattle.nx_station.specs.ChannelExample.{ea01};
-ghost use Rattle.nx_sync.specs.Words.{word_at, first_role, lock_words};
+ghost use Rattle.nx_sync.specs.Words.{word_of_lock, first_role, lock_words};
 ghost use Rattle.nx_sync.specs.Locks.{Lock, Now, IsLocked, IsNow, Past};
 ghost use Rattle.nx_receiver.specs.Events.{Event, Start};
 ghost use Rattle.nx_receiver.specs.Example.{example_copies, first_copy, repeated_copy};
@@ -18,7 +18,7 @@ ghost use Rattle.nx_receiver.specs.Log.{HasPrinted, IsLog, PrintsToEnd};
 ghost use Rattle.nx_receiver.specs.Printing.{printed_copies};
 ghost use Rattle.nx_receiver.specs.Receiver.{Receiving, Stands, elements_of_pieces, events_of_pieces};
 ghost use Rattle.nx_receiver.specs.Tagged.{TaggedCopy};
-ghost use Rattle.nx_receiver.specs.Worked.{at_its_slot, damaged_words, heard_elements, sent_words, worked_log};
+ghost use Rattle.nx_receiver.specs.Worked.{at_its_slot, damaged_words, heard_elements, worked_words, worked_log};
 
 pub mod listening;
 pub mod once;
@@ -31,11 +31,11 @@ use nx_memory::Recall;
 /// locks have the same words, they have the same positions.
 pub fn a_text_is_read_of_positions()
     ensures read { (bits : List Bool) (t n : ℕ) → bytes_of (lock_text bits t n)
-        ≡ text (positions (first_role bits t) (word_at bits t) n) Letters }
+        ≡ text (positions (first_role bits t) (word_of_lock bits t) n) Letters }
     ensures words { (bits others : List Bool) (t u n : ℕ)
         → lock_words bits t n ≡ lock_words others u n
-        → positions (first_role bits t) (word_at bits t) n
-        ≡ positions (first_role others u) (word_at others u) n }
+        → positions (first_role bits t) (word_of_lock bits t) n
+        ≡ positions (first_role others u) (word_of_lock others u) n }
 {}
 
 /// Locks share nothing: the text of a lock, and so each copy in it, is made of its own bits alone;
@@ -123,7 +123,7 @@ pub fn there_are_repeats()
 /// EA01 with the one line TEST in its slot. Heard as it is sent, and heard with each DX word of the
 /// message damaged, its log is the same 42 bytes.
 pub fn a_worked_emission_is_printed()
-    ensures sent { PrintsToEnd at_its_slot (heard_elements sent_words) (first_copy ∷ []) }
+    ensures sent { PrintsToEnd at_its_slot (heard_elements worked_words) (first_copy ∷ []) }
     ensures damaged { PrintsToEnd at_its_slot (heard_elements damaged_words) (first_copy ∷ []) }
     ensures log { IsLog (first_copy ∷ []) worked_log }
     ensures bytes { length worked_log ≡ 42 }

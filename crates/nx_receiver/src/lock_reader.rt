@@ -17,8 +17,8 @@ use std::marker::Model;
 /// Reads the text of a lock, of which it is given one word after the other, and finds the copies in
 /// it.
 ///
-/// It holds the latest three DX words, the shift in force, and what the finder holds; nothing of an
-/// earlier lock.
+/// It holds the latest three DX words, the shift in force, and what the finder holds. Of an earlier
+/// lock it holds nothing but the bytes of its last copy, which nothing reads.
 #[derive(Drop)]
 pub(crate) struct LockReader {
     diversity: Diversity,

@@ -29,8 +29,9 @@ use std::marker::Model;
 /// A receiver of NAVTEX, which is given elements, moments and commands, and hands out an entry for
 /// each copy that is printed.
 ///
-/// It keeps what it needs for the next element and no history: the synchroniser, the text of the
-/// open copy, the selection, the moment, and a memory of identities.
+/// It keeps what it needs for the next element, of fixed size: the synchroniser, the text of the
+/// copy that began last, the selection, the moment, and a memory of identities. No element and no
+/// other text is kept.
 #[derive(Drop)]
 pub struct Receiver<M: Recall> {
     watch: Watch,

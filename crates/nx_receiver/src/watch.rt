@@ -7,7 +7,7 @@ ghost use Rattle.nx_sync.specs.Synchroniser.{is_between_words, is_hunting};
 ghost use Rattle.nx_envelope.specs.Finder.{held_identity};
 ghost use Rattle.nx_memory.specs.Selection.{admits};
 ghost use Rattle.nx_memory.specs.Vital.{is_vital};
-ghost use Rattle.nx_receiver.specs.Events as Command;
+ghost use Rattle.nx_receiver.specs.Events as events;
 ghost use Rattle.nx_receiver.specs.Events.{Setting, Start, first_setting, refused_after};
 ghost use Rattle.nx_receiver.specs.Tagged.{TaggedCopy};
 ghost use Rattle.nx_receiver.specs.Watch.{BothAreOver, CopyIsOver, HasEndedAll, HearsAll, LockIsOver, ReadsStep, ReadsWord, TagGoesOn, WatchStands, handed_out, in_force};
@@ -25,7 +25,8 @@ use std::marker::Model;
 /// A watch over the elements that arrive.
 ///
 /// It holds what the synchroniser and the reader of a lock hold, what is refused, the moment, and
-/// what was in force at the header that was heard last; no element and no text but the open one.
+/// what was in force at the header that was heard last; no element, and no text but that of the
+/// copy that began last.
 #[derive(Drop)]
 pub(crate) struct Watch {
     synchroniser: Synchroniser,
@@ -320,7 +321,7 @@ impl Watch {
     /// Refuses the station.
     pub(crate) fn refuse_station(&mut self, station: Letter)
         ensures { self.new ≡ record self.old {
-          refused = refused_after self.old.refused (Command.refuse_station station.byte);
+          refused = refused_after self.old.refused (events.refuse_station station.byte);
         } }
     {
         self.selection.refuse_station(station);
@@ -329,7 +330,7 @@ impl Watch {
     /// Refuses the station no longer.
     pub(crate) fn accept_station(&mut self, station: Letter)
         ensures { self.new ≡ record self.old {
-          refused = refused_after self.old.refused (Command.accept_station station.byte);
+          refused = refused_after self.old.refused (events.accept_station station.byte);
         } }
     {
         self.selection.accept_station(station);
@@ -340,7 +341,7 @@ impl Watch {
         ensures vital { IsErr result ↔ IsTrue (is_vital subject.byte) }
         ensures fault { IfErr result (λ vital. vital.subject ≡ subject) }
         ensures refused { OnOk result (self.new ≡ record self.old {
-          refused = refused_after self.old.refused (Command.refuse_subject subject.byte);
+          refused = refused_after self.old.refused (events.refuse_subject subject.byte);
         }) }
         ensures unchanged { OnErr result (self.new ≡ self.old) }
     {
@@ -350,7 +351,7 @@ impl Watch {
     /// Refuses the subject no longer.
     pub(crate) fn accept_subject(&mut self, subject: Letter)
         ensures { self.new ≡ record self.old {
-          refused = refused_after self.old.refused (Command.accept_subject subject.byte);
+          refused = refused_after self.old.refused (events.accept_subject subject.byte);
         } }
     {
         self.selection.accept_subject(subject);

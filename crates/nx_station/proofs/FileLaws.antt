@@ -3,7 +3,7 @@ use Rattle.std.proofs.Common.{◌≡◌, ◌≢◌, ℕ, ◌+◌, List, [], ◌�
 use Rattle.std.specs.List.{AllByRecursion}
 use Rattle.nx_envelope.specs.Message.{IsMessageFault, text_of}
 use Rattle.nx_envelope.specs.declared.message.MessageFault.{MessageFault}
-use Rattle.nx_station.specs.MessageFile.{FileMessage, FileFault, bad_line, bad_text, line_cut, not_ended, IsOneLine, IsNamed, IsFileMessage, IsBegun, EndsInLine, IsOfLines, IsFirstFault, IsMessageFile, HasFirstFault, IsBegunIf, bytes_begun, lines_begun, entries_file, heading, opening, entry_bytes, lines_of}
+use Rattle.nx_station.specs.MessageFile.{FileMessage, FileFault, bad_line, bad_text, line_cut, not_ended, IsOneLine, IsNamed, IsFileMessage, IsBegun, EndsInLine, IsOfLines, IsFirstFault, IsMessageFile, HasFirstFault, IsBegunIf, bytes_begun, lines_begun, message_file_bytes, heading, opening, file_message_bytes, lines_of}
 use Rattle.nx_station.proofs.LineLemmas.{ended-not_one, first_line, heading-one_line, heading-same, ended-same, ended-open, open-same, IsFileMessage-IsBegun, spelling-line}
 use Rattle.nx_station.proofs.MessageFaultLemmas.{one_of_lines, none_of_message}
 
@@ -18,7 +18,7 @@ data Shape : Type 0 where
 abbrev bytes_of : Shape → List ℕ
 bytes_of (strange line more) = line ++ (10 ∷ more)
 bytes_of (cut line) = line
-bytes_of (ended entry more) = entry_bytes entry ++ more
+bytes_of (ended entry more) = file_message_bytes entry ++ more
 bytes_of (broken entry rest) = opening entry ++ rest
 
 abbrev IsShape : Shape → Type 0
@@ -33,7 +33,7 @@ entry_with subject number lines = record { subject = subject; number = number; l
 entry-same : (a b : FileMessage) → a.subject ≡ b.subject → a.number ≡ b.number → a.lines ≡ b.lines → a ≡ b
 entry-same a b p q r = ap (λ s. entry_with s a.number a.lines) p ∙ ap (λ n. entry_with b.subject n a.lines) q ∙ ap (λ l. entry_with b.subject b.number l) r
 
-ended-is : (a b : FileMessage) (x y : List ℕ) → IsBegun a → IsBegun b → entry_bytes a ++ x ≡ entry_bytes b ++ y → (a ≡ b) × (x ≡ y)
+ended-is : (a b : FileMessage) (x y : List ℕ) → IsBegun a → IsBegun b → file_message_bytes a ++ x ≡ file_message_bytes b ++ y → (a ≡ b) × (x ≡ y)
 ended-is a b x y h k e =
     let p = first_line (heading a.subject a.number) (heading b.subject b.number) (text_of a.lines ++ (59 ∷ (10 ∷ x))) (text_of b.lines ++ (59 ∷ (10 ∷ y)))
     (heading-one_line a.subject a.number h.named) (heading-one_line b.subject b.number k.named) (sym (spelling-line a x) ∙ e ∙ spelling-line b y) in
@@ -49,7 +49,7 @@ broken-is a b x y h k one other e =
     let r = open-same a.lines b.lines x y h.lines k.lines one other p.1 in
     (entry-same a b q.0 q.1 r.0, r.1)
 
-ended-broken : (a b : FileMessage) (x y : List ℕ) → IsBegun a → IsBegun b → IsOneLine y → entry_bytes a ++ x ≡ opening b ++ y → ⊥
+ended-broken : (a b : FileMessage) (x y : List ℕ) → IsBegun a → IsBegun b → IsOneLine y → file_message_bytes a ++ x ≡ opening b ++ y → ⊥
 ended-broken a b x y h k other e =
     let p = first_line (heading a.subject a.number) (heading b.subject b.number) (text_of a.lines ++ (59 ∷ (10 ∷ x))) (text_of b.lines ++ y)
     (heading-one_line a.subject a.number h.named) (heading-one_line b.subject b.number k.named) (sym (spelling-line a x) ∙ e) in
@@ -151,7 +151,7 @@ ended-good : (before : ℕ) (entry : FileMessage) (more : List ℕ) (why : FileF
 ended-good before entry more why good h = none_of_message entry.lines h.0 good.lines h.3 h.2
 
 -- a front that is a good message has none
-first_fault-none : (before : ℕ) (entry : FileMessage) (more bytes : List ℕ) (why : FileFault) → IsFileMessage entry → bytes ≡ entry_bytes entry ++ more → IsFirstFault before bytes why → ⊥
+first_fault-none : (before : ℕ) (entry : FileMessage) (more bytes : List ℕ) (why : FileFault) → IsFileMessage entry → bytes ≡ file_message_bytes entry ++ more → IsFirstFault before bytes why → ⊥
 first_fault-none before entry more bytes why good e h =
     let a = shaped before bytes why h in
     let same : a.shape ≡ ended entry more = one_shape a.shape (ended entry more) a.sound (IsFileMessage-IsBegun entry good) (sym a.whole ∙ e) in
@@ -172,18 +172,18 @@ first_fault-empty before bytes why e h =
 
 -- ---- whole files
 
-file-cons : (entry : FileMessage) (entries : List FileMessage) (rest : List ℕ) → entries_file (entry ∷ entries) ++ rest ≡ entry_bytes entry ++ (entries_file entries ++ rest)
-file-cons entry entries rest = append_assoc (entry_bytes entry) (entries_file entries) rest
+file-cons : (entry : FileMessage) (entries : List FileMessage) (rest : List ℕ) → message_file_bytes (entry ∷ entries) ++ rest ≡ file_message_bytes entry ++ (message_file_bytes entries ++ rest)
+file-cons entry entries rest = append_assoc (file_message_bytes entry) (message_file_bytes entries) rest
 
 pub list-unique : (bytes : List ℕ) (a b : List FileMessage) → IsMessageFile bytes a → IsMessageFile bytes b → a ≡ b
 list-unique bytes a b h k = go a b h.each k.each (sym h.whole ∙ k.whole)
   where
-    go : (a b : List FileMessage) → AllByRecursion IsFileMessage a → AllByRecursion IsFileMessage b → entries_file a ≡ entries_file b → a ≡ b
+    go : (a b : List FileMessage) → AllByRecursion IsFileMessage a → AllByRecursion IsFileMessage b → message_file_bytes a ≡ message_file_bytes b → a ≡ b
     go [] [] h k e = refl
     go [] (y ∷ b) h k e = cc
     go (x ∷ a) [] h k e = cc
     go (x ∷ a) (y ∷ b) h k e =
-        let p = ended-is x y (entries_file a) (entries_file b) (IsFileMessage-IsBegun x h.0) (IsFileMessage-IsBegun y k.0) e in
+        let p = ended-is x y (message_file_bytes a) (message_file_bytes b) (IsFileMessage-IsBegun x h.0) (IsFileMessage-IsBegun y k.0) e in
         let heads = p.0 in
         let tails = go a b h.1 k.1 p.1 in
         cc
@@ -191,24 +191,24 @@ list-unique bytes a b h k = go a b h.each k.each (sym h.whole ∙ k.whole)
 pub no_fault : (bytes : List ℕ) (entries : List FileMessage) (why : FileFault) → IsMessageFile bytes entries → HasFirstFault bytes why → ⊥
 no_fault bytes entries why h k = go 0 entries k.entries h.each k.each (sym h.whole ∙ k.whole) (subst (λ n. IsFirstFault n k.rest why) (omega arith) k.first)
   where
-    go : (before : ℕ) (a b : List FileMessage) → AllByRecursion IsFileMessage a → AllByRecursion IsFileMessage b → entries_file a ≡ entries_file b ++ k.rest → IsFirstFault (before + lines_of b) k.rest why → ⊥
+    go : (before : ℕ) (a b : List FileMessage) → AllByRecursion IsFileMessage a → AllByRecursion IsFileMessage b → message_file_bytes a ≡ message_file_bytes b ++ k.rest → IsFirstFault (before + lines_of b) k.rest why → ⊥
     go before [] [] p q e f = first_fault-empty (before + lines_of []) k.rest why (sym e) f
     go before [] (y ∷ b) p q e f = cc
-    go before (x ∷ a) [] p q e f = first_fault-none (before + lines_of []) x (entries_file a) k.rest why p.0 (sym e) f
+    go before (x ∷ a) [] p q e f = first_fault-none (before + lines_of []) x (message_file_bytes a) k.rest why p.0 (sym e) f
     go before (x ∷ a) (y ∷ b) p q e f =
-        let r = ended-is x y (entries_file a) (entries_file b ++ k.rest) (IsFileMessage-IsBegun x p.0) (IsFileMessage-IsBegun y q.0) (e ∙ file-cons y b k.rest) in
+        let r = ended-is x y (message_file_bytes a) (message_file_bytes b ++ k.rest) (IsFileMessage-IsBegun x p.0) (IsFileMessage-IsBegun y q.0) (e ∙ file-cons y b k.rest) in
         go (before + (2 + length y.lines)) a b p.1 q.1 r.1 (subst (λ n. IsFirstFault n k.rest why) (omega arith) f)
 
 pub one_fault : (bytes : List ℕ) (v w : FileFault) → HasFirstFault bytes v → HasFirstFault bytes w → v ≡ w
 one_fault bytes v w h k = go 0 h.entries k.entries h.each k.each (sym h.whole ∙ k.whole) (subst (λ n. IsFirstFault n h.rest v) (omega arith) h.first) (subst (λ n. IsFirstFault n k.rest w) (omega arith) k.first)
   where
-    go : (before : ℕ) (a b : List FileMessage) → AllByRecursion IsFileMessage a → AllByRecursion IsFileMessage b → entries_file a ++ h.rest ≡ entries_file b ++ k.rest
+    go : (before : ℕ) (a b : List FileMessage) → AllByRecursion IsFileMessage a → AllByRecursion IsFileMessage b → message_file_bytes a ++ h.rest ≡ message_file_bytes b ++ k.rest
         → IsFirstFault (before + lines_of a) h.rest v → IsFirstFault (before + lines_of b) k.rest w → v ≡ w
     go before [] [] p q e f g = first_fault-one (before + lines_of []) k.rest v w (subst (λ l. IsFirstFault (before + lines_of []) l v) e f) g
-    go before [] (y ∷ b) p q e f g = absurd (first_fault-none (before + lines_of []) y (entries_file b ++ k.rest) h.rest v q.0 (e ∙ file-cons y b k.rest) f)
-    go before (x ∷ a) [] p q e f g = absurd (first_fault-none (before + lines_of []) x (entries_file a ++ h.rest) k.rest w p.0 (sym e ∙ file-cons x a h.rest) g)
+    go before [] (y ∷ b) p q e f g = absurd (first_fault-none (before + lines_of []) y (message_file_bytes b ++ k.rest) h.rest v q.0 (e ∙ file-cons y b k.rest) f)
+    go before (x ∷ a) [] p q e f g = absurd (first_fault-none (before + lines_of []) x (message_file_bytes a ++ h.rest) k.rest w p.0 (sym e ∙ file-cons x a h.rest) g)
     go before (x ∷ a) (y ∷ b) p q e f g =
-        let r = ended-is x y (entries_file a ++ h.rest) (entries_file b ++ k.rest) (IsFileMessage-IsBegun x p.0) (IsFileMessage-IsBegun y q.0) (sym (file-cons x a h.rest) ∙ e ∙ file-cons y b k.rest) in
+        let r = ended-is x y (message_file_bytes a ++ h.rest) (message_file_bytes b ++ k.rest) (IsFileMessage-IsBegun x p.0) (IsFileMessage-IsBegun y q.0) (sym (file-cons x a h.rest) ∙ e ∙ file-cons y b k.rest) in
         let same : lines_of (x ∷ a) ≡ (2 + length y.lines) + lines_of a = ap (λ (n : FileMessage). (2 + length n.lines) + lines_of a) r.0 in
         go (before + (2 + length y.lines)) a b p.1 q.1 r.1
         (subst (λ n. IsFirstFault n h.rest v) (ap (λ n. before + n) same ∙ omega arith) f)

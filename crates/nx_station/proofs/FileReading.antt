@@ -5,7 +5,7 @@ use Rattle.std.proofs.lemmas.List.Concat.{flat_map-append}
 use Rattle.nx_envelope.specs.Message.{IsMessageFault, text_of}
 use Rattle.nx_envelope.specs.MessageView.{MessageView}
 use Rattle.nx_envelope.specs.declared.message.MessageFault.{MessageFault}
-use Rattle.nx_station.specs.MessageFile.{FileMessage, IsOneLine, IsInside, IsNamed, IsFileMessage, IsOfLines, IsFirstFault, IsMessageFile, bad_line, bad_text, line_cut, not_ended, file_message_of, heading, opening, entry_bytes, entries_file, lines_of}
+use Rattle.nx_station.specs.MessageFile.{FileMessage, IsOneLine, IsInside, IsNamed, IsFileMessage, IsOfLines, IsFirstFault, IsMessageFile, bad_line, bad_text, line_cut, not_ended, file_message_of, heading, opening, file_message_bytes, message_file_bytes, lines_of}
 use Rattle.nx_envelope.specs.declared.message.MessageFault.TheVariants as message
 use Rattle.nx_station.specs.Faults.{text_fault}
 use Rattle.nx_station.specs.FileSending.{ExplainsFirst, ExplainsFile}
@@ -77,7 +77,7 @@ cut-at_once before bytes some one = (
 
 -- a message was read whole
 pub message-whole : (bytes line rest more : List ℕ) (lines : List (List ℕ)) (message : MessageView) (subject number : ℕ) → bytes ≡ line ++ (10 ∷ rest) → line ≡ heading subject number
-    → rest ≡ text_of lines ++ (59 ∷ (10 ∷ more)) → message.identity.b2.byte ≡ subject → message.identity.number ≡ number → message.lines ≡ lines → bytes ≡ entry_bytes (file_message_of message) ++ more
+    → rest ≡ text_of lines ++ (59 ∷ (10 ∷ more)) → message.identity.b2.byte ≡ subject → message.identity.number ≡ number → message.lines ≡ lines → bytes ≡ file_message_bytes (file_message_of message) ++ more
 message-whole bytes line rest more lines message subject number h k t s n l =
     h ∙ ap (λ x. x ++ (10 ∷ rest)) k ∙ ap (λ x. heading subject number ++ (10 ∷ x)) t
     ∙ ap (λ x. heading x number ++ (10 ∷ (text_of lines ++ (59 ∷ (10 ∷ more))))) (sym s)
@@ -113,7 +113,7 @@ text-explains before bytes line rest more lines subject number message.LongText 
 
 -- ---- whole files
 
-pub file-explains : (file rest : List ℕ) (entries : List FileMessage) (before : ℕ) (fault : SendRunFault) → file ≡ entries_file entries ++ rest → AllByRecursion IsFileMessage entries → before ≡ lines_of entries
+pub file-explains : (file rest : List ℕ) (entries : List FileMessage) (before : ℕ) (fault : SendRunFault) → file ≡ message_file_bytes entries ++ rest → AllByRecursion IsFileMessage entries → before ≡ lines_of entries
     → ExplainsFirst before rest fault → ExplainsFile file fault
 file-explains file rest entries before (BadLine line) h each e first = record { entries = entries; rest = rest; whole = h; each = each; first = subst (λ n. IsFirstFault n rest (bad_line line)) e first }
 file-explains file rest entries before (Text line fault) h each e first = record { entries = entries; rest = rest; whole = h; each = each; first = subst (λ n. IsFirstFault n rest (bad_text line fault)) e first }
@@ -125,10 +125,10 @@ file-explains file rest entries before FileTooLong h each e first = absurd first
 file-explains file rest entries before (Send refused) h each e first = absurd first
 file-explains file rest entries before (Write written) h each e first = absurd first
 
-pub file-more : (file rest more : List ℕ) (entries : List FileMessage) (entry : FileMessage) → file ≡ entries_file entries ++ rest → rest ≡ entry_bytes entry ++ more → file ≡ entries_file (entries ++ (entry ∷ [])) ++ more
+pub file-more : (file rest more : List ℕ) (entries : List FileMessage) (entry : FileMessage) → file ≡ message_file_bytes entries ++ rest → rest ≡ file_message_bytes entry ++ more → file ≡ message_file_bytes (entries ++ (entry ∷ [])) ++ more
 file-more file rest more entries entry h k =
-    h ∙ ap (λ l. entries_file entries ++ l) k ∙ sym (append_assoc (entries_file entries) (entry_bytes entry) more)
-    ∙ ap (λ l. l ++ more) (ap (λ l. entries_file entries ++ l) (sym (append-nil (entry_bytes entry))) ∙ sym (flat_map-append entry_bytes entries (entry ∷ [])))
+    h ∙ ap (λ l. message_file_bytes entries ++ l) k ∙ sym (append_assoc (message_file_bytes entries) (file_message_bytes entry) more)
+    ∙ ap (λ l. l ++ more) (ap (λ l. message_file_bytes entries ++ l) (sym (append-nil (file_message_bytes entry))) ∙ sym (flat_map-append file_message_bytes entries (entry ∷ [])))
 
 pub entries-more : (entries : List FileMessage) (entry : FileMessage) → AllByRecursion IsFileMessage entries → IsFileMessage entry → AllByRecursion IsFileMessage (entries ++ (entry ∷ []))
 entries-more [] entry h k = (k, tt)
@@ -148,11 +148,11 @@ text-long [] = omega arith
 text-long (line ∷ lines) = omega (arith, text-long lines, length-append (line ++ (10 ∷ [])) (text_of lines), length-append line (10 ∷ []))
 
 -- a message has at least as many bytes as lines
-pub spelling-long : (entry : FileMessage) → 2 + length entry.lines < length (entry_bytes entry)
+pub spelling-long : (entry : FileMessage) → 2 + length entry.lines < length (file_message_bytes entry)
 spelling-long entry = omega (arith, text-long entry.lines, length-append (opening entry) (59 ∷ (10 ∷ [])), length-append (heading entry.subject entry.number) (10 ∷ text_of entry.lines))
 
-pub file-whole : (file rest : List ℕ) (messages : List MessageView) → file ≡ entries_file (map file_message_of messages) ++ rest → rest ≡ [] → AllByRecursion IsFileMessage (map file_message_of messages) → IsMessageFile file (map file_message_of messages)
-file-whole file rest messages h none each = record { whole = h ∙ ap (λ l. entries_file (map file_message_of messages) ++ l) none ∙ append-nil (entries_file (map file_message_of messages)); each = each }
+pub file-whole : (file rest : List ℕ) (messages : List MessageView) → file ≡ message_file_bytes (map file_message_of messages) ++ rest → rest ≡ [] → AllByRecursion IsFileMessage (map file_message_of messages) → IsMessageFile file (map file_message_of messages)
+file-whole file rest messages h none each = record { whole = h ∙ ap (λ l. message_file_bytes (map file_message_of messages) ++ l) none ∙ append-nil (message_file_bytes (map file_message_of messages)); each = each }
 
 pub none-left : (rest : List ℕ) → length rest ≡ 0 → rest ≡ []
 none-left [] h = refl

@@ -7,7 +7,7 @@ use Rattle.std.proofs.lemmas.List.Elements.{recursion_from_All}
 use Rattle.nx_code.specs.Characters.{is_in_code, characters}
 use Rattle.nx_envelope.specs.Digits.{two_digits}
 use Rattle.nx_envelope.specs.Message.{IsMessageLine, IsLineByte, text_of}
-use Rattle.nx_station.specs.MessageFile.{FileMessage, IsOneLine, IsInside, IsNamed, IsFileMessage, IsBegun, heading, closing, opening, entry_bytes}
+use Rattle.nx_station.specs.MessageFile.{FileMessage, IsOneLine, IsInside, IsNamed, IsFileMessage, IsBegun, heading, closing, opening, file_message_bytes}
 
 -- ---- lines that are ended by a line feed
 
@@ -120,5 +120,5 @@ IsFileMessage-IsBegun entry h = record { named = h.named; lines = lines-inside e
 pub opening-line : (entry : FileMessage) (rest : List ℕ) → opening entry ++ rest ≡ heading entry.subject entry.number ++ (10 ∷ (text_of entry.lines ++ rest))
 opening-line entry rest = refl
 
-pub spelling-line : (entry : FileMessage) (rest : List ℕ) → entry_bytes entry ++ rest ≡ heading entry.subject entry.number ++ (10 ∷ (text_of entry.lines ++ (59 ∷ (10 ∷ rest))))
+pub spelling-line : (entry : FileMessage) (rest : List ℕ) → file_message_bytes entry ++ rest ≡ heading entry.subject entry.number ++ (10 ∷ (text_of entry.lines ++ (59 ∷ (10 ∷ rest))))
 spelling-line entry rest = append_assoc (opening entry) (59 ∷ (10 ∷ [])) rest ∙ opening-line entry (59 ∷ (10 ∷ rest))

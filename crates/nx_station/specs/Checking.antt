@@ -7,7 +7,7 @@ use Rattle.nx_fec.specs.Lines.{IsBitFile, IsFaultless, line_end}
 use Rattle.nx_fec.specs.Runs.{ExplainsReading, file_limit}
 use Rattle.nx_fec.specs.Transfers.{Devices, IsReadOut, Transfers, at_the_end}
 use Rattle.nx_fec.specs.declared.fault.RunFault.TheVariants as run
-use Rattle.nx_station.specs.MessageFile.{file_message_of, entries_file}
+use Rattle.nx_station.specs.MessageFile.{file_message_of, message_file_bytes}
 use Rattle.nx_station.specs.Sendable.{AreOf}
 use Rattle.nx_station.specs.StrictReading.{ExplainsEmission, IsEmissionOf}
 use Rattle.nx_station.specs.declared.fault.CheckFault.{CheckFault}
@@ -19,7 +19,7 @@ station_line station = codes "station " ++ station ∷ line_end ∷ []
 
 -- what is written of messages: the line of their station, and their message file
 abbrev pub report : ℕ → List MessageView → List ℕ
-report station messages = station_line station ++ entries_file (map file_message_of messages)
+report station messages = station_line station ++ message_file_bytes (map file_message_of messages)
 
 -- What is written of an air file, and the count that is answered: its elements are the emission of
 -- messages, all of one station.

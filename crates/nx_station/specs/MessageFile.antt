@@ -36,12 +36,12 @@ abbrev pub opening : FileMessage → List ℕ
 opening entry = heading entry.subject entry.number ++ line_end ∷ text_of entry.lines
 
 -- all lines of a message
-abbrev pub entry_bytes : FileMessage → List ℕ
-entry_bytes entry = opening entry ++ (closing ++ line_end ∷ [])
+abbrev pub file_message_bytes : FileMessage → List ℕ
+file_message_bytes entry = opening entry ++ (closing ++ line_end ∷ [])
 
 -- the file of these messages
-abbrev pub entries_file : List FileMessage → List ℕ
-entries_file entries = flat_map entry_bytes entries
+abbrev pub message_file_bytes : List FileMessage → List ℕ
+message_file_bytes entries = flat_map file_message_bytes entries
 
 -- a subject is a letter, and a number has two digits
 pub record IsNamed (subject number : ℕ) : Type 0 where
@@ -55,7 +55,7 @@ pub record IsFileMessage (entry : FileMessage) : Type 0 where
 
 -- the file of these bytes is these messages
 pub record IsMessageFile (bytes : List ℕ) (entries : List FileMessage) : Type 0 where
-  pub whole : bytes ≡ entries_file entries
+  pub whole : bytes ≡ message_file_bytes entries
   pub each : AllByRecursion IsFileMessage entries
 
 -- bytes without a line feed
@@ -97,7 +97,7 @@ pub record IsBadLine (bytes : List ℕ) : Type 0 where
 pub record IsBadText (bytes : List ℕ) (fault : MessageFault) : Type 0 where
   pub entry : FileMessage
   pub more : List ℕ
-  pub whole : bytes ≡ entry_bytes entry ++ more
+  pub whole : bytes ≡ file_message_bytes entry ++ more
   pub begun : IsBegun entry
   pub faulty : IsMessageFault entry.lines fault
 
@@ -153,6 +153,6 @@ lines_of (entry ∷ entries) = (2 + length entry.lines) + lines_of entries
 pub record HasFirstFault (bytes : List ℕ) (why : FileFault) : Type 0 where
   pub entries : List FileMessage
   pub rest : List ℕ
-  pub whole : bytes ≡ entries_file entries ++ rest
+  pub whole : bytes ≡ message_file_bytes entries ++ rest
   pub each : AllByRecursion IsFileMessage entries
   pub first : IsFirstFault (lines_of entries) rest why

@@ -2,7 +2,7 @@
 ghost use Rattle.std.specs.Prelude.{◌≡◌, ◌++◌, IfOk, OnOk};
 ghost use Rattle.nx_fec.specs.Transfers.{devices};
 ghost use Rattle.nx_station.specs.Checking.{Checks, report};
-ghost use Rattle.nx_station.specs.MessageFile.{file_message_of, entry_bytes};
+ghost use Rattle.nx_station.specs.MessageFile.{file_message_of, file_message_bytes};
 
 use crate::broadcast::text_bytes;
 use crate::fault::CheckFault;
@@ -45,15 +45,15 @@ fn report_of(alloc: Global, station: Letter, messages: &[Message]) -> Result<Vec
     text.extend_from_slice(b"station ")?;
     text.extend_from_slice(&[station.byte(), NEWLINE])?;
     for message in messages {
-        push_entry(alloc, &mut text, message)?;
+        push_file_message(alloc, &mut text, message)?;
     }
     Ok(text)
 }
 
 /// Appends a message as a message file has it.
-fn push_entry(alloc: Global, file: &mut Vec<u8>, message: &Message) -> Result<(), AllocError>
+fn push_file_message(alloc: Global, file: &mut Vec<u8>, message: &Message) -> Result<(), AllocError>
     ensures { OnOk result (file.new.items
-        ≡ file.old.items ++ entry_bytes (file_message_of message.now)) }
+        ≡ file.old.items ++ file_message_bytes (file_message_of message.now)) }
 {
     let [_, subject, tens, units] = message.identity().bytes();
     let text = text_bytes(alloc, message)?;

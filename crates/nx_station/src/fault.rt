@@ -1,4 +1,4 @@
-//! Why messages are not sent.
+//! Why messages are not sent, an emission is not read, and an air file is not checked or damaged.
 use nx_envelope::MessageFault;
 use nx_fec::{ReadFault, RunFault, WriteFault};
 use std::alloc::AllocError;

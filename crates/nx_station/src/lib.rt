@@ -1,5 +1,5 @@
-//! A broadcast station (M.540): the slots of stations, the emissions of their messages, and message
-//! files.
+//! A broadcast station (M.540): the slots of stations, the emissions of their messages, message
+//! files, the strict reading of an emission, and damage to one.
 #![tactic(auto)]
 
 mod broadcast;

@@ -4,7 +4,7 @@ ghost use Rattle.std.specs.List.{AllByRecursion};
 ghost use Rattle.nx_envelope.specs.Message.{text_of};
 ghost use Rattle.nx_envelope.specs.MessageView.{MessageView};
 ghost use Rattle.nx_station.specs.Faults.{text_fault};
-ghost use Rattle.nx_station.specs.MessageFile.{IsFileMessage, IsInside, IsMessageFile, IsNamed, IsOneLine, file_message_of, heading, entry_bytes};
+ghost use Rattle.nx_station.specs.MessageFile.{IsFileMessage, IsInside, IsMessageFile, IsNamed, IsOneLine, file_message_of, heading, file_message_bytes};
 ghost use Rattle.nx_station.specs.FileSending.{ExplainsFile, ExplainsFirst};
 
 use crate::fault::SendRunFault;
@@ -16,7 +16,7 @@ const CLOSING: &[u8] = b";";
 
 /// The first message of some bytes, how many lines it has, and what follows it.
 #[derive(Drop)]
-struct Part<'a> {
+struct FirstMessage<'a> {
     message: Message,
     lines: u64,
     rest: &'a [u8],
@@ -24,9 +24,9 @@ struct Part<'a> {
 
 /// The lines of a message's text, and what follows the line that ends it.
 #[derive(Drop)]
-struct Body<'a> {
-    lines: Vec<&'a [u8]>,
-    rest: &'a [u8],
+pub(crate) struct Body<'a> {
+    pub(crate) lines: Vec<&'a [u8]>,
+    pub(crate) rest: &'a [u8],
 }
 
 /// The messages of a message file, all of this station. The fault is the first in the file; memory
@@ -63,11 +63,11 @@ fn first_message<'a>(
     station: Letter,
     bytes: &'a [u8],
     before: u64,
-) -> Result<Part<'a>, SendRunFault>
+) -> Result<FirstMessage<'a>, SendRunFault>
     requires some { 0 < length bytes.now }
     requires room { before + length bytes.now < 2 ^ 64 - 1 }
     ensures whole { IfOk result (λ part.
-        bytes.now ≡ entry_bytes (file_message_of part.message) ++ part.rest.now) }
+        bytes.now ≡ file_message_bytes (file_message_of part.message) ++ part.rest.now) }
     ensures sound { IfOk result (λ part. IsFileMessage (file_message_of part.message)) }
     ensures station { IfOk result (λ part. part.message.identity.b1.byte ≡ station.byte) }
     ensures lines { IfOk result (λ part. part.lines ≡ 2 + length part.message.lines) }
@@ -81,7 +81,7 @@ fn first_message<'a>(
     };
     let body = text_lines(alloc, rest, before)?;
     match Message::new(alloc, identity, &body.lines) {
-        Ok(message) => Ok(Part {
+        Ok(message) => Ok(FirstMessage {
             message,
             lines: body.lines.len() as u64 + 2,
             rest: body.rest,

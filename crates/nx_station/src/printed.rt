@@ -8,21 +8,14 @@ ghost use Rattle.nx_station.specs.Broadcast.{header, printed_text};
 ghost use Rattle.nx_station.specs.PrintedText.{AreSound, ExplainsFirstPrinted, ExplainsPrintedLines, ExplainsPrinted, IsTextLine, ended_lines};
 
 use crate::fault::EmissionFault;
-use crate::message_file::split_line;
+use crate::message_file::{Body, split_line};
 use nx_envelope::{END_MARKER, Identity, Message, NEWLINE};
 use std::alloc::{AllocError, Global};
 
 /// The first message of a printed text, and what follows it.
 #[derive(Drop)]
-struct Part<'a> {
+struct FirstPrinted<'a> {
     message: Message,
-    rest: &'a [u8],
-}
-
-/// The lines of a message, and what follows the line that ends it.
-#[derive(Drop)]
-struct Body<'a> {
-    lines: Vec<&'a [u8]>,
     rest: &'a [u8],
 }
 
@@ -45,7 +38,7 @@ pub(crate) fn messages_printed(alloc: Global, text: &[u8]) -> Result<Vec<Message
 }
 
 /// The first message of a printed text: its header, its lines, NNNN, and an empty line.
-fn first_printed<'a>(alloc: Global, text: &'a [u8]) -> Result<Part<'a>, EmissionFault>
+fn first_printed<'a>(alloc: Global, text: &'a [u8]) -> Result<FirstPrinted<'a>, EmissionFault>
     ensures whole { IfOk result (λ part. text.now ≡ printed_text part.message ++ part.rest.now) }
     ensures sound { IfOk result (λ part. AreLines part.message.lines) }
     ensures fault { IfErr result (ExplainsFirstPrinted text.now) }
@@ -61,7 +54,7 @@ fn first_printed<'a>(alloc: Global, text: &'a [u8]) -> Result<Part<'a>, Emission
         return Err(EmissionFault::BadEnvelope);
     };
     let message = Message::new(alloc, identity, &body.lines)?;
-    Ok(Part { message, rest })
+    Ok(FirstPrinted { message, rest })
 }
 
 /// What follows a newline that stands first.

@@ -26,7 +26,7 @@ pub fn read_emission(alloc: Global, bits: &[bool]) -> Result<Vec<Message>, Emiss
     ensures fault { IfErr result (ExplainsEmission bits.now) }
 {
     check_words(bits)?;
-    let text = text_of(alloc, bits)?;
+    let text = decoded_text(alloc, bits)?;
     let messages = messages_printed(alloc, &text)?;
     let positions = emission(alloc, &messages)?;
     let sent = to_bits(alloc, &positions)?;
@@ -124,7 +124,7 @@ fn is_pair(dx: Word, rx: Word) -> bool
 }
 
 /// The text of elements that are whole words.
-fn text_of(alloc: Global, bits: &[bool]) -> Result<Vec<u8>, AllocError>
+fn decoded_text(alloc: Global, bits: &[bool]) -> Result<Vec<u8>, AllocError>
     requires { AreWhole bits.now }
     ensures { IfOk result (λ text. text.items ≡ aligned_text (words_of bits.now)) }
 {

@@ -1,5 +1,5 @@
-//! Worked examples of slots, emissions and message files. The expected slots, words and counts are
-//! those of the profile's worked examples, which were worked out apart from this program.
+//! Worked examples of slots, emissions and message files. The expected slots, words and counts were
+//! worked out apart from this program.
 
 mod checks;
 

@@ -4,7 +4,7 @@ use Rattle.nx_code.specs.Phasing.{phasing_1, phasing_2, elements_of_phasing_1, e
 use Rattle.nx_code.specs.Word.{number_of, weight, elements, elements_from}
 use Rattle.nx_sync.specs.declared.step.Role.TheVariants.{Dx, Rx}
 use Rattle.nx_sync.specs.declared.step.Change.TheVariants.{Ended, LostLock}
-use Rattle.nx_sync.specs.Words.{word_at, first_role, role_of, is_wrong, wrong_in, wrong_until, lock_words}
+use Rattle.nx_sync.specs.Words.{word_of_lock, first_role, role_of, is_wrong, wrong_in, wrong_until, lock_words}
 use Rattle.nx_sync.specs.Locks.{before_dx, before_rx, IsPattern, Finds, releases_as_ended, change_at}
 use Rattle.nx_sync.specs.Windows.{is_lock_window}
 
@@ -27,7 +27,7 @@ first_is_rx = refl
 
 -- the words after a pattern, with their roles
 pub two_words : lock_words (before_dx ++ elements_of_phasing_2 ++ elements_of_phasing_1) 28 2 ≡ (phasing_2, Dx) ∷ (phasing_1, Rx) ∷ []
-unfolding lock_words word_at first_role role_of before_dx number_of
+unfolding lock_words word_of_lock first_role role_of before_dx number_of
 two_words = refl
 
 -- a phasing signal and BYBYBYB have the right weight; six B have not

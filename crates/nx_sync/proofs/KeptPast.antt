@@ -2,7 +2,7 @@
 use Rattle.std.proofs.Common.{◌≡◌, ℕ, zero, suc, ◌+◌, ◌-◌, ◌*◌, ◌<◌, ◌≤◌, List, [], ◌∷◌, ◌++◌, length, Bool, refl, sym, ap, ap₂, ◌∙◌, inl, inr, arith, length-append}
 use Rattle.nx_code.specs.Word.{number_of}
 use Rattle.nx_sync.specs.declared.step.Role.{Role}
-use Rattle.nx_sync.specs.Words.{word_at, first_role, is_wrong, one_if, wrong_in}
+use Rattle.nx_sync.specs.Words.{word_of_lock, first_role, is_wrong, one_if, wrong_in}
 use Rattle.nx_sync.specs.Locks.{last_28, IsPattern, Finds, releases_as_ended, change_at, release, IsReleased, Lock, IsPast, Past}
 use Rattle.nx_sync.proofs.Lists.{part-append}
 
@@ -20,8 +20,8 @@ change_at-same first f g k same =
     simp (same (k - 3) (omega arith), same (k - 5) (omega arith), wrong_in-same f g (k + 1 - 64) (k + 1 - (k + 1 - 64)) (λ j h. same j (omega arith)))
 
 module _ (bits more : List Bool) where
-  pub word_at-more : (t k : ℕ) → t + 7 * (k + 1) ≤ length bits → word_at (bits ++ more) t k ≡ word_at bits t k
-  unfolding word_at
+  pub word_at-more : (t k : ℕ) → t + 7 * (k + 1) ≤ length bits → word_of_lock (bits ++ more) t k ≡ word_of_lock bits t k
+  unfolding word_of_lock
   word_at-more t k h = ap number_of (part-append (t + 7 * k) 7 bits more (omega arith))
 
   pub first_role-more : (t : ℕ) → 28 ≤ t → t ≤ length bits → first_role (bits ++ more) t ≡ first_role bits t
@@ -30,8 +30,8 @@ module _ (bits more : List Bool) where
 
   pub release-more : (t k : ℕ) → 28 ≤ t → t + 7 * (k + 1) ≤ length bits → release (bits ++ more) t k ≡ release bits t k
   release-more t k low h =
-      ap (λ role. change_at role (word_at (bits ++ more) t) k) (first_role-more t low (omega arith))
-      ∙ change_at-same (first_role bits t) (word_at (bits ++ more) t) (word_at bits t) k (λ j le. word_at-more t j (omega arith))
+      ap (λ role. change_at role (word_of_lock (bits ++ more) t) k) (first_role-more t low (omega arith))
+      ∙ change_at-same (first_role bits t) (word_of_lock (bits ++ more) t) (word_of_lock bits t) k (λ j le. word_at-more t j (omega arith))
 
   pub last_28-more : (t : ℕ) → 28 ≤ t → t ≤ length bits → last_28 (bits ++ more) t ≡ last_28 bits t
   last_28-more t low h = part-append (t - 28) 28 bits more (omega arith)

@@ -8,7 +8,7 @@ use Rattle.nx_sync.specs.declared.step.Role.TheVariants.{Dx, Rx}
 use Rattle.nx_sync.specs.declared.step.Change.{Change}
 use Rattle.nx_sync.specs.declared.step.Change.TheVariants.{Locked, Ended, LostLock}
 use Rattle.nx_code.specs.Phasing.{phasing_1, phasing_2}
-use Rattle.nx_sync.specs.Words.{other_role, is_wrong, word_at, first_role, role_of, wrong_in, wrong_until}
+use Rattle.nx_sync.specs.Words.{other_role, is_wrong, word_of_lock, first_role, role_of, wrong_in, wrong_until}
 use Rattle.nx_sync.specs.Locks.{before_dx, before_rx, IsPattern, releases_as_ended, release, Lock, Past, Now, hunting, locked, IsLocked, IsNow}
 use Rattle.nx_sync.specs.Laws.{phasing, IsSecondPhasing1, LockedBeforeDx}
 use Rattle.nx_sync.proofs.Counts.{wrong_in-add, wrong_in-all, wrong_in-none, wrong_in-le, role_of-even}
@@ -131,8 +131,8 @@ module _ (earlier : List Bool) where
   unfolding phase
   placed i = ap (λ xs. number_of (take 7 xs)) (drop-append-add earlier (phasing 24) i)
 
-  pub word_in : (t k i : ℕ) → t + 7 * k ≡ length earlier + i → word_at (earlier ++ phasing 24) t k ≡ phase 24 i
-  unfolding word_at
+  pub word_in : (t k i : ℕ) → t + 7 * k ≡ length earlier + i → word_of_lock (earlier ++ phasing 24) t k ≡ phase 24 i
+  unfolding word_of_lock
   word_in t k i e = ap (λ j. number_of (take 7 (drop j (earlier ++ phasing 24)))) e ∙ placed i
 
   pub phasing_heard : length (earlier ++ phasing 24) ≡ length earlier + 336
@@ -199,7 +199,7 @@ module _ (earlier : List Bool) where
     -- on other limits 40 words are wrong
     not_between : 0 < o → ⊥
     not_between inside =
-        let f : ℕ → ℕ = word_at (earlier ++ phasing 24) t in
+        let f : ℕ → ℕ = word_of_lock (earlier ++ phasing 24) t in
         let w : ℕ = k + 39 in
         let all : (j : ℕ) → j < 40 → is_wrong (f (k + j)) ≡ true = λ j h.
         let i : ℕ = o + 7 * j in
@@ -215,7 +215,7 @@ module _ (earlier : List Bool) where
     -- with swapped roles the lock ends
     not_swapped : o ≡ 0 → role_of (first_role (earlier ++ phasing 24) t) k ≡ Rx → ⊥
     not_swapped zero_o swapped =
-        let f : ℕ → ℕ = word_at (earlier ++ phasing 24) t in
+        let f : ℕ → ℕ = word_of_lock (earlier ++ phasing 24) t in
         let first : Role = first_role (earlier ++ phasing 24) t in
         let e : k + 6 - 3 ≡ k + 3 = omega arith in
         let d : k + 3 - 2 ≡ k + 1 = omega arith in
@@ -268,9 +268,9 @@ module _ (earlier : List Bool) where
 
   -- the last word releases no lock
   module _ (t w : ℕ) (x : IsAligned (first_role (earlier ++ phasing 24) t) (length earlier) t) (last : t + 7 * (w + 1) ≡ length earlier + 336) where
-    few_wrong : wrong_until (word_at (earlier ++ phasing 24) t) w < 40
+    few_wrong : wrong_until (word_of_lock (earlier ++ phasing 24) t) w < 40
     few_wrong =
-        let f : ℕ → ℕ = word_at (earlier ++ phasing 24) t in
+        let f : ℕ → ℕ = word_of_lock (earlier ++ phasing 24) t in
         let i : ℕ = w + 1 - 64 in
         let right : (j : ℕ) → x.g ≤ j → j < w + 1 → is_wrong (f j) ≡ false = λ j from below.
         let c : ℕ = 14 * x.a + 7 * (j - x.g) in
@@ -291,23 +291,23 @@ module _ (earlier : List Bool) where
               omega (arith, none)
         ]
 
-    no_end : releases_as_ended (first_role (earlier ++ phasing 24) t) (word_at (earlier ++ phasing 24) t) w ≡ true → ⊥
+    no_end : releases_as_ended (first_role (earlier ++ phasing 24) t) (word_of_lock (earlier ++ phasing 24) t) w ≡ true → ⊥
     no_end h =
-        let end = IsSecondPhasing1-from (first_role (earlier ++ phasing 24) t) (word_at (earlier ++ phasing 24) t) w h in
+        let end = IsSecondPhasing1-from (first_role (earlier ++ phasing 24) t) (word_of_lock (earlier ++ phasing 24) t) w h in
         let kind = phase_at 24 308 (omega arith) in
         let five = end.0 in
-        let e : word_at (earlier ++ phasing 24) t (w - 3) ≡ phasing_2 = word_in t (w - 3) 308 (omega arith) ∙ kind.second refl in
-        let one : word_at (earlier ++ phasing 24) t (w - 3) ≡ phasing_1 = end.1.this in
+        let e : word_of_lock (earlier ++ phasing 24) t (w - 3) ≡ phasing_2 = word_in t (w - 3) 308 (omega arith) ∙ kind.second refl in
+        let one : word_of_lock (earlier ++ phasing 24) t (w - 3) ≡ phasing_1 = end.1.this in
         omega (arith, e, one)
 
-    no_change : (how : Change) → ByTests (first_role (earlier ++ phasing 24) t) (word_at (earlier ++ phasing 24) t) w (Some how) → ⊥
+    no_change : (how : Change) → ByTests (first_role (earlier ++ phasing 24) t) (word_of_lock (earlier ++ phasing 24) t) w (Some how) → ⊥
     no_change Locked h = elim h [ ]
     no_change Ended (by_end e) = no_end e
     no_change LostLock (by_loss e many) = omega (arith, many, few_wrong)
 
     not_released : (how : Change) → release (earlier ++ phasing 24) t w ≡ Some how → ⊥
     not_released how h =
-        no_change how (subst (ByTests (first_role (earlier ++ phasing 24) t) (word_at (earlier ++ phasing 24) t) w) h (by_tests (first_role (earlier ++ phasing 24) t) (word_at (earlier ++ phasing 24) t) w))
+        no_change how (subst (ByTests (first_role (earlier ++ phasing 24) t) (word_of_lock (earlier ++ phasing 24) t) w) h (by_tests (first_role (earlier ++ phasing 24) t) (word_of_lock (earlier ++ phasing 24) t) w))
 
   -- hunting at the end would mean a release by the last word
   not_hunting : (locks : List Lock) (p : ℕ) → length earlier + 336 ≤ p → Past (earlier ++ phasing 24) locks p → ⊥

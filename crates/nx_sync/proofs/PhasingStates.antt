@@ -7,7 +7,7 @@ use Rattle.nx_code.specs.Phasing.{phasing_1, phasing_2}
 use Rattle.nx_sync.specs.declared.step.Role.{Role}
 use Rattle.nx_sync.specs.declared.step.Role.TheVariants.{Dx, Rx}
 use Rattle.nx_sync.specs.declared.step.Change.{Change}
-use Rattle.nx_sync.specs.Words.{other_role, is_wrong, word_at, first_role, role_of, wrong_in, wrong_until}
+use Rattle.nx_sync.specs.Words.{other_role, is_wrong, word_of_lock, first_role, role_of, wrong_in, wrong_until}
 use Rattle.nx_sync.specs.Locks.{before_dx, before_rx, IsPattern, Finds, release, Lock, IsHunting, IsLocked}
 use Rattle.nx_sync.specs.Laws.{phasing, IsSecondPhasing1, IsOnPhasing, IsBetweenLimits, IsReleasedBy}
 use Rattle.nx_sync.proofs.Counts.{wrong_in-add, wrong_in-all, wrong_in-none, role_of-even}
@@ -139,7 +139,7 @@ module _ (earlier : List Bool) where
           absurd (between.apart x.g (2 * x.a) e)
     ]
 
-    pub between_wrong : (k : ℕ) → length earlier ≤ t + 7 * k → t + 7 * (k + 1) ≤ length earlier + 336 → is_wrong (word_at (earlier ++ phasing 24) t k) ≡ true
+    pub between_wrong : (k : ℕ) → length earlier ≤ t + 7 * k → t + 7 * (k + 1) ≤ length earlier + 336 → is_wrong (word_of_lock (earlier ++ phasing 24) t k) ≡ true
     between_wrong k from fits =
         let c : ℕ = t + 7 * k - length earlier in
         let e : t + 7 * k ≡ length earlier + c = omega arith in
@@ -150,7 +150,7 @@ module _ (earlier : List Bool) where
 
     pub between_released : IsReleasedBy (earlier ++ phasing 24) t (length earlier + 286)
     between_released =
-        let f : ℕ → ℕ = word_at (earlier ++ phasing 24) t in
+        let f : ℕ → ℕ = word_of_lock (earlier ++ phasing 24) t in
         let first : Role = first_role (earlier ++ phasing 24) t in
         let low = begins_before in
         let k : ℕ = (length earlier + 6 - t) / 7 in
@@ -170,26 +170,26 @@ module _ (earlier : List Bool) where
     unfolding role_of
     first_dx = let e : k + 1 ≡ suc k = omega arith in ap (role_of (first_role (earlier ++ phasing 24) t)) e ∙ ap other_role swapped
 
-    first_p1 : word_at (earlier ++ phasing 24) t (k + 1) ≡ phasing_1
+    first_p1 : word_of_lock (earlier ++ phasing 24) t (k + 1) ≡ phasing_1
     first_p1 = word_in earlier t (k + 1) 7 (omega arith) ∙ (phase_at 24 7 (omega arith)).first refl
 
-    second_p1 : word_at (earlier ++ phasing 24) t (k + 3) ≡ phasing_1
+    second_p1 : word_of_lock (earlier ++ phasing 24) t (k + 3) ≡ phasing_1
     second_p1 = word_in earlier t (k + 3) 21 (omega arith) ∙ (phase_at 24 21 (omega arith)).first refl
 
-    pub swapped_second : IsSecondPhasing1 (first_role (earlier ++ phasing 24) t) (word_at (earlier ++ phasing 24) t) (k + 3)
+    pub swapped_second : IsSecondPhasing1 (first_role (earlier ++ phasing 24) t) (word_of_lock (earlier ++ phasing 24) t) (k + 3)
     swapped_second =
         let d : k + 3 - 2 ≡ k + 1 = omega arith in
         record {
           two = omega arith;
           dx = role_of-three_on k (first_role (earlier ++ phasing 24) t) swapped;
           this = second_p1;
-          before = ap (word_at (earlier ++ phasing 24) t) d ∙ first_p1;
+          before = ap (word_of_lock (earlier ++ phasing 24) t) d ∙ first_p1;
         }
 
     pub swapped_released : IsReleasedBy (earlier ++ phasing 24) t (length earlier + 49)
     swapped_released =
         let first : Role = first_role (earlier ++ phasing 24) t in
-        let f : ℕ → ℕ = word_at (earlier ++ phasing 24) t in
+        let f : ℕ → ℕ = word_of_lock (earlier ++ phasing 24) t in
         let e : k + 6 - 3 ≡ k + 3 = omega arith in
         let ends = IsSecondPhasing1-to first f (k + 6) (omega arith) (subst (IsSecondPhasing1 first f) (sym e) swapped_second) in
         released_by t (k + 6) (length earlier + 49)
@@ -241,7 +241,7 @@ none_wrong_at_first f right =
 
 module _ (earlier : List Bool) (i : ℕ) (low : 28 ≤ i) (high : i ≤ 336) (t : ℕ) (x : IsOnPhasing (earlier ++ phasing 24) (length earlier) t) where
   -- its words in the phasing are right, and the DX words phasing signal 2
-  on_right : (k : ℕ) → length earlier ≤ t + 7 * k → t + 7 * (k + 1) ≤ length earlier + 336 → is_wrong (word_at (earlier ++ phasing 24) t k) ≡ false
+  on_right : (k : ℕ) → length earlier ≤ t + 7 * k → t + 7 * (k + 1) ≤ length earlier + 336 → is_wrong (word_of_lock (earlier ++ phasing 24) t k) ≡ false
   on_right k from fits =
       let c : ℕ = t + 7 * k - length earlier in
       let e : t + 7 * k ≡ length earlier + c = omega arith in
@@ -249,7 +249,7 @@ module _ (earlier : List Bool) (i : ℕ) (low : 28 ≤ i) (high : i ≤ 336) (t 
       let limit : c % 7 ≡ 0 = omega (arith, x.place) in
       ap is_wrong (word_in earlier t k c e) ∙ (kind.wrong ∙ limit-zero (c % 14) (elim (cases_eq (c % 14) 0) [ inl z ↦ inl z | inr n ↦ inr (omega arith) ]))
 
-  on_second : (k : ℕ) → length earlier ≤ t + 7 * k → t + 7 * (k + 1) ≤ length earlier + 336 → role_of (first_role (earlier ++ phasing 24) t) k ≡ Dx → word_at (earlier ++ phasing 24) t k ≡ phasing_2
+  on_second : (k : ℕ) → length earlier ≤ t + 7 * k → t + 7 * (k + 1) ≤ length earlier + 336 → role_of (first_role (earlier ++ phasing 24) t) k ≡ Dx → word_of_lock (earlier ++ phasing 24) t k ≡ phasing_2
   on_second k from fits dx =
       let c : ℕ = t + 7 * k - length earlier in
       let e : t + 7 * k ≡ length earlier + c = omega arith in
@@ -262,17 +262,17 @@ module _ (earlier : List Bool) (i : ℕ) (low : 28 ≤ i) (high : i ≤ 336) (t 
       word_in earlier t k c e ∙ kind.second pair
 
   -- how many were wrong up to the word that is over at the first of the phasing words, where the lock began before them
-  now_few : (locks : List Lock) (p : ℕ) → IsLocked (earlier ++ take i (phasing 24)) locks p t → (k : ℕ) → t + 7 * (k + 1) ≤ length earlier + i → wrong_until (word_at (earlier ++ phasing 24) t) k < 40
+  now_few : (locks : List Lock) (p : ℕ) → IsLocked (earlier ++ take i (phasing 24)) locks p t → (k : ℕ) → t + 7 * (k + 1) ≤ length earlier + i → wrong_until (word_of_lock (earlier ++ phasing 24) t) k < 40
   now_few locks p now k h =
       let l = length-part earlier i high in
       let quiet = now.holds.never k (omega (arith, h, l)) in
-      let count = (at_none (first_role (earlier ++ take i (phasing 24)) t) (word_at (earlier ++ take i (phasing 24)) t) k quiet).1 in
-      let same : wrong_until (word_at ((earlier ++ take i (phasing 24)) ++ drop i (phasing 24)) t) k ≡ wrong_until (word_at (earlier ++ take i (phasing 24)) t) k = wrong_in-same (word_at ((earlier ++ take i (phasing 24)) ++ drop i (phasing 24)) t) (word_at (earlier ++ take i (phasing 24)) t) (k + 1 - 64) (k + 1 - (k + 1 - 64)) (λ j s. word_at-more (earlier ++ take i (phasing 24)) (drop i (phasing 24)) t j (omega (arith, h, l))) in
-      subst (λ xs. wrong_until (word_at xs t) k < 40) (split_at earlier i) (omega (arith, same, count))
+      let count = (at_none (first_role (earlier ++ take i (phasing 24)) t) (word_of_lock (earlier ++ take i (phasing 24)) t) k quiet).1 in
+      let same : wrong_until (word_of_lock ((earlier ++ take i (phasing 24)) ++ drop i (phasing 24)) t) k ≡ wrong_until (word_of_lock (earlier ++ take i (phasing 24)) t) k = wrong_in-same (word_of_lock ((earlier ++ take i (phasing 24)) ++ drop i (phasing 24)) t) (word_of_lock (earlier ++ take i (phasing 24)) t) (k + 1 - 64) (k + 1 - (k + 1 - 64)) (λ j s. word_at-more (earlier ++ take i (phasing 24)) (drop i (phasing 24)) t j (omega (arith, h, l))) in
+      subst (λ xs. wrong_until (word_of_lock xs t) k < 40) (split_at earlier i) (omega (arith, same, count))
 
-  few_wrong : (w : ℕ) → ((k : ℕ) → t + 7 * (k + 1) ≤ length earlier + i → wrong_until (word_at (earlier ++ phasing 24) t) k < 40) → length earlier + i < t + 7 * (w + 1) → t + 7 * (w + 1) ≤ length earlier + 336 → t ≤ length earlier + i → wrong_until (word_at (earlier ++ phasing 24) t) w < 40
+  few_wrong : (w : ℕ) → ((k : ℕ) → t + 7 * (k + 1) ≤ length earlier + i → wrong_until (word_of_lock (earlier ++ phasing 24) t) k < 40) → length earlier + i < t + 7 * (w + 1) → t + 7 * (w + 1) ≤ length earlier + 336 → t ≤ length earlier + i → wrong_until (word_of_lock (earlier ++ phasing 24) t) w < 40
   few_wrong w before after fits began =
-      let f : ℕ → ℕ = word_at (earlier ++ phasing 24) t in
+      let f : ℕ → ℕ = word_of_lock (earlier ++ phasing 24) t in
       let place = x.place in
       elim (cases_lt (length earlier) t) [
         | inl inside ↦ fewer_in_window f 0 w (omega arith) (λ j s h. on_right j (omega arith) (omega arith)) (none_wrong_at_first f (on_right 0 (omega arith) (omega arith)))
@@ -287,12 +287,12 @@ module _ (earlier : List Bool) (i : ℕ) (low : 28 ≤ i) (high : i ≤ 336) (t 
       let l = length-part earlier i high in
       let all = split_at earlier i in
       let place = x.place in
-      let f : ℕ → ℕ = word_at (earlier ++ phasing 24) t in
+      let f : ℕ → ℕ = word_of_lock (earlier ++ phasing 24) t in
       let began = now.found.here.heard in
       subst (λ xs. IsLocked xs locks p t) all (stands_longer (earlier ++ take i (phasing 24)) (drop i (phasing 24)) locks p t now
-      (λ w after fits. subst (λ xs. wrong_until (word_at xs t) w < 40) (sym all) (few_wrong w (now_few locks p now) (omega (arith, after, l)) (omega (arith, fits, ap length all, phasing_heard earlier)) (omega (arith, began, l))))
+      (λ w after fits. subst (λ xs. wrong_until (word_of_lock xs t) w < 40) (sym all) (few_wrong w (now_few locks p now) (omega (arith, after, l)) (omega (arith, fits, ap length all, phasing_heard earlier)) (omega (arith, began, l))))
       (λ k after fits second.
-      let at = subst (λ xs. IsSecondPhasing1 (first_role xs t) (word_at xs t) k) all second in
+      let at = subst (λ xs. IsSecondPhasing1 (first_role xs t) (word_of_lock xs t) k) all second in
       let e = on_second k (omega (arith, after, l)) (omega (arith, fits, ap length all, phasing_heard earlier)) at.dx in
       let d = at.this in
       omega (arith, e, d)))

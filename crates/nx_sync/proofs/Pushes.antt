@@ -12,7 +12,7 @@ use Rattle.nx_sync.specs.declared.step.Change.TheVariants.{Locked}
 use Rattle.nx_sync.specs.declared.step.Step.{Step}
 use Rattle.nx_sync.specs.declared.track.Track.{Track}
 use Rattle.nx_code.specs.Phasing.{phasing_1}
-use Rattle.nx_sync.specs.Words.{other_role, is_wrong, word_at, first_role, role_of}
+use Rattle.nx_sync.specs.Words.{other_role, is_wrong, word_of_lock, first_role, role_of}
 use Rattle.nx_sync.specs.Locks.{before_dx, before_rx, last_28, IsPattern, release, Lock, Now, hunting, locked, IsHunting, IsLocked, IsNow}
 use Rattle.nx_sync.specs.Steps.{LockStands, step, found, word, inside, over, hunts, IsStep}
 use Rattle.nx_sync.specs.Synchroniser.{Held, wrong_marks, p1_marks, Follows, Tracks, StandsAfter}
@@ -95,7 +95,7 @@ module _ (s : Held) (bits : List Bool) (b : Bool) (a : StandsAfter s bits) where
           place = omega (arith, length_push bits b);
           short = omega arith;
           role = sym first;
-          phasing = sym (p1_number-none (word_at (bits ++ b ∷ []) (length bits + 1)));
+          phasing = sym (p1_number-none (word_of_lock (bits ++ b ∷ []) (length bits + 1)));
           marks = refl;
         };
       };
@@ -176,7 +176,7 @@ module _ (s : Held) (bits : List Bool) (b : Bool) (a : StandsAfter s bits) where
       let within = now.found.here.heard in
       let place = f.place in
       let now' : IsLocked (bits ++ b ∷ []) locks p t = stands_on bits b locks p t now (λ k e. absurd (omega (arith, f.place))) in
-      let words : (j : ℕ) → j < f.whole → word_at bits t j ≡ word_at (bits ++ b ∷ []) t j = λ j h. sym (word_at-more bits (b ∷ []) t j (omega (arith, f.place))) in
+      let words : (j : ℕ) → j < f.whole → word_of_lock bits t j ≡ word_of_lock (bits ++ b ∷ []) t j = λ j h. sym (word_at-more bits (b ∷ []) t j (omega (arith, f.place))) in
       record {
         stands = record {
           locks = locks;
@@ -192,8 +192,8 @@ module _ (s : Held) (bits : List Bool) (b : Bool) (a : StandsAfter s bits) where
               place = omega (arith, f.place, length_push bits b);
               short = short;
               role = f.role ∙ ap (λ first. role_of first f.whole) (sym (first_role-more bits (b ∷ []) t low within));
-              phasing = f.phasing ∙ ap number_of (p1_marks-same (word_at bits t) (word_at (bits ++ b ∷ []) t) f.whole words);
-              marks = f.marks ∙ ap (keep_last 64) (wrong_marks-same (word_at bits t) (word_at (bits ++ b ∷ []) t) f.whole words);
+              phasing = f.phasing ∙ ap number_of (p1_marks-same (word_of_lock bits t) (word_of_lock (bits ++ b ∷ []) t) f.whole words);
+              marks = f.marks ∙ ap (keep_last 64) (wrong_marks-same (word_of_lock bits t) (word_of_lock (bits ++ b ∷ []) t) f.whole words);
             };
           };
         };
@@ -206,8 +206,8 @@ module _ (s : Held) (bits : List Bool) (b : Bool) (a : StandsAfter s bits) where
       }
 
   -- the number of the word that the bit completes
-  word_heard : (t k : ℕ) → 28 ≤ t → length bits + 1 ≡ t + 7 * (k + 1) → (heard_one s b).recent / 2 ^ 21 ≡ word_at (bits ++ b ∷ []) t k
-  unfolding word_at
+  word_heard : (t k : ℕ) → 28 ≤ t → length bits + 1 ≡ t + 7 * (k + 1) → (heard_one s b).recent / 2 ^ 21 ≡ word_of_lock (bits ++ b ∷ []) t k
+  unfolding word_of_lock
   word_heard t k low e =
       let enough : 28 ≤ length (bits ++ b ∷ []) = omega (arith, length_push bits b) in
       let i : length (bits ++ b ∷ []) - 7 ≡ t + 7 * k = omega (arith, length_push bits b) in
@@ -219,38 +219,38 @@ module _ (s : Held) (bits : List Bool) (b : Bool) (a : StandsAfter s bits) where
     place_after : length bits + 1 ≡ t + 7 * (f.whole + 1)
     place_after = omega (arith, f.place)
 
-    words_same : (j : ℕ) → j < f.whole → word_at bits t j ≡ word_at (bits ++ b ∷ []) t j
+    words_same : (j : ℕ) → j < f.whole → word_of_lock bits t j ≡ word_of_lock (bits ++ b ∷ []) t j
     words_same j h = sym (word_at-more bits (b ∷ []) t j (omega (arith, f.place)))
 
     first_same : first_role bits t ≡ first_role (bits ++ b ∷ []) t
     first_same = sym (first_role-more bits (b ∷ []) t now.found.here.enough now.found.here.heard)
 
-    number_is : (heard_one s b).recent / 2 ^ 21 ≡ word_at (bits ++ b ∷ []) t f.whole
+    number_is : (heard_one s b).recent / 2 ^ 21 ≡ word_of_lock (bits ++ b ∷ []) t f.whole
     number_is = word_heard t f.whole now.found.here.enough place_after
 
     role_is : track.role ≡ role_of (first_role (bits ++ b ∷ []) t) f.whole
     role_is = f.role ∙ ap (λ first. role_of first f.whole) first_same
 
-    phasing_is : track.was_p1 ≡ number_of (p1_marks (word_at (bits ++ b ∷ []) t) f.whole)
-    phasing_is = f.phasing ∙ ap number_of (p1_marks-same (word_at bits t) (word_at (bits ++ b ∷ []) t) f.whole words_same)
+    phasing_is : track.was_p1 ≡ number_of (p1_marks (word_of_lock (bits ++ b ∷ []) t) f.whole)
+    phasing_is = f.phasing ∙ ap number_of (p1_marks-same (word_of_lock bits t) (word_of_lock (bits ++ b ∷ []) t) f.whole words_same)
 
-    marks_are : x.wrong ≡ keep_last 64 (wrong_marks (word_at (bits ++ b ∷ []) t) (f.whole + 1))
+    marks_are : x.wrong ≡ keep_last 64 (wrong_marks (word_of_lock (bits ++ b ∷ []) t) (f.whole + 1))
     marks_are =
         c.marks
-        ∙ (ap (λ xs. keep_last 64 (xs ++ is_wrong ((heard_one s b).recent / 2 ^ 21) ∷ [])) (f.marks ∙ ap (keep_last 64) (wrong_marks-same (word_at bits t) (word_at (bits ++ b ∷ []) t) f.whole words_same))
-        ∙ (ap (λ w. keep_last 64 (keep_last 64 (wrong_marks (word_at (bits ++ b ∷ []) t) f.whole) ++ is_wrong w ∷ [])) number_is
-        ∙ wrong_marks-next (word_at (bits ++ b ∷ []) t) f.whole))
+        ∙ (ap (λ xs. keep_last 64 (xs ++ is_wrong ((heard_one s b).recent / 2 ^ 21) ∷ [])) (f.marks ∙ ap (keep_last 64) (wrong_marks-same (word_of_lock bits t) (word_of_lock (bits ++ b ∷ []) t) f.whole words_same))
+        ∙ (ap (λ w. keep_last 64 (keep_last 64 (wrong_marks (word_of_lock (bits ++ b ∷ []) t) f.whole) ++ is_wrong w ∷ [])) number_is
+        ∙ wrong_marks-next (word_of_lock (bits ++ b ∷ []) t) f.whole))
 
     change_is : r.change ≡ release (bits ++ b ∷ []) t f.whole
-    change_is = c.change ∙ change_of-change_at (first_role (bits ++ b ∷ []) t) (word_at (bits ++ b ∷ []) t) f.whole track x.wrong role_is phasing_is marks_are
+    change_is = c.change ∙ change_of-change_at (first_role (bits ++ b ∷ []) t) (word_of_lock (bits ++ b ∷ []) t) f.whole track x.wrong role_is phasing_is marks_are
 
-    word_is : r.word ≡ Some (word_at (bits ++ b ∷ []) t f.whole, role_of (first_role (bits ++ b ∷ []) t) f.whole)
+    word_is : r.word ≡ Some (word_of_lock (bits ++ b ∷ []) t f.whole, role_of (first_role (bits ++ b ∷ []) t) f.whole)
     word_is =
         c.word
         ∙ (ap (λ (w : ℕ). Some (w, track.role)) number_is
-        ∙ ap (λ (q : Role). Some (word_at (bits ++ b ∷ []) t f.whole, q)) role_is)
+        ∙ ap (λ (q : Role). Some (word_of_lock (bits ++ b ∷ []) t f.whole, q)) role_is)
 
-    step_is : (how : Option Change) → r.change ≡ how → r ≡ step (Some (word_at (bits ++ b ∷ []) t f.whole, role_of (first_role (bits ++ b ∷ []) t) f.whole)) how
+    step_is : (how : Option Change) → r.change ≡ how → r ≡ step (Some (word_of_lock (bits ++ b ∷ []) t f.whole, role_of (first_role (bits ++ b ∷ []) t) f.whole)) how
     step_is how h = ap₂ step word_is h
 
     recent_after : x.recent ≡ number_of (keep_last 28 (replicate 28 false ++ (bits ++ b ∷ [])))
@@ -280,7 +280,7 @@ module _ (s : Held) (bits : List Bool) (b : Bool) (a : StandsAfter s bits) where
                 place = omega (arith, place_after, length_push bits b);
                 short = omega arith;
                 role = ap other_role role_is ∙ ap (role_of (first_role (bits ++ b ∷ []) t)) (sym e);
-                phasing = ap₂ (λ n w. n / 2 + 2 ^ 4 * value_of (w == phasing_1)) phasing_is number_is ∙ p1_number-next (word_at (bits ++ b ∷ []) t) f.whole;
+                phasing = ap₂ (λ n w. n / 2 + 2 ^ 4 * value_of (w == phasing_1)) phasing_is number_is ∙ p1_number-next (word_of_lock (bits ++ b ∷ []) t) f.whole;
                 marks = marks_are;
               };
             };

@@ -57,7 +57,8 @@ pub data GoesOn : List Lock → Now → List Lock → Now → Type 0 where
   found_and_past : {older locks : List Lock} {p : ℕ} {now : Now} (lock : Lock) → lock.from ≡ p
       → Extends locks (lock ∷ older) → GoesOn older (hunting p) locks now
   is_past : {older locks : List Lock} {p t : ℕ} {now : Now} (lock : Lock)
-      → lock.from ≡ p → lock.at ≡ t → Extends locks (lock ∷ older) → GoesOn older (locked p t) locks now
+      → lock.from ≡ p → lock.at ≡ t → Extends locks (lock ∷ older)
+      → GoesOn older (locked p t) locks now
 
 -- what stood after these bits, where these locks and this state stand after more
 pub record Stood (bits : List Bool) (locks : List Lock) (now : Now) : Type 0 where

@@ -5,7 +5,7 @@ use Rattle.nx_sync.specs.declared.step.Role.{Role}
 use Rattle.nx_sync.specs.declared.step.Change.{Change}
 use Rattle.nx_sync.specs.declared.step.Change.TheVariants.{Ended, LostLock}
 use Rattle.nx_code.specs.Phasing.{phasing_1, elements_of_phasing_1, elements_of_phasing_2}
-use Rattle.nx_sync.specs.Words.{losing_count, word_at, first_role, role_of, is_dx, wrong_until, lock_words}
+use Rattle.nx_sync.specs.Words.{losing_count, word_of_lock, first_role, role_of, is_dx, wrong_until, lock_words}
 
 -- How many elements the patterns have that give a lock: four words (this profile).
 abbrev pub pattern_elements : ℕ
@@ -63,7 +63,7 @@ change_at first words k =
 
 -- which change word k would bring to the lock at t
 abbrev pub release : List Bool → ℕ → ℕ → Option Change
-release bits t k = change_at (first_role bits t) (word_at bits t) k
+release bits t k = change_at (first_role bits t) (word_of_lock bits t) k
 
 -- The lock at t is released after word w, the least word that brings a change; all its bits were
 -- heard.

@@ -5,7 +5,7 @@ use Rattle.circular_buffer.specs.Buffer.{keep_last}
 use Rattle.nx_sync.specs.declared.track.Track.{Track}
 use Rattle.nx_code.specs.Phasing.{phasing_1}
 use Rattle.nx_code.specs.Word.{number_of}
-use Rattle.nx_sync.specs.Words.{marked_words, is_wrong, word_at, first_role, role_of}
+use Rattle.nx_sync.specs.Words.{marked_words, is_wrong, word_of_lock, first_role, role_of}
 use Rattle.nx_sync.specs.Locks.{pattern_elements, Lock, Now, hunting, locked, IsNow}
 
 -- what contracts see of a synchroniser: the last 28 bits as a number, the oldest in the least
@@ -51,8 +51,8 @@ pub record Follows (bits : List Bool) (t : ℕ) (wrong : List Bool) (track : Tra
   pub place : length bits ≡ t + (7 * whole + track.filled)
   pub short : track.filled < 7
   pub role : track.role ≡ role_of (first_role bits t) whole
-  pub phasing : track.was_p1 ≡ number_of (p1_marks (word_at bits t) whole)
-  pub marks : wrong ≡ keep_last marked_words (wrong_marks (word_at bits t) whole)
+  pub phasing : track.was_p1 ≡ number_of (p1_marks (word_of_lock bits t) whole)
+  pub marks : wrong ≡ keep_last marked_words (wrong_marks (word_of_lock bits t) whole)
 
 pub record IsFollowed (bits : List Bool) (t : ℕ) (wrong : List Bool) (track : Option Track)
     : Type 0 where

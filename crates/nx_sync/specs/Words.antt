@@ -16,8 +16,8 @@ losing_count = 40
 
 -- the number of word k of the lock at t, the bits t + 7k to t + 7k + 6 (seven elements a word:
 -- M.476, M.625)
-unfoldable pub word_at : List Bool → ℕ → ℕ → ℕ
-word_at bits t k = word_from bits (t + 7 * k)
+unfoldable pub word_of_lock : List Bool → ℕ → ℕ → ℕ
+word_of_lock bits t k = word_from bits (t + 7 * k)
 
 -- the role of word 0 of the lock at t: DX where the pattern ended with phasing signal 1, else RX
 -- (in M.625's mode B phasing signal 2 is sent as DX and phasing signal 1 as RX)
@@ -56,7 +56,7 @@ wrong_until words k = wrong_in words (k + 1 - marked_words) (k + 1 - (k + 1 - ma
 
 -- word k of the lock at t, by its number and its role
 abbrev pub heard_word : List Bool → ℕ → ℕ → ℕ × Role
-heard_word bits t k = (word_at bits t k, role_of (first_role bits t) k)
+heard_word bits t k = (word_of_lock bits t k, role_of (first_role bits t) k)
 
 -- the first n words of the lock at t, each with its role, in order
 unfoldable pub lock_words : List Bool → ℕ → ℕ → List (ℕ × Role)

@@ -8,7 +8,7 @@ ghost use Rattle.nx_sync.specs.declared.step.Role.{Role as RoleOf};
 ghost use Rattle.nx_sync.specs.declared.step.Step.{Step};
 ghost use Rattle.nx_code.specs.Word.{number_of};
 ghost use Rattle.nx_code.specs.Phasing.{phasing_1};
-ghost use Rattle.nx_sync.specs.Words.{is_wrong, lock_words, words_heard, heard_word, marked_words, losing_count, word_at, first_role, role_of, wrong_in, wrong_until};
+ghost use Rattle.nx_sync.specs.Words.{is_wrong, lock_words, words_heard, heard_word, marked_words, losing_count, word_of_lock, first_role, role_of, wrong_in, wrong_until};
 ghost use Rattle.nx_sync.specs.Locks.{pattern_elements, before_dx, before_rx, hunting, locked, IsHunting, words_of_past, IsPattern, Finds, release, IsReleased, Lock, Past, Now, IsLocked, IsNow};
 ghost use Rattle.nx_sync.specs.Steps.{Brings, IsStep, word_of_step};
 ghost use Rattle.nx_sync.specs.Laws.{IsOnPhasing, IsBetweenLimits, IsReleasedBy, IsSecondPhasing1, IsEarlier, WhatStands, GoesOn, Stood, OneMore, phasing, LockedBeforeDx};
@@ -38,7 +38,7 @@ pub fn more_bits_keep_the_past()
     ensures released { (bits more : List Bool) (t w : ℕ) (how : How) → IsPattern bits t
         → IsReleased bits t w how → IsReleased (bits ++ more) t w how }
     ensures words { (bits more : List Bool) (t k : ℕ) → t + 7 * (k + 1) ≤ length bits
-        → word_at (bits ++ more) t k ≡ word_at bits t k }
+        → word_of_lock (bits ++ more) t k ≡ word_of_lock bits t k }
     ensures roles { (bits more : List Bool) (t : ℕ) → IsPattern bits t
         → first_role (bits ++ more) t ≡ first_role bits t }
     ensures changes { (bits more : List Bool) (t k : ℕ) → IsPattern bits t
@@ -90,9 +90,9 @@ pub fn one_bit_more()
 pub fn a_lock_stands_on()
     ensures { (bits more : List Bool) (locks : List Lock) (p t : ℕ) → IsLocked bits locks p t
         → ((k : ℕ) → length bits < t + 7 * (k + 1) → t + 7 * (k + 1) ≤ length (bits ++ more)
-        → wrong_until (word_at (bits ++ more) t) k < losing_count)
+        → wrong_until (word_of_lock (bits ++ more) t) k < losing_count)
         → ((k : ℕ) → length bits < t + 7 * (k + 4) → t + 7 * (k + 4) ≤ length (bits ++ more)
-        → IsSecondPhasing1 (first_role (bits ++ more) t) (word_at (bits ++ more) t) k → ⊥)
+        → IsSecondPhasing1 (first_role (bits ++ more) t) (word_of_lock (bits ++ more) t) k → ⊥)
         → IsLocked (bits ++ more) locks p t }
 {}
 
@@ -100,9 +100,9 @@ pub fn a_lock_stands_on()
 /// Lost, as Ended where they are the same.
 pub fn the_earlier_releases()
     ensures earlier { (bits : List Bool) (t w : ℕ) (how : How) → IsReleased bits t w how
-        → IsEarlier (first_role bits t) (word_at bits t) w how }
+        → IsEarlier (first_role bits t) (word_of_lock bits t) w how }
     ensures released { (bits : List Bool) (t w : ℕ) (how : How) → t + 7 * (w + 1) ≤ length bits
-        → IsEarlier (first_role bits t) (word_at bits t) w how → IsReleased bits t w how }
+        → IsEarlier (first_role bits t) (word_of_lock bits t) w how → IsReleased bits t w how }
 {}
 
 /// A lock is not released while each run of at most 64 of its words has fewer than 40 wrong ones
@@ -110,9 +110,9 @@ pub fn the_earlier_releases()
 pub fn a_good_lock_is_kept()
     ensures { (bits : List Bool) (locks : List Lock) (p t : ℕ) → Past bits locks p → Finds bits p t
         → ((i n : ℕ) → n ≤ marked_words → t + 7 * (i + n) ≤ length bits
-        → wrong_in (word_at bits t) i n < losing_count)
+        → wrong_in (word_of_lock bits t) i n < losing_count)
         → ((k : ℕ) → t + 7 * (k + 3) ≤ length bits → role_of (first_role bits t) k ≡ RoleOf.Dx
-        → word_at bits t k ≡ phasing_1 → word_at bits t (k + 2) ≡ phasing_1 → ⊥)
+        → word_of_lock bits t k ≡ phasing_1 → word_of_lock bits t (k + 2) ≡ phasing_1 → ⊥)
         → IsLocked bits locks p t }
 {}
 
@@ -133,7 +133,7 @@ pub fn a_lock_between_limits_is_lost()
     ensures wrong { (earlier : List Bool) (t : ℕ) → IsPattern (earlier ++ phasing 24) t
         → IsBetweenLimits (length earlier) t
         → (k : ℕ) → length earlier ≤ t + 7 * k → t + 7 * (k + 1) ≤ length earlier + 336
-        → is_wrong (word_at (earlier ++ phasing 24) t k) ≡ true }
+        → is_wrong (word_of_lock (earlier ++ phasing 24) t k) ≡ true }
     ensures released { (earlier : List Bool) (t : ℕ) → IsPattern (earlier ++ phasing 24) t
         → IsBetweenLimits (length earlier) t
         → IsReleasedBy (earlier ++ phasing 24) t (length earlier + 286) }
@@ -145,7 +145,7 @@ pub fn a_lock_with_swapped_roles_ends()
     ensures second { (earlier : List Bool) (t k : ℕ) → t + 7 * k ≡ length earlier
         → role_of (first_role (earlier ++ phasing 24) t) k ≡ RoleOf.Rx
         → IsSecondPhasing1 (first_role (earlier ++ phasing 24) t)
-        (word_at (earlier ++ phasing 24) t) (k + 3) }
+        (word_of_lock (earlier ++ phasing 24) t) (k + 3) }
     ensures released { (earlier : List Bool) (t k : ℕ) → t + 7 * k ≡ length earlier
         → role_of (first_role (earlier ++ phasing 24) t) k ≡ RoleOf.Rx
         → IsReleasedBy (earlier ++ phasing 24) t (length earlier + 49) }

@@ -2,7 +2,7 @@
 
 ghost use Rattle.std.specs.Prelude.{◌<◌};
 
-use super::station::AIR_FILE_OF_X;
+use super::station::AIR_FILE_OF_EA01;
 use super::{Ended, run_on};
 use nx_code::Comb;
 use nx_fec::{Position, to_bits};
@@ -10,14 +10,14 @@ use std::alloc::{AllocError, Global};
 use std::test::Fail;
 
 /// The log of EA01 with the one line TEST, sent at 2025-01-01 00:40:00.
-pub const LOG_OF_X: &[u8] = b"[EA01 2025-01-01 00:40:00 full 0/5]\nTEST\n\n";
+pub const LOG_OF_EA01: &[u8] = b"[EA01 2025-01-01 00:40:00 full 0/5]\nTEST\n\n";
 
 /// The combinations of the letter shift, ZCZC, a space, EA, the figure shift, 01 and a new line, by
 /// the code table of M.476.
-pub const HEADER_OF_X: [u8; 13] = [29, 26, 3, 26, 3, 31, 5, 1, 30, 16, 17, 27, 28];
+pub const HEADER_OF_EA01: [u8; 13] = [29, 26, 3, 26, 3, 31, 5, 1, 30, 16, 17, 27, 28];
 
 /// The combinations of the letter shift, TEST, a new line, NNNN and what follows it.
-pub const REST_OF_X: [u8; 14] = [29, 20, 5, 19, 20, 27, 28, 14, 14, 14, 14, 27, 28, 28];
+pub const REST_OF_EA01: [u8; 14] = [29, 20, 5, 19, 20, 27, 28, 14, 14, 14, 14, 27, 28, 28];
 
 /// The pieces in a row.
 pub fn join(alloc: Global, pieces: &[&[u8]]) -> Result<Vec<u8>, AllocError> {
@@ -29,9 +29,9 @@ pub fn join(alloc: Global, pieces: &[&[u8]]) -> Result<Vec<u8>, AllocError> {
 }
 
 /// The lines of elements of the emission of EA01, without its moment.
-pub fn lines_of_x() -> Result<&'static [u8], Fail> {
+pub fn lines_of_ea01() -> Result<&'static [u8], Fail> {
     Ok(
-        AIR_FILE_OF_X
+        AIR_FILE_OF_EA01
             .strip_prefix(b"T 1735692000\n")
             .ok_or("a moment")?,
     )

@@ -1,28 +1,28 @@
 //! `damage`.
 
-use super::station::AIR_FILE_OF_X;
+use super::station::AIR_FILE_OF_EA01;
 use super::{AIR_FILE_OF_A, run_on};
 use crate::program::run;
 use crate::tests::devices::{Sink, Source};
 use std::test::Fail;
 
 // 59 words from slot 144 on are those of slots 144 to 202, of which 30 are even.
-const DAMAGE_X: [&str; 5] = ["navtex", "damage", "dx", "144", "59"];
+const DAMAGE_EA01: [&str; 5] = ["navtex", "damage", "dx", "144", "59"];
 
 #[test]
 fn inverts_elements(rt: HostRuntime) {
     let alloc = rt.alloc();
-    let damaged = run_on(alloc, &DAMAGE_X, AIR_FILE_OF_X);
+    let damaged = run_on(alloc, &DAMAGE_EA01, AIR_FILE_OF_EA01);
     assert_eq!(rt; damaged.status, 0);
     assert!(rt; damaged.faults.is_empty());
-    assert_eq!(rt; damaged.output.len(), AIR_FILE_OF_X.len());
-    let pairs = damaged.output.iter().zip(AIR_FILE_OF_X);
+    assert_eq!(rt; damaged.output.len(), AIR_FILE_OF_EA01.len());
+    let pairs = damaged.output.iter().zip(AIR_FILE_OF_EA01);
     assert_eq!(rt; pairs.filter(|(new, old)| new != old).count(), 30);
     let shown = run_on(alloc, &["navtex", "show"], &damaged.output);
     let wrong = shown.output.split(|byte| *byte == b'\n');
     assert_eq!(rt; wrong.filter(|line| line.ends_with(b" wrong")).count(), 30);
-    let again = run_on(alloc, &DAMAGE_X, &damaged.output);
-    assert_eq!(rt; again.output.as_slice(), AIR_FILE_OF_X);
+    let again = run_on(alloc, &DAMAGE_EA01, &damaged.output);
+    assert_eq!(rt; again.output.as_slice(), AIR_FILE_OF_EA01);
 }
 
 // Words, of which the last may be cut, over lines of all kinds.

@@ -7,7 +7,7 @@ ghost use Rattle.nx_envelope.specs.Moment.{last_moment};
 use super::AIR_FILE_OF_A;
 use super::clocked::{Clock, Reader, Writer};
 use super::endings::Ending;
-use super::station::{AIR_FILE_OF_X, MESSAGE_FILE};
+use super::station::{AIR_FILE_OF_EA01, MESSAGE_FILE};
 use nx_envelope::{Finder, FinderStep, Letter};
 use nx_fec::{Counting, decode_run, encode_run, read_bits, show_run, write_bits, write_table};
 use nx_receiver::{Entry, entry_text, listen};
@@ -39,7 +39,7 @@ struct Given {
     station: Letter,
     entry: Entry,
     bits: Vec<bool>,
-    /// The air file of X with 100 elements in each line, so that its copy is open behind some of
+    /// The air file of EA01 with 100 elements in each line, so that its copy is open behind some of
     /// them.
     short_lines: Vec<u8>,
 }
@@ -91,8 +91,8 @@ impl Call {
     }
 }
 
-/// The log of X, its identity, and its text in its copy.
-const LOG_OF_X: &[u8] = b"[EA01 2025-01-01 00:40:00 full 0/5]\nTEST\n\n";
+/// The log of EA01, its identity, and its text in its copy.
+const LOG_OF_EA01: &[u8] = b"[EA01 2025-01-01 00:40:00 full 0/5]\nTEST\n\n";
 
 /// Lines of which `damage` inverts one element, and what is left.
 const LINES: &[u8] = b"T 0\nB 00000000\nRS E\nB 0\n";
@@ -110,11 +110,11 @@ const TABLE: &[u8] = b"\
     36 YBBYBBY FIGS FIGS\n5C YYBBBYB SPACE SPACE\n6A YBYBYBB BLANK BLANK\n0F BBBBYYY P1 P1\n\
     33 BBYYBBY BETA BETA\n66 YBBYYBB P2 P2\n";
 
-/// The first line of the air file of X has this many bytes.
+/// The first line of the air file of EA01 has this many bytes.
 const LINE_OF_MOMENT: usize = 13;
 
-/// The entry of X.
-fn entry_of_x() -> Result<Entry, Fail>
+/// The entry of EA01.
+fn entry_of_ea01() -> Result<Entry, Fail>
     ensures { IfOk result (λ entry. entry.moment ≤ last_moment) }
 {
     let mut finder = Finder::new();
@@ -129,17 +129,17 @@ fn entry_of_x() -> Result<Entry, Fail>
 fn given_to_calls(alloc: Global) -> Result<Given, Fail>
     ensures { IfOk result (λ given. given.entry.moment ≤ last_moment) }
 {
-    let mut file = Counting::new(AIR_FILE_OF_X);
+    let mut file = Counting::new(AIR_FILE_OF_EA01);
     let bits = read_bits(alloc, &mut file).or(Err("elements"))?;
     Ok(Given {
         station: Letter::new(b'E').ok_or("a station")?,
-        entry: entry_of_x()?,
+        entry: entry_of_ea01()?,
         short_lines: in_short_lines(alloc, &bits)?,
         bits,
     })
 }
 
-/// X at its moment, with 100 elements in each line.
+/// EA01 at its moment, with 100 elements in each line.
 fn in_short_lines(alloc: Global, bits: &[bool]) -> Result<Vec<u8>, Fail> {
     let mut file = b"T 1735692000\n".to_vec(alloc)?;
     for line in bits.chunks(100) {
@@ -190,33 +190,41 @@ impl Case<'_> {
     }
 }
 
-/// The copy of X ends with the word of slot 195, its element 1,372. With 100 elements in each line
+/// The copy of EA01 ends with the word of slot 195, its element 1,372. With 100 elements in each line
 /// that is in the 14th of 103 bytes, behind the line of the moment.
 const HEARD_IN_SHORT_LINES: usize = LINE_OF_MOMENT + 14 * 103;
 
 fn cases<'a>(given: &'a Given) -> [Case<'a>; 13] {
     [
-        row(Call::Send, MESSAGE_FILE, AIR_FILE_OF_X),
-        row(Call::Listen, AIR_FILE_OF_X, LOG_OF_X),
+        row(Call::Send, MESSAGE_FILE, AIR_FILE_OF_EA01),
+        row(Call::Listen, AIR_FILE_OF_EA01, LOG_OF_EA01),
         Case {
             call: Call::Listen,
             input: &given.short_lines,
-            output: LOG_OF_X,
+            output: LOG_OF_EA01,
             heard: HEARD_IN_SHORT_LINES,
         },
         row(Call::Listen, LINES, b""),
         row(Call::ReadBits, LINES, b""),
-        row(Call::DecodeRun, AIR_FILE_OF_X, b"ZCZC EA01\nTEST\nNNNN\n\n"),
+        row(
+            Call::DecodeRun,
+            AIR_FILE_OF_EA01,
+            b"ZCZC EA01\nTEST\nNNNN\n\n",
+        ),
         row(Call::EncodeRun, b"A", AIR_FILE_OF_A),
         row(
             Call::ShowRun,
             b"B 01100110000000\n",
             b"0 DX 66 P2\n1 RX 00 wrong\n",
         ),
-        row(Call::CheckRun, AIR_FILE_OF_X, b"station E\n#A01\nTEST\n;\n"),
+        row(
+            Call::CheckRun,
+            AIR_FILE_OF_EA01,
+            b"station E\n#A01\nTEST\n;\n",
+        ),
         row(Call::Damage, LINES, DAMAGED_LINES),
-        row(Call::EntryText, b"", LOG_OF_X),
-        row(Call::WriteBits, b"", &AIR_FILE_OF_X[LINE_OF_MOMENT..]),
+        row(Call::EntryText, b"", LOG_OF_EA01),
+        row(Call::WriteBits, b"", &AIR_FILE_OF_EA01[LINE_OF_MOMENT..]),
         row(Call::WriteTable, b"", TABLE),
     ]
 }

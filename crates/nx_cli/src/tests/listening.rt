@@ -1,8 +1,8 @@
 //! `listen` on a whole file, on a part of one, on faulty ones and on devices that fail.
 
-use super::air::{LOG_OF_X, elements_of, join, lines_of, listen_to};
+use super::air::{LOG_OF_EA01, elements_of, join, lines_of, listen_to};
 use super::devices::{Sink, Source};
-use super::station::{AIR_FILE_OF_X, MESSAGE_FILE, SEND};
+use super::station::{AIR_FILE_OF_EA01, MESSAGE_FILE, SEND};
 use super::{Ended, run_on};
 use crate::program::run;
 use std::alloc::Global;
@@ -22,23 +22,23 @@ fn listens_to_what_was_sent(rt: HostRuntime) -> Result<(), Fail> {
     let sent = run_on(alloc, &SEND, MESSAGE_FILE);
     assert_eq!(rt;
         listen_to(alloc, &[&sent.output])?.success(),
-        Some(LOG_OF_X)
+        Some(LOG_OF_EA01)
     );
     // The same with one element in each line.
-    let elements = elements_of(alloc, AIR_FILE_OF_X)?;
+    let elements = elements_of(alloc, AIR_FILE_OF_EA01)?;
     let lines = lines_of(alloc, &elements, 1)?;
     assert_eq!(rt; lines.iter().filter(|byte| **byte == b'\n').count(), 1_421);
     let ended = listen_to(alloc, &[b"T 1735692000\n", &lines])?;
-    assert_eq!(rt; ended.success(), Some(LOG_OF_X));
+    assert_eq!(rt; ended.success(), Some(LOG_OF_EA01));
     // The same from a reader that gives one byte at a time, to a writer that takes one.
-    let mut source = Source::of(AIR_FILE_OF_X);
+    let mut source = Source::of(AIR_FILE_OF_EA01);
     source.piece = 1;
     let mut output = Sink::new(Vec::new(alloc));
     output.piece = 1;
     let (status, faults) = listen_between(alloc, &mut source, &mut output);
     assert_eq!(rt; status, 0);
     assert!(rt; faults.is_empty());
-    assert_eq!(rt; output.taken.as_slice(), LOG_OF_X);
+    assert_eq!(rt; output.taken.as_slice(), LOG_OF_EA01);
     Ok(())
 }
 
@@ -88,9 +88,9 @@ fn stops_at_a_fault_of_a_line(rt: HostRuntime) -> Result<(), Fail> {
 #[test]
 fn writes_the_log_before_a_fault(rt: HostRuntime) -> Result<(), Fail> {
     let alloc = rt.alloc();
-    let ended = listen_to(alloc, &[AIR_FILE_OF_X, b"T 1735692000\nT 0\n"])?;
+    let ended = listen_to(alloc, &[AIR_FILE_OF_EA01, b"T 1735692000\nT 0\n"])?;
     assert_eq!(rt; ended.status, 2);
-    assert_eq!(rt; ended.output.as_slice(), LOG_OF_X);
+    assert_eq!(rt; ended.output.as_slice(), LOG_OF_EA01);
     assert_eq!(rt;
         ended.faults.as_slice(),
         b"navtex: line 6: moment 0 is before 1735692000\n".as_slice()
@@ -100,14 +100,14 @@ fn writes_the_log_before_a_fault(rt: HostRuntime) -> Result<(), Fail> {
 
 // The first bytes of the air file of EA01, as many as said.
 fn listen_to_first(alloc: Global, length: usize) -> Result<Ended, Fail> {
-    let part = AIR_FILE_OF_X.get(..length).ok_or("a part")?;
+    let part = AIR_FILE_OF_EA01.get(..length).ok_or("a part")?;
     Ok(listen_to(alloc, &[part])?)
 }
 
 #[test]
 fn names_the_line_in_which_a_file_is_cut(rt: HostRuntime) -> Result<(), Fail> {
     let alloc = rt.alloc();
-    assert_eq!(rt; AIR_FILE_OF_X.len(), 1_443);
+    assert_eq!(rt; AIR_FILE_OF_EA01.len(), 1_443);
     // Where a line begins, some lengths that end inside it, the first and the last of them among
     // these, and what is said of them.
     for (begin, lengths, line) in [
@@ -138,7 +138,7 @@ fn names_the_line_in_which_a_file_is_cut(rt: HostRuntime) -> Result<(), Fail> {
         }
     }
     let all = listen_to_first(alloc, 1_443)?;
-    assert_eq!(rt; all.success(), Some(LOG_OF_X));
+    assert_eq!(rt; all.success(), Some(LOG_OF_EA01));
     Ok(())
 }
 
@@ -146,7 +146,7 @@ fn names_the_line_in_which_a_file_is_cut(rt: HostRuntime) -> Result<(), Fail> {
 fn listens_on_devices_that_fail(rt: HostRuntime) -> Result<(), Fail> {
     let alloc = rt.alloc();
     // A writer that takes ten bytes and then fails.
-    let mut source = Source::of(AIR_FILE_OF_X);
+    let mut source = Source::of(AIR_FILE_OF_EA01);
     let mut output = Sink::new(Vec::new(alloc));
     output.piece = 10;
     output.fails_at = Some(2);
@@ -160,13 +160,13 @@ fn listens_on_devices_that_fail(rt: HostRuntime) -> Result<(), Fail> {
     assert_eq!(rt; output.taken.as_slice(), b"[EA01 2025".as_slice());
     // Readers that fail behind the first line, behind a line with the end of a copy and behind one
     // within a copy: the log of the lines that came is written, and an open copy is not closed.
-    let elements = elements_of(alloc, AIR_FILE_OF_X)?;
+    let elements = elements_of(alloc, AIR_FILE_OF_EA01)?;
     let part = elements.get(..1_323).ok_or("elements")?;
     let lines = lines_of(alloc, part, 490)?;
     let open = join(alloc, &[b"T 1735692000\n", &lines])?;
     for (given, log) in [
         (b"T 1735692000\n".as_slice(), b"".as_slice()),
-        (AIR_FILE_OF_X, LOG_OF_X),
+        (AIR_FILE_OF_EA01, LOG_OF_EA01),
         (open.as_slice(), b"".as_slice()),
     ] {
         let mut source = Source::of(given);

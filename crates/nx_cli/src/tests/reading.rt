@@ -1,6 +1,6 @@
 //! `show` and `check`.
 
-use super::station::{AIR_FILE_OF_X, MESSAGE_FILE, SEND};
+use super::station::{AIR_FILE_OF_EA01, MESSAGE_FILE, SEND};
 use super::{AIR_FILE_OF_A, run_on, with_word};
 use std::test::Fail;
 
@@ -41,9 +41,9 @@ const WORD_150: usize = 1_071;
 fn refuses_what_is_not_sent(rt: HostRuntime) -> Result<(), Fail> {
     let alloc = rt.alloc();
     let damage = ["navtex", "damage", "all", "150", "1"];
-    let wrong = run_on(alloc, &damage, AIR_FILE_OF_X).output;
-    let unpaired = with_word(alloc, AIR_FILE_OF_X, WORD_150, b"1110001")?;
-    let mut longer = AIR_FILE_OF_X.to_vec(alloc)?;
+    let wrong = run_on(alloc, &damage, AIR_FILE_OF_EA01).output;
+    let unpaired = with_word(alloc, AIR_FILE_OF_EA01, WORD_150, b"1110001")?;
+    let mut longer = AIR_FILE_OF_EA01.to_vec(alloc)?;
     longer.extend_from_slice(b"B 1111000\n")?;
     // The first of the faults of strict reading, in this profile's order, and its line.
     for (input, line) in [

@@ -1,8 +1,8 @@
 //! What `listen` prints of messages that are sent again, and of those that are refused.
 
-use super::air::{LOG_OF_X, damage_in, lines_of_x, listen_to, send_from};
+use super::air::{LOG_OF_EA01, damage_in, lines_of_ea01, listen_to, send_from};
 use super::run_on;
-use super::station::{AIR_FILE_OF_X, MESSAGE_FILE};
+use super::station::{AIR_FILE_OF_EA01, MESSAGE_FILE};
 use std::test::Fail;
 
 /// Moments whose next slots of station E begin at 1735692000, 1735706400 and 1735720800.
@@ -11,9 +11,9 @@ const THREE_SLOTS: [&str; 3] = ["1735689600", "1735692001", "1735706401"];
 #[test]
 fn prints_again_after_66_hours(rt: HostRuntime) -> Result<(), Fail> {
     let alloc = rt.alloc();
-    let x = lines_of_x()?;
+    let x = lines_of_ea01()?;
     let ended = listen_to(alloc, &[b"T 1735692000\n", x, b"T 1735706400\n", x])?;
-    assert_eq!(rt; ended.success(), Some(LOG_OF_X));
+    assert_eq!(rt; ended.success(), Some(LOG_OF_EA01));
     let ended = listen_to(
         alloc,
         &[
@@ -115,8 +115,8 @@ fn leaves_out_a_repeat_after_a_gap(rt: HostRuntime) -> Result<(), Fail> {
     // Four elements between two emissions, of which the second has lost second sendings.
     let again = send_from(alloc, THREE_SLOTS[1], MESSAGE_FILE);
     let worse = damage_in(alloc, "rx", "145", "57", &again);
-    let ended = listen_to(alloc, &[AIR_FILE_OF_X, b"B 0110\n", &worse])?;
-    assert_eq!(rt; ended.success(), Some(LOG_OF_X));
+    let ended = listen_to(alloc, &[AIR_FILE_OF_EA01, b"B 0110\n", &worse])?;
+    assert_eq!(rt; ended.success(), Some(LOG_OF_EA01));
     Ok(())
 }
 
@@ -124,7 +124,7 @@ fn leaves_out_a_repeat_after_a_gap(rt: HostRuntime) -> Result<(), Fail> {
 fn prints_a_repeat_of_what_had_no_header(rt: HostRuntime) -> Result<(), Fail> {
     let alloc = rt.alloc();
     // Both sendings of a letter of the first header are lost.
-    let once = damage_in(alloc, "all", "150", "1", AIR_FILE_OF_X);
+    let once = damage_in(alloc, "all", "150", "1", AIR_FILE_OF_EA01);
     let mut air_file = damage_in(alloc, "all", "155", "1", &once);
     air_file.extend_from_slice(&send_from(alloc, THREE_SLOTS[1], MESSAGE_FILE))?;
     let ended = run_on(alloc, &["navtex", "listen"], &air_file);

@@ -9,7 +9,7 @@ pub const MESSAGE_FILE: &[u8] = b"#A01\nTEST\n;\n";
 
 // Its emission at 1735692000: 72 phasing positions, 27 of the message, three of the end, in 203
 // words of the code table of M.476, each position in its DX slot and five slots later.
-pub const AIR_FILE_OF_X: &[u8] = b"\
+pub const AIR_FILE_OF_EA01: &[u8] = b"\
     T 1735692000\n\
     B 01100111111000011001111110000110011111100001100111111000011001111110000110011111100001100111111000\
     0110011111100001100111111000011001111110000110011111100001100111111000011001111110000110011111100001\
@@ -33,7 +33,7 @@ fn sends_a_message(rt: HostRuntime) {
     let sent = run_on(alloc, &["navtex", "send", "E", "1735689600"], MESSAGE_FILE);
     assert_eq!(rt; sent.status, 0);
     assert!(rt; sent.faults.is_empty());
-    assert_eq!(rt; sent.output.as_slice(), AIR_FILE_OF_X);
+    assert_eq!(rt; sent.output.as_slice(), AIR_FILE_OF_EA01);
     let decoded = run_on(alloc, &["navtex", "decode"], sent.output.as_slice());
     assert_eq!(rt; decoded.status, 0);
     assert_eq!(rt;

@@ -9,7 +9,7 @@ use std::test::Fail;
 /// A message: the station, the subject and the number, and the lines, each with its newline.
 pub(super) type Sent<'a> = (&'a [u8], &'a [u8]);
 
-pub(super) const X: Sent<'static> = (b"EA01", b"TEST\n");
+pub(super) const EA01: Sent<'static> = (b"EA01", b"TEST\n");
 
 /// Appends phasing positions.
 pub(super) fn add_phasing(positions: &mut Vec<Position>, count: usize) -> Result<(), Fail> {

@@ -11,7 +11,7 @@ use std::io::{Error, ErrorKind, Read};
 use std::test::Fail;
 
 /// The log of EA01 with the one line TEST, sent at 2025-01-01 00:40:00.
-const LOG_OF_X: &[u8] = b"[EA01 2025-01-01 00:40:00 full 0/5]\nTEST\n\n";
+const LOG_OF_EA01: &[u8] = b"[EA01 2025-01-01 00:40:00 full 0/5]\nTEST\n\n";
 
 /// A reader that gives one byte for each call, so many of them, and then fails or ends.
 #[derive(Drop)]
@@ -34,7 +34,7 @@ impl Read for Slow<'_> {
 }
 
 /// The air file of EA01 with the one line TEST, in the slot of station E from a moment on.
-fn sent_x(alloc: Global, moment: u64) -> Result<Vec<u8>, Fail> {
+fn sent_ea01(alloc: Global, moment: u64) -> Result<Vec<u8>, Fail> {
     let station = Letter::new(b'E').ok_or("station")?;
     let mut writer = Counting::new(Vec::new(alloc));
     let file = b"#A01\nTEST\n;\n".as_slice();
@@ -66,8 +66,8 @@ fn heard<R: Read + Drop>(
 }
 
 #[test]
-fn listen_x(rt: HostRuntime) -> Result<(), Fail> {
-    let file = sent_x(rt.alloc(), 1_735_689_600)?;
+fn listen_ea01(rt: HostRuntime) -> Result<(), Fail> {
+    let file = sent_ea01(rt.alloc(), 1_735_689_600)?;
     assert_eq!(rt; file.len(), 1443);
     let report = Report {
         lines: 4,
@@ -76,14 +76,14 @@ fn listen_x(rt: HostRuntime) -> Result<(), Fail> {
     };
     let (outcome, log) = heard(rt.alloc(), file.as_slice())?;
     assert_eq!(rt; outcome, Ok(report));
-    assert_eq!(rt; log.as_slice(), LOG_OF_X);
+    assert_eq!(rt; log.as_slice(), LOG_OF_EA01);
     let slow = Slow {
         rest: &file,
         fails: false,
     };
     let (outcome, log) = heard(rt.alloc(), slow)?;
     assert_eq!(rt; outcome, Ok(report));
-    assert_eq!(rt; log.as_slice(), LOG_OF_X);
+    assert_eq!(rt; log.as_slice(), LOG_OF_EA01);
     // The same with one element in each line.
     let bits = read_bits(rt.alloc(), &mut Counting::new(file.as_slice())).or(Err("bits"))?;
     let mut each = Vec::new(rt.alloc());
@@ -100,7 +100,7 @@ fn listen_x(rt: HostRuntime) -> Result<(), Fail> {
             printed: 1
         })
     );
-    assert_eq!(rt; log.as_slice(), LOG_OF_X);
+    assert_eq!(rt; log.as_slice(), LOG_OF_EA01);
     Ok(())
 }
 
@@ -161,7 +161,7 @@ fn listen_faults(rt: HostRuntime) -> Result<(), Fail> {
 
 #[test]
 fn failing_devices(rt: HostRuntime) -> Result<(), Fail> {
-    let file = sent_x(rt.alloc(), FIRST)?;
+    let file = sent_ea01(rt.alloc(), FIRST)?;
     let mut space = [0; 10];
     let mut writer = Counting::new(&mut space[..]);
     let outcome = listen(rt.alloc(), &mut Counting::new(file.as_slice()), &mut writer);
@@ -182,13 +182,13 @@ fn failing_devices(rt: HostRuntime) -> Result<(), Fail> {
     };
     let (outcome, log) = heard(rt.alloc(), failing)?;
     assert_eq!(rt; outcome, Err(ListenFault::Read));
-    assert_eq!(rt; log.as_slice(), LOG_OF_X);
+    assert_eq!(rt; log.as_slice(), LOG_OF_EA01);
     Ok(())
 }
 
 #[test]
 fn cut_files_and_copies(rt: HostRuntime) -> Result<(), Fail> {
-    let file = sent_x(rt.alloc(), FIRST)?;
+    let file = sent_ea01(rt.alloc(), FIRST)?;
     for (length, line) in [
         (1, 1),
         (12, 1),
@@ -231,9 +231,9 @@ fn cut_files_and_copies(rt: HostRuntime) -> Result<(), Fail> {
 
 #[test]
 fn gap_and_repeat(rt: HostRuntime) -> Result<(), Fail> {
-    let mut air = sent_x(rt.alloc(), FIRST)?;
+    let mut air = sent_ea01(rt.alloc(), FIRST)?;
     air.extend_from_slice(b"B 0110\n")?;
-    let again = sent_x(rt.alloc(), SECOND)?;
+    let again = sent_ea01(rt.alloc(), SECOND)?;
     let mut bits = read_bits(rt.alloc(), &mut Counting::new(again.as_slice())).or(Err("bits"))?;
     // The first element of each RX word of the message is damaged.
     for pair in 72..101 {
@@ -254,7 +254,7 @@ fn gap_and_repeat(rt: HostRuntime) -> Result<(), Fail> {
             printed: 1
         })
     );
-    assert_eq!(rt; log.as_slice(), LOG_OF_X);
+    assert_eq!(rt; log.as_slice(), LOG_OF_EA01);
     Ok(())
 }
 

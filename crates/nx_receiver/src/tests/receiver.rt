@@ -4,7 +4,7 @@ ghost use Rattle.std.specs.Prelude.{◌<◌, ◌≤◌};
 ghost use Rattle.nx_envelope.specs.Moment.{last_moment};
 
 use super::emissions::{
-    Sent, X, add_phasing, add_text, after_pattern, damage, emission, emission_after,
+    EA01, Sent, add_phasing, add_text, after_pattern, damage, emission, emission_after,
 };
 use super::{FIRST, SECOND};
 use crate::{Entry, MomentFault, Receiver, ReceiverFault, entry_text};
@@ -24,7 +24,7 @@ enum Given<'a> {
     RefuseSubject(u8),
 }
 
-const LOG_OF_X: &[u8] = b"[EA01 2025-01-01 00:40:00 full 0/5]\nTEST\n\n";
+const LOG_OF_EA01: &[u8] = b"[EA01 2025-01-01 00:40:00 full 0/5]\nTEST\n\n";
 
 /// Appends an entry to a log.
 fn add_entry(alloc: Global, log: &mut Vec<u8>, entry: &Entry) -> Result<(), Fail>
@@ -118,14 +118,14 @@ fn is_log(alloc: Global, given: &[Given], log: &[u8]) -> Result<bool, Fail> {
 }
 
 #[test]
-fn x_intact_and_damaged(rt: HostRuntime) -> Result<(), Fail> {
-    let mut bits = emission(rt.alloc(), &[X])?;
+fn ea01_intact_and_damaged(rt: HostRuntime) -> Result<(), Fail> {
+    let mut bits = emission(rt.alloc(), &[EA01])?;
     assert_eq!(rt; bits.len(), 1421);
     assert!(rt;
         is_log(
             rt.alloc(),
             &[Given::At(FIRST), Given::Heard(&bits)],
-            LOG_OF_X
+            LOG_OF_EA01
         )?
     );
     // The figure shift is lost in both words.
@@ -133,7 +133,7 @@ fn x_intact_and_damaged(rt: HostRuntime) -> Result<(), Fail> {
     damage(&mut bits, 165);
     assert!(rt; is_log(rt.alloc(), &[Given::At(FIRST), Given::Heard(&bits)], b"")?);
     // Each DX word of the message is damaged.
-    let mut half = emission(rt.alloc(), &[X])?;
+    let mut half = emission(rt.alloc(), &[EA01])?;
     for pair in 72..102 {
         damage(&mut half, 2 * pair);
     }
@@ -141,7 +141,7 @@ fn x_intact_and_damaged(rt: HostRuntime) -> Result<(), Fail> {
         is_log(
             rt.alloc(),
             &[Given::At(FIRST), Given::Heard(&half)],
-            LOG_OF_X
+            LOG_OF_EA01
         )?
     );
     Ok(())
@@ -149,14 +149,14 @@ fn x_intact_and_damaged(rt: HostRuntime) -> Result<(), Fail> {
 
 #[test]
 fn repeats(rt: HostRuntime) -> Result<(), Fail> {
-    let bits = emission(rt.alloc(), &[X])?;
+    let bits = emission(rt.alloc(), &[EA01])?;
     let four_hours = [
         Given::At(FIRST),
         Given::Heard(&bits),
         Given::At(SECOND),
         Given::Heard(&bits),
     ];
-    assert!(rt; is_log(rt.alloc(), &four_hours, LOG_OF_X)?);
+    assert!(rt; is_log(rt.alloc(), &four_hours, LOG_OF_EA01)?);
     let three_days = [
         Given::At(FIRST),
         Given::Heard(&bits),
@@ -234,23 +234,35 @@ fn refused_and_numbered_00(rt: HostRuntime) -> Result<(), Fail> {
 #[test]
 fn locks_and_headers(rt: HostRuntime) -> Result<(), Fail> {
     let alloc = rt.alloc();
-    let bits = emission(alloc, &[X])?;
+    let bits = emission(alloc, &[EA01])?;
     // The letters ZC are sent before the message: the text reads ZCZCZC EA01.
     let zczczc = emission_after(alloc, b"ZC", &[X])?;
-    assert!(rt; is_log(alloc, &[Given::At(FIRST), Given::Heard(&zczczc)], LOG_OF_X)?);
+    assert!(rt;
+        is_log(
+            alloc,
+            &[Given::At(FIRST), Given::Heard(&zczczc)],
+            LOG_OF_EA01
+        )?
+    );
     // Three elements slip in after a lock.
     let slip = after_pattern(alloc, 3, &bits)?;
-    assert!(rt; is_log(alloc, &[Given::At(FIRST), Given::Heard(&slip)], LOG_OF_X)?);
+    assert!(rt; is_log(alloc, &[Given::At(FIRST), Given::Heard(&slip)], LOG_OF_EA01)?);
     // The first word is lost after a lock, so that the roles are swapped.
     let swapped = after_pattern(alloc, 0, bits.get(7..).ok_or("words")?)?;
-    assert!(rt; is_log(alloc, &[Given::At(FIRST), Given::Heard(&swapped)], LOG_OF_X)?);
+    assert!(rt;
+        is_log(
+            alloc,
+            &[Given::At(FIRST), Given::Heard(&swapped)],
+            LOG_OF_EA01
+        )?
+    );
     Ok(())
 }
 
 #[test]
 fn cut_copies_and_two_messages(rt: HostRuntime) -> Result<(), Fail> {
     let alloc = rt.alloc();
-    let bits = emission(alloc, &[X])?;
+    let bits = emission(alloc, &[EA01])?;
     let cut = bits.get(..1323).ok_or("elements")?;
     assert!(rt;
         is_log(
@@ -297,7 +309,7 @@ fn a_long_copy(rt: HostRuntime) -> Result<(), Fail> {
         positions.push(Position::End)?;
     }
     let long = to_bits(alloc, &positions)?;
-    let bits = emission(alloc, &[X])?;
+    let bits = emission(alloc, &[EA01])?;
     let mut log = Vec::new(alloc);
     log.extend_from_slice(b"[EA01 2025-01-01 00:40:00 long 0/4100]\n")?;
     for _ in 0..4100 {

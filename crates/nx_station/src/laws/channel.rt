@@ -1,5 +1,5 @@
 //! Laws of what is received under the channel, each the contract of a function that does nothing.
-ghost use Rattle.std.specs.Prelude.{◌≡◌, ◌≢◌, ℕ, ◌+◌, ◌-◌, ◌*◌, ◌%◌, ◌<◌, ◌≤◌, ◌==◌, not, Bool, List, [], ◌∷◌, ◌++◌, Some, count_by, drop, get_or, length, slice_get, take};
+ghost use Rattle.std.specs.Prelude.{◌≡◌, ◌≢◌, ℕ, ◌+◌, ◌-◌, ◌*◌, ◌%◌, ◌<◌, ◌≤◌, ◌==◌, not, Bool, List, [], ◌∷◌, ◌++◌, Some, count_by, drop, length, slice_get, take};
 ghost use Rattle.nx_code.specs.Phasing.{phasing_1};
 ghost use Rattle.nx_code.specs.Table.{traffic_word};
 ghost use Rattle.nx_code.specs.Word.{weight, word_from};
@@ -97,8 +97,8 @@ pub fn an_undamaged_emission_is_received()
 {}
 
 /// The definitions at a worked emission, of EA01 with the line TEST: it is received where the first
-/// half of its phasing is damaged, or is lost in any way, and one word of each position of the
-/// message; where both words of one position are damaged, it isn't.
+/// 96 words of its phasing, two thirds, are damaged or lost in any way, and one word of each
+/// position of the message; where both words of one position are damaged, it isn't.
 pub fn an_example_is_received()
     ensures received { IsReceived example_emission }
     ensures cut { (before after : List Bool)

@@ -6,7 +6,7 @@ use nx_code::{Comb, ELEMENTS, Word};
 use nx_fec::{Position, RunFault};
 
 /// The elements of the emission of EA01 with the one line TEST.
-fn bits_of_x(alloc: Global) -> Result<Vec<bool>, Fail> {
+fn bits_of_ea01(alloc: Global) -> Result<Vec<bool>, Fail> {
     let messages = [message(alloc, b'E', b'A', 1, &[b"TEST"])?];
     let positions = emission(alloc, &messages)?;
     Ok(to_bits(alloc, &positions)?)
@@ -30,7 +30,7 @@ fn with_word(alloc: Global, bits: &[bool], slot: usize, number: u8) -> Result<Ve
     Ok(changed)
 }
 
-/// The elements of X with one more combination in a position.
+/// The elements of EA01 with one more combination in a position.
 fn with_comb(alloc: Global, position: usize, number: u8) -> Result<Vec<bool>, Fail> {
     let messages = [message(alloc, b'E', b'A', 1, &[b"TEST"])?];
     let positions = emission(alloc, &messages)?;
@@ -42,8 +42,8 @@ fn with_comb(alloc: Global, position: usize, number: u8) -> Result<Vec<bool>, Fa
 }
 
 #[test]
-fn check_x(rt: HostRuntime) -> Result<(), Fail> {
-    let bits = bits_of_x(rt.alloc())?;
+fn check_ea01(rt: HostRuntime) -> Result<(), Fail> {
+    let bits = bits_of_ea01(rt.alloc())?;
     let messages = read_emission(rt.alloc(), &bits)?;
     assert_eq!(rt; messages.len(), 1);
     let first = messages.first().ok_or("a message")?;
@@ -66,7 +66,7 @@ fn check_x(rt: HostRuntime) -> Result<(), Fail> {
 
 #[test]
 fn emissions_are_read_strictly(rt: HostRuntime) -> Result<(), Fail> {
-    let bits = bits_of_x(rt.alloc())?;
+    let bits = bits_of_ea01(rt.alloc())?;
     let wrong = with_word(rt.alloc(), &bits, 150, 0x62)?;
     let cases = [
         // Word 150 with its first element inverted, and then the word of A in its place.

@@ -1,5 +1,5 @@
-//! Worked examples of the profile: the counts of elements were worked out from the definition of the
-//! locks, apart from this program.
+//! Worked examples: the counts of elements were worked out from the definition of the locks, apart
+//! from this program.
 
 use super::run::Run;
 use crate::{Change, Synchroniser, first_lock};

@@ -1,4 +1,4 @@
-use Rattle.nx_sync.specs.Words.{word_at, first_role}
+use Rattle.nx_sync.specs.Words.{word_of_lock, first_role}
 use Rattle.nx_receiver.proofs.ApartLemmas.{own_text, apart, apart_now}
 use Rattle.nx_receiver.proofs.FoundLemmas.{text_placed}
 use Rattle.nx_receiver.proofs.laws.locks_share_nothing.Goals as goal
@@ -6,7 +6,7 @@ use Rattle.nx_receiver.proofs.laws.locks_share_nothing.Goals as goal
 pub returns : goal.returns
 returns c = record {
   own = own_text;
-  within = λ bits t n. text_placed (first_role bits t) (word_at bits t) t n;
+  within = λ bits t n. text_placed (first_role bits t) (word_of_lock bits t) t n;
   apart = apart;
   apart_now = apart_now;
 }

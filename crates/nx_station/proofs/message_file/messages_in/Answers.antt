@@ -1,6 +1,6 @@
 use Rattle.std.proofs.Common.{◌≡◌, ◌++◌, ◌∷◌, [], ◌∙◌, ap, map, length, length-append, arith}
 use Rattle.std.proofs.lemmas.List.{map-append}
-use Rattle.nx_station.specs.MessageFile.{file_message_of, entry_bytes}
+use Rattle.nx_station.specs.MessageFile.{file_message_of, file_message_bytes}
 use Rattle.nx_station.proofs.FileReading.{file-more, entries-more, of_station-more, lines-more, spelling-long}
 use Rattle.nx_station.proofs.message_file.messages_in.Goals as goal
 
@@ -19,5 +19,5 @@ loop-rest-preserved c =
       each = rw items (entries-more old entry before.each c.in_ok-part.ensures.sound);
       station = rw pushed (of_station-more _ c.loop-rest.messages.items part.message before.station c.in_ok-part.ensures.station);
       counted = rw items (omega (arith, before.counted, c.in_ok-part.ensures.lines, lines-more old entry));
-      room = omega (arith, before.room, long, c.in_ok-part.ensures.lines, ap length taken, length-append (entry_bytes entry) part.rest.now);
+      room = omega (arith, before.room, long, c.in_ok-part.ensures.lines, ap length taken, length-append (file_message_bytes entry) part.rest.now);
     }

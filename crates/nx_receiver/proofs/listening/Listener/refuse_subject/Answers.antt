@@ -3,14 +3,14 @@ use Rattle.nx_fec.specs.AirFile.{refuse_subject}
 use Rattle.nx_memory.specs.Vital.{is_vital}
 use Rattle.nx_memory.specs.declared.selection.Vital.{Vital}
 use Rattle.nx_receiver.specs.Events as events
-use Rattle.nx_receiver.specs.Events.{bits_of, command}
+use Rattle.nx_receiver.specs.Events.{elements_among, command}
 use Rattle.nx_receiver.specs.Listen.{at_zero, events_of}
 use Rattle.nx_receiver.specs.Receiver.{Stands}
 use Rattle.nx_receiver.proofs.ListenerLemmas.{content, goes_on, moment-other, ok-false}
 use Rattle.nx_receiver.proofs.listening.Listener.refuse_subject.Goals as goal
 
 pub returns-in-Ok-clause-taken : goal.returns-in-Ok-clause-taken
-unfolding bits_of
+unfolding elements_among
 returns-in-Ok-clause-taken c = λ lines given h.
     let byte = c.args.byte in
     let line = refuse_subject byte in

@@ -1,7 +1,7 @@
 use Rattle.std.proofs.Common.{◌∷◌, ◌++◌, [], refl, subst}
 use Rattle.nx_fec.specs.AirFile.{moment, refuse_station, accept_station, refuse_subject, accept_subject}
 use Rattle.nx_receiver.specs.Events as events
-use Rattle.nx_receiver.specs.Events.{bits_of, command}
+use Rattle.nx_receiver.specs.Events.{elements_among, command}
 use Rattle.nx_receiver.specs.Listen.{at_zero, events_of}
 use Rattle.nx_receiver.specs.Receiver.{Stands}
 use Rattle.nx_receiver.proofs.ListenerLemmas.{content, goes_on, moment-other}
@@ -19,7 +19,7 @@ returns-in-RefuseSubject-clause-taken g c = λ first old lines line latest h.
     (said _ _ _ _ line latest c.latest.ensures c.in-Some.is c.in-RefuseSubject.is) h c.taking_of-in-RefuseSubject.ensures (λ given s. c.refuse_subject.ensures.taken lines given s) c.refuse_subject.ensures.unchanged
 
 pub returns-in-RefuseStation-clause-taken : goal.returns-in-RefuseStation-clause-taken
-unfolding bits_of
+unfolding elements_among
 returns-in-RefuseStation-clause-taken g c = λ first old lines line latest h.
     let byte = c.in-RefuseStation.byte in
     let is = refuse_station byte in
@@ -29,7 +29,7 @@ returns-in-RefuseStation-clause-taken g c = λ first old lines line latest h.
     (c.refuse_station.ensures _ (events_of lines) log stands)))
 
 pub returns-in-AcceptStation-clause-taken : goal.returns-in-AcceptStation-clause-taken
-unfolding bits_of
+unfolding elements_among
 returns-in-AcceptStation-clause-taken g c = λ first old lines line latest h.
     let byte = c.in-AcceptStation.byte in
     let is = accept_station byte in
@@ -39,7 +39,7 @@ returns-in-AcceptStation-clause-taken g c = λ first old lines line latest h.
     (c.accept_station.ensures _ (events_of lines) log stands)))
 
 pub returns-in-AcceptSubject-clause-taken : goal.returns-in-AcceptSubject-clause-taken
-unfolding bits_of
+unfolding elements_among
 returns-in-AcceptSubject-clause-taken g c = λ first old lines line latest h.
     let byte = c.in-AcceptSubject.byte in
     let is = accept_subject byte in

@@ -1,5 +1,5 @@
 use Rattle.std.proofs.Common.{◌≡◌, ◌++◌, sym, refl, subst, ap, ◌∙◌, None, IsNone}
-use Rattle.nx_receiver.specs.Events.{bits_of, first_setting, setting_after_all, settings}
+use Rattle.nx_receiver.specs.Events.{elements_among, first_setting, setting_after_all, settings}
 use Rattle.nx_receiver.specs.Receiver.{entry_list}
 use Rattle.nx_receiver.specs.Watch.{IsOver, WatchStands, handed_out, in_force}
 use Rattle.nx_receiver.proofs.ReceiverOver.{Handed, apart-nothing, apart-nothing-lock, apart-nothing-both, both_ended, handed, none_handed}
@@ -10,7 +10,7 @@ use Rattle.nx_receiver.proofs.receiver.Receiver.finish.Goals.{in-Nothing, in-Cop
 pub returns-clause-stands : goal.returns-clause-stands
 returns-clause-stands g c start history log awaits =
     let first = first_setting start in
-    let h = bits_of history in
+    let h = elements_among history in
     let s = settings first history in
     let now = setting_after_all first history in
     let copies = awaits.copies in
