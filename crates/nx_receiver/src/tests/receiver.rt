@@ -236,7 +236,7 @@ fn locks_and_headers(rt: HostRuntime) -> Result<(), Fail> {
     let alloc = rt.alloc();
     let bits = emission(alloc, &[EA01])?;
     // The letters ZC are sent before the message: the text reads ZCZCZC EA01.
-    let zczczc = emission_after(alloc, b"ZC", &[X])?;
+    let zczczc = emission_after(alloc, b"ZC", &[EA01])?;
     assert!(rt;
         is_log(
             alloc,
@@ -280,7 +280,7 @@ fn cut_copies_and_two_messages(rt: HostRuntime) -> Result<(), Fail> {
     let log =
         b"[EA01 2025-01-01 00:40:00 cut 3/8]\nTEST\n***\n\n[EA01 2025-01-01 04:40:00 full 0/5]\nTEST\n\n";
     assert!(rt; is_log(alloc, &whole, log)?);
-    let two = emission(alloc, &[X, (b"EB02", b"")])?;
+    let two = emission(alloc, &[EA01, (b"EB02", b"")])?;
     assert_eq!(rt; two.len(), 2219);
     let twice = [
         Given::At(FIRST),
