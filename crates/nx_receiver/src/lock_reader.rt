@@ -37,8 +37,8 @@ impl Model for LockReader {
       finder = r.finder;
     } };
 
-    // What contracts see gives every field back, so that nothing else can be kept: no word, no
-    // text, no history.
+    // What contracts see gives every field back, so that no field for a history can stand beside
+    // them.
     ghost inverse = { λ v. record {
       diversity = v.diversity;
       printer = v.printer;

@@ -30,8 +30,8 @@ use std::marker::Model;
 /// each copy that is printed.
 ///
 /// It keeps what it needs for the next element, of fixed size: the synchroniser, the text of the
-/// copy that began last, the selection, the moment, and a memory of identities. No element and no
-/// other text is kept.
+/// copy that began last, the selection, the moment, and a memory of identities; nothing else of
+/// what it heard.
 #[derive(Drop)]
 pub struct Receiver<M: Recall> {
     watch: Watch,
@@ -53,8 +53,8 @@ impl<M: Recall> Model for Receiver<M> {
     ghost invariant = { λ r.
         IsInOrder (newest_moment (M.content r.memory)) r.watch.tag.moment r.watch.moment };
 
-    // What contracts see gives every field back, so that nothing else can be kept: no element, no
-    // history.
+    // What contracts see gives every field back, so that no field for a history can stand beside
+    // them.
     ghost inverse = { λ v. record { watch = v.watch; memory = v.memory } };
 }
 

@@ -25,8 +25,7 @@ use std::marker::Model;
 /// A watch over the elements that arrive.
 ///
 /// It holds what the synchroniser and the reader of a lock hold, what is refused, the moment, and
-/// what was in force at the header that was heard last; no element, and no text but that of the
-/// copy that began last.
+/// what was in force at the header that was heard last; nothing else of what it heard.
 #[derive(Drop)]
 pub(crate) struct Watch {
     synchroniser: Synchroniser,
@@ -53,8 +52,8 @@ impl Model for Watch {
       tag = w.tag;
     } };
 
-    // What contracts see gives every field back, so that nothing else can be kept: no element, no
-    // history.
+    // What contracts see gives every field back, so that no field for a history can stand beside
+    // them.
     ghost inverse = { λ v. record {
       synchroniser = v.synchroniser;
       reader = v.reader;
