@@ -19,7 +19,7 @@ use Rattle.nx_fec.specs.declared.line_run.LinesFault.TheVariants as run
 use Rattle.nx_fec.specs.declared.line_run.LinesRead.{LinesRead}
 use Rattle.nx_fec.proofs.LineLaws.{spelling-IsBeginning}
 use Rattle.nx_fec.proofs.PieceLemmas.{piece-parts}
-use Rattle.nx_fec.proofs.ReadingLaws.{IsCause-more}
+use Rattle.nx_fec.proofs.ReadingLaws.{IfErr-always, IsCause-more}
 
 pub IsPlaced-at_byte : (AtEnd : Type 0) (why : LineFault) → IsAtByte why → IsPlaced AtEnd why
 IsPlaced-at_byte AtEnd TooLong at = tt
@@ -334,7 +334,7 @@ module _ {T F : Type 0} (stands : Standing T) (begins : Beginning T) (refuses : 
       consumed = consumed;
       answer = answer;
       file = AnswersLines-file (d.remaining d.reader.inner) (d.remaining d.reader_after.inner) first now limit _ _ bytes outcome consumed answer;
-      before = λ e. tt;
+      before = IfErr-always outcome _ (λ fault e. tt);
       failed = failed;
       once = once;
     };

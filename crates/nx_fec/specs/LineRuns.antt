@@ -140,7 +140,7 @@ AnswersLines stands begins refuses AtEnd IsLeft limit first now old new (Err fau
 abbrev pub RunsLines : {R W T F : Type 0} → Standing T → Beginning T → Refusing T F → ℕ → T → T
     → Devices R W → Result LinesRead (LinesFault F) → Type 0
 RunsLines stands begins refuses limit first now d outcome =
-    Transfers run.Read (λ written. run.Write written) on_the_way d outcome (λ _. ⊤)
+    Transfers run.Read (λ _. ⊥) (λ written. run.Write written) on_the_way d outcome (λ _. ⊤)
     (λ bytes. AnswersLines stands begins refuses (IsReadOut d) (λ more. more ≡ []) limit first now
     (d.contents d.writer.inner) (d.contents d.writer_after.inner) outcome bytes)
     (λ bytes. AnswersLines stands begins refuses (Unit {0}) (λ more. Unit {0}) limit first now

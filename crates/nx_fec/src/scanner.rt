@@ -113,7 +113,7 @@ impl Scanner {
     /// The line that was ended, if one was, is then the latest. `LineLong` at the 515th byte
     /// of a line, `BadLine` at the end of one that is none of an air file's, `TooLong` at a byte past the limit. After a
     /// fault, which is the file's first whatever bytes follow, the bytes before it were taken.
-    // Inlined always, with its parts: it runs for each line, from two callers, and no large answer goes through memory.
+    // Inlined always, with its parts: it runs for each line, from more than one caller, and no large answer goes through memory.
     #[inline(always)]
     pub fn push_line(&mut self, piece: &[u8]) -> Result<usize, LineFault>
         requires { 0 < length piece.now }
