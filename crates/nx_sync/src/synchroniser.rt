@@ -29,8 +29,13 @@ const MARKS: usize = 64;
 /// How many wrong words among the marked ones lose the lock (this profile).
 const LOSING_COUNT: u32 = 40;
 
+/// How many bytes the fields of a synchroniser take (on the target of this toolchain).
+const BYTES: usize = 56;
+
 /// The synchroniser of a receiver. It keeps no history but the last 28 elements, and whether each
-/// of the last 64 words of a lock was wrong.
+/// of the last 64 words of a lock was wrong. That it has no other field, the model's `inverse`
+/// shows of each one that contracts see, and its size, which `new` proves, of one whose own type
+/// forgets; reading shows it of a field that is replaced by such a one of the same size.
 #[derive(Drop)]
 pub struct Synchroniser {
     /// The last 28 elements, the oldest in the least place.
@@ -70,7 +75,8 @@ impl Model for Synchroniser {
         × (s.wrong_count ≡ count_by (λ b. b) s.wrong.items)
         × ForSome s.track (λ t. (t.filled < 7) × (s.seen ≡ pattern_elements)) };
 
-    // Each field is given back by what contracts see, so that nothing else can be kept: no history.
+    // Each field is given back by what contracts see of it, so that none can be added whose meaning
+    // they see. Of one that is seen as nothing, the proved size of the struct tells.
     ghost inverse = { λ h. record {
       recent = h.recent;
       seen = h.seen;
@@ -91,6 +97,7 @@ impl Synchroniser {
         ensures stands { IfOk result (λ s. StandsAfter s []) }
         ensures hunting { IfOk result (λ s. IsTrue (is_hunting s)) }
     {
+        prove!(size_of::<Synchroniser>() == BYTES);
         let wrong = HeapCircularBuffer::with_capacity(alloc, MARKS)?;
         Ok(Synchroniser {
             recent: 0,

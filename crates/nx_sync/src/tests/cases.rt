@@ -2,16 +2,17 @@
 //! lists of elements the changes and the words that a new synchroniser answers.
 
 use super::run::Run;
+use crate::{Change, Role};
 use std::alloc::AllocError;
 
-/// Elements; the changes, each as the number of elements heard by then and its name; and the words,
-/// in runs of words that follow on each other with alternating roles: the number of elements heard
-/// at the first one, its role, and the numbers of the words in hexadecimal.
-struct Case {
+/// Elements; the changes, each with the number of elements heard by then; and the words, in runs of
+/// words that follow on each other with alternating roles: the number of elements heard at the
+/// first one, its role, and the numbers of the words.
+pub(super) struct Case {
     name: &'static str,
-    bits: &'static str,
-    changes: &'static str,
-    words: &'static str,
+    pub(super) bits: &'static str,
+    pub(super) changes: &'static [(usize, Change)],
+    pub(super) words: &'static [(usize, Role, &'static [u8])],
 }
 
 static CASES: [Case; 12] = [
@@ -21,16 +22,30 @@ static CASES: [Case; 12] = [
             0110011001011101100011010110111001010110101011010111001100101101011010111001100101101011010111001110\
             0011011100010011110101101100101011010111011000110101110010110101101111000111100011110001111000111100\
             0111100011110001111000",
-        changes: "28 Locked, 308 Ended",
-        words: "35 Dx: 66 0F 66 0F 56 53 47 53 72 1B 1B 53 1B 56 1D 35 35 1D 53 35 1D 53 35 1D 47 1D 72 35 53 56 1B \
-            56 53 35 0F 0F 0F 0F 0F 0F",
+        changes: &[(28, Change::Locked), (308, Change::Ended)],
+        words: &[(
+            35,
+            Role::Dx,
+            &[
+                0x66, 0x0F, 0x66, 0x0F, 0x56, 0x53, 0x47, 0x53, 0x72, 0x1B, 0x1B, 0x53, 0x1B, 0x56,
+                0x1D, 0x35, 0x35, 0x1D, 0x53, 0x35, 0x1D, 0x53, 0x35, 0x1D, 0x47, 0x1D, 0x72, 0x35,
+                0x53, 0x56, 0x1B, 0x56, 0x53, 0x35, 0x0F, 0x0F, 0x0F, 0x0F, 0x0F, 0x0F,
+            ],
+        )],
     },
     Case {
         name: "swapped roles",
         bits: "0110011111100001100111111000111100001100111111000011001111110000110011111100001100111111000011001111\
             110000110011",
-        changes: "28 Locked, 70 Ended, 77 Locked",
-        words: "35 Dx: 0F 66 0F 66 0F 66; 84 Dx: 66 0F 66 0F 66",
+        changes: &[
+            (28, Change::Locked),
+            (70, Change::Ended),
+            (77, Change::Locked),
+        ],
+        words: &[
+            (35, Role::Dx, &[0x0F, 0x66, 0x0F, 0x66, 0x0F, 0x66]),
+            (84, Role::Dx, &[0x66, 0x0F, 0x66, 0x0F, 0x66]),
+        ],
     },
     Case {
         name: "slip of three bits",
@@ -43,18 +58,57 @@ static CASES: [Case; 12] = [
             1100001100111111000011001111110000110011111100001100111111000011001111110000110011111100001100111111\
             0000110011111100001100111111000011001111110000110011111100001100111111000011001111110000110011111100\
             00110011111100001100111111000011001111110000110011111100001100111111000",
-        changes: "28 Locked, 308 LostLock, 311 Locked",
-        words: "35 Dx: 30 7E 30 7E 30 7E 30 7E 30 7E 30 7E 30 7E 30 7E 30 7E 30 7E 30 7E 30 7E 30 7E 30 7E 30 7E 30 \
-            7E 30 7E 30 7E 30 7E 30 7E; 318 Dx: 66 0F 66 0F 66 0F 66 0F 66 0F 66 0F 66 0F 66 0F 66 0F 66 0F 66 \
-            0F 66 0F 66 0F 66 0F 66 0F 66 0F 66 0F 66 0F 66 0F 66 0F 66 0F 66 0F 66 0F 66 0F 66 0F 66 0F 66 0F \
-            66 0F 66 0F 66 0F 66 0F 66 0F 66 0F 66 0F 66 0F 66 0F 66 0F 66 0F 66 0F 66 0F",
+        changes: &[
+            (28, Change::Locked),
+            (308, Change::LostLock),
+            (311, Change::Locked),
+        ],
+        words: &[
+            (
+                35,
+                Role::Dx,
+                &[
+                    0x30, 0x7E, 0x30, 0x7E, 0x30, 0x7E, 0x30, 0x7E, 0x30, 0x7E, 0x30, 0x7E, 0x30,
+                    0x7E, 0x30, 0x7E, 0x30, 0x7E, 0x30, 0x7E, 0x30, 0x7E, 0x30, 0x7E, 0x30, 0x7E,
+                    0x30, 0x7E, 0x30, 0x7E, 0x30, 0x7E, 0x30, 0x7E, 0x30, 0x7E, 0x30, 0x7E, 0x30,
+                    0x7E,
+                ],
+            ),
+            (
+                318,
+                Role::Dx,
+                &[
+                    0x66, 0x0F, 0x66, 0x0F, 0x66, 0x0F, 0x66, 0x0F, 0x66, 0x0F, 0x66, 0x0F, 0x66,
+                    0x0F, 0x66, 0x0F, 0x66, 0x0F, 0x66, 0x0F, 0x66, 0x0F, 0x66, 0x0F, 0x66, 0x0F,
+                    0x66, 0x0F, 0x66, 0x0F, 0x66, 0x0F, 0x66, 0x0F, 0x66, 0x0F, 0x66, 0x0F, 0x66,
+                    0x0F, 0x66, 0x0F, 0x66, 0x0F, 0x66, 0x0F, 0x66, 0x0F, 0x66, 0x0F, 0x66, 0x0F,
+                    0x66, 0x0F, 0x66, 0x0F, 0x66, 0x0F, 0x66, 0x0F, 0x66, 0x0F, 0x66, 0x0F, 0x66,
+                    0x0F, 0x66, 0x0F, 0x66, 0x0F, 0x66, 0x0F, 0x66, 0x0F, 0x66, 0x0F, 0x66, 0x0F,
+                    0x66, 0x0F,
+                ],
+            ),
+        ],
     },
     Case {
         name: "p2 last",
         bits: "1111000011001111110000110011110010111001011010110101011011001011100101110110010111001011100111000111\
             001010100111111100011110001111000111100011110001111000011001111110000110011111100001100111111000",
-        changes: "28 Locked, 161 Ended, 175 Locked",
-        words: "35 Rx: 53 53 35 35 53 53 1B 1D 1D 47 53 72 0F 0F 0F 0F 0F 0F 66; 182 Rx: 0F 66 0F",
+        changes: &[
+            (28, Change::Locked),
+            (161, Change::Ended),
+            (175, Change::Locked),
+        ],
+        words: &[
+            (
+                35,
+                Role::Rx,
+                &[
+                    0x53, 0x53, 0x35, 0x35, 0x53, 0x53, 0x1B, 0x1D, 0x1D, 0x47, 0x53, 0x72, 0x0F,
+                    0x0F, 0x0F, 0x0F, 0x0F, 0x0F, 0x66,
+                ],
+            ),
+            (182, Role::Rx, &[0x0F, 0x66, 0x0F]),
+        ],
     },
     Case {
         name: "forty of sixty-four",
@@ -66,10 +120,26 @@ static CASES: [Case; 12] = [
             0000111000101000100000101111000110001100110111111000100010001110001011101110100011110001101011110100\
             0111100010111111111000110010100100000111000111110010010010111000100101100110011111100001100111111000\
             01100111111000",
-        changes: "28 Locked, 490 LostLock, 700 Locked",
-        words: "35 Dx: 66 0F 47 4C 47 7C 23 47 16 42 47 14 47 19 12 47 61 50 47 76 47 32 0A 47 0E 76 47 6E 47 45 29 \
-            47 09 21 47 2A 47 0B 10 47 40 24 47 20 47 67 4C 47 20 7C 47 38 47 75 6D 47 16 73 47 67 47 7A 43 47 \
-            7D 73; 707 Dx: 66 0F",
+        changes: &[
+            (28, Change::Locked),
+            (490, Change::LostLock),
+            (700, Change::Locked),
+        ],
+        words: &[
+            (
+                35,
+                Role::Dx,
+                &[
+                    0x66, 0x0F, 0x47, 0x4C, 0x47, 0x7C, 0x23, 0x47, 0x16, 0x42, 0x47, 0x14, 0x47,
+                    0x19, 0x12, 0x47, 0x61, 0x50, 0x47, 0x76, 0x47, 0x32, 0x0A, 0x47, 0x0E, 0x76,
+                    0x47, 0x6E, 0x47, 0x45, 0x29, 0x47, 0x09, 0x21, 0x47, 0x2A, 0x47, 0x0B, 0x10,
+                    0x47, 0x40, 0x24, 0x47, 0x20, 0x47, 0x67, 0x4C, 0x47, 0x20, 0x7C, 0x47, 0x38,
+                    0x47, 0x75, 0x6D, 0x47, 0x16, 0x73, 0x47, 0x67, 0x47, 0x7A, 0x43, 0x47, 0x7D,
+                    0x73,
+                ],
+            ),
+            (707, Role::Dx, &[0x66, 0x0F]),
+        ],
     },
     Case {
         name: "thirty-nine of sixty-four",
@@ -84,11 +154,28 @@ static CASES: [Case; 12] = [
             1010010101001010100101010010101001010100101010010101001010100101010010101001010100101010010101001010\
             1001010100101010010101001010100101010010101001010100101010010101001010100101010010101000110011111100\
             00110011111100001100111111000",
-        changes: "28 Locked, 693 LostLock, 1015 Locked",
-        words: "35 Dx: 66 0F 47 24 47 4A 02 47 1F 47 5D 5E 47 44 47 23 42 47 61 47 67 6B 47 04 40 47 61 47 58 61 47 \
-            12 47 68 76 47 03 47 03 7C 47 2F 47 06 06 47 44 0C 47 07 47 1C 2C 47 00 47 32 28 47 4F 47 50 1F 47 \
-            00 1A 47 58 47 4A 62 47 38 47 70 00 47 4C 47 40 40 47 5E 47 07 3E 47 4A 2C 47 50 47 15 15 15; 1022 \
-            Dx: 66 0F",
+        changes: &[
+            (28, Change::Locked),
+            (693, Change::LostLock),
+            (1015, Change::Locked),
+        ],
+        words: &[
+            (
+                35,
+                Role::Dx,
+                &[
+                    0x66, 0x0F, 0x47, 0x24, 0x47, 0x4A, 0x02, 0x47, 0x1F, 0x47, 0x5D, 0x5E, 0x47,
+                    0x44, 0x47, 0x23, 0x42, 0x47, 0x61, 0x47, 0x67, 0x6B, 0x47, 0x04, 0x40, 0x47,
+                    0x61, 0x47, 0x58, 0x61, 0x47, 0x12, 0x47, 0x68, 0x76, 0x47, 0x03, 0x47, 0x03,
+                    0x7C, 0x47, 0x2F, 0x47, 0x06, 0x06, 0x47, 0x44, 0x0C, 0x47, 0x07, 0x47, 0x1C,
+                    0x2C, 0x47, 0x00, 0x47, 0x32, 0x28, 0x47, 0x4F, 0x47, 0x50, 0x1F, 0x47, 0x00,
+                    0x1A, 0x47, 0x58, 0x47, 0x4A, 0x62, 0x47, 0x38, 0x47, 0x70, 0x00, 0x47, 0x4C,
+                    0x47, 0x40, 0x40, 0x47, 0x5E, 0x47, 0x07, 0x3E, 0x47, 0x4A, 0x2C, 0x47, 0x50,
+                    0x47, 0x15, 0x15, 0x15,
+                ],
+            ),
+            (1022, Role::Dx, &[0x66, 0x0F]),
+        ],
     },
     Case {
         name: "end and loss at one word",
@@ -96,23 +183,49 @@ static CASES: [Case; 12] = [
             1000010100001010000101000010100001010000101000010100001010000101000010100001010000101000010100001010\
             0001010000101000010100001010000101000010100001010000101000010100001010000101000011110000000101111100\
             0010001011110010000011011001111110000110011111100001100111111000",
-        changes: "28 Locked, 322 Ended, 350 Locked",
-        words: "35 Dx: 05 05 05 05 05 05 05 05 05 05 05 05 05 05 05 05 05 05 05 05 05 05 05 05 05 05 05 05 05 05 05 \
-            05 05 05 05 05 0F 50 0F 22 4F 60; 357 Dx: 66 0F",
+        changes: &[
+            (28, Change::Locked),
+            (322, Change::Ended),
+            (350, Change::Locked),
+        ],
+        words: &[
+            (
+                35,
+                Role::Dx,
+                &[
+                    0x05, 0x05, 0x05, 0x05, 0x05, 0x05, 0x05, 0x05, 0x05, 0x05, 0x05, 0x05, 0x05,
+                    0x05, 0x05, 0x05, 0x05, 0x05, 0x05, 0x05, 0x05, 0x05, 0x05, 0x05, 0x05, 0x05,
+                    0x05, 0x05, 0x05, 0x05, 0x05, 0x05, 0x05, 0x05, 0x05, 0x05, 0x0F, 0x50, 0x0F,
+                    0x22, 0x4F, 0x60,
+                ],
+            ),
+            (357, Role::Dx, &[0x66, 0x0F]),
+        ],
     },
     Case {
         name: "pattern at the release is not taken",
         bits: "0110011111100001100111111000111100001100111111000011001111110000110011010110000011111111111011001111\
             110000110011111100001100111111000",
-        changes: "28 Locked, 70 Ended, 119 Locked",
-        words: "35 Dx: 0F 66 0F 66 0F 66; 126 Dx: 66 0F",
+        changes: &[
+            (28, Change::Locked),
+            (70, Change::Ended),
+            (119, Change::Locked),
+        ],
+        words: &[
+            (35, Role::Dx, &[0x0F, 0x66, 0x0F, 0x66, 0x0F, 0x66]),
+            (126, Role::Dx, &[0x66, 0x0F]),
+        ],
     },
     Case {
         name: "one wrong bit in the phasing",
         bits: "0110011111100001100111111100011001111110000110011111100011100011100101110110001101010110101010011111\
             0010101101011100101",
-        changes: "56 Locked",
-        words: "63 Dx: 47 53 1B 56 56 72 53 56 53",
+        changes: &[(56, Change::Locked)],
+        words: &[(
+            63,
+            Role::Dx,
+            &[0x47, 0x53, 0x1B, 0x56, 0x56, 0x72, 0x53, 0x56, 0x53],
+        )],
     },
     Case {
         name: "noise",
@@ -125,9 +238,18 @@ static CASES: [Case; 12] = [
             1010100000001000001011111110011110001001011100100000001100010101011000011000001100101110011000110100\
             1100100111000000011100000000111000011010010110010100000110101111101111101111111011101011011011001001\
             1110110011011000000011010001111100011010010111100111010101000010111011111100011011",
-        changes: "428 Locked",
-        words: "435 Dx: 66 0F 1B 35 47 3B 72 1B 35 47 1D 1B 56 7A 38 53 1B 1D 1B 72 35 35 3F 6F 5D 02 04 7A 67 23 3A \
-            02 0C 55 61 60 74 0C 4B 49 03 1C 40 43 25 53 60 7A 7D 7E 5D 36 13 6F 6C 00 0B 1F 16 3D 2E 05 5D 1F",
+        changes: &[(428, Change::Locked)],
+        words: &[(
+            435,
+            Role::Dx,
+            &[
+                0x66, 0x0F, 0x1B, 0x35, 0x47, 0x3B, 0x72, 0x1B, 0x35, 0x47, 0x1D, 0x1B, 0x56, 0x7A,
+                0x38, 0x53, 0x1B, 0x1D, 0x1B, 0x72, 0x35, 0x35, 0x3F, 0x6F, 0x5D, 0x02, 0x04, 0x7A,
+                0x67, 0x23, 0x3A, 0x02, 0x0C, 0x55, 0x61, 0x60, 0x74, 0x0C, 0x4B, 0x49, 0x03, 0x1C,
+                0x40, 0x43, 0x25, 0x53, 0x60, 0x7A, 0x7D, 0x7E, 0x5D, 0x36, 0x13, 0x6F, 0x6C, 0x00,
+                0x0B, 0x1F, 0x16, 0x3D, 0x2E, 0x05, 0x5D, 0x1F,
+            ],
+        )],
     },
     Case {
         name: "noise and slips",
@@ -142,12 +264,36 @@ static CASES: [Case; 12] = [
             1110000110011111100001100111111000011001111110000110011111100001100111111000011001111110000110011111\
             1000011001111110000110011111100001100111111000011001111110000110011111100001100111111000011001111110\
             0001100111111000",
-        changes: "61 Locked, 698 LostLock, 701 Locked",
-        words: "68 Dx: 66 0F 66 0F 66 0F 72 72 47 53 53 1B 47 1D 1B 56 6B 34 26 2D 6F 65 27 6B 6A 36 36 64 6B 6A 36 \
-            74 3B 26 37 64 65 3B 26 37 2C 65 0F 27 2D 2D 65 2D 37 0E 55 2C 61 65 3B 36 2C 65 3B 65 0F 6B 36 10 \
-            27 37 26 3B 2C 0F 27 27 0F 65 45 3B 34 7E 30 7E 30 7E 30 7E 30 7E 30 7E 30 7E 30; 708 Rx: 0F 66 0F \
-            66 0F 66 0F 66 0F 66 0F 66 0F 66 0F 66 0F 66 0F 66 0F 66 0F 66 0F 66 0F 66 0F 66 0F 66 0F 66 0F 66 \
-            0F 66 0F 66 0F 66 0F 66 0F",
+        changes: &[
+            (61, Change::Locked),
+            (698, Change::LostLock),
+            (701, Change::Locked),
+        ],
+        words: &[
+            (
+                68,
+                Role::Dx,
+                &[
+                    0x66, 0x0F, 0x66, 0x0F, 0x66, 0x0F, 0x72, 0x72, 0x47, 0x53, 0x53, 0x1B, 0x47,
+                    0x1D, 0x1B, 0x56, 0x6B, 0x34, 0x26, 0x2D, 0x6F, 0x65, 0x27, 0x6B, 0x6A, 0x36,
+                    0x36, 0x64, 0x6B, 0x6A, 0x36, 0x74, 0x3B, 0x26, 0x37, 0x64, 0x65, 0x3B, 0x26,
+                    0x37, 0x2C, 0x65, 0x0F, 0x27, 0x2D, 0x2D, 0x65, 0x2D, 0x37, 0x0E, 0x55, 0x2C,
+                    0x61, 0x65, 0x3B, 0x36, 0x2C, 0x65, 0x3B, 0x65, 0x0F, 0x6B, 0x36, 0x10, 0x27,
+                    0x37, 0x26, 0x3B, 0x2C, 0x0F, 0x27, 0x27, 0x0F, 0x65, 0x45, 0x3B, 0x34, 0x7E,
+                    0x30, 0x7E, 0x30, 0x7E, 0x30, 0x7E, 0x30, 0x7E, 0x30, 0x7E, 0x30, 0x7E, 0x30,
+                ],
+            ),
+            (
+                708,
+                Role::Rx,
+                &[
+                    0x0F, 0x66, 0x0F, 0x66, 0x0F, 0x66, 0x0F, 0x66, 0x0F, 0x66, 0x0F, 0x66, 0x0F,
+                    0x66, 0x0F, 0x66, 0x0F, 0x66, 0x0F, 0x66, 0x0F, 0x66, 0x0F, 0x66, 0x0F, 0x66,
+                    0x0F, 0x66, 0x0F, 0x66, 0x0F, 0x66, 0x0F, 0x66, 0x0F, 0x66, 0x0F, 0x66, 0x0F,
+                    0x66, 0x0F, 0x66, 0x0F, 0x66, 0x0F,
+                ],
+            ),
+        ],
     },
     Case {
         name: "alternation keeps a lock",
@@ -158,20 +304,29 @@ static CASES: [Case; 12] = [
             1010101010101010101010101010101010101010101010101010101010101010101010101010101010101010101010101010\
             1010101010101010101010101010101010101010101010101010101010101010101010101010101010101010101010101010\
             101010101010101010101010101010101010101010",
-        changes: "28 Locked",
-        words: "35 Dx: 66 0F 55 2A 55 2A 55 2A 55 2A 55 2A 55 2A 55 2A 55 2A 55 2A 55 2A 55 2A 55 2A 55 2A 55 2A 55 \
-            2A 55 2A 55 2A 55 2A 55 2A 55 2A 55 2A 55 2A 55 2A 55 2A 55 2A 55 2A 55 2A 55 2A 55 2A 55 2A 55 2A \
-            55 2A 55 2A 55 2A 55 2A 55 2A 55 2A 55 2A 55 2A 55 2A 55 2A 55 2A 55",
+        changes: &[(28, Change::Locked)],
+        words: &[(
+            35,
+            Role::Dx,
+            &[
+                0x66, 0x0F, 0x55, 0x2A, 0x55, 0x2A, 0x55, 0x2A, 0x55, 0x2A, 0x55, 0x2A, 0x55, 0x2A,
+                0x55, 0x2A, 0x55, 0x2A, 0x55, 0x2A, 0x55, 0x2A, 0x55, 0x2A, 0x55, 0x2A, 0x55, 0x2A,
+                0x55, 0x2A, 0x55, 0x2A, 0x55, 0x2A, 0x55, 0x2A, 0x55, 0x2A, 0x55, 0x2A, 0x55, 0x2A,
+                0x55, 0x2A, 0x55, 0x2A, 0x55, 0x2A, 0x55, 0x2A, 0x55, 0x2A, 0x55, 0x2A, 0x55, 0x2A,
+                0x55, 0x2A, 0x55, 0x2A, 0x55, 0x2A, 0x55, 0x2A, 0x55, 0x2A, 0x55, 0x2A, 0x55, 0x2A,
+                0x55, 0x2A, 0x55, 0x2A, 0x55, 0x2A, 0x55, 0x2A, 0x55, 0x2A, 0x55, 0x2A, 0x55, 0x2A,
+                0x55, 0x2A, 0x55,
+            ],
+        )],
     },
 ];
 
 #[test]
 fn by_elements(rt: HostRuntime) -> Result<(), AllocError> {
     for case in &CASES {
-        let mut run = Run::new(rt.alloc())?;
-        run.push_all(case.bits)?;
-        assert_eq!(rt; run.changes(), case.changes, "{}", case.name);
-        assert_eq!(rt; run.words(), case.words, "{}", case.name);
+        let mut run = Run::new(rt.alloc(), case)?;
+        run.push_all();
+        assert!(rt; run.agrees(), "{}", case.name);
     }
     Ok(())
 }
@@ -180,10 +335,9 @@ fn by_elements(rt: HostRuntime) -> Result<(), AllocError> {
 #[test]
 fn by_hunts_and_words(rt: HostRuntime) -> Result<(), AllocError> {
     for case in &CASES {
-        let mut run = Run::new(rt.alloc())?;
-        run.hear_all(rt.alloc(), case.bits)?;
-        assert_eq!(rt; run.changes(), case.changes, "{}", case.name);
-        assert_eq!(rt; run.words(), case.words, "{}", case.name);
+        let mut run = Run::new(rt.alloc(), case)?;
+        run.hear_all();
+        assert!(rt; run.agrees(), "{}", case.name);
     }
     Ok(())
 }

@@ -1,117 +1,114 @@
-//! A synchroniser, and what it answered so far.
+//! A synchroniser that hears a case, and whether what it answered so far is what the case says.
 
+use super::cases::Case;
 use crate::{Role, Step, Synchroniser};
 use std::alloc::{AllocError, Global};
-use std::fmt::Write;
 
-/// A new synchroniser, and what its calls answered so far.
+/// A new synchroniser, how many elements it heard, how many changes and words it answered, and
+/// whether each of them was the next one of the case.
 #[derive(Drop)]
 pub(super) struct Run {
     sync: Synchroniser,
-    count: usize,
-    /// The count and the role of the last word.
-    last: Option<(usize, Role)>,
-    changes: String,
-    words: String,
+    case: &'static Case,
+    heard: usize,
+    changes: usize,
+    words: usize,
+    is_right: bool,
 }
 
 impl Run {
-    pub(super) fn new(alloc: Global) -> Result<Run, AllocError> {
+    pub(super) fn new(alloc: Global, case: &'static Case) -> Result<Run, AllocError> {
         Ok(Run {
             sync: Synchroniser::new(alloc)?,
-            count: 0,
-            last: None,
-            changes: String::new(alloc),
-            words: String::new(alloc),
+            case,
+            heard: 0,
+            changes: 0,
+            words: 0,
+            is_right: true,
         })
     }
 
-    pub(super) fn changes(&self) -> &str {
-        self.changes.as_str()
+    /// Whether every answer was right, and none is missing.
+    pub(super) fn agrees(&self) -> bool {
+        self.is_right
+            && self.changes == self.case.changes.len()
+            && word_at(self.case, self.words).is_none()
     }
 
-    pub(super) fn words(&self) -> &str {
-        self.words.as_str()
-    }
-
-    pub(super) fn is_locked(&self) -> bool {
-        self.sync.is_locked()
-    }
-
-    /// Pushes these elements one by one.
-    pub(super) fn push_all(&mut self, bits: &str) -> Result<(), AllocError> {
-        for bit in bits.bytes() {
-            self.push(bit == b'1')?;
+    /// Pushes the elements one by one.
+    pub(super) fn push_all(&mut self) {
+        for bit in self.case.bits.bytes() {
+            self.push(bit == b'1');
         }
-        Ok(())
     }
 
-    /// Hears these elements by hunts, by whole words where as many are there, and by pushes.
-    pub(super) fn hear_all(&mut self, alloc: Global, bits: &str) -> Result<(), AllocError> {
-        let mut elements = Vec::new(alloc);
-        for bit in bits.bytes() {
-            elements.push(bit == b'1')?;
+    /// Hears the elements by hunts, by whole words where as many are there, and by pushes.
+    pub(super) fn hear_all(&mut self) {
+        let mut elements = [false; 1200];
+        let mut count = 0_usize;
+        for (place, bit) in elements.iter_mut().zip(self.case.bits.bytes()) {
+            *place = bit == b'1';
+            count = count.wrapping_add(1);
         }
-        let mut rest = elements.as_slice();
-        for _ in 0..elements.len() {
-            let heard = self.hear_some(rest)?;
-            rest = &rest[heard.min(rest.len())..];
+        for _ in 0..count {
+            self.hear_some(&elements[..count.min(1200)]);
         }
-        Ok(())
     }
 
-    /// Hears the next elements by one call, and says how many.
-    fn hear_some(&mut self, bits: &[bool]) -> Result<usize, AllocError> {
+    /// Hears the next of these elements by one call.
+    fn hear_some(&mut self, bits: &[bool]) {
+        let rest = &bits[self.heard.min(bits.len())..];
         if !self.sync.is_locked() {
-            let heard = self.sync.hunt(bits);
-            self.count = self.count.wrapping_add(heard);
-            if heard > 0 {
-                return Ok(heard);
+            let count = self.sync.hunt(rest);
+            self.heard = self.heard.wrapping_add(count);
+            if count > 0 {
+                return;
             }
         }
         if self.sync.is_between_words() {
-            if let [a, b, c, d, e, f, g, ..] = *bits {
+            if let [a, b, c, d, e, f, g, ..] = *rest {
                 let step = self.sync.push_word(&[a, b, c, d, e, f, g]);
-                self.count = self.count.wrapping_add(7);
-                self.note(step)?;
-                return Ok(7);
+                self.heard = self.heard.wrapping_add(7);
+                self.note(step);
+                return;
             }
         }
-        let [bit, ..] = *bits else {
-            return Ok(0);
-        };
-        self.push(bit)?;
-        Ok(1)
+        if let [bit, ..] = *rest {
+            self.push(bit);
+        }
     }
 
-    fn push(&mut self, bit: bool) -> Result<(), AllocError> {
+    fn push(&mut self, bit: bool) {
         let step = self.sync.push(bit);
-        self.count = self.count.wrapping_add(1);
-        self.note(step)
+        self.heard = self.heard.wrapping_add(1);
+        self.note(step);
     }
 
-    /// Notes what a step brought.
-    fn note(&mut self, step: Step) -> Result<(), AllocError> {
-        let count = self.count;
+    /// Compares what a step brought with what comes next in the case.
+    fn note(&mut self, step: Step) {
         if let Some(change) = step.change {
-            let comma = if self.changes.is_empty() { "" } else { ", " };
-            write!(self.changes, "{comma}{count} {change:?}")?;
+            let next = self.case.changes.get(self.changes);
+            self.is_right = self.is_right && next == Some(&(self.heard, change));
+            self.changes = self.changes.wrapping_add(1);
         }
-        let Some((word, role)) = step.word else {
-            return Ok(());
-        };
-        let number = word.number();
-        let follows = match self.last {
-            None => false,
-            Some((at, before)) => at.wrapping_add(7) == count && before != role,
-        };
-        if follows {
-            write!(self.words, " {number:02X}")?;
-        } else {
-            let semicolon = if self.words.is_empty() { "" } else { "; " };
-            write!(self.words, "{semicolon}{count} {role:?}: {number:02X}")?;
+        if let Some((word, role)) = step.word {
+            let next = word_at(self.case, self.words);
+            self.is_right = self.is_right && next == Some((self.heard, role, word.number()));
+            self.words = self.words.wrapping_add(1);
         }
-        self.last = Some((count, role));
-        Ok(())
     }
+}
+
+/// The word at this index of a case: the number of elements heard by then, its role and its number.
+fn word_at(case: &Case, index: usize) -> Option<(usize, Role, u8)> {
+    let mut before = 0_usize;
+    for (first, role, words) in case.words {
+        let place = index.wrapping_sub(before);
+        if let Some(word) = words.get(place) {
+            let role = if place % 2 == 0 { *role } else { role.other() };
+            return Some((first.wrapping_add(place.wrapping_mul(7)), role, *word));
+        }
+        before = before.wrapping_add(words.len());
+    }
+    None
 }
