@@ -9,6 +9,7 @@ use Rattle.std.specs.Fmt.{decimal}
 use Rattle.nx_fec.specs.Devices.{CountedDevice, WroteSome}
 use Rattle.nx_fec.specs.Runs.{Decodes, Encodes, Shows}
 use Rattle.nx_fec.specs.TableText.{table_text}
+use Rattle.nx_receiver.specs.Events.{at_zero}
 use Rattle.nx_receiver.specs.Listen.{Listens}
 use Rattle.nx_station.specs.Checking.{Checks}
 use Rattle.nx_station.specs.Damage.{Damages}
@@ -95,7 +96,7 @@ Performs Code d outcome =
     (WritesText (λ text. text ≡ table_text) d.contents d.writer d.writer_after) outcome
 Performs Show d outcome = Tells (λ why. call.Run why) (Shows d) outcome
 Performs Check d outcome = Tells (λ why. call.Check why) (Checks d) outcome
-Performs Listen d outcome = Tells (λ why. call.Listen why) (Listens d) outcome
+Performs Listen d outcome = Tells (λ why. call.Listen why) (Listens at_zero d) outcome
 Performs (Send station moment) d outcome =
     Tells (λ why. call.Send why) (Sends d station.byte moment) outcome
 Performs (Slots station moment) d outcome =

@@ -9,7 +9,7 @@ use Rattle.nx_fec.specs.AirFile.{Line, IsLine, element_digit, elements, spelling
 use Rattle.nx_fec.specs.BitLines.{bit_lines}
 use Rattle.nx_fec.specs.Lines.{elements_of, file_of, line_bytes}
 use Rattle.nx_fec.proofs.EncodingLaws.{first_lines-each, first_lines-elements}
-use Rattle.nx_receiver.specs.Events.{element}
+use Rattle.nx_receiver.specs.Events.{Start, element}
 use Rattle.nx_receiver.specs.Listen.{AreTakenAfter, events_of, has_moment}
 use Rattle.nx_receiver.specs.Receiver as receiver
 use Rattle.nx_receiver.proofs.ListenerLemmas.{moment-other}
@@ -46,15 +46,15 @@ length-lines bits =
     omega (arith, all, indices)
 
 -- they are taken once there was a moment
-taken-some : (first : List Line) (bits : ℕ → List Bool) (indices : List ℕ) → has_moment first ≡ true
-    → AreTakenAfter first (lines_of bits indices)
+taken-some : (start : Start) (first : List Line) (bits : ℕ → List Bool) (indices : List ℕ) → has_moment first ≡ true
+    → AreTakenAfter start first (lines_of bits indices)
 unfolding AreTakenAfter
-taken-some first bits [] h = tt
-taken-some first bits (i ∷ indices) h =
-    (h, taken-some (first ++ elements (bits i) ∷ []) bits indices (sym (moment-other first (elements (bits i)) true (sym h) refl)))
+taken-some start first bits [] h = tt
+taken-some start first bits (i ∷ indices) h =
+    (h, taken-some start (first ++ elements (bits i) ∷ []) bits indices (sym (moment-other first (elements (bits i)) true (sym h) refl)))
 
-pub taken-lines : (first : List Line) (bits : List Bool) → has_moment first ≡ true → AreTakenAfter first (bit_lines bits)
-taken-lines first bits h = taken-some first (λ i. take 490 (drop (490 * i) bits)) (range_with_len 0 (div_ceil (length bits) 490)) h
+pub taken-lines : (start : Start) (first : List Line) (bits : List Bool) → has_moment first ≡ true → AreTakenAfter start first (bit_lines bits)
+taken-lines start first bits h = taken-some start first (λ i. take 490 (drop (490 * i) bits)) (range_with_len 0 (div_ceil (length bits) 490)) h
 
 -- what they give to a receiver
 events-some : (bits : ℕ → List Bool) (indices : List ℕ)

@@ -8,6 +8,7 @@ use Rattle.nx_receiver.specs.Example.{first_copy, repeated_copy, example_copies}
 use Rattle.nx_receiver.specs.LawTerms.{AreRepeats, copies_of}
 use Rattle.nx_receiver.specs.Printing.{is_good, is_entered, entry_of, entry_made, entries_made, entries_after}
 use Rattle.nx_receiver.specs.Tagged.{TaggedCopy}
+use Rattle.nx_receiver.proofs.OnceLemmas.{none_live}
 
 -- each copy makes one entry at most
 made_few : (entries : List MemoryEntry) (copies : List TaggedCopy) → length (entries_made entries copies) ≤ length copies
@@ -19,11 +20,12 @@ made_few entries (c ∷ copies) =
       | false ↦ omega (arith, made_few (entries ++ []) copies)
     ]
 
-pub example : AreRepeats ea01 example_copies first_copy (repeated_copy ∷ [])
+pub example : AreRepeats [] ea01 example_copies first_copy (repeated_copy ∷ [])
 unfolding copies_of
 example = record {
   heard = refl;
   numbered = lit≤ tt;
+  unknown = none_live ea01 example_copies;
   good = All-cons (λ (c : TaggedCopy). IsTrue (is_good c)) first_copy (repeated_copy ∷ []) refl (All-cons (λ (c : TaggedCopy). IsTrue (is_good c)) repeated_copy [] refl (All-nil (λ (c : TaggedCopy). IsTrue (is_good c))));
   selected = All-cons (λ (c : TaggedCopy). IsTrue c.selected) first_copy (repeated_copy ∷ []) refl (All-cons (λ (c : TaggedCopy). IsTrue c.selected) repeated_copy [] refl (All-nil (λ (c : TaggedCopy). IsTrue c.selected)));
   close = λ one other h k.

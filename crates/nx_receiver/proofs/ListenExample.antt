@@ -15,21 +15,22 @@ use Rattle.nx_station.specs.ChannelExample.{example_message, example_parts, exam
 use Rattle.nx_station.specs.Sendings.{IsCut, Sending}
 use Rattle.nx_station.proofs.ChannelExamples.{example_sent}
 use Rattle.nx_sync.specs.Locks.{locked, IsNow}
-use Rattle.nx_receiver.specs.Events.{Setting, at_moment, element, first_setting, setting_after_all, settings, elements_among}
+use Rattle.nx_receiver.specs.Events.{Event, Setting, at_moment, at_zero, element, first_setting, setting_after_all, settings, elements_among}
 use Rattle.nx_receiver.specs.Example.{first_copy}
 use Rattle.nx_receiver.specs.FoundCopies.{FoundCopy, found_to_end}
 use Rattle.nx_fec.specs.LineRuns.{air_limit}
-use Rattle.nx_receiver.specs.Listen.{AreTaken, AreTakenAfter, IsLogOf, at_zero, events_of}
+use Rattle.nx_receiver.specs.Listen.{AreTaken, AreTakenAfter, IsLogOf, events_of}
 use Rattle.nx_receiver.specs.ListenExample.{example_air_file, example_lines}
-use Rattle.nx_receiver.specs.ListenOnce.{AreFoundIn, IsHeardInTimeIn, elements_in, in_force_at, copies_heard}
+use Rattle.nx_receiver.specs.ListenOnce.{IsHeardInTimeIn}
 use Rattle.nx_receiver.specs.Log.{PrintsToEnd}
+use Rattle.nx_receiver.specs.OnceHeard.{IsHeardInTime, setting_of}
 use Rattle.nx_receiver.specs.Printing.{printed_copies}
 use Rattle.nx_receiver.specs.Sending.{IsSentAt, copy_of_sending}
 use Rattle.nx_receiver.specs.Tagged.{tag, tagged_copies}
 use Rattle.nx_receiver.specs.Worked.{at_its_slot, damaged_words, worked_log}
-use Rattle.nx_receiver.proofs.ElementLines.{events-lines, good-lines, joined-lines, length-lines, taken-lines}
-use Rattle.nx_receiver.proofs.ListenOnce.{heard-elements}
+use Rattle.nx_receiver.proofs.ElementLines.{events-lines, good-lines, length-lines, taken-lines}
 use Rattle.nx_receiver.proofs.LoggedLemmas.{one_to_end}
+use Rattle.nx_receiver.proofs.OnceLemmas.{none_live}
 use Rattle.nx_receiver.proofs.OnceExample.{cut_is, events, events_are, first_bits, found, not_two, one_found, one_in, sent_there, stands_is}
 use Rattle.nx_receiver.proofs.SendingFound.{sending_in_end}
 use Rattle.nx_receiver.proofs.WorkedLemmas.{damaged_computed}
@@ -59,27 +60,30 @@ file-is = record {
       omega (arith, lines-short, (spelling-IsBeginning (moment 1735692000) moment-good).short, length-append (spelling (moment 1735692000)) (10 ∷ []), length-append (line_bytes (moment 1735692000)) (file_of (bit_lines bits)));
 }
 
-elements-are : elements_in (bit_lines bits) ≡ bits
-elements-are = joined-lines bits
-
 -- ---- what it gives to a receiver
 
 events-are : events_of example_lines ≡ at_moment 1735692000 ∷ events
 events-are = ap (λ es. at_moment 1735692000 ∷ es) (events-lines bits)
 
-same : elements_among events ≡ elements_in example_lines
-same = events_are ∙ sym elements-are
+abbrev heard : List Event
+heard = events_of example_lines
 
-cut : IsCut (elements_in example_lines) (example_parts first_bits [])
+same : elements_among events ≡ elements_among heard
+unfolding elements_among
+same = sym (ap elements_among events-are)
+
+cut : IsCut (elements_among heard) (example_parts first_bits [])
 cut = subst (λ (b : List Bool). IsCut b (example_parts first_bits [])) same cut_is
 
-found-in : AreFoundIn (elements_in example_lines) found
-found-in = record {
-  locks = [];
-  now = locked 0 28;
-  stands = subst (λ (b : List Bool). IsNow b [] (locked 0 28)) same stands_is;
-  whole = ap (λ (b : List Bool). found_to_end b [] (locked 0 28)) same;
-}
+stands-heard : IsNow (elements_among heard) [] (locked 0 28)
+stands-heard = subst (λ (b : List Bool). IsNow b [] (locked 0 28)) same stands_is
+
+-- the copies that are found in it are those of its elements
+abbrev all-found : List FoundCopy
+all-found = found_to_end (elements_among heard) [] (locked 0 28)
+
+found-same : found ≡ all-found
+found-same = ap (λ (b : List Bool). found_to_end b [] (locked 0 28)) same
 
 -- each sending of the message is the one at this element
 abbrev place : ℕ
@@ -104,46 +108,49 @@ place-within =
     let count : length (take 96 damaged_words) ≡ 96 = length-take 96 damaged_words ∙ omega (arith, damaged_computed.long) in
     omega (arith, long, count, length-bits_of (take 96 damaged_words))
 
-in-force : in_force_at example_lines place ≡ first_setting at_its_slot
+in-force : setting_of at_zero heard place ≡ first_setting at_its_slot
 unfolding settings
 in-force =
     ap (λ es. slice_index_or (settings (first_setting at_zero) es) place (first_setting at_zero)) events-are
     ∙ inside (first_setting at_its_slot) (first_setting at_zero) bits place place-within
 
-in-force-at : (at : ℕ) → IsSentAt (example_parts first_bits []) example_message at → in_force_at example_lines at ≡ first_setting at_its_slot
-in-force-at at sent = ap (in_force_at example_lines) (one-sending at sent) ∙ in-force
+in-force-at : (at : ℕ) → IsSentAt (example_parts first_bits []) example_message at → setting_of at_zero heard at ≡ first_setting at_its_slot
+in-force-at at sent = ap (setting_of at_zero heard) (one-sending at sent) ∙ in-force
 
-one-tagged : length (copies_heard example_lines found) ≡ 1
+one-tagged : length (tagged_copies (first_setting at_zero) heard all-found) ≡ 1
 unfolding tagged_copies
-one-tagged = length-map found _ ∙ one_found
+one-tagged = length-map all-found _ ∙ ap length (sym found-same) ∙ one_found
 
-pub heard-in-time : IsHeardInTimeIn example_air_file example_message
-heard-in-time = record {
-  lines = example_lines;
-  spelled = file-is;
-  parts = example_parts first_bits [];
+heard-there : IsHeardInTime at_zero heard (example_parts first_bits []) example_message
+heard-there = record {
   cut = cut;
   place = place;
   sent = example_sent first_bits [];
   numbered = lit< tt;
-  copies = found;
-  found = found-in;
+  locks = [];
+  now = locked 0 28;
+  stands = stands-heard;
   alone = λ copy there named.
-      subst (IsSentAt (example_parts first_bits []) example_message) (ap (λ (c : FoundCopy). c.place) (one_in found (copy_of_sending (example_sending first_bits)) copy one_found sent_there there)) (example_sent first_bits []);
+      let among : Contains found copy = subst (λ (cs : List FoundCopy). Contains cs copy) (sym found-same) there in
+      subst (IsSentAt (example_parts first_bits []) example_message) (ap (λ (c : FoundCopy). c.place) (one_in found (copy_of_sending (example_sending first_bits)) copy one_found sent_there among)) (example_sent first_bits []);
   selected = λ at sent. ap (λ (s : Setting). admits s.refused example_message.identity) (in-force-at at sent) ∙ all_selected;
   close = λ one other a b.
       let m = ap (λ (s : Setting). s.moment) (in-force-at one a) in
       let n = ap (λ (s : Setting). s.moment) (in-force-at other b) in
       omega arith;
+  unknown = none_live example_message.identity (tagged_copies (first_setting at_zero) heard all-found);
   few =
-      λ before between after first later e none named again. absurd (not_two (copies_heard example_lines found) before between after first later one-tagged e);
+      λ before between after first later e none named again. absurd (not_two (tagged_copies (first_setting at_zero) heard all-found) before between after first later one-tagged e);
 }
+
+pub heard-in-time : IsHeardInTimeIn at_zero example_air_file example_message
+heard-in-time = record { lines = example_lines; spelled = file-is; parts = example_parts first_bits []; heard = heard-there }
 
 -- ---- its log
 
-taken : AreTaken example_lines
+taken : AreTaken at_zero example_lines
 unfolding AreTakenAfter setting_after_all
-taken = ((lit≤ tt, lit≤ tt), taken-lines (moment 1735692000 ∷ []) bits refl)
+taken = record { in_range = lit≤ tt; each = ((lit≤ tt, lit≤ tt), taken-lines at_zero (moment 1735692000 ∷ []) bits refl) }
 
 -- a list of one that holds an item is that item alone
 alone : {A : Type 0} (xs : List A) (x : A) → length xs ≡ 1 → Contains xs x → xs ≡ x ∷ []
@@ -151,28 +158,27 @@ alone [] x one c = absurd (omega (arith, one))
 alone (y ∷ (z ∷ ys)) x one c = absurd (omega (arith, one))
 alone (y ∷ []) x one c = ap (λ w. w ∷ []) (one_in (y ∷ []) y x refl (0, omega arith, refl) c)
 
-tagged-same : copies_heard example_lines found ≡ tagged_copies (first_setting at_its_slot) events found
+tagged-same : tagged_copies (first_setting at_zero) heard found ≡ tagged_copies (first_setting at_its_slot) events found
 unfolding tagged_copies
 tagged-same =
     let this = copy_of_sending (example_sending first_bits) in
     let is : found ≡ this ∷ [] = alone found this one_found sent_there in
-    ap (copies_heard example_lines) is
+    ap (tagged_copies (first_setting at_zero) heard) is
     ∙ ap (λ (s : Setting). tag s this ∷ []) (in-force ∙ sym (at_first (first_setting at_its_slot) bits place))
     ∙ ap (tagged_copies (first_setting at_its_slot) events) (sym is)
 
-printed : PrintsToEnd at_zero (events_of example_lines) (first_copy ∷ [])
+printed : PrintsToEnd at_zero heard (first_copy ∷ [])
 printed =
     let before = printed_to_end damaged_words damaged_computed in
     let mine : PrintsToEnd at_its_slot events (printed_copies [] (tagged_copies (first_setting at_its_slot) events found)) =
     record { locks = []; now = locked 0 28; stands = stands_is; printed = refl } in
-    let bits-are : elements_among (events_of example_lines) ≡ elements_among events = heard-elements example_lines ∙ sym same in
     record {
       locks = [];
       now = locked 0 28;
-      stands = subst (λ (b : List Bool). IsNow b [] (locked 0 28)) (sym bits-are) stands_is;
+      stands = stands-heard;
       printed = one_to_end at_its_slot events _ _ before mine ∙ ap (printed_copies []) (sym tagged-same)
-          ∙ ap (λ (b : List Bool). printed_copies [] (copies_heard example_lines (found_to_end b [] (locked 0 28)))) (sym bits-are);
+          ∙ ap (λ (cs : List FoundCopy). printed_copies [] (tagged_copies (first_setting at_zero) heard cs)) found-same;
     }
 
-pub logged : IsLogOf example_air_file worked_log
+pub logged : IsLogOf at_zero example_air_file worked_log
 logged = (example_lines, first_copy ∷ [], record { file = file-is; taken = taken; printed = printed; spelled = log_is })

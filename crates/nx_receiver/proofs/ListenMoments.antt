@@ -12,10 +12,10 @@ use Rattle.nx_fec.specs.Lines.{IsAirFile}
 use Rattle.nx_fec.proofs.LineLaws.{IsAirFile-unique}
 use Rattle.nx_fec.proofs.WritingLaws.{WroteSome-front}
 use Rattle.nx_memory.specs.declared.entry.MemoryEntry.{MemoryEntry}
-use Rattle.nx_receiver.specs.Events.{Event, Setting, at_moment, element, command, first_setting, setting_after, settings}
+use Rattle.nx_receiver.specs.Events.{Event, Setting, Start, at_moment, element, command, first_setting, setting_after, settings}
 use Rattle.nx_receiver.specs.FoundCopies.{FoundCopy}
 use Rattle.nx_fec.specs.LineRuns.{air_limit}
-use Rattle.nx_receiver.specs.Listen.{AreTaken, AreTakenAfter, HasLoggedSome, IsLogOf, IsLogOfLines, IsTakenAfter, at_zero, events_of, line_events}
+use Rattle.nx_receiver.specs.Listen.{AreTaken, AreTakenAfter, HasLoggedSome, IsLogOf, IsLogOfLines, IsTakenAfter, events_of, line_events}
 use Rattle.nx_receiver.specs.Listener.{BeginsListening}
 use Rattle.nx_receiver.specs.Log.{HasPrinted, IsLog, PrintsToEnd, printed_of}
 use Rattle.nx_receiver.specs.Printing.{entry_made, if_printed, is_printed, printed_copies}
@@ -43,19 +43,19 @@ elements-in_range (bit ∷ bits) = All-cons IsInRange (element bit) (receiver.el
 one-in_range : (event : Event) → IsInRange event → All IsInRange (event ∷ [])
 one-in_range event h = All-cons IsInRange event [] h (All-nil IsInRange)
 
-line-in_range : (first : List Line) (line : Line) → IsTakenAfter first line → All IsInRange (line_events line)
-line-in_range first (moment n) h = one-in_range _ h.1
-line-in_range first (elements bits) h = elements-in_range bits
-line-in_range first (refuse_station letter) h = one-in_range _ tt
-line-in_range first (accept_station letter) h = one-in_range _ tt
-line-in_range first (refuse_subject letter) h = one-in_range _ tt
-line-in_range first (accept_subject letter) h = one-in_range _ tt
+line-in_range : (start : Start) (first : List Line) (line : Line) → IsTakenAfter start first line → All IsInRange (line_events line)
+line-in_range start first (moment n) h = one-in_range _ h.1
+line-in_range start first (elements bits) h = elements-in_range bits
+line-in_range start first (refuse_station letter) h = one-in_range _ tt
+line-in_range start first (accept_station letter) h = one-in_range _ tt
+line-in_range start first (refuse_subject letter) h = one-in_range _ tt
+line-in_range start first (accept_subject letter) h = one-in_range _ tt
 
-lines-in_range : (first lines : List Line) → AreTakenAfter first lines → All IsInRange (events_of lines)
+lines-in_range : (start : Start) (first lines : List Line) → AreTakenAfter start first lines → All IsInRange (events_of lines)
 unfolding AreTakenAfter
-lines-in_range first [] h = All-nil IsInRange
-lines-in_range first (line ∷ lines) h =
-    All-append IsInRange (line_events line) (events_of lines) (line-in_range first line h.0) (lines-in_range (first ++ line ∷ []) lines h.1)
+lines-in_range start first [] h = All-nil IsInRange
+lines-in_range start first (line ∷ lines) h =
+    All-append IsInRange (line_events line) (events_of lines) (line-in_range start first line h.0) (lines-in_range start (first ++ line ∷ []) lines h.1)
 
 settings-in_range : (now : Setting) (events : List Event) → IsSetInRange now → All IsInRange events → All IsSetInRange (settings now events)
 unfolding settings
@@ -93,48 +93,49 @@ printed-in_range entries (copy ∷ copies) h =
     (printed-in_range (entries ++ entry_made entries copy) copies (All-tail IsCopyInRange copy copies h))
 
 -- all that lines print is in range
-printed_of-in_range : (lines : List Line) (copies : List FoundCopy) → AreTaken lines → All IsCopyInRange (printed_of at_zero (events_of lines) copies)
-printed_of-in_range lines copies taken =
-    let first = first_setting at_zero in
-    printed-in_range [] _ (tagged-in_range first (events_of lines) copies (omega arith) (settings-in_range first (events_of lines) (omega arith) (lines-in_range [] lines taken)))
+printed_of-in_range : (start : Start) (lines : List Line) (copies : List FoundCopy) → AreTaken start lines → All IsCopyInRange (printed_of start (events_of lines) copies)
+printed_of-in_range start lines copies taken =
+    let first = first_setting start in
+    printed-in_range start.entries _
+    (tagged-in_range first (events_of lines) copies taken.in_range (settings-in_range first (events_of lines) taken.in_range (lines-in_range start [] lines taken.each)))
 
-log-in_range : (lines : List Line) (log : List TaggedCopy) → AreTaken lines → HasPrinted at_zero (events_of lines) log → All IsCopyInRange log
-log-in_range lines log taken h = All-same IsCopyInRange log _ h.printed (printed_of-in_range lines _ taken)
+log-in_range : (start : Start) (lines : List Line) (log : List TaggedCopy) → AreTaken start lines → HasPrinted start (events_of lines) log → All IsCopyInRange log
+log-in_range start lines log taken h = All-same IsCopyInRange log _ h.printed (printed_of-in_range start lines _ taken)
 
 -- so lines have a log, with the end and without it
-pub some-open : (lines : List Line) → AreTaken lines → (log : List ℕ) × IsLogOfLines lines log
-some-open lines taken =
-    let all = some_printed at_zero (events_of lines) in
-    let log = some_log all.0 (log-in_range lines all.0 taken all.1) in
+pub some-open : (start : Start) (lines : List Line) → AreTaken start lines → (log : List ℕ) × IsLogOfLines start lines log
+some-open start lines taken =
+    let all = some_printed start (events_of lines) in
+    let log = some_log all.0 (log-in_range start lines all.0 taken all.1) in
     (log.0, record { taken = taken; copies = all.0; printed = all.1; spelled = log.1 })
 
-pub some-closed : (bytes : List ℕ) (lines : List Line) → IsAirFile air_limit bytes lines → AreTaken lines → (log : List ℕ) × IsLogOf bytes log
-some-closed bytes lines file taken =
-    let all = some_to_end at_zero (events_of lines) in
-    let log = some_log all.0 (All-same IsCopyInRange all.0 _ all.1.printed (printed_of-in_range lines _ taken)) in
+pub some-closed : (start : Start) (bytes : List ℕ) (lines : List Line) → IsAirFile air_limit bytes lines → AreTaken start lines → (log : List ℕ) × IsLogOf start bytes log
+some-closed start bytes lines file taken =
+    let all = some_to_end start (events_of lines) in
+    let log = some_log all.0 (All-same IsCopyInRange all.0 _ all.1.printed (printed_of-in_range start lines _ taken)) in
     (log.0, (lines, all.0, record { file = file; taken = taken; printed = all.1; spelled = log.1 }))
 
 -- and one alone
-pub one-open : (lines : List Line) (log other : List ℕ) → IsLogOfLines lines log → IsLogOfLines lines other → log ≡ other
-one-open lines log other a b =
-    let same = one_printed at_zero (events_of lines) a.copies b.copies a.printed b.printed in
+pub one-open : (start : Start) (lines : List Line) (log other : List ℕ) → IsLogOfLines start lines log → IsLogOfLines start lines other → log ≡ other
+one-open start lines log other a b =
+    let same = one_printed start (events_of lines) a.copies b.copies a.printed b.printed in
     one_log b.copies log other (subst (λ copies. IsLog copies log) same a.spelled) b.spelled
 
-pub one-closed : (bytes log other : List ℕ) → IsLogOf bytes log → IsLogOf bytes other → log ≡ other
-one-closed bytes log other a b =
+pub one-closed : (start : Start) (bytes log other : List ℕ) → IsLogOf start bytes log → IsLogOf start bytes other → log ≡ other
+one-closed start bytes log other a b =
     let lines = IsAirFile-unique air_limit bytes a.0 b.0 a.2.file b.2.file in
-    let same = one_to_end at_zero (events_of b.0) a.1 b.1 (subst (λ l. PrintsToEnd at_zero (events_of l) a.1) lines a.2.printed) b.2.printed in
+    let same = one_to_end start (events_of b.0) a.1 b.1 (subst (λ l. PrintsToEnd start (events_of l) a.1) lines a.2.printed) b.2.printed in
     one_log b.1 log other (subst (λ copies. IsLog copies log) same a.2.spelled) b.2.spelled
 
 -- what is the log of a beginning of what lines give was written in part: so was the log of the lines
-pub logged-some : (old new : Option (List ℕ)) (written : ℕ) (lines : List Line) (given : List ℕ) → BeginsListening lines given → WroteSome old new given written
-    → HasLoggedSome old new written lines
-logged-some old new written lines given h some =
+pub logged-some : (start : Start) (old new : Option (List ℕ)) (written : ℕ) (lines : List Line) (given : List ℕ) → BeginsListening start lines given → WroteSome old new given written
+    → HasLoggedSome start old new written lines
+logged-some start old new written lines given h some =
     let b = h.begun in
-    let all = some_printed at_zero (events_of lines) in
-    let later = subst (λ es. HasPrinted at_zero es all.0) b.whole all.1 in
-    let on = has_printed_on at_zero b.before b.later b.log all.0 b.printed later in
-    let log = some_log all.0 (log-in_range lines all.0 h.taken all.1) in
+    let all = some_printed start (events_of lines) in
+    let later = subst (λ es. HasPrinted start es all.0) b.whole all.1 in
+    let on = has_printed_on start b.before b.later b.log all.0 b.printed later in
+    let log = some_log all.0 (log-in_range start lines all.0 h.taken all.1) in
     let front = log_begins b.log on.rest given log.0 b.spelled (subst (λ l. IsLog l log.0) on.whole log.1) in
     record {
       log = log.0;

@@ -15,10 +15,10 @@ use Rattle.nx_fec.specs.declared.line_run.LinesFault.{LinesFault}
 use Rattle.nx_fec.specs.declared.line_run.LinesFault.TheVariants as run
 use Rattle.nx_fec.specs.declared.line_run.LinesRead.{LinesRead}
 use Rattle.nx_fec.proofs.TransferLaws.{Ok-not_err, Reads-on, Writes-none, read_failed-none}
-use Rattle.nx_receiver.specs.Events.{elements_among}
+use Rattle.nx_receiver.specs.Events.{Start, elements_among}
 use Rattle.nx_receiver.specs.Listen.{ExplainsListening, HasListened, HasLogged, HasLoggedSomeOfFile, IsNextRefused, Listens, events_of, line_events}
 use Rattle.nx_receiver.specs.ListenerBegins.{printed-so_far}
-use Rattle.nx_receiver.specs.Listener.{HasClosed, HasClosedSome, IsListening, RefusesLine, lines_fault}
+use Rattle.nx_receiver.specs.Listener.{BeginsFrom, HasClosed, HasClosedSome, IsListening, RefusesFrom, RefusesLine, StandsFrom, lines_fault, start_of}
 use Rattle.nx_receiver.specs.declared.listen_fault.ListenFault.{ListenFault}
 use Rattle.nx_receiver.specs.declared.listen_fault.ListenFault.TheVariants.{Memory, Read, Write}
 use Rattle.nx_receiver.specs.declared.listening.LineRefusal.{LineRefusal}
@@ -26,18 +26,17 @@ use Rattle.nx_receiver.specs.declared.listening.LineRefusal.TheVariants as refus
 use Rattle.nx_receiver.specs.declared.listening.Listener.{Listener}
 use Rattle.nx_receiver.specs.declared.listening.Report.{Report}
 use Rattle.nx_receiver.proofs.ListenMoments.{logged-some}
-use Rattle.nx_receiver.proofs.ListenerLines.{begins, refuses, stands}
 use Rattle.nx_receiver.proofs.LoggedLemmas.{bits_of-append}
 use Rattle.nx_receiver.proofs.ReceiverEvents.{bits_of-more}
 
 -- what the lines gave was written: their log
-logged : (first now : Listener) (old new : Option (List ℕ)) (lines : List Line) → HasTaken stands first now lines (Appends old new) → HasLogged old new lines
+logged : (first now : Listener) (old new : Option (List ℕ)) (lines : List Line) → HasTaken StandsFrom first now lines (Appends old new) → HasLogged (start_of first) old new lines
 logged first now old new lines h = record {
   log = h.given;
   logged = record {
     taken = h.stood.taken;
     copies = h.stood.hears.log;
-    printed = printed-so_far _ _ now.receiver (events_of lines) h.stood.hears.log h.stood.hears.hears.receiver;
+    printed = printed-so_far _ (start_of first) now.receiver (events_of lines) h.stood.hears.log h.stood.hears.hears.receiver;
     spelled = h.stood.hears.spelled;
   };
   written = h.here;
@@ -47,14 +46,14 @@ stops-on : (bytes : List ℕ) (P Q : List Line → List ℕ → List ℕ → Typ
     → StopsAt bytes P → StopsAt bytes Q
 stops-on bytes P Q f h = record { lines = h.lines; rest = h.rest; more = h.more; whole = h.whole; each = h.each; part = h.part; here = f h.lines h.rest h.more h.here }
 
-next-refused : (first : Listener) (number : ℕ) (lines : List Line) (rest more : List ℕ) (why : LineRefusal) → IsLineRefused refuses first air_limit lines rest more number why
-    → IsNextRefused (λ before line. RefusesLine before line why) number lines rest more
+next-refused : (first : Listener) (number : ℕ) (lines : List Line) (rest more : List ℕ) (why : LineRefusal) → IsLineRefused RefusesFrom first air_limit lines rest more number why
+    → IsNextRefused (λ before line. RefusesLine (start_of first) before line why) number lines rest more
 next-refused first number lines rest more why h =
     record { line = h.line; after = h.after; good = h.good; spelled = h.spelled; ended = h.ended; within = h.within; counted = h.counted; refused = h.refused }
 
 -- what a fault of the lines explains
 explains : (AtEnd : Type 0) (IsLeft : List ℕ → Type 0) (first now : Listener) (old new : Option (List ℕ)) (bytes : List ℕ) (fault : LinesFault LineRefusal)
-    → ExplainsLines stands begins refuses AtEnd IsLeft air_limit first now old new (Appends old new) bytes fault → ExplainsListening AtEnd IsLeft old new bytes (lines_fault fault)
+    → ExplainsLines StandsFrom BeginsFrom RefusesFrom AtEnd IsLeft air_limit first now old new (Appends old new) bytes fault → ExplainsListening (start_of first) AtEnd IsLeft old new bytes (lines_fault fault)
 explains AtEnd IsLeft first now old new bytes run.Read h =
     stops-on bytes _ _ (λ lines rest more p. (p.0, p.1, logged first now old new lines p.2)) h
 explains AtEnd IsLeft first now old new bytes (run.Line file.TooLong) h =
@@ -72,7 +71,7 @@ explains AtEnd IsLeft first now old new bytes (run.Refused line (refusal.Moment 
 explains AtEnd IsLeft first now old new bytes (run.Refused line (refusal.Vital subject)) h =
     stops-on bytes _ _ (λ lines rest more p. (next-refused first line lines rest more (refusal.Vital subject) p.0, logged first now old new lines p.1)) h
 explains AtEnd IsLeft first now old new bytes (run.Write written) h =
-    inl (stops-on bytes _ _ (λ lines rest more p. logged-some old new written lines p.given p.begun p.some) h)
+    inl (stops-on bytes _ _ (λ lines rest more p. logged-some (start_of first) old new written lines p.given p.begun p.some) h)
 
 -- the faults of devices are those of devices
 read-back : (fault : LinesFault LineRefusal) → lines_fault fault ≡ Read → fault ≡ run.Read
@@ -108,7 +107,7 @@ as-err {N} {F} a b e = let out : F → Result N F = λ x. Err x in ap out e
 
 -- a run over lines that ended early is a run of `listen` that did
 pub listens-fault : {R W : Type 0} (first now : Listener) (d : Devices R W) (fault : LinesFault LineRefusal)
-    → RunsLines stands begins refuses air_limit first now d (Err fault) → Listens d (Err (lines_fault fault))
+    → RunsLines StandsFrom BeginsFrom RefusesFrom air_limit first now d (Err fault) → Listens (start_of first) d (Err (lines_fault fault))
 listens-fault first now d fault h = record {
   reads = Reads-on d.remaining d.reader d.reader_after run.Read Read (Err fault) (Err (lines_fault fault)) _ _ _ _ h.reads
       (λ bytes k. explains _ _ first now _ _ bytes fault k) (λ bytes k. explains _ _ first now _ _ bytes fault k)
@@ -145,9 +144,9 @@ lines-fewer (line ∷ lines) =
     omega (arith, heard, line-fewer line, lines-fewer lines, length-append (line_bytes line) (file_of lines))
 
 -- the whole file was read, and its end printed
-listened : (first now : Listener) (old mid new : Option (List ℕ)) (bytes : List ℕ) (read : LinesRead) (report : Report) → HasTakenAll stands first now old mid air_limit bytes read
-    → ((lines : List Line) (given : List ℕ) → IsListening now lines given → HasWritten old mid given read.written → HasClosed old new (events_of lines) report)
-    → report.lines ≡ read.lines → HasListened old new bytes report
+listened : (first now : Listener) (old mid new : Option (List ℕ)) (bytes : List ℕ) (read : LinesRead) (report : Report) → HasTakenAll StandsFrom first now old mid air_limit bytes read
+    → ((lines : List Line) (given : List ℕ) → IsListening (start_of first) now lines given → HasWritten old mid given read.written → HasClosed (start_of first) old new (events_of lines) report)
+    → report.lines ≡ read.lines → HasListened (start_of first) old new bytes report
 listened first now old mid new bytes read report h closed counted =
     let t = h.taken in
     let e = closed h.lines t.given t.stood t.here in
@@ -165,10 +164,10 @@ listened first now old mid new bytes read report h closed counted =
 
 -- a run over lines that read its file to the end, and what the end prints, are a run of `listen`
 pub listens-ok : {R W : Type 0} (remaining : R → Option (List ℕ)) (contents : W → Option (List ℕ)) (first now : Listener) (reader reader_after : CountedDevice R) (writer mid new : CountedDevice W) (read : LinesRead) (report : Report)
-    → RunsLines stands begins refuses air_limit first now (devices remaining contents reader reader_after writer mid) (Ok read)
-    → ((lines : List Line) (given : List ℕ) → IsListening now lines given → HasWritten (contents writer.inner) (contents mid.inner) given read.written
-    → HasClosed (contents writer.inner) (contents new.inner) (events_of lines) report)
-    → report.lines ≡ read.lines → new.failures ≡ 0 → Listens (devices remaining contents reader reader_after writer new) (Ok report)
+    → RunsLines StandsFrom BeginsFrom RefusesFrom air_limit first now (devices remaining contents reader reader_after writer mid) (Ok read)
+    → ((lines : List Line) (given : List ℕ) → IsListening (start_of first) now lines given → HasWritten (contents writer.inner) (contents mid.inner) given read.written
+    → HasClosed (start_of first) (contents writer.inner) (contents new.inner) (events_of lines) report)
+    → report.lines ≡ read.lines → new.failures ≡ 0 → Listens (start_of first) (devices remaining contents reader reader_after writer new) (Ok report)
 listens-ok remaining contents first now reader reader_after writer mid new read report h closed counted none = record {
   reads = Reads-on remaining reader reader_after run.Read Read (Ok read) (Ok report) _ _ _ _ h.reads
       (λ bytes k. (k.0, listened first now _ _ _ bytes read report k.1 closed counted)) (λ bytes k. (k.0, listened first now _ _ _ bytes read report k.1 closed counted))
@@ -183,9 +182,9 @@ err-is (Ok x) fault h e = cc
 err-is (Err made) fault h e = as-err made fault e
 
 -- the whole file was read, and a write of what its end prints failed
-part-listened : (first now : Listener) (old mid new : Option (List ℕ)) (bytes : List ℕ) (read : LinesRead) (written : ℕ) → HasTakenAll stands first now old mid air_limit bytes read
-    → ((lines : List Line) (given : List ℕ) → IsListening now lines given → HasWritten old mid given read.written → HasClosedSome old new (events_of lines) written)
-    → HasLoggedSomeOfFile old new written bytes
+part-listened : (first now : Listener) (old mid new : Option (List ℕ)) (bytes : List ℕ) (read : LinesRead) (written : ℕ) → HasTakenAll StandsFrom first now old mid air_limit bytes read
+    → ((lines : List Line) (given : List ℕ) → IsListening (start_of first) now lines given → HasWritten old mid given read.written → HasClosedSome (start_of first) old new (events_of lines) written)
+    → HasLoggedSomeOfFile (start_of first) old new written bytes
 part-listened first now old mid new bytes read written h closed =
     let t = h.taken in
     let e = closed h.lines t.given t.stood t.here in
@@ -199,10 +198,10 @@ write-not_read : {N : Type 0} (written : ℕ) → ◌≡◌ {A = Result N Listen
 write-not_read written e = cc
 
 listens-part : {R W : Type 0} (remaining : R → Option (List ℕ)) (contents : W → Option (List ℕ)) (first now : Listener) (reader reader_after : CountedDevice R) (writer mid new : CountedDevice W) (read : LinesRead) (written : ℕ)
-    → RunsLines stands begins refuses air_limit first now (devices remaining contents reader reader_after writer mid) (Ok read)
-    → ((lines : List Line) (given : List ℕ) → IsListening now lines given → HasWritten (contents writer.inner) (contents mid.inner) given read.written
-    → HasClosedSome (contents writer.inner) (contents new.inner) (events_of lines) written)
-    → new.failures ≡ 1 → Listens (devices remaining contents reader reader_after writer new) (Err (Write written))
+    → RunsLines StandsFrom BeginsFrom RefusesFrom air_limit first now (devices remaining contents reader reader_after writer mid) (Ok read)
+    → ((lines : List Line) (given : List ℕ) → IsListening (start_of first) now lines given → HasWritten (contents writer.inner) (contents mid.inner) given read.written
+    → HasClosedSome (start_of first) (contents writer.inner) (contents new.inner) (events_of lines) written)
+    → new.failures ≡ 1 → Listens (start_of first) (devices remaining contents reader reader_after writer new) (Err (Write written))
 listens-part remaining contents first now reader reader_after writer mid new read written h closed one = record {
   reads = Reads-on remaining reader reader_after run.Read Read (Ok read) (Err (Write written)) _ _ _ _ h.reads
       (λ bytes k. inr (k.0, part-listened first now _ _ _ bytes read written k.1 closed)) (λ bytes k. inr (k.0, part-listened first now _ _ _ bytes read written k.1 closed))
@@ -213,12 +212,12 @@ listens-part remaining contents first now reader reader_after writer mid new rea
 
 pub listens-part-as : {R W : Type 0} (remaining : R → Option (List ℕ)) (contents : W → Option (List ℕ)) (first now : Listener) (reader reader_after : CountedDevice R) (writer mid new : CountedDevice W) (read : LinesRead) (written : ℕ) (outcome : Result Report ListenFault)
     → IsErr outcome → IsErrAnd outcome (λ made. made ≡ Write written)
-    → RunsLines stands begins refuses air_limit first now (devices remaining contents reader reader_after writer mid) (Ok read)
-    → ((lines : List Line) (given : List ℕ) → IsListening now lines given → HasWritten (contents writer.inner) (contents mid.inner) given read.written
-    → HasClosedSome (contents writer.inner) (contents new.inner) (events_of lines) written)
-    → new.failures ≡ 1 → Listens (devices remaining contents reader reader_after writer new) outcome
+    → RunsLines StandsFrom BeginsFrom RefusesFrom air_limit first now (devices remaining contents reader reader_after writer mid) (Ok read)
+    → ((lines : List Line) (given : List ℕ) → IsListening (start_of first) now lines given → HasWritten (contents writer.inner) (contents mid.inner) given read.written
+    → HasClosedSome (start_of first) (contents writer.inner) (contents new.inner) (events_of lines) written)
+    → new.failures ≡ 1 → Listens (start_of first) (devices remaining contents reader reader_after writer new) outcome
 listens-part-as remaining contents first now reader reader_after writer mid new read written outcome failed fault h closed one =
-    subst (Listens (devices remaining contents reader reader_after writer new)) (sym (err-is outcome (Write written) failed fault))
+    subst (Listens (start_of first) (devices remaining contents reader reader_after writer new)) (sym (err-is outcome (Write written) failed fault))
     (listens-part remaining contents first now reader reader_after writer mid new read written h closed one)
 
 memory-read : {N : Type 0} (error : AllocError) → ◌≡◌ {A = Result N ListenFault} (Err (Memory error)) (Err Read) → ⊥
@@ -232,10 +231,10 @@ whatever None = tt
 whatever (Some xs) = tt
 
 -- memory ran out before anything was read
-pub listens-memory : {R W : Type 0} (remaining : R → Option (List ℕ)) (contents : W → Option (List ℕ)) (reader : CountedDevice R) (writer : CountedDevice W) (error : AllocError) (outcome : Result Report ListenFault)
-    → IsErr outcome → IsErrAnd outcome (λ made. made ≡ Memory error) → reader.failures ≡ 0 → writer.failures ≡ 0 → Listens (devices remaining contents reader reader writer writer) outcome
-listens-memory remaining contents reader writer error outcome failed fault read written =
-    subst (Listens (devices remaining contents reader reader writer writer)) (sym (err-is outcome (Memory error) failed fault)) (record {
+pub listens-memory : {R W : Type 0} (start : Start) (remaining : R → Option (List ℕ)) (contents : W → Option (List ℕ)) (reader : CountedDevice R) (writer : CountedDevice W) (error : AllocError) (outcome : Result Report ListenFault)
+    → IsErr outcome → IsErrAnd outcome (λ made. made ≡ Memory error) → reader.failures ≡ 0 → writer.failures ≡ 0 → Listens start (devices remaining contents reader reader writer writer) outcome
+listens-memory start remaining contents reader writer error outcome failed fault read written =
+    subst (Listens start (devices remaining contents reader reader writer writer)) (sym (err-is outcome (Memory error) failed fault)) (record {
       reads = record {
         bytes = [];
         consumed = Consumes-nil (remaining reader.inner);

@@ -1,5 +1,6 @@
 -- What a line does to a listener: how it stands after one more line, after some more elements, and after the end.
-use Rattle.std.proofs.Common.{◌≡◌, ◌||◌, ℕ, ◌+◌, ◌-◌, ◌<◌, ◌≤◌, Bool, true, false, IsTrue, List, [], ◌∷◌, ◌++◌, Option, Some, None, Ok, IsErr, length, take, take-append-drop, drop, refl, sym, ap, ◌∙◌, subst, append-nil, append_assoc, arith, length-append, length-drop}
+use Rattle.std.proofs.Common.{◌≡◌, ◌||◌, ℕ, ◌+◌, ◌-◌, ◌<◌, ◌≤◌, Bool, true, false, IsTrue, List, [], ◌∷◌, ◌++◌, Option, Some, None, Ok, IsErr, length, take, take-append-drop, drop, refl, sym, ap, ap₂, ◌∙◌, subst, append-nil, append_assoc, arith, length-append, length-drop}
+use Rattle.std.specs.FinSet as set
 use lib.Seq.{take-add}
 use Rattle.std.proofs.lemmas.List.{length-take-le, map-append}
 use Rattle.std.proofs.lemmas.List.Concat.{flat_map-append}
@@ -7,9 +8,11 @@ use Rattle.std.proofs.lemmas.List.Folds.{list_any-append}
 use Rattle.nx_fec.specs.AirFile.{Line, moment, elements}
 use Rattle.nx_memory.specs.declared.entry.MemoryEntry.{MemoryEntry}
 use Rattle.nx_memory.specs.Ring.{RingMemory}
-use Rattle.nx_receiver.specs.Events.{Event, elements_among, element}
-use Rattle.nx_receiver.specs.Listen.{AreTaken, AreTakenAfter, IsTakenAfter, at_zero, events_of, has_moment, in_force_after, is_moment_line, line_events}
-use Rattle.nx_receiver.specs.Listener.{BeginsListening, BeginsLog, HasFinished, HearsEvents, HearsLog, IsListening, count_of}
+use Rattle.nx_envelope.specs.Moment.{last_moment}
+use Rattle.nx_memory.specs.Refused.{Refused}
+use Rattle.nx_receiver.specs.Events.{Event, Setting, Start, elements_among, element, none_refused, setting_after_all}
+use Rattle.nx_receiver.specs.Listen.{AreTaken, AreTakenAfter, IsTakenAfter, events_of, has_moment, in_force_after, is_moment_line, line_events}
+use Rattle.nx_receiver.specs.Listener.{BeginsListening, BeginsLog, HasFinished, HearsEvents, HearsLog, IsListening, count_of, start_of}
 use Rattle.nx_receiver.specs.ListenerBegins.{printed-so_far}
 use Rattle.nx_receiver.specs.Log.{IsEntry, IsLog}
 use Rattle.nx_receiver.specs.Receiver as receiver
@@ -32,10 +35,16 @@ content memory = memory.content
 pub events_of-one : (lines : List Line) (line : Line) → events_of (lines ++ line ∷ []) ≡ events_of lines ++ line_events line
 events_of-one lines line = flat_map-append line_events lines (line ∷ []) ∙ ap (λ es. events_of lines ++ es) (append-nil (line_events line))
 
-pub taken-one : (first lines : List Line) (line : Line) → AreTakenAfter first lines → IsTakenAfter (first ++ lines) line → AreTakenAfter first (lines ++ line ∷ [])
+one-after : (start : Start) (first lines : List Line) (line : Line) → AreTakenAfter start first lines → IsTakenAfter start (first ++ lines) line
+    → AreTakenAfter start first (lines ++ line ∷ [])
 unfolding AreTakenAfter
-taken-one first [] line h k = (subst (λ l. IsTakenAfter l line) (append-nil first) k, tt)
-taken-one first (x ∷ xs) line h k = (h.0, taken-one (first ++ x ∷ []) xs line h.1 (subst (λ l. IsTakenAfter l line) (sym (append_assoc first (x ∷ []) xs)) k))
+one-after start first [] line h k = (subst (λ l. IsTakenAfter start l line) (append-nil first) k, tt)
+one-after start first (x ∷ xs) line h k =
+    (h.0, one-after start (first ++ x ∷ []) xs line h.1 (subst (λ l. IsTakenAfter start l line) (sym (append_assoc first (x ∷ []) xs)) k))
+
+-- one more line is taken
+pub taken-one : (start : Start) (lines : List Line) (line : Line) → AreTaken start lines → IsTakenAfter start lines line → AreTaken start (lines ++ line ∷ [])
+taken-one start lines line h k = record { in_range = h.in_range; each = one-after start [] lines line h.each k }
 
 or-none : (c d : Bool) → d ≡ false → (c || (d || false)) ≡ c
 or-none true d e = refl
@@ -54,27 +63,28 @@ pub moment-one : (lines : List Line) (n : ℕ) → true ≡ has_moment (lines ++
 moment-one lines n = sym (list_any-append is_moment_line lines (moment n ∷ []) ∙ or-true (has_moment lines))
 
 -- what is in force is what the receiver has in force
-pub force-now : (listener : Listener) (lines : List Line) (given : List ℕ) → IsListening listener lines given → listener.receiver.watch.moment ≡ (in_force_after lines).moment
-force-now listener lines given h = ap (λ s. s.moment) h.hears.hears.receiver.force
+pub force-now : (start : Start) (listener : Listener) (lines : List Line) (given : List ℕ) → IsListening start listener lines given
+    → listener.receiver.watch.moment ≡ (in_force_after start lines).moment
+force-now start listener lines given h = ap (λ s. s.moment) h.hears.hears.receiver.force
 
 -- a line that has no elements changes the receiver alone
-pub goes_on : (old new : Listener) (lines : List Line) (line : Line) (given : List ℕ) → IsListening old lines given → IsTakenAfter lines line
+pub goes_on : (start : Start) (old new : Listener) (lines : List Line) (line : Line) (given : List ℕ) → IsListening start old lines given → IsTakenAfter start lines line
     → elements_among (line_events line) ≡ [] → new.has_moment ≡ has_moment (lines ++ line ∷ []) → new.elements ≡ old.elements → new.entries ≡ old.entries
-    → ((log : List TaggedCopy) → Stands content at_zero old.receiver (events_of lines) log → Stands content at_zero new.receiver (events_of lines ++ line_events line) log)
-    → IsListening new (lines ++ line ∷ []) given
-goes_on old new lines line given h taken none said heard printed stands =
+    → ((log : List TaggedCopy) → Stands content start old.receiver (events_of lines) log → Stands content start new.receiver (events_of lines ++ line_events line) log)
+    → IsListening start new (lines ++ line ∷ []) given
+goes_on start old new lines line given h taken none said heard printed stands =
     let log = h.hears.log in
     let was = h.hears.hears in
     let events = events_of (lines ++ line ∷ []) in
     let same : elements_among events ≡ elements_among (events_of lines) =
     ap elements_among (events_of-one lines line) ∙ bits_of-append (events_of lines) (line_events line) ∙ ap (λ bs. elements_among (events_of lines) ++ bs) none ∙ append-nil (elements_among (events_of lines)) in
     record {
-      taken = taken-one [] lines line h.taken taken;
+      taken = taken-one start lines line h.taken taken;
       moment = said;
       hears = record {
         log = log;
         hears = record {
-          receiver = subst (λ es. Stands content at_zero new.receiver es log) (sym (events_of-one lines line)) (stands log was.receiver);
+          receiver = subst (λ es. Stands content start new.receiver es log) (sym (events_of-one lines line)) (stands log was.receiver);
           elements = heard ∙ was.elements ∙ ap (λ bs. count_of (length bs)) (sym same);
           entries = printed ∙ was.entries;
           few = subst (λ bs. length log ≤ length bs) (sym same) was.few;
@@ -87,12 +97,12 @@ pub counts-on : (old new m n all : ℕ) → old ≡ count_of m → new ≡ count
 counts-on old new m n all h k e = omega arith
 
 -- more elements were heard, and an entry was handed out with the last of them, or none
-pub hears-more : (old new : Listener) (events : List Event) (log : List TaggedCopy) (bits : List Bool) (n : ℕ) (entry : Option Entry) → HearsEvents old events log
+pub hears-more : (start : Start) (old new : Listener) (events : List Event) (log : List TaggedCopy) (bits : List Bool) (n : ℕ) (entry : Option Entry) → HearsEvents start old events log
     → n ≤ length bits → length (entry_list entry) ≤ n
-    → Stands content at_zero new.receiver (events ++ receiver.elements (take n bits)) (log ++ entry_list entry)
+    → Stands content start new.receiver (events ++ receiver.elements (take n bits)) (log ++ entry_list entry)
     → new.elements ≡ count_of (old.elements + n) → new.entries ≡ count_of (old.entries + length (entry_list entry))
-    → HearsEvents new (events ++ receiver.elements (take n bits)) (log ++ entry_list entry)
-hears-more old new events log bits n entry h within few stands heard printed =
+    → HearsEvents start new (events ++ receiver.elements (take n bits)) (log ++ entry_list entry)
+hears-more start old new events log bits n entry h within few stands heard printed =
     let all : length (elements_among (events ++ receiver.elements (take n bits))) ≡ length (elements_among events) + n =
     ap length (bits_of-more events (take n bits)) ∙ length-append (elements_among events) (take n bits) ∙ ap (λ k. length (elements_among events) + k) (length-take-le n bits within) in
     let longer : length (log ++ entry_list entry) ≡ length log + length (entry_list entry) = length-append log (entry_list entry) in
@@ -109,17 +119,17 @@ ok-false E x false h = refl
 ok-false E x true h = let e = h refl in cc
 
 -- nothing was handed out with these elements
-pub heard-none : (old new : Listener) (events : List Event) (given : List ℕ) (bits : List Bool) (n : ℕ) (entry : Option Entry) → entry ≡ None → HearsLog old events given
+pub heard-none : (start : Start) (old new : Listener) (events : List Event) (given : List ℕ) (bits : List Bool) (n : ℕ) (entry : Option Entry) → entry ≡ None → HearsLog start old events given
     → n ≤ length bits
-    → ((log : List TaggedCopy) → Stands content at_zero old.receiver events log → Stands content at_zero new.receiver (events ++ receiver.elements (take n bits)) (log ++ entry_list entry))
-    → new.elements ≡ count_of (old.elements + n) → new.entries ≡ old.entries → HearsLog new (events ++ receiver.elements (take n bits)) given
-heard-none old new events given bits n entry none h within stands heard printed =
+    → ((log : List TaggedCopy) → Stands content start old.receiver events log → Stands content start new.receiver (events ++ receiver.elements (take n bits)) (log ++ entry_list entry))
+    → new.elements ≡ count_of (old.elements + n) → new.entries ≡ old.entries → HearsLog start new (events ++ receiver.elements (take n bits)) given
+heard-none start old new events given bits n entry none h within stands heard printed =
     let zero : length (entry_list entry) ≡ 0 = ap (λ e. length (entry_list e)) none in
     let same : h.log ++ entry_list entry ≡ h.log = ap (λ e. h.log ++ entry_list e) none ∙ append-nil h.log in
-    let more = hears-more old new events h.log bits n entry h.hears within (omega (arith, zero)) (stands h.log h.hears.receiver) heard (omega (arith, zero, printed, h.hears.entries)) in
+    let more = hears-more start old new events h.log bits n entry h.hears within (omega (arith, zero)) (stands h.log h.hears.receiver) heard (omega (arith, zero, printed, h.hears.entries)) in
     record {
       log = h.log;
-      hears = subst (λ log. HearsEvents new (events ++ receiver.elements (take n bits)) log) same more;
+      hears = subst (λ log. HearsEvents start new (events ++ receiver.elements (take n bits)) log) same more;
       spelled = h.spelled;
     }
 
@@ -137,28 +147,28 @@ at-most-one None = omega arith
 at-most-one (Some entry) = omega arith
 
 -- what was over with the last of these elements was finished, and these are the bytes of the entry, if one was made
-pub heard-over : (old mid new : Listener) (events : List Event) (given more : List ℕ) (bits : List Bool) (n : ℕ) (over : Over) → HasFinished mid new over more
-    → HearsLog old events given → n ≤ length bits → 0 < n
-    → ((log : List TaggedCopy) → Stands content at_zero old.receiver events log → Awaits content at_zero mid.receiver (events ++ receiver.elements (take n bits)) log over)
-    → mid.elements ≡ count_of (old.elements + n) → mid.entries ≡ old.entries → HearsLog new (events ++ receiver.elements (take n bits)) (given ++ more)
-heard-over old mid new events given more bits n over f h within least awaits heard same =
+pub heard-over : (start : Start) (old mid new : Listener) (events : List Event) (given more : List ℕ) (bits : List Bool) (n : ℕ) (over : Over) → HasFinished mid new over more
+    → HearsLog start old events given → n ≤ length bits → 0 < n
+    → ((log : List TaggedCopy) → Stands content start old.receiver events log → Awaits content start mid.receiver (events ++ receiver.elements (take n bits)) log over)
+    → mid.elements ≡ count_of (old.elements + n) → mid.entries ≡ old.entries → HearsLog start new (events ++ receiver.elements (take n bits)) (given ++ more)
+heard-over start old mid new events given more bits n over f h within least awaits heard same =
     let entry = f.entry in
     let few : length (entry_list entry) ≤ 1 = at-most-one entry in
     record {
       log = h.log ++ entry_list entry;
-      hears = hears-more old new events h.log bits n entry h.hears within (omega (arith, few)) (f.stands _ h.log (awaits h.log h.hears.receiver)) (f.elements ∙ heard)
+      hears = hears-more start old new events h.log bits n entry h.hears within (omega (arith, few)) (f.stands start _ h.log (awaits h.log h.hears.receiver)) (f.elements ∙ heard)
           (f.entries (omega (arith, h.hears.entries, same)) ∙ ap (λ k. count_of (k + length (entry_list entry))) same);
       spelled = logs_join h.log (entry_list entry) given more h.spelled f.spelled;
     }
 
 -- nothing was over with these elements
-pub heard-no-over : (old new : Listener) (events : List Event) (given : List ℕ) (bits : List Bool) (n : ℕ) (over : Over) → over ≡ overs.Nothing → HearsLog old events given
+pub heard-no-over : (start : Start) (old new : Listener) (events : List Event) (given : List ℕ) (bits : List Bool) (n : ℕ) (over : Over) → over ≡ overs.Nothing → HearsLog start old events given
     → n ≤ length bits
-    → ((log : List TaggedCopy) → Stands content at_zero old.receiver events log → Awaits content at_zero new.receiver (events ++ receiver.elements (take n bits)) log over)
-    → new.elements ≡ count_of (old.elements + n) → new.entries ≡ old.entries → HearsLog new (events ++ receiver.elements (take n bits)) given
-heard-no-over old new events given bits n over nothing h within awaits heard printed =
-    heard-none old new events given bits n None refl h within
-    (λ log s. subst (λ l. Stands content at_zero new.receiver (events ++ receiver.elements (take n bits)) l) (sym (append-nil log)) (nothing_awaited content at_zero new.receiver _ _ _ log over nothing (awaits log s)))
+    → ((log : List TaggedCopy) → Stands content start old.receiver events log → Awaits content start new.receiver (events ++ receiver.elements (take n bits)) log over)
+    → new.elements ≡ count_of (old.elements + n) → new.entries ≡ old.entries → HearsLog start new (events ++ receiver.elements (take n bits)) given
+heard-no-over start old new events given bits n over nothing h within awaits heard printed =
+    heard-none start old new events given bits n None refl h within
+    (λ log s. subst (λ l. Stands content start new.receiver (events ++ receiver.elements (take n bits)) l) (sym (append-nil log)) (nothing_awaited content start new.receiver _ _ _ log over nothing (awaits log s)))
     heard printed
 
 -- the elements before and after a place are all
@@ -169,14 +179,14 @@ parts events bits n =
     ∙ sym (append_assoc events (receiver.elements (take n bits)) (receiver.elements (drop n bits)))
 
 -- a log so far is that of a beginning of more
-pub begins-more : (listener : Listener) (events : List Event) (given : List ℕ) (bits : List Bool) (n : ℕ) → HearsLog listener (events ++ receiver.elements (take n bits)) given
-    → BeginsLog (events ++ receiver.elements bits) given
-begins-more listener events given bits n h = record {
+pub begins-more : (start : Start) (listener : Listener) (events : List Event) (given : List ℕ) (bits : List Bool) (n : ℕ) → HearsLog start listener (events ++ receiver.elements (take n bits)) given
+    → BeginsLog start (events ++ receiver.elements bits) given
+begins-more start listener events given bits n h = record {
   before = events ++ receiver.elements (take n bits);
   later = receiver.elements (drop n bits);
   whole = parts events bits n;
   log = h.log;
-  printed = printed-so_far _ _ listener.receiver _ h.log h.hears.receiver;
+  printed = printed-so_far _ start listener.receiver _ h.log h.hears.receiver;
   spelled = h.spelled;
 }
 
@@ -194,12 +204,22 @@ pub elements-rest : (events : List Event) (bits : List Bool) (at : ℕ)
 elements-rest events bits at =
     ap (λ bs. (events ++ receiver.elements (take at bits)) ++ receiver.elements bs) (rest_is bits at) ∙ sym (parts events bits at)
 
+-- what is refused at first, where it is nothing
+pub nothing-refused : (refused : Refused) → refused.stations ≡ set.empty → refused.subjects ≡ set.empty → none_refused ≡ refused
+nothing-refused refused e f = sym (ap₂ (λ s t. record { stations = s; subjects = t }) e f)
+
+-- with what a listener starts, by what its receiver has
+pub start-is : (start : Start) (listener : Listener) → Stands content start listener.receiver [] [] → listener.receiver.memory.content ≡ start.entries → start_of listener ≡ start
+unfolding setting_after_all
+start-is start listener stands same =
+    ap₂ (λ (es : List MemoryEntry) (s : Setting). record { entries = es; moment = s.moment; refused = s.refused }) same stands.force
+
 -- a listener that was made has heard nothing
-pub heard-nothing : (listener : Listener) → Stands content at_zero listener.receiver [] [] → listener.has_moment ≡ false → listener.elements ≡ 0 → listener.entries ≡ 0
-    → IsListening listener [] []
+pub heard-nothing : (start : Start) (listener : Listener) → start.moment ≤ last_moment → Stands content start listener.receiver [] [] → listener.has_moment ≡ false → listener.elements ≡ 0
+    → listener.entries ≡ 0 → IsListening start listener [] []
 unfolding AreTakenAfter elements_among
-heard-nothing listener stands none elements' entries' = record {
-  taken = tt;
+heard-nothing start listener within stands none elements' entries' = record {
+  taken = record { in_range = within; each = tt };
   moment = none;
   hears = record {
     log = [];
@@ -209,19 +229,19 @@ heard-nothing listener stands none elements' entries' = record {
 }
 
 -- after the elements of a line
-pub heard-line : (old new : Listener) (lines : List Line) (bits : List Bool) (given more : List ℕ) → IsListening old lines given → has_moment lines ≡ true
-    → new.has_moment ≡ old.has_moment → HearsLog new (events_of lines ++ receiver.elements bits) more → IsListening new (lines ++ elements bits ∷ []) more
-heard-line old new lines bits given more h some same heard = record {
-  taken = taken-one [] lines (elements bits) h.taken some;
+pub heard-line : (start : Start) (old new : Listener) (lines : List Line) (bits : List Bool) (given more : List ℕ) → IsListening start old lines given → has_moment lines ≡ true
+    → new.has_moment ≡ old.has_moment → HearsLog start new (events_of lines ++ receiver.elements bits) more → IsListening start new (lines ++ elements bits ∷ []) more
+heard-line start old new lines bits given more h some same heard = record {
+  taken = taken-one start lines (elements bits) h.taken some;
   moment = moment-other lines (elements bits) _ (same ∙ h.moment) refl;
-  hears = subst (λ es. HearsLog new es more) (sym (events_of-one lines (elements bits))) heard;
+  hears = subst (λ es. HearsLog start new es more) (sym (events_of-one lines (elements bits))) heard;
 }
 
-pub begins-line : (lines : List Line) (bits : List Bool) (given : List ℕ) → AreTaken lines → has_moment lines ≡ true → BeginsLog (events_of lines ++ receiver.elements bits) given
-    → BeginsListening (lines ++ elements bits ∷ []) given
-begins-line lines bits given taken some h = record {
-  taken = taken-one [] lines (elements bits) taken some;
-  begun = subst (λ es. BeginsLog es given) (sym (events_of-one lines (elements bits))) h;
+pub begins-line : (start : Start) (lines : List Line) (bits : List Bool) (given : List ℕ) → AreTaken start lines → has_moment lines ≡ true
+    → BeginsLog start (events_of lines ++ receiver.elements bits) given → BeginsListening start (lines ++ elements bits ∷ []) given
+begins-line start lines bits given taken some h = record {
+  taken = taken-one start lines (elements bits) taken some;
+  begun = subst (λ es. BeginsLog start es given) (sym (events_of-one lines (elements bits))) h;
 }
 
 pub none-left : {A : Type 0} (o : Option A) → ((x : A) → o ≡ Some x → ⊥) → o ≡ None

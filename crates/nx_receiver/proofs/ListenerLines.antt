@@ -7,19 +7,9 @@ use Rattle.nx_fec.specs.Scanner.{kind_kept, kind_of, line_with}
 use Rattle.nx_fec.specs.declared.air_file.LineKind.{LineKind}
 use Rattle.nx_fec.specs.declared.line_run.TakeFault.{TakeFault}
 use Rattle.nx_fec.specs.declared.line_run.TakeFault.TheVariants as take
-use Rattle.nx_receiver.specs.Listener.{BeginsListening, IsListening, RefusesLine}
+use Rattle.nx_receiver.specs.Listener.{BeginsFrom, IsListening, RefusesFrom, RefusesLine, StandsFrom, start_of}
 use Rattle.nx_receiver.specs.declared.listening.LineRefusal.{LineRefusal}
 use Rattle.nx_receiver.specs.declared.listening.Listener.{Listener}
-
--- how a listener stands, begins and refuses, as a taker of lines
-abbrev pub stands : Listener → Listener → List Line → List ℕ → Type 0
-stands first now lines given = IsListening now lines given
-
-abbrev pub begins : Listener → List Line → List ℕ → Type 0
-begins first lines given = BeginsListening lines given
-
-abbrev pub refuses : Listener → List Line → Line → LineRefusal → Type 0
-refuses first lines line why = RefusesLine lines line why
 
 line-is : (line : Line) → line ≡ line_with (kind_of line) (elements_of line)
 line-is (moment n) = refl
@@ -40,33 +30,33 @@ said latest found kind is line e f g h =
 -- a line that may be refused
 pub taken-line : (first before after : Listener) (old new : Option (List ℕ)) (batch : Waiting) (lines : List Line) (line is : Line)
     (taken : Result (Unit {0}) LineRefusal) (result : Result (Unit {0}) (TakeFault LineRefusal)) → line ≡ is
-    → HasTaken stands first before lines (HasGiven old new batch)
+    → HasTaken StandsFrom first before lines (HasGiven old new batch)
     → MatchResult taken (λ _. result ≡ Ok tt) (λ why. result ≡ Err (take.Refused why))
-    → ((given : List ℕ) → IsListening before lines given → MatchResult taken (λ _. IsListening after (lines ++ is ∷ []) given) (λ why. RefusesLine lines is why))
+    → ((given : List ℕ) → IsListening (start_of first) before lines given → MatchResult taken (λ _. IsListening (start_of first) after (lines ++ is ∷ []) given) (λ why. RefusesLine (start_of first) lines is why))
     → OnErr taken (after ≡ before)
-    → MatchResult result (λ _. HasTaken stands first after (lines ++ line ∷ []) (HasGiven old new batch))
-    (λ fault. ExplainsTaking stands begins refuses first after old new batch lines line fault)
+    → MatchResult result (λ _. HasTaken StandsFrom first after (lines ++ line ∷ []) (HasGiven old new batch))
+    (λ fault. ExplainsTaking StandsFrom BeginsFrom RefusesFrom first after old new batch lines line fault)
 taken-line first before after old new batch lines line is (Ok x) result same h answer takes unchanged =
-    subst (λ r. MatchResult r (λ _. HasTaken stands first after (lines ++ line ∷ []) (HasGiven old new batch))
-    (λ fault. ExplainsTaking stands begins refuses first after old new batch lines line fault)) (sym answer) (record {
+    subst (λ r. MatchResult r (λ _. HasTaken StandsFrom first after (lines ++ line ∷ []) (HasGiven old new batch))
+    (λ fault. ExplainsTaking StandsFrom BeginsFrom RefusesFrom first after old new batch lines line fault)) (sym answer) (record {
       given = h.given;
-      stood = subst (λ l. IsListening after (lines ++ l ∷ []) h.given) (sym same) (takes h.given h.stood);
+      stood = subst (λ l. IsListening (start_of first) after (lines ++ l ∷ []) h.given) (sym same) (takes h.given h.stood);
       here = h.here;
     })
 taken-line first before after old new batch lines line is (Err why) result same h answer takes unchanged =
-    subst (λ r. MatchResult r (λ _. HasTaken stands first after (lines ++ line ∷ []) (HasGiven old new batch))
-    (λ fault. ExplainsTaking stands begins refuses first after old new batch lines line fault)) (sym answer) (
-      subst (λ l. RefusesLine lines l why) (sym same) (takes h.given h.stood),
-      record { given = h.given; stood = subst (λ n. IsListening n lines h.given) (sym unchanged) h.stood; here = h.here },
+    subst (λ r. MatchResult r (λ _. HasTaken StandsFrom first after (lines ++ line ∷ []) (HasGiven old new batch))
+    (λ fault. ExplainsTaking StandsFrom BeginsFrom RefusesFrom first after old new batch lines line fault)) (sym answer) (
+      subst (λ l. RefusesLine (start_of first) lines l why) (sym same) (takes h.given h.stood),
+      record { given = h.given; stood = subst (λ n. IsListening (start_of first) n lines h.given) (sym unchanged) h.stood; here = h.here },
     )
 
 -- a line that is taken always
 pub taken-always : (first before after : Listener) (old new : Option (List ℕ)) (batch : Waiting) (lines : List Line) (line is : Line) → line ≡ is
-    → HasTaken stands first before lines (HasGiven old new batch)
-    → ((given : List ℕ) → IsListening before lines given → IsListening after (lines ++ is ∷ []) given)
-    → HasTaken stands first after (lines ++ line ∷ []) (HasGiven old new batch)
+    → HasTaken StandsFrom first before lines (HasGiven old new batch)
+    → ((given : List ℕ) → IsListening (start_of first) before lines given → IsListening (start_of first) after (lines ++ is ∷ []) given)
+    → HasTaken StandsFrom first after (lines ++ line ∷ []) (HasGiven old new batch)
 taken-always first before after old new batch lines line is same h takes = record {
   given = h.given;
-  stood = subst (λ l. IsListening after (lines ++ l ∷ []) h.given) (sym same) (takes h.given h.stood);
+  stood = subst (λ l. IsListening (start_of first) after (lines ++ l ∷ []) h.given) (sym same) (takes h.given h.stood);
   here = h.here;
 }

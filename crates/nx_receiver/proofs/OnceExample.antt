@@ -23,6 +23,7 @@ use Rattle.nx_receiver.specs.OnceHeard.{IsHeardInTime}
 use Rattle.nx_receiver.specs.Sending.{copy_of_sending, IsSentAt}
 use Rattle.nx_receiver.specs.Tagged.{TaggedCopy, tagged_copies}
 use Rattle.nx_receiver.specs.Worked.{at_its_slot, damaged_words, heard_elements}
+use Rattle.nx_receiver.proofs.OnceLemmas.{none_live}
 use Rattle.nx_receiver.proofs.SendingFound.{sending_in_end}
 use Rattle.nx_receiver.proofs.WorkedLemmas.{damaged_computed, stands, text_is}
 use Rattle.nx_receiver.proofs.WorkedLog.{all_selected, at_first, bits_among-elements}
@@ -100,7 +101,6 @@ one_tagged = length-map found _ ∙ one_found
 
 pub heard_in_time : IsHeardInTime at_its_slot events (example_parts first_bits []) example_message
 heard_in_time = record {
-  empty = refl;
   cut = cut_is;
   numbered = lit< tt;
   place = length first_bits + 517;
@@ -117,6 +117,7 @@ heard_in_time = record {
       let m = ap (λ (s : Setting). s.moment) (at_first (first_setting at_its_slot) (bits_of damaged_words) one) in
       let n = ap (λ (s : Setting). s.moment) (at_first (first_setting at_its_slot) (bits_of damaged_words) other) in
       omega arith;
+  unknown = none_live example_message.identity (tagged_copies (first_setting at_its_slot) events found);
   few =
       λ before between after first later e none named again. absurd (not_two (tagged_copies (first_setting at_its_slot) events found) before between after first later one_tagged e);
 }

@@ -7,7 +7,7 @@ use Rattle.nx_envelope.specs.Identity.{same_identity}
 use Rattle.nx_envelope.specs.Message.{text_of}
 use Rattle.nx_envelope.specs.MessageView.{MessageView}
 use Rattle.nx_envelope.proofs.Identities.{same_identity-true, same_itself}
-use Rattle.nx_memory.specs.Memory.{seconds_known, most_entries}
+use Rattle.nx_memory.specs.Memory.{seconds_known}
 use Rattle.nx_station.specs.Sendings.{Part, Sending}
 use Rattle.nx_sync.proofs.UniqueStates.{locks-unique, now-unique}
 use Rattle.nx_receiver.specs.Events.{Event, Start, elements_among, first_setting}
@@ -15,7 +15,7 @@ use Rattle.nx_receiver.specs.FoundCopies.{FoundCopy, found_to_end}
 use Rattle.nx_receiver.specs.LawTerms.{AreRepeats, copies_of}
 use Rattle.nx_receiver.specs.Log.{PrintsToEnd, printed_of}
 use Rattle.nx_receiver.specs.OnceHeard.{IsHeardInTime, IsPrintedOnce, setting_of}
-use Rattle.nx_receiver.specs.Printing.{is_good, entries_made, entries_after, printed_copies}
+use Rattle.nx_receiver.specs.Printing.{is_good, printed_copies}
 use Rattle.nx_receiver.specs.Sending.{IsSentAt, copies_at, copy_of_sending}
 use Rattle.nx_receiver.specs.Tagged.{TaggedCopy, tag, tagged_copies}
 use Rattle.nx_receiver.proofs.OnceLemmas.{once}
@@ -143,18 +143,18 @@ module _ (start : Start) (events : List Event) (parts : List Part) (message : Me
       first_passes (λ (c : TaggedCopy). same_identity c.identity message.identity) heard first rest e
 
   repeats : (first : TaggedCopy) (rest : List TaggedCopy) → copies_of message.identity heard ≡ first ∷ rest
-      → AreRepeats message.identity heard first rest
+      → AreRepeats start.entries message.identity heard first rest
   repeats first rest e =
       let each : All IsOfSending (first ∷ rest) = subst (All IsOfSending) e all_of_sendings in
       record {
         heard = e;
         numbered = h.numbered;
+        unknown = h.unknown;
         good = All-weaker IsOfSending (λ (copy : TaggedCopy). IsTrue (is_good copy)) good_of (first ∷ rest) each;
         selected = All-weaker IsOfSending (λ (copy : TaggedCopy). IsTrue copy.selected) selected_of (first ∷ rest) each;
         close = λ one other a b. close_of one other (All-contains IsOfSending (first ∷ rest) one each a) (All-contains IsOfSending (first ∷ rest) other each b);
         few = λ before between after later whole none named.
-            subst (λ entries. length (entries_made (entries_after entries (before ++ first ∷ [])) between) < most_entries) h.empty
-            (h.few before between after first later whole none (named_first first rest e) named);
+            h.few before between after first later whole none (named_first first rest e) named;
       }
 
   pub printed_once : (log : List TaggedCopy) → PrintsToEnd start events log → IsPrintedOnce message log
@@ -164,15 +164,14 @@ module _ (start : Start) (events : List Event) (parts : List Part) (message : Me
       let all = repeats start_of.first start_of.rest start_of.whole in
       let of =
       All-head IsOfSending start_of.first start_of.rest (subst (All IsOfSending) start_of.whole all_of_sendings) in
-      let log_is : log ≡ printed_copies [] heard =
+      let log_is : log ≡ printed_copies start.entries heard =
       prints.printed
       ∙ ap (λ ls. printed_of start events (found_to_end (elements_among events) ls prints.now)) (locks-unique (elements_among events) prints.locks h.locks prints.now h.now prints.stands h.stands)
-      ∙ ap (λ n. printed_of start events (found_to_end (elements_among events) h.locks n)) (now-unique (elements_among events) prints.locks h.locks prints.now h.now prints.stands h.stands)
-      ∙ ap (λ es. printed_copies es heard) h.empty in
+      ∙ ap (λ n. printed_of start events (found_to_end (elements_among events) h.locks n)) (now-unique (elements_among events) prints.locks h.locks prints.now h.now prints.stands h.stands) in
       let text : start_of.first.text ≡ text_of message.lines = ap (λ (c : TaggedCopy). c.text) of.is in
       record {
         copy = start_of.first;
-        one = ap (copies_of message.identity) log_is ∙ once message.identity heard start_of.first start_of.rest all;
+        one = ap (copies_of message.identity) log_is ∙ once start.entries message.identity heard start_of.first start_of.rest all;
         full = ap (λ (c : TaggedCopy). c.how) of.is;
         whole = ap errors_of text ∙ no_errors;
         letters = text;

@@ -13,7 +13,7 @@ use Rattle.nx_envelope.proofs.Identities.{same_identity-true, same_itself}
 use Rattle.nx_memory.proofs.Known.{known_from_live, live_from_known}
 use Rattle.nx_receiver.specs.Tagged.{TaggedCopy}
 use Rattle.nx_receiver.specs.Printing.{is_good, is_number_00, is_remembered, is_printed, is_entered, entry_of, entry_made, entries_made, entries_after, if_printed, printed_copies}
-use Rattle.nx_receiver.specs.LawTerms.{copies_of, AreRepeats}
+use Rattle.nx_receiver.specs.LawTerms.{copies_of, AreRepeats, IsUnknownAtFirst}
 use Rattle.nx_receiver.proofs.JudgingLemmas.{remembered, unknown, entered}
 use Rattle.nx_receiver.proofs.LoggedLemmas.{printed_copies-append, entries_after-append}
 
@@ -93,12 +93,15 @@ same_of : (a b : Identity) → a ≡ b → same_identity a b ≡ true
 same_of a b e = subst (λ (x : Identity). same_identity a x ≡ true) e (same_itself a)
 
 -- where no entry bears the identity, none is live
-lacks_unknown : (identity : Identity) (moment : ℕ) (entries : List MemoryEntry) → Lacks identity entries → is_known identity moment (last_of most_entries entries) ≡ false
-lacks_unknown identity moment entries k =
-    false_from_ne_true _ (λ known.
-    let live = live_from_known identity moment entries known in
+lacks_live : (identity : Identity) (moment : ℕ) (entries : List MemoryEntry) → Lacks identity entries → IsLive identity moment entries → ⊥
+lacks_live identity moment entries k live =
     let there = All-contains (λ (entry : MemoryEntry). same_identity entry.identity identity ≡ false) entries live.entry k (subst (λ (es : List MemoryEntry). Contains es live.entry) (sym live.made) (Contains-append_right live.before (live.entry ∷ live.after) live.entry (0, omega arith, refl))) in
-    true≢false (sym (same_of live.entry.identity identity live.same) ∙ there))
+    true≢false (sym (same_of live.entry.identity identity live.same) ∙ there)
+
+-- so after an empty first list none is live at the first copy of the identity
+pub none_live : (identity : Identity) (copies : List TaggedCopy) → IsUnknownAtFirst [] identity copies
+none_live identity copies before after first whole none named live =
+    lacks_live identity first.moment (entries_after [] before) (before_lacks identity [] before none (All-nil (λ (entry : MemoryEntry). same_identity entry.identity identity ≡ false))) live
 
 -- the entry of the first keeps each later copy from being printed
 record IsKept (identity : Identity) (entries : List MemoryEntry) (first : TaggedCopy) (mid : List TaggedCopy) (copy : TaggedCopy) : Type 0 where
@@ -150,29 +153,30 @@ there identity all repeats more after first copy counted e h =
     subst (λ (xs : List TaggedCopy). Contains (first ∷ xs) copy) (sym kept)
     (Contains-append_right (first ∷ filter (bears identity) more) (copy ∷ filter (bears identity) after) copy (0, omega arith, refl))
 
-pub once : (identity : Identity) (copies : List TaggedCopy) (first : TaggedCopy) (repeats : List TaggedCopy) → AreRepeats identity copies first repeats → copies_of identity (printed_copies [] copies) ≡ first ∷ []
+pub once : (start : List MemoryEntry) (identity : Identity) (copies : List TaggedCopy) (first : TaggedCopy) (repeats : List TaggedCopy) → AreRepeats start identity copies first repeats
+    → copies_of identity (printed_copies start copies) ≡ first ∷ []
 unfolding copies_of printed_copies if_printed entries_made
-once identity copies first repeats r =
+once start identity copies first repeats r =
     let s = split identity copies first repeats r.heard in
-    let entries = entries_after [] s.before in
-    let unseen = before_lacks identity [] s.before s.none (All-nil (λ (entry : MemoryEntry). same_identity entry.identity identity ≡ false)) in
+    let entries = entries_after start s.before in
     let named = same_identity-true first.identity identity s.named in
     let numbered : is_number_00 first ≡ false = ne_eqb first.identity.number 0 (λ e. absurd (omega (arith, r.numbered, ap (λ (x : Identity). x.number) named, e))) in
     let selected = All-head (λ (copy : TaggedCopy). IsTrue copy.selected) first repeats r.selected in
     let good = All-head (λ (copy : TaggedCopy). IsTrue (is_good copy)) first repeats r.good in
-    let new : is_remembered entries first ≡ false = lacks_unknown first.identity first.moment entries (subst (λ (i : Identity). Lacks i entries) (sym named) unseen) in
+    let new : is_remembered entries first ≡ false =
+    false_from_ne_true _ (λ known. r.unknown s.before s.after first s.whole s.none s.named (subst (λ (i : Identity). IsLive i first.moment entries) named (live_from_known first.identity first.moment entries known))) in
     let shown = unknown entries first selected new in
     let made = entered entries first shown good numbered in
-    let begun : entries_after [] (s.before ++ first ∷ []) ≡ entries ++ entry_of first ∷ [] = one_after [] s.before first ∙ ap (λ m. entries ++ m) made in
+    let begun : entries_after start (s.before ++ first ∷ []) ≡ entries ++ entry_of first ∷ [] = one_after start s.before first ∙ ap (λ m. entries ++ m) made in
     let later = after_prints identity entries first [] s.after r.numbered s.named (λ more after copy e h. record {
       recent = r.close copy first (there identity s.after repeats more after first copy s.rest e h) (0, omega arith, refl);
       few = subst (λ (es : List MemoryEntry). length (entries_made es more) < most_entries) begun (r.few s.before more after copy (s.whole ∙ ap (λ xs. s.before ++ first ∷ xs) e) s.none h);
     }) in
     let rest = printed_copies (entries ++ entry_made entries first) s.after in
-    ap (λ cs. filter (bears identity) (printed_copies [] cs)) s.whole
-    ∙ ap (filter (bears identity)) (printed_copies-append [] s.before (first ∷ s.after))
-    ∙ filter-append (bears identity) (printed_copies [] s.before) (printed_copies entries (first ∷ s.after))
-    ∙ ap (λ xs. xs ++ filter (bears identity) (printed_copies entries (first ∷ s.after))) (before_prints identity [] s.before s.none)
+    ap (λ cs. filter (bears identity) (printed_copies start cs)) s.whole
+    ∙ ap (filter (bears identity)) (printed_copies-append start s.before (first ∷ s.after))
+    ∙ filter-append (bears identity) (printed_copies start s.before) (printed_copies entries (first ∷ s.after))
+    ∙ ap (λ xs. xs ++ filter (bears identity) (printed_copies entries (first ∷ s.after))) (before_prints identity start s.before s.none)
     ∙ ap (λ b. filter (bears identity) (cond b (first ∷ []) [] ++ rest)) shown
     ∙ ap (λ b. cond b (first ∷ filter (bears identity) rest) (filter (bears identity) rest)) s.named
     ∙ ap (λ es. first ∷ filter (bears identity) (printed_copies es s.after)) (ap (λ m. entries ++ m) made ∙ sym (append-nil (entries ++ entry_of first ∷ [])))

@@ -1,7 +1,6 @@
 -- What `send` writes of messages, as an air file that is listened to.
 use Rattle.std.proofs.Common.{◌≡◌, ℕ, ◌^◌, ◌<◌, ◌≤◌, Bool, List, [], ◌∷◌, map, length, refl, sym, ap, ◌∙◌, subst, arith}
 use Rattle.std.specs.Int.{div_ceil}
-use Rattle.std.specs.List.{Contains}
 use Rattle.std.proofs.lemmas.List.{length-append}
 use Rattle.nx_envelope.specs.MessageView.{MessageView}
 use Rattle.nx_fec.specs.AirFile.{Line, moment, spelling}
@@ -12,24 +11,20 @@ use Rattle.nx_fec.proofs.EmissionLemmas.{length-emission}
 use Rattle.nx_fec.proofs.LineLaws.{IsAirFile-unique, spelling-IsBeginning}
 use Rattle.nx_fec.proofs.RoundTripLemmas.{length-bits_of}
 use Rattle.nx_station.specs.FileSending.{IsTransmission}
-use Rattle.nx_station.specs.Sendings.{IsCut}
 use Rattle.nx_station.specs.declared.sending.Sent.{Sent}
 use Rattle.nx_station.proofs.BroadcastLemmas.{broadcast-one}
-use Rattle.nx_sync.specs.Locks.{IsNow}
-use Rattle.nx_receiver.specs.Events.{Event, at_moment, setting_after_all}
-use Rattle.nx_receiver.specs.FoundCopies.{found_to_end}
+use Rattle.nx_receiver.specs.Events.{Event, at_moment, at_zero, setting_after_all}
 use Rattle.nx_fec.specs.LineRuns.{air_limit}
-use Rattle.nx_receiver.specs.Listen.{AreTaken, AreTakenAfter, IsLogOf, IsLogOfFile, at_zero, events_of}
+use Rattle.nx_receiver.specs.Listen.{AreTaken, AreTakenAfter, IsLogOf, IsLogOfFile, events_of}
 use Rattle.nx_receiver.specs.Log.{PrintsToEnd}
-use Rattle.nx_receiver.specs.ListenOnce.{IsHeardInTimeIn, elements_in, copies_heard}
-use Rattle.nx_receiver.specs.OnceHeard.{FewBetween, IsHeardInTime, IsPrintedOnce}
+use Rattle.nx_receiver.specs.ListenOnce.{IsHeardInTimeIn}
+use Rattle.nx_receiver.specs.OnceHeard.{IsHeardInTime, IsPrintedOnce}
 use Rattle.nx_receiver.specs.Printing.{printed_copies}
 use Rattle.nx_receiver.specs.Receiver as receiver
 use Rattle.nx_receiver.specs.Sent.{BearsAlone, copy_as_sent, events_as_sent, parts_as_sent}
 use Rattle.nx_receiver.specs.Tagged.{TaggedCopy}
 use Rattle.nx_receiver.proofs.ElementLines.{events-lines, good-lines, length-lines, taken-lines}
 use Rattle.nx_receiver.proofs.ListenMoments.{some-closed}
-use Rattle.nx_receiver.proofs.ListenOnce.{heard-elements}
 use Rattle.nx_receiver.proofs.OnceFound.{printed_once}
 use Rattle.nx_receiver.proofs.SentHeard.{heard_in_time}
 use Rattle.nx_receiver.proofs.SentLog.{log_as_sent}
@@ -70,14 +65,17 @@ module _ (station from : ℕ) (file air : List ℕ) (sent : Sent) (h : IsTransmi
   is_file : IsAirFile air_limit air lines
   is_file = record { whole = h.whole; each = (omega (arith, h.next.in_range), good-lines bits); within = within }
 
-  are_taken : AreTaken lines
+  are_taken : AreTaken at_zero lines
   unfolding AreTakenAfter setting_after_all
   are_taken =
-      ((omega arith, h.next.in_range), taken-lines (moment sent.slot ∷ []) bits refl)
+      record {
+        in_range = omega arith;
+        each = ((omega arith, h.next.in_range), taken-lines at_zero (moment sent.slot ∷ []) bits refl);
+      }
 
   -- it has a log
-  pub log_of_sent : (log : List ℕ) × IsLogOf air log
-  log_of_sent = some-closed air lines is_file are_taken
+  pub log_of_sent : (log : List ℕ) × IsLogOf at_zero air log
+  log_of_sent = some-closed at_zero air lines is_file are_taken
 
   abbrev combinations : List (List ℕ)
   combinations = h.broadcast.spellings
@@ -88,7 +86,7 @@ module _ (station from : ℕ) (file air : List ℕ) (sent : Sent) (h : IsTransmi
       ∙ ap (λ p. at_moment sent.slot ∷ receiver.elements (bits_of (emission p))) h.broadcast.whole
 
   -- its lines are those that were sent
-  prints_as_sent : (read : List Line) (copies : List TaggedCopy) (log : List ℕ) → IsLogOfFile air read copies log
+  prints_as_sent : (read : List Line) (copies : List TaggedCopy) (log : List ℕ) → IsLogOfFile at_zero air read copies log
       → PrintsToEnd at_zero (events_as_sent sent.slot combinations) copies
   prints_as_sent read copies log is =
       let same : read ≡ lines = IsAirFile-unique air_limit air read lines is.file is_file in
@@ -96,44 +94,26 @@ module _ (station from : ℕ) (file air : List ℕ) (sent : Sent) (h : IsTransmi
 
   -- each of its messages is heard in time in it
   pub sent_in_time : (message : MessageView) → BearsAlone h.messages message → 0 < message.identity.number
-      → IsHeardInTimeIn air message
+      → IsHeardInTimeIn at_zero air message
   sent_in_time message alone numbered =
       let parts = parts_as_sent h.messages combinations in
-      let k : IsHeardInTime at_zero (events_of lines) parts message =
-      subst (λ (e : List Event). IsHeardInTime at_zero e parts message) (sym events_are) (heard_in_time h.messages combinations sent.slot message h.sendable h.broadcast.each alone numbered) in
-      let same = heard-elements lines in
       record {
         lines = lines;
         spelled = is_file;
         parts = parts;
-        cut = subst (λ (b : List Bool). IsCut b parts) same k.cut;
-        place = k.place;
-        sent = k.sent;
-        numbered = numbered;
-        copies = found_to_end (elements_in lines) k.locks k.now;
-        found = record {
-          locks = k.locks;
-          now = k.now;
-          stands = subst (λ (b : List Bool). IsNow b k.locks k.now) same k.stands;
-          whole = refl;
-        };
-        alone = λ copy there named.
-            k.alone copy (subst (λ (b : List Bool). Contains (found_to_end b k.locks k.now) copy) (sym same) there) named;
-        selected = k.selected;
-        close = k.close;
-        few =
-            subst (λ (b : List Bool). FewBetween (copies_heard lines (found_to_end b k.locks k.now)) at_zero message) same k.few;
+        heard =
+            subst (λ (e : List Event). IsHeardInTime at_zero e parts message) (sym events_are) (heard_in_time h.messages combinations sent.slot message h.sendable h.broadcast.each alone numbered);
       }
 
   -- what is printed of its messages
-  pub sent_log : (read : List Line) (copies : List TaggedCopy) (log : List ℕ) → IsLogOfFile air read copies log
+  pub sent_log : (read : List Line) (copies : List TaggedCopy) (log : List ℕ) → IsLogOfFile at_zero air read copies log
       → copies ≡ printed_copies [] (map (copy_as_sent sent.slot) h.messages)
   sent_log read copies log is =
       log_as_sent h.messages combinations sent.slot copies h.sendable h.broadcast.each (prints_as_sent read copies log is)
 
   -- each of them once
   pub sent_once : (message : MessageView) (read : List Line) (copies : List TaggedCopy) (log : List ℕ) → BearsAlone h.messages message
-      → 0 < message.identity.number → IsLogOfFile air read copies log → IsPrintedOnce message copies
+      → 0 < message.identity.number → IsLogOfFile at_zero air read copies log → IsPrintedOnce message copies
   sent_once message read copies log alone numbered is =
       printed_once at_zero (events_as_sent sent.slot combinations) (parts_as_sent h.messages combinations) message
       (heard_in_time h.messages combinations sent.slot message h.sendable h.broadcast.each alone numbered)

@@ -18,15 +18,15 @@ use Rattle.nx_station.specs.Sendings.{IsCut, IsReceived, Part, bits_of_parts, di
 use Rattle.nx_station.proofs.ChannelUndamaged.{undamaged-cut}
 use Rattle.nx_sync.specs.Locks.{IsNow, locked}
 use Rattle.nx_sync.specs.Words.{whole_words}
-use Rattle.nx_receiver.specs.Events.{Event, Setting, first_setting, settings, elements_among}
+use Rattle.nx_receiver.specs.Events.{Event, Setting, at_zero, first_setting, settings, elements_among}
 use Rattle.nx_receiver.specs.FoundCopies.{FoundCopy, found_to_end, past_copies}
-use Rattle.nx_receiver.specs.Listen.{at_zero}
 use Rattle.nx_receiver.specs.LockText.{PlacedByte, bytes_of, lock_text}
 use Rattle.nx_receiver.specs.OnceHeard.{FewBetween, IsHeardInTime, setting_of}
 use Rattle.nx_receiver.specs.Receiver.{elements}
 use Rattle.nx_receiver.specs.Sending.{IsSentAt, copy_of_sending}
 use Rattle.nx_receiver.specs.Sent.{BearsAlone, events_as_sent, parts_as_sent, words_sent}
 use Rattle.nx_receiver.specs.Tagged.{TaggedCopy, tag, tagged_copies}
+use Rattle.nx_receiver.proofs.OnceLemmas.{none_live}
 use Rattle.nx_receiver.proofs.SendingFound.{sending_in_end}
 use Rattle.nx_receiver.proofs.SendingPlaces.{found_rise}
 use Rattle.nx_receiver.proofs.SentCopies.{HasIndex, has_index, has_two, one_copy}
@@ -162,7 +162,6 @@ module _ (messages : List MessageView) (numbers : List ℕ) (others : List (List
 
     pub heard_as_sent : IsHeardInTime at_zero events parts message
     heard_as_sent = record {
-      empty = refl;
       cut = cut;
       numbered = numbered;
       place = place;
@@ -173,6 +172,7 @@ module _ (messages : List MessageView) (numbers : List ℕ) (others : List (List
       alone = copy_is_sent;
       selected = λ at sent. selected_at at;
       close = close_at;
+      unknown = none_live message.identity (tagged_copies (first_setting at_zero) events found);
       few = no_two;
     }
 

@@ -18,9 +18,8 @@ use Rattle.nx_station.specs.Sendable.{IsSendable}
 use Rattle.nx_sync.specs.Locks.{IsNow, locked}
 use Rattle.nx_sync.specs.Words.{first_role, whole_words, word_of_lock}
 use Rattle.nx_sync.proofs.UniqueStates.{locks-unique, now-unique}
-use Rattle.nx_receiver.specs.Events.{Event, Setting, first_setting, settings, elements_among}
+use Rattle.nx_receiver.specs.Events.{Event, Setting, at_zero, first_setting, settings, elements_among}
 use Rattle.nx_receiver.specs.FoundCopies.{FoundCopy, all_in, found_copy, found_to_end, past_copies}
-use Rattle.nx_receiver.specs.Listen.{at_zero}
 use Rattle.nx_receiver.specs.LockText.{PlacedByte}
 use Rattle.nx_receiver.specs.Log.{PrintsToEnd, printed_of}
 use Rattle.nx_receiver.specs.OnceHeard.{setting_of}

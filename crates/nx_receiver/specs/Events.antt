@@ -75,15 +75,21 @@ setting_after_all setting (event ∷ events) = setting_after_all (setting_after 
 abbrev pub setting_at : Setting → List Event → ℕ → Setting
 setting_at first events place = slice_index_or (settings first events) place first
 
--- with what a receiver starts: the entries of the memory that it was made with, oldest first, and
--- its first moment
+-- with what a receiver starts: the entries of the memory that it was made with, oldest first, its
+-- first moment, and what is refused at first
 pub record Start : Type 0 where
   pub entries : List MemoryEntry
   pub moment : ℕ
+  pub refused : Refused
 
--- at first everything is selected
+-- what is in force at first
 abbrev pub first_setting : Start → Setting
-first_setting start = record {
-  moment = start.moment;
-  refused = record { stations = set.empty; subjects = set.empty };
-}
+first_setting start = record { moment = start.moment; refused = start.refused }
+
+-- nothing is refused: everything is selected
+abbrev pub none_refused : Refused
+none_refused = record { stations = set.empty; subjects = set.empty }
+
+-- the start of a receiver that begins with nothing: an empty memory, moment 0, everything selected
+abbrev pub at_zero : Start
+at_zero = record { entries = []; moment = 0; refused = none_refused }

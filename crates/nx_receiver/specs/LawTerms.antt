@@ -2,7 +2,9 @@
 use Rattle.std.specs.Prelude.{◌≡◌, ℕ, ◌+◌, ◌-◌, ◌*◌, ◌<◌, Bool, List, [], ◌∷◌, ◌++◌, length, take, drop, filter, IsTrue, All, Contains}
 use Rattle.nx_envelope.specs.declared.identity.Identity.{Identity}
 use Rattle.nx_envelope.specs.Identity.{same_identity}
+use Rattle.nx_memory.specs.Live.{IsLive}
 use Rattle.nx_memory.specs.Memory.{seconds_known, most_entries}
+use Rattle.nx_memory.specs.declared.entry.MemoryEntry.{MemoryEntry}
 use Rattle.nx_receiver.specs.Tagged.{TaggedCopy}
 use Rattle.nx_receiver.specs.Printing.{is_good, entries_made, entries_after}
 
@@ -15,14 +17,26 @@ own_bits bits t n = take (7 * n + 7) (drop (t - 7) bits)
 unfoldable pub copies_of : Identity → List TaggedCopy → List TaggedCopy
 copies_of identity copies = filter (λ copy. same_identity copy.identity identity) copies
 
+-- after these first entries, no entry of the identity is live at the first of the copies that bear
+-- it
+abbrev pub IsUnknownAtFirst : List MemoryEntry → Identity → List TaggedCopy → Type 0
+IsUnknownAtFirst entries identity copies =
+    (before after : List TaggedCopy) (first : TaggedCopy)
+    → copies ≡ before ++ first ∷ after
+    → copies_of identity before ≡ []
+    → IsTrue (same_identity first.identity identity)
+    → IsLive identity first.moment (entries_after entries before) → ⊥
+
 -- Of these copies, `first` and then `repeats` bear the identity, which is not numbered 00. All of
--- them are good and selected. They lie within 66 hours of each other. And fewer than 200 entries
--- are made, after an empty first list, between the first and any later one.
-pub record AreRepeats (identity : Identity) (copies : List TaggedCopy) (first : TaggedCopy)
-    (repeats : List TaggedCopy)
+-- them are good and selected. They lie within 66 hours of each other. After these first entries, no
+-- entry of the identity is live at the first of them, and fewer than 200 entries are made between
+-- it and any later one.
+pub record AreRepeats (entries : List MemoryEntry) (identity : Identity) (copies : List TaggedCopy)
+    (first : TaggedCopy) (repeats : List TaggedCopy)
     : Type 0 where
   pub heard : copies_of identity copies ≡ first ∷ repeats
   pub numbered : 0 < identity.number
+  pub unknown : IsUnknownAtFirst entries identity copies
   pub good : All (λ copy. IsTrue (is_good copy)) (first ∷ repeats)
   pub selected : All (λ copy. IsTrue copy.selected) (first ∷ repeats)
   pub close : (one other : TaggedCopy) → Contains (first ∷ repeats) one
@@ -32,4 +46,4 @@ pub record AreRepeats (identity : Identity) (copies : List TaggedCopy) (first : 
       → copies ≡ before ++ first ∷ (between ++ later ∷ after)
       → copies_of identity before ≡ []
       → IsTrue (same_identity later.identity identity)
-      → length (entries_made (entries_after [] (before ++ first ∷ [])) between) < most_entries
+      → length (entries_made (entries_after entries (before ++ first ∷ [])) between) < most_entries

@@ -1,4 +1,4 @@
--- How the taker of lines behind `listen` stands after lines (this profile).
+-- How the taker of lines behind a run that listens stands after lines (this profile).
 use Rattle.std.specs.Prelude.{◌≡◌, ℕ, ◌+◌, ◌-◌, ◌^◌, ◌≤◌, List, ◌++◌, length, min, Option}
 use Rattle.std.specs.Io.KnownBytes.{Appends}
 use Rattle.nx_fec.specs.AirFile.{Line}
@@ -7,8 +7,8 @@ use Rattle.nx_fec.specs.declared.fault.LineFault.TheVariants as file
 use Rattle.nx_fec.specs.declared.line_run.LinesFault.{LinesFault}
 use Rattle.nx_fec.specs.declared.line_run.LinesFault.TheVariants as run
 use Rattle.nx_memory.specs.Ring.{RingMemory}
-use Rattle.nx_receiver.specs.Events.{Event, elements_among}
-use Rattle.nx_receiver.specs.Listen.{AreTaken, LacksMoment, RefusesMoment, RefusesVital, at_zero, events_of, has_moment}
+use Rattle.nx_receiver.specs.Events.{Event, Start, elements_among}
+use Rattle.nx_receiver.specs.Listen.{AreTaken, LacksMoment, RefusesMoment, RefusesVital, events_of, has_moment}
 use Rattle.nx_receiver.specs.Log.{HasPrinted, IsLog, PrintsToEnd}
 use Rattle.nx_receiver.specs.Receiver.{Awaits, Stands, entry_list}
 use Rattle.nx_receiver.specs.Tagged.{TaggedCopy}
@@ -25,82 +25,106 @@ use Rattle.nx_receiver.specs.declared.over.Over.{Over}
 abbrev pub count_of : ℕ → ℕ
 count_of n = min n (2 ^ 64 - 1)
 
--- After these events a listener printed these copies: its receiver stands so, it counted the
--- elements and the entries, and no element ended more than one copy.
-pub record HearsEvents (listener : Listener) (events : List Event) (log : List TaggedCopy)
+-- with what a listener starts that has heard nothing yet: what its receiver has
+abbrev pub start_of : Listener → Start
+start_of listener = record {
+  entries = listener.receiver.memory.content;
+  moment = listener.receiver.watch.moment;
+  refused = listener.receiver.watch.refused;
+}
+
+-- After these events, which begin with this start, a listener printed these copies: its receiver
+-- stands so, it counted the elements and the entries, and no element ended more than one copy.
+pub record HearsEvents (start : Start) (listener : Listener) (events : List Event)
+    (log : List TaggedCopy)
     : Type 0 where
   pub receiver :
-      Stands (λ (memory : RingMemory). memory.content) at_zero listener.receiver events log
+      Stands (λ (memory : RingMemory). memory.content) start listener.receiver events log
   pub elements : listener.elements ≡ count_of (length (elements_among events))
   pub entries : listener.entries ≡ count_of (length log)
   pub few : length log ≤ length (elements_among events)
 
 -- the same, and these bytes are the log of the copies
-pub record HearsLog (listener : Listener) (events : List Event) (given : List ℕ) : Type 0 where
+pub record HearsLog (start : Start) (listener : Listener) (events : List Event) (given : List ℕ)
+    : Type 0 where
   pub log : List TaggedCopy
-  pub hears : HearsEvents listener events log
+  pub hears : HearsEvents start listener events log
   pub spelled : IsLog log given
 
 -- and this holds of these bytes
-pub record IsHearing (listener : Listener) (events : List Event) (holds : List ℕ → Type 0)
+pub record IsHearing (start : Start) (listener : Listener) (events : List Event)
+    (holds : List ℕ → Type 0)
     : Type 0 where
   pub given : List ℕ
-  pub hears : HearsLog listener events given
+  pub hears : HearsLog start listener events given
   pub here : holds given
 
 -- the bytes are the log of a beginning of the events
-pub record BeginsLog (events : List Event) (given : List ℕ) : Type 0 where
+pub record BeginsLog (start : Start) (events : List Event) (given : List ℕ) : Type 0 where
   pub before : List Event
   pub later : List Event
   pub whole : events ≡ before ++ later
   pub log : List TaggedCopy
-  pub printed : HasPrinted at_zero before log
+  pub printed : HasPrinted start before log
   pub spelled : IsLog log given
 
 -- the log of a beginning of the events was written in part
-pub record HeardSome (events : List Event) (old new : Option (List ℕ)) (written : ℕ) : Type 0 where
+pub record HeardSome (start : Start) (events : List Event) (old new : Option (List ℕ)) (written : ℕ)
+    : Type 0 where
   pub given : List ℕ
-  pub begun : BeginsLog events given
+  pub begun : BeginsLog start events given
   pub some : WroteSome old new given written
 
--- What was over was finished: it brought this entry, or none, which was counted, and these are its
--- bytes.
+-- What was over was finished, whatever the start: it brought this entry, or none, which was
+-- counted, and these are its bytes.
 pub record HasFinished (old new : Listener) (over : Over) (given : List ℕ) : Type 0 where
   pub entry : Option Entry
-  pub stands : (events : List Event) (log : List TaggedCopy)
-      → Awaits (λ (memory : RingMemory). memory.content) at_zero old.receiver events log over
-      → Stands (λ (memory : RingMemory). memory.content) at_zero new.receiver events
+  pub stands : (start : Start) (events : List Event) (log : List TaggedCopy)
+      → Awaits (λ (memory : RingMemory). memory.content) start old.receiver events log over
+      → Stands (λ (memory : RingMemory). memory.content) start new.receiver events
       (log ++ entry_list entry)
   pub spelled : IsLog (entry_list entry) given
   pub elements : new.elements ≡ old.elements
   pub entries : old.entries ≤ 2 ^ 64 - 1
       → new.entries ≡ count_of (old.entries + length (entry_list entry))
 
--- The listener stands so after these lines, each taken after those before it; these bytes are their
--- log.
-pub record IsListening (listener : Listener) (lines : List Line) (given : List ℕ) : Type 0 where
-  pub taken : AreTaken lines
+-- The listener stands so after these lines, which begin with this start, each taken after those
+-- before it; these bytes are their log.
+pub record IsListening (start : Start) (listener : Listener) (lines : List Line) (given : List ℕ)
+    : Type 0 where
+  pub taken : AreTaken start lines
   pub moment : listener.has_moment ≡ has_moment lines
-  pub hears : HearsLog listener (events_of lines) given
+  pub hears : HearsLog start listener (events_of lines) given
 
 -- the lines are taken, and the bytes are the log of a beginning of what they give
-pub record BeginsListening (lines : List Line) (given : List ℕ) : Type 0 where
-  pub taken : AreTaken lines
-  pub begun : BeginsLog (events_of lines) given
+pub record BeginsListening (start : Start) (lines : List Line) (given : List ℕ) : Type 0 where
+  pub taken : AreTaken start lines
+  pub begun : BeginsLog start (events_of lines) given
 
 -- why a line is not taken after these
-abbrev pub RefusesLine : List Line → Line → LineRefusal → Type 0
-RefusesLine lines line NoMoment = LacksMoment lines line
-RefusesLine lines line (Moment why) = RefusesMoment why lines line
-RefusesLine lines line (Vital subject) = RefusesVital subject lines line
+abbrev pub RefusesLine : Start → List Line → Line → LineRefusal → Type 0
+RefusesLine start lines line NoMoment = LacksMoment lines line
+RefusesLine start lines line (Moment why) = RefusesMoment start why lines line
+RefusesLine start lines line (Vital subject) = RefusesVital subject lines line
+
+-- the same for a taker of lines that stood so at first, which is its start
+abbrev pub StandsFrom : Listener → Listener → List Line → List ℕ → Type 0
+StandsFrom first now lines given = IsListening (start_of first) now lines given
+
+abbrev pub BeginsFrom : Listener → List Line → List ℕ → Type 0
+BeginsFrom first lines given = BeginsListening (start_of first) lines given
+
+abbrev pub RefusesFrom : Listener → List Line → Line → LineRefusal → Type 0
+RefusesFrom first lines line why = RefusesLine (start_of first) lines line why
 
 -- The file ended after these events: the log of all copies was written, with the one that the end
 -- closes, and the report counts the elements and the copies.
-pub record HasClosed (old new : Option (List ℕ)) (events : List Event) (report : Report)
+pub record HasClosed (start : Start) (old new : Option (List ℕ)) (events : List Event)
+    (report : Report)
     : Type 0 where
   pub copies : List TaggedCopy
   pub log : List ℕ
-  pub printed : PrintsToEnd at_zero events copies
+  pub printed : PrintsToEnd start events copies
   pub spelled : IsLog copies log
   pub written : Appends old new log
   pub bits_counted : report.bits ≡ count_of (length (elements_among events))
@@ -108,11 +132,12 @@ pub record HasClosed (old new : Option (List ℕ)) (events : List Event) (report
   pub few : length copies ≤ length (elements_among events) + 1
 
 -- the file ended so, and this log was written in part
-pub record HasClosedSome (old new : Option (List ℕ)) (events : List Event) (written : ℕ)
+pub record HasClosedSome (start : Start) (old new : Option (List ℕ)) (events : List Event)
+    (written : ℕ)
     : Type 0 where
   pub copies : List TaggedCopy
   pub log : List ℕ
-  pub printed : PrintsToEnd at_zero events copies
+  pub printed : PrintsToEnd start events copies
   pub spelled : IsLog copies log
   pub some : WroteSome old new log written
 

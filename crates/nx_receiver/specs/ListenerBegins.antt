@@ -35,9 +35,9 @@ printed-so_far content start receiver events log s =
     }
 
 -- the log so far is that of a beginning
-pub begins-log : (listener : Listener) (events : List Event) (given : List ℕ)
-    → HearsLog listener events given → BeginsLog events given
-begins-log listener events given h = record {
+pub begins-log : (start : Start) (listener : Listener) (events : List Event) (given : List ℕ)
+    → HearsLog start listener events given → BeginsLog start events given
+begins-log start listener events given h = record {
   before = events;
   later = [];
   whole = sym (append-nil events);
@@ -46,7 +46,7 @@ begins-log listener events given h = record {
   spelled = h.spelled;
 }
 
-pub begins-listening : (now : Listener) (lines : List Line) (given : List ℕ)
-    → IsListening now lines given → BeginsListening lines given
-begins-listening now lines given h =
-    record { taken = h.taken; begun = begins-log now (events_of lines) given h.hears }
+pub begins-listening : (start : Start) (now : Listener) (lines : List Line) (given : List ℕ)
+    → IsListening start now lines given → BeginsListening start lines given
+begins-listening start now lines given h =
+    record { taken = h.taken; begun = begins-log start now (events_of lines) given h.hears }

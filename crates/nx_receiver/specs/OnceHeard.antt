@@ -12,7 +12,7 @@ use Rattle.nx_station.specs.Sendings.{Part, IsCut}
 use Rattle.nx_sync.specs.Locks.{Lock, Now, IsNow}
 use Rattle.nx_receiver.specs.Events.{Event, Setting, Start, elements_among, first_setting, setting_at}
 use Rattle.nx_receiver.specs.FoundCopies.{FoundCopy, found_to_end}
-use Rattle.nx_receiver.specs.LawTerms.{copies_of}
+use Rattle.nx_receiver.specs.LawTerms.{IsUnknownAtFirst, copies_of}
 use Rattle.nx_receiver.specs.Printing.{entries_made, entries_after}
 use Rattle.nx_receiver.specs.Sending.{IsSentAt}
 use Rattle.nx_receiver.specs.Tagged.{TaggedCopy, tagged_copies}
@@ -35,8 +35,6 @@ FewBetween copies start message =
 -- What has to be met, so that a message is printed once of all that a receiver is given.
 pub record IsHeardInTime (start : Start) (events : List Event) (parts : List Part)
     (message : MessageView) : Type 0 where
-  -- the receiver starts with an empty memory
-  pub empty : start.entries ≡ []
   -- its bits are cut into gaps of any bits and emissions that are received as the channel says
   pub cut : IsCut (elements_among events) parts
   -- the message isn't numbered 00, and is sent, once or more often
@@ -56,7 +54,12 @@ pub record IsHeardInTime (start : Start) (events : List Event) (parts : List Par
   pub close : (one other : ℕ) → IsSentAt parts message one → IsSentAt parts message other
       → (setting_of start events one).moment
       < (setting_of start events other).moment + seconds_known
-  -- 200 identities suffice
+  -- at its first copy no entry of its identity is live: an entry that the first list has of it is
+  -- 66 hours old by then, or 200 came after it
+  pub unknown : IsUnknownAtFirst start.entries message.identity
+      (tagged_copies (first_setting start) events (found_to_end (elements_among events) locks now))
+  -- 200 identities suffice: fewer than 200 entries are made between its first copy and any later
+  -- one
   pub few : FewBetween
       (tagged_copies (first_setting start) events (found_to_end (elements_among events) locks now))
       start message

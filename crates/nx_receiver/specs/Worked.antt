@@ -4,7 +4,7 @@ use Rattle.std.specs.Prelude.{ℕ, List, [], ◌++◌, map, codes}
 use Rattle.nx_fec.specs.Emission.{bits_of}
 use Rattle.nx_station.specs.Channel.{phasing_words}
 use Rattle.nx_station.specs.ChannelExample.{example_words, heard_half}
-use Rattle.nx_receiver.specs.Events.{Event, element, Start}
+use Rattle.nx_receiver.specs.Events.{Event, element, Start, none_refused}
 
 -- the emission as it is sent: 72 positions of phasing, and the message
 unfoldable pub worked_words : List ℕ
@@ -17,7 +17,7 @@ damaged_words = phasing_words 48 ++ heard_half
 
 -- a receiver without entries hears the elements of words, all at one moment: 2025-01-01 00:40:00
 abbrev pub at_its_slot : Start
-at_its_slot = record { entries = []; moment = 1735692000 }
+at_its_slot = record { entries = []; moment = 1735692000; refused = none_refused }
 
 abbrev pub heard_elements : List ℕ → List Event
 heard_elements words = map element (bits_of words)

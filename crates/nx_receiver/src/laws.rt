@@ -6,13 +6,14 @@ ghost use Rattle.nx_code.specs.Reading.{text};
 ghost use Rattle.nx_code.specs.declared.shifts.Shift.TheVariants.{Letters};
 ghost use Rattle.nx_envelope.specs.Moment.{last_moment};
 ghost use Rattle.nx_envelope.specs.declared.identity.Identity.{Identity};
+ghost use Rattle.nx_memory.specs.declared.entry.MemoryEntry.{MemoryEntry};
 ghost use Rattle.nx_station.specs.ChannelExample.{ea01};
 ghost use Rattle.nx_sync.specs.Words.{word_of_lock, first_role, lock_words};
 ghost use Rattle.nx_sync.specs.Locks.{Lock, Now, IsLocked, IsNow, Past};
 ghost use Rattle.nx_receiver.specs.Events.{Event, Start};
 ghost use Rattle.nx_receiver.specs.Example.{example_copies, first_copy, repeated_copy};
 ghost use Rattle.nx_receiver.specs.FoundCopies.{FoundCopy, ended_so_far, open_so_far, found_to_end};
-ghost use Rattle.nx_receiver.specs.LawTerms.{AreRepeats, copies_of, own_bits};
+ghost use Rattle.nx_receiver.specs.LawTerms.{AreRepeats, IsUnknownAtFirst, copies_of, own_bits};
 ghost use Rattle.nx_receiver.specs.LockText.{PlacedByte, bytes_of, lock_text, positions};
 ghost use Rattle.nx_receiver.specs.Log.{HasPrinted, IsLog, PrintsToEnd};
 ghost use Rattle.nx_receiver.specs.Printing.{printed_copies};
@@ -104,20 +105,24 @@ pub fn logs_go_on()
         → IsLog (front ++ back) (bytes ++ more) }
 {}
 
-/// A message that is repeated is printed once. After an empty first list of entries: where all
-/// copies of one identity, one or more and not numbered 00, are good and selected and lie within 66
-/// hours of each other, and fewer than 200 entries are made between the first and any later one,
-/// the first of them is printed, and no other.
+/// A message that is repeated is printed once. After any first list of entries: where all copies of
+/// one identity, one or more and not numbered 00, are good and selected and lie within 66 hours of
+/// each other, no entry of it is live at the first of them, and fewer than 200 entries are made
+/// between it and any later one, the first of them is printed, and no other. After an empty first
+/// list none is live at the first of them, whatever the copies are.
 pub fn repeats_are_printed_once()
-    ensures { (identity : Identity) (copies : List TaggedCopy) (first : TaggedCopy)
-        (repeats : List TaggedCopy) → AreRepeats identity copies first repeats
-        → copies_of identity (printed_copies [] copies) ≡ first ∷ [] }
+    ensures once { (entries : List MemoryEntry) (identity : Identity) (copies : List TaggedCopy)
+        (first : TaggedCopy) (repeats : List TaggedCopy)
+        → AreRepeats entries identity copies first repeats
+        → copies_of identity (printed_copies entries copies) ≡ first ∷ [] }
+    ensures unknown { (identity : Identity) (copies : List TaggedCopy)
+        → IsUnknownAtFirst [] identity copies }
 {}
 
 /// There are such repeats: EA01 is heard, then EB02 twice, and EA01 again four hours after the
 /// first.
 pub fn there_are_repeats()
-    ensures { AreRepeats ea01 example_copies first_copy (repeated_copy ∷ []) }
+    ensures { AreRepeats [] ea01 example_copies first_copy (repeated_copy ∷ []) }
 {}
 
 /// The definitions on a worked emission, from its elements to its log. Station E sends the message

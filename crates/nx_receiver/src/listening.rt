@@ -7,10 +7,10 @@ ghost use Rattle.nx_fec.specs.AirFile as line;
 ghost use Rattle.nx_fec.specs.Devices.{HasWritten, WroteSome};
 ghost use Rattle.nx_fec.specs.LineRuns.{ExplainsTaking, HasGiven, HasTaken};
 ghost use Rattle.nx_fec.specs.Transfers.{Writes, devices};
-ghost use Rattle.nx_receiver.specs.Events.{Event};
+ghost use Rattle.nx_receiver.specs.Events.{Event, Start, at_zero};
 ghost use Rattle.nx_receiver.specs.Listen.{Listens};
 ghost use Rattle.nx_receiver.specs.ListenOnce.{KeepsHeadline};
-ghost use Rattle.nx_receiver.specs.Listener.{BeginsListening, HasClosed, HasClosedSome, HasFinished, HeardSome, HearsLog, IsHearing, IsListening, RefusesLine, lines_fault, refusal_fault};
+ghost use Rattle.nx_receiver.specs.Listener.{BeginsFrom, HasClosed, HasClosedSome, HasFinished, HeardSome, HearsLog, IsHearing, IsListening, RefusesFrom, RefusesLine, StandsFrom, lines_fault, refusal_fault, start_of};
 ghost use Rattle.nx_receiver.specs.Receiver.{elements};
 ghost use Rattle.nx_receiver.specs.declared.listen_fault.ListenFault.TheVariants.{Memory};
 
@@ -24,7 +24,7 @@ use nx_fec::{
     Batch, Counting, LineFault, LineKind, LineTaker, LinesFault, LinesRead, Scanner, TakeFault,
     WriteFault, run_lines, write_on,
 };
-use nx_memory::RingRecall;
+use nx_memory::{RingRecall, Selection};
 use std::alloc::{AllocError, Global};
 use std::io::{Read, Write};
 
@@ -60,9 +60,9 @@ pub fn listen<R: Read, W: Write>(
 ) -> Result<Report, ListenFault>
     requires reader { reader.old.failures ≡ 0 }
     requires writer { writer.old.failures ≡ 0 }
-    ensures listens { Listens
+    ensures listens { Listens at_zero
         (devices R.remaining W.contents reader.old reader.new writer.old writer.new) result }
-    ensures once { OnOk result (KeepsHeadline
+    ensures once { OnOk result (KeepsHeadline at_zero
         (devices R.remaining W.contents reader.old reader.new writer.old writer.new)) }
     ensures memory { (error : AllocError) → result ≡ Err (Memory error)
         → (reader.new ≡ reader.old) × (writer.new ≡ writer.old) }
@@ -127,10 +127,11 @@ struct Listener {
 impl Listener {
     /// A listener that has heard nothing, at moment 0.
     fn new(alloc: Global) -> Result<Listener, AllocError>
-        ensures { IfOk result (λ listener. IsListening listener [] []) }
+        ensures listens { IfOk result (λ listener. IsListening at_zero listener [] []) }
+        ensures start { IfOk result (λ listener. start_of listener ≡ at_zero) }
     {
         let memory = RingRecall::new(alloc)?;
-        match Receiver::new(alloc, memory, 0) {
+        match Receiver::starting(alloc, memory, 0, Selection::all()) {
             Ok(receiver) => Ok(Listener {
                 receiver,
                 has_moment: false,
@@ -144,10 +145,11 @@ impl Listener {
 
     /// Takes a moment.
     fn take_moment(&mut self, moment: u64) -> Result<(), LineRefusal>
-        ensures taken { (lines : List Line) (given : List ℕ) → IsListening self.old lines given
+        ensures taken { (start : Start) (lines : List Line) (given : List ℕ)
+            → IsListening start self.old lines given
             → MatchResult result
-            (λ _. IsListening self.new (lines ++ line.moment moment ∷ []) given)
-            (λ why. RefusesLine lines (line.moment moment) why) }
+            (λ _. IsListening start self.new (lines ++ line.moment moment ∷ []) given)
+            (λ why. RefusesLine start lines (line.moment moment) why) }
         ensures unchanged { OnErr result (self.new ≡ self.old) }
     {
         match self.receiver.set_moment(moment) {
@@ -162,10 +164,11 @@ impl Listener {
     /// Takes a command to refuse a subject.
     fn refuse_subject(&mut self, byte: u8) -> Result<(), LineRefusal>
         requires { IsCapital byte }
-        ensures taken { (lines : List Line) (given : List ℕ) → IsListening self.old lines given
+        ensures taken { (start : Start) (lines : List Line) (given : List ℕ)
+            → IsListening start self.old lines given
             → MatchResult result
-            (λ _. IsListening self.new (lines ++ line.refuse_subject byte ∷ []) given)
-            (λ why. RefusesLine lines (line.refuse_subject byte) why) }
+            (λ _. IsListening start self.new (lines ++ line.refuse_subject byte ∷ []) given)
+            (λ why. RefusesLine start lines (line.refuse_subject byte) why) }
         ensures unchanged { OnErr result (self.new ≡ self.old) }
     {
         match self.receiver.refuse_subject(letter(byte)) {
@@ -186,12 +189,12 @@ impl Listener {
     ) -> Result<usize, WriteFault>
         requires some { 0 < length bits.now }
         requires none { writer.old.failures ≡ 0 }
-        ensures heard { (old : Option (List ℕ)) (events : List Event)
-            → IsHearing self.old events (HasGiven old (W.contents writer.old.inner) batch.old)
+        ensures heard { (start : Start) (old : Option (List ℕ)) (events : List Event)
+            → IsHearing start self.old events (HasGiven old (W.contents writer.old.inner) batch.old)
             → MatchResult result
-            (λ count. IsHearing self.new (events ++ elements (take count bits.now))
+            (λ count. IsHearing start self.new (events ++ elements (take count bits.now))
             (HasGiven old (W.contents writer.new.inner) batch.new))
-            (λ fault. HeardSome (events ++ elements bits.now) old (W.contents writer.new.inner)
+            (λ fault. HeardSome start (events ++ elements bits.now) old (W.contents writer.new.inner)
             fault.written) }
         ensures within { IfOk result (λ count. (0 < count) × (count ≤ length bits.now)) }
         ensures moment { self.new.has_moment ≡ self.old.has_moment }
@@ -247,12 +250,12 @@ impl Listener {
         batch: &mut Batch,
     ) -> Result<(), WriteFault>
         requires { writer.old.failures ≡ 0 }
-        ensures heard { (old : Option (List ℕ)) (events : List Event)
-            → IsHearing self.old events (HasGiven old (W.contents writer.old.inner) batch.old)
+        ensures heard { (start : Start) (old : Option (List ℕ)) (events : List Event)
+            → IsHearing start self.old events (HasGiven old (W.contents writer.old.inner) batch.old)
             → MatchResult result
-            (λ _. IsHearing self.new (events ++ elements bits.now)
+            (λ _. IsHearing start self.new (events ++ elements bits.now)
             (HasGiven old (W.contents writer.new.inner) batch.new))
-            (λ fault. HeardSome (events ++ elements bits.now) old (W.contents writer.new.inner)
+            (λ fault. HeardSome start (events ++ elements bits.now) old (W.contents writer.new.inner)
             fault.written) }
         ensures moment { self.new.has_moment ≡ self.old.has_moment }
         ensures failed { IsErr result ↔ (writer.new.failures ≡ 1) }
@@ -278,16 +281,12 @@ impl Listener {
     ) -> Result<(), TakeFault<LineRefusal>>
         requires { writer.old.failures ≡ 0 }
         ensures taken { (first : Listener) (old : Option (List ℕ)) (lines : List Line)
-            → HasTaken (λ _ now before given. IsListening now before given) first self.old lines
+            → HasTaken StandsFrom first self.old lines
             (HasGiven old (W.contents writer.old.inner) batch.old) → MatchResult result
-            (λ _. HasTaken (λ _ now before given. IsListening now before given) first self.new
-            (lines ++ line.elements bits.now ∷ [])
+            (λ _. HasTaken StandsFrom first self.new (lines ++ line.elements bits.now ∷ [])
             (HasGiven old (W.contents writer.new.inner) batch.new))
-            (λ fault. ExplainsTaking (λ _ now before given. IsListening now before given)
-            (λ _ before given. BeginsListening before given)
-            (λ _ before refused why. RefusesLine before refused why)
-            first self.new old (W.contents writer.new.inner) batch.new lines
-            (line.elements bits.now) fault) }
+            (λ fault. ExplainsTaking StandsFrom BeginsFrom RefusesFrom first self.new old
+            (W.contents writer.new.inner) batch.new lines (line.elements bits.now) fault) }
         ensures writes { Writes writer.new TakeFault.Write result }
     {
         if !self.has_moment {
@@ -307,11 +306,11 @@ impl Listener {
         read: LinesRead,
     ) -> Result<Report, WriteFault>
         requires { writer.old.failures ≡ 0 }
-        ensures closed { (old : Option (List ℕ)) (events : List Event) (given : List ℕ)
-            → HearsLog self events given
+        ensures closed { (start : Start) (old : Option (List ℕ)) (events : List Event)
+            (given : List ℕ) → HearsLog start self events given
             → HasWritten old (W.contents writer.old.inner) given read.written → MatchResult result
-            (λ report. HasClosed old (W.contents writer.new.inner) events report)
-            (λ fault. HasClosedSome old (W.contents writer.new.inner) events fault.written) }
+            (λ report. HasClosed start old (W.contents writer.new.inner) events report)
+            (λ fault. HasClosedSome start old (W.contents writer.new.inner) events fault.written) }
         ensures lines { IfOk result (λ report. report.lines ≡ read.lines) }
         ensures failed { IsErr result ↔ (writer.new.failures ≡ 1) }
         ensures once { writer.new.failures ≤ 1 }
@@ -338,16 +337,16 @@ impl Listener {
 }
 
 impl LineTaker for Listener {
-    ghost use Rattle.nx_receiver.specs.Listener.{BeginsListening, IsListening, RefusesLine};
+    ghost use Rattle.nx_receiver.specs.Listener.{BeginsFrom, RefusesFrom, StandsFrom, start_of};
     ghost use Rattle.nx_receiver.specs.ListenerBegins.{begins-listening};
 
     type Refusal = LineRefusal;
 
-    ghost stands = { λ first now lines given. IsListening now lines given };
+    ghost stands = { StandsFrom };
 
-    ghost begins = { λ first lines given. BeginsListening lines given };
+    ghost begins = { BeginsFrom };
 
-    ghost refuses = { λ first lines line why. RefusesLine lines line why };
+    ghost refuses = { RefusesFrom };
 
     fn take<W: Write>(
         &mut self,
@@ -369,7 +368,8 @@ impl LineTaker for Listener {
         Ok(())
     }
 
-    ghost whole = { λ first now lines given h. begins-listening now lines given h };
+    ghost whole = { λ first now lines given h.
+        begins-listening (start_of first) now lines given h };
 }
 
 /// What came of taking a line that may be refused.

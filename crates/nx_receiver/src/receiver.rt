@@ -8,7 +8,7 @@ ghost use Rattle.nx_memory.specs.declared.entry.MemoryEntry.{MemoryEntry};
 ghost use Rattle.nx_memory.specs.Selection.{admits};
 ghost use Rattle.nx_memory.specs.Vital.{is_vital};
 ghost use Rattle.nx_receiver.specs.Events as events;
-ghost use Rattle.nx_receiver.specs.Events.{Event, Start, at_moment, command, first_setting, setting_after_all};
+ghost use Rattle.nx_receiver.specs.Events.{Event, Start, at_moment, command, first_setting, none_refused, setting_after_all};
 ghost use Rattle.nx_receiver.specs.Log.{HasPrinted, PrintsToEnd};
 ghost use Rattle.nx_receiver.specs.Printing.{entries_after, printed_copies};
 ghost use Rattle.nx_receiver.specs.Receiver.{Awaits, PassesOver, Refuses, RefusesStart, Stands, elements, entry_list};
@@ -22,7 +22,7 @@ use crate::judging::{is_printed, judge};
 use crate::over::{CopyTag, Over};
 use crate::watch::Watch;
 use nx_envelope::{Found, Identity, LAST_MOMENT, Letter};
-use nx_memory::{Recall, Vital};
+use nx_memory::{Recall, Selection, Vital};
 use std::alloc::Global;
 use std::marker::Model;
 
@@ -67,7 +67,25 @@ impl<M: Recall> Receiver<M> {
     /// then let go.
     pub fn new(alloc: Global, memory: M, moment: u64) -> Result<Receiver<M>, ReceiverFault>
         ensures stands { (start : Start) → start.entries ≡ M.content memory → start.moment ≡ moment
-            → IfOk result (λ r. Stands M.content start r [] []) }
+            → start.refused ≡ none_refused → IfOk result (λ r. Stands M.content start r [] []) }
+        ensures refused { IfErr result (RefusesStart (newest_moment (M.content memory)) moment) }
+        ensures taken { OnOk result
+            ((newest_moment (M.content memory) ≤ moment) × (moment ≤ last_moment)) }
+    {
+        Receiver::starting(alloc, memory, moment, Selection::all())
+    }
+
+    /// A receiver that has heard nothing, with a memory, the first moment and the first selection.
+    /// Fails as `new` does.
+    pub(crate) fn starting(
+        alloc: Global,
+        memory: M,
+        moment: u64,
+        selection: Selection,
+    ) -> Result<Receiver<M>, ReceiverFault>
+        ensures stands { (start : Start) → start.entries ≡ M.content memory → start.moment ≡ moment
+            → start.refused ≡ selection → IfOk result (λ r. Stands M.content start r [] []) }
+        ensures memory { IfOk result (λ r. r.memory ≡ memory) }
         ensures refused { IfErr result (RefusesStart (newest_moment (M.content memory)) moment) }
         ensures taken { OnOk result
             ((newest_moment (M.content memory) ≤ moment) × (moment ≤ last_moment)) }
@@ -75,7 +93,7 @@ impl<M: Recall> Receiver<M> {
         if moment > LAST_MOMENT || memory.newest().is_some_and(|newest| moment < newest) {
             return Err(ReceiverFault::MomentRange);
         }
-        let watch = Watch::new(alloc, moment).map_err(ReceiverFault::Memory)?;
+        let watch = Watch::new(alloc, moment, selection).map_err(ReceiverFault::Memory)?;
         Ok(Receiver { watch, memory })
     }
 

@@ -64,11 +64,11 @@ impl Model for Watch {
 }
 
 impl Watch {
-    /// A watch that has heard nothing, from this moment on. Fails where there is no memory for the
-    /// synchroniser.
-    pub(crate) fn new(alloc: Global, moment: u64) -> Result<Watch, AllocError>
+    /// A watch that has heard nothing, from this moment on, with what is selected at first. Fails
+    /// where there is no memory for the synchroniser.
+    pub(crate) fn new(alloc: Global, moment: u64, selection: Selection) -> Result<Watch, AllocError>
         ensures stands { IfOk result (λ w. (first : Setting) → WatchStands first w [] [] []) }
-        ensures force { (start : Start) → start.moment ≡ moment
+        ensures force { (start : Start) → start.moment ≡ moment → start.refused ≡ selection
             → IfOk result (λ w. in_force w ≡ first_setting start) }
         ensures tag { IfOk result (λ w. w.tag.moment ≡ moment) }
         ensures moment { IfOk result (λ w. w.moment ≡ moment) }
@@ -77,7 +77,7 @@ impl Watch {
         Ok(Watch {
             synchroniser,
             reader: LockReader::new(),
-            selection: Selection::all(),
+            selection,
             moment,
             tag: CopyTag {
                 moment,

@@ -8,7 +8,8 @@ ghost use Rattle.nx_station.specs.Broadcast.{AreSpelled};
 ghost use Rattle.nx_station.specs.FileSending.{IsTransmission};
 ghost use Rattle.nx_station.specs.Sendable.{IsSendable};
 ghost use Rattle.nx_station.specs.declared.sending.Sent.{Sent};
-ghost use Rattle.nx_receiver.specs.Listen.{IsLogOf, IsLogOfFile, at_zero};
+ghost use Rattle.nx_receiver.specs.Events.{at_zero};
+ghost use Rattle.nx_receiver.specs.Listen.{IsLogOf, IsLogOfFile};
 ghost use Rattle.nx_receiver.specs.ListenOnce.{IsHeardInTimeIn};
 ghost use Rattle.nx_receiver.specs.OnceHeard.{IsHeardInTime, IsPrintedOnce};
 ghost use Rattle.nx_receiver.specs.Printing.{printed_copies};
@@ -32,14 +33,14 @@ pub fn an_emission_as_sent_is_heard_in_time()
 pub fn what_was_sent_is_printed()
     ensures log { (station from : ℕ) (file air : List ℕ) (sent : Sent)
         → IsTransmission station from file air sent
-        → (log : List ℕ) × IsLogOf air log }
+        → (log : List ℕ) × IsLogOf at_zero air log }
     ensures printed { (station from : ℕ) (file air log : List ℕ) (sent : Sent) (lines : List Line)
         (copies : List TaggedCopy) → (t : IsTransmission station from file air sent)
-        → IsLogOfFile air lines copies log
+        → IsLogOfFile at_zero air lines copies log
         → copies ≡ printed_copies [] (map (copy_as_sent sent.slot) t.messages) }
     ensures different { (station from : ℕ) (file air log : List ℕ) (sent : Sent) (lines : List Line)
         (copies : List TaggedCopy) → (t : IsTransmission station from file air sent)
-        → AreDifferent t.messages → IsLogOfFile air lines copies log
+        → AreDifferent t.messages → IsLogOfFile at_zero air lines copies log
         → copies ≡ map (copy_as_sent sent.slot) t.messages }
 {}
 
@@ -51,12 +52,12 @@ pub fn what_was_sent_is_printed_once()
     ensures heard { (station from : ℕ) (file air : List ℕ) (sent : Sent) (message : MessageView)
         → (t : IsTransmission station from file air sent)
         → BearsAlone t.messages message → 0 < message.identity.number
-        → IsHeardInTimeIn air message }
+        → IsHeardInTimeIn at_zero air message }
     ensures once { (station from : ℕ) (file air log : List ℕ) (sent : Sent) (message : MessageView)
         (lines : List Line) (copies : List TaggedCopy)
         → (t : IsTransmission station from file air sent)
         → BearsAlone t.messages message → 0 < message.identity.number
-        → IsLogOfFile air lines copies log → IsPrintedOnce message copies }
+        → IsLogOfFile at_zero air lines copies log → IsPrintedOnce message copies }
 {}
 
 #[cfg(test)]

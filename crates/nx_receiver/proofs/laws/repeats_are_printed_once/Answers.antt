@@ -1,5 +1,5 @@
-use Rattle.nx_receiver.proofs.OnceLemmas.{once}
+use Rattle.nx_receiver.proofs.OnceLemmas.{none_live, once}
 use Rattle.nx_receiver.proofs.laws.repeats_are_printed_once.Goals as goal
 
 pub returns : goal.returns
-returns c = once
+returns c = record { once = once; unknown = none_live }

@@ -1,5 +1,4 @@
 use Rattle.std.proofs.Common.{refl, sym, subst}
-use Rattle.nx_receiver.specs.Listen.{at_zero}
 use Rattle.nx_receiver.specs.Log.{IsEntry}
 use Rattle.nx_receiver.specs.Tagged.{copy_of}
 use Rattle.nx_receiver.proofs.ListenerEnds.{closed-none, closed-part, closed-some}
@@ -7,17 +6,17 @@ use Rattle.nx_receiver.proofs.ListenerLemmas.{none-left}
 use Rattle.nx_receiver.proofs.listening.Listener.close.Goals as goal
 
 pub returns-in-Err-clause-closed : goal.returns-in-Err-clause-closed
-returns-in-Err-clause-closed g c = λ old events given h w.
+returns-in-Err-clause-closed g c = λ start old events given h w.
     let is = subst (IsEntry (copy_of c.in-Some.entry)) (sym c.deref.ensures.0) c.entry_bytes.ensures in
-    closed-part c.args.self old _ events given c.deref.result.now c.in-Some.entry _ h (c.in-Some.ensures.stands at_zero events h.log h.hears.receiver) is
+    closed-part start c.args.self old _ events given c.deref.result.now c.in-Some.entry _ h (c.in-Some.ensures.stands start events h.log h.hears.receiver) is
     (c.in-Err.ensures.bytes old given w)
 
 pub returns-in_default-write_on-clause-closed : goal.returns-in_default-write_on-clause-closed
-returns-in_default-write_on-clause-closed g c = λ old events given h w.
+returns-in_default-write_on-clause-closed g c = λ start old events given h w.
     let is = subst (IsEntry (copy_of c.in-Some.entry)) (sym c.deref.ensures.0) c.entry_bytes.ensures in
-    closed-some c.args.self old _ events given c.deref.result.now c.in-Some.entry _ h (c.in-Some.ensures.stands at_zero events h.log h.hears.receiver) is
+    closed-some start c.args.self old _ events given c.deref.result.now c.in-Some.entry _ h (c.in-Some.ensures.stands start events h.log h.hears.receiver) is
     (c.in_default-write_on.ensures.bytes old given w).appended refl c.saturating_add-entries.ensures
 
 pub returns-in_default-clause-closed : goal.returns-in_default-clause-closed
-returns-in_default-clause-closed g c = λ old events given h w.
-    closed-none c.args.self old _ events given c.close.result _ h (none-left _ c.in_default.not-Some) (c.close.ensures.stands at_zero events h.log h.hears.receiver) w.appended refl refl
+returns-in_default-clause-closed g c = λ start old events given h w.
+    closed-none start c.args.self old _ events given c.close.result _ h (none-left _ c.in_default.not-Some) (c.close.ensures.stands start events h.log h.hears.receiver) w.appended refl refl

@@ -1,6 +1,5 @@
 use Rattle.std.proofs.Common.{◌++◌, [], None, Some, refl, sym, subst, append-nil, arith}
 use Rattle.nx_fec.specs.LineRuns.{HasGiven}
-use Rattle.nx_receiver.specs.Listen.{at_zero}
 use Rattle.nx_receiver.specs.Listener.{HasFinished}
 use Rattle.nx_receiver.specs.Log.{IsEntry}
 use Rattle.nx_receiver.specs.Receiver.{Stands, entry_list}
@@ -13,7 +12,7 @@ returns-in_default-clause-finished g c =
     let none = none-left _ c.in_default.not-Some in
     let done : HasFinished c.args.self.now (record c.args.self.now { receiver = c.finish.new.self }) c.args.over [] = record {
       entry = None;
-      stands = λ events log awaits. subst (λ e. Stands content at_zero c.finish.new.self events (log ++ entry_list e)) none (c.finish.ensures.stands at_zero events log awaits);
+      stands = λ start events log awaits. subst (λ e. Stands content start c.finish.new.self events (log ++ entry_list e)) none (c.finish.ensures.stands start events log awaits);
       spelled = no-log;
       elements = refl;
       entries = λ fits. omega (arith, fits);
@@ -26,7 +25,7 @@ returns-clause-finished g c =
     let is = subst (λ b. IsEntry (copy_of c.in-Some.entry) b) (sym c.deref.ensures.0) c.entry_bytes.ensures in
     let done : HasFinished c.args.self.now (record c.args.self.now { receiver = c.finish.new.self; entries = c.saturating_add-self.result }) c.args.over bytes = record {
       entry = Some c.in-Some.entry;
-      stands = λ events log awaits. subst (λ e. Stands content at_zero c.finish.new.self events (log ++ entry_list e)) c.in-Some.is (c.finish.ensures.stands at_zero events log awaits);
+      stands = λ start events log awaits. subst (λ e. Stands content start c.finish.new.self events (log ++ entry_list e)) c.in-Some.is (c.finish.ensures.stands start events log awaits);
       spelled = one-log (copy_of c.in-Some.entry) bytes is;
       elements = refl;
       entries = λ fits. c.saturating_add-self.ensures;

@@ -12,12 +12,12 @@ loop-at-preserved g c =
       none = c.in-Ok.ensures.none;
       within = omega (arith, c.in-Ok.ensures.within.1, rest-length bits c.loop-at.at);
       moment = c.hear.ensures.moment ∙ c.loop-at.invariant.moment;
-      heard = λ old events h.
-          subst (λ es. IsHearing c.hear.new.self es (HasGiven old (g.W.Write.contents c.hear.new.writer.inner) c.hear.new.batch)) (elements-next events bits c.loop-at.at c.in-Ok.count)
-          (c.in-Ok.ensures.heard old (events ++ elements (take c.loop-at.at bits)) (c.loop-at.invariant.heard old events h));
+      heard = λ start old events h.
+          subst (λ es. IsHearing start c.hear.new.self es (HasGiven old (g.W.Write.contents c.hear.new.writer.inner) c.hear.new.batch)) (elements-next events bits c.loop-at.at c.in-Ok.count)
+          (c.in-Ok.ensures.heard start old (events ++ elements (take c.loop-at.at bits)) (c.loop-at.invariant.heard start old events h));
     }
 
 pub returns-in-Err-clause-heard : goal.returns-in-Err-clause-heard
-returns-in-Err-clause-heard g c = λ old events h.
-    subst (λ es. HeardSome es old (g.W.Write.contents c.hear.new.writer.inner) c.in-Err.fault.written) (elements-rest events c.args.bits.now c.loop-at.at)
-    (c.in-Err.ensures.heard old (events ++ elements (take c.loop-at.at c.args.bits.now)) (c.loop-at.invariant.heard old events h))
+returns-in-Err-clause-heard g c = λ start old events h.
+    subst (λ es. HeardSome start es old (g.W.Write.contents c.hear.new.writer.inner) c.in-Err.fault.written) (elements-rest events c.args.bits.now c.loop-at.at)
+    (c.in-Err.ensures.heard start old (events ++ elements (take c.loop-at.at c.args.bits.now)) (c.loop-at.invariant.heard start old events h))

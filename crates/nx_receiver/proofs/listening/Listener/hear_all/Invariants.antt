@@ -1,6 +1,6 @@
 use Rattle.std.proofs.Common.{◌≡◌, ◌-◌, ◌≤◌, ℕ, Option, List, ◌++◌, length, take}
 use Rattle.nx_fec.specs.LineRuns.{HasGiven}
-use Rattle.nx_receiver.specs.Events.{Event}
+use Rattle.nx_receiver.specs.Events.{Event, Start}
 use Rattle.nx_receiver.specs.Listener.{IsHearing}
 use Rattle.nx_receiver.specs.Receiver.{elements}
 use Rattle.nx_receiver.proofs.listening.Listener.hear_all.Given as goal
@@ -11,8 +11,8 @@ invariant-loop-at g l = record {
   none : l.writer.failures ≡ 0;
   within : l.at ≤ length l.bits;
   moment : l.self.has_moment ≡ l.fn.self.has_moment;
-  heard : (old : Option (List ℕ)) (events : List Event) → IsHearing l.fn.self events (HasGiven old (g.W.Write.contents l.fn.writer.inner) l.fn.batch)
-      → IsHearing l.self (events ++ elements (take l.at l.bits)) (HasGiven old (g.W.Write.contents l.writer.inner) l.batch);
+  heard : (start : Start) (old : Option (List ℕ)) (events : List Event) → IsHearing start l.fn.self events (HasGiven old (g.W.Write.contents l.fn.writer.inner) l.fn.batch)
+      → IsHearing start l.self (events ++ elements (take l.at l.bits)) (HasGiven old (g.W.Write.contents l.writer.inner) l.batch);
 }
 
 abbrev pub decreases-loop-at : goal.decreases-loop-at

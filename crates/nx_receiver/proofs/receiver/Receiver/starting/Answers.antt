@@ -2,12 +2,12 @@ use Rattle.nx_receiver.specs.Events.{Setting, first_setting}
 use Rattle.nx_receiver.specs.Watch.{WatchStands, in_force}
 use Rattle.std.proofs.Common.{◌≡◌, []}
 use Rattle.nx_receiver.proofs.ReceiverPrinting.{begins, made}
-use Rattle.nx_receiver.proofs.receiver.Receiver.new.Goals as goal
+use Rattle.nx_receiver.proofs.receiver.Receiver.starting.Goals as goal
 
 pub returns-clause-stands : goal.returns-clause-stands
-returns-clause-stands g c start entries moment =
+returns-clause-stands g c start entries moment selection =
     let cases = c.map_err.ensures.cases in
     let same = c.map_err.ensures.variant in
     let stands = made _ _ (λ w. (first : Setting) → WatchStands first w [] [] []) _ _ cases same c.in_ok-watch.was c.new.ensures.stands in
-    let force = made _ _ (λ w. in_force w ≡ first_setting start) _ _ cases same c.in_ok-watch.was (c.new.ensures.force start moment) in
+    let force = made _ _ (λ w. in_force w ≡ first_setting start) _ _ cases same c.in_ok-watch.was (c.new.ensures.force start moment selection) in
     begins g.M.Recall.content start c.args.memory c.in_ok-watch.watch stands force entries c.newest.ensures.bounded
