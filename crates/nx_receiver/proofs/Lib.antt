@@ -50,3 +50,4 @@ pub mod SentHeard
 pub mod SentLog
 pub mod SentDifferent
 pub mod SentFiles
+pub mod ChainPrinting

@@ -18,3 +18,4 @@ pub mod ListenerBegins
 pub mod ListenOnce
 pub mod ListenExample
 pub mod Sent
+pub mod Chain

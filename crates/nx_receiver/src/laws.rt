@@ -21,6 +21,7 @@ ghost use Rattle.nx_receiver.specs.Receiver.{Receiving, Stands, elements_of_piec
 ghost use Rattle.nx_receiver.specs.Tagged.{TaggedCopy};
 ghost use Rattle.nx_receiver.specs.Worked.{at_its_slot, damaged_words, heard_elements, worked_words, worked_log};
 
+pub mod chain;
 pub mod listening;
 pub mod once;
 pub mod sending;

@@ -1,0 +1,5 @@
+use Rattle.nx_receiver.proofs.ChainPrinting.{same_end, same_entries, same_log}
+use Rattle.nx_receiver.proofs.laws.chain.the_last_entries_decide.Goals as goal
+
+pub returns : goal.returns
+returns c = record { printed = same_log; entered = same_entries; agree = same_end }
