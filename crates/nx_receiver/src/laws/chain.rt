@@ -1,11 +1,30 @@
 //! Laws of a chain of runs, each of which begins with what the one before it left. Each function
 //! does nothing; its contract is the law.
 
-ghost use Rattle.std.specs.Prelude.{◌≡◌, List, ◌++◌};
+ghost use Rattle.std.specs.Prelude.{◌≡◌, ℕ, ◌≤◌, List, ◌++◌, length};
+ghost use Rattle.nx_code.specs.Lists.{last_of};
+ghost use Rattle.nx_envelope.specs.MessageView.{MessageView};
+ghost use Rattle.nx_fec.specs.AirFile.{Line};
+ghost use Rattle.nx_memory.specs.Memory.{most_entries};
 ghost use Rattle.nx_memory.specs.declared.entry.MemoryEntry.{MemoryEntry};
-ghost use Rattle.nx_receiver.specs.Chain.{AgreeInLast};
+ghost use Rattle.nx_station.specs.ChannelExample.{example_message};
+ghost use Rattle.nx_sync.specs.Locks.{IsNow, Lock, Now};
+ghost use Rattle.nx_receiver.specs.Chain.{AgreeInLast, GoesOn, IsChain, Kept, Leaves, Run, all_copies, all_events, all_logs, all_printed, files, nothing_kept, start_from};
+ghost use Rattle.nx_receiver.specs.ChainExample.{example_runs, kept_after};
+ghost use Rattle.nx_receiver.specs.ChainOnce.{IsHeardInTimeOver};
+ghost use Rattle.nx_receiver.specs.Events.{Event, Start, elements_among, first_setting, setting_after_all};
+ghost use Rattle.nx_receiver.specs.FoundCopies.{ended_so_far};
+ghost use Rattle.nx_receiver.specs.LawTerms.{IsUnknownAtFirst};
+ghost use Rattle.nx_receiver.specs.Listen.{IsLogOfFile, events_of};
+ghost use Rattle.nx_receiver.specs.Log.{IsLog};
+ghost use Rattle.nx_receiver.specs.OnceHeard.{IsPrintedOnce};
 ghost use Rattle.nx_receiver.specs.Printing.{entries_after, entries_made, printed_copies};
-ghost use Rattle.nx_receiver.specs.Tagged.{TaggedCopy};
+ghost use Rattle.nx_receiver.specs.Receiver.{Receiving, Stands};
+ghost use Rattle.nx_receiver.specs.Tagged.{TaggedCopy, tagged_copies};
+ghost use Rattle.nx_receiver.specs.Watch.{in_force};
+ghost use Rattle.nx_receiver.specs.Worked.{worked_log};
+
+use nx_memory::Recall;
 
 /// The last 200 entries decide: after two lists of entries that agree in their last 200, the same
 /// copies are printed and the same entries are made, and then they agree in their last 200 again.
@@ -29,14 +48,106 @@ pub fn copies_are_printed_in_turn()
         → entries_after entries (front ++ back) ≡ entries_after (entries_after entries front) back }
 {}
 
+/// A chain of runs logs what one run would log that had found their copies, though each run hunts
+/// anew and begins with what the one before it left: what is printed is what the rules of printing
+/// make of all copies of the runs, in order, after the entries that the first run starts with; and
+/// the logs, one after another, are the log of it. The last run leaves the last 200 of all entries
+/// made, and what is refused after all commands.
+pub fn a_chain_logs_its_joined_copies()
+    ensures printed { (first last : Kept) (runs : List Run) → IsChain first runs last
+        → all_printed runs ≡ printed_copies first.entries (all_copies runs) }
+    ensures log { (first last : Kept) (runs : List Run) → IsChain first runs last
+        → IsLog (printed_copies first.entries (all_copies runs)) (all_logs runs) }
+    ensures entries { (first last : Kept) (runs : List Run) → IsChain first runs last
+        → length first.entries ≤ most_entries
+        → last.entries ≡ last_of most_entries (entries_after first.entries (all_copies runs)) }
+    ensures selection { (first last : Kept) (runs : List Run) → IsChain first runs last
+        → last.refused
+        ≡ (setting_after_all (first_setting (start_from first)) (all_events runs)).refused }
+{}
+
+/// A run goes on from what is kept wherever its file has a log with that start: what it leaves is
+/// some one thing, of at most 200 entries. And where it goes on from what a chain left, the chain
+/// and it are a chain.
+pub fn a_run_goes_on_from_what_is_kept()
+    ensures run { (kept left : Kept) (file : List ℕ) (lines : List Line)
+        (printed : List TaggedCopy) (log : List ℕ)
+        → IsLogOfFile (start_from kept) file lines printed log
+        → Leaves (start_from kept) (events_of lines) left
+        → (run : Run) × (run.file ≡ file) × (run.log ≡ log) × GoesOn kept run left }
+    ensures some { (start : Start) (events : List Event)
+        → (left : Kept) × Leaves start events left }
+    ensures one { (start : Start) (events : List Event) (left other : Kept)
+        → Leaves start events left → Leaves start events other → left ≡ other }
+    ensures few { (start : Start) (events : List Event) (left : Kept)
+        → Leaves start events left → length left.entries ≤ most_entries }
+    ensures join { (first kept last : Kept) (runs more : List Run) → IsChain first runs kept
+        → IsChain kept more last → IsChain first (runs ++ more) last }
+{}
+
+/// An open copy is no part of what is left: what the end closes is cut, and makes no entry. So what
+/// is left is what a receiver holds after the events, before its end: the content of its memory, and
+/// what it refuses.
+pub fn a_receiver_holds_what_it_leaves<M: Recall>()
+    ensures ended { (start : Start) (events : List Event) (left : Kept) (locks : List Lock)
+        (now : Now) → IsNow (elements_among events) locks now → Leaves start events left
+        → left.entries ≡ last_of most_entries
+        (entries_after start.entries
+        (tagged_copies (first_setting start) events
+        (ended_so_far (elements_among events) locks now))) }
+    ensures held { (start : Start) (events : List Event) (receiver : Receiving M)
+        (log : List TaggedCopy) (left : Kept) → Stands M.content start receiver events log
+        → left.entries ≡ M.content receiver.memory
+        → left.refused ≡ (in_force receiver.watch).refused
+        → Leaves start events left }
+{}
+
+/// The files of a chain tell its logs, and what it leaves: two chains that begin with the same and
+/// read the same files log the same bytes and leave the same.
+pub fn a_chain_is_told_by_its_files()
+    ensures { (first last end : Kept) (runs others : List Run) → files runs ≡ files others
+        → IsChain first runs last → IsChain first others end
+        → (all_logs runs ≡ all_logs others) × (last ≡ end) }
+{}
+
+/// The headline across power-offs. A message that is heard in time in the runs of a chain, in
+/// whichever of them it is sent, has exactly one entry in their logs, one after another. The entry
+/// is full, has 0 errors, and its text is the message's, letter for letter. A chain that begins with
+/// nothing has no entry of it that could be live at its first copy.
+pub fn a_message_heard_over_runs_has_one_entry()
+    ensures logged { (first last : Kept) (runs : List Run) → IsChain first runs last
+        → IsLog (all_printed runs) (all_logs runs) }
+    ensures once { (first last : Kept) (runs : List Run) (message : MessageView)
+        → IsChain first runs last → IsHeardInTimeOver first runs message
+        → IsPrintedOnce message (all_printed runs) }
+    ensures from_nothing { (runs : List Run) (message : MessageView)
+        → IsUnknownAtFirst nothing_kept.entries message.identity (all_copies runs) }
+{}
+
+/// There is such a chain, of two runs, which begins with nothing: EA01 with the line TEST is heard,
+/// the receiver is switched off and on again, and EA01 is heard four hours after the first. Its logs
+/// are the one entry.
+pub fn there_is_a_chain_with_a_message_heard_in_time()
+    ensures chain { IsChain nothing_kept example_runs kept_after }
+    ensures heard { IsHeardInTimeOver nothing_kept example_runs example_message }
+    ensures logs { all_logs example_runs ≡ worked_log }
+{}
+
 #[cfg(test)]
 mod tests {
     use super::*;
+    use nx_memory::PlainRecall;
 
     /// Each law is called once.
     #[test]
     fn laws(_rt: HostRuntime) {
         the_last_entries_decide();
         copies_are_printed_in_turn();
+        a_chain_logs_its_joined_copies();
+        a_run_goes_on_from_what_is_kept();
+        a_receiver_holds_what_it_leaves::<PlainRecall>();
+        a_chain_is_told_by_its_files();
+        a_message_heard_over_runs_has_one_entry();
+        there_is_a_chain_with_a_message_heard_in_time();
     }
 }
