@@ -1,5 +1,6 @@
 -- What a chain of runs prints, and what it leaves.
-use Rattle.std.proofs.Common.{◌≡◌, ℕ, ◌≤◌, List, [], ◌∷◌, ◌++◌, length, refl, sym, ap, ◌∙◌, subst, append-nil}
+use Rattle.std.proofs.Common.{◌≡◌, ℕ, ◌≤◌, List, [], ◌∷◌, ◌++◌, length, Option, refl, sym, ap, ◌∙◌, subst, append-nil}
+use Rattle.std.specs.Io.KnownBytes.{Appends}
 use Rattle.nx_code.specs.Lists.{last_of}
 use Rattle.nx_memory.specs.Memory.{most_entries}
 use Rattle.nx_memory.specs.Refused.{Refused}
@@ -10,16 +11,18 @@ use Rattle.nx_fec.specs.Lines.{IsAirFile}
 use Rattle.nx_fec.proofs.LineLaws.{IsAirFile-unique}
 use Rattle.nx_sync.proofs.StateChanges.{standing_after}
 use Rattle.nx_sync.proofs.UniqueStates.{locks-unique, now-unique}
-use Rattle.nx_receiver.specs.Chain.{AgreeInLast, AreFoundIn, GoesOn, IsChain, Kept, Leaves, Run, all_copies, all_events, all_logs, all_printed, copies_in, events_in, files, start_from}
+use Rattle.nx_receiver.specs.Chain.{AgreeInLast, AreFoundIn, GoesOn, HasGoneOn, IsChain, Kept, Leaves, Run, all_copies, all_events, all_logs, all_printed, copies_in, events_in, files, start_from}
 use Rattle.nx_receiver.specs.Events.{Event, Setting, Start, at_moment, command, element, elements_among, first_setting, refused_after, setting_after, setting_after_all}
 use Rattle.nx_receiver.specs.FoundCopies.{FoundCopy, found_to_end}
-use Rattle.nx_receiver.specs.Listen.{IsLogOfFile, events_of}
+use Rattle.nx_receiver.specs.Listen.{HasListened, IsLogOfFile, events_of}
 use Rattle.nx_receiver.specs.Log.{IsLog, printed_of}
 use Rattle.nx_receiver.specs.Printing.{entries_after, entries_made, printed_copies}
 use Rattle.nx_receiver.specs.Tagged.{TaggedCopy, tagged_copies}
+use Rattle.nx_receiver.specs.declared.listening.Report.{Report}
 use Rattle.nx_receiver.proofs.ChainPrinting.{all_of_few, few_of_last, last_agrees, same_end, same_log}
 use Rattle.nx_receiver.proofs.LoggedLemmas.{entries_after-append, printed_copies-append}
 use Rattle.nx_receiver.proofs.LogLemmas.{logs_join, one_log}
+use Rattle.nx_receiver.proofs.ReceiverEvents.{force-append}
 
 -- ---- one run
 
@@ -113,11 +116,6 @@ unfolding setting_after_all
 refused_all s t [] e = e
 refused_all s t (event ∷ events) e = refused_all (setting_after s event) (setting_after t event) events (refused_one s t event e)
 
-after-append : (now : Setting) (xs ys : List Event) → setting_after_all now (xs ++ ys) ≡ setting_after_all (setting_after_all now xs) ys
-unfolding setting_after_all
-after-append now [] ys = refl
-after-append now (x ∷ xs) ys = after-append (setting_after now x) xs ys
-
 chain_refuses_from : (now : Setting) (first : Kept) (runs : List Run) (last : Kept) → now.refused ≡ first.refused → IsChain first runs last → last.refused ≡ (setting_after_all now (all_events runs)).refused
 unfolding setting_after_all
 chain_refuses_from now first [] last same chain = ap (λ k. k.refused) chain ∙ sym same
@@ -129,7 +127,7 @@ chain_refuses_from now first (run ∷ runs) last same chain =
     let next : (setting_after_all now events).refused ≡ left.refused =
     refused_all now (first_setting run.start) events begun ∙ sym goes.leaves.refused in
     chain_refuses_from (setting_after_all now events) left runs last next chain.2
-    ∙ ap (λ s. s.refused) (sym (after-append now events (all_events runs)))
+    ∙ ap (λ s. s.refused) (sym (force-append now events (all_events runs)))
 
 pub chain_refuses : (first : Kept) (runs : List Run) (last : Kept) → IsChain first runs last → last.refused ≡ (setting_after_all (first_setting (start_from first)) (all_events runs)).refused
 chain_refuses first runs last chain = chain_refuses_from (first_setting (start_from first)) first runs last refl chain
@@ -223,3 +221,15 @@ goes_on kept left file lines printed log h l = (
   refl,
   record { begins = refl; heard = h; found = l.found; leaves = l },
 )
+
+-- a run that listened to it has gone on, whatever it leaves
+pub gone_on : (kept left : Kept) (old new : Option (List ℕ)) (file : List ℕ) (report : Report) → (h : HasListened (start_from kept) old new file report)
+    → Leaves (start_from kept) (events_of h.lines) left → HasGoneOn kept old new file left
+gone_on kept left old new file report h l =
+    let g = goes_on kept left file h.lines h.copies h.log h.heard l in
+    record { run = g.0; read = g.1; written = subst (Appends old new) (sym g.2) h.written; goes = g.3 }
+
+pub some_gone_on : (kept : Kept) (old new : Option (List ℕ)) (file : List ℕ) (report : Report) → HasListened (start_from kept) old new file report → (left : Kept) × HasGoneOn kept old new file left
+some_gone_on kept old new file report h =
+    let l = some_left (start_from kept) (events_of h.lines) in
+    (l.0, gone_on kept l.0 old new file report h l.1)

@@ -53,5 +53,6 @@ pub mod SentFiles
 pub mod ChainPrinting
 pub mod ChainRuns
 pub mod ChainLeft
+pub mod ChainMoments
 pub mod ChainOnce
 pub mod ChainExample

@@ -1,5 +1,6 @@
 -- A chain of runs: each begins with what the one before it left (this profile).
-use Rattle.std.specs.Prelude.{◌≡◌, ℕ, List, [], ◌∷◌, map}
+use Rattle.std.specs.Prelude.{◌≡◌, ℕ, List, [], ◌∷◌, map, Option}
+use Rattle.std.specs.Io.KnownBytes.{Appends}
 use Rattle.std.specs.List.{flat_map}
 use Rattle.nx_code.specs.Lists.{last_of}
 use Rattle.nx_fec.specs.AirFile.{Line}
@@ -78,6 +79,15 @@ pub record GoesOn (kept : Kept) (run : Run) (left : Kept) : Type 0 where
   pub heard : IsLogOfFile run.start run.file run.lines run.printed run.log
   pub found : AreFoundIn (events_in run) run.found
   pub leaves : Leaves run.start (events_in run) left
+
+-- a run that starts with what is kept read the file of these bytes to its end, wrote its log, and
+-- leaves this
+pub record HasGoneOn (kept : Kept) (old new : Option (List ℕ)) (file : List ℕ) (left : Kept)
+    : Type 0 where
+  pub run : Run
+  pub read : run.file ≡ file
+  pub written : Appends old new run.log
+  pub goes : GoesOn kept run left
 
 -- The runs, in order, are a chain: the first starts with `first`, each other with what the run
 -- before it left, and the last leaves `last`.

@@ -1,21 +1,21 @@
 //! Laws of a chain of runs, each of which begins with what the one before it left. Each function
 //! does nothing; its contract is the law.
 
-ghost use Rattle.std.specs.Prelude.{◌≡◌, ℕ, ◌≤◌, List, ◌++◌, length};
+ghost use Rattle.std.specs.Prelude.{◌≡◌, ℕ, ◌≤◌, All, List, ◌++◌, length, Option};
 ghost use Rattle.nx_code.specs.Lists.{last_of};
 ghost use Rattle.nx_envelope.specs.MessageView.{MessageView};
 ghost use Rattle.nx_fec.specs.AirFile.{Line};
-ghost use Rattle.nx_memory.specs.Memory.{most_entries};
+ghost use Rattle.nx_memory.specs.Memory.{most_entries, newest_moment};
 ghost use Rattle.nx_memory.specs.declared.entry.MemoryEntry.{MemoryEntry};
 ghost use Rattle.nx_station.specs.ChannelExample.{example_message};
 ghost use Rattle.nx_sync.specs.Locks.{IsNow, Lock, Now};
-ghost use Rattle.nx_receiver.specs.Chain.{AgreeInLast, GoesOn, IsChain, Kept, Leaves, Run, all_copies, all_events, all_logs, all_printed, files, nothing_kept, start_from};
+ghost use Rattle.nx_receiver.specs.Chain.{AgreeInLast, GoesOn, HasGoneOn, IsChain, Kept, Leaves, Run, all_copies, all_events, all_logs, all_printed, copies_in, files, nothing_kept, start_from};
 ghost use Rattle.nx_receiver.specs.ChainExample.{example_runs, kept_after};
 ghost use Rattle.nx_receiver.specs.ChainOnce.{IsHeardInTimeOver};
 ghost use Rattle.nx_receiver.specs.Events.{Event, Start, elements_among, first_setting, setting_after_all};
 ghost use Rattle.nx_receiver.specs.FoundCopies.{ended_so_far};
 ghost use Rattle.nx_receiver.specs.LawTerms.{IsUnknownAtFirst};
-ghost use Rattle.nx_receiver.specs.Listen.{IsLogOfFile, events_of};
+ghost use Rattle.nx_receiver.specs.Listen.{HasListened, IsLogOfFile, events_of};
 ghost use Rattle.nx_receiver.specs.Log.{IsLog};
 ghost use Rattle.nx_receiver.specs.OnceHeard.{IsPrintedOnce};
 ghost use Rattle.nx_receiver.specs.Printing.{entries_after, entries_made, printed_copies};
@@ -23,6 +23,7 @@ ghost use Rattle.nx_receiver.specs.Receiver.{Receiving, Stands};
 ghost use Rattle.nx_receiver.specs.Tagged.{TaggedCopy, tagged_copies};
 ghost use Rattle.nx_receiver.specs.Watch.{in_force};
 ghost use Rattle.nx_receiver.specs.Worked.{worked_log};
+ghost use Rattle.nx_receiver.specs.declared.listening.Report.{Report};
 
 use nx_memory::Recall;
 
@@ -66,21 +67,27 @@ pub fn a_chain_logs_its_joined_copies()
         ≡ (setting_after_all (first_setting (start_from first)) (all_events runs)).refused }
 {}
 
-/// A run goes on from what is kept wherever its file has a log with that start: what it leaves is
-/// some one thing, of at most 200 entries. And where it goes on from what a chain left, the chain
-/// and it are a chain.
+/// A run goes on from what is kept wherever its file has a log with that start; so does each run
+/// that listened with it. What it leaves is some one thing, of at most 200 entries. No copy of it
+/// has a moment before the newest entry that was kept. And where it goes on from what a chain left,
+/// the chain and it are a chain.
 pub fn a_run_goes_on_from_what_is_kept()
     ensures run { (kept left : Kept) (file : List ℕ) (lines : List Line)
         (printed : List TaggedCopy) (log : List ℕ)
         → IsLogOfFile (start_from kept) file lines printed log
         → Leaves (start_from kept) (events_of lines) left
         → (run : Run) × (run.file ≡ file) × (run.log ≡ log) × GoesOn kept run left }
+    ensures listened { (kept : Kept) (old new : Option (List ℕ)) (file : List ℕ) (report : Report)
+        → HasListened (start_from kept) old new file report
+        → (left : Kept) × HasGoneOn kept old new file left }
     ensures some { (start : Start) (events : List Event)
         → (left : Kept) × Leaves start events left }
     ensures one { (start : Start) (events : List Event) (left other : Kept)
         → Leaves start events left → Leaves start events other → left ≡ other }
     ensures few { (start : Start) (events : List Event) (left : Kept)
         → Leaves start events left → length left.entries ≤ most_entries }
+    ensures after { (kept left : Kept) (run : Run) → GoesOn kept run left
+        → All (λ (copy : TaggedCopy). newest_moment kept.entries ≤ copy.moment) (copies_in run) }
     ensures join { (first kept last : Kept) (runs more : List Run) → IsChain first runs kept
         → IsChain kept more last → IsChain first (runs ++ more) last }
 {}
