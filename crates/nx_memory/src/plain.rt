@@ -34,6 +34,8 @@ impl PlainRecall {
     pub fn new() -> Self
         ensures { result ≡ [] }
     {
+        // No room for anything else.
+        prove!(size_of::<PlainRecall>() == 3208);
         PlainRecall {
             entries: ArrayVec::new(),
         }

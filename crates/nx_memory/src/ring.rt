@@ -43,6 +43,8 @@ impl RingRecall {
     pub fn new(alloc: Global) -> Result<Self, AllocError>
         ensures { IfOk result (λ memory. memory.content ≡ []) }
     {
+        // No room for anything else.
+        prove!(size_of::<RingRecall>() == 56);
         Ok(RingRecall {
             entries: HeapCircularBuffer::with_capacity(alloc, CAPACITY)?,
             table: MomentTable::new(alloc)?,

@@ -21,7 +21,7 @@ pub struct Vital {
 
 /// The stations and the subjects that are refused, at first none. Contracts see it as these two
 /// sets of letters, which hold nothing but letters and no vital subject.
-#[derive(Drop)]
+#[derive(Clone, Copy)]
 pub struct Selection {
     refused_stations: LetterSet,
     refused_subjects: LetterSet,
