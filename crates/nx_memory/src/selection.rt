@@ -106,6 +106,22 @@ impl Selection {
         Ok(())
     }
 
+    /// Whether the station is refused, for all its subjects.
+    pub fn refuses_station(&self, station: Letter) -> bool
+        ensures refused { result ≡ set.contains self.now.stations station.byte }
+        ensures refusable { IsRefusable self.now }
+    {
+        self.refused_stations.contains(station)
+    }
+
+    /// Whether the subject is refused, of all stations.
+    pub fn refuses_subject(&self, subject: Letter) -> bool
+        ensures refused { result ≡ set.contains self.now.subjects subject.byte }
+        ensures refusable { IsRefusable self.now }
+    {
+        self.refused_subjects.contains(subject)
+    }
+
     /// Whether neither the station nor the subject is refused. A vital subject never is.
     pub fn admits(&self, identity: &Identity) -> bool
         ensures selected { result ≡ admits self.now identity.now }
