@@ -7,6 +7,7 @@ use Rattle.std.proofs.lemmas.List.Elements.{All-cons, All-contains, All-nil}
 use Rattle.nx_code.specs.Lists.{last_of}
 use Rattle.nx_envelope.specs.Moment.{last_moment}
 use Rattle.nx_envelope.specs.declared.found.How.TheVariants.{Full}
+use Rattle.nx_memory.specs.Saved.{SavedState}
 use Rattle.nx_memory.specs.Memory.{most_entries}
 use Rattle.nx_memory.specs.Selection.{admits}
 use Rattle.nx_memory.specs.declared.entry.MemoryEntry.{MemoryEntry}
@@ -20,8 +21,8 @@ use Rattle.nx_station.specs.ChannelExample.{ea01, example_message, example_parts
 use Rattle.nx_station.specs.Sendings.{IsCut, Part}
 use Rattle.nx_station.proofs.ChannelExamples.{example_sent}
 use Rattle.nx_sync.specs.Locks.{IsNow, locked}
-use Rattle.nx_receiver.specs.Chain.{AreFoundIn, IsChain, Kept, Leaves, Run, all_copies, all_logs, events_in, nothing_kept, start_from}
-use Rattle.nx_receiver.specs.ChainExample.{copy_heard, example_runs, first_run, kept_after, second_run}
+use Rattle.nx_receiver.specs.Chain.{AreFoundIn, IsChain, Leaves, Run, all_copies, all_logs, events_in, nothing_saved, start_from}
+use Rattle.nx_receiver.specs.ChainExample.{copy_heard, example_runs, first_run, saved_after, second_run}
 use Rattle.nx_receiver.specs.ChainOnce.{CutRun, IsHeardInTimeOver, IsSentIn, in_force_in}
 use Rattle.nx_receiver.specs.Events.{Event, Setting, Start, at_moment, elements_among, first_setting, none_refused, setting_after_all, settings}
 use Rattle.nx_receiver.specs.Example.{first_copy, heard_at}
@@ -140,12 +141,12 @@ module _ (entries : List MemoryEntry) (from n : ℕ) where
       sym (ap (λ es. (setting_after_all (first_setting begun) es).refused) (events-are n)
       ∙ ap (λ (s : Setting). s.refused) (force-more (first_setting begun) (at_moment n ∷ []) bits))
 
-  leaves : (left : Kept) → left.entries ≡ last_of most_entries (entries_after entries (copy_then n ∷ [])) → left.refused ≡ none_refused → Leaves begun given left
-  leaves left made kept = record {
+  leaves : (left : SavedState) → left.entries ≡ last_of most_entries (entries_after entries (copy_then n ∷ [])) → left.refused ≡ none_refused → Leaves begun given left
+  leaves left made saved = record {
     copies = copy_heard ∷ [];
     found = found-in n;
     entries = made ∙ ap (λ cs. last_of most_entries (entries_after entries cs)) (sym tagged);
-    refused = kept ∙ refused-none;
+    refused = saved ∙ refused-none;
   }
 
 -- ---- the two runs
@@ -154,44 +155,44 @@ first-printed : printed_copies [] (copy_then 1735692000 ∷ []) ≡ first_copy �
 unfolding printed_copies if_printed is_printed
 first-printed = refl
 
-first-made : last_of most_entries (entries_after [] (copy_then 1735692000 ∷ [])) ≡ kept_after.entries
+first-made : last_of most_entries (entries_after [] (copy_then 1735692000 ∷ [])) ≡ saved_after.entries
 unfolding entries_made entry_made is_entered is_printed
 first-made = refl
 
-second-printed : printed_copies kept_after.entries (copy_then 1735706400 ∷ []) ≡ []
+second-printed : printed_copies saved_after.entries (copy_then 1735706400 ∷ []) ≡ []
 unfolding printed_copies if_printed is_printed
 second-printed = refl
 
-second-made : last_of most_entries (entries_after kept_after.entries (copy_then 1735706400 ∷ [])) ≡ kept_after.entries
+second-made : last_of most_entries (entries_after saved_after.entries (copy_then 1735706400 ∷ [])) ≡ saved_after.entries
 unfolding entries_made entry_made is_entered is_printed
 second-made = refl
 
-pub is-chain : IsChain nothing_kept example_runs kept_after
+pub is-chain : IsChain nothing_saved example_runs saved_after
 is-chain = (
-  kept_after,
+  saved_after,
   record {
     begins = refl;
     heard = record {
       file = file-is 1735692000 (lit< tt);
       taken = taken [] 0 1735692000 (lit≤ tt) (lit≤ tt);
-      printed = subst (PrintsToEnd (start_from nothing_kept) (events_in first_run)) first-printed (printed [] 0 1735692000);
+      printed = subst (PrintsToEnd (start_from nothing_saved) (events_in first_run)) first-printed (printed [] 0 1735692000);
       spelled = log_is;
     };
     found = found-in 1735692000;
-    leaves = leaves [] 0 1735692000 kept_after (sym first-made) refl;
+    leaves = leaves [] 0 1735692000 saved_after (sym first-made) refl;
   },
   (
-    kept_after,
+    saved_after,
     record {
       begins = refl;
       heard = record {
         file = file-is 1735706400 (lit< tt);
-        taken = taken kept_after.entries 1735692000 1735706400 (lit≤ tt) (lit≤ tt);
-        printed = subst (PrintsToEnd (start_from kept_after) (events_in second_run)) second-printed (printed kept_after.entries 1735692000 1735706400);
+        taken = taken saved_after.entries 1735692000 1735706400 (lit≤ tt) (lit≤ tt);
+        printed = subst (PrintsToEnd (start_from saved_after) (events_in second_run)) second-printed (printed saved_after.entries 1735692000 1735706400);
         spelled = record { entries = []; each = tt; joined = refl };
       };
       found = found-in 1735706400;
-      leaves = leaves kept_after.entries 1735692000 1735706400 kept_after (sym second-made) refl;
+      leaves = leaves saved_after.entries 1735692000 1735706400 saved_after (sym second-made) refl;
     },
     refl,
   ),
@@ -234,7 +235,7 @@ hears-second = record {
   parts = refl;
   cut = cut-heard 1735706400;
   found = refl;
-  force = in-force kept_after.entries 1735692000 1735706400;
+  force = in-force saved_after.entries 1735692000 1735706400;
 }
 
 hears : (one : CutRun) → Contains cuts one → Hears one
@@ -264,7 +265,7 @@ none-between entries copies before between after first later two e =
     let more = length-append between (later ∷ after) in
     none-made entries between (omega (arith, two, whole, more))
 
-pub heard-in-time : IsHeardInTimeOver nothing_kept example_runs example_message
+pub heard-in-time : IsHeardInTimeOver nothing_saved example_runs example_message
 heard-in-time = record {
   cuts = cuts;
   whole = refl;

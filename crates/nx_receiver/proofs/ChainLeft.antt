@@ -6,10 +6,11 @@ use Rattle.nx_envelope.specs.Copies.{closed_copy, open_headers}
 use Rattle.nx_envelope.specs.Header.{Header}
 use Rattle.nx_envelope.specs.declared.found.How.{How}
 use Rattle.nx_envelope.specs.declared.found.How.TheVariants.{Cut}
+use Rattle.nx_memory.specs.Saved.{SavedState}
 use Rattle.nx_memory.specs.Memory.{most_entries}
 use Rattle.nx_memory.specs.declared.entry.MemoryEntry.{MemoryEntry}
 use Rattle.nx_sync.specs.Locks.{IsNow, Lock, Now}
-use Rattle.nx_receiver.specs.Chain.{AreFoundIn, Kept, Leaves}
+use Rattle.nx_receiver.specs.Chain.{AreFoundIn, Leaves}
 use Rattle.nx_receiver.specs.Events.{Event, Setting, Start, elements_among, first_setting, settings}
 use Rattle.nx_receiver.specs.FoundCopies.{FoundCopy, ended_so_far, found_copy, found_to_end, open_so_far, standing_text}
 use Rattle.nx_receiver.specs.LockText.{PlacedByte, bytes_of}
@@ -55,7 +56,7 @@ end-enters start events locks now =
     ∙ cut-all (entries_after start.entries ended) first events text (open_headers (bytes_of text))
 
 -- so what is left is told by the copies that have ended
-pub left-of_ended : (start : Start) (events : List Event) (left : Kept) (locks : List Lock) (now : Now) → IsNow (elements_among events) locks now → Leaves start events left
+pub left-of_ended : (start : Start) (events : List Event) (left : SavedState) (locks : List Lock) (now : Now) → IsNow (elements_among events) locks now → Leaves start events left
     → left.entries ≡ last_of most_entries (entries_after start.entries (tagged_copies (first_setting start) events (ended_so_far (elements_among events) locks now)))
 left-of_ended start events left locks now stands l =
     let all = found_to_end (elements_among events) locks now in
@@ -70,7 +71,7 @@ unfolding copies_by tagged_copies
 tagged-by first events copies = refl
 
 -- a receiver that stands after events holds it
-pub held-left : {M : Type 0} (content : M → List MemoryEntry) (start : Start) (events : List Event) (receiver : Receiving M) (log : List TaggedCopy) (left : Kept) → Stands content start receiver events log
+pub held-left : {M : Type 0} (content : M → List MemoryEntry) (start : Start) (events : List Event) (receiver : Receiving M) (log : List TaggedCopy) (left : SavedState) → Stands content start receiver events log
     → left.entries ≡ content receiver.memory → left.refused ≡ (in_force receiver.watch).refused → Leaves start events left
 held-left content start events receiver log left s entries refused =
     let r = s.watch.reads in

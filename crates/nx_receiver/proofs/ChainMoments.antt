@@ -6,9 +6,10 @@ use Rattle.std.proofs.lemmas.Bool.{cases_lt}
 use Rattle.std.proofs.lemmas.List.{get_or_past}
 use Rattle.std.proofs.lemmas.List.Concat.{flat_map-append}
 use Rattle.std.proofs.lemmas.List.Elements.{All-append, All-cons, All-get_or, All-head, All-nil, All-tail}
+use Rattle.nx_memory.specs.Saved.{SavedState}
 use Rattle.nx_memory.specs.Memory.{newest_moment}
 use Rattle.nx_fec.specs.AirFile.{Line, accept_station, accept_subject, elements, moment, refuse_station, refuse_subject}
-use Rattle.nx_receiver.specs.Chain.{GoesOn, Kept, Run, copies_in, events_in}
+use Rattle.nx_receiver.specs.Chain.{GoesOn, Run, copies_in, events_in}
 use Rattle.nx_receiver.specs.Events.{Event, Setting, Start, at_moment, command, element, first_setting, setting_after, setting_after_all, settings}
 use Rattle.nx_receiver.specs.FoundCopies.{FoundCopy}
 use Rattle.nx_receiver.specs.Listen.{AreTakenAfter, IsTakenAfter, events_of, in_force_after, line_events}
@@ -92,12 +93,12 @@ tagged-from m first events (copy ∷ copies) low all =
     All-cons (IsCopyFrom m) _ _ (at-from m (settings first events) first copy.place low all) (tagged-from m first events copies low all)
 
 -- no copy of a run is older than the newest entry that the run starts with
-pub copies-from : (kept left : Kept) (run : Run) → GoesOn kept run left → All (IsCopyFrom (newest_moment kept.entries)) (copies_in run)
+pub copies-from : (saved left : SavedState) (run : Run) → GoesOn saved run left → All (IsCopyFrom (newest_moment saved.entries)) (copies_in run)
 unfolding setting_after_all
-copies-from kept left run g =
+copies-from saved left run g =
     let first = first_setting run.start in
     let itself : run.start.moment ≤ run.start.moment = omega arith in
     let given = lines-from run.start [] run.lines itself g.heard.taken.each in
     let all = tagged-from run.start.moment first (events_in run) run.found itself (settings-from run.start.moment first (events_in run) itself given) in
-    let from : run.start.moment ≡ newest_moment kept.entries = ap (λ (s : Start). s.moment) g.begins in
+    let from : run.start.moment ≡ newest_moment saved.entries = ap (λ (s : Start). s.moment) g.begins in
     subst (λ m. All (IsCopyFrom m) (copies_in run)) from all

@@ -7,9 +7,10 @@ use Rattle.nx_envelope.specs.Identity.{same_identity}
 use Rattle.nx_envelope.specs.Message.{text_of}
 use Rattle.nx_envelope.specs.MessageView.{MessageView}
 use Rattle.nx_envelope.proofs.Identities.{same_identity-true, same_itself}
+use Rattle.nx_memory.specs.Saved.{SavedState}
 use Rattle.nx_memory.specs.Memory.{seconds_known}
 use Rattle.nx_station.specs.Sendings.{Sending}
-use Rattle.nx_receiver.specs.Chain.{AreFoundIn, IsChain, Kept, Run, all_copies, all_printed, copies_in, events_in}
+use Rattle.nx_receiver.specs.Chain.{AreFoundIn, IsChain, Run, all_copies, all_printed, copies_in, events_in}
 use Rattle.nx_receiver.specs.ChainOnce.{CutRun, IsHeardInTimeOver, IsSentIn, in_force_in}
 use Rattle.nx_receiver.specs.Events.{elements_among}
 use Rattle.nx_receiver.specs.FoundCopies.{FoundCopy, found_to_end}
@@ -32,7 +33,7 @@ IsFound cut = AreFoundIn (events_in cut.run) cut.run.found
 abbrev runs_of : List CutRun → List Run
 runs_of cuts = map (λ (cut : CutRun). cut.run) cuts
 
-chain_found : (first : Kept) (cuts : List CutRun) (last : Kept) → IsChain first (runs_of cuts) last → All IsFound cuts
+chain_found : (first : SavedState) (cuts : List CutRun) (last : SavedState) → IsChain first (runs_of cuts) last → All IsFound cuts
 chain_found first [] last chain = All-nil IsFound
 chain_found first (cut ∷ cuts) last chain =
     All-cons IsFound cut cuts chain.1.found (chain_found chain.0 cuts last chain.2)
@@ -48,7 +49,7 @@ in_all cuts cut copy c d = at cuts cut copy c.0 c.1 c.2 d
     at (x ∷ cuts) cut copy (suc k) lt e d =
         Contains-append_right (copies_in x.run) (all_copies (runs_of cuts)) copy (at cuts cut copy k (omega arith) e d)
 
-module _ (first last : Kept) (runs : List Run) (message : MessageView) (chain : IsChain first runs last) (h : IsHeardInTimeOver first runs message) where
+module _ (first last : SavedState) (runs : List Run) (message : MessageView) (chain : IsChain first runs last) (h : IsHeardInTimeOver first runs message) where
   each_found : All IsFound h.cuts
   each_found = chain_found first h.cuts last (subst (λ (rs : List Run). IsChain first rs last) h.whole chain)
 

@@ -5,7 +5,7 @@ use Rattle.std.specs.List.{flat_map}
 use Rattle.nx_code.specs.Lists.{last_of}
 use Rattle.nx_fec.specs.AirFile.{Line}
 use Rattle.nx_memory.specs.Memory.{most_entries, newest_moment}
-use Rattle.nx_memory.specs.Refused.{Refused}
+use Rattle.nx_memory.specs.Saved.{SavedState}
 use Rattle.nx_memory.specs.declared.entry.MemoryEntry.{MemoryEntry}
 use Rattle.nx_sync.specs.Locks.{IsNow, Lock, Now}
 use Rattle.nx_receiver.specs.Events.{Event, Start, elements_among, first_setting, none_refused, setting_after_all}
@@ -18,22 +18,17 @@ use Rattle.nx_receiver.specs.Tagged.{TaggedCopy, tagged_copies}
 abbrev pub AgreeInLast : List MemoryEntry → List MemoryEntry → Type 0
 AgreeInLast one other = last_of most_entries one ≡ last_of most_entries other
 
--- what is kept from one run to the next: entries, oldest first, and what is refused
-pub record Kept : Type 0 where
-  pub entries : List MemoryEntry
-  pub refused : Refused
+-- nothing is saved: there are no entries, and everything is selected
+abbrev pub nothing_saved : SavedState
+nothing_saved = record { entries = []; refused = none_refused }
 
--- nothing is kept: there are no entries, and everything is selected
-abbrev pub nothing_kept : Kept
-nothing_kept = record { entries = []; refused = none_refused }
-
--- A run starts with what is kept, at the moment of the newest entry, or 0 where there is none: so no
--- moment of it lies before that one.
-abbrev pub start_from : Kept → Start
-start_from kept = record {
-  entries = kept.entries;
-  moment = newest_moment kept.entries;
-  refused = kept.refused;
+-- A run starts with what is saved, at the moment of the newest entry, or 0 where there is none: so
+-- no moment of it lies before that one.
+abbrev pub start_from : SavedState → Start
+start_from saved = record {
+  entries = saved.entries;
+  moment = newest_moment saved.entries;
+  refused = saved.refused;
 }
 
 -- these are all copies that are found where these events are all: the end closes the one that
@@ -46,7 +41,7 @@ pub record AreFoundIn (events : List Event) (copies : List FoundCopy) : Type 0 w
 
 -- what is left where these events are all: the last 200 of all entries made, and what is refused
 -- after all commands
-pub record Leaves (start : Start) (events : List Event) (left : Kept) : Type 0 where
+pub record Leaves (start : Start) (events : List Event) (left : SavedState) : Type 0 where
   pub copies : List FoundCopy
   pub found : AreFoundIn events copies
   pub entries : left.entries
@@ -72,28 +67,29 @@ events_in run = events_of run.lines
 abbrev pub copies_in : Run → List TaggedCopy
 copies_in run = tagged_copies (first_setting run.start) (events_in run) run.found
 
--- The run starts with what is kept, is read to its end without a fault, has this log, and leaves
+-- The run starts with what is saved, is read to its end without a fault, has this log, and leaves
 -- this.
-pub record GoesOn (kept : Kept) (run : Run) (left : Kept) : Type 0 where
-  pub begins : run.start ≡ start_from kept
+pub record GoesOn (saved : SavedState) (run : Run) (left : SavedState) : Type 0 where
+  pub begins : run.start ≡ start_from saved
   pub heard : IsLogOfFile run.start run.file run.lines run.printed run.log
   pub found : AreFoundIn (events_in run) run.found
   pub leaves : Leaves run.start (events_in run) left
 
--- a run that starts with what is kept read the file of these bytes to its end, wrote its log, and
+-- a run that starts with what is saved read the file of these bytes to its end, wrote its log, and
 -- leaves this
-pub record HasGoneOn (kept : Kept) (old new : Option (List ℕ)) (file : List ℕ) (left : Kept)
+pub record HasGoneOn (saved : SavedState) (old new : Option (List ℕ)) (file : List ℕ)
+    (left : SavedState)
     : Type 0 where
   pub run : Run
   pub read : run.file ≡ file
   pub written : Appends old new run.log
-  pub goes : GoesOn kept run left
+  pub goes : GoesOn saved run left
 
 -- The runs, in order, are a chain: the first starts with `first`, each other with what the run
 -- before it left, and the last leaves `last`.
-abbrev pub IsChain : Kept → List Run → Kept → Type 0
+abbrev pub IsChain : SavedState → List Run → SavedState → Type 0
 IsChain first [] last = last ≡ first
-IsChain first (run ∷ runs) last = (left : Kept) × GoesOn first run left × IsChain left runs last
+IsChain first (run ∷ runs) last = (left : SavedState) × GoesOn first run left × IsChain left runs last
 
 -- the files that the runs read, in order
 abbrev pub files : List Run → List (List ℕ)

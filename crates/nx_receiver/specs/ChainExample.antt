@@ -7,7 +7,8 @@ use Rattle.nx_fec.specs.BitLines.{bit_lines}
 use Rattle.nx_fec.specs.Emission.{bits_of}
 use Rattle.nx_fec.specs.Lines.{file_of}
 use Rattle.nx_station.specs.ChannelExample.{example_message}
-use Rattle.nx_receiver.specs.Chain.{Kept, Run, nothing_kept, start_from}
+use Rattle.nx_memory.specs.Saved.{SavedState}
+use Rattle.nx_receiver.specs.Chain.{Run, nothing_saved, start_from}
 use Rattle.nx_receiver.specs.Events.{none_refused}
 use Rattle.nx_receiver.specs.Example.{first_copy}
 use Rattle.nx_receiver.specs.FoundCopies.{FoundCopy}
@@ -23,7 +24,7 @@ copy_heard = copy_of_sending (record { message = example_message; place = 1189 }
 -- the first run begins with nothing and prints it
 abbrev pub first_run : Run
 first_run = record {
-  start = start_from nothing_kept;
+  start = start_from nothing_saved;
   file = example_air_file;
   lines = example_lines;
   found = copy_heard ∷ [];
@@ -31,9 +32,9 @@ first_run = record {
   log = worked_log;
 }
 
--- its entry is what is kept
-abbrev pub kept_after : Kept
-kept_after = record { entries = entry_of first_copy ∷ []; refused = none_refused }
+-- its entry is what is saved
+abbrev pub saved_after : SavedState
+saved_after = record { entries = entry_of first_copy ∷ []; refused = none_refused }
 
 -- the moment 2025-01-01 04:40:00, and the same elements
 abbrev pub later_lines : List Line
@@ -42,7 +43,7 @@ later_lines = moment 1735706400 ∷ bit_lines (bits_of damaged_words)
 -- the second run begins with that, and prints nothing
 abbrev pub second_run : Run
 second_run = record {
-  start = start_from kept_after;
+  start = start_from saved_after;
   file = file_of later_lines;
   lines = later_lines;
   found = copy_heard ∷ [];

@@ -2,10 +2,11 @@
 -- is printed once (this profile).
 use Rattle.std.specs.Prelude.{◌≡◌, ℕ, ◌+◌, ◌<◌, List, map, Contains, IsTrue}
 use Rattle.nx_envelope.specs.MessageView.{MessageView}
+use Rattle.nx_memory.specs.Saved.{SavedState}
 use Rattle.nx_memory.specs.Memory.{seconds_known}
 use Rattle.nx_memory.specs.Selection.{admits}
 use Rattle.nx_station.specs.Sendings.{Part, IsCut}
-use Rattle.nx_receiver.specs.Chain.{Kept, Run, all_copies, events_in, start_from}
+use Rattle.nx_receiver.specs.Chain.{Run, all_copies, events_in, start_from}
 use Rattle.nx_receiver.specs.Events.{Setting, elements_among}
 use Rattle.nx_receiver.specs.FoundCopies.{FoundCopy}
 use Rattle.nx_receiver.specs.LawTerms.{IsUnknownAtFirst}
@@ -28,7 +29,7 @@ abbrev pub in_force_in : CutRun → ℕ → Setting
 in_force_in cut place = setting_of cut.run.start (events_in cut.run) place
 
 -- What has to be met in runs, so that a message is printed once in their logs.
-pub record IsHeardInTimeOver (first : Kept) (runs : List Run) (message : MessageView)
+pub record IsHeardInTimeOver (first : SavedState) (runs : List Run) (message : MessageView)
     : Type 0 where
   -- The elements of each run are cut into gaps of any bits and emissions that are received as the
   -- channel says.
@@ -52,7 +53,7 @@ pub record IsHeardInTimeOver (first : Kept) (runs : List Run) (message : Message
   pub close : (one other : CutRun) (at place : ℕ) → IsSentIn cuts message one at
       → IsSentIn cuts message other place
       → (in_force_in one at).moment < (in_force_in other place).moment + seconds_known
-  -- At its first copy no entry of its identity is live of those that were kept at first; where none
+  -- At its first copy no entry of its identity is live of those that were saved at first; where none
   -- were, this always holds.
   pub unknown : IsUnknownAtFirst first.entries message.identity (all_copies runs)
   -- 200 identities suffice: fewer than 200 entries are made between its first copy and any later

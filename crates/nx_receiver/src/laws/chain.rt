@@ -5,12 +5,13 @@ ghost use Rattle.std.specs.Prelude.{◌≡◌, ℕ, ◌≤◌, All, List, ◌++�
 ghost use Rattle.nx_code.specs.Lists.{last_of};
 ghost use Rattle.nx_envelope.specs.MessageView.{MessageView};
 ghost use Rattle.nx_fec.specs.AirFile.{Line};
+ghost use Rattle.nx_memory.specs.Saved.{SavedState};
 ghost use Rattle.nx_memory.specs.Memory.{most_entries, newest_moment};
 ghost use Rattle.nx_memory.specs.declared.entry.MemoryEntry.{MemoryEntry};
 ghost use Rattle.nx_station.specs.ChannelExample.{example_message};
 ghost use Rattle.nx_sync.specs.Locks.{IsNow, Lock, Now};
-ghost use Rattle.nx_receiver.specs.Chain.{AgreeInLast, GoesOn, HasGoneOn, IsChain, Kept, Leaves, Run, all_copies, all_events, all_logs, all_printed, copies_in, files, nothing_kept, start_from};
-ghost use Rattle.nx_receiver.specs.ChainExample.{example_runs, kept_after};
+ghost use Rattle.nx_receiver.specs.Chain.{AgreeInLast, GoesOn, HasGoneOn, IsChain, Leaves, Run, all_copies, all_events, all_logs, all_printed, copies_in, files, nothing_saved, start_from};
+ghost use Rattle.nx_receiver.specs.ChainExample.{example_runs, saved_after};
 ghost use Rattle.nx_receiver.specs.ChainOnce.{IsHeardInTimeOver};
 ghost use Rattle.nx_receiver.specs.Events.{Event, Start, elements_among, first_setting, setting_after_all};
 ghost use Rattle.nx_receiver.specs.FoundCopies.{ended_so_far};
@@ -55,55 +56,56 @@ pub fn copies_are_printed_in_turn()
 /// the logs, one after another, are the log of it. The last run leaves the last 200 of all entries
 /// made, and what is refused after all commands.
 pub fn a_chain_logs_its_joined_copies()
-    ensures printed { (first last : Kept) (runs : List Run) → IsChain first runs last
+    ensures printed { (first last : SavedState) (runs : List Run) → IsChain first runs last
         → all_printed runs ≡ printed_copies first.entries (all_copies runs) }
-    ensures log { (first last : Kept) (runs : List Run) → IsChain first runs last
+    ensures log { (first last : SavedState) (runs : List Run) → IsChain first runs last
         → IsLog (printed_copies first.entries (all_copies runs)) (all_logs runs) }
-    ensures entries { (first last : Kept) (runs : List Run) → IsChain first runs last
+    ensures entries { (first last : SavedState) (runs : List Run) → IsChain first runs last
         → length first.entries ≤ most_entries
         → last.entries ≡ last_of most_entries (entries_after first.entries (all_copies runs)) }
-    ensures selection { (first last : Kept) (runs : List Run) → IsChain first runs last
+    ensures selection { (first last : SavedState) (runs : List Run) → IsChain first runs last
         → last.refused
         ≡ (setting_after_all (first_setting (start_from first)) (all_events runs)).refused }
 {}
 
-/// A run goes on from what is kept wherever its file has a log with that start; so does each run
+/// A run goes on from what is saved wherever its file has a log with that start; so does each run
 /// that listened with it. What it leaves is some one thing, of at most 200 entries. No copy of it
-/// has a moment before the newest entry that was kept. And where it goes on from what a chain left,
+/// has a moment before the newest entry that was saved. And where it goes on from what a chain left,
 /// the chain and it are a chain.
-pub fn a_run_goes_on_from_what_is_kept()
-    ensures run { (kept left : Kept) (file : List ℕ) (lines : List Line)
+pub fn a_run_goes_on_from_what_is_saved()
+    ensures run { (saved left : SavedState) (file : List ℕ) (lines : List Line)
         (printed : List TaggedCopy) (log : List ℕ)
-        → IsLogOfFile (start_from kept) file lines printed log
-        → Leaves (start_from kept) (events_of lines) left
-        → (run : Run) × (run.file ≡ file) × (run.log ≡ log) × GoesOn kept run left }
-    ensures listened { (kept : Kept) (old new : Option (List ℕ)) (file : List ℕ) (report : Report)
-        → HasListened (start_from kept) old new file report
-        → (left : Kept) × HasGoneOn kept old new file left }
+        → IsLogOfFile (start_from saved) file lines printed log
+        → Leaves (start_from saved) (events_of lines) left
+        → (run : Run) × (run.file ≡ file) × (run.log ≡ log) × GoesOn saved run left }
+    ensures listened { (saved : SavedState) (old new : Option (List ℕ)) (file : List ℕ)
+        (report : Report)
+        → HasListened (start_from saved) old new file report
+        → (left : SavedState) × HasGoneOn saved old new file left }
     ensures some { (start : Start) (events : List Event)
-        → (left : Kept) × Leaves start events left }
-    ensures one { (start : Start) (events : List Event) (left other : Kept)
+        → (left : SavedState) × Leaves start events left }
+    ensures one { (start : Start) (events : List Event) (left other : SavedState)
         → Leaves start events left → Leaves start events other → left ≡ other }
-    ensures few { (start : Start) (events : List Event) (left : Kept)
+    ensures few { (start : Start) (events : List Event) (left : SavedState)
         → Leaves start events left → length left.entries ≤ most_entries }
-    ensures after { (kept left : Kept) (run : Run) → GoesOn kept run left
-        → All (λ (copy : TaggedCopy). newest_moment kept.entries ≤ copy.moment) (copies_in run) }
-    ensures join { (first kept last : Kept) (runs more : List Run) → IsChain first runs kept
-        → IsChain kept more last → IsChain first (runs ++ more) last }
+    ensures after { (saved left : SavedState) (run : Run) → GoesOn saved run left
+        → All (λ (copy : TaggedCopy). newest_moment saved.entries ≤ copy.moment) (copies_in run) }
+    ensures join { (first saved last : SavedState) (runs more : List Run) → IsChain first runs saved
+        → IsChain saved more last → IsChain first (runs ++ more) last }
 {}
 
 /// An open copy is no part of what is left: what the end closes is cut, and makes no entry. So what
 /// is left is what a receiver holds after the events, before its end: the content of its memory, and
 /// what it refuses.
 pub fn a_receiver_holds_what_it_leaves<M: Recall>()
-    ensures ended { (start : Start) (events : List Event) (left : Kept) (locks : List Lock)
+    ensures ended { (start : Start) (events : List Event) (left : SavedState) (locks : List Lock)
         (now : Now) → IsNow (elements_among events) locks now → Leaves start events left
         → left.entries ≡ last_of most_entries
         (entries_after start.entries
         (tagged_copies (first_setting start) events
         (ended_so_far (elements_among events) locks now))) }
     ensures held { (start : Start) (events : List Event) (receiver : Receiving M)
-        (log : List TaggedCopy) (left : Kept) → Stands M.content start receiver events log
+        (log : List TaggedCopy) (left : SavedState) → Stands M.content start receiver events log
         → left.entries ≡ M.content receiver.memory
         → left.refused ≡ (in_force receiver.watch).refused
         → Leaves start events left }
@@ -112,7 +114,7 @@ pub fn a_receiver_holds_what_it_leaves<M: Recall>()
 /// The files of a chain tell its logs, and what it leaves: two chains that begin with the same and
 /// read the same files log the same bytes and leave the same.
 pub fn a_chain_is_told_by_its_files()
-    ensures { (first last end : Kept) (runs others : List Run) → files runs ≡ files others
+    ensures { (first last end : SavedState) (runs others : List Run) → files runs ≡ files others
         → IsChain first runs last → IsChain first others end
         → (all_logs runs ≡ all_logs others) × (last ≡ end) }
 {}
@@ -122,21 +124,21 @@ pub fn a_chain_is_told_by_its_files()
 /// is full, has 0 errors, and its text is the message's, letter for letter. A chain that begins with
 /// nothing has no entry of it that could be live at its first copy.
 pub fn a_message_heard_over_runs_has_one_entry()
-    ensures logged { (first last : Kept) (runs : List Run) → IsChain first runs last
+    ensures logged { (first last : SavedState) (runs : List Run) → IsChain first runs last
         → IsLog (all_printed runs) (all_logs runs) }
-    ensures once { (first last : Kept) (runs : List Run) (message : MessageView)
+    ensures once { (first last : SavedState) (runs : List Run) (message : MessageView)
         → IsChain first runs last → IsHeardInTimeOver first runs message
         → IsPrintedOnce message (all_printed runs) }
     ensures from_nothing { (runs : List Run) (message : MessageView)
-        → IsUnknownAtFirst nothing_kept.entries message.identity (all_copies runs) }
+        → IsUnknownAtFirst nothing_saved.entries message.identity (all_copies runs) }
 {}
 
 /// There is such a chain, of two runs, which begins with nothing: EA01 with the line TEST is heard,
 /// the receiver is switched off and on again, and EA01 is heard four hours after the first. Its logs
 /// are the one entry.
 pub fn there_is_a_chain_with_a_message_heard_in_time()
-    ensures chain { IsChain nothing_kept example_runs kept_after }
-    ensures heard { IsHeardInTimeOver nothing_kept example_runs example_message }
+    ensures chain { IsChain nothing_saved example_runs saved_after }
+    ensures heard { IsHeardInTimeOver nothing_saved example_runs example_message }
     ensures logs { all_logs example_runs ≡ worked_log }
 {}
 
@@ -151,7 +153,7 @@ mod tests {
         the_last_entries_decide();
         copies_are_printed_in_turn();
         a_chain_logs_its_joined_copies();
-        a_run_goes_on_from_what_is_kept();
+        a_run_goes_on_from_what_is_saved();
         a_receiver_holds_what_it_leaves::<PlainRecall>();
         a_chain_is_told_by_its_files();
         a_message_heard_over_runs_has_one_entry();

@@ -1,6 +1,6 @@
 use Rattle.nx_receiver.proofs.ChainMoments.{copies-from}
 use Rattle.nx_receiver.proofs.ChainRuns.{chains_join, few_left, goes_on, one_left, some_gone_on, some_left}
-use Rattle.nx_receiver.proofs.laws.chain.a_run_goes_on_from_what_is_kept.Goals as goal
+use Rattle.nx_receiver.proofs.laws.chain.a_run_goes_on_from_what_is_saved.Goals as goal
 
 pub returns : goal.returns
 returns c = record {
@@ -10,5 +10,5 @@ returns c = record {
   one = one_left;
   few = few_left;
   after = copies-from;
-  join = λ first kept last runs more c d. chains_join first runs more kept last c d;
+  join = λ first saved last runs more c d. chains_join first runs more saved last c d;
 }
