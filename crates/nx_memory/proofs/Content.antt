@@ -34,7 +34,7 @@ in_turn-push (entry ∷ others) last turn later = (
 )
 
 -- the last of two or more is the last without the first
-newest_behind : (entry next : MemoryEntry) (later : List MemoryEntry) → newest_moment (entry ∷ next ∷ later) ≡ newest_moment (next ∷ later)
+pub newest_behind : (entry next : MemoryEntry) (later : List MemoryEntry) → newest_moment (entry ∷ next ∷ later) ≡ newest_moment (next ∷ later)
 newest_behind entry next later =
     let place : length (entry ∷ next ∷ later) - 1 ≡ suc (length (next ∷ later) - 1) = omega arith in
     ap (λ (i : ℕ). unwrap_or (option_map (λ (it : MemoryEntry). it.moment) (slice_get (entry ∷ next ∷ later) i)) 0) place

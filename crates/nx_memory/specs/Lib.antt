@@ -4,6 +4,7 @@ pub mod Live
 pub mod Memory
 pub mod Refused
 pub mod Ring
+pub mod Saved
 pub mod Selection
 pub mod Table
 pub mod Vital

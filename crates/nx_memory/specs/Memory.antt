@@ -37,3 +37,8 @@ is_recent identity moment entry =
 -- the identity is known at the moment: one of the entries bears it and is less than 66 hours old
 abbrev pub is_known : Identity → ℕ → List MemoryEntry → Bool
 is_known identity moment content = list_any (is_recent identity moment) content
+
+-- the entry at a place, from 0, the oldest: its identity and its moment
+abbrev pub entry_at : List MemoryEntry → ℕ → Option (Identity × ℕ)
+entry_at content place =
+    option_map (λ entry. (entry.identity, entry.moment)) (slice_get content place)

@@ -1,4 +1,5 @@
-//! What the words of the memory mean: laws over its definitions alone.
+//! What the words of the memory mean: laws over its definitions alone; and that nothing is lost by
+//! saving and loading.
 
 ghost use Rattle.std.specs.Prelude.{◌≡◌, ℕ, ◌<◌, ◌≤◌, ◌↔◌, List, [], ◌∷◌, ◌++◌, IsTrue, false};
 ghost use Rattle.nx_code.specs.Lists.{last_of};
@@ -7,7 +8,13 @@ ghost use Rattle.nx_memory.specs.declared.entry.MemoryEntry.{MemoryEntry};
 ghost use Rattle.nx_memory.specs.Content.{IsContent};
 ghost use Rattle.nx_memory.specs.Live.{IsLive};
 ghost use Rattle.nx_memory.specs.Table.{identities, index_of, is_recent_moment, moment_of_last};
+ghost use Rattle.nx_envelope.specs.Moment.{last_moment};
 ghost use Rattle.nx_memory.specs.Memory.{content_after, is_known, most_entries, newest_moment};
+
+use crate::listed::Listed;
+use crate::recall::Recall;
+use crate::saved::Saved;
+use crate::selection::Selection;
 
 /// Of all the entries made so far, those among the last 200 make an identity known exactly where
 /// one of them is live: it bears the identity, is less than 66 hours old, and fewer than 200
@@ -54,3 +61,21 @@ pub fn the_last_entry_tells()
         is_known identity moment content
         ≡ is_recent_moment moment (moment_of_last identity content) }
 {}
+
+/// Nothing is lost where a memory is loaded and saved: what is saved of it is what was loaded.
+pub fn loaded_is_saved_again<M: Listed>(saved: &Saved, memory: &mut M) -> Saved
+    requires { M.content memory.old ≡ [] }
+    ensures { result ≡ saved.now }
+{
+    saved.load(memory);
+    Saved::of(&saved.selection(), memory)
+}
+
+/// Nothing is lost where a memory is saved and another loaded: the other then has the same entries.
+pub fn saved_is_loaded_again<M: Listed, N: Recall>(memory: &M, other: &mut N)
+    requires in_range { newest_moment (M.content memory.now) ≤ last_moment }
+    requires empty { N.content other.old ≡ [] }
+    ensures { N.content other.new ≡ M.content memory.now }
+{
+    Saved::of(&Selection::all(), memory).load(other);
+}

@@ -6,16 +6,20 @@
 mod entry;
 pub mod laws;
 mod letter_set;
+mod listed;
 mod moment_table;
 mod plain;
 mod recall;
 mod ring;
+mod saved;
 mod selection;
 
 pub use entry::MemoryEntry;
+pub use listed::Listed;
 pub use plain::PlainRecall;
 pub use recall::{CAPACITY, LIFETIME, Recall};
 pub use ring::RingRecall;
+pub use saved::Saved;
 pub use selection::{Selection, Vital};
 
 #[cfg(test)]

@@ -2,6 +2,7 @@
 
 ghost use Rattle.std.specs.Prelude.{◌≡◌, ◌<◌, Some, None, IfOk, if◌then◌else◌};
 ghost use Rattle.std.specs.Prelude.{get_or, replicate, slice_set};
+ghost use Rattle.std.specs.Vec.{SameBlock};
 ghost use Rattle.nx_memory.specs.Table.{holds_moment, index_of as the_index_of};
 
 use crate::entry::MemoryEntry;
@@ -41,6 +42,8 @@ impl MomentTable {
     pub(crate) fn new(alloc: Global) -> Result<Self, AllocError>
         ensures { IfOk result (λ table. table.items ≡ replicate 67600 None) }
     {
+        // No room for anything else.
+        prove!(size_of::<MomentTable>() == 24);
         Ok(MomentTable {
             moments: vec![in alloc; None; IDENTITIES]?,
         })
@@ -53,19 +56,23 @@ impl MomentTable {
         self.moments[index_of(identity)]
     }
 
-    /// Sets the moment of the entry's identity to the entry's.
+    /// Sets the moment of the entry's identity to the entry's. The block stays where it is, and as
+    /// large.
     pub(crate) fn set(&mut self, entry: MemoryEntry)
-        ensures { self.new.items
+        ensures moments { self.new.items
             ≡ slice_set self.old.items (the_index_of entry.identity) (Some entry.moment) }
+        ensures in_place { SameBlock self.old self.new }
     {
         self.moments[index_of(entry.identity)] = Some(entry.moment);
     }
 
     /// Takes out the moment of the entry's identity, where it is the entry's: a later one stays.
+    /// The block stays where it is, and as large.
     pub(crate) fn clear(&mut self, entry: MemoryEntry)
-        ensures { self.new.items ≡ (if holds_moment self.old.items entry
+        ensures moments { self.new.items ≡ (if holds_moment self.old.items entry
             then slice_set self.old.items (the_index_of entry.identity) None
             else self.old.items) }
+        ensures in_place { SameBlock self.old self.new }
     {
         let place = index_of(entry.identity);
         if self.moments[place] == Some(entry.moment) {

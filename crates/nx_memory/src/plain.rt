@@ -3,6 +3,7 @@
 ghost use Rattle.std.specs.Prelude.{◌≡◌, []};
 
 use crate::entry::MemoryEntry;
+use crate::listed::Listed;
 use crate::recall::{CAPACITY, LIFETIME, Recall};
 use arrayvec::ArrayVec;
 use nx_envelope::Identity;
@@ -34,6 +35,8 @@ impl PlainRecall {
     pub fn new() -> Self
         ensures { result ≡ [] }
     {
+        // No room for anything else.
+        prove!(size_of::<PlainRecall>() == 3208);
         PlainRecall {
             entries: ArrayVec::new(),
         }
@@ -67,5 +70,16 @@ impl Recall for PlainRecall {
             self.entries.remove(0);
         }
         self.entries.push(MemoryEntry { identity, moment });
+    }
+}
+
+impl Listed for PlainRecall {
+    fn count(&self) -> usize {
+        self.entries.len()
+    }
+
+    fn entry(&self, place: usize) -> Option<(Identity, u64)> {
+        let entry = self.entries.as_slice().get(place)?;
+        Some((entry.identity, entry.moment))
     }
 }

@@ -4,6 +4,7 @@
 ghost use Rattle.std.specs.Prelude.{◌≡◌, [], IfOk};
 
 use crate::entry::MemoryEntry;
+use crate::listed::Listed;
 use crate::moment_table::MomentTable;
 use crate::recall::{CAPACITY, LIFETIME, Recall};
 use circular_buffer::HeapCircularBuffer;
@@ -43,6 +44,8 @@ impl RingRecall {
     pub fn new(alloc: Global) -> Result<Self, AllocError>
         ensures { IfOk result (λ memory. memory.content ≡ []) }
     {
+        // No room for anything else.
+        prove!(size_of::<RingRecall>() == 56);
         Ok(RingRecall {
             entries: HeapCircularBuffer::with_capacity(alloc, CAPACITY)?,
             table: MomentTable::new(alloc)?,
@@ -70,5 +73,16 @@ impl Recall for RingRecall {
             self.table.clear(forgotten);
         }
         self.table.set(entry);
+    }
+}
+
+impl Listed for RingRecall {
+    fn count(&self) -> usize {
+        self.entries.len()
+    }
+
+    fn entry(&self, place: usize) -> Option<(Identity, u64)> {
+        let entry = self.entries.get(place)?;
+        Some((entry.identity, entry.moment))
     }
 }

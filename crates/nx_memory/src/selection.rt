@@ -21,7 +21,7 @@ pub struct Vital {
 
 /// The stations and the subjects that are refused, at first none. Contracts see it as these two
 /// sets of letters, which hold nothing but letters and no vital subject.
-#[derive(Drop)]
+#[derive(Clone, Copy)]
 pub struct Selection {
     refused_stations: LetterSet,
     refused_subjects: LetterSet,
@@ -104,6 +104,22 @@ impl Selection {
         }
         self.refused_subjects.insert(subject);
         Ok(())
+    }
+
+    /// Whether the station is refused, for all its subjects.
+    pub fn refuses_station(&self, station: Letter) -> bool
+        ensures refused { result ≡ set.contains self.now.stations station.byte }
+        ensures refusable { IsRefusable self.now }
+    {
+        self.refused_stations.contains(station)
+    }
+
+    /// Whether the subject is refused, of all stations.
+    pub fn refuses_subject(&self, subject: Letter) -> bool
+        ensures refused { result ≡ set.contains self.now.subjects subject.byte }
+        ensures refusable { IsRefusable self.now }
+    {
+        self.refused_subjects.contains(subject)
     }
 
     /// Whether neither the station nor the subject is refused. A vital subject never is.

@@ -86,12 +86,67 @@ fn ring_memories_pass_the_examples(rt: HostRuntime) -> Result<(), Fail> {
     Ok(())
 }
 
+/// Of 201 entries the last 200 are saved, and loaded into another memory that has none.
+fn check_saving<M: Listed>(rt: &impl Abort, memory: &mut M, other: &mut M)
+    requires memory { M.content memory.old ≡ [] }
+    requires other { M.content other.old ≡ [] }
+{
+    assert!(rt; enter_numbers(memory, b'B', b'A', 99, SLOT_START));
+    assert!(rt; enter_numbers(memory, b'B', b'B', 99, SLOT_START));
+    assert!(rt; enter_numbers(memory, b'B', b'C', 3, SLOT_START));
+    let mut selection = Selection::all();
+    selection.refuse_station(letter(rt, b'E'));
+    let saved = Saved::of(&selection, memory);
+    assert!(rt; saved.selection().refuses_station(letter(rt, b'E')));
+    assert_eq!(rt; saved.count(), CAPACITY);
+    assert_eq!(rt; saved.newest(), Some(SLOT_START));
+    let oldest = Identity::new(b'B', b'A', 2).expect(rt, "BA02");
+    let newest = Identity::new(b'B', b'C', 3).expect(rt, "BC03");
+    assert_eq!(rt; saved.entry(0), Some((oldest, SLOT_START)));
+    assert_eq!(rt; saved.entry(199), Some((newest, SLOT_START)));
+    assert_eq!(rt; saved.entry(200), None);
+    let again = laws::loaded_is_saved_again(&saved, other);
+    assert_eq!(rt; again.count(), CAPACITY);
+    assert_eq!(rt; other.count(), CAPACITY);
+    assert_eq!(rt; other.entry(0), Some((oldest, SLOT_START)));
+    assert_eq!(rt; other.entry(199), Some((newest, SLOT_START)));
+    assert!(rt; other.knows(&oldest, SLOT_START + 237_599));
+}
+
+#[test]
+fn plain_memories_are_saved(rt: HostRuntime) {
+    check_saving(&rt, &mut PlainRecall::new(), &mut PlainRecall::new());
+}
+
+#[test]
+fn ring_memories_are_saved(rt: HostRuntime) -> Result<(), Fail> {
+    let mut memory = RingRecall::new(rt.alloc())?;
+    let mut other = RingRecall::new(rt.alloc())?;
+    check_saving(&rt, &mut memory, &mut other);
+    Ok(())
+}
+
+#[test]
+fn nothing_is_saved_at_first(rt: HostRuntime) -> Result<(), Fail> {
+    let saved = Saved::new();
+    assert_eq!(rt; saved.count(), 0);
+    assert_eq!(rt; saved.newest(), None);
+    let mut memory = PlainRecall::new();
+    saved.load(&mut memory);
+    let mut ring = RingRecall::new(rt.alloc())?;
+    laws::saved_is_loaded_again(&memory, &mut ring);
+    assert_eq!(rt; ring.count(), 0);
+    Ok(())
+}
+
 #[test]
 fn refuses_what_is_not_vital(rt: HostRuntime) -> Result<(), Fail> {
     let mut selection = Selection::all();
     let ice = Identity::new(b'E', b'C', 5).expect(&rt, "EC05");
     let warning = Identity::new(b'E', b'L', 6).expect(&rt, "EL06");
     selection.refuse_subject(letter(&rt, b'C'))?;
+    assert!(rt; selection.refuses_subject(letter(&rt, b'C')));
+    assert!(rt; !selection.refuses_station(letter(&rt, b'E')));
     assert!(rt; !selection.admits(&ice));
     assert!(rt; selection.admits(&warning));
     for vital in *b"ABDL" {

@@ -51,3 +51,8 @@ pub mod SentLog
 pub mod SentDifferent
 pub mod SentFiles
 pub mod ChainPrinting
+pub mod ChainRuns
+pub mod ChainLeft
+pub mod ChainMoments
+pub mod ChainOnce
+pub mod ChainExample

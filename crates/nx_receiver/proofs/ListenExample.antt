@@ -36,15 +36,15 @@ use Rattle.nx_receiver.proofs.SendingFound.{sending_in_end}
 use Rattle.nx_receiver.proofs.WorkedLemmas.{damaged_computed}
 use Rattle.nx_receiver.proofs.WorkedLog.{all_selected, at_first, log_is, printed_to_end}
 
-abbrev bits : List Bool
+abbrev pub bits : List Bool
 bits = bits_of damaged_words
 
-long : length bits ≡ 1421
+pub long : length bits ≡ 1421
 long = length-bits_of damaged_words ∙ omega (arith, damaged_computed.long)
 
 -- ---- the file, of a moment and three lines of elements
 
-lines-short : length (file_of (bit_lines bits)) ≤ 1479
+pub lines-short : length (file_of (bit_lines bits)) ≤ 1479
 lines-short =
     let size : 493 * div_ceil (length bits) 490 ≡ 1479 = ap (λ n. 493 * div_ceil n 490) long in
     omega (arith, length-lines bits, size)
@@ -86,10 +86,10 @@ found-same : found ≡ all-found
 found-same = ap (λ (b : List Bool). found_to_end b [] (locked 0 28)) same
 
 -- each sending of the message is the one at this element
-abbrev place : ℕ
+abbrev pub place : ℕ
 place = length first_bits + 517
 
-one-sending : (at : ℕ) → IsSentAt (example_parts first_bits []) example_message at → at ≡ place
+pub one-sending : (at : ℕ) → IsSentAt (example_parts first_bits []) example_message at → at ≡ place
 one-sending at sent =
     let sending : Sending = record { message = example_message; place = at } in
     let there : Contains found (copy_of_sending sending) =
@@ -97,13 +97,13 @@ one-sending at sent =
     ap (λ (c : FoundCopy). c.place) (one_in found (copy_of_sending sending) (copy_of_sending (example_sending first_bits)) one_found there sent_there)
 
 -- at an element the moment is that of the file's first line
-inside : (now first : Setting) (xs : List Bool) (at : ℕ) → at < length xs → slice_index_or (settings now (map element xs)) at first ≡ now
+pub inside : (now first : Setting) (xs : List Bool) (at : ℕ) → at < length xs → slice_index_or (settings now (map element xs)) at first ≡ now
 unfolding settings
 inside now first [] at h = absurd (omega arith)
 inside now first (x ∷ xs) zero h = refl
 inside now first (x ∷ xs) (suc at) h = inside now first xs at (omega arith)
 
-place-within : place < length bits
+pub place-within : place < length bits
 place-within =
     let count : length (take 96 damaged_words) ≡ 96 = length-take 96 damaged_words ∙ omega (arith, damaged_computed.long) in
     omega (arith, long, count, length-bits_of (take 96 damaged_words))
@@ -153,7 +153,7 @@ unfolding AreTakenAfter setting_after_all
 taken = record { in_range = lit≤ tt; each = ((lit≤ tt, lit≤ tt), taken-lines at_zero (moment 1735692000 ∷ []) bits refl) }
 
 -- a list of one that holds an item is that item alone
-alone : {A : Type 0} (xs : List A) (x : A) → length xs ≡ 1 → Contains xs x → xs ≡ x ∷ []
+pub alone : {A : Type 0} (xs : List A) (x : A) → length xs ≡ 1 → Contains xs x → xs ≡ x ∷ []
 alone [] x one c = absurd (omega (arith, one))
 alone (y ∷ (z ∷ ys)) x one c = absurd (omega (arith, one))
 alone (y ∷ []) x one c = ap (λ w. w ∷ []) (one_in (y ∷ []) y x refl (0, omega arith, refl) c)

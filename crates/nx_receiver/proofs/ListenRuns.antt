@@ -18,19 +18,18 @@ use Rattle.nx_fec.proofs.TransferLaws.{Ok-not_err, Reads-on, Writes-none, read_f
 use Rattle.nx_receiver.specs.Events.{Start, elements_among}
 use Rattle.nx_receiver.specs.Listen.{ExplainsListening, HasListened, HasLogged, HasLoggedSomeOfFile, IsNextRefused, Listens, events_of, line_events}
 use Rattle.nx_receiver.specs.ListenerBegins.{printed-so_far}
-use Rattle.nx_receiver.specs.Listener.{BeginsFrom, HasClosed, HasClosedSome, IsListening, RefusesFrom, RefusesLine, StandsFrom, lines_fault, start_of}
+use Rattle.nx_receiver.specs.Listener.{BeginsFrom, HasClosed, HasClosedSome, IsListening, Listening, RefusesFrom, RefusesLine, StandsFrom, lines_fault, start_of}
 use Rattle.nx_receiver.specs.declared.listen_fault.ListenFault.{ListenFault}
 use Rattle.nx_receiver.specs.declared.listen_fault.ListenFault.TheVariants.{Memory, Read, Write}
 use Rattle.nx_receiver.specs.declared.listening.LineRefusal.{LineRefusal}
 use Rattle.nx_receiver.specs.declared.listening.LineRefusal.TheVariants as refusal
-use Rattle.nx_receiver.specs.declared.listening.Listener.{Listener}
 use Rattle.nx_receiver.specs.declared.listening.Report.{Report}
 use Rattle.nx_receiver.proofs.ListenMoments.{logged-some}
 use Rattle.nx_receiver.proofs.LoggedLemmas.{bits_of-append}
 use Rattle.nx_receiver.proofs.ReceiverEvents.{bits_of-more}
 
 -- what the lines gave was written: their log
-logged : (first now : Listener) (old new : Option (List ℕ)) (lines : List Line) → HasTaken StandsFrom first now lines (Appends old new) → HasLogged (start_of first) old new lines
+logged : (first now : Listening) (old new : Option (List ℕ)) (lines : List Line) → HasTaken StandsFrom first now lines (Appends old new) → HasLogged (start_of first) old new lines
 logged first now old new lines h = record {
   log = h.given;
   logged = record {
@@ -46,13 +45,13 @@ stops-on : (bytes : List ℕ) (P Q : List Line → List ℕ → List ℕ → Typ
     → StopsAt bytes P → StopsAt bytes Q
 stops-on bytes P Q f h = record { lines = h.lines; rest = h.rest; more = h.more; whole = h.whole; each = h.each; part = h.part; here = f h.lines h.rest h.more h.here }
 
-next-refused : (first : Listener) (number : ℕ) (lines : List Line) (rest more : List ℕ) (why : LineRefusal) → IsLineRefused RefusesFrom first air_limit lines rest more number why
+next-refused : (first : Listening) (number : ℕ) (lines : List Line) (rest more : List ℕ) (why : LineRefusal) → IsLineRefused RefusesFrom first air_limit lines rest more number why
     → IsNextRefused (λ before line. RefusesLine (start_of first) before line why) number lines rest more
 next-refused first number lines rest more why h =
     record { line = h.line; after = h.after; good = h.good; spelled = h.spelled; ended = h.ended; within = h.within; counted = h.counted; refused = h.refused }
 
 -- what a fault of the lines explains
-explains : (AtEnd : Type 0) (IsLeft : List ℕ → Type 0) (first now : Listener) (old new : Option (List ℕ)) (bytes : List ℕ) (fault : LinesFault LineRefusal)
+explains : (AtEnd : Type 0) (IsLeft : List ℕ → Type 0) (first now : Listening) (old new : Option (List ℕ)) (bytes : List ℕ) (fault : LinesFault LineRefusal)
     → ExplainsLines StandsFrom BeginsFrom RefusesFrom AtEnd IsLeft air_limit first now old new (Appends old new) bytes fault → ExplainsListening (start_of first) AtEnd IsLeft old new bytes (lines_fault fault)
 explains AtEnd IsLeft first now old new bytes run.Read h =
     stops-on bytes _ _ (λ lines rest more p. (p.0, p.1, logged first now old new lines p.2)) h
@@ -106,7 +105,7 @@ as-err : {N F : Type 0} (a b : F) → a ≡ b → ◌≡◌ {A = Result N F} (Er
 as-err {N} {F} a b e = let out : F → Result N F = λ x. Err x in ap out e
 
 -- a run over lines that ended early is a run of `listen` that did
-pub listens-fault : {R W : Type 0} (first now : Listener) (d : Devices R W) (fault : LinesFault LineRefusal)
+pub listens-fault : {R W : Type 0} (first now : Listening) (d : Devices R W) (fault : LinesFault LineRefusal)
     → RunsLines StandsFrom BeginsFrom RefusesFrom air_limit first now d (Err fault) → Listens (start_of first) d (Err (lines_fault fault))
 listens-fault first now d fault h = record {
   reads = Reads-on d.remaining d.reader d.reader_after run.Read Read (Err fault) (Err (lines_fault fault)) _ _ _ _ h.reads
@@ -144,7 +143,7 @@ lines-fewer (line ∷ lines) =
     omega (arith, heard, line-fewer line, lines-fewer lines, length-append (line_bytes line) (file_of lines))
 
 -- the whole file was read, and its end printed
-listened : (first now : Listener) (old mid new : Option (List ℕ)) (bytes : List ℕ) (read : LinesRead) (report : Report) → HasTakenAll StandsFrom first now old mid air_limit bytes read
+listened : (first now : Listening) (old mid new : Option (List ℕ)) (bytes : List ℕ) (read : LinesRead) (report : Report) → HasTakenAll StandsFrom first now old mid air_limit bytes read
     → ((lines : List Line) (given : List ℕ) → IsListening (start_of first) now lines given → HasWritten old mid given read.written → HasClosed (start_of first) old new (events_of lines) report)
     → report.lines ≡ read.lines → HasListened (start_of first) old new bytes report
 listened first now old mid new bytes read report h closed counted =
@@ -163,7 +162,7 @@ listened first now old mid new bytes read report h closed counted =
     }
 
 -- a run over lines that read its file to the end, and what the end prints, are a run of `listen`
-pub listens-ok : {R W : Type 0} (remaining : R → Option (List ℕ)) (contents : W → Option (List ℕ)) (first now : Listener) (reader reader_after : CountedDevice R) (writer mid new : CountedDevice W) (read : LinesRead) (report : Report)
+pub listens-ok : {R W : Type 0} (remaining : R → Option (List ℕ)) (contents : W → Option (List ℕ)) (first now : Listening) (reader reader_after : CountedDevice R) (writer mid new : CountedDevice W) (read : LinesRead) (report : Report)
     → RunsLines StandsFrom BeginsFrom RefusesFrom air_limit first now (devices remaining contents reader reader_after writer mid) (Ok read)
     → ((lines : List Line) (given : List ℕ) → IsListening (start_of first) now lines given → HasWritten (contents writer.inner) (contents mid.inner) given read.written
     → HasClosed (start_of first) (contents writer.inner) (contents new.inner) (events_of lines) report)
@@ -182,7 +181,7 @@ err-is (Ok x) fault h e = cc
 err-is (Err made) fault h e = as-err made fault e
 
 -- the whole file was read, and a write of what its end prints failed
-part-listened : (first now : Listener) (old mid new : Option (List ℕ)) (bytes : List ℕ) (read : LinesRead) (written : ℕ) → HasTakenAll StandsFrom first now old mid air_limit bytes read
+part-listened : (first now : Listening) (old mid new : Option (List ℕ)) (bytes : List ℕ) (read : LinesRead) (written : ℕ) → HasTakenAll StandsFrom first now old mid air_limit bytes read
     → ((lines : List Line) (given : List ℕ) → IsListening (start_of first) now lines given → HasWritten old mid given read.written → HasClosedSome (start_of first) old new (events_of lines) written)
     → HasLoggedSomeOfFile (start_of first) old new written bytes
 part-listened first now old mid new bytes read written h closed =
@@ -197,7 +196,7 @@ part-listened first now old mid new bytes read written h closed =
 write-not_read : {N : Type 0} (written : ℕ) → ◌≡◌ {A = Result N ListenFault} (Err (Write written)) (Err Read) → ⊥
 write-not_read written e = cc
 
-listens-part : {R W : Type 0} (remaining : R → Option (List ℕ)) (contents : W → Option (List ℕ)) (first now : Listener) (reader reader_after : CountedDevice R) (writer mid new : CountedDevice W) (read : LinesRead) (written : ℕ)
+listens-part : {R W : Type 0} (remaining : R → Option (List ℕ)) (contents : W → Option (List ℕ)) (first now : Listening) (reader reader_after : CountedDevice R) (writer mid new : CountedDevice W) (read : LinesRead) (written : ℕ)
     → RunsLines StandsFrom BeginsFrom RefusesFrom air_limit first now (devices remaining contents reader reader_after writer mid) (Ok read)
     → ((lines : List Line) (given : List ℕ) → IsListening (start_of first) now lines given → HasWritten (contents writer.inner) (contents mid.inner) given read.written
     → HasClosedSome (start_of first) (contents writer.inner) (contents new.inner) (events_of lines) written)
@@ -210,7 +209,7 @@ listens-part remaining contents first now reader reader_after writer mid new rea
   unwritten = tt;
 }
 
-pub listens-part-as : {R W : Type 0} (remaining : R → Option (List ℕ)) (contents : W → Option (List ℕ)) (first now : Listener) (reader reader_after : CountedDevice R) (writer mid new : CountedDevice W) (read : LinesRead) (written : ℕ) (outcome : Result Report ListenFault)
+pub listens-part-as : {R W : Type 0} (remaining : R → Option (List ℕ)) (contents : W → Option (List ℕ)) (first now : Listening) (reader reader_after : CountedDevice R) (writer mid new : CountedDevice W) (read : LinesRead) (written : ℕ) (outcome : Result Report ListenFault)
     → IsErr outcome → IsErrAnd outcome (λ made. made ≡ Write written)
     → RunsLines StandsFrom BeginsFrom RefusesFrom air_limit first now (devices remaining contents reader reader_after writer mid) (Ok read)
     → ((lines : List Line) (given : List ℕ) → IsListening (start_of first) now lines given → HasWritten (contents writer.inner) (contents mid.inner) given read.written

@@ -3,18 +3,17 @@ use Rattle.std.proofs.Common.{◌≡◌, ℕ, ◌+◌, List, [], ◌∷◌, ◌+
 use Rattle.std.specs.Io.KnownBytes.{Appends}
 use Rattle.nx_fec.specs.Devices.{WroteSome}
 use Rattle.nx_receiver.specs.Events.{Event, Start}
-use Rattle.nx_receiver.specs.Listener.{HasClosed, HasClosedSome, HearsLog, count_of}
+use Rattle.nx_receiver.specs.Listener.{HasClosed, HasClosedSome, HearsLog, Listening, count_of}
 use Rattle.nx_receiver.specs.Log.{IsEntry, PrintsToEnd}
 use Rattle.nx_receiver.specs.Receiver.{entry_list}
 use Rattle.nx_receiver.specs.Tagged.{copy_of}
 use Rattle.nx_receiver.specs.declared.entry.Entry.{Entry}
-use Rattle.nx_receiver.specs.declared.listening.Listener.{Listener}
 use Rattle.nx_receiver.specs.declared.listening.Report.{Report}
 use Rattle.nx_receiver.proofs.ListenerLemmas.{counts-on, one-log}
 use Rattle.nx_receiver.proofs.LogLemmas.{logs_join}
 
 -- the end printed nothing
-pub closed-none : (start : Start) (listener : Listener) (old new : Option (List ℕ)) (events : List Event) (given : List ℕ) (entry : Option Entry) (report : Report) (h : HearsLog start listener events given)
+pub closed-none : (start : Start) (listener : Listening) (old new : Option (List ℕ)) (events : List Event) (given : List ℕ) (entry : Option Entry) (report : Report) (h : HearsLog start listener events given)
     → entry ≡ None → PrintsToEnd start events (h.log ++ entry_list entry) → Appends old new given → report.bits ≡ listener.elements → report.printed ≡ listener.entries
     → HasClosed start old new events report
 closed-none start listener old new events given entry report h none ends written bits printed =
@@ -31,7 +30,7 @@ closed-none start listener old new events given entry report h none ends written
     }
 
 -- the end printed an entry
-pub closed-some : (start : Start) (listener : Listener) (old new : Option (List ℕ)) (events : List Event) (given bytes : List ℕ) (entry : Entry) (report : Report) (h : HearsLog start listener events given)
+pub closed-some : (start : Start) (listener : Listening) (old new : Option (List ℕ)) (events : List Event) (given bytes : List ℕ) (entry : Entry) (report : Report) (h : HearsLog start listener events given)
     → PrintsToEnd start events (h.log ++ copy_of entry ∷ []) → IsEntry (copy_of entry) bytes → Appends old new (given ++ bytes) → report.bits ≡ listener.elements
     → report.printed ≡ count_of (listener.entries + 1) → HasClosed start old new events report
 closed-some start listener old new events given bytes entry report h ends is written bits printed =
@@ -48,7 +47,7 @@ closed-some start listener old new events given bytes entry report h ends is wri
     }
 
 -- the entry that the end printed was written in part
-pub closed-part : (start : Start) (listener : Listener) (old new : Option (List ℕ)) (events : List Event) (given bytes : List ℕ) (entry : Entry) (written : ℕ) (h : HearsLog start listener events given)
+pub closed-part : (start : Start) (listener : Listening) (old new : Option (List ℕ)) (events : List Event) (given bytes : List ℕ) (entry : Entry) (written : ℕ) (h : HearsLog start listener events given)
     → PrintsToEnd start events (h.log ++ copy_of entry ∷ []) → IsEntry (copy_of entry) bytes → WroteSome old new (given ++ bytes) written → HasClosedSome start old new events written
 closed-part start listener old new events given bytes entry written h ends is some = record {
   copies = h.log ++ copy_of entry ∷ [];

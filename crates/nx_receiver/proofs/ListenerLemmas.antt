@@ -12,14 +12,13 @@ use Rattle.nx_envelope.specs.Moment.{last_moment}
 use Rattle.nx_memory.specs.Refused.{Refused}
 use Rattle.nx_receiver.specs.Events.{Event, Setting, Start, elements_among, element, none_refused, setting_after_all}
 use Rattle.nx_receiver.specs.Listen.{AreTaken, AreTakenAfter, IsTakenAfter, events_of, has_moment, in_force_after, is_moment_line, line_events}
-use Rattle.nx_receiver.specs.Listener.{BeginsListening, BeginsLog, HasFinished, HearsEvents, HearsLog, IsListening, count_of, start_of}
+use Rattle.nx_receiver.specs.Listener.{BeginsListening, BeginsLog, HasFinished, HearsEvents, HearsLog, IsListening, Listening, count_of, start_of}
 use Rattle.nx_receiver.specs.ListenerBegins.{printed-so_far}
 use Rattle.nx_receiver.specs.Log.{IsEntry, IsLog}
 use Rattle.nx_receiver.specs.Receiver as receiver
 use Rattle.nx_receiver.specs.Receiver.{Awaits, Stands, entry_list}
 use Rattle.nx_receiver.specs.Tagged.{TaggedCopy}
 use Rattle.nx_receiver.specs.declared.entry.Entry.{Entry}
-use Rattle.nx_receiver.specs.declared.listening.Listener.{Listener}
 use Rattle.nx_receiver.specs.declared.over.Over.{Over}
 use Rattle.nx_receiver.specs.declared.over.Over.TheVariants as overs
 use Rattle.nx_receiver.proofs.ReceiverFeeds.{nothing_awaited}
@@ -63,12 +62,12 @@ pub moment-one : (lines : List Line) (n : ℕ) → true ≡ has_moment (lines ++
 moment-one lines n = sym (list_any-append is_moment_line lines (moment n ∷ []) ∙ or-true (has_moment lines))
 
 -- what is in force is what the receiver has in force
-pub force-now : (start : Start) (listener : Listener) (lines : List Line) (given : List ℕ) → IsListening start listener lines given
+pub force-now : (start : Start) (listener : Listening) (lines : List Line) (given : List ℕ) → IsListening start listener lines given
     → listener.receiver.watch.moment ≡ (in_force_after start lines).moment
 force-now start listener lines given h = ap (λ s. s.moment) h.hears.hears.receiver.force
 
 -- a line that has no elements changes the receiver alone
-pub goes_on : (start : Start) (old new : Listener) (lines : List Line) (line : Line) (given : List ℕ) → IsListening start old lines given → IsTakenAfter start lines line
+pub goes_on : (start : Start) (old new : Listening) (lines : List Line) (line : Line) (given : List ℕ) → IsListening start old lines given → IsTakenAfter start lines line
     → elements_among (line_events line) ≡ [] → new.has_moment ≡ has_moment (lines ++ line ∷ []) → new.elements ≡ old.elements → new.entries ≡ old.entries
     → ((log : List TaggedCopy) → Stands content start old.receiver (events_of lines) log → Stands content start new.receiver (events_of lines ++ line_events line) log)
     → IsListening start new (lines ++ line ∷ []) given
@@ -97,7 +96,7 @@ pub counts-on : (old new m n all : ℕ) → old ≡ count_of m → new ≡ count
 counts-on old new m n all h k e = omega arith
 
 -- more elements were heard, and an entry was handed out with the last of them, or none
-pub hears-more : (start : Start) (old new : Listener) (events : List Event) (log : List TaggedCopy) (bits : List Bool) (n : ℕ) (entry : Option Entry) → HearsEvents start old events log
+pub hears-more : (start : Start) (old new : Listening) (events : List Event) (log : List TaggedCopy) (bits : List Bool) (n : ℕ) (entry : Option Entry) → HearsEvents start old events log
     → n ≤ length bits → length (entry_list entry) ≤ n
     → Stands content start new.receiver (events ++ receiver.elements (take n bits)) (log ++ entry_list entry)
     → new.elements ≡ count_of (old.elements + n) → new.entries ≡ count_of (old.entries + length (entry_list entry))
@@ -119,7 +118,7 @@ ok-false E x false h = refl
 ok-false E x true h = let e = h refl in cc
 
 -- nothing was handed out with these elements
-pub heard-none : (start : Start) (old new : Listener) (events : List Event) (given : List ℕ) (bits : List Bool) (n : ℕ) (entry : Option Entry) → entry ≡ None → HearsLog start old events given
+pub heard-none : (start : Start) (old new : Listening) (events : List Event) (given : List ℕ) (bits : List Bool) (n : ℕ) (entry : Option Entry) → entry ≡ None → HearsLog start old events given
     → n ≤ length bits
     → ((log : List TaggedCopy) → Stands content start old.receiver events log → Stands content start new.receiver (events ++ receiver.elements (take n bits)) (log ++ entry_list entry))
     → new.elements ≡ count_of (old.elements + n) → new.entries ≡ old.entries → HearsLog start new (events ++ receiver.elements (take n bits)) given
@@ -147,7 +146,7 @@ at-most-one None = omega arith
 at-most-one (Some entry) = omega arith
 
 -- what was over with the last of these elements was finished, and these are the bytes of the entry, if one was made
-pub heard-over : (start : Start) (old mid new : Listener) (events : List Event) (given more : List ℕ) (bits : List Bool) (n : ℕ) (over : Over) → HasFinished mid new over more
+pub heard-over : (start : Start) (old mid new : Listening) (events : List Event) (given more : List ℕ) (bits : List Bool) (n : ℕ) (over : Over) → HasFinished mid new over more
     → HearsLog start old events given → n ≤ length bits → 0 < n
     → ((log : List TaggedCopy) → Stands content start old.receiver events log → Awaits content start mid.receiver (events ++ receiver.elements (take n bits)) log over)
     → mid.elements ≡ count_of (old.elements + n) → mid.entries ≡ old.entries → HearsLog start new (events ++ receiver.elements (take n bits)) (given ++ more)
@@ -162,7 +161,7 @@ heard-over start old mid new events given more bits n over f h within least awai
     }
 
 -- nothing was over with these elements
-pub heard-no-over : (start : Start) (old new : Listener) (events : List Event) (given : List ℕ) (bits : List Bool) (n : ℕ) (over : Over) → over ≡ overs.Nothing → HearsLog start old events given
+pub heard-no-over : (start : Start) (old new : Listening) (events : List Event) (given : List ℕ) (bits : List Bool) (n : ℕ) (over : Over) → over ≡ overs.Nothing → HearsLog start old events given
     → n ≤ length bits
     → ((log : List TaggedCopy) → Stands content start old.receiver events log → Awaits content start new.receiver (events ++ receiver.elements (take n bits)) log over)
     → new.elements ≡ count_of (old.elements + n) → new.entries ≡ old.entries → HearsLog start new (events ++ receiver.elements (take n bits)) given
@@ -179,7 +178,7 @@ parts events bits n =
     ∙ sym (append_assoc events (receiver.elements (take n bits)) (receiver.elements (drop n bits)))
 
 -- a log so far is that of a beginning of more
-pub begins-more : (start : Start) (listener : Listener) (events : List Event) (given : List ℕ) (bits : List Bool) (n : ℕ) → HearsLog start listener (events ++ receiver.elements (take n bits)) given
+pub begins-more : (start : Start) (listener : Listening) (events : List Event) (given : List ℕ) (bits : List Bool) (n : ℕ) → HearsLog start listener (events ++ receiver.elements (take n bits)) given
     → BeginsLog start (events ++ receiver.elements bits) given
 begins-more start listener events given bits n h = record {
   before = events ++ receiver.elements (take n bits);
@@ -209,13 +208,13 @@ pub nothing-refused : (refused : Refused) → refused.stations ≡ set.empty →
 nothing-refused refused e f = sym (ap₂ (λ s t. record { stations = s; subjects = t }) e f)
 
 -- with what a listener starts, by what its receiver has
-pub start-is : (start : Start) (listener : Listener) → Stands content start listener.receiver [] [] → listener.receiver.memory.content ≡ start.entries → start_of listener ≡ start
+pub start-is : (start : Start) (listener : Listening) → Stands content start listener.receiver [] [] → listener.receiver.memory.content ≡ start.entries → start_of listener ≡ start
 unfolding setting_after_all
 start-is start listener stands same =
     ap₂ (λ (es : List MemoryEntry) (s : Setting). record { entries = es; moment = s.moment; refused = s.refused }) same stands.force
 
 -- a listener that was made has heard nothing
-pub heard-nothing : (start : Start) (listener : Listener) → start.moment ≤ last_moment → Stands content start listener.receiver [] [] → listener.has_moment ≡ false → listener.elements ≡ 0
+pub heard-nothing : (start : Start) (listener : Listening) → start.moment ≤ last_moment → Stands content start listener.receiver [] [] → listener.has_moment ≡ false → listener.elements ≡ 0
     → listener.entries ≡ 0 → IsListening start listener [] []
 unfolding AreTakenAfter elements_among
 heard-nothing start listener within stands none elements' entries' = record {
@@ -229,7 +228,7 @@ heard-nothing start listener within stands none elements' entries' = record {
 }
 
 -- after the elements of a line
-pub heard-line : (start : Start) (old new : Listener) (lines : List Line) (bits : List Bool) (given more : List ℕ) → IsListening start old lines given → has_moment lines ≡ true
+pub heard-line : (start : Start) (old new : Listening) (lines : List Line) (bits : List Bool) (given more : List ℕ) → IsListening start old lines given → has_moment lines ≡ true
     → new.has_moment ≡ old.has_moment → HearsLog start new (events_of lines ++ receiver.elements bits) more → IsListening start new (lines ++ elements bits ∷ []) more
 heard-line start old new lines bits given more h some same heard = record {
   taken = taken-one start lines (elements bits) h.taken some;

@@ -7,9 +7,8 @@ use Rattle.nx_fec.specs.Scanner.{kind_kept, kind_of, line_with}
 use Rattle.nx_fec.specs.declared.air_file.LineKind.{LineKind}
 use Rattle.nx_fec.specs.declared.line_run.TakeFault.{TakeFault}
 use Rattle.nx_fec.specs.declared.line_run.TakeFault.TheVariants as take
-use Rattle.nx_receiver.specs.Listener.{BeginsFrom, IsListening, RefusesFrom, RefusesLine, StandsFrom, start_of}
+use Rattle.nx_receiver.specs.Listener.{BeginsFrom, IsListening, Listening, RefusesFrom, RefusesLine, StandsFrom, start_of}
 use Rattle.nx_receiver.specs.declared.listening.LineRefusal.{LineRefusal}
-use Rattle.nx_receiver.specs.declared.listening.Listener.{Listener}
 
 line-is : (line : Line) → line ≡ line_with (kind_of line) (elements_of line)
 line-is (moment n) = refl
@@ -28,7 +27,7 @@ said latest found kind is line e f g h =
     line-is line ∙ ap (λ k. line_with k (elements_of line)) same
 
 -- a line that may be refused
-pub taken-line : (first before after : Listener) (old new : Option (List ℕ)) (batch : Waiting) (lines : List Line) (line is : Line)
+pub taken-line : (first before after : Listening) (old new : Option (List ℕ)) (batch : Waiting) (lines : List Line) (line is : Line)
     (taken : Result (Unit {0}) LineRefusal) (result : Result (Unit {0}) (TakeFault LineRefusal)) → line ≡ is
     → HasTaken StandsFrom first before lines (HasGiven old new batch)
     → MatchResult taken (λ _. result ≡ Ok tt) (λ why. result ≡ Err (take.Refused why))
@@ -51,7 +50,7 @@ taken-line first before after old new batch lines line is (Err why) result same 
     )
 
 -- a line that is taken always
-pub taken-always : (first before after : Listener) (old new : Option (List ℕ)) (batch : Waiting) (lines : List Line) (line is : Line) → line ≡ is
+pub taken-always : (first before after : Listening) (old new : Option (List ℕ)) (batch : Waiting) (lines : List Line) (line is : Line) → line ≡ is
     → HasTaken StandsFrom first before lines (HasGiven old new batch)
     → ((given : List ℕ) → IsListening (start_of first) before lines given → IsListening (start_of first) after (lines ++ is ∷ []) given)
     → HasTaken StandsFrom first after (lines ++ line ∷ []) (HasGiven old new batch)

@@ -29,7 +29,7 @@ contains_kept : {A : Type 0} (p : A → Bool) (y : A) (ys : List A) (x : A) → 
 contains_kept p y ys x c =
     elim (p y) as (λ b. Contains (cond b (y ∷ filter p ys) (filter p ys)) x) [ true ↦ (suc c.0, omega (arith, c.1), c.2) | false ↦ c ]
 
-contains_filter : {A : Type 0} (p : A → Bool) (xs : List A) (x : A) → Contains xs x → p x ≡ true
+pub contains_filter : {A : Type 0} (p : A → Bool) (xs : List A) (x : A) → Contains xs x → p x ≡ true
     → Contains (filter p xs) x
 contains_filter p xs x c passes = contains_at p xs x c.0 c.1 c.2 passes
   where
@@ -40,7 +40,7 @@ contains_filter p xs x c passes = contains_at p xs x c.0 c.1 c.2 passes
     contains_at p (y ∷ xs) x (suc k) lt e passes = contains_kept p y xs x (contains_at p xs x k (omega arith) e passes)
 
 -- what holds of each that passes the test holds of all that are kept
-filter_all : {A : Type 0} (p : A → Bool) (Q : A → Type 0) (xs : List A) → All (λ x. p x ≡ true → Q x) xs
+pub filter_all : {A : Type 0} (p : A → Bool) (Q : A → Type 0) (xs : List A) → All (λ x. p x ≡ true → Q x) xs
     → All Q (filter p xs)
 filter_all p Q [] h = All-nil Q
 filter_all p Q (x ∷ xs) h =
@@ -51,22 +51,22 @@ filter_all p Q (x ∷ xs) h =
     ] refl
 
 -- a list that contains something has a first item
-record HasFirst {A : Type 0} (xs : List A) : Type 0 where
-  first : A
-  rest : List A
-  whole : xs ≡ first ∷ rest
+pub record HasFirst {A : Type 0} (xs : List A) : Type 0 where
+  pub first : A
+  pub rest : List A
+  pub whole : xs ≡ first ∷ rest
 
-has_first : {A : Type 0} (xs : List A) (x : A) → Contains xs x → HasFirst xs
+pub has_first : {A : Type 0} (xs : List A) (x : A) → Contains xs x → HasFirst xs
 has_first [] x c = absurd (omega (arith, c.1))
 has_first (y ∷ ys) x c = record { first = y; rest = ys; whole = refl }
 
 -- each item that is kept passes the test
-first_passes : {A : Type 0} (p : A → Bool) (xs : List A) (first : A) (rest : List A) → filter p xs ≡ first ∷ rest
+pub first_passes : {A : Type 0} (p : A → Bool) (xs : List A) (first : A) (rest : List A) → filter p xs ≡ first ∷ rest
     → p first ≡ true
 first_passes p xs first rest e =
     All-head (λ x. p x ≡ true) first rest (subst (All (λ x. p x ≡ true)) e (filter_passes p xs))
 
-no_errors-good : (text : List ℕ) → errors_of text ≡ 0 → ltb (25 * errors_of text) (max 1 (length text)) ≡ true
+pub no_errors-good : (text : List ℕ) → errors_of text ≡ 0 → ltb (25 * errors_of text) (max 1 (length text)) ≡ true
 no_errors-good text none = lt-ltb (25 * errors_of text) (max 1 (length text)) (omega arith)
 
 module _ (start : Start) (events : List Event) (parts : List Part) (message : MessageView) (h : IsHeardInTime start events parts message) where

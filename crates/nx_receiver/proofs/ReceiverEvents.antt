@@ -23,7 +23,7 @@ unfolding setting_after_all
 force-elements now [] = refl
 force-elements now (bit ∷ bits) = force-elements now bits
 
-force-append : (now : Setting) (xs ys : List Event) → setting_after_all now (xs ++ ys) ≡ setting_after_all (setting_after_all now xs) ys
+pub force-append : (now : Setting) (xs ys : List Event) → setting_after_all now (xs ++ ys) ≡ setting_after_all (setting_after_all now xs) ys
 unfolding setting_after_all
 force-append now [] ys = refl
 force-append now (x ∷ xs) ys = force-append (setting_after now x) xs ys

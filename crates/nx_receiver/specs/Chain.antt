@@ -1,9 +1,110 @@
 -- A chain of runs: each begins with what the one before it left (this profile).
-use Rattle.std.specs.Prelude.{◌≡◌, List}
+use Rattle.std.specs.Prelude.{◌≡◌, ℕ, List, [], ◌∷◌, map, Option}
+use Rattle.std.specs.Io.KnownBytes.{Appends}
+use Rattle.std.specs.List.{flat_map}
 use Rattle.nx_code.specs.Lists.{last_of}
-use Rattle.nx_memory.specs.Memory.{most_entries}
+use Rattle.nx_fec.specs.AirFile.{Line}
+use Rattle.nx_memory.specs.Memory.{most_entries, newest_moment}
+use Rattle.nx_memory.specs.Saved.{SavedState}
 use Rattle.nx_memory.specs.declared.entry.MemoryEntry.{MemoryEntry}
+use Rattle.nx_sync.specs.Locks.{IsNow, Lock, Now}
+use Rattle.nx_receiver.specs.Events.{Event, Start, elements_among, first_setting, none_refused, setting_after_all}
+use Rattle.nx_receiver.specs.FoundCopies.{FoundCopy, found_to_end}
+use Rattle.nx_receiver.specs.Listen.{IsLogOfFile, events_of}
+use Rattle.nx_receiver.specs.Printing.{entries_after}
+use Rattle.nx_receiver.specs.Tagged.{TaggedCopy, tagged_copies}
 
 -- two lists of entries agree in their last 200: a memory would hold the same of both
 abbrev pub AgreeInLast : List MemoryEntry → List MemoryEntry → Type 0
 AgreeInLast one other = last_of most_entries one ≡ last_of most_entries other
+
+-- nothing is saved: there are no entries, and everything is selected
+abbrev pub nothing_saved : SavedState
+nothing_saved = record { entries = []; refused = none_refused }
+
+-- A run starts with what is saved, at the moment of the newest entry, or 0 where there is none: so
+-- no moment of it lies before that one.
+abbrev pub start_from : SavedState → Start
+start_from saved = record {
+  entries = saved.entries;
+  moment = newest_moment saved.entries;
+  refused = saved.refused;
+}
+
+-- these are all copies that are found where these events are all: the end closes the one that
+-- stands open
+pub record AreFoundIn (events : List Event) (copies : List FoundCopy) : Type 0 where
+  pub locks : List Lock
+  pub now : Now
+  pub stands : IsNow (elements_among events) locks now
+  pub whole : copies ≡ found_to_end (elements_among events) locks now
+
+-- what is left where these events are all: the last 200 of all entries made, and what is refused
+-- after all commands
+pub record Leaves (start : Start) (events : List Event) (left : SavedState) : Type 0 where
+  pub copies : List FoundCopy
+  pub found : AreFoundIn events copies
+  pub entries : left.entries
+      ≡ last_of most_entries
+      (entries_after start.entries (tagged_copies (first_setting start) events copies))
+  pub refused : left.refused ≡ (setting_after_all (first_setting start) events).refused
+
+-- a run: with what it starts; the bytes that it reads, with their lines; the copies that are found
+-- in these; and those that it prints, with the bytes of its log
+pub record Run : Type 0 where
+  pub start : Start
+  pub file : List ℕ
+  pub lines : List Line
+  pub found : List FoundCopy
+  pub printed : List TaggedCopy
+  pub log : List ℕ
+
+-- what a run gives to its receiver
+abbrev pub events_in : Run → List Event
+events_in run = events_of run.lines
+
+-- the copies of a run, each with what is in force at its second digit
+abbrev pub copies_in : Run → List TaggedCopy
+copies_in run = tagged_copies (first_setting run.start) (events_in run) run.found
+
+-- The run starts with what is saved, is read to its end without a fault, has this log, and leaves
+-- this.
+pub record GoesOn (saved : SavedState) (run : Run) (left : SavedState) : Type 0 where
+  pub begins : run.start ≡ start_from saved
+  pub heard : IsLogOfFile run.start run.file run.lines run.printed run.log
+  pub found : AreFoundIn (events_in run) run.found
+  pub leaves : Leaves run.start (events_in run) left
+
+-- a run that starts with what is saved read the file of these bytes to its end, wrote its log, and
+-- leaves this
+pub record HasGoneOn (saved : SavedState) (old new : Option (List ℕ)) (file : List ℕ)
+    (left : SavedState)
+    : Type 0 where
+  pub run : Run
+  pub read : run.file ≡ file
+  pub written : Appends old new run.log
+  pub goes : GoesOn saved run left
+
+-- The runs, in order, are a chain: the first starts with `first`, each other with what the run
+-- before it left, and the last leaves `last`.
+abbrev pub IsChain : SavedState → List Run → SavedState → Type 0
+IsChain first [] last = last ≡ first
+IsChain first (run ∷ runs) last = (left : SavedState) × GoesOn first run left × IsChain left runs last
+
+-- the files that the runs read, in order
+abbrev pub files : List Run → List (List ℕ)
+files runs = map (λ run. run.file) runs
+
+-- joined, in order: the copies of all runs, those that are printed, the bytes of the logs, and what
+-- was given to a receiver
+abbrev pub all_copies : List Run → List TaggedCopy
+all_copies runs = flat_map copies_in runs
+
+abbrev pub all_printed : List Run → List TaggedCopy
+all_printed runs = flat_map (λ run. run.printed) runs
+
+abbrev pub all_logs : List Run → List ℕ
+all_logs runs = flat_map (λ run. run.log) runs
+
+abbrev pub all_events : List Run → List Event
+all_events runs = flat_map events_in runs

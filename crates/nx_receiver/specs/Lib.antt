@@ -19,3 +19,5 @@ pub mod ListenOnce
 pub mod ListenExample
 pub mod Sent
 pub mod Chain
+pub mod ChainOnce
+pub mod ChainExample

@@ -1,5 +1,5 @@
 -- How the taker of lines behind a run that listens stands after lines (this profile).
-use Rattle.std.specs.Prelude.{◌≡◌, ℕ, ◌+◌, ◌-◌, ◌^◌, ◌≤◌, List, ◌++◌, length, min, Option}
+use Rattle.std.specs.Prelude.{◌≡◌, ℕ, ◌+◌, ◌-◌, ◌^◌, ◌≤◌, Bool, List, ◌++◌, length, min, Option}
 use Rattle.std.specs.Io.KnownBytes.{Appends}
 use Rattle.nx_fec.specs.AirFile.{Line}
 use Rattle.nx_fec.specs.Devices.{WroteSome}
@@ -10,10 +10,9 @@ use Rattle.nx_memory.specs.Ring.{RingMemory}
 use Rattle.nx_receiver.specs.Events.{Event, Start, elements_among}
 use Rattle.nx_receiver.specs.Listen.{AreTaken, LacksMoment, RefusesMoment, RefusesVital, events_of, has_moment}
 use Rattle.nx_receiver.specs.Log.{HasPrinted, IsLog, PrintsToEnd}
-use Rattle.nx_receiver.specs.Receiver.{Awaits, Stands, entry_list}
+use Rattle.nx_receiver.specs.Receiver.{Awaits, Receiving, Stands, entry_list}
 use Rattle.nx_receiver.specs.Tagged.{TaggedCopy}
 use Rattle.nx_receiver.specs.declared.entry.Entry.{Entry}
-use Rattle.nx_receiver.specs.declared.listening.Listener.{Listener}
 use Rattle.nx_receiver.specs.declared.listening.Report.{Report}
 use Rattle.nx_receiver.specs.declared.listening.LineRefusal.{LineRefusal}
 use Rattle.nx_receiver.specs.declared.listening.LineRefusal.TheVariants.{NoMoment, Moment, Vital}
@@ -25,8 +24,16 @@ use Rattle.nx_receiver.specs.declared.over.Over.{Over}
 abbrev pub count_of : ℕ → ℕ
 count_of n = min n (2 ^ 64 - 1)
 
+-- what contracts see of a listener: its receiver, whether there was a moment, and how many elements
+-- and entries it counted
+pub record Listening : Type 0 where
+  pub receiver : Receiving RingMemory
+  pub has_moment : Bool
+  pub elements : ℕ
+  pub entries : ℕ
+
 -- with what a listener starts that has heard nothing yet: what its receiver has
-abbrev pub start_of : Listener → Start
+abbrev pub start_of : Listening → Start
 start_of listener = record {
   entries = listener.receiver.memory.content;
   moment = listener.receiver.watch.moment;
@@ -35,7 +42,7 @@ start_of listener = record {
 
 -- After these events, which begin with this start, a listener printed these copies: its receiver
 -- stands so, it counted the elements and the entries, and no element ended more than one copy.
-pub record HearsEvents (start : Start) (listener : Listener) (events : List Event)
+pub record HearsEvents (start : Start) (listener : Listening) (events : List Event)
     (log : List TaggedCopy)
     : Type 0 where
   pub receiver :
@@ -45,14 +52,14 @@ pub record HearsEvents (start : Start) (listener : Listener) (events : List Even
   pub few : length log ≤ length (elements_among events)
 
 -- the same, and these bytes are the log of the copies
-pub record HearsLog (start : Start) (listener : Listener) (events : List Event) (given : List ℕ)
+pub record HearsLog (start : Start) (listener : Listening) (events : List Event) (given : List ℕ)
     : Type 0 where
   pub log : List TaggedCopy
   pub hears : HearsEvents start listener events log
   pub spelled : IsLog log given
 
 -- and this holds of these bytes
-pub record IsHearing (start : Start) (listener : Listener) (events : List Event)
+pub record IsHearing (start : Start) (listener : Listening) (events : List Event)
     (holds : List ℕ → Type 0)
     : Type 0 where
   pub given : List ℕ
@@ -77,7 +84,7 @@ pub record HeardSome (start : Start) (events : List Event) (old new : Option (Li
 
 -- What was over was finished, whatever the start: it brought this entry, or none, which was
 -- counted, and these are its bytes.
-pub record HasFinished (old new : Listener) (over : Over) (given : List ℕ) : Type 0 where
+pub record HasFinished (old new : Listening) (over : Over) (given : List ℕ) : Type 0 where
   pub entry : Option Entry
   pub stands : (start : Start) (events : List Event) (log : List TaggedCopy)
       → Awaits (λ (memory : RingMemory). memory.content) start old.receiver events log over
@@ -90,7 +97,7 @@ pub record HasFinished (old new : Listener) (over : Over) (given : List ℕ) : T
 
 -- The listener stands so after these lines, which begin with this start, each taken after those
 -- before it; these bytes are their log.
-pub record IsListening (start : Start) (listener : Listener) (lines : List Line) (given : List ℕ)
+pub record IsListening (start : Start) (listener : Listening) (lines : List Line) (given : List ℕ)
     : Type 0 where
   pub taken : AreTaken start lines
   pub moment : listener.has_moment ≡ has_moment lines
@@ -108,13 +115,13 @@ RefusesLine start lines line (Moment why) = RefusesMoment start why lines line
 RefusesLine start lines line (Vital subject) = RefusesVital subject lines line
 
 -- the same for a taker of lines that stood so at first, which is its start
-abbrev pub StandsFrom : Listener → Listener → List Line → List ℕ → Type 0
+abbrev pub StandsFrom : Listening → Listening → List Line → List ℕ → Type 0
 StandsFrom first now lines given = IsListening (start_of first) now lines given
 
-abbrev pub BeginsFrom : Listener → List Line → List ℕ → Type 0
+abbrev pub BeginsFrom : Listening → List Line → List ℕ → Type 0
 BeginsFrom first lines given = BeginsListening (start_of first) lines given
 
-abbrev pub RefusesFrom : Listener → List Line → Line → LineRefusal → Type 0
+abbrev pub RefusesFrom : Listening → List Line → Line → LineRefusal → Type 0
 RefusesFrom first lines line why = RefusesLine (start_of first) lines line why
 
 -- The file ended after these events: the log of all copies was written, with the one that the end

@@ -6,13 +6,12 @@ use Rattle.nx_memory.specs.declared.entry.MemoryEntry.{MemoryEntry}
 use Rattle.nx_receiver.specs.Events.{Event, Setting, Start, first_setting, settings}
 use Rattle.nx_receiver.specs.FoundCopies.{FoundCopy}
 use Rattle.nx_receiver.specs.Listen.{events_of}
-use Rattle.nx_receiver.specs.Listener.{BeginsListening, BeginsLog, HearsLog, IsListening}
+use Rattle.nx_receiver.specs.Listener.{BeginsListening, BeginsLog, HearsLog, IsListening, Listening}
 use Rattle.nx_receiver.specs.Log.{HasPrinted}
 use Rattle.nx_receiver.specs.Printing.{printed_copies}
 use Rattle.nx_receiver.specs.Receiver.{Receiving, Stands}
 use Rattle.nx_receiver.specs.Tagged.{TaggedCopy, tagged_copies}
 use Rattle.nx_receiver.specs.Watch.{copies_by}
-use Rattle.nx_receiver.specs.declared.listening.Listener.{Listener}
 
 tagged-by : (first : Setting) (events : List Event) (copies : List FoundCopy)
     → copies_by first (settings first events) copies ≡ tagged_copies first events copies
@@ -35,7 +34,7 @@ printed-so_far content start receiver events log s =
     }
 
 -- the log so far is that of a beginning
-pub begins-log : (start : Start) (listener : Listener) (events : List Event) (given : List ℕ)
+pub begins-log : (start : Start) (listener : Listening) (events : List Event) (given : List ℕ)
     → HearsLog start listener events given → BeginsLog start events given
 begins-log start listener events given h = record {
   before = events;
@@ -46,7 +45,7 @@ begins-log start listener events given h = record {
   spelled = h.spelled;
 }
 
-pub begins-listening : (start : Start) (now : Listener) (lines : List Line) (given : List ℕ)
+pub begins-listening : (start : Start) (now : Listening) (lines : List Line) (given : List ℕ)
     → IsListening start now lines given → BeginsListening start lines given
 begins-listening start now lines given h =
     record { taken = h.taken; begun = begins-log start now (events_of lines) given h.hears }

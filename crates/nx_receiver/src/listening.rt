@@ -10,7 +10,7 @@ ghost use Rattle.nx_fec.specs.Transfers.{Writes, devices};
 ghost use Rattle.nx_receiver.specs.Events.{Event, Start, at_zero};
 ghost use Rattle.nx_receiver.specs.Listen.{Listens};
 ghost use Rattle.nx_receiver.specs.ListenOnce.{KeepsHeadline};
-ghost use Rattle.nx_receiver.specs.Listener.{BeginsFrom, HasClosed, HasClosedSome, HasFinished, HeardSome, HearsLog, IsHearing, IsListening, RefusesFrom, RefusesLine, StandsFrom, lines_fault, refusal_fault, start_of};
+ghost use Rattle.nx_receiver.specs.Listener.{BeginsFrom, HasClosed, HasClosedSome, HasFinished, HeardSome, HearsLog, IsHearing, IsListening, Listening, RefusesFrom, RefusesLine, StandsFrom, lines_fault, refusal_fault, start_of};
 ghost use Rattle.nx_receiver.specs.Receiver.{elements};
 ghost use Rattle.nx_receiver.specs.declared.listen_fault.ListenFault.TheVariants.{Memory};
 
@@ -27,6 +27,7 @@ use nx_fec::{
 use nx_memory::{RingRecall, Selection};
 use std::alloc::{AllocError, Global};
 use std::io::{Read, Write};
+use std::marker::Model;
 
 /// What a run that listened to an air file read and printed.
 #[derive(Clone, Copy, Debug, Drop, PartialEq, Eq)]
@@ -114,6 +115,10 @@ pub enum LineRefusal {
 }
 
 /// A receiver that takes the lines of an air file.
+///
+/// It holds what its receiver holds, whether there was a moment, and two counts. No field can be
+/// added whose meaning contracts see (`inverse`); that no field's own type forgets, the proved size
+/// shows.
 #[derive(Drop)]
 struct Listener {
     receiver: Receiver<RingRecall>,
@@ -124,12 +129,40 @@ struct Listener {
     entries: u64,
 }
 
+impl Model for Listener {
+    ghost use Rattle.std.specs.Coded.{codes};
+    ghost use Rattle.nx_memory.specs.Refused.{refused_code};
+    ghost use Rattle.nx_receiver.specs.Listener.{Listening};
+
+    ghost Value = { Listening };
+
+    ghost coded = { Prim.hlevel (codes, refused_code) };
+
+    ghost view = { λ l. record {
+      receiver = l.receiver;
+      has_moment = l.has_moment;
+      elements = l.elements;
+      entries = l.entries;
+    } };
+
+    // What contracts see gives every field back, so that no field for a history can stand beside
+    // them.
+    ghost inverse = { λ v. record {
+      receiver = v.receiver;
+      has_moment = v.has_moment;
+      elements = v.elements;
+      entries = v.entries;
+    } };
+}
+
 impl Listener {
     /// A listener that has heard nothing, at moment 0.
     fn new(alloc: Global) -> Result<Listener, AllocError>
         ensures listens { IfOk result (λ listener. IsListening at_zero listener [] []) }
         ensures start { IfOk result (λ listener. start_of listener ≡ at_zero) }
     {
+        // No room for a field of a type whose own model forgets what it holds.
+        prove!(size_of::<Listener>() == size_of::<Receiver<RingRecall>>() + 24);
         let memory = RingRecall::new(alloc)?;
         match Receiver::starting(alloc, memory, 0, Selection::all()) {
             Ok(receiver) => Ok(Listener {
@@ -173,9 +206,11 @@ impl Listener {
     {
         match self.receiver.refuse_subject(letter(byte)) {
             Ok(()) => Ok(()),
-            Err(vital) => Err(LineRefusal::Vital {
-                subject: vital.subject,
-            }),
+            Err(vital) => {
+                return Err(LineRefusal::Vital {
+                    subject: vital.subject,
+                });
+            }
         }
     }
 
@@ -280,7 +315,7 @@ impl Listener {
         batch: &mut Batch,
     ) -> Result<(), TakeFault<LineRefusal>>
         requires { writer.old.failures ≡ 0 }
-        ensures taken { (first : Listener) (old : Option (List ℕ)) (lines : List Line)
+        ensures taken { (first : Listening) (old : Option (List ℕ)) (lines : List Line)
             → HasTaken StandsFrom first self.old lines
             (HasGiven old (W.contents writer.old.inner) batch.old) → MatchResult result
             (λ _. HasTaken StandsFrom first self.new (lines ++ line.elements bits.now ∷ [])

@@ -18,7 +18,8 @@ use std::marker::Model;
 /// it.
 ///
 /// It holds the latest three DX words, the shift in force, and what the finder holds. Of an earlier
-/// lock it holds nothing but the bytes of its last copy, which nothing reads.
+/// lock it holds nothing but the bytes of its last copy, which nothing reads. No field can be added
+/// whose meaning contracts see (`inverse`); that no field's own type forgets, the proved size shows.
 #[derive(Drop)]
 pub(crate) struct LockReader {
     diversity: Diversity,
@@ -52,6 +53,8 @@ impl LockReader {
     pub(crate) fn new() -> LockReader
         ensures { (first : Role) (words : ℕ → ℕ) → ReadsLock result first words 0 }
     {
+        // No room for a field of a type whose own model forgets what it holds.
+        prove!(size_of::<LockReader>() == size_of::<Diversity>() + size_of::<Finder>() + 8);
         LockReader {
             diversity: Diversity::new(),
             printer: Printer::new(),

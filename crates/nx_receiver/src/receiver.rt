@@ -22,7 +22,7 @@ use crate::judging::{is_printed, judge};
 use crate::over::{CopyTag, Over};
 use crate::watch::Watch;
 use nx_envelope::{Found, Identity, LAST_MOMENT, Letter};
-use nx_memory::{Recall, Selection, Vital};
+use nx_memory::{Recall, RingRecall, Selection, Vital};
 use std::alloc::Global;
 use std::marker::Model;
 
@@ -30,8 +30,10 @@ use std::marker::Model;
 /// each copy that is printed.
 ///
 /// It keeps what it needs for the next element, of fixed size: the synchroniser, the text of the
-/// copy that began last, the selection, the moment, and a memory of identities; nothing else of
-/// what it heard.
+/// copy that began last, the selection, the moment, and a memory of identities. No field can be
+/// added whose meaning contracts see (`inverse`); that no field's own type forgets, the proved size
+/// shows. That no call asks for memory and throws it away, reading and the trials of refused memory
+/// show.
 #[derive(Drop)]
 pub struct Receiver<M: Recall> {
     watch: Watch,
@@ -90,6 +92,8 @@ impl<M: Recall> Receiver<M> {
         ensures taken { OnOk result
             ((newest_moment (M.content memory) ≤ moment) × (moment ≤ last_moment)) }
     {
+        // No room for a field of a type whose own model forgets what it holds.
+        prove!(size_of::<Receiver<RingRecall>>() == size_of::<Watch>() + size_of::<RingRecall>());
         if moment > LAST_MOMENT || memory.newest().is_some_and(|newest| moment < newest) {
             return Err(ReceiverFault::MomentRange);
         }

@@ -25,7 +25,8 @@ use std::marker::Model;
 /// A watch over the elements that arrive.
 ///
 /// It holds what the synchroniser and the reader of a lock hold, what is refused, the moment, and
-/// what was in force at the header that was heard last; nothing else of what it heard.
+/// what was in force at the header that was heard last. No field can be added whose meaning
+/// contracts see (`inverse`); that no field's own type forgets, the proved size shows.
 #[derive(Drop)]
 pub(crate) struct Watch {
     synchroniser: Synchroniser,
@@ -73,6 +74,8 @@ impl Watch {
         ensures tag { IfOk result (λ w. w.tag.moment ≡ moment) }
         ensures moment { IfOk result (λ w. w.moment ≡ moment) }
     {
+        // No room for a field of a type whose own model forgets what it holds.
+        prove!(size_of::<Watch>() == size_of::<Synchroniser>() + size_of::<LockReader>() + 80);
         let synchroniser = Synchroniser::new(alloc)?;
         Ok(Watch {
             synchroniser,

@@ -1,11 +1,32 @@
 //! Laws of a chain of runs, each of which begins with what the one before it left. Each function
 //! does nothing; its contract is the law.
 
-ghost use Rattle.std.specs.Prelude.{◌≡◌, List, ◌++◌};
+ghost use Rattle.std.specs.Prelude.{◌≡◌, ℕ, ◌≤◌, All, List, ◌++◌, length, Option};
+ghost use Rattle.nx_code.specs.Lists.{last_of};
+ghost use Rattle.nx_envelope.specs.MessageView.{MessageView};
+ghost use Rattle.nx_fec.specs.AirFile.{Line};
+ghost use Rattle.nx_memory.specs.Saved.{SavedState};
+ghost use Rattle.nx_memory.specs.Memory.{most_entries, newest_moment};
 ghost use Rattle.nx_memory.specs.declared.entry.MemoryEntry.{MemoryEntry};
-ghost use Rattle.nx_receiver.specs.Chain.{AgreeInLast};
+ghost use Rattle.nx_station.specs.ChannelExample.{example_message};
+ghost use Rattle.nx_sync.specs.Locks.{IsNow, Lock, Now};
+ghost use Rattle.nx_receiver.specs.Chain.{AgreeInLast, GoesOn, HasGoneOn, IsChain, Leaves, Run, all_copies, all_events, all_logs, all_printed, copies_in, files, nothing_saved, start_from};
+ghost use Rattle.nx_receiver.specs.ChainExample.{example_runs, saved_after};
+ghost use Rattle.nx_receiver.specs.ChainOnce.{IsHeardInTimeOver};
+ghost use Rattle.nx_receiver.specs.Events.{Event, Start, elements_among, first_setting, setting_after_all};
+ghost use Rattle.nx_receiver.specs.FoundCopies.{ended_so_far};
+ghost use Rattle.nx_receiver.specs.LawTerms.{IsUnknownAtFirst};
+ghost use Rattle.nx_receiver.specs.Listen.{HasListened, IsLogOfFile, events_of};
+ghost use Rattle.nx_receiver.specs.Log.{IsLog};
+ghost use Rattle.nx_receiver.specs.OnceHeard.{IsPrintedOnce};
 ghost use Rattle.nx_receiver.specs.Printing.{entries_after, entries_made, printed_copies};
-ghost use Rattle.nx_receiver.specs.Tagged.{TaggedCopy};
+ghost use Rattle.nx_receiver.specs.Receiver.{Receiving, Stands};
+ghost use Rattle.nx_receiver.specs.Tagged.{TaggedCopy, tagged_copies};
+ghost use Rattle.nx_receiver.specs.Watch.{in_force};
+ghost use Rattle.nx_receiver.specs.Worked.{worked_log};
+ghost use Rattle.nx_receiver.specs.declared.listening.Report.{Report};
+
+use nx_memory::Recall;
 
 /// The last 200 entries decide: after two lists of entries that agree in their last 200, the same
 /// copies are printed and the same entries are made, and then they agree in their last 200 again.
@@ -29,14 +50,113 @@ pub fn copies_are_printed_in_turn()
         → entries_after entries (front ++ back) ≡ entries_after (entries_after entries front) back }
 {}
 
+/// A chain of runs logs what one run would log that had found their copies, though each run hunts
+/// anew and begins with what the one before it left: what is printed is what the rules of printing
+/// make of all copies of the runs, in order, after the entries that the first run starts with; and
+/// the logs, one after another, are the log of it. The last run leaves the last 200 of all entries
+/// made, and what is refused after all commands.
+pub fn a_chain_logs_its_joined_copies()
+    ensures printed { (first last : SavedState) (runs : List Run) → IsChain first runs last
+        → all_printed runs ≡ printed_copies first.entries (all_copies runs) }
+    ensures log { (first last : SavedState) (runs : List Run) → IsChain first runs last
+        → IsLog (printed_copies first.entries (all_copies runs)) (all_logs runs) }
+    ensures entries { (first last : SavedState) (runs : List Run) → IsChain first runs last
+        → length first.entries ≤ most_entries
+        → last.entries ≡ last_of most_entries (entries_after first.entries (all_copies runs)) }
+    ensures selection { (first last : SavedState) (runs : List Run) → IsChain first runs last
+        → last.refused
+        ≡ (setting_after_all (first_setting (start_from first)) (all_events runs)).refused }
+{}
+
+/// A run goes on from what is saved wherever its file has a log with that start; so does each run
+/// that listened with it. What it leaves is some one thing, of at most 200 entries. No copy of it
+/// has a moment before the newest entry that was saved. And where it goes on from what a chain left,
+/// the chain and it are a chain.
+pub fn a_run_goes_on_from_what_is_saved()
+    ensures run { (saved left : SavedState) (file : List ℕ) (lines : List Line)
+        (printed : List TaggedCopy) (log : List ℕ)
+        → IsLogOfFile (start_from saved) file lines printed log
+        → Leaves (start_from saved) (events_of lines) left
+        → (run : Run) × (run.file ≡ file) × (run.log ≡ log) × GoesOn saved run left }
+    ensures listened { (saved : SavedState) (old new : Option (List ℕ)) (file : List ℕ)
+        (report : Report)
+        → HasListened (start_from saved) old new file report
+        → (left : SavedState) × HasGoneOn saved old new file left }
+    ensures some { (start : Start) (events : List Event)
+        → (left : SavedState) × Leaves start events left }
+    ensures one { (start : Start) (events : List Event) (left other : SavedState)
+        → Leaves start events left → Leaves start events other → left ≡ other }
+    ensures few { (start : Start) (events : List Event) (left : SavedState)
+        → Leaves start events left → length left.entries ≤ most_entries }
+    ensures after { (saved left : SavedState) (run : Run) → GoesOn saved run left
+        → All (λ (copy : TaggedCopy). newest_moment saved.entries ≤ copy.moment) (copies_in run) }
+    ensures join { (first saved last : SavedState) (runs more : List Run) → IsChain first runs saved
+        → IsChain saved more last → IsChain first (runs ++ more) last }
+{}
+
+/// An open copy is no part of what is left: what the end closes is cut, and makes no entry. So what
+/// is left is what a receiver holds after the events, before its end: the content of its memory, and
+/// what it refuses.
+pub fn a_receiver_holds_what_it_leaves<M: Recall>()
+    ensures ended { (start : Start) (events : List Event) (left : SavedState) (locks : List Lock)
+        (now : Now) → IsNow (elements_among events) locks now → Leaves start events left
+        → left.entries ≡ last_of most_entries
+        (entries_after start.entries
+        (tagged_copies (first_setting start) events
+        (ended_so_far (elements_among events) locks now))) }
+    ensures held { (start : Start) (events : List Event) (receiver : Receiving M)
+        (log : List TaggedCopy) (left : SavedState) → Stands M.content start receiver events log
+        → left.entries ≡ M.content receiver.memory
+        → left.refused ≡ (in_force receiver.watch).refused
+        → Leaves start events left }
+{}
+
+/// The files of a chain tell its logs, and what it leaves: two chains that begin with the same and
+/// read the same files log the same bytes and leave the same.
+pub fn a_chain_is_told_by_its_files()
+    ensures { (first last end : SavedState) (runs others : List Run) → files runs ≡ files others
+        → IsChain first runs last → IsChain first others end
+        → (all_logs runs ≡ all_logs others) × (last ≡ end) }
+{}
+
+/// The headline across power-offs. A message that is heard in time in the runs of a chain, in
+/// whichever of them it is sent, has exactly one entry in their logs, one after another. The entry
+/// is full, has 0 errors, and its text is the message's, letter for letter. A chain that begins with
+/// nothing has no entry of it that could be live at its first copy.
+pub fn a_message_heard_over_runs_has_one_entry()
+    ensures logged { (first last : SavedState) (runs : List Run) → IsChain first runs last
+        → IsLog (all_printed runs) (all_logs runs) }
+    ensures once { (first last : SavedState) (runs : List Run) (message : MessageView)
+        → IsChain first runs last → IsHeardInTimeOver first runs message
+        → IsPrintedOnce message (all_printed runs) }
+    ensures from_nothing { (runs : List Run) (message : MessageView)
+        → IsUnknownAtFirst nothing_saved.entries message.identity (all_copies runs) }
+{}
+
+/// There is such a chain, of two runs, which begins with nothing: EA01 with the line TEST is heard,
+/// the receiver is switched off and on again, and EA01 is heard four hours after the first. Its logs
+/// are the one entry.
+pub fn there_is_a_chain_with_a_message_heard_in_time()
+    ensures chain { IsChain nothing_saved example_runs saved_after }
+    ensures heard { IsHeardInTimeOver nothing_saved example_runs example_message }
+    ensures logs { all_logs example_runs ≡ worked_log }
+{}
+
 #[cfg(test)]
 mod tests {
     use super::*;
+    use nx_memory::PlainRecall;
 
     /// Each law is called once.
     #[test]
     fn laws(_rt: HostRuntime) {
         the_last_entries_decide();
         copies_are_printed_in_turn();
+        a_chain_logs_its_joined_copies();
+        a_run_goes_on_from_what_is_saved();
+        a_receiver_holds_what_it_leaves::<PlainRecall>();
+        a_chain_is_told_by_its_files();
+        a_message_heard_over_runs_has_one_entry();
+        there_is_a_chain_with_a_message_heard_in_time();
     }
 }

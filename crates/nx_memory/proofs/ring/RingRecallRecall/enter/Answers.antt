@@ -18,7 +18,7 @@ invariant_of-self c =
     let table : c.match-push_back.self-inside.table.items ≡ table_given_up c.push_back.result c.self.inside.table.items = elim c.match-push_back.branch [
       | in-Some w ↦
           ap (λ (it : Inside). it.table.items) w.self-inside-is
-          ∙ w.clear.ensures
+          ∙ w.clear.ensures.moments
           ∙ sym (ap (λ (it : Option MemoryEntry). table_given_up it c.self.inside.table.items) w.in-Some.is)
       | in_default w ↦
           ap (λ (it : Inside). it.table.items) w.self-inside-is
@@ -29,4 +29,4 @@ invariant_of-self c =
     c.args.identity c.args.moment c.push_back.result c.self.invariant
     (rw content c.requires.not_before) (rw content c.requires.unknown) c.requires.numbered
     (entries ∙ c.push_back.ensures.items) c.push_back.ensures.value
-    (c.set.ensures ∙ ap (λ (it : List (Option ℕ)). set it (index_of c.args.identity) (Some c.args.moment)) table)
+    (c.set.ensures.moments ∙ ap (λ (it : List (Option ℕ)). set it (index_of c.args.identity) (Some c.args.moment)) table)

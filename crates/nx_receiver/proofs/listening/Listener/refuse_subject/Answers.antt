@@ -9,12 +9,12 @@ use Rattle.nx_receiver.specs.Receiver.{Stands}
 use Rattle.nx_receiver.proofs.ListenerLemmas.{content, goes_on, moment-other, ok-false}
 use Rattle.nx_receiver.proofs.listening.Listener.refuse_subject.Goals as goal
 
-pub returns-in-Ok-clause-taken : goal.returns-in-Ok-clause-taken
+pub returns-clause-taken : goal.returns-clause-taken
 unfolding elements_among
-returns-in-Ok-clause-taken c = λ start lines given h.
+returns-clause-taken c = rw (← c.self.view_is) (λ start lines given h.
     let byte = c.args.byte in
     let line = refuse_subject byte in
     let allowed : is_vital byte ≡ false = ap is_vital (sym c.letter.ensures) ∙ ok-false Vital c.in-Ok.field-0 _ c.in-Ok.ensures.vital.1 in
     goes_on start _ _ lines line given h allowed refl (moment-other lines line _ h.moment refl) refl refl
     (λ log stands. subst (λ b. Stands content start c.refuse_subject.new.self (events_of lines ++ command (events.refuse_subject b) ∷ []) log) c.letter.ensures
-    (c.in-Ok.ensures.stands _ (events_of lines) log stands))
+    (c.in-Ok.ensures.stands _ (events_of lines) log stands)))

@@ -1,12 +1,12 @@
-use Rattle.std.proofs.Common.{◌≡◌, ◌∙◌, true, sym}
+use Rattle.std.proofs.Common.{◌≡◌, ◌∙◌, true, sym, ap}
 use Rattle.nx_receiver.specs.Listen.{events_of, has_moment}
-use Rattle.nx_receiver.specs.Listener.{start_of}
+use Rattle.nx_receiver.specs.Listener.{Listening, start_of}
 use Rattle.nx_receiver.proofs.ListenerLemmas.{begins-line, heard-line}
 use Rattle.nx_receiver.proofs.listening.Listener.take_elements.Goals as goal
 
 pub returns-in-Ok-clause-taken : goal.returns-in-Ok-clause-taken
 returns-in-Ok-clause-taken g c = λ first old lines h.
-    let some : has_moment lines ≡ true = sym h.stood.moment ∙ c.if-not-self.false in
+    let some : has_moment lines ≡ true = sym h.stood.moment ∙ sym (ap (λ (l : Listening). l.has_moment) c.self.view_is) ∙ c.if-not-self.false in
     let heard = c.in-Ok.ensures.heard (start_of first) old (events_of lines) (record { given = h.given; hears = h.stood.hears; here = h.here }) in
     record {
       given = heard.given;
@@ -16,7 +16,7 @@ returns-in-Ok-clause-taken g c = λ first old lines h.
 
 pub returns-in-Err-clause-taken : goal.returns-in-Err-clause-taken
 returns-in-Err-clause-taken g c = λ first old lines h.
-    let some : has_moment lines ≡ true = sym h.stood.moment ∙ c.if-not-self.false in
+    let some : has_moment lines ≡ true = sym h.stood.moment ∙ sym (ap (λ (l : Listening). l.has_moment) c.self.view_is) ∙ c.if-not-self.false in
     let heard = c.in-Err.ensures.heard (start_of first) old (events_of lines) (record { given = h.given; hears = h.stood.hears; here = h.here }) in
     record {
       given = heard.given;

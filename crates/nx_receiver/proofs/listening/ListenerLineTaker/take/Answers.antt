@@ -21,30 +21,30 @@ returns-in-RefuseSubject-clause-taken g c = λ first old lines line latest h.
 
 pub returns-in-RefuseStation-clause-taken : goal.returns-in-RefuseStation-clause-taken
 unfolding elements_among
-returns-in-RefuseStation-clause-taken g c = λ first old lines line latest h.
+returns-in-RefuseStation-clause-taken g c = rw (← c.self.view_is) (λ first old lines line latest h.
     let byte = c.in-RefuseStation.byte in
     let is = refuse_station byte in
-    taken-always first c.args.self.now _ old _ c.args.batch.now lines line is (said _ _ _ _ line latest c.latest.ensures c.in-Some.is c.in-RefuseStation.is) h
+    taken-always first _ _ old _ c.args.batch.now lines line is (said _ _ _ _ line latest c.latest.ensures c.in-Some.is c.in-RefuseStation.is) h
     (λ given s. goes_on (start_of first) _ _ lines is given s tt refl (moment-other lines is _ s.moment refl) refl refl
     (λ log stands. subst (λ b. Stands content (start_of first) c.refuse_station.new.self (events_of lines ++ command (events.refuse_station b) ∷ []) log) c.letter.ensures
-    (c.refuse_station.ensures _ (events_of lines) log stands)))
+    (c.refuse_station.ensures _ (events_of lines) log stands))))
 
 pub returns-in-AcceptStation-clause-taken : goal.returns-in-AcceptStation-clause-taken
 unfolding elements_among
-returns-in-AcceptStation-clause-taken g c = λ first old lines line latest h.
+returns-in-AcceptStation-clause-taken g c = rw (← c.self-in-AcceptStation.view_is) (λ first old lines line latest h.
     let byte = c.in-AcceptStation.byte in
     let is = accept_station byte in
-    taken-always first c.args.self.now _ old _ c.args.batch.now lines line is (said _ _ _ _ line latest c.latest.ensures c.in-Some.is c.in-AcceptStation.is) h
+    taken-always first _ _ old _ c.args.batch.now lines line is (said _ _ _ _ line latest c.latest.ensures c.in-Some.is c.in-AcceptStation.is) h
     (λ given s. goes_on (start_of first) _ _ lines is given s tt refl (moment-other lines is _ s.moment refl) refl refl
     (λ log stands. subst (λ b. Stands content (start_of first) c.accept_station.new.self (events_of lines ++ command (events.accept_station b) ∷ []) log) c.letter-in-AcceptStation.ensures
-    (c.accept_station.ensures _ (events_of lines) log stands)))
+    (c.accept_station.ensures _ (events_of lines) log stands))))
 
 pub returns-in-AcceptSubject-clause-taken : goal.returns-in-AcceptSubject-clause-taken
 unfolding elements_among
-returns-in-AcceptSubject-clause-taken g c = λ first old lines line latest h.
+returns-in-AcceptSubject-clause-taken g c = rw (← c.self-in-AcceptSubject.view_is) (λ first old lines line latest h.
     let byte = c.in-AcceptSubject.byte in
     let is = accept_subject byte in
-    taken-always first c.args.self.now _ old _ c.args.batch.now lines line is (said _ _ _ _ line latest c.latest.ensures c.in-Some.is c.in-AcceptSubject.is) h
+    taken-always first _ _ old _ c.args.batch.now lines line is (said _ _ _ _ line latest c.latest.ensures c.in-Some.is c.in-AcceptSubject.is) h
     (λ given s. goes_on (start_of first) _ _ lines is given s tt refl (moment-other lines is _ s.moment refl) refl refl
     (λ log stands. subst (λ b. Stands content (start_of first) c.accept_subject.new.self (events_of lines ++ command (events.accept_subject b) ∷ []) log) c.letter-in-AcceptSubject.ensures
-    (c.accept_subject.ensures _ (events_of lines) log stands)))
+    (c.accept_subject.ensures _ (events_of lines) log stands))))
