@@ -9,7 +9,7 @@ use Rattle.nx_sync.specs.declared.step.Role.TheVariants.{Dx, Rx}
 use Rattle.nx_sync.specs.declared.track.Track.{Track}
 use Rattle.nx_code.specs.Phasing.{phasing_1}
 use Rattle.nx_sync.specs.Words.{other_role, is_dx, is_wrong, one_if, role_of, wrong_in, wrong_until}
-use Rattle.nx_sync.specs.Locks.{releases_as_ended, change_at}
+use Rattle.nx_sync.specs.private.Releases.{releases_as_ended, change_at}
 use Rattle.nx_sync.specs.Synchroniser.{wrong_marks, was_p1, p1_marks}
 use Rattle.nx_sync.specs.PrivateCalls.{fills_releasing_word, change_of}
 use Rattle.nx_code.specs.Word.{number_of, value_of}

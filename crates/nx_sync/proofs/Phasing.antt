@@ -9,11 +9,12 @@ use Rattle.nx_sync.specs.declared.step.Change.{Change}
 use Rattle.nx_sync.specs.declared.step.Change.TheVariants.{Locked, Ended, LostLock}
 use Rattle.nx_code.specs.Phasing.{phasing_1, phasing_2}
 use Rattle.nx_sync.specs.Words.{other_role, is_wrong, word_of_lock, first_role, role_of, wrong_in, wrong_until}
-use Rattle.nx_sync.specs.Locks.{before_dx, before_rx, IsPattern, releases_as_ended, release, Lock, Past, Now, hunting, locked, IsLocked, IsNow}
-use Rattle.nx_sync.specs.Laws.{phasing, IsSecondPhasing1, LockedBeforeDx}
+use Rattle.nx_sync.specs.private.Releases.{releases_as_ended, release}
+use Rattle.nx_sync.specs.Locks.{before_dx, before_rx, IsPattern, IsSecondPhasing1, Lock, Past, Now, hunting, locked, IsLocked, IsNow}
+use Rattle.nx_sync.specs.Laws.{phasing, LockedBeforeDx}
 use Rattle.nx_sync.proofs.Counts.{wrong_in-add, wrong_in-all, wrong_in-none, wrong_in-le, role_of-even}
 use Rattle.nx_sync.proofs.Patterns.{last_word-window}
-use Rattle.nx_sync.proofs.Releases.{IsSecondPhasing1-from, IsSecondPhasing1-to, at_none, ByTests, by_end, by_loss, by_tests}
+use Rattle.nx_sync.proofs.Computed.{IsSecondPhasing1-from, IsSecondPhasing1-to, at_none, ByTests, by_end, by_loss, by_tests, released-from, holds-from}
 use Rattle.nx_sync.proofs.StateChanges.{standing_after}
 
 -- the word that begins at place i of n phasing pairs
@@ -252,7 +253,7 @@ module _ (earlier : List Bool) where
   -- a lock that stands at the end is on the phasing's limits and roles
   stands_right : (locks : List Lock) (p t : ℕ) → IsLocked (earlier ++ phasing 24) locks p t → LockedBeforeDx (earlier ++ phasing 24)
   stands_right locks p t now =
-      let x = aligned t now.found.here (λ j h. now.holds.never j (omega (arith, phasing_heard))) in
+      let x = aligned t now.found.here (λ j h. holds-from (earlier ++ phasing 24) t now.holds j (omega (arith, phasing_heard))) in
       let within = now.found.here.heard in
       let half : ℕ = 24 - x.a in
       let low : x.a ≤ 24 = elim x.early [ inl z ↦ omega arith | inr one ↦ omega (arith, x.place, phasing_heard) ] in
@@ -314,7 +315,7 @@ module _ (earlier : List Bool) where
   unfolding Past
   not_hunting [] p late past = omega arith
   not_hunting (lock ∷ older) p late past =
-      let r = past.0.released in
+      let r = released-from (earlier ++ phasing 24) lock.at lock.last lock.how past.0.released in
       let last : lock.at + 7 * (lock.last + 1) ≡ length earlier + 336 = omega (arith, r.heard, past.0.next, phasing_heard) in
       not_released lock.at lock.last
       (aligned lock.at past.0.found.here (λ j h. r.least j (omega arith)))

@@ -8,11 +8,13 @@ use Rattle.nx_sync.specs.declared.step.Role.{Role}
 use Rattle.nx_sync.specs.declared.step.Role.TheVariants.{Dx, Rx}
 use Rattle.nx_sync.specs.declared.step.Change.{Change}
 use Rattle.nx_sync.specs.Words.{other_role, is_wrong, word_of_lock, first_role, role_of, wrong_in, wrong_until}
-use Rattle.nx_sync.specs.Locks.{before_dx, before_rx, IsPattern, Finds, release, Lock, IsHunting, IsLocked}
-use Rattle.nx_sync.specs.Laws.{phasing, IsSecondPhasing1, IsOnPhasing, IsBetweenLimits, IsReleasedBy}
+use Rattle.nx_sync.specs.Locks.{before_dx, before_rx, IsPattern, Finds, IsSecondPhasing1, Lock, IsHunting, IsLocked}
+use Rattle.nx_sync.specs.private.Releases.{release}
+use Rattle.nx_sync.specs.Laws.{phasing, IsOnPhasing, IsBetweenLimits, IsReleasedBy}
 use Rattle.nx_sync.proofs.Counts.{wrong_in-add, wrong_in-all, wrong_in-none, role_of-even}
 use Rattle.nx_sync.proofs.KeptPast.{wrong_in-same, IsPattern-less, word_at-more, Past-within}
-use Rattle.nx_sync.proofs.Releases.{least_true, none, some, IsSecondPhasing1-to, at_none, stands_longer}
+use Rattle.nx_sync.proofs.Computed.{IsSecondPhasing1-to, at_none, holds-from, least_released}
+use Rattle.nx_sync.proofs.Releases.{stands_longer}
 use Rattle.nx_sync.proofs.Phasing.{phase_at, length-phasing, limit-true, limit-zero, role_of-three_on, word_in, phasing_heard, inside_aligned}
 
 -- phasing without its first pairs
@@ -45,14 +47,6 @@ odd_pattern q h =
     let e : q + suc (suc (suc (21 - q))) ≡ 24 = omega arith in
     ap (take 28) (sym (drop-drop 7 (14 * q) (phasing 24)))
     ∙ (ap (λ n. take 28 (drop 7 (drop (14 * q) (phasing n)))) (sym e) ∙ (ap (λ xs. take 28 (drop 7 xs)) (drop-pairs q (suc (suc (suc (21 - q))))) ∙ three_pairs (21 - q)))
-
-none_from : (change : Option Change) → is_some change ≡ false → change ≡ None
-none_from None h = refl
-none_from (Some how) h = absurd (both_ways _ h refl)
-
-some_from : (change : Option Change) → is_some change ≡ true → (how : Change) × (change ≡ Some how)
-some_from None h = absurd (both_ways _ refl h)
-some_from (Some how) h = (how, refl)
 
 module _ (earlier : List Bool) where
   split_at : (i : ℕ) → (earlier ++ take i (phasing 24)) ++ drop i (phasing 24) ≡ earlier ++ phasing 24
@@ -112,21 +106,13 @@ module _ (earlier : List Bool) where
 
   -- a word that brings a change is there, so there is a least one
   released_by : (t w m : ℕ) → (release (earlier ++ phasing 24) t w ≡ None → ⊥) → t + 7 * (w + 1) ≤ m → m ≤ length earlier + 336 → IsReleasedBy (earlier ++ phasing 24) t m
-  released_by t w m some_change fits within = elim (least_true (λ j. is_some (release (earlier ++ phasing 24) t j)) (w + 1)) [
-    | none few ↦ absurd (some_change (none_from (release (earlier ++ phasing 24) t w) (few w (omega arith))))
-    | some v h here before ↦
-        let how = some_from (release (earlier ++ phasing 24) t v) here in
-        record {
-          word = v;
-          how = how.0;
-          by = omega arith;
-          released = record {
-            heard = omega (arith, phasing_heard earlier);
-            here = how.1;
-            least = λ j below. none_from (release (earlier ++ phasing 24) t j) (before j below);
-          };
-        }
-  ]
+  released_by t w m some_change fits within = by_change (release (earlier ++ phasing 24) t w) refl
+    where
+      by_change : (change : Option Change) → release (earlier ++ phasing 24) t w ≡ change → IsReleasedBy (earlier ++ phasing 24) t m
+      by_change None e = absurd (some_change e)
+      by_change (Some how) e =
+          let least = least_released (earlier ++ phasing 24) t w how (omega (arith, phasing_heard earlier)) e in
+          record { word = least.0; how = least.2.0; by = omega (arith, least.1); released = least.2.1 }
 
   -- a lock on other limits meets 40 wrong words
   module _ (t : ℕ) (here : IsPattern (earlier ++ phasing 24) t) (between : IsBetweenLimits (length earlier) t) where
@@ -265,7 +251,7 @@ module _ (earlier : List Bool) (i : ℕ) (low : 28 ≤ i) (high : i ≤ 336) (t 
   now_few : (locks : List Lock) (p : ℕ) → IsLocked (earlier ++ take i (phasing 24)) locks p t → (k : ℕ) → t + 7 * (k + 1) ≤ length earlier + i → wrong_until (word_of_lock (earlier ++ phasing 24) t) k < 40
   now_few locks p now k h =
       let l = length-part earlier i high in
-      let quiet = now.holds.never k (omega (arith, h, l)) in
+      let quiet = holds-from (earlier ++ take i (phasing 24)) t now.holds k (omega (arith, h, l)) in
       let count = (at_none (first_role (earlier ++ take i (phasing 24)) t) (word_of_lock (earlier ++ take i (phasing 24)) t) k quiet).1 in
       let same : wrong_until (word_of_lock ((earlier ++ take i (phasing 24)) ++ drop i (phasing 24)) t) k ≡ wrong_until (word_of_lock (earlier ++ take i (phasing 24)) t) k = wrong_in-same (word_of_lock ((earlier ++ take i (phasing 24)) ++ drop i (phasing 24)) t) (word_of_lock (earlier ++ take i (phasing 24)) t) (k + 1 - 64) (k + 1 - (k + 1 - 64)) (λ j s. word_at-more (earlier ++ take i (phasing 24)) (drop i (phasing 24)) t j (omega (arith, h, l))) in
       subst (λ xs. wrong_until (word_of_lock xs t) k < 40) (split_at earlier i) (omega (arith, same, count))

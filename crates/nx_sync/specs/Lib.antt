@@ -1,5 +1,6 @@
 pub mod Words
 pub mod Locks
+pub mod private
 pub mod Steps
 pub mod Laws
 pub mod Windows
