@@ -77,6 +77,13 @@ module _ (bits more : List Bool) where
       (release-more t w low r.heard ∙ c.here)
       (λ j h. release-more t j low (omega (arith, r.heard)) ∙ c.least j h)
 
+  pub IsReleased-less : (t w : ℕ) {how : _} → 28 ≤ t → t + 7 * (w + 1) ≤ length bits → IsReleased (bits ++ more) t w how → IsReleased bits t w how
+  IsReleased-less t w {how} low heard r =
+      let c = released-from (bits ++ more) t w how r in
+      released-to bits t w how heard
+      (sym (release-more t w low heard) ∙ c.here)
+      (λ j h. sym (release-more t j low (omega (arith, heard))) ∙ c.least j h)
+
   -- the two tests of a word look at the words to it alone
   pub wrong_until-more : (t k : ℕ) → t + 7 * (k + 1) ≤ length bits → wrong_until (word_of_lock (bits ++ more) t) k ≡ wrong_until (word_of_lock bits t) k
   wrong_until-more t k h =
