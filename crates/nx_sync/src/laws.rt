@@ -31,7 +31,7 @@ pub fn what_stands_is_unique()
 
 /// More bits don't change what is past: the past locks, where a lock was found, what released it,
 /// and of the words that were heard whole the words, their roles, which of them is the second DX
-/// word in a row that is phasing signal 1, and how many of the last 64 are wrong at each.
+/// word in a row that is phasing signal 1, and how many of the last ones are wrong at each.
 pub fn more_bits_keep_the_past()
     ensures past { (bits more : List Bool) (locks : List Lock) (p : ℕ) → Past bits locks p
         → Past (bits ++ more) locks p }
@@ -90,8 +90,8 @@ pub fn one_bit_more()
         → OneMore (bits ++ bit ∷ []) older was locks now }
 {}
 
-/// A lock that stands goes on standing where each later word leaves fewer than 40 of the last 64
-/// words wrong and is not the third word after a second phasing signal 1.
+/// A lock that stands goes on standing where each later word leaves fewer of the last words wrong
+/// than lose it and is not the third word after a second phasing signal 1.
 pub fn a_lock_stands_on()
     ensures { (bits more : List Bool) (locks : List Lock) (p t : ℕ) → IsLocked bits locks p t
         → ((k : ℕ) → length bits < t + 7 * (k + 1) → t + 7 * (k + 1) ≤ length (bits ++ more)
@@ -114,8 +114,8 @@ pub fn the_earlier_releases()
         × (LostAt (word_of_lock bits t) w → ⊥))) }
 {}
 
-/// A lock is not released while each run of at most 64 of its words has fewer than 40 wrong ones
-/// and no two DX words in a row are phasing signal 1.
+/// A lock is not released while each run of its words, no longer than it marks, has fewer wrong ones
+/// than lose it, and no two DX words in a row are phasing signal 1.
 pub fn a_good_lock_is_kept()
     ensures { (bits : List Bool) (locks : List Lock) (p t : ℕ) → Past bits locks p → Finds bits p t
         → ((i n : ℕ) → n ≤ marked_words → t + 7 * (i + n) ≤ length bits
@@ -137,7 +137,7 @@ pub fn a_hunt_locks_in_phasing()
 {}
 
 /// A lock on other word limits than those of 48 phasing words as sent meets only wrong words in
-/// them, so that it is released by the 40th of these at the latest.
+/// them, so that it is released, at the latest, by the last of as many of these as lose it.
 pub fn a_lock_between_limits_is_lost()
     ensures wrong { (earlier : List Bool) (t : ℕ) → IsPattern (earlier ++ phasing 24) t
         → IsBetweenLimits (length earlier) t
@@ -145,7 +145,7 @@ pub fn a_lock_between_limits_is_lost()
         → is_wrong (word_of_lock (earlier ++ phasing 24) t k) ≡ true }
     ensures released { (earlier : List Bool) (t : ℕ) → IsPattern (earlier ++ phasing 24) t
         → IsBetweenLimits (length earlier) t
-        → IsReleasedBy (earlier ++ phasing 24) t (length earlier + 286) }
+        → IsReleasedBy (earlier ++ phasing 24) t (length earlier + (6 + 7 * losing_count)) }
 {}
 
 /// A lock on the word limits of 48 phasing words as sent, but with swapped roles, has phasing

@@ -15,8 +15,8 @@ releases_as_ended first words k =
     && (words (k - 3) == phasing_1) && (words (k - 5) == phasing_1)
 
 -- Which change word k would bring to a lock that still stands there, by its words and the role of
--- word 0: Ended where it releases the lock as ended, else LostLock where at least 40 of the last 64
--- words, or of all where they are fewer, are wrong.
+-- word 0: Ended where it releases the lock as ended, else LostLock where as many of the
+-- last words are wrong as lose a lock.
 unfoldable pub change_at : Role → (ℕ → ℕ) → ℕ → Option Change
 change_at first words k =
     if releases_as_ended first words k
