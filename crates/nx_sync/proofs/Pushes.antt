@@ -17,8 +17,8 @@ use Rattle.nx_sync.specs.private.Releases.{release}
 use Rattle.nx_sync.specs.Locks.{before_dx, before_rx, last_28, IsPattern, Lock, Now, hunting, locked, IsHunting, IsLocked, IsNow}
 use Rattle.nx_sync.specs.Steps.{LockStands, step, found, word, inside, over, hunts, IsStep}
 use Rattle.nx_sync.specs.Synchroniser.{Held, wrong_marks, p1_marks, Follows, Tracks, StandsAfter}
-use Rattle.nx_sync.specs.PrivateWindows.{next_window, role_after}
-use Rattle.nx_sync.specs.PrivateCalls.{heard_one, track_from, track_after, BeginsLock, Fills, Completes}
+use Rattle.nx_sync.specs.private.Windows.{next_window, role_after}
+use Rattle.nx_sync.specs.private.Calls.{heard_one, track_from, track_after, BeginsLock, Fills, Completes}
 use Rattle.nx_sync.proofs.Lists.{padded-push, length-padded}
 use Rattle.nx_sync.proofs.Numbers.{number_of-next}
 use Rattle.nx_sync.proofs.KeptPast.{word_at-more, first_role-more, Past-within}

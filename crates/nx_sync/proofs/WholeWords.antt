@@ -8,10 +8,10 @@ use Rattle.nx_code.specs.Word.{number_of}
 use Rattle.nx_sync.specs.declared.step.Step.{Step}
 use Rattle.nx_sync.specs.declared.track.Track.{Track}
 use Rattle.nx_sync.specs.Words.{marked_words, is_wrong}
-use Rattle.nx_sync.specs.PrivateWindows.{next_word_window, window_after}
+use Rattle.nx_sync.specs.private.Windows.{next_word_window, window_after}
 use Rattle.nx_sync.specs.Steps.{step, IsStep, IsWordStep}
 use Rattle.nx_sync.specs.Synchroniser.{Held, is_at_limit, is_between_words, StandsAfter}
-use Rattle.nx_sync.specs.PrivateCalls.{heard_one, track_after, Completes}
+use Rattle.nx_sync.specs.private.Calls.{heard_one, track_after, Completes}
 use Rattle.nx_sync.proofs.Lists.{length-padded, padded-append}
 use Rattle.nx_sync.proofs.Numbers.{number_of-next_word}
 use Rattle.nx_sync.proofs.Hearing.{window_after-none}

@@ -4,6 +4,4 @@ pub mod private
 pub mod Steps
 pub mod Laws
 pub mod Windows
-pub mod PrivateWindows
 pub mod Synchroniser
-pub mod PrivateCalls

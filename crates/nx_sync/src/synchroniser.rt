@@ -8,8 +8,8 @@ ghost use Rattle.nx_sync.specs.declared.step.Change.TheVariants.{Locked};
 ghost use Rattle.nx_sync.specs.Words.{marked_words, losing_count};
 ghost use Rattle.nx_sync.specs.Locks.{pattern_elements};
 ghost use Rattle.nx_sync.specs.Steps.{step, LockStands, LimitStands, IsStep, HuntsThrough, IsWordStep};
-ghost use Rattle.nx_sync.specs.PrivateWindows as spec;
-ghost use Rattle.nx_sync.specs.PrivateCalls.{heard_one, with_mark, track_from, BeginsLock, Fills, Completes, Skips, SkipsEarly};
+ghost use Rattle.nx_sync.specs.private.Windows as spec;
+ghost use Rattle.nx_sync.specs.private.Calls.{heard_one, with_mark, track_from, BeginsLock, Fills, Completes, Skips, SkipsEarly};
 ghost use Rattle.nx_sync.specs.Synchroniser.{StandsAfter, is_hunting, is_between_words};
 
 use crate::step::{Role, Step};
