@@ -6,7 +6,7 @@ use Rattle.nx_sync.specs.Words.{whole_words, first_role, word_of_lock}
 use Rattle.nx_sync.specs.Locks.{Lock, Now, hunting, locked, IsNow, Past, IsPast, IsPattern}
 use Rattle.nx_sync.specs.Laws.{Extends, same, newer, GoesOn, hunts_on, finds_one, stands_still, found_and_past, is_past}
 use Rattle.nx_sync.proofs.StateChanges.{goes-on, Extends-trans}
-use Rattle.nx_sync.proofs.KeptPast.{release-more}
+use Rattle.nx_sync.proofs.KeptPast.{IsReleased-less}
 use Rattle.nx_envelope.specs.Copies.{ended_copies, open_headers, headers, beginnings, header_at_end}
 use Rattle.nx_envelope.specs.Backward.{header_back}
 use Rattle.nx_receiver.specs.LockText.{PlacedByte, bytes_of, lock_text}
@@ -51,12 +51,9 @@ not_past_yet bits more locks p lock q now past =
     elim (cases_lt (lock.last + 1) (whole_words bits lock.at)) [
       | inl beyond ↦
           let heard : lock.at + 7 * (lock.last + 1) ≤ length bits = omega (arith, whole_heard bits lock.at now.found.here.heard) in
-          absurd (None≢Some (sym (now.holds.never lock.last heard) ∙ sym (release-more bits more lock.at lock.last now.found.here.enough heard) ∙ past.released.here))
+          absurd (now.holds.never lock.last lock.how (IsReleased-less bits more lock.at lock.last now.found.here.enough heard past.released))
       | inr within ↦ within
     ]
-  where
-    None≢Some : {A : Type 0} {x : A} → None ≡ Some x → ⊥
-    None≢Some e = cc
 
 -- an empty text has no copies
 pub ended_in-nil : ended_in [] ≡ []

@@ -14,7 +14,7 @@ use Rattle.nx_fec.specs.Emission.{bits_of}
 use Rattle.nx_station.specs.Sendings.{Part, received, part_bits, bits_of_parts, IsSound, IsCut, IsReceived, ReceivedEmission, Sending, IsSending}
 use Rattle.nx_sync.specs.Laws.{phasing}
 use Rattle.nx_sync.specs.Locks.{Lock, Now, IsNow, IsLocked}
-use Rattle.nx_sync.proofs.KeptPast.{Finds-more, Past-more, release-more}
+use Rattle.nx_sync.proofs.KeptPast.{Finds-more, Past-more, IsReleased-more}
 use Rattle.nx_receiver.specs.FoundCopies.{FoundCopy, ended_so_far, open_so_far, found_to_end}
 use Rattle.nx_receiver.specs.Sending.{HoldsThrough, copies_at, copy_of_sending}
 use Rattle.nx_receiver.proofs.LoggedLemmas.{end_adds}
@@ -132,8 +132,7 @@ stands_between bits more rest locks p t before after = record {
   past = Past-more bits more locks p before.past;
   found = Finds-more bits more p t before.found;
   holds = record {
-    never = λ k heard. sym (release-more (bits ++ more) rest t k (Finds-more bits more p t before.found).here.enough heard)
-        ∙ after.holds.never k (omega (arith, heard, length-append (bits ++ more) rest));
+    never = λ w how r. after.holds.never w how (IsReleased-more (bits ++ more) rest t w before.found.here.enough r);
   };
 }
 

@@ -11,8 +11,8 @@ use Rattle.nx_fec.specs.Emission.{bits_of, AreWords}
 use Rattle.nx_fec.proofs.AlignedLemmas.{get_or-words_of}
 use Rattle.nx_fec.proofs.RoundTripLemmas.{length-bits_of, words_of-bits_of}
 use Rattle.nx_sync.specs.Words.{word_of_lock, first_role, role_of, other_role, one_if, is_wrong, wrong_in, wrong_until, losing_count}
-use Rattle.nx_sync.specs.Locks.{Lock, IsLocked}
-use Rattle.nx_sync.specs.Laws.{IsSecondPhasing1, LockedBeforeDx, phasing}
+use Rattle.nx_sync.specs.Locks.{IsSecondPhasing1, Lock, IsLocked}
+use Rattle.nx_sync.specs.Laws.{LockedBeforeDx, phasing}
 use Rattle.nx_sync.specs.declared.step.Role.{Role}
 use Rattle.nx_sync.specs.declared.step.Role.TheVariants.{Dx, Rx}
 use Rattle.nx_sync.proofs.Counts.{wrong_in-add, wrong_in-le, wrong_in-none, role_of-even}

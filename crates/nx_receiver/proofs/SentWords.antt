@@ -63,7 +63,7 @@ four_lock = record {
     here = record { enough = lit≤ tt; heard = omega (arith, length_28); pattern = inl pattern_28 };
     least = λ s after before here. absurd (omega (arith, before, here.enough));
   };
-  holds = record { never = λ k heard. absurd (omega (arith, heard, length_28)) };
+  holds = record { never = λ w how r. absurd (omega (arith, r.heard, length_28)) };
 }
 
 is_on_phasing : IsOnPhasing (phasing 24) 0 28

@@ -15,7 +15,9 @@ use Rattle.nx_fec.proofs.RoundTripLemmas.{length-bits_of, words_of-bits_of}
 use Rattle.nx_station.specs.Channel.{phasing_words}
 use Rattle.nx_station.specs.ChannelExample.{damaged_in, example_words, heard_half}
 use Rattle.nx_sync.specs.Words.{word_of_lock, first_role, role_of, wrong_in, wrong_until, losing_count, whole_words}
-use Rattle.nx_sync.specs.Locks.{before_dx, last_28, releases_as_ended, change_at, Past, IsLocked}
+use Rattle.nx_sync.specs.Locks.{before_dx, last_28, Past, IsLocked}
+use Rattle.nx_sync.specs.private.Releases.{releases_as_ended, change_at}
+use Rattle.nx_sync.proofs.Computed.{holds-to}
 use Rattle.nx_sync.specs.declared.step.Role.TheVariants.{Dx, Rx}
 use Rattle.nx_sync.specs.declared.step.Change.TheVariants.{Ended, LostLock}
 use Rattle.nx_sync.proofs.Counts.{wrong_in-add}
@@ -95,9 +97,7 @@ module _ (sent : List ℕ) (is : Computed sent) where
       here = record { enough = lit≤ tt; heard = omega (arith, bit_count); pattern = inl is.pattern };
       least = λ s after before here. absurd (omega (arith, before, here.enough));
     };
-    holds = record {
-      never = λ k h. ap (λ first. change_at first (word_of_lock (bits_of sent) 28) k) role_is ∙ change_at-same Dx (word_of_lock (bits_of sent) 28) (lock_word sent) k (λ j le. lock_word_is j (omega (arith, bit_count))) ∙ quiet k (omega (arith, bit_count));
-    };
+    holds = holds-to (bits_of sent) 28 (λ k h. ap (λ first. change_at first (word_of_lock (bits_of sent) 28) k) role_is ∙ change_at-same Dx (word_of_lock (bits_of sent) 28) (lock_word sent) k (λ j le. lock_word_is j (omega (arith, bit_count))) ∙ quiet k (omega (arith, bit_count)));
   }
 
   -- the text of the lock

@@ -1,11 +1,16 @@
 -- The definitions of the locks, evaluated on worked examples.
-use Rattle.std.proofs.Common.{◌≡◌, ℕ, ◌==◌, ◌||◌, [], ◌∷◌, ◌++◌, true, false, refl, inl, arith, Some, None, if◌then◌else◌}
+use Rattle.std.proofs.Common.{◌≡◌, ◌==◌, ◌||◌, [], ◌∷◌, ◌++◌, ℕ, Bool, ◌<◌, is_some, true, false, refl, inl, arith, Some, if◌then◌else◌}
+use Rattle.std.proofs.lemmas.Bool.{agree_below, agree_below_at}
 use Rattle.nx_code.specs.Phasing.{phasing_1, phasing_2, elements_of_phasing_1, elements_of_phasing_2}
 use Rattle.nx_code.specs.Word.{number_of, weight, elements, elements_from}
 use Rattle.nx_sync.specs.declared.step.Role.TheVariants.{Dx, Rx}
+use Rattle.nx_sync.specs.declared.step.Role.{Role}
+use Rattle.nx_sync.specs.declared.step.Change.{Change}
 use Rattle.nx_sync.specs.declared.step.Change.TheVariants.{Ended, LostLock}
 use Rattle.nx_sync.specs.Words.{word_of_lock, first_role, role_of, is_wrong, wrong_in, wrong_until, lock_words}
-use Rattle.nx_sync.specs.Locks.{before_dx, before_rx, IsPattern, Finds, releases_as_ended, change_at}
+use Rattle.nx_sync.specs.Locks.{before_dx, before_rx, IsPattern, Finds, IsEarlier}
+use Rattle.nx_sync.specs.private.Releases.{releases_as_ended, change_at}
+use Rattle.nx_sync.proofs.Computed.{earlier-from, none_from}
 use Rattle.nx_sync.specs.Windows.{is_lock_window}
 
 -- P2 P1 P2 P1 gives a lock after 28 bits, whose word 0 is a DX word; P1 P2 P1 P2 one whose word 0 is an RX word
@@ -39,6 +44,14 @@ pub wrong_weight : is_wrong 0x7E ≡ true
 unfolding weight elements elements_from
 wrong_weight = refl
 
+-- the rule's word, by computing what each word to it would bring
+abbrev no_change_below : Role → (ℕ → ℕ) → ℕ → Bool
+no_change_below first words w = agree_below (λ k. is_some (change_at first words k)) (λ _. false) w
+
+by_computing : (first : Role) (words : ℕ → ℕ) (w : ℕ) (how : Change) → change_at first words w ≡ Some how → no_change_below first words w ≡ true → IsEarlier first words w how
+by_computing first words w how here quiet =
+    earlier-from first words w how here (λ j below. none_from (change_at first words j) (agree_below_at (λ k. is_some (change_at first words k)) (λ _. false) w j quiet below))
+
 -- where each word is wrong, 39 are after word 38 and 40 after word 39, and never more than 64
 abbrev pub all_wrong : ℕ → ℕ
 all_wrong k = 0
@@ -47,9 +60,9 @@ pub thirty_nine : wrong_until all_wrong 38 ≡ 39
 unfolding wrong_in weight elements elements_from
 thirty_nine = refl
 
-pub lost_at_forty : (change_at Dx all_wrong 38 ≡ None) × (change_at Dx all_wrong 39 ≡ Some LostLock)
+pub lost_at_forty : IsEarlier Dx all_wrong 39 LostLock
 unfolding change_at releases_as_ended role_of wrong_in weight elements elements_from
-lost_at_forty = (refl, refl)
+lost_at_forty = by_computing Dx all_wrong 39 LostLock refl refl
 
 pub sixty_four : wrong_until all_wrong 100 ≡ 64
 unfolding wrong_in weight elements elements_from
@@ -59,17 +72,25 @@ sixty_four = refl
 abbrev pub end_at_four : ℕ → ℕ
 end_at_four k = if k == 2 || k == 4 then 0x0F else 0x66
 
-pub ended_at_seven : (releases_as_ended Dx end_at_four 6 ≡ false) × (releases_as_ended Dx end_at_four 7 ≡ true) × (releases_as_ended Rx end_at_four 7 ≡ false)
+pub ended_at_seven : IsEarlier Dx end_at_four 7 Ended
+unfolding change_at releases_as_ended role_of wrong_in weight elements elements_from
+ended_at_seven = by_computing Dx end_at_four 7 Ended refl refl
+
+pub not_with_rx : releases_as_ended Rx end_at_four 7 ≡ false
 unfolding releases_as_ended role_of
-ended_at_seven = (refl, refl, refl)
+not_with_rx = refl
 
 -- ended and lost at one word: it is Ended
 abbrev pub end_and_loss : ℕ → ℕ
 end_and_loss k = if k == 36 || k == 38 then 0x0F else 0
 
-pub ended_where_lost : (wrong_until end_and_loss 41 ≡ 40) × (change_at Dx end_and_loss 40 ≡ None) × (change_at Dx end_and_loss 41 ≡ Some Ended)
+pub lost_there : wrong_until end_and_loss 41 ≡ 40
+unfolding wrong_in weight elements elements_from
+lost_there = refl
+
+pub ended_where_lost : IsEarlier Dx end_and_loss 41 Ended
 unfolding change_at releases_as_ended role_of wrong_in weight elements elements_from
-ended_where_lost = (refl, refl, refl)
+ended_where_lost = by_computing Dx end_and_loss 41 Ended refl refl
 
 -- the patterns as windows, and a window that is none
 pub windows : (is_lock_window 0x1F987E6 ≡ true) × (is_lock_window 0xCC3F30F ≡ true) × (is_lock_window 0x1F987E7 ≡ false)

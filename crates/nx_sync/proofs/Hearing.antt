@@ -3,9 +3,9 @@ use Rattle.std.proofs.Common.{◌≡◌, ℕ, ◌+◌, ◌^◌, ◌<◌, ◌≤�
 use Rattle.std.proofs.Math.Seq.{take-add}
 use Rattle.std.proofs.lemmas.List.{take_more, get_or-set_same, get_or-set_other}
 use Rattle.nx_code.proofs.WordLemmas.{value_of-le}
-use Rattle.nx_sync.specs.PrivateWindows.{next_window, window_after}
+use Rattle.nx_sync.specs.private.Windows.{next_window, window_after}
 use Rattle.nx_sync.specs.Synchroniser.{Held}
-use Rattle.nx_sync.specs.PrivateCalls.{heard_all}
+use Rattle.nx_sync.specs.private.Calls.{heard_all}
 
 -- one element and then more
 pub window_after-append : (xs ys : List Bool) (window : ℕ) → window_after window (xs ++ ys) ≡ window_after (window_after window xs) ys

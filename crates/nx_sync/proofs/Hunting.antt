@@ -8,10 +8,10 @@ use Rattle.nx_sync.specs.declared.step.Role.TheVariants.{Dx, Rx}
 use Rattle.nx_sync.specs.declared.step.Change.TheVariants.{Locked}
 use Rattle.nx_sync.specs.declared.track.Track.{Track}
 use Rattle.nx_sync.specs.Windows.{window_before_dx, window_before_rx, is_lock_window}
-use Rattle.nx_sync.specs.PrivateWindows.{IsBeforeLock, role_after, window_after}
+use Rattle.nx_sync.specs.private.Windows.{IsBeforeLock, role_after, window_after}
 use Rattle.nx_sync.specs.Steps.{step, IsStep, HuntsThrough}
 use Rattle.nx_sync.specs.Synchroniser.{Held, is_hunting, StandsAfter}
-use Rattle.nx_sync.specs.PrivateCalls.{track_from, heard_one, heard_all, IsQuiet, EndsPattern, Skips}
+use Rattle.nx_sync.specs.private.Calls.{track_from, heard_one, heard_all, IsQuiet, EndsPattern, Skips}
 use Rattle.nx_sync.proofs.Patterns.{role_after-dx, role_after-rx, role_after-none}
 use Rattle.nx_sync.proofs.Hearing.{window_after-one, same_parts, heard_all-none, heard_all-append, heard_all-add, heard_all-more}
 use Rattle.nx_sync.proofs.Pushes.{IsGood, push_hunting}

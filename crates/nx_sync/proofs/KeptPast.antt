@@ -2,9 +2,11 @@
 use Rattle.std.proofs.Common.{◌≡◌, ℕ, zero, suc, ◌+◌, ◌-◌, ◌*◌, ◌<◌, ◌≤◌, List, [], ◌∷◌, ◌++◌, length, Bool, refl, sym, ap, ap₂, ◌∙◌, inl, inr, arith, length-append}
 use Rattle.nx_code.specs.Word.{number_of}
 use Rattle.nx_sync.specs.declared.step.Role.{Role}
-use Rattle.nx_sync.specs.Words.{word_of_lock, first_role, is_wrong, one_if, wrong_in}
-use Rattle.nx_sync.specs.Locks.{last_28, IsPattern, Finds, releases_as_ended, change_at, release, IsReleased, Lock, IsPast, Past}
+use Rattle.nx_sync.specs.Words.{marked_words, word_of_lock, first_role, role_of, is_wrong, one_if, wrong_in, wrong_until}
+use Rattle.nx_sync.specs.Locks.{last_28, IsPattern, Finds, IsSecondPhasing1, IsReleased, Lock, IsPast, Past}
+use Rattle.nx_sync.specs.private.Releases.{releases_as_ended, change_at, release}
 use Rattle.nx_sync.proofs.Lists.{part-append}
+use Rattle.nx_sync.proofs.Computed.{released-from, released-to}
 
 -- a count looks at its words alone
 pub wrong_in-same : (f g : ℕ → ℕ) (i n : ℕ) → ((j : ℕ) → j < i + n → f j ≡ g j) → wrong_in f i n ≡ wrong_in g i n
@@ -17,7 +19,7 @@ wrong_in-same f g i (suc n) same =
 pub change_at-same : (first : Role) (f g : ℕ → ℕ) (k : ℕ) → ((j : ℕ) → j ≤ k → f j ≡ g j) → change_at first f k ≡ change_at first g k
 unfolding change_at releases_as_ended
 change_at-same first f g k same =
-    simp (same (k - 3) (omega arith), same (k - 5) (omega arith), wrong_in-same f g (k + 1 - 64) (k + 1 - (k + 1 - 64)) (λ j h. same j (omega arith)))
+    simp (same (k - 3) (omega arith), same (k - 5) (omega arith), wrong_in-same f g (k + 1 - marked_words) (k + 1 - (k + 1 - marked_words)) (λ j h. same j (omega arith)))
 
 module _ (bits more : List Bool) where
   pub word_at-more : (t k : ℕ) → t + 7 * (k + 1) ≤ length bits → word_of_lock (bits ++ more) t k ≡ word_of_lock bits t k
@@ -69,10 +71,38 @@ module _ (bits more : List Bool) where
   }
 
   pub IsReleased-more : (t w : ℕ) {how : _} → 28 ≤ t → IsReleased bits t w how → IsReleased (bits ++ more) t w how
-  IsReleased-more t w low r = record {
-    heard = simp length-append (omega (arith, r.heard));
-    here = release-more t w low r.heard ∙ r.here;
-    least = λ j h. release-more t j low (omega (arith, r.heard)) ∙ r.least j h;
+  IsReleased-more t w {how} low r =
+      let c = released-from bits t w how r in
+      released-to (bits ++ more) t w how (simp length-append (omega (arith, r.heard)))
+      (release-more t w low r.heard ∙ c.here)
+      (λ j h. release-more t j low (omega (arith, r.heard)) ∙ c.least j h)
+
+  pub IsReleased-less : (t w : ℕ) {how : _} → 28 ≤ t → t + 7 * (w + 1) ≤ length bits → IsReleased (bits ++ more) t w how → IsReleased bits t w how
+  IsReleased-less t w {how} low heard r =
+      let c = released-from (bits ++ more) t w how r in
+      released-to bits t w how heard
+      (sym (release-more t w low heard) ∙ c.here)
+      (λ j h. sym (release-more t j low (omega (arith, heard))) ∙ c.least j h)
+
+  -- the two tests of a word look at the words to it alone
+  pub wrong_until-more : (t k : ℕ) → t + 7 * (k + 1) ≤ length bits → wrong_until (word_of_lock (bits ++ more) t) k ≡ wrong_until (word_of_lock bits t) k
+  wrong_until-more t k h =
+      wrong_in-same (word_of_lock (bits ++ more) t) (word_of_lock bits t) (k + 1 - marked_words) (k + 1 - (k + 1 - marked_words)) (λ j s. word_at-more t j (omega arith))
+
+  pub IsSecondPhasing1-more : (t k : ℕ) → 28 ≤ t → t + 7 * (k + 1) ≤ length bits → IsSecondPhasing1 (first_role bits t) (word_of_lock bits t) k → IsSecondPhasing1 (first_role (bits ++ more) t) (word_of_lock (bits ++ more) t) k
+  IsSecondPhasing1-more t k low h second = record {
+    two = second.two;
+    dx = ap (λ first. role_of first k) (first_role-more t low (omega arith)) ∙ second.dx;
+    this = word_at-more t k h ∙ second.this;
+    before = word_at-more t (k - 2) (omega arith) ∙ second.before;
+  }
+
+  pub IsSecondPhasing1-less : (t k : ℕ) → 28 ≤ t → t + 7 * (k + 1) ≤ length bits → IsSecondPhasing1 (first_role (bits ++ more) t) (word_of_lock (bits ++ more) t) k → IsSecondPhasing1 (first_role bits t) (word_of_lock bits t) k
+  IsSecondPhasing1-less t k low h second = record {
+    two = second.two;
+    dx = ap (λ first. role_of first k) (sym (first_role-more t low (omega arith))) ∙ second.dx;
+    this = sym (word_at-more t k h) ∙ second.this;
+    before = sym (word_at-more t (k - 2) (omega arith)) ∙ second.before;
   }
 
   pub IsPast-more : (lock : Lock) (p : ℕ) → IsPast bits lock p → IsPast (bits ++ more) lock p

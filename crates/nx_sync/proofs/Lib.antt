@@ -1,5 +1,6 @@
 pub mod Lists
 pub mod Numbers
+pub mod Computed
 pub mod KeptPast
 pub mod OneBit
 pub mod Patterns

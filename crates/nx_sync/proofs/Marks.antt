@@ -8,10 +8,10 @@ use Rattle.nx_sync.specs.declared.step.Role.{Role}
 use Rattle.nx_sync.specs.declared.step.Role.TheVariants.{Dx, Rx}
 use Rattle.nx_sync.specs.declared.track.Track.{Track}
 use Rattle.nx_code.specs.Phasing.{phasing_1}
-use Rattle.nx_sync.specs.Words.{other_role, is_dx, is_wrong, one_if, role_of, wrong_in, wrong_until}
-use Rattle.nx_sync.specs.Locks.{releases_as_ended, change_at}
+use Rattle.nx_sync.specs.Words.{marked_words, other_role, is_dx, is_wrong, one_if, role_of, wrong_in, wrong_until}
+use Rattle.nx_sync.specs.private.Releases.{releases_as_ended, change_at}
 use Rattle.nx_sync.specs.Synchroniser.{wrong_marks, was_p1, p1_marks}
-use Rattle.nx_sync.specs.PrivateCalls.{fills_releasing_word, change_of}
+use Rattle.nx_sync.specs.private.Calls.{fills_releasing_word, change_of}
 use Rattle.nx_code.specs.Word.{number_of, value_of}
 use Rattle.nx_sync.proofs.Numbers.{number_of-next, first_bit, third_on}
 use Rattle.nx_sync.proofs.Lists.{keep_last-push}
@@ -117,22 +117,22 @@ count-marks f i (suc n) =
     rw (e, drop-append-le i (wrong_marks f (i + n)) (is_wrong (f (i + n)) ∷ []) (omega (arith, length-wrong_marks f (i + n))))
     (sum_by_push (λ b. cond b 1 0) (drop i (wrong_marks f (i + n))) (is_wrong (f (i + n))) ∙ ap (λ s. s + one_if (is_wrong (f (i + n)))) (count-marks f i n))
 
-pub count-last_marks : (f : ℕ → ℕ) (k : ℕ) → count_by (λ b. b) (keep_last 64 (wrong_marks f (k + 1))) ≡ wrong_until f k
+pub count-last_marks : (f : ℕ → ℕ) (k : ℕ) → count_by (λ b. b) (keep_last marked_words (wrong_marks f (k + 1))) ≡ wrong_until f k
 count-last_marks f k =
-    let e : length (wrong_marks f (k + 1)) - 64 ≡ k + 1 - 64 = omega (arith, length-wrong_marks f (k + 1)) in
-    let s : k + 1 - 64 + (k + 1 - (k + 1 - 64)) ≡ k + 1 = omega arith in
+    let e : length (wrong_marks f (k + 1)) - marked_words ≡ k + 1 - marked_words = omega (arith, length-wrong_marks f (k + 1)) in
+    let s : k + 1 - marked_words + (k + 1 - (k + 1 - marked_words)) ≡ k + 1 = omega arith in
     ap (λ i. count_by (λ b. b) (drop i (wrong_marks f (k + 1)))) e
-    ∙ (ap (λ n. count_by (λ b. b) (drop (k + 1 - 64) (wrong_marks f n))) (sym s) ∙ count-marks f (k + 1 - 64) (k + 1 - (k + 1 - 64)))
+    ∙ (ap (λ n. count_by (λ b. b) (drop (k + 1 - marked_words) (wrong_marks f n))) (sym s) ∙ count-marks f (k + 1 - marked_words) (k + 1 - (k + 1 - marked_words)))
 
 -- the marks after one more word
-pub wrong_marks-next : (f : ℕ → ℕ) (n : ℕ) → keep_last 64 (keep_last 64 (wrong_marks f n) ++ is_wrong (f n) ∷ []) ≡ keep_last 64 (wrong_marks f (n + 1))
+pub wrong_marks-next : (f : ℕ → ℕ) (n : ℕ) → keep_last marked_words (keep_last marked_words (wrong_marks f n) ++ is_wrong (f n) ∷ []) ≡ keep_last marked_words (wrong_marks f (n + 1))
 unfolding wrong_marks
 wrong_marks-next f n =
     let e : n + 1 ≡ suc n = omega arith in
-    rw e (keep_last-push 64 (wrong_marks f n) (is_wrong (f n)))
+    rw e (keep_last-push marked_words (wrong_marks f n) (is_wrong (f n)))
 
 -- what the track and the marks decide is the definition's change
-pub change_of-change_at : (first : Role) (f : ℕ → ℕ) (k : ℕ) (track : Track) (wrong : List Bool) → track.role ≡ role_of first k → track.was_p1 ≡ number_of (p1_marks f k) → wrong ≡ keep_last 64 (wrong_marks f (k + 1)) → change_of track wrong ≡ change_at first f k
+pub change_of-change_at : (first : Role) (f : ℕ → ℕ) (k : ℕ) (track : Track) (wrong : List Bool) → track.role ≡ role_of first k → track.was_p1 ≡ number_of (p1_marks f k) → wrong ≡ keep_last marked_words (wrong_marks f (k + 1)) → change_of track wrong ≡ change_at first f k
 unfolding change_at
 change_of-change_at first f k track wrong r m w =
     rw (fills_releasing_word-is first f k track r m, w, count-last_marks f k) refl
@@ -143,7 +143,7 @@ none_marked (true ∷ xs) h = absurd (omega (arith, sum_by-cons (λ b. cond b 1 
 none_marked (false ∷ xs) h = ap (λ ys. false ∷ ys) (none_marked xs (omega (arith, sum_by-cons (λ b. cond b 1 0) false xs)))
 
 -- where none of 64 words is wrong, and one more isn't either, their marks stay
-pub marks_stay : (xs : List Bool) (is_wrong : Bool) → length xs ≡ 64 → count_by (λ b. b) xs ≡ 0 → is_wrong ≡ false → xs ≡ keep_last 64 (xs ++ is_wrong ∷ [])
+pub marks_stay : (xs : List Bool) (is_wrong : Bool) → length xs ≡ marked_words → count_by (λ b. b) xs ≡ 0 → is_wrong ≡ false → xs ≡ keep_last marked_words (xs ++ is_wrong ∷ [])
 marks_stay xs is_wrong l none right =
-    let e : xs ≡ replicate 64 false = none_marked xs none ∙ ap (λ n. replicate n false) l in
-    subst (λ ys. ys ≡ keep_last 64 (ys ++ is_wrong ∷ [])) (sym e) (rw right refl)
+    let e : xs ≡ replicate marked_words false = none_marked xs none ∙ ap (λ n. replicate n false) l in
+    subst (λ ys. ys ≡ keep_last marked_words (ys ++ is_wrong ∷ [])) (sym e) (rw right refl)

@@ -3,7 +3,9 @@ use Rattle.std.proofs.Common.{◌≡◌, ℕ, ◌+◌, ◌*◌, List, [], ◌∷
 use Rattle.std.proofs.lemmas.List.{length_push}
 use Rattle.std.proofs.lemmas.Bool.{cases_lt}
 use Rattle.nx_sync.specs.declared.step.Change.{Change}
-use Rattle.nx_sync.specs.Locks.{IsPattern, release, Lock, Past, IsHunting, IsLocked}
+use Rattle.nx_sync.specs.Locks.{IsPattern, Lock, Past, IsHunting, IsLocked}
+use Rattle.nx_sync.specs.private.Releases.{release}
+use Rattle.nx_sync.proofs.Computed.{released-to, holds-from, holds-to}
 use Rattle.nx_sync.proofs.KeptPast.{release-more, IsPattern-less, Finds-more, Past-more, Past-within}
 
 module _ (bits : List Bool) (b : Bool) where
@@ -30,7 +32,7 @@ module _ (bits : List Bool) (b : Bool) where
       here = here;
       least = λ s after before at. now.none.never s after (IsPattern-less bits (b ∷ []) s (omega arith) at);
     };
-    holds = record { never = λ k h. absurd (omega (arith, length_push bits b)) };
+    holds = record { never = λ w how r. absurd (omega (arith, r.heard, length_push bits b)) };
   }
 
   -- a lock stands on where a word that the bit completes brings no change
@@ -38,12 +40,10 @@ module _ (bits : List Bool) (b : Bool) where
   stands_on locks p t now quiet = record {
     past = Past-more bits (b ∷ []) locks p now.past;
     found = Finds-more bits (b ∷ []) p t now.found;
-    holds = record {
-      never = λ k h. elim (cases_lt (length bits) (t + 7 * (k + 1))) [
-        | inl new ↦ quiet k (omega (arith, length_push bits b))
-        | inr old ↦ release-more bits (b ∷ []) t k now.found.here.enough old ∙ now.holds.never k old
-      ];
-    };
+    holds = holds-to (bits ++ b ∷ []) t (λ k h. elim (cases_lt (length bits) (t + 7 * (k + 1))) [
+      | inl new ↦ quiet k (omega (arith, length_push bits b))
+      | inr old ↦ release-more bits (b ∷ []) t k now.found.here.enough old ∙ holds-from bits t now.holds k old
+    ]);
   }
 
   -- a lock is released where the word that the bit completes brings a change
@@ -53,11 +53,8 @@ module _ (bits : List Bool) (b : Bool) where
     past = (
       record {
         found = Finds-more bits (b ∷ []) p t now.found;
-        released = record {
-          heard = omega (arith, length_push bits b);
-          here = change;
-          least = λ j before. release-more bits (b ∷ []) t j now.found.here.enough (omega arith) ∙ now.holds.never j (omega arith);
-        };
+        released = released-to (bits ++ b ∷ []) t k how (omega (arith, length_push bits b)) change
+            (λ j before. release-more bits (b ∷ []) t j now.found.here.enough (omega arith) ∙ holds-from bits t now.holds j (omega arith));
         next = e;
       },
       Past-more bits (b ∷ []) locks p now.past,

@@ -8,7 +8,7 @@ use Rattle.nx_sync.specs.declared.step.Role.TheVariants.{Dx, Rx}
 use Rattle.nx_sync.specs.Words.{first_role}
 use Rattle.nx_sync.specs.Locks.{before_dx, before_rx, last_28}
 use Rattle.nx_sync.specs.Windows.{window_before_dx, window_before_rx}
-use Rattle.nx_sync.specs.PrivateWindows.{role_after}
+use Rattle.nx_sync.specs.private.Windows.{role_after}
 use Rattle.nx_sync.proofs.Lists.{keep_last-padded}
 use Rattle.nx_sync.proofs.Numbers.{number_of-same, number_of-drop}
 

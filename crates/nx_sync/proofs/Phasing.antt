@@ -8,12 +8,13 @@ use Rattle.nx_sync.specs.declared.step.Role.TheVariants.{Dx, Rx}
 use Rattle.nx_sync.specs.declared.step.Change.{Change}
 use Rattle.nx_sync.specs.declared.step.Change.TheVariants.{Locked, Ended, LostLock}
 use Rattle.nx_code.specs.Phasing.{phasing_1, phasing_2}
-use Rattle.nx_sync.specs.Words.{other_role, is_wrong, word_of_lock, first_role, role_of, wrong_in, wrong_until}
-use Rattle.nx_sync.specs.Locks.{before_dx, before_rx, IsPattern, releases_as_ended, release, Lock, Past, Now, hunting, locked, IsLocked, IsNow}
-use Rattle.nx_sync.specs.Laws.{phasing, IsSecondPhasing1, LockedBeforeDx}
+use Rattle.nx_sync.specs.Words.{marked_words, losing_count, other_role, is_wrong, word_of_lock, first_role, role_of, wrong_in, wrong_until}
+use Rattle.nx_sync.specs.private.Releases.{releases_as_ended, release}
+use Rattle.nx_sync.specs.Locks.{pattern_elements, before_dx, before_rx, IsPattern, IsSecondPhasing1, Lock, Past, Now, hunting, locked, IsLocked, IsNow}
+use Rattle.nx_sync.specs.Laws.{phasing, LockedBeforeDx}
 use Rattle.nx_sync.proofs.Counts.{wrong_in-add, wrong_in-all, wrong_in-none, wrong_in-le, role_of-even}
 use Rattle.nx_sync.proofs.Patterns.{last_word-window}
-use Rattle.nx_sync.proofs.Releases.{IsSecondPhasing1-from, IsSecondPhasing1-to, at_none, ByTests, by_end, by_loss, by_tests}
+use Rattle.nx_sync.proofs.Computed.{IsSecondPhasing1-from, IsSecondPhasing1-to, at_none, ByTests, by_end, by_loss, by_tests, released-from, holds-from}
 use Rattle.nx_sync.proofs.StateChanges.{standing_after}
 
 -- the word that begins at place i of n phasing pairs
@@ -85,7 +86,7 @@ length-phasing zero = refl
 length-phasing (suc n) = omega (arith, length-phasing n)
 
 -- 24 pairs end with a pattern
-ends_with_pattern : take 28 (drop 308 (phasing 24)) ≡ before_dx
+ends_with_pattern : take pattern_elements (drop 308 (phasing 24)) ≡ before_dx
 unfolding phasing before_dx
 ends_with_pattern = refl
 
@@ -141,11 +142,11 @@ module _ (earlier : List Bool) where
   -- a pattern is at the end
   pattern_at_end : IsPattern (earlier ++ phasing 24) (length earlier + 336)
   pattern_at_end =
-      let e : length earlier + 336 - 28 ≡ length earlier + 308 = omega arith in
+      let e : length earlier + 336 - pattern_elements ≡ length earlier + 308 = omega arith in
       record {
         enough = omega arith;
         heard = omega (arith, phasing_heard);
-        pattern = inl (ap (λ j. take 28 (drop j (earlier ++ phasing 24))) e ∙ (ap (take 28) (drop-append-add earlier (phasing 24) 308) ∙ ends_with_pattern));
+        pattern = inl (ap (λ j. take pattern_elements (drop j (earlier ++ phasing 24))) e ∙ (ap (take pattern_elements) (drop-append-add earlier (phasing 24) 308) ∙ ends_with_pattern));
       }
 
   -- the word before a pattern is a phasing signal
@@ -196,21 +197,21 @@ module _ (earlier : List Bool) where
   -- A lock that began before the phasing, or in its first seven bits, and that no word before the end has released: word
   -- k of it is the first that begins in the phasing, at place o.
   module _ (t k o : ℕ) (low : o < 7) (place : t + 7 * k ≡ length earlier + o) (quiet : (j : ℕ) → t + 7 * (j + 1) < length earlier + 336 → release (earlier ++ phasing 24) t j ≡ None) where
-    -- on other limits 40 words are wrong
+    -- on other limits as many words are wrong as lose a lock
     not_between : 0 < o → ⊥
     not_between inside =
         let f : ℕ → ℕ = word_of_lock (earlier ++ phasing 24) t in
-        let w : ℕ = k + 39 in
-        let all : (j : ℕ) → j < 40 → is_wrong (f (k + j)) ≡ true = λ j h.
+        let w : ℕ = k + (losing_count - 1) in
+        let all : (j : ℕ) → j < losing_count → is_wrong (f (k + j)) ≡ true = λ j h.
         let i : ℕ = o + 7 * j in
         let kind = phase_at 24 i (omega arith) in
         ap is_wrong (word_in t (k + j) i (omega arith)) ∙ (kind.wrong ∙ limit-true (i % 14) (λ z. omega arith) (λ s. omega arith)) in
         let few = (at_none (first_role (earlier ++ phasing 24) t) f w (quiet w (omega arith))).1 in
-        let b : ℕ = w + 1 - 64 in
-        let split : w + 1 - b ≡ k - b + 40 = omega arith in
+        let b : ℕ = w + 1 - marked_words in
+        let split : w + 1 - b ≡ k - b + losing_count = omega arith in
         let at : b + (k - b) ≡ k = omega arith in
-        let count : wrong_in f b (w + 1 - b) ≡ wrong_in f b (k - b) + wrong_in f k 40 = ap (wrong_in f b) split ∙ (wrong_in-add f b (k - b) 40 ∙ ap (λ j. wrong_in f b (k - b) + wrong_in f j 40) at) in
-        omega (arith, few, count, wrong_in-all f k 40 all)
+        let count : wrong_in f b (w + 1 - b) ≡ wrong_in f b (k - b) + wrong_in f k losing_count = ap (wrong_in f b) split ∙ (wrong_in-add f b (k - b) losing_count ∙ ap (λ j. wrong_in f b (k - b) + wrong_in f j losing_count) at) in
+        omega (arith, few, count, wrong_in-all f k losing_count all)
 
     -- with swapped roles the lock ends
     not_swapped : o ≡ 0 → role_of (first_role (earlier ++ phasing 24) t) k ≡ Rx → ⊥
@@ -252,7 +253,7 @@ module _ (earlier : List Bool) where
   -- a lock that stands at the end is on the phasing's limits and roles
   stands_right : (locks : List Lock) (p t : ℕ) → IsLocked (earlier ++ phasing 24) locks p t → LockedBeforeDx (earlier ++ phasing 24)
   stands_right locks p t now =
-      let x = aligned t now.found.here (λ j h. now.holds.never j (omega (arith, phasing_heard))) in
+      let x = aligned t now.found.here (λ j h. holds-from (earlier ++ phasing 24) t now.holds j (omega (arith, phasing_heard))) in
       let within = now.found.here.heard in
       let half : ℕ = 24 - x.a in
       let low : x.a ≤ 24 = elim x.early [ inl z ↦ omega arith | inr one ↦ omega (arith, x.place, phasing_heard) ] in
@@ -268,10 +269,10 @@ module _ (earlier : List Bool) where
 
   -- the last word releases no lock
   module _ (t w : ℕ) (x : IsAligned (first_role (earlier ++ phasing 24) t) (length earlier) t) (last : t + 7 * (w + 1) ≡ length earlier + 336) where
-    few_wrong : wrong_until (word_of_lock (earlier ++ phasing 24) t) w < 40
+    few_wrong : wrong_until (word_of_lock (earlier ++ phasing 24) t) w < losing_count
     few_wrong =
         let f : ℕ → ℕ = word_of_lock (earlier ++ phasing 24) t in
-        let i : ℕ = w + 1 - 64 in
+        let i : ℕ = w + 1 - marked_words in
         let right : (j : ℕ) → x.g ≤ j → j < w + 1 → is_wrong (f j) ≡ false = λ j from below.
         let c : ℕ = 14 * x.a + 7 * (j - x.g) in
         let at : t + 7 * j ≡ length earlier + c = omega (arith, x.place) in
@@ -284,7 +285,7 @@ module _ (earlier : List Bool) where
               let split : w + 1 - i ≡ x.g - i + (w + 1 - x.g) = omega arith in
               let count : wrong_in f i (w + 1 - i) ≡ wrong_in f i (x.g - i) + wrong_in f x.g (w + 1 - x.g) = ap (wrong_in f i) split ∙ (wrong_in-add f i (x.g - i) (w + 1 - x.g) ∙ ap (λ j. wrong_in f i (x.g - i) + wrong_in f j (w + 1 - x.g)) at) in
               let none : wrong_in f x.g (w + 1 - x.g) ≡ 0 = wrong_in-none f x.g (w + 1 - x.g) (λ j h. right (x.g + j) (omega arith) (omega arith)) in
-              let short : x.g - i < 40 = elim x.early [ inl z ↦ omega (arith, x.place) | inr one ↦ omega arith ] in
+              let short : x.g - i < losing_count = elim x.early [ inl z ↦ omega (arith, x.place) | inr one ↦ omega arith ] in
               omega (arith, count, none, wrong_in-le f i (x.g - i))
           | inr after ↦
               let none : wrong_in f i (w + 1 - i) ≡ 0 = wrong_in-none f i (w + 1 - i) (λ j h. right (i + j) (omega arith) (omega arith)) in
@@ -314,7 +315,7 @@ module _ (earlier : List Bool) where
   unfolding Past
   not_hunting [] p late past = omega arith
   not_hunting (lock ∷ older) p late past =
-      let r = past.0.released in
+      let r = released-from (earlier ++ phasing 24) lock.at lock.last lock.how past.0.released in
       let last : lock.at + 7 * (lock.last + 1) ≡ length earlier + 336 = omega (arith, r.heard, past.0.next, phasing_heard) in
       not_released lock.at lock.last
       (aligned lock.at past.0.found.here (λ j h. r.least j (omega arith)))

@@ -7,12 +7,14 @@ use Rattle.nx_code.specs.Phasing.{phasing_1, phasing_2}
 use Rattle.nx_sync.specs.declared.step.Role.{Role}
 use Rattle.nx_sync.specs.declared.step.Role.TheVariants.{Dx, Rx}
 use Rattle.nx_sync.specs.declared.step.Change.{Change}
-use Rattle.nx_sync.specs.Words.{other_role, is_wrong, word_of_lock, first_role, role_of, wrong_in, wrong_until}
-use Rattle.nx_sync.specs.Locks.{before_dx, before_rx, IsPattern, Finds, release, Lock, IsHunting, IsLocked}
-use Rattle.nx_sync.specs.Laws.{phasing, IsSecondPhasing1, IsOnPhasing, IsBetweenLimits, IsReleasedBy}
+use Rattle.nx_sync.specs.Words.{marked_words, losing_count, other_role, is_wrong, word_of_lock, first_role, role_of, wrong_in, wrong_until}
+use Rattle.nx_sync.specs.Locks.{pattern_elements, before_dx, before_rx, IsPattern, Finds, IsSecondPhasing1, Lock, IsHunting, IsLocked}
+use Rattle.nx_sync.specs.private.Releases.{release}
+use Rattle.nx_sync.specs.Laws.{phasing, IsOnPhasing, IsBetweenLimits, IsReleasedBy}
 use Rattle.nx_sync.proofs.Counts.{wrong_in-add, wrong_in-all, wrong_in-none, role_of-even}
 use Rattle.nx_sync.proofs.KeptPast.{wrong_in-same, IsPattern-less, word_at-more, Past-within}
-use Rattle.nx_sync.proofs.Releases.{least_true, none, some, IsSecondPhasing1-to, at_none, stands_longer}
+use Rattle.nx_sync.proofs.Computed.{IsSecondPhasing1-to, at_none, holds-from, least_released}
+use Rattle.nx_sync.proofs.Releases.{stands_longer}
 use Rattle.nx_sync.proofs.Phasing.{phase_at, length-phasing, limit-true, limit-zero, role_of-three_on, word_in, phasing_heard, inside_aligned}
 
 -- phasing without its first pairs
@@ -26,33 +28,25 @@ drop-pairs (suc q) n =
     ∙ (ap (λ k. drop k (phasing (suc (q + n)))) d
     ∙ (sym (drop-drop (14 * q) 14 (phasing (suc (q + n)))) ∙ drop-pairs q n))
 
-two_pairs : (n : ℕ) → take 28 (phasing (suc (suc n))) ≡ before_dx
+two_pairs : (n : ℕ) → take pattern_elements (phasing (suc (suc n))) ≡ before_dx
 unfolding phasing before_dx
 two_pairs n = refl
 
-three_pairs : (n : ℕ) → take 28 (drop 7 (phasing (suc (suc (suc n))))) ≡ before_rx
+three_pairs : (n : ℕ) → take pattern_elements (drop 7 (phasing (suc (suc (suc n))))) ≡ before_rx
 unfolding phasing before_rx
 three_pairs n = refl
 
 -- the patterns in 24 pairs
-even_pattern : (q : ℕ) → q ≤ 22 → take 28 (drop (14 * q) (phasing 24)) ≡ before_dx
+even_pattern : (q : ℕ) → q ≤ 22 → take pattern_elements (drop (14 * q) (phasing 24)) ≡ before_dx
 even_pattern q h =
     let e : q + suc (suc (22 - q)) ≡ 24 = omega arith in
-    ap (λ n. take 28 (drop (14 * q) (phasing n))) (sym e) ∙ (ap (take 28) (drop-pairs q (suc (suc (22 - q)))) ∙ two_pairs (22 - q))
+    ap (λ n. take pattern_elements (drop (14 * q) (phasing n))) (sym e) ∙ (ap (take pattern_elements) (drop-pairs q (suc (suc (22 - q)))) ∙ two_pairs (22 - q))
 
-odd_pattern : (q : ℕ) → q ≤ 21 → take 28 (drop (14 * q + 7) (phasing 24)) ≡ before_rx
+odd_pattern : (q : ℕ) → q ≤ 21 → take pattern_elements (drop (14 * q + 7) (phasing 24)) ≡ before_rx
 odd_pattern q h =
     let e : q + suc (suc (suc (21 - q))) ≡ 24 = omega arith in
-    ap (take 28) (sym (drop-drop 7 (14 * q) (phasing 24)))
-    ∙ (ap (λ n. take 28 (drop 7 (drop (14 * q) (phasing n)))) (sym e) ∙ (ap (λ xs. take 28 (drop 7 xs)) (drop-pairs q (suc (suc (suc (21 - q))))) ∙ three_pairs (21 - q)))
-
-none_from : (change : Option Change) → is_some change ≡ false → change ≡ None
-none_from None h = refl
-none_from (Some how) h = absurd (both_ways _ h refl)
-
-some_from : (change : Option Change) → is_some change ≡ true → (how : Change) × (change ≡ Some how)
-some_from None h = absurd (both_ways _ refl h)
-some_from (Some how) h = (how, refl)
+    ap (take pattern_elements) (sym (drop-drop 7 (14 * q) (phasing 24)))
+    ∙ (ap (λ n. take pattern_elements (drop 7 (drop (14 * q) (phasing n)))) (sym e) ∙ (ap (λ xs. take pattern_elements (drop 7 xs)) (drop-pairs q (suc (suc (suc (21 - q))))) ∙ three_pairs (21 - q)))
 
 module _ (earlier : List Bool) where
   split_at : (i : ℕ) → (earlier ++ take i (phasing 24)) ++ drop i (phasing 24) ≡ earlier ++ phasing 24
@@ -63,10 +57,10 @@ module _ (earlier : List Bool) where
       let l : length (phasing 24) ≡ 336 = length-phasing 24 in
       simp (length-append, length-take) (omega arith)
 
-  window_at : (i : ℕ) → 28 ≤ i → take 28 (drop (length earlier + i - 28) (earlier ++ phasing 24)) ≡ take 28 (drop (i - 28) (phasing 24))
+  window_at : (i : ℕ) → pattern_elements ≤ i → take pattern_elements (drop (length earlier + i - pattern_elements) (earlier ++ phasing 24)) ≡ take pattern_elements (drop (i - pattern_elements) (phasing 24))
   window_at i h =
-      let e : length earlier + i - 28 ≡ length earlier + (i - 28) = omega arith in
-      ap (λ j. take 28 (drop j (earlier ++ phasing 24))) e ∙ ap (take 28) (drop-append-add earlier (phasing 24) (i - 28))
+      let e : length earlier + i - pattern_elements ≡ length earlier + (i - pattern_elements) = omega arith in
+      ap (λ j. take pattern_elements (drop j (earlier ++ phasing 24))) e ∙ ap (take pattern_elements) (drop-append-add earlier (phasing 24) (i - pattern_elements))
 
   -- at each word limit from the fourth on there is a pattern
   pattern_at_limit : (j : ℕ) → 4 ≤ j → j ≤ 48 → IsPattern (earlier ++ phasing 24) (length earlier + 7 * j)
@@ -75,11 +69,11 @@ module _ (earlier : List Bool) where
     heard = omega (arith, phasing_heard earlier);
     pattern = elim (cases_eq (j % 2) 0) [
       | inl even ↦
-          let e : 7 * j - 28 ≡ 14 * ((j - 4) / 2) = omega arith in
-          inl (window_at (7 * j) (omega arith) ∙ (ap (λ k. take 28 (drop k (phasing 24))) e ∙ even_pattern ((j - 4) / 2) (omega arith)))
+          let e : 7 * j - pattern_elements ≡ 14 * ((j - 4) / 2) = omega arith in
+          inl (window_at (7 * j) (omega arith) ∙ (ap (λ k. take pattern_elements (drop k (phasing 24))) e ∙ even_pattern ((j - 4) / 2) (omega arith)))
       | inr odd ↦
-          let e : 7 * j - 28 ≡ 14 * ((j - 4) / 2) + 7 = omega arith in
-          inr (window_at (7 * j) (omega arith) ∙ (ap (λ k. take 28 (drop k (phasing 24))) e ∙ odd_pattern ((j - 4) / 2) (omega arith)))
+          let e : 7 * j - pattern_elements ≡ 14 * ((j - 4) / 2) + 7 = omega arith in
+          inr (window_at (7 * j) (omega arith) ∙ (ap (λ k. take pattern_elements (drop k (phasing 24))) e ∙ odd_pattern ((j - 4) / 2) (omega arith)))
     ];
   }
 
@@ -89,7 +83,7 @@ module _ (earlier : List Bool) where
       record { g = x.g; a = x.a; place = x.place; dx = x.dx }
 
   -- a hunt finds the pattern at the next word limit
-  pub hunt_locks : (i p : ℕ) (locks : List Lock) → 28 ≤ i → i < 336 → IsHunting (earlier ++ take i (phasing 24)) locks p
+  pub hunt_locks : (i p : ℕ) (locks : List Lock) → pattern_elements ≤ i → i < 336 → IsHunting (earlier ++ take i (phasing 24)) locks p
       → Finds (earlier ++ phasing 24) p (length earlier + 7 * (i / 7 + 1)) × IsOnPhasing (earlier ++ phasing 24) (length earlier) (length earlier + 7 * (i / 7 + 1))
   hunt_locks i p locks low high now =
       let here = pattern_at_limit (i / 7 + 1) (omega arith) (omega arith) in
@@ -112,23 +106,15 @@ module _ (earlier : List Bool) where
 
   -- a word that brings a change is there, so there is a least one
   released_by : (t w m : ℕ) → (release (earlier ++ phasing 24) t w ≡ None → ⊥) → t + 7 * (w + 1) ≤ m → m ≤ length earlier + 336 → IsReleasedBy (earlier ++ phasing 24) t m
-  released_by t w m some_change fits within = elim (least_true (λ j. is_some (release (earlier ++ phasing 24) t j)) (w + 1)) [
-    | none few ↦ absurd (some_change (none_from (release (earlier ++ phasing 24) t w) (few w (omega arith))))
-    | some v h here before ↦
-        let how = some_from (release (earlier ++ phasing 24) t v) here in
-        record {
-          word = v;
-          how = how.0;
-          by = omega arith;
-          released = record {
-            heard = omega (arith, phasing_heard earlier);
-            here = how.1;
-            least = λ j below. none_from (release (earlier ++ phasing 24) t j) (before j below);
-          };
-        }
-  ]
+  released_by t w m some_change fits within = by_change (release (earlier ++ phasing 24) t w) refl
+    where
+      by_change : (change : Option Change) → release (earlier ++ phasing 24) t w ≡ change → IsReleasedBy (earlier ++ phasing 24) t m
+      by_change None e = absurd (some_change e)
+      by_change (Some how) e =
+          let least = least_released (earlier ++ phasing 24) t w how (omega (arith, phasing_heard earlier)) e in
+          record { word = least.0; how = least.2.0; by = omega (arith, least.1); released = least.2.1 }
 
-  -- a lock on other limits meets 40 wrong words
+  -- a lock on other limits meets as many wrong words as lose it
   module _ (t : ℕ) (here : IsPattern (earlier ++ phasing 24) t) (between : IsBetweenLimits (length earlier) t) where
     begins_before : t < length earlier + 7
     begins_before = elim (cases_lt t (length earlier + 7)) [
@@ -148,20 +134,20 @@ module _ (earlier : List Bool) where
         (λ z. let j : t + 7 * k ≡ length earlier + 7 * (c / 7) = omega arith in between.apart k (c / 7) j)
         (λ s. let j : t + 7 * k ≡ length earlier + 7 * (c / 7) = omega arith in between.apart k (c / 7) j))
 
-    pub between_released : IsReleasedBy (earlier ++ phasing 24) t (length earlier + 286)
+    pub between_released : IsReleasedBy (earlier ++ phasing 24) t (length earlier + (6 + 7 * losing_count))
     between_released =
         let f : ℕ → ℕ = word_of_lock (earlier ++ phasing 24) t in
         let first : Role = first_role (earlier ++ phasing 24) t in
         let low = begins_before in
         let k : ℕ = (length earlier + 6 - t) / 7 in
-        let w : ℕ = k + 39 in
-        let all : (j : ℕ) → j < 40 → is_wrong (f (k + j)) ≡ true = λ j h. between_wrong (k + j) (omega arith) (omega arith) in
-        let b : ℕ = w + 1 - 64 in
-        let split : w + 1 - b ≡ k - b + 40 = omega arith in
+        let w : ℕ = k + (losing_count - 1) in
+        let all : (j : ℕ) → j < losing_count → is_wrong (f (k + j)) ≡ true = λ j h. between_wrong (k + j) (omega arith) (omega arith) in
+        let b : ℕ = w + 1 - marked_words in
+        let split : w + 1 - b ≡ k - b + losing_count = omega arith in
         let at : b + (k - b) ≡ k = omega arith in
-        let count : wrong_in f b (w + 1 - b) ≡ wrong_in f b (k - b) + wrong_in f k 40 = ap (wrong_in f b) split ∙ (wrong_in-add f b (k - b) 40 ∙ ap (λ j. wrong_in f b (k - b) + wrong_in f j 40) at) in
-        released_by t w (length earlier + 286)
-        (λ none. omega (arith, (at_none first f w none).1, count, wrong_in-all f k 40 all))
+        let count : wrong_in f b (w + 1 - b) ≡ wrong_in f b (k - b) + wrong_in f k losing_count = ap (wrong_in f b) split ∙ (wrong_in-add f b (k - b) losing_count ∙ ap (λ j. wrong_in f b (k - b) + wrong_in f j losing_count) at) in
+        released_by t w (length earlier + (6 + 7 * losing_count))
+        (λ none. omega (arith, (at_none first f w none).1, count, wrong_in-all f k losing_count all))
         (omega arith) (omega arith)
 
   -- a lock with swapped roles has phasing signal 1 in its DX words
@@ -214,10 +200,10 @@ even_apart first g k d h below = elim (cases_eq ((k - g) % 2) 0) [
 ]
 
 -- a window that ends with right words has no more wrong ones than the window that ended before them
-fewer_in_window : (f : ℕ → ℕ) (b w : ℕ) → b ≤ w → ((j : ℕ) → b ≤ j → j < w + 1 → is_wrong (f j) ≡ false) → wrong_until f b < 40 → wrong_until f w < 40
+fewer_in_window : (f : ℕ → ℕ) (b w : ℕ) → b ≤ w → ((j : ℕ) → b ≤ j → j < w + 1 → is_wrong (f j) ≡ false) → wrong_until f b < losing_count → wrong_until f w < losing_count
 fewer_in_window f b w below right few =
-    let i : ℕ = w + 1 - 64 in
-    let h : ℕ = b + 1 - 64 in
+    let i : ℕ = w + 1 - marked_words in
+    let h : ℕ = b + 1 - marked_words in
     elim (cases_lt i b) [
       | inl before ↦
           let split : w + 1 - i ≡ b - i + (w + 1 - b) = omega arith in
@@ -234,12 +220,12 @@ fewer_in_window f b w below right few =
           omega (arith, none)
     ]
 
-none_wrong_at_first : (f : ℕ → ℕ) → is_wrong (f 0) ≡ false → wrong_until f 0 < 40
+none_wrong_at_first : (f : ℕ → ℕ) → is_wrong (f 0) ≡ false → wrong_until f 0 < losing_count
 none_wrong_at_first f right =
     let none : wrong_in f 0 1 ≡ 0 = wrong_in-none f 0 1 (λ j s. let z : 0 + j ≡ 0 = omega arith in ap (λ n. is_wrong (f n)) z ∙ right) in
     omega (arith, none)
 
-module _ (earlier : List Bool) (i : ℕ) (low : 28 ≤ i) (high : i ≤ 336) (t : ℕ) (x : IsOnPhasing (earlier ++ phasing 24) (length earlier) t) where
+module _ (earlier : List Bool) (i : ℕ) (low : pattern_elements ≤ i) (high : i ≤ 336) (t : ℕ) (x : IsOnPhasing (earlier ++ phasing 24) (length earlier) t) where
   -- its words in the phasing are right, and the DX words phasing signal 2
   on_right : (k : ℕ) → length earlier ≤ t + 7 * k → t + 7 * (k + 1) ≤ length earlier + 336 → is_wrong (word_of_lock (earlier ++ phasing 24) t k) ≡ false
   on_right k from fits =
@@ -262,15 +248,15 @@ module _ (earlier : List Bool) (i : ℕ) (low : 28 ≤ i) (high : i ≤ 336) (t 
       word_in earlier t k c e ∙ kind.second pair
 
   -- how many were wrong up to the word that is over at the first of the phasing words, where the lock began before them
-  now_few : (locks : List Lock) (p : ℕ) → IsLocked (earlier ++ take i (phasing 24)) locks p t → (k : ℕ) → t + 7 * (k + 1) ≤ length earlier + i → wrong_until (word_of_lock (earlier ++ phasing 24) t) k < 40
+  now_few : (locks : List Lock) (p : ℕ) → IsLocked (earlier ++ take i (phasing 24)) locks p t → (k : ℕ) → t + 7 * (k + 1) ≤ length earlier + i → wrong_until (word_of_lock (earlier ++ phasing 24) t) k < losing_count
   now_few locks p now k h =
       let l = length-part earlier i high in
-      let quiet = now.holds.never k (omega (arith, h, l)) in
+      let quiet = holds-from (earlier ++ take i (phasing 24)) t now.holds k (omega (arith, h, l)) in
       let count = (at_none (first_role (earlier ++ take i (phasing 24)) t) (word_of_lock (earlier ++ take i (phasing 24)) t) k quiet).1 in
-      let same : wrong_until (word_of_lock ((earlier ++ take i (phasing 24)) ++ drop i (phasing 24)) t) k ≡ wrong_until (word_of_lock (earlier ++ take i (phasing 24)) t) k = wrong_in-same (word_of_lock ((earlier ++ take i (phasing 24)) ++ drop i (phasing 24)) t) (word_of_lock (earlier ++ take i (phasing 24)) t) (k + 1 - 64) (k + 1 - (k + 1 - 64)) (λ j s. word_at-more (earlier ++ take i (phasing 24)) (drop i (phasing 24)) t j (omega (arith, h, l))) in
-      subst (λ xs. wrong_until (word_of_lock xs t) k < 40) (split_at earlier i) (omega (arith, same, count))
+      let same : wrong_until (word_of_lock ((earlier ++ take i (phasing 24)) ++ drop i (phasing 24)) t) k ≡ wrong_until (word_of_lock (earlier ++ take i (phasing 24)) t) k = wrong_in-same (word_of_lock ((earlier ++ take i (phasing 24)) ++ drop i (phasing 24)) t) (word_of_lock (earlier ++ take i (phasing 24)) t) (k + 1 - marked_words) (k + 1 - (k + 1 - marked_words)) (λ j s. word_at-more (earlier ++ take i (phasing 24)) (drop i (phasing 24)) t j (omega (arith, h, l))) in
+      subst (λ xs. wrong_until (word_of_lock xs t) k < losing_count) (split_at earlier i) (omega (arith, same, count))
 
-  few_wrong : (w : ℕ) → ((k : ℕ) → t + 7 * (k + 1) ≤ length earlier + i → wrong_until (word_of_lock (earlier ++ phasing 24) t) k < 40) → length earlier + i < t + 7 * (w + 1) → t + 7 * (w + 1) ≤ length earlier + 336 → t ≤ length earlier + i → wrong_until (word_of_lock (earlier ++ phasing 24) t) w < 40
+  few_wrong : (w : ℕ) → ((k : ℕ) → t + 7 * (k + 1) ≤ length earlier + i → wrong_until (word_of_lock (earlier ++ phasing 24) t) k < losing_count) → length earlier + i < t + 7 * (w + 1) → t + 7 * (w + 1) ≤ length earlier + 336 → t ≤ length earlier + i → wrong_until (word_of_lock (earlier ++ phasing 24) t) w < losing_count
   few_wrong w before after fits began =
       let f : ℕ → ℕ = word_of_lock (earlier ++ phasing 24) t in
       let place = x.place in
@@ -290,7 +276,7 @@ module _ (earlier : List Bool) (i : ℕ) (low : 28 ≤ i) (high : i ≤ 336) (t 
       let f : ℕ → ℕ = word_of_lock (earlier ++ phasing 24) t in
       let began = now.found.here.heard in
       subst (λ xs. IsLocked xs locks p t) all (stands_longer (earlier ++ take i (phasing 24)) (drop i (phasing 24)) locks p t now
-      (λ w after fits. subst (λ xs. wrong_until (word_of_lock xs t) w < 40) (sym all) (few_wrong w (now_few locks p now) (omega (arith, after, l)) (omega (arith, fits, ap length all, phasing_heard earlier)) (omega (arith, began, l))))
+      (λ w after fits. subst (λ xs. wrong_until (word_of_lock xs t) w < losing_count) (sym all) (few_wrong w (now_few locks p now) (omega (arith, after, l)) (omega (arith, fits, ap length all, phasing_heard earlier)) (omega (arith, began, l))))
       (λ k after fits second.
       let at = subst (λ xs. IsSecondPhasing1 (first_role xs t) (word_of_lock xs t) k) all second in
       let e = on_second k (omega (arith, after, l)) (omega (arith, fits, ap length all, phasing_heard earlier)) at.dx in

@@ -12,12 +12,13 @@ use Rattle.nx_sync.specs.declared.step.Change.TheVariants.{Locked}
 use Rattle.nx_sync.specs.declared.step.Step.{Step}
 use Rattle.nx_sync.specs.declared.track.Track.{Track}
 use Rattle.nx_code.specs.Phasing.{phasing_1}
-use Rattle.nx_sync.specs.Words.{other_role, is_wrong, word_of_lock, first_role, role_of}
-use Rattle.nx_sync.specs.Locks.{before_dx, before_rx, last_28, IsPattern, release, Lock, Now, hunting, locked, IsHunting, IsLocked, IsNow}
+use Rattle.nx_sync.specs.Words.{marked_words, other_role, is_wrong, word_of_lock, first_role, role_of}
+use Rattle.nx_sync.specs.private.Releases.{release}
+use Rattle.nx_sync.specs.Locks.{before_dx, before_rx, last_28, IsPattern, Lock, Now, hunting, locked, IsHunting, IsLocked, IsNow}
 use Rattle.nx_sync.specs.Steps.{LockStands, step, found, word, inside, over, hunts, IsStep}
 use Rattle.nx_sync.specs.Synchroniser.{Held, wrong_marks, p1_marks, Follows, Tracks, StandsAfter}
-use Rattle.nx_sync.specs.PrivateWindows.{next_window, role_after}
-use Rattle.nx_sync.specs.PrivateCalls.{heard_one, track_from, track_after, BeginsLock, Fills, Completes}
+use Rattle.nx_sync.specs.private.Windows.{next_window, role_after}
+use Rattle.nx_sync.specs.private.Calls.{heard_one, track_from, track_after, BeginsLock, Fills, Completes}
 use Rattle.nx_sync.proofs.Lists.{padded-push, length-padded}
 use Rattle.nx_sync.proofs.Numbers.{number_of-next}
 use Rattle.nx_sync.proofs.KeptPast.{word_at-more, first_role-more, Past-within}
@@ -193,7 +194,7 @@ module _ (s : Held) (bits : List Bool) (b : Bool) (a : StandsAfter s bits) where
               short = short;
               role = f.role ∙ ap (λ first. role_of first f.whole) (sym (first_role-more bits (b ∷ []) t low within));
               phasing = f.phasing ∙ ap number_of (p1_marks-same (word_of_lock bits t) (word_of_lock (bits ++ b ∷ []) t) f.whole words);
-              marks = f.marks ∙ ap (keep_last 64) (wrong_marks-same (word_of_lock bits t) (word_of_lock (bits ++ b ∷ []) t) f.whole words);
+              marks = f.marks ∙ ap (keep_last marked_words) (wrong_marks-same (word_of_lock bits t) (word_of_lock (bits ++ b ∷ []) t) f.whole words);
             };
           };
         };
@@ -234,11 +235,11 @@ module _ (s : Held) (bits : List Bool) (b : Bool) (a : StandsAfter s bits) where
     phasing_is : track.was_p1 ≡ number_of (p1_marks (word_of_lock (bits ++ b ∷ []) t) f.whole)
     phasing_is = f.phasing ∙ ap number_of (p1_marks-same (word_of_lock bits t) (word_of_lock (bits ++ b ∷ []) t) f.whole words_same)
 
-    marks_are : x.wrong ≡ keep_last 64 (wrong_marks (word_of_lock (bits ++ b ∷ []) t) (f.whole + 1))
+    marks_are : x.wrong ≡ keep_last marked_words (wrong_marks (word_of_lock (bits ++ b ∷ []) t) (f.whole + 1))
     marks_are =
         c.marks
-        ∙ (ap (λ xs. keep_last 64 (xs ++ is_wrong ((heard_one s b).recent / 2 ^ 21) ∷ [])) (f.marks ∙ ap (keep_last 64) (wrong_marks-same (word_of_lock bits t) (word_of_lock (bits ++ b ∷ []) t) f.whole words_same))
-        ∙ (ap (λ w. keep_last 64 (keep_last 64 (wrong_marks (word_of_lock (bits ++ b ∷ []) t) f.whole) ++ is_wrong w ∷ [])) number_is
+        ∙ (ap (λ xs. keep_last marked_words (xs ++ is_wrong ((heard_one s b).recent / 2 ^ 21) ∷ [])) (f.marks ∙ ap (keep_last marked_words) (wrong_marks-same (word_of_lock bits t) (word_of_lock (bits ++ b ∷ []) t) f.whole words_same))
+        ∙ (ap (λ w. keep_last marked_words (keep_last marked_words (wrong_marks (word_of_lock (bits ++ b ∷ []) t) f.whole) ++ is_wrong w ∷ [])) number_is
         ∙ wrong_marks-next (word_of_lock (bits ++ b ∷ []) t) f.whole))
 
     change_is : r.change ≡ release (bits ++ b ∷ []) t f.whole

@@ -8,9 +8,9 @@ use Rattle.std.proofs.lemmas.List.{drop-append-le, take_at, take_all, drop_all}
 use Rattle.nx_code.specs.Word.{number_of, value_of, elements_from}
 use Rattle.nx_sync.specs.Locks.{before_dx, before_rx}
 use Rattle.nx_sync.specs.Windows.{window_before_dx, window_before_rx, is_lock_window}
-use Rattle.nx_sync.specs.PrivateWindows.{is_in_phasing, window_after}
+use Rattle.nx_sync.specs.private.Windows.{is_in_phasing, window_after}
 use Rattle.nx_sync.specs.Synchroniser.{Held}
-use Rattle.nx_sync.specs.PrivateCalls.{Skips}
+use Rattle.nx_sync.specs.private.Calls.{Skips}
 use Rattle.nx_sync.proofs.Numbers.{number_of-append, number_of-drop, number_of-next}
 use Rattle.nx_sync.proofs.Patterns.{is_dx_window, is_rx_window}
 use Rattle.nx_sync.proofs.Hearing.{same_parts}

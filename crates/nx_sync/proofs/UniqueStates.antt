@@ -2,7 +2,8 @@
 use Rattle.std.proofs.Common.{◌≡◌, ℕ, ◌⊎◌, List, [], ◌∷◌, Bool, refl, sym, ap, subst, ◌∙◌, inl, inr, Some, None}
 use Rattle.std.proofs.lemmas.Bool.{cases_order}
 use Rattle.nx_sync.specs.declared.step.Change.{Change}
-use Rattle.nx_sync.specs.Locks.{Finds, release, IsReleased, Lock, Past, Now, hunting, locked, IsNow}
+use Rattle.nx_sync.specs.Locks.{Finds, IsReleased, Lock, Past, Now, hunting, locked, IsNow}
+use Rattle.nx_sync.proofs.Computed.{released-word, released-how}
 use Rattle.nx_sync.specs.Laws.{Extends, same, newer}
 
 pub Extends-nil : (ls : List Lock) → Extends ls []
@@ -29,21 +30,6 @@ module _ (bits : List Bool) where
     | inr (inr before) ↦ absurd (f.least t g.after before g.here)
   ]
 
-  pub IsReleased-word : (t v w : ℕ) (how other : Change) → IsReleased bits t v how → IsReleased bits t w other → v ≡ w
-  IsReleased-word t v w how other r q = elim (cases_order v w) [
-    | inl e ↦ e
-    | inr (inl before) ↦ let a = r.here in let b = q.least v before in cc
-    | inr (inr before) ↦ let a = q.here in let b = r.least w before in cc
-  ]
-
-  pub IsReleased-how : (t v w : ℕ) (how other : Change) → IsReleased bits t v how → IsReleased bits t w other → how ≡ other
-  IsReleased-how t v w how other r q =
-      let e = IsReleased-word t v w how other r q in
-      let a : release bits t v ≡ Some how = r.here in
-      let b : release bits t w ≡ Some other = q.here in
-      let c : release bits t v ≡ release bits t w = ap (release bits t) e in
-      cc
-
   -- the bit count that a list of past locks leads to
   pub Past-unique : (locks : List Lock) (p q : ℕ) → Past bits locks p → Past bits locks q → p ≡ q
   unfolding Past
@@ -58,8 +44,8 @@ module _ (bits : List Bool) where
       let found : Finds bits x.from y.at = subst (λ n. Finds bits n y.at) (sym from) b.0.found in
       let at : x.at ≡ y.at = Finds-unique x.from x.at y.at a.0.found found in
       let released : IsReleased bits x.at y.last y.how = subst (λ n. IsReleased bits n y.last y.how) (sym at) b.0.released in
-      let last : x.last ≡ y.last = IsReleased-word x.at x.last y.last x.how y.how a.0.released released in
-      let how : x.how ≡ y.how = IsReleased-how x.at x.last y.last x.how y.how a.0.released released in
+      let last : x.last ≡ y.last = released-word bits x.at x.last y.last x.how y.how a.0.released released in
+      let how : x.how ≡ y.how = released-how bits x.at x.last y.last x.how y.how a.0.released released in
       let make : ℕ → ℕ → ℕ → Change → Lock = λ f t w h. record { from = f; at = t; last = w; how = h } in
       ap (λ n. make n x.at x.last x.how) from
       ∙ (ap (λ n. make y.from n x.last x.how) at
@@ -102,10 +88,7 @@ module _ (bits : List Bool) where
   now-newest ls ks (locked p t) x q n e b =
       let found = past_next ls ks x p q n.past e b in
       let at : x.at ≡ t = Finds-unique p x.at t found.0 n.found in
-      let r : IsReleased bits t x.last x.how = subst (λ s. IsReleased bits s x.last x.how) at found.1 in
-      let none : release bits t x.last ≡ None = n.holds.never x.last r.heard in
-      let some : release bits t x.last ≡ Some x.how = r.here in
-      cc
+      n.holds.never x.last x.how (subst (λ s. IsReleased bits s x.last x.how) at found.1)
 
   pub IsNow-past : (ls : List Lock) (now : Now) → IsNow bits ls now → (p : ℕ) × Past bits ls p
   IsNow-past ls (hunting p) n = (p, n.past)

@@ -7,11 +7,11 @@ use Rattle.circular_buffer.specs.Buffer.{keep_last}
 use Rattle.nx_code.specs.Word.{number_of}
 use Rattle.nx_sync.specs.declared.step.Step.{Step}
 use Rattle.nx_sync.specs.declared.track.Track.{Track}
-use Rattle.nx_sync.specs.Words.{is_wrong}
-use Rattle.nx_sync.specs.PrivateWindows.{next_word_window, window_after}
+use Rattle.nx_sync.specs.Words.{marked_words, is_wrong}
+use Rattle.nx_sync.specs.private.Windows.{next_word_window, window_after}
 use Rattle.nx_sync.specs.Steps.{step, IsStep, IsWordStep}
 use Rattle.nx_sync.specs.Synchroniser.{Held, is_at_limit, is_between_words, StandsAfter}
-use Rattle.nx_sync.specs.PrivateCalls.{heard_one, track_after, Completes}
+use Rattle.nx_sync.specs.private.Calls.{heard_one, track_after, Completes}
 use Rattle.nx_sync.proofs.Lists.{length-padded, padded-append}
 use Rattle.nx_sync.proofs.Numbers.{number_of-next_word}
 use Rattle.nx_sync.proofs.Hearing.{window_after-none}
@@ -79,7 +79,7 @@ same_word : (held : Held) (recent recent' seen seen' : ℕ) (track : Track) (fil
 same_word held recent recent' seen seen' track filled others x r e d c = record {
   recent = c.recent ∙ e;
   seen = c.seen ∙ d;
-  marks = c.marks ∙ ap (λ n. keep_last 64 (held.wrong ++ is_wrong (n / 2 ^ 21) ∷ [])) e;
+  marks = c.marks ∙ ap (λ n. keep_last marked_words (held.wrong ++ is_wrong (n / 2 ^ 21) ∷ [])) e;
   change = c.change;
   word = c.word ∙ ap (λ (n : ℕ). Some (n / 2 ^ 21, track.role)) e;
   goes_on = λ h. c.goes_on h ∙ ap (λ n. Some (track_after track (n / 2 ^ 21))) e;

@@ -4,8 +4,10 @@ use Rattle.std.proofs.lemmas.List.{length_push}
 use Rattle.nx_sync.specs.declared.step.Role.{Role}
 use Rattle.nx_sync.specs.declared.step.Step.{Step}
 use Rattle.nx_sync.specs.Words.{role_of, heard_word, lock_words, whole_words, words_heard}
-use Rattle.nx_sync.specs.Locks.{Finds, release, Lock, Past, Now, hunting, locked, IsHunting, IsLocked, words_of_past}
+use Rattle.nx_sync.specs.private.Releases.{release}
+use Rattle.nx_sync.specs.Locks.{Finds, Lock, Past, Now, hunting, locked, IsHunting, IsLocked, words_of_past}
 use Rattle.nx_sync.specs.Steps.{step, Brings, found, word, inside, over, hunts, IsStep, word_of_step}
+use Rattle.nx_sync.proofs.Computed.{released-from, holds-from}
 use Rattle.nx_sync.proofs.KeptPast.{word_at-more, first_role-more, release-more}
 use Rattle.nx_sync.proofs.UniqueStates.{locks-unique, now-unique}
 
@@ -67,8 +69,8 @@ module _ (bits : List Bool) (b : Bool) where
   words_heard-over s lock older p q was now (hunts l h) =
       let past = now.past.0 in
       let heard : lock.at + 7 * (lock.last + 1) ≤ length bits = omega (arith, l, past.next, length_push bits b) in
-      let none : release bits lock.at lock.last ≡ None = was.holds.never lock.last heard in
-      let some : release bits lock.at lock.last ≡ Some lock.how = sym (release-more bits (b ∷ []) lock.at lock.last was.found.here.enough heard) ∙ past.released.here in
+      let none : release bits lock.at lock.last ≡ None = holds-from bits lock.at was.holds lock.last heard in
+      let some : release bits lock.at lock.last ≡ Some lock.how = sym (release-more bits (b ∷ []) lock.at lock.last was.found.here.enough heard) ∙ (released-from (bits ++ b ∷ []) lock.at lock.last lock.how past.released).here in
       cc
 
 -- what a step brings is one thing, by what stands after it

@@ -1,40 +1,11 @@
 -- The words that the laws of the locks are said in.
-use Rattle.std.specs.Prelude.{◌≡◌, ℕ, zero, suc, ◌+◌, ◌-◌, ◌*◌, ◌<◌, ◌≤◌, Bool, List, [], ◌∷◌, ◌++◌, length}
+use Rattle.std.specs.Prelude.{◌≡◌, ℕ, zero, suc, ◌+◌, ◌*◌, ◌≤◌, Bool, List, [], ◌∷◌, ◌++◌, length}
 use Rattle.nx_sync.specs.declared.step.Role.{Role}
 use Rattle.nx_sync.specs.declared.step.Role.TheVariants.{Dx}
 use Rattle.nx_sync.specs.declared.step.Change.{Change}
-use Rattle.nx_sync.specs.declared.step.Change.TheVariants.{Ended, LostLock}
-use Rattle.nx_code.specs.Phasing.{phasing_1, elements_of_phasing_1, elements_of_phasing_2}
-use Rattle.nx_sync.specs.Words.{losing_count, first_role, role_of, wrong_until}
+use Rattle.nx_code.specs.Phasing.{elements_of_phasing_1, elements_of_phasing_2}
+use Rattle.nx_sync.specs.Words.{first_role, role_of}
 use Rattle.nx_sync.specs.Locks.{IsReleased, Lock, Now, hunting, locked, IsLocked, IsNow}
-
--- Word k is the second of two DX words in a row that are phasing signal 1: it is a DX word, at
--- least word 2, and it and word k - 2 are phasing signal 1. The word that releases the lock is then
--- word k + 3 (this profile).
-pub record IsSecondPhasing1 (first : Role) (words : ℕ → ℕ) (k : ℕ) : Type 0 where
-  pub two : 2 ≤ k
-  pub dx : role_of first k ≡ Dx
-  pub this : words k ≡ phasing_1
-  pub before : words (k - 2) ≡ phasing_1
-
--- Ended at word w: w is word k + 3 for the least k that is a second phasing signal 1.
-pub record EndedAt (first : Role) (words : ℕ → ℕ) (w : ℕ) : Type 0 where
-  pub late : 3 ≤ w
-  pub here : IsSecondPhasing1 first words (w - 3)
-  pub least : (k : ℕ) → k < w - 3 → IsSecondPhasing1 first words k → ⊥
-
--- Lost at word w: the least word with at least 40 wrong ones among the last 64 words up to it (this
--- profile).
-pub record LostAt (words : ℕ → ℕ) (w : ℕ) : Type 0 where
-  pub here : losing_count ≤ wrong_until words w
-  pub least : (k : ℕ) → k < w → wrong_until words k < losing_count
-
--- Word w is the earlier of the word of Ended and the word of Lost; where they are the same, it is
--- Ended (this profile).
-pub data IsEarlier (first : Role) (words : ℕ → ℕ) (w : ℕ) : Change → Type 0 where
-  ended : EndedAt first words w → ((v : ℕ) → LostAt words v → w ≤ v) → IsEarlier first words w Ended
-  lost : LostAt words w → ((v : ℕ) → EndedAt first words v → w < v)
-      → IsEarlier first words w LostLock
 
 -- what stands after these bits, together
 pub record WhatStands (bits : List Bool) : Type 0 where

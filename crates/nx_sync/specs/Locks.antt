@@ -1,11 +1,12 @@
 -- The locks of a receiver, over the whole list of bits that it has heard. When a lock begins, which
 -- role its words have, what releases it and where the next search begins is this profile's.
-use Rattle.std.specs.Prelude.{◌≡◌, ℕ, ◌+◌, ◌-◌, ◌*◌, ◌<◌, ◌≤◌, ◌==◌, nat_le, Bool, ◌&&◌, ◌⊎◌, List, [], ◌∷◌, ◌++◌, length, take, drop, Option, Some, None, if◌then◌else◌}
+use Rattle.std.specs.Prelude.{◌≡◌, ℕ, ◌+◌, ◌-◌, ◌*◌, ◌<◌, ◌≤◌, Bool, ◌⊎◌, List, [], ◌∷◌, ◌++◌, length, take, drop}
 use Rattle.nx_sync.specs.declared.step.Role.{Role}
+use Rattle.nx_sync.specs.declared.step.Role.TheVariants.{Dx}
 use Rattle.nx_sync.specs.declared.step.Change.{Change}
 use Rattle.nx_sync.specs.declared.step.Change.TheVariants.{Ended, LostLock}
 use Rattle.nx_code.specs.Phasing.{phasing_1, elements_of_phasing_1, elements_of_phasing_2}
-use Rattle.nx_sync.specs.Words.{losing_count, word_of_lock, first_role, role_of, is_dx, wrong_until, lock_words}
+use Rattle.nx_sync.specs.Words.{losing_count, word_of_lock, first_role, role_of, wrong_until, lock_words}
 
 -- How many elements the patterns have that give a lock: four words (this profile).
 abbrev pub pattern_elements : ℕ
@@ -44,37 +45,42 @@ pub record Finds (bits : List Bool) (p t : ℕ) : Type 0 where
 pub record FindsNone (bits : List Bool) (p : ℕ) : Type 0 where
   pub never : (s : ℕ) → p < s → IsPattern bits s → ⊥
 
--- Whether word k is the word that releases a lock as Ended: the word three before it is a DX word,
--- at least word 2, and it and the DX word before it, which is word k - 5, are phasing signal 1.
--- (Laws.antt has Ended in the words of the definition, `EndedAt`, and a law ties the two.)
-unfoldable pub releases_as_ended : Role → (ℕ → ℕ) → ℕ → Bool
-releases_as_ended first words k =
-    nat_le 5 k && is_dx (role_of first (k - 3))
-    && (words (k - 3) == phasing_1) && (words (k - 5) == phasing_1)
+-- Word k is the second of two DX words in a row that are phasing signal 1: it is a DX word, at
+-- least word 2, and it and word k - 2 are phasing signal 1 (the end of an emission: M.625, mode B).
+pub record IsSecondPhasing1 (first : Role) (words : ℕ → ℕ) (k : ℕ) : Type 0 where
+  pub two : 2 ≤ k
+  pub dx : role_of first k ≡ Dx
+  pub this : words k ≡ phasing_1
+  pub before : words (k - 2) ≡ phasing_1
 
--- Which change word k would bring to a lock that still stands there, by its words and the role of
--- word 0: Ended where it releases the lock as ended, else LostLock where at least 40 of the last 64
--- words, or of all where they are fewer, are wrong.
-unfoldable pub change_at : Role → (ℕ → ℕ) → ℕ → Option Change
-change_at first words k =
-    if releases_as_ended first words k
-    then Some Ended
-    else (if nat_le losing_count (wrong_until words k) then Some LostLock else None)
+-- Ended at word w: w is word k + 3 for the least k that is a second phasing signal 1 (this
+-- profile).
+pub record EndedAt (first : Role) (words : ℕ → ℕ) (w : ℕ) : Type 0 where
+  pub late : 3 ≤ w
+  pub here : IsSecondPhasing1 first words (w - 3)
+  pub least : (k : ℕ) → k < w - 3 → IsSecondPhasing1 first words k → ⊥
 
--- which change word k would bring to the lock at t
-abbrev pub release : List Bool → ℕ → ℕ → Option Change
-release bits t k = change_at (first_role bits t) (word_of_lock bits t) k
+-- Lost at word w: the least word with at least 40 wrong ones among the last 64 words up to it, or
+-- among all of them where they are fewer (this profile).
+pub record LostAt (words : ℕ → ℕ) (w : ℕ) : Type 0 where
+  pub here : losing_count ≤ wrong_until words w
+  pub least : (k : ℕ) → k < w → wrong_until words k < losing_count
 
--- The lock at t is released after word w, the least word that brings a change; all its bits were
--- heard.
+-- Word w is the earlier of the word of Ended and the word of Lost; where they are the same, it is
+-- Ended (this profile).
+pub data IsEarlier (first : Role) (words : ℕ → ℕ) (w : ℕ) : Change → Type 0 where
+  ended : EndedAt first words w → ((v : ℕ) → LostAt words v → w ≤ v) → IsEarlier first words w Ended
+  lost : LostAt words w → ((v : ℕ) → EndedAt first words v → w < v)
+      → IsEarlier first words w LostLock
+
+-- The lock at t is released after word w, the earlier of the two; all its bits were heard.
 pub record IsReleased (bits : List Bool) (t w : ℕ) (how : Change) : Type 0 where
   pub heard : t + 7 * (w + 1) ≤ length bits
-  pub here : release bits t w ≡ Some how
-  pub least : (j : ℕ) → j < w → release bits t j ≡ None
+  pub earlier : IsEarlier (first_role bits t) (word_of_lock bits t) w how
 
--- no word of the lock at t that was heard whole brought a change
+-- no word of the lock at t released it
 pub record Holds (bits : List Bool) (t : ℕ) : Type 0 where
-  pub never : (k : ℕ) → t + 7 * (k + 1) ≤ length bits → release bits t k ≡ None
+  pub never : (w : ℕ) (how : Change) → IsReleased bits t w how → ⊥
 
 -- a lock that was released: from where it was searched, the bit count where it began, its last
 -- word, and how it was released

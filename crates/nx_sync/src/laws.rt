@@ -2,16 +2,16 @@
 //! law. They show that the definition says what a receiver needs, and the crates above build on
 //! them.
 
-ghost use Rattle.std.specs.Prelude.{◌≡◌, ℕ, ◌+◌, ◌*◌, ◌/◌, ◌<◌, ◌≤◌, List, Bool, true, take, [], ◌∷◌, ◌++◌, length};
+ghost use Rattle.std.specs.Prelude.{◌≡◌, ℕ, ◌+◌, ◌*◌, ◌/◌, ◌<◌, ◌≤◌, ◌↔◌, List, Bool, true, take, [], ◌∷◌, ◌++◌, length};
 ghost use Rattle.nx_sync.specs.declared.step.Change.{Change as How};
 ghost use Rattle.nx_sync.specs.declared.step.Role.{Role as RoleOf};
 ghost use Rattle.nx_sync.specs.declared.step.Step.{Step};
 ghost use Rattle.nx_code.specs.Word.{number_of};
 ghost use Rattle.nx_code.specs.Phasing.{phasing_1};
 ghost use Rattle.nx_sync.specs.Words.{is_wrong, lock_words, words_heard, heard_word, marked_words, losing_count, word_of_lock, first_role, role_of, wrong_in, wrong_until};
-ghost use Rattle.nx_sync.specs.Locks.{pattern_elements, before_dx, before_rx, hunting, locked, IsHunting, words_of_past, IsPattern, Finds, release, IsReleased, Lock, Past, Now, IsLocked, IsNow};
+ghost use Rattle.nx_sync.specs.Locks.{pattern_elements, before_dx, before_rx, hunting, locked, IsHunting, words_of_past, IsPattern, Finds, IsSecondPhasing1, EndedAt, LostAt, IsReleased, Holds, Lock, Past, Now, IsLocked, IsNow};
 ghost use Rattle.nx_sync.specs.Steps.{Brings, IsStep, word_of_step};
-ghost use Rattle.nx_sync.specs.Laws.{IsOnPhasing, IsBetweenLimits, IsReleasedBy, IsSecondPhasing1, IsEarlier, WhatStands, GoesOn, Stood, OneMore, phasing, LockedBeforeDx};
+ghost use Rattle.nx_sync.specs.Laws.{IsOnPhasing, IsBetweenLimits, IsReleasedBy, WhatStands, GoesOn, Stood, OneMore, phasing, LockedBeforeDx};
 
 /// The two patterns as numbers, their oldest element in the least place.
 pub fn patterns_have_these_numbers()
@@ -29,8 +29,9 @@ pub fn what_stands_is_unique()
         → IsNow bits locks now → IsNow bits others was → now ≡ was }
 {}
 
-/// More bits don't change what is past: the past locks, where a lock was found, and the words that
-/// were heard whole, their roles and what they bring.
+/// More bits don't change what is past: the past locks, where a lock was found, what released it,
+/// and of the words that were heard whole the words, their roles, which of them is the second DX
+/// word in a row that is phasing signal 1, and how many of the last ones are wrong at each.
 pub fn more_bits_keep_the_past()
     ensures past { (bits more : List Bool) (locks : List Lock) (p : ℕ) → Past bits locks p
         → Past (bits ++ more) locks p }
@@ -41,8 +42,12 @@ pub fn more_bits_keep_the_past()
         → word_of_lock (bits ++ more) t k ≡ word_of_lock bits t k }
     ensures roles { (bits more : List Bool) (t : ℕ) → IsPattern bits t
         → first_role (bits ++ more) t ≡ first_role bits t }
-    ensures changes { (bits more : List Bool) (t k : ℕ) → IsPattern bits t
-        → t + 7 * (k + 1) ≤ length bits → release (bits ++ more) t k ≡ release bits t k }
+    ensures seconds { (bits more : List Bool) (t k : ℕ) → IsPattern bits t
+        → t + 7 * (k + 1) ≤ length bits
+        → (IsSecondPhasing1 (first_role (bits ++ more) t) (word_of_lock (bits ++ more) t) k
+        ↔ IsSecondPhasing1 (first_role bits t) (word_of_lock bits t) k) }
+    ensures wrong { (bits more : List Bool) (t k : ℕ) → t + 7 * (k + 1) ≤ length bits
+        → wrong_until (word_of_lock (bits ++ more) t) k ≡ wrong_until (word_of_lock bits t) k }
 {}
 
 /// What an element brings is one thing.
@@ -85,8 +90,8 @@ pub fn one_bit_more()
         → OneMore (bits ++ bit ∷ []) older was locks now }
 {}
 
-/// A lock that stands goes on standing where each later word leaves fewer than 40 of the last 64
-/// words wrong and is not the third word after a second phasing signal 1.
+/// A lock that stands goes on standing where each later word leaves fewer of the last words wrong
+/// than lose it and is not the third word after a second phasing signal 1.
 pub fn a_lock_stands_on()
     ensures { (bits more : List Bool) (locks : List Lock) (p t : ℕ) → IsLocked bits locks p t
         → ((k : ℕ) → length bits < t + 7 * (k + 1) → t + 7 * (k + 1) ≤ length (bits ++ more)
@@ -96,17 +101,21 @@ pub fn a_lock_stands_on()
         → IsLocked (bits ++ more) locks p t }
 {}
 
-/// A lock is released after the earlier of two words, the least word of Ended and the least word of
-/// Lost, as Ended where they are the same.
+/// A lock is released by one word at most, in one way: the earlier of the word of Ended and the word
+/// of Lost. It holds exactly where none of its words that were heard whole is one of the two.
 pub fn the_earlier_releases()
-    ensures earlier { (bits : List Bool) (t w : ℕ) (how : How) → IsReleased bits t w how
-        → IsEarlier (first_role bits t) (word_of_lock bits t) w how }
-    ensures released { (bits : List Bool) (t w : ℕ) (how : How) → t + 7 * (w + 1) ≤ length bits
-        → IsEarlier (first_role bits t) (word_of_lock bits t) w how → IsReleased bits t w how }
+    ensures word { (bits : List Bool) (t v w : ℕ) (how other : How) → IsReleased bits t v how
+        → IsReleased bits t w other → v ≡ w }
+    ensures how { (bits : List Bool) (t v w : ℕ) (how other : How) → IsReleased bits t v how
+        → IsReleased bits t w other → how ≡ other }
+    ensures holds { (bits : List Bool) (t : ℕ) → (Holds bits t
+        ↔ ((w : ℕ) → t + 7 * (w + 1) ≤ length bits
+        → (EndedAt (first_role bits t) (word_of_lock bits t) w → ⊥)
+        × (LostAt (word_of_lock bits t) w → ⊥))) }
 {}
 
-/// A lock is not released while each run of at most 64 of its words has fewer than 40 wrong ones
-/// and no two DX words in a row are phasing signal 1.
+/// A lock is not released while each run of its words, no longer than it marks, has fewer wrong ones
+/// than lose it, and no two DX words in a row are phasing signal 1.
 pub fn a_good_lock_is_kept()
     ensures { (bits : List Bool) (locks : List Lock) (p t : ℕ) → Past bits locks p → Finds bits p t
         → ((i n : ℕ) → n ≤ marked_words → t + 7 * (i + n) ≤ length bits
@@ -128,7 +137,7 @@ pub fn a_hunt_locks_in_phasing()
 {}
 
 /// A lock on other word limits than those of 48 phasing words as sent meets only wrong words in
-/// them, so that it is released by the 40th of these at the latest.
+/// them, so that it is released, at the latest, by the last of as many of these as lose it.
 pub fn a_lock_between_limits_is_lost()
     ensures wrong { (earlier : List Bool) (t : ℕ) → IsPattern (earlier ++ phasing 24) t
         → IsBetweenLimits (length earlier) t
@@ -136,7 +145,7 @@ pub fn a_lock_between_limits_is_lost()
         → is_wrong (word_of_lock (earlier ++ phasing 24) t k) ≡ true }
     ensures released { (earlier : List Bool) (t : ℕ) → IsPattern (earlier ++ phasing 24) t
         → IsBetweenLimits (length earlier) t
-        → IsReleasedBy (earlier ++ phasing 24) t (length earlier + 286) }
+        → IsReleasedBy (earlier ++ phasing 24) t (length earlier + (6 + 7 * losing_count)) }
 {}
 
 /// A lock on the word limits of 48 phasing words as sent, but with swapped roles, has phasing

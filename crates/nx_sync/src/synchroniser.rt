@@ -8,8 +8,8 @@ ghost use Rattle.nx_sync.specs.declared.step.Change.TheVariants.{Locked};
 ghost use Rattle.nx_sync.specs.Words.{marked_words, losing_count};
 ghost use Rattle.nx_sync.specs.Locks.{pattern_elements};
 ghost use Rattle.nx_sync.specs.Steps.{step, LockStands, LimitStands, IsStep, HuntsThrough, IsWordStep};
-ghost use Rattle.nx_sync.specs.PrivateWindows as spec;
-ghost use Rattle.nx_sync.specs.PrivateCalls.{heard_one, with_mark, track_from, BeginsLock, Fills, Completes, Skips, SkipsEarly};
+ghost use Rattle.nx_sync.specs.private.Windows as spec;
+ghost use Rattle.nx_sync.specs.private.Calls.{heard_one, with_mark, track_from, BeginsLock, Fills, Completes, Skips, SkipsEarly};
 ghost use Rattle.nx_sync.specs.Synchroniser.{StandsAfter, is_hunting, is_between_words};
 
 use crate::step::{Role, Step};
@@ -266,9 +266,9 @@ impl Synchroniser {
         }
     }
 
-    /// Adds the mark of a word, whether it is wrong, to those of the last 64, and says whether 40
-    /// of these are wrong now. They stay as they are where there are 64 and neither the word nor
-    /// any of them is wrong.
+    /// Adds the mark of a word, whether it is wrong, to those of the last words, and says whether
+    /// as many of these are wrong now as lose the lock. They stay as they are where there are all
+    /// of them and neither the word nor any of them is wrong.
     #[inline(always)]
     fn mark(&mut self, is_wrong: bool) -> bool
         ensures marks { self.new ≡ with_mark self.old is_wrong }
@@ -280,8 +280,8 @@ impl Synchroniser {
         self.push_mark(is_wrong)
     }
 
-    /// Moves the marks on by one, where the new one comes in and of 64 the oldest goes, and says
-    /// whether 40 of them are wrong now.
+    /// Moves the marks on by one, where the new one comes in and of all of them the oldest goes,
+    /// and says whether as many of them are wrong now as lose the lock.
     #[inline(always)]
     fn push_mark(&mut self, is_wrong: bool) -> bool
         ensures marks { self.new ≡ with_mark self.old is_wrong }

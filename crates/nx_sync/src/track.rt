@@ -2,7 +2,7 @@
 //! than its few instructions.
 
 ghost use Rattle.std.specs.Prelude.{◌≡◌, ◌<◌};
-ghost use Rattle.nx_sync.specs.PrivateCalls.{track_from, track_after, fills_releasing_word, change_by};
+ghost use Rattle.nx_sync.specs.private.Calls.{track_from, track_after, fills_releasing_word, change_by};
 
 use crate::step::{Change, Role};
 use nx_code::Word;

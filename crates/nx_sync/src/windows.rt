@@ -6,8 +6,8 @@ ghost use Rattle.std.specs.Prelude.{◌≡◌, ℕ, ◌+◌, ◌/◌, ◌^◌, �
 ghost use Rattle.nx_sync.specs.Locks.{pattern_elements};
 ghost use Rattle.nx_sync.specs.Windows as locking;
 ghost use Rattle.nx_sync.specs.Windows.{IsFirstLock, HasNoLock};
-ghost use Rattle.nx_sync.specs.PrivateWindows as spec;
-ghost use Rattle.nx_sync.specs.PrivateWindows.{IsBeforeLock};
+ghost use Rattle.nx_sync.specs.private.Windows as spec;
+ghost use Rattle.nx_sync.specs.private.Windows.{IsBeforeLock};
 
 use crate::step::Role;
 use nx_code::Word;

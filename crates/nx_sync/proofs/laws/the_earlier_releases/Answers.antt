@@ -1,11 +1,9 @@
-use Rattle.nx_sync.specs.Words.{first_role, word_of_lock}
-use Rattle.nx_sync.proofs.Releases.{earlier-from, earlier-to}
+use Rattle.nx_sync.proofs.Computed.{released-word, released-how, held-neither, neither-held}
 use Rattle.nx_sync.proofs.laws.the_earlier_releases.Goals as goal
 
 pub returns : goal.returns
 returns c = record {
-  earlier = λ bits t w how r. earlier-from (first_role bits t) (word_of_lock bits t) w how r.here r.least;
-  released = λ bits t w how heard e.
-      let both = earlier-to (first_role bits t) (word_of_lock bits t) w how e in
-      record { heard = heard; here = both.0; least = both.1 };
+  word = released-word;
+  how = released-how;
+  holds = λ bits t. (held-neither bits t, neither-held bits t);
 }

@@ -1,8 +1,8 @@
 use Rattle.std.proofs.Common.{◌≡◌, List, Bool, Some, sym, ap, subst, ◌∙◌}
 use Rattle.nx_sync.specs.declared.track.Track.{Track}
-use Rattle.nx_sync.specs.PrivateWindows.{next_word_window}
+use Rattle.nx_sync.specs.private.Windows.{next_word_window}
 use Rattle.nx_sync.specs.Synchroniser.{Held}
-use Rattle.nx_sync.specs.PrivateCalls.{Completes}
+use Rattle.nx_sync.specs.private.Calls.{Completes}
 use Rattle.nx_sync.proofs.WholeWords.{word_stands, word_step, between}
 use Rattle.nx_sync.proofs.synchroniser.Synchroniser.push_word.Goals as goal
 

@@ -1,5 +1,5 @@
 use Rattle.std.proofs.Common.{ℕ, ◌≡◌, ◌+◌, ◌-◌, ◌<◌, ◌≤◌, length, take}
-use Rattle.nx_sync.specs.PrivateCalls.{heard_all, IsQuiet}
+use Rattle.nx_sync.specs.private.Calls.{heard_all, IsQuiet}
 use Rattle.nx_sync.proofs.synchroniser.Synchroniser.skip.Given as goal
 
 -- the elements so far were heard, none of them ends a pattern, and the next one is not too early for one

@@ -1,7 +1,7 @@
 use Rattle.std.proofs.Common.{◌≡◌, ℕ, ◌+◌, ◌-◌, ◌≤◌, List, Bool, length, take, get_or, refl, sym, ap, subst, ◌∙◌, arith}
-use Rattle.nx_sync.specs.PrivateWindows.{window_after}
+use Rattle.nx_sync.specs.private.Windows.{window_after}
 use Rattle.nx_sync.specs.Synchroniser.{Held}
-use Rattle.nx_sync.specs.PrivateCalls.{heard_all, Skips}
+use Rattle.nx_sync.specs.private.Calls.{heard_all, Skips}
 use Rattle.nx_sync.proofs.Hearing.{heard_all-none}
 use Rattle.nx_sync.proofs.Hunting.{Counted, counted_by, skips_by_windows, moved}
 use Rattle.nx_sync.proofs.synchroniser.Synchroniser.skip_block.Goals as goal

@@ -1,5 +1,5 @@
 use Rattle.std.proofs.Common.{◌≡◌, take}
-use Rattle.nx_sync.specs.PrivateCalls.{heard_all}
+use Rattle.nx_sync.specs.private.Calls.{heard_all}
 use Rattle.nx_sync.proofs.synchroniser.Synchroniser.skip_early.Given as goal
 
 -- the elements so far were heard

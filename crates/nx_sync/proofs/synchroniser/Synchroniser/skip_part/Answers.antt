@@ -1,7 +1,7 @@
 use Rattle.std.proofs.Common.{◌≡◌, ◌≤◌, ◌/◌, ◌^◌, List, Bool, false, length, sym, ap, subst, ◌∙◌, arith}
-use Rattle.nx_sync.specs.PrivateWindows.{is_in_phasing}
+use Rattle.nx_sync.specs.private.Windows.{is_in_phasing}
 use Rattle.nx_sync.specs.Synchroniser.{Held}
-use Rattle.nx_sync.specs.PrivateCalls.{Skips}
+use Rattle.nx_sync.specs.private.Calls.{Skips}
 use Rattle.nx_sync.proofs.Strides.{stride_skips}
 use Rattle.nx_sync.proofs.synchroniser.Synchroniser.skip_part.Goals as goal
 

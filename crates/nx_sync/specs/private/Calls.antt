@@ -11,7 +11,7 @@ use Rattle.nx_sync.specs.declared.step.Change.{Change}
 use Rattle.nx_sync.specs.declared.step.Change.TheVariants.{Locked, Ended, LostLock}
 use Rattle.nx_sync.specs.Words.{marked_words, losing_count, other_role, is_dx, is_wrong}
 use Rattle.nx_sync.specs.Locks.{pattern_elements}
-use Rattle.nx_sync.specs.PrivateWindows.{role_after, next_window, window_after}
+use Rattle.nx_sync.specs.private.Windows.{role_after, next_window, window_after}
 use Rattle.nx_sync.specs.Steps.{step}
 use Rattle.nx_sync.specs.Synchroniser.{Held}
 
