@@ -13,3 +13,4 @@ pub mod Transfers
 pub mod Hexadecimal
 pub mod TableText
 pub mod WordLines
+pub mod private

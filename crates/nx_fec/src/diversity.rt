@@ -8,6 +8,7 @@ ghost use Rattle.nx_fec.specs.Pairing.{Counted, IsHeardOf, IsLatest, reception_a
 use arrayvec::ArrayVec;
 use nx_code::{Signal, Taken, Word, signal_of};
 use std::marker::Model;
+use std::mem::size_of;
 
 /// What arrived of a word.
 #[derive(Clone, Copy, Debug, PartialEq, Eq)]
@@ -88,6 +89,8 @@ impl Diversity {
     pub fn new() -> Diversity
         ensures { result ≡ [] }
     {
+        // Nothing is kept beside this field, not even in a type whose model forgets.
+        prove!(size_of::<Diversity>() == 24);
         Diversity {
             latest: ArrayVec::new(),
         }
