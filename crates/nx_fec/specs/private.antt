@@ -1,2 +1,6 @@
 -- What only private contracts, models and proofs cite.
+pub mod CountedCode
+pub mod LineTaking
+pub mod OneWord
+pub mod ScannerKept
 pub mod Takers

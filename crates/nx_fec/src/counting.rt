@@ -19,7 +19,8 @@ pub struct Counting<T> {
 }
 
 impl<T> Model for Counting<T> {
-    ghost use Rattle.nx_fec.specs.Devices.{CountedDevice, counted_code};
+    ghost use Rattle.nx_fec.specs.Devices.{CountedDevice};
+    ghost use Rattle.nx_fec.specs.private.CountedCode.{counted_code};
 
     ghost Value = { CountedDevice T };
 

@@ -3,7 +3,8 @@
 ghost use Rattle.std.specs.Prelude.{◌≡◌, [], ◌∷◌, ◌++◌, List, map, option_map};
 ghost use Rattle.nx_code.specs.Taken.{reception_of};
 ghost use Rattle.nx_fec.specs.declared.diversity.Heard.TheVariants.{Wrong};
-ghost use Rattle.nx_fec.specs.Pairing.{Counted, IsHeardOf, IsLatest, reception_alone, counts_as, heard_as, pairing, third_last};
+ghost use Rattle.nx_fec.specs.Pairing.{Counted, IsHeardOf, IsLatest, counts_as, heard_as, pairing, third_last};
+ghost use Rattle.nx_fec.specs.private.OneWord.{reception_alone};
 
 use arrayvec::ArrayVec;
 use nx_code::{Signal, Taken, Word, signal_of};

@@ -3,7 +3,8 @@ ghost use Rattle.std.specs.Prelude.{◌≡◌, ◌+◌, ◌<◌, ◌≤◌, ℕ,
 ghost use Rattle.nx_fec.specs.AirFile.{Line};
 ghost use Rattle.nx_fec.specs.Lines.{IsBitFile, HasFault, Scans};
 ghost use Rattle.nx_fec.specs.declared.fault.LineFault.{LineFault};
-ghost use Rattle.nx_fec.specs.Runs.{ExplainsPiece, HasRead, IsOutside, ReadsElements, ReadsWhole, file_limit, run_fault};
+ghost use Rattle.nx_fec.specs.Runs.{IsOutside, ReadsElements, ReadsWhole, file_limit, run_fault};
+ghost use Rattle.nx_fec.specs.private.Takers.{ExplainsPiece, HasRead};
 
 use crate::counting::Counting;
 use crate::fault::{ReadFault, RunFault};
@@ -114,7 +115,8 @@ impl Model for BitFile {
 impl PieceTaker for BitFile {
     ghost use Rattle.std.proofs.Common.{arith};
     ghost use Rattle.nx_fec.specs.Lines.{IsFaultless};
-    ghost use Rattle.nx_fec.specs.Runs.{ExplainsReading, HasRead, IsOutside, file_limit};
+    ghost use Rattle.nx_fec.specs.Runs.{ExplainsReading, IsOutside, file_limit};
+    ghost use Rattle.nx_fec.specs.private.Takers.{HasRead};
     ghost use Rattle.nx_fec.specs.declared.fault.RunFault.TheVariants.{Read};
 
     type Fault = RunFault;

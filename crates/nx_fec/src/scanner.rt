@@ -32,7 +32,8 @@ pub struct Scanner {
 impl Model for Scanner {
     ghost use Rattle.std.specs.Prelude.{◌+◌, ◌^◌, ◌<◌, length};
     ghost use Rattle.nx_fec.specs.Lines.{Scanning};
-    ghost use Rattle.nx_fec.specs.Scanner.{IsKept, bytes_kept, elements_kept, kind_kept, line_ended, part_of};
+    ghost use Rattle.nx_fec.specs.Scanner.{elements_kept, kind_kept};
+    ghost use Rattle.nx_fec.specs.private.ScannerKept.{IsKept, bytes_kept, line_ended, part_of};
     ghost use Rattle.nx_fec.specs.ScannerFields.{kept-back};
 
     ghost Value = { Scanning };
