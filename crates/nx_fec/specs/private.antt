@@ -2,5 +2,6 @@
 pub mod CountedCode
 pub mod LineTaking
 pub mod OneWord
+pub mod ScannerFields
 pub mod ScannerKept
 pub mod Takers

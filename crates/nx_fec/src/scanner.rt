@@ -34,7 +34,7 @@ impl Model for Scanner {
     ghost use Rattle.nx_fec.specs.Lines.{Scanning};
     ghost use Rattle.nx_fec.specs.Scanner.{elements_kept, kind_kept};
     ghost use Rattle.nx_fec.specs.private.ScannerKept.{IsKept, bytes_kept, line_ended, part_of};
-    ghost use Rattle.nx_fec.specs.ScannerFields.{kept-back};
+    ghost use Rattle.nx_fec.specs.private.ScannerFields.{kept-back};
 
     ghost Value = { Scanning };
 
