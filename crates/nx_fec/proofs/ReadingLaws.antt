@@ -5,7 +5,8 @@ use Rattle.std.proofs.lemmas.List.Concat.{flat_map-append}
 use Rattle.nx_fec.specs.AirFile.{Line}
 use Rattle.nx_fec.specs.Lines.{HasFault, IsAtByte, IsBitFile, IsCause, IsFaultless, Scanning, Scans, Splits, StopsIn, elements_of, file_of}
 use Rattle.nx_fec.specs.Scanner.{elements_kept}
-use Rattle.nx_fec.specs.Runs.{run_fault, ExplainsPiece, ExplainsReading, HasRead, IsOutside}
+use Rattle.nx_fec.specs.Runs.{run_fault, ExplainsReading, IsOutside}
+use Rattle.nx_fec.specs.private.Takers.{ExplainsPiece, HasRead}
 use Rattle.std.specs.declared.alloc.AllocError.{AllocError}
 use Rattle.nx_fec.proofs.PieceLemmas.{piece-parts}
 use Rattle.nx_fec.specs.declared.fault.LineFault.{LineFault}

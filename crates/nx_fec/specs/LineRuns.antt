@@ -145,12 +145,3 @@ RunsLines stands begins refuses limit first now d outcome =
     (d.contents d.writer.inner) (d.contents d.writer_after.inner) outcome bytes)
     (λ bytes. AnswersLines stands begins refuses (Unit {0}) (λ more. Unit {0}) limit first now
     (d.contents d.writer.inner) (d.contents d.writer_after.inner) outcome bytes)
-
--- while a run goes on: the scanner stands so after these bytes, and all lines that they ended were
--- taken
-pub record IsTaking {T : Type 0} (stands : Standing T) (first now : T) (limit : ℕ)
-    (scanner : Scanning) (old new : Option (List ℕ)) (batch : Waiting)
-    (bytes : List ℕ) : Type 0 where
-  pub lines : List Line
-  pub scans : Scans limit scanner bytes lines
-  pub taken : HasTaken stands first now lines (HasGiven old new batch)

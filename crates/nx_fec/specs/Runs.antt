@@ -70,20 +70,6 @@ IsOutside Read = ⊤
 IsOutside (Memory error) = ⊤
 IsOutside _ = ⊥
 
--- what a fault in a piece of an air file says of all bytes up to the end of the piece: it stands
--- whatever comes after them, and it is of memory only where no fault of the file stands in them
-abbrev pub ExplainsPiece : ℕ → List ℕ → RunFault → Type 0
-ExplainsPiece limit bytes fault =
-    (IsOutside fault → IsFaultless limit bytes)
-    × ((more : List ℕ) → ExplainsReading ⊥ limit (bytes ++ more) fault)
-
--- the scanner stands so after these bytes, and the elements are those of the lines that they ended
-pub record HasRead (limit : ℕ) (scanner : Scanning) (bits : List Bool)
-    (bytes : List ℕ) : Type 0 where
-  pub lines : List Line
-  pub scans : Scans limit scanner bytes lines
-  pub joined : bits ≡ flat_map elements_of lines
-
 -- What a run says of its reader that reads an air file to its end: the elements of its lines are
 -- those of the bytes that it read, which are then all, or a fault is theirs. And so it is for the
 -- whole file, however it came.

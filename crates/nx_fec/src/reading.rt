@@ -3,7 +3,8 @@ ghost use Rattle.std.specs.Prelude.{◌≡◌, ◌+◌, ◌<◌, ◌≤◌, ℕ,
 ghost use Rattle.nx_fec.specs.AirFile.{Line};
 ghost use Rattle.nx_fec.specs.Lines.{IsBitFile, HasFault, Scans};
 ghost use Rattle.nx_fec.specs.declared.fault.LineFault.{LineFault};
-ghost use Rattle.nx_fec.specs.Runs.{ExplainsPiece, HasRead, IsOutside, ReadsElements, ReadsWhole, file_limit, run_fault};
+ghost use Rattle.nx_fec.specs.Runs.{IsOutside, ReadsElements, ReadsWhole, file_limit, run_fault};
+ghost use Rattle.nx_fec.specs.private.Takers.{ExplainsPiece, HasRead};
 
 use crate::counting::Counting;
 use crate::fault::{ReadFault, RunFault};
@@ -11,6 +12,8 @@ use crate::pieces::{CHUNK, PieceTaker, read_pieces};
 use crate::scanner::Scanner;
 use std::alloc::{AllocError, Global};
 use std::io::Read;
+use std::marker::Model;
+use std::mem::size_of;
 
 /// The most bytes of a text, and of an air file that is read to its end before it is used.
 const FILE_LIMIT: u64 = 1_048_576;
@@ -49,6 +52,8 @@ fn read_through<R: Read>(
     requires room { 0 < length buffer.old }
     ensures { ReadsElements R.remaining reader.old reader.new result }
 {
+    // Nothing is kept beside these fields, not even in a type whose model forgets.
+    prove!(size_of::<BitFile>() == 1112);
     let mut file = BitFile {
         scanner: Scanner::new(FILE_LIMIT),
         bits: Vec::new(alloc),
@@ -70,6 +75,7 @@ pub fn read_whole<R: Read>(alloc: Global, reader: &mut Counting<R>) -> Result<Ve
     ensures { ReadsWhole R.remaining reader.old reader.new result }
 {
     let mut space = blank(alloc, CHUNK)?;
+    prove!(size_of::<WholeFile>() == 32);
     let mut file = WholeFile {
         bytes: Vec::new(alloc),
         room: FILE_LIMIT,
@@ -92,10 +98,25 @@ struct BitFile {
     bits: Vec<bool>,
 }
 
+impl Model for BitFile {
+    ghost use Rattle.std.specs.Coded.{codes};
+    ghost use Rattle.nx_fec.specs.private.Takers.{TakenElements};
+
+    ghost Value = { TakenElements };
+
+    ghost coded = { Prim.hlevel (codes) };
+
+    ghost view = { λ file. record { scanner = file.scanner; bits = file.bits } };
+
+    // What contracts see gives every field back: nothing else is kept.
+    ghost inverse = { λ v. record { scanner = v.scanner; bits = v.bits } };
+}
+
 impl PieceTaker for BitFile {
     ghost use Rattle.std.proofs.Common.{arith};
     ghost use Rattle.nx_fec.specs.Lines.{IsFaultless};
-    ghost use Rattle.nx_fec.specs.Runs.{ExplainsReading, HasRead, IsOutside, file_limit};
+    ghost use Rattle.nx_fec.specs.Runs.{ExplainsReading, IsOutside, file_limit};
+    ghost use Rattle.nx_fec.specs.private.Takers.{HasRead};
     ghost use Rattle.nx_fec.specs.declared.fault.RunFault.TheVariants.{Read};
 
     type Fault = RunFault;
@@ -133,6 +154,20 @@ impl PieceTaker for BitFile {
 struct WholeFile {
     bytes: Vec<u8>,
     room: u64,
+}
+
+impl Model for WholeFile {
+    ghost use Rattle.std.specs.Coded.{codes};
+    ghost use Rattle.nx_fec.specs.private.Takers.{TakenBytes};
+
+    ghost Value = { TakenBytes };
+
+    ghost coded = { Prim.hlevel (codes) };
+
+    ghost view = { λ file. record { bytes = file.bytes; room = file.room } };
+
+    // What contracts see gives every field back: nothing else is kept.
+    ghost inverse = { λ v. record { bytes = v.bytes; room = v.room } };
 }
 
 impl PieceTaker for WholeFile {

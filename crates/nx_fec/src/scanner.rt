@@ -13,9 +13,11 @@ use crate::feeds::first_feed;
 use crate::line_bytes::{LineBytes, MAX_LINE_BYTES};
 use arrayvec::ArrayVec;
 use std::marker::Model;
+use std::mem::size_of;
 
 /// Reads the lines of an air file piece by piece: it holds the line that is open, or the one that the last byte
-/// ended, how many lines were ended, and how many more bytes it may take.
+/// ended, how many lines were ended, and how many more bytes it may take. No field can be added whose meaning contracts
+/// see, and its size is proved.
 #[derive(Drop)]
 pub struct Scanner {
     /// The bytes of that line.
@@ -30,8 +32,9 @@ pub struct Scanner {
 impl Model for Scanner {
     ghost use Rattle.std.specs.Prelude.{◌+◌, ◌^◌, ◌<◌, length};
     ghost use Rattle.nx_fec.specs.Lines.{Scanning};
-    ghost use Rattle.nx_fec.specs.Scanner.{IsKept, bytes_kept, elements_kept, kind_kept, line_ended, part_of};
-    ghost use Rattle.nx_fec.specs.ScannerFields.{kept-back};
+    ghost use Rattle.nx_fec.specs.Scanner.{elements_kept, kind_kept};
+    ghost use Rattle.nx_fec.specs.private.ScannerKept.{IsKept, bytes_kept, line_ended, part_of};
+    ghost use Rattle.nx_fec.specs.private.ScannerFields.{kept-back};
 
     ghost Value = { Scanning };
 
@@ -45,7 +48,8 @@ impl Model for Scanner {
     ghost invariant = { λ s. (s.lines + length (part_of s.ended s.kept) + s.room < 2 ^ 64)
         × IsKept s.ended s.elements.items s.kept };
 
-    // What contracts see gives every field back: a scanner keeps nothing else.
+    // What contracts see gives every field back. The bytes of earlier lines that lie behind those of the open line in its
+    // places are seen by no contract, and nothing reads them.
     ghost inverse = { λ v. record {
       kept = bytes_kept v.latest v.part;
       ended = kind_kept v.latest;
@@ -69,6 +73,8 @@ impl Scanner {
         ensures stands { Scans limit result [] [] }
         ensures no_line { result.latest ≡ None }
     {
+        // Nothing is kept beside these fields, not even in a type whose model forgets.
+        prove!(size_of::<Scanner>() == 1088);
         Scanner {
             kept: LineBytes::new(),
             ended: None,

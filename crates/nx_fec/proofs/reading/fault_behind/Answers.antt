@@ -2,7 +2,8 @@ use Rattle.std.proofs.Common.{List, length, ◌++◌, take, option_to_list, subs
 use Rattle.std.proofs.lemmas.List.{take_all}
 use Rattle.nx_fec.specs.AirFile.{Line}
 use Rattle.nx_fec.specs.Lines.{Scans}
-use Rattle.nx_fec.specs.Runs.{ExplainsPiece, run_fault}
+use Rattle.nx_fec.specs.Runs.{run_fault}
+use Rattle.nx_fec.specs.private.Takers.{ExplainsPiece}
 use Rattle.nx_fec.proofs.PieceLemmas.{piece-next, piece-whole}
 use Rattle.nx_fec.proofs.ReadingLaws.{ExplainsPiece-stop, Scans-faultless}
 use Rattle.nx_fec.proofs.reading.fault_behind.Goals as goal

@@ -1,6 +1,6 @@
 use Rattle.std.proofs.Common.{ap, sym, ◌∙◌, ◌++◌, option_to_list, take, subst}
 use Rattle.std.proofs.lemmas.Result.{err_from_is_err_and}
-use Rattle.nx_fec.specs.Runs.{ExplainsPiece}
+use Rattle.nx_fec.specs.private.Takers.{ExplainsPiece}
 use Rattle.nx_fec.proofs.PieceLemmas.{piece-whole}
 use Rattle.nx_fec.proofs.ReadingLaws.{ExplainsPiece-stop, HasRead-step, elements_kept-list}
 use Rattle.nx_fec.proofs.reading.scan_line.Goals as goal

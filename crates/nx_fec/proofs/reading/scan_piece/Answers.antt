@@ -1,6 +1,6 @@
 use Rattle.std.proofs.Common.{◌++◌, take, subst, arith}
 use Rattle.std.proofs.lemmas.Result.{err_from_is_err_and}
-use Rattle.nx_fec.specs.Runs.{ExplainsPiece, HasRead}
+use Rattle.nx_fec.specs.private.Takers.{ExplainsPiece, HasRead}
 use Rattle.nx_fec.proofs.PieceLemmas.{piece-next, piece-whole}
 use Rattle.nx_fec.proofs.reading.scan_piece.Goals as goal
 

@@ -1,0 +1,7 @@
+-- What only private contracts, models and proofs cite.
+pub mod CountedCode
+pub mod LineTaking
+pub mod OneWord
+pub mod ScannerFields
+pub mod ScannerKept
+pub mod Takers
