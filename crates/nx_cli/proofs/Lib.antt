@@ -9,3 +9,4 @@ pub mod CommandsTaken
 pub mod OneCall
 pub mod WordsLemmas
 pub mod ProgramLemmas
+pub mod ReportLemmas

@@ -1,3 +1,4 @@
 pub mod Status
 pub mod Program
+pub mod Report
 pub mod Words

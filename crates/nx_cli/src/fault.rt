@@ -1,15 +1,19 @@
 //! Why a run of the program fails: the line on standard error, and the exit status.
 
+ghost use Rattle.std.specs.Fmt.InlineText.{inline_text};
 ghost use Rattle.std.specs.Prelude.{◌≡◌};
+ghost use Rattle.nx_cli.specs.Report.{IsFaultLine, IsFaultText, WritesOne};
 ghost use Rattle.nx_cli.specs.Status.{call_status, fault_status};
 ghost use Rattle.nx_cli.specs.declared.fault.CallFault.TheVariants.{Check, Damage, Listen};
 ghost use Rattle.nx_cli.specs.declared.fault.CallFault.TheVariants.{Run, Send};
 ghost use Rattle.nx_cli.specs.declared.fault.Fault.TheVariants.{Call};
+ghost use Rattle.nx_fec.specs.declared.fault.RunFault.TheVariants.{Memory};
 
-use nx_fec::{Counting, RunFault};
+use nx_fec::{Counting, RunFault, write_out};
 use nx_receiver::ListenFault;
 use nx_station::{CheckFault, DamageFault, EmissionFault, SendRunFault};
-use std::io;
+use std::alloc::AllocError;
+use std::fmt::InlineText;
 use std::io::Write;
 use thiserror::Error;
 
@@ -19,6 +23,20 @@ const DEVICE_OR_MEMORY: u8 = 1;
 const BAD_INPUT: u8 = 2;
 /// The exit status for words that are not understood.
 const BAD_WORDS: u8 = 64;
+
+/// The line for words of which one is no text.
+const NO_TEXT: &str = "navtex: a word of the command line is not UTF-8\n";
+/// The line for a station that is not one letter A to Z.
+const STATION: &str = "navtex: station must be one letter A to Z\n";
+/// The line for a kind of damage that there isn't.
+const KIND: &str = "navtex: kind must be dx, rx or all\n";
+
+/// What stands before a fault in its line.
+const PROGRAM: &str = "navtex: ";
+/// The most bytes of a fault in its line. The longest fault has 101 bytes.
+const SHOWN_BYTES: usize = 160;
+/// More bytes than a line of a fault has.
+const LINE_BYTES: usize = 176;
 
 /// Why a call of the program failed.
 #[derive(Debug, Drop, Error)]
@@ -67,25 +85,31 @@ impl CallFault {
             _ => BAD_INPUT,
         }
     }
+
+    /// The line that reports the fault. It is made without memory.
+    fn line(&self) -> InlineText<LINE_BYTES>
+        ensures { IsFaultLine (inline_text result) }
+    {
+        let shown = InlineText::<SHOWN_BYTES>::of(self);
+        InlineText::new()
+            .and_str(PROGRAM, PROGRAM.len())
+            .and_str(shown.as_str(), SHOWN_BYTES)
+            .and_str("\n", 1)
+    }
 }
 
 /// Why a run of the program failed.
-#[derive(Debug, Drop, Error)]
+#[derive(Debug, Drop)]
 pub enum Fault {
     /// The words are not understood, as this text says.
-    #[error(transparent)]
-    Words(clap::Error),
+    Words(String),
     /// A word of the command line is no text, so none of them was read.
-    #[error("a word of the command line is not UTF-8")]
     NoText,
     /// The station is not one letter A to Z.
-    #[error("station must be one letter A to Z")]
     Station,
     /// The kind of damage is none of those that there are.
-    #[error("kind must be dx, rx or all")]
     Kind,
     /// The call that the words name failed, or the writing of help did.
-    #[error(transparent)]
     Call(CallFault),
 }
 
@@ -99,23 +123,20 @@ impl Fault {
         }
     }
 
-    /// Writes the fault as one line of standard error, and a text of clap as it stands.
-    fn write_to<E: Write>(&self, faults: &mut E) -> io::Result<()> {
-        match self {
-            Fault::Words(answer) => write!(faults, "{answer}"),
-            Fault::NoText | Fault::Station | Fault::Kind | Fault::Call(_) => writeln!(
-                faults,
-                "navtex: {self}"
-            ),
-        }
-    }
-
-    /// Reports the fault on standard error and answers its exit status, which stays the same where
-    /// the report can't be written. The device isn't called again after it failed.
-    pub fn report<E: Write + Drop>(self, faults: E) -> u8
-        ensures { result ≡ fault_status self }
+    /// Reports the fault on standard error by one text, and answers its exit status, which stays the
+    /// same where the text can't be written. The device isn't called again after it failed.
+    pub fn report<E: Write>(&self, faults: &mut Counting<E>) -> u8
+        requires { faults.old.failures ≡ 0 }
+        ensures status { result ≡ fault_status self.now }
+        ensures reported { WritesOne (IsFaultText self.now) E.contents faults.old faults.new }
     {
-        let _ = self.write_to(&mut Counting::new(faults));
+        let _ = match self {
+            Fault::Words(answer) => write_out(faults, answer.as_bytes()),
+            Fault::NoText => write_out(faults, NO_TEXT.as_bytes()),
+            Fault::Station => write_out(faults, STATION.as_bytes()),
+            Fault::Kind => write_out(faults, KIND.as_bytes()),
+            Fault::Call(why) => write_out(faults, why.line().as_str().as_bytes()),
+        };
         self.status()
     }
 }
@@ -173,5 +194,13 @@ impl From<RunFault> for Fault {
 
     fn from(why: RunFault) -> Fault {
         Fault::Call(CallFault::Run(why))
+    }
+}
+
+impl From<AllocError> for Fault {
+    ghost from_gives = { λ want fault. fault ≡ Call (Run (Memory want)) };
+
+    fn from(want: AllocError) -> Fault {
+        Fault::Call(CallFault::Run(RunFault::Memory(want)))
     }
 }

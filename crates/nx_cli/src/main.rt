@@ -4,13 +4,14 @@
 mod commands;
 mod fault;
 pub mod laws;
-mod program;
+pub mod program;
 mod slots;
 #[cfg(test)]
 mod tests;
 mod words;
 
-use program::{refuse_words, run};
+use nx_fec::Counting;
+use program::answer;
 use std::process::ExitCode;
 use std::{env, io};
 
@@ -20,14 +21,11 @@ fn words_of(rt: &HostRuntime) -> io::Result<Vec<String>> {
 }
 
 fn main(rt: HostRuntime) -> ExitCode {
-    ExitCode::from(match words_of(&rt) {
-        Ok(words) => run(
-            rt.alloc(),
-            words.as_slice(),
-            rt.stdin(),
-            rt.stdout(),
-            rt.stderr(),
-        ),
-        Err(reason) => refuse_words(&reason, rt.stderr()),
-    })
+    ExitCode::from(answer(
+        rt.alloc(),
+        words_of(&rt),
+        &mut Counting::new(rt.stdin()),
+        &mut Counting::new(rt.stdout()),
+        &mut Counting::new(rt.stderr()),
+    ))
 }

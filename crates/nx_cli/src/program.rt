@@ -1,8 +1,8 @@
 //! The program without its process.
 
-ghost use Rattle.std.specs.IoError.{error_kind};
-ghost use Rattle.std.specs.Prelude.{◌≡◌, ◌≢◌, ◌⊎◌, IfSome, map};
+ghost use Rattle.std.specs.Prelude.{◌≡◌, ◌≢◌, ◌⊎◌, IfOk, IfSome, MatchResult, map, string_bytes};
 ghost use Rattle.nx_cli.specs.Program.{EndsRun, Exits, Performs, Succeeds, WritesText, fresh_device};
+ghost use Rattle.nx_cli.specs.Report.{Answers, IsFaultLine, IsWantOfWords, LacksWords, WritesOne};
 ghost use Rattle.nx_cli.specs.Status.{IsStatus};
 ghost use Rattle.nx_cli.specs.Words.{IsRefused, Names};
 ghost use Rattle.nx_fec.specs.Devices.{CountedDevice};
@@ -112,31 +112,86 @@ fn obey<S: AsStr, R: Read, W: Write>(
             give_help(alloc, &help, writer)?;
             Ok(())
         }
-        Err(WordsFault::Refused(answer)) => Err(Fault::Words(answer)),
+        Err(WordsFault::Refused(answer)) => Err(Fault::Words(answer.to_string(alloc)?)),
         Err(WordsFault::Station) => Err(Fault::Station),
         Err(WordsFault::Kind) => Err(Fault::Kind),
-        Err(WordsFault::Memory(want)) => Err(Fault::Call(CallFault::Run(RunFault::Memory(want)))),
+        Err(WordsFault::Memory(want)) => Err(Fault::from(want)),
     }
 }
 
 /// Does what the words ask for, reports a fault, and answers the exit status. After the answer
 /// nothing more is read or written.
-fn exit_status<S: AsStr, R: Read, W: Write, E: Write + Drop>(
+fn exit_status<S: AsStr, R: Read, W: Write, E: Write>(
     alloc: Global,
     words: &[S],
     reader: &mut Counting<R>,
     writer: &mut Counting<W>,
-    faults: E,
+    faults: &mut Counting<E>,
 ) -> u8
     requires reader { reader.old.failures ≡ 0 }
     requires writer { writer.old.failures ≡ 0 }
-    ensures { Exits (map S.text words.now)
+    requires faults { faults.old.failures ≡ 0 }
+    ensures { Answers (map S.text words.now)
         (devices R.remaining W.contents reader.old reader.new writer.old writer.new)
-        result }
+        E.contents faults.old faults.new result }
 {
     match obey(alloc, words, reader, writer) {
         Ok(()) => DONE,
         Err(fault) => fault.report(faults),
+    }
+}
+
+/// The fault of words that can't be had, for this reason: one of them is no text, or memory ran out.
+fn want_of_words(reason: &io::Error) -> Fault
+    ensures { IsWantOfWords reason.now result }
+{
+    match reason.kind() {
+        ErrorKind::OutOfMemory => Fault::from(AllocError),
+        _ => Fault::NoText,
+    }
+}
+
+/// Runs the program from its input to its output, both as they stand: does what its words ask for,
+/// of which the first is the program's name, reports a fault on `faults`, and answers the exit
+/// status. Where the words can't be had, it reports why. After the answer nothing more is read or
+/// written.
+pub fn answer<R: Read, W: Write, E: Write>(
+    alloc: Global,
+    words: io::Result<Vec<String>>,
+    input: &mut Counting<R>,
+    output: &mut Counting<W>,
+    faults: &mut Counting<E>,
+) -> u8
+    requires input { input.old.failures ≡ 0 }
+    requires output { output.old.failures ≡ 0 }
+    requires faults { faults.old.failures ≡ 0 }
+
+    // What was done with input and output and what was left on standard error, by the words; or why
+    // there were none.
+    ensures exits { MatchResult words
+        (λ given. Answers (map string_bytes given.items)
+        (devices R.remaining W.contents input.old input.new output.old output.new)
+        E.contents faults.old faults.new result)
+        (λ reason. LacksWords reason
+        (devices R.remaining W.contents input.old input.new output.old output.new)
+        E.contents faults.old faults.new result) }
+    ensures status { IsStatus result }
+
+    // A success of words that name a call is the success of that call.
+    ensures called { IfOk words (λ given. (call : Call) → Names (map string_bytes given.items) call
+        → result ≡ 0 → Performs call
+        (devices R.remaining W.contents input.old input.new output.old output.new)
+        (Ok tt)) }
+
+    // A success leaves nothing on standard error, and a fault one text: `navtex: `, the fault, and a
+    // newline, but for a text of clap on the words.
+    ensures silent { result ≡ 0 → faults.new ≡ faults.old }
+    ensures reported { result ≢ 0 → WritesOne (λ text. result ≢ 64 → IsFaultLine text)
+        E.contents faults.old faults.new }
+{
+    match words {
+        Ok(words) => exit_status(alloc, words.as_slice(), input, output, faults),
+        Err(reason) => want_of_words(&reason).report(faults),
     }
 }
 
@@ -172,18 +227,6 @@ pub fn run<S: AsStr, R: Read + Drop, W: Write + Drop, E: Write + Drop>(
 {
     let mut reader = Counting::new(input);
     let mut writer = Counting::new(output);
-    exit_status(alloc, words, &mut reader, &mut writer, faults)
-}
-
-/// Answers for a program whose words can't be had, for this reason: one of them is no text, or
-/// memory ran out.
-pub fn refuse_words<E: Write + Drop>(reason: &io::Error, faults: E) -> u8
-    ensures memory { error_kind reason.now ≡ ErrorKind.OutOfMemory → result ≡ 1 }
-    ensures words { error_kind reason.now ≢ ErrorKind.OutOfMemory → result ≡ 64 }
-{
-    let fault = match reason.kind() {
-        ErrorKind::OutOfMemory => Fault::Call(CallFault::Run(RunFault::Memory(AllocError))),
-        _ => Fault::NoText,
-    };
-    fault.report(faults)
+    let mut lines = Counting::new(faults);
+    exit_status(alloc, words, &mut reader, &mut writer, &mut lines)
 }

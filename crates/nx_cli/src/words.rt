@@ -16,7 +16,6 @@ use nx_envelope::Letter;
 use nx_station::DamageKind;
 use std::alloc::{AllocError, Global};
 use std::convert::AsStr;
-use thiserror::Error;
 
 /// A call of the program, which the words of the command line name.
 #[derive(Clone, Copy, Debug, PartialEq, Eq)]
@@ -59,22 +58,17 @@ pub enum Call {
 }
 
 /// Why the words name no call.
-#[derive(Debug, Drop, Error)]
+#[derive(Debug, Drop)]
 pub enum WordsFault {
     /// The words ask for help, which is this text.
-    #[error(transparent)]
     Help(clap::Error),
     /// The words are not understood, as this text says.
-    #[error(transparent)]
     Refused(clap::Error),
     /// The station is not one letter A to Z.
-    #[error("station must be one letter A to Z")]
     Station,
     /// The kind of damage is none of those that there are.
-    #[error("kind must be dx, rx or all")]
     Kind,
     /// Memory ran out while the words were read.
-    #[error("out of memory")]
     Memory(AllocError),
 }
 

@@ -5,8 +5,9 @@ use crate::laws::{
     damage_in_examples, numbers_are_in_range, slots_in_examples, words_in_examples,
     words_read_as_one,
 };
-use crate::program::refuse_words;
-use crate::tests::devices::Sink;
+use crate::program::answer;
+use crate::tests::devices::{Sink, Source};
+use nx_fec::Counting;
 use std::io::{Error, ErrorKind};
 
 // The words, the status, and how the answer begins, in clap's words: help on standard output, a
@@ -99,10 +100,17 @@ fn answers_for_words_that_cannot_be_had(rt: HostRuntime) {
         ),
         (ErrorKind::OutOfMemory, 1, "navtex: out of memory\n"),
     ] {
-        let mut faults = Sink::new(Vec::new(alloc));
-        let ended = refuse_words(&Error::from(kind), &mut faults);
+        let mut input = Counting::new(Source::of(b""));
+        let mut output = Counting::new(Sink::new(Vec::new(alloc)));
+        let mut faults = Counting::new(Sink::new(Vec::new(alloc)));
+        let words = Err(Error::from(kind));
+        let ended = answer(alloc, words, &mut input, &mut output, &mut faults);
         assert_eq!(rt; ended, status);
-        assert_eq!(rt; faults.taken.as_slice(), line.as_bytes());
+        assert_eq!(rt; faults.into_inner().taken.as_slice(), line.as_bytes());
+        assert_eq!(rt;
+            (input.into_inner().calls, output.into_inner().calls),
+            (0, 0)
+        );
     }
 }
 

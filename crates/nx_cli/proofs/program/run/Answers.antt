@@ -1,6 +1,7 @@
 use Rattle.std.proofs.Common.{List, ℕ, map}
 use Rattle.clap.specs.Words.{Text}
 use Rattle.nx_cli.proofs.ProgramLemmas.{exits-fresh, refused-exits, status-exits, success-exits, success-named, words-exit}
+use Rattle.nx_cli.proofs.ReportLemmas.{answers-exits}
 use Rattle.nx_cli.specs.Program.{Exits, fresh_device}
 use Rattle.nx_fec.specs.Transfers.{devices}
 use Rattle.nx_cli.proofs.program.run.Goals as goal
@@ -12,7 +13,10 @@ returns g c =
     (fresh_device c.args.output) c.exit_status.new.writer in
     let exits : Exits words d c.exit_status.result = exits-fresh words g.R.Read.remaining g.W.Write.contents c.args.input c.new-reader.result
     c.exit_status.new.reader c.args.output c.new-writer.result c.exit_status.new.writer c.exit_status.result
-    c.new-reader.ensures.inner c.new-reader.ensures.none c.new-writer.ensures.inner c.new-writer.ensures.none c.exit_status.ensures in
+    c.new-reader.ensures.inner c.new-reader.ensures.none c.new-writer.ensures.inner c.new-writer.ensures.none
+    (answers-exits words (devices g.R.Read.remaining g.W.Write.contents c.new-reader.result c.exit_status.new.reader
+    c.new-writer.result c.exit_status.new.writer) g.E.Write.contents c.new-lines.result c.exit_status.new.faults
+    c.exit_status.result c.exit_status.ensures) in
     record {
       exits = (c.exit_status.new.reader, c.exit_status.new.writer, exits);
       status = status-exits words d c.exit_status.result exits;
