@@ -1,8 +1,9 @@
 """Reads the definitions of crates/*/specs and the items of crates/*/src, and what each of them names.
 
-It reads the sources alone, without the toolchain, and relies on the form that `rt fmt` gives them: an item begins at its
-indent and ends there. Names are followed through `use` lines, with `as` and braces, through modules that are imported whole,
-`declared` types and what a lib.rt hands out; what a pattern, a parameter, a field or a λ binds is no name of anything else.
+It reads the sources alone, without the toolchain, and relies on the form that `rt fmt` gives them: an item begins at
+its indent and ends there. Names are followed through `use` lines, with `as` and braces, through modules that are
+imported whole, `declared` types and what a lib.rt hands out; what a pattern, a parameter, a field or a λ binds is no
+name of anything else.
 """
 
 import os
@@ -133,7 +134,7 @@ class Sources:
         self.names = defaultdict(dict)  # of a module of specs/ or src/, the key of each name in it
         self.makers = set()  # the constructors of data, each by its module and name
         self.uses = defaultdict(dict)  # of a module of src/, where each name of its `use` lines comes from
-        self.handed_out = defaultdict(list)  # of a crate, a module and a name in it, or None for all that is public there
+        self.handed_out = defaultdict(list)  # of a crate, a module and a name in it, or None for all that is public
         self.parts = defaultdict(list)  # of a type, the keys of its calls and of what it implements
         self.views = defaultdict(str)  # of a type with a model, the text of its value and its view
         self.later = []  # items, and what gives the keys that they name once all is read
@@ -156,10 +157,13 @@ class Sources:
         _, crate, *rest = module.split(".")
         if crate not in self.stands_on:
             return (None, f"{module}.{name}")
-        if rest[1:2] != ["declared"]:
-            return self.names[(crate, *rest)].get(name)
-        name = {"TheConstants": name, "TheVariants": rest[-2]}.get(rest[-1], rest[-1])
-        return self.names[(crate, "src", *rest[2:-2 if rest[-1] == "TheVariants" else -1])].get(name)
+        home, one = (crate, *rest), name
+        if rest[1:2] == ["declared"]:
+            home = (crate, "src", *rest[2:-2 if rest[-1] == "TheVariants" else -1])
+            one = {"TheConstants": name, "TheVariants": rest[-2]}.get(rest[-1], rest[-1])
+        if one not in self.names[home]:
+            raise SystemExit(f"{'/'.join(scope.home)}: {module} has no {name} that ci/sources.py can read")
+        return self.names[home][one]
 
     def rust_key(self, home, name):
         """The key of what a name of Rust means in a module of src/."""
@@ -175,7 +179,8 @@ class Sources:
 
     def read_specs(self, path, module, lines):
         scope, here = Scope(module), ".".join(("Rattle", *module))
-        starts = [at for at, line in enumerate(lines) if line and not line.startswith((" ", "--", "}", ")", "unfolding "))]
+        starts = [at for at, line in enumerate(lines)
+                  if line and not line.startswith((" ", "--", "}", ")", "unfolding "))]
         for start, end in zip(starts, [*starts[1:], len(lines)]):
             while not lines[end - 1] or lines[end - 1].startswith("--"):
                 end -= 1
@@ -222,7 +227,8 @@ class Sources:
             elif kind == "use":
                 self.take_use(module, text, module[2] == "lib" and (public or is_program))
             elif kind == "mod" and public:
-                self.handed_out[module[0]].append(((*module[:2], *(it for it in module[2:] if it != "lib"), name), None))
+                above = [it for it in module[2:] if it != "lib"]
+                self.handed_out[module[0]].append(((*module[:2], *above, name), None))
             elif kind not in ("impl", "mod"):
                 self.names[module][name] = (path, name)
                 self.read_item(kind, Item(path, name, start + 1, end, public), scope, lines, text)
