@@ -64,6 +64,8 @@ impl Finder {
     pub fn new() -> Finder
         ensures { StandsAfter result [] }
     {
+        // No room for anything else.
+        prove!(size_of::<Finder>() == 4128);
         Finder {
             recent: [0; MARKER_LEN],
             stage: Stage::Nowhere,
