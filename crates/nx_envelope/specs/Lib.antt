@@ -1,5 +1,6 @@
 pub mod Backward
 pub mod Copies
+pub mod DigitBytes
 pub mod Digits
 pub mod Ending
 pub mod Errors
@@ -15,4 +16,5 @@ pub mod Message
 pub mod MessageView
 pub mod Moment
 pub mod Newline
+pub mod Room
 pub mod Stage

@@ -29,7 +29,8 @@ pub struct Finder {
 }
 
 impl Model for Finder {
-    ghost use Rattle.nx_envelope.specs.FinderView.{FinderView, HasRoom};
+    ghost use Rattle.nx_envelope.specs.FinderView.{FinderView};
+    ghost use Rattle.nx_envelope.specs.Room.{HasRoom};
 
     ghost Value = { FinderView };
 
