@@ -1,12 +1,10 @@
 pub mod Backward
 pub mod Copies
-pub mod DigitBytes
 pub mod Digits
 pub mod Ending
 pub mod Errors
 pub mod Finder
 pub mod FinderView
-pub mod Finding
 pub mod Found
 pub mod Header
 pub mod Identity
@@ -16,5 +14,4 @@ pub mod Message
 pub mod MessageView
 pub mod Moment
 pub mod Newline
-pub mod Room
-pub mod Stage
+pub mod private

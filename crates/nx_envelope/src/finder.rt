@@ -30,7 +30,7 @@ pub struct Finder {
 
 impl Model for Finder {
     ghost use Rattle.nx_envelope.specs.FinderView.{FinderView};
-    ghost use Rattle.nx_envelope.specs.Room.{HasRoom};
+    ghost use Rattle.nx_envelope.specs.private.Room.{HasRoom};
 
     ghost Value = { FinderView };
 
@@ -58,7 +58,7 @@ impl Finder {
     ghost use Rattle.nx_envelope.specs.Copies.{Copy, open_headers};
     ghost use Rattle.nx_envelope.specs.Finder.{Brings, Closes, HasReady, Hears, HoldsOpen};
     ghost use Rattle.nx_envelope.specs.Finder.{StandsAfter, held_identity, is_over, is_ready};
-    ghost use Rattle.nx_envelope.specs.Finding.{Hearing};
+    ghost use Rattle.nx_envelope.specs.private.Finding.{Hearing};
     ghost use Rattle.nx_envelope.specs.Found.{IsFound};
 
     /// A finder of a text of which nothing was seen yet.

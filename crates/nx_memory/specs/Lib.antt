@@ -1,12 +1,11 @@
 pub mod Content
-pub mod LetterFlags
 pub mod Letters
 pub mod Live
 pub mod Memory
 pub mod Refused
 pub mod Ring
-pub mod RingAndTable
 pub mod Saved
 pub mod Selection
 pub mod Table
 pub mod Vital
+pub mod private

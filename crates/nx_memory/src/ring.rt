@@ -24,7 +24,7 @@ impl Model for RingRecall {
     ghost use Rattle.std.proofs.Common.{sym};
     ghost use Rattle.circular_buffer.specs.Buffer.{buffer};
     ghost use Rattle.nx_memory.specs.Ring.{RingMemory};
-    ghost use Rattle.nx_memory.specs.RingAndTable.{IsRingMemory};
+    ghost use Rattle.nx_memory.specs.private.RingAndTable.{IsRingMemory};
 
     ghost Value = { RingMemory };
 
