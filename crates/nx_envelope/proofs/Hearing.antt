@@ -6,11 +6,11 @@ use Rattle.std.proofs.lemmas.List.{drop-append-le}
 use Rattle.nx_envelope.specs.Backward.{marker_back, last_four, ends_in, header_back, spaces_back, station_back, subject_back, tens_back}
 use Rattle.nx_envelope.specs.Copies.{Copy, raw_text, open_headers, closed_copy}
 use Rattle.nx_envelope.specs.Finder.{BringsCopy, ClosesCopy, ClosesNone, Ends, HoldsCopy, HoldsOpen, Keeps, is_empty}
-use Rattle.nx_envelope.specs.Finding.{Hearing, found_text}
+use Rattle.nx_envelope.specs.private.Finding.{Hearing, found_text}
 use Rattle.nx_envelope.specs.Found.{IsFound, IsFoundOf}
 use Rattle.nx_envelope.specs.Header.{Header}
 use Rattle.nx_envelope.specs.Marker.{start_marker}
-use Rattle.nx_envelope.specs.Stage.{IsStageOf}
+use Rattle.nx_envelope.specs.private.Stage.{IsStageOf}
 use Rattle.nx_envelope.specs.declared.finder.Finder.{Finder}
 use Rattle.nx_envelope.specs.declared.found.Found.{Found}
 use Rattle.nx_envelope.specs.declared.found.HeldCopy.{HeldCopy}

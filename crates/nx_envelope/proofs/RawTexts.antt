@@ -6,7 +6,7 @@ use Rattle.std.proofs.lemmas.List.{reverse-append, take-append-le, take_all, dro
 use Rattle.nx_envelope.specs.Backward.{marker_back, ends_in}
 use Rattle.nx_envelope.specs.Copies.{Ending, less_newline, raw_text, ending_by_marker, beginnings, ending_within, ending_of}
 use Rattle.nx_envelope.specs.Finder.{is_empty}
-use Rattle.nx_envelope.specs.Finding.{found_text}
+use Rattle.nx_envelope.specs.private.Finding.{found_text}
 use Rattle.nx_envelope.specs.Header.{Header}
 use Rattle.nx_envelope.specs.Marker.{start_marker, end_marker}
 use Rattle.nx_envelope.specs.declared.found.How.{How}

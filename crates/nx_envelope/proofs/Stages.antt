@@ -3,9 +3,9 @@ use Rattle.std.proofs.Common.{◌≡◌, ◌≢◌, ℕ, ◌+◌, ◌*◌, ◌�
 use Rattle.std.proofs.lemmas.Bool.Decides.{leb_tells, nat_tests}
 use Rattle.std.proofs.Props.{props}
 use Rattle.nx_envelope.specs.Backward.{letter_of, digit_of, both, ends_in, identity_of, identity_with, spaces_back, station_back, subject_back, tens_back, header_back}
-use Rattle.nx_envelope.specs.Digits.{IsDigit}
+use Rattle.nx_envelope.specs.private.DigitBytes.{IsDigit}
 use Rattle.nx_envelope.specs.Marker.{start_marker}
-use Rattle.nx_envelope.specs.Stage.{IsStageOf, is_spaces, station_in, subject_in, tens_in}
+use Rattle.nx_envelope.specs.private.Stage.{IsStageOf, is_spaces, station_in, subject_in, tens_in}
 use Rattle.nx_envelope.specs.declared.digit.Digit.{Digit}
 use Rattle.nx_envelope.specs.declared.identity.Identity.{Identity}
 use Rattle.nx_envelope.specs.declared.letter.Letter.{Letter}

@@ -5,7 +5,7 @@ use Rattle.nx_envelope.specs.Backward.{last_four}
 use Rattle.nx_envelope.specs.Copies.{Copy, headers, ended_copies, open_headers, raw_text, closed_copy, copies}
 use Rattle.nx_envelope.specs.Found.{IsFound}
 use Rattle.nx_envelope.specs.Header.{Header}
-use Rattle.nx_envelope.specs.Stage.{IsStageOf}
+use Rattle.nx_envelope.specs.private.Stage.{IsStageOf}
 use Rattle.nx_envelope.specs.declared.finder.Finder.{Finder}
 use Rattle.nx_envelope.specs.declared.found.FinderStep.{FinderStep}
 use Rattle.nx_envelope.specs.declared.found.FinderStep.TheVariants as steps

@@ -5,7 +5,6 @@ pub mod Ending
 pub mod Errors
 pub mod Finder
 pub mod FinderView
-pub mod Finding
 pub mod Found
 pub mod Header
 pub mod Identity
@@ -15,4 +14,4 @@ pub mod Message
 pub mod MessageView
 pub mod Moment
 pub mod Newline
-pub mod Stage
+pub mod private

@@ -1,7 +1,8 @@
 //! A decimal digit of a message's number.
 
 ghost use Rattle.std.specs.Prelude.{◌≡◌, ◌<◌, ◌≤◌, ◌↔◌, ◌-◌, IfSome, IsSome};
-ghost use Rattle.nx_envelope.specs.Digits.{IsDigit, two_digits as digits_of};
+ghost use Rattle.nx_envelope.specs.private.DigitBytes.{IsDigit};
+ghost use Rattle.nx_envelope.specs.Digits.{two_digits as digits_of};
 
 /// A decimal digit.
 #[derive(Clone, Copy, PartialEq, Eq, Debug)]

@@ -29,7 +29,8 @@ pub struct Finder {
 }
 
 impl Model for Finder {
-    ghost use Rattle.nx_envelope.specs.FinderView.{FinderView, HasRoom};
+    ghost use Rattle.nx_envelope.specs.FinderView.{FinderView};
+    ghost use Rattle.nx_envelope.specs.private.Room.{HasRoom};
 
     ghost Value = { FinderView };
 
@@ -57,13 +58,15 @@ impl Finder {
     ghost use Rattle.nx_envelope.specs.Copies.{Copy, open_headers};
     ghost use Rattle.nx_envelope.specs.Finder.{Brings, Closes, HasReady, Hears, HoldsOpen};
     ghost use Rattle.nx_envelope.specs.Finder.{StandsAfter, held_identity, is_over, is_ready};
-    ghost use Rattle.nx_envelope.specs.Finding.{Hearing};
+    ghost use Rattle.nx_envelope.specs.private.Finding.{Hearing};
     ghost use Rattle.nx_envelope.specs.Found.{IsFound};
 
     /// A finder of a text of which nothing was seen yet.
     pub fn new() -> Finder
         ensures { StandsAfter result [] }
     {
+        // No room for anything else.
+        prove!(size_of::<Finder>() == 4128);
         Finder {
             recent: [0; MARKER_LEN],
             stage: Stage::Nowhere,

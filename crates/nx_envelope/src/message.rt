@@ -94,6 +94,8 @@ impl Message {
         ensures sound { IfOk result (λ message. AreLines message.lines) }
         ensures refused { IfErr result (IsMessageFault (map (λ line. line.now) lines.now)) }
     {
+        // No room for anything else.
+        prove!(size_of::<Message>() == 32);
         check_lines(lines)?;
         match line_copies(alloc, lines) {
             Ok(lines) => Ok(Message { identity, lines }),

@@ -7,7 +7,8 @@ use Rattle.std.specs.Ordering.{nat_cmp}
 use Rattle.std.specs.Cmp.{nat_cmp_total, unsigned_tied}
 use Rattle.std.specs.FinSet as finite
 use Rattle.nx_code.specs.Characters.{IsCapital}
-use Rattle.nx_memory.specs.Letters.{HasLettersOnly, letters_from, letters_of, flags_from, flags_of}
+use Rattle.nx_memory.specs.private.LetterFlags.{letters_from, letters_of, flags_from, flags_of}
+use Rattle.nx_memory.specs.Letters.{HasLettersOnly}
 use Rattle.nx_memory.specs.Vital.{is_vital, IsWithoutVital}
 
 -- the empty set of numbers has none

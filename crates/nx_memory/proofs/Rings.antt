@@ -6,7 +6,7 @@ use Rattle.circular_buffer.specs.Buffer.{Buffer, buffer, keep_last}
 use Rattle.nx_envelope.specs.declared.identity.Identity.{Identity}
 use Rattle.nx_memory.specs.declared.entry.MemoryEntry.{MemoryEntry}
 use Rattle.nx_memory.specs.Memory.{newest_moment, is_known, content_after}
-use Rattle.nx_memory.specs.Ring.{IsRingMemory}
+use Rattle.nx_memory.specs.private.RingAndTable.{IsRingMemory}
 use Rattle.nx_memory.specs.Table.{index_of}
 use Rattle.nx_memory.proofs.Content.{content_after-IsContent}
 use Rattle.nx_memory.proofs.Tables.{table_given_up, table-entered}

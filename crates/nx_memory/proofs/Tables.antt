@@ -15,7 +15,8 @@ use Rattle.nx_envelope.proofs.Identities.{same_identity-true, same_itself}
 use Rattle.nx_memory.specs.declared.entry.MemoryEntry.{MemoryEntry}
 use Rattle.nx_memory.specs.Content.{IsLater, AreInTurn}
 use Rattle.nx_memory.specs.Memory.{most_entries, seconds_known, is_recent, is_known}
-use Rattle.nx_memory.specs.Table.{identities, index_of, moment_of_last, is_recent_moment, is_moment, holds_moment, IsTableOf}
+use Rattle.nx_memory.specs.private.RingAndTable.{is_moment, holds_moment, IsTableOf}
+use Rattle.nx_memory.specs.Table.{identities, index_of, moment_of_last, is_recent_moment}
 use Rattle.nx_memory.proofs.Content.{All-tail}
 
 -- each place is within the table, and two identities have two places

@@ -1,5 +1,5 @@
--- A set of letters, each by its byte, A (65) to Z (90), that is kept as one flag for each letter.
-use Rattle.std.specs.Prelude.{ℕ, ◌+◌, zero, suc, Bool, true, false, List, [], ◌∷◌, IsTrue}
+-- Letters, each by its byte, A (65) to Z (90).
+use Rattle.std.specs.Prelude.{ℕ, IsTrue}
 use Rattle.std.specs.Ordering.{nat_cmp}
 use Rattle.std.specs.FinSet as set
 use Rattle.nx_code.specs.Characters.{IsCapital}
@@ -7,23 +7,3 @@ use Rattle.nx_code.specs.Characters.{IsCapital}
 -- the set holds nothing but letters
 abbrev pub HasLettersOnly : set.FinSet nat_cmp → Type 0
 HasLettersOnly letters = (byte : ℕ) → IsTrue (set.contains letters byte) → IsCapital byte
-
--- the letters whose flags are set, where the first flag is that of `first` and the next that of the
--- letter after it
-abbrev pub letters_from : ℕ → List Bool → set.FinSet nat_cmp
-letters_from first [] = set.empty
-letters_from first (true ∷ flags) = set.insert (letters_from (first + 1) flags) first
-letters_from first (false ∷ flags) = letters_from (first + 1) flags
-
--- the same where the first flag is that of A
-unfoldable pub letters_of : List Bool → set.FinSet nat_cmp
-letters_of flags = letters_from 65 flags
-
--- a flag for each of n letters, from the first on: whether it is in the set
-abbrev pub flags_from : ℕ → ℕ → set.FinSet nat_cmp → List Bool
-flags_from first zero letters = []
-flags_from first (suc n) letters = set.contains letters first ∷ flags_from (first + 1) n letters
-
--- the same for A to Z
-unfoldable pub flags_of : set.FinSet nat_cmp → List Bool
-flags_of letters = flags_from 65 26 letters

@@ -8,3 +8,4 @@ pub mod Saved
 pub mod Selection
 pub mod Table
 pub mod Vital
+pub mod private

@@ -1,5 +1,5 @@
 -- A table with a place for each identity, in which the moment of its last entry stands.
-use Rattle.std.specs.Prelude.{◌≡◌, ℕ, ◌+◌, ◌-◌, ◌*◌, Bool, false, ◌==◌, nat_lt, if◌then◌else◌, List, [], ◌∷◌, length, get_or, Option, Some, None}
+use Rattle.std.specs.Prelude.{ℕ, ◌+◌, ◌-◌, ◌*◌, Bool, false, nat_lt, if◌then◌else◌, List, [], ◌∷◌, Option, Some, None}
 use Rattle.std.specs.Option.{option_or}
 use Rattle.nx_envelope.specs.declared.identity.Identity.{Identity}
 use Rattle.nx_envelope.specs.Identity.{same_identity}
@@ -26,19 +26,3 @@ moment_of_last identity (entry ∷ later) =
 abbrev pub is_recent_moment : ℕ → Option ℕ → Bool
 is_recent_moment moment None = false
 is_recent_moment moment (Some last) = nat_lt (moment - last) seconds_known
-
--- it is this moment
-abbrev pub is_moment : ℕ → Option ℕ → Bool
-is_moment moment None = false
-is_moment moment (Some last) = last == moment
-
--- at the place of each identity stands the moment of its last entry, or that there is none
-pub record IsTableOf (content : List MemoryEntry) (moments : List (Option ℕ)) : Type 0 where
-  pub size : length moments ≡ identities
-  pub last :
-      (identity : Identity)
-      → get_or moments (index_of identity) None ≡ moment_of_last identity content
-
--- the moment that stands at the identity of an entry is the entry's own
-abbrev pub holds_moment : List (Option ℕ) → MemoryEntry → Bool
-holds_moment moments entry = is_moment entry.moment (get_or moments (index_of entry.identity) None)

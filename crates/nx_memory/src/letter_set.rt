@@ -21,7 +21,7 @@ impl Model for LetterSet {
     ghost use Rattle.std.specs.Coded.{coded_ℕ};
     ghost use Rattle.std.specs.FinSet as set;
     ghost use Rattle.std.specs.Prelude.{◌≡◌};
-    ghost use Rattle.nx_memory.specs.Letters.{letters_of, flags_of};
+    ghost use Rattle.nx_memory.specs.private.LetterFlags.{letters_of, flags_of};
 
     ghost Value = { set.FinSet nat_cmp };
 

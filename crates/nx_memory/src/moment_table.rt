@@ -3,7 +3,8 @@
 ghost use Rattle.std.specs.Prelude.{◌≡◌, ◌<◌, Some, None, IfOk, if◌then◌else◌};
 ghost use Rattle.std.specs.Prelude.{get_or, replicate, slice_set};
 ghost use Rattle.std.specs.Vec.{SameBlock};
-ghost use Rattle.nx_memory.specs.Table.{holds_moment, index_of as the_index_of};
+ghost use Rattle.nx_memory.specs.private.RingAndTable.{holds_moment};
+ghost use Rattle.nx_memory.specs.Table.{index_of as the_index_of};
 
 use crate::entry::MemoryEntry;
 use crate::letter_set::{LETTERS, place_in_alphabet};

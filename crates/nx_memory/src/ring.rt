@@ -23,7 +23,8 @@ pub struct RingRecall {
 impl Model for RingRecall {
     ghost use Rattle.std.proofs.Common.{sym};
     ghost use Rattle.circular_buffer.specs.Buffer.{buffer};
-    ghost use Rattle.nx_memory.specs.Ring.{RingMemory, IsRingMemory};
+    ghost use Rattle.nx_memory.specs.Ring.{RingMemory};
+    ghost use Rattle.nx_memory.specs.private.RingAndTable.{IsRingMemory};
 
     ghost Value = { RingMemory };
 

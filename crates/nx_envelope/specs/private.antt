@@ -1,0 +1,4 @@
+pub mod DigitBytes
+pub mod Finding
+pub mod Room
+pub mod Stage

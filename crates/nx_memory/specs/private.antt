@@ -1,0 +1,2 @@
+pub mod LetterFlags
+pub mod RingAndTable
