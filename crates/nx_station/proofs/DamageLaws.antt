@@ -1,6 +1,7 @@
 -- What damaging answers follows from what its run over the lines said.
-use Rattle.std.proofs.Common.{◌≡◌, ◌≢◌, ℕ, ◌+◌, ◌-◌, ◌^◌, ◌≤◌, true, List, [], ◌∷◌, ◌++◌, length, min, Option, Some, None, Result, Ok, Err, refl, sym, ap, ◌∙◌, subst, arith, append-nil, length-append}
-use Rattle.std.specs.List.{flat_map, AllByRecursion}
+use Rattle.std.proofs.Common.{Bool, drop, map, take, ◌≡◌, ℕ, ◌+◌, ◌-◌, ◌*◌, ◌/◌, ◌^◌, ◌≤◌, List, [], ◌∷◌, ◌++◌, length, min, Option, Some, None, Result, Ok, Err, refl, sym, ap, ◌∙◌, subst, arith, append-nil, length-append}
+use Rattle.std.specs.List.{flat_map, refill, AllByRecursion}
+use Rattle.std.proofs.Math.Seq.{drop-append_seam, take-append_seam}
 use Rattle.std.specs.Option.{option_map, IsSomeAnd}
 use Rattle.std.specs.Io.KnownBytes.{Appends}
 use Rattle.std.proofs.lemmas.List.{length-map}
@@ -9,7 +10,9 @@ use Rattle.nx_fec.specs.AirFile.{Line, IsLine, element_digit, moment, elements, 
 use Rattle.nx_fec.specs.Devices.{WroteSome}
 use Rattle.nx_fec.specs.LineRuns.{Beginning, HasTaken, HasTakenAll, HasTakenSome, IsPlaced, Refusing, RunsLines, Standing, StopsAt}
 use Rattle.nx_fec.specs.Lines.{IsCause, elements_of, file_of, line_bytes}
+use Rattle.nx_fec.specs.Scanner.{kind_of}
 use Rattle.nx_fec.specs.Transfers.{Devices}
+use Rattle.nx_fec.specs.declared.air_file.LineKind.TheVariants.{Elements}
 use Rattle.nx_fec.specs.declared.fault.LineFault.{LineFault}
 use Rattle.nx_fec.specs.declared.fault.LineFault.TheVariants as file
 use Rattle.nx_fec.specs.declared.line_run.LinesFault.{LinesFault}
@@ -18,73 +21,69 @@ use Rattle.nx_fec.specs.declared.line_run.LinesRead.{LinesRead}
 use Rattle.nx_fec.proofs.LineLaws.{IsAirFile-unique, spelling-IsBeginning}
 use Rattle.nx_fec.proofs.TransferLaws.{Reads-on}
 use Rattle.nx_station.specs.Damage.{Damage, Damages, ExplainsDamaging, IsDamaged, damaged_file, damaged_line, damaged_lines, inverted_count, line_fault}
-use Rattle.nx_station.specs.DamageTaker.{HasDamaged, IsAt, damage_of}
-use Rattle.nx_station.specs.declared.damaging.Damaging.{Damaging}
+use Rattle.nx_station.specs.DamageTaker.{Damager, HasDamaged, IsAt, damage_of}
 use Rattle.nx_station.specs.declared.fault.DamageFault.{DamageFault}
 use Rattle.nx_station.specs.declared.fault.DamageFault.TheVariants.{Read, Write}
 use Rattle.nx_station.proofs.DamageLemmas.{inverted-append, inverted-le, length-damaged, lines-append, lines-twice}
 
-abbrev pub stands : Standing Damaging
-stands first now lines given = HasDamaged first now lines given
+abbrev pub stands : Standing Damager
+stands first now lines given = HasDamaged (damage_of first) now lines given
 
-abbrev pub begins : Beginning Damaging
+abbrev pub begins : Beginning Damager
 begins first lines given = given ≡ damaged_file (damage_of first) lines
 
-abbrev pub refuses : Refusing Damaging (Unit {0})
+abbrev pub refuses : Refusing Damager (Unit {0})
 refuses first lines line why = ⊥
 
 -- ---- where it begins, and one line more
 
-pub starts : (first : Damaging) → first.is_dx ≡ true → first.offset ≡ 0 → first.inverted ≡ 0 → HasDamaged first first [] []
-starts first dx offset none = record {
-  at = record { kind = refl; skip = omega arith; left = omega arith; is_dx = dx; offset = offset };
-  counted = omega (arith, none);
+-- a taker before the first element, for a damage
+abbrev pub first_for : Damage → Damager
+first_for damage = record {
+  kind = damage.kind;
+  begin = 7 * damage.from;
+  end = 7 * damage.from + 7 * damage.count;
+  phase = 0;
+  inverted = 0;
+}
+
+damage-first : (damage : Damage) → damage_of (first_for damage) ≡ damage
+damage-first damage =
+    let from : (7 * damage.from) / 7 ≡ damage.from = omega arith in
+    let count : (7 * damage.from + 7 * damage.count) / 7 - (7 * damage.from) / 7 ≡ damage.count = omega arith in
+    λ i. record { kind = damage.kind; from = from i; count = count i }
+
+pub starts : (damage : Damage) → HasDamaged (damage_of (first_for damage)) (first_for damage) [] []
+starts damage = record {
+  at = record { kind = refl; begin = omega arith; end = omega arith; phase = refl };
+  counted = refl;
   whole = refl;
 }
 
 elements-more : (lines : List Line) (line : Line) → flat_map elements_of (lines ++ (line ∷ [])) ≡ flat_map elements_of lines ++ elements_of line
 elements-more lines line = flat_map-append elements_of lines (line ∷ []) ∙ ap (λ l. flat_map elements_of lines ++ l) (append-nil (elements_of line))
 
-pub taken-more : (first old new : Damaging) (lines : List Line) (line : Line) (given bytes : List ℕ) → HasDamaged first old lines given
-    → ((place : ℕ) → IsAt first old place → bytes ≡ line_bytes (damaged_line (damage_of first) place line))
-    → ((place : ℕ) → IsAt first old place → IsAt first new (place + length (elements_of line)))
-    → ((place total : ℕ) → IsAt first old place → old.inverted ≡ min total (2 ^ 64 - 1) → new.inverted ≡ min (total + inverted_count (damage_of first) place (elements_of line)) (2 ^ 64 - 1))
-    → HasDamaged first new (lines ++ (line ∷ [])) (given ++ bytes)
-taken-more first old new lines line given bytes h written moved counted =
-    let D = damage_of first in
+pub taken-more : (damage : Damage) (old new : Damager) (lines : List Line) (line : Line) (given bytes : List ℕ) → HasDamaged damage old lines given
+    → ((place : ℕ) → IsAt damage old place → bytes ≡ line_bytes (damaged_line damage place line))
+    → ((place : ℕ) → IsAt damage old place → IsAt damage new (place + length (elements_of line)))
+    → ((place total : ℕ) → IsAt damage old place → old.inverted ≡ min total (2 ^ 64 - 1) → new.inverted ≡ min (total + inverted_count damage place (elements_of line)) (2 ^ 64 - 1))
+    → HasDamaged damage new (lines ++ (line ∷ [])) (given ++ bytes)
+taken-more damage old new lines line given bytes h written moved counted =
     let bits = flat_map elements_of lines in
     let more = elements-more lines line in
     let long : length bits + length (elements_of line) ≡ length (flat_map elements_of (lines ++ (line ∷ []))) = sym (ap length more ∙ length-append bits (elements_of line)) in
-    let total : inverted_count D 0 bits + inverted_count D (length bits) (elements_of line) ≡ inverted_count D 0 (flat_map elements_of (lines ++ (line ∷ []))) =
-    sym (ap (inverted_count D 0) more ∙ inverted-append D 0 bits (elements_of line) ∙ ap (λ p. inverted_count D 0 bits + inverted_count D p (elements_of line)) (let e : 0 + length bits ≡ length bits = omega arith in e)) in
+    let total : inverted_count damage 0 bits + inverted_count damage (length bits) (elements_of line) ≡ inverted_count damage 0 (flat_map elements_of (lines ++ (line ∷ []))) =
+    sym (ap (inverted_count damage 0) more ∙ inverted-append damage 0 bits (elements_of line) ∙ ap (λ p. inverted_count damage 0 bits + inverted_count damage p (elements_of line)) (let e : 0 + length bits ≡ length bits = omega arith in e)) in
     let place : 0 + length bits ≡ length bits = omega arith in
-    let file : damaged_file D (lines ++ (line ∷ [])) ≡ damaged_file D lines ++ line_bytes (damaged_line D (length bits) line) =
-    ap file_of (lines-append D 0 lines line) ∙ flat_map-append line_bytes _ (damaged_line D (0 + length bits) line ∷ [])
-    ∙ ap (λ l. damaged_file D lines ++ l) (append-nil (line_bytes (damaged_line D (0 + length bits) line)))
-    ∙ ap (λ p. damaged_file D lines ++ line_bytes (damaged_line D p line)) place in
+    let file : damaged_file damage (lines ++ (line ∷ [])) ≡ damaged_file damage lines ++ line_bytes (damaged_line damage (length bits) line) =
+    ap file_of (lines-append damage 0 lines line) ∙ flat_map-append line_bytes _ (damaged_line damage (0 + length bits) line ∷ [])
+    ∙ ap (λ l. damaged_file damage lines ++ l) (append-nil (line_bytes (damaged_line damage (0 + length bits) line)))
+    ∙ ap (λ p. damaged_file damage lines ++ line_bytes (damaged_line damage p line)) place in
     record {
-      at = subst (IsAt first new) long (moved (length bits) h.at);
-      counted = subst (λ n. new.inverted ≡ min n (2 ^ 64 - 1)) total (counted (length bits) (inverted_count D 0 bits) h.at h.counted);
-      whole = ap (λ l. l ++ bytes) h.whole ∙ ap (λ l. damaged_file D lines ++ l) (written (length bits) h.at) ∙ sym file;
+      at = subst (IsAt damage new) long (moved (length bits) h.at);
+      counted = subst (λ n. new.inverted ≡ min n (2 ^ 64 - 1)) total (counted (length bits) (inverted_count damage 0 bits) h.at h.counted);
+      whole = ap (λ l. l ++ bytes) h.whole ∙ ap (λ l. damaged_file damage lines ++ l) (written (length bits) h.at) ∙ sym file;
     }
-
--- a line without elements is as it was, and one that has some is a line of elements
-pub silent-line : (damage : Damage) (place : ℕ) (line : Line) → elements_of line ≡ [] → damaged_line damage place line ≡ line
-silent-line damage place (moment n) h = refl
-silent-line damage place (elements []) h = refl
-silent-line damage place (elements (b ∷ bits)) h = cc
-silent-line damage place (refuse_station letter) h = refl
-silent-line damage place (accept_station letter) h = refl
-silent-line damage place (refuse_subject letter) h = refl
-silent-line damage place (accept_subject letter) h = refl
-
-pub sounding-line : (line : Line) → elements_of line ≢ [] → line ≡ elements (elements_of line)
-sounding-line (moment n) h = absurd (h refl)
-sounding-line (elements bits) h = refl
-sounding-line (refuse_station letter) h = absurd (h refl)
-sounding-line (accept_station letter) h = absurd (h refl)
-sounding-line (refuse_subject letter) h = absurd (h refl)
-sounding-line (accept_subject letter) h = absurd (h refl)
 
 -- the text of a line that was ended has at most 514 bytes
 pub text-short : (latest : Option Line) (text : Option (List ℕ)) (bytes : List ℕ) → IsSomeAnd latest IsLine → text ≡ option_map spelling latest → text ≡ Some bytes → length bytes ≤ 514
@@ -93,6 +92,41 @@ text-short (Some line) text bytes h e is =
     let clash : Some (spelling line) ≡ Some bytes = sym e ∙ is in
     let same : spelling line ≡ bytes = cc in
     subst (λ l. length l ≤ 514) same (spelling-IsBeginning line h).short
+
+-- the line whose kind is that of elements
+pub line-of-elements : (line : Line) → kind_of line ≡ Elements → line ≡ elements (elements_of line)
+line-of-elements (moment n) h = cc
+line-of-elements (elements bits) h = refl
+line-of-elements (refuse_station letter) h = cc
+line-of-elements (accept_station letter) h = cc
+line-of-elements (refuse_subject letter) h = cc
+line-of-elements (accept_subject letter) h = cc
+
+-- the text that is kept is that of the line
+pub text-of : (latest : Option Line) (text : Option (List ℕ)) (bytes : List ℕ) (line : Line) → text ≡ option_map spelling latest → text ≡ Some bytes → latest ≡ Some line → bytes ≡ spelling line
+text-of latest text bytes line e is here =
+    let clash : Some bytes ≡ Some (spelling line) = sym is ∙ e ∙ ap (option_map spelling) here in
+    cc
+
+-- its digits stand behind two bytes, before its end
+pub line-long : (bits : List Bool) (bytes : List ℕ) (n : ℕ) → bytes ≡ line_bytes (elements bits) → n ≡ length bytes → (n - 1) - 2 ≡ length bits
+line-long bits bytes n is e = omega (arith, e, ap length is, length-map bits element_digit, length-append (map element_digit bits) (10 ∷ []))
+
+pub line-digits : (bits : List Bool) (bytes : List ℕ) (n : ℕ) → bytes ≡ line_bytes (elements bits) → n ≡ length bits → take n (drop 2 bytes) ≡ map element_digit bits
+line-digits bits bytes n is long =
+    let digits = map element_digit bits in
+    ap (λ l. take n (drop 2 l)) is ∙ ap (λ k. take k (digits ++ 10 ∷ [])) (long ∙ sym (length-map bits element_digit)) ∙ take-append_seam digits (10 ∷ [])
+
+-- its bytes, where others are written over its digits
+pub line-refilled : (bits : List Bool) (bytes now new : List ℕ) (n : ℕ) → bytes ≡ line_bytes (elements bits) → now ≡ bytes → n ≡ length bits → length new ≡ length bits
+    → refill (length bytes) bytes (take 2 now ++ (new ++ drop n (drop 2 now))) ≡ 66 ∷ 32 ∷ (new ++ 10 ∷ [])
+line-refilled bits bytes now new n is same long fits =
+    let e : now ≡ line_bytes (elements bits) = same ∙ is in
+    let digits = map element_digit bits in
+    let rest : drop n (digits ++ 10 ∷ []) ≡ 10 ∷ [] = ap (λ k. drop k (digits ++ 10 ∷ [])) (long ∙ sym (length-map bits element_digit)) ∙ drop-append_seam digits (10 ∷ []) in
+    let whole : take 2 now ++ (new ++ drop n (drop 2 now)) ≡ 66 ∷ 32 ∷ (new ++ 10 ∷ []) = ap (λ l. take 2 l ++ (new ++ drop n (drop 2 l))) e ∙ ap (λ l. 66 ∷ 32 ∷ (new ++ l)) rest in
+    let size : length bytes ≡ length (66 ∷ 32 ∷ (new ++ 10 ∷ [])) = omega (arith, ap length is, fits, length-map bits element_digit, length-append digits (10 ∷ []), length-append new (10 ∷ [])) in
+    ap (refill (length bytes) bytes) whole ∙ ap (λ k. take k ((66 ∷ 32 ∷ (new ++ 10 ∷ [])) ++ drop (length (66 ∷ 32 ∷ (new ++ 10 ∷ []))) bytes)) size ∙ take-append_seam (66 ∷ 32 ∷ (new ++ 10 ∷ [])) _
 
 -- ---- what was taken is what is damaged
 
@@ -109,10 +143,10 @@ elements-few (line ∷ lines) =
     line-few (refuse_subject letter) = omega arith
     line-few (accept_subject letter) = omega arith
 
-taken-appends : (first now : Damaging) (lines : List Line) (old new : Option (List ℕ)) → HasTaken stands first now lines (Appends old new) → Appends old new (damaged_file (damage_of first) lines)
+taken-appends : (first now : Damager) (lines : List Line) (old new : Option (List ℕ)) → HasTaken stands first now lines (Appends old new) → Appends old new (damaged_file (damage_of first) lines)
 taken-appends first now lines old new h = subst (Appends old new) h.stood.whole h.here
 
-some-damaged : (first : Damaging) (lines : List Line) (old new : Option (List ℕ)) (written : ℕ) → HasTakenSome begins first old new lines written → WroteSome old new (damaged_file (damage_of first) lines) written
+some-damaged : (first : Damager) (lines : List Line) (old new : Option (List ℕ)) (written : ℕ) → HasTakenSome begins first old new lines written → WroteSome old new (damaged_file (damage_of first) lines) written
 some-damaged first lines old new written h = subst (λ l. WroteSome old new l written) h.begun h.some
 
 stops-map : (bytes : List ℕ) (P Q : List Line → List ℕ → List ℕ → Type 0) → ((lines : List Line) (rest more : List ℕ) → P lines rest more → Q lines rest more) → StopsAt bytes P → StopsAt bytes Q
@@ -120,13 +154,13 @@ stops-map bytes P Q f h = record { lines = h.lines; rest = h.rest; more = h.more
 
 -- ---- the outcomes
 
-abbrev pub Ran : {R W : Type 0} → Damaging → Damaging → Devices R W → Result LinesRead (LinesFault (Unit {0})) → Type 0
+abbrev pub Ran : {R W : Type 0} → Damager → Damager → Devices R W → Result LinesRead (LinesFault (Unit {0})) → Type 0
 Ran first now d outcome = RunsLines stands begins refuses 268435456 first now d outcome
 
 ok-err : {N E : Type 0} (x : N) (e : E) → ◌≡◌ {A = Result N E} (Ok x) (Err e) → ⊥
 ok-err x e h = cc
 
-pub refused-none : {R W : Type 0} (d : Devices R W) (first now : Damaging) (line : ℕ) (why : Unit {0}) (fault : LinesFault (Unit {0})) → fault ≡ run.Refused line why → Ran first now d (Err fault) → ⊥
+pub refused-none : {R W : Type 0} (d : Devices R W) (first now : Damager) (line : ℕ) (why : Unit {0}) (fault : LinesFault (Unit {0})) → fault ≡ run.Refused line why → Ran first now d (Err fault) → ⊥
 refused-none d first now line why fault is h = (subst (λ f. Ran first now d (Err f)) is h).reads.answer.here.0.refused
 
 line-read : (why : LineFault) → ◌≡◌ {A = Result ℕ DamageFault} (Err (line_fault why)) (Err Read) → ⊥
@@ -159,7 +193,7 @@ read-write written e = cc
 write-read : (written : ℕ) → ◌≡◌ {A = Result ℕ DamageFault} (Err (Write written)) (Err Read) → ⊥
 write-read written e = cc
 
-whole-damaged : (first now : Damaging) (old new : Option (List ℕ)) (bytes : List ℕ) (read : LinesRead) → HasTakenAll stands first now old new 268435456 bytes read
+whole-damaged : (first now : Damager) (old new : Option (List ℕ)) (bytes : List ℕ) (read : LinesRead) → HasTakenAll stands first now old new 268435456 bytes read
     → (text : List ℕ) × IsDamaged (damage_of first) 268435456 bytes text now.inverted × Appends old new text
 whole-damaged first now old new bytes read h =
     let few = elements-few h.lines in
@@ -174,7 +208,7 @@ whole-damaged first now old new bytes read h =
       subst (Appends old new) h.taken.stood.whole h.taken.here.appended,
     )
 
-pub damaged-ok : {R W : Type 0} (d : Devices R W) (first now : Damaging) (read : LinesRead) → Ran first now d (Ok read) → Damages (damage_of first) d (Ok now.inverted)
+damaged-ok : {R W : Type 0} (d : Devices R W) (first now : Damager) (read : LinesRead) → Ran first now d (Ok read) → Damages (damage_of first) d (Ok now.inverted)
 damaged-ok d first now read h = record {
   reads = Reads-on _ _ _ _ _ _ _ _ _ _ _ h.reads (λ bytes k. let w = whole-damaged first now _ _ bytes read k.1 in (k.0, w.0, w.1, w.2)) (λ bytes k. let w = whole-damaged first now _ _ bytes read k.1 in (tt, w.0, w.1, w.2))
       (λ bytes k h. h) (λ e. absurd (ok-err now.inverted Read e)) (λ e. absurd (ok-err read run.Read e));
@@ -182,7 +216,7 @@ damaged-ok d first now read h = record {
   unwritten = tt;
 }
 
-damaged-read : {R W : Type 0} (d : Devices R W) (first now : Damaging) → Ran first now d (Err run.Read) → Damages (damage_of first) d (Err Read)
+damaged-read : {R W : Type 0} (d : Devices R W) (first now : Damager) → Ran first now d (Err run.Read) → Damages (damage_of first) d (Err Read)
 damaged-read d first now h = record {
   reads = Reads-on _ _ _ _ _ _ _ _ _ _ _ h.reads (λ bytes k. stops-map bytes _ _ (λ lines rest more p. (p.0, p.1, taken-appends first now lines _ _ p.2)) k)
       (λ bytes k. stops-map bytes _ _ (λ lines rest more p. (p.0, p.1, taken-appends first now lines _ _ p.2)) k) (λ bytes k h outside. tt) (λ e. refl) (λ e. refl);
@@ -190,7 +224,7 @@ damaged-read d first now h = record {
   unwritten = tt;
 }
 
-damaged-write : {R W : Type 0} (d : Devices R W) (first now : Damaging) (written : ℕ) → Ran first now d (Err (run.Write written)) → Damages (damage_of first) d (Err (Write written))
+damaged-write : {R W : Type 0} (d : Devices R W) (first now : Damager) (written : ℕ) → Ran first now d (Err (run.Write written)) → Damages (damage_of first) d (Err (Write written))
 damaged-write d first now written h = record {
   reads = Reads-on _ _ _ _ _ _ _ _ _ _ _ h.reads (λ bytes k. stops-map bytes _ _ (λ lines rest more p. some-damaged first lines _ _ written p) k)
       (λ bytes k. stops-map bytes _ _ (λ lines rest more p. some-damaged first lines _ _ written p) k) (λ bytes k h outside. tt) (λ e. absurd (write-read written e)) (λ e. absurd (run-write-read written e));
@@ -198,7 +232,7 @@ damaged-write d first now written h = record {
   unwritten = tt;
 }
 
-stopped : (AtEnd : Type 0) (first now : Damaging) (old new : Option (List ℕ)) (bytes : List ℕ) (why : LineFault) (IsLeft : List ℕ → Type 0)
+stopped : (AtEnd : Type 0) (first now : Damager) (old new : Option (List ℕ)) (bytes : List ℕ) (why : LineFault) (IsLeft : List ℕ → Type 0)
     → IsPlaced AtEnd why × StopsAt bytes (λ lines rest more. IsCause 268435456 (length (file_of lines ++ rest)) lines rest more why × HasTaken stands first now lines (Appends old new))
     → ExplainsDamaging AtEnd IsLeft 268435456 (damage_of first) old new bytes (line_fault why)
 stopped AtEnd first now old new bytes file.TooLong left k = (k.0, stops-map bytes _ _ (λ lines rest more p. (p.0, taken-appends first now lines old new p.1)) k.1)
@@ -206,7 +240,7 @@ stopped AtEnd first now old new bytes (file.LineLong line) left k = (k.0, stops-
 stopped AtEnd first now old new bytes (file.LineCut line) left k = (k.0, stops-map bytes _ _ (λ lines rest more p. (p.0, taken-appends first now lines old new p.1)) k.1)
 stopped AtEnd first now old new bytes (file.BadLine line) left k = (k.0, stops-map bytes _ _ (λ lines rest more p. (p.0, taken-appends first now lines old new p.1)) k.1)
 
-damaged-line : {R W : Type 0} (d : Devices R W) (first now : Damaging) (why : LineFault) → Ran first now d (Err (run.Line why)) → Damages (damage_of first) d (Err (line_fault why))
+damaged-line : {R W : Type 0} (d : Devices R W) (first now : Damager) (why : LineFault) → Ran first now d (Err (run.Line why)) → Damages (damage_of first) d (Err (line_fault why))
 damaged-line d first now why h = record {
   reads = Reads-on _ _ _ _ _ _ _ _ _ _ _ h.reads (λ bytes k. stopped _ first now _ _ bytes why _ k) (λ bytes k. stopped _ first now _ _ bytes why _ k)
       (λ bytes k h outside. tt) (λ e. absurd (line-read why e)) (λ e. absurd (run-line-read why e));
@@ -214,15 +248,22 @@ damaged-line d first now why h = record {
   unwritten = tt;
 }
 
-pub read-of : {R W : Type 0} (d : Devices R W) (first now : Damaging) (fault : LinesFault (Unit {0})) → fault ≡ run.Read → Ran first now d (Err fault) → Damages (damage_of first) d (Err Read)
-read-of d first now fault is h = damaged-read d first now (subst (λ f. Ran first now d (Err f)) is h)
+-- the outcomes of a run for a damage
+for-damage : {R W : Type 0} (damage : Damage) (d : Devices R W) (outcome : Result ℕ DamageFault) → Damages (damage_of (first_for damage)) d outcome → Damages damage d outcome
+for-damage damage d outcome h = subst (λ D. Damages D d outcome) (damage-first damage) h
 
-pub write-of : {R W : Type 0} (d : Devices R W) (first now : Damaging) (fault : LinesFault (Unit {0})) (written : ℕ) → fault ≡ run.Write written → Ran first now d (Err fault) → Damages (damage_of first) d (Err (Write written))
-write-of d first now fault written is h = damaged-write d first now written (subst (λ f. Ran first now d (Err f)) is h)
+pub ok-of : {R W : Type 0} (damage : Damage) (d : Devices R W) (now : Damager) (read : LinesRead) → Ran (first_for damage) now d (Ok read) → Damages damage d (Ok now.inverted)
+ok-of damage d now read h = for-damage damage d _ (damaged-ok d (first_for damage) now read h)
 
-pub line-of : {R W : Type 0} (d : Devices R W) (first now : Damaging) (fault : LinesFault (Unit {0})) (why : LineFault) (made : DamageFault) → fault ≡ run.Line why → made ≡ line_fault why → Ran first now d (Err fault)
-    → Damages (damage_of first) d (Err made)
-line-of d first now fault why made is e h = subst (λ m. Damages (damage_of first) d (Err m)) (sym e) (damaged-line d first now why (subst (λ f. Ran first now d (Err f)) is h))
+pub read-of : {R W : Type 0} (damage : Damage) (d : Devices R W) (now : Damager) (fault : LinesFault (Unit {0})) → fault ≡ run.Read → Ran (first_for damage) now d (Err fault) → Damages damage d (Err Read)
+read-of damage d now fault is h = for-damage damage d _ (damaged-read d (first_for damage) now (subst (λ f. Ran (first_for damage) now d (Err f)) is h))
+
+pub write-of : {R W : Type 0} (damage : Damage) (d : Devices R W) (now : Damager) (fault : LinesFault (Unit {0})) (written : ℕ) → fault ≡ run.Write written → Ran (first_for damage) now d (Err fault) → Damages damage d (Err (Write written))
+write-of damage d now fault written is h = for-damage damage d _ (damaged-write d (first_for damage) now written (subst (λ f. Ran (first_for damage) now d (Err f)) is h))
+
+pub line-of : {R W : Type 0} (damage : Damage) (d : Devices R W) (now : Damager) (fault : LinesFault (Unit {0})) (why : LineFault) (made : DamageFault) → fault ≡ run.Line why → made ≡ line_fault why → Ran (first_for damage) now d (Err fault)
+    → Damages damage d (Err made)
+line-of damage d now fault why made is e h = subst (λ m. Damages damage d (Err m)) (sym e) (for-damage damage d _ (damaged-line d (first_for damage) now why (subst (λ f. Ran (first_for damage) now d (Err f)) is h)))
 
 -- ---- twice
 

@@ -1,28 +1,10 @@
 -- Damage of elements and of lines, one more after the others; and twice.
-use Rattle.std.proofs.Common.{◌≡◌, ℕ, ◌+◌, ◌%◌, ◌<◌, ◌≤◌, ◌==◌, Bool, true, false, cond, not, List, [], ◌∷◌, ◌++◌, length, map, get_or, take, inl, inr, refl, sym, ap, ◌∙◌, arith, length-append}
+use Rattle.std.proofs.Common.{◌≡◌, ℕ, zero, suc, ◌+◌, ◌<◌, ◌≤◌, Bool, true, false, cond, not, List, [], ◌∷◌, ◌++◌, length, get_or, set, refl, sym, ap, ◌∙◌, arith, length-append}
 use Rattle.std.specs.List.{flat_map}
-use Rattle.std.proofs.lemmas.Bool.{cases_eq, eq-eqb, ne_eqb}
-use Rattle.std.proofs.lemmas.List.{length-take-le, map-append, take_more}
 use Rattle.nx_code.specs.Word.{value_of}
-use Rattle.nx_fec.specs.AirFile.{Line, element_digit, moment, elements, refuse_station, accept_station, refuse_subject, accept_subject}
+use Rattle.nx_fec.specs.AirFile.{Line, moment, elements, refuse_station, accept_station, refuse_subject, accept_subject}
 use Rattle.nx_fec.specs.Lines.{elements_of}
 use Rattle.nx_station.specs.Damage.{Damage, damaged_elements, damaged_element, damaged_line, damaged_lines, inverted_count, inverts}
-
--- ---- even and odd
-
-pub parity-next : (k : ℕ) → not (k % 2 == 0) ≡ ((k + 1) % 2 == 0)
-parity-next k =
-    elim (cases_eq (k % 2) 0) [
-      | inl even ↦ ap not (eq-eqb (k % 2) 0 even) ∙ sym (ne_eqb ((k + 1) % 2) 0 (λ e. absurd (omega (arith, e, even))))
-      | inr odd ↦ ap not (ne_eqb (k % 2) 0 odd) ∙ sym (eq-eqb ((k + 1) % 2) 0 (omega (arith, odd)))
-    ]
-
-pub parity-odd : (k : ℕ) → not (k % 2 == 0) ≡ (k % 2 == 1)
-parity-odd k =
-    elim (cases_eq (k % 2) 0) [
-      | inl even ↦ ap not (eq-eqb (k % 2) 0 even) ∙ sym (ne_eqb (k % 2) 1 (λ e. absurd (omega (arith, e, even))))
-      | inr odd ↦ ap not (ne_eqb (k % 2) 0 odd) ∙ sym (eq-eqb (k % 2) 1 (omega (arith, odd)))
-    ]
 
 -- ---- elements
 
@@ -110,22 +92,91 @@ lines-twice damage place (line ∷ lines) =
     let later = ap (λ p. damaged_lines damage p (damaged_lines damage (place + length (elements_of line)) lines)) same ∙ lines-twice damage (place + length (elements_of line)) lines in
     cc
 
--- the line of one element more
-pub line-more : (damage : Damage) (place i : ℕ) (bits : List Bool) (items new : List ℕ) (after : Bool) → i < length bits
-    → items ≡ 66 ∷ 32 ∷ map element_digit (damaged_elements damage place (take i bits)) → after ≡ damaged_element damage (place + i) (get_or bits i false) → new ≡ items ++ (element_digit after ∷ [])
-    → new ≡ 66 ∷ 32 ∷ map element_digit (damaged_elements damage place (take (i + 1) bits))
-line-more damage place i bits items new after lt h k e =
-    let x = get_or bits i false in
-    let n : length (take i bits) ≡ i = length-take-le i bits (omega (arith, lt)) in
-    let grown : damaged_elements damage place (take (i + 1) bits) ≡ damaged_elements damage place (take i bits) ++ (damaged_element damage (place + i) x ∷ []) =
-    ap (damaged_elements damage place) (take_more bits i false lt) ∙ damaged-append damage place (take i bits) (x ∷ []) ∙ ap (λ m. damaged_elements damage place (take i bits) ++ (damaged_element damage (place + m) x ∷ [])) n in
-    e ∙ ap (λ l. l ++ (element_digit after ∷ [])) h ∙ ap (λ b. 66 ∷ 32 ∷ (map element_digit (damaged_elements damage place (take i bits)) ++ (element_digit b ∷ []))) k
-    ∙ ap (λ l. 66 ∷ 32 ∷ l) (sym (ap (map element_digit) grown ∙ map-append element_digit (damaged_elements damage place (take i bits)) (damaged_element damage (place + i) x ∷ [])))
+-- ---- elements of which the first so many are damaged, and how many of these are inverted
 
-pub count-more : (damage : Damage) (place i : ℕ) (bits : List Bool) → i < length bits
-    → inverted_count damage place (take (i + 1) bits) ≡ inverted_count damage place (take i bits) + value_of (inverts damage (place + i))
-count-more damage place i bits lt =
-    let x = get_or bits i false in
-    let n : length (take i bits) ≡ i = length-take-le i bits (omega (arith, lt)) in
-    let grown = ap (inverted_count damage place) (take_more bits i false lt) ∙ inverted-append damage place (take i bits) (x ∷ []) ∙ ap (λ m. inverted_count damage place (take i bits) + (value_of (inverts damage (place + m)) + 0)) n in
-    omega (arith, grown)
+abbrev pub front : Damage → ℕ → ℕ → List Bool → List Bool
+front damage place zero bits = bits
+front damage place (suc i) [] = []
+front damage place (suc i) (x ∷ xs) = damaged_element damage place x ∷ front damage (place + 1) i xs
+
+abbrev pub front_count : Damage → ℕ → ℕ → List Bool → ℕ
+front_count damage place zero bits = 0
+front_count damage place (suc i) [] = 0
+front_count damage place (suc i) (x ∷ xs) = value_of (inverts damage place) + front_count damage (place + 1) i xs
+
+pub front-all : (damage : Damage) (place i : ℕ) (bits : List Bool) → length bits ≤ i → front damage place i bits ≡ damaged_elements damage place bits
+front-all damage place zero [] long = refl
+front-all damage place zero (x ∷ xs) long = absurd (omega (arith, long))
+front-all damage place (suc i) [] long = refl
+front-all damage place (suc i) (x ∷ xs) long = ap (λ l. damaged_element damage place x ∷ l) (front-all damage (place + 1) i xs (omega (arith, long)))
+
+pub front_count-all : (damage : Damage) (place i : ℕ) (bits : List Bool) → length bits ≤ i → front_count damage place i bits ≡ inverted_count damage place bits
+front_count-all damage place zero [] long = refl
+front_count-all damage place zero (x ∷ xs) long = absurd (omega (arith, long))
+front_count-all damage place (suc i) [] long = refl
+front_count-all damage place (suc i) (x ∷ xs) long = ap (λ n. value_of (inverts damage place) + n) (front_count-all damage (place + 1) i xs (omega (arith, long)))
+
+pub length-front : (damage : Damage) (place i : ℕ) (bits : List Bool) → length (front damage place i bits) ≡ length bits
+length-front damage place zero bits = refl
+length-front damage place (suc i) [] = refl
+length-front damage place (suc i) (x ∷ xs) = omega (arith, length-front damage (place + 1) i xs)
+
+-- an element that isn't inverted changes nothing
+pub front-quiet : (damage : Damage) (place i : ℕ) (bits : List Bool) → (i < length bits → inverts damage (place + i) ≡ false) → front damage place (suc i) bits ≡ front damage place i bits
+front-quiet damage place zero [] h = refl
+front-quiet damage place zero (x ∷ xs) h =
+    let e : place + 0 ≡ place = omega arith in
+    let quiet : inverts damage place ≡ false = sym (ap (inverts damage) e) ∙ h (omega arith) in
+    ap (λ b. cond b (not x) x ∷ xs) quiet
+front-quiet damage place (suc i) [] h = refl
+front-quiet damage place (suc i) (x ∷ xs) h =
+    let e : (place + 1) + i ≡ place + suc i = omega arith in
+    ap (λ l. damaged_element damage place x ∷ l) (front-quiet damage (place + 1) i xs (λ lt. ap (inverts damage) e ∙ h (omega (arith, lt))))
+
+pub front_count-quiet : (damage : Damage) (place i : ℕ) (bits : List Bool) → (i < length bits → inverts damage (place + i) ≡ false) → front_count damage place (suc i) bits ≡ front_count damage place i bits
+front_count-quiet damage place zero [] h = refl
+front_count-quiet damage place zero (x ∷ xs) h =
+    let e : place + 0 ≡ place = omega arith in
+    let quiet : inverts damage place ≡ false = sym (ap (inverts damage) e) ∙ h (omega arith) in
+    ap (λ b. value_of b + 0) quiet
+front_count-quiet damage place (suc i) [] h = refl
+front_count-quiet damage place (suc i) (x ∷ xs) h =
+    let e : (place + 1) + i ≡ place + suc i = omega arith in
+    ap (λ n. value_of (inverts damage place) + n) (front_count-quiet damage (place + 1) i xs (λ lt. ap (inverts damage) e ∙ h (omega (arith, lt))))
+
+-- one that is inverted changes the element at its place, and counts one
+pub front-inverted : (damage : Damage) (place i : ℕ) (bits : List Bool) → i < length bits → inverts damage (place + i) ≡ true → front damage place (suc i) bits ≡ set (front damage place i bits) i (not (get_or (front damage place i bits) i false))
+front-inverted damage place zero [] lt h = absurd (omega (arith, lt))
+front-inverted damage place zero (x ∷ xs) lt h =
+    let e : place + 0 ≡ place = omega arith in
+    let loud : inverts damage place ≡ true = sym (ap (inverts damage) e) ∙ h in
+    ap (λ b. cond b (not x) x ∷ xs) loud
+front-inverted damage place (suc i) [] lt h = absurd (omega (arith, lt))
+front-inverted damage place (suc i) (x ∷ xs) lt h =
+    let e : (place + 1) + i ≡ place + suc i = omega arith in
+    ap (λ l. damaged_element damage place x ∷ l) (front-inverted damage (place + 1) i xs (omega (arith, lt)) (ap (inverts damage) e ∙ h))
+
+pub front_count-inverted : (damage : Damage) (place i : ℕ) (bits : List Bool) → i < length bits → inverts damage (place + i) ≡ true → front_count damage place (suc i) bits ≡ front_count damage place i bits + 1
+front_count-inverted damage place zero [] lt h = absurd (omega (arith, lt))
+front_count-inverted damage place zero (x ∷ xs) lt h =
+    let e : place + 0 ≡ place = omega arith in
+    let loud : inverts damage place ≡ true = sym (ap (inverts damage) e) ∙ h in
+    ap (λ b. value_of b + 0) loud
+front_count-inverted damage place (suc i) [] lt h = absurd (omega (arith, lt))
+front_count-inverted damage place (suc i) (x ∷ xs) lt h =
+    let e : (place + 1) + i ≡ place + suc i = omega arith in
+    let later = front_count-inverted damage (place + 1) i xs (omega (arith, lt)) (ap (inverts damage) e ∙ h) in
+    omega (arith, later)
+
+-- inverting nothing is the identity
+pub front-same : (damage : Damage) (place i n : ℕ) (bits : List Bool) → ((k : ℕ) → i ≤ k → k < i + n → k < length bits → inverts damage (place + k) ≡ false) → front damage place (i + n) bits ≡ front damage place i bits
+front-same damage place i zero bits h = ap (λ k. front damage place k bits) (let e : i + 0 ≡ i = omega arith in e)
+front-same damage place i (suc n) bits h =
+    let e : i + suc n ≡ suc (i + n) = omega arith in
+    ap (λ k. front damage place k bits) e ∙ front-quiet damage place (i + n) bits (λ lt. h (i + n) (omega arith) (omega arith) lt) ∙ front-same damage place i n bits (λ k from to lt. h k from (omega (arith, to)) lt)
+
+pub front_count-same : (damage : Damage) (place i n : ℕ) (bits : List Bool) → ((k : ℕ) → i ≤ k → k < i + n → k < length bits → inverts damage (place + k) ≡ false) → front_count damage place (i + n) bits ≡ front_count damage place i bits
+front_count-same damage place i zero bits h = ap (λ k. front_count damage place k bits) (let e : i + 0 ≡ i = omega arith in e)
+front_count-same damage place i (suc n) bits h =
+    let e : i + suc n ≡ suc (i + n) = omega arith in
+    ap (λ k. front_count damage place k bits) e ∙ front_count-quiet damage place (i + n) bits (λ lt. h (i + n) (omega arith) (omega arith) lt) ∙ front_count-same damage place i n bits (λ k from to lt. h k from (omega (arith, to)) lt)

@@ -22,5 +22,6 @@ pub mod EmissionReading
 pub mod EmissionFaults
 pub mod CheckingLaws
 pub mod DamageLemmas
+pub mod NamedLemmas
 pub mod DamageLaws
 mod Examples

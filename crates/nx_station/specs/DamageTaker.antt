@@ -1,28 +1,53 @@
 -- What the taker of lines that damages them holds.
-use Rattle.std.specs.Prelude.{◌≡◌, ℕ, ◌-◌, ◌/◌, ◌%◌, ◌^◌, ◌==◌, List, length, min}
+use Rattle.std.specs.Prelude.{◌≡◌, ℕ, ◌+◌, ◌-◌, ◌*◌, ◌/◌, ◌%◌, ◌^◌, ◌<◌, ◌≤◌, ◌↔◌, Bool, IsTrue, List, length, min}
 use Rattle.std.specs.List.{flat_map}
 use Rattle.nx_fec.specs.AirFile.{Line}
 use Rattle.nx_fec.specs.Lines.{elements_of}
-use Rattle.nx_station.specs.Damage.{Damage, damaged_file, inverted_count}
-use Rattle.nx_station.specs.declared.damaging.Damaging.{Damaging}
+use Rattle.nx_station.specs.Damage.{Damage, damaged_file, inverted_count, inverts}
+use Rattle.nx_station.specs.declared.damaging.DamageKind.{DamageKind}
+use Rattle.nx_station.specs.declared.damaging.Named.{Named}
 
--- the damage that it was made for: so many words are to be skipped at first, and so many are left
--- after them
-abbrev pub damage_of : Damaging → Damage
-damage_of first = record { kind = first.kind; from = first.skip; count = first.left }
+-- a taker: its kind, how many elements come before the words that may be damaged and how many
+-- before their end, the place of the next element among those of two words, and how many elements
+-- were inverted
+pub record Damager : Type 0 where
+  pub kind : DamageKind
+  pub begin : ℕ
+  pub end : ℕ
+  pub phase : ℕ
+  pub inverted : ℕ
 
--- what stood so at first stands so before the element at this place
-pub record IsAt (first now : Damaging) (place : ℕ) : Type 0 where
-  pub kind : now.kind ≡ first.kind
-  pub skip : now.skip ≡ first.skip - place / 7
-  pub left : now.left ≡ first.left - (place / 7 - first.skip)
-  pub is_dx : now.is_dx ≡ ((place / 7) % 2 == 0)
-  pub offset : now.offset ≡ place % 7
+-- the damage for which a taker stands before the first element
+abbrev pub damage_of : Damager → Damage
+damage_of first = record {
+  kind = first.kind;
+  from = first.begin / 7;
+  count = first.end / 7 - first.begin / 7;
+}
+
+-- it stands so before the element at this place
+pub record IsAt (damage : Damage) (now : Damager) (place : ℕ) : Type 0 where
+  pub kind : now.kind ≡ damage.kind
+  pub begin : now.begin ≡ 7 * damage.from - place
+  pub end : now.end ≡ 7 * (damage.from + damage.count) - place
+  pub phase : now.phase ≡ place % 14
+
+-- one of the elements that are named: the first, or one that stands a multiple of the stride after
+-- it, before the end
+pub record IsNamed (named : Named) (i : ℕ) : Type 0 where
+  pub from : named.first ≤ i
+  pub before : i < named.end
+  pub by_strides : (i - named.first) % named.stride ≡ 0
+
+-- of these elements just those are inverted that are named
+abbrev pub AreNamed : Damage → ℕ → Named → List Bool → Type 0
+AreNamed damage place named bits =
+    (i : ℕ) → i < length bits → IsTrue (inverts damage (place + i)) ↔ IsNamed named i
 
 -- it stands so after these lines, for which it gave these bytes; its count goes up to the greatest
 -- number of 64 bits
-pub record HasDamaged (first now : Damaging) (lines : List Line) (given : List ℕ) : Type 0 where
-  pub at : IsAt first now (length (flat_map elements_of lines))
+pub record HasDamaged (damage : Damage) (now : Damager) (lines : List Line) (given : List ℕ) : Type 0 where
+  pub at : IsAt damage now (length (flat_map elements_of lines))
   pub counted : now.inverted
-      ≡ min (inverted_count (damage_of first) 0 (flat_map elements_of lines)) (2 ^ 64 - 1)
-  pub whole : given ≡ damaged_file (damage_of first) lines
+      ≡ min (inverted_count damage 0 (flat_map elements_of lines)) (2 ^ 64 - 1)
+  pub whole : given ≡ damaged_file damage lines

@@ -1,23 +1,29 @@
 //! Damage of an air file on purpose: the first element of each word that is named is inverted.
-ghost use Rattle.std.specs.Prelude.{◌≡◌, ◌+◌, ◌-◌, ◌%◌, ◌^◌, ◌<◌, ◌≤◌, ◌==◌, ◌++◌, ◌∷◌, [], ℕ, IsSomeAnd, Some, length, min};
-ghost use Rattle.nx_code.specs.Word.{value_of};
-ghost use Rattle.nx_fec.specs.AirFile.{IsLine, Line, elements};
+ghost use Rattle.std.specs.Prelude.{◌≡◌, ◌+◌, ◌-◌, ◌*◌, ◌^◌, ◌<◌, ◌≤◌, ◌↔◌, ◌⊎◌, ◌++◌, ◌∷◌, [], ℕ, Bool, List, IsSomeAnd, IsTrue, Some, length, map, min};
+ghost use Rattle.nx_fec.specs.AirFile.{IsLine, Line, element_digit};
 ghost use Rattle.nx_fec.specs.Lines.{elements_of, line_bytes};
 ghost use Rattle.nx_fec.specs.Transfers.{devices};
-ghost use Rattle.nx_station.specs.Damage.{Damages, damaged_elements, damaged_element, damaged_line, inverted_count, inverts, line_fault, names};
-ghost use Rattle.nx_station.specs.DamageTaker.{IsAt, damage_of};
-ghost use Rattle.nx_station.specs.declared.damaging.Damaging as taker;
+ghost use Rattle.nx_station.specs.Damage.{Damage, Damages, damaged_elements, damaged_line, inverted_count, inverts, line_fault};
+ghost use Rattle.nx_station.specs.DamageTaker.{AreNamed, IsAt, IsNamed};
 
 use crate::fault::DamageFault;
 use arrayvec::ArrayVec;
 use nx_code::ELEMENTS;
 use nx_fec::{
-    Batch, Counting, LineFault, LineTaker, LinesFault, MAX_ELEMENTS, Scanner, TakeFault, run_lines,
+    Batch, Counting, LineFault, LineKind, LineTaker, LinesFault, MAX_ELEMENTS, Scanner, TakeFault,
+    run_lines,
 };
 use std::io::{Read, Write};
+use std::marker::Model;
+
+/// How many bytes stand before the digits of a line of elements.
+const MARK_BYTES: usize = 2;
 
 /// How many bytes a line of elements has at most, with its end.
-const LINE_BYTES: usize = MAX_ELEMENTS + 3;
+const LINE_BYTES: usize = MARK_BYTES + MAX_ELEMENTS + 1;
+
+/// How many elements a DX word and the RX word after it have.
+const PAIR: usize = 2 * ELEMENTS;
 
 /// Which words are damaged, by their number from 0.
 #[derive(Clone, Copy, Debug, PartialEq, Eq)]
@@ -30,18 +36,52 @@ pub enum DamageKind {
     All,
 }
 
-/// Damages lines, element by element.
-#[derive(Drop)]
+/// Damages lines: where the damage stands from the next element on. It is `Copy`, so it holds no
+/// block of memory and no type of its own that contracts don't see.
+#[derive(Clone, Copy)]
 struct Damaging {
     kind: DamageKind,
-    /// How many words are still to be skipped, and how many may be damaged after them.
-    skip: u64,
-    left: u64,
-    /// Whether the word is a DX word, and how many of its elements went by.
-    is_dx: bool,
-    offset: usize,
+    /// How many elements come before the words that may be damaged, and how many before their end.
+    begin: u128,
+    end: u128,
+    /// The place of the next element among the 14 of a DX word and the RX word after it.
+    phase: usize,
     /// How many elements were inverted, at most the greatest u64.
     inverted: u64,
+}
+
+impl Model for Damaging {
+    ghost use Rattle.std.specs.Prelude.{◌<◌};
+    ghost use Rattle.nx_station.specs.DamageTaker.{Damager};
+
+    ghost Value = { Damager };
+
+    ghost view = { λ d. record {
+      kind = d.kind;
+      begin = d.begin;
+      end = d.end;
+      phase = d.phase;
+      inverted = d.inverted;
+    } };
+
+    ghost invariant = { λ d. d.phase < 14 };
+
+    // What contracts see gives every field back: it keeps nothing else.
+    ghost inverse = { λ v. record {
+      kind = v.kind;
+      begin = v.begin;
+      end = v.end;
+      phase = v.phase;
+      inverted = v.inverted;
+    } };
+}
+
+/// The elements of a line that are inverted: `first`, and on from it by `stride`, before `end`.
+#[derive(Clone, Copy)]
+struct Named {
+    first: usize,
+    end: usize,
+    stride: usize,
 }
 
 /// Copies an air file line by line, and inverts element 1 of each word k with `k >= from` and `k -
@@ -64,12 +104,12 @@ pub fn damage<R: Read, W: Write>(
     ensures { Damages record { kind = kind; from = from; count = count }
         (devices R.remaining W.contents reader.old reader.new writer.old writer.new) result }
 {
+    let begin = ELEMENTS as u128 * from as u128;
     let mut damaging = Damaging {
         kind,
-        skip: from,
-        left: count,
-        is_dx: true,
-        offset: 0,
+        begin,
+        end: begin + ELEMENTS as u128 * count as u128,
+        phase: 0,
         inverted: 0,
     };
     match run_lines(reader, writer, &mut damaging) {
@@ -111,7 +151,7 @@ impl LineTaker for Damaging {
 
     type Refusal = ();
 
-    ghost stands = { λ first now lines given. HasDamaged first now lines given };
+    ghost stands = { λ first now lines given. HasDamaged (damage_of first) now lines given };
 
     ghost begins = { λ first lines given. given ≡ damaged_file (damage_of first) lines };
 
@@ -137,103 +177,101 @@ impl Damaging {
     /// The bytes, after the damage, of the line that a scanner's last byte ended.
     fn line_after(&mut self, scanner: &Scanner) -> ArrayVec<u8, LINE_BYTES>
         requires { IsSomeAnd scanner.now.latest IsLine }
-        ensures bytes { (first : taker.Damaging) (place : ℕ) (line : Line)
-            → scanner.now.latest ≡ Some line → IsAt first self.old place
-            → result.items ≡ line_bytes (damaged_line (damage_of first) place line) }
-        ensures at { (first : taker.Damaging) (place : ℕ) (line : Line)
-            → scanner.now.latest ≡ Some line → IsAt first self.old place
-            → IsAt first self.new (place + length (elements_of line)) }
-        ensures counted { (first : taker.Damaging) (place total : ℕ) (line : Line)
-            → scanner.now.latest ≡ Some line → IsAt first self.old place
+        ensures bytes { (damage : Damage) (place : ℕ) (line : Line)
+            → scanner.now.latest ≡ Some line → IsAt damage self.old place
+            → result.items ≡ line_bytes (damaged_line damage place line) }
+        ensures at { (damage : Damage) (place : ℕ) (line : Line)
+            → scanner.now.latest ≡ Some line → IsAt damage self.old place
+            → IsAt damage self.new (place + length (elements_of line)) }
+        ensures counted { (damage : Damage) (place total : ℕ) (line : Line)
+            → scanner.now.latest ≡ Some line → IsAt damage self.old place
             → self.old.inverted ≡ min total (2 ^ 64 - 1)
             → self.new.inverted
-            ≡ min (total + inverted_count (damage_of first) place (elements_of line)) (2 ^ 64 - 1) }
+            ≡ min (total + inverted_count damage place (elements_of line)) (2 ^ 64 - 1) }
     {
-        let bits = scanner.elements();
-        if bits.is_empty() {
-            return copied_line(scanner.line().unwrap());
+        let mut bytes = copied_line(scanner.line().unwrap());
+        if let Some(LineKind::Elements) = scanner.latest() {
+            let end = bytes.len() - 1;
+            self.pass(&mut bytes[MARK_BYTES..end]);
         }
-        self.damaged_line(bits)
-    }
-
-    /// The bytes of a line of elements after the damage, with its end.
-    fn damaged_line(&mut self, bits: &[bool]) -> ArrayVec<u8, LINE_BYTES>
-        requires { length bits.now ≤ 512 }
-        ensures bytes { (first : taker.Damaging) (place : ℕ) → IsAt first self.old place
-            → result.items
-            ≡ line_bytes (elements (damaged_elements (damage_of first) place bits.now)) }
-        ensures at { (first : taker.Damaging) (place : ℕ) → IsAt first self.old place
-            → IsAt first self.new (place + length bits.now) }
-        ensures counted { (first : taker.Damaging) (place total : ℕ) → IsAt first self.old place
-            → self.old.inverted ≡ min total (2 ^ 64 - 1)
-            → self.new.inverted
-            ≡ min (total + inverted_count (damage_of first) place bits.now) (2 ^ 64 - 1) }
-    {
-        let mut bytes = ArrayVec::new();
-        bytes.push(b'B');
-        bytes.push(b' ');
-        for bit in bits {
-            bytes.push(if self.pass(*bit) { b'1' } else { b'0' });
-        }
-        bytes.push(b'\n');
         bytes
     }
 
-    /// The next element after the damage.
-    fn pass(&mut self, element: bool) -> bool
-        ensures element { (first : taker.Damaging) (place : ℕ) → IsAt first self.old place
-            → result ≡ damaged_element (damage_of first) place element }
-        ensures at { (first : taker.Damaging) (place : ℕ) → IsAt first self.old place
-            → IsAt first self.new (place + 1) }
-        ensures counted { (first : taker.Damaging) (place total : ℕ) → IsAt first self.old place
+    /// Damages the elements that come next, given by their digits.
+    fn pass(&mut self, digits: &mut [u8])
+        requires { length digits.old ≤ 512 }
+        ensures digits { (damage : Damage) (place : ℕ) (bits : List Bool)
+            → IsAt damage self.old place → digits.old ≡ map element_digit bits
+            → digits.new ≡ map element_digit (damaged_elements damage place bits) }
+        ensures at { (damage : Damage) (place : ℕ) → IsAt damage self.old place
+            → IsAt damage self.new (place + length digits.old) }
+        ensures counted { (damage : Damage) (place total : ℕ) (bits : List Bool)
+            → IsAt damage self.old place → digits.old ≡ map element_digit bits
             → self.old.inverted ≡ min total (2 ^ 64 - 1)
             → self.new.inverted
-            ≡ min (total + value_of (inverts (damage_of first) place)) (2 ^ 64 - 1) }
+            ≡ min (total + inverted_count damage place bits) (2 ^ 64 - 1) }
     {
-        let inverts = self.inverts();
-        if inverts {
-            self.inverted = self.inverted.saturating_add(1);
+        let inverted = self.named(digits.len()).invert(digits);
+        self.inverted = self.inverted.saturating_add(inverted);
+        self.advance(digits.len());
+    }
+
+    /// Which of so many elements that come next are inverted.
+    fn named(&self, count: usize) -> Named
+        requires { count ≤ 512 }
+        ensures end { result.end ≤ count }
+        ensures stride { (result.stride ≡ 7) ⊎ (result.stride ≡ 14) }
+        ensures named { (damage : Damage) (place i : ℕ) → IsAt damage self.now place → i < count
+            → IsTrue (inverts damage (place + i)) ↔ IsNamed result i }
+    {
+        let start = self.begin.min(count as u128) as usize;
+        let end = self.end.min(count as u128) as usize;
+        let (due, stride) = match self.kind {
+            DamageKind::Dx => (0, PAIR),
+            DamageKind::Rx => (ELEMENTS, PAIR),
+            DamageKind::All => (0, ELEMENTS),
+        };
+        let ahead = (PAIR + due - (self.phase + start) % PAIR) % stride;
+        Named {
+            first: start + ahead,
+            end,
+            stride,
         }
-        self.advance();
-        if inverts { !element } else { element }
     }
 
-    /// Whether the next element is inverted.
-    fn inverts(&self) -> bool
-        ensures { (first : taker.Damaging) (place : ℕ) → IsAt first self.now place
-            → result ≡ inverts (damage_of first) place }
-    {
-        self.offset == 0 && self.skip == 0 && self.left > 0 && self.is_named()
-    }
-
-    /// Whether the kind names the word.
-    fn is_named(&self) -> bool
-        ensures { (word : ℕ) → self.now.is_dx ≡ (word % 2 == 0)
-            → result ≡ names self.now.kind word }
-    {
-        match self.kind {
-            DamageKind::Dx => self.is_dx,
-            DamageKind::Rx => !self.is_dx,
-            DamageKind::All => true,
-        }
-    }
-
-    /// Goes on to the next element.
-    fn advance(&mut self)
-        ensures at { (first : taker.Damaging) (place : ℕ) → IsAt first self.old place
-            → IsAt first self.new (place + 1) }
+    /// Goes on by so many elements.
+    fn advance(&mut self, count: usize)
+        requires { count ≤ 512 }
+        ensures at { (damage : Damage) (place : ℕ) → IsAt damage self.old place
+            → IsAt damage self.new (place + count) }
         ensures inverted { self.new.inverted ≡ self.old.inverted }
     {
-        self.offset = self.offset.saturating_add(1);
-        if self.offset < ELEMENTS {
-            return;
+        self.begin = self.begin.saturating_sub(count as u128);
+        self.end = self.end.saturating_sub(count as u128);
+        self.phase = (self.phase + count) % PAIR;
+    }
+}
+
+impl Named {
+    /// Inverts these elements, given by their digits, and answers how many they are.
+    fn invert(self, digits: &mut [u8]) -> u64
+        requires end { self.end ≤ length digits.old }
+        requires long { length digits.old ≤ 512 }
+        requires stride { (self.stride ≡ 7) ⊎ (self.stride ≡ 14) }
+        ensures digits { (damage : Damage) (place : ℕ) (bits : List Bool)
+            → AreNamed damage place self bits → digits.old ≡ map element_digit bits
+            → digits.new ≡ map element_digit (damaged_elements damage place bits) }
+        ensures count { (damage : Damage) (place : ℕ) (bits : List Bool)
+            → AreNamed damage place self bits → digits.old ≡ map element_digit bits
+            → result ≡ inverted_count damage place bits }
+    {
+        let mut at = self.first;
+        let mut count = 0;
+        while at < self.end {
+            digits[at] ^= 1;
+            at += self.stride;
+            count += 1;
         }
-        self.offset = 0;
-        self.is_dx = !self.is_dx;
-        if self.skip > 0 {
-            self.skip -= 1;
-        } else {
-            self.left = self.left.saturating_sub(1);
-        }
+        count
     }
 }
