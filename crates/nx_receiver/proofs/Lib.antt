@@ -56,3 +56,4 @@ pub mod ChainLeft
 pub mod ChainMoments
 pub mod ChainOnce
 pub mod ChainExample
+pub mod ListenFrom

@@ -33,7 +33,7 @@ printed-once start old new file report h = record {
   once = λ message k. one-entry start file h.log h.lines h.copies message h.heard k;
 }
 
-on-some : (o : Option (List ℕ)) (P Q : List ℕ → Type 0) → ((xs : List ℕ) → P xs → Q xs) → IfSome o P → IfSome o Q
+pub on-some : (o : Option (List ℕ)) (P Q : List ℕ → Type 0) → ((xs : List ℕ) → P xs → Q xs) → IfSome o P → IfSome o Q
 on-some None P Q f h = tt
 on-some (Some xs) P Q f h = f xs h
 

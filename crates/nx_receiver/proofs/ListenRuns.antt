@@ -175,11 +175,6 @@ listens-ok remaining contents first now reader reader_after writer mid new read 
   unwritten = tt;
 }
 
--- an outcome that is this fault
-err-is : {N : Type 0} (outcome : Result N ListenFault) (fault : ListenFault) → IsErr outcome → IsErrAnd outcome (λ made. made ≡ fault) → outcome ≡ Err fault
-err-is (Ok x) fault h e = cc
-err-is (Err made) fault h e = as-err made fault e
-
 -- the whole file was read, and a write of what its end prints failed
 part-listened : (first now : Listening) (old mid new : Option (List ℕ)) (bytes : List ℕ) (read : LinesRead) (written : ℕ) → HasTakenAll StandsFrom first now old mid air_limit bytes read
     → ((lines : List Line) (given : List ℕ) → IsListening (start_of first) now lines given → HasWritten old mid given read.written → HasClosedSome (start_of first) old new (events_of lines) written)
@@ -196,7 +191,7 @@ part-listened first now old mid new bytes read written h closed =
 write-not_read : {N : Type 0} (written : ℕ) → ◌≡◌ {A = Result N ListenFault} (Err (Write written)) (Err Read) → ⊥
 write-not_read written e = cc
 
-listens-part : {R W : Type 0} (remaining : R → Option (List ℕ)) (contents : W → Option (List ℕ)) (first now : Listening) (reader reader_after : CountedDevice R) (writer mid new : CountedDevice W) (read : LinesRead) (written : ℕ)
+pub listens-part : {R W : Type 0} (remaining : R → Option (List ℕ)) (contents : W → Option (List ℕ)) (first now : Listening) (reader reader_after : CountedDevice R) (writer mid new : CountedDevice W) (read : LinesRead) (written : ℕ)
     → RunsLines StandsFrom BeginsFrom RefusesFrom air_limit first now (devices remaining contents reader reader_after writer mid) (Ok read)
     → ((lines : List Line) (given : List ℕ) → IsListening (start_of first) now lines given → HasWritten (contents writer.inner) (contents mid.inner) given read.written
     → HasClosedSome (start_of first) (contents writer.inner) (contents new.inner) (events_of lines) written)
@@ -209,16 +204,6 @@ listens-part remaining contents first now reader reader_after writer mid new rea
   unwritten = tt;
 }
 
-pub listens-part-as : {R W : Type 0} (remaining : R → Option (List ℕ)) (contents : W → Option (List ℕ)) (first now : Listening) (reader reader_after : CountedDevice R) (writer mid new : CountedDevice W) (read : LinesRead) (written : ℕ) (outcome : Result Report ListenFault)
-    → IsErr outcome → IsErrAnd outcome (λ made. made ≡ Write written)
-    → RunsLines StandsFrom BeginsFrom RefusesFrom air_limit first now (devices remaining contents reader reader_after writer mid) (Ok read)
-    → ((lines : List Line) (given : List ℕ) → IsListening (start_of first) now lines given → HasWritten (contents writer.inner) (contents mid.inner) given read.written
-    → HasClosedSome (start_of first) (contents writer.inner) (contents new.inner) (events_of lines) written)
-    → new.failures ≡ 1 → Listens (start_of first) (devices remaining contents reader reader_after writer new) outcome
-listens-part-as remaining contents first now reader reader_after writer mid new read written outcome failed fault h closed one =
-    subst (Listens (start_of first) (devices remaining contents reader reader_after writer new)) (sym (err-is outcome (Write written) failed fault))
-    (listens-part remaining contents first now reader reader_after writer mid new read written h closed one)
-
 memory-read : {N : Type 0} (error : AllocError) → ◌≡◌ {A = Result N ListenFault} (Err (Memory error)) (Err Read) → ⊥
 memory-read error e = cc
 
@@ -230,19 +215,18 @@ whatever None = tt
 whatever (Some xs) = tt
 
 -- memory ran out before anything was read
-pub listens-memory : {R W : Type 0} (start : Start) (remaining : R → Option (List ℕ)) (contents : W → Option (List ℕ)) (reader : CountedDevice R) (writer : CountedDevice W) (error : AllocError) (outcome : Result Report ListenFault)
-    → IsErr outcome → IsErrAnd outcome (λ made. made ≡ Memory error) → reader.failures ≡ 0 → writer.failures ≡ 0 → Listens start (devices remaining contents reader reader writer writer) outcome
-listens-memory start remaining contents reader writer error outcome failed fault read written =
-    subst (Listens start (devices remaining contents reader reader writer writer)) (sym (err-is outcome (Memory error) failed fault)) (record {
-      reads = record {
-        bytes = [];
-        consumed = Consumes-nil (remaining reader.inner);
-        answer = tt;
-        file = whatever (remaining reader.inner);
-        before = λ e. tt;
-        failed = read_failed-none _ _ _ (memory-read error) read;
-        once = omega (arith, read);
-      };
-      writes = Writes-none _ _ _ (memory-write error) written;
-      unwritten = tt;
-    })
+pub listens-memory : {R W : Type 0} (start : Start) (remaining : R → Option (List ℕ)) (contents : W → Option (List ℕ)) (reader : CountedDevice R) (writer : CountedDevice W) (error : AllocError)
+    → reader.failures ≡ 0 → writer.failures ≡ 0 → Listens start (devices remaining contents reader reader writer writer) (Err (Memory error))
+listens-memory start remaining contents reader writer error read written = record {
+  reads = record {
+    bytes = [];
+    consumed = Consumes-nil (remaining reader.inner);
+    answer = tt;
+    file = whatever (remaining reader.inner);
+    before = λ e. tt;
+    failed = read_failed-none _ _ _ (memory-read error) read;
+    once = omega (arith, read);
+  };
+  writes = Writes-none _ _ _ (memory-write error) written;
+  unwritten = tt;
+}

@@ -6,12 +6,13 @@ use Rattle.nx_memory.specs.declared.entry.MemoryEntry.{MemoryEntry}
 use Rattle.nx_memory.specs.Refused.{Refused}
 use Rattle.nx_memory.specs.Vital.{is_vital}
 
--- a command of selection, for a letter by its byte
+-- a command of selection, for a letter by its byte, or for the whole of what is refused
 pub data Command : Type 0 where
   refuse_station : ℕ → Command
   accept_station : ℕ → Command
   refuse_subject : ℕ → Command
   accept_subject : ℕ → Command
+  select : Refused → Command
 
 -- the moment from here on, in seconds since 1970-01-01 00:00:00 UTC; one element, true for B; or a
 -- command
@@ -36,6 +37,7 @@ refused_after refused (refuse_subject letter) =
     else record refused { subjects = set.insert refused.subjects letter }
 refused_after refused (accept_subject letter) =
     record refused { subjects = set.remove refused.subjects letter }
+refused_after refused (select other) = other
 
 -- what is in force after an event
 abbrev pub setting_after : Setting → Event → Setting

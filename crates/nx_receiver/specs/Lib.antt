@@ -21,3 +21,4 @@ pub mod Sent
 pub mod Chain
 pub mod ChainOnce
 pub mod ChainExample
+pub mod ListenFrom

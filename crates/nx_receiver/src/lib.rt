@@ -17,7 +17,7 @@ pub use entry::Entry;
 pub use fault::{MomentFault, ReceiverFault};
 pub use judging::judge;
 pub use listen_fault::ListenFault;
-pub use listening::{Report, listen};
+pub use listening::{Report, listen, listen_from};
 pub use receiver::Receiver;
 pub use writing::{MAX_ENTRY, entry_text};
 

@@ -7,8 +7,10 @@ ghost use Rattle.nx_fec.specs.AirFile as line;
 ghost use Rattle.nx_fec.specs.Devices.{HasWritten, WroteSome};
 ghost use Rattle.nx_fec.specs.LineRuns.{ExplainsTaking, HasGiven, HasTaken};
 ghost use Rattle.nx_fec.specs.Transfers.{Writes, devices};
+ghost use Rattle.nx_receiver.specs.Chain.{Leaves, start_from};
 ghost use Rattle.nx_receiver.specs.Events.{Event, Start, at_zero};
-ghost use Rattle.nx_receiver.specs.Listen.{Listens};
+ghost use Rattle.nx_receiver.specs.Listen.{Listens, events_of};
+ghost use Rattle.nx_receiver.specs.ListenFrom.{GoesOnBy, reported};
 ghost use Rattle.nx_receiver.specs.ListenOnce.{KeepsHeadline};
 ghost use Rattle.nx_receiver.specs.Listener.{BeginsFrom, HasClosed, HasClosedSome, HasFinished, HeardSome, HearsLog, IsHearing, IsListening, Listening, RefusesFrom, RefusesLine, StandsFrom, lines_fault, refusal_fault, start_of};
 ghost use Rattle.nx_receiver.specs.Receiver.{elements};
@@ -24,7 +26,7 @@ use nx_fec::{
     Batch, Counting, LineFault, LineKind, LineTaker, LinesFault, LinesRead, Scanner, TakeFault,
     WriteFault, run_lines, write_on,
 };
-use nx_memory::{RingRecall, Selection};
+use nx_memory::{RingRecall, Saved};
 use std::alloc::{AllocError, Global};
 use std::io::{Read, Write};
 use std::marker::Model;
@@ -42,7 +44,8 @@ pub struct Report {
 
 /// Listens to an air file of at most 268,435,456 bytes to its end, and writes its log: an entry for
 /// each copy that is printed, all that the lines so far print before each further read. The
-/// receiver starts with an empty memory, at moment 0. All memory is taken before the first read.
+/// receiver starts with an empty memory, at moment 0, and everything is selected. All memory is
+/// taken before the first read.
 ///
 /// Where it answers Ok, each message that is heard in time in the file has exactly one entry in the
 /// log, full, with 0 errors and its text letter for letter: a message not numbered 00 that is
@@ -68,13 +71,48 @@ pub fn listen<R: Read, W: Write>(
     ensures memory { (error : AllocError) → result ≡ Err (Memory error)
         → (reader.new ≡ reader.old) × (writer.new ≡ writer.old) }
 {
-    let mut listener = Listener::new(alloc)?;
+    let (report, _) = listen_from(alloc, &Saved::new(), reader, writer)?;
+    Ok(report)
+}
+
+/// Listens as `listen` does, and goes on from what is saved: the receiver starts with the saved
+/// entries and the saved selection, at the moment of the newest entry, or 0 where there is none.
+/// Answers also what it leaves: the last 200 of all entries, the saved ones and those that the run
+/// made, and what is selected after the file. A copy that stands open at its end is no part of it.
+/// All memory is taken before the first read.
+///
+/// Where it answers Ok, each message that is heard in time in the file has exactly one entry in the
+/// log, as with `listen`, where no saved entry of its identity is live when it is first heard.
+///
+/// Faults are those of `listen`. After one there is nothing to go on from but what was saved
+/// before.
+pub fn listen_from<R: Read, W: Write>(
+    alloc: Global,
+    saved: &Saved,
+    reader: &mut Counting<R>,
+    writer: &mut Counting<W>,
+) -> Result<(Report, Saved), ListenFault>
+    requires reader { reader.old.failures ≡ 0 }
+    requires writer { writer.old.failures ≡ 0 }
+    ensures listens { Listens (start_from saved.now)
+        (devices R.remaining W.contents reader.old reader.new writer.old writer.new)
+        (reported result) }
+    ensures left { IfOk result (λ answer. GoesOnBy saved.now
+        (devices R.remaining W.contents reader.old reader.new writer.old writer.new) answer.1) }
+    ensures once { OnOk result (KeepsHeadline (start_from saved.now)
+        (devices R.remaining W.contents reader.old reader.new writer.old writer.new)) }
+    ensures memory { (error : AllocError) → result ≡ Err (Memory error)
+        → (reader.new ≡ reader.old) × (writer.new ≡ writer.old) }
+{
+    let mut listener = Listener::starting(alloc, saved)?;
     let read = match run_lines(reader, writer, &mut listener) {
         Ok(read) => read,
         Err(fault) => return Err(run_fault(fault)),
     };
+    // Before the end: the copy that the end closes is cut, and makes no entry.
+    let left = listener.saved();
     let report = listener.close(writer, read)?;
-    Ok(report)
+    Ok((report, left))
 }
 
 /// The fault of the run that stands for one of its lines.
@@ -156,15 +194,18 @@ impl Model for Listener {
 }
 
 impl Listener {
-    /// A listener that has heard nothing, at moment 0.
-    fn new(alloc: Global) -> Result<Listener, AllocError>
-        ensures listens { IfOk result (λ listener. IsListening at_zero listener [] []) }
-        ensures start { IfOk result (λ listener. start_of listener ≡ at_zero) }
+    /// A listener that has heard nothing, and starts with what is saved.
+    fn starting(alloc: Global, saved: &Saved) -> Result<Listener, AllocError>
+        ensures listens { IfOk result (λ listener.
+            IsListening (start_from saved.now) listener [] []) }
+        ensures start { IfOk result (λ listener. start_of listener ≡ start_from saved.now) }
     {
         // No room for a field of a type whose own model forgets what it holds.
         prove!(size_of::<Listener>() == size_of::<Receiver<RingRecall>>() + 24);
-        let memory = RingRecall::new(alloc)?;
-        match Receiver::starting(alloc, memory, 0, Selection::all()) {
+        let mut memory = RingRecall::new(alloc)?;
+        saved.load(&mut memory);
+        let moment = saved.newest().unwrap_or(0);
+        match Receiver::starting(alloc, memory, moment, saved.selection()) {
             Ok(receiver) => Ok(Listener {
                 receiver,
                 has_moment: false,
@@ -174,6 +215,14 @@ impl Listener {
             Err(ReceiverFault::Memory(error)) => Err(error),
             Err(ReceiverFault::MomentRange) => unreachable!(),
         }
+    }
+
+    /// What it leaves after the lines that it heard.
+    fn saved(&self) -> Saved
+        ensures { (start : Start) (lines : List Line) (given : List ℕ)
+            → IsListening start self.now lines given → Leaves start (events_of lines) result }
+    {
+        self.receiver.saved()
     }
 
     /// Takes a moment.

@@ -7,6 +7,7 @@ ghost use Rattle.nx_memory.specs.Memory.{is_known, most_entries, newest_moment};
 ghost use Rattle.nx_memory.specs.declared.entry.MemoryEntry.{MemoryEntry};
 ghost use Rattle.nx_memory.specs.Selection.{admits};
 ghost use Rattle.nx_memory.specs.Vital.{is_vital};
+ghost use Rattle.nx_receiver.specs.Chain.{Leaves};
 ghost use Rattle.nx_receiver.specs.Events as events;
 ghost use Rattle.nx_receiver.specs.Events.{Event, Start, at_moment, command, first_setting, none_refused, setting_after_all};
 ghost use Rattle.nx_receiver.specs.Log.{HasPrinted, PrintsToEnd};
@@ -22,7 +23,7 @@ use crate::judging::{is_printed, judge};
 use crate::over::{CopyTag, Over};
 use crate::watch::Watch;
 use nx_envelope::{Found, Identity, LAST_MOMENT, Letter};
-use nx_memory::{Recall, RingRecall, Selection, Vital};
+use nx_memory::{Listed, Recall, RingRecall, Saved, Selection, Vital};
 use std::alloc::Global;
 use std::marker::Model;
 
@@ -124,6 +125,15 @@ impl<M: Recall> Receiver<M> {
         }
         self.watch.set_moment(moment);
         Ok(())
+    }
+
+    /// Selects what this selection does, from here on, in place of what was selected.
+    pub fn set_selection(&mut self, selection: &Selection)
+        ensures { (start : Start) (history : List Event) (log : List TaggedCopy) →
+            Stands M.content start self.old history log → Stands M.content start self.new
+            (history ++ command (events.select selection.now) ∷ []) log }
+    {
+        self.watch.set_selection(selection);
     }
 
     /// Refuses the station, for all its subjects, from here on.
@@ -357,6 +367,19 @@ impl<M: Recall> Receiver<M> {
             is_selected,
         } = self.watch.tag();
         is_printed(identity, moment, is_selected, &self.memory)
+    }
+}
+
+impl<M: Listed> Receiver<M> {
+    /// What a receiver keeps while it is switched off: the entries of its memory, and what is
+    /// selected now. A copy that stands open is no part of it.
+    pub fn saved(&self) -> Saved
+        ensures leaves { (start : Start) (history : List Event) (log : List TaggedCopy)
+            → Stands M.content start self.now history log → Leaves start history result }
+        ensures entries { result.entries ≡ M.content self.now.memory }
+        ensures refused { result.refused ≡ self.now.watch.refused }
+    {
+        Saved::of(&self.watch.selection(), &self.memory)
     }
 }
 

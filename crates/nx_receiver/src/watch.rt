@@ -320,6 +320,20 @@ impl Watch {
         self.reader.restart();
     }
 
+    /// What is selected.
+    pub(crate) fn selection(&self) -> Selection
+        ensures { result ≡ self.now.refused }
+    {
+        self.selection
+    }
+
+    /// Selects what this selection does.
+    pub(crate) fn set_selection(&mut self, selection: &Selection)
+        ensures { self.new ≡ record self.old { refused = selection.now } }
+    {
+        self.selection = *selection;
+    }
+
     /// Refuses the station.
     pub(crate) fn refuse_station(&mut self, station: Letter)
         ensures { self.new ≡ record self.old {
