@@ -1,8 +1,9 @@
 -- What holds of the characters of the table, by one computation each.
-use Rattle.std.proofs.Common.{◌≡◌, ℕ, ◌+◌, ◌-◌, ◌<◌, ◌≤◌, refl, sym, ap, ◌∙◌, subst, Bool, true, false, ◌||◌, not, eqb, ltb, Option, Some, None, List, [], ◌∷◌, inl, inr, get_or, arith}
+use Rattle.std.proofs.Common.{◌≡◌, ℕ, ◌+◌, ◌-◌, ◌<◌, ◌≤◌, refl, sym, ap, ◌∙◌, subst, Bool, true, false, ◌||◌, ◌↔◌, not, eqb, ltb, Option, Some, None, List, [], ◌∷◌, inl, inr, get_or, arith}
 use Rattle.std.specs.Option.{is_some}
 use Rattle.std.specs.List.{position, list_any, list_all}
-use Rattle.std.proofs.lemmas.Bool.{agree_below_at, eqb-true, and_parts, or_cases, ne_eqb, false≢true, ltb-true}
+use Rattle.std.proofs.Math.Bool.{beq}
+use Rattle.std.proofs.lemmas.Bool.{agree_below_at, eq-eqb, eqb-true, and_parts, or_cases, ne_eqb, false≢true, ltb-true}
 use Rattle.std.proofs.lemmas.List.Quantifiers.{position-Some}
 use Rattle.nx_code.specs.declared.table.Row.{Row}
 use Rattle.nx_code.specs.declared.table.TheConstants.{TABLE}
@@ -10,8 +11,9 @@ use Rattle.nx_code.specs.declared.shifts.Shift.{Shift}
 use Rattle.nx_code.specs.declared.shifts.Shift.TheVariants.{Letters, Figures}
 use Rattle.nx_code.specs.Table.{table, row_of}
 use Rattle.nx_code.specs.Reading.{character_of}
-use Rattle.nx_code.specs.Characters.{is_in_code, characters}
-use Rattle.nx_code.specs.Rows.{character_in}
+use Rattle.nx_code.specs.Characters.{is_in_code, characters, holds_in}
+use Rattle.nx_code.specs.Rows.{case_kept, character_in}
+use Rattle.nx_code.specs.declared.shifts.Case.{Case}
 use Rattle.nx_code.proofs.TableLemmas.{is_at, Some-is_at, character-TABLE}
 
 -- a test of what is printed, where something is
@@ -148,3 +150,27 @@ pub both-printed : (n m c : ℕ) → 1 ≤ n → n ≤ 32 → 1 ≤ m → m ≤ 
 both-printed n m c low high from to h k =
     let e = same_place_for c (n - 1) (m - 1) (place_for-printed Letters n c low high h) (place_for-printed Figures m c from to k) in
     omega arith
+
+-- a character is printed in a shift where its case stands there
+cases-right : (one shift : Shift) (n : ℕ) → n < 33 → if_some (λ c. beq (holds_in (case_kept c) shift) (is_character (character_of n shift) c)) (character_of n one) ≡ true
+unfolding character_of row_of table
+cases-right Letters Letters n h = agree_below_at (λ k. if_some (λ c. beq (holds_in (case_kept c) Letters) (is_character (character_of k Letters) c)) (character_of k Letters)) (λ _. true) 33 n refl h
+cases-right Letters Figures n h = agree_below_at (λ k. if_some (λ c. beq (holds_in (case_kept c) Figures) (is_character (character_of k Figures) c)) (character_of k Letters)) (λ _. true) 33 n refl h
+cases-right Figures Letters n h = agree_below_at (λ k. if_some (λ c. beq (holds_in (case_kept c) Letters) (is_character (character_of k Letters) c)) (character_of k Figures)) (λ _. true) 33 n refl h
+cases-right Figures Figures n h = agree_below_at (λ k. if_some (λ c. beq (holds_in (case_kept c) Figures) (is_character (character_of k Figures) c)) (character_of k Figures)) (λ _. true) 33 n refl h
+
+beq-same : (a b : Bool) → beq a b ≡ true → a ≡ b
+beq-same true true h = refl
+beq-same true false h = absurd (false≢true h)
+beq-same false true h = absurd (false≢true h)
+beq-same false false h = refl
+
+Some-is_character : (o : Option ℕ) (c : ℕ) → o ≡ Some c → is_character o c ≡ true
+Some-is_character o c h = subst (λ p. is_character p c ≡ true) (sym h) (eq-eqb c c refl)
+
+pub case_kept-right : (n c : ℕ) (one shift : Shift) (case : Case) → case ≡ case_kept c → 1 ≤ n → n ≤ 32 → character_of n one ≡ Some c → (holds_in case shift ≡ true) ↔ (character_of n shift ≡ Some c)
+case_kept-right n c one shift case is low high h =
+    let t = if_some-at (λ d. beq (holds_in (case_kept d) shift) (is_character (character_of n shift) d)) (character_of n one) c (cases-right one shift n (omega arith)) h in
+    let same : holds_in (case_kept c) shift ≡ is_character (character_of n shift) c = beq-same _ _ t in
+    let here : holds_in case shift ≡ is_character (character_of n shift) c = ap (λ k. holds_in k shift) is ∙ same in
+    (λ yes. is_character-Some _ c (sym here ∙ yes), λ prints. here ∙ Some-is_character _ c prints)

@@ -1,4 +1,5 @@
 pub mod CharacterLemmas
+mod ClassLemmas
 mod Examples
 pub mod OneSpelling
 mod PlaceLemmas

@@ -11,3 +11,4 @@ pub mod Rows
 pub mod Spelling
 pub mod Pieces
 pub mod Shifts
+pub mod Classes

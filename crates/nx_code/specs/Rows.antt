@@ -1,9 +1,11 @@
 -- The code's own table, its rows and indexes. What the calls answer by them is said by the table of
 -- specs/Table.antt.
-use Rattle.std.specs.Prelude.{ℕ, nat_lt, if◌then◌else◌, Option, Some, None, List, codes}
+use Rattle.std.specs.Prelude.{ℕ, ◌==◌, ◌&&◌, nat_le, nat_lt, if◌then◌else◌, Option, Some, None, List, codes}
 use Rattle.std.specs.Option.{option_to_list, option_map_or}
 use Rattle.nx_code.specs.declared.names.Name.{Name}
 use Rattle.nx_code.specs.declared.names.Name.TheVariants.{CarriageReturn, LineFeed, LetterShift, FigureShift, Space, Blank, PhasingOne, Beta, PhasingTwo}
+use Rattle.nx_code.specs.declared.shifts.Case.{Case}
+use Rattle.nx_code.specs.declared.shifts.Case.TheVariants as cases
 use Rattle.nx_code.specs.declared.shifts.Shift.{Shift}
 use Rattle.nx_code.specs.declared.shifts.Shift.TheVariants.{Letters, Figures}
 use Rattle.nx_code.specs.declared.table.Row.{Row}
@@ -32,3 +34,17 @@ cell_in row shift = option_map_or name_text row.name (option_to_list (character_
 -- the place that a number of an index gives: 35 is none
 abbrev pub place_given : ℕ → Option ℕ
 place_given place = if nat_lt place 35 then Some place else None
+
+-- in which shifts a character of the code is printed: a letter in letters, a newline and a space in
+-- both, and each other in figures
+abbrev pub case_kept : ℕ → Case
+case_kept character =
+    if character == 10
+    then cases.Either
+    else (if character == 32
+    then cases.Either
+    else (if nat_le 65 character && nat_le character 90 then cases.Letters else cases.Figures))
+
+-- the byte that a table of bytes gives: 0 is none
+abbrev pub byte_given : ℕ → Option ℕ
+byte_given byte = if byte == 0 then None else Some byte

@@ -3,6 +3,7 @@
 ghost use Rattle.std.specs.Prelude.{◌≡◌, ℕ, ◌+◌, ◌≤◌, ◌<◌, ◌↔◌, Some, IsSome, IfSome, IsSomeAnd, IsTrue};
 ghost use Rattle.nx_code.specs.Reading.{character_of};
 ghost use Rattle.nx_code.specs.Characters.{holds_in, is_in_code};
+ghost use Rattle.nx_code.specs.Rows.{case_kept};
 ghost use Rattle.nx_code.specs.declared.shifts.Shift.{Shift};
 
 use crate::places::place_of_character;
@@ -31,8 +32,20 @@ pub fn char_to_code(character: u8) -> Option<(Comb, Case)>
         → character_of code.0.number shift ≡ Some character) }
 {
     let place = place_of_character(character)?;
-    let case = row_at(place).case_of(character);
-    Some((comb_at(place), case))
+    Some((comb_at(place), case_of(character)))
+}
+
+/// In which shifts a character of the code is printed: a letter in letters, a newline and a space
+/// in both, and each other in figures.
+#[tactic(auto, using(std::proofs::lemmas::Bool::Decides::nat_tests))]
+fn case_of(character: u8) -> Case
+    ensures { result ≡ case_kept character }
+{
+    match character {
+        b'\n' | b' ' => Case::Either,
+        b'A'..=b'Z' => Case::Letters,
+        _ => Case::Figures,
+    }
 }
 
 /// The combination at a place of the table.

@@ -3,6 +3,7 @@
 #![tactic(auto)]
 
 mod characters;
+mod classes;
 pub mod laws;
 mod names;
 mod places;
@@ -14,6 +15,7 @@ mod table;
 mod words;
 
 pub use characters::{char_to_code, code_to_char};
+pub use classes::{CLASSES, byte_of_class, class_of, pair_classes, shift_after_class};
 pub use printing::{ASTERISK, Printer, Taken};
 pub use shifts::{Case, Shift};
 pub use signals::{Comb, Signal};

@@ -1,19 +1,17 @@
 //! The one table of the code, from which all calls answer (M.476, M.625).
 
-ghost use Rattle.std.specs.Prelude.{◌≡◌, ◌+◌, ◌<◌, ◌↔◌, ◌⊎◌, Some, IsSome, IfSome, IsTrue, slice_index};
+ghost use Rattle.std.specs.Prelude.{◌≡◌, ◌+◌, ◌<◌, ◌↔◌, Some, IsSome, IfSome, slice_index};
 ghost use Rattle.nx_code.specs.Word.{weight};
 ghost use Rattle.nx_code.specs.Table.{words};
 ghost use Rattle.nx_code.specs.Signal.{place, number_of_signal, cell_of_signal};
 ghost use Rattle.nx_code.specs.Reading.{character_of};
-ghost use Rattle.nx_code.specs.Characters.{holds_in};
 ghost use Rattle.nx_code.specs.Rows.{cell_in, character_in};
 ghost use Rattle.nx_code.specs.declared.signals.Signal.{Signal};
 ghost use Rattle.nx_code.specs.declared.shifts.Shift.{Shift};
-ghost use Rattle.nx_code.specs.declared.shifts.Shift.TheVariants.{Letters, Figures};
 
 use crate::names::Name;
 use crate::places::place_of_word;
-use crate::shifts::{Case, Shift};
+use crate::shifts::Shift;
 use crate::signals::{Comb, Signal};
 use crate::words::Word;
 use std::slice;
@@ -36,22 +34,6 @@ impl Row {
         match shift {
             Shift::Letters => self.letter,
             Shift::Figures => self.figure,
-        }
-    }
-
-    /// In which shifts the row prints this character, which it does print.
-    pub(crate) fn case_of(self, character: u8) -> Case
-        requires { (character_in self Letters ≡ Some character)
-            ⊎ (character_in self Figures ≡ Some character) }
-        ensures { (shift : Shift) → IsTrue (holds_in result shift)
-            ↔ (character_in self shift ≡ Some character) }
-    {
-        if self.letter != Some(character) {
-            Case::Figures
-        } else if self.figure != Some(character) {
-            Case::Letters
-        } else {
-            Case::Either
         }
     }
 
