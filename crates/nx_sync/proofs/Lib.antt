@@ -17,6 +17,8 @@ pub mod WordLists
 pub mod Hunting
 pub mod WholeWords
 pub mod Strides
+pub mod PackedParts
+pub mod Blocks
 pub mod PhasingStates
 pub mod Examples
 pub mod WordLimits

@@ -1,9 +1,9 @@
 -- Lists of bits and the numbers that have these bits, the first one in the least place.
-use Rattle.std.proofs.Common.{◌≡◌, ℕ, zero, suc, ◌+◌, ◌*◌, ◌/◌, ◌%◌, ◌^◌, List, [], ◌∷◌, ◌++◌, length, drop, Bool, true, false, refl, sym, ap, ap₂, ◌∙◌, arith, drop-drop, length-drop, ◌==◌, eq-eqb}
-use Rattle.std.proofs.lemmas.Bool.{ne_eqb}
+use Rattle.std.proofs.Common.{◌≡◌, ℕ, zero, suc, ◌+◌, ◌*◌, ◌/◌, ◌%◌, ◌^◌, ◌<◌, List, [], ◌∷◌, ◌++◌, length, drop, Bool, true, false, refl, sym, ap, ap₂, ◌∙◌, inl, inr, arith, drop-drop, length-drop, ◌==◌, eq-eqb}
+use Rattle.std.proofs.lemmas.Bool.{cases_eq, ne_eqb}
 use Rattle.std.proofs.Math.Nat.{pow-succ', mul_assoc}
 use Rattle.std.proofs.lemmas.Nat.{shr-shr}
-use Rattle.nx_code.specs.Word.{number_of, value_of}
+use Rattle.nx_code.specs.Word.{elements, elements_from, number_of, value_of}
 use Rattle.nx_code.proofs.WordLemmas.{value_of-le}
 
 -- bits of which others come after
@@ -75,3 +75,26 @@ pub number_of-next_word : (xs ys : List Bool) → length xs ≡ 28 → length ys
 number_of-next_word xs ys l m =
     let e : length (drop 7 xs) ≡ 21 = simp length-drop (omega arith) in
     number_of-append (drop 7 xs) ys ∙ ap₂ (λ a n. a + 2 ^ n * number_of ys) (number_of-drop 7 xs) e
+
+-- a number has the elements of itself
+pub length-elements_from : (n x : ℕ) → length (elements_from n x) ≡ n
+unfolding elements_from
+length-elements_from zero x = refl
+length-elements_from (suc n) x = omega (arith, length-elements_from n (x / 2))
+
+value_of-odd : (x : ℕ) → value_of (x % 2 == 1) ≡ x % 2
+value_of-odd x = elim (cases_eq (x % 2) 1) [
+  | inl one ↦ rw one refl
+  | inr other ↦ rw (ne_eqb (x % 2) 1 other) (omega arith)
+]
+
+pub number_of-elements_from : (n x : ℕ) → x < 2 ^ n → number_of (elements_from n x) ≡ x
+unfolding number_of elements_from
+number_of-elements_from zero x h = omega arith
+number_of-elements_from (suc n) x h =
+    let e : 2 ^ suc n ≡ 2 * 2 ^ n = pow-succ' 2 n in
+    omega (arith, e, number_of-elements_from n (x / 2) (omega (arith, e)), value_of-odd x)
+
+pub length-elements : (word : ℕ) → length (elements word) ≡ 7
+unfolding elements
+length-elements word = length-elements_from 7 word

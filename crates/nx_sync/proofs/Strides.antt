@@ -1,6 +1,6 @@
 -- 21 elements heard at once: what is held after them, and that none of them ends a pattern where the seven elements before
 -- them do not stand in one.
-use Rattle.std.proofs.Common.{◌≡◌, ℕ, zero, suc, ◌+◌, ◌-◌, ◌*◌, ◌/◌, ◌%◌, ◌^◌, ◌<◌, ◌≤◌, ◌==◌, min, List, [], ◌∷◌, ◌++◌, length, take, drop, get_or, Bool, true, false, refl, sym, ap, subst, ◌∙◌, inl, inr, arith, append_assoc, append-nil, length-append, length-drop, length-take, drop-drop}
+use Rattle.std.proofs.Common.{◌≡◌, ℕ, suc, ◌+◌, ◌-◌, ◌*◌, ◌/◌, ◌%◌, ◌^◌, ◌<◌, ◌≤◌, ◌==◌, min, List, [], ◌∷◌, ◌++◌, length, take, drop, get_or, Bool, true, false, refl, sym, ap, subst, ◌∙◌, inl, inr, arith, append_assoc, append-nil, length-append, length-drop, length-take, drop-drop}
 use Rattle.std.proofs.Math.Nat.{pow-succ'}
 use Rattle.std.proofs.Math.Seq.{drop-cons}
 use Rattle.std.proofs.lemmas.Bool.{cases_eq, cases_Bool, both_ways, agree_below_at, ne_eqb}
@@ -11,29 +11,10 @@ use Rattle.nx_sync.specs.Windows.{window_before_dx, window_before_rx, is_lock_wi
 use Rattle.nx_sync.specs.private.Windows.{is_in_phasing, window_after}
 use Rattle.nx_sync.specs.Synchroniser.{Held}
 use Rattle.nx_sync.specs.private.Calls.{Skips}
-use Rattle.nx_sync.proofs.Numbers.{number_of-append, number_of-drop, number_of-next}
+use Rattle.nx_sync.proofs.Numbers.{length-elements_from, number_of-elements_from, number_of-append, number_of-drop, number_of-next}
 use Rattle.nx_sync.proofs.Patterns.{is_dx_window, is_rx_window}
 use Rattle.nx_sync.proofs.Hearing.{same_parts}
 use Rattle.nx_sync.proofs.Hunting.{quiet_window}
-
--- a number has the elements of itself
-length-elements_from : (n x : ℕ) → length (elements_from n x) ≡ n
-unfolding elements_from
-length-elements_from zero x = refl
-length-elements_from (suc n) x = omega (arith, length-elements_from n (x / 2))
-
-value_of-odd : (x : ℕ) → value_of (x % 2 == 1) ≡ x % 2
-value_of-odd x = elim (cases_eq (x % 2) 1) [
-  | inl one ↦ rw one refl
-  | inr other ↦ rw (ne_eqb (x % 2) 1 other) (omega arith)
-]
-
-number_of-elements_from : (n x : ℕ) → x < 2 ^ n → number_of (elements_from n x) ≡ x
-unfolding number_of elements_from
-number_of-elements_from zero x h = omega arith
-number_of-elements_from (suc n) x h =
-    let e : 2 ^ suc n ≡ 2 * 2 ^ n = pow-succ' 2 n in
-    omega (arith, e, number_of-elements_from n (x / 2) (omega (arith, e)), value_of-odd x)
 
 -- one more element at the front of those that count already
 pub number_of-front : (bits : List Bool) (place : ℕ) → 0 < place → place ≤ length bits
@@ -56,7 +37,7 @@ unfolding number_of
 number_of-none bits h = ap number_of (drop_all 21 bits (omega arith))
 
 -- windows by lists
-window_after-list : (bits xs : List Bool) → length xs ≡ 28 → length bits ≤ 28 → window_after (number_of xs) bits ≡ number_of (drop (length bits) xs ++ bits)
+pub window_after-list : (bits xs : List Bool) → length xs ≡ 28 → length bits ≤ 28 → window_after (number_of xs) bits ≡ number_of (drop (length bits) xs ++ bits)
 unfolding window_after
 window_after-list [] xs l h = ap number_of (sym (append-nil xs))
 window_after-list (b ∷ bits) xs l h =

@@ -1,6 +1,5 @@
 -- The words that the laws of the locks are said in.
 use Rattle.std.specs.Prelude.{◌≡◌, ℕ, zero, suc, ◌+◌, ◌*◌, ◌≤◌, Bool, List, [], ◌∷◌, ◌++◌, length}
-use Rattle.nx_sync.specs.declared.step.Role.{Role}
 use Rattle.nx_sync.specs.declared.step.Role.TheVariants.{Dx}
 use Rattle.nx_sync.specs.declared.step.Change.{Change}
 use Rattle.nx_code.specs.Phasing.{elements_of_phasing_1, elements_of_phasing_2}

@@ -1,6 +1,7 @@
 -- What one element brings, by what stands after it: the contract of a push.
-use Rattle.std.specs.Prelude.{◌≡◌, ℕ, ◌+◌, ◌*◌, ◌<◌, ◌≤◌, Bool, List, ◌∷◌, ◌++◌, length, take, Option, Some, None}
+use Rattle.std.specs.Prelude.{◌≡◌, ℕ, ◌+◌, ◌*◌, ◌<◌, ◌≤◌, Bool, List, ◌∷◌, ◌++◌, length, take, drop, Option, Some, None}
 use Rattle.std.specs.Option.{option_to_list}
+use Rattle.nx_code.specs.Packed.{elements_of_words}
 use Rattle.nx_sync.specs.declared.step.Role.{Role}
 use Rattle.nx_sync.specs.declared.step.Change.{Change}
 use Rattle.nx_sync.specs.declared.step.Change.TheVariants.{Locked}
@@ -49,6 +50,10 @@ pub record IsStep (bits : List Bool) (s : Step) : Type 0 where
   pub now : Now
   pub stands : IsNow bits locks now
   pub brings : Brings bits s locks now
+
+-- the elements of packed numbers from a place on, so many of them
+abbrev pub packed_part : List ℕ → ℕ → ℕ → List Bool
+packed_part numbers from count = take count (drop from (elements_of_words numbers))
 
 -- Of these bits, which come after others, n are heard by a hunt: the push of none of them answers
 -- that a lock was found, nor anything else, and the push of the next one, if there is one, answers

@@ -3,6 +3,7 @@
 #![tactic(auto)]
 
 pub mod laws;
+mod packed;
 mod step;
 mod synchroniser;
 #[cfg(test)]

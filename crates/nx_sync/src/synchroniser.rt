@@ -2,21 +2,24 @@
 //! last words. Calls that run for each element, each word or each stride are inlined always, since
 //! their answers would go through memory otherwise.
 
-ghost use Rattle.std.specs.Prelude.{◌≡◌, ℕ, ◌+◌, ◌-◌, ◌/◌, ◌^◌, ◌<◌, ◌≤◌, ◌↔◌, List, Bool, [], ◌∷◌, ◌++◌, length, take, min, nat_le, not, IsTrue, IfOk};
+ghost use Rattle.std.specs.Prelude.{◌≡◌, ℕ, ◌+◌, ◌-◌, ◌*◌, ◌/◌, ◌^◌, ◌<◌, ◌≤◌, ◌↔◌, List, Bool, [], ◌∷◌, ◌++◌, length, take, min, nat_le, not, IsTrue, IfOk};
 ghost use Rattle.std.specs.List.{count_by};
 ghost use Rattle.nx_sync.specs.declared.step.Change.TheVariants.{Locked};
+ghost use Rattle.nx_code.specs.Word.{elements, elements_from};
+ghost use Rattle.nx_code.specs.Packed.{packed_elements};
 ghost use Rattle.nx_sync.specs.Words.{marked_words, losing_count};
 ghost use Rattle.nx_sync.specs.Locks.{pattern_elements};
-ghost use Rattle.nx_sync.specs.Steps.{step, LockStands, LimitStands, IsStep, HuntsThrough, IsWordStep};
+ghost use Rattle.nx_sync.specs.Steps.{step, LockStands, LimitStands, IsStep, packed_part, HuntsThrough, IsWordStep};
 ghost use Rattle.nx_sync.specs.private.Windows as spec;
 ghost use Rattle.nx_sync.specs.private.Calls.{heard_one, with_mark, track_from, BeginsLock, Fills, Completes, Skips, SkipsEarly};
 ghost use Rattle.nx_sync.specs.Synchroniser.{StandsAfter, is_hunting, is_between_words};
 
+use crate::packed::{PACKED_STRIDE, elements_at, unpack};
 use crate::step::{Role, Step};
 use crate::track::Track;
 use crate::windows::{
-    PATTERN, STRIDE, count_before_lock, last_word, may_lock, next_window, next_word_window,
-    role_after, stride_window, windows_after,
+    PATTERN, STRIDE, count_before_lock, last_word, may_lock, may_lock_in_block, next_window,
+    next_word_window, packed_window, role_after, stride_window, windows_after,
 };
 use circular_buffer::HeapCircularBuffer;
 use nx_code::{ELEMENTS, Word, check_bits};
@@ -157,7 +160,19 @@ impl Synchroniser {
         ensures step { (h : List Bool) → StandsAfter self.old h → IsWordStep h bits.now result }
         ensures limit { result.change ≡ None → IsTrue (is_between_words self.new) }
     {
-        let word = Word::from_elements(*bits);
+        self.push_whole(Word::from_elements(*bits))
+    }
+
+    /// The same of a word by its number.
+    #[inline(always)]
+    pub fn push_whole(&mut self, word: Word) -> Step
+        requires { IsTrue (is_between_words self.old) }
+        ensures stands { (h : List Bool) → StandsAfter self.old h
+            → StandsAfter self.new (h ++ elements word) }
+        ensures step { (h : List Bool) → StandsAfter self.old h
+            → IsWordStep h (elements word) result }
+        ensures limit { result.change ≡ None → IsTrue (is_between_words self.new) }
+    {
         self.hear_word(word);
         match self.track {
             None => unreachable!(),
@@ -176,6 +191,22 @@ impl Synchroniser {
         ensures hunting { IsTrue (is_hunting self.new) }
     {
         self.skip(bits)
+    }
+
+    /// The same over packed elements: hunts through `count` of them from the place `from` on.
+    /// Element i is bit `i % 64` of number `i / 64`, set for B.
+    pub fn hunt_packed(&mut self, numbers: &[u64], from: usize, count: usize) -> usize
+        requires hunting { IsTrue (is_hunting self.old) }
+        requires room { from + count ≤ packed_elements * length numbers.now }
+        requires counted { from + count < 2 ^ 64 }
+        ensures within { result ≤ count }
+        ensures stands { (h : List Bool) → StandsAfter self.old h
+            → StandsAfter self.new (h ++ take result (packed_part numbers.now from count)) }
+        ensures pushes { (h : List Bool) → StandsAfter self.old h
+            → HuntsThrough h (packed_part numbers.now from count) result }
+        ensures hunting { IsTrue (is_hunting self.new) }
+    {
+        self.skip_packed(numbers, from, count)
     }
 
     /// Takes one element into the last 28.
@@ -309,6 +340,53 @@ impl Synchroniser {
             }
         }
         at
+    }
+
+    /// Hears packed elements as long as none ends a pattern, and says how many.
+    fn skip_packed(&mut self, numbers: &[u64], from: usize, count: usize) -> usize
+        requires room { from + count ≤ packed_elements * length numbers.now }
+        requires counted { from + count < 2 ^ 64 }
+        ensures { Skips self.old (packed_part numbers.now from count) result self.new }
+    {
+        let _seen = self.seen;
+        let mut at = 0;
+        while at < count {
+            let few = (count - at).min(PACKED_STRIDE);
+            let number = elements_at(numbers, from + at, few);
+            let heard = self.skip_number(number, few);
+            at += heard;
+            if heard < few {
+                return at;
+            }
+        }
+        at
+    }
+
+    /// Hears the elements of a number, at most 19 of them, as long as none ends a pattern.
+    #[inline(always)]
+    fn skip_number(&mut self, number: u64, count: usize) -> usize
+        requires some { 0 < count }
+        requires few { count ≤ 19 }
+        requires within { number < 2 ^ count }
+        ensures { Skips self.old (elements_from count number) result self.new }
+    {
+        let is_early = self.seen < PATTERN - 1;
+        if is_early | may_lock_in_block(next_window(self.recent, number % 2 == 1)) {
+            return self.skip_unpacked(number, count);
+        }
+        self.recent = packed_window(self.recent, number, count as u32);
+        self.seen = PATTERN;
+        count
+    }
+
+    /// The same, by its elements one after the other.
+    #[inline(never)]
+    fn skip_unpacked(&mut self, number: u64, count: usize) -> usize
+        requires few { count ≤ 19 }
+        ensures { Skips self.old (elements_from count number) result self.new }
+    {
+        let part = unpack(number);
+        self.skip(&part[..count])
     }
 
     /// Hears the elements that come too early to be the last of 28, and says how many.

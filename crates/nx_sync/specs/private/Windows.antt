@@ -1,5 +1,5 @@
 -- Windows, one after the other: what the private functions of the hunt answer.
-use Rattle.std.specs.Prelude.{◌≡◌, ℕ, ◌+◌, ◌*◌, ◌/◌, ◌%◌, ◌^◌, ◌<◌, ◌≤◌, ◌==◌, Bool, true, List, [], ◌∷◌, length, slice_index, Option, Some, None, if◌then◌else◌}
+use Rattle.std.specs.Prelude.{◌≡◌, ℕ, ◌+◌, ◌*◌, ◌/◌, ◌%◌, ◌^◌, ◌<◌, ◌≤◌, ◌==◌, Bool, true, false, ◌||◌, List, [], ◌∷◌, length, slice_index, Option, Some, None, if◌then◌else◌}
 use Rattle.nx_code.specs.Word.{value_of}
 use Rattle.nx_sync.specs.declared.step.Role.{Role}
 use Rattle.nx_sync.specs.declared.step.Role.TheVariants.{Dx, Rx}
@@ -32,6 +32,19 @@ in_phasing = 0x52080042000010088001000081008080
 
 abbrev pub is_in_phasing : ℕ → Bool
 is_in_phasing word = in_phasing / 2 ^ word % 2 == 1
+
+-- ten elements in a row of phasing, at any place, as numbers
+unfoldable pub blocks : List ℕ
+blocks =
+    0x03F ∷ 0x07E ∷ 0x0C3 ∷ 0x0FC ∷ 0x187 ∷ 0x1F9 ∷ 0x21F
+    ∷ 0x261 ∷ 0x30F ∷ 0x330 ∷ 0x398 ∷ 0x3CC ∷ 0x3E6 ∷ 0x3F3 ∷ []
+
+unfoldable pub is_one_of : List ℕ → ℕ → Bool
+is_one_of [] number = false
+is_one_of (one ∷ more) number = number == one || is_one_of more number
+
+abbrev pub is_block : ℕ → Bool
+is_block block = is_one_of blocks block
 
 -- the window after these elements
 unfoldable pub window_after : ℕ → List Bool → ℕ

@@ -1,7 +1,8 @@
 //! Worked examples: the counts of elements were worked out from the definition of the locks, apart
 //! from this program.
 
-use crate::{Change, Synchroniser, first_lock};
+use crate::{Change, Role, Synchroniser, first_lock};
+use nx_code::Word;
 use std::alloc::AllocError;
 
 /// P2 P1 P2 P1, after which a DX word follows, and P1 P2 P1 P2, after which an RX word follows.
@@ -37,6 +38,22 @@ fn hunts(rt: HostRuntime) -> Result<(), AllocError> {
     assert_eq!(rt; sync.hunt(&[]), 0);
     assert_eq!(rt; sync.hunt(&[false; 1000]), 1000);
     assert!(rt; !sync.is_locked());
+    Ok(())
+}
+
+/// P2 P1 P2 P1 as packed elements, over the seam of two numbers and behind Y alone; then a word by
+/// its number, which is the first DX word of the lock.
+#[test]
+fn hunts_packed_elements(rt: HostRuntime) -> Result<(), AllocError> {
+    let numbers = [0x1F9_87E6 << 50, 0x1F9_87E6 >> 14];
+    let mut sync = Synchroniser::new(rt.alloc())?;
+    assert_eq!(rt; sync.hunt_packed(&numbers, 3, 125), 74);
+    assert_eq!(rt; sync.push(false).change, Some(Change::Locked));
+    if sync.is_between_words() {
+        let word = Word::from_elements([false, true, true, false, false, true, true]);
+        let step = sync.push_whole(word);
+        assert_eq!(rt; step.word, Some((word, Role::Dx)));
+    }
     Ok(())
 }
 
