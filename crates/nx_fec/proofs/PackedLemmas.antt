@@ -1,7 +1,6 @@
 -- Elements that are packed into words of 64, and the digits that they are read from.
 use Rattle.std.proofs.Common.{◌≡◌, ℕ, zero, suc, ◌+◌, ◌*◌, ◌/◌, ◌%◌, ◌<◌, ◌≤◌, ◌==◌, cond, Bool, true, false, List, [], ◌∷◌, ◌++◌, length, map, take, drop, set, replicate, ◌&&◌, ◌||◌, ◌^◌, ◌-◌, ◌≢◌, IsTrue, codes, refl, sym, ap, ◌∙◌, subst, arith, append_assoc, length-append, take-append-drop}
 use Rattle.std.specs.Simd.Lanes.{mask_l}
-use Rattle.std.specs.List.{list_all}
 use Rattle.std.proofs.lemmas.Bool.{eq-eqb, eqb-true}
 use Rattle.std.proofs.lemmas.List.{length-drop, length-map, length-take-le, map-append, set_split, take-append-le, take_all, take_rest}
 use Rattle.std.proofs.lemmas.List.Folds.{list_all-append}

@@ -1,4 +1,4 @@
-use Rattle.std.proofs.Common.{◌≡◌, ◌+◌, ◌-◌, ◌*◌, ◌/◌, ◌<◌, ◌≤◌, ◌∙◌, ◌&&◌, length, map, set, take, drop, arith, subst}
+use Rattle.std.proofs.Common.{◌≡◌, ◌+◌, ◌*◌, ◌/◌, ◌<◌, ◌∙◌, ◌&&◌, length, map, set, take, arith, subst}
 use Rattle.std.proofs.lemmas.List.{length-set, take_all}
 use Rattle.nx_code.specs.Packed.{elements_of_words}
 use Rattle.nx_code.specs.Word.{elements_from}

@@ -1,4 +1,4 @@
-use Rattle.std.proofs.Common.{◌≡◌, ◌++◌, ◌∙◌, ap, drop, length, map, replicate, take}
+use Rattle.std.proofs.Common.{◌++◌, ◌∙◌, ap, drop, length, map, replicate, take}
 use Rattle.nx_fec.specs.private.Packing.{are_elements, is_one}
 use Rattle.nx_fec.proofs.PackedLemmas.{filled-ones, filled-right}
 use Rattle.nx_fec.proofs.packed.pack_last.Goals as goal

@@ -1,4 +1,4 @@
-use Rattle.std.proofs.Common.{◌≡◌, ◌<◌, ◌∙◌, ap, arith, length, map, sym}
+use Rattle.std.proofs.Common.{◌<◌, ◌∙◌, ap, arith, length, map, sym}
 use Rattle.std.proofs.lemmas.List.{length-map}
 use Rattle.nx_fec.specs.AirFile.{element_digit}
 use Rattle.nx_fec.specs.private.Packing.{is_one}
