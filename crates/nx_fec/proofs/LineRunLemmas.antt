@@ -229,8 +229,9 @@ module _ {T F : Type 0} (stands : Standing T) (begins : Beginning T) (refuses : 
       → HasTaken stands first now lines G → HasTakenSome begins first old new lines lost
   taken-some first now old new G lines lost law f h = record { given = h.given; begun = law lines h.given h.stood; some = f h.given h.here }
 
-  refused-longer : (first : T) (limit : ℕ) (lines : List Line) (rest more ys : List ℕ) (number : ℕ) (why : F) → IsLineRefused refuses first limit lines rest more number why
-      → IsLineRefused refuses first limit lines rest (more ++ ys) number why
+  refused-longer : (first : T) (limit : ℕ) (lines : List Line) (rest more ys : List ℕ) (number : ℕ) (why : F)
+      → IsLineRefused (λ before next. refuses first before next why) limit lines rest more number
+      → IsLineRefused (λ before next. refuses first before next why) limit lines rest (more ++ ys) number
   refused-longer first limit lines rest more ys number why h = record {
     line = h.line;
     after = h.after ++ ys;

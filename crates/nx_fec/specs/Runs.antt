@@ -1,10 +1,8 @@
 -- What a run over an air file answers (this profile).
-use Rattle.std.specs.Prelude.{◌≡◌, ◌≢◌, ℕ, ◌%◌, ◌<◌, ◌≤◌, Bool, not, List, ◌++◌, length, position, Option, Some, Result, Ok, Err, MatchResult, ⊤}
+use Rattle.std.specs.Prelude.{◌≡◌, ◌≢◌, ℕ, ◌%◌, ◌<◌, ◌≤◌, Bool, not, List, length, position, Option, Some, Result, Ok, Err, MatchResult, ⊤}
 use Rattle.std.specs.Global.{Vec}
 use Rattle.std.specs.Io.KnownBytes.{Appends, IsAtEnd}
-use Rattle.std.specs.List.{flat_map}
-use Rattle.nx_fec.specs.AirFile.{Line}
-use Rattle.nx_fec.specs.Lines.{HasFault, IsBitFile, IsFaultless, file_of, Scanning, Scans, elements_of}
+use Rattle.nx_fec.specs.Lines.{HasFault, IsBitFile, IsFaultless, file_of}
 use Rattle.nx_fec.specs.Aligned.{aligned_text, words_of}
 use Rattle.nx_fec.specs.WordLines.{word_lines}
 use Rattle.nx_fec.specs.Devices.{CountedDevice, WroteSome}

@@ -1,7 +1,7 @@
 -- What the parts of a scanner say of the line that is open, or of the line that the last byte ended
 -- (this profile).
-use Rattle.std.specs.Prelude.{◌≡◌, ℕ, Bool, List, [], Option, Some, None}
-use Rattle.nx_fec.specs.AirFile.{IsLine, Line, accept_station, accept_subject, elements, moment, refuse_station, refuse_subject, spelling}
+use Rattle.std.specs.Prelude.{Bool, List, [], Option, Some, None}
+use Rattle.nx_fec.specs.AirFile.{Line, accept_station, accept_subject, elements, moment, refuse_station, refuse_subject}
 use Rattle.nx_fec.specs.Lines.{elements_of}
 use Rattle.nx_fec.specs.declared.air_file.LineKind.{LineKind}
 use Rattle.nx_fec.specs.declared.air_file.LineKind.TheVariants.{Moment, Elements, RefuseStation, AcceptStation, RefuseSubject, AcceptSubject}

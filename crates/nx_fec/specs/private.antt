@@ -2,6 +2,7 @@
 pub mod CountedCode
 pub mod LineTaking
 pub mod OneWord
+pub mod Packing
 pub mod ScannerFields
 pub mod ScannerKept
 pub mod Takers

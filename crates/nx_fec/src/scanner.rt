@@ -11,6 +11,7 @@ use crate::air_file::{LineKind, MAX_ELEMENTS, read_line};
 use crate::fault::LineFault;
 use crate::feeds::first_feed;
 use crate::line_bytes::{LineBytes, MAX_LINE_BYTES};
+use crate::packed::PackedElements;
 use arrayvec::ArrayVec;
 use std::marker::Model;
 use std::mem::size_of;
@@ -103,6 +104,20 @@ impl Scanner {
         ensures { result.now ≡ elements_kept self.now.latest }
     {
         &self.elements
+    }
+
+    /// Packs the elements of the line that the last byte ended, in place of those that were there; none where it ended no
+    /// line of elements.
+    // Inlined always: it runs for each line.
+    #[inline(always)]
+    pub fn pack(&self, packed: &mut PackedElements)
+        ensures { packed.new ≡ elements_kept self.now.latest }
+    {
+        if let Some(LineKind::Elements) = self.ended {
+            let _ = packed.read(&self.kept.as_slice()[2..]);
+        } else {
+            packed.clear();
+        }
     }
 
     /// The bytes of the line that the last byte ended, without its line feed, if it ended one.

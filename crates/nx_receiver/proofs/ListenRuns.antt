@@ -45,7 +45,8 @@ stops-on : (bytes : List ℕ) (P Q : List Line → List ℕ → List ℕ → Typ
     → StopsAt bytes P → StopsAt bytes Q
 stops-on bytes P Q f h = record { lines = h.lines; rest = h.rest; more = h.more; whole = h.whole; each = h.each; part = h.part; here = f h.lines h.rest h.more h.here }
 
-next-refused : (first : Listening) (number : ℕ) (lines : List Line) (rest more : List ℕ) (why : LineRefusal) → IsLineRefused RefusesFrom first air_limit lines rest more number why
+next-refused : (first : Listening) (number : ℕ) (lines : List Line) (rest more : List ℕ) (why : LineRefusal)
+    → IsLineRefused (λ before line. RefusesFrom first before line why) air_limit lines rest more number
     → IsNextRefused (λ before line. RefusesLine (start_of first) before line why) number lines rest more
 next-refused first number lines rest more why h =
     record { line = h.line; after = h.after; good = h.good; spelled = h.spelled; ended = h.ended; within = h.within; counted = h.counted; refused = h.refused }

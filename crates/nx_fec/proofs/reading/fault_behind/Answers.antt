@@ -1,6 +1,5 @@
-use Rattle.std.proofs.Common.{List, length, ◌++◌, take, option_to_list, subst, sym, ap, arith}
+use Rattle.std.proofs.Common.{◌++◌, take, option_to_list, subst, arith}
 use Rattle.std.proofs.lemmas.List.{take_all}
-use Rattle.nx_fec.specs.AirFile.{Line}
 use Rattle.nx_fec.specs.Lines.{Scans}
 use Rattle.nx_fec.specs.Runs.{run_fault}
 use Rattle.nx_fec.specs.private.Takers.{ExplainsPiece}
