@@ -6,10 +6,12 @@ use Rattle.std.proofs.lemmas.Bool.{le-leb}
 use Rattle.std.proofs.lemmas.Bool.Decides.{leb_tells}
 use Rattle.std.proofs.lemmas.List.{map_push, reverse-append, take_all, take-append-le}
 use Rattle.std.proofs.lemmas.List.Elements.{filter_map-append}
+use Rattle.nx_envelope.specs.AtTheEnd.{identity_at_end}
 use Rattle.nx_envelope.specs.Backward.{header_back}
 use Rattle.nx_envelope.specs.Copies.{Ending, beginnings, header_at_end, headers, ending_by_marker, first_value, long_within, ending_within}
 use Rattle.nx_envelope.specs.Header.{Header}
 use Rattle.nx_envelope.specs.declared.found.How.TheVariants.{Long}
+use Rattle.nx_envelope.proofs.ReadAtTheEnd.{identity_at_end-back}
 
 -- the back of a text with one more byte
 pub reverse-push : (text : List ℕ) (b : ℕ) → reverse (text ++ b ∷ []) ≡ b ∷ reverse text
@@ -49,9 +51,9 @@ headers-push text b =
 pub header_at_end-push : (text : List ℕ) (b : ℕ) → header_at_end (text ++ b ∷ []) ≡ option_map (λ identity. record { identity = identity; behind = length text + 1 }) (header_back (b ∷ reverse text))
 unfolding header_at_end
 header_at_end-push text b =
-    let back = reverse-push text b in
+    let read : identity_at_end (text ++ b ∷ []) ≡ header_back (b ∷ reverse text) = identity_at_end-back (text ++ b ∷ []) ∙ ap header_back (reverse-push text b) in
     let long : length (text ++ b ∷ []) ≡ length text + 1 = omega (arith, length-append text (b ∷ [])) in
-    rw (back, long) refl
+    rw (read, long) refl
 
 -- The end of a raw text.
 

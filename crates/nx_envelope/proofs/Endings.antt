@@ -3,6 +3,7 @@ use Rattle.std.proofs.Common.{◌≡◌, ℕ, ◌+◌, ◌-◌, ◌<◌, ◌≤�
 use Rattle.std.specs.Option.{option_map, option_or}
 use Rattle.std.proofs.lemmas.Bool.Decides.{leb_tells}
 use Rattle.std.proofs.lemmas.List.{reverse-append, reverse-reverse, take-append-le, take-take, take_all, length-take}
+use Rattle.nx_envelope.specs.AtTheEnd.{marker_at_end}
 use Rattle.nx_envelope.specs.Backward.{ends_in, marker_back}
 use Rattle.nx_envelope.specs.Copies.{Ending, beginnings, ending_by_marker, first_value, long_within, ending_within, ending_of, most_found}
 use Rattle.nx_envelope.specs.Ending.{EndsWithMarker, MarkerEndsAt, EndsAtMarker, HasNoMarker, IsEnding, IsUnended}
@@ -10,6 +11,7 @@ use Rattle.nx_envelope.specs.Marker.{start_marker, end_marker}
 use Rattle.nx_envelope.specs.declared.found.How.{How}
 use Rattle.nx_envelope.specs.declared.found.How.TheVariants.{Full, Cut, Long}
 use Rattle.nx_envelope.proofs.Beginnings.{beginnings-push, first_value-push, long_at, not_long}
+use Rattle.nx_envelope.proofs.ReadAtTheEnd.{marker_at_end-back}
 use Rattle.nx_envelope.proofs.SpelledHeaders.{ends_in-true, nnnn_word, starts_both, ends_both, zczc_word}
 
 -- A marker at the end of a text, computed and spelled.
@@ -112,11 +114,11 @@ last_gives text b (Some how) m none = completes text b how none m
 
 gives_push : (text : List ℕ) (b : ℕ) (o : Option Ending) → FirstIs text o → FirstIs (text ++ b ∷ []) (option_or o (ending_by_marker (text ++ b ∷ [])))
 unfolding ending_by_marker
-gives_push text b None none = last_gives text b _ refl none
+gives_push text b None none = last_gives text b (marker_at_end (text ++ b ∷ [])) (sym (marker_at_end-back (text ++ b ∷ []))) none
 gives_push text b (Some ending) f = stays_first text b ending f
 
 first_nil : FirstIs [] (first_value ending_by_marker (beginnings []))
-unfolding ending_by_marker beginnings
+unfolding ending_by_marker marker_at_end beginnings
 first_nil place how le h =
     no_marker_at [] how refl (rw (take_all {A = ℕ} place [] (omega arith)) at h)
 

@@ -1,15 +1,13 @@
 -- What the finder holds, and what it notes of a byte.
 use Rattle.std.proofs.Common.{◌≡◌, ◌≢◌, ℕ, ◌+◌, ◌-◌, ◌<◌, ◌==◌, ◌&&◌, Bool, true, false, inl, inr, Some, None, List, [], ◌∷◌, ◌++◌, length, take, drop, reverse, refl, sym, ap, ◌∙◌, arith}
-use Rattle.std.specs.Str.{bytes_eq}
-use Rattle.std.proofs.lemmas.Bool.Decides.{nat_tests}
+use Rattle.std.proofs.lemmas.Bool.{and_parts}
 use Rattle.std.proofs.lemmas.List.{drop-append-le}
-use Rattle.nx_envelope.specs.Backward.{marker_back, last_four, ends_in, header_back, spaces_back, station_back, subject_back, tens_back}
+use Rattle.nx_envelope.specs.Backward.{marker_back, header_back, spaces_back, station_back, subject_back, tens_back}
 use Rattle.nx_envelope.specs.Copies.{Copy, raw_text, open_headers, closed_copy}
 use Rattle.nx_envelope.specs.Finder.{BringsCopy, ClosesCopy, ClosesNone, Ends, HoldsCopy, HoldsOpen, Keeps, is_empty}
 use Rattle.nx_envelope.specs.private.Finding.{Hearing, found_text}
 use Rattle.nx_envelope.specs.Found.{IsFound, IsFoundOf}
 use Rattle.nx_envelope.specs.Header.{Header}
-use Rattle.nx_envelope.specs.Marker.{start_marker}
 use Rattle.nx_envelope.specs.private.Stage.{IsStageOf}
 use Rattle.nx_envelope.specs.declared.finder.Finder.{Finder}
 use Rattle.nx_envelope.specs.declared.found.Found.{Found}
@@ -19,11 +17,9 @@ use Rattle.nx_envelope.specs.declared.found.TextEvent.TheVariants as events
 use Rattle.nx_envelope.specs.declared.found.How.{How}
 use Rattle.nx_envelope.specs.declared.found.How.TheVariants.{Cut, Long}
 use Rattle.nx_envelope.specs.declared.identity.Identity.{Identity}
-use Rattle.nx_envelope.specs.declared.stage.Stage.{Stage}
 use Rattle.nx_envelope.specs.declared.stage.Stage.TheVariants.{Nowhere}
-use Rattle.nx_envelope.proofs.Beginnings.{reverse-push}
 use Rattle.nx_envelope.proofs.OneMoreByte.{OneOpen, open_headers-one, still_none, opens, drops_newline, adds, ends_marked, ends_long}
-use Rattle.nx_envelope.proofs.OneOpenCopy.{open_headers-nil, parts, copies_none, copies_one}
+use Rattle.nx_envelope.proofs.OneOpenCopy.{open_headers-nil, parts, copies_none, copies_one, is_ten}
 use Rattle.nx_envelope.proofs.RawTexts.{empty_is, found_is, raw-push, raw-newline, raw-none}
 
 pub stage-nil : IsStageOf Nowhere []
@@ -32,18 +28,6 @@ stage-nil = record { spaces = refl; station = refl; subject = refl; tens = refl 
 
 pub none-nil : open_headers [] ≡ []
 none-nil = open_headers-nil
-
--- the last four bytes, one byte later
-pub recent_more : (text : List ℕ) (b : ℕ) (recent : List ℕ) → recent ≡ last_four (b ∷ reverse text) → recent ≡ last_four (reverse (text ++ b ∷ []))
-recent_more text b recent e = rw (reverse-push text b) e
-
--- the stage, one byte later
-pub stage_more : (text : List ℕ) (b : ℕ) (stage : Stage) → IsStageOf stage (b ∷ reverse text) → IsStageOf stage (reverse (text ++ b ∷ []))
-stage_more text b stage h = rw (reverse-push text b) h
-
--- the test on the last four bytes
-pub flag_is : (recent text : List ℕ) (flag : Bool) → recent ≡ last_four (reverse text) → flag ≡ bytes_eq recent start_marker → flag ≡ ends_in start_marker (reverse text)
-flag_is recent text flag e f = f ∙ ap (λ (r : List ℕ). bytes_eq r start_marker) e
 
 -- What is held of an open copy.
 
@@ -94,13 +78,6 @@ one_begins text b i now shut is copy kept =
 
 -- a copy is open
 
-is_ten : (b : ℕ) → (b == 10) ≡ true → b ≡ 10
-is_ten b e = grind (arith, nat_tests)
-
-both_true : (fresh newline : Bool) → (fresh && newline) ≡ true → (fresh ≡ true) × (newline ≡ true)
-both_true true newline e = (refl, e)
-both_true false newline e = absurd (cc)
-
 ten_is : (b : ℕ) → b ≡ 10 → (b == 10) ≡ true
 ten_is b e = rw e refl
 
@@ -127,7 +104,7 @@ stays text b identity now g copy = record { hears = g.keeps; holds = rw copy g.h
 pub goes_newline : (fresh : Bool) (kept text : List ℕ) (b : ℕ) (identity : Identity) → HoldsOpen fresh kept text identity → (fresh && (b == 10)) ≡ true → GoesOn kept text b identity
 goes_newline fresh kept text b identity h dropped =
     let g = held fresh kept text identity h in
-    let both = both_true fresh (b == 10) dropped in
+    let both = and_parts fresh (b == 10) dropped in
     let ten = is_ten b both.1 in
     let empty : is_empty (drop g.one.header.behind text) ≡ true = sym g.fresh ∙ both.0 in
     let d = drops_newline text b g.one empty ten in

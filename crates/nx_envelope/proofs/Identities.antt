@@ -1,11 +1,10 @@
 -- Identities that name one message are equal.
-use Rattle.std.proofs.Common.{◌≡◌, ◌&&◌, Bool, true, refl, ap, ◌∙◌, subst}
-use Rattle.std.proofs.lemmas.Bool.{and_parts, eq-eqb, eqb-true}
+use Rattle.std.proofs.Common.{◌≡◌, true, refl, ap, ◌∙◌, subst}
+use Rattle.std.proofs.lemmas.Bool.{and_parts, eq-eqb, eqb-true, and_from}
 use Rattle.nx_envelope.specs.Identity.{same_identity}
 use Rattle.nx_envelope.specs.declared.identity.Identity.{Identity}
 use Rattle.nx_envelope.specs.declared.letter.Letter.{Letter}
-use Rattle.nx_envelope.proofs.LettersAndDigits.{same_letter}
-use Rattle.nx_envelope.proofs.Stages.{identity_at, same_identity_at}
+use Rattle.nx_envelope.proofs.LettersAndDigits.{same_letter, identity_at, same_identity_at}
 
 of_parts : (a b : Identity) → a.b1 ≡ b.b1 → a.b2 ≡ b.b2 → a.number ≡ b.number → a ≡ b
 of_parts a b station subject number =
@@ -19,9 +18,6 @@ same_identity-true a b e =
     (same_letter a.b1 b.b1 (eqb-true a.b1.byte b.b1.byte letters.0))
     (same_letter a.b2 b.b2 (eqb-true a.b2.byte b.b2.byte letters.1))
     (eqb-true a.number b.number parts.1)
-
-and_from : (a b : Bool) → a ≡ true → b ≡ true → (a && b) ≡ true
-and_from a b p q = rw (p, q) refl
 
 pub same_itself : (a : Identity) → same_identity a a ≡ true
 same_itself a =

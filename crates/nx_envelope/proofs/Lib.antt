@@ -13,6 +13,7 @@ pub mod OneMoreByte
 pub mod OneOpenCopy
 pub mod OneText
 pub mod RawTexts
+pub mod ReadAtTheEnd
 pub mod Rising
 pub mod SpelledHeaders
 pub mod Stages

@@ -4,6 +4,7 @@ use Rattle.std.specs.List.{filter, filter_map}
 use Rattle.std.specs.Option.{option_to_list, unwrap_or}
 use Rattle.std.proofs.lemmas.Bool.Decides.{leb_tells, nat_tests}
 use Rattle.std.proofs.lemmas.List.{append-nil, map-append, reverse-append, reverse-reverse}
+use Rattle.nx_envelope.specs.AtTheEnd.{identity_at_end}
 use Rattle.nx_envelope.specs.Backward.{marker_back, header_back}
 use Rattle.nx_envelope.specs.Copies.{Ending, Copy, beginnings, header_at_end, headers, raw_text, ending_of, ended_copy, ended_copies, is_open, open_headers, closed_copy, copies}
 use Rattle.nx_envelope.specs.Finder.{Ends, is_empty}
@@ -20,7 +21,7 @@ abbrev pub Parts : List ℕ → Type 0
 Parts text = (open_headers text ≡ []) ⊎ OneOpen text
 
 pub headers-nil : headers [] ≡ []
-unfolding headers beginnings header_at_end header_back
+unfolding headers beginnings header_at_end identity_at_end
 headers-nil = refl
 
 pub open_headers-nil : open_headers [] ≡ []
@@ -34,7 +35,7 @@ raw_is_short : (text : List ℕ) (o : OneOpen text) → length (raw_text text o.
 unfolding ending_of
 raw_is_short text o = open_is_short 4100 (raw_text text o.header) o.unended
 
-is_ten : (b : ℕ) → (b == 10) ≡ true → b ≡ 10
+pub is_ten : (b : ℕ) → (b == 10) ≡ true → b ≡ 10
 is_ten b e = grind (arith, nat_tests)
 
 not_ten : (b : ℕ) → (b == 10) ≡ false → b ≢ 10

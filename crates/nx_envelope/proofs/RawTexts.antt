@@ -3,6 +3,7 @@ use Rattle.std.proofs.Common.{◌≡◌, ◌≢◌, ℕ, ◌+◌, ◌-◌, ◌<�
 use Rattle.std.specs.Prelude.{slice_index}
 use Rattle.std.proofs.lemmas.Bool.Decides.{leb_tells, nat_tests}
 use Rattle.std.proofs.lemmas.List.{reverse-append, take-append-le, take_all, drop-append-le, drop_all}
+use Rattle.nx_envelope.specs.AtTheEnd.{marker_at_end}
 use Rattle.nx_envelope.specs.Backward.{marker_back, ends_in}
 use Rattle.nx_envelope.specs.Copies.{Ending, less_newline, raw_text, ending_by_marker, beginnings, ending_within, ending_of}
 use Rattle.nx_envelope.specs.Finder.{is_empty}
@@ -11,6 +12,7 @@ use Rattle.nx_envelope.specs.Header.{Header}
 use Rattle.nx_envelope.specs.Marker.{start_marker, end_marker}
 use Rattle.nx_envelope.specs.declared.found.How.{How}
 use Rattle.nx_envelope.specs.declared.found.How.TheVariants.{Full, Cut, Long}
+use Rattle.nx_envelope.proofs.ReadAtTheEnd.{marker_at_end-back}
 use Rattle.nx_envelope.proofs.Beginnings.{long_at, not_long, ending-push, ending_stays, ending-short, open_is_short}
 
 pub empty_is : (xs : List ℕ) → is_empty xs ≡ true → xs ≡ []
@@ -46,7 +48,7 @@ unfolding raw_text
 raw-none text h e = rw e refl
 
 ending_by_marker-none : ending_by_marker [] ≡ None
-unfolding ending_by_marker
+unfolding ending_by_marker marker_at_end
 ending_by_marker-none = refl
 
 pub ending_of-nil : ending_of [] ≡ None
@@ -166,23 +168,26 @@ pub ending-marker : (raw : List ℕ) (b : ℕ) (how : How) → ending_of raw ≡
 unfolding ending_of ending_by_marker
 ending-marker raw b how none m =
     let push = ending-push 4100 raw b (open_is_short 4100 raw none) in
+    let marked = marker_at_end-back (raw ++ b ∷ []) in
     let text = sym (found_is (reverse (raw ++ b ∷ [])) raw b how m) in
     let short = shorter raw b in
-    push ∙ rw (none, m, short, text) refl
+    push ∙ rw (none, marked, m, short, text) refl
 
 -- without one the 4,100th byte ends it
 pub ending-long : (raw : List ℕ) (b : ℕ) → ending_of raw ≡ None → marker_back (reverse (raw ++ b ∷ [])) ≡ None → length raw + 1 ≡ 4100 → ending_of (raw ++ b ∷ []) ≡ Some (record { how = Long; text = raw ++ b ∷ [] })
 unfolding ending_of ending_by_marker
 ending-long raw b none m full =
     let push = ending-push 4100 raw b (open_is_short 4100 raw none) in
+    let marked = marker_at_end-back (raw ++ b ∷ []) in
     let long = long_at 4100 (raw ++ b ∷ []) (omega (arith, length-append raw (b ∷ []))) in
     let whole = take_all 4100 (raw ++ b ∷ []) (omega (arith, length-append raw (b ∷ []))) in
-    push ∙ rw (none, m, long, whole) refl
+    push ∙ rw (none, marked, m, long, whole) refl
 
 -- and below that it stays open
 pub ending-open : (raw : List ℕ) (b : ℕ) → ending_of raw ≡ None → marker_back (reverse (raw ++ b ∷ [])) ≡ None → length raw + 1 < 4100 → ending_of (raw ++ b ∷ []) ≡ None
 unfolding ending_of ending_by_marker
 ending-open raw b none m short =
     let push = ending-push 4100 raw b (open_is_short 4100 raw none) in
+    let marked = marker_at_end-back (raw ++ b ∷ []) in
     let long = not_long 4100 (raw ++ b ∷ []) (omega (arith, length-append raw (b ∷ []))) in
-    push ∙ rw (none, m, long) refl
+    push ∙ rw (none, marked, m, long) refl

@@ -1,21 +1,22 @@
 -- A header and a marker at the back of a text, and as they are spelled.
 use Rattle.std.proofs.Common.{◌≡◌, ◌≢◌, ℕ, zero, suc, ◌+◌, ◌-◌, ◌*◌, ◌/◌, ◌%◌, ◌≤◌, ◌==◌, ◌&&◌, ◌||◌, Bool, true, false, inl, inr, if◌then◌else◌, Option, Some, None, List, [], ◌∷◌, ◌++◌, drop, reverse, refl, sym, ap, subst, ◌∙◌, arith, add-one}
+use Rattle.std.proofs.lemmas.Bool.{and_parts, or_right}
 use Rattle.std.specs.Prelude.{replicate}
 use Rattle.std.proofs.lemmas.Bool.Decides.{leb_tells, nat_tests}
 use Rattle.std.proofs.lemmas.List.{reverse-append, reverse-reverse, replicate_more}
-use Rattle.nx_envelope.specs.Backward.{letter_of, digit_of, both, ends_in, identity_of, identity_with, spaces_back, station_back, subject_back, tens_back, header_back}
+use Rattle.nx_envelope.specs.AtTheEnd.{letter_of, digit_of, both, identity_of, identity_with}
+use Rattle.nx_envelope.specs.Backward.{ends_in, spaces_back, station_back, subject_back, tens_back, header_back}
 use Rattle.nx_envelope.specs.Header.{EndsWithHeader}
 use Rattle.nx_envelope.specs.Identity.{identity_bytes}
 use Rattle.nx_envelope.specs.Marker.{EndsWith, start_marker, end_marker}
 use Rattle.nx_envelope.specs.declared.digit.Digit.{Digit}
 use Rattle.nx_envelope.specs.declared.identity.Identity.{Identity}
 use Rattle.nx_envelope.specs.declared.letter.Letter.{Letter}
-use Rattle.nx_envelope.proofs.LettersAndDigits.{letter_at, digit_at, letter_of-byte, letter_of-none, digit_of-value}
-use Rattle.nx_envelope.proofs.Stages.{same_identity_at, both_first, both_second, identity_some, digit_of-some}
+use Rattle.nx_envelope.proofs.LettersAndDigits.{letter_at, digit_at, letter_of-byte, letter_of-none, digit_of-value, same_identity_at, both_first, both_second, identity_some, digit_of-some}
 
 -- Words of four letters.
 
-eq_is : (a b : ℕ) → (a == b) ≡ true → a ≡ b
+pub eq_is : (a b : ℕ) → (a == b) ≡ true → a ≡ b
 eq_is a b e = grind (arith, nat_tests)
 
 pub record Four (a b c d : Bool) : Type 0 where
@@ -88,11 +89,7 @@ pub record Spaced (back : List ℕ) : Type 0 where
   pub rest : List ℕ
   pub is : back ≡ replicate (more + 1) 32 ++ 67 ∷ 90 ∷ 67 ∷ 90 ∷ rest
 
-and_parts : (a b : Bool) → (a && b) ≡ true → (a ≡ true) × (b ≡ true)
-and_parts true b e = (refl, e)
-and_parts false b e = absurd (cc)
-
-replicate-one : (n x : ℕ) → replicate (n + 1) x ≡ x ∷ replicate n x
+pub replicate-one : (n x : ℕ) → replicate (n + 1) x ≡ x ∷ replicate n x
 replicate-one n x = rw add-one refl
 
 spaced_more : (start : Bool) (b : ℕ) (back : List ℕ) → b ≡ 32 → ends_in start_marker back ≡ start → (start || spaces_back back) ≡ true → (spaces_back back ≡ true → Spaced back) → Spaced (b ∷ back)
@@ -111,10 +108,6 @@ spaced (b ∷ back) e =
     let p = and_parts (b == 32) (ends_in start_marker back || spaces_back back) e in
     spaced_more _ b back (eq_is b 32 p.0) refl p.1 (spaced back)
 
-or_true : (a b : Bool) → b ≡ true → (a || b) ≡ true
-or_true true b e = refl
-or_true false b e = e
-
 spaces_back-true : (n : ℕ) (rest : List ℕ) → spaces_back (replicate (n + 1) 32 ++ 67 ∷ 90 ∷ 67 ∷ 90 ∷ rest) ≡ true
 unfolding spaces_back
 spaces_back-true zero rest = refl
@@ -122,9 +115,9 @@ spaces_back-true (suc n) rest =
     let one : suc n + 1 ≡ (n + 1) + 1 = omega arith in
     let more = replicate-one (n + 1) 32 in
     let below = spaces_back-true n rest in
-    rw (one, more) (or_true (ends_in start_marker (replicate (n + 1) 32 ++ 67 ∷ 90 ∷ 67 ∷ 90 ∷ rest)) _ below)
+    rw (one, more) (or_right (ends_in start_marker (replicate (n + 1) 32 ++ 67 ∷ 90 ∷ 67 ∷ 90 ∷ rest)) _ below)
 
-letter_of-some : (b : ℕ) (l : Letter) → letter_of b ≡ Some l → b ≡ l.byte
+pub letter_of-some : (b : ℕ) (l : Letter) → letter_of b ≡ Some l → b ≡ l.byte
 letter_of-some b l e =
     elim (leb_tells 65 b) [
       | inl p ↦ elim (leb_tells b 90) [
@@ -134,7 +127,7 @@ letter_of-some b l e =
       | inr p ↦ absurd (let none = letter_of-none b (λ h. absurd (omega (arith, p.1))) in cc)
     ]
 
-digit_of-is : (b : ℕ) (d : Digit) → digit_of b ≡ Some d → b ≡ 48 + d.value
+pub digit_of-is : (b : ℕ) (d : Digit) → digit_of b ≡ Some d → b ≡ 48 + d.value
 digit_of-is b d e =
     let in_range = digit_of-some b d e in
     let small : b - 48 ≤ 9 = omega arith in
@@ -148,7 +141,7 @@ pub record StationBack (back : List ℕ) (l : Letter) : Type 0 where
   pub spaces : Spaced rest
   pub is : back ≡ l.byte ∷ rest
 
-if_some : (c : Bool) (o : Option Letter) (l : Letter) → (if c then o else None) ≡ Some l → (c ≡ true) × (o ≡ Some l)
+pub if_some : {A : Type 0} (c : Bool) (o : Option A) (l : A) → (if c then o else None) ≡ Some l → (c ≡ true) × (o ≡ Some l)
 if_some true o l e = (refl, e)
 if_some false o l e = absurd (cc)
 

@@ -1,8 +1,8 @@
 -- The stage of a header one byte later.
-use Rattle.std.proofs.Common.{◌≡◌, ◌≢◌, ℕ, ◌+◌, ◌*◌, ◌≤◌, ◌==◌, ◌&&◌, ◌||◌, inl, inr, if◌then◌else◌, Bool, true, false, Option, Some, None, List, [], ◌∷◌, refl, sym, ap, subst, ◌∙◌, arith}
-use Rattle.std.proofs.lemmas.Bool.Decides.{leb_tells, nat_tests}
-use Rattle.std.proofs.Props.{props}
-use Rattle.nx_envelope.specs.Backward.{letter_of, digit_of, both, ends_in, identity_of, identity_with, spaces_back, station_back, subject_back, tens_back, header_back}
+use Rattle.std.proofs.Common.{◌≡◌, ◌≢◌, ℕ, ◌==◌, ◌&&◌, ◌||◌, if◌then◌else◌, Bool, true, false, Option, Some, None, List, [], ◌∷◌, refl, sym, ◌∙◌, arith}
+use Rattle.std.proofs.lemmas.Bool.Decides.{nat_tests}
+use Rattle.nx_envelope.specs.AtTheEnd.{letter_of, digit_of, both, identity_with}
+use Rattle.nx_envelope.specs.Backward.{ends_in, spaces_back, station_back, subject_back, tens_back, header_back}
 use Rattle.nx_envelope.specs.private.DigitBytes.{IsDigit}
 use Rattle.nx_envelope.specs.Marker.{start_marker}
 use Rattle.nx_envelope.specs.private.Stage.{IsStageOf, is_spaces, station_in, subject_in, tens_in}
@@ -11,7 +11,7 @@ use Rattle.nx_envelope.specs.declared.identity.Identity.{Identity}
 use Rattle.nx_envelope.specs.declared.letter.Letter.{Letter}
 use Rattle.nx_envelope.specs.declared.stage.Stage.{Stage}
 use Rattle.nx_envelope.specs.declared.stage.Stage.TheVariants.{Nowhere, Spaces, Station, Subject, Tens}
-use Rattle.nx_envelope.proofs.LettersAndDigits.{stage_parts, both-none, letter_of-none, digit_of-none, letter_of-space, digit_of-space}
+use Rattle.nx_envelope.proofs.LettersAndDigits.{stage_parts, both-none, letter_of-none, letter_of-space, digit_of-space, both_first, both_second, identity_some, digit_of-some}
 use Rattle.nx_envelope.proofs.RawTexts.{IsPlain}
 
 -- a stage stands at the back and a flag tells whether it ends with ZCZC
@@ -95,18 +95,6 @@ not_tens (Station l) apart = refl
 not_tens (Subject l m) apart = refl
 not_tens (Tens l m d) apart = absurd (apart l m d refl)
 
-abbrev pub identity_at : Letter → Letter → (n : ℕ) → n ≤ 99 → Identity
-identity_at l m n p = record { b1 = l; b2 = m; number = n; two_digits = p }
-
-pub same_identity_at : (l m : Letter) (x y : ℕ) (e : x ≡ y) (p : x ≤ 99) (q : y ≤ 99) → identity_at l m x p ≡ identity_at l m y q
-same_identity_at l m x y e =
-    let alike : IsProp (x ≤ 99) = hlevel props in
-    let P : ℕ → Type 0 = λ (z : ℕ). (p : x ≤ 99) (q : z ≤ 99) → identity_at l m x p ≡ identity_at l m z q in
-    subst P e (λ p q. ap (identity_at l m x) (alike p q))
-
-pub identity_is : (l m : Letter) (t u : Digit) (p : t.value * 10 + u.value ≤ 99) → identity_at l m (t.value * 10 + u.value) p ≡ identity_of l m t u
-identity_is l m t u p = same_identity_at l m _ _ refl p _
-
 and_false : (c : Bool) → (c && false) ≡ false
 and_false true = refl
 and_false false = refl
@@ -117,35 +105,6 @@ quiet_more b back h = stage_is Nowhere Nowhere false b back h (and_false (b == 3
 
 pub no_header : (b : ℕ) (back : List ℕ) → IsStageOf Nowhere back → header_back (b ∷ back) ≡ None
 no_header b back h = header_is Nowhere b back h
-
-pub both_first : {A B : Type 0} (o : Option A) (p : Option B) (q : A × B) → both o p ≡ Some q → o ≡ Some q.0
-both_first None p q e = absurd (let contra : None ≡ Some q = e in cc)
-both_first (Some a) None q e = absurd (let contra : None ≡ Some q = e in cc)
-both_first (Some a) (Some b) q e = let same : (a, b) ≡ q = cc in ap (λ z. Some z.0) same
-
-pub both_second : {A B : Type 0} (o : Option A) (p : Option B) (q : A × B) → both o p ≡ Some q → p ≡ Some q.1
-both_second None p q e = absurd (let contra : None ≡ Some q = e in cc)
-both_second (Some a) None q e = absurd (let contra : None ≡ Some q = e in cc)
-both_second (Some a) (Some b) q e = let same : (a, b) ≡ q = cc in ap (λ z. Some z.1) same
-
-pub record IsWith (o : Option (((Letter × Letter) × Digit) × Digit)) : Type 0 where
-  pub found : ((Letter × Letter) × Digit) × Digit
-  pub is : o ≡ Some found
-
-pub identity_some : (o : Option (((Letter × Letter) × Digit) × Digit)) (i : Identity) → identity_with o ≡ Some i → IsWith o
-identity_some None i e = absurd (cc)
-identity_some (Some found) i e = record { found = found; is = refl }
-
--- the digit of a byte says that it is one
-pub digit_of-some : (b : ℕ) (d : Digit) → digit_of b ≡ Some d → IsDigit b
-digit_of-some b d e =
-    elim (leb_tells 48 b) [
-      | inl p ↦ elim (leb_tells b 57) [
-        | inl q ↦ (p.1, q.1)
-        | inr q ↦ absurd (let none = digit_of-none b (λ h. absurd (omega (arith, q.1))) in cc)
-      ]
-      | inr p ↦ absurd (let none = digit_of-none b (λ h. absurd (omega (arith, p.1))) in cc)
-    ]
 
 pub digit_is_plain : (b : ℕ) → IsDigit b → IsPlain b
 digit_is_plain b h = record { no_n = λ e. omega arith; no_z = λ e. omega arith; no_c = λ e. omega arith }

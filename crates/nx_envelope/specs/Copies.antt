@@ -1,9 +1,9 @@
 -- The copies of messages in a received text: the form of a message is that of ITU-R M.540; that a
 -- text without an end is found up to 4,100 characters is this profile's.
-use Rattle.std.specs.Prelude.{ℕ, ◌-◌, ◌==◌, nat_le, Bool, if◌then◌else◌, Option, Some, None, List, [], ◌∷◌, length, take, drop, map, reverse, unwrap_or}
+use Rattle.std.specs.Prelude.{ℕ, ◌-◌, ◌==◌, nat_le, Bool, if◌then◌else◌, Option, Some, None, List, [], ◌∷◌, length, take, drop, map, unwrap_or}
 use Rattle.std.specs.List.{filter, filter_map}
 use Rattle.std.specs.Option.{option_map, option_or, is_none}
-use Rattle.nx_envelope.specs.Backward.{header_back, marker_back}
+use Rattle.nx_envelope.specs.AtTheEnd.{identity_at_end, marker_at_end}
 use Rattle.nx_envelope.specs.Header.{Header}
 use Rattle.nx_envelope.specs.Newline.{newline}
 use Rattle.nx_envelope.specs.declared.found.How.{How}
@@ -18,7 +18,7 @@ beginnings (b ∷ text) = [] ∷ map (λ p. b ∷ p) (beginnings text)
 unfoldable pub header_at_end : List ℕ → Option Header
 header_at_end text =
     option_map (λ identity. record { identity = identity; behind = length text })
-    (header_back (reverse text))
+    (identity_at_end text)
 
 -- the headers of a text, wherever they stand, in their order
 unfoldable pub headers : List ℕ → List Header
@@ -42,7 +42,7 @@ pub record Ending : Type 0 where
 unfoldable pub ending_by_marker : List ℕ → Option Ending
 ending_by_marker text =
     option_map (λ how. record { how = how; text = take (length text - 4) text })
-    (marker_back (reverse text))
+    (marker_at_end text)
 
 -- what the first item gives that gives something
 abbrev pub first_value : {A B : Type 0} → (A → Option B) → List A → Option B

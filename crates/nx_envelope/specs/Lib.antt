@@ -1,3 +1,4 @@
+pub mod AtTheEnd
 pub mod Backward
 pub mod Copies
 pub mod Digits

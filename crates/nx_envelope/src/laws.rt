@@ -1,9 +1,9 @@
 //! Laws of headers, copies and moments: each holds by its contract alone, and the call does
 //! nothing.
 
-ghost use Rattle.std.specs.Prelude.{◌≡◌, ◌↔◌, ◌<◌, ◌≤◌, ◌++◌, [], ℕ, Contains, List, Option, IsTrue, None, Some, length, map, reverse};
+ghost use Rattle.std.specs.Prelude.{◌≡◌, ◌↔◌, ◌<◌, ◌≤◌, ◌++◌, [], ℕ, Contains, List, Option, IsTrue, None, Some, length, map};
 ghost use Rattle.std.specs.List.{AllZip};
-ghost use Rattle.nx_envelope.specs.Backward.{ends_in, header_back};
+ghost use Rattle.nx_envelope.specs.AtTheEnd.{ends_with, identity_at_end};
 ghost use Rattle.nx_envelope.specs.Copies.{Ending, closed_copy, copies, headers, ended_copies, ending_of, open_headers};
 ghost use Rattle.nx_envelope.specs.Finder.{Closes};
 ghost use Rattle.nx_envelope.specs.Found.{IsFound};
@@ -17,11 +17,11 @@ ghost use Rattle.nx_envelope.specs.declared.found.FinderStep.{FinderStep};
 ghost use Rattle.nx_envelope.specs.declared.found.Found.{Found};
 ghost use Rattle.nx_envelope.specs.declared.identity.Identity.{Identity};
 
-/// A text ends with a marker, as it is read from its end, exactly where it is spelled so.
+/// A text ends with a marker, as its last four bytes tell, exactly where it is spelled so.
 pub fn markers_are_spelled()
-    ensures start { (text : List ℕ) → IsTrue (ends_in start_marker (reverse text))
+    ensures start { (text : List ℕ) → IsTrue (ends_with start_marker text)
         ↔ EndsWith text start_marker }
-    ensures end { (text : List ℕ) → IsTrue (ends_in end_marker (reverse text))
+    ensures end { (text : List ℕ) → IsTrue (ends_with end_marker text)
         ↔ EndsWith text end_marker }
 {}
 
@@ -67,11 +67,11 @@ pub fn same_identity_is_equality()
     ensures { (a b : Identity) → IsTrue (same_identity a b) ↔ (a ≡ b) }
 {}
 
-/// A text ends with a header, as it is read from its end, exactly where it is spelled `ZCZC`, one
-/// or more spaces, two letters and two digits.
+/// A text ends with a header, as it is looked for at each place of the text, exactly where it is
+/// spelled `ZCZC`, one or more spaces, two letters and two digits.
 pub fn header_is_spelled()
     ensures { (text : List ℕ) (identity : Identity) →
-        (header_back (reverse text) ≡ Some identity) ↔ EndsWithHeader text identity }
+        (identity_at_end text ≡ Some identity) ↔ EndsWithHeader text identity }
 {}
 
 /// Every moment to the last one has a civil text.

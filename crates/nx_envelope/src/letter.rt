@@ -12,7 +12,7 @@ pub struct Letter {
 }
 
 impl Letter {
-    ghost use Rattle.nx_envelope.specs.Backward.{letter_of};
+    ghost use Rattle.nx_envelope.specs.AtTheEnd.{letter_of};
 
     /// The letter of a byte, `None` where the byte isn't A to Z.
     pub fn new(byte: u8) -> Option<Letter>

@@ -28,12 +28,6 @@ ea02 = record {
 abbrev pub entry_at : Identity → ℕ → MemoryEntry
 entry_at identity moment = record { identity = identity; moment = moment }
 
-pub last_two : last_of {A = ℕ} 2 (5 ∷ 6 ∷ 7 ∷ []) ≡ 6 ∷ 7 ∷ []
-last_two = refl
-
-pub all_of_two : last_of {A = ℕ} 3 (6 ∷ 7 ∷ []) ≡ 6 ∷ 7 ∷ []
-all_of_two = refl
-
 -- entered at 0: known to the last second before 66 hours have passed, and no longer
 pub known_below_66_hours : is_known ea01 237599 (content_after [] ea01 0) ≡ true
 known_below_66_hours = refl

@@ -8,7 +8,7 @@ use Rattle.nx_sync.specs.Laws.{Extends, same, newer, GoesOn, hunts_on, finds_one
 use Rattle.nx_sync.proofs.StateChanges.{goes-on, Extends-trans}
 use Rattle.nx_sync.proofs.KeptPast.{IsReleased-less}
 use Rattle.nx_envelope.specs.Copies.{ended_copies, open_headers, headers, beginnings, header_at_end}
-use Rattle.nx_envelope.specs.Backward.{header_back}
+use Rattle.nx_envelope.specs.AtTheEnd.{identity_at_end}
 use Rattle.nx_receiver.specs.LockText.{PlacedByte, bytes_of, lock_text}
 use Rattle.nx_receiver.specs.FoundCopies.{FoundCopy, ended_in, open_in, all_in, past_text, past_copies, standing_text, ended_so_far}
 use Rattle.nx_receiver.proofs.LockTexts.{GoesOnAs, goes_on_as_is, goes_on_twice, goes_on_then, goes_on_behind, lock_text-more, text_by-grows}
@@ -57,11 +57,11 @@ not_past_yet bits more locks p lock q now past =
 
 -- an empty text has no copies
 pub ended_in-nil : ended_in [] ≡ []
-unfolding bytes_of ended_copies headers beginnings header_at_end header_back
+unfolding bytes_of ended_copies headers beginnings header_at_end identity_at_end
 ended_in-nil = refl
 
 pub open_in-nil : open_in [] ≡ []
-unfolding bytes_of open_headers headers beginnings header_at_end header_back
+unfolding bytes_of open_headers headers beginnings header_at_end identity_at_end
 open_in-nil = refl
 
 past_of : (bits : List Bool) (ls ks : List Lock) (p : ℕ) → Extends ls ks → Past bits ls p → (q : ℕ) × Past bits ks q

@@ -9,7 +9,7 @@ use Rattle.nx_envelope.specs.declared.digit.Digit.{Digit}
 use Rattle.nx_envelope.specs.declared.found.How.TheVariants.{Full}
 use Rattle.nx_envelope.specs.declared.identity.Identity.{Identity}
 use Rattle.nx_envelope.specs.declared.letter.Letter.{Letter}
-use Rattle.nx_envelope.specs.Backward.{letter_from, letter_of, digit_from, digit_of, spaces_back, station_back, subject_back, tens_back, header_back, identity_of}
+use Rattle.nx_envelope.specs.AtTheEnd.{letter_from, letter_of, digit_from, digit_of, identity_of, read_identity, read_spaced, read_header, identity_at_end, marker_at_end}
 use Rattle.nx_envelope.specs.Copies.{Copy, beginnings, header_at_end, headers, raw_text, ending_by_marker, long_within, ending_within, ending_of, ended_copy, closed_copy, copies}
 use Rattle.nx_envelope.proofs.Examples.{slot_of_e}
 use Rattle.nx_envelope.proofs.Identities.{same_identity-true}
@@ -56,7 +56,7 @@ found : Copy
 found = record { header = record { identity = found_identity; behind = 9 }; how = Full; text = codes "TEST\n" }
 
 copies_are : copies (codes "ZCZC EA01\nTEST\nNNNN\n\n") ≡ found ∷ []
-unfolding found found_identity letter digit copies headers beginnings header_at_end header_back tens_back subject_back station_back spaces_back letter_of letter_from digit_of digit_from raw_text ending_by_marker long_within ending_within ending_of ended_copy closed_copy
+unfolding found found_identity letter digit copies headers beginnings header_at_end identity_at_end read_header read_spaced read_identity letter_of letter_from digit_of digit_from raw_text ending_by_marker marker_at_end long_within ending_within ending_of ended_copy closed_copy
 copies_are = refl
 
 same_name : found_identity ≡ ea01

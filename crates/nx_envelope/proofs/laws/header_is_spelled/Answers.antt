@@ -1,5 +1,5 @@
-use Rattle.nx_envelope.proofs.SpelledHeaders.{header_both}
+use Rattle.nx_envelope.proofs.ReadAtTheEnd.{identity_spelled_at_end}
 use Rattle.nx_envelope.proofs.laws.header_is_spelled.Goals as goal
 
 pub returns : goal.returns
-returns c = header_both
+returns c = identity_spelled_at_end
