@@ -7,7 +7,7 @@ use Rattle.nx_code.specs.declared.places.TheConstants.{BY_WORD, BY_CHARACTER}
 use Rattle.nx_code.specs.declared.shifts.Shift.{Shift}
 use Rattle.nx_code.specs.declared.shifts.Shift.TheVariants.{Letters, Figures}
 use Rattle.nx_code.specs.Table.{table, words, place_of}
-use Rattle.nx_code.specs.Rows.{place_given}
+use Rattle.nx_code.specs.private.Rows.{place_given}
 use Rattle.nx_code.specs.Reading.{character_of}
 use Rattle.nx_code.proofs.CharacterLemmas.{place_for, place_for-Some, place_for-printed, same_place_for, in_code-printed, in_code-low}
 

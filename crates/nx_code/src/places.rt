@@ -3,7 +3,7 @@
 
 ghost use Rattle.std.specs.Prelude.{◌≡◌, ℕ, ◌+◌, ◌-◌, ◌≤◌, ◌<◌, Some, IfSome};
 ghost use Rattle.nx_code.specs.Reading.{character_of};
-ghost use Rattle.nx_code.specs.Rows.{place_given};
+ghost use Rattle.nx_code.specs.private.Rows.{place_given};
 ghost use Rattle.nx_code.specs.Table.{place_of};
 ghost use Rattle.nx_code.specs.declared.shifts.Shift.{Shift};
 
