@@ -1,5 +1,6 @@
 pub mod Lists
 pub mod Word
+pub mod Packed
 pub mod Table
 pub mod Signal
 pub mod Phasing

@@ -2,7 +2,7 @@
 use Rattle.std.proofs.Common.{◌≡◌, ℕ, ◌+◌, ◌-◌, ◌*◌, ◌/◌, ◌<◌, ◌≤◌, refl, sym, ap, ◌∙◌, Bool, List, [], ◌∷◌, ◌++◌, length, map, get_or, arith}
 use Rattle.std.specs.List.{range_with_len}
 use Rattle.std.proofs.lemmas.List.FromFn.{length-map-range_with_len, get_or-map-range_with_len, map-range_with_len_more}
-use Rattle.std.proofs.Common.{inl, inr, slice_get, Some, None}
+use Rattle.std.proofs.Common.{inl, inr, slice_get, slice_index, Some, None}
 use Rattle.std.proofs.lemmas.List.{ext_get_or, get_or_append_left}
 use Rattle.std.proofs.lemmas.Option.{slice_get-get_or, slice_get_past}
 use Rattle.std.proofs.lemmas.Bool.{cases_lt}
@@ -50,10 +50,10 @@ third_last-early words h = grind (arith, nat_tests)
 third_last-late : (words : List Counted) → 3 ≤ length words → third_last words ≡ get_or words (length words - 3) nothing
 third_last-late words h = grind (arith, nat_tests)
 
-pub five_before-early : (words : List ℕ) (slot : ℕ) → slot < 5 → five_before words slot ≡ nothing
+pub five_before-early : (words : List ℕ) (slot : ℕ) → slot < 5 → five_before (slice_index words) slot ≡ nothing
 five_before-early words slot h = grind (arith, nat_tests)
 
-pub five_before-late : (words : List ℕ) (slot : ℕ) → 5 ≤ slot → five_before words slot ≡ counts_as (get_or words (slot - 5) 0)
+pub five_before-late : (words : List ℕ) (slot : ℕ) → 5 ≤ slot → five_before (slice_index words) slot ≡ counts_as (get_or words (slot - 5) 0)
 five_before-late words slot h = grind (arith, nat_tests)
 
 length-dx_words : (words : List ℕ) (first n : ℕ) → length (dx_words words first n) ≡ n
@@ -65,7 +65,7 @@ unfolding dx_words
 get_or-dx_words words first n i h = get_or-map-range_with_len (λ i. counts_as (get_or words (2 * i + first) 0)) 0 n i i nothing h (omega arith)
 
 -- the third last of the DX words before an RX word stands five words before it
-pub third_last-dx_words : (words : List ℕ) (first n : ℕ) → first ≤ 1 → third_last (dx_words words first n) ≡ five_before words (2 * n + first - 1)
+pub third_last-dx_words : (words : List ℕ) (first n : ℕ) → first ≤ 1 → third_last (dx_words words first n) ≡ five_before (slice_index words) (2 * n + first - 1)
 third_last-dx_words words first n small =
     let len = length-dx_words words first n in
     elim (cases_lt n 3) [
@@ -79,10 +79,10 @@ third_last-dx_words words first n small =
     ]
 
 -- the RX word of a pair of slots comes after as many DX words as there are pairs up to it
-pub third_last-pairs : (words : List ℕ) (n : ℕ) → third_last (dx_words words 0 (n + 1)) ≡ five_before words (2 * n + 1)
+pub third_last-pairs : (words : List ℕ) (n : ℕ) → third_last (dx_words words 0 (n + 1)) ≡ five_before (slice_index words) (2 * n + 1)
 third_last-pairs words n =
     let slot : 2 * (n + 1) + 0 - 1 ≡ 2 * n + 1 = omega arith in
-    third_last-dx_words words 0 (n + 1) (omega arith) ∙ ap (five_before words) slot
+    third_last-dx_words words 0 (n + 1) (omega arith) ∙ ap (five_before (slice_index words)) slot
 
 -- as many RX slots as there are pairs of words
 pub taken_first-all : (bits : List Bool) (n : ℕ) → n ≡ length bits / 14 → taken_first (words_of bits) n ≡ receptions (words_of bits)
@@ -93,7 +93,7 @@ taken_first-all bits n h =
     ap (taken_first (words_of bits)) e
 
 -- the position that is taken from a slot pair
-pub taken_at-pairing : (words : List ℕ) (n : ℕ) → taken_at words (2 * n + 1) ≡ pairing (five_before words (2 * n + 1)) (counts_as (get_or words (2 * n + 1) 0))
+pub taken_at-pairing : (words : List ℕ) (n : ℕ) → taken_at words (2 * n + 1) ≡ pairing (five_before (slice_index words) (2 * n + 1)) (counts_as (get_or words (2 * n + 1) 0))
 unfolding taken_at
 taken_at-pairing words n = refl
 

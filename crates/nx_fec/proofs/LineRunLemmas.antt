@@ -9,7 +9,8 @@ use Rattle.nx_fec.specs.AirFile.{Line, IsLine, spelling}
 use Rattle.nx_fec.specs.Devices.{HasWritten, WroteSome}
 use Rattle.nx_fec.specs.Transfers.{Devices, IsReadOut, Writes}
 use Rattle.nx_fec.specs.Lines.{IsAtByte, IsCause, Scanning, Scans, StopsIn, file_of, line_bytes}
-use Rattle.nx_fec.specs.LineRuns.{AnswersLines, Beginning, ExplainsLines, HasGiven, HasTaken, HasTakenAll, HasTakenSome, IsPlaced, IsLineRefused, IsTaking, Refusing, RunsLines, Standing, StopsAt, Waiting}
+use Rattle.nx_fec.specs.LineRuns.{AnswersLines, Beginning, ExplainsLines, HasGiven, HasTaken, HasTakenAll, HasTakenSome, IsPlaced, IsLineRefused, Refusing, RunsLines, Standing, StopsAt, Waiting}
+use Rattle.nx_fec.specs.private.LineTaking.{IsTaking}
 use Rattle.nx_fec.specs.Scanner.{kind_kept}
 use Rattle.nx_fec.specs.declared.air_file.LineKind.{LineKind}
 use Rattle.nx_fec.specs.declared.fault.LineFault.{LineFault}
@@ -19,7 +20,7 @@ use Rattle.nx_fec.specs.declared.line_run.LinesFault.TheVariants as run
 use Rattle.nx_fec.specs.declared.line_run.LinesRead.{LinesRead}
 use Rattle.nx_fec.proofs.LineLaws.{spelling-IsBeginning}
 use Rattle.nx_fec.proofs.PieceLemmas.{piece-parts}
-use Rattle.nx_fec.proofs.ReadingLaws.{IsCause-more}
+use Rattle.nx_fec.proofs.ReadingLaws.{IfErr-always, IsCause-more}
 
 pub IsPlaced-at_byte : (AtEnd : Type 0) (why : LineFault) → IsAtByte why → IsPlaced AtEnd why
 IsPlaced-at_byte AtEnd TooLong at = tt
@@ -228,8 +229,9 @@ module _ {T F : Type 0} (stands : Standing T) (begins : Beginning T) (refuses : 
       → HasTaken stands first now lines G → HasTakenSome begins first old new lines lost
   taken-some first now old new G lines lost law f h = record { given = h.given; begun = law lines h.given h.stood; some = f h.given h.here }
 
-  refused-longer : (first : T) (limit : ℕ) (lines : List Line) (rest more ys : List ℕ) (number : ℕ) (why : F) → IsLineRefused refuses first limit lines rest more number why
-      → IsLineRefused refuses first limit lines rest (more ++ ys) number why
+  refused-longer : (first : T) (limit : ℕ) (lines : List Line) (rest more ys : List ℕ) (number : ℕ) (why : F)
+      → IsLineRefused (λ before next. refuses first before next why) limit lines rest more number
+      → IsLineRefused (λ before next. refuses first before next why) limit lines rest (more ++ ys) number
   refused-longer first limit lines rest more ys number why h = record {
     line = h.line;
     after = h.after ++ ys;
@@ -334,7 +336,7 @@ module _ {T F : Type 0} (stands : Standing T) (begins : Beginning T) (refuses : 
       consumed = consumed;
       answer = answer;
       file = AnswersLines-file (d.remaining d.reader.inner) (d.remaining d.reader_after.inner) first now limit _ _ bytes outcome consumed answer;
-      before = λ e. tt;
+      before = IfErr-always outcome _ (λ fault e. tt);
       failed = failed;
       once = once;
     };

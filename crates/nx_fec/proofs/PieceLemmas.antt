@@ -18,6 +18,11 @@ piece-rest bytes piece more at =
     ∙ append_assoc (bytes ++ take at piece) (drop at piece) more
     ∙ sym (piece-parts bytes piece more at)
 
+pub piece-whole : (bytes piece : List ℕ) (at : ℕ) → (bytes ++ take at piece) ++ take (length piece - at) (drop at piece) ≡ bytes ++ piece
+piece-whole bytes piece at =
+    append_assoc bytes (take at piece) (take (length piece - at) (drop at piece))
+    ∙ ap (λ l. bytes ++ l) (ap (λ l. take at piece ++ l) (take_rest piece at) ∙ take-append-drop at piece)
+
 -- the next bytes of a piece
 pub piece-next : (bytes piece : List ℕ) (at count : ℕ) → (bytes ++ take at piece) ++ take count (take (length piece - at) (drop at piece)) ≡ bytes ++ take (at + count) piece
 piece-next bytes piece at count =

@@ -1,16 +1,39 @@
 -- Lemmas on what a scanner has read, and on the faults that explain why it stopped.
-use Rattle.std.proofs.Common.{◌≡◌, ℕ, Bool, length, take, drop, option_to_list, refl, List, [], ◌∷◌, ◌++◌, sym, ap, ◌∙◌, subst, append-nil, Option, None, Some, IfSome, Result, Err}
+use Rattle.std.proofs.Common.{◌≡◌, ℕ, arith, Bool, length, take, drop, option_to_list, refl, List, [], ◌∷◌, ◌++◌, sym, ap, ◌∙◌, subst, append-nil, Option, None, Some, IfSome, Result, Ok, Err, IfErr}
 use Rattle.std.specs.List.{flat_map}
 use Rattle.std.proofs.lemmas.List.Concat.{flat_map-append}
 use Rattle.nx_fec.specs.AirFile.{Line}
-use Rattle.nx_fec.specs.Lines.{HasFault, IsAtByte, IsCause, Scanning, Scans, Splits, StopsIn, elements_of}
+use Rattle.nx_fec.specs.Lines.{HasFault, IsAtByte, IsBitFile, IsCause, IsFaultless, Scanning, Scans, Splits, StopsIn, elements_of, file_of}
 use Rattle.nx_fec.specs.Scanner.{elements_kept}
-use Rattle.nx_fec.specs.Runs.{run_fault, ExplainsReading, HasRead}
+use Rattle.nx_fec.specs.Runs.{run_fault, ExplainsReading, IsOutside}
+use Rattle.nx_fec.specs.private.Takers.{ExplainsPiece, HasRead}
+use Rattle.std.specs.declared.alloc.AllocError.{AllocError}
 use Rattle.nx_fec.proofs.PieceLemmas.{piece-parts}
 use Rattle.nx_fec.specs.declared.fault.LineFault.{LineFault}
 use Rattle.nx_fec.specs.declared.fault.LineFault.TheVariants as file
 use Rattle.nx_fec.specs.declared.fault.RunFault.{RunFault}
 use Rattle.nx_fec.specs.declared.fault.RunFault.TheVariants.{Read, FileTooLong, LineLong, LineCut, BadLine, Ragged, NoSuchCharacter, Write, Memory}
+
+-- no fault stands in the bytes that a scanner took
+pub Scans-faultless : (limit : ℕ) (scanner : Scanning) (bytes : List ℕ) (lines : List Line) → Scans limit scanner bytes lines → IsFaultless limit bytes
+Scans-faultless limit scanner bytes lines h = record { lines = lines; rest = scanner.part; splits = h.splits; within = omega (arith, h.room) }
+
+-- nor in those of a file that was read to its end, nor where no byte was read
+pub IsBitFile-faultless : (limit : ℕ) (bytes : List ℕ) (bits : List Bool) → IsBitFile limit bytes bits → IsFaultless limit bytes
+IsBitFile-faultless limit bytes bits h = record {
+  lines = h.lines;
+  rest = [];
+  splits = record { whole = h.file.whole ∙ sym (append-nil (file_of h.lines)); each = h.file.each; part = record { none = tt; short = omega arith } };
+  within = h.file.within;
+}
+
+pub none-faultless : (limit : ℕ) → IsFaultless limit []
+none-faultless limit = record {
+  lines = [];
+  rest = [];
+  splits = record { whole = refl; each = tt; part = record { none = tt; short = omega arith } };
+  within = omega arith;
+}
 
 -- a cause after good lines and the beginning of one more is a fault of the file
 pub HasFault-cause : (limit : ℕ) (bytes : List ℕ) (lines : List Line) (rest more : List ℕ) (why : LineFault) → Splits bytes lines rest
@@ -68,6 +91,13 @@ ExplainsReading-weaker A B limit bytes (NoSuchCharacter at) f h = h
 ExplainsReading-weaker A B limit bytes (Write written) f h = h
 ExplainsReading-weaker A B limit bytes (Memory error) f h = tt
 
+-- a fault of the file is none of the reader or of memory
+pub run_fault-inside : (why : LineFault) → IsOutside (run_fault why) → ⊥
+run_fault-inside file.TooLong h = h
+run_fault-inside (file.LineLong line) h = h
+run_fault-inside (file.LineCut line) h = h
+run_fault-inside (file.BadLine line) h = h
+
 -- the same cause, with more bytes after it
 pub IsCause-more : (limit front : ℕ) (lines : List Line) (rest more ys : List ℕ) (why : LineFault) → IsAtByte why → IsCause limit front lines rest more why → IsCause limit front lines rest (more ++ ys) why
 IsCause-more limit front lines rest [] ys file.TooLong at h = absurd h
@@ -85,11 +115,22 @@ elements_kept-list None = refl
 elements_kept-list (Some line) = append-nil (elements_of line)
 
 -- a scanner that stops in a piece
-pub ExplainsReading-stop : (limit : ℕ) (s : Scanning) (bytes piece more : List ℕ) (lines : List Line) (why : LineFault) → IsAtByte why → StopsIn limit s bytes piece lines why
-    → ExplainsReading ⊥ limit ((bytes ++ piece) ++ more) (run_fault why)
-ExplainsReading-stop limit s bytes piece more lines why at stops =
-    ExplainsReading-at_byte limit _ why at (subst (λ l. HasFault limit l why) (sym (piece-parts bytes piece more stops.count))
-    (HasFault-cause limit (bytes ++ take stops.count piece) lines s.part (drop stops.count piece ++ more) why stops.scans.splits (stops.cause more)))
+pub ExplainsPiece-stop : (limit : ℕ) (s : Scanning) (bytes piece : List ℕ) (lines : List Line) (why : LineFault) → IsAtByte why → StopsIn limit s bytes piece lines why
+    → ExplainsPiece limit (bytes ++ piece) (run_fault why)
+ExplainsPiece-stop limit s bytes piece lines why at stops = (
+  λ h. absurd (run_fault-inside why h),
+  λ more.
+      ExplainsReading-at_byte limit _ why at (subst (λ l. HasFault limit l why) (sym (piece-parts bytes piece more stops.count))
+      (HasFault-cause limit (bytes ++ take stops.count piece) lines s.part (drop stops.count piece ++ more) why stops.scans.splits (stops.cause more))),
+)
+
+-- or goes over all of it, where memory ran out before
+pub ExplainsPiece-memory : (limit : ℕ) (s : Scanning) (bytes : List ℕ) (lines : List Line) (error : AllocError) → Scans limit s bytes lines → ExplainsPiece limit bytes (Memory error)
+ExplainsPiece-memory limit s bytes lines error scans = (λ h. Scans-faultless limit s bytes lines scans, λ more. tt)
+
+pub IfErr-always : {N F : Type 0} (o : Result N F) (P : F → Type 0) → ((fault : F) → P fault) → IfErr o P
+IfErr-always (Ok answer) P h = tt
+IfErr-always (Err fault) P h = h fault
 
 pub IfSome-always : (o : Option (List ℕ)) (P : List ℕ → Type 0) → ((xs : List ℕ) → P xs) → IfSome o P
 IfSome-always None P h = tt

@@ -1,5 +1,5 @@
 -- What a run says of its reader follows from what its reading said of it.
-use Rattle.std.proofs.Common.{◌≡◌, ◌≢◌, ◌↔◌, ◌∙◌, ℕ, arith, List, [], ◌++◌, append-nil, ap, refl, subst, sym, Option, None, Some, IfSome, Result, Ok, Err, IsErrOf}
+use Rattle.std.proofs.Common.{◌≡◌, ◌≢◌, ◌↔◌, ◌∙◌, ℕ, arith, List, [], ◌++◌, append-nil, ap, refl, subst, sym, Option, None, Some, IfSome, Result, Ok, Err, IfErr, IsErrOf}
 use Rattle.std.specs.Io.KnownBytes.{Consumes, IsAtEnd}
 use Rattle.nx_fec.proofs.ReadingLaws.{Err-same, IfSome-always}
 use Rattle.nx_fec.specs.Devices.{CountedDevice}
@@ -11,18 +11,24 @@ IfSome-later : (o : Option (List ℕ)) (P Q : List ℕ → Type 0) → ((xs : Li
 IfSome-later None P Q f h = tt
 IfSome-later (Some xs) P Q f h = f xs h
 
+-- what holds of the bytes before a fault that is outside
+abbrev pub Before : {N F : Type 0} → (F → Type 0) → Result N F → Type 0 → Type 0
+Before outside outcome clean = IfErr outcome (λ fault. outside fault → clean)
+
 -- the run goes on after it read, and fails to read exactly where its reading did
 pub Reads-on : {R N M F G : Type 0} (remaining : R → Option (List ℕ)) (old new : CountedDevice R) (read : F) (run_read : G) (outcome : Result N F) (run_outcome : Result M G)
-    (known whole run_known run_whole : List ℕ → Type 0) {faultless : List ℕ → Type 0} → Reads remaining old new read outcome faultless known whole
+    (known whole run_known run_whole : List ℕ → Type 0) {faultless : List ℕ → Type 0} {outside : F → Type 0} {run_outside : G → Type 0}
+    → Reads remaining old new read outside outcome faultless known whole
     → ((bytes : List ℕ) → known bytes → run_known bytes) → ((bytes : List ℕ) → whole bytes → run_whole bytes)
+    → ((bytes : List ℕ) → known bytes → Before outside outcome (faultless bytes) → Before run_outside run_outcome (faultless bytes))
     → (IsErrOf run_outcome run_read → IsErrOf outcome read) → (IsErrOf outcome read → IsErrOf run_outcome run_read)
-    → Reads remaining old new run_read run_outcome faultless run_known run_whole
-Reads-on remaining old new read run_read outcome run_outcome known whole run_known run_whole h k w there here = record {
+    → Reads remaining old new run_read run_outside run_outcome faultless run_known run_whole
+Reads-on remaining old new read run_read outcome run_outcome known whole run_known run_whole h k w early there here = record {
   bytes = h.bytes;
   consumed = h.consumed;
   answer = k h.bytes h.answer;
   file = IfSome-later (remaining old.inner) whole run_whole w h.file;
-  before = λ e. h.before (there e);
+  before = early h.bytes h.answer h.before;
   failed = (λ e. h.failed.0 (there e), λ one. here (h.failed.1 one));
   once = h.once;
 }
@@ -73,37 +79,38 @@ IfSome-end None new bytes P consumed end h = tt
 IfSome-end (Some xs) None bytes P consumed end h = absurd consumed
 IfSome-end (Some xs) (Some ys) bytes P consumed end h = subst P (sym (consumed ∙ ap (λ l. bytes ++ l) end ∙ append-nil bytes)) h
 
-module _ {R N F : Type 0} (remaining : R → Option (List ℕ)) (old new : CountedDevice R) (unread : F) (faultless : List ℕ → Type 0) (good : N → List ℕ → Type 0) (explains : List ℕ → F → Type 0)
+module _ {R N F : Type 0} (remaining : R → Option (List ℕ)) (old new : CountedDevice R) (unread : F) (outside : F → Type 0) (faultless : List ℕ → Type 0) (good : N → List ℕ → Type 0) (explains : List ℕ → F → Type 0)
     (bytes : List ℕ) (consumed : Consumes (remaining old.inner) (remaining new.inner) bytes) where
   -- a file is read to its end
   pub ReadsToEnd-ended : (answer : N) → IsAtEnd (remaining new.inner) → good answer bytes → new.failures ≡ 0
-      → ReadsToEnd remaining old new unread (Ok answer) faultless good (λ _. explains)
+      → ReadsToEnd remaining old new unread outside (Ok answer) faultless good (λ _. explains)
   ReadsToEnd-ended answer end h none = record {
     bytes = bytes;
     consumed = consumed;
     answer = (end, h);
     file = IfSome-end _ _ bytes (good answer) consumed end h;
-    before = λ e. absurd (Ok-not_err _ _ e);
+    before = tt;
     failed = read_failed-none _ _ _ (Ok-not_err _ _) none;
     once = omega (arith, none);
   }
 
   -- or it has a fault
-  pub ReadsToEnd-stopped : (fault : F) → ((more : List ℕ) → explains (bytes ++ more) fault) → (◌≡◌ {A = Result N F} (Err fault) (Err unread) → ⊥)
-      → new.failures ≡ 0 → ReadsToEnd remaining old new unread (Err fault) faultless good (λ _. explains)
-  ReadsToEnd-stopped fault h other none = record {
+  pub ReadsToEnd-stopped : (fault : F) → (outside fault → faultless bytes) → ((more : List ℕ) → explains (bytes ++ more) fault)
+      → (◌≡◌ {A = Result N F} (Err fault) (Err unread) → ⊥)
+      → new.failures ≡ 0 → ReadsToEnd remaining old new unread outside (Err fault) faultless good (λ _. explains)
+  ReadsToEnd-stopped fault clean h other none = record {
     bytes = bytes;
     consumed = consumed;
     answer = subst (λ l. explains l fault) (append-nil bytes) (h []);
     file = IfSome-front _ _ bytes (λ xs. explains xs fault) consumed h;
-    before = λ e. absurd (other e);
+    before = clean;
     failed = read_failed-none _ _ _ other none;
     once = omega (arith, none);
   }
 
   -- or a read fails
   pub ReadsToEnd-failed : ((xs : List ℕ) → explains xs unread) → faultless bytes → new.failures ≡ 1
-      → ReadsToEnd {N = N} remaining old new unread (Err unread) faultless good (λ _. explains)
+      → ReadsToEnd {N = N} remaining old new unread outside (Err unread) faultless good (λ _. explains)
   ReadsToEnd-failed h none one = record {
     bytes = bytes;
     consumed = consumed;

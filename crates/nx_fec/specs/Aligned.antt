@@ -16,10 +16,10 @@ word_in bits slot = word_from bits (7 * slot)
 unfoldable pub words_of : List Bool → List ℕ
 words_of bits = map (word_in bits) (range_with_len 0 (length bits / 7))
 
--- what the word five slots before counts as, where the words begin at slot 0: before that none was
--- seen
-abbrev pub five_before : List ℕ → ℕ → Counted
-five_before words slot = if nat_lt slot 5 then nothing else counts_as (slice_index words (slot - 5))
+-- what the word five before word k counts as, where `words` gives each word's number: before word
+-- 0 none was seen
+abbrev pub five_before : (ℕ → ℕ) → ℕ → Counted
+five_before words k = if nat_lt k 5 then nothing else counts_as (words (k - 5))
 
 -- What the first DX words of a lock count as, so many of them, oldest first. The first of them is
 -- word 0, or word 1 of a lock that begins with an RX word. RX word k comes after those before it:
@@ -30,7 +30,8 @@ dx_words words first count =
 
 -- what is taken at an RX slot: its word is paired with the one five slots before it
 unfoldable pub taken_at : List ℕ → ℕ → Reception
-taken_at words slot = pairing (five_before words slot) (counts_as (slice_index words slot))
+taken_at words slot =
+    pairing (five_before (slice_index words) slot) (counts_as (slice_index words slot))
 
 -- what is taken at the RX slots 1, 3, 5 and so on, in order
 unfoldable pub receptions : List ℕ → List Reception

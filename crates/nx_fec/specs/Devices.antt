@@ -1,18 +1,11 @@
 -- Readers and writers whose failures are counted, and what a run answers (this profile).
-use Rattle.std.specs.Prelude.{◌≡◌, ℕ, ◌+◌, ◌-◌, ◌^◌, ◌<◌, List, length, take, min, Option, Result, IsErr, refl, OnOk, OnErr}
+use Rattle.std.specs.Prelude.{◌≡◌, ℕ, ◌+◌, ◌-◌, ◌^◌, ◌<◌, List, length, take, min, Option, Result, IsErr, OnOk, OnErr}
 use Rattle.std.specs.Io.KnownBytes.{Appends}
-use Rattle.std.specs.Coded.{Coded, code_by, coded×, coded_ℕ}
 
 -- a reader or a writer, and how many calls on it failed
 pub record CountedDevice (T : Type 0) : Type 0 where
   pub inner : T
   pub failures : ℕ
-
--- it is stored as the pair of its parts
-abbrev pub counted_code : {T : Type 0} → Coded T → Coded (CountedDevice T)
-counted_code {T} code =
-    code_by (T × ℕ) (coded× code coded_ℕ) (λ c. (c.inner, c.failures))
-    (λ p. record { inner = p.0; failures = p.1 }) (λ _. refl)
 
 -- One call: a success leaves the count, and a failure raises it by one, up to its greatest value.
 -- Once the count is above 0, the call fails and isn't passed on.

@@ -8,8 +8,8 @@ pub mod Lines
 pub mod Pairing
 pub mod Runs
 pub mod Scanner
-pub mod ScannerFields
 pub mod Transfers
 pub mod Hexadecimal
 pub mod TableText
 pub mod WordLines
+pub mod private

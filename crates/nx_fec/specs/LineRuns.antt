@@ -3,7 +3,7 @@ use Rattle.std.specs.Prelude.{◌≡◌, ℕ, ◌+◌, ◌<◌, ◌≤◌, List,
 use Rattle.std.specs.List.{AllByRecursion}
 use Rattle.std.specs.Io.KnownBytes.{Appends}
 use Rattle.nx_fec.specs.AirFile.{Line, IsLine, spelling}
-use Rattle.nx_fec.specs.Lines.{IsAirFile, IsBeginning, IsCause, Scanning, Scans, file_of, line_end}
+use Rattle.nx_fec.specs.Lines.{IsAirFile, IsBeginning, IsCause, file_of, line_end}
 use Rattle.nx_fec.specs.Devices.{HasWritten, WroteSome}
 use Rattle.nx_fec.specs.Transfers.{Devices, IsReadOut, Transfers, on_the_way}
 use Rattle.nx_fec.specs.declared.fault.LineFault.{LineFault}
@@ -76,8 +76,8 @@ pub record StopsAt (bytes : List ℕ) (holds : List Line → List ℕ → List �
 
 -- the next line after these, which is one of an air file within the limit, is refused; lines count
 -- from 1
-pub record IsLineRefused {T F : Type 0} (refuses : Refusing T F) (first : T) (limit : ℕ)
-    (lines : List Line) (rest more : List ℕ) (number : ℕ) (why : F) : Type 0 where
+pub record IsLineRefused (refuses : List Line → Line → Type 0) (limit : ℕ) (lines : List Line)
+    (rest more : List ℕ) (number : ℕ) : Type 0 where
   pub line : Line
   pub after : List ℕ
   pub good : IsLine line
@@ -85,7 +85,7 @@ pub record IsLineRefused {T F : Type 0} (refuses : Refusing T F) (first : T) (li
   pub ended : more ≡ line_end ∷ after
   pub within : length (file_of lines ++ rest) < limit
   pub counted : number ≡ length lines + 1
-  pub refused : refuses first lines line why
+  pub refused : refuses lines line
 
 -- a fault at the end of the file comes where this holds
 abbrev pub IsPlaced : Type 0 → LineFault → Type 0
@@ -111,7 +111,8 @@ ExplainsLines stands begins refuses AtEnd IsLeft limit first now old new wrote b
     × HasTaken stands first now lines wrote)
 ExplainsLines stands begins refuses AtEnd IsLeft limit first now old new wrote bytes
     (run.Refused line why) =
-    StopsAt bytes (λ lines rest more. IsLineRefused refuses first limit lines rest more line why
+    StopsAt bytes (λ lines rest more.
+    IsLineRefused (λ before next. refuses first before next why) limit lines rest more line
     × HasTaken stands first now lines wrote)
 ExplainsLines stands begins refuses AtEnd IsLeft limit first now old new wrote bytes
     (run.Write written) =
@@ -140,17 +141,8 @@ AnswersLines stands begins refuses AtEnd IsLeft limit first now old new (Err fau
 abbrev pub RunsLines : {R W T F : Type 0} → Standing T → Beginning T → Refusing T F → ℕ → T → T
     → Devices R W → Result LinesRead (LinesFault F) → Type 0
 RunsLines stands begins refuses limit first now d outcome =
-    Transfers run.Read (λ written. run.Write written) on_the_way d outcome (λ _. ⊤)
+    Transfers run.Read (λ _. ⊥) (λ written. run.Write written) on_the_way d outcome (λ _. ⊤)
     (λ bytes. AnswersLines stands begins refuses (IsReadOut d) (λ more. more ≡ []) limit first now
     (d.contents d.writer.inner) (d.contents d.writer_after.inner) outcome bytes)
     (λ bytes. AnswersLines stands begins refuses (Unit {0}) (λ more. Unit {0}) limit first now
     (d.contents d.writer.inner) (d.contents d.writer_after.inner) outcome bytes)
-
--- while a run goes on: the scanner stands so after these bytes, and all lines that they ended were
--- taken
-pub record IsTaking {T : Type 0} (stands : Standing T) (first now : T) (limit : ℕ)
-    (scanner : Scanning) (old new : Option (List ℕ)) (batch : Waiting)
-    (bytes : List ℕ) : Type 0 where
-  pub lines : List Line
-  pub scans : Scans limit scanner bytes lines
-  pub taken : HasTaken stands first now lines (HasGiven old new batch)

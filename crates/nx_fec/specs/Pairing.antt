@@ -25,12 +25,6 @@ counts_at None = nothing
 unfoldable pub counts_as : ℕ → Counted
 counts_as word = counts_at (place_of word)
 
--- what is taken where one word alone counts
-abbrev pub reception_alone : Counted → Option Reception
-reception_alone (traffic n) = Some (combination n)
-reception_alone idle_signal = Some idle
-reception_alone nothing = None
-
 -- what is taken of a DX and an RX: where they count alike, or only one of them counts, that, and
 -- else nothing
 abbrev pub pairing : Counted → Counted → Reception

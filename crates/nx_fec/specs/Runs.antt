@@ -2,9 +2,7 @@
 use Rattle.std.specs.Prelude.{◌≡◌, ◌≢◌, ℕ, ◌%◌, ◌<◌, ◌≤◌, Bool, not, List, length, position, Option, Some, Result, Ok, Err, MatchResult, ⊤}
 use Rattle.std.specs.Global.{Vec}
 use Rattle.std.specs.Io.KnownBytes.{Appends, IsAtEnd}
-use Rattle.std.specs.List.{flat_map}
-use Rattle.nx_fec.specs.AirFile.{Line}
-use Rattle.nx_fec.specs.Lines.{HasFault, IsBitFile, IsFaultless, file_of, Scanning, Scans, elements_of}
+use Rattle.nx_fec.specs.Lines.{HasFault, IsBitFile, IsFaultless, file_of}
 use Rattle.nx_fec.specs.Aligned.{aligned_text, words_of}
 use Rattle.nx_fec.specs.WordLines.{word_lines}
 use Rattle.nx_fec.specs.Devices.{CountedDevice, WroteSome}
@@ -53,8 +51,8 @@ spell_fault (spelling.NoSuchCharacter at) = NoSuchCharacter at
 spell_fault (spelling.Memory error) = Memory error
 
 -- What a fault of reading elements says of the bytes that were read: a fault of the file is theirs,
--- and at the end of the file `AtEnd` holds. A want of memory says nothing of them, nor does a
--- failed read, of which `Reads` says what stands before it. There are no other faults.
+-- and at the end of the file `AtEnd` holds. Of a failed read and a want of memory `Reads` says what
+-- stands before them, and here they say nothing. There are no other faults.
 abbrev pub ExplainsReading : Type 0 → ℕ → List ℕ → RunFault → Type 0
 ExplainsReading AtEnd limit bytes Read = ⊤
 ExplainsReading AtEnd limit bytes (Memory error) = ⊤
@@ -64,18 +62,11 @@ ExplainsReading AtEnd limit bytes (LineCut line) = AtEnd × HasFault limit bytes
 ExplainsReading AtEnd limit bytes (BadLine line) = HasFault limit bytes (file.BadLine line)
 ExplainsReading AtEnd limit bytes _ = ⊥
 
--- the fault is of the reader or of memory, and says nothing of the file
+-- the fault is of the reader or of memory
 abbrev pub IsOutside : RunFault → Type 0
 IsOutside Read = ⊤
 IsOutside (Memory error) = ⊤
 IsOutside _ = ⊥
-
--- the scanner stands so after these bytes, and the elements are those of the lines that they ended
-pub record HasRead (limit : ℕ) (scanner : Scanning) (bits : List Bool)
-    (bytes : List ℕ) : Type 0 where
-  pub lines : List Line
-  pub scans : Scans limit scanner bytes lines
-  pub joined : bits ≡ flat_map elements_of lines
 
 -- What a run says of its reader that reads an air file to its end: the elements of its lines are
 -- those of the bytes that it read, which are then all, or a fault is theirs. And so it is for the
@@ -83,7 +74,7 @@ pub record HasRead (limit : ℕ) (scanner : Scanning) (bits : List Bool)
 abbrev pub ReadsElements : {R : Type 0} → (R → Option (List ℕ)) → CountedDevice R → CountedDevice R
     → Result (Vec Bool) RunFault → Type 0
 ReadsElements remaining old new outcome =
-    ReadsToEnd remaining old new Read outcome (IsFaultless file_limit)
+    ReadsToEnd remaining old new Read IsOutside outcome (IsFaultless file_limit)
     (λ bits bytes. IsBitFile file_limit bytes bits.items)
     (λ AtEnd bytes fault. ExplainsReading AtEnd file_limit bytes fault)
 
@@ -122,7 +113,8 @@ AnswersWordRun IsText AtEnd limit bytes old new (Err fault) =
 abbrev pub IsWordRun : {R W : Type 0} → (List ℕ → List ℕ → ℕ → Type 0) → Devices R W
     → Result ℕ RunFault → Type 0
 IsWordRun IsText d outcome =
-    Transfers Read (λ written. Write written) at_the_end d outcome (IsFaultless file_limit)
+    Transfers Read IsOutside (λ written. Write written) at_the_end d outcome
+    (IsFaultless file_limit)
     (λ bytes. AnswersWordRun (IsText bytes) (IsReadOut d) file_limit bytes
     (d.contents d.writer.inner) (d.contents d.writer_after.inner) outcome)
     (λ bytes. AnswersWordRun (IsText bytes) (Unit {0}) file_limit bytes
@@ -157,12 +149,18 @@ ExplainsWhole limit bytes read.Read = ⊤
 ExplainsWhole limit bytes read.FileTooLong = limit < length bytes
 ExplainsWhole limit bytes (read.Memory error) = ⊤
 
+-- the fault of reading a text whole is of the reader or of memory
+abbrev pub IsOutsideWhole : ReadFault → Type 0
+IsOutsideWhole read.Read = ⊤
+IsOutsideWhole read.FileTooLong = ⊥
+IsOutsideWhole (read.Memory error) = ⊤
+
 -- What a run says of its reader that reads a file whole: the text is the bytes that it read, which
 -- are then all, or a fault is theirs. And so it is for the whole file, however it came.
 abbrev pub ReadsWhole : {R : Type 0} → (R → Option (List ℕ)) → CountedDevice R → CountedDevice R
     → Result (Vec ℕ) ReadFault → Type 0
 ReadsWhole remaining old new outcome =
-    Reads remaining old new read.Read outcome (IsWithin file_limit)
+    Reads remaining old new read.Read IsOutsideWhole outcome (IsWithin file_limit)
     (λ bytes. MatchResult outcome
     (λ text. IsAtEnd (remaining new.inner) × (length bytes ≤ file_limit) × (text.items ≡ bytes))
     (λ fault. ExplainsWhole file_limit bytes fault))
@@ -206,7 +204,7 @@ AnswersEncoding AtEnd limit bytes old new (Err fault) =
 -- came; and it writes nothing before all else succeeded.
 abbrev pub Encodes : {R W : Type 0} → Devices R W → Result ℕ RunFault → Type 0
 Encodes d outcome =
-    Transfers Read (λ written. Write written) at_the_end d outcome (IsWithin file_limit)
+    Transfers Read IsOutside (λ written. Write written) at_the_end d outcome (IsWithin file_limit)
     (λ bytes. AnswersEncoding (IsReadOut d) file_limit bytes (d.contents d.writer.inner)
     (d.contents d.writer_after.inner) outcome)
     (λ bytes. AnswersEncoding (Unit {0}) file_limit bytes (d.contents d.writer.inner)

@@ -21,27 +21,29 @@ IsNextPiece remaining old new buffer (Bytes count) =
 
 -- What a run says of its reader. It read these bytes, and `known` holds of them, whatever the
 -- reader tells of its bytes. Where they are known, `whole` holds of all that was left, however it
--- came. The outcome is the fault `read` only where no fault stands in the bytes before the read
--- that failed: `faultless` holds of them. The count of failures rose, by one, exactly then.
+-- came. The outcome is a fault of the reader or of memory, one that is `outside`, only where no
+-- fault stands in the bytes that were read: `faultless` holds of them. It is the fault `read`
+-- exactly where the count of failures rose, by one.
 pub record Reads {R N F : Type 0} (remaining : R → Option (List ℕ)) (old new : CountedDevice R)
-    (read : F) (outcome : Result N F)
+    (read : F) (outside : F → Type 0) (outcome : Result N F)
     (faultless known whole : List ℕ → Type 0) : Type 0 where
   pub bytes : List ℕ
   pub consumed : Consumes (remaining old.inner) (remaining new.inner) bytes
   pub answer : known bytes
   pub file : IfSome (remaining old.inner) whole
-  pub before : IsErrOf outcome read → faultless bytes
+  pub before : IfErr outcome (λ fault. outside fault → faultless bytes)
   pub failed : IsErrOf outcome read ↔ (new.failures ≡ 1)
   pub once : new.failures ≤ 1
 
 -- What a run says of its reader that reads a file to its end: its answer is good for the bytes that
 -- it read, which are then all, or its fault explains itself by them, at the end of the file or
--- before it, and a read failed only behind bytes without a fault. And so it is for the whole file.
+-- before it, and the reader or memory failed only behind bytes without a fault. And so it is for
+-- the whole file.
 abbrev pub ReadsToEnd : {R N F : Type 0} → (R → Option (List ℕ)) → CountedDevice R → CountedDevice R
-    → F → Result N F → (List ℕ → Type 0)
+    → F → (F → Type 0) → Result N F → (List ℕ → Type 0)
     → (N → List ℕ → Type 0) → (Type 0 → List ℕ → F → Type 0) → Type 0
-ReadsToEnd remaining old new read outcome faultless good explains =
-    Reads remaining old new read outcome faultless
+ReadsToEnd remaining old new read outside outcome faultless good explains =
+    Reads remaining old new read outside outcome faultless
     (λ bytes. MatchResult outcome
     (λ answer. IsAtEnd (remaining new.inner) × good answer bytes)
     (λ fault. explains (IsAtEnd (remaining new.inner)) bytes fault))
@@ -93,11 +95,12 @@ IsUnwritten at_the_end write d outcome =
 IsUnwritten on_the_way write d outcome = ⊤
 
 -- What a run from a reader to a writer says of both. Its faults for a failed read and a failed
--- write are `read` and `write`; `known` holds of the bytes that it read, `faultless` of those
--- before a failed read, and `whole` of all the input, where that is known.
-pub record Transfers {R W N F : Type 0} (read : F) (write : ℕ → F) (writing : Writing)
-    (d : Devices R W) (outcome : Result N F)
+-- write are `read` and `write`, and those of the reader or of memory are `outside`; `known` holds
+-- of the bytes that it read, `faultless` of those behind which the reader or memory failed, and
+-- `whole` of all the input, where that is known.
+pub record Transfers {R W N F : Type 0} (read : F) (outside : F → Type 0) (write : ℕ → F)
+    (writing : Writing) (d : Devices R W) (outcome : Result N F)
     (faultless known whole : List ℕ → Type 0) : Type 0 where
-  pub reads : Reads d.remaining d.reader d.reader_after read outcome faultless known whole
+  pub reads : Reads d.remaining d.reader d.reader_after read outside outcome faultless known whole
   pub writes : Writes d.writer_after write outcome
   pub unwritten : IsUnwritten writing write d outcome

@@ -3,7 +3,7 @@ ghost use Rattle.std.specs.Prelude.{◌≡◌, ◌≢◌, ◌<◌, ◌≤◌, �
 ghost use Rattle.std.specs.Fmt.{decimal};
 ghost use Rattle.nx_code.specs.Characters.{IsCapital};
 ghost use Rattle.nx_fec.specs.AirFile.{IsLine, IsNoLine, element_digit, line_of, spelling};
-ghost use Rattle.nx_fec.specs.Scanner.{SpellsLine};
+ghost use Rattle.nx_fec.specs.private.ScannerKept.{SpellsLine};
 
 use arrayvec::ArrayVec;
 

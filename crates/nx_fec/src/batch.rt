@@ -9,6 +9,7 @@ use crate::writing::write_on;
 use arrayvec::ArrayVec;
 use std::io::Write;
 use std::marker::Model;
+use std::mem::size_of;
 
 /// How many bytes wait at most.
 const BATCH_BYTES: usize = 32_768;
@@ -27,6 +28,7 @@ impl Model for Batch {
 
     ghost view = { λ b. record { bytes = b.waiting.items; sent = b.sent } };
 
+    // What contracts see gives every field back: nothing else is kept.
     ghost inverse = { λ v. record { waiting = record { items = v.bytes }; sent = v.sent } };
 }
 
@@ -36,6 +38,8 @@ impl Batch {
         ensures bytes { result.bytes ≡ [] }
         ensures sent { result.sent ≡ 0 }
     {
+        // Nothing is kept beside these fields, not even in a type whose model forgets.
+        prove!(size_of::<Batch>() == 32_784);
         Batch {
             waiting: ArrayVec::new(),
             sent: 0,

@@ -7,6 +7,7 @@ ghost use Rattle.nx_fec.specs.Devices.{Counts};
 use std::io;
 use std::io::{Error, ErrorKind, Read, Write};
 use std::marker::Model;
+use std::mem::size_of;
 
 /// A reader or a writer that counts the calls on it that failed. A write that takes no byte of a piece that isn't
 /// empty has failed. Once the count is above 0, no call is passed on: each further call fails, and is counted. The
@@ -18,13 +19,17 @@ pub struct Counting<T> {
 }
 
 impl<T> Model for Counting<T> {
-    ghost use Rattle.nx_fec.specs.Devices.{CountedDevice, counted_code};
+    ghost use Rattle.nx_fec.specs.Devices.{CountedDevice};
+    ghost use Rattle.nx_fec.specs.private.CountedCode.{counted_code};
 
     ghost Value = { CountedDevice T };
 
     ghost coded = { counted_code T.code };
 
     ghost view = { λ c. record { inner = c.inner; failures = c.failures } };
+
+    // What contracts see gives every field back: nothing else is kept.
+    ghost inverse = { λ v. record { inner = v.inner; failures = v.failures } };
 }
 
 impl<T> Counting<T> {
@@ -33,6 +38,8 @@ impl<T> Counting<T> {
         ensures inner { result.inner ≡ inner }
         ensures none { result.failures ≡ 0 }
     {
+        // Nothing is kept beside these fields, not even in a type whose model forgets.
+        prove!(size_of::<Counting<u64>>() == 16);
         Counting { inner, failures: 0 }
     }
 

@@ -3,11 +3,13 @@
 ghost use Rattle.std.specs.Prelude.{◌≡◌, [], ◌∷◌, ◌++◌, List, map, option_map};
 ghost use Rattle.nx_code.specs.Taken.{reception_of};
 ghost use Rattle.nx_fec.specs.declared.diversity.Heard.TheVariants.{Wrong};
-ghost use Rattle.nx_fec.specs.Pairing.{Counted, IsHeardOf, IsLatest, reception_alone, counts_as, heard_as, pairing, third_last};
+ghost use Rattle.nx_fec.specs.Pairing.{Counted, IsHeardOf, IsLatest, counts_as, heard_as, pairing, third_last};
+ghost use Rattle.nx_fec.specs.private.OneWord.{reception_alone};
 
 use arrayvec::ArrayVec;
 use nx_code::{Signal, Taken, Word, signal_of};
 use std::marker::Model;
+use std::mem::size_of;
 
 /// What arrived of a word.
 #[derive(Clone, Copy, Debug, PartialEq, Eq)]
@@ -88,6 +90,8 @@ impl Diversity {
     pub fn new() -> Diversity
         ensures { result ≡ [] }
     {
+        // Nothing is kept beside this field, not even in a type whose model forgets.
+        prove!(size_of::<Diversity>() == 24);
         Diversity {
             latest: ArrayVec::new(),
         }

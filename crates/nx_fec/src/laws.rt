@@ -93,7 +93,7 @@ pub fn decoding_of_encoding()
 /// DX words one by one, pairs each RX word with the word five before it.
 pub fn dx_words_of_locks()
     ensures third_last { (words : List ℕ) (first count : ℕ) → first ≤ 1
-        → third_last (dx_words words first count) ≡ five_before words (2 * count + first - 1) }
+        → third_last (dx_words words first count) ≡ five_before (slice_index words) (2 * count + first - 1) }
     ensures none { (words : List ℕ) (first : ℕ) → dx_words words first 0 ≡ [] }
     ensures next { (words : List ℕ) (first count : ℕ) → dx_words words first (count + 1)
         ≡ dx_words words first count ++ counts_as (slice_index words (2 * count + first)) ∷ [] }

@@ -2,6 +2,7 @@
 ghost use Rattle.std.specs.Prelude.{◌≡◌, ◌+◌, ◌≤◌, [], ◌++◌, length, take};
 
 use std::marker::Model;
+use std::mem::size_of;
 
 /// The most bytes of a line before its end.
 pub(crate) const MAX_LINE_BYTES: usize = 514;
@@ -9,7 +10,8 @@ pub(crate) const MAX_LINE_BYTES: usize = 514;
 /// The most bytes that are copied without a call.
 const SHORT: usize = 32;
 
-/// The first bytes of a line. An `ArrayVec` would write over all of them where it is emptied.
+/// The first bytes of a line. An `ArrayVec` would write over all of them where it is emptied. What lies in the places
+/// behind them, bytes of earlier lines, no contract sees and nothing reads; its size is proved, so nothing else is kept.
 #[derive(Drop)]
 pub(crate) struct LineBytes {
     bytes: [u8; MAX_LINE_BYTES],
@@ -31,6 +33,8 @@ impl LineBytes {
     pub fn new() -> LineBytes
         ensures { result ≡ [] }
     {
+        // The places and the count, and nothing beside them.
+        prove!(size_of::<LineBytes>() == 528);
         LineBytes {
             bytes: [0; MAX_LINE_BYTES],
             length: 0,

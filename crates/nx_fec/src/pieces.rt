@@ -49,16 +49,21 @@ pub trait PieceTaker: Drop {
     /// How many more bytes it takes at most.
     ghost room: { Self → ℕ };
 
+    /// The fault is of the reader or of memory.
+    ghost outside: { Self.Fault → Type 0 };
+
     /// The fault of a failed read.
     ghost UNREAD: { Self.Fault };
 
     const UNREAD: Self::Fault;
 
-    /// Takes the next bytes of the input. A fault stands whatever comes after them.
+    /// Takes the next bytes of the input. A fault stands whatever comes after them; it is of memory only where none stands
+    /// in them.
     fn take(&mut self, piece: &[u8]) -> Result<(), Self::Fault>
         ensures taken { (bytes : List ℕ) → stands self.old bytes → MatchResult result
             (λ _. stands self.new (bytes ++ piece.now))
-            (λ fault. (more : List ℕ) → explains ((bytes ++ piece.now) ++ more) fault) }
+            (λ fault. (outside fault → faultless (bytes ++ piece.now))
+            × ((more : List ℕ) → explains ((bytes ++ piece.now) ++ more) fault)) }
         ensures room { OnOk result (room self.new + length piece.now ≡ room self.old) }
         ensures read { IsErrOf result UNREAD → ⊥ };
 
@@ -77,7 +82,7 @@ pub fn read_pieces<R: Read, T: PieceTaker>(
 ) -> Result<(), T::Fault>
     requires none { reader.old.failures ≡ 0 }
     requires room { 0 < length buffer.old }
-    ensures { T.stands taker.old [] → ReadsToEnd R.remaining reader.old reader.new T.UNREAD result
+    ensures { T.stands taker.old [] → ReadsToEnd R.remaining reader.old reader.new T.UNREAD T.outside result
         T.faultless (λ _. T.stands taker.new) (λ _. T.explains) }
 {
     loop {

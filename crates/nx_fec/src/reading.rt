@@ -1,8 +1,10 @@
 //! Reading the elements of an air file, or a text whole, from a reader.
 ghost use Rattle.std.specs.Prelude.{◌≡◌, ◌+◌, ◌<◌, ◌≤◌, ℕ, List, ◌++◌, take, length, IfSome, IfOk, OnOk, IsErrOf, IsErrAnd, MatchResult, ◌⊎◌, Bool, vec_len};
-ghost use Rattle.nx_fec.specs.Lines.{IsBitFile, HasFault};
+ghost use Rattle.nx_fec.specs.AirFile.{Line};
+ghost use Rattle.nx_fec.specs.Lines.{IsBitFile, HasFault, Scans};
 ghost use Rattle.nx_fec.specs.declared.fault.LineFault.{LineFault};
-ghost use Rattle.nx_fec.specs.Runs.{ExplainsReading, HasRead, IsOutside, ReadsElements, ReadsWhole, file_limit, run_fault};
+ghost use Rattle.nx_fec.specs.Runs.{IsOutside, ReadsElements, ReadsWhole, file_limit, run_fault};
+ghost use Rattle.nx_fec.specs.private.Takers.{ExplainsPiece, HasRead};
 
 use crate::counting::Counting;
 use crate::fault::{ReadFault, RunFault};
@@ -10,6 +12,8 @@ use crate::pieces::{CHUNK, PieceTaker, read_pieces};
 use crate::scanner::Scanner;
 use std::alloc::{AllocError, Global};
 use std::io::Read;
+use std::marker::Model;
+use std::mem::size_of;
 
 /// The most bytes of a text, and of an air file that is read to its end before it is used.
 const FILE_LIMIT: u64 = 1_048_576;
@@ -17,7 +21,8 @@ const FILE_LIMIT: u64 = 1_048_576;
 /// Reads an air file to its end, and joins the elements of all its lines. The other lines are checked and skipped.
 ///
 /// The fault is the first in the order of the bytes: `LineLong`, `LineCut` or `BadLine`, or `FileTooLong` where there
-/// is a byte past 1,048,576; `Read` where a read failed before any of them; and `Memory` where it ran out.
+/// is a byte past 1,048,576; `Read` where a read failed before any of them; and `Memory` where it ran out, and no fault
+/// stands in the bytes that were read.
 pub fn read_bits<R: Read>(alloc: Global, reader: &mut Counting<R>) -> Result<Vec<bool>, RunFault>
     requires { reader.old.failures ≡ 0 }
 
@@ -47,6 +52,8 @@ fn read_through<R: Read>(
     requires room { 0 < length buffer.old }
     ensures { ReadsElements R.remaining reader.old reader.new result }
 {
+    // Nothing is kept beside these fields, not even in a type whose model forgets.
+    prove!(size_of::<BitFile>() == 1112);
     let mut file = BitFile {
         scanner: Scanner::new(FILE_LIMIT),
         bits: Vec::new(alloc),
@@ -59,7 +66,8 @@ fn read_through<R: Read>(
 
 /// Reads a file whole.
 ///
-/// `Read` where a read failed, `FileTooLong` where there is a byte past the limit, and `Memory` where it ran out.
+/// `FileTooLong` where there is a byte past 1,048,576; `Read` where a read failed before it; and `Memory` where it ran
+/// out, and the bytes that were read keep to the limit.
 pub fn read_whole<R: Read>(alloc: Global, reader: &mut Counting<R>) -> Result<Vec<u8>, ReadFault>
     requires { reader.old.failures ≡ 0 }
 
@@ -67,6 +75,7 @@ pub fn read_whole<R: Read>(alloc: Global, reader: &mut Counting<R>) -> Result<Ve
     ensures { ReadsWhole R.remaining reader.old reader.new result }
 {
     let mut space = blank(alloc, CHUNK)?;
+    prove!(size_of::<WholeFile>() == 32);
     let mut file = WholeFile {
         bytes: Vec::new(alloc),
         room: FILE_LIMIT,
@@ -89,10 +98,25 @@ struct BitFile {
     bits: Vec<bool>,
 }
 
+impl Model for BitFile {
+    ghost use Rattle.std.specs.Coded.{codes};
+    ghost use Rattle.nx_fec.specs.private.Takers.{TakenElements};
+
+    ghost Value = { TakenElements };
+
+    ghost coded = { Prim.hlevel (codes) };
+
+    ghost view = { λ file. record { scanner = file.scanner; bits = file.bits } };
+
+    // What contracts see gives every field back: nothing else is kept.
+    ghost inverse = { λ v. record { scanner = v.scanner; bits = v.bits } };
+}
+
 impl PieceTaker for BitFile {
     ghost use Rattle.std.proofs.Common.{arith};
     ghost use Rattle.nx_fec.specs.Lines.{IsFaultless};
-    ghost use Rattle.nx_fec.specs.Runs.{ExplainsReading, HasRead, file_limit};
+    ghost use Rattle.nx_fec.specs.Runs.{ExplainsReading, IsOutside, file_limit};
+    ghost use Rattle.nx_fec.specs.private.Takers.{HasRead};
     ghost use Rattle.nx_fec.specs.declared.fault.RunFault.TheVariants.{Read};
 
     type Fault = RunFault;
@@ -104,6 +128,8 @@ impl PieceTaker for BitFile {
     ghost faultless = { λ bytes. IsFaultless file_limit bytes };
 
     ghost room = { λ file. file.scanner.room };
+
+    ghost outside = { λ fault. IsOutside fault };
 
     ghost UNREAD = { Read };
 
@@ -130,10 +156,24 @@ struct WholeFile {
     room: u64,
 }
 
+impl Model for WholeFile {
+    ghost use Rattle.std.specs.Coded.{codes};
+    ghost use Rattle.nx_fec.specs.private.Takers.{TakenBytes};
+
+    ghost Value = { TakenBytes };
+
+    ghost coded = { Prim.hlevel (codes) };
+
+    ghost view = { λ file. record { bytes = file.bytes; room = file.room } };
+
+    // What contracts see gives every field back: nothing else is kept.
+    ghost inverse = { λ v. record { bytes = v.bytes; room = v.room } };
+}
+
 impl PieceTaker for WholeFile {
     ghost use Rattle.std.specs.Prelude.{◌≡◌, ◌+◌, length};
     ghost use Rattle.std.proofs.Common.{arith};
-    ghost use Rattle.nx_fec.specs.Runs.{ExplainsWhole, IsWithin, file_limit};
+    ghost use Rattle.nx_fec.specs.Runs.{ExplainsWhole, IsOutsideWhole, IsWithin, file_limit};
     ghost use Rattle.nx_fec.specs.declared.fault.ReadFault.TheVariants.{Read};
 
     type Fault = ReadFault;
@@ -146,6 +186,8 @@ impl PieceTaker for WholeFile {
     ghost faultless = { λ bytes. IsWithin file_limit bytes };
 
     ghost room = { λ file. file.room };
+
+    ghost outside = { λ fault. IsOutsideWhole fault };
 
     ghost UNREAD = { Read };
 
@@ -171,7 +213,7 @@ fn scan_piece(piece: &[u8], scanner: &mut Scanner, bits: &mut Vec<bool>) -> Resu
     ensures read { (limit : ℕ) (bytes : List ℕ) → HasRead limit scanner.old bits.old.items bytes
         → MatchResult result
         (λ _. HasRead limit scanner.new bits.new.items (bytes ++ piece.now))
-        (λ fault. (more : List ℕ) → ExplainsReading ⊥ limit ((bytes ++ piece.now) ++ more) fault) }
+        (λ fault. ExplainsPiece limit (bytes ++ piece.now) fault) }
     ensures room { OnOk result (scanner.new.room + length piece.now ≡ scanner.old.room) }
     ensures no_read { IsErrOf result RunFault.Read → ⊥ }
 {
@@ -183,20 +225,41 @@ fn scan_piece(piece: &[u8], scanner: &mut Scanner, bits: &mut Vec<bool>) -> Resu
 }
 
 /// Scans the bytes of a piece up to and with its first line feed, and appends the elements of the line that they end.
-/// Answers how many bytes there were.
+/// Answers how many bytes there were. Where memory runs out, the bytes behind them are scanned too: a fault in them
+/// comes first.
 fn scan_line(piece: &[u8], scanner: &mut Scanner, bits: &mut Vec<bool>) -> Result<usize, RunFault>
     requires { 0 < length piece.now }
     ensures read { (limit : ℕ) (bytes : List ℕ) → HasRead limit scanner.old bits.old.items bytes
         → MatchResult result
         (λ count. HasRead limit scanner.new bits.new.items (bytes ++ take count piece.now))
-        (λ fault. (more : List ℕ) → ExplainsReading ⊥ limit ((bytes ++ piece.now) ++ more) fault) }
+        (λ fault. ExplainsPiece limit (bytes ++ piece.now) fault) }
     ensures some { IfOk result (λ count. (0 < count) × (count ≤ length piece.now)
         × (scanner.new.room + count ≡ scanner.old.room)) }
     ensures no_read { IsErrOf result RunFault.Read → ⊥ }
 {
     let count = scanner.push_line(piece)?;
-    append_elements(scanner.elements(), bits)?;
-    Ok(count)
+    match append_elements(scanner.elements(), bits) {
+        Ok(()) => Ok(count),
+        Err(_) => Err(fault_behind(&piece[count..], scanner)),
+    }
+}
+
+/// The fault where memory ran out before these bytes of a piece: the first of the file that stands in them, if one does.
+#[cold]
+fn fault_behind(piece: &[u8], scanner: &mut Scanner) -> RunFault
+    ensures explained { (limit : ℕ) (bytes : List ℕ) (lines : List Line)
+        → Scans limit scanner.old bytes lines
+        → ExplainsPiece limit (bytes ++ piece.now) result }
+    ensures no_read { result ≡ RunFault.Read → ⊥ }
+{
+    let mut at = 0;
+    while at < piece.len() {
+        match scanner.push_line(&piece[at..]) {
+            Ok(count) => at += count,
+            Err(fault) => return RunFault::from(fault),
+        }
+    }
+    RunFault::Memory(AllocError)
 }
 
 /// Appends the elements of a line, which only a line of elements has.

@@ -11,11 +11,14 @@ use crate::air_file::{LineKind, MAX_ELEMENTS, read_line};
 use crate::fault::LineFault;
 use crate::feeds::first_feed;
 use crate::line_bytes::{LineBytes, MAX_LINE_BYTES};
+use crate::packed::PackedElements;
 use arrayvec::ArrayVec;
 use std::marker::Model;
+use std::mem::size_of;
 
 /// Reads the lines of an air file piece by piece: it holds the line that is open, or the one that the last byte
-/// ended, how many lines were ended, and how many more bytes it may take.
+/// ended, how many lines were ended, and how many more bytes it may take. No field can be added whose meaning contracts
+/// see, and its size is proved.
 #[derive(Drop)]
 pub struct Scanner {
     /// The bytes of that line.
@@ -30,8 +33,9 @@ pub struct Scanner {
 impl Model for Scanner {
     ghost use Rattle.std.specs.Prelude.{◌+◌, ◌^◌, ◌<◌, length};
     ghost use Rattle.nx_fec.specs.Lines.{Scanning};
-    ghost use Rattle.nx_fec.specs.Scanner.{IsKept, bytes_kept, elements_kept, kind_kept, line_ended, part_of};
-    ghost use Rattle.nx_fec.specs.ScannerFields.{kept-back};
+    ghost use Rattle.nx_fec.specs.Scanner.{elements_kept, kind_kept};
+    ghost use Rattle.nx_fec.specs.private.ScannerKept.{IsKept, bytes_kept, line_ended, part_of};
+    ghost use Rattle.nx_fec.specs.private.ScannerFields.{kept-back};
 
     ghost Value = { Scanning };
 
@@ -45,7 +49,8 @@ impl Model for Scanner {
     ghost invariant = { λ s. (s.lines + length (part_of s.ended s.kept) + s.room < 2 ^ 64)
         × IsKept s.ended s.elements.items s.kept };
 
-    // What contracts see gives every field back: a scanner keeps nothing else.
+    // What contracts see gives every field back. The bytes of earlier lines that lie behind those of the open line in its
+    // places are seen by no contract, and nothing reads them.
     ghost inverse = { λ v. record {
       kept = bytes_kept v.latest v.part;
       ended = kind_kept v.latest;
@@ -69,6 +74,8 @@ impl Scanner {
         ensures stands { Scans limit result [] [] }
         ensures no_line { result.latest ≡ None }
     {
+        // Nothing is kept beside these fields, not even in a type whose model forgets.
+        prove!(size_of::<Scanner>() == 1088);
         Scanner {
             kept: LineBytes::new(),
             ended: None,
@@ -99,6 +106,20 @@ impl Scanner {
         &self.elements
     }
 
+    /// Packs the elements of the line that the last byte ended, in place of those that were there; none where it ended no
+    /// line of elements.
+    // Inlined always: it runs for each line.
+    #[inline(always)]
+    pub fn pack(&self, packed: &mut PackedElements)
+        ensures { packed.new ≡ elements_kept self.now.latest }
+    {
+        if let Some(LineKind::Elements) = self.ended {
+            let _ = packed.read(&self.kept.as_slice()[2..]);
+        } else {
+            packed.clear();
+        }
+    }
+
     /// The bytes of the line that the last byte ended, without its line feed, if it ended one.
     pub fn line(&self) -> Option<&[u8]>
         ensures { option_map (λ line. line.now) result ≡ option_map spelling self.now.latest }
@@ -113,7 +134,7 @@ impl Scanner {
     /// The line that was ended, if one was, is then the latest. `LineLong` at the 515th byte
     /// of a line, `BadLine` at the end of one that is none of an air file's, `TooLong` at a byte past the limit. After a
     /// fault, which is the file's first whatever bytes follow, the bytes before it were taken.
-    // Inlined always, with its parts: it runs for each line, from two callers, and no large answer goes through memory.
+    // Inlined always, with its parts: it runs for each line, from more than one caller, and no large answer goes through memory.
     #[inline(always)]
     pub fn push_line(&mut self, piece: &[u8]) -> Result<usize, LineFault>
         requires { 0 < length piece.now }

@@ -47,7 +47,7 @@ stops-on : (bytes : List ℕ) (P Q : List Line → List ℕ → List ℕ → Typ
     → StopsAt bytes P → StopsAt bytes Q
 stops-on bytes P Q f h = record { lines = h.lines; rest = h.rest; more = h.more; whole = h.whole; each = h.each; part = h.part; here = f h.lines h.rest h.more h.here }
 
-next-refused : (first : Listener) (number : ℕ) (lines : List Line) (rest more : List ℕ) (why : LineRefusal) → IsLineRefused refuses first air_limit lines rest more number why
+next-refused : (first : Listener) (number : ℕ) (lines : List Line) (rest more : List ℕ) (why : LineRefusal) → IsLineRefused (λ before line. refuses first before line why) air_limit lines rest more number
     → IsNextRefused (λ before line. RefusesLine before line why) number lines rest more
 next-refused first number lines rest more why h =
     record { line = h.line; after = h.after; good = h.good; spelled = h.spelled; ended = h.ended; within = h.within; counted = h.counted; refused = h.refused }
@@ -112,7 +112,7 @@ pub listens-fault : {R W : Type 0} (first now : Listener) (d : Devices R W) (fau
 listens-fault first now d fault h = record {
   reads = Reads-on d.remaining d.reader d.reader_after run.Read Read (Err fault) (Err (lines_fault fault)) _ _ _ _ h.reads
       (λ bytes k. explains _ _ first now _ _ bytes fault k) (λ bytes k. explains _ _ first now _ _ bytes fault k)
-      (λ e. as-err _ _ (read-back fault (err-of _ _ e))) (λ e. as-err _ _ (ap lines_fault (run-err-of _ _ e)));
+      (λ bytes k h outside. tt) (λ e. as-err _ _ (read-back fault (err-of _ _ e))) (λ e. as-err _ _ (ap lines_fault (run-err-of _ _ e)));
   writes = record {
     failed = (
       λ w. h.writes.failed.0 (w.0, as-err _ _ (write-back fault w.0 (err-of _ _ w.1))),
@@ -172,7 +172,7 @@ pub listens-ok : {R W : Type 0} (remaining : R → Option (List ℕ)) (contents 
 listens-ok remaining contents first now reader reader_after writer mid new read report h closed counted none = record {
   reads = Reads-on remaining reader reader_after run.Read Read (Ok read) (Ok report) _ _ _ _ h.reads
       (λ bytes k. (k.0, listened first now _ _ _ bytes read report k.1 closed counted)) (λ bytes k. (k.0, listened first now _ _ _ bytes read report k.1 closed counted))
-      (λ e. absurd (Ok-not_err _ _ e)) (λ e. absurd (Ok-not_err _ _ e));
+      (λ bytes k h. h) (λ e. absurd (Ok-not_err _ _ e)) (λ e. absurd (Ok-not_err _ _ e));
   writes = Writes-none _ _ _ (λ written. Ok-not_err _ _) none;
   unwritten = tt;
 }
@@ -206,7 +206,7 @@ listens-part : {R W : Type 0} (remaining : R → Option (List ℕ)) (contents : 
 listens-part remaining contents first now reader reader_after writer mid new read written h closed one = record {
   reads = Reads-on remaining reader reader_after run.Read Read (Ok read) (Err (Write written)) _ _ _ _ h.reads
       (λ bytes k. inr (k.0, part-listened first now _ _ _ bytes read written k.1 closed)) (λ bytes k. inr (k.0, part-listened first now _ _ _ bytes read written k.1 closed))
-      (λ e. absurd (write-not_read written e)) (λ e. absurd (Ok-not_err _ _ e));
+      (λ bytes k h outside. tt) (λ e. absurd (write-not_read written e)) (λ e. absurd (Ok-not_err _ _ e));
   writes = record { failed = (λ w. one, λ k. (written, refl)); once = omega (arith, one) };
   unwritten = tt;
 }

@@ -17,7 +17,8 @@ use Rattle.nx_fec.specs.declared.diversity.Diversity.{Diversity}
 use Rattle.nx_sync.specs.Words.{role_of, other_role, is_dx}
 use Rattle.nx_sync.specs.declared.step.Role.{Role}
 use Rattle.nx_sync.specs.declared.step.Role.TheVariants.{Dx, Rx}
-use Rattle.nx_receiver.specs.LockText.{five_before, taken_at, positions}
+use Rattle.nx_fec.specs.Aligned.{five_before}
+use Rattle.nx_receiver.specs.LockText.{taken_at, positions}
 use Rattle.nx_receiver.specs.LockReader.{LockReading, ReadsLock, dx_words, text_after}
 
 -- a word of this role, among the DX words

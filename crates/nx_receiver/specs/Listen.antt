@@ -215,7 +215,7 @@ AnswersListening AtEnd IsLeft old new (Err fault) bytes =
 -- came; and it writes the log of the lines that it read before each further read.
 abbrev pub Listens : {R W : Type 0} → Devices R W → Result Report ListenFault → Type 0
 Listens d outcome =
-    Transfers Read (λ written. Write written) on_the_way d outcome (λ _. ⊤)
+    Transfers Read (λ _. ⊥) (λ written. Write written) on_the_way d outcome (λ _. ⊤)
     (λ bytes. AnswersListening (IsReadOut d) (λ more. more ≡ []) (d.contents d.writer.inner)
     (d.contents d.writer_after.inner) outcome bytes)
     (λ bytes. AnswersListening (Unit {0}) (λ more. Unit {0}) (d.contents d.writer.inner)

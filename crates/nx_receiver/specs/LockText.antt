@@ -2,21 +2,17 @@
 -- later; M.476 and M.625 for what is printed; that each lock has a text of its own, from letters,
 -- is this profile's). `first` is the role of word 0 of the lock, and `words` gives each word's
 -- number.
-use Rattle.std.specs.Prelude.{ℕ, zero, suc, ◌+◌, ◌-◌, ◌*◌, nat_lt, if◌then◌else◌, Bool, List, [], ◌∷◌, ◌++◌, map}
+use Rattle.std.specs.Prelude.{ℕ, zero, suc, ◌+◌, ◌*◌, if◌then◌else◌, Bool, List, [], ◌∷◌, ◌++◌, map}
 use Rattle.std.specs.Option.{option_to_list}
 use Rattle.nx_code.specs.Reading.{Reception, byte_of, shift_after_all}
 use Rattle.nx_code.specs.declared.shifts.Shift.TheVariants.{Letters}
-use Rattle.nx_fec.specs.Pairing.{Counted, nothing, counts_as, pairing}
+use Rattle.nx_fec.specs.Aligned.{five_before}
+use Rattle.nx_fec.specs.Pairing.{counts_as, pairing}
 use Rattle.nx_sync.specs.Words.{word_of_lock, first_role, role_of, is_dx}
 use Rattle.nx_sync.specs.declared.step.Role.{Role}
 
--- what the word five words before word k counts as: nothing where k < 5, since the words before the
--- lock are no words of it
-abbrev pub five_before : (ℕ → ℕ) → ℕ → Counted
-five_before words k = if nat_lt k 5 then nothing else counts_as (words (k - 5))
-
--- the position that word k completes: an RX word is paired with the word five before it; a DX word
--- completes none
+-- the position that word k completes: an RX word is paired with the word five before it, or with
+-- nothing where k < 5, since the words before the lock are no words of it; a DX word completes none
 unfoldable pub taken_at : Role → (ℕ → ℕ) → ℕ → List Reception
 taken_at first words k =
     if is_dx (role_of first k) then [] else pairing (five_before words k) (counts_as (words k)) ∷ []

@@ -8,6 +8,7 @@ use Rattle.nx_fec.specs.Devices.{WroteSome}
 use Rattle.nx_fec.specs.Emission.{bits_of, emission}
 use Rattle.nx_fec.specs.Lines.{IsBitFile, IsFaultless, line_bytes}
 use Rattle.nx_fec.specs.Lines.{file_of as air_file_of}
+use Rattle.nx_fec.specs.Runs.{IsOutside}
 use Rattle.nx_fec.specs.Transfers.{Devices, IsReadOut, Reads}
 use Rattle.nx_fec.specs.declared.fault.RunFault.{RunFault}
 use Rattle.nx_fec.specs.declared.fault.RunFault.TheVariants as run
@@ -43,11 +44,11 @@ write-read written e = cc
 
 -- the elements have a fault
 pub unread : {R W N : Type 0} (d : Devices R W) (bits : N) (items given : List Bool) (fault : EmissionFault)
-    → Reads d.remaining d.reader d.reader_after run.Read (as_read {N = N} (Ok bits)) (IsFaultless 1048576) (λ bytes. IsReadOut d × IsBitFile 1048576 bytes items) (λ bytes. IsBitFile 1048576 bytes items)
+    → Reads d.remaining d.reader d.reader_after run.Read IsOutside (as_read {N = N} (Ok bits)) (IsFaultless 1048576) (λ bytes. IsReadOut d × IsBitFile 1048576 bytes items) (λ bytes. IsBitFile 1048576 bytes items)
     → d.writer_after ≡ d.writer → d.writer.failures ≡ 0 → given ≡ items → ExplainsEmission given fault → Checks d (Err (Emission fault))
 unread d bits items given fault reads same none is explains =
     let h = subst (λ l. ExplainsEmission l fault) is explains in record {
-      reads = Reads-on _ _ _ _ _ _ _ _ _ _ _ reads (λ bytes k. (k.0, items, k.1, h)) (λ bytes k. (tt, items, k, h)) (λ e. absurd (emission-run fault run.Read e)) (λ e. absurd (ok-read bits e));
+      reads = Reads-on _ _ _ _ _ _ _ _ _ _ _ reads (λ bytes k. (k.0, items, k.1, h)) (λ bytes k. (tt, items, k, h)) (λ bytes k h outside. absurd outside) (λ e. absurd (emission-run fault run.Read e)) (λ e. absurd (ok-read bits e));
       writes = record { failed = (λ w. absurd (emission-run fault (run.Write w.0) w.1), λ one. absurd (omega (arith, ap (λ x. x.failures) same, none, one))); once = omega (arith, ap (λ x. x.failures) same, none) };
       unwritten = λ other. same;
     }
@@ -75,14 +76,14 @@ checked-of air items text count file h = record {
 
 -- the report is written in part
 pub unwritten : {R W N : Type 0} (d : Devices R W) (bits : N) (items : List Bool) (text : List ℕ) (count written : ℕ)
-    → Reads d.remaining d.reader d.reader_after run.Read (as_read {N = N} (Ok bits)) (IsFaultless 1048576) (λ bytes. IsReadOut d × IsBitFile 1048576 bytes items) (λ bytes. IsBitFile 1048576 bytes items)
+    → Reads d.remaining d.reader d.reader_after run.Read IsOutside (as_read {N = N} (Ok bits)) (IsFaultless 1048576) (λ bytes. IsReadOut d × IsBitFile 1048576 bytes items) (λ bytes. IsBitFile 1048576 bytes items)
     → d.writer_after.failures ≡ 1 → AreReported items text count → WroteSome (d.contents d.writer.inner) (d.contents d.writer_after.inner) text written
     → Checks d (Err (Run (run.Write written)))
 unwritten d bits items text count written reads one is wrote = record {
   reads = Reads-on _ _ _ _ _ _ _ _ _ _ _ reads
       (λ bytes k. (k.0, text, count, checked-of bytes items text count k.1 is, wrote))
       (λ bytes k. (tt, text, count, checked-of bytes items text count k is, wrote))
-      (λ e. absurd (write-read written e)) (λ e. absurd (ok-read bits e));
+      (λ bytes k h outside. absurd outside) (λ e. absurd (write-read written e)) (λ e. absurd (ok-read bits e));
   writes = record { failed = (λ w. one, λ h. (written, refl)); once = omega (arith, one) };
   unwritten = λ other. absurd (other written refl);
 }

@@ -216,7 +216,7 @@ whole-damaged first now old new bytes read h =
 damaged-ok : {R W : Type 0} (d : Devices R W) (first now : Damager) (read : LinesRead) → Ran first now d (Ok read) → Damages (damage_of first) d (Ok now.inverted)
 damaged-ok d first now read h = record {
   reads = Reads-on _ _ _ _ _ _ _ _ _ _ _ h.reads (λ bytes k. let w = whole-damaged first now _ _ bytes read k.1 in (k.0, w.0, w.1, w.2)) (λ bytes k. let w = whole-damaged first now _ _ bytes read k.1 in (tt, w.0, w.1, w.2))
-      (λ e. absurd (ok-err now.inverted Read e)) (λ e. absurd (ok-err read run.Read e));
+      (λ bytes k h. h) (λ e. absurd (ok-err now.inverted Read e)) (λ e. absurd (ok-err read run.Read e));
   writes = record { failed = (λ w. absurd (ok-err now.inverted (Write w.0) w.1), λ one. let w = h.writes.failed.1 one in absurd (ok-err read (run.Write w.0) w.1)); once = h.writes.once };
   unwritten = tt;
 }
@@ -224,7 +224,7 @@ damaged-ok d first now read h = record {
 damaged-read : {R W : Type 0} (d : Devices R W) (first now : Damager) → Ran first now d (Err run.Read) → Damages (damage_of first) d (Err Read)
 damaged-read d first now h = record {
   reads = Reads-on _ _ _ _ _ _ _ _ _ _ _ h.reads (λ bytes k. stops-map bytes _ _ (λ lines rest more p. (p.0, p.1, taken-appends first now lines _ _ p.2)) k)
-      (λ bytes k. stops-map bytes _ _ (λ lines rest more p. (p.0, p.1, taken-appends first now lines _ _ p.2)) k) (λ e. refl) (λ e. refl);
+      (λ bytes k. stops-map bytes _ _ (λ lines rest more p. (p.0, p.1, taken-appends first now lines _ _ p.2)) k) (λ bytes k h outside. tt) (λ e. refl) (λ e. refl);
   writes = record { failed = (λ w. absurd (read-write w.0 w.1), λ one. let w = h.writes.failed.1 one in absurd (run-read-write w.0 w.1)); once = h.writes.once };
   unwritten = tt;
 }
@@ -232,7 +232,7 @@ damaged-read d first now h = record {
 damaged-write : {R W : Type 0} (d : Devices R W) (first now : Damager) (written : ℕ) → Ran first now d (Err (run.Write written)) → Damages (damage_of first) d (Err (Write written))
 damaged-write d first now written h = record {
   reads = Reads-on _ _ _ _ _ _ _ _ _ _ _ h.reads (λ bytes k. stops-map bytes _ _ (λ lines rest more p. some-damaged first lines _ _ written p) k)
-      (λ bytes k. stops-map bytes _ _ (λ lines rest more p. some-damaged first lines _ _ written p) k) (λ e. absurd (write-read written e)) (λ e. absurd (run-write-read written e));
+      (λ bytes k. stops-map bytes _ _ (λ lines rest more p. some-damaged first lines _ _ written p) k) (λ bytes k h outside. tt) (λ e. absurd (write-read written e)) (λ e. absurd (run-write-read written e));
   writes = record { failed = (λ w. h.writes.failed.0 (written, refl), λ one. (written, refl)); once = h.writes.once };
   unwritten = tt;
 }
@@ -248,7 +248,7 @@ stopped AtEnd first now old new bytes (file.BadLine line) left k = (k.0, stops-m
 damaged-line : {R W : Type 0} (d : Devices R W) (first now : Damager) (why : LineFault) → Ran first now d (Err (run.Line why)) → Damages (damage_of first) d (Err (line_fault why))
 damaged-line d first now why h = record {
   reads = Reads-on _ _ _ _ _ _ _ _ _ _ _ h.reads (λ bytes k. stopped _ first now _ _ bytes why _ k) (λ bytes k. stopped _ first now _ _ bytes why _ k)
-      (λ e. absurd (line-read why e)) (λ e. absurd (run-line-read why e));
+      (λ bytes k h outside. tt) (λ e. absurd (line-read why e)) (λ e. absurd (run-line-read why e));
   writes = record { failed = (λ w. absurd (line-write why w.0 w.1), λ one. let w = h.writes.failed.1 one in absurd (run-line-write why w.0 w.1)); once = h.writes.once };
   unwritten = tt;
 }

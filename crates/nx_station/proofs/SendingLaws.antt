@@ -10,7 +10,7 @@ use Rattle.nx_fec.specs.Emission.{SentPosition, bits_of, emission}
 use Rattle.nx_fec.specs.BitLines.{bit_lines}
 use Rattle.nx_fec.specs.Lines.{file_of, line_bytes}
 use Rattle.nx_fec.specs.AirFile.{moment}
-use Rattle.nx_fec.specs.Runs.{ExplainsWhole, IsWithin}
+use Rattle.nx_fec.specs.Runs.{ExplainsWhole, IsOutsideWhole, IsWithin}
 use Rattle.nx_fec.specs.Transfers.{Devices, IsReadOut, Reads}
 use Rattle.nx_fec.specs.declared.fault.ReadFault.{ReadFault}
 use Rattle.nx_fec.specs.declared.fault.ReadFault.TheVariants as read
@@ -18,7 +18,7 @@ use Rattle.nx_fec.proofs.TransferLaws.{Reads-on}
 use Rattle.nx_station.specs.Broadcast.{IsBroadcast}
 use Rattle.nx_station.specs.Faults.{read_fault, send_fault}
 use Rattle.nx_station.specs.MessageFile.{IsMessageFile, file_message_of}
-use Rattle.nx_station.specs.FileSending.{ExplainsFile, ExplainsSending, IsTransmission, Sends}
+use Rattle.nx_station.specs.FileSending.{ExplainsFile, ExplainsSending, IsOutside, IsTransmission, Sends}
 use Rattle.nx_station.specs.Sendable.{AreOf, IsRefusal, IsSendable, first_of_another}
 use Rattle.nx_station.specs.Slots.{HasSlots, IsNextSlot}
 use Rattle.nx_station.specs.declared.fault.SendFault.{SendFault}
@@ -68,16 +68,21 @@ whole-read (read.Memory error) e = cc
 read-whole : {N : Type 0} (why : ReadFault) → ◌≡◌ {A = Result N ReadFault} (Err why) (Err read.Read) → ◌≡◌ {A = Result Sent SendRunFault} (Err (read_fault why)) (Err Read)
 read-whole why e = let same : why ≡ read.Read = cc in ap (λ w. Err (read_fault w)) same
 
+whole-outside : (why : ReadFault) → IsOutside (read_fault why) → IsOutsideWhole why
+whole-outside read.Read h = tt
+whole-outside read.FileTooLong h = h
+whole-outside (read.Memory error) h = tt
+
 whole-write : (why : ReadFault) (written : ℕ) → ◌≡◌ {A = Result Sent SendRunFault} (Err (read_fault why)) (Err (Write written)) → ⊥
 whole-write read.Read written e = cc
 whole-write read.FileTooLong written e = cc
 whole-write (read.Memory error) written e = cc
 
 pub unread : {R W N : Type 0} (d : Devices R W) (station from : ℕ) (why : ReadFault)
-    → Reads d.remaining d.reader d.reader_after read.Read (as_read {N = N} (Err why)) (IsWithin 1048576) (λ bytes. ExplainsWhole 1048576 bytes why) (λ bytes. ExplainsWhole 1048576 bytes why)
+    → Reads d.remaining d.reader d.reader_after read.Read IsOutsideWhole (as_read {N = N} (Err why)) (IsWithin 1048576) (λ bytes. ExplainsWhole 1048576 bytes why) (λ bytes. ExplainsWhole 1048576 bytes why)
     → d.writer_after ≡ d.writer → d.writer.failures ≡ 0 → Sends d station from (Err (read_fault why))
 unread d station from why reads same none = record {
-  reads = Reads-on _ _ _ _ _ _ _ _ _ _ _ reads (λ bytes k. whole-explains _ station from bytes _ _ why k) (λ bytes k. whole-explains _ station from bytes _ _ why k) (whole-read why) (read-whole why);
+  reads = Reads-on _ _ _ _ _ _ _ _ _ _ _ reads (λ bytes k. whole-explains _ station from bytes _ _ why k) (λ bytes k. whole-explains _ station from bytes _ _ why k) (λ bytes k h outside. h (whole-outside why outside)) (whole-read why) (read-whole why);
   writes = record { failed = (λ w. absurd (whole-write why w.0 w.1), λ one. absurd (omega (arith, ap (λ x. x.failures) same, none, one))); once = omega (arith, ap (λ x. x.failures) same, none) };
   unwritten = λ other. same;
 }
@@ -86,7 +91,7 @@ unread d station from why reads same none = record {
 
 -- the fault comes before anything is written
 pub unsent : {R W N : Type 0} (d : Devices R W) (station from : ℕ) (text : N) (items : List ℕ) (fault : SendRunFault)
-    → Reads d.remaining d.reader d.reader_after read.Read (as_read {N = N} (Ok text)) (IsWithin 1048576) (λ bytes. IsReadOut d × (length bytes ≤ 1048576) × (items ≡ bytes)) (λ bytes. (length bytes ≤ 1048576) × (items ≡ bytes))
+    → Reads d.remaining d.reader d.reader_after read.Read IsOutsideWhole (as_read {N = N} (Ok text)) (IsWithin 1048576) (λ bytes. IsReadOut d × (length bytes ≤ 1048576) × (items ≡ bytes)) (λ bytes. (length bytes ≤ 1048576) × (items ≡ bytes))
     → d.writer_after ≡ d.writer → d.writer.failures ≡ 0 → IsInside fault
     → ((AtEnd : Type 0) → AtEnd → length items ≤ 1048576 → ExplainsSending AtEnd 1048576 station from items (d.contents d.writer.inner) (d.contents d.writer_after.inner) fault)
     → Sends d station from (Err fault)
@@ -94,34 +99,34 @@ unsent d station from text items fault reads same none inside explains = record 
   reads = Reads-on _ _ _ _ _ _ _ _ _ _ _ reads
       (λ bytes k. subst (λ l. ExplainsSending (IsReadOut d) 1048576 station from l (d.contents d.writer.inner) (d.contents d.writer_after.inner) fault) k.2 (explains (IsReadOut d) k.0 (subst (λ l. length l ≤ 1048576) (sym k.2) k.1)))
       (λ bytes k. subst (λ l. ExplainsSending (Unit {0}) 1048576 station from l (d.contents d.writer.inner) (d.contents d.writer_after.inner) fault) k.1 (explains (Unit {0}) tt (subst (λ l. length l ≤ 1048576) (sym k.1) k.0)))
-      (λ e. absurd (inside-read fault inside e)) (λ e. absurd (ok-read text e));
+      (λ bytes k h outside. k.1) (λ e. absurd (inside-read fault inside e)) (λ e. absurd (ok-read text e));
   writes = record { failed = (λ w. absurd (inside-write fault w.0 inside w.1), λ one. absurd (omega (arith, ap (λ x. x.failures) same, none, one))); once = omega (arith, ap (λ x. x.failures) same, none) };
   unwritten = λ other. same;
 }
 
 -- the file is written, or a part of it
 pub unwritten : {R W N : Type 0} (d : Devices R W) (station from : ℕ) (text : N) (items air : List ℕ) (sent : Sent) (written : ℕ)
-    → Reads d.remaining d.reader d.reader_after read.Read (as_read {N = N} (Ok text)) (IsWithin 1048576) (λ bytes. IsReadOut d × (length bytes ≤ 1048576) × (items ≡ bytes)) (λ bytes. (length bytes ≤ 1048576) × (items ≡ bytes))
+    → Reads d.remaining d.reader d.reader_after read.Read IsOutsideWhole (as_read {N = N} (Ok text)) (IsWithin 1048576) (λ bytes. IsReadOut d × (length bytes ≤ 1048576) × (items ≡ bytes)) (λ bytes. (length bytes ≤ 1048576) × (items ≡ bytes))
     → d.writer_after.failures ≡ 1 → IsTransmission station from items air sent → WroteSome (d.contents d.writer.inner) (d.contents d.writer_after.inner) air written
     → Sends d station from (Err (Write written))
 unwritten d station from text items air sent written reads one is wrote = record {
   reads = Reads-on _ _ _ _ _ _ _ _ _ _ _ reads
       (λ bytes k. (k.0, k.1, air, sent, subst (λ l. IsTransmission station from l air sent) k.2 is, wrote))
       (λ bytes k. (tt, k.0, air, sent, subst (λ l. IsTransmission station from l air sent) k.1 is, wrote))
-      (λ e. absurd (write-read written e)) (λ e. absurd (ok-read text e));
+      (λ bytes k h outside. k.1) (λ e. absurd (write-read written e)) (λ e. absurd (ok-read text e));
   writes = record { failed = (λ w. one, λ h. (written, refl)); once = omega (arith, one) };
   unwritten = λ other. absurd (other written refl);
 }
 
 pub sent-all : {R W N : Type 0} (d : Devices R W) (station from : ℕ) (text : N) (items air : List ℕ) (sent : Sent)
-    → Reads d.remaining d.reader d.reader_after read.Read (as_read {N = N} (Ok text)) (IsWithin 1048576) (λ bytes. IsReadOut d × (length bytes ≤ 1048576) × (items ≡ bytes)) (λ bytes. (length bytes ≤ 1048576) × (items ≡ bytes))
+    → Reads d.remaining d.reader d.reader_after read.Read IsOutsideWhole (as_read {N = N} (Ok text)) (IsWithin 1048576) (λ bytes. IsReadOut d × (length bytes ≤ 1048576) × (items ≡ bytes)) (λ bytes. (length bytes ≤ 1048576) × (items ≡ bytes))
     → d.writer_after.failures ≡ 0 → IsTransmission station from items air sent → Appends (d.contents d.writer.inner) (d.contents d.writer_after.inner) air
     → Sends d station from (Ok sent)
 sent-all d station from text items air sent reads none is wrote = record {
   reads = Reads-on _ _ _ _ _ _ _ _ _ _ _ reads
       (λ bytes k. (k.0, k.1, air, subst (λ l. IsTransmission station from l air sent) k.2 is, wrote))
       (λ bytes k. (tt, k.0, air, subst (λ l. IsTransmission station from l air sent) k.1 is, wrote))
-      (λ e. absurd (ok-err sent Read e)) (λ e. absurd (ok-read text e));
+      (λ bytes k h. h) (λ e. absurd (ok-err sent Read e)) (λ e. absurd (ok-read text e));
   writes = record { failed = (λ w. absurd (ok-err sent (Write w.0) w.1), λ one. absurd (omega (arith, none, one))); once = omega (arith, none) };
   unwritten = tt;
 }

@@ -4,7 +4,7 @@ use Rattle.std.specs.Io.KnownBytes.{Appends}
 use Rattle.nx_envelope.specs.MessageView.{MessageView}
 use Rattle.nx_fec.specs.Devices.{WroteSome}
 use Rattle.nx_fec.specs.Lines.{IsBitFile, IsFaultless, line_end}
-use Rattle.nx_fec.specs.Runs.{ExplainsReading, file_limit}
+use Rattle.nx_fec.specs.Runs.{ExplainsReading, IsOutside, file_limit}
 use Rattle.nx_fec.specs.Transfers.{Devices, IsReadOut, Transfers, at_the_end}
 use Rattle.nx_fec.specs.declared.fault.RunFault.TheVariants as run
 use Rattle.nx_station.specs.MessageFile.{file_message_of, message_file_bytes}
@@ -44,6 +44,11 @@ ExplainsChecking AtEnd limit air old new (Run fault) = ExplainsReading AtEnd lim
 ExplainsChecking AtEnd limit air old new (Emission fault) =
     AtEnd × (bits : List Bool) × IsBitFile limit air bits × ExplainsEmission bits fault
 
+-- the fault is of the reader or of memory, while the elements are read or their report is made
+abbrev pub IsOutsideChecking : CheckFault → Type 0
+IsOutsideChecking (Run fault) = IsOutside fault
+IsOutsideChecking (Emission fault) = ⊥
+
 -- what checking answers to an air file: the count of its messages, whose report was written, or a
 -- fault
 abbrev pub AnswersChecking : Type 0 → ℕ → List ℕ → Option (List ℕ) → Option (List ℕ)
@@ -56,8 +61,8 @@ AnswersChecking AtEnd limit air old new (Err fault) = ExplainsChecking AtEnd lim
 -- came; and it writes nothing before all else succeeded.
 abbrev pub Checks : {R W : Type 0} → Devices R W → Result ℕ CheckFault → Type 0
 Checks d outcome =
-    Transfers (Run run.Read) (λ written. Run (run.Write written)) at_the_end d outcome
-    (IsFaultless file_limit)
+    Transfers (Run run.Read) IsOutsideChecking (λ written. Run (run.Write written)) at_the_end d
+    outcome (IsFaultless file_limit)
     (λ bytes. AnswersChecking (IsReadOut d) file_limit bytes
     (d.contents d.writer.inner) (d.contents d.writer_after.inner) outcome)
     (λ bytes. AnswersChecking (Unit {0}) file_limit bytes

@@ -115,7 +115,7 @@ AnswersDamaging AtEnd IsLeft limit damage old new (Err fault) air =
 -- came; and it writes the whole lines that it read before each further read.
 abbrev pub Damages : {R W : Type 0} → Damage → Devices R W → Result ℕ DamageFault → Type 0
 Damages damage d outcome =
-    Transfers Read (λ written. Write written) on_the_way d outcome (λ _. ⊤)
+    Transfers Read (λ _. ⊥) (λ written. Write written) on_the_way d outcome (λ _. ⊤)
     (λ bytes. AnswersDamaging (IsReadOut d) (λ more. more ≡ []) air_limit damage
     (d.contents d.writer.inner) (d.contents d.writer_after.inner) outcome bytes)
     (λ bytes. AnswersDamaging (Unit {0}) (λ more. Unit {0}) air_limit damage

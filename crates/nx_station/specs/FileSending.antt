@@ -87,6 +87,12 @@ ExplainsSending AtEnd limit station from file old new (Write written) =
 ExplainsSending AtEnd limit station from file old new fault =
     AtEnd × (length file ≤ limit) × ExplainsFile file fault
 
+-- the fault is of the reader or of memory
+abbrev pub IsOutside : SendRunFault → Type 0
+IsOutside Read = ⊤
+IsOutside (Memory error) = ⊤
+IsOutside _ = ⊥
+
 -- what sending answers to a message file, which is written as an air file
 abbrev pub AnswersSending : Type 0 → ℕ → ℕ → ℕ → List ℕ → Option (List ℕ) → Option (List ℕ)
     → Result Sent SendRunFault → Type 0
@@ -100,7 +106,7 @@ AnswersSending AtEnd limit station from file old new (Err fault) =
 -- came; and it writes nothing before all else succeeded.
 abbrev pub Sends : {R W : Type 0} → Devices R W → ℕ → ℕ → Result Sent SendRunFault → Type 0
 Sends d station from outcome =
-    Transfers Read (λ written. Write written) at_the_end d outcome (IsWithin file_limit)
+    Transfers Read IsOutside (λ written. Write written) at_the_end d outcome (IsWithin file_limit)
     (λ bytes. AnswersSending (IsReadOut d) file_limit station from bytes
     (d.contents d.writer.inner) (d.contents d.writer_after.inner) outcome)
     (λ bytes. AnswersSending (Unit {0}) file_limit station from bytes

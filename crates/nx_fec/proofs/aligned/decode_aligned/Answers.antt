@@ -24,7 +24,7 @@ loop-position-preserved c =
     let taken : reception_of c.rx-taken.result ≡ taken_at words (2 * n + 1) =
     c.rx-taken.ensures.stands (dx_words words 0 (n + 1)) given
     ∙ ap (λ x. pairing x (heard_as c.of-in-loop-position.result)) (third_last-pairs words n)
-    ∙ ap (pairing (five_before words (2 * n + 1))) rx
+    ∙ ap (pairing (five_before (slice_index words) (2 * n + 1))) rx
     ∙ sym (taken_at-pairing words n) in
     let more = taken_first-more words n (reception_of c.rx-taken.result) taken in
     let read = c.step.ensures.reading (taken_first words n) c.loop-position.invariant.shift in

@@ -1,6 +1,6 @@
 use Rattle.std.proofs.Common.{◌≡◌, ◌<◌, ℕ, List, [], length}
 use Rattle.std.specs.Io.KnownBytes.{Consumes}
-use Rattle.nx_fec.specs.LineRuns.{IsTaking}
+use Rattle.nx_fec.specs.private.LineTaking.{IsTaking}
 use Rattle.nx_fec.proofs.line_run.run_lines.Given as goal
 
 -- all whole lines that were read were taken

@@ -1,5 +1,6 @@
 use Rattle.std.proofs.Common.{◌++◌, take, subst, arith}
-use Rattle.nx_fec.specs.LineRuns.{ExplainsLines, HasGiven, IsTaking}
+use Rattle.nx_fec.specs.LineRuns.{ExplainsLines, HasGiven}
+use Rattle.nx_fec.specs.private.LineTaking.{IsTaking}
 use Rattle.nx_fec.proofs.PieceLemmas.{piece-next, piece-rest}
 use Rattle.nx_fec.proofs.TransferLaws.{Ok-not_err, Writes-sound}
 use Rattle.nx_fec.proofs.line_run.take_piece.Goals as goal

@@ -1,5 +1,5 @@
 use Rattle.std.proofs.Common.{◌≡◌, ◌+◌, ◌-◌, ◌≤◌, ℕ, Option, List, ◌++◌, length, take}
-use Rattle.nx_fec.specs.LineRuns.{IsTaking}
+use Rattle.nx_fec.specs.private.LineTaking.{IsTaking}
 use Rattle.nx_fec.proofs.line_run.take_piece.Given as goal
 
 -- the lines that the bytes so far ended were taken

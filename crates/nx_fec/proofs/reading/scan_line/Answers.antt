@@ -1,15 +1,23 @@
-use Rattle.std.proofs.Common.{ap, sym, ◌∙◌, ◌++◌}
+use Rattle.std.proofs.Common.{ap, sym, ◌∙◌, ◌++◌, option_to_list, take, subst}
 use Rattle.std.proofs.lemmas.Result.{err_from_is_err_and}
-use Rattle.nx_fec.proofs.ReadingLaws.{ExplainsReading-stop, HasRead-step, elements_kept-list}
+use Rattle.nx_fec.specs.private.Takers.{ExplainsPiece}
+use Rattle.nx_fec.proofs.PieceLemmas.{piece-whole}
+use Rattle.nx_fec.proofs.ReadingLaws.{ExplainsPiece-stop, HasRead-step, elements_kept-list}
 use Rattle.nx_fec.proofs.reading.scan_line.Goals as goal
 
 pub returns-in_err-count-clause-read : goal.returns-in_err-count-clause-read
 returns-in_err-count-clause-read c = λ limit bytes h.
     let p = err_from_is_err_and c.from_residual.result c.from_residual.ensures.1 in
-    rw p.1 (rw p.2 (λ more. ExplainsReading-stop limit _ bytes c.args.piece.now more h.lines _ c.in_err-count.ensures.at_byte
+    rw p.1 (rw p.2 (ExplainsPiece-stop limit _ bytes c.args.piece.now h.lines _ c.in_err-count.ensures.at_byte
     (c.in_err-count.ensures.bytes limit bytes h.lines h.scans)))
 
-pub returns-clause-read : goal.returns-clause-read
-returns-clause-read c = λ limit bytes h.
+pub returns-in-Ok-clause-read : goal.returns-in-Ok-clause-read
+returns-in-Ok-clause-read c = λ limit bytes h.
     HasRead-step limit _ _ _ _ bytes _ _ h (c.in_ok-count.ensures.bytes limit bytes h.lines h.scans)
-    (c.in_ok-append_elements.ensures ∙ ap (λ l. c.args.bits.now.items ++ l) (c.elements.ensures ∙ sym (elements_kept-list c.push_line.new.self.latest)))
+    (c.in-Ok.ensures ∙ ap (λ l. c.args.bits.now.items ++ l) (c.elements.ensures ∙ sym (elements_kept-list c.push_line.new.self.latest)))
+
+pub returns-in-Err-clause-read : goal.returns-in-Err-clause-read
+returns-in-Err-clause-read c = λ limit bytes h.
+    let scanned = c.in_ok-count.ensures.bytes limit bytes h.lines h.scans in
+    subst (λ l. ExplainsPiece limit l c.fault_behind.result) (piece-whole bytes c.args.piece.now c.in_ok-count.count)
+    (c.fault_behind.ensures.explained limit (bytes ++ take c.in_ok-count.count c.args.piece.now) (h.lines ++ option_to_list c.push_line.new.self.latest) scanned)

@@ -1,5 +1,5 @@
 use Rattle.std.proofs.Common.{◌≡◌, ◌+◌, ◌-◌, ◌≤◌, ℕ, List, ◌++◌, length, take}
-use Rattle.nx_fec.specs.Runs.{HasRead}
+use Rattle.nx_fec.specs.private.Takers.{HasRead}
 use Rattle.nx_fec.proofs.reading.scan_piece.Given as goal
 
 abbrev pub invariant-loop-at : goal.invariant-loop-at

@@ -17,7 +17,7 @@ returns-in_err-combs g c =
       reads = Reads-on _ _ _ _ _ _ _ _ _ _ _ c.in_ok-text.ensures
           (λ bytes k. spelling-explains _ 1048576 bytes _ _ _ fault k.0 k.1 (c.deref.ensures.value ∙ k.2) (λ at same. (c.in_err-combs.ensures.no_such_character at).0 (ap Err same)))
           (λ bytes k. spelling-explains _ 1048576 bytes _ _ _ fault tt k.0 (c.deref.ensures.value ∙ k.1) (λ at same. (c.in_err-combs.ensures.no_such_character at).0 (ap Err same)))
-          (λ e. absurd (spell_fault-not_read fault e)) (λ e. absurd (Ok-not_err _ _ e));
+          (λ bytes k h outside. k.1) (λ e. absurd (spell_fault-not_read fault e)) (λ e. absurd (Ok-not_err _ _ e));
       writes = record {
         failed = (λ w. absurd (spell_fault-not_write fault w.0 w.1), λ one. absurd (omega (arith, c.requires.writer, one)));
         once = omega (arith, c.requires.writer);
@@ -40,7 +40,7 @@ returns-in_err-write_bits g c =
       reads = Reads-on _ _ _ _ _ _ _ _ _ _ _ c.in_ok-text.ensures
           (λ bytes k. (k.0, k.1, file, count, encoded bytes k.2, wrote.err))
           (λ bytes k. (tt, k.0, file, count, encoded bytes k.1, wrote.err))
-          (λ e. absurd (Write-not_read _ e)) (λ e. absurd (Ok-not_err _ _ e));
+          (λ bytes k h outside. k.1) (λ e. absurd (Write-not_read _ e)) (λ e. absurd (Ok-not_err _ _ e));
       writes = record { failed = (λ w. wrote.failed.0 refl, λ one. (c.in_err-write_bits.field-0.0.written, refl)); once = wrote.once };
       unwritten = λ other. absurd (other c.in_err-write_bits.field-0.0.written refl);
     }))
@@ -60,7 +60,7 @@ returns g c =
       reads = Reads-on _ _ _ _ _ _ _ _ _ _ _ c.in_ok-text.ensures
           (λ bytes k. (k.0, k.1, file, encoded bytes k.2, wrote.ok))
           (λ bytes k. (tt, k.0, file, encoded bytes k.1, wrote.ok))
-          (λ e. absurd (Ok-not_err _ _ e)) (λ e. absurd (Ok-not_err _ _ e));
+          (λ bytes k h. h) (λ e. absurd (Ok-not_err _ _ e)) (λ e. absurd (Ok-not_err _ _ e));
       writes = record { failed = (λ w. absurd (Ok-not_err _ _ w.1), λ one. absurd (omega (arith, wrote.none, one))); once = wrote.once };
       unwritten = tt;
     }

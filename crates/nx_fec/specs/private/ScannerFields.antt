@@ -1,7 +1,8 @@
 -- What contracts see of a scanner gives back all that it keeps.
 use Rattle.std.specs.Prelude.{◌≡◌, ℕ, Bool, List, Option, None, Some, refl}
 use Rattle.std.proofs.Common.{sym}
-use Rattle.nx_fec.specs.Scanner.{IsKept, bytes_kept, elements_kept, kind_kept, line_ended, line_with, part_of}
+use Rattle.nx_fec.specs.Scanner.{elements_kept, kind_kept, line_with}
+use Rattle.nx_fec.specs.private.ScannerKept.{IsKept, bytes_kept, line_ended, part_of}
 use Rattle.nx_fec.specs.declared.air_file.LineKind.{LineKind}
 use Rattle.nx_fec.specs.declared.air_file.LineKind.TheVariants.{Moment, Elements, RefuseStation, AcceptStation, RefuseSubject, AcceptSubject}
 

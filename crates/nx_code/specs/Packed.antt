@@ -1,0 +1,15 @@
+-- Elements packed into numbers of 64 bits: element i of the list is bit i % 64 of number
+-- i / 64.
+use Rattle.std.specs.Prelude.{ℕ, Bool, List, [], ◌∷◌, ◌++◌}
+use Rattle.nx_code.specs.Word.{elements_from}
+
+-- how many elements a packed number has
+abbrev pub packed_elements : ℕ
+packed_elements = 64
+
+-- The elements of packed numbers, in the order of sending: 64 of each number, the least place
+-- first, 1 is B.
+unfoldable pub elements_of_words : List ℕ → List Bool
+elements_of_words [] = []
+elements_of_words (number ∷ numbers) =
+    elements_from packed_elements number ++ elements_of_words numbers

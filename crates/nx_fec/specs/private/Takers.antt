@@ -1,0 +1,32 @@
+-- What the takers of the pieces of a file hold, and what they say of the bytes so far.
+use Rattle.std.specs.Prelude.{◌≡◌, ℕ, Bool, List, ◌++◌}
+use Rattle.std.specs.Global.{Vec}
+use Rattle.std.specs.List.{flat_map}
+use Rattle.nx_fec.specs.AirFile.{Line}
+use Rattle.nx_fec.specs.Lines.{IsFaultless, Scanning, Scans, elements_of}
+use Rattle.nx_fec.specs.Runs.{ExplainsReading, IsOutside}
+use Rattle.nx_fec.specs.declared.fault.RunFault.{RunFault}
+
+-- the scanner of an air file, and the elements of the lines that it ended
+pub record TakenElements : Type 0 where
+  pub scanner : Scanning
+  pub bits : Vec Bool
+
+-- the bytes of a file, and how many more it may have
+pub record TakenBytes : Type 0 where
+  pub bytes : Vec ℕ
+  pub room : ℕ
+
+-- what a fault in a piece of an air file says of all bytes up to the end of the piece: it stands
+-- whatever comes after them, and it is of memory only where no fault of the file stands in them
+abbrev pub ExplainsPiece : ℕ → List ℕ → RunFault → Type 0
+ExplainsPiece limit bytes fault =
+    (IsOutside fault → IsFaultless limit bytes)
+    × ((more : List ℕ) → ExplainsReading ⊥ limit (bytes ++ more) fault)
+
+-- the scanner stands so after these bytes, and the elements are those of the lines that they ended
+pub record HasRead (limit : ℕ) (scanner : Scanning) (bits : List Bool)
+    (bytes : List ℕ) : Type 0 where
+  pub lines : List Line
+  pub scans : Scans limit scanner bytes lines
+  pub joined : bits ≡ flat_map elements_of lines

@@ -1,0 +1,181 @@
+//! The elements of one line, packed into words of 64.
+ghost use Rattle.std.specs.Prelude.{◌≡◌, ◌≢◌, ◌<◌, ◌≤◌, ◌==◌, Bool, List, [], false, length, map, take, IsTrue};
+ghost use Rattle.std.specs.Simd.Lanes.{mask_l};
+ghost use Rattle.nx_code.specs.Packed.{elements_of_words};
+ghost use Rattle.nx_code.specs.Word.{elements_from};
+ghost use Rattle.nx_fec.specs.AirFile.{element_digit};
+ghost use Rattle.nx_fec.specs.private.Packing.{are_elements, is_one};
+
+use crate::air_file::MAX_ELEMENTS;
+use std::marker::Model;
+use std::mem::size_of;
+use std::simd::prelude::*;
+
+/// How many elements stand in one word.
+const LANES: usize = 64;
+
+/// How many words the elements of one line have.
+const WORDS: usize = MAX_ELEMENTS / LANES;
+
+/// At most 512 elements, each one bit: element i is bit i % 64 of word i / 64, and 1 is B. What lies in the places behind
+/// them, bits of earlier elements, no contract sees and nothing reads; its size is proved, so nothing else is kept.
+#[derive(Drop)]
+pub struct PackedElements {
+    words: [u64; WORDS],
+    length: usize,
+}
+
+impl Model for PackedElements {
+    ghost use Rattle.std.specs.Prelude.{◌≤◌, Bool, List, take};
+    ghost use Rattle.nx_code.specs.Packed.{elements_of_words};
+
+    ghost Value = { List Bool };
+
+    ghost view = { λ packed. take packed.length (elements_of_words packed.words) };
+
+    ghost invariant = { λ packed. packed.length ≤ 512 };
+}
+
+impl PackedElements {
+    /// No element.
+    pub fn new() -> PackedElements
+        ensures { result ≡ [] }
+    {
+        prove!(size_of::<PackedElements>() == 72);
+        PackedElements {
+            words: [0; WORDS],
+            length: 0,
+        }
+    }
+
+    /// How many elements there are.
+    pub fn len(&self) -> usize
+        ensures count { result ≡ length self.now }
+        ensures fits { result ≤ 512 }
+    {
+        self.length
+    }
+
+    /// The words that the elements are the first of.
+    pub fn words(&self) -> &[u64]
+        ensures elements { self.now ≡ take (length self.now) (elements_of_words result.now) }
+        ensures count { length result.now ≡ 8 }
+    {
+        &self.words
+    }
+
+    /// Drops all elements.
+    pub(crate) fn clear(&mut self)
+        ensures { self.new ≡ [] }
+    {
+        self.length = 0;
+    }
+
+    /// Reads 1 to 512 elements, each a digit 0 or 1, in place of those that were there. False, and no elements, where the
+    /// digits are none.
+    // Inlined always: it runs for each line.
+    #[inline(always)]
+    pub fn read(&mut self, digits: &[u8]) -> bool
+        ensures found { IsTrue result → (0 < length self.new) × (length self.new ≤ 512)
+            × (digits.now ≡ map element_digit self.new) }
+        ensures none { result ≡ false → (elements : List Bool) → 0 < length elements
+            → length elements ≤ 512
+            → digits.now ≢ map element_digit elements }
+        ensures unread { result ≡ false → self.new ≡ [] }
+    {
+        self.length = 0;
+        if digits.is_empty() || digits.len() > MAX_ELEMENTS {
+            return false;
+        }
+        if !pack(digits, &mut self.words) {
+            return false;
+        }
+        self.length = digits.len();
+        true
+    }
+}
+
+/// Packs digits into words. Whether each of them is one of an element.
+// Inlined always, as a part of `read`.
+#[inline(always)]
+fn pack(digits: &[u8], words: &mut [u64; WORDS]) -> bool
+    requires { length digits.now ≤ 512 }
+    ensures elements { take (length digits.now) (elements_of_words words.new)
+        ≡ map is_one digits.now }
+    ensures right { result ≡ are_elements digits.now }
+{
+    let mut right = true;
+    let whole = digits.len() / LANES;
+    for place in 0..whole {
+        let (word, here) = pack_64(&digits[LANES * place..]);
+        words[place] = word;
+        right &= here;
+    }
+    if LANES * whole < digits.len() {
+        let (word, here) = pack_last(&digits[LANES * whole..]);
+        words[whole] = word;
+        right &= here;
+    }
+    right
+}
+
+/// Packs fewer digits than a word holds.
+// Inlined always, as a part of `read`.
+#[inline(always)]
+fn pack_last(digits: &[u8]) -> (u64, bool)
+    requires { length digits.now < 64 }
+    ensures word { take (length digits.now) (elements_from 64 result.0) ≡ map is_one digits.now }
+    ensures right { result.1 ≡ are_elements digits.now }
+{
+    let mut whole = [b'0'; LANES];
+    whole[..digits.len()].copy_from_slice(digits);
+    pack_64(&whole)
+}
+
+/// Packs the first 64 digits.
+// Inlined always, so that its vectors stay in registers.
+#[inline(always)]
+fn pack_64(digits: &[u8]) -> (u64, bool)
+    requires { 64 ≤ length digits.now }
+    ensures word { elements_from 64 result.0 ≡ map is_one (take 64 digits.now) }
+    ensures right { result.1 ≡ are_elements (take 64 digits.now) }
+{
+    let ones = places_of(digits, b'1');
+    let zeros = places_of(digits, b'0');
+    (ones, zeros == u64::MAX - ones)
+}
+
+/// The places of a byte among the first 64: bit k says whether byte k is it.
+// Inlined always, so that its vectors stay in registers.
+#[inline(always)]
+fn places_of(digits: &[u8], byte: u8) -> u64
+    requires { 64 ≤ length digits.now }
+    ensures { result ≡ mask_l (map (λ digit. digit == byte) (take 64 digits.now)) }
+{
+    u8x64::from_slice(digits)
+        .simd_eq(u8x64::splat(byte))
+        .to_bitmask()
+}
+
+#[cfg(test)]
+mod tests {
+    use super::*;
+
+    /// 65 elements, of which the first, the 64th and the last are B; then fewer, in place of them; then none.
+    #[test]
+    fn packed_digits(rt: HostRuntime) {
+        let mut digits = [b'0'; 65];
+        for place in [0, 63, 64] {
+            digits[place] = b'1';
+        }
+        let mut packed = PackedElements::new();
+        assert_eq!(rt; packed.read(&digits), true);
+        assert_eq!(rt; packed.len(), 65);
+        assert_eq!(rt; packed.words()[0], 0x8000_0000_0000_0001);
+        assert_eq!(rt; packed.words()[1], 1);
+        assert_eq!(rt; packed.read(b"01"), true);
+        assert_eq!(rt; (packed.len(), packed.words()[0]), (2, 2));
+        assert_eq!(rt; packed.read(b"02"), false);
+        assert_eq!(rt; packed.len(), 0);
+    }
+}
