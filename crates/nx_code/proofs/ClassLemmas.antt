@@ -1,5 +1,5 @@
 -- The tables by class answer as the definitions do, by one computation each.
-use Rattle.std.proofs.Common.{◌≡◌, ℕ, ◌<◌, ◌≤◌, refl, sym, ap, ◌∙◌, true, Option, None, map, get_or, ltb, arith}
+use Rattle.std.proofs.Common.{◌≡◌, ℕ, ◌<◌, refl, sym, ap, ◌∙◌, true, None, map, get_or, ltb, arith}
 use Rattle.std.specs.List.{range_with_len}
 use Rattle.std.proofs.lemmas.Bool.{agree_below_at, ltb-true}
 use Rattle.std.proofs.lemmas.List.{get_or-map}
@@ -8,7 +8,7 @@ use Rattle.nx_code.specs.declared.classes.TheConstants.{BY_WORD, IN_LETTERS, IN_
 use Rattle.nx_code.specs.declared.shifts.Shift.TheVariants.{Letters, Figures}
 use Rattle.nx_code.specs.Classes.{class_of, reception_of_class}
 use Rattle.nx_code.specs.Reading.{byte_of, character_of}
-use Rattle.nx_code.specs.Rows.{byte_given}
+use Rattle.nx_code.specs.private.Rows.{byte_given}
 use Rattle.nx_code.specs.Table.{place_of, row_of, table, words}
 
 all_classes : BY_WORD ≡ map class_of (range_with_len 0 128)

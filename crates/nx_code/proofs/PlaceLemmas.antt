@@ -7,9 +7,9 @@ use Rattle.nx_code.specs.declared.places.TheConstants.{BY_WORD, BY_CHARACTER}
 use Rattle.nx_code.specs.declared.shifts.Shift.{Shift}
 use Rattle.nx_code.specs.declared.shifts.Shift.TheVariants.{Letters, Figures}
 use Rattle.nx_code.specs.Table.{table, words, place_of}
-use Rattle.nx_code.specs.Rows.{place_given}
+use Rattle.nx_code.specs.private.Rows.{place_given}
 use Rattle.nx_code.specs.Reading.{character_of}
-use Rattle.nx_code.proofs.CharacterLemmas.{place_for, place_for-Some, place_for-printed, same_place_for, in_code-printed, in_code-low}
+use Rattle.nx_code.proofs.CharacterLemmas.{place_for, place_for-Some, place_for-printed, same_place_for}
 
 all_words : map place_given BY_WORD ≡ map place_of (range_with_len 0 128)
 unfolding place_of words table
@@ -28,12 +28,12 @@ or_else None other = other
 abbrev pub place_in_either : ℕ → Option ℕ
 place_in_either c = or_else (place_for Letters c) (place_for Figures c)
 
-all_characters : map place_given BY_CHARACTER ≡ map place_in_either (range_with_len 0 128)
+all_characters : map place_given BY_CHARACTER ≡ map place_in_either (range_with_len 0 256)
 all_characters = refl
 
-pub place_for-BY_CHARACTER : (c fallback : ℕ) → c < 128 → place_given (get_or BY_CHARACTER c fallback) ≡ place_in_either c
+pub place_for-BY_CHARACTER : (c fallback : ℕ) → c < 256 → place_given (get_or BY_CHARACTER c fallback) ≡ place_in_either c
 place_for-BY_CHARACTER c fallback h =
-    sym (get_or-map place_given BY_CHARACTER c fallback None h) ∙ ap (λ l. get_or l c None) all_characters ∙ get_or-map-range_with_len place_in_either 0 128 c c None h (omega arith)
+    sym (get_or-map place_given BY_CHARACTER c fallback None h) ∙ ap (λ l. get_or l c None) all_characters ∙ get_or-map-range_with_len place_in_either 0 256 c c None h (omega arith)
 
 -- a character that a combination prints has its place
 pub place_in_either-printed : (shift : Shift) (n c : ℕ) → 1 ≤ n → n ≤ 32 → character_of n shift ≡ Some c → place_in_either c ≡ Some (n - 1)
@@ -44,10 +44,6 @@ place_in_either-printed Figures n c low high h =
       | Some at ↦ λ e. ap Some (sym (same_place_for c at (n - 1) e figure))
       | None ↦ λ e. figure
     ] refl
-
--- only a character below 128 is printed
-pub printed-low_byte : (shift : Shift) (n c : ℕ) → 1 ≤ n → n ≤ 32 → character_of n shift ≡ Some c → c < 128
-printed-low_byte shift n c low high h = in_code-low c (in_code-printed shift n c low high h)
 
 -- what has a place is printed by the combination there
 pub place_in_either-Some : (c at : ℕ) → place_in_either c ≡ Some at → (at < 32) × (shift : Shift) × (character_of (at + 1) shift ≡ Some c)

@@ -15,7 +15,7 @@ use Rattle.nx_code.specs.Word.{weight, elements, elements_from}
 use Rattle.nx_code.specs.Table.{row, table, cell, words, place_of, row_of, traffic_word}
 use Rattle.nx_code.specs.Signal.{place, number_of_signal}
 use Rattle.nx_code.specs.Reading.{character_of}
-use Rattle.nx_code.specs.Rows.{cell_in, character_in}
+use Rattle.nx_code.specs.private.Rows.{cell_in, character_in}
 use Rattle.nx_code.specs.declared.shifts.Shift.{Shift}
 use Rattle.nx_code.specs.declared.shifts.Shift.TheVariants.{Letters, Figures}
 use Rattle.std.specs.List.{range_with_len}

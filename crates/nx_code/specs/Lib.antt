@@ -7,8 +7,7 @@ pub mod Phasing
 pub mod Reading
 pub mod Taken
 pub mod Characters
-pub mod Rows
 pub mod Spelling
-pub mod Pieces
 pub mod Shifts
 pub mod Classes
+pub mod private

@@ -4,7 +4,7 @@
 ghost use Rattle.std.specs.Prelude.{◌≡◌, ◌<◌};
 ghost use Rattle.nx_code.specs.Classes.{class_of, paired, reception_of_class};
 ghost use Rattle.nx_code.specs.Reading.{byte_of, shift_after};
-ghost use Rattle.nx_code.specs.Rows.{byte_given};
+ghost use Rattle.nx_code.specs.private.Rows.{byte_given};
 
 use crate::shifts::Shift;
 use crate::signals::{FIGURE_SHIFT, LETTER_SHIFT};

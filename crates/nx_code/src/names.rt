@@ -1,7 +1,7 @@
 //! The names of the signals that stand for no letter.
 
 ghost use Rattle.std.specs.Prelude.{◌≡◌};
-ghost use Rattle.nx_code.specs.Rows.{name_text};
+ghost use Rattle.nx_code.specs.private.Rows.{name_text};
 
 /// The name of a signal that stands for no letter; the table has it in both columns.
 #[derive(Clone, Copy, Debug)]

@@ -3,7 +3,7 @@
 
 ghost use Rattle.std.specs.Prelude.{◌≡◌, ℕ, ◌+◌, ◌-◌, ◌≤◌, ◌<◌, Some, IfSome};
 ghost use Rattle.nx_code.specs.Reading.{character_of};
-ghost use Rattle.nx_code.specs.Rows.{place_given};
+ghost use Rattle.nx_code.specs.private.Rows.{place_given};
 ghost use Rattle.nx_code.specs.Table.{place_of};
 ghost use Rattle.nx_code.specs.declared.shifts.Shift.{Shift};
 
@@ -25,15 +25,23 @@ static BY_WORD: [u8; 128] = [
     35, 14,  1, 35, 19, 35, 35, 35, 26, 35, 35, 35, 35, 35, 35, 35,
 ];
 
-/// The place in the table of the combination that prints each byte below 128.
+/// The place in the table of the combination that prints each byte.
 #[rattlefmt::skip]
-static BY_CHARACTER: [u8; 128] = [
+static BY_CHARACTER: [u8; 256] = [
     35, 35, 35, 35, 35, 35, 35, 35, 35, 35, 27, 35, 35, 35, 35, 35,
     35, 35, 35, 35, 35, 35, 35, 35, 35, 35, 35, 35, 35, 35, 35, 35,
     30, 35, 35, 35, 35, 35, 35, 18, 10, 11, 35, 25, 13,  0, 12, 23,
     15, 16, 22,  4, 17, 19, 24, 20,  8, 14,  2, 35, 35, 21, 35,  1,
     35,  0,  1,  2,  3,  4,  5,  6,  7,  8,  9, 10, 11, 12, 13, 14,
     15, 16, 17, 18, 19, 20, 21, 22, 23, 24, 25, 35, 35, 35, 35, 35,
+    35, 35, 35, 35, 35, 35, 35, 35, 35, 35, 35, 35, 35, 35, 35, 35,
+    35, 35, 35, 35, 35, 35, 35, 35, 35, 35, 35, 35, 35, 35, 35, 35,
+    35, 35, 35, 35, 35, 35, 35, 35, 35, 35, 35, 35, 35, 35, 35, 35,
+    35, 35, 35, 35, 35, 35, 35, 35, 35, 35, 35, 35, 35, 35, 35, 35,
+    35, 35, 35, 35, 35, 35, 35, 35, 35, 35, 35, 35, 35, 35, 35, 35,
+    35, 35, 35, 35, 35, 35, 35, 35, 35, 35, 35, 35, 35, 35, 35, 35,
+    35, 35, 35, 35, 35, 35, 35, 35, 35, 35, 35, 35, 35, 35, 35, 35,
+    35, 35, 35, 35, 35, 35, 35, 35, 35, 35, 35, 35, 35, 35, 35, 35,
     35, 35, 35, 35, 35, 35, 35, 35, 35, 35, 35, 35, 35, 35, 35, 35,
     35, 35, 35, 35, 35, 35, 35, 35, 35, 35, 35, 35, 35, 35, 35, 35,
 ];
@@ -64,9 +72,5 @@ pub(crate) fn place_of_character(character: u8) -> Option<usize>
     ensures printed { IfSome result (λ place. (place < 32) × (shift : Shift)
         × (character_of (place + 1) shift ≡ Some character)) }
 {
-    if character < 128 {
-        place_given(BY_CHARACTER[usize::from(character)])
-    } else {
-        None
-    }
+    place_given(BY_CHARACTER[usize::from(character)])
 }

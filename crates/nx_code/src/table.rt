@@ -5,7 +5,7 @@ ghost use Rattle.nx_code.specs.Word.{weight};
 ghost use Rattle.nx_code.specs.Table.{words};
 ghost use Rattle.nx_code.specs.Signal.{place, number_of_signal, cell_of_signal};
 ghost use Rattle.nx_code.specs.Reading.{character_of};
-ghost use Rattle.nx_code.specs.Rows.{cell_in, character_in};
+ghost use Rattle.nx_code.specs.private.Rows.{cell_in, character_in};
 ghost use Rattle.nx_code.specs.declared.signals.Signal.{Signal};
 ghost use Rattle.nx_code.specs.declared.shifts.Shift.{Shift};
 

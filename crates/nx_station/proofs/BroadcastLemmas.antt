@@ -21,7 +21,8 @@ use Rattle.nx_envelope.specs.Message.{AreLines, IsMessageLine, IsLineByte, text_
 use Rattle.nx_envelope.specs.MessageView.{MessageView}
 use Rattle.nx_fec.specs.Emission.{SentPosition, phasing_position, traffic_position, end_position}
 use Rattle.nx_station.specs.Sendable.{HavePositions}
-use Rattle.nx_station.specs.Broadcast.{IsSpelled, AreSpelled, IsBroadcast, IsExtent, head, ending, phasing_and_message, layout}
+use Rattle.nx_station.specs.MessageParts.{IsExtent}
+use Rattle.nx_station.specs.Broadcast.{IsSpelled, AreSpelled, IsBroadcast, head, ending, phasing_and_message, layout, first_phasing, further_phasing, end_positions}
 
 -- ---- the text of a message is in the code
 
@@ -156,9 +157,9 @@ all_spelled-push (m ∷ ms) (x ∷ xs) message numbers h k = (h.0, all_spelled-p
 
 abbrev pub total : List (List ℕ) → ℕ
 total [] = 0
-total (numbers ∷ spellings) = (36 + length numbers) + total spellings
+total (numbers ∷ spellings) = (further_phasing + length numbers) + total spellings
 
-pub total-push : (spellings : List (List ℕ)) (numbers : List ℕ) → total (spellings ++ (numbers ∷ [])) ≡ total spellings + (36 + length numbers)
+pub total-push : (spellings : List (List ℕ)) (numbers : List ℕ) → total (spellings ++ (numbers ∷ [])) ≡ total spellings + (further_phasing + length numbers)
 total-push [] numbers = omega arith
 total-push (x ∷ xs) numbers = omega (arith, total-push xs numbers)
 
@@ -166,17 +167,17 @@ length-phasing_and_message : (count : ℕ) (numbers : List ℕ) → length (phas
 length-phasing_and_message count numbers =
     omega (arith, length-append (replicate count phasing_position) (map traffic_position numbers), length-replicate count phasing_position, length-map numbers traffic_position)
 
-length-others : (spellings : List (List ℕ)) → length (flat_map (phasing_and_message 36) spellings) ≡ total spellings
+length-others : (spellings : List (List ℕ)) → length (flat_map (phasing_and_message further_phasing) spellings) ≡ total spellings
 length-others [] = refl
-length-others (x ∷ xs) = omega (arith, length-append (phasing_and_message 36 x) (flat_map (phasing_and_message 36) xs), length-phasing_and_message 36 x, length-others xs)
+length-others (x ∷ xs) = omega (arith, length-append (phasing_and_message further_phasing x) (flat_map (phasing_and_message further_phasing) xs), length-phasing_and_message further_phasing x, length-others xs)
 
 pub length-layout : (spellings : List (List ℕ)) → spellings ≢ [] → length (layout spellings) ≡ total spellings + 39
 unfolding layout
 length-layout [] h = absurd (h refl)
 length-layout (x ∷ xs) h =
-    let others = flat_map (phasing_and_message 36) xs in
-    let ends = replicate 3 end_position in
-    omega (arith, length-append (phasing_and_message 72 x) (others ++ ends), length-append others ends, length-phasing_and_message 72 x, length-others xs, length-replicate 3 end_position)
+    let others = flat_map (phasing_and_message further_phasing) xs in
+    let ends = replicate end_positions end_position in
+    omega (arith, length-append (phasing_and_message first_phasing x) (others ++ ends), length-append others ends, length-phasing_and_message first_phasing x, length-others xs, length-replicate end_positions end_position)
 
 -- ---- how they are built
 
@@ -226,21 +227,21 @@ message-positions message text phasing old one two three new numbers extent a b 
     (head message.identity ++ (text ++ last), record { text = text; spells = spells; whole = refl }, built ∙ joined ∙ ap (λ l. old ++ (front ++ l)) (sym parts))
 
 -- one more message behind the first
-pub others-more : (old now new : List SentPosition) (spellings : List (List ℕ)) (numbers : List ℕ) → now ≡ old ++ flat_map (phasing_and_message 36) spellings → new ≡ now ++ phasing_and_message 36 numbers
-    → new ≡ old ++ flat_map (phasing_and_message 36) (spellings ++ (numbers ∷ []))
+pub others-more : (old now new : List SentPosition) (spellings : List (List ℕ)) (numbers : List ℕ) → now ≡ old ++ flat_map (phasing_and_message further_phasing) spellings → new ≡ now ++ phasing_and_message further_phasing numbers
+    → new ≡ old ++ flat_map (phasing_and_message further_phasing) (spellings ++ (numbers ∷ []))
 others-more old now new spellings numbers h k =
-    k ∙ ap (λ l. l ++ phasing_and_message 36 numbers) h ∙ append_assoc old (flat_map (phasing_and_message 36) spellings) (phasing_and_message 36 numbers)
-    ∙ ap (λ l. old ++ l) (sym (flat_map-append (phasing_and_message 36) spellings (numbers ∷ []) ∙ ap (λ l. flat_map (phasing_and_message 36) spellings ++ l) (append-nil (phasing_and_message 36 numbers))))
+    k ∙ ap (λ l. l ++ phasing_and_message further_phasing numbers) h ∙ append_assoc old (flat_map (phasing_and_message further_phasing) spellings) (phasing_and_message further_phasing numbers)
+    ∙ ap (λ l. old ++ l) (sym (flat_map-append (phasing_and_message further_phasing) spellings (numbers ∷ []) ∙ ap (λ l. flat_map (phasing_and_message further_phasing) spellings ++ l) (append-nil (phasing_and_message further_phasing numbers))))
 
 pub broadcast-of : (messages : List MessageView) (first : MessageView) (others : List MessageView) (i : ℕ) (numbers : List ℕ) (spellings : List (List ℕ)) (one two new : List SentPosition)
-    → messages ≡ first ∷ others → IsSpelled first numbers → one ≡ [] ++ phasing_and_message 72 numbers → length others ≤ i → AreSpelled (take i others) spellings
-    → two ≡ one ++ flat_map (phasing_and_message 36) spellings → new ≡ two ++ replicate 3 end_position → IsBroadcast messages new
+    → messages ≡ first ∷ others → IsSpelled first numbers → one ≡ [] ++ phasing_and_message first_phasing numbers → length others ≤ i → AreSpelled (take i others) spellings
+    → two ≡ one ++ flat_map (phasing_and_message further_phasing) spellings → new ≡ two ++ replicate end_positions end_position → IsBroadcast messages new
 unfolding layout
 broadcast-of messages first others i numbers spellings one two new is h a past k b c =
     let all : AreSpelled others spellings = subst (λ l. AreSpelled l spellings) (take_all i others past) k in record {
       spellings = numbers ∷ spellings;
       each = subst (λ l. AreSpelled l (numbers ∷ spellings)) (sym is) (h, all);
-      whole = c ∙ ap (λ l. l ++ replicate 3 end_position) (b ∙ ap (λ l. l ++ flat_map (phasing_and_message 36) spellings) a) ∙ append_assoc (phasing_and_message 72 numbers) (flat_map (phasing_and_message 36) spellings) (replicate 3 end_position);
+      whole = c ∙ ap (λ l. l ++ replicate end_positions end_position) (b ∙ ap (λ l. l ++ flat_map (phasing_and_message further_phasing) spellings) a) ∙ append_assoc (phasing_and_message first_phasing numbers) (flat_map (phasing_and_message further_phasing) spellings) (replicate end_positions end_position);
     }
 
 -- the lines of all messages

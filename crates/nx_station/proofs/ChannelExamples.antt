@@ -44,12 +44,6 @@ example_computed : Computed (layout (example_numbers ∷ [])) heard_half
 unfolding layout example_numbers heard_half damaged_in example_words phasing_words word_sent traffic_word row_of table weight elements elements_from is_end
 example_computed = record { words = refl; whole = refl; phasing = refl; later = refl; one_of_two = refl }
 
-is_end-false : (position : SentPosition) → is_end position ≡ false → position ≢ end_position
-unfolding is_end
-is_end-false phasing_position h e = cc
-is_end-false (traffic_position number) h e = cc
-is_end-false end_position h e = false≢true (sym h)
-
 is_end-true : (position : SentPosition) → is_end position ≡ true → position ≡ end_position
 unfolding is_end
 is_end-true phasing_position h = cc

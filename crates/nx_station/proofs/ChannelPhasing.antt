@@ -7,13 +7,13 @@ use Rattle.nx_code.specs.Phasing.{phasing_1, phasing_2}
 use Rattle.nx_fec.specs.Emission.{SentPosition, phasing_position, traffic_position, end_position, dx_word, rx_word, position_at, word_sent}
 use Rattle.nx_fec.proofs.EmissionLemmas.{word_sent-dx, word_sent-rx}
 use Rattle.nx_envelope.specs.MessageView.{MessageView}
-use Rattle.nx_station.specs.Broadcast.{AreSpelled, IsBroadcast, IsSpelled, ending, head, layout, phasing_and_message}
+use Rattle.nx_station.specs.Broadcast.{AreSpelled, IsBroadcast, IsSpelled, ending, head, layout, phasing_and_message, first_phasing, further_phasing, end_positions}
 use Rattle.nx_code.specs.Reading.{combination, shift_after_all}
 use Rattle.nx_code.specs.declared.shifts.Shift.{Shift}
 use Rattle.nx_code.specs.declared.shifts.Shift.TheVariants.{Letters, Figures}
 use Rattle.nx_station.proofs.BroadcastLemmas.{length-head, length-layout}
 use Rattle.nx_station.proofs.ChannelWindows.{not-empty}
-use Rattle.nx_station.specs.Channel.{PassesChannel, first_slot, phasing_words}
+use Rattle.nx_station.specs.Channel.{PassesChannel, first_slot, phasing_words, first_position, phasing_received}
 
 get_or-phasing : (count i : ℕ) → i < count → get_or (replicate count phasing_position) i end_position ≡ phasing_position
 get_or-phasing zero i h = absurd (omega (arith, h))
@@ -38,34 +38,34 @@ received-long (m ∷ ms) (s ∷ ss) h some =
     omega (arith, length-layout (s ∷ ss) some, length-spelled m s h.0)
 
 -- the first 72 positions of an emission that is sent are phasing
-layout-phasing : (spellings : List (List ℕ)) (i : ℕ) → 95 ≤ length (layout spellings) → i < 72 → position_at (layout spellings) i ≡ phasing_position
+layout-phasing : (spellings : List (List ℕ)) (i : ℕ) → 95 ≤ length (layout spellings) → i < first_phasing → position_at (layout spellings) i ≡ phasing_position
 unfolding layout
 layout-phasing [] i long h = absurd (omega (arith, long))
 layout-phasing (s ∷ ss) i long h =
-    let front = replicate 72 phasing_position in
-    let rest = flat_map (phasing_and_message 36) ss ++ replicate 3 end_position in
-    let n = length-replicate 72 phasing_position in
-    let m = length-append (replicate 72 phasing_position) (map traffic_position s) in
-    get_or_append_left (phasing_and_message 72 s) rest end_position i (omega arith)
+    let front = replicate first_phasing phasing_position in
+    let rest = flat_map (phasing_and_message further_phasing) ss ++ replicate end_positions end_position in
+    let n = length-replicate first_phasing phasing_position in
+    let m = length-append (replicate first_phasing phasing_position) (map traffic_position s) in
+    get_or_append_left (phasing_and_message first_phasing s) rest end_position i (omega arith)
     ∙ get_or_append_left front (map traffic_position s) end_position i (omega arith)
-    ∙ get_or-phasing 72 i h
+    ∙ get_or-phasing first_phasing i h
 
-phasing_words-at : (j : ℕ) → j < 48 → get_or (phasing_words 24) j 0 ≡ cond (j % 2 == 0) phasing_2 phasing_1
+phasing_words-at : (j : ℕ) → j < 2 * phasing_received → get_or (phasing_words phasing_received) j 0 ≡ cond (j % 2 == 0) phasing_2 phasing_1
 unfolding phasing_words
 phasing_words-at j h =
-    eqb-true (get_or (phasing_words 24) j 0) (cond (j % 2 == 0) phasing_2 phasing_1)
-    (agree_below_at (λ k. eqb (get_or (phasing_words 24) k 0) (cond (k % 2 == 0) phasing_2 phasing_1)) (λ _. true) 48 j refl h)
+    eqb-true (get_or (phasing_words phasing_received) j 0) (cond (j % 2 == 0) phasing_2 phasing_1)
+    (agree_below_at (λ k. eqb (get_or (phasing_words phasing_received) k 0) (cond (k % 2 == 0) phasing_2 phasing_1)) (λ _. true) 48 j refl h)
 
-length-phasing_words : length (phasing_words 24) ≡ 48
+length-phasing_words : length (phasing_words phasing_received) ≡ 48
 unfolding phasing_words
 length-phasing_words = refl
 
-module _ (positions : List SentPosition) (heard : List ℕ) (passes : PassesChannel positions heard) (enough : 95 ≤ length positions) (phased : (i : ℕ) → i < 72 → position_at positions i ≡ phasing_position) where
-  sent : (j : ℕ) → j < 48 → word_sent positions (first_slot + j) ≡ cond (j % 2 == 0) phasing_2 phasing_1
+module _ (positions : List SentPosition) (heard : List ℕ) (passes : PassesChannel positions heard) (enough : 95 ≤ length positions) (phased : (i : ℕ) → i < first_phasing → position_at positions i ≡ phasing_position) where
+  sent : (j : ℕ) → j < 2 * phasing_received → word_sent positions (first_slot + j) ≡ cond (j % 2 == 0) phasing_2 phasing_1
   sent j h = elim (cases_eq (j % 2) 0) [
     | inl even ↦
-        let e : first_slot + j ≡ 2 * (48 + j / 2) = omega arith in
-        ap (word_sent positions) e ∙ word_sent-dx positions (48 + j / 2) ∙ ap dx_word (phased (48 + j / 2) (omega arith))
+        let e : first_slot + j ≡ 2 * (first_position + j / 2) = omega arith in
+        ap (word_sent positions) e ∙ word_sent-dx positions (first_position + j / 2) ∙ ap dx_word (phased (first_position + j / 2) (omega arith))
         ∙ sym (cond-true (j % 2 == 0) phasing_2 phasing_1 (eq-eqb (j % 2) 0 even))
     | inr odd ↦
         let e : first_slot + j ≡ 2 * (45 + (j + 1) / 2) + 5 = omega arith in
@@ -73,19 +73,19 @@ module _ (positions : List SentPosition) (heard : List ℕ) (passes : PassesChan
         ∙ sym (cond-false (j % 2 == 0) phasing_2 phasing_1 (ne_eqb (j % 2) 0 odd))
   ]
 
-  pub begins_with_phasing : take 48 heard ≡ phasing_words 24
+  pub begins_with_phasing : take (2 * phasing_received) heard ≡ phasing_words phasing_received
   begins_with_phasing =
       let long : 48 ≤ length heard = omega (arith, passes.whole, enough) in
-      let n : length (take 48 heard) ≡ 48 = length-take-le 48 heard long in
-      ext_get_or 0 (take 48 heard) (phasing_words 24) (n ∙ sym length-phasing_words)
-      (λ j h. get_or-take 48 heard j 0 (omega arith) ∙ at j (omega arith) ∙ sent j (omega arith) ∙ sym (phasing_words-at j (omega arith)))
+      let n : length (take (2 * phasing_received) heard) ≡ 48 = length-take-le 48 heard long in
+      ext_get_or 0 (take (2 * phasing_received) heard) (phasing_words phasing_received) (n ∙ sym length-phasing_words)
+      (λ j h. get_or-take (2 * phasing_received) heard j 0 (omega arith) ∙ at j (omega arith) ∙ sent j (omega arith) ∙ sym (phasing_words-at j (omega arith)))
     where
-      at : (j : ℕ) → j < 48 → get_or heard j 0 ≡ word_sent positions (first_slot + j)
+      at : (j : ℕ) → j < 2 * phasing_received → get_or heard j 0 ≡ word_sent positions (first_slot + j)
       at j h = let e : first_slot + j - first_slot ≡ j = omega arith in ap (λ k. get_or heard k 0) (sym e) ∙ passes.phasing (first_slot + j) (omega arith) (omega arith)
 
 -- what passes the channel is long enough, and begins with phasing
 pub heard-phasing : (messages : List MessageView) (positions : List SentPosition) (heard : List ℕ) → IsBroadcast messages positions → PassesChannel positions heard
-    → take 48 heard ≡ phasing_words 24
+    → take (2 * phasing_received) heard ≡ phasing_words phasing_received
 heard-phasing messages positions heard h passes =
     let long : 95 ≤ length (layout h.spellings) = received-long messages h.spellings h.each (not-empty h.spellings heard (subst (λ p. PassesChannel p heard) h.whole passes)) in
     begins_with_phasing positions heard passes (subst (λ p. 95 ≤ length p) (sym h.whole) long)

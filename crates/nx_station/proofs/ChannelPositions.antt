@@ -9,7 +9,7 @@ use Rattle.nx_code.specs.declared.shifts.Shift.TheVariants.{Letters, Figures}
 use Rattle.nx_envelope.specs.MessageView.{MessageView}
 use Rattle.nx_envelope.specs.declared.identity.Identity.{Identity}
 use Rattle.nx_fec.specs.Emission.{SentPosition, phasing_position, traffic_position, end_position, position_at}
-use Rattle.nx_station.specs.Broadcast.{IsSpelled, AreSpelled, digit_combination, ending, head, layout, letter_combination, phasing_and_message}
+use Rattle.nx_station.specs.Broadcast.{IsSpelled, AreSpelled, digit_combination, ending, head, layout, letter_combination, phasing_and_message, first_phasing, further_phasing, end_positions}
 use Rattle.nx_station.proofs.HeadLemmas.{digit_combination-range}
 
 -- the number of a combination
@@ -80,27 +80,27 @@ message-inner : (count : ℕ) (message : MessageView) (numbers : List ℕ) → I
 message-inner count message numbers h =
     each-append IsInner (replicate count phasing_position) (map traffic_position numbers) (phasing-inner count) (traffic-inner numbers (spelled-combinations message numbers h))
 
-others-inner : (messages : List MessageView) (spellings : List (List ℕ)) → AreSpelled messages spellings → AllByRecursion IsInner (flat_map (phasing_and_message 36) spellings)
+others-inner : (messages : List MessageView) (spellings : List (List ℕ)) → AreSpelled messages spellings → AllByRecursion IsInner (flat_map (phasing_and_message further_phasing) spellings)
 others-inner [] [] h = tt
 others-inner [] (s ∷ ss) h = absurd h
 others-inner (m ∷ ms) [] h = absurd h
 others-inner (m ∷ ms) (s ∷ ss) h =
-    each-append IsInner (phasing_and_message 36 s) (flat_map (phasing_and_message 36) ss) (message-inner 36 m s h.0) (others-inner ms ss h.1)
+    each-append IsInner (phasing_and_message further_phasing s) (flat_map (phasing_and_message further_phasing) ss) (message-inner further_phasing m s h.0) (others-inner ms ss h.1)
 
 -- positions that end with three of the end, and have none before
 pub record HasInner (positions : List SentPosition) : Type 0 where
   pub inner : List SentPosition
   pub each : AllByRecursion IsInner inner
-  pub whole : positions ≡ inner ++ replicate 3 end_position
+  pub whole : positions ≡ inner ++ replicate end_positions end_position
 
 pub layout-inner : (messages : List MessageView) (spellings : List (List ℕ)) → spellings ≢ [] → AreSpelled messages spellings → HasInner (layout spellings)
 unfolding layout
 layout-inner messages [] some h = absurd (some refl)
 layout-inner [] (s ∷ ss) some h = absurd h
 layout-inner (m ∷ ms) (s ∷ ss) some h = record {
-  inner = phasing_and_message 72 s ++ flat_map (phasing_and_message 36) ss;
-  each = each-append IsInner (phasing_and_message 72 s) (flat_map (phasing_and_message 36) ss) (message-inner 72 m s h.0) (others-inner ms ss h.1);
-  whole = sym (append_assoc (phasing_and_message 72 s) (flat_map (phasing_and_message 36) ss) (replicate 3 end_position));
+  inner = phasing_and_message first_phasing s ++ flat_map (phasing_and_message further_phasing) ss;
+  each = each-append IsInner (phasing_and_message first_phasing s) (flat_map (phasing_and_message further_phasing) ss) (message-inner first_phasing m s h.0) (others-inner ms ss h.1);
+  whole = sym (append_assoc (phasing_and_message first_phasing s) (flat_map (phasing_and_message further_phasing) ss) (replicate end_positions end_position));
 }
 
 inner-at : (inner : List SentPosition) (i : ℕ) → AllByRecursion IsInner inner → i < length inner → IsInner (get_or inner i end_position)
@@ -114,21 +114,21 @@ get_or-replicate (suc count) zero = refl
 get_or-replicate (suc count) (suc i) = get_or-replicate count i
 
 pub length-inner : (positions : List SentPosition) (h : HasInner positions) → length positions ≡ length h.inner + 3
-length-inner positions h = ap length h.whole ∙ length-append h.inner (replicate 3 end_position)
+length-inner positions h = ap length h.whole ∙ length-append h.inner (replicate end_positions end_position)
 
 -- before the last three positions there is none of the end
 pub position-inner : (positions : List SentPosition) → HasInner positions → (i : ℕ) → i + 3 < length positions → IsInner (position_at positions i)
 position-inner positions h i lt =
     let n = length-inner positions h in
     let here : position_at positions i ≡ get_or h.inner i end_position =
-    ap (λ l. get_or l i end_position) h.whole ∙ get_or_append_left h.inner (replicate 3 end_position) end_position i (omega arith) in
+    ap (λ l. get_or l i end_position) h.whole ∙ get_or_append_left h.inner (replicate end_positions end_position) end_position i (omega arith) in
     subst IsInner (sym here) (inner-at h.inner i h.each (omega arith))
 
 -- from there on there are only those of the end
 pub position-end : (positions : List SentPosition) → HasInner positions → (i : ℕ) → length positions ≤ i + 3 → position_at positions i ≡ end_position
 position-end positions h i past =
     let n = length-inner positions h in
-    ap (λ l. get_or l i end_position) h.whole ∙ get_or-append_right h.inner (replicate 3 end_position) (length h.inner) i end_position refl (omega arith)
+    ap (λ l. get_or l i end_position) h.whole ∙ get_or-append_right h.inner (replicate end_positions end_position) (length h.inner) i end_position refl (omega arith)
     ∙ get_or-replicate 3 (i - length h.inner)
 
 pub inner-no_end : (position : SentPosition) → IsInner position → position ≢ end_position

@@ -11,7 +11,7 @@ use Rattle.nx_fec.proofs.RoundTripLemmas.{length-bits_of, words_of-bits_of}
 use Rattle.nx_fec.proofs.AlignedLemmas.{get_or-words_of}
 use Rattle.nx_station.specs.Broadcast.{IsBroadcast, layout}
 use Rattle.nx_envelope.specs.MessageView.{MessageView}
-use Rattle.nx_station.specs.Channel.{PassesChannel, heard_in, first_slot, message_slot, slots_of, wrong_words}
+use Rattle.nx_station.specs.Channel.{PassesChannel, heard_in, first_slot, message_slot, slots_of, wrong_words, window, most_wrong}
 use Rattle.nx_station.proofs.ChannelCounts.{is_wrong_word, wrong_words-add, wrong_words-count, wrong_words-le, wrong_words-none, wrong_words-same}
 use Rattle.nx_station.proofs.ChannelLaws.{few-wrong, sent-weight}
 use Rattle.nx_station.proofs.ChannelPositions.{HasInner, layout-inner}
@@ -30,7 +30,7 @@ received-inner messages positions heard h passes =
 
 module _ (positions : List SentPosition) (heard : List ℕ) (has : HasInner positions) (passes : PassesChannel positions heard) where
   -- the count of a part of what is heard
-  pub few-listed : (first n : ℕ) → n ≤ 64 → count_by is_wrong_word (take n (drop first heard)) ≤ 35
+  pub few-listed : (first n : ℕ) → n ≤ window → count_by is_wrong_word (take n (drop first heard)) ≤ most_wrong
   few-listed first n some = elim (cases_lt (first + n) (length heard + 1)) [
     | inl inside ↦
         let counted = wrong_words-count heard (heard_in heard) (first + first_slot) first n (omega arith) (λ j. ap (λ s. get_or heard s 0) (index first j)) in
@@ -64,18 +64,18 @@ module _ (positions : List SentPosition) (heard : List ℕ) (has : HasInner posi
   pub few-in_lock : (words : ℕ → ℕ) (whole : ℕ)
       → ((k slot : ℕ) → k + message_slot ≡ slot + whole → first_slot ≤ slot → slot < slots_of positions → words k ≡ heard_in heard slot)
       → (k slot : ℕ) → k + message_slot ≡ slot + whole → message_slot ≤ slot → slot < slots_of positions
-      → wrong_words words (k + 1 - 64) (k + 1 - (k + 1 - 64)) ≤ 35
+      → wrong_words words (k + 1 - window) (k + 1 - (k + 1 - window)) ≤ most_wrong
   few-in_lock words whole same k slot here from to =
-      let f : ℕ = k + 1 - 64 in
-      let n : ℕ = k + 1 - (k + 1 - 64) in
-      elim (cases_lt (slot - 95) (k + 1 - (k + 1 - 64))) [
+      let f : ℕ = k + 1 - window in
+      let n : ℕ = k + 1 - (k + 1 - window) in
+      elim (cases_lt (slot - 95) (k + 1 - (k + 1 - window))) [
         | inl back ↦
             let c : ℕ = slot - 95 in
-            let before = wrong_words-le words (k + 1 - 64) (k + 1 - (k + 1 - 64) - (slot - 95)) in
-            let split : k + 1 - (k + 1 - 64) ≡ (k + 1 - (k + 1 - 64) - (slot - 95)) + (slot - 95) = omega arith in
-            let both = ap (wrong_words words (k + 1 - 64)) split in
-            let sum = wrong_words-add words (k + 1 - 64) (k + 1 - (k + 1 - 64) - (slot - 95)) (slot - 95) in
-            let heard_part = wrong_words-same words (heard_in heard) ((k + 1 - 64) + (k + 1 - (k + 1 - 64) - (slot - 95))) first_slot (slot - 95) (λ j lt. same (k + 1 - 64 + (k + 1 - (k + 1 - 64) - (slot - 95)) + j) (first_slot + j) (omega arith) (omega arith) (omega arith)) in
+            let before = wrong_words-le words (k + 1 - window) (k + 1 - (k + 1 - window) - (slot - 95)) in
+            let split : k + 1 - (k + 1 - window) ≡ (k + 1 - (k + 1 - window) - (slot - 95)) + (slot - 95) = omega arith in
+            let both = ap (wrong_words words (k + 1 - window)) split in
+            let sum = wrong_words-add words (k + 1 - window) (k + 1 - (k + 1 - window) - (slot - 95)) (slot - 95) in
+            let heard_part = wrong_words-same words (heard_in heard) ((k + 1 - window) + (k + 1 - (k + 1 - window) - (slot - 95))) first_slot (slot - 95) (λ j lt. same (k + 1 - window + (k + 1 - (k + 1 - window) - (slot - 95)) + j) (first_slot + j) (omega arith) (omega arith) (omega arith)) in
             let parts : slot - 95 ≡ 48 + (slot - 95 - 48) = omega arith in
             let two = ap (wrong_words (heard_in heard) first_slot) parts in
             let added = wrong_words-add (heard_in heard) first_slot 48 (slot - 95 - 48) in
@@ -83,8 +83,8 @@ module _ (positions : List SentPosition) (heard : List ℕ) (has : HasInner posi
             let later = wrong_words-le (heard_in heard) (first_slot + 48) (slot - 95 - 48) in
             omega arith
         | inr inside ↦
-            let heard_part = wrong_words-same words (heard_in heard) (k + 1 - 64) (slot + 1 - (k + 1 - (k + 1 - 64))) (k + 1 - (k + 1 - 64)) (λ j lt. same (k + 1 - 64 + j) (slot + 1 - (k + 1 - (k + 1 - 64)) + j) (omega arith) (omega arith) (omega arith)) in
-            let few = few-wrong positions heard has passes (slot + 1 - (k + 1 - (k + 1 - 64))) (k + 1 - (k + 1 - 64)) (omega arith) (omega arith) (omega arith) in
+            let heard_part = wrong_words-same words (heard_in heard) (k + 1 - window) (slot + 1 - (k + 1 - (k + 1 - window))) (k + 1 - (k + 1 - window)) (λ j lt. same (k + 1 - window + j) (slot + 1 - (k + 1 - (k + 1 - window)) + j) (omega arith) (omega arith) (omega arith)) in
+            let few = few-wrong positions heard has passes (slot + 1 - (k + 1 - (k + 1 - window))) (k + 1 - (k + 1 - window)) (omega arith) (omega arith) (omega arith) in
             omega arith
       ]
 

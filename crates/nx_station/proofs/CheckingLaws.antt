@@ -88,20 +88,6 @@ unwritten d bits items text count written reads one is wrote = record {
   unwritten = λ other. absurd (other written refl);
 }
 
--- it is written whole
-pub checked-all : {R W N : Type 0} (d : Devices R W) (bits : N) (items : List Bool) (text : List ℕ) (count : ℕ)
-    → Reads d.remaining d.reader d.reader_after run.Read IsOutside (as_read {N = N} (Ok bits)) (IsFaultless 1048576) (λ bytes. IsReadOut d × IsBitFile 1048576 bytes items) (λ bytes. IsBitFile 1048576 bytes items)
-    → d.writer_after.failures ≡ 0 → AreReported items text count → Appends (d.contents d.writer.inner) (d.contents d.writer_after.inner) text
-    → Checks d (Ok count)
-checked-all d bits items text count reads none is wrote = record {
-  reads = Reads-on _ _ _ _ _ _ _ _ _ _ _ reads
-      (λ bytes k. (k.0, text, checked-of bytes items text count k.1 is, wrote))
-      (λ bytes k. (tt, text, checked-of bytes items text count k is, wrote))
-      (λ bytes k h. h) (λ e. absurd (ok-err count (Run run.Read) e)) (λ e. absurd (ok-read bits e));
-  writes = record { failed = (λ w. absurd (ok-err count (Run (run.Write w.0)) w.1), λ one. absurd (omega (arith, none, one))); once = omega (arith, none) };
-  unwritten = tt;
-}
-
 -- messages of one station are of the first one's
 pub of_first : (messages : List MessageView) (first : MessageView) (station other : ℕ) → AreOf other messages → first ≡ get_or messages 0 first → first.identity.b1.byte ≡ station → AreOf station messages
 of_first [] first station other h e is = absurd (h.some refl)

@@ -20,8 +20,8 @@ use Rattle.nx_fec.specs.declared.line_run.LinesFault.TheVariants as run
 use Rattle.nx_fec.specs.declared.line_run.LinesRead.{LinesRead}
 use Rattle.nx_fec.proofs.LineLaws.{IsAirFile-unique, spelling-IsBeginning}
 use Rattle.nx_fec.proofs.TransferLaws.{Reads-on}
-use Rattle.nx_station.specs.Damage.{Damage, Damages, ExplainsDamaging, IsDamaged, damaged_file, damaged_line, damaged_lines, inverted_count, line_fault}
-use Rattle.nx_station.specs.DamageTaker.{Damager, HasDamaged, IsAt, damage_of}
+use Rattle.nx_station.specs.Damage.{Damage, Damages, ExplainsDamaging, IsDamaged, damaged_file, damaged_line, damaged_lines, inverted_count}
+use Rattle.nx_station.specs.DamageTaker.{Damager, HasDamaged, IsAt, damage_of, line_fault}
 use Rattle.nx_station.specs.declared.fault.DamageFault.{DamageFault}
 use Rattle.nx_station.specs.declared.fault.DamageFault.TheVariants.{Read, Write}
 use Rattle.nx_station.proofs.DamageLemmas.{inverted-append, inverted-le, length-damaged, lines-append, lines-twice}
@@ -107,6 +107,11 @@ pub text-of : (latest : Option Line) (text : Option (List ℕ)) (bytes : List �
 text-of latest text bytes line e is here =
     let clash : Some bytes ≡ Some (spelling line) = sym is ∙ e ∙ ap (option_map spelling) here in
     cc
+
+-- its bytes, with its end, are those of a line of elements
+pub bytes-of-elements : (latest : Option Line) (text : Option (List ℕ)) (kept bytes : List ℕ) (line : Line) → text ≡ option_map spelling latest → text ≡ Some kept → latest ≡ Some line → kind_of line ≡ Elements → bytes ≡ kept ++ 10 ∷ []
+    → bytes ≡ line_bytes (elements (elements_of line))
+bytes-of-elements latest text kept bytes line e is here kind b = b ∙ ap (λ l. l ++ 10 ∷ []) (text-of latest text kept line e is here) ∙ ap line_bytes (line-of-elements line kind)
 
 -- its digits stand behind two bytes, before its end
 pub line-long : (bits : List Bool) (bytes : List ℕ) (n : ℕ) → bytes ≡ line_bytes (elements bits) → n ≡ length bytes → (n - 1) - 2 ≡ length bits

@@ -2,6 +2,7 @@
 use Rattle.std.proofs.Common.{◌≡◌, ℕ, zero, suc, ◌+◌, ◌<◌, ◌≤◌, Bool, true, false, cond, not, List, [], ◌∷◌, ◌++◌, length, get_or, set, refl, sym, ap, ◌∙◌, arith, length-append}
 use Rattle.std.specs.List.{flat_map}
 use Rattle.nx_code.specs.Word.{value_of}
+use Rattle.nx_code.proofs.WordLemmas.{value_of-le}
 use Rattle.nx_fec.specs.AirFile.{Line, moment, elements, refuse_station, accept_station, refuse_subject, accept_subject}
 use Rattle.nx_fec.specs.Lines.{elements_of}
 use Rattle.nx_station.specs.Damage.{Damage, damaged_elements, damaged_element, damaged_line, damaged_lines, inverted_count, inverts}
@@ -28,13 +29,9 @@ pub length-damaged : (damage : Damage) (place : ℕ) (xs : List Bool) → length
 length-damaged damage place [] = refl
 length-damaged damage place (x ∷ xs) = omega (arith, length-damaged damage (place + 1) xs)
 
-value-le : (b : Bool) → value_of b ≤ 1
-value-le true = omega arith
-value-le false = omega arith
-
 pub inverted-le : (damage : Damage) (place : ℕ) (xs : List Bool) → inverted_count damage place xs ≤ length xs
 inverted-le damage place [] = omega arith
-inverted-le damage place (x ∷ xs) = omega (arith, value-le (inverts damage place), inverted-le damage (place + 1) xs)
+inverted-le damage place (x ∷ xs) = omega (arith, value_of-le (inverts damage place), inverted-le damage (place + 1) xs)
 
 twice-element : (b x : Bool) → cond b (not (cond b (not x) x)) (cond b (not x) x) ≡ x
 twice-element true true = refl

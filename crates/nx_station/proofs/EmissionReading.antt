@@ -16,9 +16,9 @@ use Rattle.nx_fec.specs.Aligned.{aligned_text, words_of}
 use Rattle.nx_fec.specs.Emission.{SentPosition, AreInCode, IsInCode, bits_of, emission, end_position, phasing_position, position_at, reception, traffic_position, word_sent}
 use Rattle.nx_fec.proofs.EmissionLemmas.{AreWords-emission, IsEmission-emission, get_or-emission, length-emission, word_sent-dx, word_sent-rx}
 use Rattle.nx_fec.proofs.RoundTripLemmas.{length-bits_of, receptions-IsEmission, words_of-bits_of}
-use Rattle.nx_station.specs.Broadcast.{AreSpelled, IsBroadcast, IsSpelled, ending, head, layout, letter_combination, phasing_and_message, printed_text}
+use Rattle.nx_station.specs.Broadcast.{AreSpelled, IsBroadcast, IsSpelled, ending, head, layout, letter_combination, phasing_and_message, printed_text, first_phasing, further_phasing, end_positions}
 use Rattle.nx_station.specs.StrictReading.{IsEmissionOf, AreRight, ArePaired, AreWhole, IsPair}
-use Rattle.nx_station.proofs.HeadLemmas.{digit_combination-range}
+use Rattle.nx_station.proofs.ChannelPositions.{spelled-combinations}
 use Rattle.nx_station.proofs.PrintedText.{printed-one}
 use Rattle.nx_station.proofs.ReadingBack.{broadcast-prints}
 use Rattle.nx_station.proofs.WordWeights.{phasing_1-weight, dx-weight, rx-weight}
@@ -32,58 +32,6 @@ every-append : {X : Type 0} (P : X → Type 0) (xs ys : List X) → AllByRecursi
 every-append P [] ys h k = k
 every-append P (x ∷ xs) ys h k = (h.0, every-append P xs ys h.1 k)
 
-head-code : (identity : Identity) → AllByRecursion IsCombination (head identity)
-unfolding head
-head-code identity =
-    let tens = digit_combination-range (identity.number / 10) (omega (arith, identity.two_digits)) in
-    let units = digit_combination-range (identity.number % 10) (omega arith) in
-    let station = identity.b1.in_range in
-    let subject = identity.b2.in_range in
-    let small : (n : ℕ) → n ≤ 26 → n ≤ 32 = λ n h. omega (arith, h) in
-    let first : IsCombination (letter_combination identity.b1.byte) = (omega (arith, station.0), omega (arith, station.1)) in
-    let second : IsCombination (letter_combination identity.b2.byte) = (omega (arith, subject.0), omega (arith, subject.1)) in
-    let fixed : (n : ℕ) → 1 ≤ n → n ≤ 32 → IsCombination n = λ n a b. (a, b) in (
-      fixed 29 (omega arith) (omega arith),
-      (
-        fixed 26 (omega arith) (omega arith),
-        (
-          fixed 3 (omega arith) (omega arith),
-          (
-            fixed 26 (omega arith) (omega arith),
-            (
-              fixed 3 (omega arith) (omega arith),
-              (
-                fixed 31 (omega arith) (omega arith),
-                (first, (second, (fixed 30 (omega arith) (omega arith), ((tens.0, small _ tens.1), ((units.0, small _ units.1), (fixed 27 (omega arith) (omega arith), (fixed 28 (omega arith) (omega arith), tt))))))),
-              ),
-            ),
-          ),
-        ),
-      ),
-    )
-
-end-code : AllByRecursion IsCombination (14 ∷ 14 ∷ 14 ∷ 14 ∷ 27 ∷ 28 ∷ 28 ∷ [])
-end-code =
-    let fixed : (n : ℕ) → 1 ≤ n → n ≤ 32 → IsCombination n = λ n a b. (a, b) in
-    let letter = fixed 14 (omega arith) (omega arith) in
-    (letter, (letter, (letter, (letter, (fixed 27 (omega arith) (omega arith), (fixed 28 (omega arith) (omega arith), (fixed 28 (omega arith) (omega arith), tt)))))))
-
-ending-code : (shift : Shift) → AllByRecursion IsCombination (ending shift)
-unfolding ending
-ending-code Letters = end-code
-ending-code Figures = ((omega arith, omega arith), end-code)
-
-text-code : (shift : Shift) (numbers : List ℕ) → EachFits shift numbers → AllByRecursion IsCombination numbers
-text-code shift [] h = tt
-text-code shift (n ∷ numbers) h = ((h.0.from_one, h.0.to_thirty_two), text-code (shift_after (combination n) shift) numbers h.1)
-
-spelled-code : (message : MessageView) (numbers : List ℕ) → IsSpelled message numbers → AllByRecursion IsCombination numbers
-spelled-code message numbers h =
-    let last = ending (shift_after_all (map combination h.text) Figures) in
-    subst (AllByRecursion IsCombination) (sym h.whole)
-    (every-append IsCombination (head message.identity) (h.text ++ last) (head-code message.identity)
-    (every-append IsCombination h.text last (text-code Figures h.text h.spells.fits) (ending-code (shift_after_all (map combination h.text) Figures))))
-
 traffic-code : (numbers : List ℕ) → AllByRecursion IsCombination numbers → AllByRecursion IsInCode (map traffic_position numbers)
 traffic-code [] h = tt
 traffic-code (n ∷ numbers) h = (h.0, traffic-code numbers h.1)
@@ -94,13 +42,13 @@ phasing-code (suc count) = (tt, phasing-code count)
 
 one-code : (count : ℕ) (message : MessageView) (numbers : List ℕ) → IsSpelled message numbers → AllByRecursion IsInCode (phasing_and_message count numbers)
 one-code count message numbers h =
-    every-append IsInCode (replicate count phasing_position) (map traffic_position numbers) (phasing-code count) (traffic-code numbers (spelled-code message numbers h))
+    every-append IsInCode (replicate count phasing_position) (map traffic_position numbers) (phasing-code count) (traffic-code numbers (spelled-combinations message numbers h))
 
-others-code : (messages : List MessageView) (spellings : List (List ℕ)) → AreSpelled messages spellings → AllByRecursion IsInCode (flat_map (phasing_and_message 36) spellings)
+others-code : (messages : List MessageView) (spellings : List (List ℕ)) → AreSpelled messages spellings → AllByRecursion IsInCode (flat_map (phasing_and_message further_phasing) spellings)
 others-code [] [] h = tt
 others-code [] (s ∷ ss) h = absurd h
 others-code (m ∷ ms) [] h = absurd h
-others-code (m ∷ ms) (s ∷ ss) h = every-append IsInCode (phasing_and_message 36 s) (flat_map (phasing_and_message 36) ss) (one-code 36 m s h.0) (others-code ms ss h.1)
+others-code (m ∷ ms) (s ∷ ss) h = every-append IsInCode (phasing_and_message further_phasing s) (flat_map (phasing_and_message further_phasing) ss) (one-code further_phasing m s h.0) (others-code ms ss h.1)
 
 layout-code : (messages : List MessageView) (spellings : List (List ℕ)) → AreSpelled messages spellings → AllByRecursion IsInCode (layout spellings)
 unfolding layout
@@ -108,9 +56,9 @@ layout-code [] [] h = tt
 layout-code [] (s ∷ ss) h = absurd h
 layout-code (m ∷ ms) [] h = absurd h
 layout-code (m ∷ ms) (s ∷ ss) h =
-    let others = flat_map (phasing_and_message 36) ss in
-    every-append IsInCode (phasing_and_message 72 s) (others ++ replicate 3 end_position) (one-code 72 m s h.0)
-    (every-append IsInCode others (replicate 3 end_position) (others-code ms ss h.1) (tt, (tt, (tt, tt))))
+    let others = flat_map (phasing_and_message further_phasing) ss in
+    every-append IsInCode (phasing_and_message first_phasing s) (others ++ replicate end_positions end_position) (one-code first_phasing m s h.0)
+    (every-append IsInCode others (replicate end_positions end_position) (others-code ms ss h.1) (tt, (tt, (tt, tt))))
 
 pub broadcast-code : (messages : List MessageView) (positions : List SentPosition) → IsBroadcast messages positions → AreInCode positions
 broadcast-code messages positions h i lt =
@@ -121,29 +69,29 @@ broadcast-code messages positions h i lt =
 -- positions that end with three of the end
 record Ends (positions : List SentPosition) : Type 0 where
   front : List SentPosition
-  whole : positions ≡ front ++ replicate 3 end_position
+  whole : positions ≡ front ++ replicate end_positions end_position
 
 layout-ends : (messages : List MessageView) (spellings : List (List ℕ)) → messages ≢ [] → AreSpelled messages spellings → Ends (layout spellings)
 unfolding layout
 layout-ends [] ss some h = absurd (some refl)
 layout-ends (m ∷ ms) [] some h = absurd h
 layout-ends (m ∷ ms) (s ∷ ss) some h =
-    let others = flat_map (phasing_and_message 36) ss in
-    record { front = phasing_and_message 72 s ++ others; whole = sym (append_assoc (phasing_and_message 72 s) others (replicate 3 end_position)) }
+    let others = flat_map (phasing_and_message further_phasing) ss in
+    record { front = phasing_and_message first_phasing s ++ others; whole = sym (append_assoc (phasing_and_message first_phasing s) others (replicate end_positions end_position)) }
 
-ends-text : (front : List SentPosition) → text (map reception (front ++ replicate 3 end_position)) Letters ≡ text (map reception front) Letters
+ends-text : (front : List SentPosition) → text (map reception (front ++ replicate end_positions end_position)) Letters ≡ text (map reception front) Letters
 ends-text front =
-    let ends = map reception (replicate 3 end_position) in
-    ap (λ l. text l Letters) (map-append reception front (replicate 3 end_position)) ∙ text-append (map reception front) ends Letters ∙ append-nil (text (map reception front) Letters)
+    let ends = map reception (replicate end_positions end_position) in
+    ap (λ l. text l Letters) (map-append reception front (replicate end_positions end_position)) ∙ text-append (map reception front) ends Letters ∙ append-nil (text (map reception front) Letters)
 
-front-text : (positions front : List SentPosition) → positions ≡ front ++ replicate 3 end_position → AreInCode positions
+front-text : (positions front : List SentPosition) → positions ≡ front ++ replicate end_positions end_position → AreInCode positions
     → aligned_text (words_of (bits_of (emission positions))) ≡ text (map reception positions) Letters
 front-text positions front whole code =
     let count = ap length whole in
-    let long = length-append front (replicate 3 end_position) in
+    let long = length-append front (replicate end_positions end_position) in
     let three : 3 ≤ length positions = omega (arith, count, long) in
     let n : length front ≡ length positions - 3 = omega (arith, count, long) in
-    let taken : take (length positions - 3) positions ≡ front = ap (take (length positions - 3)) whole ∙ take_at front (replicate 3 end_position) (length positions - 3) n in
+    let taken : take (length positions - 3) positions ≡ front = ap (take (length positions - 3)) whole ∙ take_at front (replicate end_positions end_position) (length positions - 3) n in
     ap aligned_text (words_of-bits_of (emission positions) (AreWords-emission positions code))
     ∙ ap (λ l. text l Letters) (receptions-IsEmission positions (emission positions) (IsEmission-emission positions) code three)
     ∙ ap (λ l. text (idle ∷ idle ∷ map reception l) Letters) taken

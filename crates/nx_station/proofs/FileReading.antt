@@ -7,24 +7,13 @@ use Rattle.nx_envelope.specs.MessageView.{MessageView}
 use Rattle.nx_envelope.specs.declared.message.MessageFault.{MessageFault}
 use Rattle.nx_station.specs.MessageFile.{FileMessage, IsOneLine, IsInside, IsNamed, IsFileMessage, IsOfLines, IsFirstFault, IsMessageFile, bad_line, bad_text, line_cut, not_ended, file_message_of, heading, opening, file_message_bytes, message_file_bytes, lines_of}
 use Rattle.nx_envelope.specs.declared.message.MessageFault.TheVariants as message
-use Rattle.nx_station.specs.Faults.{text_fault}
-use Rattle.nx_station.specs.FileSending.{ExplainsFirst, ExplainsFile}
+use Rattle.nx_station.specs.FileSending.{ExplainsFile}
+use Rattle.nx_station.specs.MessageParts.{ExplainsFirst, text_fault}
 use Rattle.nx_station.specs.declared.fault.SendRunFault.{SendRunFault}
 use Rattle.nx_station.specs.declared.fault.SendRunFault.TheVariants.{Read, FileTooLong, BadLine, Text, LineCut, Open, Send, Write, Memory}
 use Rattle.nx_station.proofs.LineLemmas.{spelling-line}
 
 -- ---- the lines of a text
-
-pub text-more : (bytes rest line after : List ℕ) (lines : List (List ℕ)) → bytes ≡ text_of lines ++ rest → rest ≡ line ++ (10 ∷ after) → bytes ≡ text_of (lines ++ (line ∷ [])) ++ after
-text-more bytes rest line after lines h k =
-    let pushed : text_of (lines ++ (line ∷ [])) ≡ text_of lines ++ (line ++ (10 ∷ [])) =
-    flat_map-append (λ (l : List ℕ). l ++ (10 ∷ [])) lines (line ∷ []) ∙ ap (λ l. text_of lines ++ l) (append-nil (line ++ (10 ∷ []))) in
-    h ∙ ap (λ l. text_of lines ++ l) (k ∙ sym (append_assoc line (10 ∷ []) after))
-    ∙ sym (append_assoc (text_of lines) (line ++ (10 ∷ [])) after) ∙ ap (λ l. l ++ after) (sym pushed)
-
-pub inside-more : (lines : List (List ℕ)) (line : List ℕ) → AllByRecursion IsInside lines → IsInside line → AllByRecursion IsInside (lines ++ (line ∷ []))
-inside-more [] line h k = (k, tt)
-inside-more (l ∷ lines) line h k = (h.0, inside-more lines line h.1 k)
 
 entry_with : ℕ → ℕ → List (List ℕ) → FileMessage
 entry_with subject number lines = record { subject = subject; number = number; lines = lines }
@@ -60,31 +49,6 @@ body-cut subject number before line bytes rest lines named h some one inside e =
 
 -- ---- the first message
 
-pub cut-at_once : (before : ℕ) (bytes : List ℕ) → 0 < length bytes → IsOneLine bytes → IsFirstFault before bytes (line_cut (before + 1))
-cut-at_once before bytes some one = (
-  0,
-  omega arith,
-  record {
-    before = None;
-    line = bytes;
-    whole = refl;
-    sound = tt;
-    one_line = one;
-    some = λ e. absurd (omega (arith, some, ap length e));
-    counted = refl;
-  },
-)
-
--- a message was read whole
-pub message-whole : (bytes line rest more : List ℕ) (lines : List (List ℕ)) (message : MessageView) (subject number : ℕ) → bytes ≡ line ++ (10 ∷ rest) → line ≡ heading subject number
-    → rest ≡ text_of lines ++ (59 ∷ (10 ∷ more)) → message.identity.b2.byte ≡ subject → message.identity.number ≡ number → message.lines ≡ lines → bytes ≡ file_message_bytes (file_message_of message) ++ more
-message-whole bytes line rest more lines message subject number h k t s n l =
-    h ∙ ap (λ x. x ++ (10 ∷ rest)) k ∙ ap (λ x. heading subject number ++ (10 ∷ x)) t
-    ∙ ap (λ x. heading x number ++ (10 ∷ (text_of lines ++ (59 ∷ (10 ∷ more))))) (sym s)
-    ∙ ap (λ x. heading message.identity.b2.byte x ++ (10 ∷ (text_of lines ++ (59 ∷ (10 ∷ more))))) (sym n)
-    ∙ ap (λ x. heading message.identity.b2.byte message.identity.number ++ (10 ∷ (text_of x ++ (59 ∷ (10 ∷ more))))) (sym l)
-    ∙ sym (spelling-line (file_message_of message) more)
-
 -- a message was read whole, and its lines have a fault
 pub message-bad : (before : ℕ) (bytes line rest more : List ℕ) (lines : List (List ℕ)) (subject number : ℕ) (fault : MessageFault) → bytes ≡ line ++ (10 ∷ rest) → line ≡ heading subject number
     → rest ≡ text_of lines ++ (59 ∷ (10 ∷ more)) → IsNamed subject number → AllByRecursion IsInside lines → IsMessageFault lines fault → IsOfLines fault
@@ -113,18 +77,6 @@ text-explains before bytes line rest more lines subject number message.LongText 
 
 -- ---- whole files
 
-pub file-explains : (file rest : List ℕ) (entries : List FileMessage) (before : ℕ) (fault : SendRunFault) → file ≡ message_file_bytes entries ++ rest → AllByRecursion IsFileMessage entries → before ≡ lines_of entries
-    → ExplainsFirst before rest fault → ExplainsFile file fault
-file-explains file rest entries before (BadLine line) h each e first = record { entries = entries; rest = rest; whole = h; each = each; first = subst (λ n. IsFirstFault n rest (bad_line line)) e first }
-file-explains file rest entries before (Text line fault) h each e first = record { entries = entries; rest = rest; whole = h; each = each; first = subst (λ n. IsFirstFault n rest (bad_text line fault)) e first }
-file-explains file rest entries before (LineCut line) h each e first = record { entries = entries; rest = rest; whole = h; each = each; first = subst (λ n. IsFirstFault n rest (line_cut line)) e first }
-file-explains file rest entries before (Open line) h each e first = record { entries = entries; rest = rest; whole = h; each = each; first = subst (λ n. IsFirstFault n rest (not_ended line)) e first }
-file-explains file rest entries before (Memory error) h each e first = tt
-file-explains file rest entries before Read h each e first = absurd first
-file-explains file rest entries before FileTooLong h each e first = absurd first
-file-explains file rest entries before (Send refused) h each e first = absurd first
-file-explains file rest entries before (Write written) h each e first = absurd first
-
 pub file-more : (file rest more : List ℕ) (entries : List FileMessage) (entry : FileMessage) → file ≡ message_file_bytes entries ++ rest → rest ≡ file_message_bytes entry ++ more → file ≡ message_file_bytes (entries ++ (entry ∷ [])) ++ more
 file-more file rest more entries entry h k =
     h ∙ ap (λ l. message_file_bytes entries ++ l) k ∙ sym (append_assoc (message_file_bytes entries) (file_message_bytes entry) more)
@@ -150,9 +102,6 @@ text-long (line ∷ lines) = omega (arith, text-long lines, length-append (line 
 -- a message has at least as many bytes as lines
 pub spelling-long : (entry : FileMessage) → 2 + length entry.lines < length (file_message_bytes entry)
 spelling-long entry = omega (arith, text-long entry.lines, length-append (opening entry) (59 ∷ (10 ∷ [])), length-append (heading entry.subject entry.number) (10 ∷ text_of entry.lines))
-
-pub file-whole : (file rest : List ℕ) (messages : List MessageView) → file ≡ message_file_bytes (map file_message_of messages) ++ rest → rest ≡ [] → AllByRecursion IsFileMessage (map file_message_of messages) → IsMessageFile file (map file_message_of messages)
-file-whole file rest messages h none each = record { whole = h ∙ ap (λ l. message_file_bytes (map file_message_of messages) ++ l) none ∙ append-nil (message_file_bytes (map file_message_of messages)); each = each }
 
 pub none-left : (rest : List ℕ) → length rest ≡ 0 → rest ≡ []
 none-left [] h = refl

@@ -111,10 +111,6 @@ pub printed-header : (text line rest more : List ℕ) (message : MessageView) �
 printed-header text line rest more message h one e =
     first_line line (header message.identity) rest (ended_lines message.lines (10 ∷ more)) one (header-one_line message.identity) (sym h ∙ e ∙ printed-line message more)
 
-pub printed-one_line : (text more : List ℕ) (message : MessageView) → IsOneLine text → text ≡ printed_text message ++ more → ⊥
-printed-one_line text more message one e =
-    ended-not_one (header message.identity) (ended_lines message.lines (10 ∷ more)) (subst IsOneLine (e ∙ printed-line message more) one)
-
 pub printed-same : (a b : MessageView) (x y : List ℕ) → AreLines a.lines → AreLines b.lines → printed_text a ++ x ≡ printed_text b ++ y → (a ≡ b) × (x ≡ y)
 printed-same a b x y h k e =
     let p = first_line (header a.identity) (header b.identity) (ended_lines a.lines (10 ∷ x)) (ended_lines b.lines (10 ∷ y)) (header-one_line a.identity) (header-one_line b.identity)

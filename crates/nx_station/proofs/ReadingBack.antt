@@ -13,7 +13,7 @@ use Rattle.nx_envelope.specs.Message.{text_of}
 use Rattle.nx_envelope.specs.MessageView.{MessageView}
 use Rattle.nx_envelope.specs.declared.identity.Identity.{Identity}
 use Rattle.nx_fec.specs.Emission.{SentPosition, phasing_position, traffic_position, end_position, reception}
-use Rattle.nx_station.specs.Broadcast.{IsSpelled, AreSpelled, IsBroadcast, head, ending, phasing_and_message, layout, header, printed_text, letter_combination, digit_combination}
+use Rattle.nx_station.specs.Broadcast.{IsSpelled, AreSpelled, IsBroadcast, head, ending, phasing_and_message, layout, header, printed_text, letter_combination, digit_combination, first_phasing, further_phasing, end_positions}
 use Rattle.nx_station.proofs.HeadLemmas.{letter_combination-prints, digit_combination-prints, digit_combination-range}
 
 -- these positions print these bytes from a shift, and leave another
@@ -144,13 +144,13 @@ phasing_and_message-prints count message numbers first h =
     subst (λ l. Prints first l (printed_text message) Letters) (sym parts)
     (Prints-append first first Letters _ _ _ _ (phasing-prints count first) (message-prints message numbers first h))
 
-others-print : (messages : List MessageView) (spellings : List (List ℕ)) → AreSpelled messages spellings → Prints Letters (map reception (flat_map (phasing_and_message 36) spellings)) (flat_map printed_text messages) Letters
+others-print : (messages : List MessageView) (spellings : List (List ℕ)) → AreSpelled messages spellings → Prints Letters (map reception (flat_map (phasing_and_message further_phasing) spellings)) (flat_map printed_text messages) Letters
 others-print [] [] h = Prints-nil Letters
 others-print [] (s ∷ ss) h = absurd h
 others-print (m ∷ ms) [] h = absurd h
 others-print (m ∷ ms) (s ∷ ss) h =
-    subst (λ l. Prints Letters l (flat_map printed_text (m ∷ ms)) Letters) (sym (map-append reception (phasing_and_message 36 s) (flat_map (phasing_and_message 36) ss)))
-    (Prints-append Letters Letters Letters _ _ _ _ (phasing_and_message-prints 36 m s Letters h.0) (others-print ms ss h.1))
+    subst (λ l. Prints Letters l (flat_map printed_text (m ∷ ms)) Letters) (sym (map-append reception (phasing_and_message further_phasing s) (flat_map (phasing_and_message further_phasing) ss)))
+    (Prints-append Letters Letters Letters _ _ _ _ (phasing_and_message-prints further_phasing m s Letters h.0) (others-print ms ss h.1))
 
 layout-prints : (messages : List MessageView) (spellings : List (List ℕ)) (first : Shift) → AreSpelled messages spellings → text (map reception (layout spellings)) first ≡ flat_map printed_text messages
 unfolding layout
@@ -158,11 +158,11 @@ layout-prints [] [] first h = refl
 layout-prints [] (s ∷ ss) first h = absurd h
 layout-prints (m ∷ ms) [] first h = absurd h
 layout-prints (m ∷ ms) (s ∷ ss) first h =
-    let others = flat_map (phasing_and_message 36) ss in
-    let ends = replicate 3 end_position in
+    let others = flat_map (phasing_and_message further_phasing) ss in
+    let ends = replicate end_positions end_position in
     let tail = Prints-append Letters Letters Letters _ _ _ _ (others-print ms ss h.1) (ends-print 3 Letters) in
-    let all = Prints-append first Letters Letters _ _ _ _ (phasing_and_message-prints 72 m s first h.0) tail in
-    ap (λ l. text l first) (map-append reception (phasing_and_message 72 s) (others ++ ends) ∙ ap (λ l. map reception (phasing_and_message 72 s) ++ l) (map-append reception others ends))
+    let all = Prints-append first Letters Letters _ _ _ _ (phasing_and_message-prints first_phasing m s first h.0) tail in
+    ap (λ l. text l first) (map-append reception (phasing_and_message first_phasing s) (others ++ ends) ∙ ap (λ l. map reception (phasing_and_message first_phasing s) ++ l) (map-append reception others ends))
     ∙ all.reads ∙ ap (λ l. printed_text m ++ l) (append-nil (flat_map printed_text ms))
 
 pub broadcast-prints : (messages : List MessageView) (positions : List SentPosition) (first : Shift) → IsBroadcast messages positions → text (map reception positions) first ≡ flat_map printed_text messages

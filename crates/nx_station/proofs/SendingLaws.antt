@@ -154,29 +154,6 @@ refusal-explains AtEnd station from slot file messages old new (refusal.SlotFull
     (end, few, record { messages = messages; is_file = is; of_station = of; slot = slot; next = next; positions = h.positions; too_many = h.too_many })
 refusal-explains AtEnd station from slot file messages old new (refusal.Memory error) end few is of next h = tt
 
-pub file-fault : (AtEnd : Type 0) (station from : ℕ) (file : List ℕ) (old new : Option (List ℕ)) (why : SendRunFault) → AtEnd → length file ≤ 1048576 → ExplainsFile file why
-    → ExplainsSending AtEnd 1048576 station from file old new why
-file-fault AtEnd station from file old new (BadLine line) end few h = (end, few, h)
-file-fault AtEnd station from file old new (Text line fault) end few h = (end, few, h)
-file-fault AtEnd station from file old new (LineCut line) end few h = (end, few, h)
-file-fault AtEnd station from file old new (Open line) end few h = (end, few, h)
-file-fault AtEnd station from file old new (Memory error) end few h = tt
-file-fault AtEnd station from file old new Read end few h = absurd h
-file-fault AtEnd station from file old new FileTooLong end few h = absurd h
-file-fault AtEnd station from file old new (Send refused) end few h = absurd h
-file-fault AtEnd station from file old new (Write written) end few h = absurd h
-
-pub file-inside : (file : List ℕ) (why : SendRunFault) → ExplainsFile file why → IsInside why
-file-inside file (BadLine line) h = tt
-file-inside file (Text line fault) h = tt
-file-inside file (LineCut line) h = tt
-file-inside file (Open line) h = tt
-file-inside file (Memory error) h = tt
-file-inside file Read h = h
-file-inside file FileTooLong h = tt
-file-inside file (Send refused) h = tt
-file-inside file (Write written) h = h
-
 pub refusal-inside : (why : SendFault) → IsInside (send_fault why)
 refusal-inside refusal.NoMessages = tt
 refusal-inside (refusal.MixedStations at) = tt

@@ -4,43 +4,43 @@ use Rattle.std.specs.List.{flat_map, slice_get}
 use Rattle.std.proofs.lemmas.List.{get_or-append-add, length-append, length-map, length-replicate}
 use Rattle.nx_envelope.specs.MessageView.{MessageView}
 use Rattle.nx_fec.specs.Emission.{SentPosition, phasing_position, traffic_position, end_position, position_at, rx_word, word_sent}
-use Rattle.nx_station.specs.Broadcast.{IsSpelled, AreSpelled, digit_combination, head, layout, phasing_and_message}
+use Rattle.nx_station.specs.Broadcast.{IsSpelled, AreSpelled, digit_combination, head, layout, phasing_and_message, first_phasing, further_phasing, end_positions}
 use Rattle.nx_station.specs.Channel.{slots_of}
 use Rattle.nx_station.proofs.ChannelPhasing.{length-spelled}
 use Rattle.nx_code.specs.Table.{traffic_word}
 use Rattle.nx_fec.proofs.EmissionLemmas.{word_sent-rx}
 use Rattle.nx_station.specs.Sendings.{StandsFrom, digit_slot, positions_before}
 
-pub at_least_phasing : (spellings : List (List ℕ)) → 72 ≤ positions_before spellings
+pub at_least_phasing : (spellings : List (List ℕ)) → first_phasing ≤ positions_before spellings
 at_least_phasing [] = omega arith
 at_least_phasing (s ∷ ss) = omega (arith, at_least_phasing ss)
 
 -- a message of those that follow so many positions of phasing and a first one
 stands : (count : ℕ) (m : MessageView) (messages : List MessageView) (s : List ℕ) (spellings : List (List ℕ)) (i : ℕ) (message : MessageView)
     → IsSpelled m s → AreSpelled messages spellings → slice_get (m ∷ messages) i ≡ Some message
-    → StandsFrom (phasing_and_message count s ++ (flat_map (phasing_and_message 36) spellings ++ replicate 3 end_position)) message (count + (positions_before (take i (s ∷ spellings)) - 72))
+    → StandsFrom (phasing_and_message count s ++ (flat_map (phasing_and_message further_phasing) spellings ++ replicate end_positions end_position)) message (count + (positions_before (take i (s ∷ spellings)) - first_phasing))
 stands count m messages s spellings zero message h k e = record {
   numbers = s;
   spelled = let same : m ≡ message = cc in subst (λ x. IsSpelled x s) same h;
   front = replicate count phasing_position;
-  back = flat_map (phasing_and_message 36) spellings ++ replicate 3 end_position;
-  whole = append_assoc (replicate count phasing_position) (map traffic_position s) (flat_map (phasing_and_message 36) spellings ++ replicate 3 end_position);
+  back = flat_map (phasing_and_message further_phasing) spellings ++ replicate end_positions end_position;
+  whole = append_assoc (replicate count phasing_position) (map traffic_position s) (flat_map (phasing_and_message further_phasing) spellings ++ replicate end_positions end_position);
   place = length-replicate count phasing_position ∙ omega arith;
-  ended = omega (arith, length-append (flat_map (phasing_and_message 36) spellings) (replicate 3 end_position), length-replicate 3 end_position);
+  ended = omega (arith, length-append (flat_map (phasing_and_message further_phasing) spellings) (replicate end_positions end_position), length-replicate end_positions end_position);
 }
 stands count m [] s spellings (suc i) message h k e = let clash : None ≡ Some message = e in cc
 stands count m (n ∷ messages) s [] (suc i) message h k e = absurd k
 stands count m (n ∷ messages) s (t ∷ spellings) (suc i) message h k e =
-    let rest = stands 36 n messages t spellings i message k.0 k.1 e in
-    let others = flat_map (phasing_and_message 36) spellings in
-    let ends = replicate 3 end_position in
+    let rest = stands further_phasing n messages t spellings i message k.0 k.1 e in
+    let others = flat_map (phasing_and_message further_phasing) spellings in
+    let ends = replicate end_positions end_position in
     let least = at_least_phasing (take i (t ∷ spellings)) in
     record {
       numbers = rest.numbers;
       spelled = rest.spelled;
       front = phasing_and_message count s ++ rest.front;
       back = rest.back;
-      whole = ap (λ l. phasing_and_message count s ++ l) (append_assoc (phasing_and_message 36 t) others ends ∙ rest.whole)
+      whole = ap (λ l. phasing_and_message count s ++ l) (append_assoc (phasing_and_message further_phasing t) others ends ∙ rest.whole)
           ∙ sym (append_assoc (phasing_and_message count s) rest.front (map traffic_position rest.numbers ++ rest.back));
       place = omega (arith, rest.place, length-append (phasing_and_message count s) rest.front, length-append (replicate count phasing_position) (map traffic_position s), length-replicate count phasing_position, length-map s traffic_position);
       ended = rest.ended;
@@ -53,9 +53,9 @@ message-stands [] spellings i message h e = let clash : None ≡ Some message = 
 message-stands (m ∷ messages) [] i message h e = absurd h
 message-stands (m ∷ messages) (s ∷ spellings) i message h e =
     let least = at_least_phasing (take i (s ∷ spellings)) in
-    let same : 72 + (positions_before (take i (s ∷ spellings)) - 72) ≡ positions_before (take i (s ∷ spellings)) = omega arith in
-    subst (StandsFrom (phasing_and_message 72 s ++ (flat_map (phasing_and_message 36) spellings ++ replicate 3 end_position)) message) same
-    (stands 72 m messages s spellings i message h.0 h.1 e)
+    let same : first_phasing + (positions_before (take i (s ∷ spellings)) - first_phasing) ≡ positions_before (take i (s ∷ spellings)) = omega arith in
+    subst (StandsFrom (phasing_and_message first_phasing s ++ (flat_map (phasing_and_message further_phasing) spellings ++ replicate end_positions end_position)) message) same
+    (stands first_phasing m messages s spellings i message h.0 h.1 e)
 
 -- position 10 of a message is the second digit of its number
 digit-in : (message : MessageView) (numbers : List ℕ) (back : List SentPosition) → IsSpelled message numbers

@@ -6,7 +6,6 @@ use Rattle.std.specs.List.{flat_map}
 use Rattle.nx_code.specs.Reading.{combination, shift_after_all}
 use Rattle.nx_code.specs.Spelling.{Spells}
 use Rattle.nx_code.specs.declared.shifts.Shift.{Shift}
-use Rattle.nx_code.specs.declared.spelling.Extent.{Extent}
 use Rattle.nx_code.specs.declared.shifts.Shift.TheVariants.{Letters, Figures}
 use Rattle.nx_envelope.specs.Header.{space}
 use Rattle.nx_envelope.specs.Identity.{identity_bytes}
@@ -47,13 +46,6 @@ pub record IsSpelled (message : MessageView) (numbers : List ℕ) : Type 0 where
   pub whole : numbers ≡ head message.identity
       ++ (text ++ ending (shift_after_all (map combination text) Figures))
 
--- the extent of the spelling of a text, from the figure shift on
-pub record IsExtent (bytes : List ℕ) (extent : Extent) : Type 0 where
-  pub numbers : List ℕ
-  pub spells : Spells bytes Figures numbers
-  pub long : extent.length ≡ length numbers
-  pub after : extent.shift ≡ shift_after_all (map combination numbers) Figures
-
 -- the combinations of each message of a list, in order
 abbrev pub AreSpelled : List MessageView → List (List ℕ) → Type 0
 AreSpelled [] [] = Unit {0}
@@ -62,17 +54,29 @@ AreSpelled (message ∷ messages) [] = ⊥
 AreSpelled (message ∷ messages) (numbers ∷ spellings) =
     IsSpelled message numbers × AreSpelled messages spellings
 
+-- how many positions of phasing come before the first message, and before each further one, and how
+-- many positions end an emission
+abbrev pub first_phasing : ℕ
+first_phasing = 72
+
+abbrev pub further_phasing : ℕ
+further_phasing = 36
+
+abbrev pub end_positions : ℕ
+end_positions = 3
+
 -- positions of phasing, so many, and after them a message
 abbrev pub phasing_and_message : ℕ → List ℕ → List SentPosition
 phasing_and_message count numbers = replicate count phasing_position ++ map traffic_position numbers
 
--- the positions in which spelled messages are sent: 72 of phasing and the first message, before
--- each further message 36 of phasing, and three of the end
+-- the positions in which spelled messages are sent: phasing and the first message, before each
+-- further message phasing again, and those of the end
 unfoldable pub layout : List (List ℕ) → List SentPosition
 layout [] = []
 layout (numbers ∷ spellings) =
-    phasing_and_message 72 numbers
-    ++ (flat_map (phasing_and_message 36) spellings ++ replicate 3 end_position)
+    phasing_and_message first_phasing numbers
+    ++ (flat_map (phasing_and_message further_phasing) spellings
+    ++ replicate end_positions end_position)
 
 -- the positions of a list of messages
 pub record IsBroadcast (messages : List MessageView) (positions : List SentPosition) : Type 0 where

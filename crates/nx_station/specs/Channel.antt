@@ -3,16 +3,31 @@
 use Rattle.std.specs.Prelude.{◌≡◌, ◌≢◌, ℕ, zero, suc, ◌+◌, ◌-◌, ◌*◌, ◌<◌, ◌≤◌, ◌==◌, ◌⊎◌, if◌then◌else◌, List, [], ◌∷◌, length, slice_index}
 use Rattle.nx_code.specs.Phasing.{phasing_1, phasing_2}
 use Rattle.nx_code.specs.Word.{weight}
+use Rattle.nx_station.specs.Broadcast.{first_phasing}
 use Rattle.nx_fec.specs.Emission.{SentPosition, end_position, position_at, word_sent, AreWords}
 
--- the first slot whose word is received: the last 48 words of the phasing before the first message
--- begin there
-abbrev pub first_slot : ℕ
-first_slot = 96
+-- how many positions of the phasing before the first message are received, the last ones; their 48
+-- words are those of the slots 96 to 143
+abbrev pub phasing_received : ℕ
+phasing_received = 24
 
--- the slot of the first word of the first message, after 72 phasing positions
+-- the first position whose words are received, and the first slot
+abbrev pub first_position : ℕ
+first_position = first_phasing - phasing_received
+
+abbrev pub first_slot : ℕ
+first_slot = 2 * first_position
+
+-- the slot of the first word of the first message
 abbrev pub message_slot : ℕ
-message_slot = 144
+message_slot = 2 * first_phasing
+
+-- how many successive words are looked at together, and how many of them may be wrong
+abbrev pub window : ℕ
+window = 64
+
+abbrev pub most_wrong : ℕ
+most_wrong = 35
 
 -- how many slots the positions have
 abbrev pub slots_of : List SentPosition → ℕ
@@ -40,7 +55,7 @@ pub record PassesChannel (positions : List SentPosition) (heard : List ℕ) : Ty
   pub phasing : (slot : ℕ) → first_slot ≤ slot → slot < message_slot → IsAsSent positions heard slot
   pub later : (slot : ℕ) → message_slot ≤ slot → slot < slots_of positions
       → IsAsSent positions heard slot ⊎ IsWrongIn heard slot
-  pub one_of_two : (i : ℕ) → 72 ≤ i → i < length positions → position_at positions i ≢ end_position
+  pub one_of_two : (i : ℕ) → first_phasing ≤ i → i < length positions → position_at positions i ≢ end_position
       → IsAsSent positions heard (2 * i) ⊎ IsAsSent positions heard (2 * i + 5)
 
 -- a word of the wrong weight counts one

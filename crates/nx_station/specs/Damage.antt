@@ -75,13 +75,6 @@ pub record IsDamaged (damage : Damage) (limit : ℕ) (air written : List ℕ) (c
   pub whole : written ≡ damaged_file damage lines
   pub counted : count ≡ inverted_count damage 0 (flat_map elements_of lines)
 
--- the fault of damaging that stands for the fault of an air file
-abbrev pub line_fault : LineFault → DamageFault
-line_fault file.TooLong = AirTooLong
-line_fault (file.LineLong line) = LineLong line
-line_fault (file.LineCut line) = LineCut line
-line_fault (file.BadLine line) = BadLine line
-
 -- the air file has this fault, its first, and the whole lines before it were written
 abbrev pub StopsFor : Type 0 → ℕ → Damage → Option (List ℕ) → Option (List ℕ) → List ℕ → LineFault
     → Type 0

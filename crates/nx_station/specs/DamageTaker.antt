@@ -3,9 +3,13 @@ use Rattle.std.specs.Prelude.{◌≡◌, ℕ, ◌+◌, ◌-◌, ◌*◌, ◌/◌
 use Rattle.std.specs.List.{flat_map}
 use Rattle.nx_fec.specs.AirFile.{Line}
 use Rattle.nx_fec.specs.Lines.{elements_of}
+use Rattle.nx_fec.specs.declared.fault.LineFault.{LineFault}
+use Rattle.nx_fec.specs.declared.fault.LineFault.TheVariants as file
 use Rattle.nx_station.specs.Damage.{Damage, damaged_file, inverted_count, inverts}
 use Rattle.nx_station.specs.declared.damaging.DamageKind.{DamageKind}
 use Rattle.nx_station.specs.declared.damaging.Named.{Named}
+use Rattle.nx_station.specs.declared.fault.DamageFault.{DamageFault}
+use Rattle.nx_station.specs.declared.fault.DamageFault.TheVariants.{AirTooLong, LineLong, LineCut, BadLine}
 
 -- a taker: its kind, how many elements come before the words that may be damaged and how many
 -- before their end, the place of the next element among those of two words, and how many elements
@@ -34,7 +38,7 @@ pub record IsAt (damage : Damage) (now : Damager) (place : ℕ) : Type 0 where
 
 -- one of the elements that are named: the first, or one that stands a multiple of the stride after
 -- it, before the end
-pub record IsNamed (named : Named) (i : ℕ) : Type 0 where
+pub record IsAmong (named : Named) (i : ℕ) : Type 0 where
   pub from : named.first ≤ i
   pub before : i < named.end
   pub by_strides : (i - named.first) % named.stride ≡ 0
@@ -42,7 +46,7 @@ pub record IsNamed (named : Named) (i : ℕ) : Type 0 where
 -- of these elements just those are inverted that are named
 abbrev pub AreNamed : Damage → ℕ → Named → List Bool → Type 0
 AreNamed damage place named bits =
-    (i : ℕ) → i < length bits → IsTrue (inverts damage (place + i)) ↔ IsNamed named i
+    (i : ℕ) → i < length bits → IsTrue (inverts damage (place + i)) ↔ IsAmong named i
 
 -- it stands so after these lines, for which it gave these bytes; its count goes up to the greatest
 -- number of 64 bits
@@ -51,3 +55,10 @@ pub record HasDamaged (damage : Damage) (now : Damager) (lines : List Line) (giv
   pub counted : now.inverted
       ≡ min (inverted_count damage 0 (flat_map elements_of lines)) (2 ^ 64 - 1)
   pub whole : given ≡ damaged_file damage lines
+
+-- the fault of damaging that stands for the fault of an air file
+abbrev pub line_fault : LineFault → DamageFault
+line_fault file.TooLong = AirTooLong
+line_fault (file.LineLong line) = LineLong line
+line_fault (file.LineCut line) = LineCut line
+line_fault (file.BadLine line) = BadLine line

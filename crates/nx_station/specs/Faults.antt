@@ -1,5 +1,4 @@
 -- The fault of a run that stands for the fault of a part of it (this profile).
-use Rattle.std.specs.Prelude.{ℕ}
 use Rattle.nx_envelope.specs.declared.message.MessageFault.{MessageFault}
 use Rattle.nx_envelope.specs.declared.message.MessageFault.TheVariants as message
 use Rattle.nx_fec.specs.declared.fault.ReadFault.{ReadFault}
@@ -9,7 +8,7 @@ use Rattle.nx_station.specs.declared.fault.EmissionFault.TheVariants as reading
 use Rattle.nx_station.specs.declared.fault.SendFault.{SendFault}
 use Rattle.nx_station.specs.declared.fault.SendFault.TheVariants as refusal
 use Rattle.nx_station.specs.declared.fault.SendRunFault.{SendRunFault}
-use Rattle.nx_station.specs.declared.fault.SendRunFault.TheVariants.{Read, FileTooLong, Text, Send, Memory}
+use Rattle.nx_station.specs.declared.fault.SendRunFault.TheVariants.{Read, FileTooLong, Send, Memory}
 
 -- for the fault of reading a file whole
 abbrev pub read_fault : ReadFault → SendRunFault
@@ -21,11 +20,6 @@ read_fault (read.Memory error) = Memory error
 abbrev pub send_fault : SendFault → SendRunFault
 send_fault (refusal.Memory error) = Memory error
 send_fault refused = Send refused
-
--- for the fault of the lines of the message that begins at a line
-abbrev pub text_fault : ℕ → MessageFault → SendRunFault
-text_fault line (message.Memory error) = Memory error
-text_fault line fault = Text line fault
 
 -- for messages that were read, and make no emission
 abbrev pub unread_fault : SendFault → EmissionFault

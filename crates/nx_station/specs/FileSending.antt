@@ -10,7 +10,7 @@ use Rattle.nx_fec.specs.Lines.{file_of}
 use Rattle.nx_fec.specs.Runs.{IsWithin, file_limit}
 use Rattle.nx_fec.specs.Transfers.{Devices, IsReadOut, Transfers, at_the_end}
 use Rattle.nx_station.specs.Broadcast.{IsBroadcast}
-use Rattle.nx_station.specs.MessageFile.{IsMessageFile, IsFirstFault, HasFirstFault, bad_line, bad_text, line_cut, not_ended, file_message_of}
+use Rattle.nx_station.specs.MessageFile.{IsMessageFile, HasFirstFault, bad_line, bad_text, line_cut, not_ended, file_message_of}
 use Rattle.nx_station.specs.Sendable.{AreOf, HavePositions, IsSendable, max_positions}
 use Rattle.nx_station.specs.Slots.{HasNoSlot, IsNextSlot}
 use Rattle.nx_station.specs.declared.fault.SendFault.{SendFault}
@@ -60,16 +60,6 @@ ExplainsRefusal station from file refusal.NoSlot = IsLate station from file
 ExplainsRefusal station from file (refusal.SlotFull positions) =
     IsTooLong station from file positions
 ExplainsRefusal station from file (refusal.Memory error) = ⊥
-
--- what a fault says of the first message of these bytes, before which so many lines stand; want of
--- memory says nothing
-abbrev pub ExplainsFirst : ℕ → List ℕ → SendRunFault → Type 0
-ExplainsFirst before bytes (BadLine line) = IsFirstFault before bytes (bad_line line)
-ExplainsFirst before bytes (Text line fault) = IsFirstFault before bytes (bad_text line fault)
-ExplainsFirst before bytes (LineCut line) = IsFirstFault before bytes (line_cut line)
-ExplainsFirst before bytes (Open line) = IsFirstFault before bytes (not_ended line)
-ExplainsFirst before bytes (Memory error) = ⊤
-ExplainsFirst before bytes _ = ⊥
 
 -- what a fault says of a whole message file
 abbrev pub ExplainsFile : List ℕ → SendRunFault → Type 0

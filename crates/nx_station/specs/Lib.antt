@@ -9,6 +9,7 @@ pub mod Sendings
 pub mod ChannelExample
 pub mod StrictReading
 pub mod PrintedText
+pub mod MessageParts
 pub mod Checking
 pub mod Damage
 pub mod DamageTaker

@@ -4,7 +4,7 @@ use Rattle.std.specs.Prelude.{◌≡◌, ℕ, ◌+◌, ◌-◌, ◌*◌, Bool, L
 use Rattle.std.specs.List.{AllByRecursion, flat_map}
 use Rattle.nx_envelope.specs.MessageView.{MessageView}
 use Rattle.nx_fec.specs.Emission.{SentPosition, traffic_position, bits_of}
-use Rattle.nx_station.specs.Broadcast.{AreSpelled, IsSpelled, layout}
+use Rattle.nx_station.specs.Broadcast.{AreSpelled, IsSpelled, first_phasing, further_phasing, layout}
 use Rattle.nx_station.specs.Channel.{PassesChannel, first_slot}
 use Rattle.nx_station.specs.Sendable.{IsSendable}
 
@@ -45,11 +45,11 @@ pub record IsCut (bits : List Bool) (parts : List Part) : Type 0 where
   pub whole : bits ≡ bits_of_parts parts
   pub each : AllByRecursion IsSound parts
 
--- How many positions are sent before the message that follows messages with these combinations: 72
--- of phasing before the first message, and 36 before each further one.
+-- how many positions are sent before the message that follows messages with these combinations: the
+-- phasing before the first message, and that before each further one
 abbrev pub positions_before : List (List ℕ) → ℕ
-positions_before [] = 72
-positions_before (numbers ∷ spellings) = (length numbers + 36) + positions_before spellings
+positions_before [] = first_phasing
+positions_before (numbers ∷ spellings) = (length numbers + further_phasing) + positions_before spellings
 
 -- the slot of the RX of the second digit of message i, which is position 10 of the message
 abbrev pub digit_slot : List (List ℕ) → ℕ → ℕ

@@ -3,8 +3,8 @@ ghost use Rattle.std.specs.Prelude.{◌≡◌, ◌+◌, ◌-◌, ◌*◌, ◌^�
 ghost use Rattle.nx_fec.specs.AirFile.{IsLine, Line, element_digit};
 ghost use Rattle.nx_fec.specs.Lines.{elements_of, line_bytes};
 ghost use Rattle.nx_fec.specs.Transfers.{devices};
-ghost use Rattle.nx_station.specs.Damage.{Damage, Damages, damaged_elements, damaged_line, inverted_count, inverts, line_fault};
-ghost use Rattle.nx_station.specs.DamageTaker.{AreNamed, IsAt, IsNamed};
+ghost use Rattle.nx_station.specs.Damage.{Damage, Damages, damaged_elements, damaged_line, inverted_count, inverts};
+ghost use Rattle.nx_station.specs.DamageTaker.{AreNamed, IsAmong, IsAt, line_fault};
 
 use crate::fault::DamageFault;
 use arrayvec::ArrayVec;
@@ -121,15 +121,14 @@ pub fn damage<R: Read, W: Write>(
     }
 }
 
-/// The bytes of a line, with its end.
-fn copied_line(text: &[u8]) -> ArrayVec<u8, LINE_BYTES>
-    requires { length text.now ≤ 514 }
-    ensures { result.items ≡ text.now ++ 10 ∷ [] }
+/// Writes the bytes of a line, with its end. They are handed in, so that they aren't moved.
+fn copy_line(text: &[u8], bytes: &mut ArrayVec<u8, LINE_BYTES>)
+    requires short { length text.now ≤ 514 }
+    requires empty { bytes.old.items ≡ [] }
+    ensures { bytes.new.items ≡ text.now ++ 10 ∷ [] }
 {
-    let mut bytes = ArrayVec::new();
     bytes.try_extend_from_slice(text).unwrap();
     bytes.push(b'\n');
-    bytes
 }
 
 /// The fault of damaging that stands for the fault of the air file.
@@ -163,7 +162,8 @@ impl LineTaker for Damaging {
         writer: &mut Counting<W>,
         batch: &mut Batch,
     ) -> Result<(), TakeFault<()>> {
-        let bytes = self.line_after(scanner);
+        let mut bytes = ArrayVec::new();
+        self.write_line(scanner, &mut bytes);
         match batch.give(writer, &bytes) {
             Ok(()) => Ok(()),
             Err(fault) => Err(TakeFault::Write(fault.written)),
@@ -174,12 +174,13 @@ impl LineTaker for Damaging {
 }
 
 impl Damaging {
-    /// The bytes, after the damage, of the line that a scanner's last byte ended.
-    fn line_after(&mut self, scanner: &Scanner) -> ArrayVec<u8, LINE_BYTES>
-        requires { IsSomeAnd scanner.now.latest IsLine }
+    /// Writes the bytes, after the damage, of the line that a scanner's last byte ended.
+    fn write_line(&mut self, scanner: &Scanner, bytes: &mut ArrayVec<u8, LINE_BYTES>)
+        requires line { IsSomeAnd scanner.now.latest IsLine }
+        requires empty { bytes.old.items ≡ [] }
         ensures bytes { (damage : Damage) (place : ℕ) (line : Line)
             → scanner.now.latest ≡ Some line → IsAt damage self.old place
-            → result.items ≡ line_bytes (damaged_line damage place line) }
+            → bytes.new.items ≡ line_bytes (damaged_line damage place line) }
         ensures at { (damage : Damage) (place : ℕ) (line : Line)
             → scanner.now.latest ≡ Some line → IsAt damage self.old place
             → IsAt damage self.new (place + length (elements_of line)) }
@@ -189,12 +190,11 @@ impl Damaging {
             → self.new.inverted
             ≡ min (total + inverted_count damage place (elements_of line)) (2 ^ 64 - 1) }
     {
-        let mut bytes = copied_line(scanner.line().unwrap());
+        copy_line(scanner.line().unwrap(), bytes);
         if let Some(LineKind::Elements) = scanner.latest() {
             let end = bytes.len() - 1;
             self.pass(&mut bytes[MARK_BYTES..end]);
         }
-        bytes
     }
 
     /// Damages the elements that come next, given by their digits.
@@ -222,7 +222,7 @@ impl Damaging {
         ensures end { result.end ≤ count }
         ensures stride { (result.stride ≡ 7) ⊎ (result.stride ≡ 14) }
         ensures named { (damage : Damage) (place i : ℕ) → IsAt damage self.now place → i < count
-            → IsTrue (inverts damage (place + i)) ↔ IsNamed result i }
+            → IsTrue (inverts damage (place + i)) ↔ IsAmong result i }
     {
         let start = self.begin.min(count as u128) as usize;
         let end = self.end.min(count as u128) as usize;

@@ -6,8 +6,8 @@ ghost use Rattle.nx_code.specs.Word.{weight, word_from};
 ghost use Rattle.nx_envelope.specs.MessageView.{MessageView};
 ghost use Rattle.nx_fec.specs.Emission.{SentPosition, bits_of, emission, position_at, reception, word_sent};
 ghost use Rattle.nx_fec.specs.Pairing.{counts_as, pairing};
-ghost use Rattle.nx_station.specs.Broadcast.{AreSpelled, IsBroadcast, digit_combination, layout};
-ghost use Rattle.nx_station.specs.Channel.{PassesChannel, first_slot, heard_in, message_slot, phasing_words, slots_of, wrong_words};
+ghost use Rattle.nx_station.specs.Broadcast.{AreSpelled, IsBroadcast, digit_combination, end_positions, layout};
+ghost use Rattle.nx_station.specs.Channel.{PassesChannel, first_position, first_slot, heard_in, message_slot, most_wrong, phasing_received, phasing_words, slots_of, window, wrong_words};
 ghost use Rattle.nx_station.specs.ChannelExample.{example_emission, example_numbers, example_parts, example_sending, heard_half, heard_without_75};
 ghost use Rattle.nx_station.specs.Sendings.{IsCut, IsReceived, IsSending, StandsFrom, digit_slot, positions_before};
 
@@ -17,13 +17,13 @@ ghost use Rattle.nx_station.specs.Sendings.{IsCut, IsReceived, IsSending, Stands
 pub fn few_words_are_wrong()
     ensures few { (messages : List MessageView) (positions : List SentPosition) (heard : List ℕ)
         → IsBroadcast messages positions → PassesChannel positions heard
-        → (first n : ℕ) → n ≤ 64
-        → count_by (λ word. not (weight word == 4)) (take n (drop first heard)) ≤ 35 }
+        → (first n : ℕ) → n ≤ window
+        → count_by (λ word. not (weight word == 4)) (take n (drop first heard)) ≤ most_wrong }
     ensures by_slots { (messages : List MessageView) (positions : List SentPosition)
         (heard : List ℕ)
         → IsBroadcast messages positions → PassesChannel positions heard
-        → (slot n : ℕ) → first_slot ≤ slot → n ≤ 64 → slot + n ≤ slots_of positions
-        → wrong_words (heard_in heard) slot n ≤ 35 }
+        → (slot n : ℕ) → first_slot ≤ slot → n ≤ window → slot + n ≤ slots_of positions
+        → wrong_words (heard_in heard) slot n ≤ most_wrong }
     ensures in_a_lock { (messages : List MessageView) (positions : List SentPosition)
         (heard : List ℕ)
         → IsBroadcast messages positions → PassesChannel positions heard
@@ -33,7 +33,7 @@ pub fn few_words_are_wrong()
         → words k ≡ heard_in heard slot)
         → (k slot : ℕ) → k + message_slot ≡ slot + whole → message_slot ≤ slot
         → slot < slots_of positions
-        → wrong_words words (k + 1 - 64) (k + 1 - (k + 1 - 64)) ≤ 35 }
+        → wrong_words words (k + 1 - window) (k + 1 - (k + 1 - window)) ≤ most_wrong }
 {}
 
 /// Under the channel no DX word from slot 96 on is phasing signal 1 before the three positions of
@@ -42,7 +42,7 @@ pub fn few_words_are_wrong()
 pub fn no_phasing_1_before_the_end()
     ensures { (messages : List MessageView) (positions : List SentPosition) (heard : List ℕ)
         → IsBroadcast messages positions → PassesChannel positions heard
-        → (i : ℕ) → 48 ≤ i → i + 3 < length positions → heard_in heard (2 * i) ≢ phasing_1 }
+        → (i : ℕ) → first_position ≤ i → i + end_positions < length positions → heard_in heard (2 * i) ≢ phasing_1 }
 {}
 
 /// Under the channel each position from 48 on, but for the three of the end, is taken as it was
@@ -50,7 +50,7 @@ pub fn no_phasing_1_before_the_end()
 pub fn positions_are_taken_as_sent()
     ensures { (messages : List MessageView) (positions : List SentPosition) (heard : List ℕ)
         → IsBroadcast messages positions → PassesChannel positions heard
-        → (i : ℕ) → 48 ≤ i → i + 3 < length positions
+        → (i : ℕ) → first_position ≤ i → i + end_positions < length positions
         → pairing (counts_as (heard_in heard (2 * i))) (counts_as (heard_in heard (2 * i + 5)))
         ≡ reception (position_at positions i) }
 {}
@@ -60,7 +60,7 @@ pub fn positions_are_taken_as_sent()
 pub fn words_stand_in_the_bits()
     ensures phasing { (messages : List MessageView) (positions : List SentPosition) (heard : List ℕ)
         → IsBroadcast messages positions → PassesChannel positions heard
-        → take 48 heard ≡ phasing_words 24 }
+        → take (2 * phasing_received) heard ≡ phasing_words phasing_received }
     ensures word { (messages : List MessageView) (positions : List SentPosition) (heard : List ℕ)
         → IsBroadcast messages positions → PassesChannel positions heard
         → (before after : List Bool) (slot : ℕ) → first_slot ≤ slot → slot < slots_of positions
@@ -91,9 +91,9 @@ pub fn messages_stand_in_their_emission()
 pub fn an_undamaged_emission_is_received()
     ensures passes { (messages : List MessageView) (positions : List SentPosition)
         → messages ≢ [] → IsBroadcast messages positions
-        → PassesChannel positions (drop 96 (emission positions)) }
+        → PassesChannel positions (drop first_slot (emission positions)) }
     ensures cut { (positions : List SentPosition) → bits_of (emission positions)
-        ≡ bits_of (take 96 (emission positions)) ++ bits_of (drop 96 (emission positions)) }
+        ≡ bits_of (take first_slot (emission positions)) ++ bits_of (drop first_slot (emission positions)) }
 {}
 
 /// The definitions at a worked emission, of EA01 with the line TEST: it is received where the first

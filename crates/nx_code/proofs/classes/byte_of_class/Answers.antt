@@ -1,4 +1,4 @@
-use Rattle.std.proofs.Common.{◌≡◌, ◌<◌, ap, sym, subst, ◌∙◌}
+use Rattle.std.proofs.Common.{◌<◌, ap, sym, subst, ◌∙◌}
 use Rattle.nx_code.specs.Classes.{reception_of_class}
 use Rattle.nx_code.specs.Reading.{byte_of}
 use Rattle.nx_code.specs.declared.shifts.Shift.TheVariants.{Letters, Figures}

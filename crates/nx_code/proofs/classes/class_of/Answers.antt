@@ -1,4 +1,4 @@
-use Rattle.std.proofs.Common.{◌≡◌, ◌<◌, ap, sym, subst, ◌∙◌}
+use Rattle.std.proofs.Common.{◌<◌, ap, sym, subst, ◌∙◌}
 use Rattle.nx_code.specs.Classes.{class_of}
 use Rattle.nx_code.proofs.ClassLemmas.{class_of-BY_WORD, class_of-low}
 use Rattle.nx_code.proofs.classes.class_of.Goals as goal

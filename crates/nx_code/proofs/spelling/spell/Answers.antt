@@ -3,7 +3,7 @@ use Rattle.std.proofs.lemmas.Bool.{not-false}
 use Rattle.std.proofs.lemmas.List.{take_more}
 use Rattle.nx_code.specs.Characters.{is_in_code}
 use Rattle.nx_code.specs.Spelling.{Spells}
-use Rattle.nx_code.specs.Pieces.{numbers_of_piece}
+use Rattle.nx_code.specs.private.Pieces.{numbers_of_piece}
 use Rattle.nx_code.specs.declared.signals.Comb.{Comb}
 use Rattle.nx_code.proofs.SpellingLemmas.{position-None, Spells-push, shift-push}
 use Rattle.nx_code.proofs.spelling.spell.Goals as goal

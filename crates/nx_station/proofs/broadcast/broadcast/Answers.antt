@@ -1,6 +1,6 @@
 use Rattle.std.proofs.Common.{◌++◌, ◌∷◌, [], ap, ◌∙◌, map}
 use Rattle.nx_fec.specs.Emission.{sent_position}
-use Rattle.nx_station.specs.Broadcast.{phasing_and_message}
+use Rattle.nx_station.specs.Broadcast.{phasing_and_message, first_phasing}
 use Rattle.nx_station.proofs.BroadcastLemmas.{empty-broadcast, more-spelled, others-more, broadcast-of}
 use Rattle.nx_station.proofs.broadcast.broadcast.Goals as goal
 
@@ -22,4 +22,4 @@ returns c =
     let parts = rw c.in-Some.is at c.split_first.ensures.cases in
     let all = c.loop-message.invariant in
     broadcast-of c.args.messages.now c.in-Some.first.now c.in-Some.others.now c.loop-message.message-index first.0 all.0 _ _ _ parts.0 first.1
-    (first.2 ∙ ap (λ l. map sent_position l ++ phasing_and_message 72 first.0) c.new-positions.ensures.items) c.loop-message-test.false all.1 all.2 c.in_ok-push_many.ensures
+    (first.2 ∙ ap (λ l. map sent_position l ++ phasing_and_message first_phasing first.0) c.new-positions.ensures.items) c.loop-message-test.false all.1 all.2 c.in_ok-push_many.ensures
