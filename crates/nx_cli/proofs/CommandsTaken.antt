@@ -1,18 +1,17 @@
 -- Words that clap takes enter a command of the program, which is given the numbers that it wants.
-use Rattle.std.proofs.Common.{◌≡◌, ◌⊎◌, inl, inr, ℕ, ◌&&◌, ◌||◌, option_map, Bool, true, false, not, List, [], ◌∷◌, Option, Some, None, IfSome, refl, subst, codes, find}
+use Rattle.std.proofs.Common.{◌≡◌, ◌&&◌, ◌||◌, option_map, Bool, true, false, not, List, [], ◌∷◌, Option, Some, None, IfSome, refl, subst, codes, find}
 use Rattle.std.specs.Option.{option_map_or}
 use Rattle.clap.specs.Kinds.{check_kinds}
 use Rattle.clap.specs.Takes.{is_given}
 use Rattle.clap.specs.Words.{Row, Rule, Shape, Text, built, fault_of, subcommand_of}
-use Rattle.clap.specs.Simple.{argument_words, entered, filled_from, help_rule, label_of, names_of, rows_at}
+use Rattle.clap.specs.Simple.{argument_words, built_leaf, entered, filled_from, help_rule, label_of, names_of, rows_at}
 use Rattle.clap.specs.Walk.{answers_to, nothing_held, rows_after, walk}
-use Rattle.clap.specs.Faults.{entered_fault, level_fault}
-use Rattle.nx_cli.proofs.EachFound.{Each, found_is}
+use Rattle.clap.specs.Faults.{check_fault, entered_fault, level_fault}
+use Rattle.nx_cli.proofs.CommandTable.{Entry, IsSound, Maker, Makes, entries, entries-sound, plain, range, slot, tree_of}
+use Rattle.nx_cli.proofs.EachFound.{Each, each-map, found_is}
 use Rattle.nx_cli.proofs.NumbersGiven.{GivesNumber, IsNumeric, gets, uses-other, uses-text, uses-wanted}
 use Rattle.nx_cli.proofs.RowsKept.{UsesWell, or-first, or-second}
-use Rattle.nx_cli.specs.declared.words.Call.{Call}
-use Rattle.nx_cli.specs.declared.words.Call.TheVariants.{Check, Code, Decode, Encode, Listen, Show}
-use Rattle.nx_cli.specs.Words.{HasArguments, command_name, navtex, number_rule, text_rule}
+use Rattle.nx_cli.specs.Words.{navtex, number_rule, text_rule}
 
 -- the arguments of a command that wants a station and a moment, and of one that wants words, as they are built
 abbrev slot_rules : List Rule
@@ -68,72 +67,51 @@ both_wanted false true false e = absurd (cc)
 both_wanted false false true e = absurd (cc)
 both_wanted false false false e = absurd (cc)
 
--- the word of a call that takes no argument
-abbrev pub IsPlainWord : Text → Type 0
-IsPlainWord name = (call : Call) × (name ≡ command_name call) × ((rows : List Row) → HasArguments call rows)
-
--- the word of a call that takes a station and a moment
-abbrev pub IsSlotWord : Text → Type 0
-IsSlotWord name = (name ≡ codes "send") ⊎ (name ≡ codes "slots")
+-- the numbers that the command of an entry is given
+abbrev pub Gives : Maker → List Row → Type 0
+Gives (plain call) rows = Unit {0}
+Gives (slot make) rows = GivesNumber (codes "MOMENT") 32503679999 rows
+Gives (range make) rows =
+    GivesNumber (codes "FROM") 4294967295 rows × GivesNumber (codes "COUNT") 4294967295 rows
 
 -- the name of a command that was entered, and the numbers that its arguments hold
-abbrev pub IsCommand : Text → List Row → Type 0
-IsCommand name rows =
-    IsPlainWord name ⊎ ((IsSlotWord name × GivesNumber (codes "MOMENT") 32503679999 rows)
-    ⊎ ((name ≡ codes "damage") × GivesNumber (codes "FROM") 4294967295 rows
-    × GivesNumber (codes "COUNT") 4294967295 rows))
+pub record IsCommand (name : Text) (rows : List Row) : Type 0 where
+  pub maker : Maker
+  pub makes : Makes name maker
+  pub gives : Gives maker rows
 
 abbrev IsCommandOf : Shape → Type 0
 IsCommandOf s = (words : List Text) → level_fault s [] nothing_held words false [] ≡ []
     → IsCommand s.name (rows_after s.rules [] words)
 
+-- the command of an entry, as it is built
+abbrev pub leaf : Entry → Shape
+leaf e = built_leaf (tree_of e.0 e.1).top
+
+leaf-is : (name : Text) (maker : Maker) → Makes name maker → IsCommandOf (leaf (name, maker))
+leaf-is name (plain call) makes words e = record { maker = plain call; makes = makes; gives = tt }
+leaf-is name (slot make) makes words e = record {
+  maker = slot make;
+  makes = makes;
+  gives = gets _ _ _ slot_rules-moment (refl, (refl, (refl, tt)))
+      (λ rows checked. second_wanted (is_given (codes "STATION") rows) (is_given (codes "MOMENT") rows) checked) words e;
+}
+leaf-is name (range make) makes words e =
+    let wanted : (rows : List Row) → check_fault (leaf (name, range make)) rows false ≡ []
+    → (is_given (codes "FROM") rows ≡ true) × (is_given (codes "COUNT") rows ≡ true) =
+    λ rows checked. both_wanted (is_given (codes "KIND") rows) (is_given (codes "FROM") rows)
+    (is_given (codes "COUNT") rows) checked in
+    record {
+      maker = range make;
+      makes = makes;
+      gives = (
+        gets _ _ _ damage_rules-from (refl, (refl, (refl, (refl, tt)))) (λ rows checked. (wanted rows checked).0) words e,
+        gets _ _ _ damage_rules-count (refl, (refl, (refl, (refl, tt)))) (λ rows checked. (wanted rows checked).1) words e,
+      );
+    }
+
 commands-are : Each IsCommandOf (built navtex).subs
-commands-are = (
-  (λ words e. inl (Decode, refl, λ rows. tt)),
-  (
-    (λ words e. inl (Encode, refl, λ rows. tt)),
-    (
-      (λ words e. inl (Code, refl, λ rows. tt)),
-      (
-        (λ words e. inl (Show, refl, λ rows. tt)),
-        (
-          (λ words e. inl (Check, refl, λ rows. tt)),
-          (
-            (λ words e. inl (Listen, refl, λ rows. tt)),
-            (
-              (λ words e. inr (inl (
-                inl refl,
-                gets _ _ _ slot_rules-moment (refl, (refl, (refl, tt)))
-                    (λ rows checked. second_wanted (is_given (codes "STATION") rows) (is_given
-                    (codes "MOMENT") rows) checked) words e,
-              ))),
-              (
-                (λ words e. inr (inl (
-                  inr refl,
-                  gets _ _ _ slot_rules-moment (refl, (refl, (refl, tt)))
-                      (λ rows checked. second_wanted (is_given (codes "STATION") rows) (is_given
-                      (codes "MOMENT") rows) checked) words e,
-                ))),
-                (
-                  (λ words e. inr (inr (
-                    refl,
-                    gets _ _ _ damage_rules-from (refl, (refl, (refl, (refl, tt))))
-                        (λ rows checked. (both_wanted (is_given (codes "KIND") rows) (is_given (codes "FROM") rows)
-                        (is_given (codes "COUNT") rows) checked).0) words e,
-                    gets _ _ _ damage_rules-count (refl, (refl, (refl, (refl, tt))))
-                        (λ rows checked. (both_wanted (is_given (codes "KIND") rows) (is_given (codes "FROM") rows)
-                        (is_given (codes "COUNT") rows) checked).1) words e,
-                  ))),
-                  tt,
-                ),
-              ),
-            ),
-          ),
-        ),
-      ),
-    ),
-  ),
-)
+commands-are = each-map IsSound IsCommandOf leaf (λ e sound. leaf-is e.0 e.1 sound) entries entries-sound
 
 found-command : (words : List Text) (found : Option Shape) → IfSome found IsCommandOf
     → option_map_or (λ s. level_fault s [] nothing_held words false []) found [] ≡ []

@@ -1,5 +1,5 @@
--- What holds of each element of a list holds of one that is found.
-use Rattle.std.proofs.Common.{Bool, true, false, List, [], ◌∷◌, Option, Some, None, IfSome, find, cond}
+-- What holds of each element of a list holds of one that is found, and of what each is mapped to.
+use Rattle.std.proofs.Common.{Bool, true, false, List, [], ◌∷◌, Option, Some, IfSome, cond, find, map}
 
 -- what holds of each element, by recursion
 abbrev pub Each : {X : Type 0} → (X → Type 0) → List X → Type 0
@@ -13,3 +13,8 @@ found_is {X} P test (x ∷ xs) each =
       | true ↦ each.0
       | false ↦ found_is P test xs each.1
     ]
+
+pub each-map : {X Y : Type 0} (P : X → Type 0) (Q : Y → Type 0) (f : X → Y) → ((x : X) → P x → Q (f x))
+    → (xs : List X) → Each P xs → Each Q (map f xs)
+each-map P Q f goes [] each = tt
+each-map P Q f goes (x ∷ xs) each = (goes x each.0, each-map P Q f goes xs each.1)

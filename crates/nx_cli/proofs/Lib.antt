@@ -5,6 +5,8 @@ pub mod EachFound
 pub mod GivenArguments
 pub mod RowsKept
 pub mod NumbersGiven
+pub mod CallArguments
+pub mod CommandTable
 pub mod CommandsTaken
 pub mod OneCall
 pub mod WordsLemmas

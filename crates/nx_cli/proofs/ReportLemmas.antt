@@ -1,8 +1,7 @@
 -- What the program's answer says of its outcome and of standard error.
-use Rattle.std.proofs.Common.{◌≡◌, ◌≢◌, ◌≤◌, ◌+◌, ◌<◌, ◌∷◌, ◌++◌, ℕ, List, [], Result, Ok, Err, Option, ap, arith, codes, if◌then◌else◌, length, refl, sym, ◌∙◌}
-use Rattle.std.specs.Fmt.Cut.{cut_to, dots, floor_char_boundary}
+use Rattle.std.proofs.Common.{◌≡◌, ◌≢◌, ◌≤◌, ℕ, List, Result, Ok, Err, Option, length, refl, ◌∙◌}
+use Rattle.std.specs.Fmt.Cut.{cut_to}
 use Rattle.std.proofs.lemmas.Bool.{le-leb}
-use Rattle.std.proofs.lemmas.List.{length-append}
 use Rattle.clap.specs.Words.{Text}
 use Rattle.nx_fec.specs.Devices.{CountedDevice}
 use Rattle.nx_fec.specs.Transfers.{Devices}

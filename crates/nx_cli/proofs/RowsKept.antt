@@ -1,26 +1,13 @@
 -- A predicate of rows that each use of an argument keeps holds of all rows that clap gives where it takes the words.
-use Rattle.std.proofs.Common.{◌≡◌, ◌≤◌, ◌∙◌, ◌⊎◌, inl, inr, ℕ, zero, suc, ◌&&◌, ◌||◌, option_map, option_and_then, ap₂, Bool, true, false, not, List, [], ◌∷◌, ◌++◌, Option, Some, None, IfSome, is_some, refl, ap, sym, subst, codes, drop, length, slice_get, encode_utf8, find, fold, cond, if◌then◌else◌}
+use Rattle.std.proofs.Common.{◌≡◌, ℕ, zero, suc, ◌&&◌, Bool, true, false, List, [], ◌∷◌, ◌++◌, Option, Some, None, IfSome, is_some, refl, drop, length, slice_get, encode_utf8, fold, if◌then◌else◌}
 use Rattle.std.specs.Option.{option_map_or}
 use Rattle.std.specs.Str.{bytes_eq, chars}
 use Rattle.clap.specs.Lexer.{long_of, short_of}
-use Rattle.clap.specs.Facts.{explicit_source}
-use Rattle.clap.specs.ValueTests.{accepts}
-use Rattle.clap.specs.Kinds.{check_kinds, or_else}
-use Rattle.clap.specs.Takes.{is_given}
-use Rattle.clap.specs.Words.{Kinds, Row, Rule, Shape, Text, built, fault_of, one_of, read_as, subcommand_of}
-use Rattle.clap.specs.Simple.{argument_words, entered, filled_from, help_rule, label_of, names_of, rows_at}
-use Rattle.clap.specs.Walk.{Held, Outcome, Step, Waiting, Walk, after_flag, answers_to, default_rows, has_row, reading_by, row_text, after_step, arg_by_id, arg_by_index, arg_by_long, arg_by_short, at_row, attached_value, bundle_met, bundle_step, finished, flag_met, is_pending, long_met, long_or_other, more_values, nothing_held, option_met, option_word, plain_word, positional_held, reacted, rows_after, settled, settled_rows, short_met, short_or_plain, subcommand_met, subcommand_or_other, takes_several, takes_values, to_positional, used, used_by_id, values_or_missing, walk, walk_from, walked, walked_from, with_default, with_values, without, word_met, done, idle, next, option, plain, positional, refused, subcommand, trailing, value, waits}
-use Rattle.clap.specs.Faults.{bundle_step_fault, check_fault, defaults_fault, entered_fault, flag_word_fault, flags_fault, level_fault, long_fault, option_fault, other_fault, positional_fault, react_fault, settle_fault, short_fault, step_fault, stray_fault, turn_fault, use_fault, walk_fault, word_fault}
-use Rattle.clap.specs.declared.builder.value_parser.Reading.{Reading}
-use Rattle.clap.specs.declared.builder.value_parser.Reading.TheVariants.{AsWritten}
-use Rattle.clap.specs.declared.builder.value_parser.ValueParser.{ValueParser}
-use Rattle.clap.specs.declared.builder.value_parser.ValueParser.TheVariants as parser
-use Rattle.clap.specs.declared.error.kind.ErrorKind.{ErrorKind}
+use Rattle.clap.specs.Kinds.{or_else}
+use Rattle.clap.specs.Words.{Kinds, Row, Rule, Shape, Text}
+use Rattle.clap.specs.Walk.{Held, Outcome, Step, Waiting, Walk, after_flag, after_step, arg_by_id, arg_by_index, arg_by_long, arg_by_short, at_row, attached_value, bundle_met, bundle_step, finished, flag_met, is_pending, long_met, long_or_other, nothing_held, option_met, option_word, plain_word, reacted, settled, settled_rows, short_met, short_or_plain, subcommand_met, subcommand_or_other, takes_several, takes_values, to_positional, used, used_by_id, walk, walk_from, walked, walked_from, without, word_met, done, idle, next, option, plain, positional, refused, subcommand, trailing, value, waits}
+use Rattle.clap.specs.Faults.{bundle_step_fault, check_fault, defaults_fault, flag_word_fault, flags_fault, level_fault, long_fault, option_fault, other_fault, positional_fault, react_fault, settle_fault, short_fault, step_fault, stray_fault, turn_fault, use_fault, walk_fault, word_fault}
 use Rattle.clap.specs.declared.error.kind.ErrorKind.TheVariants as kind
-use Rattle.clap.specs.declared.parser.matches.ValueSource.{ValueSource}
-use Rattle.clap.specs.declared.builder.action.ArgAction.TheVariants.{Set}
-use Rattle.std.specs.Str.Parse.{digits_value, without_leading_plus}
-use Rattle.clap.proofs.ValueTestLemmas.{accepts-Accepts}
 use Rattle.nx_cli.proofs.EachFound.{Each, found_is}
 
 pub or-first : (a b : Kinds) → or_else a b ≡ [] → a ≡ []

@@ -1,13 +1,12 @@
 -- Clap's reading of the program's words: the command tree is one of those that clap's clauses
 -- speak of exactly, and a command that it enters is the command of a call.
-use Rattle.std.proofs.Common.{ℕ, codes, ◌≤◌, ◌≡◌, ◌≢◌, ◌∙◌, Bool, true, false, List, [], ◌∷◌, Option, Some, None, IsSome, is_some, ◌⊎◌, IfNone, IfSome, IfOk, IfErr, Result, find, if◌then◌else◌, option_map, refl, ap, ap₂, cond, inl, inr, sym, subst, Box, Global}
+use Rattle.std.proofs.Common.{ℕ, codes, ◌≤◌, ◌≡◌, ◌≢◌, ◌∙◌, true, false, List, [], ◌∷◌, Option, Some, None, is_some, ◌⊎◌, IfNone, IfSome, IfOk, IfErr, Result, option_map, refl, ap, ap₂, inl, inr, sym, subst, Box, Global}
 use Rattle.std.specs.Box.{box_value}
 use Rattle.std.specs.Option.{ok_or}
-use Rattle.clap.specs.Words.{HasKind, Kinds, IsAmong, Row, Shape, Text, built, fault_of, is_simple, is_simple_and_free, kind_of, subcommand_of, subcommand_name_of, subcommand_rows, subcommand_rows_of}
-use Rattle.clap.specs.Simple.{argument_words, entered, label_of, names_of, rows_at}
-use Rattle.clap.specs.Walk.{answers_to, nothing_held, stop_after, walk}
+use Rattle.clap.specs.Words.{HasKind, Kinds, IsAmong, Row, Text, built, fault_of, is_simple, is_simple_and_free, kind_of, subcommand_of, subcommand_name_of, subcommand_rows, subcommand_rows_of}
+use Rattle.clap.specs.Simple.{argument_words, entered, label_of, names_of}
+use Rattle.clap.specs.Walk.{answers_to, nothing_held, walk}
 use Rattle.clap.specs.Faults.{entered_fault}
-use Rattle.std.specs.Str.{bytes_eq}
 use Rattle.clap.proofs.OnLiterals.{clap_on_literals}
 use Rattle.clap.specs.declared.error.Error.{Error}
 use Rattle.clap.specs.declared.error.kind.ErrorKind.{ErrorKind}
@@ -21,12 +20,14 @@ use Rattle.nx_cli.specs.declared.words.WordsFault.{WordsFault}
 use Rattle.nx_cli.specs.declared.words.WordsFault.TheVariants.{Help, Refused, Station, Kind, Memory}
 use Rattle.nx_station.specs.declared.damaging.DamageKind.{DamageKind}
 use Rattle.nx_cli.specs.Words.{AsksForHelp, ExplainsWords, HasArguments, IsKind, IsNumber, IsRefused, IsStation, LacksKind, LacksStation, Names, IsSortedAs, navtex, command_name}
-use Rattle.nx_cli.proofs.EachFound.{Each, found_is}
-use Rattle.nx_cli.proofs.CommandsTaken.{IsPlainWord, IsSlotWord, taken-command}
-use Rattle.nx_cli.proofs.NumbersGiven.{GivesNumber, number-given}
-use Rattle.nx_cli.proofs.OneCall.{IsNotCalled, call_or_none, differ, number_once, same_call}
+use Rattle.nx_cli.proofs.EachFound.{Each, each-map, found_is}
+use Rattle.nx_cli.proofs.CallArguments.{differ, number_once}
+use Rattle.nx_cli.proofs.CommandTable.{HasCall, IsSlotWord, IsSound, Maker, Makes, entries, entries-sound, plain, range, slot}
+use Rattle.nx_cli.proofs.CommandsTaken.{Gives, leaf, taken-command}
+use Rattle.nx_cli.proofs.NumbersGiven.{number-given}
+use Rattle.nx_cli.proofs.OneCall.{IsNotCalled, call_or_none, has-kind, has-station, same_call}
 use Rattle.nx_envelope.specs.declared.letter.Letter.{Letter}
-use Rattle.nx_cli.specs.declared.words.Call.TheVariants.{Check, Code, Damage, Decode, Encode, Listen, Send, Show, Slots}
+use Rattle.nx_cli.specs.declared.words.Call.TheVariants.{Damage, Send, Slots}
 use Rattle.nx_cli.proofs.FaultKinds.{HasNoHelp, IsUniform, kinds_cases, level-nil, u-level, u-none, u-option, uniform_excludes}
 
 pub navtex-is_simple : is_simple navtex ≡ true
@@ -81,8 +82,13 @@ none_among : (kinds : Kinds) (k : ErrorKind) → kinds ≡ [] → IsAmong k kind
 none_among [] k e among = among
 none_among (x ∷ xs) k e among = absurd (cc)
 
+leaf-no_help : (name : Text) (maker : Maker) → HasNoHelp (leaf (name, maker))
+leaf-no_help name (plain call) = refl
+leaf-no_help name (slot make) = refl
+leaf-no_help name (range make) = refl
+
 calls_without_help : Each HasNoHelp (built navtex).subs
-calls_without_help = (refl, (refl, (refl, (refl, (refl, (refl, (refl, (refl, (refl, tt)))))))))
+calls_without_help = each-map IsSound HasNoHelp leaf (λ e sound. leaf-no_help e.0 e.1) entries entries-sound
 
 IfSome-weaker : {X : Type 0} (o : Option X) (P Q : X → Type 0) → ((x : X) → P x → Q x) → IfSome o P → IfSome o Q
 IfSome-weaker None P Q weaker some = tt
@@ -121,32 +127,6 @@ entered_once words a b first second one other =
     let is : (a, first) ≡ (b, second) = cc in
     (ap (λ (p : Text × List Row). p.0) is, ap (λ (p : Text × List Row). p.1) is)
 
--- a call of the word of a slot has a station, and one of the word of damage has a kind
-has-station : (call : Call) (arguments : List Row) → IsSlotWord (command_name call) → HasArguments call arguments
-    → (letter : Letter) × IsStation arguments letter
-has-station Decode arguments wants given = absurd (elim wants [ inl e ↦ differ _ _ refl e | inr e ↦ differ _ _ refl e ])
-has-station Encode arguments wants given = absurd (elim wants [ inl e ↦ differ _ _ refl e | inr e ↦ differ _ _ refl e ])
-has-station Code arguments wants given = absurd (elim wants [ inl e ↦ differ _ _ refl e | inr e ↦ differ _ _ refl e ])
-has-station Show arguments wants given = absurd (elim wants [ inl e ↦ differ _ _ refl e | inr e ↦ differ _ _ refl e ])
-has-station Check arguments wants given = absurd (elim wants [ inl e ↦ differ _ _ refl e | inr e ↦ differ _ _ refl e ])
-has-station Listen arguments wants given = absurd (elim wants [ inl e ↦ differ _ _ refl e | inr e ↦ differ _ _ refl e ])
-has-station (Send station moment) arguments wants given = (station, given.0)
-has-station (Slots station moment) arguments wants given = (station, given.0)
-has-station (Damage kind from count) arguments wants given = absurd
-    (elim wants [ inl e ↦ differ _ _ refl e | inr e ↦ differ _ _ refl e ])
-
-has-kind : (call : Call) (arguments : List Row) → command_name call ≡ codes "damage" → HasArguments call arguments
-    → (kind : DamageKind) × IsKind arguments kind
-has-kind Decode arguments wants given = absurd (differ _ _ refl wants)
-has-kind Encode arguments wants given = absurd (differ _ _ refl wants)
-has-kind Code arguments wants given = absurd (differ _ _ refl wants)
-has-kind Show arguments wants given = absurd (differ _ _ refl wants)
-has-kind Check arguments wants given = absurd (differ _ _ refl wants)
-has-kind Listen arguments wants given = absurd (differ _ _ refl wants)
-has-kind (Send station moment) arguments wants given = absurd (differ _ _ refl wants)
-has-kind (Slots station moment) arguments wants given = absurd (differ _ _ refl wants)
-has-kind (Damage kind from count) arguments wants given = (kind, given.0)
-
 named-lacks_station : (words : List Text) (call : Call) → Names words call → LacksStation words → ⊥
 named-lacks_station words call named lacks = elim lacks.entered [
   | inl send ↦ go (codes "send") (inl refl) (entered_once words _ _ _ _ named.command send)
@@ -172,49 +152,46 @@ named_not_refused words call named (inl refused) = none_among (fault_of navtex w
 named_not_refused words call named (inr (inl lacks)) = named-lacks_station words call named lacks
 named_not_refused words call named (inr (inr lacks)) = named-lacks_kind words call named lacks
 
--- words with no call, which clap takes, and whose command is that of a slot or of damage
-pub no_station : (words : List Text) (name : Text) (arguments : List Row) → fault_of navtex words ≡ []
-    → subcommand_of navtex words ≡ Some (name, arguments)
-    → IsSlotWord name → GivesNumber (codes "MOMENT") 32503679999 arguments → IsNotCalled name arguments
-    → LacksStation words
-no_station words name arguments taken entered is gives none =
-    let moment = number-given _ _ arguments gives in
-    record {
-      taken = taken;
-      arguments = arguments;
-      entered = elim is [
-        | inl send ↦ inl (entered ∙ ap (λ (t : Text). Some (t, arguments)) send)
-        | inr slots ↦ inr (entered ∙ ap (λ (t : Text). Some (t, arguments)) slots)
-      ];
-      no_letter = λ letter found. elim is [
-        | inl send ↦ none (Send letter moment.0) send (found, moment.1)
-        | inr slots ↦ none (Slots letter moment.0) slots (found, moment.1)
-      ];
-    }
-
-pub no_kind : (words : List Text) (name : Text) (arguments : List Row) → fault_of navtex words ≡ []
-    → subcommand_of navtex words ≡ Some (name, arguments)
-    → name ≡ codes "damage" → GivesNumber (codes "FROM") 4294967295 arguments
-    → GivesNumber (codes "COUNT") 4294967295 arguments → IsNotCalled name arguments → LacksKind words
-no_kind words name arguments taken entered is gives_from gives_count none =
-    let from = number-given _ _ arguments gives_from in
-    let count = number-given _ _ arguments gives_count in
-    record {
-      taken = taken;
-      arguments = arguments;
-      entered = entered ∙ ap (λ (t : Text). Some (t, arguments)) is;
-      no_kind = λ kind found. none (Damage kind from.0 count.0) is (found, from.1, count.1);
-    }
-
 -- words with no call, which clap takes, lack a station or a kind of damage
 lacks_argument : (words : List Text) (name : Text) (arguments : List Row) → fault_of navtex words ≡ []
     → subcommand_of navtex words ≡ Some (name, arguments)
     → IsNotCalled name arguments → (IsSlotWord name × LacksStation words) ⊎ ((name ≡ codes "damage") × LacksKind words)
-lacks_argument words name arguments taken entered none = elim (taken-command words name arguments taken entered) [
-  | inl plain ↦ absurd (none plain.0 plain.1 (plain.2 arguments))
-  | inr (inl slot) ↦ inl (slot.0, no_station words name arguments taken entered slot.0 slot.1 none)
-  | inr (inr damage) ↦ inr (damage.0, no_kind words name arguments taken entered damage.0 damage.1 damage.2 none)
-]
+lacks_argument words name arguments taken entered none =
+    let command = taken-command words name arguments taken entered in
+    go command.maker command.makes command.gives
+  where
+    go : (maker : Maker) → Makes name maker → Gives maker arguments
+        → (IsSlotWord name × LacksStation words) ⊎ ((name ≡ codes "damage") × LacksKind words)
+    go (plain call) makes gives = absurd (let has = makes arguments in none call has.0 has.1)
+    go (slot make) makes gives =
+        let moment = number-given _ _ arguments gives in
+        inl (
+          makes.0,
+          record {
+            taken = taken;
+            arguments = arguments;
+            entered = elim makes.0 [
+              | inl send ↦ inl (entered ∙ ap (λ (t : Text). Some (t, arguments)) send)
+              | inr slots ↦ inr (entered ∙ ap (λ (t : Text). Some (t, arguments)) slots)
+            ];
+            no_letter = λ letter found.
+                let has = makes.1 arguments letter moment.0 found moment.1 in none (make letter moment.0) has.0 has.1;
+          },
+        )
+    go (range make) makes gives =
+        let from = number-given _ _ arguments gives.0 in
+        let count = number-given _ _ arguments gives.1 in
+        inr (
+          makes.0,
+          record {
+            taken = taken;
+            arguments = arguments;
+            entered = entered ∙ ap (λ (t : Text). Some (t, arguments)) makes.0;
+            no_kind = λ kind found.
+                let has = makes.1 arguments kind from.0 count.0 found from.1 count.1 in
+                none (make kind from.0 count.0) has.0 has.1;
+          },
+        )
 
 -- a call without arguments has no number among them
 no_numbers : (name : Text) (number : ℕ) → IsNumber name [] number → ⊥
@@ -222,60 +199,67 @@ no_numbers name number is =
     let bad : None ≡ Some is.text = is.given in
     absurd (cc)
 
+-- the calls of a command without arguments have no number among them
+plain_no_number : (call other : Call) (rows : List Row) → ((rows : List Row) → HasCall (command_name call) rows other)
+    → HasArguments call rows → (name : Text) (number : ℕ)
+    → ((rows : List Row) → HasArguments call rows → IsNumber name rows number) → ⊥
+plain_no_number call other rows makes given name number gives =
+    let same = same_call other call rows (sym (makes rows).0) (makes rows).1 given in
+    let P : Call → Type 0 = λ c. HasArguments c [] in
+    no_numbers name number (gives [] (subst P same (makes []).1))
+
+not_both : (name : Text) → IsSlotWord name → name ≡ codes "damage" → ⊥
+not_both name (inl send) damage = differ _ _ refl (sym send ∙ damage)
+not_both name (inr slots) damage = differ _ _ refl (sym slots ∙ damage)
+
 -- the moment of a call of a slot is in its range
-moment-bound : (words : List Text) (call : Call) (named : Names words call) (station : Letter) (moment : ℕ)
+moment-bound : (words : List Text) (call : Call) (named : Names words call) (moment : ℕ)
     → IsSlotWord (command_name call)
     → ((rows : List Row) → HasArguments call rows → IsNumber (codes "MOMENT") rows moment) → moment ≤ 32503679999
-moment-bound words call named station moment wants gives = elim (taken-command words
-    (command_name call) named.arguments named.taken named.command) [
-      | inl plain ↦ absurd (
-          let same = same_call plain.0 call named.arguments (sym plain.1) (plain.2 named.arguments) named.given in
-          let P : Call → Type 0 = λ c. HasArguments c [] in
-          no_numbers (codes "MOMENT") moment (gives [] (subst P same (plain.2 [])))
-          )
-      | inr (inl slot) ↦
-          let given = number-given _ _ named.arguments slot.1 in
-          let P : ℕ → Type 0 = λ n. n ≤ 32503679999 in
-          subst P (number_once (codes "MOMENT") named.arguments given.0 moment given.1
-          (gives named.arguments named.given)) given.2
-      | inr (inr damage) ↦ absurd (elim wants [
-        | inl e ↦ differ _ _ refl (sym damage.0
-            ∙ e)
-        | inr e ↦ differ _ _ refl (sym damage.0 ∙ e)
-      ])
-    ]
+moment-bound words call named moment wants gives =
+    let command = taken-command words (command_name call) named.arguments named.taken named.command in
+    go command.maker command.makes command.gives
+  where
+    go : (maker : Maker) → Makes (command_name call) maker → Gives maker named.arguments → moment ≤ 32503679999
+    go (plain other) makes given = absurd
+        (plain_no_number call other named.arguments makes named.given (codes "MOMENT") moment gives)
+    go (slot make) makes given =
+        let number = number-given _ _ named.arguments given in
+        let P : ℕ → Type 0 = λ n. n ≤ 32503679999 in
+        subst P (number_once (codes "MOMENT") named.arguments number.0 moment number.1
+        (gives named.arguments named.given)) number.2
+    go (range make) makes given = absurd (not_both _ wants makes.0)
 
 pub send-bound : (words : List Text) (station : Letter) (moment : ℕ) → Names words (Send station moment)
     → moment ≤ 32503679999
-send-bound words station moment named = moment-bound words (Send station moment) named station moment (inl refl)
+send-bound words station moment named = moment-bound words (Send station moment) named moment (inl refl)
     (λ rows given. given.1)
 
 pub slots-bound : (words : List Text) (station : Letter) (moment : ℕ) → Names words (Slots station moment)
     → moment ≤ 32503679999
-slots-bound words station moment named = moment-bound words (Slots station moment) named station moment (inr refl)
+slots-bound words station moment named = moment-bound words (Slots station moment) named moment (inr refl)
     (λ rows given. given.1)
 
 -- and so are the numbers of a call that damages
 pub damage-bounds : (words : List Text) (kind : DamageKind) (from count : ℕ) → Names words (Damage kind from count)
     → (from ≤ 4294967295) × (count ≤ 4294967295)
-damage-bounds words kind from count named = elim (taken-command words
-    (codes "damage") named.arguments named.taken named.command) [
-      | inl plain ↦ absurd (
-          let same = same_call plain.0 (Damage kind from count) named.arguments (sym plain.1)
-          (plain.2 named.arguments) named.given in
-          let P : Call → Type 0 = λ c. HasArguments c [] in
-          let given = subst P same (plain.2 []) in
-          no_numbers (codes "FROM") from given.1
-          )
-      | inr (inl slot) ↦ absurd (elim slot.0 [ inl e ↦ differ _ _ refl e | inr e ↦ differ _ _ refl e ])
-      | inr (inr damage) ↦
-          let first = number-given _ _ named.arguments damage.1 in
-          let second = number-given _ _ named.arguments damage.2 in
-          let P : ℕ → Type 0 = λ n. n ≤ 4294967295 in (
-            subst P (number_once (codes "FROM") named.arguments first.0 from first.1 named.given.1) first.2,
-            subst P (number_once (codes "COUNT") named.arguments second.0 count second.1 named.given.2) second.2,
-          )
-    ]
+damage-bounds words kind from count named =
+    let command = taken-command words (codes "damage") named.arguments named.taken named.command in
+    go command.maker command.makes command.gives
+  where
+    go : (maker : Maker) → Makes (codes "damage") maker → Gives maker named.arguments
+        → (from ≤ 4294967295) × (count ≤ 4294967295)
+    go (plain other) makes given = absurd
+        (plain_no_number (Damage kind from count) other named.arguments makes named.given (codes "FROM") from
+        (λ rows has. has.1))
+    go (slot make) makes given = absurd (not_both _ makes.0 refl)
+    go (range make) makes given =
+        let first = number-given _ _ named.arguments given.0 in
+        let second = number-given _ _ named.arguments given.1 in
+        let P : ℕ → Type 0 = λ n. n ≤ 4294967295 in (
+          subst P (number_once (codes "FROM") named.arguments first.0 from first.1 named.given.1) first.2,
+          subst P (number_once (codes "COUNT") named.arguments second.0 count second.1 named.given.2) second.2,
+        )
 
 -- where clap takes the words, they enter a command
 pub taken_enters : (words : List Text) → fault_of navtex words ≡ [] → is_some (subcommand_of navtex words) ≡ true
@@ -344,13 +328,7 @@ pub outcome-refused : (words : List Text) (name : Text) (arguments : List Row) (
 outcome-refused words name arguments (Some call) unfit outcome taken entered none kind station is = rw is tt
 outcome-refused words name arguments None unfit outcome taken entered none kind station is = elim
     (lacks_argument words name arguments taken entered none) [
-      | inl lacks ↦
-          let other : name ≢ codes "damage" = λ damage. elim lacks.0 [
-            | inl e ↦ differ _ _ refl (sym e
-                ∙ damage)
-            | inr e ↦ differ _ _ refl (sym e ∙ damage)
-          ] in
-          rw (is, station other) lacks.1
+      | inl lacks ↦ rw (is, station (not_both name lacks.0)) lacks.1
       | inr lacks ↦ rw (is, kind lacks.0) lacks.1
     ]
 

@@ -1,6 +1,6 @@
 -- How a run of the program ends: what it leaves on its devices, by the contracts of the calls, and
 -- the status with which it exits (this profile).
-use Rattle.std.specs.Prelude.{◌≡◌, ◌⊎◌, ◌∷◌, ◌++◌, ⊤, ℕ, List, [], Option, Result, Ok, Err, IfSome}
+use Rattle.std.specs.Prelude.{◌≡◌, ◌⊎◌, ◌∷◌, ◌++◌, ⊤, ℕ, List, [], Option, Result, Ok, Err}
 use Rattle.std.specs.Prelude.{alloc_error}
 use Rattle.std.specs.Io.KnownBytes.{Appends}
 use Rattle.clap.specs.Words.{Text}

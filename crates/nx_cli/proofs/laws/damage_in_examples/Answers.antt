@@ -1,11 +1,11 @@
-use Rattle.std.proofs.Common.{◌≡◌, ℕ, List, [], ◌∷◌, Some, codes, refl, inl}
+use Rattle.std.proofs.Common.{◌≡◌, List, [], ◌∷◌, Some, codes, refl, inl}
 use Rattle.clap.proofs.OnLiterals.{clap_on_literals}
 use Rattle.clap.specs.Words.{Row, Text}
 use Rattle.clap.specs.declared.error.kind.ErrorKind.TheVariants as kind
 use Rattle.nx_station.specs.declared.damaging.DamageKind.{DamageKind}
 use Rattle.nx_cli.specs.Words.{kind_name}
 use Rattle.nx_cli.proofs.GivenArguments.{given}
-use Rattle.nx_cli.proofs.OneCall.{differ, no_kind, number-of}
+use Rattle.nx_cli.proofs.CallArguments.{differ, no_kind, number-of}
 use Rattle.nx_cli.proofs.WordsLemmas.{invalid_is_not_help, missing_argument_is_not_help}
 use Rattle.nx_cli.proofs.laws.damage_in_examples.Goals as goal
 

@@ -1,9 +1,9 @@
-use Rattle.std.proofs.Common.{◌≡◌, ℕ, List, [], ◌∷◌, Some, None, codes, refl, inl, inr, ap, sym, arith}
+use Rattle.std.proofs.Common.{◌≡◌, ℕ, List, [], ◌∷◌, Some, codes, refl, inl, inr, ap, sym, arith}
 use Rattle.clap.proofs.OnLiterals.{clap_on_literals}
 use Rattle.clap.specs.Words.{Row, Text}
 use Rattle.clap.specs.declared.error.kind.ErrorKind.TheVariants as kind
 use Rattle.nx_cli.proofs.WordsLemmas.{invalid_is_not_help, missing_argument_is_not_help}
-use Rattle.nx_cli.proofs.OneCall.{number-of}
+use Rattle.nx_cli.proofs.CallArguments.{number-of}
 use Rattle.nx_cli.proofs.GivenArguments.{given}
 use Rattle.nx_envelope.specs.declared.letter.Letter.{Letter}
 use Rattle.nx_cli.proofs.laws.slots_in_examples.Goals as goal

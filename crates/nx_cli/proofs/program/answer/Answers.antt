@@ -1,7 +1,6 @@
-use Rattle.std.proofs.Common.{List, ℕ, String, Global, map, string_bytes, subst}
+use Rattle.std.proofs.Common.{map, string_bytes}
 use Rattle.nx_cli.proofs.ProgramLemmas.{success-exits, success-named}
 use Rattle.nx_cli.proofs.ReportLemmas.{answers-exits, reported-line}
-use Rattle.nx_cli.specs.Report.{Answers}
 use Rattle.nx_fec.specs.Transfers.{devices}
 use Rattle.nx_cli.proofs.program.answer.Goals as goal
 

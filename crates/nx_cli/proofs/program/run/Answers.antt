@@ -1,5 +1,4 @@
-use Rattle.std.proofs.Common.{List, ℕ, map}
-use Rattle.clap.specs.Words.{Text}
+use Rattle.std.proofs.Common.{map}
 use Rattle.nx_cli.proofs.ProgramLemmas.{exits-fresh, refused-exits, status-exits, success-exits, success-named, words-exit}
 use Rattle.nx_cli.proofs.ReportLemmas.{answers-exits}
 use Rattle.nx_cli.specs.Program.{Exits, fresh_device}
