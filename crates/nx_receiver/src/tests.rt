@@ -6,6 +6,7 @@ ghost use Rattle.nx_memory.specs.Memory.{newest_moment};
 mod emissions;
 mod listening;
 mod receiver;
+mod saving;
 
 use super::*;
 use arrayvec::ArrayVec;

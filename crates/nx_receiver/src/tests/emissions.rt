@@ -2,7 +2,7 @@
 //! damage.
 
 use nx_code::{Comb, Shift, spell};
-use nx_fec::{Position, to_bits};
+use nx_fec::{Counting, Position, to_bits, write_bits};
 use std::alloc::Global;
 use std::test::Fail;
 
@@ -10,6 +10,11 @@ use std::test::Fail;
 pub(super) type Sent<'a> = (&'a [u8], &'a [u8]);
 
 pub(super) const EA01: Sent<'static> = (b"EA01", b"TEST\n");
+
+/// The lines of the moments 2025-01-01 00:40:00, and four hours later.
+pub(super) const AT_FIRST: &[u8] = b"T 1735692000\n";
+
+pub(super) const AT_SECOND: &[u8] = b"T 1735706400\n";
 
 /// Appends phasing positions.
 pub(super) fn add_phasing(positions: &mut Vec<Position>, count: usize) -> Result<(), Fail> {
@@ -72,6 +77,16 @@ pub(super) fn emission_after(
 /// The elements of an emission of messages.
 pub(super) fn emission(alloc: Global, messages: &[Sent]) -> Result<Vec<bool>, Fail> {
     emission_after(alloc, b"", messages)
+}
+
+/// An air file: the line of a moment, and the lines of elements.
+pub(super) fn air_file(alloc: Global, moment: &[u8], bits: &[bool]) -> Result<Vec<u8>, Fail> {
+    let mut lines = Counting::new(Vec::new(alloc));
+    write_bits(&mut lines, bits).or(Err("writing"))?;
+    let mut file = Vec::new(alloc);
+    file.extend_from_slice(moment)?;
+    file.extend_from_slice(&lines.into_inner())?;
+    Ok(file)
 }
 
 /// Inverts the first element of a word.

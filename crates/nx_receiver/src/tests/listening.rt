@@ -1,10 +1,9 @@
 //! Worked examples through `listen`: what it writes and answers, and its faults.
 
-use super::{FIRST, SECOND};
+use super::emissions::{AT_FIRST, AT_SECOND, EA01, air_file, damage, emission};
 use crate::{ListenFault, MomentFault, Report, listen};
 use nx_envelope::Letter;
-use nx_fec::{Counting, read_bits, write_bits};
-use nx_station::send;
+use nx_fec::Counting;
 use std::alloc::{AllocError, Global};
 use std::io;
 use std::io::{Error, ErrorKind, Read};
@@ -33,20 +32,9 @@ impl Read for Slow<'_> {
     }
 }
 
-/// The air file of EA01 with the one line TEST, in the slot of station E from a moment on.
-fn sent_ea01(alloc: Global, moment: u64) -> Result<Vec<u8>, Fail> {
-    let station = Letter::new(b'E').ok_or("station")?;
-    let mut writer = Counting::new(Vec::new(alloc));
-    let file = b"#A01\nTEST\n;\n".as_slice();
-    send(
-        alloc,
-        &mut Counting::new(file),
-        &mut writer,
-        station,
-        moment,
-    )
-    .or(Err("sending"))?;
-    Ok(writer.into_inner())
+/// The air file of EA01 with the one line TEST, sent at the first moment.
+fn sent_ea01(alloc: Global) -> Result<Vec<u8>, Fail> {
+    air_file(alloc, AT_FIRST, &emission(alloc, &[EA01])?)
 }
 
 /// The first bytes of a file.
@@ -67,7 +55,7 @@ fn heard<R: Read + Drop>(
 
 #[test]
 fn listen_ea01(rt: HostRuntime) -> Result<(), Fail> {
-    let file = sent_ea01(rt.alloc(), 1_735_689_600)?;
+    let file = sent_ea01(rt.alloc())?;
     assert_eq!(rt; file.len(), 1443);
     let report = Report {
         lines: 4,
@@ -85,9 +73,9 @@ fn listen_ea01(rt: HostRuntime) -> Result<(), Fail> {
     assert_eq!(rt; outcome, Ok(report));
     assert_eq!(rt; log.as_slice(), LOG_OF_EA01);
     // The same with one element in each line.
-    let bits = read_bits(rt.alloc(), &mut Counting::new(file.as_slice())).or(Err("bits"))?;
+    let bits = emission(rt.alloc(), &[EA01])?;
     let mut each = Vec::new(rt.alloc());
-    each.extend_from_slice(b"T 1735692000\n")?;
+    each.extend_from_slice(AT_FIRST)?;
     for bit in &bits {
         each.extend_from_slice(if *bit { b"B 1\n" } else { b"B 0\n" })?;
     }
@@ -161,7 +149,7 @@ fn listen_faults(rt: HostRuntime) -> Result<(), Fail> {
 
 #[test]
 fn failing_devices(rt: HostRuntime) -> Result<(), Fail> {
-    let file = sent_ea01(rt.alloc(), FIRST)?;
+    let file = sent_ea01(rt.alloc())?;
     let mut space = [0; 10];
     let mut writer = Counting::new(&mut space[..]);
     let outcome = listen(rt.alloc(), &mut Counting::new(file.as_slice()), &mut writer);
@@ -188,7 +176,7 @@ fn failing_devices(rt: HostRuntime) -> Result<(), Fail> {
 
 #[test]
 fn cut_files_and_copies(rt: HostRuntime) -> Result<(), Fail> {
-    let file = sent_ea01(rt.alloc(), FIRST)?;
+    let file = sent_ea01(rt.alloc())?;
     for (length, line) in [
         (1, 1),
         (12, 1),
@@ -208,13 +196,9 @@ fn cut_files_and_copies(rt: HostRuntime) -> Result<(), Fail> {
         assert!(rt; log.is_empty());
     }
     // The first 1,323 elements end inside the copy.
-    let mut cut = Counting::new(Vec::new(rt.alloc()));
-    let bits = read_bits(rt.alloc(), &mut Counting::new(file.as_slice())).or(Err("bits"))?;
+    let bits = emission(rt.alloc(), &[EA01])?;
     let (heard_bits, _) = bits.split_at_checked(1323).ok_or("elements")?;
-    write_bits(&mut cut, heard_bits).or(Err("writing"))?;
-    let mut open = Vec::new(rt.alloc());
-    open.extend_from_slice(b"T 1735692000\n")?;
-    open.extend_from_slice(&cut.into_inner())?;
+    let mut open = air_file(rt.alloc(), AT_FIRST, heard_bits)?;
     let (outcome, log) = heard(rt.alloc(), open.as_slice())?;
     assert_eq!(rt; outcome.map(|report| report.printed), Ok(1));
     assert_eq!(rt;
@@ -231,20 +215,14 @@ fn cut_files_and_copies(rt: HostRuntime) -> Result<(), Fail> {
 
 #[test]
 fn gap_and_repeat(rt: HostRuntime) -> Result<(), Fail> {
-    let mut air = sent_ea01(rt.alloc(), FIRST)?;
+    let mut air = sent_ea01(rt.alloc())?;
     air.extend_from_slice(b"B 0110\n")?;
-    let again = sent_ea01(rt.alloc(), SECOND)?;
-    let mut bits = read_bits(rt.alloc(), &mut Counting::new(again.as_slice())).or(Err("bits"))?;
+    let mut bits = emission(rt.alloc(), &[EA01])?;
     // The first element of each RX word of the message is damaged.
     for pair in 72..101 {
-        if let Some(bit) = bits.get_mut(7 * (2 * pair + 1)) {
-            *bit = !*bit;
-        }
+        damage(&mut bits, 2 * pair + 1);
     }
-    let mut repeat = Counting::new(Vec::new(rt.alloc()));
-    write_bits(&mut repeat, &bits).or(Err("writing"))?;
-    air.extend_from_slice(b"T 1735706400\n")?;
-    air.extend_from_slice(&repeat.into_inner())?;
+    air.extend_from_slice(&air_file(rt.alloc(), AT_SECOND, &bits)?)?;
     let (outcome, log) = heard(rt.alloc(), air.as_slice())?;
     assert_eq!(rt;
         outcome,
