@@ -195,9 +195,9 @@ back : (text : List ℕ) (i : Identity) → EndsWithHeader text i → identity_a
 back text i h =
     let spaces : List ℕ = replicate (h.more_spaces + 1) 32 in
     let joined : text ≡ h.front ++ (start_marker ++ (spaces ++ identity_bytes i)) =
-        h.spelled
-        ∙ append_assoc (h.front ++ start_marker) spaces (identity_bytes i)
-        ∙ append_assoc h.front start_marker (spaces ++ identity_bytes i) in
+    h.spelled
+    ∙ append_assoc (h.front ++ start_marker) spaces (identity_bytes i)
+    ∙ append_assoc h.front start_marker (spaces ++ identity_bytes i) in
     let g = end_reads h.front h.more_spaces i in
     let reads : identity_at_end text ≡ Some g.it = ap identity_at_end joined ∙ g.is in
     let one : header_back (reverse text) ≡ Some i = (header_both text i).1 h in
