@@ -5,7 +5,7 @@ use Rattle.std.specs.Option.{option_to_list}
 use Rattle.std.proofs.lemmas.Bool.Decides.{leb_tells}
 use Rattle.std.proofs.lemmas.List.{take-append-le, take_all, reverse-append, reverse-reverse}
 use Rattle.std.proofs.lemmas.List.Elements.{Contains-append_left, Contains-append_right, Contains-append_cases}
-use Rattle.nx_envelope.specs.Backward.{header_back}
+use Rattle.nx_envelope.specs.private.Backward.{header_back}
 use Rattle.nx_envelope.specs.Copies.{header_at_end, headers}
 use Rattle.nx_envelope.specs.Header.{Header, EndsWithHeader, StandsIn}
 use Rattle.nx_envelope.specs.declared.identity.Identity.{Identity}

@@ -2,7 +2,7 @@
 use Rattle.std.proofs.Common.{◌≡◌, ◌≢◌, ℕ, ◌+◌, ◌-◌, ◌<◌, ◌==◌, ◌&&◌, Bool, true, false, inl, inr, Some, None, List, [], ◌∷◌, ◌++◌, length, take, drop, reverse, refl, sym, ap, ◌∙◌, arith}
 use Rattle.std.proofs.lemmas.Bool.{and_parts}
 use Rattle.std.proofs.lemmas.List.{drop-append-le}
-use Rattle.nx_envelope.specs.Backward.{marker_back, header_back, spaces_back, station_back, subject_back, tens_back}
+use Rattle.nx_envelope.specs.private.Backward.{marker_back, header_back, spaces_back, station_back, subject_back, tens_back}
 use Rattle.nx_envelope.specs.Copies.{Copy, raw_text, open_headers, closed_copy}
 use Rattle.nx_envelope.specs.Finder.{BringsCopy, ClosesCopy, ClosesNone, Ends, HoldsCopy, HoldsOpen, Keeps, is_empty}
 use Rattle.nx_envelope.specs.private.Finding.{Hearing, found_text}

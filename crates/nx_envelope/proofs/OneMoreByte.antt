@@ -4,7 +4,7 @@ use Rattle.std.specs.List.{filter, filter_map}
 use Rattle.std.specs.Option.{option_map, option_to_list, is_none}
 use Rattle.std.proofs.lemmas.List.{append-nil, drop_all}
 use Rattle.std.proofs.lemmas.List.Elements.{filter_map-append, filter-append}
-use Rattle.nx_envelope.specs.Backward.{marker_back, ends_in, header_back}
+use Rattle.nx_envelope.specs.private.Backward.{marker_back, ends_in, header_back}
 use Rattle.nx_envelope.specs.Copies.{Ending, Copy, headers, raw_text, ending_of, copy_with, ended_copy, ended_copies, is_open, open_headers}
 use Rattle.nx_envelope.specs.Finder.{Keeps, Begins, Ends, is_empty}
 use Rattle.nx_envelope.specs.private.Finding.{found_text}

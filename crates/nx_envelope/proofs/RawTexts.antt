@@ -4,7 +4,7 @@ use Rattle.std.specs.Prelude.{slice_index}
 use Rattle.std.proofs.lemmas.Bool.Decides.{leb_tells, nat_tests}
 use Rattle.std.proofs.lemmas.List.{reverse-append, take-append-le, take_all, drop-append-le, drop_all}
 use Rattle.nx_envelope.specs.AtTheEnd.{marker_at_end}
-use Rattle.nx_envelope.specs.Backward.{marker_back, ends_in}
+use Rattle.nx_envelope.specs.private.Backward.{marker_back, ends_in}
 use Rattle.nx_envelope.specs.Copies.{Ending, less_newline, raw_text, ending_by_marker, beginnings, ending_within, ending_of}
 use Rattle.nx_envelope.specs.Finder.{is_empty}
 use Rattle.nx_envelope.specs.private.Finding.{found_text}

@@ -7,7 +7,7 @@ use Rattle.std.proofs.lemmas.List.{take-append-drop, append_assoc}
 use Rattle.std.proofs.lemmas.Slice.Eq.{bytes_eq-Decides}
 use Rattle.nx_code.specs.Lists.{last_of}
 use Rattle.nx_envelope.specs.AtTheEnd.{letter_of, digit_of, both, identity_of, identity_with, read_identity, read_spaced, read_header, identity_at_end, ends_with, marker_at_end}
-use Rattle.nx_envelope.specs.Backward.{ends_in, header_back, marker_back}
+use Rattle.nx_envelope.specs.private.Backward.{ends_in, header_back, marker_back}
 use Rattle.nx_envelope.specs.Header.{EndsWithHeader}
 use Rattle.nx_envelope.specs.Identity.{identity_bytes}
 use Rattle.nx_envelope.specs.Marker.{EndsWith, start_marker, end_marker}
@@ -195,9 +195,9 @@ back : (text : List ℕ) (i : Identity) → EndsWithHeader text i → identity_a
 back text i h =
     let spaces : List ℕ = replicate (h.more_spaces + 1) 32 in
     let joined : text ≡ h.front ++ (start_marker ++ (spaces ++ identity_bytes i)) =
-        h.spelled
-        ∙ append_assoc (h.front ++ start_marker) spaces (identity_bytes i)
-        ∙ append_assoc h.front start_marker (spaces ++ identity_bytes i) in
+    h.spelled
+    ∙ append_assoc (h.front ++ start_marker) spaces (identity_bytes i)
+    ∙ append_assoc h.front start_marker (spaces ++ identity_bytes i) in
     let g = end_reads h.front h.more_spaces i in
     let reads : identity_at_end text ≡ Some g.it = ap identity_at_end joined ∙ g.is in
     let one : header_back (reverse text) ≡ Some i = (header_both text i).1 h in

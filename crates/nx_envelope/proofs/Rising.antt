@@ -1,7 +1,7 @@
 -- The headers of a text come in rising order, each once.
 use Rattle.std.proofs.Common.{◌≡◌, ℕ, ◌+◌, ◌<◌, ◌≤◌, Option, Some, None, List, [], ◌∷◌, ◌++◌, length, reverse, refl, arith, length-append}
 use Rattle.std.proofs.lemmas.List.{reverse-append, reverse-reverse}
-use Rattle.nx_envelope.specs.Backward.{header_back}
+use Rattle.nx_envelope.specs.private.Backward.{header_back}
 use Rattle.nx_envelope.specs.Copies.{headers}
 use Rattle.nx_envelope.specs.Header.{ComesBefore, Header}
 use Rattle.nx_envelope.specs.declared.identity.Identity.{Identity}

@@ -5,7 +5,7 @@ use Rattle.std.specs.Prelude.{replicate}
 use Rattle.std.proofs.lemmas.Bool.Decides.{leb_tells, nat_tests}
 use Rattle.std.proofs.lemmas.List.{reverse-append, reverse-reverse, replicate_more}
 use Rattle.nx_envelope.specs.AtTheEnd.{letter_of, digit_of, both, identity_of, identity_with}
-use Rattle.nx_envelope.specs.Backward.{ends_in, spaces_back, station_back, subject_back, tens_back, header_back}
+use Rattle.nx_envelope.specs.private.Backward.{ends_in, spaces_back, station_back, subject_back, tens_back, header_back}
 use Rattle.nx_envelope.specs.Header.{EndsWithHeader}
 use Rattle.nx_envelope.specs.Identity.{identity_bytes}
 use Rattle.nx_envelope.specs.Marker.{EndsWith, start_marker, end_marker}

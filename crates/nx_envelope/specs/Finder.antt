@@ -1,7 +1,7 @@
 -- What one more byte does to the copies of a text, what the end of a text does, and what a finder
 -- holds after a text.
 use Rattle.std.specs.Prelude.{◌≡◌, ℕ, ◌+◌, Bool, true, false, Option, Some, None, List, [], ◌∷◌, ◌++◌, length, drop, reverse}
-use Rattle.nx_envelope.specs.Backward.{last_four}
+use Rattle.nx_envelope.specs.private.Backward.{last_four}
 use Rattle.nx_envelope.specs.Copies.{Copy, headers, ended_copies, open_headers, raw_text, closed_copy, copies}
 use Rattle.nx_envelope.specs.Found.{IsFound}
 use Rattle.nx_envelope.specs.Header.{Header}

@@ -1,5 +1,4 @@
 pub mod AtTheEnd
-pub mod Backward
 pub mod Copies
 pub mod Digits
 pub mod Ending

@@ -1,3 +1,4 @@
+pub mod Backward
 pub mod DigitBytes
 pub mod Finding
 pub mod Room

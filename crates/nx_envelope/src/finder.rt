@@ -1,7 +1,7 @@
 //! The finder of copies, which sees a received text byte by byte.
 
 ghost use Rattle.std.specs.Prelude.{◌≡◌, ◌==◌, ◌&&◌, ◌∷◌, ℕ, List};
-ghost use Rattle.nx_envelope.specs.Backward.{last_four, marker_back};
+ghost use Rattle.nx_envelope.specs.private.Backward.{last_four, marker_back};
 ghost use Rattle.nx_envelope.specs.Found.{IsFoundOf};
 
 use crate::found::{FinderStep, Found, HeldCopy, How, MAX_FOUND, TextEvent};
@@ -54,7 +54,7 @@ impl Model for Finder {
 impl Finder {
     ghost use Rattle.std.specs.Prelude.{◌↔◌, ◌<◌, ◌++◌, [], false, length, reverse};
     ghost use Rattle.std.specs.Prelude.{IsNone, MatchOption};
-    ghost use Rattle.nx_envelope.specs.Backward.{header_back};
+    ghost use Rattle.nx_envelope.specs.private.Backward.{header_back};
     ghost use Rattle.nx_envelope.specs.Copies.{Copy, open_headers};
     ghost use Rattle.nx_envelope.specs.Finder.{Brings, Closes, HasReady, Hears, HoldsOpen};
     ghost use Rattle.nx_envelope.specs.Finder.{StandsAfter, held_identity, is_over, is_ready};

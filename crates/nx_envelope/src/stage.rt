@@ -1,7 +1,7 @@
 //! How far the header at the end of a text has come.
 
 ghost use Rattle.std.specs.Prelude.{◌≡◌, ◌∷◌, ℕ, List};
-ghost use Rattle.nx_envelope.specs.Backward.{ends_in, header_back};
+ghost use Rattle.nx_envelope.specs.private.Backward.{ends_in, header_back};
 ghost use Rattle.nx_envelope.specs.Header.{space};
 ghost use Rattle.nx_envelope.specs.Marker.{start_marker};
 ghost use Rattle.nx_envelope.specs.private.Stage.{IsStageOf};

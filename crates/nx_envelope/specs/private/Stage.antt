@@ -1,6 +1,6 @@
 -- How far a header has come at the end of a text.
 use Rattle.std.specs.Prelude.{◌≡◌, ℕ, Bool, true, false, Option, Some, None, List}
-use Rattle.nx_envelope.specs.Backward.{spaces_back, station_back, subject_back, tens_back}
+use Rattle.nx_envelope.specs.private.Backward.{spaces_back, station_back, subject_back, tens_back}
 use Rattle.nx_envelope.specs.declared.digit.Digit.{Digit}
 use Rattle.nx_envelope.specs.declared.letter.Letter.{Letter}
 use Rattle.nx_envelope.specs.declared.stage.Stage.{Stage}
