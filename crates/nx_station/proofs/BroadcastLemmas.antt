@@ -21,7 +21,7 @@ use Rattle.nx_envelope.specs.Message.{AreLines, IsMessageLine, IsLineByte, text_
 use Rattle.nx_envelope.specs.MessageView.{MessageView}
 use Rattle.nx_fec.specs.Emission.{SentPosition, phasing_position, traffic_position, end_position}
 use Rattle.nx_station.specs.Sendable.{HavePositions}
-use Rattle.nx_station.specs.MessageParts.{IsExtent}
+use Rattle.nx_station.specs.private.MessageParts.{IsExtent}
 use Rattle.nx_station.specs.Broadcast.{IsSpelled, AreSpelled, IsBroadcast, head, ending, phasing_and_message, layout, first_phasing, further_phasing, end_positions}
 
 -- ---- the text of a message is in the code

@@ -10,7 +10,7 @@ use Rattle.nx_station.specs.Faults.{unread_fault}
 use Rattle.nx_station.specs.Sendable.{IsRefusal, IsSendable}
 use Rattle.nx_station.specs.Slots.{HasSlots}
 use Rattle.nx_station.specs.StrictReading.{ArePaired, AreRight, AreWhole, ExplainsEmission, IsEmissionOf, IsLeast, IsMemory}
-use Rattle.nx_station.specs.PrintedText.{AreSound, ExplainsPrinted}
+use Rattle.nx_station.specs.private.PrintedText.{AreSound, ExplainsPrinted}
 use Rattle.nx_station.specs.declared.fault.EmissionFault.{EmissionFault}
 use Rattle.nx_station.specs.declared.fault.EmissionFault.TheVariants.{Ragged, WrongWord, Unpaired, BadEnvelope, Memory}
 use Rattle.nx_station.specs.declared.fault.SendFault.{SendFault}

@@ -4,7 +4,7 @@ use lib.Bits.{bit_xor}
 use Rattle.std.proofs.lemmas.List.{length-map, map-set, get_or-map}
 use Rattle.nx_fec.specs.AirFile.{element_digit}
 use Rattle.nx_station.specs.Damage.{Damage, damaged_elements, inverted_count, inverts}
-use Rattle.nx_station.specs.DamageTaker.{AreNamed}
+use Rattle.nx_station.specs.private.DamageTaker.{AreNamed}
 use Rattle.nx_station.specs.declared.damaging.Named.{Named}
 use Rattle.nx_station.proofs.DamageLemmas.{front, front-all, front-inverted, front-same, front_count, front_count-all, front_count-inverted, front_count-same, length-front}
 

@@ -14,7 +14,7 @@ use Rattle.nx_envelope.proofs.Identities.{same_identity-true}
 use Rattle.nx_station.specs.Broadcast.{header, printed_text}
 use Rattle.nx_station.specs.Faults.{unmade_fault}
 use Rattle.nx_station.specs.MessageFile.{IsOneLine}
-use Rattle.nx_station.specs.PrintedText.{AreSound, ExplainsFirstPrinted, ExplainsPrintedLines, ExplainsPrinted, IsTextLine, ended_lines}
+use Rattle.nx_station.specs.private.PrintedText.{AreSound, ExplainsFirstPrinted, ExplainsPrintedLines, ExplainsPrinted, IsTextLine, ended_lines}
 use Rattle.nx_station.specs.declared.fault.EmissionFault.{EmissionFault}
 use Rattle.nx_station.specs.declared.fault.EmissionFault.TheVariants.{Ragged, WrongWord, Unpaired, BadEnvelope, Memory}
 use Rattle.nx_station.proofs.LineLemmas.{digits-same, ended-not_one, first_line, line_bytes, text-cons}

@@ -8,8 +8,6 @@ pub mod Channel
 pub mod Sendings
 pub mod ChannelExample
 pub mod StrictReading
-pub mod PrintedText
-pub mod MessageParts
 pub mod Checking
 pub mod Damage
-pub mod DamageTaker
+pub mod private

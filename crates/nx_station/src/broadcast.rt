@@ -9,7 +9,7 @@ ghost use Rattle.nx_envelope.specs.Message.{AreLines, text_of};
 ghost use Rattle.nx_envelope.specs.MessageView.{MessageView};
 ghost use Rattle.nx_fec.specs.Emission.{sent_position, traffic_position};
 ghost use Rattle.nx_station.specs.Broadcast.{IsBroadcast, IsSpelled, ending, phasing_and_message};
-ghost use Rattle.nx_station.specs.MessageParts.{IsExtent};
+ghost use Rattle.nx_station.specs.private.MessageParts.{IsExtent};
 ghost use Rattle.nx_station.specs.Sendable.{AreOf, HavePositions, IsRefusal, IsSendable};
 ghost use Rattle.nx_station.specs.Slots.{HasSlots};
 

@@ -4,7 +4,7 @@ ghost use Rattle.nx_fec.specs.AirFile.{IsLine, Line, element_digit};
 ghost use Rattle.nx_fec.specs.Lines.{elements_of, line_bytes};
 ghost use Rattle.nx_fec.specs.Transfers.{devices};
 ghost use Rattle.nx_station.specs.Damage.{Damage, Damages, damaged_elements, damaged_line, inverted_count, inverts};
-ghost use Rattle.nx_station.specs.DamageTaker.{AreNamed, IsAmong, IsAt, line_fault};
+ghost use Rattle.nx_station.specs.private.DamageTaker.{AreNamed, IsAmong, IsAt, line_fault};
 
 use crate::fault::DamageFault;
 use arrayvec::ArrayVec;
@@ -52,7 +52,7 @@ struct Damaging {
 
 impl Model for Damaging {
     ghost use Rattle.std.specs.Prelude.{◌<◌};
-    ghost use Rattle.nx_station.specs.DamageTaker.{Damager};
+    ghost use Rattle.nx_station.specs.private.DamageTaker.{Damager};
 
     ghost Value = { Damager };
 
@@ -146,7 +146,7 @@ fn damage_fault(fault: LineFault) -> DamageFault
 impl LineTaker for Damaging {
     ghost use Rattle.std.specs.Prelude.{◌≡◌};
     ghost use Rattle.nx_station.specs.Damage.{damaged_file};
-    ghost use Rattle.nx_station.specs.DamageTaker.{HasDamaged, damage_of};
+    ghost use Rattle.nx_station.specs.private.DamageTaker.{HasDamaged, damage_of};
 
     type Refusal = ();
 

@@ -5,7 +5,7 @@ ghost use Rattle.nx_envelope.specs.Message.{text_of};
 ghost use Rattle.nx_envelope.specs.MessageView.{MessageView};
 ghost use Rattle.nx_station.specs.MessageFile.{IsFileMessage, IsInside, IsMessageFile, IsNamed, IsOneLine, file_message_of, heading, file_message_bytes};
 ghost use Rattle.nx_station.specs.FileSending.{ExplainsFile};
-ghost use Rattle.nx_station.specs.MessageParts.{ExplainsFirst, text_fault};
+ghost use Rattle.nx_station.specs.private.MessageParts.{ExplainsFirst, text_fault};
 
 use crate::fault::SendRunFault;
 use nx_envelope::{Identity, Letter, Message, MessageFault, NEWLINE};

@@ -5,7 +5,7 @@ ghost use Rattle.nx_envelope.specs.Identity.{identity_bytes};
 ghost use Rattle.nx_envelope.specs.Message.{AreLines};
 ghost use Rattle.nx_envelope.specs.declared.identity.Identity as named;
 ghost use Rattle.nx_station.specs.Broadcast.{header, printed_text};
-ghost use Rattle.nx_station.specs.PrintedText.{AreSound, ExplainsFirstPrinted, ExplainsPrintedLines, ExplainsPrinted, IsTextLine, ended_lines};
+ghost use Rattle.nx_station.specs.private.PrintedText.{AreSound, ExplainsFirstPrinted, ExplainsPrintedLines, ExplainsPrinted, IsTextLine, ended_lines};
 
 use crate::fault::EmissionFault;
 use crate::message_file::{Body, split_line};

@@ -1,7 +1,7 @@
 use Rattle.std.proofs.Common.{◌≡◌, ◌++◌, length, map}
 use Rattle.std.specs.List.{AllByRecursion}
 use Rattle.nx_envelope.specs.Message.{text_of}
-use Rattle.nx_station.specs.PrintedText.{IsTextLine}
+use Rattle.nx_station.specs.private.PrintedText.{IsTextLine}
 use Rattle.nx_station.proofs.printed.lines_printed.Given as goal
 
 abbrev pub invariant-loop-line : goal.invariant-loop-line

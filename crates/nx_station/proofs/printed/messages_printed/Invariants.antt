@@ -1,7 +1,7 @@
 use Rattle.std.proofs.Common.{◌≡◌, ◌++◌, length}
 use Rattle.std.specs.List.{flat_map}
 use Rattle.nx_station.specs.Broadcast.{printed_text}
-use Rattle.nx_station.specs.PrintedText.{AreSound}
+use Rattle.nx_station.specs.private.PrintedText.{AreSound}
 use Rattle.nx_station.proofs.printed.messages_printed.Given as goal
 
 abbrev pub invariant-loop-rest : goal.invariant-loop-rest

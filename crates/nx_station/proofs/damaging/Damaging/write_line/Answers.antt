@@ -6,7 +6,7 @@ use Rattle.nx_fec.specs.Lines.{elements_of, line_bytes}
 use Rattle.nx_fec.specs.Scanner.{kind_kept, kind_of}
 use Rattle.nx_fec.specs.declared.air_file.LineKind.TheVariants.{Elements}
 use Rattle.nx_station.specs.Damage.{damaged_elements, damaged_line}
-use Rattle.nx_station.specs.DamageTaker.{IsAt}
+use Rattle.nx_station.specs.private.DamageTaker.{IsAt}
 use Rattle.nx_station.proofs.DamageLemmas.{length-damaged}
 use Rattle.nx_station.proofs.DamageLaws.{bytes-of-elements, line-digits, line-long, line-of-elements, line-refilled, text-short}
 use Rattle.nx_station.proofs.damaging.Damaging.write_line.Goals as goal

@@ -1,5 +1,5 @@
 use Rattle.std.proofs.Common.{◌∙◌, ◌++◌}
-use Rattle.nx_station.specs.DamageTaker.{damage_of}
+use Rattle.nx_station.specs.private.DamageTaker.{damage_of}
 use Rattle.nx_station.proofs.DamageLaws.{taken-more}
 use Rattle.nx_station.proofs.damaging.DamagingLineTaker.take.Goals as goal
 

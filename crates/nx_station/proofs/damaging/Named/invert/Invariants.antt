@@ -1,7 +1,7 @@
 use Rattle.std.proofs.Common.{◌≡◌, ℕ, ◌-◌, ◌≤◌, Bool, List, map}
 use Rattle.nx_fec.specs.AirFile.{element_digit}
 use Rattle.nx_station.specs.Damage.{Damage}
-use Rattle.nx_station.specs.DamageTaker.{AreNamed}
+use Rattle.nx_station.specs.private.DamageTaker.{AreNamed}
 use Rattle.nx_station.proofs.DamageLemmas.{front, front_count}
 use Rattle.nx_station.proofs.NamedLemmas.{IsOnWalk}
 use Rattle.nx_station.proofs.damaging.Named.invert.Given as goal

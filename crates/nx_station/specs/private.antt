@@ -1,0 +1,3 @@
+pub mod MessageParts
+pub mod PrintedText
+pub mod DamageTaker
