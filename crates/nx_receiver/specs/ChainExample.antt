@@ -14,7 +14,7 @@ use Rattle.nx_receiver.specs.Example.{first_copy}
 use Rattle.nx_receiver.specs.FoundCopies.{FoundCopy}
 use Rattle.nx_receiver.specs.ListenExample.{example_air_file, example_lines}
 use Rattle.nx_receiver.specs.Printing.{entry_of}
-use Rattle.nx_receiver.specs.Sending.{copy_of_sending}
+use Rattle.nx_receiver.specs.Emissions.{copy_of_sending}
 use Rattle.nx_receiver.specs.Worked.{damaged_words, worked_log}
 
 -- the copy of the message among these elements: the second digit of its header is element 1,189

@@ -10,8 +10,8 @@ use Rattle.nx_receiver.specs.Chain.{Run, all_copies, events_in, start_from}
 use Rattle.nx_receiver.specs.Events.{Setting, elements_among}
 use Rattle.nx_receiver.specs.FoundCopies.{FoundCopy}
 use Rattle.nx_receiver.specs.LawTerms.{IsUnknownAtFirst}
-use Rattle.nx_receiver.specs.OnceHeard.{FewBetween, setting_of}
-use Rattle.nx_receiver.specs.Sending.{IsSentAt}
+use Rattle.nx_receiver.specs.Once.{FewBetween, setting_of}
+use Rattle.nx_receiver.specs.Emissions.{IsSentAt}
 
 -- a run, with the gaps of any bits and the received emissions into which its elements are cut
 pub record CutRun : Type 0 where

@@ -10,7 +10,7 @@ use Rattle.nx_fec.specs.Transfers.{Devices}
 use Rattle.nx_station.specs.Sendings.{Part}
 use Rattle.nx_receiver.specs.Events.{Start}
 use Rattle.nx_receiver.specs.Listen.{IsLogOfFile, events_of}
-use Rattle.nx_receiver.specs.OnceHeard.{IsHeardInTime, IsPrintedOnce}
+use Rattle.nx_receiver.specs.Once.{IsHeardInTime, IsPrintedOnce}
 use Rattle.nx_receiver.specs.Tagged.{TaggedCopy}
 
 -- What has to be met in an air file, so that a message is printed once: the file has these lines,

@@ -13,7 +13,7 @@ use Rattle.nx_receiver.specs.Events.{Event, Start, Setting, element, elements_am
 use Rattle.nx_receiver.specs.Printing.{printed_copies, entries_after}
 use Rattle.nx_receiver.specs.Tagged.{TaggedCopy, copy_of}
 use Rattle.nx_receiver.specs.declared.over.Over.{Over}
-use Rattle.nx_receiver.specs.Watch.{IsOver, Watching, WatchStands, in_force}
+use Rattle.nx_receiver.specs.private.Watch.{IsOver, Watching, WatchStands, in_force}
 
 -- what contracts see of a receiver: its watch, and its memory
 pub record Receiving (M : Type 0) : Type 0 where

@@ -12,7 +12,7 @@ ghost use Rattle.nx_receiver.specs.Events.{Event, Start, at_zero};
 ghost use Rattle.nx_receiver.specs.Listen.{Listens, events_of};
 ghost use Rattle.nx_receiver.specs.ListenFrom.{GoesOnBy, reported};
 ghost use Rattle.nx_receiver.specs.ListenOnce.{KeepsHeadline};
-ghost use Rattle.nx_receiver.specs.Listener.{BeginsFrom, HasClosed, HasClosedSome, HasFinished, HeardSome, HearsLog, IsHearing, IsListening, Listening, RefusesFrom, RefusesLine, StandsFrom, lines_fault, refusal_fault, start_of};
+ghost use Rattle.nx_receiver.specs.private.Listener.{BeginsFrom, HasClosed, HasClosedSome, HasFinished, HeardSome, HearsLog, IsHearing, IsListening, Listening, RefusesFrom, RefusesLine, StandsFrom, lines_fault, refusal_fault, start_of};
 ghost use Rattle.nx_receiver.specs.Receiver.{elements};
 ghost use Rattle.nx_receiver.specs.declared.listen_fault.ListenFault.TheVariants.{Memory};
 
@@ -170,7 +170,7 @@ struct Listener {
 impl Model for Listener {
     ghost use Rattle.std.specs.Coded.{codes};
     ghost use Rattle.nx_memory.specs.Refused.{refused_code};
-    ghost use Rattle.nx_receiver.specs.Listener.{Listening};
+    ghost use Rattle.nx_receiver.specs.private.Listener.{Listening};
 
     ghost Value = { Listening };
 
@@ -421,8 +421,8 @@ impl Listener {
 }
 
 impl LineTaker for Listener {
-    ghost use Rattle.nx_receiver.specs.Listener.{BeginsFrom, RefusesFrom, StandsFrom, start_of};
-    ghost use Rattle.nx_receiver.specs.ListenerBegins.{begins-listening};
+    ghost use Rattle.nx_receiver.specs.private.Listener.{BeginsFrom, RefusesFrom, StandsFrom, start_of};
+    ghost use Rattle.nx_receiver.specs.private.ListenerBegins.{begins-listening};
 
     type Refusal = LineRefusal;
 

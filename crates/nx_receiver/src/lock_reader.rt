@@ -6,7 +6,7 @@ ghost use Rattle.nx_sync.specs.declared.step.Role.{Role};
 ghost use Rattle.nx_envelope.specs.Copies.{Copy};
 ghost use Rattle.nx_envelope.specs.Finder.{Closes, ClosesNone, HasReady, held_identity, is_over, is_ready};
 ghost use Rattle.nx_envelope.specs.Found.{IsFound};
-ghost use Rattle.nx_receiver.specs.LockReader.{HearsWord, ReadsLock, text_after};
+ghost use Rattle.nx_receiver.specs.private.LockReader.{HearsWord, ReadsLock, text_after};
 
 use nx_code::{Printer, Word};
 use nx_envelope::{Finder, Found, Identity, TextEvent};
@@ -28,7 +28,7 @@ pub(crate) struct LockReader {
 }
 
 impl Model for LockReader {
-    ghost use Rattle.nx_receiver.specs.LockReader.{LockReading};
+    ghost use Rattle.nx_receiver.specs.private.LockReader.{LockReading};
 
     ghost Value = { LockReading };
 

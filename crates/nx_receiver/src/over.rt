@@ -1,7 +1,7 @@
 //! What an element brings to its end, and what a copy bears of its second digit.
 
 ghost use Rattle.std.specs.Prelude.{◌≡◌};
-ghost use Rattle.nx_receiver.specs.Watch.{over_with};
+ghost use Rattle.nx_receiver.specs.private.Watch.{over_with};
 
 /// What is over with an element that was heard. It is copied for each element, so it is small; a
 /// copy that is over is left with the finder.

@@ -14,7 +14,7 @@ ghost use Rattle.nx_receiver.specs.Log.{HasPrinted, PrintsToEnd};
 ghost use Rattle.nx_receiver.specs.Printing.{entries_after, printed_copies};
 ghost use Rattle.nx_receiver.specs.Receiver.{Awaits, PassesOver, Refuses, RefusesStart, Stands, elements, entry_list};
 ghost use Rattle.nx_receiver.specs.Tagged.{TaggedCopy};
-ghost use Rattle.nx_receiver.specs.Watch.{handed_out};
+ghost use Rattle.nx_receiver.specs.private.Watch.{handed_out};
 ghost use Rattle.nx_receiver.specs.declared.over.Over.TheVariants.{Copy, Lock, Nothing};
 
 use crate::entry::Entry;

@@ -10,7 +10,7 @@ ghost use Rattle.nx_memory.specs.Vital.{is_vital};
 ghost use Rattle.nx_receiver.specs.Events as events;
 ghost use Rattle.nx_receiver.specs.Events.{Setting, Start, first_setting, refused_after};
 ghost use Rattle.nx_receiver.specs.Tagged.{TaggedCopy};
-ghost use Rattle.nx_receiver.specs.Watch.{BothAreOver, CopyIsOver, HasEndedAll, HearsAll, LockIsOver, ReadsStep, ReadsWord, TagGoesOn, WatchStands, handed_out, in_force};
+ghost use Rattle.nx_receiver.specs.private.Watch.{BothAreOver, CopyIsOver, HasEndedAll, HearsAll, LockIsOver, ReadsStep, ReadsWord, TagGoesOn, WatchStands, handed_out, in_force};
 ghost use Rattle.nx_receiver.specs.declared.over.Over.TheVariants.{Nothing};
 
 use crate::lock_reader::LockReader;
@@ -39,7 +39,7 @@ pub(crate) struct Watch {
 impl Model for Watch {
     ghost use Rattle.std.specs.Coded.{codes};
     ghost use Rattle.nx_memory.specs.Refused.{refused_code};
-    ghost use Rattle.nx_receiver.specs.Watch.{Watching};
+    ghost use Rattle.nx_receiver.specs.private.Watch.{Watching};
 
     ghost Value = { Watching };
 

@@ -18,11 +18,11 @@ ghost use Rattle.nx_receiver.specs.FoundCopies.{ended_so_far};
 ghost use Rattle.nx_receiver.specs.LawTerms.{IsUnknownAtFirst};
 ghost use Rattle.nx_receiver.specs.Listen.{HasListened, IsLogOfFile, events_of};
 ghost use Rattle.nx_receiver.specs.Log.{IsLog};
-ghost use Rattle.nx_receiver.specs.OnceHeard.{IsPrintedOnce};
+ghost use Rattle.nx_receiver.specs.Once.{IsPrintedOnce};
 ghost use Rattle.nx_receiver.specs.Printing.{entries_after, entries_made, printed_copies};
 ghost use Rattle.nx_receiver.specs.Receiver.{Receiving, Stands};
 ghost use Rattle.nx_receiver.specs.Tagged.{TaggedCopy, tagged_copies};
-ghost use Rattle.nx_receiver.specs.Watch.{in_force};
+ghost use Rattle.nx_receiver.specs.private.Watch.{in_force};
 ghost use Rattle.nx_receiver.specs.Worked.{worked_log};
 ghost use Rattle.nx_receiver.specs.declared.listening.Report.{Report};
 

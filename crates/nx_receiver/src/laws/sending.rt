@@ -11,9 +11,9 @@ ghost use Rattle.nx_station.specs.declared.sending.Sent.{Sent};
 ghost use Rattle.nx_receiver.specs.Events.{at_zero};
 ghost use Rattle.nx_receiver.specs.Listen.{IsLogOf, IsLogOfFile};
 ghost use Rattle.nx_receiver.specs.ListenOnce.{IsHeardInTimeIn};
-ghost use Rattle.nx_receiver.specs.OnceHeard.{IsHeardInTime, IsPrintedOnce};
+ghost use Rattle.nx_receiver.specs.Once.{IsHeardInTime, IsPrintedOnce};
 ghost use Rattle.nx_receiver.specs.Printing.{printed_copies};
-ghost use Rattle.nx_receiver.specs.Sent.{AreDifferent, BearsAlone, copy_as_sent, events_as_sent, parts_as_sent};
+ghost use Rattle.nx_receiver.specs.FromSend.{AreDifferent, BearsAlone, copy_as_sent, events_as_sent, parts_as_sent};
 ghost use Rattle.nx_receiver.specs.Tagged.{TaggedCopy};
 
 /// An emission that is heard as it is sent: each of its messages that isn't numbered 00, and that

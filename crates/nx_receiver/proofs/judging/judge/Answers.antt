@@ -2,7 +2,7 @@ use Rattle.std.proofs.Common.{◌≡◌, ◌==◌, not, ◌&&◌, sym, ap, ◌�
 use Rattle.std.proofs.lemmas.Bool.{eqb-false}
 use Rattle.nx_receiver.specs.Printing.{is_good_text}
 use Rattle.nx_receiver.specs.Tagged.{tagged_found}
-use Rattle.nx_receiver.proofs.JudgingLemmas.{printed_as, made_true, made_false, can_enter, content_stays, content_grows, newest_is_last}
+use Rattle.nx_receiver.proofs.receiving.Judging.{printed_as, made_true, made_false, can_enter, content_stays, content_grows, newest_is_last}
 use Rattle.nx_receiver.proofs.judging.judge.Goals as goal
 
 pub enter-requires-clause-unknown : goal.enter-requires-clause-unknown

@@ -5,9 +5,9 @@ use Rattle.nx_receiver.specs.Events.{Event, Start, element}
 use Rattle.nx_receiver.specs.Log.{HasPrinted}
 use Rattle.nx_receiver.specs.Receiver.{Receiving, Stands, elements, events_of_pieces, elements_of_pieces}
 use Rattle.nx_receiver.specs.Tagged.{TaggedCopy}
-use Rattle.nx_receiver.proofs.LoggedLemmas.{one_printed}
-use Rattle.nx_receiver.proofs.ReceiverPrinting.{has_printed}
-use Rattle.nx_receiver.proofs.WatchHears.{has_ended}
+use Rattle.nx_receiver.proofs.receiving.Logged.{one_printed}
+use Rattle.nx_receiver.proofs.receiving.Printing.{has_printed}
+use Rattle.nx_receiver.proofs.watching.Hears.{has_ended}
 use Rattle.nx_receiver.proofs.laws.cuttings_print_the_same.Goals as goal
 
 events-of_elements : (pieces : List (List Bool)) → events_of_pieces pieces ≡ elements (elements_of_pieces pieces)

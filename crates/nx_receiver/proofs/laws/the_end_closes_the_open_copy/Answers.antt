@@ -1,5 +1,5 @@
-use Rattle.nx_receiver.proofs.FoundLemmas.{one_open}
-use Rattle.nx_receiver.proofs.LoggedLemmas.{end_adds}
+use Rattle.nx_receiver.proofs.locks.Found.{one_open}
+use Rattle.nx_receiver.proofs.receiving.Logged.{end_adds}
 use Rattle.nx_receiver.specs.FoundCopies.{standing_text}
 use Rattle.nx_receiver.proofs.laws.the_end_closes_the_open_copy.Goals as goal
 

@@ -5,10 +5,10 @@ use Rattle.nx_receiver.specs.Chain.{start_from}
 use Rattle.nx_receiver.specs.Events.{Start}
 use Rattle.nx_receiver.specs.Listen.{Listens, events_of}
 use Rattle.nx_receiver.specs.ListenFrom.{reported}
-use Rattle.nx_receiver.specs.Listener.{StandsFrom, IsListening, start_of}
-use Rattle.nx_receiver.proofs.ListenFrom.{err-is, goes-on}
-use Rattle.nx_receiver.proofs.ListenOnce.{keeps-headline}
-use Rattle.nx_receiver.proofs.ListenRuns.{listens-fault, listens-memory, listens-ok, listens-part}
+use Rattle.nx_receiver.specs.private.Listener.{StandsFrom, IsListening, start_of}
+use Rattle.nx_receiver.proofs.listens.From.{err-is, goes-on}
+use Rattle.nx_receiver.proofs.once.Listen.{keeps-headline}
+use Rattle.nx_receiver.proofs.listens.Runs.{listens-fault, listens-memory, listens-ok, listens-part}
 use Rattle.nx_receiver.proofs.listening.listen_from.Goals as goal
 
 pub returns-in_err-listener-clause-listens : goal.returns-in_err-listener-clause-listens

@@ -1,7 +1,7 @@
 use Rattle.std.proofs.Common.{refl, subst}
 use Rattle.nx_receiver.specs.Chain.{all_logs}
 use Rattle.nx_receiver.specs.Log.{IsLog}
-use Rattle.nx_receiver.proofs.ChainRuns.{chain_leaves, chain_logs, chain_prints, chain_refuses}
+use Rattle.nx_receiver.proofs.chain.Runs.{chain_leaves, chain_logs, chain_prints, chain_refuses}
 use Rattle.nx_receiver.proofs.laws.chain.a_chain_logs_its_joined_copies.Goals as goal
 
 pub returns : goal.returns

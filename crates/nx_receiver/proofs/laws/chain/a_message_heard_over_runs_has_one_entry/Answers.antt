@@ -1,7 +1,7 @@
 use Rattle.nx_receiver.specs.Chain.{all_copies}
-use Rattle.nx_receiver.proofs.ChainOnce.{chain_once}
-use Rattle.nx_receiver.proofs.ChainRuns.{chain_logs}
-use Rattle.nx_receiver.proofs.OnceLemmas.{none_live}
+use Rattle.nx_receiver.proofs.chain.Once.{chain_once}
+use Rattle.nx_receiver.proofs.chain.Runs.{chain_logs}
+use Rattle.nx_receiver.proofs.once.Repeats.{none_live}
 use Rattle.nx_receiver.proofs.laws.chain.a_message_heard_over_runs_has_one_entry.Goals as goal
 
 pub returns : goal.returns

@@ -1,6 +1,6 @@
 use Rattle.std.proofs.Common.{◌∙◌}
-use Rattle.nx_receiver.proofs.SentDifferent.{all_printed}
-use Rattle.nx_receiver.proofs.SentFiles.{log_of_sent, sent_log}
+use Rattle.nx_receiver.proofs.from_send.Different.{all_printed}
+use Rattle.nx_receiver.proofs.from_send.Files.{log_of_sent, sent_log}
 use Rattle.nx_receiver.proofs.laws.sending.what_was_sent_is_printed.Goals as goal
 
 pub returns : goal.returns

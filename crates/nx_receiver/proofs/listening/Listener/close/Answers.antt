@@ -1,8 +1,8 @@
 use Rattle.std.proofs.Common.{refl, sym, subst}
 use Rattle.nx_receiver.specs.Log.{IsEntry}
 use Rattle.nx_receiver.specs.Tagged.{copy_of}
-use Rattle.nx_receiver.proofs.ListenerEnds.{closed-none, closed-part, closed-some}
-use Rattle.nx_receiver.proofs.ListenerLemmas.{none-left}
+use Rattle.nx_receiver.proofs.listens.Ends.{closed-none, closed-part, closed-some}
+use Rattle.nx_receiver.proofs.listens.Listener.{none-left}
 use Rattle.nx_receiver.proofs.listening.Listener.close.Goals as goal
 
 pub returns-in-Err-clause-closed : goal.returns-in-Err-clause-closed

@@ -3,7 +3,7 @@ use Rattle.nx_fec.specs.LineRuns.{HasGiven}
 use Rattle.nx_receiver.specs.Log.{IsEntry}
 use Rattle.nx_receiver.specs.Receiver.{Stands, entry_list}
 use Rattle.nx_receiver.specs.Tagged.{copy_of}
-use Rattle.nx_receiver.proofs.ListenerLemmas.{content, no-log, none-left, one-log}
+use Rattle.nx_receiver.proofs.listens.Listener.{content, no-log, none-left, one-log}
 use Rattle.nx_receiver.proofs.listening.Listener.finish.Goals as goal
 
 pub returns-in_default-clause-finished : goal.returns-in_default-clause-finished

@@ -1,7 +1,7 @@
 use Rattle.std.proofs.Common.{◌≡◌, ◌++◌, refl, rules}
-use Rattle.nx_receiver.specs.Listener.{Listening}
+use Rattle.nx_receiver.specs.private.Listener.{Listening}
 use Rattle.nx_receiver.specs.declared.over.Over.TheVariants.{Nothing}
-use Rattle.nx_receiver.proofs.ListenerLemmas.{begins-more, heard-no-over, heard-over}
+use Rattle.nx_receiver.proofs.listens.Listener.{begins-more, heard-no-over, heard-over}
 use Rattle.nx_receiver.proofs.listening.Listener.hear.Goals as goal
 
 pub returns-then-eq-clause-heard : goal.returns-then-eq-clause-heard

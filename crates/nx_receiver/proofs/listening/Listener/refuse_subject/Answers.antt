@@ -6,7 +6,7 @@ use Rattle.nx_receiver.specs.Events as events
 use Rattle.nx_receiver.specs.Events.{elements_among, command}
 use Rattle.nx_receiver.specs.Listen.{events_of}
 use Rattle.nx_receiver.specs.Receiver.{Stands}
-use Rattle.nx_receiver.proofs.ListenerLemmas.{content, goes_on, moment-other, ok-false}
+use Rattle.nx_receiver.proofs.listens.Listener.{content, goes_on, moment-other, ok-false}
 use Rattle.nx_receiver.proofs.listening.Listener.refuse_subject.Goals as goal
 
 pub returns-clause-taken : goal.returns-clause-taken

@@ -1,7 +1,7 @@
 use Rattle.std.proofs.Common.{false, [], unwrap_or, refl, sym, ap, ◌∙◌}
 use Rattle.nx_receiver.specs.Chain.{start_from}
 use Rattle.nx_receiver.specs.Receiver.{Stands}
-use Rattle.nx_receiver.proofs.ListenerLemmas.{content, heard-nothing, start-is}
+use Rattle.nx_receiver.proofs.listens.Listener.{content, heard-nothing, start-is}
 use Rattle.nx_receiver.proofs.listening.Listener.starting.Goals as goal
 
 stood : (c : goal.In-Ok) → Stands content (start_from c.args.saved.now) c.in-Ok.receiver [] []

@@ -1,7 +1,7 @@
 use Rattle.std.proofs.Common.{◌≡◌, ◌∙◌, true, sym, ap}
 use Rattle.nx_receiver.specs.Listen.{events_of, has_moment}
-use Rattle.nx_receiver.specs.Listener.{Listening, start_of}
-use Rattle.nx_receiver.proofs.ListenerLemmas.{begins-line, heard-line}
+use Rattle.nx_receiver.specs.private.Listener.{Listening, start_of}
+use Rattle.nx_receiver.proofs.listens.Listener.{begins-line, heard-line}
 use Rattle.nx_receiver.proofs.listening.Listener.take_elements.Goals as goal
 
 pub returns-in-Ok-clause-taken : goal.returns-in-Ok-clause-taken

@@ -2,7 +2,7 @@ use Rattle.std.proofs.Common.{◌≤◌, refl, subst}
 use Rattle.nx_receiver.specs.Events.{elements_among}
 use Rattle.nx_fec.specs.AirFile.{moment}
 use Rattle.nx_receiver.specs.Listen.{events_of}
-use Rattle.nx_receiver.proofs.ListenerLemmas.{force-now, goes_on, moment-one}
+use Rattle.nx_receiver.proofs.listens.Listener.{force-now, goes_on, moment-one}
 use Rattle.nx_receiver.proofs.listening.Listener.take_moment.Goals as goal
 
 pub returns-in-Ok-clause-taken : goal.returns-in-Ok-clause-taken

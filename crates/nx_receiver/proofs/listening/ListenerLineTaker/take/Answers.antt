@@ -3,10 +3,10 @@ use Rattle.nx_fec.specs.AirFile.{moment, refuse_station, accept_station, refuse_
 use Rattle.nx_receiver.specs.Events as events
 use Rattle.nx_receiver.specs.Events.{elements_among, command}
 use Rattle.nx_receiver.specs.Listen.{events_of}
-use Rattle.nx_receiver.specs.Listener.{start_of}
+use Rattle.nx_receiver.specs.private.Listener.{start_of}
 use Rattle.nx_receiver.specs.Receiver.{Stands}
-use Rattle.nx_receiver.proofs.ListenerLemmas.{content, goes_on, moment-other}
-use Rattle.nx_receiver.proofs.ListenerLines.{said, taken-always, taken-line}
+use Rattle.nx_receiver.proofs.listens.Listener.{content, goes_on, moment-other}
+use Rattle.nx_receiver.proofs.listens.Lines.{said, taken-always, taken-line}
 use Rattle.nx_receiver.proofs.listening.ListenerLineTaker.take.Goals as goal
 
 pub returns-in-Moment-clause-taken : goal.returns-in-Moment-clause-taken

@@ -4,8 +4,8 @@ use Rattle.nx_code.specs.Reading.{shift_after_all, text}
 use Rattle.nx_code.specs.declared.shifts.Shift.TheVariants.{Letters}
 use Rattle.nx_fec.specs.Pairing.{IsLatest, counts_as}
 use Rattle.nx_envelope.specs.Finder.{StandsAfter}
-use Rattle.nx_receiver.specs.LockReader.{ReadsLock, dx_words, text_after}
-use Rattle.nx_receiver.proofs.LockReaderWords.{has_read_dx, has_read_rx, positions-dx}
+use Rattle.nx_receiver.specs.private.LockReader.{ReadsLock, dx_words, text_after}
+use Rattle.nx_receiver.proofs.locks.ReaderWords.{has_read_dx, has_read_rx, positions-dx}
 use Rattle.nx_receiver.proofs.lock_reader.LockReader.hear.Goals as goal
 
 pub returns-in-Dx-clause-stands : goal.returns-in-Dx-clause-stands

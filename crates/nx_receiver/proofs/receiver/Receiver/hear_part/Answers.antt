@@ -1,6 +1,6 @@
 use Rattle.std.proofs.Common.{sym, subst, take}
 use Rattle.nx_receiver.specs.Receiver.{Receiving, Stands}
-use Rattle.nx_receiver.proofs.ReceiverFeeds.{Passed, awaits_on, printed_before, prints_none_of}
+use Rattle.nx_receiver.proofs.receiving.Feeds.{Passed, awaits_on, printed_before, prints_none_of}
 use Rattle.nx_receiver.proofs.receiver.Receiver.hear_part.Goals as goal
 
 pub returns-clause-stands : goal.returns-clause-stands

@@ -1,6 +1,6 @@
 use Rattle.std.proofs.Common.{sym, ap, ◌∙◌}
 use Rattle.nx_envelope.specs.Finder.{held_identity}
-use Rattle.nx_receiver.proofs.ReceiverPassed.{copy_passed}
+use Rattle.nx_receiver.proofs.receiving.Passed.{copy_passed}
 use Rattle.nx_receiver.proofs.receiver.Receiver.judge_copy.Goals as goal
 
 pub returns : goal.returns

@@ -3,8 +3,8 @@ use Rattle.nx_envelope.specs.Finder.{held_identity}
 use Rattle.nx_receiver.specs.Events.{first_setting}
 use Rattle.nx_receiver.specs.Receiver.{AwaitsOver}
 use Rattle.nx_receiver.specs.declared.over.Over.TheVariants.{Lock}
-use Rattle.nx_receiver.proofs.ReceiverFeeds.{is_none}
-use Rattle.nx_receiver.proofs.ReceiverPassed.{lock_passed}
+use Rattle.nx_receiver.proofs.receiving.Feeds.{is_none}
+use Rattle.nx_receiver.proofs.receiving.Passed.{lock_passed}
 use Rattle.nx_receiver.proofs.receiver.Receiver.judge_lock.Goals as goal
 
 pub returns : goal.returns

@@ -1,6 +1,6 @@
 use Rattle.std.proofs.Common.{sym, subst}
 use Rattle.nx_receiver.specs.Receiver.{Stands}
-use Rattle.nx_receiver.proofs.ReceiverEvents.{stands_after, a_moment}
+use Rattle.nx_receiver.proofs.receiving.Events.{stands_after, a_moment}
 use Rattle.nx_receiver.proofs.receiver.Receiver.set_moment.Goals as goal
 
 pub returns-clause-stands : goal.returns-clause-stands

@@ -1,7 +1,7 @@
 use Rattle.nx_receiver.specs.Events.{Setting, first_setting}
-use Rattle.nx_receiver.specs.Watch.{WatchStands, in_force}
+use Rattle.nx_receiver.specs.private.Watch.{WatchStands, in_force}
 use Rattle.std.proofs.Common.{◌≡◌, []}
-use Rattle.nx_receiver.proofs.ReceiverPrinting.{begins, made}
+use Rattle.nx_receiver.proofs.receiving.Printing.{begins, made}
 use Rattle.nx_receiver.proofs.receiver.Receiver.starting.Goals as goal
 
 pub returns-clause-stands : goal.returns-clause-stands

@@ -1,7 +1,7 @@
 use Rattle.std.proofs.Common.{◌≡◌, ◌+◌, ◌-◌, ◌≤◌, List, Bool, take, drop, length, length-drop, arith, ap, rules, subst}
-use Rattle.nx_receiver.specs.Watch.{HearsAll}
+use Rattle.nx_receiver.specs.private.Watch.{HearsAll}
 use Rattle.nx_receiver.specs.declared.over.Over.TheVariants.{Nothing}
-use Rattle.nx_receiver.proofs.WatchLoops.{goes_first, goes_on, goes_to, rest_is}
+use Rattle.nx_receiver.proofs.watching.Loops.{goes_first, goes_on, goes_to, rest_is}
 use Rattle.nx_receiver.proofs.watch.Watch.hear.Goals as goal
 
 pub loop-at-init : goal.loop-at-init

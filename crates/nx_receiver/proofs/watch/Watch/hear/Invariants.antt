@@ -1,5 +1,5 @@
 use Rattle.std.proofs.Common.{◌-◌, length}
-use Rattle.nx_receiver.proofs.WatchLoops.{Goes}
+use Rattle.nx_receiver.proofs.watching.Loops.{Goes}
 use Rattle.nx_receiver.proofs.watch.Watch.hear.Given as goal
 
 abbrev pub invariant-loop-at : goal.invariant-loop-at

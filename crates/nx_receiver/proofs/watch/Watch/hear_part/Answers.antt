@@ -1,6 +1,6 @@
 use Rattle.std.proofs.Common.{subst}
-use Rattle.nx_receiver.specs.Watch.{HearsAll}
-use Rattle.nx_receiver.proofs.WatchLoops.{one_is}
+use Rattle.nx_receiver.specs.private.Watch.{HearsAll}
+use Rattle.nx_receiver.proofs.watching.Loops.{one_is}
 use Rattle.nx_receiver.proofs.watch.Watch.hear_part.Goals as goal
 
 pub returns-clause-hears : goal.returns-clause-hears

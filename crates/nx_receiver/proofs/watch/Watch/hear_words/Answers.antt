@@ -1,7 +1,7 @@
 use Rattle.std.proofs.Common.{◌≡◌, rules, subst}
-use Rattle.nx_receiver.specs.Watch.{HearsAll}
+use Rattle.nx_receiver.specs.private.Watch.{HearsAll}
 use Rattle.nx_receiver.specs.declared.over.Over.TheVariants.{Nothing}
-use Rattle.nx_receiver.proofs.WatchLoops.{chunk_is, chunk_within, goes_first, goes_on, goes_to}
+use Rattle.nx_receiver.proofs.watching.Loops.{chunk_is, chunk_within, goes_first, goes_on, goes_to}
 use Rattle.nx_receiver.proofs.watch.Watch.hear_words.Goals as goal
 
 pub loop-word-init : goal.loop-word-init

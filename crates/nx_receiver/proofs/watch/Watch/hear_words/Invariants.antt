@@ -1,7 +1,7 @@
 use Rattle.std.proofs.Common.{◌-◌, length}
 use Rattle.std.specs.Prelude.{IsTrue}
 use Rattle.nx_sync.specs.Synchroniser.{is_between_words}
-use Rattle.nx_receiver.proofs.WatchLoops.{Goes}
+use Rattle.nx_receiver.proofs.watching.Loops.{Goes}
 use Rattle.nx_receiver.proofs.watch.Watch.hear_words.Given as goal
 
 abbrev pub invariant-loop-word : goal.invariant-loop-word

@@ -1,7 +1,7 @@
 use Rattle.std.proofs.Common.{◌+◌, ◌<◌, [], ◌∷◌, false, get_or, take, length, arith, subst}
-use Rattle.nx_receiver.specs.Watch.{HearsAll, Watching}
+use Rattle.nx_receiver.specs.private.Watch.{HearsAll, Watching}
 use Rattle.nx_receiver.specs.declared.over.Over.TheVariants.{Nothing}
-use Rattle.nx_receiver.proofs.WatchLoops.{goes_to, hunt_goes, one_is}
+use Rattle.nx_receiver.proofs.watching.Loops.{goes_to, hunt_goes, one_is}
 use Rattle.nx_receiver.proofs.watch.Watch.hunt.Goals as goal
 
 pub returns-then-count-bits-clause-hears : goal.returns-then-count-bits-clause-hears

@@ -1,0 +1,5 @@
+pub mod Left
+pub mod Moments
+pub mod Once
+pub mod Printing
+pub mod Runs

@@ -1,0 +1,6 @@
+pub mod AirFile
+pub mod Chain
+pub mod Emission
+pub mod Repeats
+pub mod Worked
+pub mod WorkedLog

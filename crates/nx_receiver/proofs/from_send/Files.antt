@@ -1,0 +1,120 @@
+-- What `send` writes of messages, as an air file that is listened to.
+use Rattle.std.proofs.Common.{◌≡◌, ℕ, ◌^◌, ◌<◌, ◌≤◌, Bool, List, [], ◌∷◌, map, length, refl, sym, ap, ◌∙◌, subst, arith}
+use Rattle.std.specs.Int.{div_ceil}
+use Rattle.std.proofs.lemmas.List.{length-append}
+use Rattle.nx_envelope.specs.MessageView.{MessageView}
+use Rattle.nx_fec.specs.AirFile.{Line, moment, spelling}
+use Rattle.nx_fec.specs.BitLines.{bit_lines}
+use Rattle.nx_fec.specs.Emission.{bits_of, emission}
+use Rattle.nx_fec.specs.Lines.{IsAirFile, file_of, line_bytes}
+use Rattle.nx_fec.proofs.EmissionLemmas.{length-emission}
+use Rattle.nx_fec.proofs.LineLaws.{IsAirFile-unique, spelling-IsBeginning}
+use Rattle.nx_fec.proofs.RoundTripLemmas.{length-bits_of}
+use Rattle.nx_station.specs.FileSending.{IsTransmission}
+use Rattle.nx_station.specs.declared.sending.Sent.{Sent}
+use Rattle.nx_station.proofs.BroadcastLemmas.{broadcast-one}
+use Rattle.nx_receiver.specs.Events.{Event, at_moment, at_zero, setting_after_all}
+use Rattle.nx_fec.specs.LineRuns.{air_limit}
+use Rattle.nx_receiver.specs.Listen.{AreTaken, AreTakenAfter, IsLogOf, IsLogOfFile, events_of}
+use Rattle.nx_receiver.specs.Log.{PrintsToEnd}
+use Rattle.nx_receiver.specs.ListenOnce.{IsHeardInTimeIn}
+use Rattle.nx_receiver.specs.Once.{IsHeardInTime, IsPrintedOnce}
+use Rattle.nx_receiver.specs.Printing.{printed_copies}
+use Rattle.nx_receiver.specs.Receiver as receiver
+use Rattle.nx_receiver.specs.FromSend.{BearsAlone, copy_as_sent, events_as_sent, parts_as_sent}
+use Rattle.nx_receiver.specs.Tagged.{TaggedCopy}
+use Rattle.nx_receiver.proofs.listens.ElementLines.{events-lines, good-lines, length-lines, taken-lines}
+use Rattle.nx_receiver.proofs.listens.Moments.{some-closed}
+use Rattle.nx_receiver.proofs.once.Found.{printed_once}
+use Rattle.nx_receiver.proofs.from_send.Heard.{heard_in_time}
+use Rattle.nx_receiver.proofs.from_send.Log.{log_as_sent}
+
+-- ---- the lines of a transmission
+
+abbrev lines_as_sent : ℕ → List Bool → List Line
+lines_as_sent slot bits = moment slot ∷ bit_lines bits
+
+events-as_sent : (slot : ℕ) (bits : List Bool)
+    → events_of (lines_as_sent slot bits) ≡ at_moment slot ∷ receiver.elements bits
+events-as_sent slot bits =
+    ap (λ l. at_moment slot ∷ l) (events-lines bits)
+
+module _ (station from : ℕ) (file air : List ℕ) (sent : Sent) (h : IsTransmission station from file air sent) where
+  abbrev bits : List Bool
+  bits = bits_of (emission h.positions)
+
+  abbrev lines : List Line
+  lines = lines_as_sent sent.slot bits
+
+  few_positions : length h.positions ≤ 4286
+  few_positions =
+      let same = broadcast-one h.messages h.positions h.sendable.positions.positions h.broadcast h.sendable.positions.broadcast in
+      omega (arith, ap length same, h.sendable.positions.counted, h.sendable.fits)
+
+  within : length air ≤ air_limit
+  within =
+      let size : length bits ≤ 59997 = omega (arith, length-bits_of (emission h.positions), length-emission h.positions, few_positions) in
+      let count : div_ceil (length bits) 490 ≤ 123 = omega arith in
+      let all = length-lines bits in
+      let good : sent.slot < 10 ^ 11 = omega (arith, h.next.in_range) in
+      let first = (spelling-IsBeginning (moment sent.slot) good).short in
+      let line = length-append (spelling (moment sent.slot)) (10 ∷ []) in
+      let whole = ap length h.whole ∙ length-append (line_bytes (moment sent.slot)) (file_of (bit_lines bits)) in
+      omega arith
+
+  is_file : IsAirFile air_limit air lines
+  is_file = record { whole = h.whole; each = (omega (arith, h.next.in_range), good-lines bits); within = within }
+
+  are_taken : AreTaken at_zero lines
+  unfolding AreTakenAfter setting_after_all
+  are_taken =
+      record {
+        in_range = omega arith;
+        each = ((omega arith, h.next.in_range), taken-lines at_zero (moment sent.slot ∷ []) bits refl);
+      }
+
+  -- it has a log
+  pub log_of_sent : (log : List ℕ) × IsLogOf at_zero air log
+  log_of_sent = some-closed at_zero air lines is_file are_taken
+
+  abbrev combinations : List (List ℕ)
+  combinations = h.broadcast.spellings
+
+  events_are : events_of lines ≡ events_as_sent sent.slot combinations
+  events_are =
+      events-as_sent sent.slot bits
+      ∙ ap (λ p. at_moment sent.slot ∷ receiver.elements (bits_of (emission p))) h.broadcast.whole
+
+  -- its lines are those that were sent
+  prints_as_sent : (read : List Line) (copies : List TaggedCopy) (log : List ℕ) → IsLogOfFile at_zero air read copies log
+      → PrintsToEnd at_zero (events_as_sent sent.slot combinations) copies
+  prints_as_sent read copies log is =
+      let same : read ≡ lines = IsAirFile-unique air_limit air read lines is.file is_file in
+      subst (λ (e : List Event). PrintsToEnd at_zero e copies) (ap events_of same ∙ events_are) is.printed
+
+  -- each of its messages is heard in time in it
+  pub sent_in_time : (message : MessageView) → BearsAlone h.messages message → 0 < message.identity.number
+      → IsHeardInTimeIn at_zero air message
+  sent_in_time message alone numbered =
+      let parts = parts_as_sent h.messages combinations in
+      record {
+        lines = lines;
+        spelled = is_file;
+        parts = parts;
+        heard =
+            subst (λ (e : List Event). IsHeardInTime at_zero e parts message) (sym events_are) (heard_in_time h.messages combinations sent.slot message h.sendable h.broadcast.each alone numbered);
+      }
+
+  -- what is printed of its messages
+  pub sent_log : (read : List Line) (copies : List TaggedCopy) (log : List ℕ) → IsLogOfFile at_zero air read copies log
+      → copies ≡ printed_copies [] (map (copy_as_sent sent.slot) h.messages)
+  sent_log read copies log is =
+      log_as_sent h.messages combinations sent.slot copies h.sendable h.broadcast.each (prints_as_sent read copies log is)
+
+  -- each of them once
+  pub sent_once : (message : MessageView) (read : List Line) (copies : List TaggedCopy) (log : List ℕ) → BearsAlone h.messages message
+      → 0 < message.identity.number → IsLogOfFile at_zero air read copies log → IsPrintedOnce message copies
+  sent_once message read copies log alone numbered is =
+      printed_once at_zero (events_as_sent sent.slot combinations) (parts_as_sent h.messages combinations) message
+      (heard_in_time h.messages combinations sent.slot message h.sendable h.broadcast.each alone numbered)
+      copies (prints_as_sent read copies log is)

@@ -1,0 +1,6 @@
+pub mod Apart
+pub mod Found
+pub mod Growing
+pub mod ReaderWords
+pub mod Texts
+pub mod Words

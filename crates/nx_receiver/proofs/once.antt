@@ -1,0 +1,4 @@
+pub mod Found
+pub mod Listen
+pub mod Repeats
+pub mod Rising

@@ -1,0 +1,74 @@
+-- A message that is sent one or more times and is printed once: what has to be met, and what is
+-- printed (this profile).
+use Rattle.std.specs.Prelude.{◌≡◌, ℕ, ◌+◌, ◌<◌, List, [], ◌∷◌, ◌++◌, length, Contains, IsTrue}
+use Rattle.nx_envelope.specs.Errors.{errors_of}
+use Rattle.nx_envelope.specs.Identity.{same_identity}
+use Rattle.nx_envelope.specs.Message.{text_of}
+use Rattle.nx_envelope.specs.MessageView.{MessageView}
+use Rattle.nx_envelope.specs.declared.found.How.TheVariants.{Full}
+use Rattle.nx_memory.specs.Memory.{seconds_known, most_entries}
+use Rattle.nx_memory.specs.Selection.{admits}
+use Rattle.nx_station.specs.Sendings.{Part, IsCut}
+use Rattle.nx_sync.specs.Locks.{Lock, Now, IsNow}
+use Rattle.nx_receiver.specs.Events.{Event, Setting, Start, elements_among, first_setting, setting_at}
+use Rattle.nx_receiver.specs.FoundCopies.{FoundCopy, found_to_end}
+use Rattle.nx_receiver.specs.LawTerms.{IsUnknownAtFirst, copies_of}
+use Rattle.nx_receiver.specs.Printing.{entries_made, entries_after}
+use Rattle.nx_receiver.specs.Emissions.{IsSentAt}
+use Rattle.nx_receiver.specs.Tagged.{TaggedCopy, tagged_copies}
+
+-- what is in force at a place
+abbrev pub setting_of : Start → List Event → ℕ → Setting
+setting_of start events place = setting_at (first_setting start) events place
+
+-- Fewer than 200 entries are made between the first of the copies that bear the identity of the
+-- message and any later one of them.
+abbrev pub FewBetween : List TaggedCopy → Start → MessageView → Type 0
+FewBetween copies start message =
+    (before between after : List TaggedCopy) (first later : TaggedCopy)
+    → copies ≡ before ++ first ∷ (between ++ later ∷ after) → copies_of message.identity before ≡ []
+    → IsTrue (same_identity first.identity message.identity)
+    → IsTrue (same_identity later.identity message.identity)
+    → length (entries_made (entries_after start.entries (before ++ first ∷ [])) between)
+    < most_entries
+
+-- What has to be met, so that a message is printed once of all that a receiver is given.
+pub record IsHeardInTime (start : Start) (events : List Event) (parts : List Part)
+    (message : MessageView) : Type 0 where
+  -- its bits are cut into gaps of any bits and emissions that are received as the channel says
+  pub cut : IsCut (elements_among events) parts
+  -- the message isn't numbered 00, and is sent, once or more often
+  pub numbered : 0 < message.identity.number
+  pub place : ℕ
+  pub sent : IsSentAt parts message place
+  -- each copy that is found with its identity is one of its sendings, so all carry the same text
+  pub locks : List Lock
+  pub now : Now
+  pub stands : IsNow (elements_among events) locks now
+  pub alone : (copy : FoundCopy) → Contains (found_to_end (elements_among events) locks now) copy
+      → copy.identity ≡ message.identity → IsSentAt parts message copy.place
+  -- it is selected at each sending
+  pub selected : (at : ℕ) → IsSentAt parts message at
+      → IsTrue (admits (setting_of start events at).refused message.identity)
+  -- any two sendings lie less than 66 hours apart
+  pub close : (one other : ℕ) → IsSentAt parts message one → IsSentAt parts message other
+      → (setting_of start events one).moment
+      < (setting_of start events other).moment + seconds_known
+  -- at its first copy no entry of its identity is live: an entry that the first list has of it is
+  -- 66 hours old by then, or 200 came after it
+  pub unknown : IsUnknownAtFirst start.entries message.identity
+      (tagged_copies (first_setting start) events (found_to_end (elements_among events) locks now))
+  -- 200 identities suffice: fewer than 200 entries are made between its first copy and any later
+  -- one
+  pub few : FewBetween
+      (tagged_copies (first_setting start) events (found_to_end (elements_among events) locks now))
+      start message
+
+-- Exactly one of the printed copies bears the identity of the message: it is full, has 0 errors,
+-- and its text is the message's, letter for letter.
+pub record IsPrintedOnce (message : MessageView) (log : List TaggedCopy) : Type 0 where
+  pub copy : TaggedCopy
+  pub one : copies_of message.identity log ≡ copy ∷ []
+  pub full : copy.how ≡ Full
+  pub whole : errors_of copy.text ≡ 0
+  pub letters : copy.text ≡ text_of message.lines

@@ -1,0 +1,4 @@
+pub mod Listener
+pub mod ListenerBegins
+pub mod LockReader
+pub mod Watch

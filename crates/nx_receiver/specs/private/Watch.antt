@@ -1,0 +1,216 @@
+-- What a receiver keeps but its memory, and after which elements: the layer below what is printed.
+-- A watch turns elements into copies, each with the moment and the selection in force at its second
+-- digit (this profile).
+use Rattle.std.specs.Prelude.{◌≡◌, ℕ, ◌+◌, ◌≤◌, Bool, true, false, is_some, List, [], ◌∷◌, ◌++◌, length, map, take, Option, Some, None, slice_index_or}
+use Rattle.std.specs.List.{All}
+use Rattle.nx_sync.specs.Synchroniser.{Held, StandsAfter}
+use Rattle.nx_sync.specs.Locks.{Lock, Now, hunting, locked, IsNow}
+use Rattle.nx_sync.specs.Words.{word_of_lock, first_role, role_of, whole_words}
+use Rattle.nx_sync.specs.declared.step.Step.{Step}
+use Rattle.nx_sync.specs.declared.step.Role.{Role}
+use Rattle.nx_envelope.specs.Copies.{Copy, open_headers}
+use Rattle.nx_envelope.specs.Finder.{HasReady, is_over}
+use Rattle.nx_envelope.specs.declared.found.Found.{Found}
+use Rattle.nx_envelope.specs.declared.found.TextEvent.{TextEvent}
+use Rattle.nx_envelope.specs.declared.found.TextEvent.TheVariants as events
+use Rattle.nx_envelope.specs.declared.identity.Identity.{Identity}
+use Rattle.nx_memory.specs.Refused.{Refused}
+use Rattle.nx_memory.specs.Selection.{admits}
+use Rattle.nx_receiver.specs.declared.over.Over.{Over}
+use Rattle.nx_receiver.specs.declared.over.Over.TheVariants as over
+use Rattle.nx_receiver.specs.declared.over.CopyTag.{CopyTag}
+use Rattle.nx_receiver.specs.Events.{Setting}
+use Rattle.nx_receiver.specs.private.LockReader.{LockReading, ReadsLock, HearsWord, text_after}
+use Rattle.nx_receiver.specs.LockText.{PlacedByte, bytes_of}
+use Rattle.nx_receiver.specs.FoundCopies.{FoundCopy, place_of_header, ended_in, past_text, past_copies, standing_text, ended_so_far, found_to_end}
+use Rattle.nx_receiver.specs.Tagged.{TaggedCopy, tag, tagged_found}
+
+-- what contracts see of a watch: the synchroniser, the reader of the lock's text, what is refused,
+-- the moment, and what was in force at the header that was heard last
+pub record Watching : Type 0 where
+  pub synchroniser : Held
+  pub reader : LockReading
+  pub refused : Refused
+  pub moment : ℕ
+  pub tag : CopyTag
+
+-- what is in force
+abbrev pub in_force : Watching → Setting
+in_force watch = record { moment = watch.moment; refused = watch.refused }
+
+-- what a copy of the identity bears of what is in force at its second digit
+abbrev pub tag_of : Setting → Identity → CopyTag
+tag_of setting identity =
+    record { moment = setting.moment; is_selected = admits setting.refused identity }
+
+-- what is in force at the element with this index, of what is in force at each
+abbrev pub setting_in : Setting → List Setting → ℕ → Setting
+setting_in first settings place = slice_index_or settings place first
+
+-- copies with what is in force at the second digit of each, by what is in force at each element
+unfoldable pub copies_by : Setting → List Setting → List FoundCopy → List TaggedCopy
+copies_by first settings copies =
+    map (λ copy. tag (setting_in first settings copy.place) copy) copies
+
+-- the tag is that of each copy that stands open in the text; there is at most one
+unfoldable pub HasTag : Setting → List Setting → List PlacedByte → CopyTag → Type 0
+HasTag first settings text kept =
+    All
+    (λ header. kept
+    ≡ tag_of (setting_in first settings (place_of_header text header)) header.identity)
+    (open_headers (bytes_of text))
+
+-- the reader stands after no word of a lock, whichever lock comes
+pub record IsFresh (reader : LockReading) : Type 0 where
+  pub fresh : (first : Role) (words : ℕ → ℕ) → ReadsLock reader first words 0
+
+-- the reader stands after the words that were heard whole of the lock that stands, if one does
+abbrev pub ReadsNow : LockReading → List Bool → Now → Type 0
+ReadsNow reader bits (hunting p) = IsFresh reader
+ReadsNow reader bits (locked p t) =
+    ReadsLock reader (first_role bits t) (word_of_lock bits t) (whole_words bits t)
+
+-- After these elements, with what is in force at each, these copies have ended, in order.
+pub record HasEnded (first : Setting) (bits : List Bool) (settings : List Setting)
+    (copies : List TaggedCopy) : Type 0 where
+  pub locks : List Lock
+  pub now : Now
+  pub stands : IsNow bits locks now
+  pub ended : copies ≡ copies_by first settings (ended_so_far bits locks now)
+
+-- After these elements, and where they end, these copies have ended, in order.
+pub record HasEndedAll (first : Setting) (bits : List Bool) (settings : List Setting)
+    (copies : List TaggedCopy) : Type 0 where
+  pub locks : List Lock
+  pub now : Now
+  pub stands : IsNow bits locks now
+  pub ended : copies ≡ copies_by first settings (found_to_end bits locks now)
+
+-- The reader and the tag stand after these elements: those copies have ended, the reader stands
+-- after the words of the lock that stands, and the tag is that of the copy that stands open.
+pub record ReadsOver (first : Setting) (reader : LockReading) (kept : CopyTag) (bits : List Bool)
+    (settings : List Setting) (copies : List TaggedCopy) : Type 0 where
+  pub locks : List Lock
+  pub now : Now
+  pub stands : IsNow bits locks now
+  pub many : length settings ≡ length bits
+  pub ended : copies ≡ copies_by first settings (ended_so_far bits locks now)
+  pub reads : ReadsNow reader bits now
+  pub has_tag : HasTag first settings (standing_text bits now) kept
+
+-- The watch stands after these elements, with what is in force at each: these copies have ended.
+pub record WatchStands (first : Setting) (watch : Watching) (bits : List Bool)
+    (settings : List Setting) (copies : List TaggedCopy) : Type 0 where
+  pub synchroniser : StandsAfter watch.synchroniser bits
+  pub reads : ReadsOver first watch.reader watch.tag bits settings copies
+
+-- The last of these elements released a lock. The words of its text were read, but its end wasn't:
+-- these copies ended before it, and the tag is that of the copy that stands open there.
+pub record LockIsOver (first : Setting) (watch : Watching) (bits : List Bool)
+    (settings : List Setting) (copies : List TaggedCopy) : Type 0 where
+  pub synchroniser : StandsAfter watch.synchroniser bits
+  pub lock : Lock
+  pub older : List Lock
+  pub from : ℕ
+  pub stands : IsNow bits (lock ∷ older) (hunting from)
+  pub many : length settings ≡ length bits
+  pub ended :
+      copies ≡ copies_by first settings (past_copies bits older ++ ended_in (past_text bits lock))
+  pub reads :
+      ReadsLock watch.reader (first_role bits lock.at) (word_of_lock bits lock.at) (lock.last + 1)
+  pub has_tag : HasTag first settings (past_text bits lock) watch.tag
+
+-- a copy that the finder has, with its tag
+abbrev pub ready_copy : Copy → CopyTag → TaggedCopy
+ready_copy copy kept = record {
+  identity = copy.header.identity;
+  how = copy.how;
+  text = copy.text;
+  moment = kept.moment;
+  selected = kept.is_selected;
+}
+
+-- a copy has ended, which can be taken, and the watch stands after the elements with it
+pub record CopyIsOver (first : Setting) (watch : Watching) (bits : List Bool)
+    (settings : List Setting) (copies : List TaggedCopy) : Type 0 where
+  pub copy : Copy
+  pub ready : HasReady watch.reader.finder copy
+  pub stands : WatchStands first watch bits settings (copies ++ ready_copy copy watch.tag ∷ [])
+
+-- a copy has ended, which can be taken, and the same element released the lock
+pub record BothAreOver (first : Setting) (watch : Watching) (bits : List Bool)
+    (settings : List Setting) (copies : List TaggedCopy) : Type 0 where
+  pub copy : Copy
+  pub ready : HasReady watch.reader.finder copy
+  pub lock : LockIsOver first watch bits settings (copies ++ ready_copy copy watch.tag ∷ [])
+
+-- what is over with the last of these elements, before which these copies had ended
+abbrev pub IsOver : Setting → Watching → List Bool → List Setting → List TaggedCopy → Over → Type 0
+IsOver first watch bits settings copies over.Nothing = WatchStands first watch bits settings copies
+IsOver first watch bits settings copies over.Copy = CopyIsOver first watch bits settings copies
+IsOver first watch bits settings copies over.Lock = LockIsOver first watch bits settings copies
+IsOver first watch bits settings copies over.CopyAndLock =
+    BothAreOver first watch bits settings copies
+
+-- what is in force at each of these elements, where it doesn't change
+unfoldable pub all_in_force : Watching → List Bool → List Setting
+all_in_force watch bits = map (λ bit. in_force watch) bits
+
+-- The watch heard these elements after others, and this is what is over with the last of them; with
+-- none before it any copy ended.
+pub record HearsBits (first : Setting) (old new : Watching) (bits : List Bool)
+    (settings : List Setting) (copies : List TaggedCopy) (heard : List Bool)
+    (answer : Over) : Type 0 where
+  pub brings : IsOver first new (bits ++ heard) (settings ++ all_in_force old heard) copies answer
+  pub none_before : (k : ℕ) → k + 1 ≤ length heard
+      → HasEnded first (bits ++ take k heard) (settings ++ all_in_force old (take k heard)) copies
+
+-- whatever a watch heard before, it hears these elements after that, and this is over with the last
+pub record HearsAll (old new : Watching) (heard : List Bool) (answer : Over) : Type 0 where
+  pub hears : (first : Setting) (bits : List Bool) (settings : List Setting)
+      (copies : List TaggedCopy) → WatchStands first old bits settings copies
+      → HearsBits first old new bits settings copies heard answer
+
+-- the copy that was handed out, with its tag
+abbrev pub handed_out : Option Found → CopyTag → List TaggedCopy
+handed_out None kept = []
+handed_out (Some found) kept = tagged_found found kept.moment kept.is_selected ∷ []
+
+-- the tag after what a word brings: a header takes what is in force
+abbrev pub tag_after : Watching → TextEvent → CopyTag
+tag_after watch events.Nothing = watch.tag
+tag_after watch (events.Header identity) = tag_of (in_force watch) identity
+tag_after watch events.CopyOver = watch.tag
+
+-- what is over with a word, by whether a copy is and whether the word brings a change
+abbrev pub over_with : Bool → Bool → Over
+over_with false false = over.Nothing
+over_with true false = over.Copy
+over_with false true = over.Lock
+over_with true true = over.CopyAndLock
+
+-- a word was read, whichever lock it is of: what it brings to the text, what is over, and the tag
+pub record ReadsWord (old new : Watching) (word : ℕ) (role : Role) (is_changed : Bool)
+    (answer : Over) : Type 0 where
+  pub event : TextEvent
+  pub stands : (first : Role) (words : ℕ → ℕ) (n : ℕ) → ReadsLock old.reader first words n
+      → words n ≡ word → role ≡ role_of first n → ReadsLock new.reader first words (n + 1)
+  pub hears : (first : Role) (words : ℕ → ℕ) (n : ℕ) → ReadsLock old.reader first words n
+      → words n ≡ word → role ≡ role_of first n
+      → HearsWord (text_after first words n) (text_after first words (n + 1))
+      new.reader.finder event
+  pub kept : new.tag ≡ tag_after old event
+  pub synchroniser : new.synchroniser ≡ old.synchroniser
+  pub force : in_force new ≡ in_force old
+  pub is : answer ≡ over_with (is_over event) is_changed
+
+-- what a step brings is read: nothing where it completes no word
+pub record ReadsStep (old new : Watching) (step : Step) (answer : Over) : Type 0 where
+  pub none : step.word ≡ None → (new ≡ old) × (answer ≡ over.Nothing)
+  pub some : (word : ℕ) (role : Role) → step.word ≡ Some (word, role)
+      → ReadsWord old new word role (is_some step.change) answer
+
+-- the moment of the tag is as it was, or the one in force; all else that is in force stays
+pub data TagGoesOn (old new : Watching) : Type 0 where
+  as_it_was : new.tag ≡ old.tag → TagGoesOn old new
+  now_in_force : new.tag.moment ≡ old.moment → TagGoesOn old new
