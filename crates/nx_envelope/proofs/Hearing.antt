@@ -4,7 +4,8 @@ use Rattle.std.proofs.lemmas.Bool.{and_parts}
 use Rattle.std.proofs.lemmas.List.{drop-append-le}
 use Rattle.nx_envelope.specs.private.Backward.{marker_back, header_back, spaces_back, station_back, subject_back, tens_back}
 use Rattle.nx_envelope.specs.Copies.{Copy, raw_text, open_headers, closed_copy}
-use Rattle.nx_envelope.specs.Finder.{BringsCopy, ClosesCopy, ClosesNone, Ends, HoldsCopy, HoldsOpen, Keeps, is_empty}
+use Rattle.nx_envelope.specs.Finder.{BringsCopy, ClosesCopy, ClosesHeld, ClosesNone, ClosesReady, Ends, HoldsCopy, HoldsOpen, Keeps, is_empty, is_ready, is_ready_copy}
+use Rattle.nx_envelope.specs.private.Room.{HasRoom, closed_held}
 use Rattle.nx_envelope.specs.private.Finding.{Hearing, found_text}
 use Rattle.nx_envelope.specs.Found.{IsFound, IsFoundOf}
 use Rattle.nx_envelope.specs.Header.{Header}
@@ -168,3 +169,26 @@ none_open (states.Ready i how) kept text none h = h
 -- the copy that is handed out
 pub hands_out : (text : List ℕ) (b : ℕ) (copy : Copy) (found : Found) → Ends text b copy → IsFound copy found → BringsCopy text b found
 hands_out text b copy found ends is = record { copy = copy; is_found = is; ends = ends }
+
+-- the end of a text leaves the open copy with the finder
+closes_ready : (fresh : Bool) (kept text : List ℕ) (identity : Identity) (now : Finder) → HoldsOpen fresh kept text identity → now.copy ≡ states.Ready identity Cut → now.text ≡ kept → ClosesReady text now
+unfolding closed_copy
+closes_ready fresh kept text identity now h copy same =
+    let g = held fresh kept text identity h in
+    record { header = g.one.header; was_open = open_headers-one text g.one; ready = record { held = rw (g.named) copy; text = same ∙ g.raw }; whole = copies_one text g.one }
+
+pub closes_held : (copy : HeldCopy) (kept text : List ℕ) (now : Finder) → HoldsCopy copy kept text → now.copy ≡ closed_held copy → now.text ≡ kept → ClosesHeld text now
+closes_held states.Nothing kept text now h copy same = record { some = λ e. absurd (let not : is_ready now ≡ false = ap is_ready_copy copy in cc); none = λ e. closes_none text h }
+closes_held (states.Open i fresh) kept text now h copy same = record { some = λ e. closes_ready fresh kept text i now h copy same; none = λ e. absurd (let not : is_ready now ≡ true = ap is_ready_copy copy in cc) }
+closes_held (states.Ready i how) kept text now h copy same = record { some = λ e. absurd (let not : is_ready now ≡ false = ap is_ready_copy copy in cc); none = λ e. closes_none text h }
+
+-- a finder that has no open copy holds what there is after the empty text
+pub closed-nil : (copy : HeldCopy) (kept : List ℕ) → HoldsCopy (closed_held copy) kept []
+closed-nil states.Nothing kept = none-nil
+closed-nil (states.Open i fresh) kept = none-nil
+closed-nil (states.Ready i how) kept = none-nil
+
+pub closed-room : (copy : HeldCopy) (kept : List ℕ) → HasRoom (closed_held copy) kept
+closed-room states.Nothing kept = tt
+closed-room (states.Open i fresh) kept = tt
+closed-room (states.Ready i how) kept = tt

@@ -135,3 +135,15 @@ abbrev pub Hears : List ℕ → ℕ → Finder → TextEvent → Type 0
 Hears text byte finder events.Nothing = Keeps text byte
 Hears text byte finder (events.Header identity) = BringsHeader text byte identity
 Hears text byte finder events.CopyOver = EndsReady text byte finder
+
+-- the end of the text closes the copy that is open, and the finder has it
+pub record ClosesReady (text : List ℕ) (finder : Finder) : Type 0 where
+  pub header : Header
+  pub was_open : open_headers text ≡ header ∷ []
+  pub ready : HasReady finder (closed_copy text header)
+  pub whole : copies text ≡ ended_copies text ++ closed_copy text header ∷ []
+
+-- what the end of the text brings, where the finder has the copy that it closes
+pub record ClosesHeld (text : List ℕ) (finder : Finder) : Type 0 where
+  pub some : is_ready finder ≡ true → ClosesReady text finder
+  pub none : is_ready finder ≡ false → ClosesNone text

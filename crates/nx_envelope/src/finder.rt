@@ -1,10 +1,12 @@
 //! The finder of copies, which sees a received text byte by byte.
 
-ghost use Rattle.std.specs.Prelude.{◌≡◌, ◌==◌, ◌&&◌, ◌∷◌, ℕ, List};
+ghost use Rattle.std.specs.Prelude.{◌≡◌, ◌==◌, ◌≤◌, ◌&&◌, ◌∷◌, ℕ, List, length};
 ghost use Rattle.nx_envelope.specs.private.Backward.{last_four, marker_back};
+ghost use Rattle.nx_envelope.specs.Errors.{errors_of};
 ghost use Rattle.nx_envelope.specs.Found.{IsFoundOf};
+ghost use Rattle.nx_envelope.specs.private.Room.{closed_held};
 
-use crate::found::{FinderStep, Found, HeldCopy, How, MAX_FOUND, TextEvent};
+use crate::found::{FinderStep, Found, FoundHead, HeldCopy, How, MAX_FOUND, TextEvent};
 use crate::identity::Identity;
 use crate::message::{END_MARKER, NEWLINE, START_MARKER};
 use crate::stage::Stage;
@@ -56,10 +58,10 @@ impl Finder {
     ghost use Rattle.std.specs.Prelude.{IsNone, MatchOption};
     ghost use Rattle.nx_envelope.specs.private.Backward.{header_back};
     ghost use Rattle.nx_envelope.specs.Copies.{Copy, open_headers};
-    ghost use Rattle.nx_envelope.specs.Finder.{Brings, Closes, HasReady, Hears, HoldsOpen};
+    ghost use Rattle.nx_envelope.specs.Finder.{Brings, Closes, ClosesHeld, HasReady, Hears, HoldsOpen};
     ghost use Rattle.nx_envelope.specs.Finder.{StandsAfter, held_identity, is_over, is_ready};
     ghost use Rattle.nx_envelope.specs.private.Finding.{Hearing};
-    ghost use Rattle.nx_envelope.specs.Found.{IsFound};
+    ghost use Rattle.nx_envelope.specs.Found.{IsFound, IsHeadOf};
 
     /// A finder of a text of which nothing was seen yet.
     pub fn new() -> Finder
@@ -129,6 +131,48 @@ impl Finder {
         };
         self.copy = HeldCopy::Nothing;
         Some(found_of(identity, how, self.text.take()))
+    }
+
+    /// All but the text of the copy that the last byte or the end ended, where it was not taken
+    /// yet. The copy stays with the finder.
+    pub fn ready_head(&self) -> Option<FoundHead>
+        ensures head { (copy : Copy) → HasReady self.now copy
+            → MatchOption result ⊥ (IsHeadOf copy) }
+        ensures none { IsNone result ↔ (is_ready self.now ≡ false) }
+    {
+        let HeldCopy::Ready(identity, how) = self.copy else {
+            return None;
+        };
+        let errors = errors_in(self.text.as_slice());
+        Some(FoundHead {
+            identity,
+            errors,
+            how,
+        })
+    }
+
+    /// The text of the copy that can be taken, newlines and asterisks included, without the marker
+    /// that ended it; empty where none can be taken. The copy stays with the finder.
+    pub fn ready_text(&self) -> &[u8]
+        ensures text { (copy : Copy) → HasReady self.now copy → result.now ≡ copy.text }
+        ensures none { is_ready self.now ≡ false → result.now ≡ [] }
+    {
+        match self.copy {
+            HeldCopy::Ready(_, _) => self.text.as_slice(),
+            HeldCopy::Nothing | HeldCopy::Open(_, _) => &[],
+        }
+    }
+
+    /// Ends the text and leaves the copy that stands open with the finder, where it can be taken
+    /// before the first byte of a new text. It does what `end` does, for callers that don't move
+    /// the copy. A copy that could be taken is gone.
+    pub fn close(&mut self)
+        ensures closes { (text : List ℕ) → StandsAfter self.old text → ClosesHeld text self.new }
+        ensures as_new { StandsAfter self.new [] }
+    {
+        let copy = closed(self.copy);
+        self.restart();
+        self.copy = copy;
     }
 
     /// The identity of the copy that is open, or that can be taken.
@@ -218,15 +262,33 @@ impl Finder {
     }
 }
 
+/// What is held of a copy once the text has ended.
+fn closed(copy: HeldCopy) -> HeldCopy
+    ensures { result ≡ closed_held copy }
+{
+    match copy {
+        HeldCopy::Open(identity, _) => HeldCopy::Ready(identity, How::Cut),
+        HeldCopy::Nothing | HeldCopy::Ready(_, _) => HeldCopy::Nothing,
+    }
+}
+
+/// The errors of a found text.
+fn errors_in(text: &[u8]) -> u16
+    requires { length text.now ≤ 4100 }
+    ensures { result ≡ errors_of text.now }
+{
+    text.iter().filter(|byte| **byte == ASTERISK).count() as u16
+}
+
 /// The copy of that identity, end and text, with its errors.
 fn found_of(identity: Identity, how: How, text: ArrayVec<u8, MAX_FOUND>) -> Found
     ensures { IsFoundOf identity how text.items result }
 {
-    let errors = text.iter().filter(|byte| **byte == ASTERISK).count();
+    let errors = errors_in(text.as_slice());
     Found {
         identity,
         text,
-        errors: errors as u16,
+        errors,
         how,
     }
 }

@@ -34,6 +34,17 @@ pub struct Found {
     pub ghost counted: { errors ≡ errors_of text.items },
 }
 
+/// A copy of a message that has ended, without its text.
+#[derive(Clone, Copy, PartialEq, Eq, Debug)]
+pub struct FoundHead {
+    /// The identity in its header.
+    pub identity: Identity,
+    /// Its errors, the asterisks in its text.
+    pub errors: u16,
+    /// How it ended.
+    pub how: How,
+}
+
 /// What a byte of a received text brings.
 #[derive(Debug, Drop)]
 pub enum FinderStep {

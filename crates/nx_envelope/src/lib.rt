@@ -14,7 +14,7 @@ mod stage;
 mod tests;
 
 pub use finder::Finder;
-pub use found::{FinderStep, Found, How, MAX_FOUND, TextEvent};
+pub use found::{FinderStep, Found, FoundHead, How, MAX_FOUND, TextEvent};
 pub use identity::Identity;
 pub use letter::Letter;
 pub use message::{END_MARKER, MAX_LINE, MAX_TEXT, Message, MessageFault, NEWLINE, START_MARKER};

@@ -20,6 +20,35 @@ fn lines_of(alloc: Global, full: usize, empty: usize) -> Result<Vec<&'static [u8
 }
 
 #[test]
+fn copies_are_told_in_place(rt: HostRuntime) -> Result<(), Fail> {
+    let identity = Identity::new(b'E', b'A', 1).ok_or("identity")?;
+    let mut finder = Finder::new();
+    for byte in *b"ZCZC EA01\nA*NNNN" {
+        finder.hear(byte);
+    }
+    let full = FoundHead {
+        identity,
+        errors: 1,
+        how: How::Full,
+    };
+    assert_eq!(rt; finder.ready_head(), Some(full));
+    assert!(rt; finder.ready_text() == b"A*".as_slice());
+    for byte in *b"ZCZC EA01\nNN" {
+        finder.hear(byte);
+    }
+    assert_eq!(rt; finder.ready_head(), None);
+    finder.close();
+    let cut = FoundHead {
+        identity,
+        errors: 0,
+        how: How::Cut,
+    };
+    assert_eq!(rt; finder.ready_head(), Some(cut));
+    assert!(rt; finder.ready_text() == b"NN".as_slice());
+    Ok(())
+}
+
+#[test]
 fn messages_are_made(rt: HostRuntime) -> Result<(), Fail> {
     let identity = Identity::new(b'E', b'A', 1).ok_or("identity")?;
     let lines = lines_of(rt.alloc(), 58, 36)?;
