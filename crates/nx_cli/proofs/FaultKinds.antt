@@ -17,6 +17,7 @@ use Rattle.clap.specs.declared.builder.action.ArgAction.TheVariants.{Set, Append
 use Rattle.clap.specs.declared.builder.value_parser.ValueParser.{ValueParser}
 use Rattle.clap.specs.declared.error.kind.ErrorKind.{ErrorKind}
 use Rattle.clap.specs.declared.error.kind.ErrorKind.TheVariants as kind
+use Rattle.nx_cli.proofs.RowsKept.{or-second}
 
 abbrev pub is_help : ErrorKind → Bool
 is_help kind.DisplayHelp = true
@@ -268,10 +269,6 @@ kinds_cases (k ∷ ks) = elim (help_or_not k (is_help k) refl) [
   | inr other ↦ inr (inr (k, other, inl refl))
 ]
 
-or-nil : (a b : Kinds) → or_else a b ≡ [] → b ≡ []
-or-nil [] b e = e
-or-nil (k ∷ ks) b e = absurd (cc)
-
 check-nil : (help has argument : Bool) → check_kinds help (not has && true) argument ≡ [] → has ≡ true
 check-nil help true argument e = refl
 check-nil true false argument e = absurd (cc)
@@ -288,9 +285,9 @@ level-nil s names h words has below required e =
     let defaults = defaults_fault (settled s.rules end).rows s.rules in
     let settling = settle_fault s.rules s.args_override_self end in
     let walking = walk_fault s names (walk_from h) words in
-    let checked = or-nil defaults last (or-nil settling (or_else defaults last)
-    (or-nil below (or_else settling (or_else defaults last))
-    (or-nil walking (or_else below (or_else settling (or_else defaults last))) e))) in
+    let checked = or-second defaults last (or-second settling (or_else defaults last)
+    (or-second below (or_else settling (or_else defaults last))
+    (or-second walking (or_else below (or_else settling (or_else defaults last))) e))) in
     let P : Bool → Type 0 = λ r. check_kinds
     (not has && (s.arg_required_else_help && not (list_any (λ r. explicit_source r.source) rows)))
     (not has && r)
