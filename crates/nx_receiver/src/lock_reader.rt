@@ -49,7 +49,7 @@ impl Model for LockReader {
 
 impl LockReader {
     /// A reader of a lock of which no word was heard yet.
-    #[tactic(auto, unfolding(crate::specs::LockReader::dx_words, crate::specs::LockText::positions))]
+    #[tactic(auto, unfolding(crate::specs::private::LockReader::dx_words, crate::specs::LockText::positions))]
     pub(crate) fn new() -> LockReader
         ensures { (first : Role) (words : ℕ → ℕ) → ReadsLock result first words 0 }
     {
@@ -130,7 +130,7 @@ impl LockReader {
 
     /// Ends the text; the reader is then as new, for the next lock. A copy that stands open or
     /// could be taken is gone.
-    #[tactic(auto, unfolding(crate::specs::LockReader::dx_words, crate::specs::LockText::positions))]
+    #[tactic(auto, unfolding(crate::specs::private::LockReader::dx_words, crate::specs::LockText::positions))]
     pub(crate) fn restart(&mut self)
         ensures none { (first : Role) (words : ℕ → ℕ) (n : ℕ) → ReadsLock self.old first words n
             → held_identity self.old.finder.copy ≡ None → ClosesNone (text_after first words n) }
