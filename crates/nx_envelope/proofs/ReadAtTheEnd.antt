@@ -1,21 +1,20 @@
 -- The header and the marker with which a text ends: looked for by their spelling, and read from the back of the text.
-use Rattle.std.proofs.Common.{◌≡◌, ℕ, zero, suc, ◌+◌, ◌-◌, ◌*◌, ◌/◌, ◌%◌, ◌≤◌, ◌==◌, Bool, true, false, inl, inr, if◌then◌else◌, Option, Some, None, List, [], ◌∷◌, ◌++◌, length, take, drop, reverse, refl, sym, ap, ◌∙◌, ◌⊎◌, arith, length-append}
+use Rattle.std.proofs.Common.{◌≡◌, ℕ, zero, suc, ◌+◌, ◌-◌, ◌*◌, ◌/◌, ◌%◌, ◌≤◌, ◌==◌, Bool, true, false, inl, inr, if◌then◌else◌, Option, Some, None, List, [], ◌∷◌, ◌++◌, length, take, drop, reverse, refl, sym, ap, ◌∙◌, ◌⊎◌, arith, length-append, subst}
 use Rattle.std.specs.Option.{option_or}
 use Rattle.std.specs.Prelude.{replicate}
+use Rattle.std.specs.Str.{bytes_eq}
 use Rattle.std.proofs.Math.Seq.{drop-append_seam}
 use Rattle.std.proofs.lemmas.List.{take-append-drop, append_assoc}
 use Rattle.std.proofs.lemmas.Slice.Eq.{bytes_eq-Decides}
 use Rattle.nx_code.specs.Lists.{last_of}
-use Rattle.nx_envelope.specs.Header.{letter_of, digit_of, both, identity_of, identity_with, read_identity, read_spaced, read_header, identity_at_end, ends_with, marker_at_end, EndsWithHeader, EndsWith, start_marker, end_marker}
+use Rattle.nx_envelope.specs.Header.{nearest_identity, read_identity, read_spaced, read_header, identity_at_end, ends_with, marker_at_end, EndsWithHeader, EndsWith, start_marker, end_marker}
 use Rattle.nx_envelope.specs.private.Backward.{ends_in, header_back, marker_back}
 use Rattle.nx_envelope.specs.Identity.{identity_bytes}
-use Rattle.nx_envelope.specs.declared.digit.Digit.{Digit}
 use Rattle.nx_envelope.specs.declared.found.How.{How}
 use Rattle.nx_envelope.specs.declared.found.How.TheVariants.{Full, Cut}
 use Rattle.nx_envelope.specs.declared.identity.Identity.{Identity}
-use Rattle.nx_envelope.specs.declared.letter.Letter.{Letter}
-use Rattle.nx_envelope.proofs.LettersAndDigits.{digit_at, letter_of-byte, digit_of-value, same_identity_at, both_first, both_second, identity_some}
-use Rattle.nx_envelope.proofs.SpelledHeaders.{eq_is, if_some, replicate-one, letter_of-some, digit_of-is, starts_both, ends_both, header_both}
+use Rattle.nx_envelope.proofs.LettersAndDigits.{nearest_identity-is}
+use Rattle.nx_envelope.proofs.SpelledHeaders.{eq_is, if_some, replicate-one, starts_both, ends_both, header_both}
 
 -- Two that are there, or true, for the same.
 
@@ -76,35 +75,13 @@ or_cases : {A : Type 0} (o p : Option A) (x : A) → option_or o p ≡ Some x �
 or_cases (Some y) p x e = inl e
 or_cases None p x e = inr e
 
-identity_spelled : (l m : Letter) (t u : Digit) → identity_bytes (identity_of l m t u) ≡ l.byte ∷ m.byte ∷ (48 + t.value) ∷ (48 + u.value) ∷ []
-identity_spelled l m t u =
-    let tens : (t.value * 10 + u.value) / 10 ≡ t.value = omega (arith, t.below_ten, u.below_ten) in
-    let ones : (t.value * 10 + u.value) % 10 ≡ u.value = omega (arith, t.below_ten, u.below_ten) in
-    rw (tens, ones) refl
-
-four_bytes : (a b t u k l m n : ℕ) → a ≡ k → b ≡ l → t ≡ m → u ≡ n → (◌≡◌ {A = List ℕ} (a ∷ b ∷ t ∷ u ∷ []) (k ∷ l ∷ m ∷ n ∷ []))
-four_bytes a b t u k l m n p q r s = rw (p, q, r, s) refl
-
 identity_forth : (text : List ℕ) (i : Identity) → read_identity text ≡ Some i → text ≡ identity_bytes i
 unfolding read_identity
-identity_forth [] i e = absurd (cc)
-identity_forth (a ∷ []) i e = absurd (cc)
-identity_forth (a ∷ b ∷ []) i e = absurd (cc)
-identity_forth (a ∷ b ∷ t ∷ []) i e = absurd (cc)
-identity_forth (a ∷ b ∷ t ∷ u ∷ []) i e =
-    let all : Option (((Letter × Letter) × Digit) × Digit) = both (both (both (letter_of a) (letter_of b)) (digit_of t)) (digit_of u) in
-    let w = identity_some all i e in
-    let tens = both_first (both (both (letter_of a) (letter_of b)) (digit_of t)) (digit_of u) w.found w.is in
-    let letters = both_first (both (letter_of a) (letter_of b)) (digit_of t) w.found.0 tens in
-    let p = letter_of-some a w.found.0.0.0 (both_first (letter_of a) (letter_of b) w.found.0.0 letters) in
-    let q = letter_of-some b w.found.0.0.1 (both_second (letter_of a) (letter_of b) w.found.0.0 letters) in
-    let r = digit_of-is t w.found.0.1 (both_second (both (letter_of a) (letter_of b)) (digit_of t) w.found.0 tens) in
-    let s = digit_of-is u w.found.1 (both_second (both (both (letter_of a) (letter_of b)) (digit_of t)) (digit_of u) w.found w.is) in
-    let whole : Some (identity_of w.found.0.0.0 w.found.0.0.1 w.found.0.1 w.found.1) ≡ Some i = ap identity_with (sym w.is) ∙ e in
-    let same : identity_of w.found.0.0.0 w.found.0.0.1 w.found.0.1 w.found.1 ≡ i = cc in
-    let spelled = identity_spelled w.found.0.0.0 w.found.0.0.1 w.found.0.1 w.found.1 in
-    four_bytes a b t u _ _ _ _ p q r s ∙ sym spelled ∙ ap identity_bytes same
-identity_forth (a ∷ b ∷ t ∷ u ∷ c ∷ more) i e = absurd (cc)
+identity_forth text i e =
+    let near : Identity = nearest_identity text in
+    let p = if_some (bytes_eq text (identity_bytes near)) (Some near) i e in
+    let same : near ≡ i = let q = p.1 in cc in
+    (bytes_eq-Decides text (identity_bytes near)).0 p.0 ∙ ap identity_bytes same
 
 record Spaced (text : List ℕ) (i : Identity) : Type 0 where
   more : ℕ
@@ -165,12 +142,10 @@ gives_second None p g = g
 identity_reads : (i : Identity) → read_identity (identity_bytes i) ≡ Some i
 unfolding read_identity
 identity_reads i =
-    let tens_small : i.number / 10 ≤ 9 = omega (arith, i.two_digits) in
-    let units_small : i.number % 10 ≤ 9 = omega arith in
-    let tens = digit_of-value (48 + i.number / 10) (digit_at (i.number / 10) tens_small) (omega arith) (omega arith) in
-    let units = digit_of-value (48 + i.number % 10) (digit_at (i.number % 10) units_small) (omega arith) (omega arith) in
-    let number : i.number / 10 * 10 + i.number % 10 ≡ i.number = omega arith in
-    rw (letter_of-byte i.b1, letter_of-byte i.b2, tens, units) (ap Some (same_identity_at i.b1 i.b2 _ i.number number _ i.two_digits))
+    let bytes : List ℕ = identity_bytes i in
+    let P : Identity → Type 0 = λ (j : Identity). (if bytes_eq bytes (identity_bytes j) then Some j else None) ≡ Some i in
+    let same : bytes_eq bytes bytes ≡ true = (bytes_eq-Decides bytes bytes).1 refl in
+    subst P (sym (nearest_identity-is i)) (rw same refl)
 
 spaced_reads : (n : ℕ) (i : Identity) → Gives (read_spaced (replicate (n + 1) 32 ++ identity_bytes i))
 unfolding read_spaced
