@@ -85,7 +85,7 @@ window-heard bits h =
     keep_last-padded 28 bits h ∙ sym (take_all 28 (drop (length bits - 28) bits) (simp length-drop (omega arith)))
 
 -- the number of the last seven of them
-pub word-heard : (bits : List Bool) → 28 ≤ length bits → number_of (keep_last 28 (replicate 28 false ++ bits)) / 2 ^ 21 ≡ number_of (take 7 (drop (length bits - 7) bits))
-word-heard bits h =
+pub newest_word : (bits : List Bool) → 28 ≤ length bits → number_of (keep_last 28 (replicate 28 false ++ bits)) / 2 ^ 21 ≡ number_of (take 7 (drop (length bits - 7) bits))
+newest_word bits h =
     sym (number_of-drop 21 (keep_last 28 (replicate 28 false ++ bits)))
     ∙ ap number_of (ap (drop 21) (window-heard bits h) ∙ sym (last_word-window bits (length bits) h (omega arith)))
