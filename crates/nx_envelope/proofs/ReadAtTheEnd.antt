@@ -1,13 +1,14 @@
 -- The header and the marker with which a text ends: looked for by their spelling, and read from the back of the text.
-use Rattle.std.proofs.Common.{◌≡◌, ℕ, zero, suc, ◌+◌, ◌-◌, ◌*◌, ◌/◌, ◌%◌, ◌≤◌, ◌==◌, Bool, true, false, inl, inr, if◌then◌else◌, Option, Some, None, List, [], ◌∷◌, ◌++◌, length, take, drop, reverse, refl, sym, ap, ◌∙◌, ◌⊎◌, arith, length-append, subst}
+use Rattle.std.proofs.Common.{◌≡◌, ℕ, zero, suc, ◌+◌, ◌-◌, ◌*◌, ◌/◌, ◌%◌, ◌≤◌, ◌==◌, Bool, true, false, ◌&&◌, nat_le, inl, inr, if◌then◌else◌, Option, Some, None, List, [], ◌∷◌, ◌++◌, length, take, drop, reverse, refl, sym, ap, ◌∙◌, ◌⊎◌, arith, length-append, subst}
 use Rattle.std.specs.Option.{option_or}
 use Rattle.std.specs.Prelude.{replicate}
 use Rattle.std.specs.Str.{bytes_eq}
 use Rattle.std.proofs.Math.Seq.{drop-append_seam}
-use Rattle.std.proofs.lemmas.List.{take-append-drop, append_assoc}
+use Rattle.std.proofs.lemmas.List.{take-append-drop, append_assoc, length-replicate}
+use Rattle.std.proofs.lemmas.Bool.{and_parts, leb-true, le-leb}
 use Rattle.std.proofs.lemmas.Slice.Eq.{bytes_eq-Decides}
 use Rattle.nx_code.specs.Lists.{last_of}
-use Rattle.nx_envelope.specs.Header.{nearest_identity, read_identity, read_spaced, read_header, identity_at_end, ends_with, marker_at_end, EndsWithHeader, EndsWith, start_marker, end_marker}
+use Rattle.nx_envelope.specs.Header.{nearest_identity, read_header, identity_at_end, ends_with, marker_at_end, EndsWithHeader, EndsWith, start_marker, end_marker}
 use Rattle.nx_envelope.specs.private.Backward.{ends_in, header_back, marker_back}
 use Rattle.nx_envelope.specs.Identity.{identity_bytes}
 use Rattle.nx_envelope.specs.declared.found.How.{How}
@@ -75,45 +76,21 @@ or_cases : {A : Type 0} (o p : Option A) (x : A) → option_or o p ≡ Some x �
 or_cases (Some y) p x e = inl e
 or_cases None p x e = inr e
 
-identity_forth : (text : List ℕ) (i : Identity) → read_identity text ≡ Some i → text ≡ identity_bytes i
-unfolding read_identity
-identity_forth text i e =
-    let near : Identity = nearest_identity text in
-    let p = if_some (bytes_eq text (identity_bytes near)) (Some near) i e in
-    let same : near ≡ i = let q = p.1 in cc in
-    (bytes_eq-Decides text (identity_bytes near)).0 p.0 ∙ ap identity_bytes same
-
-record Spaced (text : List ℕ) (i : Identity) : Type 0 where
-  more : ℕ
-  is : text ≡ replicate (more + 1) 32 ++ identity_bytes i
-
-one_space : (b : ℕ) (text : List ℕ) (i : Identity) → b ≡ 32 → text ≡ identity_bytes i → Spaced (b ∷ text) i
-one_space b text i space is = record { more = 0; is = rw (space, is) refl }
-
-more_spaces : (b : ℕ) (text : List ℕ) (i : Identity) → b ≡ 32 → Spaced text i → Spaced (b ∷ text) i
-more_spaces b text i space s =
-    let one = replicate-one (s.more + 1) 32 in
-    record { more = s.more + 1; is = rw (space, one) (ap (λ (xs : List ℕ). 32 ∷ xs) s.is) }
-
-spaced_forth : (text : List ℕ) (i : Identity) → read_spaced text ≡ Some i → Spaced text i
-unfolding read_spaced
-spaced_forth [] i e = absurd (cc)
-spaced_forth (b ∷ text) i e =
-    let p = if_some (b == 32) (option_or (read_identity text) (read_spaced text)) i e in
-    let space = eq_is b 32 p.0 in
-    elim (or_cases (read_identity text) (read_spaced text) i p.1) [
-      | inl here ↦ one_space b text i space (identity_forth text i here)
-      | inr later ↦ more_spaces b text i space (spaced_forth text i later)
-    ]
-
 header_forth : (text : List ℕ) (i : Identity) → read_header text ≡ Some i → EndsWithHeader text i
 unfolding read_header
 header_forth text i e =
-    let p = if_some _ (read_spaced (drop 4 text)) i e in
-    let start : take 4 text ≡ start_marker = (bytes_eq-Decides (take 4 text) start_marker).0 p.0 in
-    let s = spaced_forth (drop 4 text) i p.1 in
-    let joined : text ≡ start_marker ++ (replicate (s.more + 1) 32 ++ identity_bytes i) = sym (take-append-drop 4 text) ∙ ap (λ (xs : List ℕ). xs ++ drop 4 text) start ∙ ap (λ (xs : List ℕ). start_marker ++ xs) s.is in
-    record { front = []; more_spaces = s.more; spelled = joined ∙ sym (append_assoc start_marker (replicate (s.more + 1) 32) (identity_bytes i)) }
+    let near : Identity = nearest_identity (last_of 4 text) in
+    let spelled : List ℕ = start_marker ++ replicate (length text - 8) 32 ++ identity_bytes near in
+    let p = if_some (bytes_eq text spelled && nat_le 9 (length text)) (Some near) i e in
+    let q = and_parts (bytes_eq text spelled) (nat_le 9 (length text)) p.0 in
+    let same : near ≡ i = let r = p.1 in cc in
+    let long : 9 ≤ length text = leb-true 9 (length text) q.1 in
+    let more : length text - 8 ≡ length text - 9 + 1 = omega arith in
+    let is : text ≡ spelled = (bytes_eq-Decides text spelled).0 q.0 in
+    let whole : text ≡ start_marker ++ replicate (length text - 9 + 1) 32 ++ identity_bytes i =
+    is ∙ ap (λ (n : ℕ). start_marker ++ replicate n 32 ++ identity_bytes near) more
+    ∙ ap (λ (j : Identity). start_marker ++ replicate (length text - 9 + 1) 32 ++ identity_bytes j) same in
+    record { front = []; more_spaces = length text - 9; spelled = whole }
 
 behind : (b : ℕ) (text : List ℕ) (i : Identity) → EndsWithHeader text i → EndsWithHeader (b ∷ text) i
 behind b text i h = record { front = b ∷ h.front; more_spaces = h.more_spaces; spelled = ap (λ (xs : List ℕ). b ∷ xs) h.spelled }
@@ -139,25 +116,32 @@ gives_second : {A : Type 0} (o p : Option A) → Gives p → Gives (option_or o 
 gives_second (Some x) p g = record { it = x; is = refl }
 gives_second None p g = g
 
-identity_reads : (i : Identity) → read_identity (identity_bytes i) ≡ Some i
-unfolding read_identity
-identity_reads i =
-    let bytes : List ℕ = identity_bytes i in
-    let P : Identity → Type 0 = λ (j : Identity). (if bytes_eq bytes (identity_bytes j) then Some j else None) ≡ Some i in
-    let same : bytes_eq bytes bytes ≡ true = (bytes_eq-Decides bytes bytes).1 refl in
-    subst P (sym (nearest_identity-is i)) (rw same refl)
+last_is : (front back : List ℕ) → length back ≡ 4 → last_of 4 (front ++ back) ≡ back
+last_is front back four =
+    let long : length (front ++ back) - 4 ≡ length front = omega (arith, length-append front back, four) in
+    ap (λ (n : ℕ). drop n (front ++ back)) long ∙ drop-append_seam front back
 
-spaced_reads : (n : ℕ) (i : Identity) → Gives (read_spaced (replicate (n + 1) 32 ++ identity_bytes i))
-unfolding read_spaced
-spaced_reads zero i = gives_first (read_identity (identity_bytes i)) _ (record { it = i; is = identity_reads i })
-spaced_reads (suc n) i =
-    let one : suc n + 1 ≡ (n + 1) + 1 = omega arith in
-    let more = replicate-one (n + 1) 32 in
-    rw (one, more) (gives_second (read_identity (replicate (n + 1) 32 ++ identity_bytes i)) _ (spaced_reads n i))
+header_spelled : (text spaces : List ℕ) (i : Identity) → (text ≡ (start_marker ++ spaces) ++ identity_bytes i) → nearest_identity (last_of 4 text) ≡ i
+header_spelled text spaces i e =
+    ap (λ (xs : List ℕ). nearest_identity (last_of 4 xs)) e
+    ∙ ap nearest_identity (last_is (start_marker ++ spaces) (identity_bytes i) refl) ∙ nearest_identity-is i
 
 header_reads : (n : ℕ) (i : Identity) → Gives (read_header (start_marker ++ (replicate (n + 1) 32 ++ identity_bytes i)))
 unfolding read_header
-header_reads n i = spaced_reads n i
+header_reads n i =
+    let spaces : List ℕ = replicate (n + 1) 32 in
+    let text : List ℕ = start_marker ++ (spaces ++ identity_bytes i) in
+    let joined : text ≡ (start_marker ++ spaces) ++ identity_bytes i = sym (append_assoc start_marker spaces (identity_bytes i)) in
+    let near : nearest_identity (last_of 4 text) ≡ i = header_spelled text spaces i joined in
+    let room : length spaces ≡ n + 1 = length-replicate (n + 1) 32 in
+    let long : length text ≡ n + 9 = omega (arith, length-append spaces (identity_bytes i), room) in
+    let count : length text - 8 ≡ n + 1 = omega (arith, long) in
+    let P : ℕ → Identity → Type 0 = λ (k : ℕ) (j : Identity). (bytes_eq text (start_marker ++ replicate k 32 ++ identity_bytes j) && nat_le 9 (length text)) ≡ true in
+    let same : bytes_eq text (start_marker ++ spaces ++ identity_bytes i) ≡ true = (bytes_eq-Decides text (start_marker ++ spaces ++ identity_bytes i)).1 joined in
+    let enough : nat_le 9 (length text) ≡ true = le-leb 9 (length text) (omega (arith, long)) in
+    let here : P (n + 1) i = rw (same, enough) refl in
+    let holds : P (length text - 8) (nearest_identity (last_of 4 text)) = subst (λ (k : ℕ). P k (nearest_identity (last_of 4 text))) (sym count) (subst (P (n + 1)) (sym near) here) in
+    record { it = nearest_identity (last_of 4 text); is = rw holds refl }
 
 end_reads : (front : List ℕ) (n : ℕ) (i : Identity) → Gives (identity_at_end (front ++ (start_marker ++ (replicate (n + 1) 32 ++ identity_bytes i))))
 unfolding identity_at_end

@@ -1,7 +1,7 @@
 -- ITU-R M.540: a message begins with the letters ZCZC, a space, the station, the subject and a
 -- number of two digits, and ends with the letters NNNN; that more than one space may stand in a
 -- header is this profile's.
-use Rattle.std.specs.Prelude.{◌≡◌, ℕ, ◌+◌, ◌-◌, ◌*◌, ◌≤◌, ◌==◌, min, max, List, [], ◌∷◌, ◌++◌, length, take, drop, replicate, slice_index, codes, Bool, if◌then◌else◌, Option, Some, None}
+use Rattle.std.specs.Prelude.{◌≡◌, ℕ, ◌+◌, ◌-◌, ◌*◌, ◌≤◌, ◌&&◌, nat_le, min, max, List, [], ◌∷◌, ◌++◌, length, take, drop, replicate, slice_index, codes, Bool, if◌then◌else◌, Option, Some, None}
 use Rattle.std.specs.Option.{option_or}
 use Rattle.std.specs.Str.{bytes_eq}
 use Rattle.std.proofs.Common.{lit≤}
@@ -80,23 +80,14 @@ nearest_identity bytes = record {
   two_digits = min-le_left 99 ((slice_index bytes 2 - 48) * 10 + (slice_index bytes 3 - 48));
 }
 
--- the identity whose letters and digits these are
-unfoldable pub read_identity : List ℕ → Option Identity
-read_identity bytes =
-    if bytes_eq bytes (identity_bytes (nearest_identity bytes))
-    then Some (nearest_identity bytes)
-    else None
-
--- the identity where a text is one or more spaces and an identity
-unfoldable pub read_spaced : List ℕ → Option Identity
-read_spaced [] = None
-read_spaced (b ∷ text) =
-    if b == space then option_or (read_identity text) (read_spaced text) else None
-
--- the identity where a text is a header: ZCZC, one or more spaces and an identity
+-- the identity where a text is a header: ZCZC, one or more spaces and the identity
 unfoldable pub read_header : List ℕ → Option Identity
 read_header text =
-    if bytes_eq (take 4 text) start_marker then read_spaced (drop 4 text) else None
+    let identity = nearest_identity (last_of 4 text) in
+    let spaces = replicate (length text - 8) space in
+    if bytes_eq text (start_marker ++ spaces ++ identity_bytes identity) && nat_le 9 (length text)
+    then Some identity
+    else None
 
 -- the identity of the header with which a text ends, wherever that begins
 unfoldable pub identity_at_end : List ℕ → Option Identity

@@ -9,7 +9,7 @@ use Rattle.nx_envelope.specs.declared.digit.Digit.{Digit}
 use Rattle.nx_envelope.specs.declared.found.How.TheVariants.{Full}
 use Rattle.nx_envelope.specs.declared.identity.Identity.{Identity}
 use Rattle.nx_envelope.specs.declared.letter.Letter.{Letter}
-use Rattle.nx_envelope.specs.Header.{nearest_identity, read_identity, read_spaced, read_header, identity_at_end, marker_at_end}
+use Rattle.nx_envelope.specs.Header.{nearest_identity, read_header, identity_at_end, marker_at_end}
 use Rattle.nx_envelope.specs.Copies.{Copy, beginnings, header_at_end, headers, raw_text, ending_by_marker, ending_of, ended_copy, closed_copy, copies}
 use Rattle.nx_envelope.proofs.Examples.{slot_of_e}
 use Rattle.nx_envelope.proofs.Identities.{same_identity-true}
@@ -49,7 +49,7 @@ found : Copy
 found = record { header = record { identity = found_identity; behind = 9 }; how = Full; text = codes "TEST\n" }
 
 copies_are : copies (codes "ZCZC EA01\nTEST\nNNNN\n\n") ≡ found ∷ []
-unfolding found found_identity copies headers beginnings header_at_end identity_at_end read_header read_spaced read_identity raw_text ending_by_marker marker_at_end ending_of ended_copy closed_copy
+unfolding found found_identity copies headers beginnings header_at_end identity_at_end read_header raw_text ending_by_marker marker_at_end ending_of ended_copy closed_copy
 copies_are = refl
 
 same_name : found_identity ≡ ea01
