@@ -90,7 +90,7 @@ fn framed_positions(alloc: Global, combs: &[Comb]) -> Result<Vec<Position>, Allo
         map sent_position positions.items
         ≡ framed_positions (map (λ comb. comb.number) combs.now)) }
 {
-    let mut positions = Vec::new(alloc);
+    let mut positions = Vec::with_capacity(alloc, 4 + combs.len() + 3)?;
     positions.extend_from_slice(&[Position::Phasing; 4])?;
     for comb in combs {
         positions.push(Position::Traffic(*comb))?;
