@@ -1,5 +1,5 @@
 -- The lines of an emission, position by position, and the digits of its words.
-use Rattle.std.proofs.Common.{◌≡◌, ℕ, ◌+◌, ◌-◌, ◌*◌, ◌/◌, ◌%◌, ◌<◌, ◌≤◌, min, Bool, true, List, [], ◌∷◌, ◌++◌, length, map, take, drop, bit_and, bit_or, bytes_eq, refl, sym, ap, ◌∙◌, subst, append_assoc, append-nil, arith, inl, inr, take-append-drop}
+use Rattle.std.proofs.Common.{◌≡◌, ℕ, ◌+◌, ◌-◌, ◌*◌, ◌<◌, ◌≤◌, min, true, List, [], ◌∷◌, ◌++◌, length, map, take, drop, bit_and, bit_or, bytes_eq, refl, sym, ap, ◌∙◌, append-nil, arith, inl, inr, take-append-drop}
 use Rattle.std.specs.List.{flat_map, range_with_len, take-map}
 use Rattle.std.specs.Int.{div_ceil, to_le_bytes, w64}
 use Rattle.std.proofs.Math.Seq.{take-append-add}

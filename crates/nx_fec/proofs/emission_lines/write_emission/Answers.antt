@@ -1,5 +1,4 @@
-use Rattle.std.proofs.Common.{◌≡◌, ◌≤◌, [], ◌∙◌, ap, arith, refl, length, map}
-use Rattle.std.specs.Int.{div_ceil}
+use Rattle.std.proofs.Common.{◌≡◌, [], ◌∙◌, ap, arith, refl, map}
 use Rattle.std.proofs.lemmas.List.{length-map}
 use Rattle.nx_fec.specs.BitLines.{bit_line}
 use Rattle.nx_fec.specs.Emission.{bits_of, emission, sent_position}
