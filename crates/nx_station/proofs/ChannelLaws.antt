@@ -10,7 +10,7 @@ use Rattle.nx_fec.specs.Emission.{SentPosition, phasing_position, traffic_positi
 use Rattle.nx_fec.specs.Pairing.{Counted, traffic, idle_signal, nothing, counts_as, pairing}
 use Rattle.nx_fec.proofs.EmissionLemmas.{phasing_1-words, phasing_2-words, word_sent-dx, word_sent-rx}
 use Rattle.nx_fec.proofs.PairingLemmas.{counts_as-words, counts_as-combination, counts_as-wrong}
-use Rattle.nx_station.specs.Channel.{PassesChannel, IsAsSent, IsWrongIn, heard_in, first_slot, message_slot, slots_of, one_if_wrong, wrong_words, first_position, window, most_wrong}
+use Rattle.nx_station.specs.Channel.{PassesChannel, IsAsSent, heard_in, first_slot, message_slot, slots_of, one_if_wrong, wrong_words, window, most_wrong}
 use Rattle.nx_station.proofs.ChannelCounts.{right-counts_none, one_if_wrong-le, wrong_words-add, wrong_words-le, wrong_words-none, wrong_words-one}
 use Rattle.nx_station.proofs.ChannelPositions.{HasInner, IsInner, inner-no_end, position-end, position-inner}
 use Rattle.nx_station.proofs.WordWeights.{phasing_1-weight, dx-weight, rx-weight}
@@ -82,7 +82,7 @@ taken-rx end_position = refl
 
 module _ (positions : List SentPosition) (heard : List ℕ) (has : HasInner positions) (passes : PassesChannel positions heard) where
   in_code : (i : ℕ) → IsInCode (position_at positions i)
-  in_code i = elim (cases_lt (i + 3) (length positions)) [
+  in_code i = elim (cases_lt (i + end_positions) (length positions)) [
     | inl inside ↦ inner-in_code (position_at positions i) (position-inner positions has i inside)
     | inr outside ↦ subst IsInCode (sym (position-end positions has i outside)) tt
   ]
@@ -99,14 +99,14 @@ module _ (positions : List SentPosition) (heard : List ℕ) (has : HasInner posi
             subst (λ s. weight (word_sent positions s) ≡ 4) e (ap weight (word_sent-rx positions ((slot - 5) / 2)) ∙ rx-weight (position_at positions ((slot - 5) / 2)) (in_code ((slot - 5) / 2)))
       ]
 
-  heard-or_wrong : (slot : ℕ) → first_slot ≤ slot → slot < slots_of positions → IsAsSent positions heard slot ⊎ IsWrongIn heard slot
+  heard-or_wrong : (slot : ℕ) → first_slot ≤ slot → slot < slots_of positions → IsAsSent positions heard slot ⊎ (weight (heard_in heard slot) ≢ 4)
   heard-or_wrong slot from to = elim (cases_lt slot message_slot) [
     | inl early ↦ inl (passes.phasing slot from early)
     | inr late ↦ passes.later slot late to
   ]
 
   -- of each position but those of the end at least one word is as sent
-  one-as_sent : (i : ℕ) → first_position ≤ i → i + end_positions < length positions → IsAsSent positions heard (2 * i) ⊎ IsAsSent positions heard (2 * i + 5)
+  one-as_sent : (i : ℕ) → first_slot ≤ 2 * i → i + end_positions < length positions → IsAsSent positions heard (2 * i) ⊎ IsAsSent positions heard (2 * i + 5)
   one-as_sent i from to = elim (cases_lt i first_phasing) [
     | inl early ↦ inl (passes.phasing (2 * i) (omega arith) (omega arith))
     | inr late ↦ passes.one_of_two i late (omega arith) (inner-no_end (position_at positions i) (position-inner positions has i to))
@@ -116,7 +116,7 @@ module _ (positions : List SentPosition) (heard : List ℕ) (has : HasInner posi
   as_sent-counts_none slot from h = right-counts_none (heard_in heard slot) (ap weight h ∙ sent-weight slot from)
 
   -- so at most one of its two words is wrong
-  pair-le : (i : ℕ) → first_position ≤ i → i + end_positions < length positions → one_if_wrong (heard_in heard (2 * i)) + one_if_wrong (heard_in heard (2 * i + 5)) ≤ 1
+  pair-le : (i : ℕ) → first_slot ≤ 2 * i → i + end_positions < length positions → one_if_wrong (heard_in heard (2 * i)) + one_if_wrong (heard_in heard (2 * i + 5)) ≤ 1
   pair-le i from to = elim (one-as_sent i from to) [
     | inl dx ↦ omega (arith, as_sent-counts_none (2 * i) (omega arith) dx, one_if_wrong-le (heard_in heard (2 * i + 5)))
     | inr rx ↦ omega (arith, as_sent-counts_none (2 * i + 5) (omega arith) rx, one_if_wrong-le (heard_in heard (2 * i)))
@@ -135,7 +135,7 @@ module _ (positions : List SentPosition) (heard : List ℕ) (has : HasInner posi
 
   -- From an even slot on, of so many pairs of words at most one each is wrong, besides the last two DX words: the RX words
   -- of these two positions come later.
-  pairs-le : (a m : ℕ) → first_position ≤ a → 2 * a + 2 * m + 4 ≤ slots_of positions
+  pairs-le : (a m : ℕ) → first_slot ≤ 2 * a → 2 * a + 2 * m + 4 ≤ slots_of positions
       → wrong_words (heard_in heard) (2 * a) (2 * m + 4) ≤ m + 2 + one_if_wrong (heard_in heard (2 * (a + m))) + one_if_wrong (heard_in heard (2 * (a + m + 1)))
   pairs-le a zero from to =
       let e : 2 * 0 + 4 ≡ (0 + 2) + 2 = omega arith in
@@ -157,7 +157,7 @@ module _ (positions : List SentPosition) (heard : List ℕ) (has : HasInner posi
       omega (arith, wrong-two (2 * a) (2 * m + 4))
 
   -- from an even slot on, at most half of the words and two more are wrong; of an odd number of words, one more
-  even-le : (a n : ℕ) → first_position ≤ a → 2 * a + n ≤ slots_of positions → wrong_words (heard_in heard) (2 * a) n ≤ n / 2 + n % 2 + 2
+  even-le : (a n : ℕ) → first_slot ≤ 2 * a → 2 * a + n ≤ slots_of positions → wrong_words (heard_in heard) (2 * a) n ≤ n / 2 + n % 2 + 2
   even-le a n from to = elim (cases_lt n 4) [
     | inl few ↦ omega (arith, wrong_words-le (heard_in heard) (2 * a) n)
     | inr more ↦
@@ -170,7 +170,7 @@ module _ (positions : List SentPosition) (heard : List ℕ) (has : HasInner posi
         omega (arith, wrong_words-add (heard_in heard) (2 * a) (2 * (n / 2 - 2) + 4) (n % 2))
   ]
 
-  -- of any 64 successive words, or of fewer, at most 35 are wrong
+  -- of the words of a window, or of fewer, few are wrong
   pub few-wrong : (slot n : ℕ) → first_slot ≤ slot → n ≤ window → slot + n ≤ slots_of positions → wrong_words (heard_in heard) slot n ≤ most_wrong
   few-wrong slot n from some to = elim (cases_eq (slot % 2) 0) [
     | inl even ↦
@@ -192,7 +192,7 @@ module _ (positions : List SentPosition) (heard : List ℕ) (has : HasInner posi
   ]
 
   -- no DX word before the end is phasing signal 1: a word that is damaged has the wrong weight
-  pub no-phasing_1 : (i : ℕ) → first_position ≤ i → i + end_positions < length positions → heard_in heard (2 * i) ≢ phasing_1
+  pub no-phasing_1 : (i : ℕ) → first_slot ≤ 2 * i → i + end_positions < length positions → heard_in heard (2 * i) ≢ phasing_1
   no-phasing_1 i from to h = elim (heard-or_wrong (2 * i) (omega arith) (omega arith)) [
     | inl sent ↦ inner-no_phasing_1 (position_at positions i) (position-inner positions has i to) (sym (word_sent-dx positions i) ∙ sym sent ∙ h)
     | inr damaged ↦ damaged (ap weight h ∙ phasing_1-weight)
@@ -208,7 +208,7 @@ module _ (positions : List SentPosition) (heard : List ℕ) (has : HasInner posi
   taken : (i : ℕ) (a b c d : Counted) → a ≡ c → b ≡ d → pairing c d ≡ reception (position_at positions i) → pairing a b ≡ reception (position_at positions i)
   taken i a b c d e g h = ap (λ x. pairing x b) e ∙ ap (pairing c) g ∙ h
 
-  pub taken-as_sent : (i : ℕ) → first_position ≤ i → i + end_positions < length positions → pairing (counts_as (heard_in heard (2 * i))) (counts_as (heard_in heard (2 * i + 5))) ≡ reception (position_at positions i)
+  pub taken-as_sent : (i : ℕ) → first_slot ≤ 2 * i → i + end_positions < length positions → pairing (counts_as (heard_in heard (2 * i))) (counts_as (heard_in heard (2 * i + 5))) ≡ reception (position_at positions i)
   taken-as_sent i from to =
       let p = position_at positions i in
       elim (one-as_sent i from to) [

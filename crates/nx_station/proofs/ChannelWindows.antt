@@ -11,7 +11,7 @@ use Rattle.nx_fec.proofs.RoundTripLemmas.{length-bits_of, words_of-bits_of}
 use Rattle.nx_fec.proofs.AlignedLemmas.{get_or-words_of}
 use Rattle.nx_station.specs.Broadcast.{IsBroadcast, layout}
 use Rattle.nx_envelope.specs.Message.{MessageView}
-use Rattle.nx_station.specs.Channel.{PassesChannel, heard_in, first_slot, message_slot, slots_of, wrong_words, window, most_wrong}
+use Rattle.nx_station.specs.Channel.{PassesChannel, heard_in, first_slot, message_slot, phasing_received, slots_of, wrong_words, window, most_wrong}
 use Rattle.nx_station.proofs.ChannelCounts.{is_wrong_word, wrong_words-add, wrong_words-count, wrong_words-le, wrong_words-none, wrong_words-same}
 use Rattle.nx_station.proofs.ChannelLaws.{few-wrong, sent-weight}
 use Rattle.nx_station.proofs.ChannelPositions.{HasInner, layout-inner}
@@ -59,8 +59,9 @@ module _ (positions : List SentPosition) (heard : List ℕ) (has : HasInner posi
       index : (first j : ℕ) → first + first_slot + j - first_slot ≡ first + j
       index first j = omega arith
 
-  -- The last 64 words up to a word of the emission, in a lock whose word `whole` stands in slot 144, or all up to it where
-  -- they are fewer. Where they reach further back than slot 96, they hold all 48 words of slots 96 to 143.
+  -- The window of words up to a word of the emission, in a lock whose word `whole` is the first of the first message, or all
+  -- up to it where they are fewer. Where they reach further back than the first slot, they hold all words of the phasing
+  -- that is received.
   pub few-in_lock : (words : ℕ → ℕ) (whole : ℕ)
       → ((k slot : ℕ) → k + message_slot ≡ slot + whole → first_slot ≤ slot → slot < slots_of positions → words k ≡ heard_in heard slot)
       → (k slot : ℕ) → k + message_slot ≡ slot + whole → message_slot ≤ slot → slot < slots_of positions
@@ -68,19 +69,19 @@ module _ (positions : List SentPosition) (heard : List ℕ) (has : HasInner posi
   few-in_lock words whole same k slot here from to =
       let f : ℕ = k + 1 - window in
       let n : ℕ = k + 1 - (k + 1 - window) in
-      elim (cases_lt (slot - 95) (k + 1 - (k + 1 - window))) [
+      elim (cases_lt (slot + 1 - first_slot) (k + 1 - (k + 1 - window))) [
         | inl back ↦
-            let c : ℕ = slot - 95 in
-            let before = wrong_words-le words (k + 1 - window) (k + 1 - (k + 1 - window) - (slot - 95)) in
-            let split : k + 1 - (k + 1 - window) ≡ (k + 1 - (k + 1 - window) - (slot - 95)) + (slot - 95) = omega arith in
+            let c : ℕ = slot + 1 - first_slot in
+            let before = wrong_words-le words (k + 1 - window) (k + 1 - (k + 1 - window) - (slot + 1 - first_slot)) in
+            let split : k + 1 - (k + 1 - window) ≡ (k + 1 - (k + 1 - window) - (slot + 1 - first_slot)) + (slot + 1 - first_slot) = omega arith in
             let both = ap (wrong_words words (k + 1 - window)) split in
-            let sum = wrong_words-add words (k + 1 - window) (k + 1 - (k + 1 - window) - (slot - 95)) (slot - 95) in
-            let heard_part = wrong_words-same words (heard_in heard) ((k + 1 - window) + (k + 1 - (k + 1 - window) - (slot - 95))) first_slot (slot - 95) (λ j lt. same (k + 1 - window + (k + 1 - (k + 1 - window) - (slot - 95)) + j) (first_slot + j) (omega arith) (omega arith) (omega arith)) in
-            let parts : slot - 95 ≡ 48 + (slot - 95 - 48) = omega arith in
+            let sum = wrong_words-add words (k + 1 - window) (k + 1 - (k + 1 - window) - (slot + 1 - first_slot)) (slot + 1 - first_slot) in
+            let heard_part = wrong_words-same words (heard_in heard) ((k + 1 - window) + (k + 1 - (k + 1 - window) - (slot + 1 - first_slot))) first_slot (slot + 1 - first_slot) (λ j lt. same (k + 1 - window + (k + 1 - (k + 1 - window) - (slot + 1 - first_slot)) + j) (first_slot + j) (omega arith) (omega arith) (omega arith)) in
+            let parts : slot + 1 - first_slot ≡ 2 * phasing_received + (slot + 1 - message_slot) = omega arith in
             let two = ap (wrong_words (heard_in heard) first_slot) parts in
-            let added = wrong_words-add (heard_in heard) first_slot 48 (slot - 95 - 48) in
-            let right = wrong_words-none (heard_in heard) first_slot 48 (λ j lt. ap weight (passes.phasing (first_slot + j) (omega arith) (omega arith)) ∙ sent-weight positions heard has passes (first_slot + j) (omega arith)) in
-            let later = wrong_words-le (heard_in heard) (first_slot + 48) (slot - 95 - 48) in
+            let added = wrong_words-add (heard_in heard) first_slot (2 * phasing_received) (slot + 1 - message_slot) in
+            let right = wrong_words-none (heard_in heard) first_slot (2 * phasing_received) (λ j lt. ap weight (passes.phasing (first_slot + j) (omega arith) (omega arith)) ∙ sent-weight positions heard has passes (first_slot + j) (omega arith)) in
+            let later = wrong_words-le (heard_in heard) (first_slot + 2 * phasing_received) (slot + 1 - message_slot) in
             omega arith
         | inr inside ↦
             let heard_part = wrong_words-same words (heard_in heard) (k + 1 - window) (slot + 1 - (k + 1 - (k + 1 - window))) (k + 1 - (k + 1 - window)) (λ j lt. same (k + 1 - window + j) (slot + 1 - (k + 1 - (k + 1 - window)) + j) (omega arith) (omega arith) (omega arith)) in
