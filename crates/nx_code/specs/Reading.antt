@@ -18,9 +18,8 @@ pub data Reception : Type 0 where
 
 -- the character that a cell holds; an empty cell has none, and a name is none
 abbrev pub character_of_cell : List ℕ → Option ℕ
-character_of_cell [] = None
 character_of_cell (c ∷ []) = Some c
-character_of_cell (c ∷ d ∷ cs) = None
+character_of_cell cell = None
 
 -- what a combination prints in a shift: a newline for 28, a space for 31, else the character of its
 -- row
@@ -48,8 +47,7 @@ shift_set (combination number) =
     if number == 29
     then Some Letters
     else (if number == 30 then Some Figures else None)
-shift_set idle = None
-shift_set lost = None
+shift_set position = None
 
 -- the shift in force after a position
 abbrev pub shift_after : Reception → Shift → Shift

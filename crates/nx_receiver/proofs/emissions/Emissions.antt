@@ -4,7 +4,7 @@ use Rattle.std.specs.List.{Contains, flat_map}
 use Rattle.std.proofs.lemmas.List.{length-append, length-replicate, get_or-replicate, get_or_append_left, get_or-append_right}
 use Rattle.std.proofs.lemmas.List.Elements.{Contains-append_left, Contains-append_right}
 use Rattle.nx_code.specs.Table.{phasing_1, phasing_2}
-use Rattle.nx_code.specs.Word.{weight}
+use Rattle.nx_code.specs.Word.{weight, is_wrong, wrong_in}
 use Rattle.nx_envelope.specs.Message.{text_of, MessageView}
 use Rattle.nx_envelope.specs.declared.found.How.TheVariants.{Full}
 use Rattle.nx_fec.specs.Emission.{SentPosition, phasing_position, end_position, dx_word, rx_word, position_at, bits_of, reception}
@@ -16,7 +16,8 @@ use Rattle.nx_station.specs.Channel.{PassesChannel, heard_in, wrong_words, first
 use Rattle.nx_station.specs.Sendings.{IsReceived, digit_slot}
 use Rattle.nx_station.proofs.ChannelLaws.{few-wrong, no-phasing_1, taken-as_sent}
 use Rattle.nx_station.proofs.ChannelPositions.{HasInner, layout-inner}
-use Rattle.nx_sync.specs.Words.{word_of_lock, first_role, one_if, is_wrong, wrong_in, whole_words}
+use Rattle.nx_sync.specs.Words.{word_of_lock, first_role, whole_words}
+use Rattle.nx_sync.proofs.Counts.{one_if}
 use Rattle.nx_sync.specs.Locks.{Lock, Now, locked, IsNow}
 use Rattle.nx_receiver.specs.FoundCopies.{FoundCopy, ended_in, past_copies, ended_so_far}
 use Rattle.nx_receiver.specs.LockText.{word_place, lock_text}
