@@ -1,6 +1,6 @@
 -- The channel: in which words an emission may be received (this profile). Words are those of slots;
 -- what arrives of the slots before the first slot belongs to the gap before the emission.
-use Rattle.std.specs.Prelude.{◌≡◌, ◌≢◌, ℕ, zero, suc, ◌+◌, ◌-◌, ◌*◌, ◌<◌, ◌≤◌, ◌==◌, ◌⊎◌, if◌then◌else◌, List, [], ◌∷◌, length, slice_index}
+use Rattle.std.specs.Prelude.{◌≡◌, ◌≢◌, ℕ, zero, suc, ◌+◌, ◌-◌, ◌*◌, ◌<◌, ◌≤◌, ◌⊎◌, List, [], ◌∷◌, length, slice_index}
 use Rattle.nx_code.specs.Table.{phasing_1, phasing_2}
 use Rattle.nx_code.specs.Word.{weight}
 use Rattle.nx_station.specs.Broadcast.{first_phasing}
@@ -50,15 +50,6 @@ pub record PassesChannel (positions : List SentPosition) (heard : List ℕ) : Ty
       → IsAsSent positions heard slot ⊎ (weight (heard_in heard slot) ≢ 4)
   pub one_of_two : (i : ℕ) → first_phasing ≤ i → i < length positions → position_at positions i ≢ end_position
       → IsAsSent positions heard (2 * i) ⊎ IsAsSent positions heard (2 * i + 5)
-
--- a word of the wrong weight counts one
-abbrev pub one_if_wrong : ℕ → ℕ
-one_if_wrong word = if weight word == 4 then 0 else 1
-
--- how many of the words i to i + n - 1 have the wrong weight
-unfoldable pub wrong_words : (ℕ → ℕ) → ℕ → ℕ → ℕ
-wrong_words words i zero = 0
-wrong_words words i (suc n) = wrong_words words i n + one_if_wrong (words (i + n))
 
 -- P2 P1 as words, so many times
 unfoldable pub phasing_words : ℕ → List ℕ

@@ -1,12 +1,12 @@
 //! Laws of what is received under the channel, each the contract of a function that does nothing.
-ghost use Rattle.std.specs.Prelude.{◌≡◌, ◌≢◌, ℕ, ◌+◌, ◌-◌, ◌*◌, ◌%◌, ◌<◌, ◌≤◌, ◌==◌, not, Bool, List, [], ◌∷◌, ◌++◌, Some, count_by, drop, length, slice_get, take};
+ghost use Rattle.std.specs.Prelude.{◌≡◌, ◌≢◌, ℕ, ◌+◌, ◌-◌, ◌*◌, ◌%◌, ◌<◌, ◌≤◌, Bool, List, [], ◌∷◌, ◌++◌, Some, count_by, drop, length, slice_get, take};
 ghost use Rattle.nx_code.specs.Table.{phasing_1, traffic_word};
-ghost use Rattle.nx_code.specs.Word.{weight, word_from};
+ghost use Rattle.nx_code.specs.Word.{is_wrong, word_from, wrong_in};
 ghost use Rattle.nx_envelope.specs.Message.{MessageView};
 ghost use Rattle.nx_fec.specs.Emission.{SentPosition, bits_of, emission, position_at, reception, word_sent};
 ghost use Rattle.nx_fec.specs.Pairing.{counts_as, pairing};
 ghost use Rattle.nx_station.specs.Broadcast.{AreSpelled, IsBroadcast, digit_combination, end_positions, layout};
-ghost use Rattle.nx_station.specs.Channel.{PassesChannel, first_slot, heard_in, message_slot, most_wrong, phasing_received, phasing_words, slots_of, window, wrong_words};
+ghost use Rattle.nx_station.specs.Channel.{PassesChannel, first_slot, heard_in, message_slot, most_wrong, phasing_received, phasing_words, slots_of, window};
 ghost use Rattle.nx_station.specs.ChannelExample.{example_emission, example_numbers, example_parts, example_sending, heard_half, heard_without_75};
 ghost use Rattle.nx_station.specs.Sendings.{IsCut, IsReceived, IsSending, StandsFrom, digit_slot, positions_before};
 
@@ -18,12 +18,12 @@ pub fn few_words_are_wrong()
     ensures few { (messages : List MessageView) (positions : List SentPosition) (heard : List ℕ)
         → IsBroadcast messages positions → PassesChannel positions heard
         → (first n : ℕ) → n ≤ window
-        → count_by (λ word. not (weight word == 4)) (take n (drop first heard)) ≤ most_wrong }
+        → count_by is_wrong (take n (drop first heard)) ≤ most_wrong }
     ensures by_slots { (messages : List MessageView) (positions : List SentPosition)
         (heard : List ℕ)
         → IsBroadcast messages positions → PassesChannel positions heard
         → (slot n : ℕ) → first_slot ≤ slot → n ≤ window → slot + n ≤ slots_of positions
-        → wrong_words (heard_in heard) slot n ≤ most_wrong }
+        → wrong_in (heard_in heard) slot n ≤ most_wrong }
     ensures in_a_lock { (messages : List MessageView) (positions : List SentPosition)
         (heard : List ℕ)
         → IsBroadcast messages positions → PassesChannel positions heard
@@ -33,7 +33,7 @@ pub fn few_words_are_wrong()
         → words k ≡ heard_in heard slot)
         → (k slot : ℕ) → k + message_slot ≡ slot + whole → message_slot ≤ slot
         → slot < slots_of positions
-        → wrong_words words (k + 1 - window) (k + 1 - (k + 1 - window)) ≤ most_wrong }
+        → wrong_in words (k + 1 - window) (k + 1 - (k + 1 - window)) ≤ most_wrong }
 {}
 
 /// Under the channel no DX word from the first slot on is phasing signal 1 before the positions of
