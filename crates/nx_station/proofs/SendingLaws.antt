@@ -148,7 +148,7 @@ pub refusal-explains : (AtEnd : Type 0) (station from slot : â„•) (file : List â
 refusal-explains AtEnd station from slot file messages old new refusal.NoMessages end few is of next h = absurd (of.some h)
 refusal-explains AtEnd station from slot file messages old new (refusal.MixedStations at) end few is of next h = absurd (of_one-None station messages at of h)
 refusal-explains AtEnd station from slot file messages old new refusal.NoSlot end few is of next h =
-    absurd (h.without (subst HasSlots (same-station station h.station messages of h.of_one) next.is_slot.has_slots))
+    absurd (h.2 (subst HasSlots (same-station station h.0 messages of h.1) next.is_slot.has_slots))
 refusal-explains AtEnd station from slot file messages old new (refusal.SlotFull count) end few is of next h =
     (end, few, record { messages = messages; is_file = is; of_station = of; slot = slot; next = next; positions = h.positions; too_many = h.too_many })
 refusal-explains AtEnd station from slot file messages old new (refusal.Memory error) end few is of next h = tt

@@ -44,12 +44,6 @@ first_of_another (first ∷ messages) =
     (λ (message : MessageView). not (message.identity.b1.byte == first.identity.b1.byte))
     (first ∷ messages)
 
--- the messages are of one station, which has no slots
-pub record HaveNoSlot (messages : List MessageView) : Type 0 where
-  pub station : ℕ
-  pub of_one : AreOf station messages
-  pub without : ¬ HasSlots station
-
 -- the messages are of one station, which has slots, and have so many positions, too many for a slot
 pub record FillSlot (messages : List MessageView) (count : ℕ) : Type 0 where
   pub station : ℕ
@@ -58,10 +52,11 @@ pub record FillSlot (messages : List MessageView) (count : ℕ) : Type 0 where
   pub positions : HavePositions messages count
   pub too_many : max_positions < count
 
--- what a refusal says of the messages; want of memory says that they may be sent
+-- what a refusal says of the messages, `NoSlot` that they are of one station, which has no slots;
+-- want of memory says that they may be sent
 abbrev pub IsRefusal : List MessageView → SendFault → Type 0
 IsRefusal messages NoMessages = messages ≡ []
 IsRefusal messages (MixedStations at) = first_of_another messages ≡ Some at
-IsRefusal messages NoSlot = HaveNoSlot messages
+IsRefusal messages NoSlot = (station : ℕ) × AreOf station messages × (¬ HasSlots station)
 IsRefusal messages (SlotFull positions) = FillSlot messages positions
 IsRefusal messages (Memory error) = IsSendable messages
