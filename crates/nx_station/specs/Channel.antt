@@ -40,15 +40,16 @@ IsAsSent positions heard slot = heard_in heard slot ≡ word_sent positions slot
 -- The emission of these positions passes the channel, and these are the words that are heard from
 -- the first slot on, to its last slot, each by its number. The words before those of the first
 -- message are as sent; each later word is as sent or has the wrong weight; and of each position
--- behind the first phasing that isn't one of the end, at least one of its two words, in the slots 2i
--- and 2i+5, is as sent.
+-- behind the first phasing that isn't one of the end, at least one of its two words, in the slots
+-- 2i and 2i+5, is as sent.
 pub record PassesChannel (positions : List SentPosition) (heard : List ℕ) : Type 0 where
   pub words : AreWords heard
   pub whole : first_slot + length heard ≡ slots_of positions
   pub phasing : (slot : ℕ) → first_slot ≤ slot → slot < message_slot → IsAsSent positions heard slot
   pub later : (slot : ℕ) → message_slot ≤ slot → slot < slots_of positions
       → IsAsSent positions heard slot ⊎ (weight (heard_in heard slot) ≢ 4)
-  pub one_of_two : (i : ℕ) → first_phasing ≤ i → i < length positions → position_at positions i ≢ end_position
+  pub one_of_two : (i : ℕ) → first_phasing ≤ i → i < length positions
+      → position_at positions i ≢ end_position
       → IsAsSent positions heard (2 * i) ⊎ IsAsSent positions heard (2 * i + 5)
 
 -- P2 P1 as words, so many times

@@ -49,7 +49,7 @@ pub record IsCut (bits : List Bool) (parts : List Part) : Type 0 where
 -- phasing before the first message, and that before each further one
 abbrev pub positions_before : List (List ℕ) → ℕ
 positions_before [] = first_phasing
-positions_before (numbers ∷ spellings) = (length numbers + further_phasing) + positions_before spellings
+positions_before (numbers ∷ more) = (length numbers + further_phasing) + positions_before more
 
 -- the slot of the RX of the second digit of message i, which is position 10 of the message
 abbrev pub digit_slot : List (List ℕ) → ℕ → ℕ

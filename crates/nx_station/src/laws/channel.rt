@@ -42,7 +42,8 @@ pub fn few_words_are_wrong()
 pub fn no_phasing_1_before_the_end()
     ensures { (messages : List MessageView) (positions : List SentPosition) (heard : List ℕ)
         → IsBroadcast messages positions → PassesChannel positions heard
-        → (i : ℕ) → first_slot ≤ 2 * i → i + end_positions < length positions → heard_in heard (2 * i) ≢ phasing_1 }
+        → (i : ℕ) → first_slot ≤ 2 * i → i + end_positions < length positions
+        → heard_in heard (2 * i) ≢ phasing_1 }
 {}
 
 /// Under the channel each position from the first slot on, but for those of the end, is taken as it
@@ -93,7 +94,8 @@ pub fn an_undamaged_emission_is_received()
         → messages ≢ [] → IsBroadcast messages positions
         → PassesChannel positions (drop first_slot (emission positions)) }
     ensures cut { (positions : List SentPosition) → bits_of (emission positions)
-        ≡ bits_of (take first_slot (emission positions)) ++ bits_of (drop first_slot (emission positions)) }
+        ≡ bits_of (take first_slot (emission positions))
+        ++ bits_of (drop first_slot (emission positions)) }
 {}
 
 /// The definitions at a worked emission, of EA01 with the line TEST: it is received where the first
