@@ -18,7 +18,7 @@ use Rattle.nx_receiver.specs.Listen.{AreTaken, AreTakenAfter, HasLoggedSome, IsL
 use Rattle.nx_receiver.specs.private.Listener.{BeginsListening}
 use Rattle.nx_receiver.specs.Log.{HasPrinted, IsLog, PrintsToEnd, printed_of}
 use Rattle.nx_receiver.specs.Printing.{entry_made, if_printed, is_printed, printed_copies}
-use Rattle.nx_receiver.specs.Events as given
+use Rattle.nx_receiver.specs.Events as fed
 use Rattle.nx_receiver.specs.Tagged.{TaggedCopy, tag, tagged_copies}
 use Rattle.nx_receiver.proofs.receiving.Log.{log_begins, one_log, some_log}
 use Rattle.nx_receiver.proofs.receiving.Logged.{has_printed_on, one_printed, one_to_end, some_printed, some_to_end}
@@ -35,9 +35,9 @@ IsSetInRange setting = setting.moment ≤ last_moment
 abbrev pub IsCopyInRange : TaggedCopy → Type 0
 IsCopyInRange copy = copy.moment ≤ last_moment
 
-elements-in_range : (bits : List Bool) → All IsInRange (given.elements bits)
+elements-in_range : (bits : List Bool) → All IsInRange (fed.elements bits)
 elements-in_range [] = All-nil IsInRange
-elements-in_range (bit ∷ bits) = All-cons IsInRange (element bit) (given.elements bits) tt (elements-in_range bits)
+elements-in_range (bit ∷ bits) = All-cons IsInRange (element bit) (fed.elements bits) tt (elements-in_range bits)
 
 one-in_range : (event : Event) → IsInRange event → All IsInRange (event ∷ [])
 one-in_range event h = All-cons IsInRange event [] h (All-nil IsInRange)
