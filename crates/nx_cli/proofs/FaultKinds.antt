@@ -1,5 +1,5 @@
 -- Clap's faults of one parse are all help, all the version, or all refusals, for a command with no subcommand `help`.
-use Rattle.std.proofs.Common.{◌≡◌, ◌≢◌, ◌∙◌, ℕ, ◌+◌, zero, suc, ◌&&◌, Bool, true, false, not, List, [], ◌∷◌, Option, Some, None, IfSome, refl, ap, sym, ◌⊎◌, subst, inl, inr, codes, drop, length, slice_get, encode_utf8, is_some, min, if◌then◌else◌}
+use Rattle.std.proofs.Common.{◌≡◌, ◌∙◌, ℕ, ◌+◌, zero, suc, ◌&&◌, Bool, true, false, not, List, [], ◌∷◌, Option, Some, None, IfSome, refl, ap, sym, ◌⊎◌, subst, inl, inr, codes, drop, length, slice_get, encode_utf8, is_some, min, if◌then◌else◌}
 use Rattle.std.specs.Option.{option_map_or}
 use Rattle.std.specs.List.{list_any}
 use Rattle.std.specs.Str.{bytes_eq, chars}
