@@ -2,7 +2,7 @@
 use Rattle.std.proofs.Common.{◌∙◌, ◌||◌, ap, ap₂}
 use Rattle.clap.specs.Words.{AddsSubcommand, App, with_subcommand}
 use Rattle.clap.specs.declared.builder.command.Command.{Command}
-use Rattle.nx_cli.specs.Words.{IsBuiltAs}
+use Rattle.nx_cli.specs.private.Reading.{IsBuiltAs}
 
 pub with_one_more : (a b : App) (old sub new : Command) → IsBuiltAs a old → IsBuiltAs b sub
     → AddsSubcommand old sub new → IsBuiltAs (with_subcommand a b.top) new

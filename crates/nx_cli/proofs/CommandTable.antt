@@ -22,10 +22,9 @@ Entry = Text × Maker
 
 abbrev pub entries : List Entry
 entries =
-    (codes "decode", plain Decode) ∷ (codes "encode", plain Encode) ∷ (codes "code", plain Code)
-    ∷ (codes "show", plain Show) ∷ (codes "check", plain Check) ∷ (codes "listen", plain Listen)
-    ∷ (codes "send", slot (λ s m. Send s m)) ∷ (codes "slots", slot (λ s m. Slots s m))
-    ∷ (codes "damage", range (λ k f c. Damage k f c)) ∷ []
+    (codes "listen", plain Listen) ∷ (codes "send", slot (λ s m. Send s m)) ∷ (codes "slots", slot (λ s m. Slots s m))
+    ∷ (codes "check", plain Check) ∷ (codes "damage", range (λ k f c. Damage k f c)) ∷ (codes "decode", plain Decode)
+    ∷ (codes "encode", plain Encode) ∷ (codes "show", plain Show) ∷ (codes "code", plain Code) ∷ []
 
 -- the call that an entry makes of the arguments, and the one that the entry under this name makes
 abbrev pub made : Maker → List Row → Option Call

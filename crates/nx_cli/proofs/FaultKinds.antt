@@ -1,5 +1,5 @@
--- Clap's faults of one parse are all help or all no help, for a command with no subcommand `help`.
-use Rattle.std.proofs.Common.{◌≡◌, ◌≢◌, ◌∙◌, ℕ, ◌+◌, zero, suc, ◌&&◌, Bool, true, false, not, List, [], ◌∷◌, Option, Some, None, IfSome, refl, ap, sym, ◌⊎◌, subst, inl, inr, codes, drop, length, slice_get, encode_utf8, is_some, min, if◌then◌else◌}
+-- Clap's faults of one parse are all help, all the version, or all refusals, for a command with no subcommand `help`.
+use Rattle.std.proofs.Common.{◌≡◌, ◌∙◌, ℕ, ◌+◌, zero, suc, ◌&&◌, Bool, true, false, not, List, [], ◌∷◌, Option, Some, None, IfSome, refl, ap, sym, ◌⊎◌, subst, inl, inr, codes, drop, length, slice_get, encode_utf8, is_some, min, if◌then◌else◌}
 use Rattle.std.specs.Option.{option_map_or}
 use Rattle.std.specs.List.{list_any}
 use Rattle.std.specs.Str.{bytes_eq, chars}
@@ -18,59 +18,93 @@ use Rattle.clap.specs.declared.builder.value_parser.ValueParser.{ValueParser}
 use Rattle.clap.specs.declared.error.kind.ErrorKind.{ErrorKind}
 use Rattle.clap.specs.declared.error.kind.ErrorKind.TheVariants as kind
 use Rattle.nx_cli.proofs.RowsKept.{or-second}
+use Rattle.nx_cli.specs.Words.{IsRefusal}
 
-abbrev pub is_help : ErrorKind → Bool
-is_help kind.DisplayHelp = true
-is_help _ = false
+-- what an answer of clap is to the program
+pub data Answer : Type 0 where
+  giving_help : Answer
+  giving_version : Answer
+  refusing : Answer
 
-is_help-true : (k : ErrorKind) → is_help k ≡ true → k ≡ kind.DisplayHelp
-is_help-true kind.DisplayHelp is = refl
-is_help-true kind.InvalidValue is = absurd (cc)
-is_help-true kind.UnknownArgument is = absurd (cc)
-is_help-true kind.InvalidSubcommand is = absurd (cc)
-is_help-true kind.NoEquals is = absurd (cc)
-is_help-true kind.ValueValidation is = absurd (cc)
-is_help-true kind.TooManyValues is = absurd (cc)
-is_help-true kind.TooFewValues is = absurd (cc)
-is_help-true kind.WrongNumberOfValues is = absurd (cc)
-is_help-true kind.ArgumentConflict is = absurd (cc)
-is_help-true kind.MissingRequiredArgument is = absurd (cc)
-is_help-true kind.MissingSubcommand is = absurd (cc)
-is_help-true kind.DisplayHelpOnMissingArgumentOrSubcommand is = absurd (cc)
-is_help-true kind.DisplayVersion is = absurd (cc)
-is_help-true kind.Io is = absurd (cc)
-is_help-true kind.Format is = absurd (cc)
-is_help-true kind.OutOfMemory is = absurd (cc)
+abbrev pub answer_of : ErrorKind → Answer
+answer_of kind.DisplayHelp = giving_help
+answer_of kind.DisplayVersion = giving_version
+answer_of _ = refusing
 
--- each kind of the list is help, or each is none
-abbrev pub AreAll : Bool → Kinds → Type 0
+kind_cases : (k : ErrorKind) → (k ≡ kind.DisplayHelp) ⊎ ((k ≡ kind.DisplayVersion) ⊎ (answer_of k ≡ refusing))
+kind_cases kind.DisplayHelp = inl refl
+kind_cases kind.DisplayVersion = inr (inl refl)
+kind_cases kind.InvalidValue = inr (inr refl)
+kind_cases kind.UnknownArgument = inr (inr refl)
+kind_cases kind.InvalidSubcommand = inr (inr refl)
+kind_cases kind.NoEquals = inr (inr refl)
+kind_cases kind.ValueValidation = inr (inr refl)
+kind_cases kind.TooManyValues = inr (inr refl)
+kind_cases kind.TooFewValues = inr (inr refl)
+kind_cases kind.WrongNumberOfValues = inr (inr refl)
+kind_cases kind.ArgumentConflict = inr (inr refl)
+kind_cases kind.MissingRequiredArgument = inr (inr refl)
+kind_cases kind.MissingSubcommand = inr (inr refl)
+kind_cases kind.DisplayHelpOnMissingArgumentOrSubcommand = inr (inr refl)
+kind_cases kind.Io = inr (inr refl)
+kind_cases kind.Format = inr (inr refl)
+kind_cases kind.OutOfMemory = inr (inr refl)
+
+is_refusal : (k : ErrorKind) → answer_of k ≡ refusing → IsRefusal k
+is_refusal k is = (
+  λ e. let bad : refusing ≡ giving_help = sym is ∙ ap answer_of e in absurd (cc),
+  λ e. let bad : refusing ≡ giving_version = sym is ∙ ap answer_of e in absurd (cc),
+)
+
+pub refusal_is : (k : ErrorKind) → IsRefusal k → answer_of k ≡ refusing
+refusal_is k other = elim (kind_cases k) [
+  | inl is ↦ absurd (other.0 is)
+  | inr rest ↦ elim rest [ inl is ↦ absurd (other.1 is) | inr is ↦ is ]
+]
+
+-- each kind of the list is this answer
+abbrev pub AreAll : Answer → Kinds → Type 0
 AreAll b [] = Unit {0}
-AreAll b (k ∷ ks) = (is_help k ≡ b) × AreAll b ks
+AreAll b (k ∷ ks) = (answer_of k ≡ b) × AreAll b ks
 
 pub record IsUniform (kinds : Kinds) : Type 0 where
-  pub help : Bool
-  pub all : AreAll help kinds
+  pub answer : Answer
+  pub all : AreAll answer kinds
 
-among_is : (b : Bool) (k : ErrorKind) (ks : Kinds) → AreAll b ks → IsAmong k ks → is_help k ≡ b
+among_is : (b : Answer) (k : ErrorKind) (ks : Kinds) → AreAll b ks → IsAmong k ks → answer_of k ≡ b
 among_is b k [] all among = absurd among
 among_is b k (x ∷ xs) all among = elim among [
-  | inl same ↦ let P : ErrorKind → Type 0 = λ j. is_help j ≡ b in subst P (sym same) all.0
+  | inl same ↦ let P : ErrorKind → Type 0 = λ j. answer_of j ≡ b in subst P (sym same) all.0
   | inr later ↦ among_is b k xs all.1 later
 ]
 
--- help and another kind don't stand in one uniform list
-pub uniform_excludes : (kinds : Kinds) (k : ErrorKind) → IsUniform kinds → IsAmong kind.DisplayHelp kinds
-    → IsAmong k kinds → k ≢ kind.DisplayHelp → ⊥
-uniform_excludes kinds k u help other ne =
-    let first : true ≡ u.help = among_is u.help kind.DisplayHelp kinds u.all help in
-    let second : is_help k ≡ u.help = among_is u.help k kinds u.all other in
-    ne (is_help-true k (second ∙ sym first))
+-- two kinds in one uniform list are the same answer
+pub uniform_answers : (kinds : Kinds) (j k : ErrorKind) → IsUniform kinds → IsAmong j kinds → IsAmong k kinds
+    → answer_of j ≡ answer_of k
+uniform_answers kinds j k u first second =
+    among_is u.answer j kinds u.all first ∙ sym (among_is u.answer k kinds u.all second)
+
+-- so neither help nor the version stands there beside a refusal, nor one beside the other
+pub help-alone : (kinds : Kinds) (k : ErrorKind) → IsUniform kinds → IsAmong kind.DisplayHelp kinds → IsAmong k kinds
+    → answer_of k ≡ refusing → ⊥
+help-alone kinds k u asked among is =
+    let bad : giving_help ≡ refusing = uniform_answers kinds kind.DisplayHelp k u asked among ∙ is in absurd (cc)
+
+pub version-alone : (kinds : Kinds) (k : ErrorKind) → IsUniform kinds → IsAmong kind.DisplayVersion kinds
+    → IsAmong k kinds → answer_of k ≡ refusing → ⊥
+version-alone kinds k u shown among is =
+    let bad : giving_version ≡ refusing = uniform_answers kinds kind.DisplayVersion k u shown among ∙ is in absurd (cc)
+
+pub help-no_version : (kinds : Kinds) → IsUniform kinds → IsAmong kind.DisplayHelp kinds
+    → IsAmong kind.DisplayVersion kinds → ⊥
+help-no_version kinds u asked shown =
+    let bad : giving_help ≡ giving_version = uniform_answers kinds kind.DisplayHelp kind.DisplayVersion u asked shown in absurd (cc)
 
 pub u-none : IsUniform []
-u-none = record { help = false; all = tt }
+u-none = record { answer = refusing; all = tt }
 
 u-one : (k : ErrorKind) → IsUniform (k ∷ [])
-u-one k = record { help = is_help k; all = (refl, tt) }
+u-one k = record { answer = answer_of k; all = (refl, tt) }
 
 u-or : (a b : Kinds) → IsUniform a → IsUniform b → IsUniform (or_else a b)
 u-or [] b ua ub = ub
@@ -192,7 +226,7 @@ u-word : (s : Shape) (names : Names) (after : Bool) (waiting : Waiting) (word : 
 u-word s names after waiting word h off = u-if _ _ _ u-none (u-other s (subcommand_met names waiting word) word h off)
 
 u-strays : IsUniform (kind.UnknownArgument ∷ kind.InvalidSubcommand ∷ [])
-u-strays = record { help = false; all = (refl, (refl, tt)) }
+u-strays = record { answer = refusing; all = (refl, (refl, tt)) }
 
 u-stray : (s : Shape) → IsUniform (stray_fault s)
 u-stray s = u-if s.is_leaf _ _ (u-one _) u-strays
@@ -256,17 +290,16 @@ u-level s names h words has_subcommand below off u =
     (u-or _ _ (u-settle s.rules s.args_override_self end)
     (u-or _ _ (u-defaults s.rules (settled s.rules end).rows) (u-checked s (finished s.rules end) has_subcommand))))
 
-help_or_not : (k : ErrorKind) (b : Bool) → is_help k ≡ b → (k ≡ kind.DisplayHelp) ⊎ (k ≢ kind.DisplayHelp)
-help_or_not k true is = inl (is_help-true k is)
-help_or_not k false is = inr (λ e. let h : is_help k ≡ true = ap is_help e in cc)
-
--- no fault, help, or another fault
-pub kinds_cases : (kinds : Kinds) → (kinds ≡ []) ⊎ (IsAmong kind.DisplayHelp kinds ⊎ ((k : ErrorKind)
-    × (k ≢ kind.DisplayHelp) × IsAmong k kinds))
+-- no fault, help, the version, or a refusal
+pub kinds_cases : (kinds : Kinds) → (kinds ≡ []) ⊎ (IsAmong kind.DisplayHelp kinds
+    ⊎ (IsAmong kind.DisplayVersion kinds ⊎ ((k : ErrorKind) × IsRefusal k × IsAmong k kinds)))
 kinds_cases [] = inl refl
-kinds_cases (k ∷ ks) = elim (help_or_not k (is_help k) refl) [
-  | inl help ↦ inr (inl (inl (sym help)))
-  | inr other ↦ inr (inr (k, other, inl refl))
+kinds_cases (k ∷ ks) = elim (kind_cases k) [
+  | inl asked ↦ inr (inl (inl (sym asked)))
+  | inr rest ↦ elim rest [
+    | inl shown ↦ inr (inr (inl (inl (sym shown))))
+    | inr is ↦ inr (inr (inr (k, is_refusal k is, inl refl)))
+  ]
 ]
 
 check-nil : (help has argument : Bool) → check_kinds help (not has && true) argument ≡ [] → has ≡ true

@@ -21,7 +21,7 @@ use Rattle.nx_cli.specs.Program.{EndsRun, Exits, Performs, Succeeds, Tells, fres
 use Rattle.nx_cli.specs.Status.{IsStatus, call_status, check_status, damage_status, listen_status, fault_status, run_status, send_status, status_of}
 use Rattle.nx_fec.specs.Transfers.{Devices, devices, CountedDevice}
 use Rattle.nx_cli.specs.Words.{IsRefused, Names}
-use Rattle.nx_cli.proofs.WordsLemmas.{help_not_refused, named_not_help, named_not_refused, named_once}
+use Rattle.nx_cli.proofs.WordsLemmas.{help_not_refused, named_not_help, named_not_refused, named_not_version, named_once, version_not_refused}
 
 -- what was wrapped, with no failed call
 fresh-is : {T : Type 0} (c : CountedDevice T) (device : T) → c.inner ≡ device → c.failures ≡ 0 → c ≡ fresh_device device
@@ -152,7 +152,8 @@ refused-ends : {R W : Type 0} (words : List Text) (d : Devices R W) (outcome : R
     → EndsRun words d outcome → IsRefused words → (status_of outcome ≡ 64) ⊎ (status_of outcome ≡ 1)
 refused-ends words d (Ok done) ends refused = elim ends [
   | inl runs ↦ absurd (named_not_refused words runs.call runs.named refused)
-  | inr help ↦ absurd (help_not_refused words help.asked refused)
+  | inr (inl help) ↦ absurd (help_not_refused words help.asked refused)
+  | inr (inr version) ↦ absurd (version_not_refused words version.asked refused)
 ]
 refused-ends words d (Err (fault.Words answer)) ends refused = inl refl
 refused-ends words d (Err fault.NoText) ends refused = absurd ends
@@ -160,10 +161,9 @@ refused-ends words d (Err fault.Station) ends refused = inl refl
 refused-ends words d (Err fault.Kind) ends refused = inl refl
 refused-ends words d (Err (fault.Call why)) ends refused = elim ends [
   | inl runs ↦ absurd (named_not_refused words runs.call runs.named refused)
-  | inr other ↦ elim other [
-    | inl help ↦ absurd (help_not_refused words help.asked refused)
-    | inr lacks ↦ inr (ap call_status lacks.memory)
-  ]
+  | inr (inl help) ↦ absurd (help_not_refused words help.asked refused)
+  | inr (inr (inl version)) ↦ absurd (version_not_refused words version.asked refused)
+  | inr (inr (inr lacks)) ↦ inr (ap call_status lacks.memory)
 ]
 
 -- words that are refused end with status 64, or with 1 for want of memory
@@ -180,7 +180,8 @@ pub success-named : {R W : Type 0} (words : List Text) (d : Devices R W) (call :
 success-named words d call named success = elim success [
   | inl runs ↦ let P : Call → Type 0 = λ c. Performs c d (Ok tt) in
       subst P (named_once words runs.call call runs.named named) runs.performed
-  | inr help ↦ absurd (named_not_help words call named help.asked)
+  | inr (inl help) ↦ absurd (named_not_help words call named help.asked)
+  | inr (inr version) ↦ absurd (named_not_version words call named version.asked)
 ]
 
 -- what a run answered is told

@@ -10,16 +10,17 @@ use Rattle.clap.specs.Faults.{entered_fault}
 use Rattle.clap.proofs.OnLiterals.{clap_on_literals}
 use Rattle.clap.specs.declared.error.Error.{Error}
 use Rattle.clap.specs.declared.error.kind.ErrorKind.{ErrorKind}
-use Rattle.clap.specs.declared.error.kind.ErrorKind.TheVariants.{DisplayHelp, OutOfMemory}
+use Rattle.clap.specs.declared.error.kind.ErrorKind.TheVariants.{DisplayHelp, DisplayVersion, OutOfMemory}
 use Rattle.clap.specs.declared.error.kind.ErrorKind.TheVariants as kind
 use Rattle.clap.specs.declared.parser.matches.ArgMatches.{ArgMatches}
 use Rattle.clap.specs.declared.parser.matches.ArgMatches.TheViews.{out-ArgMatches, out-SubCommand}
 use Rattle.clap.specs.declared.parser.matches.SubCommand.{SubCommand}
 use Rattle.nx_cli.specs.declared.words.Call.{Call}
 use Rattle.nx_cli.specs.declared.words.WordsFault.{WordsFault}
-use Rattle.nx_cli.specs.declared.words.WordsFault.TheVariants.{Help, Refused, Station, Kind, Memory}
+use Rattle.nx_cli.specs.declared.words.WordsFault.TheVariants.{Help, Refused, Station, Kind, Memory, Version}
 use Rattle.nx_station.specs.declared.damaging.DamageKind.{DamageKind}
-use Rattle.nx_cli.specs.Words.{AsksForHelp, ExplainsWords, HasArguments, IsKind, IsNumber, IsRefused, IsStation, LacksKind, LacksStation, Names, IsSortedAs, navtex, command_name}
+use Rattle.nx_cli.specs.Words.{AsksForHelp, AsksForVersion, HasArguments, IsKind, IsNumber, IsRefusal, IsRefused, IsStation, LacksKind, LacksStation, Names, navtex, command_name}
+use Rattle.nx_cli.specs.private.Reading.{ExplainsWords, IsSortedAs}
 use Rattle.nx_cli.proofs.EachFound.{Each, each-map, found_is}
 use Rattle.nx_cli.proofs.CallArguments.{differ, number_once}
 use Rattle.nx_cli.proofs.CommandTable.{HasCall, IsSlotWord, IsSound, Maker, Makes, entries, entries-sound, plain, range, slot}
@@ -28,7 +29,7 @@ use Rattle.nx_cli.proofs.NumbersGiven.{number-given}
 use Rattle.nx_cli.proofs.OneCall.{IsNotCalled, call_or_none, has-kind, has-station, same_call}
 use Rattle.nx_envelope.specs.declared.letter.Letter.{Letter}
 use Rattle.nx_cli.specs.declared.words.Call.TheVariants.{Damage, Send, Slots}
-use Rattle.nx_cli.proofs.FaultKinds.{HasNoHelp, IsUniform, kinds_cases, level-nil, u-level, u-none, u-option, uniform_excludes}
+use Rattle.nx_cli.proofs.FaultKinds.{HasNoHelp, IsUniform, help-alone, help-no_version, kinds_cases, level-nil, refusal_is, u-level, u-none, u-option, version-alone}
 
 pub navtex-is_simple : is_simple navtex ≡ true
 unfolding clap_on_literals
@@ -43,6 +44,10 @@ pub explained : (words : List Text) (error : Error) (fault : WordsFault) → Has
 explained words error (Help answer) kinds sorts = elim kinds [
   | inl memory ↦ absurd (let e : OutOfMemory ≡ DisplayHelp = sym memory ∙ sorts.1 in cc)
   | inr among ↦ let P : ErrorKind → Type 0 = λ k. IsAmong k (fault_of navtex words) in subst P sorts.1 among
+]
+explained words error Version kinds sorts = elim kinds [
+  | inl memory ↦ absurd (let e : OutOfMemory ≡ DisplayVersion = sym memory ∙ sorts in cc)
+  | inr among ↦ let P : ErrorKind → Type 0 = λ k. IsAmong k (fault_of navtex words) in subst P sorts among
 ]
 explained words error (Refused answer) kinds sorts = elim kinds [
   | inl memory ↦ absurd (sorts.2 memory)
@@ -100,7 +105,7 @@ u-entered (Some p) =
     u-option _ _ [] (IfSome-weaker _ _ _ (λ s no. u-level s [] nothing_held p.1 false [] no u-none)
     (found_is HasNoHelp (λ s. answers_to p.0 (label_of s)) (built navtex).subs calls_without_help)) u-none
 
--- clap's faults of the words are all help or all no help
+-- clap's faults of the words are all help, all the version, or all refusals
 pub faults_are_uniform : (words : List Text) → IsUniform (fault_of navtex words)
 faults_are_uniform words =
     let stop = (walk (built navtex).top.rules (names_of (built navtex)) nothing_held
@@ -109,14 +114,30 @@ faults_are_uniform words =
     (entered (built navtex) stop))
     (entered_fault (built navtex) stop) refl (u-entered stop)
 
+pub help_not_version : (words : List Text) → AsksForHelp words → AsksForVersion words → ⊥
+help_not_version words help version = help-no_version (fault_of navtex words) (faults_are_uniform words) help version
+
 pub help_not_refused : (words : List Text) → AsksForHelp words → IsRefused words → ⊥
 help_not_refused words help (inl refused) =
-    uniform_excludes (fault_of navtex words) refused.0 (faults_are_uniform words) help refused.2 refused.1
+    help-alone (fault_of navtex words) refused.0 (faults_are_uniform words) help refused.2
+    (refusal_is refused.0 refused.1)
 help_not_refused words help (inr (inl lacks)) = none_among (fault_of navtex words) DisplayHelp lacks.taken help
 help_not_refused words help (inr (inr lacks)) = none_among (fault_of navtex words) DisplayHelp lacks.taken help
 
+pub version_not_refused : (words : List Text) → AsksForVersion words → IsRefused words → ⊥
+version_not_refused words version (inl refused) =
+    version-alone (fault_of navtex words) refused.0 (faults_are_uniform words) version refused.2
+    (refusal_is refused.0 refused.1)
+version_not_refused words version (inr (inl lacks)) =
+    none_among (fault_of navtex words) DisplayVersion lacks.taken version
+version_not_refused words version (inr (inr lacks)) =
+    none_among (fault_of navtex words) DisplayVersion lacks.taken version
+
 pub named_not_help : (words : List Text) (call : Call) → Names words call → AsksForHelp words → ⊥
 named_not_help words call named help = none_among (fault_of navtex words) DisplayHelp named.taken help
+
+pub named_not_version : (words : List Text) (call : Call) → Names words call → AsksForVersion words → ⊥
+named_not_version words call named version = none_among (fault_of navtex words) DisplayVersion named.taken version
 
 -- the arguments with which the words enter this command
 entered_once : (words : List Text) (a b : Text) (first second : List Row)
@@ -283,15 +304,17 @@ named_by words taken (Some p) entered some = elim (call_or_none p.0 p.1) [
   | inr none ↦ inr (elim (lacks_argument words p.0 p.1 taken entered none) [ inl station ↦ inl station.1 | inr kind ↦ inr kind.1 ])
 ]
 
--- each list of words names a call, asks for help or is refused
-pub read_as_one : (words : List Text) → ((call : Call) × Names words call) ⊎ (AsksForHelp words ⊎ IsRefused words)
+-- each list of words names a call, asks for help, asks for the version or is refused
+pub read_as_one : (words : List Text)
+    → ((call : Call) × Names words call) ⊎ (AsksForHelp words ⊎ (AsksForVersion words ⊎ IsRefused words))
 read_as_one words = elim (kinds_cases (fault_of navtex words)) [
   | inl taken ↦ elim (named_by words taken (subcommand_of navtex words) refl (taken_enters words taken)) [
     | inl named ↦ inl named
-    | inr lacks ↦ inr (inr (inr lacks))
+    | inr lacks ↦ inr (inr (inr (inr lacks)))
   ]
   | inr (inl help) ↦ inr (inl help)
-  | inr (inr refused) ↦ inr (inr (inl refused))
+  | inr (inr (inl version)) ↦ inr (inr (inl version))
+  | inr (inr (inr refused)) ↦ inr (inr (inr (inl refused)))
 ]
 
 -- and it names at most one
@@ -332,14 +355,14 @@ outcome-refused words name arguments None unfit outcome taken entered none kind 
       | inr lacks ↦ rw (is, kind lacks.0) lacks.1
     ]
 
-pub unknown_is_not_help : kind.UnknownArgument ≢ DisplayHelp
-unknown_is_not_help e = absurd (cc)
+pub unknown_is_refusal : IsRefusal kind.UnknownArgument
+unknown_is_refusal = (λ e. absurd (cc), λ e. absurd (cc))
 
-pub missing_is_not_help : kind.MissingSubcommand ≢ DisplayHelp
-missing_is_not_help e = absurd (cc)
+pub missing_is_refusal : IsRefusal kind.MissingSubcommand
+missing_is_refusal = (λ e. absurd (cc), λ e. absurd (cc))
 
-pub missing_argument_is_not_help : kind.MissingRequiredArgument ≢ DisplayHelp
-missing_argument_is_not_help e = absurd (cc)
+pub missing_argument_is_refusal : IsRefusal kind.MissingRequiredArgument
+missing_argument_is_refusal = (λ e. absurd (cc), λ e. absurd (cc))
 
-pub invalid_is_not_help : kind.ValueValidation ≢ DisplayHelp
-invalid_is_not_help e = absurd (cc)
+pub invalid_is_refusal : IsRefusal kind.ValueValidation
+invalid_is_refusal = (λ e. absurd (cc), λ e. absurd (cc))

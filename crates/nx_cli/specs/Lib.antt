@@ -2,3 +2,4 @@ pub mod Status
 pub mod Program
 pub mod Report
 pub mod Words
+pub mod private

@@ -1,7 +1,7 @@
 -- How a run of the program ends: what it leaves on its devices, by the contracts of the calls, and
 -- the status with which it exits (this profile).
 use Rattle.std.specs.Prelude.{◌≡◌, ◌⊎◌, ◌∷◌, ◌++◌, ⊤, ℕ, List, [], Option, Result, Ok, Err}
-use Rattle.std.specs.Prelude.{alloc_error}
+use Rattle.std.specs.Prelude.{alloc_error, codes}
 use Rattle.std.specs.Io.KnownBytes.{Appends}
 use Rattle.clap.specs.Words.{Text}
 use Rattle.nx_envelope.specs.Moment.{IsShownAs}
@@ -25,7 +25,8 @@ use Rattle.nx_cli.specs.declared.fault.CallFault.TheVariants as call
 use Rattle.nx_cli.specs.declared.fault.Fault.{Fault}
 use Rattle.nx_cli.specs.declared.fault.Fault.TheVariants as fault
 use Rattle.nx_cli.specs.Status.{status_of}
-use Rattle.nx_cli.specs.Words.{AsksForHelp, IsRefusedByClap, LacksKind, LacksStation, Names}
+use Rattle.nx_cli.specs.Words.{AsksForHelp, AsksForVersion, IsRefusedByClap, LacksKind}
+use Rattle.nx_cli.specs.Words.{LacksStation, Names}
 
 -- a device on which no call has failed
 abbrev pub fresh_device : {T : Type 0} → T → CountedDevice T
@@ -119,6 +120,20 @@ pub record GivesHelp {R W : Type 0} (words : List Text) (d : Devices R W)
   pub written : Tells (λ why. call.Run why)
       (WritesText (λ text. ⊤) d.contents d.writer d.writer_after) outcome
 
+-- the text of the version: the program's name, its version, what `rt version` says of the kit and
+-- of the logic that it is proved with, and a newline (10)
+abbrev pub version_text : List ℕ
+version_text =
+    codes "navtex 1.0.0, proved with rattle-kit-13b logic dac8208d650f15bf" ++ 10 ∷ []
+
+-- the words ask for the version, and its text was written
+pub record GivesVersion {R W : Type 0} (words : List Text) (d : Devices R W)
+    (outcome : Result (Unit {0}) CallFault) : Type 0 where
+  pub asked : AsksForVersion words
+  pub unread : IsUnread d
+  pub written : Tells (λ why. call.Run why)
+      (WritesText (λ text. text ≡ version_text) d.contents d.writer d.writer_after) outcome
+
 -- memory ran out before a device was called
 pub record LacksMemory {R W : Type 0} (d : Devices R W) (why : CallFault) : Type 0 where
   pub untouched : IsUntouched d
@@ -126,13 +141,16 @@ pub record LacksMemory {R W : Type 0} (d : Devices R W) (why : CallFault) : Type
 
 -- how the program ends
 abbrev pub EndsRun : {R W : Type 0} → List Text → Devices R W → Result (Unit {0}) Fault → Type 0
-EndsRun words d (Ok done) = RunsCall words d (Ok done) ⊎ GivesHelp words d (Ok done)
+EndsRun words d (Ok done) =
+    RunsCall words d (Ok done)
+    ⊎ (GivesHelp words d (Ok done) ⊎ GivesVersion words d (Ok done))
 EndsRun words d (Err (fault.Words answer)) = IsRefusedByClap words × IsUntouched d
 EndsRun words d (Err fault.NoText) = ⊥
 EndsRun words d (Err fault.Station) = LacksStation words × IsUntouched d
 EndsRun words d (Err fault.Kind) = LacksKind words × IsUntouched d
 EndsRun words d (Err (fault.Call why)) =
-    RunsCall words d (Err why) ⊎ (GivesHelp words d (Err why) ⊎ LacksMemory d why)
+    RunsCall words d (Err why)
+    ⊎ (GivesHelp words d (Err why) ⊎ (GivesVersion words d (Err why) ⊎ LacksMemory d why))
 
 -- the program ends so on these devices, with this status
 pub record Exits {R W : Type 0} (words : List Text) (d : Devices R W) (status : ℕ) : Type 0 where
@@ -140,6 +158,6 @@ pub record Exits {R W : Type 0} (words : List Text) (d : Devices R W) (status : 
   pub ends : EndsRun words d outcome
   pub status_is : status ≡ status_of outcome
 
--- the call that the words name succeeded, or they ask for help, which was written
+-- the call that the words name succeeded, or they ask for help or for the version, which was written
 abbrev pub Succeeds : {R W : Type 0} → List Text → Devices R W → Type 0
 Succeeds words d = EndsRun words d (Ok tt)

@@ -1,22 +1,17 @@
 -- What the words of the command line name, by clap's own reading of them (this profile).
 use Rattle.std.specs.Prelude.{◌≡◌, ◌≢◌, ◌⊎◌, ◌<◌, ◌∷◌, ◌^◌, ⊤, ℕ, List, [], Some, codes, fold}
-use Rattle.std.specs.Prelude.{false, true}
+use Rattle.std.specs.Prelude.{true}
 use Rattle.std.specs.Str.Parse.{IsNumeral, digits_value, without_leading_plus}
-use Rattle.clap.specs.Words.{App, IsAmong, Row, Rule, Text, app_of, fault_of, first_of, kind_of}
-use Rattle.clap.specs.Words.{new_app, new_rule, one_of, subcommand_of, with_rule, with_subcommand}
+use Rattle.clap.specs.Words.{App, IsAmong, Row, Rule, Text, fault_of, first_of, new_app}
+use Rattle.clap.specs.Words.{new_rule, one_of, subcommand_of, with_rule, with_subcommand}
 use Rattle.clap.specs.Simple.{on_top}
-use Rattle.clap.specs.declared.builder.command.Command.{Command}
-use Rattle.clap.specs.declared.builder.command.Command.TheViews.{out-Command}
 use Rattle.clap.specs.declared.builder.value_parser.ValueParser.TheVariants as parser
-use Rattle.clap.specs.declared.error.Error.{Error}
 use Rattle.clap.specs.declared.error.kind.ErrorKind.{ErrorKind}
-use Rattle.clap.specs.declared.error.kind.ErrorKind.TheVariants.{DisplayHelp, OutOfMemory}
+use Rattle.clap.specs.declared.error.kind.ErrorKind.TheVariants.{DisplayHelp, DisplayVersion}
 use Rattle.nx_envelope.specs.declared.letter.Letter.{Letter}
 use Rattle.nx_cli.specs.declared.words.Call.{Call}
 use Rattle.nx_cli.specs.declared.words.Call.TheVariants.{Check, Code, Decode, Encode, Listen, Show}
 use Rattle.nx_cli.specs.declared.words.Call.TheVariants.{Damage, Send, Slots}
-use Rattle.nx_cli.specs.declared.words.WordsFault.{WordsFault}
-use Rattle.nx_cli.specs.declared.words.WordsFault.TheVariants.{Help, Refused, Station, Kind, Memory}
 use Rattle.nx_station.specs.declared.damaging.DamageKind.{DamageKind}
 use Rattle.nx_station.specs.declared.damaging.DamageKind.TheVariants.{Dx, Rx, All}
 
@@ -64,27 +59,25 @@ damage_tree word =
     let with_first = with_rule with_kind (number_rule (codes "FROM") 4294967295) in
     with_rule with_first (number_rule (codes "COUNT") 4294967295)
 
--- the program without its commands: one of them must be given, and there is no command `help`
+-- the program without its commands: one of them must be given, unless the version is asked for, and
+-- there is no command `help`
 abbrev pub bare_tree : App
-bare_tree =
-    on_top (λ s. record s { disable_help_subcommand = true; subcommand_required = true })
-    (new_app (codes "navtex"))
+bare_tree = on_top (λ s. record s {
+  disable_help_subcommand = true;
+  subcommand_required = true;
+  has_version = true;
+}) (new_app (codes "navtex"))
 
--- the commands of the program
+-- the commands of the program, in the order in which help lists them
 abbrev pub commands : List App
 commands =
-    plain_tree (codes "decode") ∷ plain_tree (codes "encode") ∷ plain_tree (codes "code")
-    ∷ plain_tree (codes "show") ∷ plain_tree (codes "check") ∷ plain_tree (codes "listen")
-    ∷ slot_tree (codes "send") ∷ slot_tree (codes "slots") ∷ damage_tree (codes "damage") ∷ []
+    plain_tree (codes "listen") ∷ slot_tree (codes "send") ∷ slot_tree (codes "slots")
+    ∷ plain_tree (codes "check") ∷ damage_tree (codes "damage") ∷ plain_tree (codes "decode")
+    ∷ plain_tree (codes "encode") ∷ plain_tree (codes "show") ∷ plain_tree (codes "code") ∷ []
 
 -- the command tree of the program
 abbrev pub navtex : App
 navtex = fold (λ (tree command : App). with_subcommand tree command.top) bare_tree commands
-
--- the command is built as this tree says
-pub record IsBuiltAs (app : App) (command : Command) : Type 0 where
-  pub tree : app_of command ≡ app
-  pub local : (out-Command command).has_globals ≡ false
 
 -- the argument STATION is this letter alone
 abbrev pub IsStation : List Row → Letter → Type 0
@@ -131,10 +124,18 @@ pub record Names (words : List Text) (call : Call) : Type 0 where
 abbrev pub AsksForHelp : List Text → Type 0
 AsksForHelp words = IsAmong DisplayHelp (fault_of navtex words)
 
+-- clap answers the words with the version
+abbrev pub AsksForVersion : List Text → Type 0
+AsksForVersion words = IsAmong DisplayVersion (fault_of navtex words)
+
+-- an answer of this kind is neither help nor the version
+abbrev pub IsRefusal : ErrorKind → Type 0
+IsRefusal kind = (kind ≢ DisplayHelp) × (kind ≢ DisplayVersion)
+
 -- clap refuses the words
 abbrev pub IsRefusedByClap : List Text → Type 0
 IsRefusedByClap words =
-    (kind : ErrorKind) × (kind ≢ DisplayHelp) × IsAmong kind (fault_of navtex words)
+    (kind : ErrorKind) × IsRefusal kind × IsAmong kind (fault_of navtex words)
 
 -- clap takes the words, which enter a command that wants a station, and STATION is not one letter A
 -- to Z
@@ -155,20 +156,3 @@ pub record LacksKind (words : List Text) : Type 0 where
 -- the words are refused, by clap, for their station or for their kind of damage
 abbrev pub IsRefused : List Text → Type 0
 IsRefused words = IsRefusedByClap words ⊎ (LacksStation words ⊎ LacksKind words)
-
--- why the words name no call
-abbrev pub ExplainsWords : List Text → WordsFault → Type 0
-ExplainsWords words (Help answer) = AsksForHelp words
-ExplainsWords words (Refused answer) = IsRefusedByClap words
-ExplainsWords words Station = LacksStation words
-ExplainsWords words Kind = LacksKind words
-ExplainsWords words (Memory want) = ⊤
-
--- an answer of clap is help, want of memory, or a refusal
-abbrev pub IsSortedAs : Error → WordsFault → Type 0
-IsSortedAs error (Help answer) = (answer ≡ error) × (kind_of error ≡ DisplayHelp)
-IsSortedAs error (Refused answer) =
-    (answer ≡ error) × (kind_of error ≢ DisplayHelp) × (kind_of error ≢ OutOfMemory)
-IsSortedAs error Station = ⊥
-IsSortedAs error Kind = ⊥
-IsSortedAs error (Memory want) = kind_of error ≡ OutOfMemory

@@ -2,159 +2,66 @@
 
 ghost use Rattle.std.specs.Prelude.{◌≡◌, IfOk, codes, false};
 ghost use Rattle.clap.specs.Words.{rule_of};
-ghost use Rattle.nx_cli.specs.Words.{IsBuiltAs, bare_tree, damage_tree, navtex, number_rule};
-ghost use Rattle.nx_cli.specs.Words.{plain_tree, slot_tree};
+ghost use Rattle.nx_cli.specs.Words.{bare_tree, damage_tree, navtex, number_rule, plain_tree, slot_tree};
+ghost use Rattle.nx_cli.specs.private.Reading.{IsBuiltAs};
 
 use clap::builder::ValueParser;
 use clap::{Arg, Command};
 use nx_envelope::LAST_MOMENT;
 use std::alloc::{AllocError, Global};
 
-const DECODE_HELP: &str = "Print the text of an air file.
+/// The text of the version: the program's name, its version, and what `rt version` says of the kit
+/// and of the logic that it is proved with.
+pub const VERSION: &str = "navtex 1.0.0, proved with rattle-kit-13b logic dac8208d650f15bf\n";
 
-Reads an air file of at most 1048576 bytes from standard input. Its lines, each ended by a line
-feed, are:
-  B 0110011     elements in the order of sending, 1 to 512 of them: 1 is B, 0 is Y
-  T 1735692000  the moment from here on, in seconds since 1970-01-01 00:00:00 UTC
-  RS E          refuse station E; AS E accepts it, RJ C and AJ C do so for subject C
-The elements of the B lines, joined, are the words of one emission from its first word on, seven
-elements each. The other lines are checked and skipped.
+/// What short help says of the files of a command.
+const AIR_FILE: &str =
+    "An air file is text: lines of B with the elements on the air, 1 or 0 each, and
+lines of T with the time. --help says more.";
 
-Writes the text to standard output and nothing else, once all was read. A character is sent in two
-words. Where one of them is damaged, with other than four B, the other one counts; where neither can
-be relied on, the character is an asterisk.
-
-Example, the letter A as encode sends it, here in three lines:
-  $ cat a.air
-  B 01100111111000011001111110000110011
-  B 11110000110011111100011100011111000
-  B 11110001111000111100011100011111000
-  $ navtex decode < a.air
-  A";
-
-fn decode_command<'a>(alloc: Global) -> Command<'a>
-    ensures { IsBuiltAs (plain_tree (codes "decode")) result }
-{
-    Command::new(alloc, "decode")
-        .about("Print the text of an air file")
-        .long_about(DECODE_HELP)
-}
-
-const ENCODE_HELP: &str = "Write a text as an air file.
-
-Reads a text of at most 1048576 bytes from standard input: the letters A to Z, the digits, space,
-newline and -?:().,'=+/
-
-Writes an air file to standard output: lines of B, a space and up to 490 elements in the order of
-sending, 1 for B and 0 for Y, each ended by a line feed. They are the elements of four phasing
-positions, the text from the letter shift, and three end positions. Of a long text they may be more
-than the 1048576 bytes that decode takes.
-
-Example, which decode prints as A again:
-  $ printf A | navtex encode
-  B 011001111110000110011111100001100111111000011001111110001110001111100011110001111000111100011100011111000";
-
-fn encode_command<'a>(alloc: Global) -> Command<'a>
-    ensures { IsBuiltAs (plain_tree (codes "encode")) result }
-{
-    Command::new(alloc, "encode")
-        .about("Write a text as an air file")
-        .long_about(ENCODE_HELP)
-}
-
-const CODE_HELP: &str = "Print the table of the code.
-
-Reads nothing, and writes one line for each of the 35 words. Its four fields, with a space between
-them, are:
-  the number     two hexadecimal digits; the element that is sent first has the least place
-  the elements   seven letters B or Y, in the order of sending
-  the letter     what the word prints in the letter shift
-  the figure     what the word prints in the figure shift
-One character is printed as it stands. CR, LF, LTRS, FIGS, SPACE, BLANK, P1, BETA and P2 are names
-of signals, of which LF prints a newline and SPACE a space; none means that nothing is printed.
-
-Example, the first and the fourth line:
-  $ navtex code | sed -n '1p;4p'
-  47 BBBYYYB A -
-  53 BBYYBYB D none";
-
-fn code_command<'a>(alloc: Global) -> Command<'a>
-    ensures { IsBuiltAs (plain_tree (codes "code")) result }
-{
-    Command::new(alloc, "code")
-        .about("Print the table of the code")
-        .long_about(CODE_HELP)
-}
-
-const SHOW_HELP: &str = "Print the words of an air file, one line for each.
-
-Reads an air file of at most 1048576 bytes from standard input, as decode does: the elements of its
-lines of B, joined, are words of seven elements each.
-
-Writes one line for each word to standard output, once all was read: its slot, from 0; DX where the
-slot is even and RX where it is odd; its number in hexadecimal, with the element that is sent first
-in the least place; and its name, which is what code prints as its letter, or wrong where the
-number of its elements B is not four.
-
-Example, of which the first two lines and the ninth are shown:
-  $ printf A | navtex encode | navtex show | sed -n '1,2p;9p'
-  0 DX 66 P2
-  1 RX 0F P1
-  8 DX 47 A";
-
-fn show_command<'a>(alloc: Global) -> Command<'a>
-    ensures { IsBuiltAs (plain_tree (codes "show")) result }
-{
-    Command::new(alloc, "show")
-        .about("Print the words of an air file")
-        .long_about(SHOW_HELP)
-}
-
-const CHECK_HELP: &str = "Print the messages of an air file that is exactly an emission.
-
-Reads an air file of at most 1048576 bytes from standard input, as decode does. The elements of its
-lines of B, joined, must be those that send writes for a list of messages, and no others: a word of
-wrong weight, a word that its second sending doesn't repeat and all else that send doesn't write
-are faults.
-
-Writes the station and the messages to standard output, once all was found right: the line station,
-a space and the station's letter, and then the message file that send reads.
-
-Example:
-  $ printf '#A01\\nTEST\\n;\\n' | navtex send E 1735689600 | navtex check
-  station E
-  #A01
-  TEST
-  ;";
-
-fn check_command<'a>(alloc: Global) -> Command<'a>
-    ensures { IsBuiltAs (plain_tree (codes "check")) result }
-{
-    Command::new(alloc, "check")
-        .about("Print the messages of an air file that is exactly an emission")
-        .long_about(CHECK_HELP)
-}
+const LISTEN_SHORT: &str =
+    "An air file is text: lines of B with the elements on the air, 1 or 0 each, and
+lines of T with the time. A log is what a receiver prints of it: an entry for
+each message. --help says more, and what an empty log can mean.";
 
 const LISTEN_HELP: &str = "Print the log of an air file.
 
-Reads an air file of at most 268435456 bytes from standard input, to its end. Its lines, each ended
-by a line feed, are:
-  B 0110011     elements in the order of sending, 1 to 512 of them: 1 is B, 0 is Y
-  T 1735692000  the moment from here on, in seconds since 1970-01-01 00:00:00 UTC; the first B
-                comes after a T, and no T is before the last one
-  RS E          refuse station E from here on, for all its subjects; AS E accepts it again
-  RJ C          refuse subject C from here on, which A, B, D and L can't be; AJ C accepts it again
+An air file is a text of what is on the air. A log is what a receiver prints of
+it: an entry for each message.
 
-Writes an entry to standard output for each copy of a message that is printed, as soon as the line
-with its last element has come: a head, the text, and an empty line. The head has the identity, the
-time of the copy, how it ended (full, cut or long), its errors, which are asterisks in the text, and
-its characters. A message that was printed full, with less than 4 per cent of errors, is not printed
-again within 66 hours, unless 200 others came in between; one numbered 00 is printed each time that
-it is selected.
+Reads an air file of at most 268435456 bytes from standard input, to its end.
+Its lines, each ended by a line feed, are:
+  B 0110011     elements in the order of sending, 1 to 512 of them: 1 is B, 0
+                is Y
+  T 1735692000  the moment from here on, in seconds since 1970-01-01 00:00:00
+                UTC; the first B comes after a T, and no T is before the last
+  RS E          refuse station E from here on, for all its subjects; AS E
+                accepts it again
+  RJ C          refuse subject C from here on, which A, B, D and L can't be;
+                AJ C accepts it again
+A line that ends in CR and LF is not understood: tr -d '\\r' takes the CR away.
 
-Example: of message 01 of subject A of station E the first sending of each letter is damaged, and it
-is printed whole:
-  $ printf '#A01\\nTEST\\n;\\n' | navtex send E 1735689600 | navtex damage dx 144 59 > ea01.air
+Writes an entry to standard output for each copy of a message that is printed,
+as soon as the line with its last element has come: a head, the text, and an
+empty line. The head has the identity, the time of the copy, how it ended (full,
+cut or long), its errors, which are asterisks in the text, and its characters.
+A message that was printed full, with less than 4 per cent of errors, is not
+printed again within 66 hours, unless 200 others came in between; one numbered
+00 is printed each time that it is selected.
+
+An empty log can mean:
+  exchanged tones    each 1 should be a 0 and each 0 a 1. This exchanges them:
+                     sed '/^B/y/01/10/' x.air | navtex listen
+  a refused station  or a refused subject: a line RS or RJ stands in the file
+  a weak signal      more words are damaged than a lock on the signal, or the
+                     first line of a message, can bear; also where elements are
+                     lost or doubled, since all later words are then shifted";
+
+const LISTEN_EXAMPLE: &str =
+    "Example: of message 01 of subject A of station E the first sending of each
+letter is damaged, and it is printed whole:
+  $ printf '#A01\\nTEST\\n;\\n' | navtex send E 1735689600 > sent.air
+  $ navtex damage dx 144 59 < sent.air > ea01.air
   $ head -c 53 ea01.air
   T 1735692000
   B 01100111111000011001111110000110011111
@@ -167,7 +74,9 @@ fn listen_command<'a>(alloc: Global) -> Command<'a>
 {
     Command::new(alloc, "listen")
         .about("Print the log of an air file")
+        .after_help(LISTEN_SHORT)
         .long_about(LISTEN_HELP)
+        .after_long_help(LISTEN_EXAMPLE)
 }
 
 /// A command that takes a station and a moment.
@@ -180,23 +89,29 @@ fn slot_command<'a>(alloc: Global, word: &'a str) -> Result<Command<'a>, AllocEr
     let moment = Arg::new(alloc, "MOMENT")
         .required(true)
         .value_parser(ValueParser::unsigned(0, LAST_MOMENT))
-        .help("The moment, in whole seconds since 1970-01-01 00:00:00 UTC, 0 to 32503679999");
+        .help("Seconds since 1970-01-01 00:00:00 UTC, 0 to 32503679999");
     Command::new(alloc, word).arg(station)?.arg(moment)
 }
 
 const SEND_HELP: &str = "Write messages as an air file, to be sent in the station's next slot.
 
-Reads a message file of at most 1048576 bytes from standard input. Its lines are each ended by a
-line feed. A message begins with the line of #, its subject (a letter A to Z) and its number (two
-digits), and ends with the line ; alone. Between them stand its lines of text, each of at most 69
-characters A to Z, 0 to 9, space and -?:().,'=+/ without ZCZC and NNNN; together they have at most
-4096 characters, with one more for each line's end.
+An air file is a text of what is on the air: here one line of T with a moment,
+and lines of B with elements, 1 or 0 each.
 
-Writes an air file to standard output: the line of T, a space and the moment at which the first
-slot of the station begins that is not before MOMENT, and lines of B, a space and the elements of
-the emission. Stations A to X have a slot of ten minutes in each four hours, Y and Z have none.
+Reads a message file of at most 1048576 bytes from standard input. Its lines are
+each ended by a line feed (tr -d '\\r' takes a CR before it away). A message
+begins with the line of #, its subject (a letter A to Z) and its number (two
+digits), and ends with the line ; alone. Between them stand its lines of text,
+each of at most 69 characters A to Z, 0 to 9, space and -?:().,'=+/ without ZCZC
+and NNNN; together they have at most 4096 characters, with one more for each
+line's end.
 
-Example, of which the first 40 columns are shown:
+Writes an air file to standard output: the line of T, a space and the moment at
+which the first slot of the station begins that is not before MOMENT, and lines
+of B, a space and the elements of the emission. Stations A to X have a slot of
+ten minutes in each four hours, Y and Z have none.";
+
+const SEND_EXAMPLE: &str = "Example, of which the first 40 columns are shown:
   $ printf '#A01\\nTEST\\n;\\n' | navtex send E 1735689600 | cut -c1-40
   T 1735692000
   B 01100111111000011001111110000110011111
@@ -208,18 +123,20 @@ fn send_command<'a>(alloc: Global) -> Result<Command<'a>, AllocError>
 {
     Ok(
         slot_command(alloc, "send")?
-            .about("Write messages as an air file")
-            .long_about(SEND_HELP),
+            .about("Write messages as an air file, to be sent in the next slot")
+            .after_help(AIR_FILE)
+            .long_about(SEND_HELP)
+            .after_long_help(SEND_EXAMPLE),
     )
 }
 
 const SLOTS_HELP: &str = "Print when the station's next slot begins.
 
-Reads nothing, and writes one line: the moment at which the first slot of the station begins that
-is not before MOMENT, and its civil time in UTC. Stations A to X have a slot of ten minutes in each
-four hours, Y and Z have none.
+Reads nothing, and writes one line: the moment at which the first slot of the
+station begins that is not before MOMENT, and its civil time in UTC. Stations A
+to X have a slot of ten minutes in each four hours, Y and Z have none.";
 
-Example:
+const SLOTS_EXAMPLE: &str = "Example:
   $ navtex slots E 1735689600
   1735692000 2025-01-01 00:40:00";
 
@@ -229,20 +146,56 @@ fn slots_command<'a>(alloc: Global) -> Result<Command<'a>, AllocError>
     Ok(
         slot_command(alloc, "slots")?
             .about("Print when the station's next slot begins")
-            .long_about(SLOTS_HELP),
+            .long_about(SLOTS_HELP)
+            .after_long_help(SLOTS_EXAMPLE),
     )
+}
+
+const CHECK_HELP: &str = "Print the messages of an air file that is exactly an emission.
+
+An air file is a text of what is on the air: lines of B with elements, 1 or 0
+each, and others that decode --help lists.
+
+Reads an air file of at most 1048576 bytes from standard input. The elements of
+its lines of B, joined, must be those that send writes for a list of messages,
+and no others: a word of wrong weight, a word that its second sending doesn't
+repeat and all else that send doesn't write are faults.
+
+Writes the station and the messages to standard output, once all was found
+right: the line station, a space and the station's letter, and then the message
+file that send reads.";
+
+const CHECK_EXAMPLE: &str = "Example:
+  $ printf '#A01\\nTEST\\n;\\n' | navtex send E 1735689600 | navtex check
+  station E
+  #A01
+  TEST
+  ;";
+
+fn check_command<'a>(alloc: Global) -> Command<'a>
+    ensures { IsBuiltAs (plain_tree (codes "check")) result }
+{
+    Command::new(alloc, "check")
+        .about("Print the messages of an air file that is exactly an emission")
+        .after_help(AIR_FILE)
+        .long_about(CHECK_HELP)
+        .after_long_help(CHECK_EXAMPLE)
 }
 
 const DAMAGE_HELP: &str = "Copy an air file with some of its words damaged.
 
-Reads an air file of at most 268435456 bytes from standard input and writes it to standard output
-while it reads, line by line. Word 0 is the first seven elements of the lines of B, joined, word 1
-the next seven, and so on. Of the words from FROM on, COUNT of them, those that KIND names get
-their first element inverted: dx names the words of even number, rx those of odd number, and all
-every word. A good word, with four B, is then a damaged one. All else is copied as it is, and the
-same command on the output gives the file back.
+An air file is a text of what is on the air: lines of B with elements, 1 or 0
+each, and others that decode --help lists.
 
-Example, which inverts the first element of the word 2:
+Reads an air file of at most 268435456 bytes from standard input and writes it
+to standard output while it reads, line by line. Word 0 is the first seven
+elements of the lines of B, joined, word 1 the next seven, and so on. Of the
+words from FROM on, COUNT of them, those that KIND names get their first element
+inverted: dx names the words of even number, rx those of odd number, and all
+every word. A good word, with four B, is then a damaged one. All else is copied
+as it is, and the same command on the output gives the file back.";
+
+const DAMAGE_EXAMPLE: &str = "Example, which inverts the first element of the word 2:
   $ printf 'B 011001111110000110011\\n' | navtex damage dx 1 2
   B 011001111110001110011";
 
@@ -257,7 +210,8 @@ fn number_argument<'a>(alloc: Global, name: &'a str, help: &'a str) -> Arg<'a>
         .help(help)
 }
 
-fn damage_command<'a>(alloc: Global) -> Result<Command<'a>, AllocError>
+/// The command that takes a kind of damage and a range of words.
+fn range_command<'a>(alloc: Global) -> Result<Command<'a>, AllocError>
     ensures { IfOk result (IsBuiltAs (damage_tree (codes "damage"))) }
 {
     let kind = Arg::new(alloc, "KIND")
@@ -274,23 +228,169 @@ fn damage_command<'a>(alloc: Global) -> Result<Command<'a>, AllocError>
         "How many words the range has, 0 to 4294967295",
     );
     Command::new(alloc, "damage")
-        .about("Copy an air file with some of its words damaged")
-        .long_about(DAMAGE_HELP)
         .arg(kind)?
         .arg(from)?
         .arg(count)
 }
 
-const STATUS_HELP: &str = "A command reads standard input and writes standard output; code and slots
-read nothing. --help after a command says what it reads and writes. A fault is one line on standard
-error; where words are not understood, it may be a text of several lines.
+fn damage_command<'a>(alloc: Global) -> Result<Command<'a>, AllocError>
+    ensures { IfOk result (IsBuiltAs (damage_tree (codes "damage"))) }
+{
+    Ok(
+        range_command(alloc)?
+            .about("Copy an air file with some of its words damaged")
+            .after_help(AIR_FILE)
+            .long_about(DAMAGE_HELP)
+            .after_long_help(DAMAGE_EXAMPLE),
+    )
+}
+
+const DECODE_HELP: &str = "Print the text of an air file.
+
+An air file is a text of what is on the air.
+
+Reads an air file of at most 1048576 bytes from standard input. Its lines, each
+ended by a line feed, are:
+  B 0110011     elements in the order of sending, 1 to 512 of them: 1 is B, 0
+                is Y
+  T 1735692000  the moment from here on, in seconds since 1970-01-01 00:00:00
+                UTC
+  RS E          refuse station E; AS E accepts it, RJ C and AJ C do so for
+                subject C
+A line that ends in CR and LF is not understood: tr -d '\\r' takes the CR away.
+The elements of the B lines, joined, are the words of one emission from its
+first word on, seven elements each. The other lines are checked and skipped.
+
+Writes the text to standard output and nothing else, once all was read. A
+character is sent in two words. Where one of them is damaged, with other than
+four B, the other one counts; where neither can be relied on, the character is
+an asterisk.";
+
+const DECODE_EXAMPLE: &str = "Example, the letter A as encode sends it, here in three lines:
+  $ cat a.air
+  B 01100111111000011001111110000110011
+  B 11110000110011111100011100011111000
+  B 11110001111000111100011100011111000
+  $ navtex decode < a.air
+  A";
+
+fn decode_command<'a>(alloc: Global) -> Command<'a>
+    ensures { IsBuiltAs (plain_tree (codes "decode")) result }
+{
+    Command::new(alloc, "decode")
+        .about("Print the text of an air file")
+        .after_help(AIR_FILE)
+        .long_about(DECODE_HELP)
+        .after_long_help(DECODE_EXAMPLE)
+}
+
+const ENCODE_HELP: &str = "Write a text as an air file.
+
+An air file is a text of what is on the air: here lines of B with elements, 1 or
+0 each.
+
+Reads a text of at most 1048576 bytes from standard input: the letters A to Z,
+the digits, space, newline and -?:().,'=+/
+
+Writes an air file to standard output: lines of B, a space and up to 490
+elements in the order of sending, 1 for B and 0 for Y, each ended by a line
+feed. They are the elements of four phasing positions, the text from the letter
+shift, and three end positions. Of a long text they may be more than the 1048576
+bytes that decode takes.";
+
+const ENCODE_EXAMPLE: &str =
+    "Example, of which the first 60 columns are shown; decode prints it as A again:
+  $ printf A | navtex encode | cut -c1-60
+  B 0110011111100001100111111000011001111110000110011111100011";
+
+fn encode_command<'a>(alloc: Global) -> Command<'a>
+    ensures { IsBuiltAs (plain_tree (codes "encode")) result }
+{
+    Command::new(alloc, "encode")
+        .about("Write a text as an air file")
+        .after_help(AIR_FILE)
+        .long_about(ENCODE_HELP)
+        .after_long_help(ENCODE_EXAMPLE)
+}
+
+const SHOW_HELP: &str = "Print the words of an air file, one line for each.
+
+An air file is a text of what is on the air: lines of B with elements, 1 or 0
+each, and others that decode --help lists.
+
+Reads an air file of at most 1048576 bytes from standard input: the elements of
+its lines of B, joined, are words of seven elements each.
+
+Writes one line for each word to standard output, once all was read: its slot,
+from 0; DX where the slot is even and RX where it is odd; its number in
+hexadecimal, with the element that is sent first in the least place; and its
+name, which is what code prints as its letter, or wrong where the number of its
+elements B is not four.";
+
+const SHOW_EXAMPLE: &str = "Example, of which the first two lines and the ninth are shown:
+  $ printf A | navtex encode | navtex show | sed -n '1,2p;9p'
+  0 DX 66 P2
+  1 RX 0F P1
+  8 DX 47 A";
+
+fn show_command<'a>(alloc: Global) -> Command<'a>
+    ensures { IsBuiltAs (plain_tree (codes "show")) result }
+{
+    Command::new(alloc, "show")
+        .about("Print the words of an air file")
+        .after_help(AIR_FILE)
+        .long_about(SHOW_HELP)
+        .after_long_help(SHOW_EXAMPLE)
+}
+
+const CODE_HELP: &str = "Print the table of the code.
+
+Reads nothing, and writes one line for each of the 35 words. Its four fields,
+with a space between them, are:
+  the number     two hexadecimal digits; the element that is sent first has the
+                 least place
+  the elements   seven letters B or Y, in the order of sending
+  the letter     what the word prints in the letter shift
+  the figure     what the word prints in the figure shift
+One character is printed as it stands. CR, LF, LTRS, FIGS, SPACE, BLANK, P1,
+BETA and P2 are names of signals, of which LF prints a newline and SPACE a
+space; none means that nothing is printed.";
+
+const CODE_EXAMPLE: &str = "Example, the first and the fourth line:
+  $ navtex code | sed -n '1p;4p'
+  47 BBBYYYB A -
+  53 BBYYBYB D none";
+
+fn code_command<'a>(alloc: Global) -> Command<'a>
+    ensures { IsBuiltAs (plain_tree (codes "code")) result }
+{
+    Command::new(alloc, "code")
+        .about("Print the table of the code")
+        .long_about(CODE_HELP)
+        .after_long_help(CODE_EXAMPLE)
+}
+
+const PROGRAM_HELP: &str =
+    "A NAVTEX broadcast station and receiver, for the elements of a signal and not
+for its sound.
+
+An air file is a text of what is on the air: lines of B with elements, the ones
+and zeros of the two tones, and lines of T with the time. A log is what a
+receiver prints of it: an entry for each message.";
+
+const STATUS_HELP: &str =
+    "A command reads standard input and writes standard output; code and slots read
+nothing. --help after a command says what it reads and writes. A fault is one
+line on standard error; where words are not understood, it may be a text of
+several lines.
 
 Example:
-  $ printf A | navtex encode | navtex decode
-  A
+  $ printf '#A01\\nTEST\\n;\\n' | navtex send E 1735689600 | navtex listen
+  [EA01 2025-01-01 00:40:00 full 0/5]
+  TEST
 
 Exit status:
-  0   success, or help
+  0   success, or help, or the version
   1   a device failed, or memory ran out
   2   a bad file, line or value
   64  words that are not understood";
@@ -299,7 +399,8 @@ fn bare_command<'a>(alloc: Global) -> Result<Command<'a>, AllocError>
     ensures { IfOk result (IsBuiltAs bare_tree) }
 {
     Command::new(alloc, "navtex")
-        .about("A NAVTEX broadcast station and receiver")
+        .about(PROGRAM_HELP)
+        .version(VERSION)
         .after_help(STATUS_HELP)
         .disable_help_subcommand(true)
         .subcommand_required(true)
@@ -311,13 +412,13 @@ pub fn navtex_command<'a>(alloc: Global) -> Result<Command<'a>, AllocError>
     ensures { IfOk result (IsBuiltAs navtex) }
 {
     bare_command(alloc)?
-        .subcommand(decode_command(alloc))?
-        .subcommand(encode_command(alloc))?
-        .subcommand(code_command(alloc))?
-        .subcommand(show_command(alloc))?
-        .subcommand(check_command(alloc))?
         .subcommand(listen_command(alloc))?
         .subcommand(send_command(alloc)?)?
         .subcommand(slots_command(alloc)?)?
-        .subcommand(damage_command(alloc)?)
+        .subcommand(check_command(alloc))?
+        .subcommand(damage_command(alloc)?)?
+        .subcommand(decode_command(alloc))?
+        .subcommand(encode_command(alloc))?
+        .subcommand(show_command(alloc))?
+        .subcommand(code_command(alloc))
 }

@@ -3,25 +3,29 @@
 ghost use Rattle.std.specs.Prelude.{◌≡◌, ◌⊎◌, ◌≤◌, ℕ, List, [], ◌∷◌, codes};
 ghost use Rattle.clap.specs.Words.{Text};
 ghost use Rattle.nx_envelope.specs.declared.letter.Letter.{Letter};
-ghost use Rattle.nx_cli.specs.Words.{AsksForHelp, IsRefused, IsRefusedByClap, LacksKind};
-ghost use Rattle.nx_cli.specs.Words.{LacksStation, Names};
+ghost use Rattle.nx_cli.specs.Words.{AsksForHelp, AsksForVersion, IsRefused, IsRefusedByClap};
+ghost use Rattle.nx_cli.specs.Words.{LacksKind, LacksStation, Names};
 ghost use Rattle.nx_cli.specs.declared.words.Call.{Call};
 ghost use Rattle.nx_cli.specs.declared.words.Call.TheVariants.{Check, Code, Decode, Encode, Listen, Show};
 ghost use Rattle.nx_cli.specs.declared.words.Call.TheVariants.{Damage, Send, Slots};
 ghost use Rattle.nx_station.specs.declared.damaging.DamageKind.{DamageKind};
 ghost use Rattle.nx_station.specs.declared.damaging.DamageKind.TheVariants.{All, Dx};
 
-/// How the words are read: each list of words names one call, asks for help or is refused, and
-/// these exclude each other.
+/// How the words are read: each list of words names one call, asks for help, asks for the version or
+/// is refused, and these exclude each other.
 pub fn words_read_as_one()
-    ensures some { (words : List Text)
-        → ((call : Call) × Names words call) ⊎ (AsksForHelp words ⊎ IsRefused words) }
+    ensures some { (words : List Text) → ((call : Call) × Names words call)
+        ⊎ (AsksForHelp words ⊎ (AsksForVersion words ⊎ IsRefused words)) }
     ensures one_call { (words : List Text) (a b : Call) → Names words a → Names words b → a ≡ b }
     ensures named_not_help { (words : List Text) (call : Call)
         → Names words call → ¬ AsksForHelp words }
+    ensures named_not_version { (words : List Text) (call : Call)
+        → Names words call → ¬ AsksForVersion words }
     ensures named_not_refused { (words : List Text) (call : Call)
         → Names words call → ¬ IsRefused words }
+    ensures help_not_version { (words : List Text) → AsksForHelp words → ¬ AsksForVersion words }
     ensures help_not_refused { (words : List Text) → AsksForHelp words → ¬ IsRefused words }
+    ensures version_not_refused { (words : List Text) → AsksForVersion words → ¬ IsRefused words }
 {}
 
 /// What some words are read as, whatever the program's name.
@@ -36,6 +40,12 @@ pub fn words_in_examples()
     ensures short_help { (program : Text) → AsksForHelp (program ∷ codes "-h" ∷ []) }
     ensures help_of_call { (program : Text)
         → AsksForHelp (program ∷ codes "decode" ∷ codes "--help" ∷ []) }
+    ensures version { (program : Text) → AsksForVersion (program ∷ codes "--version" ∷ []) }
+    ensures short_version { (program : Text) → AsksForVersion (program ∷ codes "-V" ∷ []) }
+    ensures version_first { (program : Text)
+        → AsksForVersion (program ∷ codes "--version" ∷ codes "decode" ∷ []) }
+    ensures version_of_call { (program : Text)
+        → IsRefused (program ∷ codes "decode" ∷ codes "--version" ∷ []) }
     ensures unknown { (program : Text) → IsRefused (program ∷ codes "frob" ∷ []) }
     ensures none { (program : Text) → IsRefused (program ∷ []) }
     ensures surplus { (program : Text) → IsRefused (program ∷ codes "decode" ∷ codes "frob" ∷ []) }

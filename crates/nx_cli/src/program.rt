@@ -2,6 +2,7 @@
 
 ghost use Rattle.std.specs.Prelude.{◌≡◌, ◌≢◌, ◌⊎◌, IfOk, IfSome, MatchResult, map, string_bytes};
 ghost use Rattle.nx_cli.specs.Program.{EndsRun, Exits, Performs, Succeeds, WritesText, fresh_device};
+ghost use Rattle.nx_cli.specs.Program.{version_text};
 ghost use Rattle.nx_cli.specs.Report.{Answers, IsFaultLine, IsWantOfWords, LacksWords, WritesOne};
 ghost use Rattle.nx_cli.specs.Status.{IsStatus};
 ghost use Rattle.nx_cli.specs.Words.{IsRefused, Names};
@@ -9,6 +10,7 @@ ghost use Rattle.nx_fec.specs.Transfers.{CountedDevice, devices};
 ghost use Rattle.nx_fec.specs.TableText.{table_text};
 ghost use Rattle.nx_cli.specs.declared.words.Call.{Call};
 
+use crate::commands::VERSION;
 use crate::fault::{CallFault, Fault};
 use crate::slots::print_slot;
 use crate::words::{Call, WordsFault, call_of};
@@ -89,6 +91,15 @@ fn give_help<D: Display, W: Write>(
     Ok(())
 }
 
+/// Writes the text of the version.
+fn give_version<W: Write>(writer: &mut Counting<W>) -> Result<(), RunFault>
+    requires { writer.old.failures ≡ 0 }
+    ensures { WritesText (λ text. text ≡ version_text) W.contents writer.old writer.new result }
+{
+    write_out(writer, VERSION.as_bytes())?;
+    Ok(())
+}
+
 /// Reads the words and does what they ask for.
 fn obey<S: AsStr, R: Read, W: Write>(
     alloc: Global,
@@ -109,6 +120,10 @@ fn obey<S: AsStr, R: Read, W: Write>(
         }
         Err(WordsFault::Help(help)) => {
             give_help(alloc, &help, writer)?;
+            Ok(())
+        }
+        Err(WordsFault::Version) => {
+            give_version(writer)?;
             Ok(())
         }
         Err(WordsFault::Refused(answer)) => Err(Fault::Words(answer.to_string(alloc)?)),
@@ -209,7 +224,7 @@ pub fn run<S: AsStr, R: Read + Drop, W: Write + Drop, E: Write + Drop>(
         result }
     ensures status { IsStatus result }
 
-    // Success comes only from a call that succeeded, or from help that was written.
+    // Success comes only from a call that succeeded, or from help or the version that was written.
     ensures success { result ≡ 0 → (reader : CountedDevice R) × (writer : CountedDevice W)
         × Succeeds (map S.text words.now)
         (devices R.remaining W.contents (fresh_device input) reader (fresh_device output) writer) }

@@ -36,9 +36,11 @@ struct Ended {
 }
 
 impl Ended {
-    // The output of a run that succeeded and reported no fault.
-    fn success(&self) -> Option<&[u8]> {
-        (self.status == 0 && self.faults.is_empty()).then_some(self.output.as_slice())
+    // Whether the run ended so.
+    fn is(&self, status: u8, output: &[u8], faults: &[u8]) -> bool {
+        self.status == status
+            && self.output.as_slice() == output
+            && self.faults.as_slice() == faults
     }
 }
 
@@ -52,6 +54,21 @@ fn run_on(alloc: Global, words: &[&str], input: &[u8]) -> Ended {
         output: output.taken,
         faults: faults.taken,
     }
+}
+
+// What a run writes.
+fn output_of(alloc: Global, words: &[&str], input: &[u8]) -> Vec<u8> {
+    run_on(alloc, words, input).output
+}
+
+// Whether a run on these words and this input succeeds, writes this and reports no fault.
+fn writes(alloc: Global, words: &[&str], input: &[u8], output: &[u8]) -> bool {
+    run_on(alloc, words, input).is(0, output, b"")
+}
+
+// Whether a run ends with this status and this line on standard error, and writes nothing.
+fn refuses(alloc: Global, words: &[&str], input: &[u8], status: u8, line: &str) -> bool {
+    run_on(alloc, words, input).is(status, b"", line.as_bytes())
 }
 
 // The file with other elements at this place.

@@ -2,8 +2,9 @@
 
 ghost use Rattle.std.specs.Prelude.{◌≡◌, ◌≢◌, ℕ, [], ◌∷◌, IfErr, IfNone, IfOk, IfSome, codes, map};
 ghost use Rattle.clap.specs.Words.{found_of, rows_of};
-ghost use Rattle.nx_cli.specs.Words.{ExplainsWords, HasArguments, IsKind, IsNumber, IsSortedAs};
-ghost use Rattle.nx_cli.specs.Words.{IsStation, Names, command_name, kind_name};
+ghost use Rattle.nx_cli.specs.Words.{HasArguments, IsKind, IsNumber, IsStation, Names, command_name};
+ghost use Rattle.nx_cli.specs.Words.{kind_name};
+ghost use Rattle.nx_cli.specs.private.Reading.{ExplainsWords, IsSortedAs};
 ghost use Rattle.nx_cli.specs.declared.words.Call.{Call};
 ghost use Rattle.nx_station.specs.declared.damaging.DamageKind.{DamageKind};
 ghost use Rattle.nx_cli.specs.declared.words.WordsFault.TheVariants.{Kind, Memory, Station};
@@ -62,6 +63,8 @@ pub enum Call {
 pub enum WordsFault {
     /// The words ask for help, which is this text.
     Help(clap::Error),
+    /// The words ask for the version.
+    Version,
     /// The words are not understood, as this text says.
     Refused(clap::Error),
     /// The station is not one letter A to Z.
@@ -72,9 +75,9 @@ pub enum WordsFault {
     Memory(AllocError),
 }
 
-/// The call that the words name, of which the first is the program's name. `Help` where they ask for
-/// help, `Refused` where clap doesn't understand them, `Station` and `Kind` where that argument is
-/// none, and `Memory` where it ran out.
+/// The call that the words name, of which the first is the program's name. `Help` and `Version` where
+/// they ask for these, `Refused` where clap doesn't understand them, `Station` and `Kind` where that
+/// argument is none, and `Memory` where it ran out.
 pub fn call_of<S: AsStr>(alloc: Global, words: &[S]) -> Result<Call, WordsFault>
     ensures named { IfOk result (Names (map S.text words.now)) }
     ensures refused { IfErr result (ExplainsWords (map S.text words.now)) }
@@ -195,6 +198,7 @@ impl From<clap::Error> for WordsFault {
     fn from(error: clap::Error) -> WordsFault {
         match error.kind() {
             ErrorKind::DisplayHelp => WordsFault::Help(error),
+            ErrorKind::DisplayVersion => WordsFault::Version,
             ErrorKind::OutOfMemory => WordsFault::Memory(AllocError),
             _ => WordsFault::Refused(error),
         }

@@ -3,7 +3,7 @@
 ghost use Rattle.std.specs.Prelude.{◌<◌};
 
 use super::station::AIR_FILE_OF_EA01;
-use super::{Ended, run_on};
+use super::{output_of, run_on};
 use nx_code::Comb;
 use nx_fec::{Position, to_bits};
 use std::alloc::{AllocError, Global};
@@ -48,6 +48,19 @@ pub fn elements_of(alloc: Global, air_file: &[u8]) -> Result<Vec<u8>, AllocError
     Ok(elements)
 }
 
+/// The moment of the emission of EA01.
+pub const MOMENT_OF_EA01: &[u8] = b"T 1735692000\n";
+
+/// The elements of the emission of EA01 from one on to before another, of its 1,421, in lines of so
+/// many elements.
+pub fn part_of_ea01(alloc: Global, from: usize, to: usize, length: usize) -> Result<Vec<u8>, Fail>
+    requires { 0 < length }
+{
+    let elements = elements_of(alloc, AIR_FILE_OF_EA01)?;
+    let part = elements.get(from..to).ok_or("elements")?;
+    Ok(lines_of(alloc, part, length)?)
+}
+
 /// Lines of so many elements each.
 pub fn lines_of(alloc: Global, elements: &[u8], length: usize) -> Result<Vec<u8>, AllocError>
     requires { 0 < length }
@@ -78,16 +91,16 @@ pub fn elements_sent(alloc: Global, combinations: &[u8]) -> Result<Vec<u8>, Fail
 
 /// What `send` writes of a message file of station E from this moment on.
 pub fn send_from(alloc: Global, moment: &str, message_file: &[u8]) -> Vec<u8> {
-    run_on(alloc, &["navtex", "send", "E", moment], message_file).output
+    output_of(alloc, &["navtex", "send", "E", moment], message_file)
 }
 
 /// What `damage` writes of a file.
 pub fn damage_in(alloc: Global, kind: &str, from: &str, count: &str, air_file: &[u8]) -> Vec<u8> {
-    run_on(alloc, &["navtex", "damage", kind, from, count], air_file).output
+    output_of(alloc, &["navtex", "damage", kind, from, count], air_file)
 }
 
-/// What `listen` leaves behind of a file that these pieces make in a row.
-pub fn listen_to(alloc: Global, pieces: &[&[u8]]) -> Result<Ended, AllocError> {
+/// Whether `listen` succeeds on a file that these pieces make in a row, and writes this log.
+pub fn hears(alloc: Global, pieces: &[&[u8]], log: &[u8]) -> Result<bool, AllocError> {
     let air_file = join(alloc, pieces)?;
-    Ok(run_on(alloc, &["navtex", "listen"], &air_file))
+    Ok(run_on(alloc, &["navtex", "listen"], &air_file).is(0, log, b""))
 }

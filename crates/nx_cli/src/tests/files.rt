@@ -1,9 +1,10 @@
 //! `encode` and `decode` on files.
 
 use super::station::SEND;
-use super::{AIR_FILE_OF_A, run_on, with_word};
+use super::{AIR_FILE_OF_A, output_of, refuses, with_word, writes};
 use crate::program::run;
 use crate::tests::devices::{Sink, Source};
+use std::alloc::Global;
 use std::test::Fail;
 
 // The empty text: four phasing positions and three end positions, by the code table of M.476.
@@ -65,97 +66,71 @@ fn names_each_fault(rt: HostRuntime) -> Result<(), Fail> {
         },
     ];
     for row in rows.iter() {
-        let ended = run_on(alloc, &["navtex", row.call], row.input);
-        assert_eq!(rt; ended.status, 2, "{}", row.faults);
-        assert!(rt; ended.output.is_empty());
-        assert_eq!(rt; ended.faults.as_slice(), row.faults.as_bytes());
+        assert!(rt; refuses(alloc, &["navtex", row.call], row.input, 2, row.faults));
     }
     Ok(())
+}
+
+// Whether a run over a file that never ends is refused, and writes nothing.
+fn stops_on_endless(alloc: Global, words: &[&str], line: &[u8]) -> bool {
+    let mut source = Source::of(line);
+    source.endless = true;
+    let mut output = Sink::new(Vec::new(alloc));
+    let mut faults = Sink::new(Vec::new(alloc));
+    let status = run(alloc, words, &mut source, &mut output, &mut faults);
+    status == 2 && output.calls == 0 && faults.took(b"navtex: file longer than 1048576 bytes\n")
 }
 
 #[test]
 fn stops_an_endless_file(rt: HostRuntime) {
     let alloc = rt.alloc();
-    for (words, line) in [
-        (["navtex", "decode"].as_slice(), b"T 0\n".as_slice()),
-        (["navtex", "encode"].as_slice(), b"T 0\n".as_slice()),
-        (["navtex", "show"].as_slice(), b"T 0\n".as_slice()),
-        (["navtex", "check"].as_slice(), b"T 0\n".as_slice()),
-        (SEND.as_slice(), b"#A01\n".as_slice()),
-    ] {
-        let mut source = Source::of(line);
-        source.endless = true;
-        let mut output = Sink::new(Vec::new(alloc));
-        let mut faults = Sink::new(Vec::new(alloc));
-        let status = run(alloc, words, &mut source, &mut output, &mut faults);
-        assert_eq!(rt; status, 2);
-        assert_eq!(rt; output.calls, 0);
-        assert_eq!(rt;
-            faults.taken.as_slice(),
-            b"navtex: file longer than 1048576 bytes\n".as_slice()
-        );
+    for call in ["decode", "encode", "show", "check"] {
+        assert!(rt; stops_on_endless(alloc, &["navtex", call], b"T 0\n"));
     }
+    assert!(rt; stops_on_endless(alloc, &SEND, b"#A01\n"));
 }
 
-// A text, and what is written of it, where that is told apart from its reading.
-#[derive(Drop)]
-struct TextRow<'a> {
-    text: &'a [u8],
-    air_file: Option<&'a [u8]>,
+// Whether `decode` gives back the text that `encode` is given.
+fn is_given_back(alloc: Global, text: &[u8]) -> bool {
+    let encoded = output_of(alloc, &["navtex", "encode"], text);
+    writes(alloc, &["navtex", "decode"], &encoded, text)
 }
 
 #[test]
 fn encodes_and_decodes(rt: HostRuntime) {
     let alloc = rt.alloc();
-    let rows = [
-        TextRow {
-            text: b"A",
-            air_file: Some(AIR_FILE_OF_A),
-        },
-        TextRow {
-            text: b"",
-            air_file: Some(AIR_FILE_OF_NOTHING),
-        },
-        TextRow {
-            text: b"ABCDEFGHIJKLM NOPQRSTUVWXYZ\n0123 456789\n-?:().,'=+/",
-            air_file: None,
-        },
-    ];
-    for row in rows.iter() {
-        let encoded = run_on(alloc, &["navtex", "encode"], row.text);
-        assert_eq!(rt; encoded.status, 0);
-        assert!(rt; encoded.faults.is_empty());
-        if let Some(air_file) = row.air_file {
-            assert_eq!(rt; encoded.output.as_slice(), air_file);
-        }
-        let decoded = run_on(alloc, &["navtex", "decode"], encoded.output.as_slice());
-        assert_eq!(rt; decoded.status, 0);
-        assert_eq!(rt; decoded.output.as_slice(), row.text);
-        assert!(rt; decoded.faults.is_empty());
+    assert!(rt; writes(alloc, &["navtex", "encode"], b"A", AIR_FILE_OF_A));
+    assert!(rt; writes(alloc, &["navtex", "encode"], b"", AIR_FILE_OF_NOTHING));
+    for text in [
+        b"A".as_slice(),
+        b"".as_slice(),
+        b"ABCDEFGHIJKLM NOPQRSTUVWXYZ\n0123 456789\n-?:().,'=+/".as_slice(),
+    ] {
+        assert!(rt; is_given_back(alloc, text));
     }
-    let nothing = run_on(alloc, &["navtex", "decode"], b"");
-    assert_eq!(rt; nothing.status, 0);
-    assert!(rt; nothing.output.is_empty() && nothing.faults.is_empty());
+    assert!(rt; writes(alloc, &["navtex", "decode"], b"", b""));
 }
 
-// The place of word 13 in `AIR_FILE_OF_A`, the second sending of A. The last row puts B there.
+// The place of word 13 in `AIR_FILE_OF_A`, the second sending of A. The last file has B there.
 const WORD_13: usize = 93;
+
+// The file with an element of some words inverted.
+fn damaged(alloc: Global, kind: &str, word: &str, air_file: &[u8]) -> Vec<u8> {
+    output_of(alloc, &["navtex", "damage", kind, word, "1"], air_file)
+}
+
+fn decodes(alloc: Global, air_file: &[u8], text: &[u8]) -> bool {
+    writes(alloc, &["navtex", "decode"], air_file, text)
+}
 
 #[test]
 fn decodes_damaged_words(rt: HostRuntime) -> Result<(), Fail> {
     let alloc = rt.alloc();
-    let first = run_on(alloc, &["navtex", "damage", "dx", "8", "1"], AIR_FILE_OF_A);
-    let one = run_on(alloc, &["navtex", "damage", "all", "8", "1"], AIR_FILE_OF_A);
-    let both = run_on(alloc, &["navtex", "damage", "all", "13", "1"], &one.output);
+    let first = damaged(alloc, "dx", "8", AIR_FILE_OF_A);
+    assert!(rt; decodes(alloc, &first, b"A"));
+    let both = damaged(alloc, "all", "13", &first);
+    assert!(rt; decodes(alloc, &both, b"*"));
     let other = with_word(alloc, AIR_FILE_OF_A, WORD_13, b"0100111")?;
-    for (air_file, text) in [
-        (first.output.as_slice(), b"A"),
-        (both.output.as_slice(), b"*"),
-        (other.as_slice(), b"*"),
-    ] {
-        let ended = run_on(alloc, &["navtex", "decode"], air_file);
-        assert_eq!(rt; ended.status, 0);
-        assert_eq!(rt; ended.output.as_slice(), text.as_slice());
-    }
+    assert!(rt; decodes(alloc, &other, b"*"));
     Ok(())
 }

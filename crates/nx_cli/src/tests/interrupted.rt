@@ -8,13 +8,13 @@ use super::AIR_FILE_OF_A;
 use super::clocked::{Clock, Reader, Writer};
 use super::endings::Ending;
 use super::station::{AIR_FILE_OF_EA01, MESSAGE_FILE};
-use nx_envelope::{Finder, FinderStep, Letter};
+use nx_envelope::{Finder, FinderStep, Identity, Letter};
 use nx_fec::{Counting, decode_run, encode_run, read_bits, show_run, write_bits, write_table};
-use nx_receiver::{Entry, entry_text, listen};
+use nx_memory::{PlainRecall, Recall, Saved, Selection};
+use nx_receiver::{Entry, entry_text, listen, listen_from};
 use nx_station::{DamageKind, check_run, damage, send};
 use std::alloc::Global;
 use std::io::{Read, Write};
-use std::process::Abort;
 use std::test::Fail;
 
 /// A call over a reader and a writer, or over one of them.
@@ -22,6 +22,7 @@ use std::test::Fail;
 enum Call {
     Send,
     Listen,
+    ListenFrom,
     ReadBits,
     DecodeRun,
     EncodeRun,
@@ -38,6 +39,8 @@ enum Call {
 struct Given {
     station: Letter,
     entry: Entry,
+    /// What a receiver left that heard EB02.
+    saved: Saved,
     bits: Vec<bool>,
     /// The air file of EA01 with 100 elements in each line, so that its copy is open behind some of
     /// them.
@@ -64,6 +67,9 @@ impl Call {
             }
             Call::Listen => {
                 listen(alloc, reader, writer)?;
+            }
+            Call::ListenFrom => {
+                listen_from(alloc, &given.saved, reader, writer)?;
             }
             Call::ReadBits => {
                 read_bits(alloc, reader)?;
@@ -126,6 +132,13 @@ fn entry_of_ea01() -> Result<Entry, Fail>
     Err("a copy")?
 }
 
+/// A memory that holds EB02, saved.
+fn saved_with_eb02() -> Result<Saved, Fail> {
+    let mut memory = PlainRecall::new();
+    memory.enter(Identity::new(b'E', b'B', 2).ok_or("EB02")?, MOMENT);
+    Ok(Saved::of(&Selection::all(), &memory))
+}
+
 fn given_to_calls(alloc: Global) -> Result<Given, Fail>
     ensures { IfOk result (λ given. given.entry.moment ≤ last_moment) }
 {
@@ -134,6 +147,7 @@ fn given_to_calls(alloc: Global) -> Result<Given, Fail>
     Ok(Given {
         station: Letter::new(b'E').ok_or("a station")?,
         entry: entry_of_ea01()?,
+        saved: saved_with_eb02()?,
         short_lines: in_short_lines(alloc, &bits)?,
         bits,
     })
@@ -158,7 +172,8 @@ struct Case<'a> {
     call: Call,
     input: &'a [u8],
     output: &'a [u8],
-    /// Of `listen`, how much of the input has the line that ends the copy, and all before it.
+    /// Of `listen` and `listen_from`, how much of the input has the line that ends the copy, and all
+    /// before it.
     heard: usize,
 }
 
@@ -167,17 +182,11 @@ impl Case<'_> {
     /// each line that it has read, `listen` an entry with the line that ends its copy; the others
     /// write at the end.
     fn written_after(&self, read: usize) -> usize {
-        if self.call != Call::Damage {
-            let is_logged = self.call == Call::Listen && read >= self.heard;
-            return if is_logged { self.output.len() } else { 0 };
+        match self.call {
+            Call::Damage => whole_lines(self.input, read),
+            Call::Listen | Call::ListenFrom if read >= self.heard => self.output.len(),
+            _ => 0,
         }
-        let mut lines = 0;
-        for (index, byte) in self.input.iter().take(read).enumerate() {
-            if *byte == b'\n' {
-                lines = index.saturating_add(1);
-            }
-        }
-        lines
     }
 
     /// How often the call reads, where one read gives so many bytes at most: a call that reads sees
@@ -190,20 +199,27 @@ impl Case<'_> {
     }
 }
 
+/// How many of so many bytes are those of whole lines.
+fn whole_lines(input: &[u8], read: usize) -> usize {
+    let mut lines = 0;
+    for (index, byte) in input.iter().take(read).enumerate() {
+        if *byte == b'\n' {
+            lines = index.saturating_add(1);
+        }
+    }
+    lines
+}
+
 /// The copy of EA01 ends with the word of slot 195, its element 1,372. With 100 elements in each line
 /// that is in the 14th of 103 bytes, behind the line of the moment.
 const HEARD_IN_SHORT_LINES: usize = LINE_OF_MOMENT + 14 * 103;
 
-fn cases<'a>(given: &'a Given) -> [Case<'a>; 13] {
+fn cases<'a>(given: &'a Given) -> [Case<'a>; 14] {
     [
         row(Call::Send, MESSAGE_FILE, AIR_FILE_OF_EA01),
         row(Call::Listen, AIR_FILE_OF_EA01, LOG_OF_EA01),
-        Case {
-            call: Call::Listen,
-            input: &given.short_lines,
-            output: LOG_OF_EA01,
-            heard: HEARD_IN_SHORT_LINES,
-        },
+        in_short(Call::Listen, given),
+        in_short(Call::ListenFrom, given),
         row(Call::Listen, LINES, b""),
         row(Call::ReadBits, LINES, b""),
         row(
@@ -229,6 +245,16 @@ fn cases<'a>(given: &'a Given) -> [Case<'a>; 13] {
     ]
 }
 
+/// A case in which EA01 is heard in short lines.
+fn in_short(call: Call, given: &Given) -> Case<'_> {
+    Case {
+        call,
+        input: &given.short_lines,
+        output: LOG_OF_EA01,
+        heard: HEARD_IN_SHORT_LINES,
+    }
+}
+
 /// A case in which `listen`, where it is the call, ends its copy with the last line.
 fn row<'a>(call: Call, input: &'a [u8], output: &'a [u8]) -> Case<'a> {
     Case {
@@ -249,30 +275,57 @@ struct Ended {
     stopped: bool,
 }
 
-/// Makes the call with a reader that gives pieces and fails after so many calls, and a writer with
-/// so much room.
-fn interrupt(
-    alloc: Global,
-    case: &Case,
-    given: &Given,
+impl Ended {
+    /// Whether the call succeeded and wrote this.
+    fn succeeded(&self, output: &[u8]) -> bool {
+        self.ending == Ok(()) && self.written.as_slice() == output
+    }
+
+    /// Whether the call ended so at the call on a device that failed, and wrote this.
+    fn failed(&self, ending: Ending, written: Option<&[u8]>) -> bool {
+        self.ending == Err(ending) && self.stopped && Some(self.written.as_slice()) == written
+    }
+}
+
+/// Where a call is interrupted.
+#[derive(Clone, Copy, Drop)]
+struct Trouble {
+    /// The most bytes that the reader gives at once.
     piece: usize,
+    /// How many reads succeed before one fails.
     sound: Option<usize>,
+    /// How many bytes the writer takes before it fails.
     room: Option<usize>,
-) -> Ended
+}
+
+fn reader_on<'a>(clock: &'a Clock, input: &'a [u8], trouble: Trouble) -> Counting<Reader<'a>>
+    ensures { result.failures ≡ 0 }
+{
+    Counting::new(Reader {
+        clock,
+        rest: input,
+        piece: trouble.piece,
+        sound: trouble.sound,
+    })
+}
+
+fn writer_on<'a>(clock: &'a Clock, alloc: Global, trouble: Trouble) -> Counting<Writer<'a>>
+    ensures { result.failures ≡ 0 }
+{
+    Counting::new(Writer {
+        clock,
+        taken: Vec::new(alloc),
+        room: trouble.room,
+    })
+}
+
+/// Makes the call on devices with this trouble.
+fn interrupt(alloc: Global, case: &Case, given: &Given, trouble: Trouble) -> Ended
     requires { given.now.entry.moment ≤ last_moment }
 {
     let clock = Clock::new();
-    let mut reader = Counting::new(Reader {
-        clock: &clock,
-        rest: case.input,
-        piece,
-        sound,
-    });
-    let mut writer = Counting::new(Writer {
-        clock: &clock,
-        taken: Vec::new(alloc),
-        room,
-    });
+    let mut reader = reader_on(&clock, case.input, trouble);
+    let mut writer = writer_on(&clock, alloc, trouble);
     let ending = case.call.make(alloc, given, &mut reader, &mut writer);
     let unread = reader.into_inner().rest.len();
     Ended {
@@ -283,71 +336,89 @@ fn interrupt(
     }
 }
 
-/// Each read of the call fails in turn.
-fn fail_reads(rt: &impl Abort, alloc: Global, case: &Case, given: &Given, piece: usize)
+/// Whether the call stops at a read that fails behind so many.
+fn stops_at_read(alloc: Global, case: &Case, given: &Given, piece: usize, reads: usize) -> bool
     requires { given.now.entry.moment ≤ last_moment }
 {
-    let sound = interrupt(alloc, case, given, piece, None, None);
-    assert_eq!(rt; sound.ending, Ok(()), "{:?}", case.call);
-    assert_eq!(rt; sound.written.as_slice(), case.output);
-    for reads in 0..case.reads(piece) {
-        let ended = interrupt(alloc, case, given, piece, Some(reads), None);
-        assert_eq!(rt;
-            ended.ending,
-            Err(Ending::Read),
-            "{:?} at {reads}",
-            case.call
-        );
-        assert!(rt; ended.stopped);
-        let written = case.written_after(ended.read);
-        assert_eq!(rt; Some(ended.written.as_slice()), case.output.get(..written));
+    let trouble = Trouble {
+        piece,
+        sound: Some(reads),
+        room: None,
+    };
+    let ended = interrupt(alloc, case, given, trouble);
+    let written = case.written_after(ended.read);
+    ended.failed(Ending::Read, case.output.get(..written))
+}
+
+/// Whether the call succeeds where so many reads succeed.
+fn succeeds(alloc: Global, case: &Case, given: &Given, piece: usize, sound: Option<usize>) -> bool
+    requires { given.now.entry.moment ≤ last_moment }
+{
+    let trouble = Trouble {
+        piece,
+        sound,
+        room: None,
+    };
+    interrupt(alloc, case, given, trouble).succeeded(case.output)
+}
+
+/// Whether the call stops at each of its reads, as each fails in turn, and there is no further one.
+fn stops_at_reads(alloc: Global, case: &Case, given: &Given, piece: usize) -> bool
+    requires { given.now.entry.moment ≤ last_moment }
+{
+    let reads = case.reads(piece);
+    for read in 0..reads {
+        if !stops_at_read(alloc, case, given, piece, read) {
+            return false;
+        }
     }
-    // There was no further read to fail.
-    let whole = interrupt(alloc, case, given, piece, Some(case.reads(piece)), None);
-    assert_eq!(rt; whole.ending, Ok(()));
+    succeeds(alloc, case, given, piece, None) && succeeds(alloc, case, given, piece, Some(reads))
 }
 
 #[test]
 fn stops_at_each_failed_read(rt: HostRuntime) -> Result<(), Fail> {
     let given = given_to_calls(rt.alloc())?;
     for case in &cases(&given) {
-        fail_reads(&rt, rt.alloc(), case, &given, usize::MAX);
-        fail_reads(&rt, rt.alloc(), case, &given, LINE_OF_MOMENT);
-        if case.input.len() < 200 {
-            fail_reads(&rt, rt.alloc(), case, &given, 1);
-        }
+        assert!(rt; stops_at_reads(rt.alloc(), case, &given, usize::MAX));
+        assert!(rt; stops_at_reads(rt.alloc(), case, &given, LINE_OF_MOMENT));
+        assert!(rt; case.input.len() >= 200 || stops_at_reads(rt.alloc(), case, &given, 1));
     }
     Ok(())
 }
 
-/// The writer fails behind each byte of what the call writes.
-fn fail_writes(rt: &impl Abort, alloc: Global, case: &Case, given: &Given)
+/// Whether the call stops at a writer that fails behind so many bytes.
+fn stops_at_write(alloc: Global, case: &Case, given: &Given, room: usize) -> bool
     requires { given.now.entry.moment ≤ last_moment }
 {
-    for room in 0..case.output.len() {
-        let ended = interrupt(alloc, case, given, LINE_OF_MOMENT, None, Some(room));
-        let written = room as u64;
-        assert_eq!(rt;
-            ended.ending,
-            Err(Ending::Write(written)),
-            "{:?}",
-            case.call
-        );
-        assert!(rt; ended.stopped);
-        assert_eq!(rt; Some(ended.written.as_slice()), case.output.get(..room));
+    let trouble = Trouble {
+        piece: LINE_OF_MOMENT,
+        sound: None,
+        room: Some(room),
+    };
+    let ended = interrupt(alloc, case, given, trouble);
+    if room == case.output.len() {
+        return ended.succeeded(case.output);
     }
-    let room = Some(case.output.len());
-    let whole = interrupt(alloc, case, given, LINE_OF_MOMENT, None, room);
-    assert_eq!(rt; whole.ending, Ok(()));
+    ended.failed(Ending::Write(room as u64), case.output.get(..room))
+}
+
+/// Whether the call stops behind each byte of what it writes, and ends where all have room.
+fn stops_at_writes(alloc: Global, case: &Case, given: &Given) -> bool
+    requires { given.now.entry.moment ≤ last_moment }
+{
+    for room in 0..=case.output.len() {
+        if !stops_at_write(alloc, case, given, room) {
+            return false;
+        }
+    }
+    true
 }
 
 #[test]
 fn stops_behind_each_byte(rt: HostRuntime) -> Result<(), Fail> {
     let given = given_to_calls(rt.alloc())?;
     for case in &cases(&given) {
-        if case.call != Call::Send {
-            fail_writes(&rt, rt.alloc(), case, &given);
-        }
+        assert!(rt; case.call == Call::Send || stops_at_writes(rt.alloc(), case, &given));
     }
     Ok(())
 }
@@ -356,9 +427,7 @@ fn stops_behind_each_byte(rt: HostRuntime) -> Result<(), Fail> {
 fn stops_behind_each_byte_of_an_emission(rt: HostRuntime) -> Result<(), Fail> {
     let given = given_to_calls(rt.alloc())?;
     for case in &cases(&given) {
-        if case.call == Call::Send {
-            fail_writes(&rt, rt.alloc(), case, &given);
-        }
+        assert!(rt; case.call != Call::Send || stops_at_writes(rt.alloc(), case, &given));
     }
     Ok(())
 }

@@ -2,28 +2,19 @@
 //! log nevertheless, or nothing.
 
 use super::air::{
-    HEADER_OF_EA01, LOG_OF_EA01, REST_OF_EA01, damage_in, elements_of, elements_sent, join,
-    lines_of, lines_of_ea01, listen_to,
+    HEADER_OF_EA01, LOG_OF_EA01, MOMENT_OF_EA01, REST_OF_EA01, damage_in, elements_sent, hears,
+    join, lines_of, lines_of_ea01, part_of_ea01,
 };
 use super::station::AIR_FILE_OF_EA01;
-use super::{Ended, run_on};
 use std::alloc::{AllocError, Global};
 use std::test::Fail;
 
-// The emission of EA01 from this element on, of its 1,421.
-fn lines_of_ea01_from(alloc: Global, element: usize) -> Result<Vec<u8>, Fail> {
-    let elements = elements_of(alloc, AIR_FILE_OF_EA01)?;
-    let last = elements.get(element..).ok_or("elements")?;
-    Ok(lines_of(alloc, last, 490)?)
-}
+// The moment and four words of phasing.
+const FOUR_WORDS: &[u8] = b"T 1735692000\nB 0110011111100001100111111000\n";
 
-// What `listen` leaves behind of these lines after the moment and four words of phasing.
-fn listen_after_four_words(alloc: Global, gap: &[u8], lines: &[u8]) -> Result<Ended, AllocError> {
-    let mut air_file = Vec::new(alloc);
-    air_file.extend_from_slice(b"T 1735692000\nB 0110011111100001100111111000\n")?;
-    air_file.extend_from_slice(gap)?;
-    air_file.extend_from_slice(lines)?;
-    Ok(run_on(alloc, &["navtex", "listen"], &air_file))
+// Whether `listen` hears EA01 in these lines after the moment and four words of phasing.
+fn hears_after_four_words(alloc: Global, gap: &[u8], lines: &[u8]) -> Result<bool, AllocError> {
+    hears(alloc, &[FOUR_WORDS, gap, lines], LOG_OF_EA01)
 }
 
 #[test]
@@ -31,18 +22,20 @@ fn finds_the_emission_after_other_elements(rt: HostRuntime) -> Result<(), Fail> 
     let alloc = rt.alloc();
     let x = lines_of_ea01()?;
     // Three elements slip in behind the four words, or one that makes a false lock.
-    let slipped = listen_after_four_words(alloc, b"B 000\n", x)?;
-    assert_eq!(rt; slipped.success(), Some(LOG_OF_EA01));
-    let falsely_locked = listen_after_four_words(alloc, b"B 1\n", x)?;
-    assert_eq!(rt; falsely_locked.success(), Some(LOG_OF_EA01));
+    assert!(rt; hears_after_four_words(alloc, b"B 000\n", x)?);
+    assert!(rt; hears_after_four_words(alloc, b"B 1\n", x)?);
+    Ok(())
+}
+
+#[test]
+fn finds_a_part_of_the_emission(rt: HostRuntime) -> Result<(), Fail> {
+    let alloc = rt.alloc();
     // The first word is lost, so the roles of the words are swapped.
-    let but_one_word = lines_of_ea01_from(alloc, 7)?;
-    let swapped = listen_after_four_words(alloc, b"", &but_one_word)?;
-    assert_eq!(rt; swapped.success(), Some(LOG_OF_EA01));
+    let but_one_word = part_of_ea01(alloc, 7, 1_421, 490)?;
+    assert!(rt; hears_after_four_words(alloc, b"", &but_one_word)?);
     // The receiver hears the last 749 elements alone, from word 96 on.
-    let last_749 = lines_of_ea01_from(alloc, 672)?;
-    let late = listen_to(alloc, &[b"T 1735692000\n", &last_749])?;
-    assert_eq!(rt; late.success(), Some(LOG_OF_EA01));
+    let last_749 = part_of_ea01(alloc, 672, 1_421, 490)?;
+    assert!(rt; hears(alloc, &[MOMENT_OF_EA01, &last_749], LOG_OF_EA01)?);
     Ok(())
 }
 
@@ -51,20 +44,27 @@ fn prints_a_damaged_emission(rt: HostRuntime) -> Result<(), Fail> {
     let alloc = rt.alloc();
     // Of each position of the message the first sending is lost.
     let half = damage_in(alloc, "dx", "144", "59", AIR_FILE_OF_EA01);
-    assert_eq!(rt; listen_to(alloc, &[&half])?.success(), Some(LOG_OF_EA01));
+    assert!(rt; hears(alloc, &[&half], LOG_OF_EA01)?);
     // The first 96 words are lost too, so the lock comes late.
-    let late = damage_in(alloc, "all", "0", "96", AIR_FILE_OF_EA01);
-    let late_half = damage_in(alloc, "dx", "144", "59", &late);
-    assert_eq!(rt;
-        listen_to(alloc, &[&late_half])?.success(),
-        Some(LOG_OF_EA01)
-    );
+    let late = damage_in(alloc, "all", "0", "96", &half);
+    assert!(rt; hears(alloc, &[&late], LOG_OF_EA01)?);
+    Ok(())
+}
+
+#[test]
+fn prints_no_message_without_a_header(rt: HostRuntime) -> Result<(), Fail> {
+    let alloc = rt.alloc();
     // Both sendings of the figure shift are lost, so EA*PQ is read, and no header.
     let first = damage_in(alloc, "all", "160", "1", AIR_FILE_OF_EA01);
     let no_figures = damage_in(alloc, "all", "165", "1", &first);
-    let ended = listen_to(alloc, &[&no_figures])?;
-    assert_eq!(rt; ended.success(), Some(b"".as_slice()));
+    assert!(rt; hears(alloc, &[&no_figures], b"")?);
     Ok(())
+}
+
+// The lines of the elements that these combinations are sent as.
+fn lines_sent(alloc: Global, combinations: &[u8]) -> Result<Vec<u8>, Fail> {
+    let elements = elements_sent(alloc, combinations)?;
+    Ok(lines_of(alloc, &elements, 490)?)
 }
 
 #[test]
@@ -72,9 +72,7 @@ fn finds_a_header_behind_its_own_letters(rt: HostRuntime) -> Result<(), Fail> {
     let alloc = rt.alloc();
     // Z and C come before the letter shift: the text reads ZCZCZC EA01.
     let combinations = join(alloc, &[&[26, 3], &HEADER_OF_EA01, &REST_OF_EA01])?;
-    let elements = elements_sent(alloc, &combinations)?;
-    let lines = lines_of(alloc, &elements, 490)?;
-    let ended = listen_to(alloc, &[b"T 1735692000\n", &lines])?;
-    assert_eq!(rt; ended.success(), Some(LOG_OF_EA01));
+    let lines = lines_sent(alloc, &combinations)?;
+    assert!(rt; hears(alloc, &[MOMENT_OF_EA01, &lines], LOG_OF_EA01)?);
     Ok(())
 }

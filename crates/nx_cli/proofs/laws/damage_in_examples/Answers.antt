@@ -6,7 +6,7 @@ use Rattle.nx_station.specs.declared.damaging.DamageKind.{DamageKind}
 use Rattle.nx_cli.specs.Words.{kind_name}
 use Rattle.nx_cli.proofs.GivenArguments.{given}
 use Rattle.nx_cli.proofs.CallArguments.{differ, no_kind, number-of}
-use Rattle.nx_cli.proofs.WordsLemmas.{invalid_is_not_help, missing_argument_is_not_help}
+use Rattle.nx_cli.proofs.WordsLemmas.{invalid_is_refusal, missing_argument_is_refusal}
 use Rattle.nx_cli.proofs.laws.damage_in_examples.Goals as goal
 
 abbrev arguments : Text → Text → Text → List Row
@@ -53,6 +53,6 @@ returns c = record {
     entered = refl;
     no_kind = no_capitals;
   };
-  too_many = λ program. (kind.ValueValidation, invalid_is_not_help, inl refl);
-  no_count = λ program. inl (kind.MissingRequiredArgument, missing_argument_is_not_help, inl refl);
+  too_many = λ program. (kind.ValueValidation, invalid_is_refusal, inl refl);
+  no_count = λ program. inl (kind.MissingRequiredArgument, missing_argument_is_refusal, inl refl);
 }

@@ -2,7 +2,7 @@ use Rattle.std.proofs.Common.{◌≡◌, ℕ, List, [], ◌∷◌, Some, codes, 
 use Rattle.clap.proofs.OnLiterals.{clap_on_literals}
 use Rattle.clap.specs.Words.{Row, Text}
 use Rattle.clap.specs.declared.error.kind.ErrorKind.TheVariants as kind
-use Rattle.nx_cli.proofs.WordsLemmas.{invalid_is_not_help, missing_argument_is_not_help}
+use Rattle.nx_cli.proofs.WordsLemmas.{invalid_is_refusal, missing_argument_is_refusal}
 use Rattle.nx_cli.proofs.CallArguments.{number-of}
 use Rattle.nx_cli.proofs.GivenArguments.{given}
 use Rattle.nx_envelope.specs.declared.letter.Letter.{Letter}
@@ -57,7 +57,7 @@ returns c = record {
     entered = inr refl;
     no_letter = no_two_letters;
   };
-  too_late = λ program. inl (kind.ValueValidation, invalid_is_not_help, inl refl);
-  no_moment = λ program. inl (kind.MissingRequiredArgument, missing_argument_is_not_help, inl refl);
-  no_number = λ program. inl (kind.ValueValidation, invalid_is_not_help, inl refl);
+  too_late = λ program. inl (kind.ValueValidation, invalid_is_refusal, inl refl);
+  no_moment = λ program. inl (kind.MissingRequiredArgument, missing_argument_is_refusal, inl refl);
+  no_number = λ program. inl (kind.ValueValidation, invalid_is_refusal, inl refl);
 }

@@ -1,7 +1,7 @@
 use Rattle.std.proofs.Common.{[], refl, inl}
 use Rattle.clap.proofs.OnLiterals.{clap_on_literals}
 use Rattle.clap.specs.declared.error.kind.ErrorKind.TheVariants as kind
-use Rattle.nx_cli.proofs.WordsLemmas.{missing_is_not_help, unknown_is_not_help}
+use Rattle.nx_cli.proofs.WordsLemmas.{missing_is_refusal, unknown_is_refusal}
 use Rattle.nx_cli.proofs.laws.words_in_examples.Goals as goal
 
 pub returns : goal.returns
@@ -16,10 +16,14 @@ returns c = record {
   help = λ program. inl refl;
   short_help = λ program. inl refl;
   help_of_call = λ program. inl refl;
-  unknown = λ program. inl (kind.UnknownArgument, unknown_is_not_help, inl refl);
-  none = λ program. inl (kind.MissingSubcommand, missing_is_not_help, inl refl);
-  surplus = λ program. inl (kind.UnknownArgument, unknown_is_not_help, inl refl);
-  twice = λ program. inl (kind.UnknownArgument, unknown_is_not_help, inl refl);
-  option = λ program. inl (kind.UnknownArgument, unknown_is_not_help, inl refl);
-  help_command = λ program. inl (kind.UnknownArgument, unknown_is_not_help, inl refl);
+  version = λ program. inl refl;
+  short_version = λ program. inl refl;
+  version_first = λ program. inl refl;
+  version_of_call = λ program. inl (kind.UnknownArgument, unknown_is_refusal, inl refl);
+  unknown = λ program. inl (kind.UnknownArgument, unknown_is_refusal, inl refl);
+  none = λ program. inl (kind.MissingSubcommand, missing_is_refusal, inl refl);
+  surplus = λ program. inl (kind.UnknownArgument, unknown_is_refusal, inl refl);
+  twice = λ program. inl (kind.UnknownArgument, unknown_is_refusal, inl refl);
+  option = λ program. inl (kind.UnknownArgument, unknown_is_refusal, inl refl);
+  help_command = λ program. inl (kind.UnknownArgument, unknown_is_refusal, inl refl);
 }
