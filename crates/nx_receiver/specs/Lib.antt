@@ -16,6 +16,5 @@ pub mod Log
 pub mod Once
 pub mod Printing
 pub mod Receiver
-pub mod Tagged
 pub mod Worked
 pub mod private

@@ -9,7 +9,7 @@ use Rattle.nx_receiver.specs.declared.fault.ReceiverFault.{ReceiverFault}
 use Rattle.nx_receiver.specs.declared.fault.ReceiverFault.TheVariants.{MomentRange, Memory}
 use Rattle.nx_receiver.specs.Events.{Event, Start, Setting, elements_among, first_setting, settings, setting_after_all, elements}
 use Rattle.nx_receiver.specs.Printing.{printed_copies, entries_after}
-use Rattle.nx_receiver.specs.Tagged.{TaggedCopy, copy_of}
+use Rattle.nx_receiver.specs.FoundCopies.{TaggedCopy, copy_of}
 use Rattle.nx_receiver.specs.declared.over.Over.{Over}
 use Rattle.nx_receiver.specs.private.Watch.{IsOver, Watching, WatchStands, in_force}
 

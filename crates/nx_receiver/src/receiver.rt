@@ -12,7 +12,7 @@ ghost use Rattle.nx_receiver.specs.Events.{Event, Start, at_moment, command, fir
 ghost use Rattle.nx_receiver.specs.Log.{HasPrinted, PrintsToEnd};
 ghost use Rattle.nx_receiver.specs.Printing.{entries_after, printed_copies};
 ghost use Rattle.nx_receiver.specs.Receiver.{Awaits, PassesOver, RefusesStart, Stands, entry_list};
-ghost use Rattle.nx_receiver.specs.Tagged.{TaggedCopy};
+ghost use Rattle.nx_receiver.specs.FoundCopies.{TaggedCopy};
 ghost use Rattle.nx_receiver.specs.private.Watch.{handed_out};
 ghost use Rattle.nx_receiver.specs.declared.over.Over.TheVariants.{Copy, Lock, Nothing};
 

@@ -7,7 +7,7 @@ ghost use Rattle.nx_envelope.specs.Moment.{IsShownAs, last_moment};
 ghost use Rattle.nx_fec.specs.Transfers.{WroteSome};
 ghost use Rattle.nx_receiver.specs.Log as spec;
 ghost use Rattle.nx_receiver.specs.Log.{IsEntry, how_name, entry_head};
-ghost use Rattle.nx_receiver.specs.Tagged.{copy_of};
+ghost use Rattle.nx_receiver.specs.FoundCopies.{copy_of};
 
 use crate::entry::Entry;
 use arrayvec::ArrayVec;

@@ -19,9 +19,9 @@ use Rattle.nx_receiver.specs.Log.{PrintsToEnd}
 use Rattle.nx_receiver.specs.ListenOnce.{IsHeardInTimeIn}
 use Rattle.nx_receiver.specs.Once.{IsHeardInTime, IsPrintedOnce}
 use Rattle.nx_receiver.specs.Printing.{printed_copies}
-use Rattle.nx_receiver.specs.Events as given
+use Rattle.nx_receiver.specs.Events as fed
 use Rattle.nx_receiver.specs.FromSend.{BearsAlone, copy_as_sent, events_as_sent, parts_as_sent}
-use Rattle.nx_receiver.specs.Tagged.{TaggedCopy}
+use Rattle.nx_receiver.specs.FoundCopies.{TaggedCopy}
 use Rattle.nx_receiver.proofs.listens.ElementLines.{events-lines, good-lines, length-lines, taken-lines}
 use Rattle.nx_receiver.proofs.listens.Moments.{some-closed}
 use Rattle.nx_receiver.proofs.once.Found.{printed_once}
@@ -34,7 +34,7 @@ abbrev lines_as_sent : ℕ → List Bool → List Line
 lines_as_sent slot bits = moment slot ∷ bit_lines bits
 
 events-as_sent : (slot : ℕ) (bits : List Bool)
-    → events_of (lines_as_sent slot bits) ≡ at_moment slot ∷ given.elements bits
+    → events_of (lines_as_sent slot bits) ≡ at_moment slot ∷ fed.elements bits
 events-as_sent slot bits =
     ap (λ l. at_moment slot ∷ l) (events-lines bits)
 
@@ -82,7 +82,7 @@ module _ (station from : ℕ) (file air : List ℕ) (sent : Sent) (h : IsTransmi
   events_are : events_of lines ≡ events_as_sent sent.slot combinations
   events_are =
       events-as_sent sent.slot bits
-      ∙ ap (λ p. at_moment sent.slot ∷ given.elements (bits_of (emission p))) h.broadcast.whole
+      ∙ ap (λ p. at_moment sent.slot ∷ fed.elements (bits_of (emission p))) h.broadcast.whole
 
   -- its lines are those that were sent
   prints_as_sent : (read : List Line) (copies : List TaggedCopy) (log : List ℕ) → IsLogOfFile at_zero air read copies log

@@ -13,13 +13,12 @@ use Rattle.nx_fec.proofs.LineLaws.{IsAirFile-unique}
 use Rattle.nx_fec.proofs.WritingLaws.{WroteSome-front}
 use Rattle.nx_memory.specs.declared.entry.MemoryEntry.{MemoryEntry}
 use Rattle.nx_receiver.specs.Events.{Event, Setting, Start, at_moment, element, command, first_setting, setting_after, settings}
-use Rattle.nx_receiver.specs.FoundCopies.{FoundCopy}
+use Rattle.nx_receiver.specs.FoundCopies.{FoundCopy, TaggedCopy, tag, tagged_copies}
 use Rattle.nx_receiver.specs.Listen.{AreTaken, AreTakenAfter, HasLoggedSome, IsLogOf, IsLogOfLines, IsTakenAfter, events_of, line_events}
 use Rattle.nx_receiver.specs.private.Listener.{BeginsListening}
 use Rattle.nx_receiver.specs.Log.{HasPrinted, IsLog, PrintsToEnd, printed_of}
 use Rattle.nx_receiver.specs.Printing.{entry_made, if_printed, is_printed, printed_copies}
-use Rattle.nx_receiver.specs.Events as given
-use Rattle.nx_receiver.specs.Tagged.{TaggedCopy, tag, tagged_copies}
+use Rattle.nx_receiver.specs.Events as fed
 use Rattle.nx_receiver.proofs.receiving.Log.{log_begins, one_log, some_log}
 use Rattle.nx_receiver.proofs.receiving.Logged.{has_printed_on, one_printed, one_to_end, some_printed, some_to_end}
 
@@ -35,9 +34,9 @@ IsSetInRange setting = setting.moment ≤ last_moment
 abbrev pub IsCopyInRange : TaggedCopy → Type 0
 IsCopyInRange copy = copy.moment ≤ last_moment
 
-elements-in_range : (bits : List Bool) → All IsInRange (given.elements bits)
+elements-in_range : (bits : List Bool) → All IsInRange (fed.elements bits)
 elements-in_range [] = All-nil IsInRange
-elements-in_range (bit ∷ bits) = All-cons IsInRange (element bit) (given.elements bits) tt (elements-in_range bits)
+elements-in_range (bit ∷ bits) = All-cons IsInRange (element bit) (fed.elements bits) tt (elements-in_range bits)
 
 one-in_range : (event : Event) → IsInRange event → All IsInRange (event ∷ [])
 one-in_range event h = All-cons IsInRange event [] h (All-nil IsInRange)
@@ -128,7 +127,7 @@ one-closed start bytes log other a b =
 
 -- what is the log of a beginning of what lines give was written in part: so was the log of the lines
 pub logged-some : (start : Start) (old new : Option (List ℕ)) (written : ℕ) (lines : List Line) (given : List ℕ) → BeginsListening start lines given → WroteSome old new given written
-    → HasLoggedSome start old new written lines
+    → HasLoggedSome (IsLogOfLines start lines) old new written
 logged-some start old new written lines given h some =
     let b = h.begun in
     let all = some_printed start (events_of lines) in

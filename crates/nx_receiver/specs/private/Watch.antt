@@ -1,14 +1,15 @@
 -- What a receiver keeps but its memory, and after which elements: the layer below what is printed.
 -- A watch turns elements into copies, each with the moment and the selection in force at its second
 -- digit (this profile).
-use Rattle.std.specs.Prelude.{◌≡◌, ℕ, ◌+◌, ◌≤◌, Bool, true, false, is_some, List, [], ◌∷◌, ◌++◌, length, map, take, Option, Some, None, slice_index_or}
+use Rattle.std.specs.Prelude.{◌≡◌, ℕ, ◌+◌, ◌*◌, ◌≤◌, ◌&&◌, nat_lt, max, Bool, true, false, is_some, List, [], ◌∷◌, ◌++◌, length, map, take, Option, Some, None, slice_index_or}
 use Rattle.std.specs.List.{All}
 use Rattle.nx_sync.specs.Synchroniser.{Held, StandsAfter}
 use Rattle.nx_sync.specs.Locks.{Lock, Now, hunting, locked, IsNow}
 use Rattle.nx_sync.specs.Words.{word_of_lock, first_role, role_of, whole_words}
 use Rattle.nx_sync.specs.declared.step.Step.{Step}
 use Rattle.nx_sync.specs.declared.step.Role.{Role}
-use Rattle.nx_envelope.specs.Copies.{Copy, open_headers}
+use Rattle.nx_envelope.specs.Copies.{Copy, errors_of, open_headers}
+use Rattle.nx_envelope.specs.declared.found.How.{How}
 use Rattle.nx_envelope.specs.Finder.{HasReady, is_over}
 use Rattle.nx_envelope.specs.declared.found.Found.{Found}
 use Rattle.nx_envelope.specs.declared.found.TextEvent.{TextEvent}
@@ -19,10 +20,10 @@ use Rattle.nx_receiver.specs.declared.over.Over.{Over}
 use Rattle.nx_receiver.specs.declared.over.Over.TheVariants as over
 use Rattle.nx_receiver.specs.declared.over.CopyTag.{CopyTag}
 use Rattle.nx_receiver.specs.Events.{Setting}
+use Rattle.nx_receiver.specs.Printing.{is_full}
 use Rattle.nx_receiver.specs.private.LockReader.{LockReading, ReadsLock, HearsWord, text_after}
 use Rattle.nx_receiver.specs.LockText.{PlacedByte, bytes_of}
-use Rattle.nx_receiver.specs.FoundCopies.{FoundCopy, place_of_header, ended_in, past_text, past_copies, standing_text, ended_so_far, found_to_end}
-use Rattle.nx_receiver.specs.Tagged.{TaggedCopy, tag, tagged_found}
+use Rattle.nx_receiver.specs.FoundCopies.{FoundCopy, place_of_header, ended_in, past_text, past_copies, standing_text, ended_so_far, found_to_end, TaggedCopy, tag, tagged_found}
 
 -- what contracts see of a watch: the synchroniser, the reader of the lock's text, what is refused,
 -- the moment, and what was in force at the header that was heard last
@@ -174,6 +175,10 @@ pub record HearsAll (old new : Watching) (heard : List Bool) (answer : Over) : T
 abbrev pub handed_out : Option Found → CopyTag → List TaggedCopy
 handed_out None kept = []
 handed_out (Some found) kept = tagged_found found kept.moment kept.is_selected ∷ []
+
+-- a copy is good, by how it ended and its text
+abbrev pub is_good_text : How → List ℕ → Bool
+is_good_text how text = is_full how && nat_lt (25 * errors_of text) (max 1 (length text))
 
 -- the tag after what a word brings: a header takes what is in force
 abbrev pub tag_after : Watching → TextEvent → CopyTag
