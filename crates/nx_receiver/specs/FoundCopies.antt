@@ -28,17 +28,14 @@ pub record FoundCopy : Type 0 where
 unfoldable pub place_in : List PlacedByte → ℕ → ℕ
 place_in text i = unwrap_or (option_map (λ b. b.place) (slice_get text i)) 0
 
--- the place of a header: that of its second digit, the byte before the index behind it
-abbrev pub place_of_header : List PlacedByte → Header → ℕ
-place_of_header text header = place_in text (header.behind - 1)
-
--- a copy of the text of a lock, with its place
+-- a copy of the text of a lock, with its place: that of the second digit of its header, the byte
+-- before the index behind it
 unfoldable pub found_copy : List PlacedByte → Copy → FoundCopy
 found_copy text copy = record {
   identity = copy.header.identity;
   how = copy.how;
   text = copy.text;
-  place = place_of_header text copy.header;
+  place = place_in text (copy.header.behind - 1);
 }
 
 -- the copies that have ended in the text, in the order of their headers

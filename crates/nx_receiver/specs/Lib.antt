@@ -16,5 +16,6 @@ pub mod Log
 pub mod Once
 pub mod Printing
 pub mod Receiver
+pub mod Watching
 pub mod Worked
 pub mod private

@@ -1,6 +1,6 @@
 -- What a receiver that listens makes of an air file, with whatever it starts: the log of its lines,
 -- and its first fault (this profile).
-use Rattle.std.specs.Prelude.{◌≡◌, ◌⊎◌, ℕ, ◌+◌, ◌<◌, ◌≤◌, Bool, true, false, List, [], ◌∷◌, ◌++◌, length, Option, Result, Ok, Err, IsTrue, ⊤}
+use Rattle.std.specs.Prelude.{◌≡◌, ◌⊎◌, ℕ, ◌+◌, ◌<◌, ◌≤◌, Bool, true, false, List, [], ◌∷◌, ◌++◌, length, map, Option, Result, Ok, Err, IsTrue, ⊤}
 use Rattle.std.specs.List.{flat_map, list_any}
 use Rattle.std.specs.Io.KnownBytes.{Appends}
 use Rattle.nx_envelope.specs.Moment.{last_moment}
@@ -12,7 +12,7 @@ use Rattle.nx_fec.specs.declared.fault.LineFault.{LineFault}
 use Rattle.nx_fec.specs.declared.fault.LineFault.TheVariants as file
 use Rattle.nx_memory.specs.Selection.{is_vital}
 use Rattle.nx_receiver.specs.Events as events
-use Rattle.nx_receiver.specs.Events.{Event, Setting, Start, at_moment, elements_among, command, first_setting, setting_after_all, Refuses}
+use Rattle.nx_receiver.specs.Events.{Event, Setting, Start, at_moment, element, elements_among, command, first_setting, setting_after_all, Refuses}
 use Rattle.nx_receiver.specs.Log.{HasPrinted, IsLog, PrintsToEnd}
 use Rattle.nx_receiver.specs.FoundCopies.{TaggedCopy}
 use Rattle.nx_receiver.specs.declared.listen_fault.ListenFault.{ListenFault}
@@ -22,7 +22,7 @@ use Rattle.nx_receiver.specs.declared.listening.Report.{Report}
 -- what a line gives to a receiver
 abbrev pub line_events : Line → List Event
 line_events (moment n) = at_moment n ∷ []
-line_events (elements bits) = events.elements bits
+line_events (elements bits) = map element bits
 line_events (refuse_station letter) = command (events.refuse_station letter) ∷ []
 line_events (accept_station letter) = command (events.accept_station letter) ∷ []
 line_events (refuse_subject letter) = command (events.refuse_subject letter) ∷ []
@@ -102,19 +102,14 @@ pub record HasListened (start : Start) (old new : Option (List ℕ)) (bytes : Li
   pub printed_counted : report.printed ≡ length copies
 
 -- the log of these lines was written
-pub record HasLogged (start : Start) (old new : Option (List ℕ)) (lines : List Line)
-    : Type 0 where
-  pub log : List ℕ
-  pub logged : IsLogOfLines start lines log
-  pub written : Appends old new log
+abbrev pub HasLogged : Start → Option (List ℕ) → Option (List ℕ) → List Line → Type 0
+HasLogged start old new lines = (log : List ℕ) × IsLogOfLines start lines log × Appends old new log
 
 -- a write failed, before which the writer took the first `written` bytes of the log, of which this
 -- holds
-pub record HasLoggedSome (IsLogged : List ℕ → Type 0) (old new : Option (List ℕ)) (written : ℕ)
-    : Type 0 where
-  pub log : List ℕ
-  pub logged : IsLogged log
-  pub some : WroteSome old new log written
+abbrev pub HasLoggedSome : (List ℕ → Type 0) → Option (List ℕ) → Option (List ℕ) → ℕ → Type 0
+HasLoggedSome IsLogged old new written =
+    (log : List ℕ) × IsLogged log × WroteSome old new log written
 
 -- Why a line is not taken after these lines, as a fault says it: elements, and there was no moment
 -- yet; a moment that is out of range or goes back; the refusal of a vital subject. Lines count from

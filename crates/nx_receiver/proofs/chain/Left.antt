@@ -17,7 +17,8 @@ use Rattle.nx_receiver.specs.LockText.{PlacedByte, bytes_of}
 use Rattle.nx_receiver.specs.private.Watch.{is_good_text}
 use Rattle.nx_receiver.specs.Printing.{entries_after, entries_made, entry_made, entry_of, is_entered, is_good, is_number_00, is_printed}
 use Rattle.nx_receiver.specs.Receiver.{Receiving, Stands}
-use Rattle.nx_receiver.specs.private.Watch.{copies_by, in_force}
+use Rattle.nx_receiver.specs.private.Watch.{copies_by}
+use Rattle.nx_receiver.specs.Watching.{in_force}
 use Rattle.nx_receiver.proofs.chain.Runs.{found_same}
 use Rattle.nx_receiver.proofs.receiving.Logged.{end_adds, entries_after-append, tagged_copies-append}
 

@@ -14,10 +14,6 @@ use Rattle.nx_receiver.specs.Events.{Event, Setting, Start, at_moment, command, 
 use Rattle.nx_receiver.specs.FoundCopies.{FoundCopy, TaggedCopy, tag, tagged_copies}
 use Rattle.nx_receiver.specs.Listen.{AreTakenAfter, IsTakenAfter, events_of, in_force_after, line_events}
 use Rattle.nx_receiver.specs.Events as fed
-<<<<<<< HEAD
-=======
-use Rattle.nx_receiver.specs.Tagged.{TaggedCopy, tag, tagged_copies}
->>>>>>> main
 use Rattle.nx_receiver.proofs.receiving.Events.{force-append}
 
 -- from this moment on

@@ -134,9 +134,8 @@ logged-some start old new written lines given h some =
     let later = subst (λ es. HasPrinted start es all.0) b.whole all.1 in
     let on = has_printed_on start b.before b.later b.log all.0 b.printed later in
     let log = some_log all.0 (log-in_range start lines all.0 h.taken all.1) in
-    let front = log_begins b.log on.rest given log.0 b.spelled (subst (λ l. IsLog l log.0) on.whole log.1) in
-    record {
-      log = log.0;
-      logged = record { taken = h.taken; copies = all.0; printed = all.1; spelled = log.1 };
-      some = subst (λ l. WroteSome old new l written) (sym front.1) (WroteSome-front old new given front.0 written some);
-    }
+    let front = log_begins b.log on.rest given log.0 b.spelled (subst (λ l. IsLog l log.0) on.whole log.1) in (
+      log.0,
+      record { taken = h.taken; copies = all.0; printed = all.1; spelled = log.1 },
+      subst (λ l. WroteSome old new l written) (sym front.1) (WroteSome-front old new given front.0 written some),
+    )

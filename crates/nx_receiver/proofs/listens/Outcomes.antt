@@ -334,10 +334,10 @@ module _ (start : Start) where
   first_fault-taken old new bytes Read h = absurd h.here.0.refused
   first_fault-taken old new bytes (Write written) h = absurd h.here.0.refused
   first_fault-taken old new bytes (Memory error) h = absurd h.here.0.refused
-  first_fault-taken old new bytes AirTooLong h = stop-taken bytes _ _ (λ lines l. l.logged.taken) h
-  first_fault-taken old new bytes (LineLong line) h = stop-taken bytes _ _ (λ lines l. l.logged.taken) h
-  first_fault-taken old new bytes (LineCut line) h = stop-taken bytes _ _ (λ lines l. l.logged.taken) h
-  first_fault-taken old new bytes (BadLine line) h = stop-taken bytes _ _ (λ lines l. l.logged.taken) h
-  first_fault-taken old new bytes (NoMoment line) h = stop-taken bytes _ _ (λ lines l. l.logged.taken) h
-  first_fault-taken old new bytes (Moment line why) h = stop-taken bytes _ _ (λ lines l. l.logged.taken) h
-  first_fault-taken old new bytes (Vital line subject) h = stop-taken bytes _ _ (λ lines l. l.logged.taken) h
+  first_fault-taken old new bytes AirTooLong h = stop-taken bytes _ _ (λ lines l. l.1.taken) h
+  first_fault-taken old new bytes (LineLong line) h = stop-taken bytes _ _ (λ lines l. l.1.taken) h
+  first_fault-taken old new bytes (LineCut line) h = stop-taken bytes _ _ (λ lines l. l.1.taken) h
+  first_fault-taken old new bytes (BadLine line) h = stop-taken bytes _ _ (λ lines l. l.1.taken) h
+  first_fault-taken old new bytes (NoMoment line) h = stop-taken bytes _ _ (λ lines l. l.1.taken) h
+  first_fault-taken old new bytes (Moment line why) h = stop-taken bytes _ _ (λ lines l. l.1.taken) h
+  first_fault-taken old new bytes (Vital line subject) h = stop-taken bytes _ _ (λ lines l. l.1.taken) h

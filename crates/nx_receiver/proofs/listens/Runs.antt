@@ -29,16 +29,16 @@ use Rattle.nx_receiver.proofs.receiving.Events.{bits_of-more}
 
 -- what the lines gave was written: their log
 logged : (first now : Listening) (old new : Option (List ℕ)) (lines : List Line) → HasTaken StandsFrom first now lines (Appends old new) → HasLogged (start_of first) old new lines
-logged first now old new lines h = record {
-  log = h.given;
-  logged = record {
+logged first now old new lines h = (
+  h.given,
+  record {
     taken = h.stood.taken;
     copies = h.stood.hears.log;
     printed = printed-so_far _ (start_of first) now.receiver (events_of lines) h.stood.hears.log h.stood.hears.hears.receiver;
     spelled = h.stood.hears.spelled;
-  };
-  written = h.here;
-}
+  },
+  h.here,
+)
 
 stops-on : (bytes : List ℕ) (P Q : List Line → List ℕ → List ℕ → Type 0) → ((lines : List Line) (rest more : List ℕ) → P lines rest more → Q lines rest more)
     → StopsAt bytes P → StopsAt bytes Q
@@ -212,11 +212,7 @@ part-listened : (first now : Listening) (old mid new : Option (List ℕ)) (bytes
 part-listened first now old mid new bytes read written h closed =
     let t = h.taken in
     let e = closed h.lines t.given t.stood t.here in
-    record {
-      log = e.log;
-      logged = (h.lines, e.copies, record { file = h.file; taken = t.stood.taken; printed = e.printed; spelled = e.spelled });
-      some = e.some;
-    }
+    (e.log, (h.lines, e.copies, record { file = h.file; taken = t.stood.taken; printed = e.printed; spelled = e.spelled }), e.some)
 
 write-not_read : {N : Type 0} (written : ℕ) → ◌≡◌ {A = Result N ListenFault} (Err (Write written)) (Err Read) → ⊥
 write-not_read written e = cc

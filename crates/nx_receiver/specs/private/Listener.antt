@@ -12,7 +12,8 @@ use Rattle.nx_memory.specs.Selection.{is_vital}
 use Rattle.nx_receiver.specs.Events.{Event, Start, elements_among, Refuses}
 use Rattle.nx_receiver.specs.Listen.{AreTaken, events_of, has_moment, in_force_after}
 use Rattle.nx_receiver.specs.Log.{HasPrinted, IsLog, PrintsToEnd}
-use Rattle.nx_receiver.specs.Receiver.{Awaits, Receiving, Stands, entry_list}
+use Rattle.nx_receiver.specs.Receiver.{Receiving, Stands, entry_list}
+use Rattle.nx_receiver.specs.private.Awaiting.{Awaits}
 use Rattle.nx_receiver.specs.FoundCopies.{TaggedCopy}
 use Rattle.nx_receiver.specs.declared.entry.Entry.{Entry}
 use Rattle.nx_receiver.specs.declared.fault.MomentFault.{MomentFault}

@@ -20,7 +20,7 @@ ghost use Rattle.nx_receiver.specs.Listen.{HasListened, IsLogOfFile, events_of};
 ghost use Rattle.nx_receiver.specs.Log.{IsLog};
 ghost use Rattle.nx_receiver.specs.Printing.{entries_after, entries_made, printed_copies};
 ghost use Rattle.nx_receiver.specs.Receiver.{Receiving, Stands};
-ghost use Rattle.nx_receiver.specs.private.Watch.{in_force};
+ghost use Rattle.nx_receiver.specs.Watching.{in_force};
 ghost use Rattle.nx_receiver.specs.Worked.{worked_log};
 ghost use Rattle.nx_receiver.specs.declared.listening.Report.{Report};
 
