@@ -4,7 +4,6 @@
 -- selection that are in force at the place of its second digit.
 use Rattle.std.specs.Prelude.{ℕ, ◌+◌, ◌-◌, Bool, true, List, [], ◌∷◌, ◌++◌, map, slice_get, unwrap_or}
 use Rattle.std.specs.Option.{option_map}
-use Rattle.nx_envelope.specs.Header.{Header}
 use Rattle.nx_envelope.specs.Copies.{Copy, ended_copies, open_headers, closed_copy, copies}
 use Rattle.nx_envelope.specs.declared.found.Found.{Found}
 use Rattle.nx_envelope.specs.declared.found.How.{How}

@@ -11,7 +11,7 @@ use Rattle.nx_memory.specs.Memory.{seconds_known, most_entries, IsLive}
 use Rattle.nx_memory.specs.Selection.{admits}
 use Rattle.nx_memory.specs.declared.entry.MemoryEntry.{MemoryEntry}
 use Rattle.nx_station.specs.Sendings.{Part, IsCut, IsSentAt}
-use Rattle.nx_receiver.specs.Events.{Event, Setting, Start, elements_among, first_setting, setting_at}
+use Rattle.nx_receiver.specs.Events.{Event, Start, elements_among, first_setting, setting_at}
 use Rattle.nx_receiver.specs.FoundCopies.{FoundCopy, found_to_end, TaggedCopy, tagged_copies}
 use Rattle.nx_receiver.specs.Printing.{copies_of, entries_made, entries_after}
 

@@ -11,8 +11,7 @@ use Rattle.nx_receiver.specs.Events.{Event, Start, Setting, elements_among, firs
 use Rattle.nx_receiver.specs.Log.{HasPrinted}
 use Rattle.nx_receiver.specs.Printing.{printed_copies, entries_after}
 use Rattle.nx_receiver.specs.FoundCopies.{TaggedCopy, copy_of}
-use Rattle.nx_receiver.specs.declared.over.Over.{Over}
-use Rattle.nx_receiver.specs.private.Watch.{IsOver, WatchStands}
+use Rattle.nx_receiver.specs.private.Watch.{WatchStands}
 use Rattle.nx_receiver.specs.Watching.{Watching, in_force}
 
 -- what contracts see of a receiver: its watch, and its memory

@@ -29,7 +29,7 @@ use Rattle.nx_receiver.specs.Worked.{at_its_slot, damaged_words, worked_log}
 use Rattle.nx_receiver.proofs.listens.ElementLines.{events-lines, good-lines, length-lines, taken-lines}
 use Rattle.nx_receiver.proofs.receiving.Logged.{one_to_end}
 use Rattle.nx_receiver.proofs.once.Repeats.{none_live}
-use Rattle.nx_receiver.proofs.examples.Emission.{cut_is, events, events_are, first_bits, found, not_two, one_found, one_in, sent_there, stands_is}
+use Rattle.nx_receiver.proofs.examples.Emission.{cut_is, events, first_bits, found, not_two, one_found, one_in, sent_there, stands_is}
 use Rattle.nx_receiver.proofs.emissions.Found.{sending_in_end}
 use Rattle.nx_receiver.proofs.examples.Worked.{damaged_computed}
 use Rattle.nx_receiver.proofs.examples.WorkedLog.{all_selected, at_first, log_is, printed_to_end}

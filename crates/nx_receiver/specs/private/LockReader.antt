@@ -4,10 +4,8 @@
 -- each word's number.
 use Rattle.std.specs.Prelude.{◌≡◌, ◌⊎◌, ℕ, ◌+◌, ◌*◌, zero, suc, if◌then◌else◌, List, [], ◌∷◌, ◌++◌}
 use Rattle.nx_code.specs.Reading.{shift_after_all, text}
-use Rattle.nx_code.specs.declared.printing.Printer.{Printer}
 use Rattle.nx_code.specs.declared.shifts.Shift.TheVariants.{Letters}
 use Rattle.nx_fec.specs.Pairing.{Counted, IsLatest, counts_as}
-use Rattle.nx_fec.specs.declared.diversity.Diversity.{Diversity}
 use Rattle.nx_sync.specs.Words.{role_of, is_dx}
 use Rattle.nx_sync.specs.declared.step.Role.{Role}
 use Rattle.nx_envelope.specs.Finder.{Hears, StandsAfter}

@@ -3,7 +3,7 @@
 -- digit (this profile).
 use Rattle.std.specs.Prelude.{◌≡◌, ℕ, ◌+◌, ◌-◌, ◌*◌, ◌≤◌, ◌&&◌, nat_lt, max, Bool, true, false, is_some, List, [], ◌∷◌, ◌++◌, length, map, take, Option, Some, None, slice_index_or}
 use Rattle.std.specs.List.{All}
-use Rattle.nx_sync.specs.Synchroniser.{Held, StandsAfter}
+use Rattle.nx_sync.specs.Synchroniser.{StandsAfter}
 use Rattle.nx_sync.specs.Locks.{Lock, Now, hunting, locked, IsNow}
 use Rattle.nx_sync.specs.Words.{word_of_lock, first_role, role_of, whole_words}
 use Rattle.nx_sync.specs.declared.step.Step.{Step}
@@ -16,7 +16,7 @@ use Rattle.nx_envelope.specs.declared.found.Found.{Found}
 use Rattle.nx_envelope.specs.declared.found.TextEvent.{TextEvent}
 use Rattle.nx_envelope.specs.declared.found.TextEvent.TheVariants as events
 use Rattle.nx_envelope.specs.declared.identity.Identity.{Identity}
-use Rattle.nx_memory.specs.Selection.{Refused, admits}
+use Rattle.nx_memory.specs.Selection.{admits}
 use Rattle.nx_receiver.specs.declared.over.Over.{Over}
 use Rattle.nx_receiver.specs.declared.over.Over.TheVariants as over
 use Rattle.nx_receiver.specs.declared.over.CopyTag.{CopyTag}
