@@ -1,11 +1,11 @@
 //! Writing bytes, and the elements of an air file, to a writer.
-ghost use Rattle.std.specs.Prelude.{◌≡◌, ◌+◌, ◌≤◌, ◌↔◌, ℕ, List, ◌++◌, length, Option, IfErr, OnOk, IsErr, MatchResult};
+ghost use Rattle.std.specs.Prelude.{◌≡◌, ◌+◌, ◌≤◌, ℕ, List, ◌++◌, length, Option, IfErr, OnOk, MatchResult};
 ghost use Rattle.std.specs.Io.KnownBytes.{Appends};
 ghost use Rattle.arrayvec.specs.ArrayVec.{array_vec_len};
 ghost use Rattle.nx_fec.specs.AirFile.{elements};
 ghost use Rattle.nx_fec.specs.Lines.{line_bytes, file_of};
 ghost use Rattle.nx_fec.specs.BitLines.{bit_lines};
-ghost use Rattle.nx_fec.specs.Transfers.{HasWritten, WroteSome};
+ghost use Rattle.nx_fec.specs.Transfers.{FailsOnce, HasWritten, WroteSome};
 
 use crate::counting::Counting;
 use crate::fault::WriteFault;
@@ -30,9 +30,7 @@ pub fn write_out<W: Write>(writer: &mut Counting<W>, bytes: &[u8]) -> Result<(),
     ensures err { IfErr result (λ fault.
         WroteSome (W.contents writer.old.inner)
         (W.contents writer.new.inner) bytes.now fault.written) }
-    ensures failed { IsErr result ↔ (writer.new.failures ≡ 1) }
-    ensures once { writer.new.failures ≤ 1 }
-    ensures none { OnOk result (writer.new.failures ≡ 0) }
+    ensures counts { FailsOnce writer.new result }
 {
     let mut at = 0;
     while at < bytes.len() {
@@ -55,9 +53,7 @@ pub fn write_bits<W: Write>(writer: &mut Counting<W>, bits: &[bool]) -> Result<(
     ensures err { IfErr result (λ fault.
         WroteSome (W.contents writer.old.inner) (W.contents writer.new.inner)
         (file_of (bit_lines bits.now)) fault.written) }
-    ensures failed { IsErr result ↔ (writer.new.failures ≡ 1) }
-    ensures once { writer.new.failures ≤ 1 }
-    ensures none { OnOk result (writer.new.failures ≡ 0) }
+    ensures counts { FailsOnce writer.new result }
 {
     let mut batch = ArrayVec::new();
     let mut sent = 0;
@@ -86,9 +82,7 @@ pub fn write_on<W: Write>(
         (λ count. HasWritten first (W.contents writer.new.inner) (before ++ bytes.now) count)
         (λ fault. WroteSome first (W.contents writer.new.inner)
         (before ++ bytes.now) fault.written) }
-    ensures failed { IsErr result ↔ (writer.new.failures ≡ 1) }
-    ensures once { writer.new.failures ≤ 1 }
-    ensures none { OnOk result (writer.new.failures ≡ 0) }
+    ensures counts { FailsOnce writer.new result }
 {
     match write_out(writer, bytes) {
         Ok(()) => Ok(sent.saturating_add(bytes.len() as u64)),

@@ -5,9 +5,8 @@ use Rattle.std.specs.List.{flat_map, list_any}
 use Rattle.std.specs.Io.KnownBytes.{Appends}
 use Rattle.nx_envelope.specs.Moment.{last_moment}
 use Rattle.nx_fec.specs.AirFile.{Line, moment, elements, refuse_station, accept_station, refuse_subject, accept_subject}
-use Rattle.nx_fec.specs.LineRuns.{IsLineRefused}
 use Rattle.nx_fec.specs.Transfers.{WroteSome, Devices, IsReadOut, Transfers, on_the_way}
-use Rattle.nx_fec.specs.Lines.{StopsAt, air_limit, IsAirFile, IsCause, file_of}
+use Rattle.nx_fec.specs.Lines.{StopsAt, air_limit, IsAirFile, IsCause, IsLineRefused, file_of}
 use Rattle.nx_fec.specs.declared.fault.LineFault.{LineFault}
 use Rattle.nx_fec.specs.declared.fault.LineFault.TheVariants as file
 use Rattle.nx_memory.specs.Selection.{is_vital}

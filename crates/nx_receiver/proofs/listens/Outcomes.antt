@@ -4,7 +4,7 @@ use Rattle.std.specs.List.{AllByRecursion}
 use Rattle.std.proofs.lemmas.Bool.{true≢false}
 use Rattle.nx_envelope.proofs.LettersAndDigits.{same_letter}
 use Rattle.nx_fec.specs.AirFile.{Line, IsLine, spelling, moment, elements, refuse_station, accept_station, refuse_subject, accept_subject}
-use Rattle.nx_fec.specs.Lines.{StopsAt, air_limit, HasFault, IsAirFile, IsCause, file_of, line_bytes}
+use Rattle.nx_fec.specs.Lines.{IsLineRefused, StopsAt, air_limit, HasFault, IsAirFile, IsCause, file_of, line_bytes}
 use Rattle.nx_fec.specs.declared.fault.LineFault.{LineFault}
 use Rattle.nx_fec.specs.declared.fault.LineFault.TheVariants as file
 use Rattle.nx_fec.specs.declared.line_run.LinesFault.{LinesFault}
@@ -13,7 +13,6 @@ use Rattle.nx_fec.proofs.LineLaws.{HasFault-unique, IsAirFile-good, NoFeed, firs
 use Rattle.nx_fec.proofs.LineRunLemmas.{file_of-one}
 use Rattle.nx_receiver.specs.Events.{Start, Refuses}
 use Rattle.nx_receiver.specs.Listen.{AreTaken, AreTakenAfter, HasListenFault, HasLogged, IsLogOf, IsTakenAfter, RefusesAfter}
-use Rattle.nx_fec.specs.LineRuns.{IsLineRefused}
 use Rattle.nx_receiver.specs.private.Listener.{RefusesLine, lines_fault, refusal_fault}
 use Rattle.nx_receiver.specs.declared.fault.MomentFault.{MomentFault}
 use Rattle.nx_receiver.specs.declared.fault.MomentFault.TheVariants.{Range, Back}
@@ -229,7 +228,7 @@ module _ (start : Start) where
 
   as-fault : (bytes : List ℕ) (why : LineFault) → StopsWith bytes (run.Line why) → HasFault air_limit bytes why
   unfolding StopsWith
-  as-fault bytes why h = record { lines = h.lines; rest = h.rest; more = h.more; whole = h.whole; each = h.each; part = h.part; cause = h.here.0 }
+  as-fault bytes why h = record { lines = h.lines; rest = h.rest; more = h.more; whole = h.whole; each = h.each; part = h.part; here = h.here.0 }
 
   -- a stop at a line that is refused
   record AtLine (bytes : List ℕ) (number : ℕ) (why : LineRefusal) : Type 0 where
@@ -271,7 +270,7 @@ module _ (start : Start) where
       let cause = cause-same _ k.lines k.rest b.next (b.between ++ a.after) b.between fault (subst (λ m. IsCause air_limit (length (file_of k.lines ++ k.rest)) k.lines k.rest m fault) b.rest_is k.here.0) in
       IsAirFile-good air_limit (file_of all) all fault
       (record { whole = refl; each = good-more a.lines a.line a.each a.good; within = omega (arith, a.within, line-longer a.lines a.line) })
-      (record { lines = k.lines; rest = k.rest; more = b.next ∷ b.between; whole = b.reaches; each = k.each; part = k.part; cause = cause })
+      (record { lines = k.lines; rest = k.rest; more = b.next ∷ b.between; whole = b.reaches; each = k.each; part = k.part; here = cause })
 
   -- it stands before the end of the other
   not-after : (bytes : List ℕ) (n m : ℕ) (v w : LineRefusal) (a : AtLine bytes n v) (b : AtLine bytes m w) → length (file_of b.lines ++ spelling b.line) ≤ length (file_of a.lines ++ spelling a.line)

@@ -41,7 +41,7 @@ returns-in_err-write_bits g c =
           (λ bytes k. (k.0, k.1, file, count, encoded bytes k.2, wrote.err))
           (λ bytes k. (tt, k.0, file, count, encoded bytes k.1, wrote.err))
           (λ bytes k h outside. k.1) (λ e. absurd (Write-not_read _ e)) (λ e. absurd (Ok-not_err _ _ e));
-      writes = record { failed = (λ w. wrote.failed.0 refl, λ one. (c.in_err-write_bits.field-0.0.written, refl)); once = wrote.once };
+      writes = record { failed = (λ w. wrote.counts.failed.0 refl, λ one. (c.in_err-write_bits.field-0.0.written, refl)); once = wrote.counts.once };
       unwritten = λ other. absurd (other c.in_err-write_bits.field-0.0.written refl);
     }))
 
@@ -61,6 +61,6 @@ returns g c =
           (λ bytes k. (k.0, k.1, file, encoded bytes k.2, wrote.ok))
           (λ bytes k. (tt, k.0, file, encoded bytes k.1, wrote.ok))
           (λ bytes k h. h) (λ e. absurd (Ok-not_err _ _ e)) (λ e. absurd (Ok-not_err _ _ e));
-      writes = record { failed = (λ w. absurd (Ok-not_err _ _ w.1), λ one. absurd (omega (arith, wrote.none, one))); once = wrote.once };
+      writes = record { failed = (λ w. absurd (Ok-not_err _ _ w.1), λ one. absurd (omega (arith, wrote.counts.none, one))); once = wrote.counts.once };
       unwritten = tt;
     }
