@@ -9,10 +9,9 @@ use Rattle.nx_memory.specs.Saved.{SavedState}
 use Rattle.nx_memory.specs.declared.entry.MemoryEntry.{MemoryEntry}
 use Rattle.nx_sync.specs.Locks.{IsNow, Lock, Now}
 use Rattle.nx_receiver.specs.Events.{Event, Start, elements_among, first_setting, none_refused, setting_after_all}
-use Rattle.nx_receiver.specs.FoundCopies.{FoundCopy, found_to_end}
+use Rattle.nx_receiver.specs.FoundCopies.{FoundCopy, found_to_end, TaggedCopy, tagged_copies}
 use Rattle.nx_receiver.specs.Listen.{IsLogOfFile, events_of}
 use Rattle.nx_receiver.specs.Printing.{entries_after}
-use Rattle.nx_receiver.specs.Tagged.{TaggedCopy, tagged_copies}
 
 -- two lists of entries agree in their last 200: a memory would hold the same of both
 abbrev pub AgreeInLast : List MemoryEntry → List MemoryEntry → Type 0

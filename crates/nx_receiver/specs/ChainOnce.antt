@@ -7,9 +7,9 @@ use Rattle.nx_memory.specs.Memory.{seconds_known}
 use Rattle.nx_memory.specs.Selection.{admits}
 use Rattle.nx_station.specs.Sendings.{Part, IsCut, IsSentAt}
 use Rattle.nx_receiver.specs.Chain.{Run, all_copies, events_in, start_from}
-use Rattle.nx_receiver.specs.Events.{Setting, elements_among}
+use Rattle.nx_receiver.specs.Events.{Setting, elements_among, first_setting, setting_at}
 use Rattle.nx_receiver.specs.FoundCopies.{FoundCopy}
-use Rattle.nx_receiver.specs.Once.{IsUnknownAtFirst, FewBetween, setting_of}
+use Rattle.nx_receiver.specs.Once.{IsUnknownAtFirst, FewBetween}
 
 -- a run, with the gaps of any bits and the received emissions into which its elements are cut
 pub record CutRun : Type 0 where
@@ -24,7 +24,7 @@ pub record IsSentIn (cuts : List CutRun) (message : MessageView) (cut : CutRun) 
 
 -- the moment and the selection in force at this element of the run
 abbrev pub in_force_in : CutRun → ℕ → Setting
-in_force_in cut place = setting_of cut.run.start (events_in cut.run) place
+in_force_in cut place = setting_at (first_setting cut.run.start) (events_in cut.run) place
 
 -- What has to be met in runs, so that a message is printed once in their logs.
 pub record IsHeardInTimeOver (first : SavedState) (runs : List Run) (message : MessageView)

@@ -47,28 +47,17 @@ setting_after setting (at_moment n) = record setting { moment = n }
 setting_after setting (element bit) = setting
 setting_after setting (command c) = record setting { refused = refused_after setting.refused c }
 
--- the element that an event is, if it is one
-abbrev pub bit_in : Event → List Bool
-bit_in (at_moment n) = []
-bit_in (element bit) = bit ∷ []
-bit_in (command c) = []
-
 -- the elements among the events, in order
 unfoldable pub elements_among : List Event → List Bool
 elements_among [] = []
-elements_among (event ∷ events) = bit_in event ++ elements_among events
-
--- what is in force at an event, where it is an element
-abbrev pub setting_at_bit : Setting → Event → List Setting
-setting_at_bit setting (at_moment n) = []
-setting_at_bit setting (element bit) = setting ∷ []
-setting_at_bit setting (command c) = []
+elements_among (element bit ∷ events) = bit ∷ elements_among events
+elements_among (event ∷ events) = elements_among events
 
 -- what is in force at each element, in order, from what is in force at first
 unfoldable pub settings : Setting → List Event → List Setting
 settings setting [] = []
-settings setting (event ∷ events) =
-    setting_at_bit setting event ++ settings (setting_after setting event) events
+settings setting (element bit ∷ events) = setting ∷ settings setting events
+settings setting (event ∷ events) = settings (setting_after setting event) events
 
 -- what is in force after all events
 unfoldable pub setting_after_all : Setting → List Event → Setting

@@ -1,14 +1,18 @@
 -- The copies of messages in the bits that a receiver has heard: those in the texts of its locks
 -- (the form of a message is that of ITU-R M.540). No copy reaches from one lock into another, since
--- each lock has a text of its own (this profile).
-use Rattle.std.specs.Prelude.{ℕ, ◌+◌, ◌-◌, Bool, List, [], ◌∷◌, ◌++◌, map, slice_get, unwrap_or}
+-- each lock has a text of its own (this profile). Then tagged: a copy bears the moment and the
+-- selection that are in force at the place of its second digit.
+use Rattle.std.specs.Prelude.{ℕ, ◌+◌, ◌-◌, Bool, true, List, [], ◌∷◌, ◌++◌, map, slice_get, unwrap_or}
 use Rattle.std.specs.Option.{option_map}
-use Rattle.nx_envelope.specs.Header.{Header}
 use Rattle.nx_envelope.specs.Copies.{Copy, ended_copies, open_headers, closed_copy, copies}
+use Rattle.nx_envelope.specs.declared.found.Found.{Found}
 use Rattle.nx_envelope.specs.declared.found.How.{How}
 use Rattle.nx_envelope.specs.declared.identity.Identity.{Identity}
+use Rattle.nx_memory.specs.Selection.{admits}
 use Rattle.nx_sync.specs.Locks.{Lock, Now, hunting, locked}
 use Rattle.nx_sync.specs.Words.{whole_words}
+use Rattle.nx_receiver.specs.declared.entry.Entry.{Entry}
+use Rattle.nx_receiver.specs.Events.{Event, Setting, setting_at}
 use Rattle.nx_receiver.specs.LockText.{PlacedByte, bytes_of, lock_text}
 
 -- a copy that is found: its identity, how it ended, its text, and its place, which is that of its
@@ -23,17 +27,14 @@ pub record FoundCopy : Type 0 where
 unfoldable pub place_in : List PlacedByte → ℕ → ℕ
 place_in text i = unwrap_or (option_map (λ b. b.place) (slice_get text i)) 0
 
--- the place of a header: that of its second digit, the byte before the index behind it
-abbrev pub place_of_header : List PlacedByte → Header → ℕ
-place_of_header text header = place_in text (header.behind - 1)
-
--- a copy of the text of a lock, with its place
+-- a copy of the text of a lock, with its place: that of the second digit of its header, the byte
+-- before the index behind it
 unfoldable pub found_copy : List PlacedByte → Copy → FoundCopy
 found_copy text copy = record {
   identity = copy.header.identity;
   how = copy.how;
   text = copy.text;
-  place = place_of_header text copy.header;
+  place = place_in text (copy.header.behind - 1);
 }
 
 -- the copies that have ended in the text, in the order of their headers
@@ -76,3 +77,47 @@ open_so_far bits now = open_in (standing_text bits now)
 -- the copies where the bits end: the text of the lock that stands ends with them
 unfoldable pub found_to_end : List Bool → List Lock → Now → List FoundCopy
 found_to_end bits locks now = past_copies bits locks ++ all_in (standing_text bits now)
+
+-- a copy with its moment, and whether it is selected
+pub record TaggedCopy : Type 0 where
+  pub identity : Identity
+  pub how : How
+  pub text : List ℕ
+  pub moment : ℕ
+  pub selected : Bool
+
+-- the copy with what is in force at its second digit: it is selected where its station and its
+-- subject aren't refused
+unfoldable pub tag : Setting → FoundCopy → TaggedCopy
+tag setting copy = record {
+  identity = copy.identity;
+  how = copy.how;
+  text = copy.text;
+  moment = setting.moment;
+  selected = admits setting.refused copy.identity;
+}
+
+-- copies with what is in force at the second digit of each, in the same order
+unfoldable pub tagged_copies : Setting → List Event → List FoundCopy → List TaggedCopy
+tagged_copies first events copies =
+    map (λ copy. tag (setting_at first events copy.place) copy) copies
+
+-- what the finder hands out, with a moment and whether it is selected
+abbrev pub tagged_found : Found → ℕ → Bool → TaggedCopy
+tagged_found found moment selected = record {
+  identity = found.identity;
+  how = found.how;
+  text = found.text.items;
+  moment = moment;
+  selected = selected;
+}
+
+-- the copy that an entry prints, which was selected
+abbrev pub copy_of : Entry → TaggedCopy
+copy_of entry = record {
+  identity = entry.identity;
+  how = entry.how;
+  text = entry.text.items;
+  moment = entry.moment;
+  selected = true;
+}

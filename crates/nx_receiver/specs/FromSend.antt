@@ -9,7 +9,7 @@ use Rattle.nx_station.specs.Broadcast.{layout}
 use Rattle.nx_station.specs.Channel.{first_slot}
 use Rattle.nx_station.specs.Sendings.{Part, gap, received}
 use Rattle.nx_receiver.specs.Events.{Event, at_moment, elements}
-use Rattle.nx_receiver.specs.Tagged.{TaggedCopy}
+use Rattle.nx_receiver.specs.FoundCopies.{TaggedCopy}
 
 -- of these messages, this one alone bears its identity
 abbrev pub BearsAlone : List MessageView → MessageView → Type 0

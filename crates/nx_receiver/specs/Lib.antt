@@ -16,6 +16,6 @@ pub mod Log
 pub mod Once
 pub mod Printing
 pub mod Receiver
-pub mod Tagged
+pub mod Watching
 pub mod Worked
 pub mod private

@@ -33,14 +33,10 @@ printed_after before [] = []
 printed_after before (position ∷ more) =
     option_to_list (byte_of position (shift_after_all before Letters))
 
--- the place of word k of the lock at t: the index of its last bit
-abbrev pub word_place : ℕ → ℕ → ℕ
-word_place t k = t + 7 * k + 6
-
--- what word k of the lock at t prints, with its place
+-- what word k of the lock at t prints, with its place: the index of the last bit of the word
 unfoldable pub printed_by : Role → (ℕ → ℕ) → ℕ → ℕ → List PlacedByte
 printed_by first words t k =
-    map (λ b. record { byte = b; place = word_place t k })
+    map (λ b. record { byte = b; place = t + 7 * k + 6 })
     (printed_after (positions first words k) (taken_at first words k))
 
 -- the text that the first n words of the lock at t print, each byte with its place

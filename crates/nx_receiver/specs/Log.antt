@@ -10,8 +10,7 @@ use Rattle.nx_envelope.specs.declared.found.How.{How}
 use Rattle.nx_envelope.specs.declared.found.How.TheVariants.{Full, Cut, Long}
 use Rattle.nx_sync.specs.Locks.{Lock, Now, IsNow}
 use Rattle.nx_receiver.specs.Events.{Event, Start, elements_among, first_setting}
-use Rattle.nx_receiver.specs.FoundCopies.{FoundCopy, ended_so_far, found_to_end}
-use Rattle.nx_receiver.specs.Tagged.{TaggedCopy, tagged_copies}
+use Rattle.nx_receiver.specs.FoundCopies.{FoundCopy, ended_so_far, found_to_end, TaggedCopy, tagged_copies}
 use Rattle.nx_receiver.specs.Printing.{printed_copies}
 
 -- how a copy ended, as it is printed

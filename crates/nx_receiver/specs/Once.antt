@@ -11,10 +11,9 @@ use Rattle.nx_memory.specs.Memory.{seconds_known, most_entries, IsLive}
 use Rattle.nx_memory.specs.Selection.{admits}
 use Rattle.nx_memory.specs.declared.entry.MemoryEntry.{MemoryEntry}
 use Rattle.nx_station.specs.Sendings.{Part, IsCut, IsSentAt}
-use Rattle.nx_receiver.specs.Events.{Event, Setting, Start, elements_among, first_setting, setting_at}
-use Rattle.nx_receiver.specs.FoundCopies.{FoundCopy, found_to_end}
+use Rattle.nx_receiver.specs.Events.{Event, Start, elements_among, first_setting, setting_at}
+use Rattle.nx_receiver.specs.FoundCopies.{FoundCopy, found_to_end, TaggedCopy, tagged_copies}
 use Rattle.nx_receiver.specs.Printing.{copies_of, entries_made, entries_after}
-use Rattle.nx_receiver.specs.Tagged.{TaggedCopy, tagged_copies}
 
 -- after these first entries, no entry of the identity is live at the first of the copies that bear
 -- it
@@ -25,10 +24,6 @@ IsUnknownAtFirst entries identity copies =
     → copies_of identity before ≡ []
     → IsTrue (same_identity first.identity identity)
     → IsLive identity first.moment (entries_after entries before) → ⊥
-
--- what is in force at a place
-abbrev pub setting_of : Start → List Event → ℕ → Setting
-setting_of start events place = setting_at (first_setting start) events place
 
 -- Fewer than 200 entries are made between the first of the copies that bear the identity of the
 -- message and any later one of them.
@@ -58,11 +53,11 @@ pub record IsHeardInTime (start : Start) (events : List Event) (parts : List Par
       → copy.identity ≡ message.identity → IsSentAt parts message copy.place
   -- it is selected at each sending
   pub selected : (at : ℕ) → IsSentAt parts message at
-      → IsTrue (admits (setting_of start events at).refused message.identity)
+      → IsTrue (admits (setting_at (first_setting start) events at).refused message.identity)
   -- any two sendings lie less than 66 hours apart
   pub close : (one other : ℕ) → IsSentAt parts message one → IsSentAt parts message other
-      → (setting_of start events one).moment
-      < (setting_of start events other).moment + seconds_known
+      → (setting_at (first_setting start) events one).moment
+      < (setting_at (first_setting start) events other).moment + seconds_known
   -- at its first copy no entry of its identity is live: an entry that the first list has of it is
   -- 66 hours old by then, or 200 came after it
   pub unknown : IsUnknownAtFirst start.entries message.identity

@@ -1,28 +1,25 @@
 -- Good, printed and entered: which copies are printed, and which of them the memory keeps (ITU-R
 -- M.540 for the number 00, which is printed each time; all else is this profile's).
-use Rattle.std.specs.Prelude.{ℕ, ◌*◌, ◌==◌, nat_lt, max, Bool, true, false, not, ◌&&◌, ◌||◌, if◌then◌else◌, List, [], ◌∷◌, ◌++◌, length, filter}
+use Rattle.std.specs.Prelude.{◌*◌, ◌==◌, nat_lt, max, Bool, true, false, not, ◌&&◌, ◌||◌, if◌then◌else◌, List, [], ◌∷◌, ◌++◌, length, filter}
 use Rattle.nx_code.specs.Lists.{last_of}
 use Rattle.nx_envelope.specs.Copies.{errors_of}
 use Rattle.nx_envelope.specs.declared.found.How.{How}
-use Rattle.nx_envelope.specs.declared.found.How.TheVariants.{Full, Cut, Long}
+use Rattle.nx_envelope.specs.declared.found.How.TheVariants.{Full}
 use Rattle.nx_envelope.specs.declared.identity.Identity.{Identity}
 use Rattle.nx_envelope.specs.Identity.{same_identity}
 use Rattle.nx_memory.specs.declared.entry.MemoryEntry.{MemoryEntry}
 use Rattle.nx_memory.specs.Memory.{is_known, most_entries}
-use Rattle.nx_receiver.specs.Tagged.{TaggedCopy}
+use Rattle.nx_receiver.specs.FoundCopies.{TaggedCopy}
 
 abbrev pub is_full : How → Bool
 is_full Full = true
-is_full Cut = false
-is_full Long = false
+is_full _ = false
 
 -- a copy is good where it is full, and 25 times its errors is less than the larger of 1 and its
 -- characters: fewer than 4 per cent are lost
-abbrev pub is_good_text : How → List ℕ → Bool
-is_good_text how text = is_full how && nat_lt (25 * errors_of text) (max 1 (length text))
-
 abbrev pub is_good : TaggedCopy → Bool
-is_good copy = is_good_text copy.how copy.text
+is_good copy =
+    is_full copy.how && nat_lt (25 * errors_of copy.text) (max 1 (length copy.text))
 
 -- the copy is numbered 00
 abbrev pub is_number_00 : TaggedCopy → Bool

@@ -1,5 +1,5 @@
 -- What a receiver holds, and after which events: the layer contract (this profile).
-use Rattle.std.specs.Prelude.{◌≡◌, ◌⊎◌, ℕ, ◌<◌, ◌≤◌, Bool, List, [], ◌∷◌, ◌++◌, Option, Some, None}
+use Rattle.std.specs.Prelude.{◌≡◌, ◌⊎◌, ℕ, ◌<◌, ◌≤◌, Bool, List, [], ◌∷◌, ◌++◌, take, Option, Some, None}
 use Rattle.nx_code.specs.Lists.{last_of}
 use Rattle.nx_envelope.specs.Moment.{last_moment}
 use Rattle.nx_memory.specs.Memory.{most_entries}
@@ -8,10 +8,11 @@ use Rattle.nx_receiver.specs.declared.entry.Entry.{Entry}
 use Rattle.nx_receiver.specs.declared.fault.ReceiverFault.{ReceiverFault}
 use Rattle.nx_receiver.specs.declared.fault.ReceiverFault.TheVariants.{MomentRange, Memory}
 use Rattle.nx_receiver.specs.Events.{Event, Start, Setting, elements_among, first_setting, settings, setting_after_all, elements}
+use Rattle.nx_receiver.specs.Log.{HasPrinted}
 use Rattle.nx_receiver.specs.Printing.{printed_copies, entries_after}
-use Rattle.nx_receiver.specs.Tagged.{TaggedCopy, copy_of}
-use Rattle.nx_receiver.specs.declared.over.Over.{Over}
-use Rattle.nx_receiver.specs.private.Watch.{IsOver, Watching, WatchStands, in_force}
+use Rattle.nx_receiver.specs.FoundCopies.{TaggedCopy, copy_of}
+use Rattle.nx_receiver.specs.private.Watch.{WatchStands}
+use Rattle.nx_receiver.specs.Watching.{Watching, in_force}
 
 -- what contracts see of a receiver: its watch, and its memory
 pub record Receiving (M : Type 0) : Type 0 where
@@ -31,24 +32,6 @@ pub record StandsOver {M : Type 0} (content : M → List MemoryEntry) (start : S
   pub printed : log ≡ printed_copies start.entries copies
   pub memory : content receiver.memory ≡ last_of most_entries (entries_after start.entries copies)
 
--- The receiver stands after these elements but for what is over with the last of them, which is yet
--- to be finished: the log is what is printed of the copies that ended before it.
-pub record AwaitsOver {M : Type 0} (content : M → List MemoryEntry) (start : Start)
-    (receiver : Receiving M) (bits : List Bool) (settings : List Setting) (now : Setting)
-    (log : List TaggedCopy) (over : Over) : Type 0 where
-  pub copies : List TaggedCopy
-  pub watch : IsOver (first_setting start) receiver.watch bits settings copies over
-  pub force : in_force receiver.watch ≡ now
-  pub printed : log ≡ printed_copies start.entries copies
-  pub memory : content receiver.memory ≡ last_of most_entries (entries_after start.entries copies)
-
-abbrev pub Awaits : {M : Type 0} → (M → List MemoryEntry) → Start → Receiving M → List Event
-    → List TaggedCopy → Over → Type 0
-Awaits content start receiver events log over =
-    AwaitsOver content start receiver (elements_among events)
-    (settings (first_setting start) events)
-    (setting_after_all (first_setting start) events) log over
-
 abbrev pub Stands : {M : Type 0} → (M → List MemoryEntry) → Start → Receiving M → List Event
     → List TaggedCopy → Type 0
 Stands content start receiver events log =
@@ -56,20 +39,21 @@ Stands content start receiver events log =
     (settings (first_setting start) events)
     (setting_after_all (first_setting start) events) log
 
--- Whatever awaits to be finished, some of it may be passed over: then this is left of what is over.
-abbrev pub PassesOver : {M : Type 0} → (M → List MemoryEntry) → Receiving M → Receiving M → Over
-    → Over → Type 0
-PassesOver content old new over left =
-    (start : Start) (bits : List Bool) (settings : List Setting) (now : Setting)
-    (log : List TaggedCopy) → AwaitsOver content start old bits settings now log over
-    → AwaitsOver content start new bits settings now log left
+-- whatever it was given before, the receiver takes this event, and hands out nothing
+abbrev pub TakesEvent : {M : Type 0} → (M → List MemoryEntry) → Receiving M → Receiving M → Event
+    → Type 0
+TakesEvent content old new event =
+    (start : Start) (history : List Event) (log : List TaggedCopy)
+    → Stands content start old history log → Stands content start new (history ++ event ∷ []) log
 
--- the moment of the memory's newest entry, that of the header that was heard last, the one in force
--- and the last one rise in this order
-pub record IsInOrder (newest copy now : ℕ) : Type 0 where
-  pub newest_first : newest ≤ copy
-  pub copy_next : copy ≤ now
-  pub in_range : now ≤ last_moment
+-- whatever it was given before, nothing more is printed before the last of the first `count` of
+-- these elements
+abbrev pub HandsOutNoneBefore : {M : Type 0} → (M → List MemoryEntry) → Receiving M → List Bool → ℕ
+    → Type 0
+HandsOutNoneBefore content old bits count =
+    (start : Start) (history : List Event) (log : List TaggedCopy)
+    → Stands content start old history log
+    → (k : ℕ) → k < count → HasPrinted start (history ++ elements (take k bits)) log
 
 -- the entry that was handed out, as the copy that it prints
 abbrev pub entry_list : Option Entry → List TaggedCopy

@@ -1,3 +1,4 @@
+pub mod Awaiting
 pub mod Listener
 pub mod ListenerBegins
 pub mod LockReader

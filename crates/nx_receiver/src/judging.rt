@@ -5,8 +5,9 @@ ghost use Rattle.nx_memory.specs.declared.entry.MemoryEntry.{MemoryEntry};
 ghost use Rattle.nx_code.specs.Lists.{last_of};
 ghost use Rattle.nx_memory.specs.Memory.{is_known, most_entries, newest_moment};
 ghost use Rattle.nx_receiver.specs.Printing as spec;
-ghost use Rattle.nx_receiver.specs.Printing.{entry_made, is_good_text};
-ghost use Rattle.nx_receiver.specs.Tagged.{tagged_found};
+ghost use Rattle.nx_receiver.specs.Printing.{entry_made};
+ghost use Rattle.nx_receiver.specs.private.Watch.{is_good_text};
+ghost use Rattle.nx_receiver.specs.FoundCopies.{tagged_found};
 
 use nx_envelope::{Found, How, Identity};
 use nx_memory::Recall;

@@ -12,14 +12,13 @@ ghost use Rattle.nx_sync.specs.Words.{word_of_lock, first_role, lock_words};
 ghost use Rattle.nx_sync.specs.Locks.{Lock, Now, IsLocked, IsNow, Past};
 ghost use Rattle.nx_receiver.specs.Events.{Event, Start};
 ghost use Rattle.nx_receiver.specs.Example.{example_copies, first_copy, repeated_copy};
-ghost use Rattle.nx_receiver.specs.FoundCopies.{FoundCopy, ended_so_far, open_so_far, found_to_end};
+ghost use Rattle.nx_receiver.specs.FoundCopies.{FoundCopy, ended_so_far, open_so_far, found_to_end, TaggedCopy};
 ghost use Rattle.nx_receiver.specs.LawTerms.{AreRepeats, own_bits};
 ghost use Rattle.nx_receiver.specs.Printing.{copies_of, printed_copies};
 ghost use Rattle.nx_receiver.specs.Once.{IsUnknownAtFirst};
 ghost use Rattle.nx_receiver.specs.LockText.{PlacedByte, bytes_of, lock_text, positions};
 ghost use Rattle.nx_receiver.specs.Log.{HasPrinted, IsLog, PrintsToEnd};
 ghost use Rattle.nx_receiver.specs.Receiver.{Receiving, Stands, elements_of_pieces, events_of_pieces};
-ghost use Rattle.nx_receiver.specs.Tagged.{TaggedCopy};
 ghost use Rattle.nx_receiver.specs.Worked.{at_its_slot, damaged_words, heard_elements, worked_words, worked_log};
 
 pub mod chain;

@@ -1,10 +1,10 @@
 //! Listening to an air file: the log of its lines, written while it is read.
 
-ghost use Rattle.std.specs.Prelude.{◌≡◌, ◌+◌, ◌<◌, ◌≤◌, ◌↔◌, ℕ, true, List, [], ◌∷◌, ◌++◌, length, take, Option, Some, IfOk, IsErr, MatchResult, OnErr, OnOk};
+ghost use Rattle.std.specs.Prelude.{◌≡◌, ◌+◌, ◌<◌, ◌≤◌, ◌↔◌, ℕ, true, List, [], ◌∷◌, ◌++◌, length, take, Option, Some, IfOk, MatchResult, OnErr, OnOk};
 ghost use Rattle.nx_code.specs.Reading.{IsCapital};
 ghost use Rattle.nx_fec.specs.AirFile.{Line};
 ghost use Rattle.nx_fec.specs.AirFile as line;
-ghost use Rattle.nx_fec.specs.Transfers.{HasWritten, WroteSome, Writes, devices};
+ghost use Rattle.nx_fec.specs.Transfers.{FailsOnce, HasWritten, WroteSome, Writes, devices};
 ghost use Rattle.nx_fec.specs.LineRuns.{ExplainsTaking, HasGiven, HasTaken};
 ghost use Rattle.nx_receiver.specs.Chain.{Leaves, start_from};
 ghost use Rattle.nx_receiver.specs.Events.{Event, Start, at_zero, elements};
@@ -280,9 +280,7 @@ impl Listener {
             fault.written) }
         ensures within { IfOk result (λ count. (0 < count) × (count ≤ length bits.now)) }
         ensures moment { self.new.has_moment ≡ self.old.has_moment }
-        ensures failed { IsErr result ↔ (writer.new.failures ≡ 1) }
-        ensures once { writer.new.failures ≤ 1 }
-        ensures none { OnOk result (writer.new.failures ≡ 0) }
+        ensures counts { FailsOnce writer.new result }
     {
         let (count, over) = self.receiver.hear(bits);
         self.elements = self.elements.saturating_add(count as u64);
@@ -313,9 +311,7 @@ impl Listener {
             (λ fault. WroteSome old (W.contents writer.new.inner) (before ++ given)
             fault.written)) }
         ensures moment { self.new.has_moment ≡ self.old.has_moment }
-        ensures failed { IsErr result ↔ (writer.new.failures ≡ 1) }
-        ensures once { writer.new.failures ≤ 1 }
-        ensures none { OnOk result (writer.new.failures ≡ 0) }
+        ensures counts { FailsOnce writer.new result }
     {
         let Some(entry) = self.receiver.finish(over) else {
             return Ok(());
@@ -340,9 +336,7 @@ impl Listener {
             (λ fault. HeardSome start (events ++ elements bits.now) old (W.contents writer.new.inner)
             fault.written) }
         ensures moment { self.new.has_moment ≡ self.old.has_moment }
-        ensures failed { IsErr result ↔ (writer.new.failures ≡ 1) }
-        ensures once { writer.new.failures ≤ 1 }
-        ensures none { OnOk result (writer.new.failures ≡ 0) }
+        ensures counts { FailsOnce writer.new result }
     {
         let mut at = 0;
         while at < bits.len() {
@@ -394,9 +388,7 @@ impl Listener {
             (λ report. HasClosed start old (W.contents writer.new.inner) events report)
             (λ fault. HasClosedSome start old (W.contents writer.new.inner) events fault.written) }
         ensures lines { IfOk result (λ report. report.lines ≡ read.lines) }
-        ensures failed { IsErr result ↔ (writer.new.failures ≡ 1) }
-        ensures once { writer.new.failures ≤ 1 }
-        ensures none { OnOk result (writer.new.failures ≡ 0) }
+        ensures counts { FailsOnce writer.new result }
     {
         let Listener {
             receiver,

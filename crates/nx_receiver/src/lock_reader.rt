@@ -28,7 +28,7 @@ pub(crate) struct LockReader {
 }
 
 impl Model for LockReader {
-    ghost use Rattle.nx_receiver.specs.private.LockReader.{LockReading};
+    ghost use Rattle.nx_receiver.specs.Watching.{LockReading};
 
     ghost Value = { LockReading };
 

@@ -1,6 +1,6 @@
 //! The receiver: elements, moments and commands in, entries out.
 
-ghost use Rattle.std.specs.Prelude.{◌≡◌, ◌↔◌, ℕ, ◌+◌, ◌<◌, ◌≤◌, ◌==◌, ◌&&◌, ◌||◌, not, List, [], ◌∷◌, ◌++◌, length, take, IfErr, IfOk, IfSome, IsErr, IsNone, IsSome, IsTrue, OnErr, OnOk};
+ghost use Rattle.std.specs.Prelude.{◌≡◌, ◌↔◌, ◌+◌, ◌<◌, ◌≤◌, ◌==◌, ◌&&◌, ◌||◌, not, List, [], ◌∷◌, ◌++◌, length, take, IfErr, IfOk, IfSome, IsErr, IsNone, IsSome, IsTrue, OnErr, OnOk};
 ghost use Rattle.nx_envelope.specs.Moment.{last_moment};
 ghost use Rattle.nx_code.specs.Lists.{last_of};
 ghost use Rattle.nx_memory.specs.Memory.{is_known, most_entries, newest_moment};
@@ -9,10 +9,11 @@ ghost use Rattle.nx_memory.specs.Selection.{admits, is_vital};
 ghost use Rattle.nx_receiver.specs.Chain.{Leaves};
 ghost use Rattle.nx_receiver.specs.Events as events;
 ghost use Rattle.nx_receiver.specs.Events.{Event, Start, at_moment, command, first_setting, none_refused, setting_after_all, Refuses, elements};
-ghost use Rattle.nx_receiver.specs.Log.{HasPrinted, PrintsToEnd};
+ghost use Rattle.nx_receiver.specs.Log.{PrintsToEnd};
 ghost use Rattle.nx_receiver.specs.Printing.{entries_after, printed_copies};
-ghost use Rattle.nx_receiver.specs.Receiver.{Awaits, PassesOver, RefusesStart, Stands, entry_list};
-ghost use Rattle.nx_receiver.specs.Tagged.{TaggedCopy};
+ghost use Rattle.nx_receiver.specs.Receiver.{HandsOutNoneBefore, RefusesStart, Stands, TakesEvent, entry_list};
+ghost use Rattle.nx_receiver.specs.private.Awaiting.{Awaits, HearsUpTo, PassesOver};
+ghost use Rattle.nx_receiver.specs.FoundCopies.{TaggedCopy};
 ghost use Rattle.nx_receiver.specs.private.Watch.{handed_out};
 ghost use Rattle.nx_receiver.specs.declared.over.Over.TheVariants.{Copy, Lock, Nothing};
 
@@ -43,7 +44,8 @@ pub struct Receiver<M: Recall> {
 impl<M: Recall> Model for Receiver<M> {
     ghost use Rattle.std.specs.Coded.{codes};
     ghost use Rattle.nx_memory.specs.private.RefusedCode.{refused_code};
-    ghost use Rattle.nx_receiver.specs.Receiver.{Receiving, IsInOrder};
+    ghost use Rattle.nx_receiver.specs.Receiver.{Receiving};
+    ghost use Rattle.nx_receiver.specs.private.Awaiting.{IsInOrder};
     ghost use Rattle.nx_memory.specs.Memory.{newest_moment};
 
     ghost Value = { Receiving M };
@@ -105,9 +107,7 @@ impl<M: Recall> Receiver<M> {
     /// 2999-12-31 23:59:59, else `Back` where it is before the last one; the receiver then stays as
     /// it was.
     pub fn set_moment(&mut self, moment: u64) -> Result<(), MomentFault>
-        ensures stands { (start : Start) (history : List Event) (log : List TaggedCopy) →
-            Stands M.content start self.old history log
-            → OnOk result (Stands M.content start self.new (history ++ at_moment moment ∷ []) log) }
+        ensures stands { OnOk result (TakesEvent M.content self.old self.new (at_moment moment)) }
         ensures taken { OnOk result ((self.old.watch.moment ≤ moment) × (moment ≤ last_moment)) }
         ensures refused { IfErr result (Refuses self.old.watch.moment moment) }
         ensures unchanged { OnErr result (self.new ≡ self.old) }
@@ -128,27 +128,24 @@ impl<M: Recall> Receiver<M> {
 
     /// Selects what this selection does, from here on, in place of what was selected.
     pub fn set_selection(&mut self, selection: &Selection)
-        ensures { (start : Start) (history : List Event) (log : List TaggedCopy) →
-            Stands M.content start self.old history log → Stands M.content start self.new
-            (history ++ command (events.select selection.now) ∷ []) log }
+        ensures { TakesEvent M.content self.old self.new
+            (command (events.select selection.now)) }
     {
         self.watch.set_selection(selection);
     }
 
     /// Refuses the station, for all its subjects, from here on.
     pub fn refuse_station(&mut self, station: Letter)
-        ensures { (start : Start) (history : List Event) (log : List TaggedCopy) →
-            Stands M.content start self.old history log → Stands M.content start self.new
-            (history ++ command (events.refuse_station station.byte) ∷ []) log }
+        ensures { TakesEvent M.content self.old self.new
+            (command (events.refuse_station station.byte)) }
     {
         self.watch.refuse_station(station);
     }
 
     /// Refuses the station no longer, from here on.
     pub fn accept_station(&mut self, station: Letter)
-        ensures { (start : Start) (history : List Event) (log : List TaggedCopy) →
-            Stands M.content start self.old history log → Stands M.content start self.new
-            (history ++ command (events.accept_station station.byte) ∷ []) log }
+        ensures { TakesEvent M.content self.old self.new
+            (command (events.accept_station station.byte)) }
     {
         self.watch.accept_station(station);
     }
@@ -156,10 +153,8 @@ impl<M: Recall> Receiver<M> {
     /// Refuses the subject, of all stations, from here on. `Vital` where it is A, B, D or L (ITU-R
     /// M.540); the receiver then stays as it was.
     pub fn refuse_subject(&mut self, subject: Letter) -> Result<(), Vital>
-        ensures stands { (start : Start) (history : List Event) (log : List TaggedCopy) →
-            Stands M.content start self.old history log
-            → OnOk result (Stands M.content start self.new
-            (history ++ command (events.refuse_subject subject.byte) ∷ []) log) }
+        ensures stands { OnOk result (TakesEvent M.content self.old self.new
+            (command (events.refuse_subject subject.byte))) }
         ensures vital { IsErr result ↔ IsTrue (is_vital subject.byte) }
         ensures fault { IfErr result (λ vital. vital.subject ≡ subject) }
         ensures unchanged { OnErr result (self.new ≡ self.old) }
@@ -169,9 +164,8 @@ impl<M: Recall> Receiver<M> {
 
     /// Refuses the subject no longer, from here on.
     pub fn accept_subject(&mut self, subject: Letter)
-        ensures { (start : Start) (history : List Event) (log : List TaggedCopy) →
-            Stands M.content start self.old history log → Stands M.content start self.new
-            (history ++ command (events.accept_subject subject.byte) ∷ []) log }
+        ensures { TakesEvent M.content self.old self.new
+            (command (events.accept_subject subject.byte)) }
     {
         self.watch.accept_subject(subject);
     }
@@ -195,10 +189,7 @@ impl<M: Recall> Receiver<M> {
         ensures stands { (start : Start) (history : List Event) (log : List TaggedCopy) →
             Stands M.content start self.old history log → Stands M.content start self.new
             (history ++ elements (take result.0 bits.now)) (log ++ entry_list result.1) }
-        ensures first { (start : Start) (history : List Event) (log : List TaggedCopy) →
-            Stands M.content start self.old history log
-            → (k : ℕ) → k < result.0
-            → HasPrinted start (history ++ elements (take k bits.now)) log }
+        ensures first { HandsOutNoneBefore M.content self.old bits.now result.0 }
         ensures all { IsNone result.1 → result.0 ≡ length bits.now }
         ensures some { IsSome result.1 → 0 < result.0 }
         ensures moment { IfSome result.1 (λ entry. entry.moment ≤ last_moment) }
@@ -242,13 +233,8 @@ impl<M: Recall> Receiver<M> {
     #[inline(never)]
     pub(crate) fn hear(&mut self, bits: &[bool]) -> (usize, Over)
         ensures within { result.0 ≤ length bits.now }
-        ensures stands { (start : Start) (history : List Event) (log : List TaggedCopy) →
-            Stands M.content start self.old history log → Awaits M.content start self.new
-            (history ++ elements (take result.0 bits.now)) log result.1 }
-        ensures first { (start : Start) (history : List Event) (log : List TaggedCopy) →
-            Stands M.content start self.old history log
-            → (k : ℕ) → k < result.0
-            → HasPrinted start (history ++ elements (take k bits.now)) log }
+        ensures stands { HearsUpTo M.content self.old self.new (take result.0 bits.now) result.1 }
+        ensures first { HandsOutNoneBefore M.content self.old bits.now result.0 }
         ensures all { result.1 ≡ Nothing → result.0 ≡ length bits.now }
         ensures some { 0 < length bits.now → 0 < result.0 }
     {
@@ -269,13 +255,8 @@ impl<M: Recall> Receiver<M> {
     #[inline(always)]
     fn hear_part(&mut self, bits: &[bool]) -> (usize, Over)
         ensures within { result.0 ≤ length bits.now }
-        ensures stands { (start : Start) (history : List Event) (log : List TaggedCopy) →
-            Stands M.content start self.old history log → Awaits M.content start self.new
-            (history ++ elements (take result.0 bits.now)) log result.1 }
-        ensures first { (start : Start) (history : List Event) (log : List TaggedCopy) →
-            Stands M.content start self.old history log
-            → (k : ℕ) → k < result.0
-            → HasPrinted start (history ++ elements (take k bits.now)) log }
+        ensures stands { HearsUpTo M.content self.old self.new (take result.0 bits.now) result.1 }
+        ensures first { HandsOutNoneBefore M.content self.old bits.now result.0 }
         ensures some { 0 < length bits.now → 0 < result.0 }
     {
         let (count, over) = self.watch.hear(bits);

@@ -8,8 +8,9 @@ ghost use Rattle.nx_envelope.specs.Finder.{held_identity};
 ghost use Rattle.nx_memory.specs.Selection.{admits, is_vital};
 ghost use Rattle.nx_receiver.specs.Events as events;
 ghost use Rattle.nx_receiver.specs.Events.{Setting, Start, first_setting, refused_after};
-ghost use Rattle.nx_receiver.specs.Tagged.{TaggedCopy};
-ghost use Rattle.nx_receiver.specs.private.Watch.{BothAreOver, CopyIsOver, HasEndedAll, HearsAll, LockIsOver, ReadsStep, ReadsWord, TagGoesOn, WatchStands, handed_out, in_force};
+ghost use Rattle.nx_receiver.specs.FoundCopies.{TaggedCopy};
+ghost use Rattle.nx_receiver.specs.private.Watch.{BothAreOver, CopyIsOver, HasEndedAll, HearsAll, LockIsOver, ReadsStep, ReadsWord, TagGoesOn, WatchStands, handed_out};
+ghost use Rattle.nx_receiver.specs.Watching.{in_force};
 ghost use Rattle.nx_receiver.specs.declared.over.Over.TheVariants.{Nothing};
 
 use crate::lock_reader::LockReader;
@@ -38,7 +39,7 @@ pub(crate) struct Watch {
 impl Model for Watch {
     ghost use Rattle.std.specs.Coded.{codes};
     ghost use Rattle.nx_memory.specs.private.RefusedCode.{refused_code};
-    ghost use Rattle.nx_receiver.specs.private.Watch.{Watching};
+    ghost use Rattle.nx_receiver.specs.Watching.{Watching};
 
     ghost Value = { Watching };
 

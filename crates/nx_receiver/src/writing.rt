@@ -1,13 +1,13 @@
 //! The text of an entry.
 
-ghost use Rattle.std.specs.Prelude.{◌≡◌, ◌+◌, ◌≤◌, ◌↔◌, ℕ, List, ◌++◌, length, IsErr, OnOk, MatchResult};
+ghost use Rattle.std.specs.Prelude.{◌≡◌, ◌+◌, ◌≤◌, ◌↔◌, ℕ, List, ◌++◌, length, MatchResult};
 ghost use Rattle.std.specs.Io.KnownBytes.{Appends};
 ghost use Rattle.arrayvec.specs.ArrayVec.{array_vec_len};
 ghost use Rattle.nx_envelope.specs.Moment.{IsShownAs, last_moment};
-ghost use Rattle.nx_fec.specs.Transfers.{WroteSome};
+ghost use Rattle.nx_fec.specs.Transfers.{FailsOnce, WroteSome};
 ghost use Rattle.nx_receiver.specs.Log as spec;
 ghost use Rattle.nx_receiver.specs.Log.{IsEntry, how_name, entry_head};
-ghost use Rattle.nx_receiver.specs.Tagged.{copy_of};
+ghost use Rattle.nx_receiver.specs.FoundCopies.{copy_of};
 
 use crate::entry::Entry;
 use arrayvec::ArrayVec;
@@ -34,9 +34,7 @@ pub fn entry_text<W: Write>(entry: &Entry, writer: &mut Counting<W>) -> Result<(
         (λ _. Appends (W.contents writer.old.inner) (W.contents writer.new.inner) bytes)
         (λ fault. WroteSome (W.contents writer.old.inner) (W.contents writer.new.inner) bytes
         fault.written) }
-    ensures failed { IsErr result ↔ (writer.new.failures ≡ 1) }
-    ensures once { writer.new.failures ≤ 1 }
-    ensures none { OnOk result (writer.new.failures ≡ 0) }
+    ensures counts { FailsOnce writer.new result }
 {
     write_out(writer, &entry_bytes(entry))
 }

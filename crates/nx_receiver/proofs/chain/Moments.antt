@@ -11,10 +11,9 @@ use Rattle.nx_memory.specs.Memory.{newest_moment}
 use Rattle.nx_fec.specs.AirFile.{Line, accept_station, accept_subject, elements, moment, refuse_station, refuse_subject}
 use Rattle.nx_receiver.specs.Chain.{GoesOn, Run, copies_in, events_in}
 use Rattle.nx_receiver.specs.Events.{Event, Setting, Start, at_moment, command, element, first_setting, setting_after, setting_after_all, settings}
-use Rattle.nx_receiver.specs.FoundCopies.{FoundCopy}
+use Rattle.nx_receiver.specs.FoundCopies.{FoundCopy, TaggedCopy, tag, tagged_copies}
 use Rattle.nx_receiver.specs.Listen.{AreTakenAfter, IsTakenAfter, events_of, in_force_after, line_events}
 use Rattle.nx_receiver.specs.Events as fed
-use Rattle.nx_receiver.specs.Tagged.{TaggedCopy, tag, tagged_copies}
 use Rattle.nx_receiver.proofs.receiving.Events.{force-append}
 
 -- from this moment on

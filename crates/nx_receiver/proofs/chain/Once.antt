@@ -12,12 +12,11 @@ use Rattle.nx_station.specs.Sendings.{Sending}
 use Rattle.nx_receiver.specs.Chain.{AreFoundIn, IsChain, Run, all_copies, all_printed, copies_in, events_in}
 use Rattle.nx_receiver.specs.ChainOnce.{CutRun, IsHeardInTimeOver, IsSentIn, in_force_in}
 use Rattle.nx_receiver.specs.Events.{elements_among}
-use Rattle.nx_receiver.specs.FoundCopies.{FoundCopy, found_to_end}
+use Rattle.nx_receiver.specs.FoundCopies.{FoundCopy, found_to_end, TaggedCopy, tag, tagged_copies}
 use Rattle.nx_receiver.specs.LawTerms.{AreRepeats}
 use Rattle.nx_receiver.specs.Printing.{copies_of, is_good, printed_copies}
 use Rattle.nx_receiver.specs.Once.{IsUnknownAtFirst, IsPrintedOnce}
 use Rattle.nx_receiver.specs.Emissions.{copies_at, copy_of_sending}
-use Rattle.nx_receiver.specs.Tagged.{TaggedCopy, tag, tagged_copies}
 use Rattle.nx_receiver.proofs.chain.Runs.{chain_prints}
 use Rattle.nx_receiver.proofs.once.Found.{contains_filter, filter_all, first_passes, has_first, no_errors-good}
 use Rattle.nx_receiver.proofs.once.Repeats.{once}

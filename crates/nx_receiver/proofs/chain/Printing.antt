@@ -6,7 +6,7 @@ use Rattle.nx_memory.specs.Memory.{content_after, is_known, most_entries}
 use Rattle.nx_memory.specs.declared.entry.MemoryEntry.{MemoryEntry}
 use Rattle.nx_receiver.specs.Chain.{AgreeInLast}
 use Rattle.nx_receiver.specs.Printing.{entries_after, entries_made, entry_made, entry_of, if_printed, is_entered, is_good, is_number_00, is_printed, printed_copies}
-use Rattle.nx_receiver.specs.Tagged.{TaggedCopy}
+use Rattle.nx_receiver.specs.FoundCopies.{TaggedCopy}
 use Rattle.nx_receiver.proofs.receiving.Judging.{content_grows}
 
 -- ---- one copy

@@ -13,11 +13,10 @@ use Rattle.nx_sync.proofs.StateChanges.{standing_after}
 use Rattle.nx_sync.proofs.UniqueStates.{locks-unique, now-unique}
 use Rattle.nx_receiver.specs.Chain.{AgreeInLast, AreFoundIn, GoesOn, HasGoneOn, IsChain, Leaves, Run, all_copies, all_events, all_logs, all_printed, copies_in, events_in, files, start_from}
 use Rattle.nx_receiver.specs.Events.{Event, Setting, Start, at_moment, command, element, elements_among, first_setting, refused_after, setting_after, setting_after_all}
-use Rattle.nx_receiver.specs.FoundCopies.{FoundCopy, found_to_end}
+use Rattle.nx_receiver.specs.FoundCopies.{FoundCopy, found_to_end, TaggedCopy, tagged_copies}
 use Rattle.nx_receiver.specs.Listen.{HasListened, IsLogOfFile, events_of}
 use Rattle.nx_receiver.specs.Log.{IsLog, printed_of}
 use Rattle.nx_receiver.specs.Printing.{entries_after, entries_made, printed_copies}
-use Rattle.nx_receiver.specs.Tagged.{TaggedCopy, tagged_copies}
 use Rattle.nx_receiver.specs.declared.listening.Report.{Report}
 use Rattle.nx_receiver.proofs.chain.Printing.{all_of_few, few_of_last, last_agrees, same_end, same_log}
 use Rattle.nx_receiver.proofs.receiving.Logged.{entries_after-append, printed_copies-append}

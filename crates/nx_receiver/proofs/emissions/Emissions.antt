@@ -17,10 +17,11 @@ use Rattle.nx_station.specs.Sendings.{IsReceived, digit_slot}
 use Rattle.nx_station.proofs.ChannelCounts.{wrong_in-same}
 use Rattle.nx_station.proofs.ChannelLaws.{few-wrong, no-phasing_1, taken-as_sent}
 use Rattle.nx_station.proofs.ChannelPositions.{HasInner, layout-inner}
-use Rattle.nx_sync.specs.Words.{word_of_lock, first_role, whole_words}
+use Rattle.nx_sync.specs.Words.{word_of_lock, first_role, whole_words, losing_count}
 use Rattle.nx_sync.specs.Locks.{Lock, Now, locked, IsNow}
 use Rattle.nx_receiver.specs.FoundCopies.{FoundCopy, ended_in, past_copies, ended_so_far}
-use Rattle.nx_receiver.specs.LockText.{word_place, lock_text}
+use Rattle.nx_receiver.specs.private.LockReader.{word_place}
+use Rattle.nx_receiver.specs.LockText.{lock_text}
 use Rattle.nx_receiver.proofs.locks.Growing.{ended_go_on}
 use Rattle.nx_receiver.proofs.emissions.Locks.{KeepsLock, LockedThrough, word_of, locked_through}
 use Rattle.nx_receiver.proofs.emissions.Positions.{AreTaken}
@@ -75,7 +76,7 @@ module _ (numbers : List ℕ) (spellings : List (List ℕ)) (heard : List ℕ) (
       ∙ passes.phasing (2 * (46 + j) + 5) (omega arith) (omega arith)
       ∙ word_sent-rx sent (46 + j) ∙ ap rx_word (phasing_at (46 + j) (omega arith))
 
-  few_at : (a n : ℕ) → n ≤ 64 → a + n ≤ length heard → wrong_in (word_of heard) a n < 40
+  few_at : (a n : ℕ) → n ≤ 64 → a + n ≤ length heard → wrong_in (word_of heard) a n < losing_count
   few_at a n some to =
       let few = few-wrong sent heard has passes (96 + a) n (omega arith) some (omega (arith, passes.whole)) in
       let same : wrong_in (word_of heard) a n ≡ wrong_in (heard_in heard) (96 + a) n =

@@ -25,7 +25,7 @@ abbrev pub word_of : List ℕ → ℕ → ℕ
 word_of heard i = get_or heard i 0
 
 -- Words by which a lock is kept: 48 phasing words as they are sent, and then words of which, with those, any 64 in a row
--- have fewer than 40 wrong, and no two DX words in a row are phasing signal 1 before the last words.
+-- have too few wrong ones to lose it, and no two DX words in a row are phasing signal 1 before the last words.
 pub record KeepsLock (heard : List ℕ) : Type 0 where
   pub words : AreWords heard
   pub long : 48 ≤ length heard

@@ -8,7 +8,8 @@ use Rattle.nx_envelope.specs.Copies.{Copy, copies}
 use Rattle.nx_sync.specs.declared.step.Role.{Role}
 use Rattle.nx_sync.specs.Locks.{Lock, Past, Now, hunting, locked, IsNow}
 use Rattle.nx_sync.specs.Words.{word_of_lock, first_role, whole_words}
-use Rattle.nx_receiver.specs.LockText.{PlacedByte, word_place, printed_after, positions, taken_at, printed_by, text_by, lock_text, bytes_of}
+use Rattle.nx_receiver.specs.private.LockReader.{word_place}
+use Rattle.nx_receiver.specs.LockText.{PlacedByte, printed_after, positions, taken_at, printed_by, text_by, lock_text, bytes_of}
 use Rattle.nx_receiver.specs.FoundCopies.{FoundCopy, place_in, found_copy, all_in, past_text, past_copies, found_to_end}
 use Rattle.nx_receiver.proofs.locks.Found.{text_placed, place_in-get_or, all_in_placed, length-bytes_of}
 use Rattle.nx_receiver.proofs.once.Rising.{Above, Rises, rises_append, rises_map}

@@ -16,7 +16,8 @@ use Rattle.nx_sync.specs.Words.{role_of}
 use Rattle.nx_sync.specs.declared.step.Role.{Role}
 use Rattle.nx_sync.specs.declared.step.Role.TheVariants.{Dx}
 use Rattle.nx_receiver.specs.FoundCopies.{place_in, found_copy, ended_in}
-use Rattle.nx_receiver.specs.LockText.{PlacedByte, word_place, printed_after, positions, taken_at, printed_by, text_by, bytes_of}
+use Rattle.nx_receiver.specs.private.LockReader.{word_place}
+use Rattle.nx_receiver.specs.LockText.{PlacedByte, printed_after, positions, taken_at, printed_by, text_by, bytes_of}
 use Rattle.nx_receiver.proofs.locks.Found.{place_in-get_or, length-bytes_of}
 use Rattle.nx_receiver.proofs.locks.Texts.{text_by-grows, bytes_are_reading}
 use Rattle.nx_receiver.proofs.once.Rising.{contains_map}

@@ -15,22 +15,21 @@ use Rattle.nx_station.specs.ChannelExample.{example_message, example_parts, exam
 use Rattle.nx_station.specs.Sendings.{IsCut, Sending, IsSentAt}
 use Rattle.nx_station.proofs.ChannelExamples.{example_sent}
 use Rattle.nx_sync.specs.Locks.{locked, IsNow}
-use Rattle.nx_receiver.specs.Events.{Event, Setting, at_moment, at_zero, element, first_setting, setting_after_all, settings, elements_among}
+use Rattle.nx_receiver.specs.Events.{Event, Setting, at_moment, at_zero, element, first_setting, setting_after_all, settings, elements_among, setting_at}
 use Rattle.nx_receiver.specs.Example.{first_copy}
-use Rattle.nx_receiver.specs.FoundCopies.{FoundCopy, found_to_end}
+use Rattle.nx_receiver.specs.FoundCopies.{FoundCopy, found_to_end, tag, tagged_copies}
 use Rattle.nx_receiver.specs.Listen.{AreTaken, AreTakenAfter, IsLogOf, events_of}
 use Rattle.nx_receiver.specs.ListenExample.{example_air_file, example_lines}
 use Rattle.nx_receiver.specs.ListenOnce.{IsHeardInTimeIn}
 use Rattle.nx_receiver.specs.Log.{PrintsToEnd}
-use Rattle.nx_receiver.specs.Once.{IsHeardInTime, setting_of}
+use Rattle.nx_receiver.specs.Once.{IsHeardInTime}
 use Rattle.nx_receiver.specs.Printing.{printed_copies}
 use Rattle.nx_receiver.specs.Emissions.{copy_of_sending}
-use Rattle.nx_receiver.specs.Tagged.{tag, tagged_copies}
 use Rattle.nx_receiver.specs.Worked.{at_its_slot, damaged_words, worked_log}
 use Rattle.nx_receiver.proofs.listens.ElementLines.{events-lines, good-lines, length-lines, taken-lines}
 use Rattle.nx_receiver.proofs.receiving.Logged.{one_to_end}
 use Rattle.nx_receiver.proofs.once.Repeats.{none_live}
-use Rattle.nx_receiver.proofs.examples.Emission.{cut_is, events, events_are, first_bits, found, not_two, one_found, one_in, sent_there, stands_is}
+use Rattle.nx_receiver.proofs.examples.Emission.{cut_is, events, first_bits, found, not_two, one_found, one_in, sent_there, stands_is}
 use Rattle.nx_receiver.proofs.emissions.Found.{sending_in_end}
 use Rattle.nx_receiver.proofs.examples.Worked.{damaged_computed}
 use Rattle.nx_receiver.proofs.examples.WorkedLog.{all_selected, at_first, log_is, printed_to_end}
@@ -107,14 +106,14 @@ place-within =
     let count : length (take 96 damaged_words) ≡ 96 = length-take 96 damaged_words ∙ omega (arith, damaged_computed.long) in
     omega (arith, long, count, length-bits_of (take 96 damaged_words))
 
-in-force : setting_of at_zero heard place ≡ first_setting at_its_slot
+in-force : setting_at (first_setting at_zero) heard place ≡ first_setting at_its_slot
 unfolding settings
 in-force =
     ap (λ es. slice_index_or (settings (first_setting at_zero) es) place (first_setting at_zero)) events-are
     ∙ inside (first_setting at_its_slot) (first_setting at_zero) bits place place-within
 
-in-force-at : (at : ℕ) → IsSentAt (example_parts first_bits []) example_message at → setting_of at_zero heard at ≡ first_setting at_its_slot
-in-force-at at sent = ap (setting_of at_zero heard) (one-sending at sent) ∙ in-force
+in-force-at : (at : ℕ) → IsSentAt (example_parts first_bits []) example_message at → setting_at (first_setting at_zero) heard at ≡ first_setting at_its_slot
+in-force-at at sent = ap (setting_at (first_setting at_zero) heard) (one-sending at sent) ∙ in-force
 
 one-tagged : length (tagged_copies (first_setting at_zero) heard all-found) ≡ 1
 unfolding tagged_copies

@@ -23,15 +23,13 @@ use Rattle.nx_sync.specs.Locks.{IsNow, locked}
 use Rattle.nx_receiver.specs.Chain.{AreFoundIn, IsChain, Leaves, Run, all_copies, all_logs, events_in, nothing_saved, start_from}
 use Rattle.nx_receiver.specs.ChainExample.{copy_heard, example_runs, first_run, saved_after, second_run}
 use Rattle.nx_receiver.specs.ChainOnce.{CutRun, IsHeardInTimeOver, IsSentIn, in_force_in}
-use Rattle.nx_receiver.specs.Events.{Event, Setting, Start, at_moment, elements_among, first_setting, none_refused, setting_after_all, settings}
+use Rattle.nx_receiver.specs.Events.{Event, Setting, Start, at_moment, elements_among, first_setting, none_refused, setting_after_all, settings, setting_at}
 use Rattle.nx_receiver.specs.Example.{first_copy, heard_at}
-use Rattle.nx_receiver.specs.FoundCopies.{FoundCopy, found_to_end}
+use Rattle.nx_receiver.specs.FoundCopies.{FoundCopy, found_to_end, TaggedCopy, tag, tagged_copies}
 use Rattle.nx_receiver.specs.Listen.{AreTaken, AreTakenAfter, events_of}
 use Rattle.nx_receiver.specs.Log.{PrintsToEnd}
-use Rattle.nx_receiver.specs.Once.{setting_of}
 use Rattle.nx_receiver.specs.Printing.{entries_after, entries_made, entry_made, if_printed, is_entered, is_printed, printed_copies}
 use Rattle.nx_receiver.specs.Emissions.{copy_of_sending}
-use Rattle.nx_receiver.specs.Tagged.{TaggedCopy, tag, tagged_copies}
 use Rattle.nx_receiver.specs.Worked.{damaged_words, worked_log}
 use Rattle.nx_receiver.proofs.listens.ElementLines.{events-lines, good-lines, taken-lines}
 use Rattle.nx_receiver.proofs.examples.AirFile.{alone, bits, inside, lines-short, one-sending, place-within}
@@ -104,7 +102,7 @@ module _ (entries : List MemoryEntry) (from n : ℕ) where
   abbrev given : List Event
   given = events_of (lines_heard n)
 
-  in-force : setting_of begun given 1189 ≡ then
+  in-force : setting_at (first_setting begun) given 1189 ≡ then
   unfolding settings
   in-force =
       ap (λ es. slice_index_or (settings (first_setting begun) es) 1189 (first_setting begun)) (events-are n)

@@ -17,11 +17,10 @@ use Rattle.nx_sync.specs.Locks.{locked, IsNow}
 use Rattle.nx_sync.specs.Words.{whole_words}
 use Rattle.nx_memory.specs.Selection.{admits}
 use Rattle.nx_receiver.specs.Events.{Event, Setting, first_setting, elements_among}
-use Rattle.nx_receiver.specs.FoundCopies.{FoundCopy, found_copy, past_copies, found_to_end}
+use Rattle.nx_receiver.specs.FoundCopies.{FoundCopy, found_copy, past_copies, found_to_end, TaggedCopy, tagged_copies}
 use Rattle.nx_receiver.specs.LockText.{lock_text, bytes_of}
 use Rattle.nx_receiver.specs.Once.{IsHeardInTime}
 use Rattle.nx_receiver.specs.Emissions.{copy_of_sending}
-use Rattle.nx_receiver.specs.Tagged.{TaggedCopy, tagged_copies}
 use Rattle.nx_receiver.specs.Worked.{at_its_slot, damaged_words, heard_elements}
 use Rattle.nx_receiver.proofs.once.Repeats.{none_live}
 use Rattle.nx_receiver.proofs.emissions.Found.{sending_in_end}

@@ -20,8 +20,7 @@ use Rattle.nx_sync.specs.Words.{whole_words}
 use Rattle.nx_sync.specs.Locks.{locked, IsNow}
 use Rattle.nx_receiver.specs.Events.{element, Setting, settings, setting_at, first_setting, elements_among}
 use Rattle.nx_receiver.specs.LockText.{PlacedByte, lock_text}
-use Rattle.nx_receiver.specs.FoundCopies.{found_copy, past_copies, found_to_end}
-use Rattle.nx_receiver.specs.Tagged.{tag, tagged_copies}
+use Rattle.nx_receiver.specs.FoundCopies.{found_copy, past_copies, found_to_end, tag, tagged_copies}
 use Rattle.nx_receiver.specs.Printing.{printed_copies, if_printed, is_printed}
 use Rattle.nx_receiver.specs.Log.{entry_head, is_of_lines, missing_newline, entry_with, IsLog, printed_of, PrintsToEnd}
 use Rattle.nx_receiver.specs.Example.{first_copy}

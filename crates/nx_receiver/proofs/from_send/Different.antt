@@ -10,7 +10,7 @@ use Rattle.nx_memory.specs.Memory.{is_recent, most_entries, seconds_known}
 use Rattle.nx_memory.specs.declared.entry.MemoryEntry.{MemoryEntry}
 use Rattle.nx_receiver.specs.Printing.{entry_made, if_printed, is_number_00, is_printed, is_remembered, printed_copies}
 use Rattle.nx_receiver.specs.FromSend.{AreDifferent, copy_as_sent}
-use Rattle.nx_receiver.specs.Tagged.{TaggedCopy}
+use Rattle.nx_receiver.specs.FoundCopies.{TaggedCopy}
 use Rattle.nx_receiver.proofs.once.Repeats.{Lacks, made_lacks}
 
 lacks_recent : (identity : Identity) (moment : ℕ) (entry : MemoryEntry) → same_identity entry.identity identity ≡ false

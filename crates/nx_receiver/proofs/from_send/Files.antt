@@ -21,7 +21,7 @@ use Rattle.nx_receiver.specs.Once.{IsHeardInTime, IsPrintedOnce}
 use Rattle.nx_receiver.specs.Printing.{printed_copies}
 use Rattle.nx_receiver.specs.Events as fed
 use Rattle.nx_receiver.specs.FromSend.{BearsAlone, copy_as_sent, events_as_sent, parts_as_sent}
-use Rattle.nx_receiver.specs.Tagged.{TaggedCopy}
+use Rattle.nx_receiver.specs.FoundCopies.{TaggedCopy}
 use Rattle.nx_receiver.proofs.listens.ElementLines.{events-lines, good-lines, length-lines, taken-lines}
 use Rattle.nx_receiver.proofs.listens.Moments.{some-closed}
 use Rattle.nx_receiver.proofs.once.Found.{printed_once}

@@ -17,13 +17,12 @@ use Rattle.nx_station.specs.Sendings.{IsCut, IsReceived, Part, bits_of_parts, di
 use Rattle.nx_station.proofs.ChannelUndamaged.{undamaged-cut}
 use Rattle.nx_sync.specs.Locks.{IsNow, locked}
 use Rattle.nx_sync.specs.Words.{whole_words}
-use Rattle.nx_receiver.specs.Events.{Event, Setting, at_zero, first_setting, settings, elements_among, elements}
-use Rattle.nx_receiver.specs.FoundCopies.{FoundCopy, found_to_end, past_copies}
+use Rattle.nx_receiver.specs.Events.{Event, Setting, at_zero, first_setting, settings, elements_among, elements, setting_at}
+use Rattle.nx_receiver.specs.FoundCopies.{FoundCopy, found_to_end, past_copies, TaggedCopy, tag, tagged_copies}
 use Rattle.nx_receiver.specs.LockText.{PlacedByte, bytes_of, lock_text}
-use Rattle.nx_receiver.specs.Once.{FewBetween, IsHeardInTime, setting_of}
+use Rattle.nx_receiver.specs.Once.{FewBetween, IsHeardInTime}
 use Rattle.nx_receiver.specs.Emissions.{copy_of_sending}
 use Rattle.nx_receiver.specs.FromSend.{BearsAlone, events_as_sent, parts_as_sent, words_sent}
-use Rattle.nx_receiver.specs.Tagged.{TaggedCopy, tag, tagged_copies}
 use Rattle.nx_receiver.proofs.once.Repeats.{none_live}
 use Rattle.nx_receiver.proofs.emissions.Found.{sending_in_end}
 use Rattle.nx_receiver.proofs.emissions.Places.{found_rise}
@@ -129,20 +128,20 @@ module _ (messages : List MessageView) (numbers : List ℕ) (others : List (List
     one_place one other a b =
         ap (λ (c : FoundCopy). c.place) (one_alone (copy_at one) (copy_at other) (is_found one a) (is_found other b) refl refl)
 
-    selected_at : (at : ℕ) → IsTrue (admits (setting_of at_zero events at).refused message.identity)
+    selected_at : (at : ℕ) → IsTrue (admits (setting_at (first_setting at_zero) events at).refused message.identity)
     unfolding settings
     selected_at at =
         ap (λ (refused : Refused). admits refused message.identity) (elements-refused (record (first_setting at_zero) { moment = slot }) (first_setting at_zero) (first_setting at_zero).refused sent_bits at refl refl)
         ∙ all_selected message.identity
 
     close_at : (one other : ℕ) → IsSentAt parts message one → IsSentAt parts message other
-        → (setting_of at_zero events one).moment < (setting_of at_zero events other).moment + seconds_known
+        → (setting_at (first_setting at_zero) events one).moment < (setting_at (first_setting at_zero) events other).moment + seconds_known
     close_at one other a b =
-        let same : (setting_of at_zero events one).moment ≡ (setting_of at_zero events other).moment = ap (λ (at : ℕ). (setting_of at_zero events at).moment) (one_place one other a b) in
+        let same : (setting_at (first_setting at_zero) events one).moment ≡ (setting_at (first_setting at_zero) events other).moment = ap (λ (at : ℕ). (setting_at (first_setting at_zero) events at).moment) (one_place one other a b) in
         omega (arith, same)
 
     abbrev tagging : FoundCopy → TaggedCopy
-    tagging copy = tag (setting_of at_zero events copy.place) copy
+    tagging copy = tag (setting_at (first_setting at_zero) events copy.place) copy
 
     identity_is : (copy : FoundCopy) (tagged : TaggedCopy) → tagging copy ≡ tagged
         → IsTrue (same_identity tagged.identity message.identity) → copy.identity ≡ message.identity

@@ -16,15 +16,13 @@ use Rattle.nx_station.specs.Sendable.{IsSendable}
 use Rattle.nx_sync.specs.Locks.{IsNow, locked}
 use Rattle.nx_sync.specs.Words.{first_role, whole_words, word_of_lock}
 use Rattle.nx_sync.proofs.UniqueStates.{locks-unique, now-unique}
-use Rattle.nx_receiver.specs.Events.{Event, Setting, at_zero, first_setting, settings, elements_among, elements}
-use Rattle.nx_receiver.specs.FoundCopies.{FoundCopy, all_in, found_copy, found_to_end, past_copies}
+use Rattle.nx_receiver.specs.Events.{Event, Setting, at_zero, first_setting, settings, elements_among, elements, setting_at}
+use Rattle.nx_receiver.specs.FoundCopies.{FoundCopy, all_in, found_copy, found_to_end, past_copies, TaggedCopy, tag, tagged_copies}
 use Rattle.nx_receiver.specs.LockText.{PlacedByte}
 use Rattle.nx_receiver.specs.Log.{PrintsToEnd, printed_of}
-use Rattle.nx_receiver.specs.Once.{setting_of}
 use Rattle.nx_receiver.specs.Printing.{printed_copies}
 use Rattle.nx_receiver.specs.Emissions.{IsHeaderOf}
 use Rattle.nx_receiver.specs.FromSend.{copy_as_sent, events_as_sent, words_sent}
-use Rattle.nx_receiver.specs.Tagged.{TaggedCopy, tag, tagged_copies}
 use Rattle.nx_receiver.proofs.locks.Found.{all_in_placed, text_placed}
 use Rattle.nx_receiver.proofs.once.Rising.{Above, Rises, rises_from}
 use Rattle.nx_receiver.proofs.emissions.Copies.{copy_at, ended_here, sent_copy, sent_header}
@@ -237,7 +235,7 @@ module _ (messages : List MessageView) (numbers : List ℕ) (others : List (List
   abbrev at_slot : Setting
   at_slot = record (first_setting at_zero) { moment = slot }
 
-  setting_is : (place : ℕ) → place < length all_bits → setting_of at_zero events_of place ≡ at_slot
+  setting_is : (place : ℕ) → place < length all_bits → setting_at (first_setting at_zero) events_of place ≡ at_slot
   unfolding settings
   setting_is place lt =
       in_force at_slot (first_setting at_zero) (bits_of (words_sent (numbers ∷ others))) place (omega (arith, ap length (bits_are messages numbers others sendable spelled slot)))
@@ -245,8 +243,8 @@ module _ (messages : List MessageView) (numbers : List ℕ) (others : List (List
   all_tagged : tagged_copies (first_setting at_zero) events_of all_found ≡ map (copy_as_sent slot) messages
   unfolding tagged_copies
   all_tagged =
-      ap (map (λ (c : FoundCopy). tag (setting_of at_zero events_of c.place) c)) found_are
-      ∙ tagged_are text_of_lock (setting_of at_zero events_of) at_slot slot (length all_bits) setting_is refl all_selected 0 messages
+      ap (map (λ (c : FoundCopy). tag (setting_at (first_setting at_zero) events_of c.place) c)) found_are
+      ∙ tagged_are text_of_lock (setting_at (first_setting at_zero) events_of) at_slot slot (length all_bits) setting_is refl all_selected 0 messages
       (subst (All (λ (c : FoundCopy). c.place < length all_bits)) found_are within)
 
   pub printed_as_sent : (log : List TaggedCopy) → PrintsToEnd at_zero events_of log

@@ -6,7 +6,7 @@ use Rattle.nx_receiver.specs.Events.{Event, Start}
 use Rattle.nx_receiver.specs.private.Listener.{HasClosed, HasClosedSome, HearsLog, Listening, count_of}
 use Rattle.nx_receiver.specs.Log.{IsEntry, PrintsToEnd}
 use Rattle.nx_receiver.specs.Receiver.{entry_list}
-use Rattle.nx_receiver.specs.Tagged.{copy_of}
+use Rattle.nx_receiver.specs.FoundCopies.{copy_of}
 use Rattle.nx_receiver.specs.declared.entry.Entry.{Entry}
 use Rattle.nx_receiver.specs.declared.listening.Report.{Report}
 use Rattle.nx_receiver.proofs.listens.Listener.{counts-on, one-log}

@@ -16,8 +16,9 @@ use Rattle.nx_receiver.specs.private.Listener.{BeginsListening, BeginsLog, HasFi
 use Rattle.nx_receiver.specs.private.ListenerBegins.{printed-so_far}
 use Rattle.nx_receiver.specs.Log.{IsEntry, IsLog}
 use Rattle.nx_receiver.specs.Events as fed
-use Rattle.nx_receiver.specs.Receiver.{Awaits, Stands, entry_list}
-use Rattle.nx_receiver.specs.Tagged.{TaggedCopy}
+use Rattle.nx_receiver.specs.Receiver.{Stands, entry_list}
+use Rattle.nx_receiver.specs.private.Awaiting.{Awaits}
+use Rattle.nx_receiver.specs.FoundCopies.{TaggedCopy}
 use Rattle.nx_receiver.specs.declared.entry.Entry.{Entry}
 use Rattle.nx_receiver.specs.declared.over.Over.{Over}
 use Rattle.nx_receiver.specs.declared.over.Over.TheVariants as overs

@@ -13,13 +13,12 @@ use Rattle.nx_fec.proofs.LineLaws.{IsAirFile-unique}
 use Rattle.nx_fec.proofs.WritingLaws.{WroteSome-front}
 use Rattle.nx_memory.specs.declared.entry.MemoryEntry.{MemoryEntry}
 use Rattle.nx_receiver.specs.Events.{Event, Setting, Start, at_moment, element, command, first_setting, setting_after, settings}
-use Rattle.nx_receiver.specs.FoundCopies.{FoundCopy}
+use Rattle.nx_receiver.specs.FoundCopies.{FoundCopy, TaggedCopy, tag, tagged_copies}
 use Rattle.nx_receiver.specs.Listen.{AreTaken, AreTakenAfter, HasLoggedSome, IsLogOf, IsLogOfLines, IsTakenAfter, events_of, line_events}
 use Rattle.nx_receiver.specs.private.Listener.{BeginsListening}
 use Rattle.nx_receiver.specs.Log.{HasPrinted, IsLog, PrintsToEnd, printed_of}
 use Rattle.nx_receiver.specs.Printing.{entry_made, if_printed, is_printed, printed_copies}
 use Rattle.nx_receiver.specs.Events as fed
-use Rattle.nx_receiver.specs.Tagged.{TaggedCopy, tag, tagged_copies}
 use Rattle.nx_receiver.proofs.receiving.Log.{log_begins, one_log, some_log}
 use Rattle.nx_receiver.proofs.receiving.Logged.{has_printed_on, one_printed, one_to_end, some_printed, some_to_end}
 
@@ -128,16 +127,15 @@ one-closed start bytes log other a b =
 
 -- what is the log of a beginning of what lines give was written in part: so was the log of the lines
 pub logged-some : (start : Start) (old new : Option (List ℕ)) (written : ℕ) (lines : List Line) (given : List ℕ) → BeginsListening start lines given → WroteSome old new given written
-    → HasLoggedSome start old new written lines
+    → HasLoggedSome (IsLogOfLines start lines) old new written
 logged-some start old new written lines given h some =
     let b = h.begun in
     let all = some_printed start (events_of lines) in
     let later = subst (λ es. HasPrinted start es all.0) b.whole all.1 in
     let on = has_printed_on start b.before b.later b.log all.0 b.printed later in
     let log = some_log all.0 (log-in_range start lines all.0 h.taken all.1) in
-    let front = log_begins b.log on.rest given log.0 b.spelled (subst (λ l. IsLog l log.0) on.whole log.1) in
-    record {
-      log = log.0;
-      logged = record { taken = h.taken; copies = all.0; printed = all.1; spelled = log.1 };
-      some = subst (λ l. WroteSome old new l written) (sym front.1) (WroteSome-front old new given front.0 written some);
-    }
+    let front = log_begins b.log on.rest given log.0 b.spelled (subst (λ l. IsLog l log.0) on.whole log.1) in (
+      log.0,
+      record { taken = h.taken; copies = all.0; printed = all.1; spelled = log.1 },
+      subst (λ l. WroteSome old new l written) (sym front.1) (WroteSome-front old new given front.0 written some),
+    )

@@ -4,7 +4,7 @@ use Rattle.std.specs.List.{AllByRecursion}
 use Rattle.std.proofs.lemmas.Bool.{true≢false}
 use Rattle.nx_envelope.proofs.LettersAndDigits.{same_letter}
 use Rattle.nx_fec.specs.AirFile.{Line, IsLine, spelling, moment, elements, refuse_station, accept_station, refuse_subject, accept_subject}
-use Rattle.nx_fec.specs.Lines.{StopsAt, air_limit, HasFault, IsAirFile, IsCause, file_of, line_bytes}
+use Rattle.nx_fec.specs.Lines.{IsLineRefused, StopsAt, air_limit, HasFault, IsAirFile, IsCause, file_of, line_bytes}
 use Rattle.nx_fec.specs.declared.fault.LineFault.{LineFault}
 use Rattle.nx_fec.specs.declared.fault.LineFault.TheVariants as file
 use Rattle.nx_fec.specs.declared.line_run.LinesFault.{LinesFault}
@@ -12,8 +12,8 @@ use Rattle.nx_fec.specs.declared.line_run.LinesFault.TheVariants as run
 use Rattle.nx_fec.proofs.LineLaws.{HasFault-unique, IsAirFile-good, NoFeed, first_feed, no_feed-not, reading-unique, regroup, spelling-IsBeginning, spelling-injective, split}
 use Rattle.nx_fec.proofs.LineRunLemmas.{file_of-one}
 use Rattle.nx_receiver.specs.Events.{Start, Refuses}
-use Rattle.nx_receiver.specs.Listen.{AreTaken, AreTakenAfter, HasListenFault, HasLogged, IsLogOf, IsNextRefused, IsTakenAfter}
-use Rattle.nx_receiver.specs.private.Listener.{RefusesLine, lines_fault}
+use Rattle.nx_receiver.specs.Listen.{AreTaken, AreTakenAfter, HasListenFault, HasLogged, IsLogOf, IsTakenAfter, RefusesAfter}
+use Rattle.nx_receiver.specs.private.Listener.{RefusesLine, lines_fault, refusal_fault}
 use Rattle.nx_receiver.specs.declared.fault.MomentFault.{MomentFault}
 use Rattle.nx_receiver.specs.declared.fault.MomentFault.TheVariants.{Range, Back}
 use Rattle.nx_receiver.specs.declared.listen_fault.ListenFault.{ListenFault}
@@ -166,9 +166,47 @@ module _ (start : Start) where
   StopsWith : List ℕ → LinesFault LineRefusal → Type 0
   StopsWith bytes (run.Line why) = StopsAt bytes (λ lines rest more. IsCause air_limit (length (file_of lines ++ rest)) lines rest more why × AreTaken start lines)
   StopsWith bytes (run.Refused number why) =
-      StopsAt bytes (λ lines rest more. IsNextRefused (λ before line. RefusesLine start before line why) number lines rest more × AreTaken start lines)
+      StopsAt bytes (λ lines rest more. IsLineRefused (λ before line. RefusesLine start before line why) air_limit lines rest more number × AreTaken start lines)
   StopsWith bytes run.Read = ⊥
   StopsWith bytes (run.Write written) = ⊥
+
+  -- a line that isn't taken, as a fault says, is refused
+  says : (number : ℕ) (lines : List Line) (line : Line) (why : LineRefusal) → RefusesAfter start (refusal_fault number why) lines line → (number ≡ length lines + 1) × RefusesLine start lines line why
+  says number lines (moment n) refusal.NoMoment h = absurd h
+  says number lines (elements bits) refusal.NoMoment h = h
+  says number lines (refuse_subject letter) refusal.NoMoment h = absurd h
+  says number lines (refuse_station letter) refusal.NoMoment h = absurd h
+  says number lines (accept_station letter) refusal.NoMoment h = absurd h
+  says number lines (accept_subject letter) refusal.NoMoment h = absurd h
+  says number lines (moment n) (refusal.Moment why) h = h
+  says number lines (elements bits) (refusal.Moment why) h = absurd h
+  says number lines (refuse_subject letter) (refusal.Moment why) h = absurd h
+  says number lines (refuse_station letter) (refusal.Moment why) h = absurd h
+  says number lines (accept_station letter) (refusal.Moment why) h = absurd h
+  says number lines (accept_subject letter) (refusal.Moment why) h = absurd h
+  says number lines (moment n) (refusal.Vital subject) h = absurd h
+  says number lines (elements bits) (refusal.Vital subject) h = absurd h
+  says number lines (refuse_subject letter) (refusal.Vital subject) h = (h.0, (h.1, h.2))
+  says number lines (refuse_station letter) (refusal.Vital subject) h = absurd h
+  says number lines (accept_station letter) (refusal.Vital subject) h = absurd h
+  says number lines (accept_subject letter) (refusal.Vital subject) h = absurd h
+
+  refused-stops : (bytes : List ℕ) (number : ℕ) (why : LineRefusal)
+      → StopsAt bytes (λ lines rest more. IsLineRefused (RefusesAfter start (refusal_fault number why)) air_limit lines rest more (length lines + 1) × AreTaken start lines)
+      → StopsWith bytes (run.Refused number why)
+  unfolding StopsWith
+  refused-stops bytes number why h =
+      let r = h.here.0 in
+      let s = says number h.lines r.line why r.refused in
+      record {
+        lines = h.lines;
+        rest = h.rest;
+        more = h.more;
+        whole = h.whole;
+        each = h.each;
+        part = h.part;
+        here = (record { line = r.line; after = r.after; good = r.good; spelled = r.spelled; ended = r.ended; within = r.within; counted = s.0; refused = s.1 }, h.here.1);
+      }
 
   record HasStopped (bytes : List ℕ) (why : ListenFault) : Type 0 where
     fault : LinesFault LineRefusal
@@ -177,16 +215,16 @@ module _ (start : Start) where
 
   has-stopped : (bytes : List ℕ) (why : ListenFault) → HasListenFault start (AreTaken start) bytes why → HasStopped bytes why
   unfolding StopsWith
-  has-stopped bytes Read h = absurd h
-  has-stopped bytes (Write written) h = absurd h
-  has-stopped bytes (Memory error) h = absurd h
+  has-stopped bytes Read h = absurd h.here.0.refused
+  has-stopped bytes (Write written) h = absurd h.here.0.refused
+  has-stopped bytes (Memory error) h = absurd h.here.0.refused
   has-stopped bytes AirTooLong h = record { fault = run.Line file.TooLong; is = refl; stops = h }
   has-stopped bytes (LineLong line) h = record { fault = run.Line (file.LineLong line); is = refl; stops = h }
   has-stopped bytes (LineCut line) h = record { fault = run.Line (file.LineCut line); is = refl; stops = h }
   has-stopped bytes (BadLine line) h = record { fault = run.Line (file.BadLine line); is = refl; stops = h }
-  has-stopped bytes (NoMoment line) h = record { fault = run.Refused line refusal.NoMoment; is = refl; stops = h }
-  has-stopped bytes (Moment line why) h = record { fault = run.Refused line (refusal.Moment why); is = refl; stops = h }
-  has-stopped bytes (Vital line subject) h = record { fault = run.Refused line (refusal.Vital subject); is = refl; stops = h }
+  has-stopped bytes (NoMoment line) h = record { fault = run.Refused line refusal.NoMoment; is = refl; stops = refused-stops bytes line refusal.NoMoment h }
+  has-stopped bytes (Moment line why) h = record { fault = run.Refused line (refusal.Moment why); is = refl; stops = refused-stops bytes line (refusal.Moment why) h }
+  has-stopped bytes (Vital line subject) h = record { fault = run.Refused line (refusal.Vital subject); is = refl; stops = refused-stops bytes line (refusal.Vital subject) h }
 
   as-fault : (bytes : List ℕ) (why : LineFault) → StopsWith bytes (run.Line why) → HasFault air_limit bytes why
   unfolding StopsWith
@@ -292,13 +330,13 @@ module _ (start : Start) where
 
   -- whatever was written, the lines before a fault were taken
   pub first_fault-taken : (old new : Option (List ℕ)) (bytes : List ℕ) (why : ListenFault) → HasListenFault start (HasLogged start old new) bytes why → HasListenFault start (AreTaken start) bytes why
-  first_fault-taken old new bytes Read h = h
-  first_fault-taken old new bytes (Write written) h = h
-  first_fault-taken old new bytes (Memory error) h = h
-  first_fault-taken old new bytes AirTooLong h = stop-taken bytes _ _ (λ lines l. l.logged.taken) h
-  first_fault-taken old new bytes (LineLong line) h = stop-taken bytes _ _ (λ lines l. l.logged.taken) h
-  first_fault-taken old new bytes (LineCut line) h = stop-taken bytes _ _ (λ lines l. l.logged.taken) h
-  first_fault-taken old new bytes (BadLine line) h = stop-taken bytes _ _ (λ lines l. l.logged.taken) h
-  first_fault-taken old new bytes (NoMoment line) h = stop-taken bytes _ _ (λ lines l. l.logged.taken) h
-  first_fault-taken old new bytes (Moment line why) h = stop-taken bytes _ _ (λ lines l. l.logged.taken) h
-  first_fault-taken old new bytes (Vital line subject) h = stop-taken bytes _ _ (λ lines l. l.logged.taken) h
+  first_fault-taken old new bytes Read h = absurd h.here.0.refused
+  first_fault-taken old new bytes (Write written) h = absurd h.here.0.refused
+  first_fault-taken old new bytes (Memory error) h = absurd h.here.0.refused
+  first_fault-taken old new bytes AirTooLong h = stop-taken bytes _ _ (λ lines l. l.1.taken) h
+  first_fault-taken old new bytes (LineLong line) h = stop-taken bytes _ _ (λ lines l. l.1.taken) h
+  first_fault-taken old new bytes (LineCut line) h = stop-taken bytes _ _ (λ lines l. l.1.taken) h
+  first_fault-taken old new bytes (BadLine line) h = stop-taken bytes _ _ (λ lines l. l.1.taken) h
+  first_fault-taken old new bytes (NoMoment line) h = stop-taken bytes _ _ (λ lines l. l.1.taken) h
+  first_fault-taken old new bytes (Moment line why) h = stop-taken bytes _ _ (λ lines l. l.1.taken) h
+  first_fault-taken old new bytes (Vital line subject) h = stop-taken bytes _ _ (λ lines l. l.1.taken) h

@@ -1,5 +1,5 @@
 -- What a run over lines says, said of the log and in the faults of `listen`.
-use Rattle.std.proofs.Common.{◌≡◌, inl, inr, ℕ, ◌+◌, ◌≤◌, List, [], ◌∷◌, length, map, Option, None, Some, IfSome, Result, Ok, Err, IsErr, IsErrAnd, refl, sym, ap, ◌∙◌, subst, arith, length-append, codes}
+use Rattle.std.proofs.Common.{◌≡◌, inl, inr, ℕ, ◌+◌, ◌≤◌, List, [], ◌∷◌, length, map, Option, None, Some, IfSome, Result, Ok, Err, refl, ap, ◌∙◌, arith, length-append, codes}
 use Rattle.std.specs.Prelude.{⊤}
 use Rattle.std.specs.Io.KnownBytes.{Appends}
 use Rattle.std.specs.declared.alloc.AllocError.{AllocError}
@@ -15,9 +15,9 @@ use Rattle.nx_fec.specs.declared.line_run.LinesFault.TheVariants as run
 use Rattle.nx_fec.specs.declared.line_run.LinesRead.{LinesRead}
 use Rattle.nx_fec.proofs.TransferLaws.{Ok-not_err, Reads-on, Writes-none, read_failed-none}
 use Rattle.nx_receiver.specs.Events.{Start, elements_among}
-use Rattle.nx_receiver.specs.Listen.{ExplainsListening, HasListened, HasLogged, HasLoggedSomeOfFile, IsNextRefused, Listens, events_of, line_events}
+use Rattle.nx_receiver.specs.Listen.{AnswersListening, HasListened, HasLogged, HasLoggedSome, IsLogOf, Listens, RefusesAfter, events_of, line_events}
 use Rattle.nx_receiver.specs.private.ListenerBegins.{printed-so_far}
-use Rattle.nx_receiver.specs.private.Listener.{BeginsFrom, HasClosed, HasClosedSome, IsListening, Listening, RefusesFrom, RefusesLine, StandsFrom, lines_fault, start_of}
+use Rattle.nx_receiver.specs.private.Listener.{BeginsFrom, HasClosed, HasClosedSome, IsListening, Listening, RefusesFrom, RefusesLine, StandsFrom, lines_fault, refusal_fault, start_of}
 use Rattle.nx_receiver.specs.declared.listen_fault.ListenFault.{ListenFault}
 use Rattle.nx_receiver.specs.declared.listen_fault.ListenFault.TheVariants.{Memory, Read, Write}
 use Rattle.nx_receiver.specs.declared.listening.LineRefusal.{LineRefusal}
@@ -29,30 +29,60 @@ use Rattle.nx_receiver.proofs.receiving.Events.{bits_of-more}
 
 -- what the lines gave was written: their log
 logged : (first now : Listening) (old new : Option (List ℕ)) (lines : List Line) → HasTaken StandsFrom first now lines (Appends old new) → HasLogged (start_of first) old new lines
-logged first now old new lines h = record {
-  log = h.given;
-  logged = record {
+logged first now old new lines h = (
+  h.given,
+  record {
     taken = h.stood.taken;
     copies = h.stood.hears.log;
     printed = printed-so_far _ (start_of first) now.receiver (events_of lines) h.stood.hears.log h.stood.hears.hears.receiver;
     spelled = h.stood.hears.spelled;
-  };
-  written = h.here;
-}
+  },
+  h.here,
+)
 
 stops-on : (bytes : List ℕ) (P Q : List Line → List ℕ → List ℕ → Type 0) → ((lines : List Line) (rest more : List ℕ) → P lines rest more → Q lines rest more)
     → StopsAt bytes P → StopsAt bytes Q
 stops-on bytes P Q f h = record { lines = h.lines; rest = h.rest; more = h.more; whole = h.whole; each = h.each; part = h.part; here = f h.lines h.rest h.more h.here }
 
+-- a line that is refused isn't taken, as its fault says
+fault-says : (start : Start) (number : ℕ) (lines : List Line) (line : Line) (why : LineRefusal) → number ≡ length lines + 1 → RefusesLine start lines line why
+    → RefusesAfter start (refusal_fault number why) lines line
+fault-says start number lines (moment n) refusal.NoMoment e h = h
+fault-says start number lines (moment n) (refusal.Moment why) e h = (e, h)
+fault-says start number lines (moment n) (refusal.Vital subject) e h = h
+fault-says start number lines (elements bits) refusal.NoMoment e h = (e, h)
+fault-says start number lines (elements bits) (refusal.Moment why) e h = h
+fault-says start number lines (elements bits) (refusal.Vital subject) e h = h
+fault-says start number lines (refuse_subject letter) refusal.NoMoment e h = h
+fault-says start number lines (refuse_subject letter) (refusal.Moment why) e h = h
+fault-says start number lines (refuse_subject letter) (refusal.Vital subject) e h = (e, h.0, h.1)
+fault-says start number lines (refuse_station letter) refusal.NoMoment e h = h
+fault-says start number lines (refuse_station letter) (refusal.Moment why) e h = h
+fault-says start number lines (refuse_station letter) (refusal.Vital subject) e h = h
+fault-says start number lines (accept_station letter) refusal.NoMoment e h = h
+fault-says start number lines (accept_station letter) (refusal.Moment why) e h = h
+fault-says start number lines (accept_station letter) (refusal.Vital subject) e h = h
+fault-says start number lines (accept_subject letter) refusal.NoMoment e h = h
+fault-says start number lines (accept_subject letter) (refusal.Moment why) e h = h
+fault-says start number lines (accept_subject letter) (refusal.Vital subject) e h = h
+
 next-refused : (first : Listening) (number : ℕ) (lines : List Line) (rest more : List ℕ) (why : LineRefusal)
     → IsLineRefused (λ before line. RefusesFrom first before line why) air_limit lines rest more number
-    → IsNextRefused (λ before line. RefusesLine (start_of first) before line why) number lines rest more
-next-refused first number lines rest more why h =
-    record { line = h.line; after = h.after; good = h.good; spelled = h.spelled; ended = h.ended; within = h.within; counted = h.counted; refused = h.refused }
+    → IsLineRefused (RefusesAfter (start_of first) (refusal_fault number why)) air_limit lines rest more (length lines + 1)
+next-refused first number lines rest more why h = record {
+  line = h.line;
+  after = h.after;
+  good = h.good;
+  spelled = h.spelled;
+  ended = h.ended;
+  within = h.within;
+  counted = refl;
+  refused = fault-says (start_of first) number lines h.line why h.counted h.refused;
+}
 
 -- what a fault of the lines explains
 explains : (AtEnd : Type 0) (IsLeft : List ℕ → Type 0) (first now : Listening) (old new : Option (List ℕ)) (bytes : List ℕ) (fault : LinesFault LineRefusal)
-    → ExplainsLines StandsFrom BeginsFrom RefusesFrom AtEnd IsLeft air_limit first now old new (Appends old new) bytes fault → ExplainsListening (start_of first) AtEnd IsLeft old new bytes (lines_fault fault)
+    → ExplainsLines StandsFrom BeginsFrom RefusesFrom AtEnd IsLeft air_limit first now old new (Appends old new) bytes fault → AnswersListening (start_of first) AtEnd IsLeft old new (Err (lines_fault fault)) bytes
 explains AtEnd IsLeft first now old new bytes run.Read h =
     stops-on bytes _ _ (λ lines rest more p. (p.0, p.1, logged first now old new lines p.2)) h
 explains AtEnd IsLeft first now old new bytes (run.Line file.TooLong) h =
@@ -178,15 +208,11 @@ listens-ok remaining contents first now reader reader_after writer mid new read 
 -- the whole file was read, and a write of what its end prints failed
 part-listened : (first now : Listening) (old mid new : Option (List ℕ)) (bytes : List ℕ) (read : LinesRead) (written : ℕ) → HasTakenAll StandsFrom first now old mid air_limit bytes read
     → ((lines : List Line) (given : List ℕ) → IsListening (start_of first) now lines given → HasWritten old mid given read.written → HasClosedSome (start_of first) old new (events_of lines) written)
-    → HasLoggedSomeOfFile (start_of first) old new written bytes
+    → HasLoggedSome (IsLogOf (start_of first) bytes) old new written
 part-listened first now old mid new bytes read written h closed =
     let t = h.taken in
     let e = closed h.lines t.given t.stood t.here in
-    record {
-      log = e.log;
-      logged = (h.lines, e.copies, record { file = h.file; taken = t.stood.taken; printed = e.printed; spelled = e.spelled });
-      some = e.some;
-    }
+    (e.log, (h.lines, e.copies, record { file = h.file; taken = t.stood.taken; printed = e.printed; spelled = e.spelled }), e.some)
 
 write-not_read : {N : Type 0} (written : ℕ) → ◌≡◌ {A = Result N ListenFault} (Err (Write written)) (Err Read) → ⊥
 write-not_read written e = cc

@@ -12,8 +12,10 @@ use Rattle.nx_envelope.specs.Laws.{Grows}
 use Rattle.nx_envelope.proofs.Anywhere.{anywhere_both}
 use Rattle.nx_envelope.proofs.OneOpenCopy.{grown, copies_parts, one_at_most}
 use Rattle.nx_sync.specs.declared.step.Role.{Role}
-use Rattle.nx_receiver.specs.LockText.{PlacedByte, word_place, printed_by, text_by, bytes_of}
-use Rattle.nx_receiver.specs.FoundCopies.{FoundCopy, place_in, place_of_header, found_copy, ended_in, open_in, all_in}
+use Rattle.nx_receiver.specs.private.LockReader.{word_place}
+use Rattle.nx_receiver.specs.LockText.{PlacedByte, printed_by, text_by, bytes_of}
+use Rattle.nx_receiver.specs.private.Watch.{place_of_header}
+use Rattle.nx_receiver.specs.FoundCopies.{FoundCopy, place_in, found_copy, ended_in, open_in, all_in}
 use Rattle.nx_receiver.proofs.locks.Texts.{GoesOnAs, bytes_of-append}
 
 -- a place from low on and below high

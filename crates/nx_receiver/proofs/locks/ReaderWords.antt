@@ -18,7 +18,8 @@ use Rattle.nx_sync.specs.Words.{role_of, other_role, is_dx}
 use Rattle.nx_sync.specs.declared.step.Role.{Role}
 use Rattle.nx_sync.specs.declared.step.Role.TheVariants.{Dx, Rx}
 use Rattle.nx_receiver.specs.LockText.{taken_at, positions}
-use Rattle.nx_receiver.specs.private.LockReader.{LockReading, ReadsLock, dx_words, text_after}
+use Rattle.nx_receiver.specs.private.LockReader.{ReadsLock, dx_words, text_after}
+use Rattle.nx_receiver.specs.Watching.{LockReading}
 
 -- a word of this role, among the DX words
 abbrev if_dx : Role → Counted → List Counted

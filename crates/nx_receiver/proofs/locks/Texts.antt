@@ -10,7 +10,8 @@ use Rattle.nx_sync.specs.Words.{word_of_lock, first_role, role_of, is_dx}
 use Rattle.nx_sync.specs.Locks.{IsPattern}
 use Rattle.nx_sync.specs.declared.step.Role.{Role}
 use Rattle.nx_sync.proofs.KeptPast.{word_at-more, first_role-more}
-use Rattle.nx_receiver.specs.LockText.{taken_at, positions, PlacedByte, printed_after, word_place, printed_by, text_by, lock_text, bytes_of}
+use Rattle.nx_receiver.specs.private.LockReader.{word_place}
+use Rattle.nx_receiver.specs.LockText.{taken_at, positions, PlacedByte, printed_after, printed_by, text_by, lock_text, bytes_of}
 
 -- words that are the same up to a word give the same text up to there
 five_before-same : (f g : ℕ → ℕ) (k : ℕ) → ((j : ℕ) → j < k → f j ≡ g j) → five_before f k ≡ five_before g k

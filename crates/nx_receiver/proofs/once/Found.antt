@@ -9,14 +9,13 @@ use Rattle.nx_envelope.proofs.Identities.{same_identity-true, same_itself}
 use Rattle.nx_memory.specs.Memory.{seconds_known}
 use Rattle.nx_station.specs.Sendings.{Part, Sending, IsSentAt}
 use Rattle.nx_sync.proofs.UniqueStates.{locks-unique, now-unique}
-use Rattle.nx_receiver.specs.Events.{Event, Start, elements_among, first_setting}
-use Rattle.nx_receiver.specs.FoundCopies.{FoundCopy, found_to_end}
+use Rattle.nx_receiver.specs.Events.{Event, Start, elements_among, first_setting, setting_at}
+use Rattle.nx_receiver.specs.FoundCopies.{FoundCopy, found_to_end, TaggedCopy, tag, tagged_copies}
 use Rattle.nx_receiver.specs.LawTerms.{AreRepeats}
 use Rattle.nx_receiver.specs.Printing.{copies_of, is_good, printed_copies}
 use Rattle.nx_receiver.specs.Log.{PrintsToEnd, printed_of}
-use Rattle.nx_receiver.specs.Once.{IsHeardInTime, IsPrintedOnce, setting_of}
+use Rattle.nx_receiver.specs.Once.{IsHeardInTime, IsPrintedOnce}
 use Rattle.nx_receiver.specs.Emissions.{copies_at, copy_of_sending}
-use Rattle.nx_receiver.specs.Tagged.{TaggedCopy, tag, tagged_copies}
 use Rattle.nx_receiver.proofs.once.Repeats.{once}
 use Rattle.nx_receiver.proofs.once.Rising.{one_of_key, contains_map}
 use Rattle.nx_receiver.proofs.emissions.Found.{one_found, sending_in_end, sending_errors}
@@ -77,7 +76,7 @@ module _ (start : Start) (events : List Event) (parts : List Part) (message : Me
 
   -- the copy of a sending of the message, with what is in force there
   abbrev copy_at : ℕ → TaggedCopy
-  copy_at place = tag (setting_of start events place) (copy_of_sending (record { message = message; place = place }))
+  copy_at place = tag (setting_at (first_setting start) events place) (copy_of_sending (record { message = message; place = place }))
 
   -- each copy that bears the identity is that of a sending of the message
   record IsOfSending (copy : TaggedCopy) : Type 0 where
@@ -86,7 +85,7 @@ module _ (start : Start) (events : List Event) (parts : List Part) (message : Me
     is : copy ≡ copy_at place
 
   of_found : (copy : FoundCopy) → Contains found copy → same_identity copy.identity message.identity ≡ true
-      → IsOfSending (tag (setting_of start events copy.place) copy)
+      → IsOfSending (tag (setting_at (first_setting start) events copy.place) copy)
   unfolding copies_at
   of_found copy there named =
       let sent = h.alone copy there (same_identity-true copy.identity message.identity named) in
@@ -96,14 +95,14 @@ module _ (start : Start) (events : List Event) (parts : List Part) (message : Me
       one_of_key (λ (c : FoundCopy). c.place) found copy (found_rise (elements_among events) h.locks h.now h.stands) there in
       let same : copy ∷ [] ≡ copy_of_sending sending ∷ [] = sym this ∙ one in
       let is : copy ≡ copy_of_sending sending = cc in
-      record { place = copy.place; sent = sent; is = ap (tag (setting_of start events copy.place)) is }
+      record { place = copy.place; sent = sent; is = ap (tag (setting_at (first_setting start) events copy.place)) is }
 
   all_of_sendings : All IsOfSending (copies_of message.identity heard)
   unfolding copies_of tagged_copies tag
   all_of_sendings =
       filter_all (λ (c : TaggedCopy). same_identity c.identity message.identity) IsOfSending heard
-      (All-map (λ (c : TaggedCopy). same_identity c.identity message.identity ≡ true → IsOfSending c) (λ (copy : FoundCopy). tag (setting_of start events copy.place) copy) found
-      (All-weaker (Contains found) (λ (copy : FoundCopy). same_identity copy.identity message.identity ≡ true → IsOfSending (tag (setting_of start events copy.place) copy)) (λ copy there named. of_found copy there named) found (All-contains_itself found)))
+      (All-map (λ (c : TaggedCopy). same_identity c.identity message.identity ≡ true → IsOfSending c) (λ (copy : FoundCopy). tag (setting_at (first_setting start) events copy.place) copy) found
+      (All-weaker (Contains found) (λ (copy : FoundCopy). same_identity copy.identity message.identity ≡ true → IsOfSending (tag (setting_at (first_setting start) events copy.place) copy)) (λ copy there named. of_found copy there named) found (All-contains_itself found)))
 
   -- and there is one
   some_heard : Contains (copies_of message.identity heard) (copy_at h.place)
@@ -112,7 +111,7 @@ module _ (start : Start) (events : List Event) (parts : List Part) (message : Me
       let there : Contains found (copy_of_sending (record { message = message; place = h.place })) =
       sending_in_end (elements_among events) parts (record { message = message; place = h.place }) h.locks h.now h.cut h.sent h.stands in
       contains_filter (λ (c : TaggedCopy). same_identity c.identity message.identity) heard (copy_at h.place)
-      (contains_map (λ (copy : FoundCopy). tag (setting_of start events copy.place) copy) found (copy_of_sending (record { message = message; place = h.place })) there)
+      (contains_map (λ (copy : FoundCopy). tag (setting_at (first_setting start) events copy.place) copy) found (copy_of_sending (record { message = message; place = h.place })) there)
       (same_itself message.identity)
 
   no_errors : errors_of (text_of message.lines) ≡ 0
@@ -131,8 +130,8 @@ module _ (start : Start) (events : List Event) (parts : List Part) (message : Me
   unfolding tag
   close_of one other o p =
       let near = h.close o.place p.place o.sent p.sent in
-      let m : one.moment ≡ (setting_of start events o.place).moment = ap (λ (c : TaggedCopy). c.moment) o.is in
-      let n : other.moment ≡ (setting_of start events p.place).moment = ap (λ (c : TaggedCopy). c.moment) p.is in
+      let m : one.moment ≡ (setting_at (first_setting start) events o.place).moment = ap (λ (c : TaggedCopy). c.moment) o.is in
+      let n : other.moment ≡ (setting_at (first_setting start) events p.place).moment = ap (λ (c : TaggedCopy). c.moment) p.is in
       omega arith
 
   named_first : (first : TaggedCopy) (rest : List TaggedCopy) → copies_of message.identity heard ≡ first ∷ rest

@@ -10,7 +10,7 @@ use Rattle.nx_receiver.specs.Listen.{HasListened, IsLogOfFile, Listens, events_o
 use Rattle.nx_receiver.specs.ListenOnce.{HasPrintedOnce, IsHeardInTimeIn, KeepsHeadline}
 use Rattle.nx_receiver.specs.Log.{PrintsToEnd}
 use Rattle.nx_receiver.specs.Once.{IsPrintedOnce}
-use Rattle.nx_receiver.specs.Tagged.{TaggedCopy}
+use Rattle.nx_receiver.specs.FoundCopies.{TaggedCopy}
 use Rattle.nx_receiver.specs.declared.listening.Report.{Report}
 use Rattle.nx_receiver.proofs.once.Found.{printed_once}
 
@@ -25,11 +25,8 @@ one-entry start file log lines copies message l h =
 -- so the log that was written has one
 printed-once : (start : Start) (old new : Option (List ℕ)) (file : List ℕ) (report : Report) → HasListened start old new file report → HasPrintedOnce start old new file
 printed-once start old new file report h = record {
-  lines = h.lines;
-  copies = h.copies;
-  log = h.log;
-  logged = h.heard;
-  written = h.written;
+  report = report;
+  listened = h;
   once = λ message k. one-entry start file h.log h.lines h.copies message h.heard k;
 }
 

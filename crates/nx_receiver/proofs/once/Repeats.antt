@@ -6,11 +6,10 @@ use Rattle.std.proofs.lemmas.List.Elements.{All-head, All-nil, All-cons, All-app
 use Rattle.nx_envelope.specs.declared.identity.Identity.{Identity}
 use Rattle.nx_envelope.specs.Identity.{same_identity}
 use Rattle.nx_memory.specs.declared.entry.MemoryEntry.{MemoryEntry}
-use Rattle.nx_memory.specs.Memory.{IsLive, is_known, most_entries, seconds_known}
-use Rattle.nx_code.specs.Lists.{last_of}
+use Rattle.nx_memory.specs.Memory.{IsLive, most_entries, seconds_known}
 use Rattle.nx_envelope.proofs.Identities.{same_identity-true, same_itself}
 use Rattle.nx_memory.proofs.Known.{known_from_live, live_from_known}
-use Rattle.nx_receiver.specs.Tagged.{TaggedCopy}
+use Rattle.nx_receiver.specs.FoundCopies.{TaggedCopy}
 use Rattle.nx_receiver.specs.Printing.{is_good, is_number_00, is_remembered, is_printed, is_entered, entry_of, entry_made, entries_made, entries_after, if_printed, printed_copies, copies_of}
 use Rattle.nx_receiver.specs.LawTerms.{AreRepeats}
 use Rattle.nx_receiver.specs.Once.{IsUnknownAtFirst}

@@ -3,8 +3,9 @@ use Rattle.std.proofs.Common.{◌≡◌, ℕ, Bool, List, [], ◌∷◌, ◌++�
 use Rattle.nx_memory.specs.declared.entry.MemoryEntry.{MemoryEntry}
 use Rattle.nx_receiver.specs.Events.{Event, Command, Setting, Start, at_moment, elements_among, command, element, first_setting, setting_after, setting_after_all, settings, elements}
 use Rattle.nx_receiver.specs.Receiver.{Receiving, Stands}
-use Rattle.nx_receiver.specs.Tagged.{TaggedCopy}
-use Rattle.nx_receiver.specs.private.Watch.{Watching, WatchStands, all_in_force, in_force}
+use Rattle.nx_receiver.specs.FoundCopies.{TaggedCopy}
+use Rattle.nx_receiver.specs.private.Watch.{WatchStands, all_in_force}
+use Rattle.nx_receiver.specs.Watching.{Watching, in_force}
 use Rattle.nx_receiver.proofs.receiving.Logged.{bits_of-append, settings-append}
 
 -- elements as events

@@ -9,7 +9,7 @@ use Rattle.nx_memory.specs.declared.entry.MemoryEntry.{MemoryEntry}
 use Rattle.nx_code.specs.Lists.{last_of}
 use Rattle.nx_memory.specs.Memory.{most_entries, is_known, content_after, newest_of, newest_moment}
 use Rattle.nx_receiver.specs.Printing.{is_printed, is_entered, is_good, is_number_00, is_remembered, entry_of, entry_made}
-use Rattle.nx_receiver.specs.Tagged.{TaggedCopy}
+use Rattle.nx_receiver.specs.FoundCopies.{TaggedCopy}
 
 -- what a memory forgot makes no difference
 goes_on : (entries : List MemoryEntry) (entry : MemoryEntry) → last_of most_entries (last_of most_entries entries ++ entry ∷ []) ≡ last_of most_entries (entries ++ entry ∷ [])

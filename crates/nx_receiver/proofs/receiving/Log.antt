@@ -6,7 +6,7 @@ use Rattle.std.proofs.lemmas.List.Elements.{All-head, All-tail}
 use Rattle.nx_envelope.specs.Moment.{last_moment}
 use Rattle.nx_envelope.proofs.EveryMoment.{every_moment}
 use Rattle.nx_envelope.proofs.OneText.{one_text}
-use Rattle.nx_receiver.specs.Tagged.{TaggedCopy}
+use Rattle.nx_receiver.specs.FoundCopies.{TaggedCopy}
 use Rattle.nx_receiver.specs.Log.{IsEntry, IsLog, entry_with}
 
 -- a copy has one entry

@@ -7,11 +7,10 @@ use Rattle.nx_memory.specs.declared.entry.MemoryEntry.{MemoryEntry}
 use Rattle.nx_sync.specs.Locks.{Lock, Now, hunting, locked, IsNow, Past}
 use Rattle.nx_sync.proofs.StateChanges.{standing_after}
 use Rattle.nx_sync.proofs.UniqueStates.{locks-unique, now-unique}
-use Rattle.nx_receiver.specs.Events.{Event, at_moment, element, command, Setting, Start, setting_after, bit_in, elements_among, setting_at_bit, settings, setting_after_all, setting_at, first_setting}
+use Rattle.nx_receiver.specs.Events.{Event, at_moment, element, command, Setting, Start, setting_after, elements_among, settings, setting_after_all, setting_at, first_setting}
 use Rattle.nx_sync.specs.Words.{whole_words}
 use Rattle.nx_receiver.specs.LockText.{lock_text}
-use Rattle.nx_receiver.specs.FoundCopies.{FoundCopy, ended_in, open_in, all_in, past_text, past_copies, standing_text, ended_so_far, open_so_far, found_to_end}
-use Rattle.nx_receiver.specs.Tagged.{TaggedCopy, tag, tagged_copies}
+use Rattle.nx_receiver.specs.FoundCopies.{FoundCopy, ended_in, open_in, all_in, past_text, past_copies, standing_text, ended_so_far, open_so_far, found_to_end, TaggedCopy, tag, tagged_copies}
 use Rattle.nx_receiver.specs.Printing.{printed_copies, entries_after, entries_made, entry_made, if_printed}
 use Rattle.nx_receiver.specs.Log.{printed_of, HasPrinted, PrintsToEnd}
 use Rattle.nx_receiver.proofs.locks.Texts.{GoesOnAs}
@@ -21,13 +20,16 @@ use Rattle.nx_receiver.proofs.locks.Growing.{ended_go_on, ended_in-nil, whole_he
 pub bits_of-append : (xs ys : List Event) → elements_among (xs ++ ys) ≡ elements_among xs ++ elements_among ys
 unfolding elements_among
 bits_of-append [] ys = refl
-bits_of-append (x ∷ xs) ys = ap (λ bs. bit_in x ++ bs) (bits_of-append xs ys) ∙ sym (append_assoc (bit_in x) (elements_among xs) (elements_among ys))
+bits_of-append (at_moment n ∷ xs) ys = bits_of-append xs ys
+bits_of-append (element b ∷ xs) ys = ap (λ bs. b ∷ bs) (bits_of-append xs ys)
+bits_of-append (command c ∷ xs) ys = bits_of-append xs ys
 
 pub settings-append : (s : Setting) (xs ys : List Event) → settings s (xs ++ ys) ≡ settings s xs ++ settings (setting_after_all s xs) ys
 unfolding settings setting_after_all
 settings-append s [] ys = refl
-settings-append s (x ∷ xs) ys =
-    ap (λ ss. setting_at_bit s x ++ ss) (settings-append (setting_after s x) xs ys) ∙ sym (append_assoc (setting_at_bit s x) (settings (setting_after s x) xs) _)
+settings-append s (at_moment n ∷ xs) ys = settings-append (setting_after s (at_moment n)) xs ys
+settings-append s (element b ∷ xs) ys = ap (λ ss. s ∷ ss) (settings-append s xs ys)
+settings-append s (command c ∷ xs) ys = settings-append (setting_after s (command c)) xs ys
 
 pub length-settings : (s : Setting) (xs : List Event) → length (settings s xs) ≡ length (elements_among xs)
 unfolding settings elements_among

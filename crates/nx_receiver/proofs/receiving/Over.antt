@@ -10,10 +10,10 @@ use Rattle.nx_envelope.specs.declared.found.Found.{Found}
 use Rattle.nx_receiver.specs.declared.over.CopyTag.{CopyTag}
 use Rattle.nx_receiver.specs.declared.over.Over.TheVariants as over
 use Rattle.nx_receiver.specs.Events.{Setting}
-use Rattle.nx_receiver.specs.FoundCopies.{ended_in, ended_so_far, found_copy, past_copies, past_text}
+use Rattle.nx_receiver.specs.FoundCopies.{ended_in, ended_so_far, found_copy, past_copies, past_text, TaggedCopy}
 use Rattle.nx_receiver.specs.LockText.{bytes_of}
-use Rattle.nx_receiver.specs.Tagged.{TaggedCopy}
-use Rattle.nx_receiver.specs.private.Watch.{BothAreOver, LockIsOver, WatchStands, Watching, copies_by, handed_out, in_force}
+use Rattle.nx_receiver.specs.private.Watch.{BothAreOver, LockIsOver, WatchStands, copies_by, handed_out}
+use Rattle.nx_receiver.specs.Watching.{Watching, in_force}
 use Rattle.nx_receiver.proofs.locks.Found.{all_in-parts}
 use Rattle.nx_receiver.proofs.locks.Growing.{hunted}
 use Rattle.nx_receiver.proofs.locks.Texts.{bytes_are_reading}

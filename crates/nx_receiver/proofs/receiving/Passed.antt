@@ -8,9 +8,11 @@ use Rattle.nx_envelope.specs.declared.identity.Identity.{Identity}
 use Rattle.nx_receiver.specs.declared.over.Over.TheVariants as over
 use Rattle.nx_receiver.specs.Events.{Setting, Start, first_setting}
 use Rattle.nx_receiver.specs.Printing.{entries_after, is_printed, printed_copies}
-use Rattle.nx_receiver.specs.Receiver.{AwaitsOver, Receiving}
-use Rattle.nx_receiver.specs.Tagged.{TaggedCopy}
-use Rattle.nx_receiver.specs.private.Watch.{LockIsOver, Watching, WatchStands, in_force, ready_copy}
+use Rattle.nx_receiver.specs.Receiver.{Receiving}
+use Rattle.nx_receiver.specs.private.Awaiting.{AwaitsOver}
+use Rattle.nx_receiver.specs.FoundCopies.{TaggedCopy}
+use Rattle.nx_receiver.specs.private.Watch.{LockIsOver, WatchStands, ready_copy}
+use Rattle.nx_receiver.specs.Watching.{Watching, in_force}
 use Rattle.nx_receiver.proofs.receiving.Logged.{printed_copies-append, entries_after-append}
 use Rattle.nx_receiver.proofs.receiving.Printing.{not_entered, not_printed, printed_by}
 

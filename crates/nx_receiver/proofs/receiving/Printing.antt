@@ -9,12 +9,12 @@ use Rattle.nx_envelope.specs.declared.found.Found.{Found}
 use Rattle.nx_envelope.specs.declared.identity.Identity.{Identity}
 use Rattle.nx_receiver.specs.declared.over.CopyTag.{CopyTag}
 use Rattle.nx_receiver.specs.Events.{Event, Setting, Start, elements_among, first_setting, setting_after_all, settings}
-use Rattle.nx_receiver.specs.FoundCopies.{FoundCopy}
+use Rattle.nx_receiver.specs.FoundCopies.{FoundCopy, TaggedCopy, tagged_copies, tagged_found}
 use Rattle.nx_receiver.specs.Log.{HasPrinted, PrintsToEnd}
 use Rattle.nx_receiver.specs.Printing.{entries_after, entries_made, entry_made, entry_of, if_printed, is_entered, is_good, is_number_00, is_printed, printed_copies}
 use Rattle.nx_receiver.specs.Receiver.{Stands, StandsOver}
-use Rattle.nx_receiver.specs.Tagged.{TaggedCopy, tagged_copies, tagged_found}
-use Rattle.nx_receiver.specs.private.Watch.{HasEnded, HasEndedAll, WatchStands, Watching, copies_by, handed_out, in_force}
+use Rattle.nx_receiver.specs.private.Watch.{HasEnded, HasEndedAll, WatchStands, copies_by, handed_out}
+use Rattle.nx_receiver.specs.Watching.{Watching, in_force}
 use Rattle.nx_receiver.proofs.receiving.Logged.{printed_copies-append, entries_after-append}
 
 -- where no copy was handed out, none is printed, and none entered

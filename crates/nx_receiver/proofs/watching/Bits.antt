@@ -17,10 +17,10 @@ use Rattle.nx_code.specs.declared.shifts.Shift.TheVariants.{Letters}
 use Rattle.nx_envelope.specs.Finder as finders
 use Rattle.nx_receiver.specs.declared.over.CopyTag.{CopyTag}
 use Rattle.nx_receiver.specs.Events.{Setting}
-use Rattle.nx_receiver.specs.FoundCopies.{FoundCopy, ended_in, past_copies, standing_text, ended_so_far}
-use Rattle.nx_receiver.specs.private.LockReader.{LockReading, ReadsLock, dx_words}
+use Rattle.nx_receiver.specs.FoundCopies.{FoundCopy, ended_in, past_copies, standing_text, ended_so_far, TaggedCopy, tag}
+use Rattle.nx_receiver.specs.private.LockReader.{ReadsLock, dx_words}
+use Rattle.nx_receiver.specs.Watching.{LockReading}
 use Rattle.nx_receiver.specs.LockText.{PlacedByte, lock_text, text_by}
-use Rattle.nx_receiver.specs.Tagged.{TaggedCopy, tag}
 use Rattle.nx_receiver.specs.private.Watch.{HasTag, ReadsNow, ReadsOver, copies_by, setting_in}
 use Rattle.nx_receiver.proofs.locks.Found.{IsByteIn, IsCopyIn, text_placed}
 use Rattle.nx_receiver.proofs.locks.Growing.{past_copies-more, whole_heard}

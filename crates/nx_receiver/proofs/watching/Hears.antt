@@ -11,10 +11,9 @@ use Rattle.nx_receiver.specs.declared.over.CopyTag.{CopyTag}
 use Rattle.nx_receiver.specs.declared.over.Over.{Over}
 use Rattle.nx_receiver.specs.declared.over.Over.TheVariants as over
 use Rattle.nx_receiver.specs.Events.{Setting}
-use Rattle.nx_receiver.specs.private.LockReader.{LockReading}
-use Rattle.nx_receiver.specs.Tagged.{TaggedCopy}
-use Rattle.nx_receiver.specs.private.Watch.{Watching, HasEnded, HearsBits, IsOver, ReadsOver, ReadsStep, TagGoesOn, as_it_was, now_in_force, IsFresh, WatchStands, all_in_force, copies_by, in_force}
-use Rattle.nx_receiver.specs.FoundCopies.{past_copies}
+use Rattle.nx_receiver.specs.Watching.{LockReading, Watching, in_force}
+use Rattle.nx_receiver.specs.FoundCopies.{TaggedCopy, past_copies}
+use Rattle.nx_receiver.specs.private.Watch.{HasEnded, HearsBits, IsOver, ReadsOver, ReadsStep, TagGoesOn, as_it_was, now_in_force, IsFresh, WatchStands, all_in_force, copies_by}
 use Rattle.nx_receiver.proofs.locks.Growing.{hunted}
 use Rattle.nx_receiver.proofs.watching.Takes.{tag-hunting}
 use Rattle.nx_receiver.proofs.watching.Bits.{quiet_bit}

@@ -5,7 +5,8 @@ use Rattle.std.specs.Array.{IsFirstChunk}
 use Rattle.std.proofs.lemmas.List.{drop_more, take_all}
 use Rattle.nx_receiver.specs.declared.over.Over.{Over}
 use Rattle.nx_receiver.specs.declared.over.Over.TheVariants as over
-use Rattle.nx_receiver.specs.private.Watch.{Watching, HearsBits, HearsAll, TagGoesOn, as_it_was, in_force}
+use Rattle.nx_receiver.specs.private.Watch.{HearsBits, HearsAll, TagGoesOn, as_it_was}
+use Rattle.nx_receiver.specs.Watching.{Watching, in_force}
 use Rattle.nx_sync.specs.Steps.{HuntsThrough}
 use Rattle.nx_sync.specs.Synchroniser.{Held, StandsAfter}
 use Rattle.nx_receiver.proofs.watching.Hears.{hears_on, hunt_heard, none_heard, tag_on}

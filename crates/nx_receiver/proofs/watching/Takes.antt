@@ -14,11 +14,11 @@ use Rattle.nx_envelope.specs.declared.found.Found.{Found}
 use Rattle.nx_envelope.proofs.OneOpenCopy.{open_headers-nil}
 use Rattle.nx_receiver.specs.declared.over.CopyTag.{CopyTag}
 use Rattle.nx_receiver.specs.Events.{Setting}
-use Rattle.nx_receiver.specs.FoundCopies.{ended_in, open_in, past_copies, past_text, standing_text, ended_so_far, open_so_far, found_copy, place_of_header}
-use Rattle.nx_receiver.specs.private.LockReader.{LockReading, ReadsLock, text_after}
+use Rattle.nx_receiver.specs.FoundCopies.{ended_in, open_in, past_copies, past_text, standing_text, ended_so_far, open_so_far, found_copy, TaggedCopy, tag}
+use Rattle.nx_receiver.specs.private.LockReader.{ReadsLock, text_after}
+use Rattle.nx_receiver.specs.Watching.{LockReading, Watching}
 use Rattle.nx_receiver.specs.LockText.{PlacedByte, bytes_of, text_by}
-use Rattle.nx_receiver.specs.Tagged.{TaggedCopy, tag}
-use Rattle.nx_receiver.specs.private.Watch.{Watching, BothAreOver, CopyIsOver, HasEndedAll, HasTag, IsFresh, LockIsOver, ReadsNow, WatchStands, copies_by, handed_out, ready_copy, setting_in, tag_of}
+use Rattle.nx_receiver.specs.private.Watch.{BothAreOver, CopyIsOver, HasEndedAll, HasTag, IsFresh, LockIsOver, ReadsNow, WatchStands, copies_by, handed_out, ready_copy, setting_in, tag_of, place_of_header}
 use Rattle.nx_receiver.proofs.locks.Found.{all_in-parts}
 use Rattle.nx_receiver.proofs.locks.Growing.{hunted}
 use Rattle.nx_receiver.proofs.locks.Texts.{bytes_are_reading}

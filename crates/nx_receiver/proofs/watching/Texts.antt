@@ -13,11 +13,11 @@ use Rattle.nx_envelope.specs.declared.found.TextEvent.{TextEvent}
 use Rattle.nx_envelope.specs.declared.found.TextEvent.TheVariants as events
 use Rattle.nx_receiver.specs.declared.over.CopyTag.{CopyTag}
 use Rattle.nx_receiver.specs.Events.{Setting}
-use Rattle.nx_receiver.specs.FoundCopies.{FoundCopy, place_in, place_of_header, found_copy, ended_in}
-use Rattle.nx_receiver.specs.private.LockReader.{HearsWord, text_after}
-use Rattle.nx_receiver.specs.LockText.{PlacedByte, word_place, printed_by, text_by, bytes_of}
-use Rattle.nx_receiver.specs.Tagged.{TaggedCopy, tag}
-use Rattle.nx_receiver.specs.private.Watch.{Watching, HasTag, copies_by, in_force, ready_copy, setting_in, tag_after, tag_of}
+use Rattle.nx_receiver.specs.FoundCopies.{FoundCopy, place_in, found_copy, ended_in, TaggedCopy, tag}
+use Rattle.nx_receiver.specs.private.LockReader.{HearsWord, text_after, word_place}
+use Rattle.nx_receiver.specs.LockText.{PlacedByte, printed_by, text_by, bytes_of}
+use Rattle.nx_receiver.specs.private.Watch.{HasTag, copies_by, ready_copy, setting_in, tag_after, tag_of, place_of_header}
+use Rattle.nx_receiver.specs.Watching.{Watching, in_force}
 use Rattle.nx_receiver.proofs.locks.Texts.{bytes_are_reading, bytes_of-append, bytes-placed}
 use Rattle.nx_receiver.proofs.locks.Found.{IsByteIn, IsHeaderIn, ended_headers_in, found-same, header_placed, length-bytes_of, open_headers_in, place_in-append, place_in-get_or}
 

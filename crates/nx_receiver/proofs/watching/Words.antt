@@ -14,11 +14,11 @@ use Rattle.nx_envelope.specs.Finder.{is_over}
 use Rattle.nx_receiver.specs.declared.over.CopyTag.{CopyTag}
 use Rattle.nx_receiver.specs.declared.over.Over.{Over}
 use Rattle.nx_receiver.specs.Events.{Setting}
-use Rattle.nx_receiver.specs.FoundCopies.{FoundCopy, ended_in, past_copies, standing_text, ended_so_far}
-use Rattle.nx_receiver.specs.private.LockReader.{ReadsLock}
-use Rattle.nx_receiver.specs.LockText.{PlacedByte, lock_text, word_place}
-use Rattle.nx_receiver.specs.Tagged.{TaggedCopy}
-use Rattle.nx_receiver.specs.private.Watch.{Watching, HasTag, IsOver, LockIsOver, ReadsNow, ReadsOver, ReadsWord, WatchStands, copies_by, in_force, over_with, tag_after}
+use Rattle.nx_receiver.specs.FoundCopies.{FoundCopy, ended_in, past_copies, standing_text, ended_so_far, TaggedCopy}
+use Rattle.nx_receiver.specs.private.LockReader.{ReadsLock, word_place}
+use Rattle.nx_receiver.specs.LockText.{PlacedByte, lock_text}
+use Rattle.nx_receiver.specs.private.Watch.{HasTag, IsOver, LockIsOver, ReadsNow, ReadsOver, ReadsWord, WatchStands, copies_by, over_with, tag_after}
+use Rattle.nx_receiver.specs.Watching.{Watching, in_force}
 use Rattle.nx_receiver.proofs.locks.Found.{text_placed}
 use Rattle.nx_receiver.proofs.locks.Growing.{past_copies-more}
 use Rattle.nx_receiver.proofs.locks.Texts.{lock_text-more}

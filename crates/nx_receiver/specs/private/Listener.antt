@@ -1,18 +1,22 @@
 -- How the taker of lines behind a run that listens stands after lines (this profile).
-use Rattle.std.specs.Prelude.{◌≡◌, ℕ, ◌+◌, ◌-◌, ◌^◌, ◌≤◌, Bool, List, ◌++◌, length, min, Option}
+use Rattle.std.specs.Prelude.{◌≡◌, ℕ, ◌+◌, ◌-◌, ◌^◌, ◌≤◌, Bool, false, List, ◌++◌, length, min, Option, IsTrue}
 use Rattle.std.specs.Io.KnownBytes.{Appends}
-use Rattle.nx_fec.specs.AirFile.{Line}
+use Rattle.nx_envelope.specs.declared.letter.Letter.{Letter}
+use Rattle.nx_fec.specs.AirFile.{Line, moment, elements, refuse_subject}
 use Rattle.nx_fec.specs.Transfers.{WroteSome}
 use Rattle.nx_fec.specs.declared.fault.LineFault.TheVariants as file
 use Rattle.nx_fec.specs.declared.line_run.LinesFault.{LinesFault}
 use Rattle.nx_fec.specs.declared.line_run.LinesFault.TheVariants as run
 use Rattle.nx_memory.specs.Ring.{RingMemory}
-use Rattle.nx_receiver.specs.Events.{Event, Start, elements_among}
-use Rattle.nx_receiver.specs.Listen.{AreTaken, LacksMoment, RefusesMoment, RefusesVital, events_of, has_moment}
+use Rattle.nx_memory.specs.Selection.{is_vital}
+use Rattle.nx_receiver.specs.Events.{Event, Start, elements_among, Refuses}
+use Rattle.nx_receiver.specs.Listen.{AreTaken, events_of, has_moment, in_force_after}
 use Rattle.nx_receiver.specs.Log.{HasPrinted, IsLog, PrintsToEnd}
-use Rattle.nx_receiver.specs.Receiver.{Awaits, Receiving, Stands, entry_list}
-use Rattle.nx_receiver.specs.Tagged.{TaggedCopy}
+use Rattle.nx_receiver.specs.Receiver.{Receiving, Stands, entry_list}
+use Rattle.nx_receiver.specs.private.Awaiting.{Awaits}
+use Rattle.nx_receiver.specs.FoundCopies.{TaggedCopy}
 use Rattle.nx_receiver.specs.declared.entry.Entry.{Entry}
+use Rattle.nx_receiver.specs.declared.fault.MomentFault.{MomentFault}
 use Rattle.nx_receiver.specs.declared.listening.Report.{Report}
 use Rattle.nx_receiver.specs.declared.listening.LineRefusal.{LineRefusal}
 use Rattle.nx_receiver.specs.declared.listening.LineRefusal.TheVariants.{NoMoment, Moment, Vital}
@@ -107,6 +111,22 @@ pub record IsListening (start : Start) (listener : Listening) (lines : List Line
 pub record BeginsListening (start : Start) (lines : List Line) (given : List ℕ) : Type 0 where
   pub taken : AreTaken start lines
   pub begun : BeginsLog start (events_of lines) given
+
+-- why elements are not taken after these lines: there was no moment yet
+abbrev pub LacksMoment : List Line → Line → Type 0
+LacksMoment lines (elements bits) = has_moment lines ≡ false
+LacksMoment lines _ = ⊥
+
+-- why a moment is not taken after these lines
+abbrev pub RefusesMoment : Start → MomentFault → List Line → Line → Type 0
+RefusesMoment start why lines (moment n) = Refuses (in_force_after start lines).moment n why
+RefusesMoment start why lines _ = ⊥
+
+-- why the refusal of this subject is not taken: it is vital
+abbrev pub RefusesVital : Letter → List Line → Line → Type 0
+RefusesVital subject lines (refuse_subject letter) =
+    IsTrue (is_vital letter) × (subject.byte ≡ letter)
+RefusesVital subject lines _ = ⊥
 
 -- why a line is not taken after these
 abbrev pub RefusesLine : Start → List Line → Line → LineRefusal → Type 0

@@ -4,13 +4,12 @@ use Rattle.std.proofs.Common.{◌∙◌, ap, sym, append-nil}
 use Rattle.nx_fec.specs.AirFile.{Line}
 use Rattle.nx_memory.specs.declared.entry.MemoryEntry.{MemoryEntry}
 use Rattle.nx_receiver.specs.Events.{Event, Setting, Start, first_setting, settings}
-use Rattle.nx_receiver.specs.FoundCopies.{FoundCopy}
+use Rattle.nx_receiver.specs.FoundCopies.{FoundCopy, TaggedCopy, tagged_copies}
 use Rattle.nx_receiver.specs.Listen.{events_of}
 use Rattle.nx_receiver.specs.private.Listener.{BeginsListening, BeginsLog, HearsLog, IsListening, Listening}
 use Rattle.nx_receiver.specs.Log.{HasPrinted}
 use Rattle.nx_receiver.specs.Printing.{printed_copies}
 use Rattle.nx_receiver.specs.Receiver.{Receiving, Stands}
-use Rattle.nx_receiver.specs.Tagged.{TaggedCopy, tagged_copies}
 use Rattle.nx_receiver.specs.private.Watch.{copies_by}
 
 tagged-by : (first : Setting) (events : List Event) (copies : List FoundCopy)

@@ -2,26 +2,18 @@
 -- stands (ITU-R M.625, mode B, and M.476 for what is printed; that each lock has a text of its own,
 -- from letters, is this profile's). `first` is the role of word 0 of the lock, and `words` gives
 -- each word's number.
-use Rattle.std.specs.Prelude.{◌≡◌, ◌⊎◌, ℕ, zero, suc, if◌then◌else◌, List, [], ◌∷◌, ◌++◌}
+use Rattle.std.specs.Prelude.{◌≡◌, ◌⊎◌, ℕ, ◌+◌, ◌*◌, zero, suc, if◌then◌else◌, List, [], ◌∷◌, ◌++◌}
 use Rattle.nx_code.specs.Reading.{shift_after_all, text}
-use Rattle.nx_code.specs.declared.printing.Printer.{Printer}
 use Rattle.nx_code.specs.declared.shifts.Shift.TheVariants.{Letters}
 use Rattle.nx_fec.specs.Pairing.{Counted, IsLatest, counts_as}
-use Rattle.nx_fec.specs.declared.diversity.Diversity.{Diversity}
 use Rattle.nx_sync.specs.Words.{role_of, is_dx}
 use Rattle.nx_sync.specs.declared.step.Role.{Role}
 use Rattle.nx_envelope.specs.Finder.{Hears, StandsAfter}
 use Rattle.nx_envelope.specs.declared.finder.Finder.{Finder}
 use Rattle.nx_envelope.specs.declared.found.TextEvent.{TextEvent}
 use Rattle.nx_envelope.specs.declared.found.TextEvent.TheVariants.{Nothing}
+use Rattle.nx_receiver.specs.Watching.{LockReading}
 use Rattle.nx_receiver.specs.LockText.{positions}
-
--- what contracts see of a reader: what arrived of the latest three DX words, the shift in force,
--- and the finder of the copies in the text
-pub record LockReading : Type 0 where
-  pub diversity : Diversity
-  pub printer : Printer
-  pub finder : Finder
 
 -- what the DX words among the first n words count as, oldest first
 unfoldable pub dx_words : Role → (ℕ → ℕ) → ℕ → List Counted
@@ -32,6 +24,10 @@ dx_words first words (suc n) =
 -- the text that the first n words print
 abbrev pub text_after : Role → (ℕ → ℕ) → ℕ → List ℕ
 text_after first words n = text (positions first words n) Letters
+
+-- the place of word k of the lock at t: the index of its last bit
+abbrev pub word_place : ℕ → ℕ → ℕ
+word_place t k = t + 7 * k + 6
 
 -- The reader stands after the first n words of a lock: it has the latest three DX words among them,
 -- the shift that their positions leave, and the copies of their text.

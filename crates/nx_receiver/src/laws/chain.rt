@@ -14,14 +14,13 @@ ghost use Rattle.nx_receiver.specs.Chain.{AgreeInLast, GoesOn, HasGoneOn, IsChai
 ghost use Rattle.nx_receiver.specs.ChainExample.{example_runs, saved_after};
 ghost use Rattle.nx_receiver.specs.ChainOnce.{IsHeardInTimeOver};
 ghost use Rattle.nx_receiver.specs.Events.{Event, Start, elements_among, first_setting, setting_after_all};
-ghost use Rattle.nx_receiver.specs.FoundCopies.{ended_so_far};
+ghost use Rattle.nx_receiver.specs.FoundCopies.{ended_so_far, TaggedCopy, tagged_copies};
 ghost use Rattle.nx_receiver.specs.Once.{IsUnknownAtFirst, IsPrintedOnce};
 ghost use Rattle.nx_receiver.specs.Listen.{HasListened, IsLogOfFile, events_of};
 ghost use Rattle.nx_receiver.specs.Log.{IsLog};
 ghost use Rattle.nx_receiver.specs.Printing.{entries_after, entries_made, printed_copies};
 ghost use Rattle.nx_receiver.specs.Receiver.{Receiving, Stands};
-ghost use Rattle.nx_receiver.specs.Tagged.{TaggedCopy, tagged_copies};
-ghost use Rattle.nx_receiver.specs.private.Watch.{in_force};
+ghost use Rattle.nx_receiver.specs.Watching.{in_force};
 ghost use Rattle.nx_receiver.specs.Worked.{worked_log};
 ghost use Rattle.nx_receiver.specs.declared.listening.Report.{Report};
 

@@ -11,7 +11,7 @@ ghost use Rattle.nx_receiver.specs.Listen.{AreTaken, HasListenFault, HasLogged, 
 ghost use Rattle.nx_receiver.specs.ListenExample.{example_air_file};
 ghost use Rattle.nx_receiver.specs.ListenOnce.{IsHeardInTimeIn};
 ghost use Rattle.nx_receiver.specs.Once.{IsPrintedOnce};
-ghost use Rattle.nx_receiver.specs.Tagged.{TaggedCopy};
+ghost use Rattle.nx_receiver.specs.FoundCopies.{TaggedCopy};
 ghost use Rattle.nx_receiver.specs.Worked.{worked_log};
 ghost use Rattle.nx_receiver.specs.declared.listen_fault.ListenFault.{ListenFault};
 

@@ -12,11 +12,10 @@ ghost use Rattle.nx_station.specs.ChannelExample.{example_message, example_parts
 ghost use Rattle.nx_station.specs.Sendings.{IsCut, IsReceived, IsSending, Part, ReceivedEmission, Sending};
 ghost use Rattle.nx_sync.specs.Locks.{IsNow, Lock, Now};
 ghost use Rattle.nx_receiver.specs.Events.{Event, Start};
-ghost use Rattle.nx_receiver.specs.FoundCopies.{ended_so_far, found_to_end};
+ghost use Rattle.nx_receiver.specs.FoundCopies.{ended_so_far, found_to_end, TaggedCopy};
 ghost use Rattle.nx_receiver.specs.Log.{PrintsToEnd};
 ghost use Rattle.nx_receiver.specs.Once.{IsHeardInTime, IsPrintedOnce};
 ghost use Rattle.nx_receiver.specs.Emissions.{HoldsThrough, IsHeaderOf, copies_at, copy_of_sending};
-ghost use Rattle.nx_receiver.specs.Tagged.{TaggedCopy};
 ghost use Rattle.nx_receiver.specs.Worked.{at_its_slot, damaged_words, heard_elements};
 
 /// Under the channel a lock holds: whatever bits came before, the lock that the last 48 phasing

@@ -14,7 +14,7 @@ ghost use Rattle.nx_receiver.specs.ListenOnce.{IsHeardInTimeIn};
 ghost use Rattle.nx_receiver.specs.Once.{IsHeardInTime, IsPrintedOnce};
 ghost use Rattle.nx_receiver.specs.Printing.{printed_copies};
 ghost use Rattle.nx_receiver.specs.FromSend.{AreDifferent, BearsAlone, copy_as_sent, events_as_sent, parts_as_sent};
-ghost use Rattle.nx_receiver.specs.Tagged.{TaggedCopy};
+ghost use Rattle.nx_receiver.specs.FoundCopies.{TaggedCopy};
 
 /// An emission that is heard as it is sent: each of its messages that isn't numbered 00, and that
 /// alone bears its identity, is heard in time, at whatever moment.

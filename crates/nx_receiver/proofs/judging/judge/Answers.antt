@@ -1,7 +1,7 @@
 use Rattle.std.proofs.Common.{◌≡◌, ◌==◌, not, ◌&&◌, sym, ap, ◌∙◌, arith}
 use Rattle.std.proofs.lemmas.Bool.{eqb-false}
-use Rattle.nx_receiver.specs.Printing.{is_good_text}
-use Rattle.nx_receiver.specs.Tagged.{tagged_found}
+use Rattle.nx_receiver.specs.private.Watch.{is_good_text}
+use Rattle.nx_receiver.specs.FoundCopies.{tagged_found}
 use Rattle.nx_receiver.proofs.receiving.Judging.{printed_as, made_true, made_false, can_enter, content_stays, content_grows, newest_is_last}
 use Rattle.nx_receiver.proofs.judging.judge.Goals as goal
 

@@ -4,7 +4,7 @@ use Rattle.nx_memory.specs.declared.entry.MemoryEntry.{MemoryEntry}
 use Rattle.nx_receiver.specs.Events.{Event, Start, element, elements}
 use Rattle.nx_receiver.specs.Log.{HasPrinted}
 use Rattle.nx_receiver.specs.Receiver.{Receiving, Stands, events_of_pieces, elements_of_pieces}
-use Rattle.nx_receiver.specs.Tagged.{TaggedCopy}
+use Rattle.nx_receiver.specs.FoundCopies.{TaggedCopy}
 use Rattle.nx_receiver.proofs.receiving.Logged.{one_printed}
 use Rattle.nx_receiver.proofs.receiving.Printing.{has_printed}
 use Rattle.nx_receiver.proofs.watching.Hears.{has_ended}

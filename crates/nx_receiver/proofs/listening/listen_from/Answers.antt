@@ -1,4 +1,4 @@
-use Rattle.std.proofs.Common.{Ok, Err, [], refl, subst, sym, ap, ◌∙◌}
+use Rattle.std.proofs.Common.{Ok, Err, [], refl, subst, sym, ◌∙◌}
 use Rattle.nx_fec.specs.Transfers.{devices}
 use Rattle.nx_fec.proofs.TransferLaws.{Ok-not_err, Writes-sound}
 use Rattle.nx_receiver.specs.Chain.{start_from}
@@ -40,7 +40,7 @@ returns-in_err-report-clause-listens g c =
     (subst (Listens (start_of first) d) (sym (err-is c.from_residual-in_err-report.result _ c.from_residual-in_err-report.ensures.0 c.from_residual-in_err-report.ensures.1))
     (listens-part g.R.Read.remaining contents first c.run_lines.new.taker c.args.reader.now c.run_lines.new.reader c.args.writer.now c.run_lines.new.writer c.close.new.writer
     c.in-Ok.read c.in_err-report.field-0.0.written (c.in-Ok.ensures first begun)
-    (λ lines given h w. c.in_err-report.ensures.closed _ (contents c.args.writer.now.inner) (events_of lines) given h.hears w) (c.in_err-report.ensures.failed.0 refl)))
+    (λ lines given h w. c.in_err-report.ensures.closed _ (contents c.args.writer.now.inner) (events_of lines) given h.hears w) (c.in_err-report.ensures.counts.failed.0 refl)))
 
 pub returns-clause-listens : goal.returns-clause-listens
 returns-clause-listens g c =
@@ -51,7 +51,7 @@ returns-clause-listens g c =
     subst (λ (start : Start). Listens start d (Ok c.in_ok-report.report)) c.in_ok-listener.ensures.start
     (listens-ok g.R.Read.remaining contents first c.run_lines.new.taker c.args.reader.now c.run_lines.new.reader c.args.writer.now c.run_lines.new.writer c.close.new.writer
     c.in-Ok.read c.in_ok-report.report (c.in-Ok.ensures first begun)
-    (λ lines given h w. c.in_ok-report.ensures.closed _ (contents c.args.writer.now.inner) (events_of lines) given h.hears w) c.in_ok-report.ensures.lines c.in_ok-report.ensures.none)
+    (λ lines given h w. c.in_ok-report.ensures.closed _ (contents c.args.writer.now.inner) (events_of lines) given h.hears w) c.in_ok-report.ensures.lines c.in_ok-report.ensures.counts.none)
 
 pub returns-clause-left : goal.returns-clause-left
 returns-clause-left g c =

@@ -1,6 +1,6 @@
 use Rattle.std.proofs.Common.{◌≡◌, ◌∷◌, ◌++◌, [], ℕ, true, false, List, sym, ap, ◌∙◌, append_assoc, append-nil, refl}
 use Rattle.nx_receiver.specs.Log.{entry_with, entry_head, missing_newline, is_of_lines}
-use Rattle.nx_receiver.specs.Tagged.{copy_of}
+use Rattle.nx_receiver.specs.FoundCopies.{copy_of}
 use Rattle.nx_receiver.proofs.writing.entry_bytes.Goals as goal
 use Rattle.nx_receiver.proofs.writing.entry_bytes.Goals.{then-not-is_of_lines, else-not-is_of_lines}
 

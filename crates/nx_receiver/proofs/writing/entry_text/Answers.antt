@@ -1,6 +1,6 @@
 use Rattle.std.proofs.Common.{Result, Ok, Err, OnOk, IfErr, MatchResult, subst, sym}
 use Rattle.nx_receiver.specs.Log.{IsEntry}
-use Rattle.nx_receiver.specs.Tagged.{copy_of}
+use Rattle.nx_receiver.specs.FoundCopies.{copy_of}
 use Rattle.nx_receiver.proofs.writing.entry_text.Goals as goal
 
 both_ways : {A E : Type 0} (r : Result A E) (P : Type 0) (Q : E → Type 0) → OnOk r P → IfErr r Q → MatchResult r (λ _. P) Q

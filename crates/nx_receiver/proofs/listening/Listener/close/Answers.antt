@@ -1,6 +1,6 @@
 use Rattle.std.proofs.Common.{refl, sym, subst}
 use Rattle.nx_receiver.specs.Log.{IsEntry}
-use Rattle.nx_receiver.specs.Tagged.{copy_of}
+use Rattle.nx_receiver.specs.FoundCopies.{copy_of}
 use Rattle.nx_receiver.proofs.listens.Ends.{closed-none, closed-part, closed-some}
 use Rattle.nx_receiver.proofs.listens.Listener.{none-left}
 use Rattle.nx_receiver.proofs.listening.Listener.close.Goals as goal

@@ -2,7 +2,7 @@ use Rattle.std.proofs.Common.{◌++◌, [], None, Some, refl, sym, subst, append
 use Rattle.nx_fec.specs.LineRuns.{HasGiven}
 use Rattle.nx_receiver.specs.Log.{IsEntry}
 use Rattle.nx_receiver.specs.Receiver.{Stands, entry_list}
-use Rattle.nx_receiver.specs.Tagged.{copy_of}
+use Rattle.nx_receiver.specs.FoundCopies.{copy_of}
 use Rattle.nx_receiver.proofs.listens.Listener.{content, no-log, none-left, one-log}
 use Rattle.nx_receiver.proofs.listening.Listener.finish.Goals as goal
 

@@ -9,7 +9,7 @@ pub loop-at-preserved : goal.loop-at-preserved
 loop-at-preserved g c =
     let bits = c.args.bits.now in
     record {
-      none = c.in-Ok.ensures.none;
+      none = c.in-Ok.ensures.counts.none;
       within = omega (arith, c.in-Ok.ensures.within.1, rest-length bits c.loop-at.at);
       moment = c.hear.ensures.moment ∙ c.loop-at.invariant.moment;
       heard = λ start old events h.

@@ -1,7 +1,8 @@
 use Rattle.std.proofs.Common.{◌≡◌, ◌++◌, sym, refl, subst, ap, ◌∙◌, None, IsNone}
 use Rattle.nx_receiver.specs.Events.{elements_among, first_setting, setting_after_all, settings}
 use Rattle.nx_receiver.specs.Receiver.{entry_list}
-use Rattle.nx_receiver.specs.private.Watch.{IsOver, WatchStands, handed_out, in_force}
+use Rattle.nx_receiver.specs.private.Watch.{IsOver, WatchStands, handed_out}
+use Rattle.nx_receiver.specs.Watching.{in_force}
 use Rattle.nx_receiver.proofs.receiving.Over.{Handed, apart-nothing, apart-nothing-lock, apart-nothing-both, both_ended, handed, none_handed}
 use Rattle.nx_receiver.proofs.receiving.Printing.{stands_with}
 use Rattle.nx_receiver.proofs.receiver.Receiver.finish.Goals as goal

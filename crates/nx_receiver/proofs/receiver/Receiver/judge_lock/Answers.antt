@@ -1,7 +1,7 @@
 use Rattle.std.proofs.Common.{sym, subst, ◌≡◌, ◌∙◌, None}
 use Rattle.nx_envelope.specs.Finder.{held_identity}
 use Rattle.nx_receiver.specs.Events.{first_setting}
-use Rattle.nx_receiver.specs.Receiver.{AwaitsOver}
+use Rattle.nx_receiver.specs.private.Awaiting.{AwaitsOver}
 use Rattle.nx_receiver.specs.declared.over.Over.TheVariants.{Lock}
 use Rattle.nx_receiver.proofs.receiving.Feeds.{is_none}
 use Rattle.nx_receiver.proofs.receiving.Passed.{lock_passed}

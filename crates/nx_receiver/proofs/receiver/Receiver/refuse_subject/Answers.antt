@@ -5,6 +5,8 @@ use Rattle.nx_receiver.proofs.receiving.Events.{stands_after, a_command}
 use Rattle.nx_receiver.proofs.receiver.Receiver.refuse_subject.Goals as goal
 
 pub returns-clause-stands : goal.returns-clause-stands
-returns-clause-stands g c start history log stands =
-    let before = subst (λ r. Stands g.M.Recall.content start r history log) (sym c.self.view_is) stands in
-    on_ok_weaker c.refuse_subject.result (λ change. stands_after _ _ _ _ a_command change start history log before) c.refuse_subject.ensures.refused
+returns-clause-stands g c =
+    on_ok_weaker c.refuse_subject.result
+    (λ change start history log stands. stands_after _ _ _ _ a_command change start history log
+    (subst (λ r. Stands g.M.Recall.content start r history log) (sym c.self.view_is) stands))
+    c.refuse_subject.ensures.refused

@@ -1,5 +1,6 @@
 use Rattle.std.proofs.Common.{◌+◌, ◌<◌, [], ◌∷◌, false, get_or, take, length, arith, subst}
-use Rattle.nx_receiver.specs.private.Watch.{HearsAll, Watching}
+use Rattle.nx_receiver.specs.private.Watch.{HearsAll}
+use Rattle.nx_receiver.specs.Watching.{Watching}
 use Rattle.nx_receiver.specs.declared.over.Over.TheVariants.{Nothing}
 use Rattle.nx_receiver.proofs.watching.Loops.{goes_to, hunt_goes, one_is}
 use Rattle.nx_receiver.proofs.watch.Watch.hunt.Goals as goal
