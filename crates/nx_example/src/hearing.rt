@@ -1,0 +1,39 @@
+//! Elements into a receiver, and entries out of it.
+
+ghost use Rattle.std.specs.Prelude.{◌≡◌, OnOk};
+
+use nx_fec::{Counting, WriteFault};
+use nx_memory::Recall;
+use nx_receiver::{Receiver, entry_text};
+use std::alloc::{AllocError, Global};
+use std::io::Write;
+
+/// The elements that these digits name, true for B: of `1` it is B, of any other byte Y.
+pub fn elements_of(alloc: Global, digits: &[u8]) -> Result<Vec<bool>, AllocError> {
+    let mut bits = Vec::with_capacity(alloc, digits.len())?;
+    for digit in digits {
+        bits.push(*digit == b'1')?;
+    }
+    Ok(bits)
+}
+
+/// Has a receiver hear elements, all of them, and writes the entry of each copy that is printed as
+/// soon as its last element was heard.
+pub fn hear<M: Recall, W: Write>(
+    receiver: &mut Receiver<M>,
+    bits: &[bool],
+    log: &mut Counting<W>,
+) -> Result<(), WriteFault>
+    requires { log.old.failures ≡ 0 }
+    ensures unfailed { OnOk result (log.new.failures ≡ 0) }
+{
+    let mut at = 0;
+    while at < bits.len() {
+        let (count, entry) = receiver.feed(&bits[at..]);
+        at += count;
+        if let Some(entry) = entry {
+            entry_text(&entry, log)?;
+        }
+    }
+    Ok(())
+}
