@@ -12,7 +12,7 @@ use Rattle.clap.specs.ValueTests.{accepts}
 use Rattle.clap.specs.declared.builder.value_parser.ValueParser.{ValueParser}
 use Rattle.clap.specs.declared.builder.value_parser.ValueParser.TheVariants as parser
 use Rattle.clap.proofs.ValueTestLemmas.{Accepts-accepts, accepts-Accepts}
-use Rattle.nx_code.specs.Characters.{IsCapital}
+use Rattle.nx_code.specs.Reading.{IsCapital}
 use Rattle.nx_envelope.specs.declared.letter.Letter.{Letter}
 use Rattle.nx_cli.specs.declared.words.Call.{Call}
 use Rattle.nx_station.specs.declared.damaging.DamageKind.{DamageKind}

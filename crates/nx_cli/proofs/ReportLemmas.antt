@@ -3,8 +3,7 @@ use Rattle.std.proofs.Common.{◌≡◌, ◌≢◌, ◌≤◌, ℕ, List, Result
 use Rattle.std.specs.Fmt.Cut.{cut_to}
 use Rattle.std.proofs.lemmas.Bool.{le-leb}
 use Rattle.clap.specs.Words.{Text}
-use Rattle.nx_fec.specs.Devices.{CountedDevice}
-use Rattle.nx_fec.specs.Transfers.{Devices}
+use Rattle.nx_fec.specs.Transfers.{CountedDevice, Devices}
 use Rattle.nx_cli.specs.declared.fault.Fault.{Fault}
 use Rattle.nx_cli.specs.declared.fault.Fault.TheVariants as fault
 use Rattle.nx_cli.specs.Program.{Exits}

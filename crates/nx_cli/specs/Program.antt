@@ -6,7 +6,7 @@ use Rattle.std.specs.Io.KnownBytes.{Appends}
 use Rattle.clap.specs.Words.{Text}
 use Rattle.nx_envelope.specs.Moment.{IsShownAs}
 use Rattle.std.specs.Fmt.{decimal}
-use Rattle.nx_fec.specs.Devices.{CountedDevice, WroteSome}
+use Rattle.nx_fec.specs.Transfers.{CountedDevice, WroteSome, Devices}
 use Rattle.nx_fec.specs.Runs.{Decodes, Encodes, Shows}
 use Rattle.nx_fec.specs.TableText.{table_text}
 use Rattle.nx_receiver.specs.Events.{at_zero}
@@ -14,7 +14,6 @@ use Rattle.nx_receiver.specs.Listen.{Listens}
 use Rattle.nx_station.specs.Checking.{Checks}
 use Rattle.nx_station.specs.Damage.{Damages}
 use Rattle.nx_station.specs.FileSending.{Sends}
-use Rattle.nx_fec.specs.Transfers.{Devices}
 use Rattle.nx_fec.specs.declared.fault.RunFault.{RunFault}
 use Rattle.nx_fec.specs.declared.fault.RunFault.TheVariants as run
 use Rattle.nx_station.specs.Slots.{HasNoSlot, IsNextSlot}

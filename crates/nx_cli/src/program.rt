@@ -5,8 +5,7 @@ ghost use Rattle.nx_cli.specs.Program.{EndsRun, Exits, Performs, Succeeds, Write
 ghost use Rattle.nx_cli.specs.Report.{Answers, IsFaultLine, IsWantOfWords, LacksWords, WritesOne};
 ghost use Rattle.nx_cli.specs.Status.{IsStatus};
 ghost use Rattle.nx_cli.specs.Words.{IsRefused, Names};
-ghost use Rattle.nx_fec.specs.Devices.{CountedDevice};
-ghost use Rattle.nx_fec.specs.Transfers.{devices};
+ghost use Rattle.nx_fec.specs.Transfers.{CountedDevice, devices};
 ghost use Rattle.nx_fec.specs.TableText.{table_text};
 ghost use Rattle.nx_cli.specs.declared.words.Call.{Call};
 

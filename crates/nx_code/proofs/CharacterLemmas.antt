@@ -10,8 +10,7 @@ use Rattle.nx_code.specs.declared.table.TheConstants.{TABLE}
 use Rattle.nx_code.specs.declared.shifts.Shift.{Shift}
 use Rattle.nx_code.specs.declared.shifts.Shift.TheVariants.{Letters, Figures}
 use Rattle.nx_code.specs.Table.{table, row_of}
-use Rattle.nx_code.specs.Reading.{character_of}
-use Rattle.nx_code.specs.Characters.{is_in_code, characters, holds_in}
+use Rattle.nx_code.specs.Reading.{character_of, is_in_code, characters, holds_in}
 use Rattle.nx_code.specs.private.Rows.{case_kept, character_in}
 use Rattle.nx_code.specs.declared.shifts.Case.{Case}
 use Rattle.nx_code.proofs.TableLemmas.{is_at, Some-is_at, character-TABLE}

@@ -3,10 +3,8 @@ use Rattle.std.proofs.Common.{◌≡◌, ◌≢◌, ℕ, ◌+◌, ◌-◌, ◌<�
 use Rattle.std.specs.Option.{is_some, option_to_list}
 use Rattle.std.specs.List.{list_all}
 use Rattle.std.proofs.lemmas.Bool.{and_parts, and_from, or_cases, eqb-true, eq-eqb, ne_eqb, cases_eq, false≢true, both_ways, not-true}
-use Rattle.nx_code.specs.Reading.{combination, character_of, shift_set, shift_after, shift_after_all, text}
-use Rattle.nx_code.specs.Shifts.{other}
-use Rattle.nx_code.specs.Characters.{is_in_code}
-use Rattle.nx_code.specs.Spelling.{first_of, IsOnlyIn, Fits, EachFits, Spells}
+use Rattle.nx_code.specs.Reading.{combination, character_of, shift_set, shift_after, shift_after_all, text, is_in_code}
+use Rattle.nx_code.specs.Spelling.{other, first_of, IsOnlyIn, Fits, EachFits, Spells}
 use Rattle.nx_code.specs.declared.shifts.Shift.{Shift}
 use Rattle.nx_code.specs.declared.shifts.Shift.TheVariants.{Letters, Figures}
 use Rattle.nx_code.proofs.CharacterLemmas.{in_code-prints, in_code-printed, if_some-at, place_for, place_for-Some, place_for-printed, both-printed}

@@ -6,12 +6,10 @@ use Rattle.std.proofs.lemmas.List.{map-append}
 use Rattle.std.specs.Option.{is_some}
 use Rattle.std.proofs.lemmas.Bool.{agree_below_at, and_parts, eqb-true, ne_eqb, false≢true, not-true, both_ways, eq-eqb, cases_lt, lt-ltb, cond-true}
 use Rattle.nx_code.specs.Table.{table, row_of}
-use Rattle.nx_code.specs.Reading.{combination, character_of, shift_set, shift_after, shift_after_all, text}
-use Rattle.nx_code.specs.Characters.{holds_in}
+use Rattle.nx_code.specs.Reading.{combination, character_of, shift_set, shift_after, shift_after_all, text, holds_in}
 use Rattle.nx_code.specs.declared.shifts.Case.{Case}
 use Rattle.nx_code.specs.declared.shifts.Case.TheVariants as cases
-use Rattle.nx_code.specs.Shifts.{other}
-use Rattle.nx_code.specs.Spelling.{first_of, IsOnlyIn, Fits, EachFits, Spells}
+use Rattle.nx_code.specs.Spelling.{other, first_of, IsOnlyIn, Fits, EachFits, Spells}
 use Rattle.nx_code.specs.declared.shifts.Shift.{Shift}
 use Rattle.nx_code.specs.declared.shifts.Shift.TheVariants.{Letters, Figures}
 use Rattle.nx_code.proofs.ReadingLemmas.{text-append, shift_after_all-append}

@@ -3,11 +3,8 @@ pub mod Word
 pub mod Packed
 pub mod Table
 pub mod Signal
-pub mod Phasing
 pub mod Reading
 pub mod Taken
-pub mod Characters
 pub mod Spelling
-pub mod Shifts
 pub mod Classes
 pub mod private

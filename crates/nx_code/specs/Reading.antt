@@ -1,10 +1,13 @@
 -- What is printed of the positions that were taken (ITU-R M.476 and M.625; `*` for a lost position
 -- is this profile's, as is that 32 and the figures of D, F, G, H and J print nothing).
-use Rattle.std.specs.Prelude.{◌≡◌, ◌⊎◌, ℕ, ◌==◌, if◌then◌else◌, List, [], ◌∷◌, ◌++◌, Option, Some, None, unwrap_or}
+use Rattle.std.specs.Prelude.{◌≡◌, ◌⊎◌, ℕ, ◌==◌, if◌then◌else◌, List, [], ◌∷◌, ◌++◌, Option, Some, None, unwrap_or, Bool, codes, false, true, ◌≤◌}
 use Rattle.std.specs.Option.{option_and_then, option_to_list}
+use Rattle.std.specs.List.{list_any}
 use Rattle.nx_code.specs.declared.shifts.Shift.{Shift}
 use Rattle.nx_code.specs.declared.shifts.Shift.TheVariants.{Letters, Figures}
 use Rattle.nx_code.specs.Table.{cell, row_of}
+use Rattle.nx_code.specs.declared.shifts.Case.{Case}
+use Rattle.nx_code.specs.declared.shifts.Case.TheVariants as cases
 
 -- a position that was taken: a traffic combination by its number, an idle signal, or one that is
 -- lost
@@ -83,3 +86,23 @@ pub record IsLastSet (positions : List Reception) (shift : Shift) : Type 0 where
 abbrev pub IsShiftAfter : List Reception → Shift → Shift → Type 0
 IsShiftAfter positions first shift =
     IsLastSet positions shift ⊎ (SetsNone positions × (shift ≡ first))
+
+-- the characters that a text may have: A to Z, 0 to 9, space, eleven marks, and newline
+unfoldable pub characters : List ℕ
+characters = codes "ABCDEFGHIJKLMNOPQRSTUVWXYZ0123456789 -?:().,'=+/" ++ 10 ∷ []
+
+-- whether a byte is one of them
+unfoldable pub is_in_code : ℕ → Bool
+is_in_code byte = list_any (λ character. character == byte) characters
+
+-- one of the capitals, A to Z
+abbrev pub IsCapital : ℕ → Type 0
+IsCapital byte = (65 ≤ byte) × (byte ≤ 90)
+
+-- whether a character of this case stands in a shift
+abbrev pub holds_in : Case → Shift → Bool
+holds_in cases.Letters Letters = true
+holds_in cases.Letters Figures = false
+holds_in cases.Figures Letters = false
+holds_in cases.Figures Figures = true
+holds_in cases.Either shift = true

@@ -2,8 +2,13 @@
 -- where it is needed, and carriage return only before a line feed, is this profile's).
 use Rattle.std.specs.Prelude.{◌≡◌, ◌≢◌, ◌≤◌, ◌↔◌, ℕ, List, [], ◌∷◌, Option, Some, None, map, IsSome}
 use Rattle.nx_code.specs.declared.shifts.Shift.{Shift}
-use Rattle.nx_code.specs.Shifts.{other}
 use Rattle.nx_code.specs.Reading.{combination, character_of, shift_set, shift_after, text}
+use Rattle.nx_code.specs.declared.shifts.Shift.TheVariants.{Figures, Letters}
+
+-- the shift that is not this one
+abbrev pub other : Shift → Shift
+other Letters = Figures
+other Figures = Letters
 
 -- the first of a list
 abbrev pub first_of : List ℕ → Option ℕ

@@ -1,6 +1,7 @@
 -- The table of the signals (ITU-R M.476 and M.625; the numbering of the words is this project's
--- own).
-use Rattle.std.specs.Prelude.{ℕ, zero, suc, ◌==◌, List, [], ◌∷◌, Option, None, codes, map, position, slice_get, take}
+-- own). Phasing signal 1 is idle signal alpha, and phasing signal 2 is signal repetition: that their
+-- words stand so in the table is the law `phasing_signals_are_in_the_table`.
+use Rattle.std.specs.Prelude.{ℕ, zero, suc, ◌==◌, List, [], ◌∷◌, Option, None, codes, map, position, slice_get, take, Bool, false, true}
 use Rattle.std.specs.Option.{option_map_or}
 use Rattle.nx_code.specs.declared.shifts.Shift.{Shift}
 use Rattle.nx_code.specs.declared.shifts.Shift.TheVariants.{Letters, Figures}
@@ -78,3 +79,17 @@ row_of (suc place) = slice_get (take 32 table) place
 -- which is no word's
 unfoldable pub traffic_word : ℕ → ℕ
 traffic_word number = option_map_or (λ row. row.word) (row_of number) 128
+
+-- the numbers of the words of the two phasing signals
+abbrev pub phasing_1 : ℕ
+phasing_1 = 0x0F
+
+abbrev pub phasing_2 : ℕ
+phasing_2 = 0x66
+
+-- their elements in the order of sending, BBBBYYY and YBBYYBB
+abbrev pub elements_of_phasing_1 : List Bool
+elements_of_phasing_1 = true ∷ true ∷ true ∷ true ∷ false ∷ false ∷ false ∷ []
+
+abbrev pub elements_of_phasing_2 : List Bool
+elements_of_phasing_2 = false ∷ true ∷ true ∷ false ∷ false ∷ true ∷ true ∷ []

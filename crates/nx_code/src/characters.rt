@@ -1,8 +1,7 @@
 //! The characters of the combinations, by the table.
 
 ghost use Rattle.std.specs.Prelude.{◌≡◌, ℕ, ◌+◌, ◌≤◌, ◌<◌, ◌↔◌, Some, IsSome, IfSome, IsSomeAnd, IsTrue};
-ghost use Rattle.nx_code.specs.Reading.{character_of};
-ghost use Rattle.nx_code.specs.Characters.{holds_in, is_in_code};
+ghost use Rattle.nx_code.specs.Reading.{character_of, holds_in, is_in_code};
 ghost use Rattle.nx_code.specs.private.Rows.{case_kept};
 ghost use Rattle.nx_code.specs.declared.shifts.Shift.{Shift};
 

@@ -3,14 +3,12 @@
 ghost use Rattle.std.specs.Prelude.{◌≡◌, ◌<◌, ◌≤◌, ◌↔◌, ◌⊎◌, ℕ, Bool, List, [], ◌∷◌, ◌++◌, length, map, ◌==◌, None, IsSome, IsTrue};
 ghost use Rattle.std.specs.Option.{option_to_list};
 ghost use Rattle.std.specs.List.{list_all, list_any};
-ghost use Rattle.nx_code.specs.Characters.{is_in_code};
+ghost use Rattle.nx_code.specs.Reading.{is_in_code, Reception, IsShiftAfter, combination, character_of, byte_of, shift_after_all, text};
 ghost use Rattle.nx_code.specs.Spelling.{IsSilent, Spells};
 ghost use Rattle.nx_code.specs.Word.{elements, number_of, weight};
-ghost use Rattle.nx_code.specs.Reading.{Reception, IsShiftAfter, combination, character_of, byte_of, shift_after_all, text};
 ghost use Rattle.nx_code.specs.Signal.{number_of_signal};
-ghost use Rattle.nx_code.specs.Table.{row_of, traffic_word};
+ghost use Rattle.nx_code.specs.Table.{row_of, traffic_word, phasing_1, phasing_2, elements_of_phasing_1, elements_of_phasing_2};
 ghost use Rattle.nx_code.specs.declared.signals.Comb.{Comb};
-ghost use Rattle.nx_code.specs.Phasing.{phasing_1, phasing_2, elements_of_phasing_1, elements_of_phasing_2};
 ghost use Rattle.nx_code.specs.declared.signals.Signal.TheVariants as signals;
 ghost use Rattle.nx_code.specs.declared.shifts.Shift.{Shift};
 ghost use Rattle.nx_code.specs.declared.shifts.Shift.TheVariants as shifts;

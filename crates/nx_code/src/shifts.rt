@@ -1,9 +1,8 @@
 //! The two shifts, letters and figures, and in which of them a character stands.
 
 ghost use Rattle.std.specs.Prelude.{◌≡◌, Some};
-ghost use Rattle.nx_code.specs.Reading.{combination, shift_set};
-ghost use Rattle.nx_code.specs.Shifts.{other};
-ghost use Rattle.nx_code.specs.Characters.{holds_in};
+ghost use Rattle.nx_code.specs.Reading.{combination, shift_set, holds_in};
+ghost use Rattle.nx_code.specs.Spelling.{other};
 
 use crate::signals::Comb;
 

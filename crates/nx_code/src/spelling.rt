@@ -2,8 +2,7 @@
 
 ghost use Rattle.std.specs.Prelude.{◌≡◌, ◌≤◌, ◌*◌, ◌↔◌, ◌++◌, ◌∷◌, [], ℕ, List, Some, Err, IsSome, IfSome, IfOk, OnOk, IsTrue, length, map, not, position};
 ghost use Rattle.std.specs.List.{list_all};
-ghost use Rattle.nx_code.specs.Characters.{is_in_code};
-ghost use Rattle.nx_code.specs.Reading.{combination, shift_after_all, text as reading_of};
+ghost use Rattle.nx_code.specs.Reading.{is_in_code, combination, shift_after_all, text as reading_of};
 ghost use Rattle.nx_code.specs.private.Pieces.{numbers_of_piece};
 ghost use Rattle.nx_code.specs.Spelling.{Spells};
 ghost use Rattle.nx_code.specs.declared.signals.Comb.{Comb};

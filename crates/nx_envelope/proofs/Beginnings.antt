@@ -6,10 +6,9 @@ use Rattle.std.proofs.lemmas.Bool.{le-leb}
 use Rattle.std.proofs.lemmas.Bool.Decides.{leb_tells}
 use Rattle.std.proofs.lemmas.List.{map_push, reverse-append, take_all, take-append-le}
 use Rattle.std.proofs.lemmas.List.Elements.{filter_map-append}
-use Rattle.nx_envelope.specs.AtTheEnd.{identity_at_end}
+use Rattle.nx_envelope.specs.Header.{identity_at_end, Header}
 use Rattle.nx_envelope.specs.private.Backward.{header_back}
 use Rattle.nx_envelope.specs.Copies.{Ending, beginnings, header_at_end, headers, ending_by_marker, first_value, long_within, ending_within}
-use Rattle.nx_envelope.specs.Header.{Header}
 use Rattle.nx_envelope.specs.declared.found.How.TheVariants.{Long}
 use Rattle.nx_envelope.proofs.ReadAtTheEnd.{identity_at_end-back}
 

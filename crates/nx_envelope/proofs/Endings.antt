@@ -3,11 +3,10 @@ use Rattle.std.proofs.Common.{◌≡◌, ℕ, ◌+◌, ◌-◌, ◌<◌, ◌≤�
 use Rattle.std.specs.Option.{option_map, option_or}
 use Rattle.std.proofs.lemmas.Bool.Decides.{leb_tells}
 use Rattle.std.proofs.lemmas.List.{reverse-append, reverse-reverse, take-append-le, take-take, take_all, length-take}
-use Rattle.nx_envelope.specs.AtTheEnd.{marker_at_end}
+use Rattle.nx_envelope.specs.Header.{marker_at_end, start_marker, end_marker}
 use Rattle.nx_envelope.specs.private.Backward.{ends_in, marker_back}
 use Rattle.nx_envelope.specs.Copies.{Ending, beginnings, ending_by_marker, first_value, long_within, ending_within, ending_of, most_found}
 use Rattle.nx_envelope.specs.Ending.{EndsWithMarker, MarkerEndsAt, EndsAtMarker, HasNoMarker, IsEnding, IsUnended}
-use Rattle.nx_envelope.specs.Marker.{start_marker, end_marker}
 use Rattle.nx_envelope.specs.declared.found.How.{How}
 use Rattle.nx_envelope.specs.declared.found.How.TheVariants.{Full, Cut, Long}
 use Rattle.nx_envelope.proofs.Beginnings.{beginnings-push, first_value-push, long_at, not_long}

@@ -4,10 +4,8 @@ use Rattle.std.specs.Prelude.{codes}
 use Rattle.jiff_core.proofs.CalendarLemmas.{days_from_civil-day_count}
 use Rattle.jiff_core.proofs.MarchLemmas.{day_count-early}
 use Rattle.jiff_core.proofs.SignedLemmas.{signed_arith}
-use Rattle.nx_envelope.specs.AtTheEnd.{letter_from, letter_of, digit_from, digit_of, read_identity, read_spaced, read_header, identity_at_end, marker_at_end}
-use Rattle.nx_envelope.specs.Copies.{Copy, beginnings, closed_copy, copies, ended_copy, ending_of, ending_within, header_at_end, headers, is_open, long_within, ending_by_marker, open_headers, raw_text}
-use Rattle.nx_envelope.specs.Errors.{errors_of}
-use Rattle.nx_envelope.specs.Header.{Header}
+use Rattle.nx_envelope.specs.Header.{letter_from, letter_of, digit_from, digit_of, read_identity, read_spaced, read_header, identity_at_end, marker_at_end, Header}
+use Rattle.nx_envelope.specs.Copies.{Copy, beginnings, closed_copy, copies, ended_copy, ending_of, ending_within, header_at_end, headers, is_open, long_within, ending_by_marker, open_headers, raw_text, errors_of}
 use Rattle.nx_envelope.specs.Identity.{identity_bytes}
 use Rattle.nx_envelope.specs.Moment.{IsShownAs}
 use Rattle.nx_envelope.specs.declared.found.How.{How}

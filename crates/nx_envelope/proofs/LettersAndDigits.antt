@@ -2,11 +2,10 @@
 use Rattle.std.proofs.Common.{◌≡◌, ℕ, ◌-◌, ◌≤◌, ◌==◌, ◌&&◌, ◌||◌, if◌then◌else◌, List, ◌∷◌, nat_le, ◌+◌, ◌*◌, inl, inr, Bool, true, false, Option, Some, None, refl, sym, subst, ap, arith}
 use Rattle.std.proofs.lemmas.Bool.Decides.{leb_tells, nat_tests}
 use Rattle.std.proofs.Props.{props}
-use Rattle.nx_envelope.specs.AtTheEnd.{letter_from, letter_of, digit_from, digit_of, both, identity_of, identity_with}
+use Rattle.nx_envelope.specs.Header.{letter_from, letter_of, digit_from, digit_of, both, identity_of, identity_with, start_marker}
 use Rattle.nx_envelope.specs.private.Backward.{ends_in, spaces_back, station_back, subject_back, tens_back, header_back}
 use Rattle.nx_envelope.specs.private.DigitBytes.{IsDigit}
-use Rattle.nx_code.specs.Characters.{IsCapital}
-use Rattle.nx_envelope.specs.Marker.{start_marker}
+use Rattle.nx_code.specs.Reading.{IsCapital}
 use Rattle.nx_envelope.specs.private.Stage.{IsStageOf, is_spaces, station_in, subject_in, tens_in}
 use Rattle.nx_envelope.specs.declared.digit.Digit.{Digit}
 use Rattle.nx_envelope.specs.declared.identity.Identity.{Identity}

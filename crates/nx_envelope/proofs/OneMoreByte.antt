@@ -8,8 +8,7 @@ use Rattle.nx_envelope.specs.private.Backward.{marker_back, ends_in, header_back
 use Rattle.nx_envelope.specs.Copies.{Ending, Copy, headers, raw_text, ending_of, copy_with, ended_copy, ended_copies, is_open, open_headers}
 use Rattle.nx_envelope.specs.Finder.{Keeps, Begins, Ends, is_empty}
 use Rattle.nx_envelope.specs.private.Finding.{found_text}
-use Rattle.nx_envelope.specs.Header.{Header}
-use Rattle.nx_envelope.specs.Marker.{start_marker}
+use Rattle.nx_envelope.specs.Header.{Header, start_marker}
 use Rattle.nx_envelope.specs.private.Stage.{IsStageOf}
 use Rattle.nx_envelope.specs.declared.found.How.{How}
 use Rattle.nx_envelope.specs.declared.found.How.TheVariants.{Long}

@@ -4,11 +4,10 @@ use Rattle.std.specs.List.{filter, filter_map}
 use Rattle.std.specs.Option.{option_to_list, unwrap_or}
 use Rattle.std.proofs.lemmas.Bool.Decides.{leb_tells, nat_tests}
 use Rattle.std.proofs.lemmas.List.{append-nil, map-append, reverse-append, reverse-reverse}
-use Rattle.nx_envelope.specs.AtTheEnd.{identity_at_end}
+use Rattle.nx_envelope.specs.Header.{identity_at_end, Header}
 use Rattle.nx_envelope.specs.private.Backward.{marker_back, header_back}
 use Rattle.nx_envelope.specs.Copies.{Ending, Copy, beginnings, header_at_end, headers, raw_text, ending_of, ended_copy, ended_copies, is_open, open_headers, closed_copy, copies}
 use Rattle.nx_envelope.specs.Finder.{Ends, is_empty}
-use Rattle.nx_envelope.specs.Header.{Header}
 use Rattle.nx_envelope.specs.Laws.{Grows}
 use Rattle.nx_envelope.specs.declared.found.How.{How}
 use Rattle.nx_envelope.specs.declared.identity.Identity.{Identity}

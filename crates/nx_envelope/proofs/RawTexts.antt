@@ -3,13 +3,11 @@ use Rattle.std.proofs.Common.{◌≡◌, ◌≢◌, ℕ, ◌+◌, ◌-◌, ◌<�
 use Rattle.std.specs.Prelude.{slice_index}
 use Rattle.std.proofs.lemmas.Bool.Decides.{leb_tells, nat_tests}
 use Rattle.std.proofs.lemmas.List.{reverse-append, take-append-le, take_all, drop-append-le, drop_all}
-use Rattle.nx_envelope.specs.AtTheEnd.{marker_at_end}
+use Rattle.nx_envelope.specs.Header.{marker_at_end, Header, start_marker, end_marker}
 use Rattle.nx_envelope.specs.private.Backward.{marker_back, ends_in}
 use Rattle.nx_envelope.specs.Copies.{Ending, less_newline, raw_text, ending_by_marker, beginnings, ending_within, ending_of}
 use Rattle.nx_envelope.specs.Finder.{is_empty}
 use Rattle.nx_envelope.specs.private.Finding.{found_text}
-use Rattle.nx_envelope.specs.Header.{Header}
-use Rattle.nx_envelope.specs.Marker.{start_marker, end_marker}
 use Rattle.nx_envelope.specs.declared.found.How.{How}
 use Rattle.nx_envelope.specs.declared.found.How.TheVariants.{Full, Cut, Long}
 use Rattle.nx_envelope.proofs.ReadAtTheEnd.{marker_at_end-back}

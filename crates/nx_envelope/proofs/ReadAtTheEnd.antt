@@ -6,11 +6,9 @@ use Rattle.std.proofs.Math.Seq.{drop-append_seam}
 use Rattle.std.proofs.lemmas.List.{take-append-drop, append_assoc}
 use Rattle.std.proofs.lemmas.Slice.Eq.{bytes_eq-Decides}
 use Rattle.nx_code.specs.Lists.{last_of}
-use Rattle.nx_envelope.specs.AtTheEnd.{letter_of, digit_of, both, identity_of, identity_with, read_identity, read_spaced, read_header, identity_at_end, ends_with, marker_at_end}
+use Rattle.nx_envelope.specs.Header.{letter_of, digit_of, both, identity_of, identity_with, read_identity, read_spaced, read_header, identity_at_end, ends_with, marker_at_end, EndsWithHeader, EndsWith, start_marker, end_marker}
 use Rattle.nx_envelope.specs.private.Backward.{ends_in, header_back, marker_back}
-use Rattle.nx_envelope.specs.Header.{EndsWithHeader}
 use Rattle.nx_envelope.specs.Identity.{identity_bytes}
-use Rattle.nx_envelope.specs.Marker.{EndsWith, start_marker, end_marker}
 use Rattle.nx_envelope.specs.declared.digit.Digit.{Digit}
 use Rattle.nx_envelope.specs.declared.found.How.{How}
 use Rattle.nx_envelope.specs.declared.found.How.TheVariants.{Full, Cut}

@@ -4,7 +4,7 @@ use Rattle.std.specs.List.{starts_with}
 use Rattle.std.proofs.lemmas.Bool.Decides.{Decides-eqb}
 use Rattle.std.proofs.lemmas.List.{take-append-drop, drop_at}
 use Rattle.std.proofs.lemmas.Slice.Eq.{starts_is}
-use Rattle.nx_envelope.specs.Marker.{HoldsWord}
+use Rattle.nx_envelope.specs.Header.{HoldsWord}
 
 -- where the rest begins with the word, the text holds it
 pub holds_at : (text word : List ℕ) (at : ℕ) → starts_with eqb (drop at text) word ≡ true → HoldsWord word text

@@ -1,11 +1,10 @@
 -- The copies of messages in a received text: the form of a message is that of ITU-R M.540; that a
 -- text without an end is found up to 4,100 characters is this profile's.
-use Rattle.std.specs.Prelude.{ℕ, ◌-◌, ◌==◌, nat_le, Bool, if◌then◌else◌, Option, Some, None, List, [], ◌∷◌, length, take, drop, map, unwrap_or}
+use Rattle.std.specs.Prelude.{ℕ, ◌-◌, ◌==◌, nat_le, Bool, if◌then◌else◌, Option, Some, None, List, [], ◌∷◌, length, take, drop, map, unwrap_or, count_by}
 use Rattle.std.specs.List.{filter, filter_map}
 use Rattle.std.specs.Option.{option_map, option_or, is_none}
-use Rattle.nx_envelope.specs.AtTheEnd.{identity_at_end, marker_at_end}
-use Rattle.nx_envelope.specs.Header.{Header}
-use Rattle.nx_envelope.specs.Newline.{newline}
+use Rattle.nx_code.specs.Reading.{asterisk}
+use Rattle.nx_envelope.specs.Header.{identity_at_end, marker_at_end, Header, newline}
 use Rattle.nx_envelope.specs.declared.found.How.{How}
 use Rattle.nx_envelope.specs.declared.found.How.TheVariants.{Cut, Long}
 
@@ -101,3 +100,7 @@ closed_copy text header = record { header = header; how = Cut; text = raw_text t
 unfoldable pub copies : List ℕ → List Copy
 copies text =
     map (λ header. unwrap_or (ended_copy text header) (closed_copy text header)) (headers text)
+
+-- how many asterisks a text has
+abbrev pub errors_of : List ℕ → ℕ
+errors_of text = count_by (λ b. b == asterisk) text

@@ -2,7 +2,7 @@
 -- places: the raw text of a copy begins at place 0.
 use Rattle.std.specs.Prelude.{◌≡◌, ℕ, ◌-◌, ◌<◌, ◌≤◌, ◌⊎◌, List, length, take}
 use Rattle.nx_envelope.specs.Copies.{Ending, most_found}
-use Rattle.nx_envelope.specs.Marker.{EndsWith, start_marker, end_marker}
+use Rattle.nx_envelope.specs.Header.{EndsWith, start_marker, end_marker}
 use Rattle.nx_envelope.specs.declared.found.How.{How}
 use Rattle.nx_envelope.specs.declared.found.How.TheVariants.{Full, Cut, Long}
 

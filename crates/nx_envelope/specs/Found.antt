@@ -1,7 +1,6 @@
 -- A copy of a message as it is handed out.
 use Rattle.std.specs.Prelude.{◌≡◌, ℕ, List}
-use Rattle.nx_envelope.specs.Copies.{Copy}
-use Rattle.nx_envelope.specs.Errors.{errors_of}
+use Rattle.nx_envelope.specs.Copies.{Copy, errors_of}
 use Rattle.nx_envelope.specs.declared.found.Found.{Found}
 use Rattle.nx_envelope.specs.declared.found.FoundHead.{FoundHead}
 use Rattle.nx_envelope.specs.declared.found.How.{How}

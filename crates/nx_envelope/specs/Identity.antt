@@ -1,7 +1,10 @@
 -- ITU-R M.540: a message is named by its station, its subject and its number.
-use Rattle.std.specs.Prelude.{ℕ, Bool, ◌==◌, ◌&&◌, List, ◌∷◌}
-use Rattle.nx_envelope.specs.Digits.{two_digits}
+use Rattle.std.specs.Prelude.{ℕ, Bool, ◌==◌, ◌&&◌, List, ◌∷◌, [], ◌%◌, ◌+◌, ◌/◌}
 use Rattle.nx_envelope.specs.declared.identity.Identity.{Identity}
+
+-- the two decimal digits of a number below 100
+abbrev pub two_digits : ℕ → List ℕ
+two_digits n = (48 + n / 10) ∷ (48 + n % 10) ∷ []
 
 -- the two name one message: the same station, the same subject and the same number
 abbrev pub same_identity : Identity → Identity → Bool

@@ -1,17 +1,11 @@
-pub mod AtTheEnd
 pub mod Copies
-pub mod Digits
 pub mod Ending
-pub mod Errors
 pub mod Finder
 pub mod FinderView
 pub mod Found
 pub mod Header
 pub mod Identity
 pub mod Laws
-pub mod Marker
 pub mod Message
-pub mod MessageView
 pub mod Moment
-pub mod Newline
 pub mod private

@@ -2,11 +2,11 @@
 -- ITU-R M.540), and what is wrong with lines that make none.
 use Rattle.std.specs.Prelude.{◌≡◌, ◌≢◌, ℕ, ◌+◌, ◌<◌, ◌≤◌, ◌⊎◌, List, [], ◌∷◌, ◌++◌, length, take, All, IsTrue, slice_index, slice_index_or}
 use Rattle.std.specs.List.{flat_map}
-use Rattle.nx_code.specs.Characters.{is_in_code}
-use Rattle.nx_envelope.specs.Marker.{HoldsWord, start_marker, end_marker}
-use Rattle.nx_envelope.specs.Newline.{newline}
+use Rattle.nx_code.specs.Reading.{is_in_code}
+use Rattle.nx_envelope.specs.Header.{HoldsWord, start_marker, end_marker, newline}
 use Rattle.nx_envelope.specs.declared.message.MessageFault.{MessageFault}
 use Rattle.nx_envelope.specs.declared.message.MessageFault.TheVariants.{LongLine, BadCharacter, Reserved, LongText, Memory}
+use Rattle.nx_envelope.specs.declared.identity.Identity.{Identity}
 
 -- a byte that a line may hold: it is in the code and no newline
 abbrev pub IsLineByte : ℕ → Type 0
@@ -64,3 +64,8 @@ IsMessageFault lines (Memory e) = AreLines lines
 IsMessageFault lines (LongLine m) = IsFirstLineFault lines (LongLine m)
 IsMessageFault lines (BadCharacter m at) = IsFirstLineFault lines (BadCharacter m at)
 IsMessageFault lines (Reserved m) = IsFirstLineFault lines (Reserved m)
+
+-- an identity and a list of lines
+pub record MessageView : Type 0 where
+  pub identity : Identity
+  pub lines : List (List ℕ)

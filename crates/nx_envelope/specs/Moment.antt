@@ -2,7 +2,7 @@
 -- as the civil date and time of the Gregorian calendar.
 use Rattle.std.specs.Prelude.{◌≡◌, ℕ, ◌+◌, ◌*◌, ◌/◌, ◌%◌, ◌<◌, List, ◌∷◌, ◌++◌, ℤ, pos, ◌+ℤ◌, ◌*ℤ◌}
 use Rattle.jiff_core.specs.Calendar.{IsCivilDate, days_from_civil}
-use Rattle.nx_envelope.specs.Digits.{two_digits}
+use Rattle.nx_envelope.specs.Identity.{two_digits}
 use Rattle.nx_envelope.specs.declared.moment.CivilTime.{CivilTime}
 
 -- the last moment that is printed, 2999-12-31 23:59:59

@@ -2,7 +2,7 @@
 
 ghost use Rattle.std.specs.Prelude.{◌≡◌, ◌<◌, ◌≤◌, ◌↔◌, ◌-◌, IfSome, IsSome};
 ghost use Rattle.nx_envelope.specs.private.DigitBytes.{IsDigit};
-ghost use Rattle.nx_envelope.specs.Digits.{two_digits as digits_of};
+ghost use Rattle.nx_envelope.specs.Identity.{two_digits as digits_of};
 
 /// A decimal digit.
 #[derive(Clone, Copy, PartialEq, Eq, Debug)]
@@ -13,7 +13,7 @@ pub struct Digit {
 }
 
 impl Digit {
-    ghost use Rattle.nx_envelope.specs.AtTheEnd.{digit_of};
+    ghost use Rattle.nx_envelope.specs.Header.{digit_of};
 
     /// The digit of a byte, `None` where the byte isn't 0 to 9.
     pub fn new(byte: u8) -> Option<Digit>

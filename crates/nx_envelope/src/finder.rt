@@ -2,7 +2,7 @@
 
 ghost use Rattle.std.specs.Prelude.{◌≡◌, ◌==◌, ◌≤◌, ◌&&◌, ◌∷◌, ℕ, List, length};
 ghost use Rattle.nx_envelope.specs.private.Backward.{last_four, marker_back};
-ghost use Rattle.nx_envelope.specs.Errors.{errors_of};
+ghost use Rattle.nx_envelope.specs.Copies.{errors_of};
 ghost use Rattle.nx_envelope.specs.Found.{IsFoundOf};
 ghost use Rattle.nx_envelope.specs.private.Room.{closed_held};
 

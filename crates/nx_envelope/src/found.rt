@@ -1,7 +1,7 @@
 //! What the finder hands out.
 
 ghost use Rattle.std.specs.Prelude.{◌≡◌};
-ghost use Rattle.nx_envelope.specs.Errors.{errors_of};
+ghost use Rattle.nx_envelope.specs.Copies.{errors_of};
 
 use crate::identity::Identity;
 use arrayvec::ArrayVec;

@@ -1,7 +1,7 @@
 //! The identity of a message: its station, its subject and its number.
 
 ghost use Rattle.std.specs.Prelude.{◌≡◌, ◌↔◌, ◌≤◌, IfSome, IsSome};
-ghost use Rattle.nx_code.specs.Characters.{IsCapital};
+ghost use Rattle.nx_code.specs.Reading.{IsCapital};
 
 use crate::digit::two_digits;
 use crate::letter::Letter;

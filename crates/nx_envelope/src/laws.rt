@@ -3,15 +3,13 @@
 
 ghost use Rattle.std.specs.Prelude.{◌≡◌, ◌↔◌, ◌<◌, ◌≤◌, ◌++◌, [], ℕ, Contains, List, Option, IsTrue, None, Some, length, map};
 ghost use Rattle.std.specs.List.{AllZip};
-ghost use Rattle.nx_envelope.specs.AtTheEnd.{ends_with, identity_at_end};
+ghost use Rattle.nx_envelope.specs.Header.{ends_with, identity_at_end, ComesBefore, EndsWithHeader, Header, StandsIn, EndsWith, end_marker, start_marker};
 ghost use Rattle.nx_envelope.specs.Copies.{Ending, closed_copy, copies, headers, ended_copies, ending_of, open_headers};
 ghost use Rattle.nx_envelope.specs.Finder.{Closes};
 ghost use Rattle.nx_envelope.specs.Found.{IsFound};
-ghost use Rattle.nx_envelope.specs.Header.{ComesBefore, EndsWithHeader, Header, StandsIn};
 ghost use Rattle.nx_envelope.specs.Ending.{IsEnding, IsUnended};
 ghost use Rattle.nx_envelope.specs.Identity.{same_identity};
 ghost use Rattle.nx_envelope.specs.Laws.{AreAnswers, Grows, copies_handed_out};
-ghost use Rattle.nx_envelope.specs.Marker.{EndsWith, end_marker, start_marker};
 ghost use Rattle.nx_envelope.specs.Moment.{HasText, IsShownAs, last_moment};
 ghost use Rattle.nx_envelope.specs.declared.found.FinderStep.{FinderStep};
 ghost use Rattle.nx_envelope.specs.declared.found.Found.{Found};

@@ -1,7 +1,7 @@
 //! A letter of an identity: a station or a subject.
 
 ghost use Rattle.std.specs.Prelude.{◌≡◌, ◌↔◌, IfSome, IsSome};
-ghost use Rattle.nx_code.specs.Characters.{IsCapital};
+ghost use Rattle.nx_code.specs.Reading.{IsCapital};
 
 /// A letter A to Z, which names a station (B1) or a subject (B2) of ITU-R M.540.
 #[derive(Clone, Copy, PartialEq, Eq, Debug)]
@@ -12,7 +12,7 @@ pub struct Letter {
 }
 
 impl Letter {
-    ghost use Rattle.nx_envelope.specs.AtTheEnd.{letter_of};
+    ghost use Rattle.nx_envelope.specs.Header.{letter_of};
 
     /// The letter of a byte, `None` where the byte isn't A to Z.
     pub fn new(byte: u8) -> Option<Letter>

@@ -2,8 +2,8 @@
 
 ghost use Rattle.std.specs.Prelude.{◌≡◌, ◌↔◌, ◌<◌, ◌+◌, IfErr, IfOk, IsTrue, OnOk, length, map, slice_get};
 ghost use Rattle.std.specs.Option.{option_copied};
-ghost use Rattle.nx_envelope.specs.Marker.{HoldsWord};
-ghost use Rattle.nx_envelope.specs.MessageView.{MessageView};
+ghost use Rattle.nx_envelope.specs.Header.{HoldsWord};
+ghost use Rattle.nx_envelope.specs.Message.{MessageView};
 
 use crate::identity::Identity;
 use nx_code::char_to_code;
@@ -66,7 +66,7 @@ pub struct Message {
 
 impl Model for Message {
     ghost use Rattle.std.specs.Prelude.{map};
-    ghost use Rattle.nx_envelope.specs.MessageView.{MessageView};
+    ghost use Rattle.nx_envelope.specs.Message.{MessageView};
 
     ghost Value = { MessageView };
 

@@ -8,8 +8,8 @@ use Rattle.std.proofs.lemmas.Option.{slice_get-get_or, slice_get_past}
 use Rattle.std.proofs.lemmas.Bool.{cases_lt}
 use Rattle.std.proofs.lemmas.Bool.Decides.{nat_tests}
 use Rattle.nx_code.specs.Reading.{Reception}
-use Rattle.nx_fec.specs.Pairing.{Counted, nothing, counts_as, pairing, third_last}
-use Rattle.nx_fec.specs.Aligned.{word_in, words_of, dx_words, five_before, taken_at, receptions}
+use Rattle.nx_fec.specs.Pairing.{Counted, nothing, counts_as, pairing, third_last, five_before}
+use Rattle.nx_fec.specs.Aligned.{word_in, words_of, dx_words, taken_at, receptions}
 
 -- what is taken at the first RX slots
 abbrev pub taken_first : List ℕ → ℕ → List Reception

@@ -8,8 +8,7 @@ use Rattle.std.proofs.lemmas.Option.{slice_get-get_or, slice_get_past, slice_get
 use Rattle.nx_code.specs.Word.{elements}
 use Rattle.std.proofs.lemmas.Bool.{cases_lt, cases_eq}
 use Rattle.std.proofs.lemmas.Bool.Decides.{nat_tests}
-use Rattle.nx_code.specs.Table.{table, words}
-use Rattle.nx_code.specs.Phasing.{phasing_1, phasing_2}
+use Rattle.nx_code.specs.Table.{table, words, phasing_1, phasing_2}
 use Rattle.nx_code.proofs.TableLemmas.{traffic_word-is, words-lt}
 use Rattle.nx_fec.specs.Emission.{SentPosition, sent_position, phasing_position, traffic_position, end_position, dx_word, rx_word, position_at, word_sent, emission, bits_of, IsEmission, AreWords, IsInCode, AreInCode}
 

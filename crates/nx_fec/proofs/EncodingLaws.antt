@@ -6,9 +6,8 @@ use Rattle.std.proofs.Math.Seq.{take-add}
 use Rattle.std.proofs.lemmas.List.{length-map, length-take, length-drop, take_all}
 use Rattle.std.proofs.lemmas.List.Concat.{flat_map-append}
 use Rattle.std.proofs.lemmas.List.FromFn.{map-range_with_len_more}
-use Rattle.nx_code.specs.Characters.{is_in_code}
+use Rattle.nx_code.specs.Reading.{is_in_code, combination, shift_after}
 use Rattle.nx_code.specs.Spelling.{Spells, EachFits}
-use Rattle.nx_code.specs.Reading.{combination, shift_after}
 use Rattle.nx_code.specs.declared.shifts.Shift.{Shift}
 use Rattle.nx_code.specs.declared.shifts.Shift.TheVariants.{Letters}
 use Rattle.nx_code.specs.declared.signals.Comb.{Comb}

@@ -14,7 +14,7 @@ use Rattle.nx_code.proofs.WordLemmas.{value_of-le, number_of-elements, elements-
 use Rattle.nx_fec.specs.declared.positions.Position.TheVariants.{Phasing, Traffic, End}
 use Rattle.nx_fec.specs.Pairing.{traffic, idle_signal, nothing, counts_as, pairing}
 use Rattle.nx_fec.specs.Aligned.{word_in, words_of, taken_at, receptions, aligned_text}
-use Rattle.nx_code.specs.Phasing.{phasing_1, phasing_2}
+use Rattle.nx_code.specs.Table.{phasing_1, phasing_2}
 use Rattle.nx_code.proofs.TableLemmas.{traffic_word-is}
 use Rattle.nx_fec.specs.Emission.{SentPosition, sent_position, phasing_position, traffic_position, end_position, dx_word, rx_word, position_at, emission, IsEmission, bits_of, AreWords, AreCombinations, IsInCode, AreInCode, reception, framed_positions}
 use Rattle.nx_fec.proofs.PairingLemmas.{counts_as-words, counts_as-combination}

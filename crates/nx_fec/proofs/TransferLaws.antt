@@ -2,8 +2,7 @@
 use Rattle.std.proofs.Common.{◌≡◌, ◌≢◌, ◌↔◌, ◌∙◌, ℕ, arith, List, [], ◌++◌, append-nil, ap, refl, subst, sym, Option, None, Some, IfSome, Result, Ok, Err, IfErr, IsErrOf}
 use Rattle.std.specs.Io.KnownBytes.{Consumes, IsAtEnd}
 use Rattle.nx_fec.proofs.ReadingLaws.{Err-same, IfSome-always}
-use Rattle.nx_fec.specs.Devices.{CountedDevice}
-use Rattle.nx_fec.specs.Transfers.{Reads, ReadsToEnd, Writes}
+use Rattle.nx_fec.specs.Transfers.{CountedDevice, Reads, ReadsToEnd, Writes}
 use Rattle.nx_fec.specs.declared.fault.RunFault.{RunFault}
 use Rattle.nx_fec.specs.declared.fault.RunFault.TheVariants.{Read, Write}
 

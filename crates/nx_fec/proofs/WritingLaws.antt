@@ -11,7 +11,7 @@ use Rattle.std.proofs.lemmas.List.FromFn.{map-range_with_len_more, take-map-rang
 use Rattle.nx_fec.specs.AirFile.{Line, element_digit, elements}
 use Rattle.nx_fec.specs.Lines.{line_bytes, file_of}
 use Rattle.nx_fec.specs.BitLines.{bit_line, bit_lines}
-use Rattle.nx_fec.specs.Devices.{HasWritten, WroteSome}
+use Rattle.nx_fec.specs.Transfers.{HasWritten, WroteSome}
 
 -- the next bytes of a list, after those up to an index
 pub Appends-next : (a b c : Option (List ℕ)) (bytes : List ℕ) (at count : ℕ) → Appends a b (take at bytes)

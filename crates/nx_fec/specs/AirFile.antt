@@ -1,7 +1,7 @@
 -- The lines of an air file (this profile): what they say, and how they are spelled.
 use Rattle.std.specs.Prelude.{◌≢◌, ℕ, ◌^◌, ◌<◌, ◌≤◌, Bool, true, false, List, [], ◌∷◌, ◌++◌, length, map, codes}
 use Rattle.std.specs.Fmt.{decimal}
-use Rattle.nx_code.specs.Characters.{IsCapital}
+use Rattle.nx_code.specs.Reading.{IsCapital}
 use Rattle.nx_fec.specs.declared.air_file.AirLine.{AirLine}
 use Rattle.nx_fec.specs.declared.air_file.AirLine.TheVariants.{Moment, Bits, RefuseStation, AcceptStation, RefuseSubject, AcceptSubject}
 

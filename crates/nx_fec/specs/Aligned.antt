@@ -1,12 +1,12 @@
 -- The text of words that stand in their slots from slot 0 on (ITU-R M.625, collective mode B).
-use Rattle.std.specs.Prelude.{◌≡◌, ◌≢◌, ℕ, ◌+◌, ◌-◌, ◌*◌, ◌/◌, ◌%◌, nat_lt, if◌then◌else◌, Bool, List, length, map, slice_index}
+use Rattle.std.specs.Prelude.{◌≡◌, ◌≢◌, ℕ, ◌+◌, ◌-◌, ◌*◌, ◌/◌, ◌%◌, Bool, List, length, map, slice_index}
 use Rattle.std.specs.List.{range_with_len}
 use Rattle.nx_code.specs.Word.{word_from}
 use Rattle.nx_code.specs.Reading.{Reception, text}
 use Rattle.nx_code.specs.declared.shifts.Shift.TheVariants.{Letters}
 use Rattle.nx_fec.specs.declared.aligned.AlignedFault.{AlignedFault}
 use Rattle.nx_fec.specs.declared.aligned.AlignedFault.TheVariants.{Ragged, Memory}
-use Rattle.nx_fec.specs.Pairing.{Counted, nothing, counts_as, pairing}
+use Rattle.nx_fec.specs.Pairing.{Counted, counts_as, pairing, five_before}
 
 -- word k of the elements: those from 7k to 7k+6
 unfoldable pub word_in : List Bool → ℕ → ℕ
@@ -15,11 +15,6 @@ word_in bits slot = word_from bits (7 * slot)
 -- the whole words, in order
 unfoldable pub words_of : List Bool → List ℕ
 words_of bits = map (word_in bits) (range_with_len 0 (length bits / 7))
-
--- what the word five before word k counts as, where `words` gives each word's number: before word
--- 0 none was seen
-abbrev pub five_before : (ℕ → ℕ) → ℕ → Counted
-five_before words k = if nat_lt k 5 then nothing else counts_as (words (k - 5))
 
 -- What the first DX words of a lock count as, so many of them, oldest first. The first of them is
 -- word 0, or word 1 of a lock that begins with an RX word. RX word k comes after those before it:

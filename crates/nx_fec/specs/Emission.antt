@@ -3,8 +3,7 @@
 use Rattle.std.specs.Prelude.{◌≡◌, ℕ, ◌+◌, ◌-◌, ◌*◌, ◌/◌, ◌%◌, ◌<◌, ◌≤◌, ◌==◌, nat_lt, if◌then◌else◌, Bool, List, ◌++◌, length, map, replicate, slice_index, slice_index_or, EachIndex}
 use Rattle.std.specs.List.{flat_map, range_with_len}
 use Rattle.nx_code.specs.Word.{elements}
-use Rattle.nx_code.specs.Table.{traffic_word}
-use Rattle.nx_code.specs.Phasing.{phasing_1, phasing_2}
+use Rattle.nx_code.specs.Table.{traffic_word, phasing_1, phasing_2}
 use Rattle.nx_code.specs.Reading.{Reception, combination, idle}
 use Rattle.nx_fec.specs.declared.positions.Position.{Position}
 use Rattle.nx_fec.specs.declared.positions.Position.TheVariants.{Phasing, Traffic, End}

@@ -1,7 +1,6 @@
 pub mod AirFile
 pub mod Aligned
 pub mod BitLines
-pub mod Devices
 pub mod Emission
 pub mod LineRuns
 pub mod Lines

@@ -1,11 +1,9 @@
 -- A run over the lines of an air file that writes while it reads (this profile).
 use Rattle.std.specs.Prelude.{◌≡◌, ℕ, ◌+◌, ◌<◌, ◌≤◌, List, [], ◌∷◌, ◌++◌, length, Option, Result, Ok, Err, ⊤}
-use Rattle.std.specs.List.{AllByRecursion}
 use Rattle.std.specs.Io.KnownBytes.{Appends}
 use Rattle.nx_fec.specs.AirFile.{Line, IsLine, spelling}
-use Rattle.nx_fec.specs.Lines.{IsAirFile, IsBeginning, IsCause, file_of, line_end}
-use Rattle.nx_fec.specs.Devices.{HasWritten, WroteSome}
-use Rattle.nx_fec.specs.Transfers.{Devices, IsReadOut, Transfers, on_the_way}
+use Rattle.nx_fec.specs.Lines.{IsAirFile, IsCause, file_of, line_end, StopsAt}
+use Rattle.nx_fec.specs.Transfers.{HasWritten, WroteSome, Devices, IsReadOut, Transfers, on_the_way}
 use Rattle.nx_fec.specs.declared.fault.LineFault.{LineFault}
 use Rattle.nx_fec.specs.declared.fault.LineFault.TheVariants.{TooLong, LineLong, LineCut, BadLine}
 use Rattle.nx_fec.specs.declared.line_run.LinesFault.{LinesFault}
@@ -13,10 +11,6 @@ use Rattle.nx_fec.specs.declared.line_run.LinesFault.TheVariants as run
 use Rattle.nx_fec.specs.declared.line_run.TakeFault.{TakeFault}
 use Rattle.nx_fec.specs.declared.line_run.TakeFault.TheVariants as take
 use Rattle.nx_fec.specs.declared.line_run.LinesRead.{LinesRead}
-
--- the most bytes of an air file that is read as it comes: 2 ^ 28
-abbrev pub air_limit : ℕ
-air_limit = 268435456
 
 -- bytes that wait to be written, and how many were written before them
 pub record Waiting : Type 0 where
@@ -63,16 +57,6 @@ ExplainsTaking stands begins refuses first now old new batch lines line (take.Re
     refuses first lines line why × HasTaken stands first now lines (HasGiven old new batch)
 ExplainsTaking stands begins refuses first now old new batch lines line (take.Write written) =
     HasTakenSome begins first old new (lines ++ line ∷ []) written
-
--- the bytes are good lines, and the beginning of one more, and what follows, of which this holds
-pub record StopsAt (bytes : List ℕ) (holds : List Line → List ℕ → List ℕ → Type 0) : Type 0 where
-  pub lines : List Line
-  pub rest : List ℕ
-  pub more : List ℕ
-  pub whole : bytes ≡ (file_of lines ++ rest) ++ more
-  pub each : AllByRecursion IsLine lines
-  pub part : IsBeginning rest
-  pub here : holds lines rest more
 
 -- the next line after these, which is one of an air file within the limit, is refused; lines count
 -- from 1

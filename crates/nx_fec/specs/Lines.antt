@@ -117,3 +117,17 @@ pub record StopsIn (limit : ℕ) (scanner : Scanning) (bytes piece : List ℕ) (
   pub cause : (more : List ℕ)
       → IsCause limit (length (bytes ++ take count piece)) lines scanner.part
       (drop count piece ++ more) why
+
+-- the most bytes of an air file that is read as it comes: 2 ^ 28
+abbrev pub air_limit : ℕ
+air_limit = 268435456
+
+-- the bytes are good lines, and the beginning of one more, and what follows, of which this holds
+pub record StopsAt (bytes : List ℕ) (holds : List Line → List ℕ → List ℕ → Type 0) : Type 0 where
+  pub lines : List Line
+  pub rest : List ℕ
+  pub more : List ℕ
+  pub whole : bytes ≡ (file_of lines ++ rest) ++ more
+  pub each : AllByRecursion IsLine lines
+  pub part : IsBeginning rest
+  pub here : holds lines rest more

@@ -60,3 +60,8 @@ IsLatest latest words = map heard_as latest ≡ drop (length words - 3) words
 abbrev pub IsHeardOf : Heard → ℕ → Type 0
 IsHeardOf (Intact signal) word = number_of_signal signal ≡ word
 IsHeardOf Wrong word = weight word ≢ 4
+
+-- what the word five before word k counts as, where `words` gives each word's number: before word
+-- 0 none was seen
+abbrev pub five_before : (ℕ → ℕ) → ℕ → Counted
+five_before words k = if nat_lt k 5 then nothing else counts_as (words (k - 5))

@@ -5,13 +5,12 @@ use Rattle.std.specs.Io.KnownBytes.{Appends, IsAtEnd}
 use Rattle.nx_fec.specs.Lines.{HasFault, IsBitFile, IsFaultless, file_of}
 use Rattle.nx_fec.specs.Aligned.{aligned_text, words_of}
 use Rattle.nx_fec.specs.WordLines.{word_lines}
-use Rattle.nx_fec.specs.Devices.{CountedDevice, WroteSome}
-use Rattle.nx_fec.specs.Transfers.{Devices, IsReadOut, Reads, ReadsToEnd, Transfers, at_the_end}
+use Rattle.nx_fec.specs.Transfers.{CountedDevice, WroteSome, Devices, IsReadOut, Reads, ReadsToEnd, Transfers, at_the_end}
 use Rattle.nx_fec.specs.declared.fault.LineFault.{LineFault}
 use Rattle.nx_fec.specs.declared.fault.LineFault.TheVariants as file
 use Rattle.nx_fec.specs.BitLines.{bit_lines}
 use Rattle.nx_fec.specs.Emission.{bits_of, emission, framed_positions}
-use Rattle.nx_code.specs.Characters.{is_in_code}
+use Rattle.nx_code.specs.Reading.{is_in_code}
 use Rattle.nx_code.specs.Spelling.{Spells}
 use Rattle.nx_code.specs.declared.shifts.Shift.TheVariants.{Letters}
 use Rattle.nx_code.specs.declared.spelling.SpellFault.{SpellFault}

@@ -1,7 +1,7 @@
 //! The lines of an air file, which carries what a receiver hears: moments, elements and commands of selection.
 ghost use Rattle.std.specs.Prelude.{◌≡◌, ◌≢◌, ◌<◌, ◌≤◌, ◌^◌, ℕ, Bool, List, ◌++◌, length, map, IfSome, IfNone, IsTrue, MatchOption, [], ◌∷◌, false};
 ghost use Rattle.std.specs.Fmt.{decimal};
-ghost use Rattle.nx_code.specs.Characters.{IsCapital};
+ghost use Rattle.nx_code.specs.Reading.{IsCapital};
 ghost use Rattle.nx_fec.specs.AirFile.{IsLine, IsNoLine, element_digit, line_of, spelling};
 ghost use Rattle.nx_fec.specs.private.ScannerKept.{SpellsLine};
 

@@ -1,6 +1,6 @@
 //! Bytes that are gathered for one write.
 ghost use Rattle.std.specs.Prelude.{◌≡◌, ◌+◌, ◌≤◌, ◌↔◌, length, ℕ, List, [], ◌++◌, Option, OnOk, IsErr, MatchResult};
-ghost use Rattle.nx_fec.specs.Devices.{WroteSome};
+ghost use Rattle.nx_fec.specs.Transfers.{WroteSome};
 ghost use Rattle.nx_fec.specs.LineRuns.{HasGiven};
 
 use crate::counting::Counting;

@@ -2,7 +2,7 @@
 ghost use Rattle.std.specs.Prelude.{◌≡◌, ◌↔◌, ◌+◌, ◌-◌, ◌^◌, ◌<◌, [], min, IfOk, IsTrue};
 ghost use Rattle.std.specs.Io.{ReadsAtMost, WritesAtMost};
 ghost use Rattle.std.specs.Io.KnownBytes.{ReadConsumes, WriteAppends, Keeps};
-ghost use Rattle.nx_fec.specs.Devices.{Counts};
+ghost use Rattle.nx_fec.specs.Transfers.{Counts};
 
 use std::io;
 use std::io::{Error, ErrorKind, Read, Write};
@@ -19,7 +19,7 @@ pub struct Counting<T> {
 }
 
 impl<T> Model for Counting<T> {
-    ghost use Rattle.nx_fec.specs.Devices.{CountedDevice};
+    ghost use Rattle.nx_fec.specs.Transfers.{CountedDevice};
     ghost use Rattle.nx_fec.specs.private.CountedCode.{counted_code};
 
     ghost Value = { CountedDevice T };

@@ -6,12 +6,12 @@ ghost use Rattle.std.specs.Io.KnownBytes.{Appends};
 ghost use Rattle.nx_code.specs.Reading.{combination, idle, text};
 ghost use Rattle.nx_code.specs.declared.shifts.Shift.TheVariants.{Letters};
 ghost use Rattle.nx_fec.specs.AirFile.{IsLine, Line, spelling};
-ghost use Rattle.nx_fec.specs.Aligned.{aligned_text, dx_words, five_before, receptions, words_of};
+ghost use Rattle.nx_fec.specs.Aligned.{aligned_text, dx_words, receptions, words_of};
+ghost use Rattle.nx_fec.specs.Pairing.{five_before, counts_as, third_last};
 ghost use Rattle.nx_fec.specs.BitLines.{bit_lines};
-ghost use Rattle.nx_fec.specs.Devices.{WroteSome};
+ghost use Rattle.nx_fec.specs.Transfers.{WroteSome};
 ghost use Rattle.nx_fec.specs.Emission.{AreCombinations, AreInCode, AreWords, IsEmission, SentPosition, bits_of, emission, framed_positions, reception};
 ghost use Rattle.nx_fec.specs.Lines.{HasFault, IsAirFile, IsAtByte, IsBitFile, IsCause, Splits, file_of};
-ghost use Rattle.nx_fec.specs.Pairing.{counts_as, third_last};
 ghost use Rattle.nx_fec.specs.Runs.{IsDecoded, IsEncoded};
 ghost use Rattle.nx_fec.specs.declared.fault.LineFault.{LineFault};
 

@@ -2,7 +2,8 @@
 ghost use Rattle.std.specs.Prelude.{◌≡◌, ◌+◌, ◌<◌, ◌≤◌, ℕ, Option, List, [], ◌∷◌, ◌++◌, length, take, MatchResult, IsErrOf, IsSomeAnd, OnOk, IfOk};
 ghost use Rattle.std.specs.Io.KnownBytes.{Appends};
 ghost use Rattle.nx_fec.specs.AirFile.{IsLine, Line};
-ghost use Rattle.nx_fec.specs.LineRuns.{ExplainsLines, ExplainsTaking, HasGiven, HasTaken, RunsLines, air_limit};
+ghost use Rattle.nx_fec.specs.LineRuns.{ExplainsLines, ExplainsTaking, HasGiven, HasTaken, RunsLines};
+ghost use Rattle.nx_fec.specs.Lines.{air_limit};
 ghost use Rattle.nx_fec.specs.private.LineTaking.{IsTaking};
 ghost use Rattle.nx_fec.specs.Transfers.{Writes, devices};
 

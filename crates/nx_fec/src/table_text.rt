@@ -4,7 +4,7 @@ ghost use Rattle.std.specs.Prelude.{◌≡◌, ◌+◌, ◌≤◌, ◌↔◌, �
 ghost use Rattle.std.specs.Io.KnownBytes.{Appends};
 ghost use Rattle.arrayvec.specs.ArrayVec.{array_vec_len};
 ghost use Rattle.nx_code.specs.Signal.{row_of_signal};
-ghost use Rattle.nx_fec.specs.Devices.{WroteSome};
+ghost use Rattle.nx_fec.specs.Transfers.{WroteSome};
 ghost use Rattle.nx_fec.specs.TableText.{cell_text, element_letter, table_line, table_text};
 
 use crate::counting::Counting;

@@ -5,7 +5,7 @@ ghost use Rattle.arrayvec.specs.ArrayVec.{array_vec_len};
 ghost use Rattle.nx_fec.specs.AirFile.{elements};
 ghost use Rattle.nx_fec.specs.Lines.{line_bytes, file_of};
 ghost use Rattle.nx_fec.specs.BitLines.{bit_lines};
-ghost use Rattle.nx_fec.specs.Devices.{HasWritten, WroteSome};
+ghost use Rattle.nx_fec.specs.Transfers.{HasWritten, WroteSome};
 
 use crate::counting::Counting;
 use crate::fault::WriteFault;

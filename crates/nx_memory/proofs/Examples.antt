@@ -6,7 +6,7 @@ use Rattle.nx_envelope.specs.declared.identity.Identity.{Identity}
 use Rattle.nx_memory.specs.declared.entry.MemoryEntry.{MemoryEntry}
 use Rattle.nx_memory.specs.Memory.{content_after, newest_of, is_known}
 use Rattle.nx_memory.specs.Table.{index_of, moment_of_last}
-use Rattle.nx_memory.specs.Vital.{is_vital}
+use Rattle.nx_memory.specs.Selection.{is_vital}
 
 -- the message 01 of station E (69) and subject A (65), and the message 02
 abbrev pub ea01 : Identity

@@ -9,8 +9,7 @@ use Rattle.nx_envelope.specs.declared.identity.Identity.{Identity}
 use Rattle.nx_envelope.specs.Identity.{same_identity}
 use Rattle.nx_envelope.proofs.Identities.{same_identity-true, same_itself}
 use Rattle.nx_memory.specs.declared.entry.MemoryEntry.{MemoryEntry}
-use Rattle.nx_memory.specs.Live.{IsLive}
-use Rattle.nx_memory.specs.Memory.{most_entries, seconds_known, is_recent, is_known}
+use Rattle.nx_memory.specs.Memory.{IsLive, most_entries, seconds_known, is_recent, is_known}
 
 -- an element that passes, with what stands before and after it
 record Found {A : Type 0} (p : A → Bool) (xs : List A) : Type 0 where

@@ -6,10 +6,10 @@ use Rattle.std.proofs.lemmas.List.{get_or-set_same, get_or-set_other}
 use Rattle.std.specs.Ordering.{nat_cmp}
 use Rattle.std.specs.Cmp.{nat_cmp_total, unsigned_tied}
 use Rattle.std.specs.FinSet as finite
-use Rattle.nx_code.specs.Characters.{IsCapital}
+use Rattle.nx_code.specs.Reading.{IsCapital}
 use Rattle.nx_memory.specs.private.LetterFlags.{letters_from, letters_of, flags_from, flags_of}
 use Rattle.nx_memory.specs.Letters.{HasLettersOnly}
-use Rattle.nx_memory.specs.Vital.{is_vital, IsWithoutVital}
+use Rattle.nx_memory.specs.Selection.{is_vital, IsWithoutVital}
 
 -- the empty set of numbers has none
 pub contains-none : (q : ℕ) → finite.contains (finite.empty {R = nat_cmp}) q ≡ false

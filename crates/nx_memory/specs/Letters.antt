@@ -2,7 +2,7 @@
 use Rattle.std.specs.Prelude.{ℕ, IsTrue}
 use Rattle.std.specs.Ordering.{nat_cmp}
 use Rattle.std.specs.FinSet as set
-use Rattle.nx_code.specs.Characters.{IsCapital}
+use Rattle.nx_code.specs.Reading.{IsCapital}
 
 -- the set holds nothing but letters
 abbrev pub HasLettersOnly : set.FinSet nat_cmp → Type 0

@@ -1,11 +1,8 @@
 pub mod Content
 pub mod Letters
-pub mod Live
 pub mod Memory
-pub mod Refused
 pub mod Ring
 pub mod Saved
 pub mod Selection
 pub mod Table
-pub mod Vital
 pub mod private

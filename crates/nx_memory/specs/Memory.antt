@@ -1,5 +1,5 @@
 -- The memory of identities (this profile: the last 200 entered, each for 66 hours).
-use Rattle.std.specs.Prelude.{ℕ, ◌-◌, Bool, ◌&&◌, nat_lt, List, [], ◌∷◌, ◌++◌, length, slice_get, Option, unwrap_or}
+use Rattle.std.specs.Prelude.{ℕ, ◌-◌, Bool, ◌&&◌, nat_lt, List, [], ◌∷◌, ◌++◌, length, slice_get, Option, unwrap_or, ◌+◌, ◌<◌, ◌≡◌}
 use Rattle.std.specs.Option.{option_map}
 use Rattle.std.specs.List.{list_any}
 use Rattle.nx_code.specs.Lists.{last_of}
@@ -42,3 +42,14 @@ is_known identity moment content = list_any (is_recent identity moment) content
 abbrev pub entry_at : List MemoryEntry → ℕ → Option (Identity × ℕ)
 entry_at content place =
     option_map (λ entry. (entry.identity, entry.moment)) (slice_get content place)
+
+-- an entry of the identity is live at the moment: it is less than 66 hours old, and fewer than 200
+-- entries came after it
+pub record IsLive (identity : Identity) (moment : ℕ) (entries : List MemoryEntry) : Type 0 where
+  pub before : List MemoryEntry
+  pub entry : MemoryEntry
+  pub after : List MemoryEntry
+  pub made : entries ≡ before ++ entry ∷ after
+  pub same : entry.identity ≡ identity
+  pub recent : moment < entry.moment + seconds_known
+  pub few_after : length after < most_entries

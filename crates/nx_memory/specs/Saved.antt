@@ -4,7 +4,7 @@ use Rattle.nx_envelope.specs.Moment.{last_moment}
 use Rattle.nx_memory.specs.declared.entry.MemoryEntry.{MemoryEntry}
 use Rattle.nx_memory.specs.Content.{IsContent}
 use Rattle.nx_memory.specs.Memory.{newest_moment}
-use Rattle.nx_memory.specs.Refused.{Refused}
+use Rattle.nx_memory.specs.Selection.{Refused}
 
 -- what is refused, and the entries, oldest first
 pub record SavedState : Type 0 where

@@ -1,2 +1,3 @@
 pub mod LetterFlags
+pub mod RefusedCode
 pub mod RingAndTable

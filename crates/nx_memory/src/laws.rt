@@ -6,10 +6,9 @@ ghost use Rattle.nx_code.specs.Lists.{last_of};
 ghost use Rattle.nx_envelope.specs.declared.identity.Identity.{Identity};
 ghost use Rattle.nx_memory.specs.declared.entry.MemoryEntry.{MemoryEntry};
 ghost use Rattle.nx_memory.specs.Content.{IsContent};
-ghost use Rattle.nx_memory.specs.Live.{IsLive};
+ghost use Rattle.nx_memory.specs.Memory.{IsLive, content_after, is_known, most_entries, newest_moment};
 ghost use Rattle.nx_memory.specs.Table.{identities, index_of, is_recent_moment, moment_of_last};
 ghost use Rattle.nx_envelope.specs.Moment.{last_moment};
-ghost use Rattle.nx_memory.specs.Memory.{content_after, is_known, most_entries, newest_moment};
 
 use crate::listed::Listed;
 use crate::recall::Recall;

@@ -24,7 +24,7 @@ pub struct Saved {
 
 impl Model for Saved {
     ghost use Rattle.std.specs.Coded.{codes};
-    ghost use Rattle.nx_memory.specs.Refused.{refused_code};
+    ghost use Rattle.nx_memory.specs.private.RefusedCode.{refused_code};
     ghost use Rattle.nx_memory.specs.Saved.{SavedState, AreSavedEntries};
 
     ghost Value = { SavedState };

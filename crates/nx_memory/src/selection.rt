@@ -2,9 +2,7 @@
 
 ghost use Rattle.std.specs.Prelude.{◌≡◌, ◌↔◌, false, not, IsTrue, IsErr, IfErr, OnOk, OnErr};
 ghost use Rattle.std.specs.FinSet as set;
-ghost use Rattle.nx_memory.specs.Refused.{IsRefusable};
-ghost use Rattle.nx_memory.specs.Vital.{is_vital};
-ghost use Rattle.nx_memory.specs.Selection.{admits};
+ghost use Rattle.nx_memory.specs.Selection.{IsRefusable, is_vital, admits};
 
 use crate::letter_set::LetterSet;
 use nx_envelope::{Identity, Letter};
@@ -28,7 +26,8 @@ pub struct Selection {
 }
 
 impl Model for Selection {
-    ghost use Rattle.nx_memory.specs.Refused.{Refused, refused_code, IsRefusable};
+    ghost use Rattle.nx_memory.specs.private.RefusedCode.{refused_code};
+    ghost use Rattle.nx_memory.specs.Selection.{Refused, IsRefusable};
 
     ghost Value = { Refused };
 

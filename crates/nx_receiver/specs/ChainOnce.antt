@@ -1,17 +1,15 @@
 -- The headline across power-offs: a message that is sent in a chain of runs, one or more times, and
 -- is printed once (this profile).
 use Rattle.std.specs.Prelude.{◌≡◌, ℕ, ◌+◌, ◌<◌, List, map, Contains, IsTrue}
-use Rattle.nx_envelope.specs.MessageView.{MessageView}
+use Rattle.nx_envelope.specs.Message.{MessageView}
 use Rattle.nx_memory.specs.Saved.{SavedState}
 use Rattle.nx_memory.specs.Memory.{seconds_known}
 use Rattle.nx_memory.specs.Selection.{admits}
-use Rattle.nx_station.specs.Sendings.{Part, IsCut}
+use Rattle.nx_station.specs.Sendings.{Part, IsCut, IsSentAt}
 use Rattle.nx_receiver.specs.Chain.{Run, all_copies, events_in, start_from}
 use Rattle.nx_receiver.specs.Events.{Setting, elements_among}
 use Rattle.nx_receiver.specs.FoundCopies.{FoundCopy}
-use Rattle.nx_receiver.specs.LawTerms.{IsUnknownAtFirst}
-use Rattle.nx_receiver.specs.Once.{FewBetween, setting_of}
-use Rattle.nx_receiver.specs.Emissions.{IsSentAt}
+use Rattle.nx_receiver.specs.Once.{IsUnknownAtFirst, FewBetween, setting_of}
 
 -- a run, with the gaps of any bits and the received emissions into which its elements are cut
 pub record CutRun : Type 0 where

@@ -1,17 +1,16 @@
 -- What sendings give a receiver: a lock that holds, and copies (this profile).
 use Rattle.std.specs.Prelude.{◌≡◌, ℕ, ◌+◌, ◌*◌, ◌≤◌, ◌==◌, Bool, List, ◌∷◌, ◌++◌, length, take, filter}
 use Rattle.std.specs.List.{flat_map}
-use Rattle.nx_envelope.specs.Header.{Header}
-use Rattle.nx_envelope.specs.Message.{text_of}
-use Rattle.nx_envelope.specs.MessageView.{MessageView}
-use Rattle.nx_envelope.specs.declared.found.How.TheVariants.{Full}
 use Rattle.nx_fec.specs.Emission.{bits_of}
-use Rattle.nx_station.specs.Broadcast.{printed_text}
-use Rattle.nx_station.specs.Sendings.{Part, Sending, IsSending}
 use Rattle.nx_sync.specs.Laws.{phasing}
 use Rattle.nx_sync.specs.Locks.{Lock, IsLocked}
 use Rattle.nx_sync.specs.Words.{first_role, role_of}
 use Rattle.nx_sync.specs.declared.step.Role.TheVariants.{Dx}
+use Rattle.nx_envelope.specs.Header.{Header}
+use Rattle.nx_envelope.specs.Message.{text_of, MessageView}
+use Rattle.nx_envelope.specs.declared.found.How.TheVariants.{Full}
+use Rattle.nx_station.specs.Broadcast.{printed_text}
+use Rattle.nx_station.specs.Sendings.{Sending}
 use Rattle.nx_receiver.specs.FoundCopies.{FoundCopy}
 
 -- how many bits the 48 phasing words of the slots 96 to 143 have
@@ -45,11 +44,6 @@ copy_of_sending sending = record {
   text = text_of sending.message.lines;
   place = sending.place;
 }
-
--- the message is sent in one of the received emissions, with the second digit of its header at this
--- place
-abbrev pub IsSentAt : List Part → MessageView → ℕ → Type 0
-IsSentAt parts message place = IsSending parts (record { message = message; place = place })
 
 -- The header is that of one of the messages, in what is printed of them, one after another: it
 -- bears the identity of the message, and stands where its printed text begins, which is `ZCZC`, a

@@ -1,10 +1,12 @@
 -- What a receiver is given, in order: moments, elements one by one, and commands of selection (this
 -- profile). And what is in force when an element is heard.
-use Rattle.std.specs.Prelude.{ℕ, Bool, if◌then◌else◌, List, [], ◌∷◌, ◌++◌, slice_index_or}
+use Rattle.std.specs.Prelude.{ℕ, Bool, if◌then◌else◌, List, [], ◌∷◌, ◌++◌, slice_index_or, map, ◌<◌, ◌≡◌, ◌≤◌}
 use Rattle.std.specs.FinSet as set
+use Rattle.nx_envelope.specs.Moment.{last_moment}
 use Rattle.nx_memory.specs.declared.entry.MemoryEntry.{MemoryEntry}
-use Rattle.nx_memory.specs.Refused.{Refused}
-use Rattle.nx_memory.specs.Vital.{is_vital}
+use Rattle.nx_memory.specs.Selection.{Refused, is_vital}
+use Rattle.nx_receiver.specs.declared.fault.MomentFault.{MomentFault}
+use Rattle.nx_receiver.specs.declared.fault.MomentFault.TheVariants.{Back, Range}
 
 -- a command of selection, for a letter by its byte, or for the whole of what is refused
 pub data Command : Type 0 where
@@ -95,3 +97,13 @@ none_refused = record { stations = set.empty; subjects = set.empty }
 -- the start of a receiver that begins with nothing: an empty memory, moment 0, everything selected
 abbrev pub at_zero : Start
 at_zero = record { entries = []; moment = 0; refused = none_refused }
+
+-- these elements, each an event
+abbrev pub elements : List Bool → List Event
+elements bits = map element bits
+
+-- why a moment is refused: it is past the last one; or else it is before the one in force
+abbrev pub Refuses : ℕ → ℕ → MomentFault → Type 0
+Refuses last given (Range at) = (at ≡ given) × (last_moment < given)
+Refuses last given (Back from at) =
+    (from ≡ last) × (at ≡ given) × (given ≤ last_moment) × (given < last)

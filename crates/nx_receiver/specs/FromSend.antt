@@ -2,15 +2,13 @@
 use Rattle.std.specs.Prelude.{◌≡◌, ℕ, false, true, List, [], ◌∷◌, drop, filter, take, ⊤}
 use Rattle.std.specs.List.{AllByRecursion}
 use Rattle.nx_envelope.specs.Identity.{same_identity}
-use Rattle.nx_envelope.specs.Message.{text_of}
-use Rattle.nx_envelope.specs.MessageView.{MessageView}
+use Rattle.nx_envelope.specs.Message.{text_of, MessageView}
 use Rattle.nx_envelope.specs.declared.found.How.TheVariants.{Full}
 use Rattle.nx_fec.specs.Emission.{bits_of, emission}
 use Rattle.nx_station.specs.Broadcast.{layout}
 use Rattle.nx_station.specs.Channel.{first_slot}
 use Rattle.nx_station.specs.Sendings.{Part, gap, received}
-use Rattle.nx_receiver.specs.Events.{Event, at_moment}
-use Rattle.nx_receiver.specs.Receiver.{elements}
+use Rattle.nx_receiver.specs.Events.{Event, at_moment, elements}
 use Rattle.nx_receiver.specs.Tagged.{TaggedCopy}
 
 -- of these messages, this one alone bears its identity

@@ -1,31 +1,17 @@
 -- What the laws of printing speak of.
-use Rattle.std.specs.Prelude.{◌≡◌, ℕ, ◌+◌, ◌-◌, ◌*◌, ◌<◌, Bool, List, [], ◌∷◌, ◌++◌, length, take, drop, filter, IsTrue, All, Contains}
+use Rattle.std.specs.Prelude.{◌≡◌, ℕ, ◌+◌, ◌-◌, ◌*◌, ◌<◌, Bool, List, [], ◌∷◌, ◌++◌, length, take, drop, IsTrue, All, Contains}
 use Rattle.nx_envelope.specs.declared.identity.Identity.{Identity}
 use Rattle.nx_envelope.specs.Identity.{same_identity}
-use Rattle.nx_memory.specs.Live.{IsLive}
 use Rattle.nx_memory.specs.Memory.{seconds_known, most_entries}
 use Rattle.nx_memory.specs.declared.entry.MemoryEntry.{MemoryEntry}
 use Rattle.nx_receiver.specs.Tagged.{TaggedCopy}
-use Rattle.nx_receiver.specs.Printing.{is_good, entries_made, entries_after}
+use Rattle.nx_receiver.specs.Printing.{is_good, entries_made, entries_after, copies_of}
+use Rattle.nx_receiver.specs.Once.{IsUnknownAtFirst}
 
 -- The bits of the lock at t with n words: those of the words, and of the word before them, which
 -- says the role of the first.
 abbrev pub own_bits : List Bool → ℕ → ℕ → List Bool
 own_bits bits t n = take (7 * n + 7) (drop (t - 7) bits)
-
--- the copies that bear the identity, in order
-unfoldable pub copies_of : Identity → List TaggedCopy → List TaggedCopy
-copies_of identity copies = filter (λ copy. same_identity copy.identity identity) copies
-
--- after these first entries, no entry of the identity is live at the first of the copies that bear
--- it
-abbrev pub IsUnknownAtFirst : List MemoryEntry → Identity → List TaggedCopy → Type 0
-IsUnknownAtFirst entries identity copies =
-    (before after : List TaggedCopy) (first : TaggedCopy)
-    → copies ≡ before ++ first ∷ after
-    → copies_of identity before ≡ []
-    → IsTrue (same_identity first.identity identity)
-    → IsLive identity first.moment (entries_after entries before) → ⊥
 
 -- Of these copies, `first` and then `repeats` bear the identity, which is not numbered 00. All of
 -- them are good and selected. They lie within 66 hours of each other. After these first entries, no

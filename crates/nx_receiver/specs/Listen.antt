@@ -6,18 +6,14 @@ use Rattle.std.specs.Io.KnownBytes.{Appends}
 use Rattle.nx_envelope.specs.Moment.{last_moment}
 use Rattle.nx_envelope.specs.declared.letter.Letter.{Letter}
 use Rattle.nx_fec.specs.AirFile.{Line, moment, elements, refuse_station, accept_station, refuse_subject, accept_subject, IsLine, spelling}
-use Rattle.nx_fec.specs.Devices.{WroteSome}
-use Rattle.nx_fec.specs.LineRuns.{StopsAt, air_limit}
-use Rattle.nx_fec.specs.Lines.{IsAirFile, IsCause, file_of, line_end}
-use Rattle.nx_fec.specs.Transfers.{Devices, IsReadOut, Transfers, on_the_way}
+use Rattle.nx_fec.specs.Transfers.{WroteSome, Devices, IsReadOut, Transfers, on_the_way}
+use Rattle.nx_fec.specs.Lines.{StopsAt, air_limit, IsAirFile, IsCause, file_of, line_end}
 use Rattle.nx_fec.specs.declared.fault.LineFault.{LineFault}
 use Rattle.nx_fec.specs.declared.fault.LineFault.TheVariants as file
-use Rattle.nx_memory.specs.Vital.{is_vital}
+use Rattle.nx_memory.specs.Selection.{is_vital}
 use Rattle.nx_receiver.specs.Events as events
-use Rattle.nx_receiver.specs.Events.{Event, Setting, Start, at_moment, elements_among, command, first_setting, setting_after_all}
+use Rattle.nx_receiver.specs.Events.{Event, Setting, Start, at_moment, elements_among, command, first_setting, setting_after_all, Refuses}
 use Rattle.nx_receiver.specs.Log.{HasPrinted, IsLog, PrintsToEnd}
-use Rattle.nx_receiver.specs.Receiver as receiver
-use Rattle.nx_receiver.specs.Receiver.{Refuses}
 use Rattle.nx_receiver.specs.Tagged.{TaggedCopy}
 use Rattle.nx_receiver.specs.declared.fault.MomentFault.{MomentFault}
 use Rattle.nx_receiver.specs.declared.listen_fault.ListenFault.{ListenFault}
@@ -27,7 +23,7 @@ use Rattle.nx_receiver.specs.declared.listening.Report.{Report}
 -- what a line gives to a receiver
 abbrev pub line_events : Line → List Event
 line_events (moment n) = at_moment n ∷ []
-line_events (elements bits) = receiver.elements bits
+line_events (elements bits) = events.elements bits
 line_events (refuse_station letter) = command (events.refuse_station letter) ∷ []
 line_events (accept_station letter) = command (events.accept_station letter) ∷ []
 line_events (refuse_subject letter) = command (events.refuse_subject letter) ∷ []

@@ -2,10 +2,9 @@
 -- is printed once; and that it is (this profile).
 use Rattle.std.specs.Prelude.{ℕ, List, Option, IfSome}
 use Rattle.std.specs.Io.KnownBytes.{Appends, Consumes}
-use Rattle.nx_envelope.specs.MessageView.{MessageView}
+use Rattle.nx_envelope.specs.Message.{MessageView}
 use Rattle.nx_fec.specs.AirFile.{Line}
-use Rattle.nx_fec.specs.LineRuns.{air_limit}
-use Rattle.nx_fec.specs.Lines.{IsAirFile}
+use Rattle.nx_fec.specs.Lines.{air_limit, IsAirFile}
 use Rattle.nx_fec.specs.Transfers.{Devices}
 use Rattle.nx_station.specs.Sendings.{Part}
 use Rattle.nx_receiver.specs.Events.{Start}

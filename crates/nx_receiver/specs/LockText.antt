@@ -6,8 +6,7 @@ use Rattle.std.specs.Prelude.{ℕ, zero, suc, ◌+◌, ◌*◌, if◌then◌else
 use Rattle.std.specs.Option.{option_to_list}
 use Rattle.nx_code.specs.Reading.{Reception, byte_of, shift_after_all}
 use Rattle.nx_code.specs.declared.shifts.Shift.TheVariants.{Letters}
-use Rattle.nx_fec.specs.Aligned.{five_before}
-use Rattle.nx_fec.specs.Pairing.{counts_as, pairing}
+use Rattle.nx_fec.specs.Pairing.{five_before, counts_as, pairing}
 use Rattle.nx_sync.specs.Words.{word_of_lock, first_role, role_of, is_dx}
 use Rattle.nx_sync.specs.declared.step.Role.{Role}
 

@@ -2,10 +2,10 @@
 use Rattle.std.specs.Prelude.{◌≡◌, ℕ, ◌-◌, ◌==◌, Bool, true, if◌then◌else◌, List, [], ◌∷◌, ◌++◌, length, codes, decimal, slice_get, unwrap_or}
 use Rattle.std.specs.List.{concat, AllZip}
 use Rattle.std.specs.Option.{option_map}
-use Rattle.nx_envelope.specs.Errors.{errors_of}
+use Rattle.nx_envelope.specs.Copies.{errors_of}
 use Rattle.nx_envelope.specs.Identity.{identity_bytes}
 use Rattle.nx_envelope.specs.Moment.{IsShownAs}
-use Rattle.nx_envelope.specs.Newline.{newline}
+use Rattle.nx_envelope.specs.Header.{newline}
 use Rattle.nx_envelope.specs.declared.found.How.{How}
 use Rattle.nx_envelope.specs.declared.found.How.TheVariants.{Full, Cut, Long}
 use Rattle.nx_sync.specs.Locks.{Lock, Now, IsNow}

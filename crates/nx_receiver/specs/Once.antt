@@ -1,21 +1,30 @@
 -- A message that is sent one or more times and is printed once: what has to be met, and what is
 -- printed (this profile).
 use Rattle.std.specs.Prelude.{◌≡◌, ℕ, ◌+◌, ◌<◌, List, [], ◌∷◌, ◌++◌, length, Contains, IsTrue}
-use Rattle.nx_envelope.specs.Errors.{errors_of}
-use Rattle.nx_envelope.specs.Identity.{same_identity}
-use Rattle.nx_envelope.specs.Message.{text_of}
-use Rattle.nx_envelope.specs.MessageView.{MessageView}
-use Rattle.nx_envelope.specs.declared.found.How.TheVariants.{Full}
-use Rattle.nx_memory.specs.Memory.{seconds_known, most_entries}
-use Rattle.nx_memory.specs.Selection.{admits}
-use Rattle.nx_station.specs.Sendings.{Part, IsCut}
 use Rattle.nx_sync.specs.Locks.{Lock, Now, IsNow}
+use Rattle.nx_envelope.specs.Copies.{errors_of}
+use Rattle.nx_envelope.specs.Identity.{same_identity}
+use Rattle.nx_envelope.specs.Message.{text_of, MessageView}
+use Rattle.nx_envelope.specs.declared.found.How.TheVariants.{Full}
+use Rattle.nx_envelope.specs.declared.identity.Identity.{Identity}
+use Rattle.nx_memory.specs.Memory.{seconds_known, most_entries, IsLive}
+use Rattle.nx_memory.specs.Selection.{admits}
+use Rattle.nx_memory.specs.declared.entry.MemoryEntry.{MemoryEntry}
+use Rattle.nx_station.specs.Sendings.{Part, IsCut, IsSentAt}
 use Rattle.nx_receiver.specs.Events.{Event, Setting, Start, elements_among, first_setting, setting_at}
 use Rattle.nx_receiver.specs.FoundCopies.{FoundCopy, found_to_end}
-use Rattle.nx_receiver.specs.LawTerms.{IsUnknownAtFirst, copies_of}
-use Rattle.nx_receiver.specs.Printing.{entries_made, entries_after}
-use Rattle.nx_receiver.specs.Emissions.{IsSentAt}
+use Rattle.nx_receiver.specs.Printing.{copies_of, entries_made, entries_after}
 use Rattle.nx_receiver.specs.Tagged.{TaggedCopy, tagged_copies}
+
+-- after these first entries, no entry of the identity is live at the first of the copies that bear
+-- it
+abbrev pub IsUnknownAtFirst : List MemoryEntry → Identity → List TaggedCopy → Type 0
+IsUnknownAtFirst entries identity copies =
+    (before after : List TaggedCopy) (first : TaggedCopy)
+    → copies ≡ before ++ first ∷ after
+    → copies_of identity before ≡ []
+    → IsTrue (same_identity first.identity identity)
+    → IsLive identity first.moment (entries_after entries before) → ⊥
 
 -- what is in force at a place
 abbrev pub setting_of : Start → List Event → ℕ → Setting

@@ -1,11 +1,13 @@
 -- Good, printed and entered: which copies are printed, and which of them the memory keeps (ITU-R
 -- M.540 for the number 00, which is printed each time; all else is this profile's).
-use Rattle.std.specs.Prelude.{ℕ, ◌*◌, ◌==◌, nat_lt, max, Bool, true, false, not, ◌&&◌, ◌||◌, if◌then◌else◌, List, [], ◌∷◌, ◌++◌, length}
-use Rattle.nx_envelope.specs.Errors.{errors_of}
+use Rattle.std.specs.Prelude.{ℕ, ◌*◌, ◌==◌, nat_lt, max, Bool, true, false, not, ◌&&◌, ◌||◌, if◌then◌else◌, List, [], ◌∷◌, ◌++◌, length, filter}
+use Rattle.nx_code.specs.Lists.{last_of}
+use Rattle.nx_envelope.specs.Copies.{errors_of}
 use Rattle.nx_envelope.specs.declared.found.How.{How}
 use Rattle.nx_envelope.specs.declared.found.How.TheVariants.{Full, Cut, Long}
+use Rattle.nx_envelope.specs.declared.identity.Identity.{Identity}
+use Rattle.nx_envelope.specs.Identity.{same_identity}
 use Rattle.nx_memory.specs.declared.entry.MemoryEntry.{MemoryEntry}
-use Rattle.nx_code.specs.Lists.{last_of}
 use Rattle.nx_memory.specs.Memory.{is_known, most_entries}
 use Rattle.nx_receiver.specs.Tagged.{TaggedCopy}
 
@@ -67,3 +69,7 @@ unfoldable pub printed_copies : List MemoryEntry → List TaggedCopy → List Ta
 printed_copies entries [] = []
 printed_copies entries (copy ∷ copies) =
     if_printed entries copy ++ printed_copies (entries ++ entry_made entries copy) copies
+
+-- the copies that bear the identity, in order
+unfoldable pub copies_of : Identity → List TaggedCopy → List TaggedCopy
+copies_of identity copies = filter (λ copy. same_identity copy.identity identity) copies

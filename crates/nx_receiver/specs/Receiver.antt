@@ -1,15 +1,13 @@
 -- What a receiver holds, and after which events: the layer contract (this profile).
-use Rattle.std.specs.Prelude.{◌≡◌, ◌⊎◌, ℕ, ◌<◌, ◌≤◌, Bool, List, [], ◌∷◌, ◌++◌, map, Option, Some, None}
+use Rattle.std.specs.Prelude.{◌≡◌, ◌⊎◌, ℕ, ◌<◌, ◌≤◌, Bool, List, [], ◌∷◌, ◌++◌, Option, Some, None}
 use Rattle.nx_code.specs.Lists.{last_of}
+use Rattle.nx_envelope.specs.Moment.{last_moment}
 use Rattle.nx_memory.specs.Memory.{most_entries}
 use Rattle.nx_memory.specs.declared.entry.MemoryEntry.{MemoryEntry}
-use Rattle.nx_envelope.specs.Moment.{last_moment}
 use Rattle.nx_receiver.specs.declared.entry.Entry.{Entry}
 use Rattle.nx_receiver.specs.declared.fault.ReceiverFault.{ReceiverFault}
 use Rattle.nx_receiver.specs.declared.fault.ReceiverFault.TheVariants.{MomentRange, Memory}
-use Rattle.nx_receiver.specs.declared.fault.MomentFault.{MomentFault}
-use Rattle.nx_receiver.specs.declared.fault.MomentFault.TheVariants.{Range, Back}
-use Rattle.nx_receiver.specs.Events.{Event, Start, Setting, element, elements_among, first_setting, settings, setting_after_all}
+use Rattle.nx_receiver.specs.Events.{Event, Start, Setting, elements_among, first_setting, settings, setting_after_all, elements}
 use Rattle.nx_receiver.specs.Printing.{printed_copies, entries_after}
 use Rattle.nx_receiver.specs.Tagged.{TaggedCopy, copy_of}
 use Rattle.nx_receiver.specs.declared.over.Over.{Over}
@@ -73,10 +71,6 @@ pub record IsInOrder (newest copy now : ℕ) : Type 0 where
   pub copy_next : copy ≤ now
   pub in_range : now ≤ last_moment
 
--- these elements, each an event
-abbrev pub elements : List Bool → List Event
-elements bits = map element bits
-
 -- the entry that was handed out, as the copy that it prints
 abbrev pub entry_list : Option Entry → List TaggedCopy
 entry_list None = []
@@ -87,12 +81,6 @@ entry_list (Some entry) = copy_of entry ∷ []
 abbrev pub RefusesStart : ℕ → ℕ → ReceiverFault → Type 0
 RefusesStart newest moment MomentRange = (last_moment < moment) ⊎ (moment < newest)
 RefusesStart newest moment (Memory refused) = (moment ≤ last_moment) × (newest ≤ moment)
-
--- why a moment is refused: it is past the last one; or else it is before the one in force
-abbrev pub Refuses : ℕ → ℕ → MomentFault → Type 0
-Refuses last given (Range at) = (at ≡ given) × (last_moment < given)
-Refuses last given (Back from at) =
-    (from ≡ last) × (at ≡ given) × (given ≤ last_moment) × (given < last)
 
 -- the elements of these pieces, one after another
 unfoldable pub elements_of_pieces : List (List Bool) → List Bool

@@ -1,7 +1,7 @@
 //! An entry of the log.
 
 ghost use Rattle.std.specs.Prelude.{◌≡◌};
-ghost use Rattle.nx_envelope.specs.Errors.{errors_of};
+ghost use Rattle.nx_envelope.specs.Copies.{errors_of};
 
 use arrayvec::ArrayVec;
 use nx_envelope::{Found, How, Identity, MAX_FOUND};

@@ -1,19 +1,17 @@
 //! Listening to an air file: the log of its lines, written while it is read.
 
 ghost use Rattle.std.specs.Prelude.{◌≡◌, ◌+◌, ◌<◌, ◌≤◌, ◌↔◌, ℕ, true, List, [], ◌∷◌, ◌++◌, length, take, Option, Some, IfOk, IsErr, MatchResult, OnErr, OnOk};
-ghost use Rattle.nx_code.specs.Characters.{IsCapital};
+ghost use Rattle.nx_code.specs.Reading.{IsCapital};
 ghost use Rattle.nx_fec.specs.AirFile.{Line};
 ghost use Rattle.nx_fec.specs.AirFile as line;
-ghost use Rattle.nx_fec.specs.Devices.{HasWritten, WroteSome};
+ghost use Rattle.nx_fec.specs.Transfers.{HasWritten, WroteSome, Writes, devices};
 ghost use Rattle.nx_fec.specs.LineRuns.{ExplainsTaking, HasGiven, HasTaken};
-ghost use Rattle.nx_fec.specs.Transfers.{Writes, devices};
 ghost use Rattle.nx_receiver.specs.Chain.{Leaves, start_from};
-ghost use Rattle.nx_receiver.specs.Events.{Event, Start, at_zero};
+ghost use Rattle.nx_receiver.specs.Events.{Event, Start, at_zero, elements};
 ghost use Rattle.nx_receiver.specs.Listen.{Listens, events_of};
 ghost use Rattle.nx_receiver.specs.ListenFrom.{GoesOnBy, reported};
 ghost use Rattle.nx_receiver.specs.ListenOnce.{KeepsHeadline};
 ghost use Rattle.nx_receiver.specs.private.Listener.{BeginsFrom, HasClosed, HasClosedSome, HasFinished, HeardSome, HearsLog, IsHearing, IsListening, Listening, RefusesFrom, RefusesLine, StandsFrom, lines_fault, refusal_fault, start_of};
-ghost use Rattle.nx_receiver.specs.Receiver.{elements};
 ghost use Rattle.nx_receiver.specs.declared.listen_fault.ListenFault.TheVariants.{Memory};
 
 use crate::fault::{MomentFault, ReceiverFault};
@@ -169,7 +167,7 @@ struct Listener {
 
 impl Model for Listener {
     ghost use Rattle.std.specs.Coded.{codes};
-    ghost use Rattle.nx_memory.specs.Refused.{refused_code};
+    ghost use Rattle.nx_memory.specs.private.RefusedCode.{refused_code};
     ghost use Rattle.nx_receiver.specs.private.Listener.{Listening};
 
     ghost Value = { Listening };

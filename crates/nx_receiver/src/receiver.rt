@@ -5,14 +5,13 @@ ghost use Rattle.nx_envelope.specs.Moment.{last_moment};
 ghost use Rattle.nx_code.specs.Lists.{last_of};
 ghost use Rattle.nx_memory.specs.Memory.{is_known, most_entries, newest_moment};
 ghost use Rattle.nx_memory.specs.declared.entry.MemoryEntry.{MemoryEntry};
-ghost use Rattle.nx_memory.specs.Selection.{admits};
-ghost use Rattle.nx_memory.specs.Vital.{is_vital};
+ghost use Rattle.nx_memory.specs.Selection.{admits, is_vital};
 ghost use Rattle.nx_receiver.specs.Chain.{Leaves};
 ghost use Rattle.nx_receiver.specs.Events as events;
-ghost use Rattle.nx_receiver.specs.Events.{Event, Start, at_moment, command, first_setting, none_refused, setting_after_all};
+ghost use Rattle.nx_receiver.specs.Events.{Event, Start, at_moment, command, first_setting, none_refused, setting_after_all, Refuses, elements};
 ghost use Rattle.nx_receiver.specs.Log.{HasPrinted, PrintsToEnd};
 ghost use Rattle.nx_receiver.specs.Printing.{entries_after, printed_copies};
-ghost use Rattle.nx_receiver.specs.Receiver.{Awaits, PassesOver, Refuses, RefusesStart, Stands, elements, entry_list};
+ghost use Rattle.nx_receiver.specs.Receiver.{Awaits, PassesOver, RefusesStart, Stands, entry_list};
 ghost use Rattle.nx_receiver.specs.Tagged.{TaggedCopy};
 ghost use Rattle.nx_receiver.specs.private.Watch.{handed_out};
 ghost use Rattle.nx_receiver.specs.declared.over.Over.TheVariants.{Copy, Lock, Nothing};
@@ -43,7 +42,7 @@ pub struct Receiver<M: Recall> {
 
 impl<M: Recall> Model for Receiver<M> {
     ghost use Rattle.std.specs.Coded.{codes};
-    ghost use Rattle.nx_memory.specs.Refused.{refused_code};
+    ghost use Rattle.nx_memory.specs.private.RefusedCode.{refused_code};
     ghost use Rattle.nx_receiver.specs.Receiver.{Receiving, IsInOrder};
     ghost use Rattle.nx_memory.specs.Memory.{newest_moment};
 

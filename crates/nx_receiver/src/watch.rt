@@ -5,8 +5,7 @@
 ghost use Rattle.std.specs.Prelude.{◌≡◌, ◌<◌, ◌≤◌, List, Bool, [], ◌∷◌, ◌++◌, ◌↔◌, length, not, take, None, IfOk, IfErr, IsErr, IsTrue, OnErr, OnOk};
 ghost use Rattle.nx_sync.specs.Synchroniser.{is_between_words, is_hunting};
 ghost use Rattle.nx_envelope.specs.Finder.{held_identity};
-ghost use Rattle.nx_memory.specs.Selection.{admits};
-ghost use Rattle.nx_memory.specs.Vital.{is_vital};
+ghost use Rattle.nx_memory.specs.Selection.{admits, is_vital};
 ghost use Rattle.nx_receiver.specs.Events as events;
 ghost use Rattle.nx_receiver.specs.Events.{Setting, Start, first_setting, refused_after};
 ghost use Rattle.nx_receiver.specs.Tagged.{TaggedCopy};
@@ -38,7 +37,7 @@ pub(crate) struct Watch {
 
 impl Model for Watch {
     ghost use Rattle.std.specs.Coded.{codes};
-    ghost use Rattle.nx_memory.specs.Refused.{refused_code};
+    ghost use Rattle.nx_memory.specs.private.RefusedCode.{refused_code};
     ghost use Rattle.nx_receiver.specs.private.Watch.{Watching};
 
     ghost Value = { Watching };

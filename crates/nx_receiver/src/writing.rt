@@ -4,7 +4,7 @@ ghost use Rattle.std.specs.Prelude.{◌≡◌, ◌+◌, ◌≤◌, ◌↔◌, �
 ghost use Rattle.std.specs.Io.KnownBytes.{Appends};
 ghost use Rattle.arrayvec.specs.ArrayVec.{array_vec_len};
 ghost use Rattle.nx_envelope.specs.Moment.{IsShownAs, last_moment};
-ghost use Rattle.nx_fec.specs.Devices.{WroteSome};
+ghost use Rattle.nx_fec.specs.Transfers.{WroteSome};
 ghost use Rattle.nx_receiver.specs.Log as spec;
 ghost use Rattle.nx_receiver.specs.Log.{IsEntry, how_name, entry_head};
 ghost use Rattle.nx_receiver.specs.Tagged.{copy_of};

@@ -3,8 +3,7 @@ use Rattle.std.proofs.Common.{◌≡◌, ◌≢◌, ℕ, ◌+◌, ◌-◌, ◌*�
 use Rattle.std.specs.List.{AllByRecursion, starts_with}
 use Rattle.std.proofs.lemmas.Bool.{agree_below, agree_below_at, eq-eqb, eqb-true, ltb-true, false≢true, not-true}
 use Rattle.std.proofs.lemmas.List.Elements.{All-from_recursion}
-use Rattle.nx_code.specs.Characters.{characters, is_in_code}
-use Rattle.nx_code.specs.Reading.{character_of}
+use Rattle.nx_code.specs.Reading.{characters, is_in_code, character_of}
 use Rattle.nx_code.specs.Spelling.{Spells}
 use Rattle.nx_code.specs.Table.{row_of, table, traffic_word}
 use Rattle.nx_code.specs.Word.{elements, elements_from, weight}

@@ -2,9 +2,8 @@
 -- was sent.
 use Rattle.std.proofs.Common.{◌≡◌, ◌≢◌, ℕ, zero, suc, ◌+◌, ◌-◌, ◌*◌, ◌/◌, ◌%◌, ◌<◌, ◌≤◌, ◌⊎◌, cond, List, length, refl, sym, ap, ◌∙◌, subst, arith, inl, inr, lit<}
 use Rattle.std.proofs.lemmas.Bool.{cases_lt, cases_eq, eq-eqb}
-use Rattle.nx_code.specs.Phasing.{phasing_1, phasing_2}
+use Rattle.nx_code.specs.Table.{phasing_1, phasing_2, traffic_word}
 use Rattle.nx_code.specs.Word.{weight}
-use Rattle.nx_code.specs.Table.{traffic_word}
 use Rattle.nx_code.specs.Reading.{combination, lost}
 use Rattle.nx_code.proofs.TableLemmas.{traffic_word-is}
 use Rattle.nx_fec.specs.Emission.{SentPosition, phasing_position, traffic_position, end_position, dx_word, rx_word, position_at, word_sent, reception, IsInCode}

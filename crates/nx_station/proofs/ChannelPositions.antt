@@ -6,7 +6,7 @@ use Rattle.nx_code.specs.Reading.{combination, shift_after, shift_after_all}
 use Rattle.nx_code.specs.Spelling.{EachFits}
 use Rattle.nx_code.specs.declared.shifts.Shift.{Shift}
 use Rattle.nx_code.specs.declared.shifts.Shift.TheVariants.{Letters, Figures}
-use Rattle.nx_envelope.specs.MessageView.{MessageView}
+use Rattle.nx_envelope.specs.Message.{MessageView}
 use Rattle.nx_envelope.specs.declared.identity.Identity.{Identity}
 use Rattle.nx_fec.specs.Emission.{SentPosition, phasing_position, traffic_position, end_position, position_at}
 use Rattle.nx_station.specs.Broadcast.{IsSpelled, AreSpelled, digit_combination, ending, head, layout, letter_combination, phasing_and_message, first_phasing, further_phasing, end_positions}

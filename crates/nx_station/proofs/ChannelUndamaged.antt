@@ -5,7 +5,7 @@ use Rattle.std.proofs.lemmas.Bool.{cases_lt}
 use Rattle.std.proofs.lemmas.List.{get_or-drop, take-append-drop}
 use Rattle.std.proofs.lemmas.List.Concat.{flat_map-append}
 use Rattle.nx_code.specs.Word.{elements}
-use Rattle.nx_envelope.specs.MessageView.{MessageView}
+use Rattle.nx_envelope.specs.Message.{MessageView}
 use Rattle.nx_fec.specs.Emission.{SentPosition, AreInCode, AreWords, IsInCode, bits_of, emission, position_at}
 use Rattle.nx_fec.proofs.EmissionLemmas.{AreWords-emission, get_or-emission, length-emission}
 use Rattle.nx_station.specs.Broadcast.{IsBroadcast, layout}

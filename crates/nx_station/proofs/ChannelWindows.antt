@@ -10,7 +10,7 @@ use Rattle.nx_fec.specs.Emission.{SentPosition, bits_of, AreWords}
 use Rattle.nx_fec.proofs.RoundTripLemmas.{length-bits_of, words_of-bits_of}
 use Rattle.nx_fec.proofs.AlignedLemmas.{get_or-words_of}
 use Rattle.nx_station.specs.Broadcast.{IsBroadcast, layout}
-use Rattle.nx_envelope.specs.MessageView.{MessageView}
+use Rattle.nx_envelope.specs.Message.{MessageView}
 use Rattle.nx_station.specs.Channel.{PassesChannel, heard_in, first_slot, message_slot, slots_of, wrong_words, window, most_wrong}
 use Rattle.nx_station.proofs.ChannelCounts.{is_wrong_word, wrong_words-add, wrong_words-count, wrong_words-le, wrong_words-none, wrong_words-same}
 use Rattle.nx_station.proofs.ChannelLaws.{few-wrong, sent-weight}

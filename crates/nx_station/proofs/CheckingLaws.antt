@@ -1,15 +1,14 @@
 -- What checking answers follows from what its steps said; and it gives back what was sent.
 use Rattle.std.proofs.Common.{◌≡◌, ℕ, ◌<◌, ◌≤◌, ◌^◌, Bool, List, [], ◌∷◌, ◌++◌, length, get_or, Result, Ok, Err, refl, sym, ap, ◌∙◌, subst, arith, length-append}
 use Rattle.std.specs.Io.KnownBytes.{Appends}
-use Rattle.nx_envelope.specs.MessageView.{MessageView}
+use Rattle.nx_envelope.specs.Message.{MessageView}
 use Rattle.nx_fec.specs.AirFile.{moment}
 use Rattle.nx_fec.specs.BitLines.{bit_lines}
-use Rattle.nx_fec.specs.Devices.{WroteSome}
+use Rattle.nx_fec.specs.Transfers.{WroteSome, Devices, IsReadOut, Reads}
 use Rattle.nx_fec.specs.Emission.{bits_of, emission}
 use Rattle.nx_fec.specs.Lines.{IsBitFile, IsFaultless, line_bytes}
 use Rattle.nx_fec.specs.Lines.{file_of as air_file_of}
 use Rattle.nx_fec.specs.Runs.{IsOutside}
-use Rattle.nx_fec.specs.Transfers.{Devices, IsReadOut, Reads}
 use Rattle.nx_fec.specs.declared.fault.RunFault.{RunFault}
 use Rattle.nx_fec.specs.declared.fault.RunFault.TheVariants as run
 use Rattle.nx_fec.proofs.EncodingLaws.{bit_lines-IsBitFile}

@@ -7,11 +7,10 @@ use Rattle.std.specs.Io.KnownBytes.{Appends}
 use Rattle.std.proofs.lemmas.List.{length-map}
 use Rattle.std.proofs.lemmas.List.Concat.{flat_map-append}
 use Rattle.nx_fec.specs.AirFile.{Line, IsLine, element_digit, moment, elements, refuse_station, accept_station, refuse_subject, accept_subject, spelling}
-use Rattle.nx_fec.specs.Devices.{WroteSome}
-use Rattle.nx_fec.specs.LineRuns.{Beginning, HasTaken, HasTakenAll, HasTakenSome, IsPlaced, Refusing, RunsLines, Standing, StopsAt}
-use Rattle.nx_fec.specs.Lines.{IsCause, elements_of, file_of, line_bytes}
+use Rattle.nx_fec.specs.Transfers.{WroteSome, Devices}
+use Rattle.nx_fec.specs.LineRuns.{Beginning, HasTaken, HasTakenAll, HasTakenSome, IsPlaced, Refusing, RunsLines, Standing}
+use Rattle.nx_fec.specs.Lines.{StopsAt, IsCause, elements_of, file_of, line_bytes}
 use Rattle.nx_fec.specs.Scanner.{kind_of}
-use Rattle.nx_fec.specs.Transfers.{Devices}
 use Rattle.nx_fec.specs.declared.air_file.LineKind.TheVariants.{Elements}
 use Rattle.nx_fec.specs.declared.fault.LineFault.{LineFault}
 use Rattle.nx_fec.specs.declared.fault.LineFault.TheVariants as file

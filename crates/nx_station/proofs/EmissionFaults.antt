@@ -2,13 +2,12 @@
 use Rattle.std.proofs.Common.{◌≡◌, ◌≢◌, ◌⊎◌, ℕ, Bool, List, length, inl, inr, refl, sym, ap, ◌∙◌, subst, arith}
 use Rattle.std.specs.List.{flat_map}
 use Rattle.std.proofs.lemmas.Bool.{cases_lt}
-use Rattle.nx_envelope.specs.MessageView.{MessageView}
+use Rattle.nx_envelope.specs.Message.{MessageView}
 use Rattle.nx_fec.specs.Aligned.{aligned_text, words_of}
 use Rattle.nx_fec.specs.Emission.{SentPosition, bits_of, emission}
 use Rattle.nx_station.specs.Broadcast.{IsBroadcast, printed_text}
 use Rattle.nx_station.specs.Faults.{unread_fault}
-use Rattle.nx_station.specs.Sendable.{IsRefusal, IsSendable}
-use Rattle.nx_station.specs.Slots.{HasSlots}
+use Rattle.nx_station.specs.Sendable.{IsRefusal, IsSendable, HasSlots}
 use Rattle.nx_station.specs.StrictReading.{ArePaired, AreRight, AreWhole, ExplainsEmission, IsEmissionOf, IsLeast, IsMemory}
 use Rattle.nx_station.specs.private.PrintedText.{AreSound, ExplainsPrinted}
 use Rattle.nx_station.specs.declared.fault.EmissionFault.{EmissionFault}

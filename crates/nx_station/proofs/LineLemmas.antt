@@ -4,8 +4,8 @@ use Rattle.std.specs.List.{AllByRecursion}
 use Rattle.std.specs.Prelude.{All}
 use Rattle.std.proofs.lemmas.Bool.{false≢true}
 use Rattle.std.proofs.lemmas.List.Elements.{recursion_from_All}
-use Rattle.nx_code.specs.Characters.{is_in_code, characters}
-use Rattle.nx_envelope.specs.Digits.{two_digits}
+use Rattle.nx_code.specs.Reading.{is_in_code, characters}
+use Rattle.nx_envelope.specs.Identity.{two_digits}
 use Rattle.nx_envelope.specs.Message.{IsMessageLine, IsLineByte, text_of}
 use Rattle.nx_station.specs.MessageFile.{FileMessage, IsOneLine, IsInside, IsNamed, IsFileMessage, IsBegun, heading, closing, opening, file_message_bytes}
 

@@ -1,6 +1,6 @@
 -- The two words of a position that is sent.
 use Rattle.std.proofs.Common.{◌≡◌, ℕ, ◌≤◌, Option, Some, None, refl, sym, ◌∙◌}
-use Rattle.nx_code.specs.Phasing.{phasing_1}
+use Rattle.nx_code.specs.Table.{phasing_1}
 use Rattle.nx_code.specs.Signal.{number_of_signal}
 use Rattle.nx_code.specs.declared.signals.Comb.{Comb}
 use Rattle.nx_code.specs.declared.signals.Signal.{Signal}

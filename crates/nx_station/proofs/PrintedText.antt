@@ -3,10 +3,9 @@ use Rattle.std.proofs.Common.{◌≡◌, ◌≢◌, ℕ, List, [], ◌∷◌, �
 use Rattle.std.specs.List.{flat_map, AllByRecursion}
 use Rattle.std.proofs.lemmas.Bool.{and_from, eq-eqb}
 use Rattle.std.proofs.lemmas.List.Elements.{recursion_from_All}
-use Rattle.nx_envelope.specs.Digits.{two_digits}
-use Rattle.nx_envelope.specs.Marker.{end_marker}
-use Rattle.nx_envelope.specs.Message.{AreLines, IsMessageLine, IsLineByte, IsMessageFault, text_of}
-use Rattle.nx_envelope.specs.MessageView.{MessageView}
+use Rattle.nx_envelope.specs.Identity.{two_digits}
+use Rattle.nx_envelope.specs.Header.{end_marker}
+use Rattle.nx_envelope.specs.Message.{AreLines, IsMessageLine, IsLineByte, IsMessageFault, text_of, MessageView}
 use Rattle.nx_envelope.specs.declared.identity.Identity.{Identity}
 use Rattle.nx_envelope.specs.declared.message.MessageFault.{MessageFault}
 use Rattle.nx_envelope.specs.declared.message.MessageFault.TheVariants as message

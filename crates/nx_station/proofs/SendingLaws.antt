@@ -4,14 +4,13 @@ use Rattle.std.proofs.lemmas.Bool.{false≢true, eq-eqb, not-true}
 use Rattle.std.proofs.lemmas.List.Elements.{All-from_recursion}
 use Rattle.std.proofs.lemmas.List.Quantifiers.{position-Some}
 use Rattle.std.specs.Io.KnownBytes.{Appends}
-use Rattle.nx_envelope.specs.MessageView.{MessageView}
-use Rattle.nx_fec.specs.Devices.{WroteSome}
+use Rattle.nx_envelope.specs.Message.{MessageView}
+use Rattle.nx_fec.specs.Transfers.{WroteSome, Devices, IsReadOut, Reads}
 use Rattle.nx_fec.specs.Emission.{SentPosition, bits_of, emission}
 use Rattle.nx_fec.specs.BitLines.{bit_lines}
 use Rattle.nx_fec.specs.Lines.{file_of, line_bytes}
 use Rattle.nx_fec.specs.AirFile.{moment}
 use Rattle.nx_fec.specs.Runs.{ExplainsWhole, IsOutsideWhole, IsWithin}
-use Rattle.nx_fec.specs.Transfers.{Devices, IsReadOut, Reads}
 use Rattle.nx_fec.specs.declared.fault.ReadFault.{ReadFault}
 use Rattle.nx_fec.specs.declared.fault.ReadFault.TheVariants as read
 use Rattle.nx_fec.proofs.TransferLaws.{Reads-on}
@@ -19,8 +18,8 @@ use Rattle.nx_station.specs.Broadcast.{IsBroadcast}
 use Rattle.nx_station.specs.Faults.{read_fault, send_fault}
 use Rattle.nx_station.specs.MessageFile.{IsMessageFile, file_message_of}
 use Rattle.nx_station.specs.FileSending.{ExplainsFile, ExplainsSending, IsOutside, IsTransmission, Sends}
-use Rattle.nx_station.specs.Sendable.{AreOf, IsRefusal, IsSendable, first_of_another}
-use Rattle.nx_station.specs.Slots.{HasSlots, IsNextSlot}
+use Rattle.nx_station.specs.Sendable.{AreOf, IsRefusal, IsSendable, first_of_another, HasSlots}
+use Rattle.nx_station.specs.Slots.{IsNextSlot}
 use Rattle.nx_station.specs.declared.fault.SendFault.{SendFault}
 use Rattle.nx_station.specs.declared.fault.SendFault.TheVariants as refusal
 use Rattle.nx_station.specs.declared.fault.SendRunFault.{SendRunFault}

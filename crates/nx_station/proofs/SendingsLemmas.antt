@@ -2,7 +2,7 @@
 use Rattle.std.proofs.Common.{◌≡◌, ℕ, zero, suc, ◌+◌, ◌-◌, ◌≤◌, Some, None, List, [], ◌∷◌, ◌++◌, map, replicate, length, take, sym, ap, ◌∙◌, subst, arith, append_assoc, ◌%◌, get_or, ◌<◌}
 use Rattle.std.specs.List.{flat_map, slice_get}
 use Rattle.std.proofs.lemmas.List.{get_or-append-add, length-append, length-map, length-replicate}
-use Rattle.nx_envelope.specs.MessageView.{MessageView}
+use Rattle.nx_envelope.specs.Message.{MessageView}
 use Rattle.nx_fec.specs.Emission.{SentPosition, phasing_position, traffic_position, end_position, position_at, rx_word, word_sent}
 use Rattle.nx_station.specs.Broadcast.{IsSpelled, AreSpelled, digit_combination, head, layout, phasing_and_message, first_phasing, further_phasing, end_positions}
 use Rattle.nx_station.specs.Channel.{slots_of}

@@ -7,12 +7,9 @@ use Rattle.nx_code.specs.Reading.{combination, shift_after_all}
 use Rattle.nx_code.specs.Spelling.{Spells}
 use Rattle.nx_code.specs.declared.shifts.Shift.{Shift}
 use Rattle.nx_code.specs.declared.shifts.Shift.TheVariants.{Letters, Figures}
-use Rattle.nx_envelope.specs.Header.{space}
+use Rattle.nx_envelope.specs.Header.{space, start_marker, end_marker, newline}
 use Rattle.nx_envelope.specs.Identity.{identity_bytes}
-use Rattle.nx_envelope.specs.Marker.{start_marker, end_marker}
-use Rattle.nx_envelope.specs.Message.{text_of}
-use Rattle.nx_envelope.specs.Newline.{newline}
-use Rattle.nx_envelope.specs.MessageView.{MessageView}
+use Rattle.nx_envelope.specs.Message.{text_of, MessageView}
 use Rattle.nx_envelope.specs.declared.identity.Identity.{Identity}
 use Rattle.nx_fec.specs.Emission.{SentPosition, phasing_position, traffic_position, end_position}
 

@@ -1,7 +1,7 @@
 -- The channel: in which words an emission may be received (this profile). Words are those of slots;
 -- what arrives of the slots before slot 96 belongs to the gap before the emission.
 use Rattle.std.specs.Prelude.{◌≡◌, ◌≢◌, ℕ, zero, suc, ◌+◌, ◌-◌, ◌*◌, ◌<◌, ◌≤◌, ◌==◌, ◌⊎◌, if◌then◌else◌, List, [], ◌∷◌, length, slice_index}
-use Rattle.nx_code.specs.Phasing.{phasing_1, phasing_2}
+use Rattle.nx_code.specs.Table.{phasing_1, phasing_2}
 use Rattle.nx_code.specs.Word.{weight}
 use Rattle.nx_station.specs.Broadcast.{first_phasing}
 use Rattle.nx_fec.specs.Emission.{SentPosition, end_position, position_at, word_sent, AreWords}

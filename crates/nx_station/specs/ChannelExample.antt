@@ -2,7 +2,7 @@
 -- M.625's mode B for the positions of this profile's emissions), as it may arrive.
 use Rattle.std.specs.Prelude.{ℕ, ◌+◌, ◌-◌, ◌%◌, ◌==◌, ◌||◌, if◌then◌else◌, Bool, List, [], ◌∷◌, ◌++◌, codes, length}
 use Rattle.std.proofs.Common.{lit≤}
-use Rattle.nx_envelope.specs.MessageView.{MessageView}
+use Rattle.nx_envelope.specs.Message.{MessageView}
 use Rattle.nx_envelope.specs.declared.identity.Identity.{Identity}
 use Rattle.nx_station.specs.Channel.{message_slot, phasing_words}
 use Rattle.nx_station.specs.Sendings.{Part, ReceivedEmission, Sending, gap, received}

@@ -1,11 +1,10 @@
 -- What checking an air file answers (this profile).
 use Rattle.std.specs.Prelude.{◌≡◌, ℕ, Bool, List, [], ◌∷◌, ◌++◌, codes, length, map, Option, Result, Ok, Err}
 use Rattle.std.specs.Io.KnownBytes.{Appends}
-use Rattle.nx_envelope.specs.MessageView.{MessageView}
-use Rattle.nx_fec.specs.Devices.{WroteSome}
+use Rattle.nx_envelope.specs.Message.{MessageView}
+use Rattle.nx_fec.specs.Transfers.{WroteSome, Devices, IsReadOut, Transfers, at_the_end}
 use Rattle.nx_fec.specs.Lines.{IsBitFile, IsFaultless, line_end}
 use Rattle.nx_fec.specs.Runs.{ExplainsReading, IsOutside, file_limit}
-use Rattle.nx_fec.specs.Transfers.{Devices, IsReadOut, Transfers, at_the_end}
 use Rattle.nx_fec.specs.declared.fault.RunFault.TheVariants as run
 use Rattle.nx_station.specs.MessageFile.{file_message_of, message_file_bytes}
 use Rattle.nx_station.specs.Sendable.{AreOf}

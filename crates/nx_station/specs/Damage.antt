@@ -4,10 +4,9 @@ use Rattle.std.specs.List.{flat_map}
 use Rattle.std.specs.Io.KnownBytes.{Appends}
 use Rattle.nx_code.specs.Word.{value_of}
 use Rattle.nx_fec.specs.AirFile.{Line, elements}
-use Rattle.nx_fec.specs.Devices.{WroteSome}
-use Rattle.nx_fec.specs.LineRuns.{IsPlaced, StopsAt, air_limit}
-use Rattle.nx_fec.specs.Lines.{IsAirFile, IsCause, elements_of, file_of}
-use Rattle.nx_fec.specs.Transfers.{Devices, IsReadOut, Transfers, on_the_way}
+use Rattle.nx_fec.specs.Transfers.{WroteSome, Devices, IsReadOut, Transfers, on_the_way}
+use Rattle.nx_fec.specs.LineRuns.{IsPlaced}
+use Rattle.nx_fec.specs.Lines.{StopsAt, air_limit, IsAirFile, IsCause, elements_of, file_of}
 use Rattle.nx_fec.specs.declared.fault.LineFault.{LineFault}
 use Rattle.nx_fec.specs.declared.fault.LineFault.TheVariants as file
 use Rattle.nx_station.specs.declared.damaging.DamageKind.{DamageKind}

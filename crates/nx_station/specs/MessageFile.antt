@@ -1,11 +1,10 @@
 -- The lines of a message file, and its first fault (this profile).
 use Rattle.std.specs.Prelude.{◌≡◌, ◌≢◌, ℕ, ◌+◌, ◌≤◌, List, [], ◌∷◌, ◌++◌, length, Option, Some, None, ⊤}
 use Rattle.std.specs.List.{flat_map, AllByRecursion}
-use Rattle.nx_envelope.specs.Digits.{two_digits}
+use Rattle.nx_envelope.specs.Identity.{two_digits}
 use Rattle.nx_fec.specs.Lines.{line_end}
-use Rattle.nx_code.specs.Characters.{IsCapital}
-use Rattle.nx_envelope.specs.Message.{AreLines, IsMessageFault, text_of}
-use Rattle.nx_envelope.specs.MessageView.{MessageView}
+use Rattle.nx_code.specs.Reading.{IsCapital}
+use Rattle.nx_envelope.specs.Message.{AreLines, IsMessageFault, text_of, MessageView}
 use Rattle.nx_envelope.specs.declared.message.MessageFault.{MessageFault}
 use Rattle.nx_envelope.specs.declared.message.MessageFault.TheVariants as message
 

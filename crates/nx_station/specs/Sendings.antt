@@ -2,8 +2,8 @@
 -- between them (this profile).
 use Rattle.std.specs.Prelude.{◌≡◌, ℕ, ◌+◌, ◌-◌, ◌*◌, Bool, List, [], ◌∷◌, ◌++◌, ◌≤◌, length, map, take, slice_get, Some}
 use Rattle.std.specs.List.{AllByRecursion, flat_map}
-use Rattle.nx_envelope.specs.MessageView.{MessageView}
 use Rattle.nx_fec.specs.Emission.{SentPosition, traffic_position, bits_of}
+use Rattle.nx_envelope.specs.Message.{MessageView}
 use Rattle.nx_station.specs.Broadcast.{AreSpelled, IsSpelled, first_phasing, further_phasing, layout}
 use Rattle.nx_station.specs.Channel.{PassesChannel, first_slot}
 use Rattle.nx_station.specs.Sendable.{IsSendable}
@@ -84,3 +84,8 @@ pub record StandsFrom (positions : List SentPosition) (message : MessageView) (f
   pub place : length front ≡ from
   -- three positions of the end, at least, come after it
   pub ended : 3 ≤ length back
+
+-- the message is sent in one of the received emissions, with the second digit of its header at this
+-- place
+abbrev pub IsSentAt : List Part → MessageView → ℕ → Type 0
+IsSentAt parts message place = IsSending parts (record { message = message; place = place })

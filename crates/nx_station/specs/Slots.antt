@@ -2,10 +2,7 @@
 -- minutes of each four hours, counted from 1970-01-01 00:00:00 UTC, is this profile's).
 use Rattle.std.specs.Prelude.{◌≡◌, ℕ, ◌+◌, ◌-◌, ◌*◌, ◌<◌, ◌≤◌}
 use Rattle.nx_envelope.specs.Moment.{last_moment}
-
--- the stations A (65) to X (88) have slots, Y and Z have none
-abbrev pub HasSlots : ℕ → Type 0
-HasSlots station = station ≤ 88
+use Rattle.nx_station.specs.Sendable.{HasSlots}
 
 -- A slot of the station begins at this moment. In each round of 14,400 seconds each station has
 -- one, which begins 600 seconds after that of the station before it; that of A begins with the

@@ -3,7 +3,7 @@
 -- refused, and in which order, is this profile's).
 use Rattle.std.specs.Prelude.{◌≡◌, ◌≢◌, ℕ, ◌+◌, ◌*◌, ◌%◌, ◌<◌, Bool, List, length, slice_index, ⊤}
 use Rattle.nx_code.specs.Word.{weight}
-use Rattle.nx_envelope.specs.MessageView.{MessageView}
+use Rattle.nx_envelope.specs.Message.{MessageView}
 use Rattle.nx_fec.specs.Aligned.{words_of}
 use Rattle.nx_fec.specs.Emission.{SentPosition, IsInCode, bits_of, dx_word, emission, rx_word}
 use Rattle.nx_station.specs.Broadcast.{IsBroadcast}

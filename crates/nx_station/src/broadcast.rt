@@ -2,16 +2,14 @@
 //! end).
 ghost use Rattle.std.specs.Prelude.{◌≡◌, ◌≢◌, ◌<◌, ◌≤◌, ◌==◌, ◌+◌, ◌++◌, ◌∷◌, ℕ, List, [], IfOk, IfErr, IsTrue, OnOk, length, map, not, position, replicate, slice_index_or, take};
 ghost use Rattle.std.specs.List.{AllByRecursion, list_all};
-ghost use Rattle.nx_code.specs.Characters.{is_in_code};
+ghost use Rattle.nx_code.specs.Reading.{is_in_code};
 ghost use Rattle.nx_code.specs.Spelling.{Spells};
 ghost use Rattle.nx_code.specs.declared.shifts.Shift.TheVariants.{Figures};
-ghost use Rattle.nx_envelope.specs.Message.{AreLines, text_of};
-ghost use Rattle.nx_envelope.specs.MessageView.{MessageView};
+ghost use Rattle.nx_envelope.specs.Message.{AreLines, text_of, MessageView};
 ghost use Rattle.nx_fec.specs.Emission.{sent_position, traffic_position};
 ghost use Rattle.nx_station.specs.Broadcast.{IsBroadcast, IsSpelled, ending, phasing_and_message};
 ghost use Rattle.nx_station.specs.private.MessageParts.{IsExtent};
-ghost use Rattle.nx_station.specs.Sendable.{AreOf, HavePositions, IsRefusal, IsSendable};
-ghost use Rattle.nx_station.specs.Slots.{HasSlots};
+ghost use Rattle.nx_station.specs.Sendable.{AreOf, HavePositions, IsRefusal, IsSendable, HasSlots};
 
 use crate::fault::SendFault;
 use crate::heads::{ENDING, HEAD, ending_len, head_of};

@@ -1,8 +1,7 @@
 //! Message files: the messages of a station as lines of text (this profile).
 ghost use Rattle.std.specs.Prelude.{◌≡◌, ◌≢◌, ◌+◌, ◌-◌, ◌<◌, ◌^◌, ◌++◌, ◌∷◌, ℕ, IfErr, IfOk, IfSome, IsNone, length, map};
 ghost use Rattle.std.specs.List.{AllByRecursion};
-ghost use Rattle.nx_envelope.specs.Message.{text_of};
-ghost use Rattle.nx_envelope.specs.MessageView.{MessageView};
+ghost use Rattle.nx_envelope.specs.Message.{text_of, MessageView};
 ghost use Rattle.nx_station.specs.MessageFile.{IsFileMessage, IsInside, IsMessageFile, IsNamed, IsOneLine, file_message_of, heading, file_message_bytes};
 ghost use Rattle.nx_station.specs.FileSending.{ExplainsFile};
 ghost use Rattle.nx_station.specs.private.MessageParts.{ExplainsFirst, text_fault};

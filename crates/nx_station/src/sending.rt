@@ -3,9 +3,8 @@ ghost use Rattle.std.specs.Prelude.{◌≡◌, ◌≤◌, ◌↔◌, ◌++◌, I
 ghost use Rattle.std.specs.Io.KnownBytes.{Appends};
 ghost use Rattle.nx_fec.specs.AirFile.{moment};
 ghost use Rattle.nx_fec.specs.BitLines.{bit_lines};
-ghost use Rattle.nx_fec.specs.Devices.{WroteSome};
+ghost use Rattle.nx_fec.specs.Transfers.{WroteSome, devices};
 ghost use Rattle.nx_fec.specs.Lines.{file_of, line_bytes};
-ghost use Rattle.nx_fec.specs.Transfers.{devices};
 ghost use Rattle.nx_station.specs.FileSending.{Sends};
 
 use crate::broadcast::emission;

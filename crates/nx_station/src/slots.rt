@@ -1,6 +1,7 @@
 //! The ten minutes of a station (M.540; that they come every four hours is this profile's).
 ghost use Rattle.std.specs.Prelude.{◌↔◌, IfSome, IsNone, IsTrue};
-ghost use Rattle.nx_station.specs.Slots.{HasNoSlot, HasSlots, IsNextSlot};
+ghost use Rattle.nx_station.specs.Slots.{HasNoSlot, IsNextSlot};
+ghost use Rattle.nx_station.specs.Sendable.{HasSlots};
 
 use nx_envelope::{LAST_MOMENT, Letter};
 

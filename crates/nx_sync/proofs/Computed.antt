@@ -5,7 +5,7 @@ use Rattle.nx_sync.specs.declared.step.Role.{Role}
 use Rattle.nx_sync.specs.declared.step.Role.TheVariants.{Dx, Rx}
 use Rattle.nx_sync.specs.declared.step.Change.{Change}
 use Rattle.nx_sync.specs.declared.step.Change.TheVariants.{Locked, Ended, LostLock}
-use Rattle.nx_code.specs.Phasing.{phasing_1}
+use Rattle.nx_code.specs.Table.{phasing_1}
 use Rattle.nx_sync.specs.Words.{losing_count, is_dx, role_of, wrong_until, word_of_lock, first_role}
 use Rattle.nx_sync.specs.private.Releases.{releases_as_ended, change_at, release}
 use Rattle.nx_sync.specs.Locks.{IsSecondPhasing1, EndedAt, LostAt, IsEarlier, ended, lost, IsReleased, Holds}

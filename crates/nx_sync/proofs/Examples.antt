@@ -1,7 +1,7 @@
 -- The definitions of the locks, evaluated on worked examples.
 use Rattle.std.proofs.Common.{◌≡◌, ◌==◌, ◌||◌, [], ◌∷◌, ◌++◌, ℕ, Bool, is_some, true, false, refl, inl, arith, Some, if◌then◌else◌}
 use Rattle.std.proofs.lemmas.Bool.{agree_below, agree_below_at}
-use Rattle.nx_code.specs.Phasing.{phasing_1, phasing_2, elements_of_phasing_1, elements_of_phasing_2}
+use Rattle.nx_code.specs.Table.{phasing_1, phasing_2, elements_of_phasing_1, elements_of_phasing_2}
 use Rattle.nx_code.specs.Word.{number_of, weight, elements, elements_from}
 use Rattle.nx_sync.specs.declared.step.Role.TheVariants.{Dx, Rx}
 use Rattle.nx_sync.specs.declared.step.Role.{Role}

@@ -7,7 +7,7 @@ use Rattle.nx_sync.specs.declared.step.Role.{Role}
 use Rattle.nx_sync.specs.declared.step.Role.TheVariants.{Dx, Rx}
 use Rattle.nx_sync.specs.declared.step.Change.{Change}
 use Rattle.nx_sync.specs.declared.step.Change.TheVariants.{Locked, Ended, LostLock}
-use Rattle.nx_code.specs.Phasing.{phasing_1, phasing_2}
+use Rattle.nx_code.specs.Table.{phasing_1, phasing_2}
 use Rattle.nx_sync.specs.Words.{marked_words, losing_count, other_role, is_wrong, word_of_lock, first_role, role_of, wrong_in, wrong_until}
 use Rattle.nx_sync.specs.private.Releases.{releases_as_ended, release}
 use Rattle.nx_sync.specs.Locks.{pattern_elements, before_dx, before_rx, IsPattern, IsSecondPhasing1, Lock, Past, Now, hunting, locked, IsLocked, IsNow}

@@ -2,7 +2,7 @@
 use Rattle.std.specs.Prelude.{◌≡◌, ℕ, zero, suc, ◌+◌, ◌*◌, ◌≤◌, Bool, List, [], ◌∷◌, ◌++◌, length}
 use Rattle.nx_sync.specs.declared.step.Role.TheVariants.{Dx}
 use Rattle.nx_sync.specs.declared.step.Change.{Change}
-use Rattle.nx_code.specs.Phasing.{elements_of_phasing_1, elements_of_phasing_2}
+use Rattle.nx_code.specs.Table.{elements_of_phasing_1, elements_of_phasing_2}
 use Rattle.nx_sync.specs.Words.{first_role, role_of}
 use Rattle.nx_sync.specs.Locks.{IsReleased, Lock, Now, hunting, locked, IsLocked, IsNow}
 

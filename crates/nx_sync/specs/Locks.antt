@@ -5,7 +5,7 @@ use Rattle.nx_sync.specs.declared.step.Role.{Role}
 use Rattle.nx_sync.specs.declared.step.Role.TheVariants.{Dx}
 use Rattle.nx_sync.specs.declared.step.Change.{Change}
 use Rattle.nx_sync.specs.declared.step.Change.TheVariants.{Ended, LostLock}
-use Rattle.nx_code.specs.Phasing.{phasing_1, elements_of_phasing_1, elements_of_phasing_2}
+use Rattle.nx_code.specs.Table.{phasing_1, elements_of_phasing_1, elements_of_phasing_2}
 use Rattle.nx_sync.specs.Words.{losing_count, word_of_lock, first_role, role_of, wrong_until, lock_words}
 
 -- How many elements the patterns have that give a lock: four words (this profile).

@@ -13,7 +13,7 @@ use Rattle.nx_receiver.specs.Chain.{GoesOn, Run, copies_in, events_in}
 use Rattle.nx_receiver.specs.Events.{Event, Setting, Start, at_moment, command, element, first_setting, setting_after, setting_after_all, settings}
 use Rattle.nx_receiver.specs.FoundCopies.{FoundCopy}
 use Rattle.nx_receiver.specs.Listen.{AreTakenAfter, IsTakenAfter, events_of, in_force_after, line_events}
-use Rattle.nx_receiver.specs.Receiver as receiver
+use Rattle.nx_receiver.specs.Events as fed
 use Rattle.nx_receiver.specs.Tagged.{TaggedCopy, tag, tagged_copies}
 use Rattle.nx_receiver.proofs.receiving.Events.{force-append}
 
@@ -31,9 +31,9 @@ IsCopyFrom m copy = m ≤ copy.moment
 
 -- ---- what lines give
 
-elements-from : (m : ℕ) (bits : List Bool) → All (IsFrom m) (receiver.elements bits)
+elements-from : (m : ℕ) (bits : List Bool) → All (IsFrom m) (fed.elements bits)
 elements-from m [] = All-nil (IsFrom m)
-elements-from m (bit ∷ bits) = All-cons (IsFrom m) (element bit) (receiver.elements bits) tt (elements-from m bits)
+elements-from m (bit ∷ bits) = All-cons (IsFrom m) (element bit) (fed.elements bits) tt (elements-from m bits)
 
 one-from : (m : ℕ) (event : Event) → IsFrom m event → All (IsFrom m) (event ∷ [])
 one-from m event h = All-cons (IsFrom m) event [] h (All-nil (IsFrom m))

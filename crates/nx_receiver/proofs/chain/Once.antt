@@ -2,10 +2,9 @@
 use Rattle.std.proofs.Common.{◌≡◌, ℕ, zero, suc, ◌+◌, ◌<◌, true, List, [], ◌∷◌, length, map, get_or, refl, sym, ap, ◌∙◌, subst, arith, IsTrue}
 use Rattle.std.specs.List.{All, Contains}
 use Rattle.std.proofs.lemmas.List.Elements.{All-append, All-contains, All-contains_itself, All-cons, All-head, All-map, All-nil, All-tail, All-weaker, Contains-append_left, Contains-append_right}
-use Rattle.nx_envelope.specs.Errors.{errors_of}
+use Rattle.nx_envelope.specs.Copies.{errors_of}
 use Rattle.nx_envelope.specs.Identity.{same_identity}
-use Rattle.nx_envelope.specs.Message.{text_of}
-use Rattle.nx_envelope.specs.MessageView.{MessageView}
+use Rattle.nx_envelope.specs.Message.{text_of, MessageView}
 use Rattle.nx_envelope.proofs.Identities.{same_identity-true, same_itself}
 use Rattle.nx_memory.specs.Saved.{SavedState}
 use Rattle.nx_memory.specs.Memory.{seconds_known}
@@ -14,9 +13,9 @@ use Rattle.nx_receiver.specs.Chain.{AreFoundIn, IsChain, Run, all_copies, all_pr
 use Rattle.nx_receiver.specs.ChainOnce.{CutRun, IsHeardInTimeOver, IsSentIn, in_force_in}
 use Rattle.nx_receiver.specs.Events.{elements_among}
 use Rattle.nx_receiver.specs.FoundCopies.{FoundCopy, found_to_end}
-use Rattle.nx_receiver.specs.LawTerms.{AreRepeats, IsUnknownAtFirst, copies_of}
-use Rattle.nx_receiver.specs.Once.{IsPrintedOnce}
-use Rattle.nx_receiver.specs.Printing.{is_good, printed_copies}
+use Rattle.nx_receiver.specs.LawTerms.{AreRepeats}
+use Rattle.nx_receiver.specs.Printing.{copies_of, is_good, printed_copies}
+use Rattle.nx_receiver.specs.Once.{IsUnknownAtFirst, IsPrintedOnce}
 use Rattle.nx_receiver.specs.Emissions.{copies_at, copy_of_sending}
 use Rattle.nx_receiver.specs.Tagged.{TaggedCopy, tag, tagged_copies}
 use Rattle.nx_receiver.proofs.chain.Runs.{chain_prints}

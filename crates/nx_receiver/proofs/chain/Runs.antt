@@ -4,11 +4,10 @@ use Rattle.std.specs.Io.KnownBytes.{Appends}
 use Rattle.nx_code.specs.Lists.{last_of}
 use Rattle.nx_memory.specs.Saved.{SavedState}
 use Rattle.nx_memory.specs.Memory.{most_entries}
-use Rattle.nx_memory.specs.Refused.{Refused}
+use Rattle.nx_memory.specs.Selection.{Refused}
 use Rattle.nx_memory.specs.declared.entry.MemoryEntry.{MemoryEntry}
 use Rattle.nx_fec.specs.AirFile.{Line}
-use Rattle.nx_fec.specs.LineRuns.{air_limit}
-use Rattle.nx_fec.specs.Lines.{IsAirFile}
+use Rattle.nx_fec.specs.Lines.{air_limit, IsAirFile}
 use Rattle.nx_fec.proofs.LineLaws.{IsAirFile-unique}
 use Rattle.nx_sync.proofs.StateChanges.{standing_after}
 use Rattle.nx_sync.proofs.UniqueStates.{locks-unique, now-unique}

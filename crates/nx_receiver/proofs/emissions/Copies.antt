@@ -5,11 +5,9 @@ use Rattle.std.specs.Option.{option_map}
 use Rattle.std.proofs.lemmas.List.{length-append, take_at, drop_at}
 use Rattle.std.proofs.lemmas.List.Elements.{All-contains, All-map, All-weaker}
 use Rattle.nx_envelope.specs.Copies.{Copy, Ending, headers, raw_text, ended_copies, less_newline, ending_of, ended_copy, closed_copy, copies, copy_with}
-use Rattle.nx_envelope.specs.Header.{Header, StandsIn}
+use Rattle.nx_envelope.specs.Header.{Header, StandsIn, start_marker, end_marker}
 use Rattle.nx_envelope.specs.Identity.{identity_bytes}
-use Rattle.nx_envelope.specs.Marker.{start_marker, end_marker}
-use Rattle.nx_envelope.specs.Message.{AreLines, text_of}
-use Rattle.nx_envelope.specs.MessageView.{MessageView}
+use Rattle.nx_envelope.specs.Message.{AreLines, text_of, MessageView}
 use Rattle.nx_envelope.specs.declared.identity.Identity.{Identity}
 use Rattle.nx_envelope.specs.declared.found.How.TheVariants.{Full}
 use Rattle.nx_envelope.proofs.Anywhere.{anywhere_both}

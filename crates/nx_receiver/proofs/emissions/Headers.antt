@@ -6,11 +6,9 @@ use Rattle.std.proofs.lemmas.List.{length-append, length-drop, length-take-le, d
 use Rattle.std.proofs.lemmas.List.Concat.{flat_map-append}
 use Rattle.std.proofs.lemmas.List.Elements.{All-append, All-cons, All-nil}
 use Rattle.nx_envelope.specs.Copies.{headers}
-use Rattle.nx_envelope.specs.Header.{Header, StandsIn}
+use Rattle.nx_envelope.specs.Header.{Header, StandsIn, HoldsWord, start_marker, end_marker}
 use Rattle.nx_envelope.specs.Identity.{identity_bytes}
-use Rattle.nx_envelope.specs.Marker.{HoldsWord, start_marker, end_marker}
-use Rattle.nx_envelope.specs.Message.{AreLines, text_of}
-use Rattle.nx_envelope.specs.MessageView.{MessageView}
+use Rattle.nx_envelope.specs.Message.{AreLines, text_of, MessageView}
 use Rattle.nx_envelope.specs.declared.identity.Identity.{Identity}
 use Rattle.nx_envelope.proofs.Anywhere.{anywhere_both}
 use Rattle.nx_envelope.proofs.Identities.{same_identity-true}

@@ -4,7 +4,7 @@ use Rattle.std.proofs.lemmas.Bool.{cases_lt}
 use Rattle.std.proofs.lemmas.List.{length-append, take-append-drop, take_at, length-take-le}
 use Rattle.std.proofs.lemmas.List.Concat.{flat_map-append}
 use Rattle.std.proofs.Math.Seq.{drop-append-add}
-use Rattle.nx_code.specs.Phasing.{phasing_1, phasing_2}
+use Rattle.nx_code.specs.Table.{phasing_1, phasing_2}
 use Rattle.nx_code.specs.Word.{elements, elements_from, weight, number_of, word_from}
 use Rattle.nx_fec.specs.Aligned.{word_in}
 use Rattle.nx_fec.specs.Emission.{bits_of, AreWords}

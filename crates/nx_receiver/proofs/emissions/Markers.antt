@@ -6,7 +6,7 @@ use Rattle.std.proofs.lemmas.List.{length-append, length-take, take_at, drop_at,
 use Rattle.std.proofs.lemmas.List.Elements.{All-head, All-tail}
 use Rattle.nx_envelope.specs.Copies.{Ending, ending_of}
 use Rattle.nx_envelope.specs.Ending.{MarkerEndsAt}
-use Rattle.nx_envelope.specs.Marker.{EndsWith, HoldsWord, start_marker, end_marker}
+use Rattle.nx_envelope.specs.Header.{EndsWith, HoldsWord, start_marker, end_marker}
 use Rattle.nx_envelope.specs.Message.{AreLines, text_of}
 use Rattle.nx_envelope.specs.declared.found.How.{How}
 use Rattle.nx_envelope.specs.declared.found.How.TheVariants.{Full, Cut, Long}

@@ -2,13 +2,12 @@
 use Rattle.std.proofs.Common.{◌≡◌, ℕ, zero, suc, ◌+◌, ◌-◌, ◌*◌, ◌<◌, ◌≤◌, false, cond, ltb, List, [], ◌∷◌, ◌++◌, map, length, take, sym, ap, ◌∙◌, arith, append_assoc, append-nil}
 use Rattle.std.proofs.lemmas.Bool.Decides.{nat_tests}
 use Rattle.std.proofs.lemmas.List.{take_more, map-append}
-use Rattle.nx_fec.specs.Pairing.{nothing, counts_as, pairing}
+use Rattle.nx_fec.specs.Pairing.{nothing, counts_as, pairing, five_before}
 use Rattle.nx_fec.specs.Emission.{SentPosition, end_position, position_at, reception}
 use Rattle.nx_sync.specs.Words.{role_of, is_dx, other_role}
 use Rattle.nx_sync.specs.declared.step.Role.{Role}
 use Rattle.nx_sync.specs.declared.step.Role.TheVariants.{Dx, Rx}
 use Rattle.nx_sync.proofs.Counts.{role_of-even}
-use Rattle.nx_fec.specs.Aligned.{five_before}
 use Rattle.nx_receiver.specs.LockText.{taken_at, positions}
 
 five_before-late : (words : ℕ → ℕ) (k : ℕ) → five_before words (k + 5) ≡ counts_as (words k)

@@ -7,8 +7,7 @@ use Rattle.nx_code.specs.Reading.{Reception, combination, byte_of, shift_after_a
 use Rattle.nx_code.specs.declared.shifts.Shift.TheVariants.{Letters, Figures}
 use Rattle.nx_code.proofs.ReadingLemmas.{text-append, shift_after_all-append}
 use Rattle.nx_envelope.specs.Copies.{ended_copies}
-use Rattle.nx_envelope.specs.Message.{AreLines, text_of}
-use Rattle.nx_envelope.specs.MessageView.{MessageView}
+use Rattle.nx_envelope.specs.Message.{AreLines, text_of, MessageView}
 use Rattle.nx_envelope.specs.declared.found.How.TheVariants.{Full}
 use Rattle.nx_fec.specs.Emission.{SentPosition, traffic_position, end_position, position_at, reception}
 use Rattle.nx_station.specs.Broadcast.{IsSpelled, ending, printed_text}

@@ -8,24 +8,23 @@ use Rattle.nx_memory.specs.Selection.{admits}
 use Rattle.nx_fec.specs.AirFile.{IsLine, moment, spelling}
 use Rattle.nx_fec.specs.BitLines.{bit_lines}
 use Rattle.nx_fec.specs.Emission.{bits_of}
-use Rattle.nx_fec.specs.Lines.{IsAirFile, file_of, line_bytes}
+use Rattle.nx_fec.specs.Lines.{IsAirFile, file_of, line_bytes, air_limit}
 use Rattle.nx_fec.proofs.LineLaws.{spelling-IsBeginning}
 use Rattle.nx_fec.proofs.RoundTripLemmas.{length-bits_of}
 use Rattle.nx_station.specs.ChannelExample.{example_message, example_parts, example_sending}
-use Rattle.nx_station.specs.Sendings.{IsCut, Sending}
+use Rattle.nx_station.specs.Sendings.{IsCut, Sending, IsSentAt}
 use Rattle.nx_station.proofs.ChannelExamples.{example_sent}
 use Rattle.nx_sync.specs.Locks.{locked, IsNow}
 use Rattle.nx_receiver.specs.Events.{Event, Setting, at_moment, at_zero, element, first_setting, setting_after_all, settings, elements_among}
 use Rattle.nx_receiver.specs.Example.{first_copy}
 use Rattle.nx_receiver.specs.FoundCopies.{FoundCopy, found_to_end}
-use Rattle.nx_fec.specs.LineRuns.{air_limit}
 use Rattle.nx_receiver.specs.Listen.{AreTaken, AreTakenAfter, IsLogOf, events_of}
 use Rattle.nx_receiver.specs.ListenExample.{example_air_file, example_lines}
 use Rattle.nx_receiver.specs.ListenOnce.{IsHeardInTimeIn}
 use Rattle.nx_receiver.specs.Log.{PrintsToEnd}
 use Rattle.nx_receiver.specs.Once.{IsHeardInTime, setting_of}
 use Rattle.nx_receiver.specs.Printing.{printed_copies}
-use Rattle.nx_receiver.specs.Emissions.{IsSentAt, copy_of_sending}
+use Rattle.nx_receiver.specs.Emissions.{copy_of_sending}
 use Rattle.nx_receiver.specs.Tagged.{tag, tagged_copies}
 use Rattle.nx_receiver.specs.Worked.{at_its_slot, damaged_words, worked_log}
 use Rattle.nx_receiver.proofs.listens.ElementLines.{events-lines, good-lines, length-lines, taken-lines}

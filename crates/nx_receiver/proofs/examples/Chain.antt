@@ -13,12 +13,11 @@ use Rattle.nx_memory.specs.Selection.{admits}
 use Rattle.nx_memory.specs.declared.entry.MemoryEntry.{MemoryEntry}
 use Rattle.nx_fec.specs.AirFile.{IsLine, Line, moment, spelling}
 use Rattle.nx_fec.specs.BitLines.{bit_lines}
-use Rattle.nx_fec.specs.LineRuns.{air_limit}
-use Rattle.nx_fec.specs.Lines.{IsAirFile, file_of, line_bytes}
+use Rattle.nx_fec.specs.Lines.{air_limit, IsAirFile, file_of, line_bytes}
 use Rattle.nx_fec.proofs.LineLaws.{spelling-IsBeginning}
 use Rattle.nx_fec.proofs.RoundTripLemmas.{length-bits_of}
 use Rattle.nx_station.specs.ChannelExample.{ea01, example_message, example_parts, example_sending}
-use Rattle.nx_station.specs.Sendings.{IsCut, Part}
+use Rattle.nx_station.specs.Sendings.{IsCut, Part, IsSentAt}
 use Rattle.nx_station.proofs.ChannelExamples.{example_sent}
 use Rattle.nx_sync.specs.Locks.{IsNow, locked}
 use Rattle.nx_receiver.specs.Chain.{AreFoundIn, IsChain, Leaves, Run, all_copies, all_logs, events_in, nothing_saved, start_from}
@@ -31,7 +30,7 @@ use Rattle.nx_receiver.specs.Listen.{AreTaken, AreTakenAfter, events_of}
 use Rattle.nx_receiver.specs.Log.{PrintsToEnd}
 use Rattle.nx_receiver.specs.Once.{setting_of}
 use Rattle.nx_receiver.specs.Printing.{entries_after, entries_made, entry_made, if_printed, is_entered, is_printed, printed_copies}
-use Rattle.nx_receiver.specs.Emissions.{IsSentAt, copy_of_sending}
+use Rattle.nx_receiver.specs.Emissions.{copy_of_sending}
 use Rattle.nx_receiver.specs.Tagged.{TaggedCopy, tag, tagged_copies}
 use Rattle.nx_receiver.specs.Worked.{damaged_words, worked_log}
 use Rattle.nx_receiver.proofs.listens.ElementLines.{events-lines, good-lines, taken-lines}

@@ -6,12 +6,12 @@ use Rattle.std.specs.List.{Contains}
 use Rattle.std.proofs.lemmas.List.{length-append, length-map, take-append-drop}
 use Rattle.std.proofs.lemmas.List.Concat.{flat_map-append}
 use Rattle.nx_code.specs.Word.{elements}
-use Rattle.nx_envelope.specs.AtTheEnd.{letter_from, letter_of, digit_from, digit_of, read_identity, read_spaced, read_header, identity_at_end}
+use Rattle.nx_envelope.specs.Header.{letter_from, letter_of, digit_from, digit_of, read_identity, read_spaced, read_header, identity_at_end}
 use Rattle.nx_envelope.specs.Copies.{beginnings, header_at_end, headers, copies}
 use Rattle.nx_fec.specs.Emission.{bits_of}
 use Rattle.nx_station.specs.Channel.{phasing_words}
 use Rattle.nx_station.specs.ChannelExample.{example_message, example_parts, example_sending, heard_half}
-use Rattle.nx_station.specs.Sendings.{IsCut}
+use Rattle.nx_station.specs.Sendings.{IsCut, IsSentAt}
 use Rattle.nx_station.proofs.ChannelExamples.{example_cut, example_sent}
 use Rattle.nx_sync.specs.Locks.{locked, IsNow}
 use Rattle.nx_sync.specs.Words.{whole_words}
@@ -20,7 +20,7 @@ use Rattle.nx_receiver.specs.Events.{Event, Setting, first_setting, elements_amo
 use Rattle.nx_receiver.specs.FoundCopies.{FoundCopy, found_copy, past_copies, found_to_end}
 use Rattle.nx_receiver.specs.LockText.{lock_text, bytes_of}
 use Rattle.nx_receiver.specs.Once.{IsHeardInTime}
-use Rattle.nx_receiver.specs.Emissions.{copy_of_sending, IsSentAt}
+use Rattle.nx_receiver.specs.Emissions.{copy_of_sending}
 use Rattle.nx_receiver.specs.Tagged.{TaggedCopy, tagged_copies}
 use Rattle.nx_receiver.specs.Worked.{at_its_slot, damaged_words, heard_elements}
 use Rattle.nx_receiver.proofs.once.Repeats.{none_live}

@@ -5,8 +5,8 @@ use Rattle.std.proofs.lemmas.List.Elements.{All-nil, All-cons, All-contains}
 use Rattle.nx_memory.specs.declared.entry.MemoryEntry.{MemoryEntry}
 use Rattle.nx_station.specs.ChannelExample.{ea01}
 use Rattle.nx_receiver.specs.Example.{first_copy, repeated_copy, example_copies}
-use Rattle.nx_receiver.specs.LawTerms.{AreRepeats, copies_of}
-use Rattle.nx_receiver.specs.Printing.{is_good, is_entered, entry_of, entry_made, entries_made, entries_after}
+use Rattle.nx_receiver.specs.LawTerms.{AreRepeats}
+use Rattle.nx_receiver.specs.Printing.{copies_of, is_good, is_entered, entry_of, entry_made, entries_made, entries_after}
 use Rattle.nx_receiver.specs.Tagged.{TaggedCopy}
 use Rattle.nx_receiver.proofs.once.Repeats.{none_live}
 

@@ -2,10 +2,9 @@
 use Rattle.std.proofs.Common.{◌≡◌, ℕ, ◌+◌, ◌-◌, ◌*◌, ◌/◌, ◌<◌, ◌≤◌, true, false, cond, List, [], length, get_or, refl, sym, ap, ◌∙◌, arith, inl, lit≤, lit<, zero-add, nat_le, Some, None, ltb}
 use Rattle.std.specs.Prelude.{codes, ◌==◌}
 use Rattle.std.proofs.lemmas.Bool.{agree_below, agree_below_at, ltb-true, lt-leb}
-use Rattle.nx_code.specs.Phasing.{phasing_1}
+use Rattle.nx_code.specs.Table.{phasing_1, table, words, place_of, row_of}
 use Rattle.nx_code.specs.Word.{elements, elements_from, weight, word_from}
 use Rattle.nx_code.specs.Reading.{text, character_of}
-use Rattle.nx_code.specs.Table.{table, words, place_of, row_of}
 use Rattle.nx_code.specs.declared.shifts.Shift.TheVariants.{Letters}
 use Rattle.nx_fec.specs.Aligned.{word_in}
 use Rattle.nx_fec.specs.Emission.{bits_of, AreWords}

@@ -9,7 +9,7 @@ use Rattle.nx_envelope.specs.declared.digit.Digit.{Digit}
 use Rattle.nx_envelope.specs.declared.found.How.TheVariants.{Full}
 use Rattle.nx_envelope.specs.declared.identity.Identity.{Identity}
 use Rattle.nx_envelope.specs.declared.letter.Letter.{Letter}
-use Rattle.nx_envelope.specs.AtTheEnd.{letter_from, letter_of, digit_from, digit_of, identity_of, read_identity, read_spaced, read_header, identity_at_end, marker_at_end}
+use Rattle.nx_envelope.specs.Header.{letter_from, letter_of, digit_from, digit_of, identity_of, read_identity, read_spaced, read_header, identity_at_end, marker_at_end}
 use Rattle.nx_envelope.specs.Copies.{Copy, beginnings, header_at_end, headers, raw_text, ending_by_marker, long_within, ending_within, ending_of, ended_copy, closed_copy, copies}
 use Rattle.nx_envelope.proofs.Examples.{slot_of_e}
 use Rattle.nx_envelope.proofs.Identities.{same_identity-true}

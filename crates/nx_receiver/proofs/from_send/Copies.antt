@@ -7,8 +7,7 @@ use Rattle.std.proofs.lemmas.List.Elements.{All-contains, All-contains_itself, A
 use Rattle.nx_envelope.specs.Copies.{Copy, copies, headers}
 use Rattle.nx_envelope.specs.Header.{Header}
 use Rattle.nx_envelope.specs.Identity.{same_identity}
-use Rattle.nx_envelope.specs.Message.{AreLines}
-use Rattle.nx_envelope.specs.MessageView.{MessageView}
+use Rattle.nx_envelope.specs.Message.{AreLines, MessageView}
 use Rattle.nx_envelope.specs.declared.identity.Identity.{Identity}
 use Rattle.nx_envelope.proofs.Identities.{same_identity_both}
 use Rattle.nx_station.specs.Broadcast.{printed_text}

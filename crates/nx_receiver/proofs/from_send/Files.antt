@@ -2,11 +2,11 @@
 use Rattle.std.proofs.Common.{◌≡◌, ℕ, ◌^◌, ◌<◌, ◌≤◌, Bool, List, [], ◌∷◌, map, length, refl, sym, ap, ◌∙◌, subst, arith}
 use Rattle.std.specs.Int.{div_ceil}
 use Rattle.std.proofs.lemmas.List.{length-append}
-use Rattle.nx_envelope.specs.MessageView.{MessageView}
+use Rattle.nx_envelope.specs.Message.{MessageView}
 use Rattle.nx_fec.specs.AirFile.{Line, moment, spelling}
 use Rattle.nx_fec.specs.BitLines.{bit_lines}
 use Rattle.nx_fec.specs.Emission.{bits_of, emission}
-use Rattle.nx_fec.specs.Lines.{IsAirFile, file_of, line_bytes}
+use Rattle.nx_fec.specs.Lines.{IsAirFile, file_of, line_bytes, air_limit}
 use Rattle.nx_fec.proofs.EmissionLemmas.{length-emission}
 use Rattle.nx_fec.proofs.LineLaws.{IsAirFile-unique, spelling-IsBeginning}
 use Rattle.nx_fec.proofs.RoundTripLemmas.{length-bits_of}
@@ -14,13 +14,12 @@ use Rattle.nx_station.specs.FileSending.{IsTransmission}
 use Rattle.nx_station.specs.declared.sending.Sent.{Sent}
 use Rattle.nx_station.proofs.BroadcastLemmas.{broadcast-one}
 use Rattle.nx_receiver.specs.Events.{Event, at_moment, at_zero, setting_after_all}
-use Rattle.nx_fec.specs.LineRuns.{air_limit}
 use Rattle.nx_receiver.specs.Listen.{AreTaken, AreTakenAfter, IsLogOf, IsLogOfFile, events_of}
 use Rattle.nx_receiver.specs.Log.{PrintsToEnd}
 use Rattle.nx_receiver.specs.ListenOnce.{IsHeardInTimeIn}
 use Rattle.nx_receiver.specs.Once.{IsHeardInTime, IsPrintedOnce}
 use Rattle.nx_receiver.specs.Printing.{printed_copies}
-use Rattle.nx_receiver.specs.Receiver as receiver
+use Rattle.nx_receiver.specs.Events as fed
 use Rattle.nx_receiver.specs.FromSend.{BearsAlone, copy_as_sent, events_as_sent, parts_as_sent}
 use Rattle.nx_receiver.specs.Tagged.{TaggedCopy}
 use Rattle.nx_receiver.proofs.listens.ElementLines.{events-lines, good-lines, length-lines, taken-lines}
@@ -35,7 +34,7 @@ abbrev lines_as_sent : ℕ → List Bool → List Line
 lines_as_sent slot bits = moment slot ∷ bit_lines bits
 
 events-as_sent : (slot : ℕ) (bits : List Bool)
-    → events_of (lines_as_sent slot bits) ≡ at_moment slot ∷ receiver.elements bits
+    → events_of (lines_as_sent slot bits) ≡ at_moment slot ∷ fed.elements bits
 events-as_sent slot bits =
     ap (λ l. at_moment slot ∷ l) (events-lines bits)
 
@@ -83,7 +82,7 @@ module _ (station from : ℕ) (file air : List ℕ) (sent : Sent) (h : IsTransmi
   events_are : events_of lines ≡ events_as_sent sent.slot combinations
   events_are =
       events-as_sent sent.slot bits
-      ∙ ap (λ p. at_moment sent.slot ∷ receiver.elements (bits_of (emission p))) h.broadcast.whole
+      ∙ ap (λ p. at_moment sent.slot ∷ fed.elements (bits_of (emission p))) h.broadcast.whole
 
   -- its lines are those that were sent
   prints_as_sent : (read : List Line) (copies : List TaggedCopy) (log : List ℕ) → IsLogOfFile at_zero air read copies log

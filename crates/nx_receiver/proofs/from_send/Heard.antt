@@ -4,26 +4,24 @@ use Rattle.std.specs.FinSet as set
 use Rattle.std.specs.List.{Contains, flat_map}
 use Rattle.std.specs.Ordering.{nat_cmp}
 use Rattle.nx_envelope.specs.Identity.{same_identity}
-use Rattle.nx_envelope.specs.MessageView.{MessageView}
+use Rattle.nx_envelope.specs.Message.{MessageView}
 use Rattle.nx_envelope.specs.declared.identity.Identity.{Identity}
 use Rattle.nx_envelope.proofs.Identities.{same_identity-true}
 use Rattle.nx_fec.specs.Emission.{bits_of}
 use Rattle.nx_memory.specs.Memory.{seconds_known}
-use Rattle.nx_memory.specs.Refused.{Refused}
-use Rattle.nx_memory.specs.Selection.{admits}
+use Rattle.nx_memory.specs.Selection.{Refused, admits}
 use Rattle.nx_station.specs.Broadcast.{AreSpelled, layout, printed_text}
 use Rattle.nx_station.specs.Channel.{first_slot}
 use Rattle.nx_station.specs.Sendable.{IsSendable}
-use Rattle.nx_station.specs.Sendings.{IsCut, IsReceived, Part, bits_of_parts, digit_slot, gap}
+use Rattle.nx_station.specs.Sendings.{IsCut, IsReceived, Part, bits_of_parts, digit_slot, gap, IsSentAt}
 use Rattle.nx_station.proofs.ChannelUndamaged.{undamaged-cut}
 use Rattle.nx_sync.specs.Locks.{IsNow, locked}
 use Rattle.nx_sync.specs.Words.{whole_words}
-use Rattle.nx_receiver.specs.Events.{Event, Setting, at_zero, first_setting, settings, elements_among}
+use Rattle.nx_receiver.specs.Events.{Event, Setting, at_zero, first_setting, settings, elements_among, elements}
 use Rattle.nx_receiver.specs.FoundCopies.{FoundCopy, found_to_end, past_copies}
 use Rattle.nx_receiver.specs.LockText.{PlacedByte, bytes_of, lock_text}
 use Rattle.nx_receiver.specs.Once.{FewBetween, IsHeardInTime, setting_of}
-use Rattle.nx_receiver.specs.Receiver.{elements}
-use Rattle.nx_receiver.specs.Emissions.{IsSentAt, copy_of_sending}
+use Rattle.nx_receiver.specs.Emissions.{copy_of_sending}
 use Rattle.nx_receiver.specs.FromSend.{BearsAlone, events_as_sent, parts_as_sent, words_sent}
 use Rattle.nx_receiver.specs.Tagged.{TaggedCopy, tag, tagged_copies}
 use Rattle.nx_receiver.proofs.once.Repeats.{none_live}

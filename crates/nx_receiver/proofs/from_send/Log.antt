@@ -4,10 +4,8 @@ use Rattle.std.specs.List.{All, AllByRecursion, Contains, flat_map}
 use Rattle.std.proofs.lemmas.List.{length-append}
 use Rattle.std.proofs.lemmas.List.Elements.{All-head, All-tail, All-weaker}
 use Rattle.nx_envelope.specs.Copies.{Copy, closed_copy, copies, headers}
-use Rattle.nx_envelope.specs.Header.{Header}
-use Rattle.nx_envelope.specs.Marker.{end_marker}
-use Rattle.nx_envelope.specs.Message.{AreLines, text_of}
-use Rattle.nx_envelope.specs.MessageView.{MessageView}
+use Rattle.nx_envelope.specs.Header.{Header, end_marker}
+use Rattle.nx_envelope.specs.Message.{AreLines, text_of, MessageView}
 use Rattle.nx_envelope.specs.declared.found.How.TheVariants.{Full}
 use Rattle.nx_envelope.specs.declared.identity.Identity.{Identity}
 use Rattle.nx_envelope.proofs.Rising.{headers_rise_in}
@@ -18,13 +16,12 @@ use Rattle.nx_station.specs.Sendable.{IsSendable}
 use Rattle.nx_sync.specs.Locks.{IsNow, locked}
 use Rattle.nx_sync.specs.Words.{first_role, whole_words, word_of_lock}
 use Rattle.nx_sync.proofs.UniqueStates.{locks-unique, now-unique}
-use Rattle.nx_receiver.specs.Events.{Event, Setting, at_zero, first_setting, settings, elements_among}
+use Rattle.nx_receiver.specs.Events.{Event, Setting, at_zero, first_setting, settings, elements_among, elements}
 use Rattle.nx_receiver.specs.FoundCopies.{FoundCopy, all_in, found_copy, found_to_end, past_copies}
 use Rattle.nx_receiver.specs.LockText.{PlacedByte}
 use Rattle.nx_receiver.specs.Log.{PrintsToEnd, printed_of}
 use Rattle.nx_receiver.specs.Once.{setting_of}
 use Rattle.nx_receiver.specs.Printing.{printed_copies}
-use Rattle.nx_receiver.specs.Receiver.{elements}
 use Rattle.nx_receiver.specs.Emissions.{IsHeaderOf}
 use Rattle.nx_receiver.specs.FromSend.{copy_as_sent, events_as_sent, words_sent}
 use Rattle.nx_receiver.specs.Tagged.{TaggedCopy, tag, tagged_copies}

@@ -11,7 +11,7 @@ use Rattle.nx_fec.specs.Lines.{elements_of, file_of, line_bytes}
 use Rattle.nx_fec.proofs.EncodingLaws.{first_lines-each, first_lines-elements}
 use Rattle.nx_receiver.specs.Events.{Start, element}
 use Rattle.nx_receiver.specs.Listen.{AreTakenAfter, events_of, has_moment}
-use Rattle.nx_receiver.specs.Receiver as receiver
+use Rattle.nx_receiver.specs.Events as fed
 use Rattle.nx_receiver.proofs.listens.Listener.{moment-other}
 
 abbrev lines_of : (ℕ → List Bool) → List ℕ → List Line
@@ -58,13 +58,13 @@ taken-lines start first bits h = taken-some start first (λ i. take 490 (drop (4
 
 -- what they give to a receiver
 events-some : (bits : ℕ → List Bool) (indices : List ℕ)
-    → events_of (lines_of bits indices) ≡ receiver.elements (flat_map elements_of (lines_of bits indices))
+    → events_of (lines_of bits indices) ≡ fed.elements (flat_map elements_of (lines_of bits indices))
 events-some bits [] = refl
 events-some bits (i ∷ indices) =
-    ap (λ l. receiver.elements (bits i) ++ l) (events-some bits indices)
+    ap (λ l. fed.elements (bits i) ++ l) (events-some bits indices)
     ∙ sym (map-append element (bits i) (flat_map elements_of (lines_of bits indices)))
 
-pub events-lines : (bits : List Bool) → events_of (bit_lines bits) ≡ receiver.elements bits
+pub events-lines : (bits : List Bool) → events_of (bit_lines bits) ≡ fed.elements bits
 events-lines bits =
     events-some (λ i. take 490 (drop (490 * i) bits)) (range_with_len 0 (div_ceil (length bits) 490))
-    ∙ ap receiver.elements (joined-lines bits)
+    ∙ ap fed.elements (joined-lines bits)

@@ -1,7 +1,7 @@
 -- What the end of an air file makes of what a listener heard.
 use Rattle.std.proofs.Common.{◌≡◌, ℕ, ◌+◌, List, [], ◌∷◌, ◌++◌, Option, None, length, ap, ◌∙◌, subst, append-nil, arith, length-append}
 use Rattle.std.specs.Io.KnownBytes.{Appends}
-use Rattle.nx_fec.specs.Devices.{WroteSome}
+use Rattle.nx_fec.specs.Transfers.{WroteSome}
 use Rattle.nx_receiver.specs.Events.{Event, Start}
 use Rattle.nx_receiver.specs.private.Listener.{HasClosed, HasClosedSome, HearsLog, Listening, count_of}
 use Rattle.nx_receiver.specs.Log.{IsEntry, PrintsToEnd}

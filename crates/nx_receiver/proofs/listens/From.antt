@@ -3,11 +3,11 @@ use Rattle.std.proofs.Common.{◌≡◌, ℕ, List, [], Option, Result, Ok, Err,
 use Rattle.std.specs.FinSet as set
 use Rattle.std.specs.Io.KnownBytes.{Appends}
 use Rattle.nx_fec.specs.AirFile.{Line}
-use Rattle.nx_fec.specs.Devices.{CountedDevice, HasWritten}
-use Rattle.nx_fec.specs.LineRuns.{HasTakenAll, RunsLines, air_limit}
-use Rattle.nx_fec.specs.Transfers.{devices}
+use Rattle.nx_fec.specs.Transfers.{CountedDevice, HasWritten, devices}
+use Rattle.nx_fec.specs.LineRuns.{HasTakenAll, RunsLines}
+use Rattle.nx_fec.specs.Lines.{air_limit}
 use Rattle.nx_fec.specs.declared.line_run.LinesRead.{LinesRead}
-use Rattle.nx_memory.specs.Refused.{Refused}
+use Rattle.nx_memory.specs.Selection.{Refused}
 use Rattle.nx_memory.specs.Saved.{SavedState}
 use Rattle.nx_memory.specs.declared.entry.MemoryEntry.{MemoryEntry}
 use Rattle.nx_receiver.specs.Chain.{HasGoneOn, Leaves, start_from}

@@ -9,13 +9,13 @@ use Rattle.nx_fec.specs.AirFile.{Line, moment, elements}
 use Rattle.nx_memory.specs.declared.entry.MemoryEntry.{MemoryEntry}
 use Rattle.nx_memory.specs.Ring.{RingMemory}
 use Rattle.nx_envelope.specs.Moment.{last_moment}
-use Rattle.nx_memory.specs.Refused.{Refused}
+use Rattle.nx_memory.specs.Selection.{Refused}
 use Rattle.nx_receiver.specs.Events.{Event, Setting, Start, elements_among, element, none_refused, setting_after_all}
 use Rattle.nx_receiver.specs.Listen.{AreTaken, AreTakenAfter, IsTakenAfter, events_of, has_moment, in_force_after, is_moment_line, line_events}
 use Rattle.nx_receiver.specs.private.Listener.{BeginsListening, BeginsLog, HasFinished, HearsEvents, HearsLog, IsListening, Listening, count_of, start_of}
 use Rattle.nx_receiver.specs.private.ListenerBegins.{printed-so_far}
 use Rattle.nx_receiver.specs.Log.{IsEntry, IsLog}
-use Rattle.nx_receiver.specs.Receiver as receiver
+use Rattle.nx_receiver.specs.Events as fed
 use Rattle.nx_receiver.specs.Receiver.{Awaits, Stands, entry_list}
 use Rattle.nx_receiver.specs.Tagged.{TaggedCopy}
 use Rattle.nx_receiver.specs.declared.entry.Entry.{Entry}
@@ -98,11 +98,11 @@ counts-on old new m n all h k e = omega arith
 -- more elements were heard, and an entry was handed out with the last of them, or none
 pub hears-more : (start : Start) (old new : Listening) (events : List Event) (log : List TaggedCopy) (bits : List Bool) (n : ℕ) (entry : Option Entry) → HearsEvents start old events log
     → n ≤ length bits → length (entry_list entry) ≤ n
-    → Stands content start new.receiver (events ++ receiver.elements (take n bits)) (log ++ entry_list entry)
+    → Stands content start new.receiver (events ++ fed.elements (take n bits)) (log ++ entry_list entry)
     → new.elements ≡ count_of (old.elements + n) → new.entries ≡ count_of (old.entries + length (entry_list entry))
-    → HearsEvents start new (events ++ receiver.elements (take n bits)) (log ++ entry_list entry)
+    → HearsEvents start new (events ++ fed.elements (take n bits)) (log ++ entry_list entry)
 hears-more start old new events log bits n entry h within few stands heard printed =
-    let all : length (elements_among (events ++ receiver.elements (take n bits))) ≡ length (elements_among events) + n =
+    let all : length (elements_among (events ++ fed.elements (take n bits))) ≡ length (elements_among events) + n =
     ap length (bits_of-more events (take n bits)) ∙ length-append (elements_among events) (take n bits) ∙ ap (λ k. length (elements_among events) + k) (length-take-le n bits within) in
     let longer : length (log ++ entry_list entry) ≡ length log + length (entry_list entry) = length-append log (entry_list entry) in
     record {
@@ -120,15 +120,15 @@ ok-false E x true h = let e = h refl in cc
 -- nothing was handed out with these elements
 pub heard-none : (start : Start) (old new : Listening) (events : List Event) (given : List ℕ) (bits : List Bool) (n : ℕ) (entry : Option Entry) → entry ≡ None → HearsLog start old events given
     → n ≤ length bits
-    → ((log : List TaggedCopy) → Stands content start old.receiver events log → Stands content start new.receiver (events ++ receiver.elements (take n bits)) (log ++ entry_list entry))
-    → new.elements ≡ count_of (old.elements + n) → new.entries ≡ old.entries → HearsLog start new (events ++ receiver.elements (take n bits)) given
+    → ((log : List TaggedCopy) → Stands content start old.receiver events log → Stands content start new.receiver (events ++ fed.elements (take n bits)) (log ++ entry_list entry))
+    → new.elements ≡ count_of (old.elements + n) → new.entries ≡ old.entries → HearsLog start new (events ++ fed.elements (take n bits)) given
 heard-none start old new events given bits n entry none h within stands heard printed =
     let zero : length (entry_list entry) ≡ 0 = ap (λ e. length (entry_list e)) none in
     let same : h.log ++ entry_list entry ≡ h.log = ap (λ e. h.log ++ entry_list e) none ∙ append-nil h.log in
     let more = hears-more start old new events h.log bits n entry h.hears within (omega (arith, zero)) (stands h.log h.hears.receiver) heard (omega (arith, zero, printed, h.hears.entries)) in
     record {
       log = h.log;
-      hears = subst (λ log. HearsEvents start new (events ++ receiver.elements (take n bits)) log) same more;
+      hears = subst (λ log. HearsEvents start new (events ++ fed.elements (take n bits)) log) same more;
       spelled = h.spelled;
     }
 
@@ -148,8 +148,8 @@ at-most-one (Some entry) = omega arith
 -- what was over with the last of these elements was finished, and these are the bytes of the entry, if one was made
 pub heard-over : (start : Start) (old mid new : Listening) (events : List Event) (given more : List ℕ) (bits : List Bool) (n : ℕ) (over : Over) → HasFinished mid new over more
     → HearsLog start old events given → n ≤ length bits → 0 < n
-    → ((log : List TaggedCopy) → Stands content start old.receiver events log → Awaits content start mid.receiver (events ++ receiver.elements (take n bits)) log over)
-    → mid.elements ≡ count_of (old.elements + n) → mid.entries ≡ old.entries → HearsLog start new (events ++ receiver.elements (take n bits)) (given ++ more)
+    → ((log : List TaggedCopy) → Stands content start old.receiver events log → Awaits content start mid.receiver (events ++ fed.elements (take n bits)) log over)
+    → mid.elements ≡ count_of (old.elements + n) → mid.entries ≡ old.entries → HearsLog start new (events ++ fed.elements (take n bits)) (given ++ more)
 heard-over start old mid new events given more bits n over f h within least awaits heard same =
     let entry = f.entry in
     let few : length (entry_list entry) ≤ 1 = at-most-one entry in
@@ -163,26 +163,26 @@ heard-over start old mid new events given more bits n over f h within least awai
 -- nothing was over with these elements
 pub heard-no-over : (start : Start) (old new : Listening) (events : List Event) (given : List ℕ) (bits : List Bool) (n : ℕ) (over : Over) → over ≡ overs.Nothing → HearsLog start old events given
     → n ≤ length bits
-    → ((log : List TaggedCopy) → Stands content start old.receiver events log → Awaits content start new.receiver (events ++ receiver.elements (take n bits)) log over)
-    → new.elements ≡ count_of (old.elements + n) → new.entries ≡ old.entries → HearsLog start new (events ++ receiver.elements (take n bits)) given
+    → ((log : List TaggedCopy) → Stands content start old.receiver events log → Awaits content start new.receiver (events ++ fed.elements (take n bits)) log over)
+    → new.elements ≡ count_of (old.elements + n) → new.entries ≡ old.entries → HearsLog start new (events ++ fed.elements (take n bits)) given
 heard-no-over start old new events given bits n over nothing h within awaits heard printed =
     heard-none start old new events given bits n None refl h within
-    (λ log s. subst (λ l. Stands content start new.receiver (events ++ receiver.elements (take n bits)) l) (sym (append-nil log)) (nothing_awaited content start new.receiver _ _ _ log over nothing (awaits log s)))
+    (λ log s. subst (λ l. Stands content start new.receiver (events ++ fed.elements (take n bits)) l) (sym (append-nil log)) (nothing_awaited content start new.receiver _ _ _ log over nothing (awaits log s)))
     heard printed
 
 -- the elements before and after a place are all
-parts : (events : List Event) (bits : List Bool) (n : ℕ) → events ++ receiver.elements bits ≡ (events ++ receiver.elements (take n bits)) ++ receiver.elements (drop n bits)
+parts : (events : List Event) (bits : List Bool) (n : ℕ) → events ++ fed.elements bits ≡ (events ++ fed.elements (take n bits)) ++ fed.elements (drop n bits)
 parts events bits n =
-    ap (λ bs. events ++ receiver.elements bs) (sym (take-append-drop n bits))
+    ap (λ bs. events ++ fed.elements bs) (sym (take-append-drop n bits))
     ∙ ap (λ es. events ++ es) (map-append element (take n bits) (drop n bits))
-    ∙ sym (append_assoc events (receiver.elements (take n bits)) (receiver.elements (drop n bits)))
+    ∙ sym (append_assoc events (fed.elements (take n bits)) (fed.elements (drop n bits)))
 
 -- a log so far is that of a beginning of more
-pub begins-more : (start : Start) (listener : Listening) (events : List Event) (given : List ℕ) (bits : List Bool) (n : ℕ) → HearsLog start listener (events ++ receiver.elements (take n bits)) given
-    → BeginsLog start (events ++ receiver.elements bits) given
+pub begins-more : (start : Start) (listener : Listening) (events : List Event) (given : List ℕ) (bits : List Bool) (n : ℕ) → HearsLog start listener (events ++ fed.elements (take n bits)) given
+    → BeginsLog start (events ++ fed.elements bits) given
 begins-more start listener events given bits n h = record {
-  before = events ++ receiver.elements (take n bits);
-  later = receiver.elements (drop n bits);
+  before = events ++ fed.elements (take n bits);
+  later = fed.elements (drop n bits);
   whole = parts events bits n;
   log = h.log;
   printed = printed-so_far _ start listener.receiver _ h.log h.hears.receiver;
@@ -191,17 +191,17 @@ begins-more start listener events given bits n h = record {
 
 -- the next of these elements, and all that are left
 pub elements-next : (events : List Event) (bits : List Bool) (at count : ℕ)
-    → (events ++ receiver.elements (take at bits)) ++ receiver.elements (take count (take (length bits - at) (drop at bits))) ≡ events ++ receiver.elements (take (at + count) bits)
+    → (events ++ fed.elements (take at bits)) ++ fed.elements (take count (take (length bits - at) (drop at bits))) ≡ events ++ fed.elements (take (at + count) bits)
 elements-next events bits at count =
-    append_assoc events (receiver.elements (take at bits)) (receiver.elements (take count (take (length bits - at) (drop at bits))))
+    append_assoc events (fed.elements (take at bits)) (fed.elements (take count (take (length bits - at) (drop at bits))))
     ∙ ap (λ es. events ++ es) (sym (map-append element (take at bits) (take count (take (length bits - at) (drop at bits)))))
-    ∙ ap (λ bs. events ++ receiver.elements (take at bits ++ take count bs)) (rest_is bits at)
-    ∙ ap (λ bs. events ++ receiver.elements bs) (sym (take-add at count bits))
+    ∙ ap (λ bs. events ++ fed.elements (take at bits ++ take count bs)) (rest_is bits at)
+    ∙ ap (λ bs. events ++ fed.elements bs) (sym (take-add at count bits))
 
 pub elements-rest : (events : List Event) (bits : List Bool) (at : ℕ)
-    → (events ++ receiver.elements (take at bits)) ++ receiver.elements (take (length bits - at) (drop at bits)) ≡ events ++ receiver.elements bits
+    → (events ++ fed.elements (take at bits)) ++ fed.elements (take (length bits - at) (drop at bits)) ≡ events ++ fed.elements bits
 elements-rest events bits at =
-    ap (λ bs. (events ++ receiver.elements (take at bits)) ++ receiver.elements bs) (rest_is bits at) ∙ sym (parts events bits at)
+    ap (λ bs. (events ++ fed.elements (take at bits)) ++ fed.elements bs) (rest_is bits at) ∙ sym (parts events bits at)
 
 -- what is refused at first, where it is nothing
 pub nothing-refused : (refused : Refused) → refused.stations ≡ set.empty → refused.subjects ≡ set.empty → none_refused ≡ refused
@@ -229,7 +229,7 @@ heard-nothing start listener within stands none elements' entries' = record {
 
 -- after the elements of a line
 pub heard-line : (start : Start) (old new : Listening) (lines : List Line) (bits : List Bool) (given more : List ℕ) → IsListening start old lines given → has_moment lines ≡ true
-    → new.has_moment ≡ old.has_moment → HearsLog start new (events_of lines ++ receiver.elements bits) more → IsListening start new (lines ++ elements bits ∷ []) more
+    → new.has_moment ≡ old.has_moment → HearsLog start new (events_of lines ++ fed.elements bits) more → IsListening start new (lines ++ elements bits ∷ []) more
 heard-line start old new lines bits given more h some same heard = record {
   taken = taken-one start lines (elements bits) h.taken some;
   moment = moment-other lines (elements bits) _ (same ∙ h.moment) refl;
@@ -237,7 +237,7 @@ heard-line start old new lines bits given more h some same heard = record {
 }
 
 pub begins-line : (start : Start) (lines : List Line) (bits : List Bool) (given : List ℕ) → AreTaken start lines → has_moment lines ≡ true
-    → BeginsLog start (events_of lines ++ receiver.elements bits) given → BeginsListening start (lines ++ elements bits ∷ []) given
+    → BeginsLog start (events_of lines ++ fed.elements bits) given → BeginsListening start (lines ++ elements bits ∷ []) given
 begins-line start lines bits given taken some h = record {
   taken = taken-one start lines (elements bits) taken some;
   begun = subst (λ es. BeginsLog start es given) (sym (events_of-one lines (elements bits))) h;

@@ -7,19 +7,18 @@ use Rattle.std.proofs.lemmas.List.{get_or_past}
 use Rattle.std.proofs.lemmas.List.Elements.{All-nil, All-cons, All-head, All-tail, All-same, All-get_or, All-append}
 use Rattle.nx_envelope.specs.Moment.{last_moment}
 use Rattle.nx_fec.specs.AirFile.{Line, moment, elements, refuse_station, accept_station, refuse_subject, accept_subject}
-use Rattle.nx_fec.specs.Devices.{WroteSome}
-use Rattle.nx_fec.specs.Lines.{IsAirFile}
+use Rattle.nx_fec.specs.Transfers.{WroteSome}
+use Rattle.nx_fec.specs.Lines.{IsAirFile, air_limit}
 use Rattle.nx_fec.proofs.LineLaws.{IsAirFile-unique}
 use Rattle.nx_fec.proofs.WritingLaws.{WroteSome-front}
 use Rattle.nx_memory.specs.declared.entry.MemoryEntry.{MemoryEntry}
 use Rattle.nx_receiver.specs.Events.{Event, Setting, Start, at_moment, element, command, first_setting, setting_after, settings}
 use Rattle.nx_receiver.specs.FoundCopies.{FoundCopy}
-use Rattle.nx_fec.specs.LineRuns.{air_limit}
 use Rattle.nx_receiver.specs.Listen.{AreTaken, AreTakenAfter, HasLoggedSome, IsLogOf, IsLogOfLines, IsTakenAfter, events_of, line_events}
 use Rattle.nx_receiver.specs.private.Listener.{BeginsListening}
 use Rattle.nx_receiver.specs.Log.{HasPrinted, IsLog, PrintsToEnd, printed_of}
 use Rattle.nx_receiver.specs.Printing.{entry_made, if_printed, is_printed, printed_copies}
-use Rattle.nx_receiver.specs.Receiver as receiver
+use Rattle.nx_receiver.specs.Events as fed
 use Rattle.nx_receiver.specs.Tagged.{TaggedCopy, tag, tagged_copies}
 use Rattle.nx_receiver.proofs.receiving.Log.{log_begins, one_log, some_log}
 use Rattle.nx_receiver.proofs.receiving.Logged.{has_printed_on, one_printed, one_to_end, some_printed, some_to_end}
@@ -36,9 +35,9 @@ IsSetInRange setting = setting.moment ≤ last_moment
 abbrev pub IsCopyInRange : TaggedCopy → Type 0
 IsCopyInRange copy = copy.moment ≤ last_moment
 
-elements-in_range : (bits : List Bool) → All IsInRange (receiver.elements bits)
+elements-in_range : (bits : List Bool) → All IsInRange (fed.elements bits)
 elements-in_range [] = All-nil IsInRange
-elements-in_range (bit ∷ bits) = All-cons IsInRange (element bit) (receiver.elements bits) tt (elements-in_range bits)
+elements-in_range (bit ∷ bits) = All-cons IsInRange (element bit) (fed.elements bits) tt (elements-in_range bits)
 
 one-in_range : (event : Event) → IsInRange event → All IsInRange (event ∷ [])
 one-in_range event h = All-cons IsInRange event [] h (All-nil IsInRange)

@@ -4,18 +4,16 @@ use Rattle.std.specs.List.{AllByRecursion}
 use Rattle.std.proofs.lemmas.Bool.{true≢false}
 use Rattle.nx_envelope.proofs.LettersAndDigits.{same_letter}
 use Rattle.nx_fec.specs.AirFile.{Line, IsLine, spelling, moment, elements, refuse_station, accept_station, refuse_subject, accept_subject}
-use Rattle.nx_fec.specs.LineRuns.{StopsAt, air_limit}
-use Rattle.nx_fec.specs.Lines.{HasFault, IsAirFile, IsCause, file_of, line_bytes}
+use Rattle.nx_fec.specs.Lines.{StopsAt, air_limit, HasFault, IsAirFile, IsCause, file_of, line_bytes}
 use Rattle.nx_fec.specs.declared.fault.LineFault.{LineFault}
 use Rattle.nx_fec.specs.declared.fault.LineFault.TheVariants as file
 use Rattle.nx_fec.specs.declared.line_run.LinesFault.{LinesFault}
 use Rattle.nx_fec.specs.declared.line_run.LinesFault.TheVariants as run
 use Rattle.nx_fec.proofs.LineLaws.{HasFault-unique, IsAirFile-good, NoFeed, first_feed, no_feed-not, reading-unique, regroup, spelling-IsBeginning, spelling-injective, split}
 use Rattle.nx_fec.proofs.LineRunLemmas.{file_of-one}
-use Rattle.nx_receiver.specs.Events.{Start}
+use Rattle.nx_receiver.specs.Events.{Start, Refuses}
 use Rattle.nx_receiver.specs.Listen.{AreTaken, AreTakenAfter, HasListenFault, HasLogged, IsLogOf, IsNextRefused, IsTakenAfter}
 use Rattle.nx_receiver.specs.private.Listener.{RefusesLine, lines_fault}
-use Rattle.nx_receiver.specs.Receiver.{Refuses}
 use Rattle.nx_receiver.specs.declared.fault.MomentFault.{MomentFault}
 use Rattle.nx_receiver.specs.declared.fault.MomentFault.TheVariants.{Range, Back}
 use Rattle.nx_receiver.specs.declared.listen_fault.ListenFault.{ListenFault}

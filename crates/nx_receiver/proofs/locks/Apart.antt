@@ -2,7 +2,7 @@
 use Rattle.std.proofs.Common.{◌≡◌, ℕ, ◌+◌, ◌-◌, ◌*◌, ◌<◌, ◌≤◌, Bool, List, ◌∷◌, take, drop, cond, ◌==◌, sym, ap, ◌∙◌, arith}
 use Rattle.std.proofs.lemmas.List.{drop-take, drop-drop, take-take}
 use Rattle.nx_code.specs.Word.{number_of}
-use Rattle.nx_code.specs.Phasing.{phasing_1}
+use Rattle.nx_code.specs.Table.{phasing_1}
 use Rattle.nx_sync.specs.Words.{word_of_lock, first_role}
 use Rattle.nx_sync.specs.Locks.{Lock, IsLocked, Past}
 use Rattle.nx_sync.specs.declared.step.Role.TheVariants.{Dx, Rx}

@@ -12,12 +12,11 @@ use Rattle.nx_envelope.specs.Finder.{ClosesNone, HoldsCopy, held_identity}
 use Rattle.nx_envelope.specs.declared.found.HeldCopy.{HeldCopy}
 use Rattle.nx_envelope.specs.declared.found.HeldCopy.TheVariants as held
 use Rattle.nx_envelope.proofs.Hearing.{closes_none}
-use Rattle.nx_fec.specs.Pairing.{Counted, IsLatest, nothing, counts_as, heard_as, pairing, third_last}
+use Rattle.nx_fec.specs.Pairing.{Counted, IsLatest, nothing, counts_as, heard_as, pairing, third_last, five_before}
 use Rattle.nx_fec.specs.declared.diversity.Diversity.{Diversity}
 use Rattle.nx_sync.specs.Words.{role_of, other_role, is_dx}
 use Rattle.nx_sync.specs.declared.step.Role.{Role}
 use Rattle.nx_sync.specs.declared.step.Role.TheVariants.{Dx, Rx}
-use Rattle.nx_fec.specs.Aligned.{five_before}
 use Rattle.nx_receiver.specs.LockText.{taken_at, positions}
 use Rattle.nx_receiver.specs.private.LockReader.{LockReading, ReadsLock, dx_words, text_after}
 

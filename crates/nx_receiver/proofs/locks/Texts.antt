@@ -5,12 +5,11 @@ use Rattle.std.proofs.lemmas.Bool.{cases_lt}
 use Rattle.nx_code.specs.Reading.{Reception, text, shift_after_all}
 use Rattle.nx_code.specs.declared.shifts.Shift.TheVariants.{Letters}
 use Rattle.nx_code.proofs.ReadingLemmas.{text-append}
-use Rattle.nx_fec.specs.Pairing.{counts_as, pairing, nothing}
+use Rattle.nx_fec.specs.Pairing.{counts_as, pairing, nothing, five_before}
 use Rattle.nx_sync.specs.Words.{word_of_lock, first_role, role_of, is_dx}
 use Rattle.nx_sync.specs.Locks.{IsPattern}
 use Rattle.nx_sync.specs.declared.step.Role.{Role}
 use Rattle.nx_sync.proofs.KeptPast.{word_at-more, first_role-more}
-use Rattle.nx_fec.specs.Aligned.{five_before}
 use Rattle.nx_receiver.specs.LockText.{taken_at, positions, PlacedByte, printed_after, word_place, printed_by, text_by, lock_text, bytes_of}
 
 -- words that are the same up to a word give the same text up to there

@@ -2,21 +2,20 @@
 use Rattle.std.proofs.Common.{◌≡◌, ℕ, zero, suc, ◌+◌, ◌*◌, ◌<◌, Bool, true, false, ltb, cond, max, List, [], ◌∷◌, ◌++◌, length, filter, get_or, refl, sym, ap, ◌∙◌, subst, arith, IsTrue, lt-ltb}
 use Rattle.std.specs.List.{All, Contains}
 use Rattle.std.proofs.lemmas.List.Elements.{All-head, All-tail, All-cons, All-nil, All-map, All-weaker, All-contains, All-contains_itself, filter_passes}
-use Rattle.nx_envelope.specs.Errors.{errors_of}
+use Rattle.nx_envelope.specs.Copies.{errors_of}
 use Rattle.nx_envelope.specs.Identity.{same_identity}
-use Rattle.nx_envelope.specs.Message.{text_of}
-use Rattle.nx_envelope.specs.MessageView.{MessageView}
+use Rattle.nx_envelope.specs.Message.{text_of, MessageView}
 use Rattle.nx_envelope.proofs.Identities.{same_identity-true, same_itself}
 use Rattle.nx_memory.specs.Memory.{seconds_known}
-use Rattle.nx_station.specs.Sendings.{Part, Sending}
+use Rattle.nx_station.specs.Sendings.{Part, Sending, IsSentAt}
 use Rattle.nx_sync.proofs.UniqueStates.{locks-unique, now-unique}
 use Rattle.nx_receiver.specs.Events.{Event, Start, elements_among, first_setting}
 use Rattle.nx_receiver.specs.FoundCopies.{FoundCopy, found_to_end}
-use Rattle.nx_receiver.specs.LawTerms.{AreRepeats, copies_of}
+use Rattle.nx_receiver.specs.LawTerms.{AreRepeats}
+use Rattle.nx_receiver.specs.Printing.{copies_of, is_good, printed_copies}
 use Rattle.nx_receiver.specs.Log.{PrintsToEnd, printed_of}
 use Rattle.nx_receiver.specs.Once.{IsHeardInTime, IsPrintedOnce, setting_of}
-use Rattle.nx_receiver.specs.Printing.{is_good, printed_copies}
-use Rattle.nx_receiver.specs.Emissions.{IsSentAt, copies_at, copy_of_sending}
+use Rattle.nx_receiver.specs.Emissions.{copies_at, copy_of_sending}
 use Rattle.nx_receiver.specs.Tagged.{TaggedCopy, tag, tagged_copies}
 use Rattle.nx_receiver.proofs.once.Repeats.{once}
 use Rattle.nx_receiver.proofs.once.Rising.{one_of_key, contains_map}

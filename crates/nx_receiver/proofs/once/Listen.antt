@@ -1,11 +1,11 @@
 -- A message that is heard in time in an air file has one entry in the log that `listen` writes of it.
 use Rattle.std.proofs.Common.{ℕ, List, Option, None, Some, IfSome, Ok, subst}
-use Rattle.nx_envelope.specs.MessageView.{MessageView}
+use Rattle.nx_envelope.specs.Message.{MessageView}
 use Rattle.nx_fec.specs.AirFile.{Line}
 use Rattle.nx_fec.specs.Transfers.{Devices}
 use Rattle.nx_fec.proofs.LineLaws.{IsAirFile-unique}
 use Rattle.nx_receiver.specs.Events.{Start}
-use Rattle.nx_fec.specs.LineRuns.{air_limit}
+use Rattle.nx_fec.specs.Lines.{air_limit}
 use Rattle.nx_receiver.specs.Listen.{HasListened, IsLogOfFile, Listens, events_of}
 use Rattle.nx_receiver.specs.ListenOnce.{HasPrintedOnce, IsHeardInTimeIn, KeepsHeadline}
 use Rattle.nx_receiver.specs.Log.{PrintsToEnd}

@@ -6,14 +6,14 @@ use Rattle.std.proofs.lemmas.List.Elements.{All-head, All-nil, All-cons, All-app
 use Rattle.nx_envelope.specs.declared.identity.Identity.{Identity}
 use Rattle.nx_envelope.specs.Identity.{same_identity}
 use Rattle.nx_memory.specs.declared.entry.MemoryEntry.{MemoryEntry}
-use Rattle.nx_memory.specs.Live.{IsLive}
+use Rattle.nx_memory.specs.Memory.{IsLive, is_known, most_entries, seconds_known}
 use Rattle.nx_code.specs.Lists.{last_of}
-use Rattle.nx_memory.specs.Memory.{is_known, most_entries, seconds_known}
 use Rattle.nx_envelope.proofs.Identities.{same_identity-true, same_itself}
 use Rattle.nx_memory.proofs.Known.{known_from_live, live_from_known}
 use Rattle.nx_receiver.specs.Tagged.{TaggedCopy}
-use Rattle.nx_receiver.specs.Printing.{is_good, is_number_00, is_remembered, is_printed, is_entered, entry_of, entry_made, entries_made, entries_after, if_printed, printed_copies}
-use Rattle.nx_receiver.specs.LawTerms.{copies_of, AreRepeats, IsUnknownAtFirst}
+use Rattle.nx_receiver.specs.Printing.{is_good, is_number_00, is_remembered, is_printed, is_entered, entry_of, entry_made, entries_made, entries_after, if_printed, printed_copies, copies_of}
+use Rattle.nx_receiver.specs.LawTerms.{AreRepeats}
+use Rattle.nx_receiver.specs.Once.{IsUnknownAtFirst}
 use Rattle.nx_receiver.proofs.receiving.Judging.{remembered, unknown, entered}
 use Rattle.nx_receiver.proofs.receiving.Logged.{printed_copies-append, entries_after-append}
 

@@ -1,8 +1,8 @@
 -- What one more event, or some more elements, do to what a receiver was given, and to what it stands after.
 use Rattle.std.proofs.Common.{◌≡◌, ℕ, Bool, List, [], ◌∷◌, ◌++◌, map, refl, sym, ap, ◌∙◌, subst, append-nil}
 use Rattle.nx_memory.specs.declared.entry.MemoryEntry.{MemoryEntry}
-use Rattle.nx_receiver.specs.Events.{Event, Command, Setting, Start, at_moment, elements_among, command, element, first_setting, setting_after, setting_after_all, settings}
-use Rattle.nx_receiver.specs.Receiver.{Receiving, Stands, elements}
+use Rattle.nx_receiver.specs.Events.{Event, Command, Setting, Start, at_moment, elements_among, command, element, first_setting, setting_after, setting_after_all, settings, elements}
+use Rattle.nx_receiver.specs.Receiver.{Receiving, Stands}
 use Rattle.nx_receiver.specs.Tagged.{TaggedCopy}
 use Rattle.nx_receiver.specs.private.Watch.{Watching, WatchStands, all_in_force, in_force}
 use Rattle.nx_receiver.proofs.receiving.Logged.{bits_of-append, settings-append}

@@ -7,9 +7,9 @@ use Rattle.nx_memory.specs.declared.entry.MemoryEntry.{MemoryEntry}
 use Rattle.nx_receiver.specs.declared.over.Over.{Over}
 use Rattle.nx_receiver.specs.declared.over.Over.TheVariants as over
 use Rattle.nx_receiver.specs.declared.entry.Entry.{Entry}
-use Rattle.nx_receiver.specs.Events.{Event, Setting, Start, elements_among, element, first_setting, setting_after_all, settings}
+use Rattle.nx_receiver.specs.Events.{Event, Setting, Start, elements_among, element, first_setting, setting_after_all, settings, elements}
 use Rattle.nx_receiver.specs.Log.{HasPrinted}
-use Rattle.nx_receiver.specs.Receiver.{Awaits, AwaitsOver, PassesOver, Receiving, Stands, StandsOver, elements, entry_list}
+use Rattle.nx_receiver.specs.Receiver.{Awaits, AwaitsOver, PassesOver, Receiving, Stands, StandsOver, entry_list}
 use Rattle.nx_receiver.specs.Tagged.{TaggedCopy}
 use Rattle.nx_receiver.specs.private.Watch.{HasEnded, HearsAll, IsOver, Watching, all_in_force, in_force}
 use Rattle.nx_receiver.proofs.receiving.Events.{bits_of-more, force-more, settings-more}

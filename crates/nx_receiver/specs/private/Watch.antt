@@ -14,8 +14,7 @@ use Rattle.nx_envelope.specs.declared.found.Found.{Found}
 use Rattle.nx_envelope.specs.declared.found.TextEvent.{TextEvent}
 use Rattle.nx_envelope.specs.declared.found.TextEvent.TheVariants as events
 use Rattle.nx_envelope.specs.declared.identity.Identity.{Identity}
-use Rattle.nx_memory.specs.Refused.{Refused}
-use Rattle.nx_memory.specs.Selection.{admits}
+use Rattle.nx_memory.specs.Selection.{Refused, admits}
 use Rattle.nx_receiver.specs.declared.over.Over.{Over}
 use Rattle.nx_receiver.specs.declared.over.Over.TheVariants as over
 use Rattle.nx_receiver.specs.declared.over.CopyTag.{CopyTag}

@@ -3,7 +3,7 @@
 
 ghost use Rattle.std.specs.Prelude.{◌≡◌, ℕ, ◌≤◌, All, List, ◌++◌, length, Option};
 ghost use Rattle.nx_code.specs.Lists.{last_of};
-ghost use Rattle.nx_envelope.specs.MessageView.{MessageView};
+ghost use Rattle.nx_envelope.specs.Message.{MessageView};
 ghost use Rattle.nx_fec.specs.AirFile.{Line};
 ghost use Rattle.nx_memory.specs.Saved.{SavedState};
 ghost use Rattle.nx_memory.specs.Memory.{most_entries, newest_moment};
@@ -15,10 +15,9 @@ ghost use Rattle.nx_receiver.specs.ChainExample.{example_runs, saved_after};
 ghost use Rattle.nx_receiver.specs.ChainOnce.{IsHeardInTimeOver};
 ghost use Rattle.nx_receiver.specs.Events.{Event, Start, elements_among, first_setting, setting_after_all};
 ghost use Rattle.nx_receiver.specs.FoundCopies.{ended_so_far};
-ghost use Rattle.nx_receiver.specs.LawTerms.{IsUnknownAtFirst};
+ghost use Rattle.nx_receiver.specs.Once.{IsUnknownAtFirst, IsPrintedOnce};
 ghost use Rattle.nx_receiver.specs.Listen.{HasListened, IsLogOfFile, events_of};
 ghost use Rattle.nx_receiver.specs.Log.{IsLog};
-ghost use Rattle.nx_receiver.specs.Once.{IsPrintedOnce};
 ghost use Rattle.nx_receiver.specs.Printing.{entries_after, entries_made, printed_copies};
 ghost use Rattle.nx_receiver.specs.Receiver.{Receiving, Stands};
 ghost use Rattle.nx_receiver.specs.Tagged.{TaggedCopy, tagged_copies};

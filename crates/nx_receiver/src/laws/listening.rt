@@ -2,11 +2,10 @@
 //! is the law.
 
 ghost use Rattle.std.specs.Prelude.{◌≡◌, ℕ, List, Option};
-ghost use Rattle.nx_envelope.specs.MessageView.{MessageView};
+ghost use Rattle.nx_envelope.specs.Message.{MessageView};
 ghost use Rattle.nx_fec.specs.AirFile.{Line};
-ghost use Rattle.nx_fec.specs.Lines.{IsAirFile};
+ghost use Rattle.nx_fec.specs.Lines.{IsAirFile, air_limit};
 ghost use Rattle.nx_station.specs.ChannelExample.{example_message};
-ghost use Rattle.nx_fec.specs.LineRuns.{air_limit};
 ghost use Rattle.nx_receiver.specs.Events.{Start, at_zero};
 ghost use Rattle.nx_receiver.specs.Listen.{AreTaken, HasListenFault, HasLogged, IsLogOf, IsLogOfFile, IsLogOfLines};
 ghost use Rattle.nx_receiver.specs.ListenExample.{example_air_file};

@@ -3,11 +3,9 @@
 
 ghost use Rattle.std.specs.Prelude.{◌≡◌, ◌↔◌, Bool, Contains, List, [], ◌∷◌, take};
 ghost use Rattle.std.specs.List.{AllByRecursion, flat_map};
-ghost use Rattle.nx_envelope.specs.Copies.{headers};
-ghost use Rattle.nx_envelope.specs.Errors.{errors_of};
+ghost use Rattle.nx_envelope.specs.Copies.{headers, errors_of};
 ghost use Rattle.nx_envelope.specs.Header.{Header};
-ghost use Rattle.nx_envelope.specs.Message.{AreLines, text_of};
-ghost use Rattle.nx_envelope.specs.MessageView.{MessageView};
+ghost use Rattle.nx_envelope.specs.Message.{AreLines, text_of, MessageView};
 ghost use Rattle.nx_fec.specs.Emission.{bits_of};
 ghost use Rattle.nx_station.specs.Broadcast.{printed_text};
 ghost use Rattle.nx_station.specs.ChannelExample.{example_message, example_parts};

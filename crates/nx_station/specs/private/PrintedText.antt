@@ -1,9 +1,8 @@
 -- What the private functions answer that read the printed text of messages back.
 use Rattle.std.specs.Prelude.{◌≢◌, ℕ, List, ◌∷◌, ◌++◌, ⊤}
 use Rattle.std.specs.List.{flat_map, AllByRecursion}
-use Rattle.nx_envelope.specs.Marker.{end_marker}
-use Rattle.nx_envelope.specs.Message.{AreLines, text_of}
-use Rattle.nx_envelope.specs.MessageView.{MessageView}
+use Rattle.nx_envelope.specs.Header.{end_marker}
+use Rattle.nx_envelope.specs.Message.{AreLines, text_of, MessageView}
 use Rattle.nx_fec.specs.Lines.{line_end}
 use Rattle.nx_station.specs.Broadcast.{printed_text}
 use Rattle.nx_station.specs.MessageFile.{IsOneLine}

@@ -1,9 +1,8 @@
 //! Laws of what is received under the channel, each the contract of a function that does nothing.
 ghost use Rattle.std.specs.Prelude.{◌≡◌, ◌≢◌, ℕ, ◌+◌, ◌-◌, ◌*◌, ◌%◌, ◌<◌, ◌≤◌, ◌==◌, not, Bool, List, [], ◌∷◌, ◌++◌, Some, count_by, drop, length, slice_get, take};
-ghost use Rattle.nx_code.specs.Phasing.{phasing_1};
-ghost use Rattle.nx_code.specs.Table.{traffic_word};
+ghost use Rattle.nx_code.specs.Table.{phasing_1, traffic_word};
 ghost use Rattle.nx_code.specs.Word.{weight, word_from};
-ghost use Rattle.nx_envelope.specs.MessageView.{MessageView};
+ghost use Rattle.nx_envelope.specs.Message.{MessageView};
 ghost use Rattle.nx_fec.specs.Emission.{SentPosition, bits_of, emission, position_at, reception, word_sent};
 ghost use Rattle.nx_fec.specs.Pairing.{counts_as, pairing};
 ghost use Rattle.nx_station.specs.Broadcast.{AreSpelled, IsBroadcast, digit_combination, end_positions, layout};

@@ -2,7 +2,7 @@
 -- private functions. The contracts of the public ones speak of the locks over all bits.
 use Rattle.std.specs.Prelude.{◌≡◌, ℕ, ◌+◌, ◌*◌, ◌/◌, ◌%◌, ◌^◌, ◌<◌, ◌≤◌, ◌==◌, nat_le, min, Bool, not, ◌&&◌, ◌⊎◌, List, [], ◌∷◌, ◌++◌, length, take, count_by, Option, Some, None, if◌then◌else◌}
 use Rattle.circular_buffer.specs.Buffer.{keep_last}
-use Rattle.nx_code.specs.Phasing.{phasing_1}
+use Rattle.nx_code.specs.Table.{phasing_1}
 use Rattle.nx_code.specs.Word.{value_of}
 use Rattle.nx_sync.specs.declared.track.Track.{Track}
 use Rattle.nx_sync.specs.declared.step.Step.{Step}

@@ -5,8 +5,7 @@ use Rattle.std.proofs.lemmas.Bool.{not-false, not-true, false≢true}
 use Rattle.std.proofs.lemmas.List.{take_more, take_all}
 use Rattle.std.proofs.lemmas.List.Quantifiers.{position-Some}
 use Rattle.std.proofs.lemmas.List.Folds.{list_all_at}
-use Rattle.nx_code.specs.Characters.{is_in_code}
-use Rattle.nx_code.specs.Reading.{combination, shift_after_all}
+use Rattle.nx_code.specs.Reading.{is_in_code, combination, shift_after_all}
 use Rattle.nx_code.specs.private.Pieces.{numbers_of, numbers_of_piece}
 use Rattle.nx_code.specs.declared.shifts.Shift.{Shift}
 use Rattle.nx_code.specs.declared.signals.Comb.{Comb}

@@ -1,7 +1,6 @@
 use Rattle.std.proofs.Common.{◌≡◌, ◌≢◌, [], ◌∷◌, Some, sym, subst, ap, ◌∙◌}
 use Rattle.std.proofs.lemmas.Bool.{false≢true}
-use Rattle.nx_code.specs.Reading.{character_of}
-use Rattle.nx_code.specs.Characters.{holds_in}
+use Rattle.nx_code.specs.Reading.{character_of, holds_in}
 use Rattle.nx_code.specs.Spelling.{Spells}
 use Rattle.nx_code.proofs.SpellingLemmas.{spells_newline, spells_here, spells_there, after_character, after_there, holds_in-other}
 use Rattle.nx_code.proofs.spelling.piece_of.Goals as goal

@@ -1,7 +1,7 @@
 use Rattle.std.proofs.Common.{◌≡◌, ◌++◌, get_or, map, not, subst, sym, take}
 use Rattle.std.proofs.lemmas.Bool.{not-false}
 use Rattle.std.proofs.lemmas.List.{take_more}
-use Rattle.nx_code.specs.Characters.{is_in_code}
+use Rattle.nx_code.specs.Reading.{is_in_code}
 use Rattle.nx_code.specs.Spelling.{Spells}
 use Rattle.nx_code.specs.private.Pieces.{numbers_of_piece}
 use Rattle.nx_code.specs.declared.signals.Comb.{Comb}

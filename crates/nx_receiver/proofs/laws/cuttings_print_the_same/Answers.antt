@@ -1,9 +1,9 @@
 use Rattle.std.proofs.Common.{◌≡◌, List, [], ◌∷◌, ◌++◌, Bool, refl, sym, ap, ◌∙◌, subst}
 use Rattle.std.proofs.lemmas.List.{map-append}
 use Rattle.nx_memory.specs.declared.entry.MemoryEntry.{MemoryEntry}
-use Rattle.nx_receiver.specs.Events.{Event, Start, element}
+use Rattle.nx_receiver.specs.Events.{Event, Start, element, elements}
 use Rattle.nx_receiver.specs.Log.{HasPrinted}
-use Rattle.nx_receiver.specs.Receiver.{Receiving, Stands, elements, events_of_pieces, elements_of_pieces}
+use Rattle.nx_receiver.specs.Receiver.{Receiving, Stands, events_of_pieces, elements_of_pieces}
 use Rattle.nx_receiver.specs.Tagged.{TaggedCopy}
 use Rattle.nx_receiver.proofs.receiving.Logged.{one_printed}
 use Rattle.nx_receiver.proofs.receiving.Printing.{has_printed}

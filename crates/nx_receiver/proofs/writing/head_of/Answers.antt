@@ -1,6 +1,6 @@
 use Rattle.std.proofs.Common.{◌≡◌, ◌++◌, ◌∷◌, [], ℕ, List, arith, length, append_assoc, ◌∙◌, ap}
 use Rattle.std.specs.Fmt.{decimal}
-use Rattle.nx_envelope.specs.Errors.{errors_of}
+use Rattle.nx_envelope.specs.Copies.{errors_of}
 use Rattle.nx_envelope.specs.Identity.{identity_bytes}
 use Rattle.nx_receiver.specs.Log.{entry_head, how_name}
 use Rattle.nx_receiver.proofs.writing.head_of.Goals as goal

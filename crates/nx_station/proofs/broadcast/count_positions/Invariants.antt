@@ -1,7 +1,6 @@
 use Rattle.std.proofs.Common.{◌≡◌, ◌≤◌, ◌*◌, ℕ, List, take}
 use Rattle.std.specs.List.{AllByRecursion}
-use Rattle.nx_envelope.specs.Message.{AreLines}
-use Rattle.nx_envelope.specs.MessageView.{MessageView}
+use Rattle.nx_envelope.specs.Message.{AreLines, MessageView}
 use Rattle.nx_station.specs.Broadcast.{AreSpelled}
 use Rattle.nx_station.proofs.BroadcastLemmas.{total}
 use Rattle.nx_station.proofs.broadcast.count_positions.Given as goal

@@ -1,6 +1,6 @@
 use Rattle.std.proofs.Common.{◌≡◌, ◌≤◌, ◌+◌, ◌++◌, length, map}
 use Rattle.std.specs.List.{AllByRecursion}
-use Rattle.nx_envelope.specs.MessageView.{MessageView}
+use Rattle.nx_envelope.specs.Message.{MessageView}
 use Rattle.nx_station.specs.MessageFile.{IsFileMessage, file_message_of, message_file_bytes, lines_of}
 use Rattle.nx_station.proofs.message_file.messages_in.Given as goal
 

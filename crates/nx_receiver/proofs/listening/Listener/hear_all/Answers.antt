@@ -1,7 +1,7 @@
 use Rattle.std.proofs.Common.{◌++◌, ◌∙◌, take, subst, arith}
 use Rattle.nx_fec.specs.LineRuns.{HasGiven}
 use Rattle.nx_receiver.specs.private.Listener.{HeardSome, IsHearing}
-use Rattle.nx_receiver.specs.Receiver.{elements}
+use Rattle.nx_receiver.specs.Events.{elements}
 use Rattle.nx_receiver.proofs.listens.Listener.{elements-next, elements-rest, rest-length}
 use Rattle.nx_receiver.proofs.listening.Listener.hear_all.Goals as goal
 

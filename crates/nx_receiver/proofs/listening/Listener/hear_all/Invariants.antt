@@ -1,8 +1,7 @@
 use Rattle.std.proofs.Common.{◌≡◌, ◌-◌, ◌≤◌, ℕ, Option, List, ◌++◌, length, take}
 use Rattle.nx_fec.specs.LineRuns.{HasGiven}
-use Rattle.nx_receiver.specs.Events.{Event, Start}
+use Rattle.nx_receiver.specs.Events.{Event, Start, elements}
 use Rattle.nx_receiver.specs.private.Listener.{IsHearing}
-use Rattle.nx_receiver.specs.Receiver.{elements}
 use Rattle.nx_receiver.proofs.listening.Listener.hear_all.Given as goal
 
 -- the first elements were heard

@@ -1,6 +1,6 @@
 use Rattle.std.proofs.Common.{◌≡◌, false, refl, subst, ap, ◌∙◌, sym, ◌∷◌, [], ◌++◌}
 use Rattle.nx_fec.specs.AirFile.{refuse_subject}
-use Rattle.nx_memory.specs.Vital.{is_vital}
+use Rattle.nx_memory.specs.Selection.{is_vital}
 use Rattle.nx_memory.specs.declared.selection.Vital.{Vital}
 use Rattle.nx_receiver.specs.Events as events
 use Rattle.nx_receiver.specs.Events.{elements_among, command}
