@@ -1,6 +1,9 @@
 //! Elements into a receiver, and entries out of it.
 
-ghost use Rattle.std.specs.Prelude.{◌≡◌, OnOk};
+ghost use Rattle.std.specs.Prelude.{◌≡◌, ◌++◌, List, OnOk};
+ghost use Rattle.nx_receiver.specs.Events.{Event, Start};
+ghost use Rattle.nx_receiver.specs.Receiver.{Stands, elements};
+ghost use Rattle.nx_receiver.specs.Tagged.{TaggedCopy};
 
 use nx_fec::{Counting, WriteFault};
 use nx_memory::Recall;
@@ -25,6 +28,10 @@ pub fn hear<M: Recall, W: Write>(
     log: &mut Counting<W>,
 ) -> Result<(), WriteFault>
     requires { log.old.failures ≡ 0 }
+    ensures heard { (start : Start) (history : List Event) (told : List TaggedCopy)
+        → Stands M.content start receiver.old history told → OnOk result
+        ((more : List TaggedCopy) × Stands M.content start receiver.new
+        (history ++ elements bits.now) (told ++ more)) }
     ensures unfailed { OnOk result (log.new.failures ≡ 0) }
 {
     let mut at = 0;
