@@ -1,6 +1,6 @@
 //! Elements into a receiver, and entries out of it.
 
-ghost use Rattle.std.specs.Prelude.{◌≡◌, ◌++◌, List, OnOk};
+ghost use Rattle.std.specs.Prelude.{◌≡◌, ◌==◌, ◌++◌, List, map, IfOk, OnOk};
 ghost use Rattle.nx_receiver.specs.Events.{Event, Start};
 ghost use Rattle.nx_receiver.specs.Receiver.{Stands, elements};
 ghost use Rattle.nx_receiver.specs.Tagged.{TaggedCopy};
@@ -12,12 +12,10 @@ use std::alloc::{AllocError, Global};
 use std::io::Write;
 
 /// The elements that these digits name, true for B: of `1` it is B, of any other byte Y.
-pub fn elements_of(alloc: Global, digits: &[u8]) -> Result<Vec<bool>, AllocError> {
-    let mut bits = Vec::with_capacity(alloc, digits.len())?;
-    for digit in digits {
-        bits.push(*digit == b'1')?;
-    }
-    Ok(bits)
+pub fn elements_of(alloc: Global, digits: &[u8]) -> Result<Vec<bool>, AllocError>
+    ensures { IfOk result (λ bits. bits.items ≡ map (λ digit. digit == 49) digits.now) }
+{
+    digits.iter().map(|digit| *digit == b'1').collect(alloc)
 }
 
 /// Has a receiver hear elements, all of them, and writes the entry of each copy that is printed as
