@@ -1,8 +1,8 @@
 //! Elements into a receiver, and entries out of it.
 
 ghost use Rattle.std.specs.Prelude.{◌≡◌, ◌==◌, ◌++◌, List, map, IfOk, OnOk};
-ghost use Rattle.nx_receiver.specs.Events.{Event, Start};
-ghost use Rattle.nx_receiver.specs.Receiver.{Stands, elements};
+ghost use Rattle.nx_receiver.specs.Events.{Event, Start, elements};
+ghost use Rattle.nx_receiver.specs.Receiver.{Stands};
 ghost use Rattle.nx_receiver.specs.Tagged.{TaggedCopy};
 
 use nx_fec::{Counting, WriteFault};

@@ -1,5 +1,6 @@
 use Rattle.std.proofs.Common.{◌-◌, ◌++◌, [], length, take, drop, subst, sym, arith, append-nil, append_assoc, take_all}
-use Rattle.nx_receiver.specs.Receiver.{Stands, elements, entry_list}
+use Rattle.nx_receiver.specs.Events.{elements}
+use Rattle.nx_receiver.specs.Receiver.{Stands, entry_list}
 use Rattle.nx_receiver.proofs.listens.Listener.{elements-next, rest-length}
 use Rattle.nx_example.proofs.hearing.hear.Goals as goal
 

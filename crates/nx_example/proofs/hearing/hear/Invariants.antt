@@ -1,6 +1,6 @@
 use Rattle.std.proofs.Common.{◌≡◌, ◌-◌, ◌≤◌, List, ◌++◌, length, take}
-use Rattle.nx_receiver.specs.Events.{Event, Start}
-use Rattle.nx_receiver.specs.Receiver.{Stands, elements}
+use Rattle.nx_receiver.specs.Events.{Event, Start, elements}
+use Rattle.nx_receiver.specs.Receiver.{Stands}
 use Rattle.nx_receiver.specs.Tagged.{TaggedCopy}
 use Rattle.nx_example.proofs.hearing.hear.Given as goal
 
