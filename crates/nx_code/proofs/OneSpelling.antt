@@ -4,11 +4,11 @@ use Rattle.std.specs.Option.{is_some, option_to_list}
 use Rattle.std.specs.List.{list_all}
 use Rattle.std.proofs.lemmas.Bool.{and_parts, and_from, or_cases, eqb-true, eq-eqb, ne_eqb, cases_eq, false≢true, both_ways, not-true}
 use Rattle.nx_code.specs.Reading.{combination, character_of, shift_set, shift_after, shift_after_all, text, is_in_code}
-use Rattle.nx_code.specs.Spelling.{other, first_of, IsOnlyIn, Fits, EachFits, Spells}
+use Rattle.nx_code.specs.Spelling.{other, IsOnlyIn, Fits, EachFits, Spells}
 use Rattle.nx_code.specs.declared.shifts.Shift.{Shift}
 use Rattle.nx_code.specs.declared.shifts.Shift.TheVariants.{Letters, Figures}
 use Rattle.nx_code.proofs.CharacterLemmas.{in_code-prints, in_code-printed, if_some-at, place_for, place_for-Some, place_for-printed, both-printed}
-use Rattle.nx_code.proofs.SpellingLemmas.{Spells-nil, Spells-append, spells_newline, spells_here, spells_there, differs-other, other-other, number_of_shift, shift_set-number, after_shift, printed-line_feed, printed-return, printed-shift, printed-newline, shift_set-None}
+use Rattle.nx_code.proofs.SpellingLemmas.{first_of, Spells-nil, Spells-append, spells_newline, spells_here, spells_there, differs-other, other-other, number_of_shift, shift_set-number, after_shift, printed-line_feed, printed-return, printed-shift, printed-newline, shift_set-None}
 
 -- ---- each text of the code has a spelling
 
@@ -161,12 +161,18 @@ Step-at s shift m c rest away_from prints elsewhere h each =
     Step-of shift (number_of_shift s ∷ (m ∷ rest)) c (number_of_shift s ∷ m ∷ []) rest (piece_for-there s shift m c away_from h.from_one h.to_thirty_two prints elsewhere no_newline) refl
     (rw (printed-shift s shift, after_shift s shift, prints) refl) (rw (after_shift s shift) each) (λ e. no_return (h.carriage_return.1 e)) (omega arith)
 
-Step-there : (s shift : Shift) (n m : ℕ) (rest : List ℕ) → n ≡ number_of_shift s → s ≢ shift → IsOnlyIn s (Some m) → Fits s m rest → EachFits (shift_after (combination m) s) rest → Step shift (n ∷ (m ∷ rest))
+-- what prints alike in a shift and in the other prints alike in letters and in figures
+printed_alike : (s : Shift) (m : ℕ) → character_of m (other s) ≡ character_of m s
+    → character_of m Letters ≡ character_of m Figures
+printed_alike Letters m e = sym e
+printed_alike Figures m e = e
+
+Step-there : (s shift : Shift) (n m : ℕ) (rest : List ℕ) → n ≡ number_of_shift s → s ≢ shift → IsOnlyIn s m → Fits s m rest → EachFits (shift_after (combination m) s) rest → Step shift (n ∷ (m ∷ rest))
 Step-there s shift n m rest is differs only h each =
     let p = some_of (character_of m s) only.0 in
     let away_from = differs-other s shift differs in
     let back : other s ≡ shift = ap other away_from ∙ other-other shift in
-    let elsewhere : character_of m shift ≢ Some p.0 = λ e. only.1 (ap (character_of m) back ∙ e ∙ sym p.1) in
+    let elsewhere : character_of m shift ≢ Some p.0 = λ e. only.1 (printed_alike s m (ap (character_of m) back ∙ e ∙ sym p.1)) in
     subst (λ k. Step shift (k ∷ (m ∷ rest))) (sym is) (Step-at s shift m p.0 rest away_from p.1 elsewhere h each)
 
 -- a shift stands before one more combination

@@ -1,6 +1,6 @@
 -- Spellings of more characters, and that a text has one spelling.
-use Rattle.std.proofs.Common.{◌≡◌, ◌≢◌, ◌⊎◌, ℕ, ◌+◌, ◌<◌, ◌≤◌, Bool, true, false, cond, ◌&&◌, ◌||◌, not, eqb, List, [], ◌∷◌, ◌++◌, length, get_or, map, Some, None, inl, inr, refl, sym, ap, ◌∙◌, subst, arith, length-append}
-use Rattle.std.specs.List.{position, position_or_len}
+use Rattle.std.proofs.Common.{◌≡◌, ◌≢◌, ◌⊎◌, ℕ, ◌+◌, ◌<◌, ◌≤◌, Bool, true, false, cond, ◌&&◌, ◌||◌, not, eqb, List, [], ◌∷◌, ◌++◌, length, get_or, map, Option, Some, None, inl, inr, refl, sym, ap, ◌∙◌, subst, arith, length-append}
+use Rattle.std.specs.List.{position, position_or_len, slice_get}
 use Rattle.std.proofs.lemmas.List.Sums.{fails_before_first}
 use Rattle.std.proofs.lemmas.List.{map-append}
 use Rattle.std.specs.Option.{is_some}
@@ -9,11 +9,15 @@ use Rattle.nx_code.specs.Table.{table, row_of}
 use Rattle.nx_code.specs.Reading.{combination, character_of, shift_set, shift_after, shift_after_all, text, holds_in}
 use Rattle.nx_code.specs.declared.shifts.Case.{Case}
 use Rattle.nx_code.specs.declared.shifts.Case.TheVariants as cases
-use Rattle.nx_code.specs.Spelling.{other, first_of, IsOnlyIn, Fits, EachFits, Spells}
+use Rattle.nx_code.specs.Spelling.{other, IsOnlyIn, Fits, EachFits, Spells}
 use Rattle.nx_code.specs.declared.shifts.Shift.{Shift}
 use Rattle.nx_code.specs.declared.shifts.Shift.TheVariants.{Letters, Figures}
 use Rattle.nx_code.proofs.ReadingLemmas.{text-append, shift_after_all-append}
 use Rattle.nx_code.proofs.CharacterLemmas.{if_some, if_some-at}
+
+-- the first combination of some, if there is one
+abbrev pub first_of : List ℕ → Option ℕ
+first_of numbers = slice_get numbers 0
 
 -- ---- what prints is no shift, no carriage return and no blank
 
@@ -135,14 +139,14 @@ fits_shift Letters shift n c rest differs h elsewhere line = record {
   to_thirty_two = omega arith;
   not_silent = λ s. let clash = s.sets_no_shift in cc;
   carriage_return = (λ e. absurd (omega arith), λ e. let f : n ≡ 28 = cc in absurd (line f));
-  needed = λ t e. let f : Letters ≡ t = cc in subst (λ r. (r ≢ shift) × IsOnlyIn r (Some n)) f (differs, (ap is_some h, λ g. elsewhere (g ∙ h)));
+  needed = λ t e. let f : Letters ≡ t = cc in subst (λ r. (r ≢ shift) × IsOnlyIn r n) f (differs, (ap is_some h, λ g. elsewhere (sym g ∙ h)));
 }
 fits_shift Figures shift n c rest differs h elsewhere line = record {
   from_one = omega arith;
   to_thirty_two = omega arith;
   not_silent = λ s. let clash = s.sets_no_shift in cc;
   carriage_return = (λ e. absurd (omega arith), λ e. let f : n ≡ 28 = cc in absurd (line f));
-  needed = λ t e. let f : Figures ≡ t = cc in subst (λ r. (r ≢ shift) × IsOnlyIn r (Some n)) f (differs, (ap is_some h, λ g. elsewhere (g ∙ h)));
+  needed = λ t e. let f : Figures ≡ t = cc in subst (λ r. (r ≢ shift) × IsOnlyIn r n) f (differs, (ap is_some h, λ g. elsewhere (g ∙ h)));
 }
 
 -- ---- one character

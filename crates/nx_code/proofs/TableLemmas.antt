@@ -12,7 +12,7 @@ use Rattle.nx_code.specs.declared.signals.Comb.{Comb}
 use Rattle.nx_code.specs.declared.signals.Signal.{Signal}
 use Rattle.nx_code.specs.declared.signals.Signal.TheVariants.{Traffic, Alpha, Beta, Repeat}
 use Rattle.nx_code.specs.Word.{weight, elements, elements_from}
-use Rattle.nx_code.specs.Table.{row, table, cell, words, place_of, row_of, traffic_word}
+use Rattle.nx_code.specs.Table.{Row as Entry, row, table, cell, words, place_of, row_of, traffic_word}
 use Rattle.nx_code.specs.Signal.{place, number_of_signal}
 use Rattle.nx_code.specs.Reading.{character_of}
 use Rattle.nx_code.specs.private.Rows.{cell_in, character_in}
@@ -51,8 +51,9 @@ words-lt at h =
 pub place_of-Some : (word at : ℕ) → place_of word ≡ Some at → (at < 35) × (get_or words at 0 ≡ word)
 unfolding table words place_of
 place_of-Some word at h =
-    let found = position-Some (λ n. eqb n word) words at 0 h in
-    (found.0, eqb-true (get_or words at 0) word found.1)
+    let none : Entry = row 0 [] [] in
+    let found = position-Some (λ (r : Entry). eqb r.word word) table at none h in
+    (found.0, get_or-map (λ (r : Entry). r.word) table at none 0 found.0 ∙ eqb-true (get_or table at none).word word found.1)
 
 abbrev pub is_at : Option ℕ → ℕ → Bool
 is_at None at = false

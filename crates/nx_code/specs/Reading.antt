@@ -2,7 +2,7 @@
 -- is this profile's, as is that 32 and the figures of D, F, G, H and J print nothing).
 use Rattle.std.specs.Prelude.{◌≡◌, ◌⊎◌, ℕ, ◌==◌, if◌then◌else◌, List, [], ◌∷◌, ◌++◌, Option, Some, None, unwrap_or, Bool, codes, false, true, ◌≤◌}
 use Rattle.std.specs.Option.{option_and_then, option_to_list}
-use Rattle.std.specs.List.{list_any}
+use Rattle.std.specs.List.{fold, list_any}
 use Rattle.nx_code.specs.declared.shifts.Shift.{Shift}
 use Rattle.nx_code.specs.declared.shifts.Shift.TheVariants.{Letters, Figures}
 use Rattle.nx_code.specs.Table.{cell, row_of}
@@ -18,9 +18,8 @@ pub data Reception : Type 0 where
 
 -- the character that a cell holds; an empty cell has none, and a name is none
 abbrev pub character_of_cell : List ℕ → Option ℕ
-character_of_cell [] = None
 character_of_cell (c ∷ []) = Some c
-character_of_cell (c ∷ d ∷ cs) = None
+character_of_cell cell = None
 
 -- what a combination prints in a shift: a newline for 28, a space for 31, else the character of its
 -- row
@@ -48,8 +47,7 @@ shift_set (combination number) =
     if number == 29
     then Some Letters
     else (if number == 30 then Some Figures else None)
-shift_set idle = None
-shift_set lost = None
+shift_set position = None
 
 -- the shift in force after a position
 abbrev pub shift_after : Reception → Shift → Shift
@@ -63,9 +61,7 @@ text (position ∷ positions) shift =
 
 -- the shift in force after positions, from a first shift
 abbrev pub shift_after_all : List Reception → Shift → Shift
-shift_after_all [] shift = shift
-shift_after_all (position ∷ positions) shift =
-    shift_after_all positions (shift_after position shift)
+shift_after_all positions shift = fold (λ now position. shift_after position now) shift positions
 
 -- no position sets a shift
 abbrev pub SetsNone : List Reception → Type 0

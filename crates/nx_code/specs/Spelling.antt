@@ -1,6 +1,6 @@
 -- How a text is spelled in combinations (ITU-R M.476, M.625 and M.540; that a shift is sent only
 -- where it is needed, and carriage return only before a line feed, is this profile's).
-use Rattle.std.specs.Prelude.{◌≡◌, ◌≢◌, ◌≤◌, ◌↔◌, ℕ, List, [], ◌∷◌, Option, Some, None, map, IsSome}
+use Rattle.std.specs.Prelude.{◌≡◌, ◌≢◌, ◌≤◌, ◌↔◌, ℕ, List, [], ◌∷◌, None, Some, map, slice_get, IsSome, MatchOption}
 use Rattle.nx_code.specs.declared.shifts.Shift.{Shift}
 use Rattle.nx_code.specs.Reading.{combination, character_of, shift_set, shift_after, text}
 use Rattle.nx_code.specs.declared.shifts.Shift.TheVariants.{Figures, Letters}
@@ -10,17 +10,11 @@ abbrev pub other : Shift → Shift
 other Letters = Figures
 other Figures = Letters
 
--- the first of a list
-abbrev pub first_of : List ℕ → Option ℕ
-first_of [] = None
-first_of (x ∷ xs) = Some x
-
 -- a combination that prints in this shift a character that it does not print in the other
-abbrev pub IsOnlyIn : Shift → Option ℕ → Type 0
-IsOnlyIn shift None = ⊥
-IsOnlyIn shift (Some number) =
+abbrev pub IsOnlyIn : Shift → ℕ → Type 0
+IsOnlyIn shift number =
     IsSome (character_of number shift)
-    × (character_of number (other shift) ≢ character_of number shift)
+    × (character_of number Letters ≢ character_of number Figures)
 
 -- a combination that in this shift prints nothing, sets no shift and is no carriage return (which
 -- these are, says the law `silent_combinations`)
@@ -36,11 +30,11 @@ pub record Fits (shift : Shift) (number : ℕ) (rest : List ℕ) : Type 0 where
   -- it prints, or sets a shift, or is a carriage return
   pub not_silent : ¬ IsSilent shift number
   -- a carriage return stands directly before each line feed, and nowhere else
-  pub carriage_return : (number ≡ 27) ↔ (first_of rest ≡ Some 28)
+  pub carriage_return : (number ≡ 27) ↔ (slice_get rest 0 ≡ Some 28)
   -- a shift is not the one in force, and stands directly before a character that has only that
   -- shift
   pub needed : (s : Shift) → shift_set (combination number) ≡ Some s
-      → (s ≢ shift) × IsOnlyIn s (first_of rest)
+      → (s ≢ shift) × MatchOption (slice_get rest 0) ⊥ (IsOnlyIn s)
 
 -- each combination fits where it stands
 abbrev pub EachFits : Shift → List ℕ → Type 0
@@ -52,5 +46,5 @@ EachFits shift (number ∷ numbers) =
 pub record Spells (bytes : List ℕ) (shift : Shift) (numbers : List ℕ) : Type 0 where
   pub reads : text (map combination numbers) shift ≡ bytes
   -- no line feed comes before the first carriage return
-  pub begins : first_of numbers ≢ Some 28
+  pub begins : slice_get numbers 0 ≢ Some 28
   pub fits : EachFits shift numbers

@@ -68,7 +68,7 @@ words = map (λ row. row.word) table
 
 -- the place of a word in the table, from 0; None where the word is none of the 35
 unfoldable pub place_of : ℕ → Option ℕ
-place_of word = position (λ number. number == word) words
+place_of word = position (λ row. row.word == word) table
 
 -- the row of a combination, by its number from 1 to 32; no other number has one
 unfoldable pub row_of : ℕ → Option Row

@@ -1,6 +1,6 @@
 -- Words and their elements (ITU-R M.476 and M.625: seven elements, each B or Y; four B and three Y
 -- in a signal).
-use Rattle.std.specs.Prelude.{ℕ, ◌+◌, ◌*◌, ◌/◌, ◌%◌, ◌==◌, Bool, true, false, List, [], ◌∷◌, sum_by, take, drop, zero, suc}
+use Rattle.std.specs.Prelude.{ℕ, ◌+◌, ◌*◌, ◌/◌, ◌%◌, ◌==◌, Bool, true, false, not, List, [], ◌∷◌, sum_by, take, drop, zero, suc, if◌then◌else◌}
 
 -- the lowest elements of a number, so many of them, in the order of sending: the least place first,
 -- 1 is B
@@ -29,3 +29,12 @@ weight number = sum_by value_of (elements number)
 -- the number of the word whose seven elements begin at this place of a list
 abbrev pub word_from : List Bool → ℕ → ℕ
 word_from bits place = number_of (take 7 (drop place bits))
+
+-- a word that is no signal: not four of its seven elements are B (M.476, M.625)
+abbrev pub is_wrong : ℕ → Bool
+is_wrong word = not (weight word == 4)
+
+-- how many of the words i to i + n - 1 have the wrong weight
+unfoldable pub wrong_in : (ℕ → ℕ) → ℕ → ℕ → ℕ
+wrong_in words i zero = 0
+wrong_in words i (suc n) = wrong_in words i n + (if is_wrong (words (i + n)) then 1 else 0)

@@ -1,6 +1,6 @@
 -- The beginnings of a text, its headers and the end of a raw text, when one more byte comes.
-use Rattle.std.proofs.Common.{◌≡◌, ◌≢◌, ℕ, ◌+◌, ◌<◌, ◌≤◌, nat_le, false, inl, inr, Option, Some, None, List, [], ◌∷◌, ◌++◌, length, take, map, reverse, refl, sym, ap, ◌∙◌, arith, length-append}
-use Rattle.std.specs.List.{filter_map}
+use Rattle.std.proofs.Common.{◌≡◌, ◌≢◌, ℕ, ◌+◌, ◌<◌, ◌≤◌, nat_le, if◌then◌else◌, false, inl, inr, Option, Some, None, List, [], ◌∷◌, ◌++◌, length, take, map, reverse, refl, sym, ap, ◌∙◌, arith, length-append}
+use Rattle.std.specs.List.{filter_map, slice_get}
 use Rattle.std.specs.Option.{option_map, option_or, option_to_list}
 use Rattle.std.proofs.lemmas.Bool.{le-leb}
 use Rattle.std.proofs.lemmas.Bool.Decides.{leb_tells}
@@ -8,7 +8,8 @@ use Rattle.std.proofs.lemmas.List.{map_push, reverse-append, take_all, take-appe
 use Rattle.std.proofs.lemmas.List.Elements.{filter_map-append}
 use Rattle.nx_envelope.specs.Header.{identity_at_end, Header}
 use Rattle.nx_envelope.specs.private.Backward.{header_back}
-use Rattle.nx_envelope.specs.Copies.{Ending, beginnings, header_at_end, headers, ending_by_marker, first_value, long_within, ending_within}
+use Rattle.nx_envelope.specs.Copies.{Ending, beginnings, header_at_end, headers, ending_by_marker, ending_of, most_found}
+use Rattle.nx_envelope.specs.private.Within.{first_value, long_within, ending_within}
 use Rattle.nx_envelope.specs.declared.found.How.TheVariants.{Long}
 use Rattle.nx_envelope.proofs.ReadAtTheEnd.{identity_at_end-back}
 
@@ -55,6 +56,23 @@ header_at_end-push text b =
     rw (read, long) refl
 
 -- The end of a raw text.
+
+-- the first that gives something is the first of what they give
+first_in : {A B : Type 0} (f : A → Option B) (x : A) (xs : List A) (o : Option B) → f x ≡ o
+    → slice_get (filter_map f xs) 0 ≡ first_value f xs
+    → slice_get (filter_map f (x ∷ xs)) 0 ≡ option_or (f x) (first_value f xs)
+first_in f x xs None e later = rw e later
+first_in f x xs (Some y) e later = rw e refl
+
+first_value-first : {A B : Type 0} (f : A → Option B) (xs : List A) → slice_get (filter_map f xs) 0 ≡ first_value f xs
+first_value-first f [] = refl
+first_value-first f (x ∷ xs) = first_in f x xs (f x) refl (first_value-first f xs)
+
+pub ending_of-within : (raw : List ℕ) → ending_of raw ≡ ending_within most_found raw
+unfolding ending_of ending_within long_within
+ending_of-within raw =
+    ap (λ (o : Option Ending). option_or o (if nat_le most_found (length raw) then Some (record { how = Long; text = take most_found raw }) else None))
+    (first_value-first ending_by_marker (beginnings (take most_found raw)))
 
 pub long_at : (most : ℕ) (raw : List ℕ) → most ≤ length raw → long_within most raw ≡ Some (record { how = Long; text = take most raw })
 unfolding long_within

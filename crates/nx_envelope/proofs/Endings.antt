@@ -5,11 +5,12 @@ use Rattle.std.proofs.lemmas.Bool.Decides.{leb_tells}
 use Rattle.std.proofs.lemmas.List.{reverse-append, reverse-reverse, take-append-le, take-take, take_all, length-take}
 use Rattle.nx_envelope.specs.Header.{marker_at_end, start_marker, end_marker}
 use Rattle.nx_envelope.specs.private.Backward.{ends_in, marker_back}
-use Rattle.nx_envelope.specs.Copies.{Ending, beginnings, ending_by_marker, first_value, long_within, ending_within, ending_of, most_found}
+use Rattle.nx_envelope.specs.Copies.{Ending, beginnings, ending_by_marker, ending_of, most_found}
+use Rattle.nx_envelope.specs.private.Within.{first_value, long_within, ending_within}
 use Rattle.nx_envelope.specs.Ending.{EndsWithMarker, MarkerEndsAt, EndsAtMarker, HasNoMarker, IsEnding, IsUnended}
 use Rattle.nx_envelope.specs.declared.found.How.{How}
 use Rattle.nx_envelope.specs.declared.found.How.TheVariants.{Full, Cut, Long}
-use Rattle.nx_envelope.proofs.Beginnings.{beginnings-push, first_value-push, long_at, not_long}
+use Rattle.nx_envelope.proofs.Beginnings.{beginnings-push, ending_of-within, first_value-push, long_at, not_long}
 use Rattle.nx_envelope.proofs.ReadAtTheEnd.{marker_at_end-back}
 use Rattle.nx_envelope.proofs.SpelledHeaders.{ends_in-true, nnnn_word, starts_both, ends_both, zczc_word}
 
@@ -173,8 +174,8 @@ end_gives raw None none =
     ]
 
 end_is : (raw : List ℕ) → EndIs raw (ending_of raw)
-unfolding ending_of ending_within
-end_is raw = end_gives raw _ (first_is (take most_found raw))
+unfolding ending_within
+end_is raw = subst (EndIs raw) (sym (ending_of-within raw)) (end_gives raw _ (first_is (take most_found raw)))
 
 -- The end is one.
 

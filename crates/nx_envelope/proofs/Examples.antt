@@ -4,8 +4,9 @@ use Rattle.std.specs.Prelude.{codes}
 use Rattle.jiff_core.proofs.CalendarLemmas.{days_from_civil-day_count}
 use Rattle.jiff_core.proofs.MarchLemmas.{day_count-early}
 use Rattle.jiff_core.proofs.SignedLemmas.{signed_arith}
-use Rattle.nx_envelope.specs.Header.{letter_from, letter_of, digit_from, digit_of, read_identity, read_spaced, read_header, identity_at_end, marker_at_end, Header}
-use Rattle.nx_envelope.specs.Copies.{Copy, beginnings, closed_copy, copies, ended_copy, ending_of, ending_within, header_at_end, headers, is_open, long_within, ending_by_marker, open_headers, raw_text, errors_of}
+use Rattle.nx_envelope.specs.Header.{read_header, identity_at_end, marker_at_end, Header}
+use Rattle.nx_envelope.specs.Copies.{Copy, beginnings, closed_copy, copies, ended_copy, ending_of, header_at_end, headers, is_open, ending_by_marker, open_headers, raw_text, errors_of}
+use Rattle.nx_envelope.specs.private.Within.{ending_within, long_within}
 use Rattle.nx_envelope.specs.Identity.{identity_bytes}
 use Rattle.nx_envelope.specs.Moment.{IsShownAs}
 use Rattle.nx_envelope.specs.declared.found.How.{How}
@@ -21,40 +22,40 @@ shown_copy c = (identity_bytes c.header.identity, c.how, c.text)
 
 -- the letters ZC before the header's own ZCZC
 pub behind_zc : map shown_header (headers (codes "ZCZCZC EA01")) ≡ (codes "EA01", 11) ∷ []
-unfolding headers beginnings header_at_end identity_at_end read_header read_spaced read_identity letter_of letter_from digit_of digit_from
+unfolding headers beginnings header_at_end identity_at_end read_header
 behind_zc = refl
 
 -- ZC may be a station and a subject: two headers, of which the second begins in the first
 pub of_zc : map shown_header (headers (codes "ZCZC  ZC12ZCZC EA01")) ≡ (codes "ZC12", 10) ∷ (codes "EA01", 19) ∷ []
-unfolding headers beginnings header_at_end identity_at_end read_header read_spaced read_identity letter_of letter_from digit_of digit_from
+unfolding headers beginnings header_at_end identity_at_end read_header
 of_zc = refl
 
 -- no space, a digit for the subject, an asterisk for a digit
 pub no_space : map shown_header (headers (codes "ZCZCEA01")) ≡ []
-unfolding headers beginnings header_at_end identity_at_end read_header read_spaced read_identity letter_of letter_from digit_of digit_from
+unfolding headers beginnings header_at_end identity_at_end read_header
 no_space = refl
 
 pub no_subject : map shown_header (headers (codes "ZCZC E101")) ≡ []
-unfolding headers beginnings header_at_end identity_at_end read_header read_spaced read_identity letter_of letter_from digit_of digit_from
+unfolding headers beginnings header_at_end identity_at_end read_header
 no_subject = refl
 
 pub lost_digit : map shown_header (headers (codes "ZCZC EA*1")) ≡ []
-unfolding headers beginnings header_at_end identity_at_end read_header read_spaced read_identity letter_of letter_from digit_of digit_from
+unfolding headers beginnings header_at_end identity_at_end read_header
 lost_digit = refl
 
 -- one newline (10) behind the header is no part of the text, a second is
 pub full_copy : map shown_copy (copies (codes "ZCZC EA01" ++ 10 ∷ 10 ∷ codes "A*NNNN")) ≡ (codes "EA01", Full, 10 ∷ codes "A*") ∷ []
-unfolding headers beginnings header_at_end identity_at_end read_header read_spaced read_identity letter_of letter_from digit_of digit_from copies ended_copy closed_copy raw_text ending_of ending_within long_within ending_by_marker marker_at_end
+unfolding headers beginnings header_at_end identity_at_end read_header copies ended_copy closed_copy raw_text ending_of ending_by_marker marker_at_end
 full_copy = refl
 
 -- cut by a ZCZC, which begins another header, whose copy the end of the text cuts
 pub cut_copies : map shown_copy (copies (codes "ZCZC EA01NNZCZC FB02X*")) ≡ (codes "EA01", Cut, codes "NN") ∷ (codes "FB02", Cut, codes "X*") ∷ []
-unfolding headers beginnings header_at_end identity_at_end read_header read_spaced read_identity letter_of letter_from digit_of digit_from copies ended_copy closed_copy raw_text ending_of ending_within long_within ending_by_marker marker_at_end
+unfolding headers beginnings header_at_end identity_at_end read_header copies ended_copy closed_copy raw_text ending_of ending_by_marker marker_at_end
 cut_copies = refl
 
 -- the second of these stands open before the end of the text
 pub one_is_open : map shown_header (open_headers (codes "ZCZC EA01NNZCZC FB02X*")) ≡ (codes "FB02", 20) ∷ []
-unfolding headers beginnings header_at_end identity_at_end read_header read_spaced read_identity letter_of letter_from digit_of digit_from open_headers is_open raw_text ending_of ending_within long_within ending_by_marker marker_at_end
+unfolding headers beginnings header_at_end identity_at_end read_header open_headers is_open raw_text ending_of ending_by_marker marker_at_end
 one_is_open = refl
 
 -- with a limit of 5 characters in place of 4,100: a marker that is complete at the limit wins, and else the copy is long

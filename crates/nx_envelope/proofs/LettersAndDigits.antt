@@ -1,8 +1,12 @@
 -- Letters, digits and the header that they spell, read from the back of a text.
-use Rattle.std.proofs.Common.{◌≡◌, ℕ, ◌-◌, ◌≤◌, ◌==◌, ◌&&◌, ◌||◌, if◌then◌else◌, List, ◌∷◌, nat_le, ◌+◌, ◌*◌, inl, inr, Bool, true, false, Option, Some, None, refl, sym, subst, ap, arith}
+use Rattle.std.proofs.Common.{◌≡◌, ℕ, ◌/◌, ◌%◌, min, ◌↔◌, ◌∙◌, ◌-◌, ◌≤◌, ◌==◌, ◌&&◌, ◌||◌, if◌then◌else◌, List, ◌∷◌, nat_le, ◌+◌, ◌*◌, inl, inr, Bool, true, false, Option, Some, None, refl, sym, subst, ap, arith}
+use Rattle.std.specs.Option.{IsSome, IfSome}
+use Rattle.std.proofs.Math.Nat.{min-le_left}
 use Rattle.std.proofs.lemmas.Bool.Decides.{leb_tells, nat_tests}
 use Rattle.std.proofs.Props.{props}
-use Rattle.nx_envelope.specs.Header.{letter_from, letter_of, digit_from, digit_of, both, identity_of, identity_with, start_marker}
+use Rattle.nx_envelope.specs.Header.{nearest_identity, nearest_letter, start_marker}
+use Rattle.nx_envelope.specs.Identity.{identity_bytes}
+use Rattle.nx_envelope.specs.private.Letters.{letter_from, letter_of, digit_from, digit_of, both, identity_of, identity_with}
 use Rattle.nx_envelope.specs.private.Backward.{ends_in, spaces_back, station_back, subject_back, tens_back, header_back}
 use Rattle.nx_envelope.specs.private.DigitBytes.{IsDigit}
 use Rattle.nx_code.specs.Reading.{IsCapital}
@@ -46,6 +50,10 @@ pub letter_of-byte : (l : Letter) → letter_of l.byte ≡ Some l
 unfolding letter_of
 letter_of-byte l = letter_from-byte l _ _ refl refl
 
+-- the letter nearest to a letter is that letter
+nearest_letter-is : (l : Letter) → nearest_letter l.byte ≡ l
+nearest_letter-is l = same_letter (nearest_letter l.byte) l (omega (arith, l.in_range.0, l.in_range.1))
+
 letter_from-none : (b : ℕ) (low high : Bool) (p : nat_le 65 b ≡ low) (q : nat_le b 90 ≡ high) → ¬ IsCapital b → letter_from b low high p q ≡ None
 unfolding letter_from
 letter_from-none b true true p q not_so = absurd (not_so (grind (arith, nat_tests)))
@@ -55,6 +63,11 @@ letter_from-none b false high p q not_so = refl
 pub letter_of-none : (b : ℕ) → ¬ IsCapital b → letter_of b ≡ None
 unfolding letter_of
 letter_of-none b not_so = letter_from-none b _ _ refl refl not_so
+
+-- what is made of a byte that may be a letter
+pub letter_given : (b : ℕ) (o : Option Letter) → (IsSome o ↔ IsCapital b) → IfSome o (λ l. l.byte ≡ b) → o ≡ letter_of b
+letter_given b None in_range given = sym (letter_of-none b (λ h. let e = in_range.1 h in cc))
+letter_given b (Some l) in_range given = sym (letter_of-byte l) ∙ ap letter_of given
 
 digit_from-value : (b : ℕ) (d : Digit) (low high : Bool) (p : nat_le 48 b ≡ low) (q : nat_le (b - 48) 9 ≡ high) → 48 ≤ b → d.value ≡ b - 48 → digit_from b low high p q ≡ Some d
 unfolding digit_from
@@ -113,6 +126,16 @@ same_identity_at l m x y e =
     let alike : IsProp (x ≤ 99) = hlevel props in
     let P : ℕ → Type 0 = λ (z : ℕ). (p : x ≤ 99) (q : z ≤ 99) → identity_at l m x p ≡ identity_at l m z q in
     subst P e (λ p q. ap (identity_at l m x) (alike p q))
+
+-- the identity nearest to the bytes of one is that one
+pub nearest_identity-is : (i : Identity) → nearest_identity (identity_bytes i) ≡ i
+nearest_identity-is i =
+    let n : ℕ = min 99 ((48 + i.number / 10 - 48) * 10 + (48 + i.number % 10 - 48)) in
+    let small : n ≤ 99 = min-le_left 99 _ in
+    let number : n ≡ i.number = omega (arith, i.two_digits) in
+    ap (λ l. identity_at l (nearest_letter i.b2.byte) n small) (nearest_letter-is i.b1)
+    ∙ ap (λ m. identity_at i.b1 m n small) (nearest_letter-is i.b2)
+    ∙ same_identity_at i.b1 i.b2 n i.number number small i.two_digits
 
 pub identity_is : (l m : Letter) (t u : Digit) (p : t.value * 10 + u.value ≤ 99) → identity_at l m (t.value * 10 + u.value) p ≡ identity_of l m t u
 identity_is l m t u p = same_identity_at l m _ _ refl p _

@@ -11,7 +11,7 @@ use Rattle.nx_envelope.specs.Finder.{Ends, is_empty}
 use Rattle.nx_envelope.specs.Laws.{Grows}
 use Rattle.nx_envelope.specs.declared.found.How.{How}
 use Rattle.nx_envelope.specs.declared.identity.Identity.{Identity}
-use Rattle.nx_envelope.proofs.Beginnings.{headers-push, open_is_short}
+use Rattle.nx_envelope.proofs.Beginnings.{ending_of-within, headers-push, open_is_short}
 use Rattle.nx_envelope.proofs.OneMoreByte.{OneOpen, adds, drops_newline, ended_before, ended_with, ends_long, ends_marked, open_headers-one, open_with, opens, still_none}
 
 -- Every text is one or the other.
@@ -31,8 +31,7 @@ parts-nil : Parts []
 parts-nil = inl open_headers-nil
 
 raw_is_short : (text : List ℕ) (o : OneOpen text) → length (raw_text text o.header) < 4100
-unfolding ending_of
-raw_is_short text o = open_is_short 4100 (raw_text text o.header) o.unended
+raw_is_short text o = open_is_short 4100 (raw_text text o.header) (sym (ending_of-within (raw_text text o.header)) ∙ o.unended)
 
 pub is_ten : (b : ℕ) → (b == 10) ≡ true → b ≡ 10
 is_ten b e = grind (arith, nat_tests)

@@ -1,10 +1,18 @@
 -- A moment has one civil text.
-use Rattle.std.proofs.Common.{◌≡◌, ℕ, ◌<◌, List, pos, refl, sym, ◌∙◌, arith}
+use Rattle.std.proofs.Common.{◌≡◌, ℕ, ◌+◌, ◌*◌, ◌<◌, List, ℤ, pos, refl, sym, ◌∙◌, arith}
+use Rattle.jiff_core.specs.Calendar.{days_from_civil}
 use Rattle.jiff_core.specs.declared.civil.date.Date.{Date}
 use Rattle.jiff_core.proofs.DateLemmas.{epoch_day_injective}
 use Rattle.jiff_core.proofs.SignedLemmas.{signed_arith}
 use Rattle.nx_envelope.specs.declared.moment.CivilTime.{CivilTime}
-use Rattle.nx_envelope.specs.Moment.{IsCivilTime, IsMomentOf, IsShownAs, day_number, second_of_day, civil_text}
+use Rattle.nx_envelope.specs.Moment.{IsCivilTime, IsMomentOf, IsShownAs, civil_text}
+
+-- the seconds since midnight, and the day number of the date
+abbrev second_of_day : CivilTime → ℕ
+second_of_day t = t.hour * 3600 + t.minute * 60 + t.second
+
+abbrev day_number : CivilTime → ℤ
+day_number t = days_from_civil (pos t.year) t.month t.day
 
 -- the date of a civil time
 abbrev date_of : (t : CivilTime) → IsCivilTime t → Date

@@ -5,13 +5,14 @@ use Rattle.std.proofs.lemmas.Bool.Decides.{leb_tells, nat_tests}
 use Rattle.std.proofs.lemmas.List.{reverse-append, take-append-le, take_all, drop-append-le, drop_all}
 use Rattle.nx_envelope.specs.Header.{marker_at_end, Header, start_marker, end_marker}
 use Rattle.nx_envelope.specs.private.Backward.{marker_back, ends_in}
-use Rattle.nx_envelope.specs.Copies.{Ending, less_newline, raw_text, ending_by_marker, beginnings, ending_within, ending_of}
+use Rattle.nx_envelope.specs.Copies.{Ending, less_newline, raw_text, ending_by_marker, beginnings, ending_of}
+use Rattle.nx_envelope.specs.private.Within.{ending_within}
 use Rattle.nx_envelope.specs.Finder.{is_empty}
 use Rattle.nx_envelope.specs.private.Finding.{found_text}
 use Rattle.nx_envelope.specs.declared.found.How.{How}
 use Rattle.nx_envelope.specs.declared.found.How.TheVariants.{Full, Cut, Long}
 use Rattle.nx_envelope.proofs.ReadAtTheEnd.{marker_at_end-back}
-use Rattle.nx_envelope.proofs.Beginnings.{long_at, not_long, ending-push, ending_stays, ending-short, open_is_short}
+use Rattle.nx_envelope.proofs.Beginnings.{ending_of-within, long_at, not_long, ending-push, ending_stays, ending-short, open_is_short}
 
 pub empty_is : (xs : List ℕ) → is_empty xs ≡ true → xs ≡ []
 empty_is [] e = refl
@@ -50,8 +51,8 @@ unfolding ending_by_marker marker_at_end
 ending_by_marker-none = refl
 
 pub ending_of-nil : ending_of [] ≡ None
-unfolding ending_of beginnings
-ending_of-nil = ending-short 4100 [] (omega arith) ∙ rw ending_by_marker-none refl
+unfolding beginnings
+ending_of-nil = ending_of-within [] ∙ ending-short 4100 [] (omega arith) ∙ rw ending_by_marker-none refl
 
 no_end : (text : List ℕ) (h : Header) (e : Ending) → drop h.behind text ≡ [] → ending_of (raw_text text h) ≢ Some e
 no_end text h e none is =
@@ -61,11 +62,12 @@ no_end text h e none is =
     cc
 
 ended_stays_within : (text : List ℕ) (b : ℕ) (h : Header) (e : Ending) → h.behind ≤ length text → (c : Bool) → is_empty (drop h.behind text) ≡ c → ending_of (raw_text text h) ≡ Some e → ending_of (raw_text (text ++ b ∷ []) h) ≡ Some e
-unfolding ending_of
 ended_stays_within text b h e within true nil is = absurd (no_end text h e (empty_is _ nil) is)
 ended_stays_within text b h e within false nil is =
     let more = raw-push text b h within (λ yes. absurd (let contra : true ≡ false = sym yes ∙ nil in cc)) in
-    ap (ending_within 4100) more ∙ ending_stays 4100 (raw_text text h) b e is
+    let within = sym (ending_of-within (raw_text text h)) ∙ is in
+    ending_of-within (raw_text (text ++ b ∷ []) h)
+    ∙ ap (ending_within 4100) more ∙ ending_stays 4100 (raw_text text h) b e within
 
 -- a copy that has ended stays as it is
 pub ended_stays : (text : List ℕ) (b : ℕ) (h : Header) (e : Ending) → ending_of (raw_text text h) ≡ Some e → ending_of (raw_text (text ++ b ∷ []) h) ≡ Some e
@@ -163,29 +165,32 @@ found_is back raw b Long e = absurd (if_long (ends_in end_marker back) (ends_in 
 
 -- the marker that the byte completes ends the raw text
 pub ending-marker : (raw : List ℕ) (b : ℕ) (how : How) → ending_of raw ≡ None → marker_back (reverse (raw ++ b ∷ [])) ≡ Some how → ending_of (raw ++ b ∷ []) ≡ Some (record { how = how; text = found_text how raw b })
-unfolding ending_of ending_by_marker
+unfolding ending_by_marker
 ending-marker raw b how none m =
-    let push = ending-push 4100 raw b (open_is_short 4100 raw none) in
+    let within = sym (ending_of-within raw) ∙ none in
+    let push = ending_of-within (raw ++ b ∷ []) ∙ ending-push 4100 raw b (open_is_short 4100 raw within) in
     let marked = marker_at_end-back (raw ++ b ∷ []) in
     let text = sym (found_is (reverse (raw ++ b ∷ [])) raw b how m) in
     let short = shorter raw b in
-    push ∙ rw (none, marked, m, short, text) refl
+    push ∙ rw (within, marked, m, short, text) refl
 
 -- without one the 4,100th byte ends it
 pub ending-long : (raw : List ℕ) (b : ℕ) → ending_of raw ≡ None → marker_back (reverse (raw ++ b ∷ [])) ≡ None → length raw + 1 ≡ 4100 → ending_of (raw ++ b ∷ []) ≡ Some (record { how = Long; text = raw ++ b ∷ [] })
-unfolding ending_of ending_by_marker
+unfolding ending_by_marker
 ending-long raw b none m full =
-    let push = ending-push 4100 raw b (open_is_short 4100 raw none) in
+    let within = sym (ending_of-within raw) ∙ none in
+    let push = ending_of-within (raw ++ b ∷ []) ∙ ending-push 4100 raw b (open_is_short 4100 raw within) in
     let marked = marker_at_end-back (raw ++ b ∷ []) in
     let long = long_at 4100 (raw ++ b ∷ []) (omega (arith, length-append raw (b ∷ []))) in
     let whole = take_all 4100 (raw ++ b ∷ []) (omega (arith, length-append raw (b ∷ []))) in
-    push ∙ rw (none, marked, m, long, whole) refl
+    push ∙ rw (within, marked, m, long, whole) refl
 
 -- and below that it stays open
 pub ending-open : (raw : List ℕ) (b : ℕ) → ending_of raw ≡ None → marker_back (reverse (raw ++ b ∷ [])) ≡ None → length raw + 1 < 4100 → ending_of (raw ++ b ∷ []) ≡ None
-unfolding ending_of ending_by_marker
+unfolding ending_by_marker
 ending-open raw b none m short =
-    let push = ending-push 4100 raw b (open_is_short 4100 raw none) in
+    let within = sym (ending_of-within raw) ∙ none in
+    let push = ending_of-within (raw ++ b ∷ []) ∙ ending-push 4100 raw b (open_is_short 4100 raw within) in
     let marked = marker_at_end-back (raw ++ b ∷ []) in
     let long = not_long 4100 (raw ++ b ∷ []) (omega (arith, length-append raw (b ∷ []))) in
-    push ∙ rw (none, marked, m, long) refl
+    push ∙ rw (within, marked, m, long) refl

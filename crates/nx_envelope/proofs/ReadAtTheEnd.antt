@@ -1,21 +1,21 @@
 -- The header and the marker with which a text ends: looked for by their spelling, and read from the back of the text.
-use Rattle.std.proofs.Common.{◌≡◌, ℕ, zero, suc, ◌+◌, ◌-◌, ◌*◌, ◌/◌, ◌%◌, ◌≤◌, ◌==◌, Bool, true, false, inl, inr, if◌then◌else◌, Option, Some, None, List, [], ◌∷◌, ◌++◌, length, take, drop, reverse, refl, sym, ap, ◌∙◌, ◌⊎◌, arith, length-append}
+use Rattle.std.proofs.Common.{◌≡◌, ℕ, zero, suc, ◌+◌, ◌-◌, ◌*◌, ◌/◌, ◌%◌, ◌≤◌, ◌==◌, Bool, true, false, ◌&&◌, nat_le, inl, inr, if◌then◌else◌, Option, Some, None, List, [], ◌∷◌, ◌++◌, length, take, drop, reverse, refl, sym, ap, ◌∙◌, ◌⊎◌, arith, length-append, subst}
 use Rattle.std.specs.Option.{option_or}
 use Rattle.std.specs.Prelude.{replicate}
+use Rattle.std.specs.Str.{bytes_eq}
 use Rattle.std.proofs.Math.Seq.{drop-append_seam}
-use Rattle.std.proofs.lemmas.List.{take-append-drop, append_assoc}
+use Rattle.std.proofs.lemmas.List.{take-append-drop, append_assoc, length-replicate}
+use Rattle.std.proofs.lemmas.Bool.{and_parts, leb-true, le-leb}
 use Rattle.std.proofs.lemmas.Slice.Eq.{bytes_eq-Decides}
 use Rattle.nx_code.specs.Lists.{last_of}
-use Rattle.nx_envelope.specs.Header.{letter_of, digit_of, both, identity_of, identity_with, read_identity, read_spaced, read_header, identity_at_end, ends_with, marker_at_end, EndsWithHeader, EndsWith, start_marker, end_marker}
+use Rattle.nx_envelope.specs.Header.{nearest_identity, read_header, identity_at_end, ends_with, marker_at_end, EndsWithHeader, EndsWith, start_marker, end_marker}
 use Rattle.nx_envelope.specs.private.Backward.{ends_in, header_back, marker_back}
 use Rattle.nx_envelope.specs.Identity.{identity_bytes}
-use Rattle.nx_envelope.specs.declared.digit.Digit.{Digit}
 use Rattle.nx_envelope.specs.declared.found.How.{How}
 use Rattle.nx_envelope.specs.declared.found.How.TheVariants.{Full, Cut}
 use Rattle.nx_envelope.specs.declared.identity.Identity.{Identity}
-use Rattle.nx_envelope.specs.declared.letter.Letter.{Letter}
-use Rattle.nx_envelope.proofs.LettersAndDigits.{digit_at, letter_of-byte, digit_of-value, same_identity_at, both_first, both_second, identity_some}
-use Rattle.nx_envelope.proofs.SpelledHeaders.{eq_is, if_some, replicate-one, letter_of-some, digit_of-is, starts_both, ends_both, header_both}
+use Rattle.nx_envelope.proofs.LettersAndDigits.{nearest_identity-is}
+use Rattle.nx_envelope.proofs.SpelledHeaders.{eq_is, if_some, replicate-one, starts_both, ends_both, header_both}
 
 -- Two that are there, or true, for the same.
 
@@ -76,67 +76,21 @@ or_cases : {A : Type 0} (o p : Option A) (x : A) → option_or o p ≡ Some x �
 or_cases (Some y) p x e = inl e
 or_cases None p x e = inr e
 
-identity_spelled : (l m : Letter) (t u : Digit) → identity_bytes (identity_of l m t u) ≡ l.byte ∷ m.byte ∷ (48 + t.value) ∷ (48 + u.value) ∷ []
-identity_spelled l m t u =
-    let tens : (t.value * 10 + u.value) / 10 ≡ t.value = omega (arith, t.below_ten, u.below_ten) in
-    let ones : (t.value * 10 + u.value) % 10 ≡ u.value = omega (arith, t.below_ten, u.below_ten) in
-    rw (tens, ones) refl
-
-four_bytes : (a b t u k l m n : ℕ) → a ≡ k → b ≡ l → t ≡ m → u ≡ n → (◌≡◌ {A = List ℕ} (a ∷ b ∷ t ∷ u ∷ []) (k ∷ l ∷ m ∷ n ∷ []))
-four_bytes a b t u k l m n p q r s = rw (p, q, r, s) refl
-
-identity_forth : (text : List ℕ) (i : Identity) → read_identity text ≡ Some i → text ≡ identity_bytes i
-unfolding read_identity
-identity_forth [] i e = absurd (cc)
-identity_forth (a ∷ []) i e = absurd (cc)
-identity_forth (a ∷ b ∷ []) i e = absurd (cc)
-identity_forth (a ∷ b ∷ t ∷ []) i e = absurd (cc)
-identity_forth (a ∷ b ∷ t ∷ u ∷ []) i e =
-    let all : Option (((Letter × Letter) × Digit) × Digit) = both (both (both (letter_of a) (letter_of b)) (digit_of t)) (digit_of u) in
-    let w = identity_some all i e in
-    let tens = both_first (both (both (letter_of a) (letter_of b)) (digit_of t)) (digit_of u) w.found w.is in
-    let letters = both_first (both (letter_of a) (letter_of b)) (digit_of t) w.found.0 tens in
-    let p = letter_of-some a w.found.0.0.0 (both_first (letter_of a) (letter_of b) w.found.0.0 letters) in
-    let q = letter_of-some b w.found.0.0.1 (both_second (letter_of a) (letter_of b) w.found.0.0 letters) in
-    let r = digit_of-is t w.found.0.1 (both_second (both (letter_of a) (letter_of b)) (digit_of t) w.found.0 tens) in
-    let s = digit_of-is u w.found.1 (both_second (both (both (letter_of a) (letter_of b)) (digit_of t)) (digit_of u) w.found w.is) in
-    let whole : Some (identity_of w.found.0.0.0 w.found.0.0.1 w.found.0.1 w.found.1) ≡ Some i = ap identity_with (sym w.is) ∙ e in
-    let same : identity_of w.found.0.0.0 w.found.0.0.1 w.found.0.1 w.found.1 ≡ i = cc in
-    let spelled = identity_spelled w.found.0.0.0 w.found.0.0.1 w.found.0.1 w.found.1 in
-    four_bytes a b t u _ _ _ _ p q r s ∙ sym spelled ∙ ap identity_bytes same
-identity_forth (a ∷ b ∷ t ∷ u ∷ c ∷ more) i e = absurd (cc)
-
-record Spaced (text : List ℕ) (i : Identity) : Type 0 where
-  more : ℕ
-  is : text ≡ replicate (more + 1) 32 ++ identity_bytes i
-
-one_space : (b : ℕ) (text : List ℕ) (i : Identity) → b ≡ 32 → text ≡ identity_bytes i → Spaced (b ∷ text) i
-one_space b text i space is = record { more = 0; is = rw (space, is) refl }
-
-more_spaces : (b : ℕ) (text : List ℕ) (i : Identity) → b ≡ 32 → Spaced text i → Spaced (b ∷ text) i
-more_spaces b text i space s =
-    let one = replicate-one (s.more + 1) 32 in
-    record { more = s.more + 1; is = rw (space, one) (ap (λ (xs : List ℕ). 32 ∷ xs) s.is) }
-
-spaced_forth : (text : List ℕ) (i : Identity) → read_spaced text ≡ Some i → Spaced text i
-unfolding read_spaced
-spaced_forth [] i e = absurd (cc)
-spaced_forth (b ∷ text) i e =
-    let p = if_some (b == 32) (option_or (read_identity text) (read_spaced text)) i e in
-    let space = eq_is b 32 p.0 in
-    elim (or_cases (read_identity text) (read_spaced text) i p.1) [
-      | inl here ↦ one_space b text i space (identity_forth text i here)
-      | inr later ↦ more_spaces b text i space (spaced_forth text i later)
-    ]
-
 header_forth : (text : List ℕ) (i : Identity) → read_header text ≡ Some i → EndsWithHeader text i
 unfolding read_header
 header_forth text i e =
-    let p = if_some _ (read_spaced (drop 4 text)) i e in
-    let start : take 4 text ≡ start_marker = (bytes_eq-Decides (take 4 text) start_marker).0 p.0 in
-    let s = spaced_forth (drop 4 text) i p.1 in
-    let joined : text ≡ start_marker ++ (replicate (s.more + 1) 32 ++ identity_bytes i) = sym (take-append-drop 4 text) ∙ ap (λ (xs : List ℕ). xs ++ drop 4 text) start ∙ ap (λ (xs : List ℕ). start_marker ++ xs) s.is in
-    record { front = []; more_spaces = s.more; spelled = joined ∙ sym (append_assoc start_marker (replicate (s.more + 1) 32) (identity_bytes i)) }
+    let near : Identity = nearest_identity (last_of 4 text) in
+    let spelled : List ℕ = start_marker ++ replicate (length text - 8) 32 ++ identity_bytes near in
+    let p = if_some (bytes_eq text spelled && nat_le 9 (length text)) (Some near) i e in
+    let q = and_parts (bytes_eq text spelled) (nat_le 9 (length text)) p.0 in
+    let same : near ≡ i = let r = p.1 in cc in
+    let long : 9 ≤ length text = leb-true 9 (length text) q.1 in
+    let more : length text - 8 ≡ length text - 9 + 1 = omega arith in
+    let is : text ≡ spelled = (bytes_eq-Decides text spelled).0 q.0 in
+    let whole : text ≡ start_marker ++ replicate (length text - 9 + 1) 32 ++ identity_bytes i =
+    is ∙ ap (λ (n : ℕ). start_marker ++ replicate n 32 ++ identity_bytes near) more
+    ∙ ap (λ (j : Identity). start_marker ++ replicate (length text - 9 + 1) 32 ++ identity_bytes j) same in
+    record { front = []; more_spaces = length text - 9; spelled = whole }
 
 behind : (b : ℕ) (text : List ℕ) (i : Identity) → EndsWithHeader text i → EndsWithHeader (b ∷ text) i
 behind b text i h = record { front = b ∷ h.front; more_spaces = h.more_spaces; spelled = ap (λ (xs : List ℕ). b ∷ xs) h.spelled }
@@ -162,27 +116,32 @@ gives_second : {A : Type 0} (o p : Option A) → Gives p → Gives (option_or o 
 gives_second (Some x) p g = record { it = x; is = refl }
 gives_second None p g = g
 
-identity_reads : (i : Identity) → read_identity (identity_bytes i) ≡ Some i
-unfolding read_identity
-identity_reads i =
-    let tens_small : i.number / 10 ≤ 9 = omega (arith, i.two_digits) in
-    let units_small : i.number % 10 ≤ 9 = omega arith in
-    let tens = digit_of-value (48 + i.number / 10) (digit_at (i.number / 10) tens_small) (omega arith) (omega arith) in
-    let units = digit_of-value (48 + i.number % 10) (digit_at (i.number % 10) units_small) (omega arith) (omega arith) in
-    let number : i.number / 10 * 10 + i.number % 10 ≡ i.number = omega arith in
-    rw (letter_of-byte i.b1, letter_of-byte i.b2, tens, units) (ap Some (same_identity_at i.b1 i.b2 _ i.number number _ i.two_digits))
+last_is : (front back : List ℕ) → length back ≡ 4 → last_of 4 (front ++ back) ≡ back
+last_is front back four =
+    let long : length (front ++ back) - 4 ≡ length front = omega (arith, length-append front back, four) in
+    ap (λ (n : ℕ). drop n (front ++ back)) long ∙ drop-append_seam front back
 
-spaced_reads : (n : ℕ) (i : Identity) → Gives (read_spaced (replicate (n + 1) 32 ++ identity_bytes i))
-unfolding read_spaced
-spaced_reads zero i = gives_first (read_identity (identity_bytes i)) _ (record { it = i; is = identity_reads i })
-spaced_reads (suc n) i =
-    let one : suc n + 1 ≡ (n + 1) + 1 = omega arith in
-    let more = replicate-one (n + 1) 32 in
-    rw (one, more) (gives_second (read_identity (replicate (n + 1) 32 ++ identity_bytes i)) _ (spaced_reads n i))
+header_spelled : (text spaces : List ℕ) (i : Identity) → (text ≡ (start_marker ++ spaces) ++ identity_bytes i) → nearest_identity (last_of 4 text) ≡ i
+header_spelled text spaces i e =
+    ap (λ (xs : List ℕ). nearest_identity (last_of 4 xs)) e
+    ∙ ap nearest_identity (last_is (start_marker ++ spaces) (identity_bytes i) refl) ∙ nearest_identity-is i
 
 header_reads : (n : ℕ) (i : Identity) → Gives (read_header (start_marker ++ (replicate (n + 1) 32 ++ identity_bytes i)))
 unfolding read_header
-header_reads n i = spaced_reads n i
+header_reads n i =
+    let spaces : List ℕ = replicate (n + 1) 32 in
+    let text : List ℕ = start_marker ++ (spaces ++ identity_bytes i) in
+    let joined : text ≡ (start_marker ++ spaces) ++ identity_bytes i = sym (append_assoc start_marker spaces (identity_bytes i)) in
+    let near : nearest_identity (last_of 4 text) ≡ i = header_spelled text spaces i joined in
+    let room : length spaces ≡ n + 1 = length-replicate (n + 1) 32 in
+    let long : length text ≡ n + 9 = omega (arith, length-append spaces (identity_bytes i), room) in
+    let count : length text - 8 ≡ n + 1 = omega (arith, long) in
+    let P : ℕ → Identity → Type 0 = λ (k : ℕ) (j : Identity). (bytes_eq text (start_marker ++ replicate k 32 ++ identity_bytes j) && nat_le 9 (length text)) ≡ true in
+    let same : bytes_eq text (start_marker ++ spaces ++ identity_bytes i) ≡ true = (bytes_eq-Decides text (start_marker ++ spaces ++ identity_bytes i)).1 joined in
+    let enough : nat_le 9 (length text) ≡ true = le-leb 9 (length text) (omega (arith, long)) in
+    let here : P (n + 1) i = rw (same, enough) refl in
+    let holds : P (length text - 8) (nearest_identity (last_of 4 text)) = subst (λ (k : ℕ). P k (nearest_identity (last_of 4 text))) (sym count) (subst (P (n + 1)) (sym near) here) in
+    record { it = nearest_identity (last_of 4 text); is = rw holds refl }
 
 end_reads : (front : List ℕ) (n : ℕ) (i : Identity) → Gives (identity_at_end (front ++ (start_marker ++ (replicate (n + 1) 32 ++ identity_bytes i))))
 unfolding identity_at_end

@@ -4,7 +4,8 @@ use Rattle.std.proofs.lemmas.Bool.{and_parts, or_right}
 use Rattle.std.specs.Prelude.{replicate}
 use Rattle.std.proofs.lemmas.Bool.Decides.{leb_tells, nat_tests}
 use Rattle.std.proofs.lemmas.List.{reverse-append, reverse-reverse, replicate_more}
-use Rattle.nx_envelope.specs.Header.{letter_of, digit_of, both, identity_of, identity_with, EndsWithHeader, EndsWith, start_marker, end_marker}
+use Rattle.nx_envelope.specs.Header.{EndsWithHeader, EndsWith, start_marker, end_marker}
+use Rattle.nx_envelope.specs.private.Letters.{letter_of, digit_of, both, identity_of, identity_with}
 use Rattle.nx_envelope.specs.private.Backward.{ends_in, spaces_back, station_back, subject_back, tens_back, header_back}
 use Rattle.nx_envelope.specs.Identity.{identity_bytes}
 use Rattle.nx_envelope.specs.declared.digit.Digit.{Digit}

@@ -1,7 +1,8 @@
 -- The stage of a header one byte later.
 use Rattle.std.proofs.Common.{◌≡◌, ◌≢◌, ℕ, ◌==◌, ◌&&◌, ◌||◌, if◌then◌else◌, Bool, true, false, Option, Some, None, List, [], ◌∷◌, refl, sym, ◌∙◌, arith}
 use Rattle.std.proofs.lemmas.Bool.Decides.{nat_tests}
-use Rattle.nx_envelope.specs.Header.{letter_of, digit_of, both, identity_with, start_marker}
+use Rattle.nx_envelope.specs.Header.{start_marker}
+use Rattle.nx_envelope.specs.private.Letters.{letter_of, digit_of, both, identity_with}
 use Rattle.nx_envelope.specs.private.Backward.{ends_in, spaces_back, station_back, subject_back, tens_back, header_back}
 use Rattle.nx_envelope.specs.private.DigitBytes.{IsDigit}
 use Rattle.nx_envelope.specs.private.Stage.{IsStageOf, is_spaces, station_in, subject_in, tens_in}

@@ -1,6 +1,6 @@
 -- The copies of messages in a received text: the form of a message is that of ITU-R M.540; that a
 -- text without an end is found up to 4,100 characters is this profile's.
-use Rattle.std.specs.Prelude.{ℕ, ◌-◌, ◌==◌, nat_le, Bool, if◌then◌else◌, Option, Some, None, List, [], ◌∷◌, length, take, drop, map, unwrap_or, count_by}
+use Rattle.std.specs.Prelude.{ℕ, ◌-◌, ◌==◌, nat_le, Bool, if◌then◌else◌, Option, Some, None, List, [], ◌∷◌, length, take, drop, map, slice_get, unwrap_or, count_by}
 use Rattle.std.specs.List.{filter, filter_map}
 use Rattle.std.specs.Option.{option_map, option_or, is_none}
 use Rattle.nx_code.specs.Reading.{asterisk}
@@ -43,29 +43,18 @@ ending_by_marker text =
     option_map (λ how. record { how = how; text = take (length text - 4) text })
     (marker_at_end text)
 
--- what the first item gives that gives something
-abbrev pub first_value : {A B : Type 0} → (A → Option B) → List A → Option B
-first_value f [] = None
-first_value f (x ∷ xs) = option_or (f x) (first_value f xs)
-
--- where so many characters stand, they are the text of a long copy
-unfoldable pub long_within : ℕ → List ℕ → Option Ending
-long_within most raw =
-    if nat_le most (length raw) then Some (record { how = Long; text = take most raw }) else None
-
--- the end of a raw text: at the least of its beginnings, within so many characters, that ends with
--- a marker; where there is none, but so many characters stand there, it is long; else it has no end
-unfoldable pub ending_within : ℕ → List ℕ → Option Ending
-ending_within most raw =
-    option_or (first_value ending_by_marker (beginnings (take most raw))) (long_within most raw)
-
 -- the most characters of a found text
 abbrev pub most_found : ℕ
 most_found = 4100
 
--- the end within 4,100 characters
+-- the end of a raw text: at the first of its beginnings, within 4,100 characters, that ends with a
+-- marker; where there is none, but 4,100 characters stand there, it is long; else it has no end
 unfoldable pub ending_of : List ℕ → Option Ending
-ending_of raw = ending_within most_found raw
+ending_of raw =
+    option_or (slice_get (filter_map ending_by_marker (beginnings (take most_found raw))) 0)
+    (if nat_le most_found (length raw)
+    then Some (record { how = Long; text = take most_found raw })
+    else None)
 
 -- a copy of a message: its header, how it ended and its found text
 pub record Copy : Type 0 where

@@ -16,17 +16,12 @@ pub record IsCivilTime (t : CivilTime) : Type 0 where
   pub minute : t.minute < 60
   pub second : t.second < 60
 
--- the seconds since midnight
-abbrev pub second_of_day : CivilTime → ℕ
-second_of_day t = t.hour * 3600 + t.minute * 60 + t.second
-
--- the day number of the date, 0 for 1970-01-01
-abbrev pub day_number : CivilTime → ℤ
-day_number t = days_from_civil (pos t.year) t.month t.day
-
--- 86,400 times the day number and the second of the day are the moment
+-- 86,400 times the day number of the date, 0 for 1970-01-01, and the seconds since midnight are the
+-- moment
 abbrev pub IsMomentOf : CivilTime → ℕ → Type 0
-IsMomentOf t moment = day_number t *ℤ pos 86400 +ℤ pos (second_of_day t) ≡ pos moment
+IsMomentOf t moment =
+    days_from_civil (pos t.year) t.month t.day *ℤ pos 86400
+    +ℤ pos (t.hour * 3600 + t.minute * 60 + t.second) ≡ pos moment
 
 -- the text YYYY-MM-DD HH:MM:SS, where 45 is a hyphen, 32 a space and 58 a colon
 abbrev pub civil_text : CivilTime → List ℕ

@@ -13,7 +13,7 @@ pub struct Digit {
 }
 
 impl Digit {
-    ghost use Rattle.nx_envelope.specs.Header.{digit_of};
+    ghost use Rattle.nx_envelope.specs.private.Letters.{digit_of};
 
     /// The digit of a byte, `None` where the byte isn't 0 to 9.
     pub fn new(byte: u8) -> Option<Digit>

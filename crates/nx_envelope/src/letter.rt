@@ -12,13 +12,10 @@ pub struct Letter {
 }
 
 impl Letter {
-    ghost use Rattle.nx_envelope.specs.Header.{letter_of};
-
     /// The letter of a byte, `None` where the byte isn't A to Z.
     pub fn new(byte: u8) -> Option<Letter>
         ensures in_range { IsSome result ↔ IsCapital byte }
         ensures given { IfSome result (λ letter. letter.byte ≡ byte) }
-        ensures letter { result ≡ letter_of byte }
     {
         if byte.is_ascii_uppercase() {
             Some(Letter { byte })

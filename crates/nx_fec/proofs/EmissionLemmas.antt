@@ -44,7 +44,7 @@ word_sent-even : (positions : List SentPosition) (slot : ℕ) → slot % 2 ≡ 0
 unfolding word_sent
 word_sent-even positions slot h = grind (arith, nat_tests)
 
-word_sent-early : (positions : List SentPosition) (slot : ℕ) → slot % 2 ≡ 1 → slot < 5 → word_sent positions slot ≡ phasing_1
+pub word_sent-early : (positions : List SentPosition) (slot : ℕ) → slot % 2 ≡ 1 → slot < 5 → word_sent positions slot ≡ phasing_1
 unfolding word_sent
 word_sent-early positions slot h k = grind (arith, nat_tests)
 

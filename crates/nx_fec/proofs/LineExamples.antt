@@ -37,7 +37,7 @@ two-lines-too-long = record {
   whole = refl;
   each = ((omega arith, omega arith), tt);
   part = record { none = ((λ e. absurd (omega arith)), ((λ e. absurd (omega arith)), ((λ e. absurd (omega arith)), ((λ e. absurd (omega arith)), tt)))); short = omega arith };
-  cause = refl;
+  here = refl;
 }
 
 -- a line that isn't ended
@@ -49,7 +49,7 @@ cut-line = record {
   whole = refl;
   each = ((omega arith, omega arith), tt);
   part = record { none = ((λ e. absurd (omega arith)), ((λ e. absurd (omega arith)), tt)); short = omega arith };
-  cause = (omega arith, omega arith, refl);
+  here = (omega arith, omega arith, refl);
 }
 
 -- no elements are no line, and two are one line

@@ -305,16 +305,16 @@ pair a b x y p q = cc
 HasFault-same : (limit : ℕ) (bytes t : List ℕ) (v w : LineFault) (h : HasFault limit bytes v) (k : HasFault limit bytes w)
     → file_of k.lines ++ k.rest ≡ (file_of h.lines ++ h.rest) ++ t → h.more ≡ t ++ k.more → v ≡ w
 HasFault-same limit bytes t v w h k e m =
-    let within : length (file_of k.lines ++ k.rest) ≤ limit = IsCause-within limit _ k.lines k.rest k.more w k.cause in
+    let within : length (file_of k.lines ++ k.rest) ≤ limit = IsCause-within limit _ k.lines k.rest k.more w k.here in
     let cause : IsCause limit (length (file_of h.lines ++ h.rest)) h.lines h.rest (t ++ k.more) v =
-    subst (λ l. IsCause limit (length (file_of h.lines ++ h.rest)) h.lines h.rest l v) m h.cause in
+    subst (λ l. IsCause limit (length (file_of h.lines ++ h.rest)) h.lines h.rest l v) m h.here in
     let nothing : t ≡ [] = HasFault-last limit h.lines k.lines h.rest k.rest t k.more v h.each h.part k.each k.part within e cause in
     let front : file_of k.lines ++ k.rest ≡ file_of h.lines ++ h.rest = e ∙ ap (λ l. (file_of h.lines ++ h.rest) ++ l) nothing ∙ append-nil (file_of h.lines ++ h.rest) in
     let u = reading-unique h.lines k.lines h.rest k.rest h.each k.each h.part k.part (sym front) in
     let here : IsCause limit (length (file_of h.lines ++ h.rest)) h.lines h.rest k.more v =
     subst (λ l. IsCause limit (length (file_of h.lines ++ h.rest)) h.lines h.rest (l ++ k.more) v) nothing cause in
     let there : IsCause limit (length (file_of h.lines ++ h.rest)) h.lines h.rest k.more w =
-    subst (λ (p : List Line × List ℕ). IsCause limit (length (file_of p.0 ++ p.1)) p.0 p.1 k.more w) (pair k.lines h.lines k.rest h.rest (sym u.0) (sym u.1)) k.cause in
+    subst (λ (p : List Line × List ℕ). IsCause limit (length (file_of p.0 ++ p.1)) p.0 p.1 k.more w) (pair k.lines h.lines k.rest h.rest (sym u.0) (sym u.1)) k.here in
     IsCause-unique limit (length (file_of h.lines ++ h.rest)) h.lines h.rest k.more v w here there
 
 pub HasFault-unique : (limit : ℕ) (bytes : List ℕ) (v w : LineFault) → HasFault limit bytes v → HasFault limit bytes w → v ≡ w
@@ -337,10 +337,10 @@ pub Splits-good : (limit : ℕ) (front : List ℕ) (lines : List Line) (rest : L
     → HasFault limit front why → ⊥
 Splits-good limit front lines rest why s within at h =
     let cause : IsCause limit (length (file_of h.lines ++ h.rest)) h.lines h.rest (h.more ++ []) why =
-    subst (λ l. IsCause limit (length (file_of h.lines ++ h.rest)) h.lines h.rest l why) (sym (append-nil h.more)) h.cause in
+    subst (λ l. IsCause limit (length (file_of h.lines ++ h.rest)) h.lines h.rest l why) (sym (append-nil h.more)) h.here in
     let nothing : h.more ≡ [] = HasFault-last limit h.lines lines h.rest rest h.more [] why h.each h.part s.each s.part
     (subst (λ l. length l ≤ limit) s.whole within) (sym s.whole ∙ h.whole) cause in
-    IsCause-at_end limit (length (file_of h.lines ++ h.rest)) h.lines h.rest h.more why at nothing h.cause
+    IsCause-at_end limit (length (file_of h.lines ++ h.rest)) h.lines h.rest h.more why at nothing h.here
 
 -- a good file has no fault
 HasFault-past : (limit : ℕ) (lines : List Line) (rest ms : List ℕ) (why : LineFault) → ms ≡ [] → rest ≡ [] → IsCause limit (length (file_of lines ++ rest)) lines rest ms why → ⊥
@@ -362,10 +362,10 @@ IsAirFile-good limit bytes lines why h k =
     let front = file_of k.lines ++ k.rest in
     let here : (ms : List ℕ) → k.more ≡ ms → front ≡ file_of lines ++ [] → ms ≡ [] → ⊥ = λ ms e same none.
     let u = reading-unique k.lines lines k.rest [] k.each h.each k.part nothing same in
-    HasFault-past limit k.lines k.rest k.more why (e ∙ none) u.1 k.cause in
+    HasFault-past limit k.lines k.rest k.more why (e ∙ none) u.1 k.here in
     elim (split front k.more (file_of lines ++ []) [] (sym k.whole ∙ sym whole ∙ sym (append-nil (file_of lines ++ [])))) [
       | inl s ↦
-          let cause : IsCause limit (length front) k.lines k.rest (s.0 ++ []) why = subst (λ l. IsCause limit (length front) k.lines k.rest l why) s.2 k.cause in
+          let cause : IsCause limit (length front) k.lines k.rest (s.0 ++ []) why = subst (λ l. IsCause limit (length front) k.lines k.rest l why) s.2 k.here in
           let none : s.0 ≡ [] = HasFault-last limit k.lines lines k.rest [] s.0 [] why k.each k.part h.each nothing within s.1 cause in
           here k.more refl (sym (s.1 ∙ ap (λ l. front ++ l) none ∙ append-nil front)) (s.2 ∙ append-nil s.0 ∙ none)
       | inr s ↦

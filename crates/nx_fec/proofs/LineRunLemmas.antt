@@ -7,8 +7,8 @@ use Rattle.std.proofs.lemmas.List.{length-append}
 use Rattle.std.proofs.lemmas.List.Concat.{flat_map-append}
 use Rattle.nx_fec.specs.AirFile.{Line, IsLine, spelling}
 use Rattle.nx_fec.specs.Transfers.{HasWritten, WroteSome, Devices, IsReadOut, Writes}
-use Rattle.nx_fec.specs.Lines.{IsAtByte, IsCause, Scanning, Scans, StopsIn, file_of, line_bytes, StopsAt}
-use Rattle.nx_fec.specs.LineRuns.{AnswersLines, Beginning, ExplainsLines, HasGiven, HasTaken, HasTakenAll, HasTakenSome, IsPlaced, IsLineRefused, Refusing, RunsLines, Standing, Waiting}
+use Rattle.nx_fec.specs.Lines.{IsAtByte, IsCause, IsLineRefused, Scanning, Scans, StopsIn, file_of, line_bytes, StopsAt}
+use Rattle.nx_fec.specs.LineRuns.{AnswersLines, Beginning, ExplainsLines, HasGiven, HasTaken, HasTakenAll, HasTakenSome, IsPlaced, Refusing, RunsLines, Standing, Waiting}
 use Rattle.nx_fec.specs.private.LineTaking.{IsTaking}
 use Rattle.nx_fec.specs.Scanner.{kind_kept}
 use Rattle.nx_fec.specs.declared.air_file.LineKind.{LineKind}

@@ -1,15 +1,16 @@
 -- What the words of the table count as, and the latest three of more words.
-use Rattle.std.proofs.Common.{◌≡◌, ℕ, ◌+◌, ◌-◌, ◌<◌, ◌≤◌, refl, sym, ap, ◌∙◌, subst, Bool, true, false, eqb, Option, Some, None, List, [], ◌∷◌, ◌++◌, length, get_or, drop, arith, length-append, length-drop}
+use Rattle.std.proofs.Common.{◌≡◌, ℕ, ◌+◌, ◌-◌, ◌<◌, ◌≤◌, refl, sym, ap, ◌∙◌, subst, nat_lt, if◌then◌else◌, Bool, true, false, eqb, Option, Some, None, List, [], ◌∷◌, ◌++◌, length, get_or, drop, arith, length-append, length-drop}
 use Rattle.std.proofs.lemmas.Bool.{agree_below_at, eqb-true}
 use Rattle.std.proofs.lemmas.List.{drop-append-le, drop-drop}
 use Rattle.std.proofs.lemmas.List.Quantifiers.{position-Some}
+use Rattle.std.specs.Option.{option_map_or}
 use Rattle.nx_code.specs.declared.signals.Signal.{Signal}
 use Rattle.nx_code.specs.declared.signals.Signal.TheVariants.{Traffic, Alpha, Beta, Repeat}
 use Rattle.nx_code.specs.Word.{weight, elements, elements_from}
 use Rattle.nx_code.specs.Table.{table, words, place_of}
 use Rattle.nx_code.specs.Signal.{number_of_signal}
 use Rattle.nx_fec.specs.declared.diversity.Heard.TheVariants.{Intact}
-use Rattle.nx_fec.specs.Pairing.{Counted, traffic, idle_signal, nothing, counts_as, counts_at, heard_as}
+use Rattle.nx_fec.specs.Pairing.{Counted, traffic, idle_signal, nothing, counts_as, heard_as}
 
 -- whether two words count alike
 abbrev is_alike : Counted → Counted → Bool
@@ -34,11 +35,14 @@ is_alike-true nothing (traffic n) h = cc
 is_alike-true nothing idle_signal h = cc
 is_alike-true nothing nothing h = refl
 
--- the word at a place of the table counts as that place
-pub counts_as-words : (at : ℕ) → at < 35 → counts_as (get_or words at 0) ≡ counts_at (Some at)
+-- what the word at a place of the table counts as
+abbrev counts_at : ℕ → Counted
+counts_at place = if nat_lt place 32 then traffic (place + 1) else idle_signal
+
+pub counts_as-words : (at : ℕ) → at < 35 → counts_as (get_or words at 0) ≡ counts_at at
 unfolding table words place_of counts_as
 counts_as-words at h =
-    is_alike-true (counts_as (get_or words at 0)) (counts_at (Some at)) (agree_below_at (λ k. is_alike (counts_as (get_or words k 0)) (counts_at (Some k))) (λ _. true) 35 at refl h)
+    is_alike-true (counts_as (get_or words at 0)) (counts_at at) (agree_below_at (λ k. is_alike (counts_as (get_or words k 0)) (counts_at k)) (λ _. true) 35 at refl h)
 
 -- the word of a combination counts as it
 pub counts_as-combination : (number : ℕ) → 1 ≤ number → number ≤ 32 → counts_as (get_or words (number - 1) 0) ≡ traffic number
@@ -65,7 +69,7 @@ weight-found word at h =
     let found = position-Some (λ n. eqb n word) words at 0 h in
     subst (λ n. weight n ≡ 4) (eqb-true (get_or words at 0) word found.1) (weight-words at found.0)
 
-counts_at-none : (word : ℕ) (found : Option ℕ) → place_of word ≡ found → (weight word ≡ 4 → ⊥) → counts_at found ≡ nothing
+counts_at-none : (word : ℕ) (found : Option ℕ) → place_of word ≡ found → (weight word ≡ 4 → ⊥) → option_map_or counts_at found nothing ≡ nothing
 counts_at-none word (Some at) h wrong = absurd (wrong (weight-found word at h))
 counts_at-none word None h wrong = refl
 

@@ -45,7 +45,7 @@ HasFault-cause limit bytes lines rest more why s cause = record {
   whole = ap (λ l. l ++ more) s.whole;
   each = s.each;
   part = s.part;
-  cause = subst (λ l. IsCause limit (length l) lines rest more why) s.whole cause;
+  here = subst (λ l. IsCause limit (length l) lines rest more why) s.whole cause;
 }
 
 -- a scanner before the first byte

@@ -1,5 +1,5 @@
 -- The text of words that stand in their slots from slot 0 on (ITU-R M.625, collective mode B).
-use Rattle.std.specs.Prelude.{◌≡◌, ◌≢◌, ℕ, ◌+◌, ◌-◌, ◌*◌, ◌/◌, ◌%◌, Bool, List, length, map, slice_index}
+use Rattle.std.specs.Prelude.{◌≡◌, ◌≢◌, ℕ, ◌+◌, ◌*◌, ◌/◌, ◌%◌, Bool, List, length, map, slice_index}
 use Rattle.std.specs.List.{range_with_len}
 use Rattle.nx_code.specs.Word.{word_from}
 use Rattle.nx_code.specs.Reading.{Reception, text}

@@ -1,8 +1,8 @@
 -- A run over the lines of an air file that writes while it reads (this profile).
-use Rattle.std.specs.Prelude.{◌≡◌, ℕ, ◌+◌, ◌<◌, ◌≤◌, List, [], ◌∷◌, ◌++◌, length, Option, Result, Ok, Err, ⊤}
+use Rattle.std.specs.Prelude.{◌≡◌, ℕ, ◌≤◌, List, [], ◌∷◌, ◌++◌, length, Option, Result, Ok, Err, ⊤}
 use Rattle.std.specs.Io.KnownBytes.{Appends}
-use Rattle.nx_fec.specs.AirFile.{Line, IsLine, spelling}
-use Rattle.nx_fec.specs.Lines.{IsAirFile, IsCause, file_of, line_end, StopsAt}
+use Rattle.nx_fec.specs.AirFile.{Line}
+use Rattle.nx_fec.specs.Lines.{IsAirFile, IsCause, IsLineRefused, file_of, StopsAt}
 use Rattle.nx_fec.specs.Transfers.{HasWritten, WroteSome, Devices, IsReadOut, Transfers, on_the_way}
 use Rattle.nx_fec.specs.declared.fault.LineFault.{LineFault}
 use Rattle.nx_fec.specs.declared.fault.LineFault.TheVariants.{TooLong, LineLong, LineCut, BadLine}
@@ -57,19 +57,6 @@ ExplainsTaking stands begins refuses first now old new batch lines line (take.Re
     refuses first lines line why × HasTaken stands first now lines (HasGiven old new batch)
 ExplainsTaking stands begins refuses first now old new batch lines line (take.Write written) =
     HasTakenSome begins first old new (lines ++ line ∷ []) written
-
--- the next line after these, which is one of an air file within the limit, is refused; lines count
--- from 1
-pub record IsLineRefused (refuses : List Line → Line → Type 0) (limit : ℕ) (lines : List Line)
-    (rest more : List ℕ) (number : ℕ) : Type 0 where
-  pub line : Line
-  pub after : List ℕ
-  pub good : IsLine line
-  pub spelled : rest ≡ spelling line
-  pub ended : more ≡ line_end ∷ after
-  pub within : length (file_of lines ++ rest) < limit
-  pub counted : number ≡ length lines + 1
-  pub refused : refuses lines line
 
 -- a fault at the end of the file comes where this holds
 abbrev pub IsPlaced : Type 0 → LineFault → Type 0

@@ -45,28 +45,44 @@ pub record IsFaultless (limit : ℕ) (bytes : List ℕ) : Type 0 where
 -- at. The 515th byte of a line is too many. A line feed ends a line, which has to be one of the air
 -- file. At the end of the file no line is open.
 abbrev pub IsCause : ℕ → ℕ → List Line → List ℕ → List ℕ → LineFault → Type 0
-IsCause limit front lines rest [] TooLong = ⊥
-IsCause limit front lines rest [] (LineLong line) = ⊥
 IsCause limit front lines rest [] (LineCut line) =
     (front ≤ limit) × (0 < length rest) × (line ≡ length lines + 1)
-IsCause limit front lines rest [] (BadLine line) = ⊥
 IsCause limit front lines rest (byte ∷ more) TooLong = front ≡ limit
 IsCause limit front lines rest (byte ∷ more) (LineLong line) =
     (front < limit) × (byte ≢ line_end) × (length rest ≡ max_line_bytes) × (line ≡ length lines + 1)
-IsCause limit front lines rest (byte ∷ more) (LineCut line) = ⊥
 IsCause limit front lines rest (byte ∷ more) (BadLine line) =
     (front < limit) × (byte ≡ line_end) × IsNoLine rest × (line ≡ length lines + 1)
+IsCause limit front lines rest more why = ⊥
 
--- The file of these bytes has this fault. Good lines and the beginning of one more stand before it,
--- so it is the earliest; any bytes may come after it.
-pub record HasFault (limit : ℕ) (bytes : List ℕ) (why : LineFault) : Type 0 where
+-- the bytes are good lines, and the beginning of one more, and what follows, of which this holds
+pub record StopsAt (bytes : List ℕ) (holds : List Line → List ℕ → List ℕ → Type 0) : Type 0 where
   pub lines : List Line
   pub rest : List ℕ
   pub more : List ℕ
   pub whole : bytes ≡ (file_of lines ++ rest) ++ more
   pub each : AllByRecursion IsLine lines
   pub part : IsBeginning rest
-  pub cause : IsCause limit (length (file_of lines ++ rest)) lines rest more why
+  pub here : holds lines rest more
+
+-- The file of these bytes has this fault. Good lines and the beginning of one more stand before it,
+-- so it is the earliest; any bytes may come after it.
+abbrev pub HasFault : ℕ → List ℕ → LineFault → Type 0
+HasFault limit bytes why =
+    StopsAt bytes (λ lines rest more.
+    IsCause limit (length (file_of lines ++ rest)) lines rest more why)
+
+-- the next line after these, which is one of an air file within the limit, is refused; lines count
+-- from 1
+pub record IsLineRefused (refuses : List Line → Line → Type 0) (limit : ℕ) (lines : List Line)
+    (rest more : List ℕ) (number : ℕ) : Type 0 where
+  pub line : Line
+  pub after : List ℕ
+  pub good : IsLine line
+  pub spelled : rest ≡ spelling line
+  pub ended : more ≡ line_end ∷ after
+  pub within : length (file_of lines ++ rest) < limit
+  pub counted : number ≡ length lines + 1
+  pub refused : refuses lines line
 
 -- the fault stands at a byte, and not at the end of the file
 abbrev pub IsAtByte : LineFault → Type 0
@@ -121,13 +137,3 @@ pub record StopsIn (limit : ℕ) (scanner : Scanning) (bytes piece : List ℕ) (
 -- the most bytes of an air file that is read as it comes: 2 ^ 28
 abbrev pub air_limit : ℕ
 air_limit = 268435456
-
--- the bytes are good lines, and the beginning of one more, and what follows, of which this holds
-pub record StopsAt (bytes : List ℕ) (holds : List Line → List ℕ → List ℕ → Type 0) : Type 0 where
-  pub lines : List Line
-  pub rest : List ℕ
-  pub more : List ℕ
-  pub whole : bytes ≡ (file_of lines ++ rest) ++ more
-  pub each : AllByRecursion IsLine lines
-  pub part : IsBeginning rest
-  pub here : holds lines rest more

@@ -1,6 +1,7 @@
 -- Pairing (ITU-R M.625, collective mode B: each position is sent twice, as DX and, five slots
 -- later, as RX; that differing signals are lost is this profile's).
-use Rattle.std.specs.Prelude.{◌≡◌, ◌≢◌, ℕ, ◌+◌, ◌-◌, ◌==◌, nat_lt, if◌then◌else◌, List, Option, Some, None, length, drop, map, slice_index_or}
+use Rattle.std.specs.Prelude.{◌≡◌, ◌≢◌, ℕ, ◌+◌, ◌-◌, ◌==◌, nat_lt, if◌then◌else◌, List, length, drop, map, slice_index_or}
+use Rattle.std.specs.Option.{option_map_or}
 use Rattle.nx_code.specs.declared.signals.Signal.TheVariants.{Traffic, Alpha, Beta, Repeat}
 use Rattle.nx_code.specs.Word.{weight}
 use Rattle.nx_code.specs.Table.{place_of}
@@ -16,27 +17,23 @@ pub data Counted : Type 0 where
   idle_signal : Counted
   nothing : Counted
 
--- the first 32 rows of the table are the combinations, and the others the service signals
-abbrev pub counts_at : Option ℕ → Counted
-counts_at (Some place) = if nat_lt place 32 then traffic (place + 1) else idle_signal
-counts_at None = nothing
-
--- what a word counts as, by its number; a word that isn't in the table has a wrong weight
+-- What a word counts as, by its number: the first 32 rows of the table are the combinations, and the
+-- others the service signals. A word that isn't in the table has a wrong weight.
 unfoldable pub counts_as : ℕ → Counted
-counts_as word = counts_at (place_of word)
+counts_as word =
+    option_map_or (λ place. if nat_lt place 32 then traffic (place + 1) else idle_signal)
+    (place_of word) nothing
 
 -- what is taken of a DX and an RX: where they count alike, or only one of them counts, that, and
 -- else nothing
 abbrev pub pairing : Counted → Counted → Reception
 pairing (traffic m) (traffic n) = if m == n then combination m else lost
-pairing (traffic m) idle_signal = lost
 pairing (traffic m) nothing = combination m
-pairing idle_signal (traffic n) = lost
+pairing nothing (traffic n) = combination n
 pairing idle_signal idle_signal = idle
 pairing idle_signal nothing = idle
-pairing nothing (traffic n) = combination n
 pairing nothing idle_signal = idle
-pairing nothing nothing = lost
+pairing dx rx = lost
 
 -- the DX of the RX that comes next, where these are the DX words so far, oldest first: it is the
 -- third last, or a word that wasn't seen

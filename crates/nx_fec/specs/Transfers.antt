@@ -17,6 +17,13 @@ pub record Counts {T R E : Type 0} (old new : CountedDevice T) (result : Result 
   pub err : OnErr result (new.failures ≡ min (old.failures + 1) (2 ^ 64 - 1))
   pub stopped : 0 < old.failures → IsErr result × (new.inner ≡ old.inner)
 
+-- A run over a device that counted no failure: it is over at the first one, which it then answers,
+-- so the count is 1 after a fault, and else 0.
+pub record FailsOnce {T N F : Type 0} (new : CountedDevice T) (result : Result N F) : Type 0 where
+  pub failed : IsErr result ↔ (new.failures ≡ 1)
+  pub once : new.failures ≤ 1
+  pub none : OnOk result (new.failures ≡ 0)
+
 -- A failed write: the writer took some first of these bytes, but not all, and `written` counts
 -- them, at most to the greatest number of 64 bits.
 pub record WroteSome (old new : Option (List ℕ)) (bytes : List ℕ) (written : ℕ) : Type 0 where

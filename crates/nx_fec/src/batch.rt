@@ -1,6 +1,6 @@
 //! Bytes that are gathered for one write.
-ghost use Rattle.std.specs.Prelude.{◌≡◌, ◌+◌, ◌≤◌, ◌↔◌, length, ℕ, List, [], ◌++◌, Option, OnOk, IsErr, MatchResult};
-ghost use Rattle.nx_fec.specs.Transfers.{WroteSome};
+ghost use Rattle.std.specs.Prelude.{◌≡◌, ◌+◌, ◌≤◌, length, ℕ, List, [], ◌++◌, Option, OnOk, MatchResult};
+ghost use Rattle.nx_fec.specs.Transfers.{FailsOnce, WroteSome};
 ghost use Rattle.nx_fec.specs.LineRuns.{HasGiven};
 
 use crate::counting::Counting;
@@ -66,9 +66,7 @@ impl Batch {
             (λ _. HasGiven first (W.contents writer.new.inner) self.new (before ++ bytes.now))
             (λ fault. WroteSome first (W.contents writer.new.inner)
             (before ++ bytes.now) fault.written) }
-        ensures failed { IsErr result ↔ (writer.new.failures ≡ 1) }
-        ensures once { writer.new.failures ≤ 1 }
-        ensures none { OnOk result (writer.new.failures ≡ 0) }
+        ensures counts { FailsOnce writer.new result }
     {
         if bytes.len() <= self.waiting.remaining_capacity() {
             self.keep(bytes);
@@ -100,9 +98,7 @@ impl Batch {
             (λ _. HasGiven first (W.contents writer.new.inner) self.new before)
             (λ fault. WroteSome first (W.contents writer.new.inner) before fault.written) }
         ensures empty { OnOk result (self.new.bytes ≡ []) }
-        ensures failed { IsErr result ↔ (writer.new.failures ≡ 1) }
-        ensures once { writer.new.failures ≤ 1 }
-        ensures none { OnOk result (writer.new.failures ≡ 0) }
+        ensures counts { FailsOnce writer.new result }
     {
         if self.waiting.is_empty() {
             return Ok(());

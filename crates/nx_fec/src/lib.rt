@@ -8,6 +8,7 @@ mod batch;
 mod counting;
 mod diversity;
 mod emission;
+mod emission_lines;
 mod fault;
 mod feeds;
 mod hexadecimal;

@@ -22,7 +22,7 @@ pub const SPREAD: usize = 5;
 
 impl Position {
     /// The word that is sent first.
-    fn dx(self) -> Word
+    pub(crate) fn dx(self) -> Word
         ensures { result ≡ dx_word (sent_position self) }
     {
         word_of(match self {
@@ -33,7 +33,7 @@ impl Position {
     }
 
     /// The word that is sent again.
-    fn rx(self) -> Word
+    pub(crate) fn rx(self) -> Word
         ensures { result ≡ rx_word (sent_position self) }
     {
         word_of(match self {

@@ -6,12 +6,12 @@ ghost use Rattle.nx_fec.specs.Transfers.{devices};
 
 use crate::aligned::decode_aligned;
 use crate::counting::Counting;
-use crate::emission::to_bits;
+use crate::emission_lines::write_emission;
 use crate::fault::RunFault;
 use crate::positions::Position;
 use crate::reading::{read_bits, read_whole};
 use crate::word_lines::word_lines;
-use crate::writing::{write_bits, write_out};
+use crate::writing::write_out;
 use nx_code::{Comb, ELEMENTS, Shift, spell};
 use std::alloc::{AllocError, Global};
 use std::io::{Read, Write};
@@ -57,8 +57,7 @@ pub fn encode_run<R: Read, W: Write>(
     let text = read_whole(alloc, reader)?;
     let combs = spell(alloc, &text, Shift::Letters)?;
     let positions = framed_positions(alloc, &combs)?;
-    let bits = to_bits(alloc, &positions)?;
-    write_bits(writer, &bits)?;
+    write_emission(writer, &positions)?;
     Ok(positions.len() as u64)
 }
 
@@ -91,7 +90,7 @@ fn framed_positions(alloc: Global, combs: &[Comb]) -> Result<Vec<Position>, Allo
         map sent_position positions.items
         ≡ framed_positions (map (λ comb. comb.number) combs.now)) }
 {
-    let mut positions = Vec::new(alloc);
+    let mut positions = Vec::with_capacity(alloc, 4 + combs.len() + 3)?;
     positions.extend_from_slice(&[Position::Phasing; 4])?;
     for comb in combs {
         positions.push(Position::Traffic(*comb))?;

@@ -1,10 +1,10 @@
 //! The table of the code as text.
 
-ghost use Rattle.std.specs.Prelude.{◌≡◌, ◌+◌, ◌≤◌, ◌↔◌, ◌++◌, length, map, IfErr, OnOk, IsErr};
+ghost use Rattle.std.specs.Prelude.{◌≡◌, ◌+◌, ◌≤◌, ◌++◌, length, map, IfErr, OnOk};
 ghost use Rattle.std.specs.Io.KnownBytes.{Appends};
 ghost use Rattle.arrayvec.specs.ArrayVec.{array_vec_len};
 ghost use Rattle.nx_code.specs.Signal.{row_of_signal};
-ghost use Rattle.nx_fec.specs.Transfers.{WroteSome};
+ghost use Rattle.nx_fec.specs.Transfers.{FailsOnce, WroteSome};
 ghost use Rattle.nx_fec.specs.TableText.{cell_text, element_letter, table_line, table_text};
 
 use crate::counting::Counting;
@@ -34,9 +34,7 @@ pub fn write_table<W: Write>(writer: &mut Counting<W>) -> Result<(), WriteFault>
     ensures err { IfErr result (λ fault.
         WroteSome (W.contents writer.old.inner)
         (W.contents writer.new.inner) table_text fault.written) }
-    ensures failed { IsErr result ↔ (writer.new.failures ≡ 1) }
-    ensures once { writer.new.failures ≤ 1 }
-    ensures none { OnOk result (writer.new.failures ≡ 0) }
+    ensures counts { FailsOnce writer.new result }
 {
     write_out(writer, &lines())
 }

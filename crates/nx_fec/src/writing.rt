@@ -1,11 +1,11 @@
 //! Writing bytes, and the elements of an air file, to a writer.
-ghost use Rattle.std.specs.Prelude.{◌≡◌, ◌+◌, ◌≤◌, ◌↔◌, ℕ, List, ◌++◌, length, Option, IfErr, OnOk, IsErr, MatchResult};
+ghost use Rattle.std.specs.Prelude.{◌≡◌, ◌+◌, ◌≤◌, ℕ, List, [], ◌∷◌, ◌++◌, codes, length, Option, IfErr, OnOk, MatchResult};
 ghost use Rattle.std.specs.Io.KnownBytes.{Appends};
 ghost use Rattle.arrayvec.specs.ArrayVec.{array_vec_len};
 ghost use Rattle.nx_fec.specs.AirFile.{elements};
-ghost use Rattle.nx_fec.specs.Lines.{line_bytes, file_of};
+ghost use Rattle.nx_fec.specs.Lines.{file_of, line_bytes, line_end};
 ghost use Rattle.nx_fec.specs.BitLines.{bit_lines};
-ghost use Rattle.nx_fec.specs.Transfers.{HasWritten, WroteSome};
+ghost use Rattle.nx_fec.specs.Transfers.{FailsOnce, HasWritten, WroteSome};
 
 use crate::counting::Counting;
 use crate::fault::WriteFault;
@@ -13,13 +13,13 @@ use arrayvec::ArrayVec;
 use std::io::Write;
 
 /// How many elements a written line has, but for the last.
-const LINE_ELEMENTS: usize = 490;
+pub(crate) const LINE_ELEMENTS: usize = 490;
 
 /// The bytes of such a line: `B`, a space, the elements, and the line feed.
-const LINE_BYTES: usize = LINE_ELEMENTS + 3;
+pub(crate) const LINE_BYTES: usize = LINE_ELEMENTS + 3;
 
 /// How many bytes are gathered for one write, which is 64 lines.
-const BATCH_BYTES: usize = 64 * LINE_BYTES;
+pub(crate) const BATCH_BYTES: usize = 64 * LINE_BYTES;
 
 /// Writes all these bytes, by as many calls as the writer needs. It stops at the first write that fails,
 /// and its fault says how many of the bytes were written.
@@ -30,9 +30,7 @@ pub fn write_out<W: Write>(writer: &mut Counting<W>, bytes: &[u8]) -> Result<(),
     ensures err { IfErr result (λ fault.
         WroteSome (W.contents writer.old.inner)
         (W.contents writer.new.inner) bytes.now fault.written) }
-    ensures failed { IsErr result ↔ (writer.new.failures ≡ 1) }
-    ensures once { writer.new.failures ≤ 1 }
-    ensures none { OnOk result (writer.new.failures ≡ 0) }
+    ensures counts { FailsOnce writer.new result }
 {
     let mut at = 0;
     while at < bytes.len() {
@@ -55,9 +53,7 @@ pub fn write_bits<W: Write>(writer: &mut Counting<W>, bits: &[bool]) -> Result<(
     ensures err { IfErr result (λ fault.
         WroteSome (W.contents writer.old.inner) (W.contents writer.new.inner)
         (file_of (bit_lines bits.now)) fault.written) }
-    ensures failed { IsErr result ↔ (writer.new.failures ≡ 1) }
-    ensures once { writer.new.failures ≤ 1 }
-    ensures none { OnOk result (writer.new.failures ≡ 0) }
+    ensures counts { FailsOnce writer.new result }
 {
     let mut batch = ArrayVec::new();
     let mut sent = 0;
@@ -86,9 +82,7 @@ pub fn write_on<W: Write>(
         (λ count. HasWritten first (W.contents writer.new.inner) (before ++ bytes.now) count)
         (λ fault. WroteSome first (W.contents writer.new.inner)
         (before ++ bytes.now) fault.written) }
-    ensures failed { IsErr result ↔ (writer.new.failures ≡ 1) }
-    ensures once { writer.new.failures ≤ 1 }
-    ensures none { OnOk result (writer.new.failures ≡ 0) }
+    ensures counts { FailsOnce writer.new result }
 {
     match write_out(writer, bytes) {
         Ok(()) => Ok(sent.saturating_add(bytes.len() as u64)),
@@ -108,9 +102,19 @@ fn push_line(line: &[bool], batch: &mut ArrayVec<u8, BATCH_BYTES>)
     for place in 0..line.len() {
         digits[place] = if line[place] { b'1' } else { b'0' };
     }
+    push_digits(&digits[..line.len()], batch);
+}
+
+/// Appends the line of elements that has these digits.
+pub(crate) fn push_digits(digits: &[u8], batch: &mut ArrayVec<u8, BATCH_BYTES>)
+    requires short { length digits.now ≤ LINE_ELEMENTS }
+    requires room { array_vec_len batch.old + LINE_BYTES ≤ BATCH_BYTES }
+    ensures { batch.new.items ≡ batch.old.items
+        ++ (codes "B " ++ (digits.now ++ line_end ∷ [])) }
+{
     batch.push(b'B');
     batch.push(b' ');
-    batch.try_extend_from_slice(&digits[..line.len()]).unwrap();
+    batch.try_extend_from_slice(digits).unwrap();
     batch.push(b'\n');
 }
 

@@ -1,5 +1,5 @@
 -- The positions of messages: there is one list of them, and how it is built and counted.
-use Rattle.std.proofs.Common.{◌≡◌, ◌≢◌, ℕ, ◌+◌, ◌<◌, ◌≤◌, true, List, [], ◌∷◌, ◌++◌, length, map, replicate, take, drop, get_or, not, Some, refl, sym, ap, ◌∙◌, subst, arith, append_assoc, append-nil}
+use Rattle.std.proofs.Common.{◌≡◌, ◌≢◌, ℕ, ◌+◌, ◌-◌, ◌<◌, ◌≤◌, true, List, [], ◌∷◌, ◌++◌, length, map, replicate, take, drop, get_or, not, Some, refl, sym, ap, ◌∙◌, subst, arith, append_assoc, append-nil}
 use Rattle.std.specs.List.{flat_map, AllByRecursion, list_all, position}
 use Rattle.std.proofs.lemmas.List.{length-append, length-map, length-replicate}
 use Rattle.std.proofs.lemmas.List.Concat.{flat_map-append}
@@ -169,7 +169,7 @@ length-others : (spellings : List (List ℕ)) → length (flat_map (phasing_and_
 length-others [] = refl
 length-others (x ∷ xs) = omega (arith, length-append (phasing_and_message further_phasing x) (flat_map (phasing_and_message further_phasing) xs), length-phasing_and_message further_phasing x, length-others xs)
 
-pub length-layout : (spellings : List (List ℕ)) → spellings ≢ [] → length (layout spellings) ≡ total spellings + 39
+pub length-layout : (spellings : List (List ℕ)) → spellings ≢ [] → length (layout spellings) ≡ total spellings + (first_phasing - further_phasing + end_positions)
 unfolding layout
 length-layout [] h = absurd (h refl)
 length-layout (x ∷ xs) h =
@@ -191,13 +191,13 @@ spelled-some (m ∷ ms) [] some h e = h
 spelled-some (m ∷ ms) (s ∷ ss) some h e = cc
 
 pub counted-all : (messages : List MessageView) (i count : ℕ) (spellings : List (List ℕ)) → messages ≢ [] → length messages ≤ i → AreSpelled (take i messages) spellings → count ≡ total spellings
-    → HavePositions messages (count + 39)
+    → HavePositions messages (count + (first_phasing - further_phasing + end_positions))
 counted-all messages i count spellings some past h e =
-    let all : AreSpelled messages spellings = subst (λ l. AreSpelled l spellings) (take_all i messages past) h in record {
-      positions = layout spellings;
-      broadcast = record { spellings = spellings; each = all; whole = refl };
-      counted = omega (arith, e, length-layout spellings (spelled-some messages spellings some all));
-    }
+    let all : AreSpelled messages spellings = subst (λ l. AreSpelled l spellings) (take_all i messages past) h in (
+      layout spellings,
+      record { spellings = spellings; each = all; whole = refl },
+      omega (arith, e, length-layout spellings (spelled-some messages spellings some all)),
+    )
 
 pub empty-broadcast : (messages : List MessageView) (positions : List SentPosition) → length messages ≡ 0 → positions ≡ [] → IsBroadcast messages positions
 unfolding layout

@@ -12,8 +12,8 @@ use Rattle.nx_code.proofs.SpellingLemmas.{Spells-push, spells_here, spells_newli
 use Rattle.nx_envelope.specs.Message.{AreLines, IsMessageLine, IsLineByte}
 use Rattle.nx_envelope.proofs.WordsInTexts.{holds_none}
 use Rattle.nx_fec.specs.Emission.{SentPosition, phasing_position, traffic_position, end_position, bits_of, position_at, word_sent}
-use Rattle.nx_station.specs.Broadcast.{IsSpelled, ending, head, layout}
-use Rattle.nx_station.specs.Channel.{PassesChannel, IsAsSent, IsWrongIn, first_slot, heard_in, message_slot, phasing_words, slots_of}
+use Rattle.nx_station.specs.Broadcast.{IsSpelled, ending, first_phasing, head, layout}
+use Rattle.nx_station.specs.Channel.{PassesChannel, IsAsSent, first_slot, heard_in, message_slot, phasing_received, phasing_words, slots_of}
 use Rattle.nx_station.specs.ChannelExample.{damaged_in, example_emission, example_parts, example_sending, example_message, example_numbers, example_words, heard_half, heard_without_75}
 use Rattle.nx_station.specs.Sendable.{IsSendable}
 use Rattle.nx_station.specs.Sendings.{IsCut, IsReceived, IsSending, gap}
@@ -35,9 +35,9 @@ each_below test n = agree_below test (λ _. true) n
 record Computed (positions : List SentPosition) (heard : List ℕ) : Type 0 where
   words : each_below (λ k. ltb (get_or heard k 0) 128) (length heard) ≡ true
   whole : first_slot + length heard ≡ slots_of positions
-  phasing : each_below (λ k. is_as_sent positions heard (first_slot + k)) 48 ≡ true
+  phasing : each_below (λ k. is_as_sent positions heard (first_slot + k)) (2 * phasing_received) ≡ true
   later : each_below (λ k. is_as_sent positions heard (message_slot + k) || not (eqb (weight (heard_in heard (message_slot + k))) 4)) (slots_of positions - message_slot) ≡ true
-  one_of_two : each_below (λ k. is_end (position_at positions (72 + k)) || is_as_sent positions heard (2 * (72 + k)) || is_as_sent positions heard (2 * (72 + k) + 5)) (length positions - 72) ≡ true
+  one_of_two : each_below (λ k. is_end (position_at positions (first_phasing + k)) || is_as_sent positions heard (2 * (first_phasing + k)) || is_as_sent positions heard (2 * (first_phasing + k) + 5)) (length positions - first_phasing) ≡ true
 
 example_computed : Computed (layout (example_numbers ∷ [])) heard_half
 unfolding layout example_numbers heard_half damaged_in example_words phasing_words word_sent traffic_word row_of table weight elements elements_from is_end
@@ -64,21 +64,21 @@ one_or_other true one two h = inl refl
 one_or_other false true two h = inr (inl refl)
 one_or_other false false two h = inr (inr h)
 
-passes-computed : (positions : List SentPosition) (heard : List ℕ) → 72 ≤ length positions → Computed positions heard → PassesChannel positions heard
+passes-computed : (positions : List SentPosition) (heard : List ℕ) → first_phasing ≤ length positions → Computed positions heard → PassesChannel positions heard
 passes-computed positions heard long is = record {
   words = λ k h. ltb-true (get_or heard k 0) 128 (below (λ k. ltb (get_or heard k 0) 128) (length heard) k is.words h);
   whole = is.whole;
   phasing = λ slot from to. subst (IsAsSent positions heard) (from_first slot from)
       (eqb-true (heard_in heard (first_slot + (slot - first_slot))) (word_sent positions (first_slot + (slot - first_slot)))
-      (below (λ k. is_as_sent positions heard (first_slot + k)) 48 (slot - first_slot) is.phasing (omega arith)));
-  later = λ slot from to. subst (λ s. IsAsSent positions heard s ⊎ IsWrongIn heard s) (from_message slot from)
+      (below (λ k. is_as_sent positions heard (first_slot + k)) (2 * phasing_received) (slot - first_slot) is.phasing (omega arith)));
+  later = λ slot from to. subst (λ s. IsAsSent positions heard s ⊎ (weight (heard_in heard s) ≢ 4)) (from_message slot from)
       (sent_or_wrong (heard_in heard (message_slot + (slot - message_slot))) (word_sent positions (message_slot + (slot - message_slot))) _
       (not_four (weight (heard_in heard (message_slot + (slot - message_slot))))) _
       (eqb-true (heard_in heard (message_slot + (slot - message_slot))) (word_sent positions (message_slot + (slot - message_slot))))
       (below (λ k. is_as_sent positions heard (message_slot + k) || not (eqb (weight (heard_in heard (message_slot + k))) 4)) (slots_of positions - message_slot) (slot - message_slot) is.later (omega arith)));
-  one_of_two = λ i from to not_end. subst (λ j. IsAsSent positions heard (2 * j) ⊎ IsAsSent positions heard (2 * j + 5)) (from_72 i from)
-      (elim (one_or_other _ _ _ (below (λ k. is_end (position_at positions (72 + k)) || is_as_sent positions heard (2 * (72 + k)) || is_as_sent positions heard (2 * (72 + k) + 5)) (length positions - 72) (i - 72) is.one_of_two (omega arith))) [
-        | inl end ↦ absurd (not_end (is_end-true (position_at positions i) (ap (λ j. is_end (position_at positions j)) (sym (from_72 i from)) ∙ end)))
+  one_of_two = λ i from to not_end. subst (λ j. IsAsSent positions heard (2 * j) ⊎ IsAsSent positions heard (2 * j + 5)) (from_phasing i from)
+      (elim (one_or_other _ _ _ (below (λ k. is_end (position_at positions (first_phasing + k)) || is_as_sent positions heard (2 * (first_phasing + k)) || is_as_sent positions heard (2 * (first_phasing + k) + 5)) (length positions - first_phasing) (i - first_phasing) is.one_of_two (omega arith))) [
+        | inl end ↦ absurd (not_end (is_end-true (position_at positions i) (ap (λ j. is_end (position_at positions j)) (sym (from_phasing i from)) ∙ end)))
         | inr one ↦ elim one [
           | inl dx ↦ inl (eqb-true _ _ dx)
           | inr rx ↦ inr (eqb-true _ _ rx)
@@ -92,8 +92,8 @@ passes-computed positions heard long is = record {
     from_message : (slot : ℕ) → message_slot ≤ slot → message_slot + (slot - message_slot) ≡ slot
     from_message slot h = omega arith
 
-    from_72 : (i : ℕ) → 72 ≤ i → 72 + (i - 72) ≡ i
-    from_72 i h = omega arith
+    from_phasing : (i : ℕ) → first_phasing ≤ i → first_phasing + (i - first_phasing) ≡ i
+    from_phasing i h = omega arith
 
 -- ---- the message may be sent, and is spelled so
 
@@ -158,13 +158,9 @@ example_sendable = record {
   of_one = record { some = λ e. cc; each = (refl, tt) };
   has_slots = lit≤ tt;
   sound = (example_lines, tt);
-  count = 102;
-  positions = record {
-    positions = layout (example_numbers ∷ []);
-    broadcast = record { spellings = example_numbers ∷ []; each = (example_spelled, tt); whole = refl };
-    counted = sym positions-example;
-  };
-  fits = lit≤ tt;
+  positions = layout (example_numbers ∷ []);
+  broadcast = record { spellings = example_numbers ∷ []; each = (example_spelled, tt); whole = refl };
+  fits = omega (arith, positions-example);
 }
 
 pub example_received : IsReceived example_emission

@@ -1,4 +1,4 @@
--- The positions of a broadcast: three of the end, and before them only phasing and combinations that are in the code.
+-- The positions of a broadcast: those of the end, and before them only phasing and combinations that are in the code.
 use Rattle.std.proofs.Common.{◌≡◌, ◌≢◌, ℕ, zero, suc, ◌+◌, ◌-◌, ◌/◌, ◌%◌, ◌<◌, ◌≤◌, List, [], ◌∷◌, ◌++◌, length, map, replicate, get_or, refl, sym, ap, ◌∙◌, subst, arith, append_assoc, lit≤}
 use Rattle.std.specs.List.{flat_map, AllByRecursion}
 use Rattle.std.proofs.lemmas.List.{length-append, get_or_append_left, get_or-append_right}
@@ -87,7 +87,7 @@ others-inner (m ∷ ms) [] h = absurd h
 others-inner (m ∷ ms) (s ∷ ss) h =
     each-append IsInner (phasing_and_message further_phasing s) (flat_map (phasing_and_message further_phasing) ss) (message-inner further_phasing m s h.0) (others-inner ms ss h.1)
 
--- positions that end with three of the end, and have none before
+-- positions that end with those of the end, and have none before
 pub record HasInner (positions : List SentPosition) : Type 0 where
   pub inner : List SentPosition
   pub each : AllByRecursion IsInner inner
@@ -113,11 +113,11 @@ get_or-replicate zero i = refl
 get_or-replicate (suc count) zero = refl
 get_or-replicate (suc count) (suc i) = get_or-replicate count i
 
-pub length-inner : (positions : List SentPosition) (h : HasInner positions) → length positions ≡ length h.inner + 3
+pub length-inner : (positions : List SentPosition) (h : HasInner positions) → length positions ≡ length h.inner + end_positions
 length-inner positions h = ap length h.whole ∙ length-append h.inner (replicate end_positions end_position)
 
--- before the last three positions there is none of the end
-pub position-inner : (positions : List SentPosition) → HasInner positions → (i : ℕ) → i + 3 < length positions → IsInner (position_at positions i)
+-- before the last positions there is none of the end
+pub position-inner : (positions : List SentPosition) → HasInner positions → (i : ℕ) → i + end_positions < length positions → IsInner (position_at positions i)
 position-inner positions h i lt =
     let n = length-inner positions h in
     let here : position_at positions i ≡ get_or h.inner i end_position =
@@ -125,11 +125,11 @@ position-inner positions h i lt =
     subst IsInner (sym here) (inner-at h.inner i h.each (omega arith))
 
 -- from there on there are only those of the end
-pub position-end : (positions : List SentPosition) → HasInner positions → (i : ℕ) → length positions ≤ i + 3 → position_at positions i ≡ end_position
+pub position-end : (positions : List SentPosition) → HasInner positions → (i : ℕ) → length positions ≤ i + end_positions → position_at positions i ≡ end_position
 position-end positions h i past =
     let n = length-inner positions h in
     ap (λ l. get_or l i end_position) h.whole ∙ get_or-append_right h.inner (replicate end_positions end_position) (length h.inner) i end_position refl (omega arith)
-    ∙ get_or-replicate 3 (i - length h.inner)
+    ∙ get_or-replicate end_positions (i - length h.inner)
 
 pub inner-no_end : (position : SentPosition) → IsInner position → position ≢ end_position
 inner-no_end phasing_position h e = cc

@@ -8,20 +8,20 @@ use Rattle.nx_code.specs.Word.{elements}
 use Rattle.nx_envelope.specs.Message.{MessageView}
 use Rattle.nx_fec.specs.Emission.{SentPosition, AreInCode, AreWords, IsInCode, bits_of, emission, position_at}
 use Rattle.nx_fec.proofs.EmissionLemmas.{AreWords-emission, get_or-emission, length-emission}
-use Rattle.nx_station.specs.Broadcast.{IsBroadcast, layout}
+use Rattle.nx_station.specs.Broadcast.{IsBroadcast, end_positions, layout}
 use Rattle.nx_station.specs.Channel.{PassesChannel, IsAsSent, first_slot, slots_of}
 use Rattle.nx_station.proofs.BroadcastLemmas.{spelled-some}
 use Rattle.nx_station.proofs.ChannelLaws.{inner-in_code}
-use Rattle.nx_station.proofs.ChannelPhasing.{received-long}
+use Rattle.nx_station.proofs.ChannelPhasing.{fewest_positions, received-long}
 use Rattle.nx_station.proofs.ChannelPositions.{HasInner, layout-inner, position-end, position-inner}
 
 inner-all_in_code : (positions : List SentPosition) → HasInner positions → AreInCode positions
-inner-all_in_code positions has i h = elim (cases_lt (i + 3) (length positions)) [
+inner-all_in_code positions has i h = elim (cases_lt (i + end_positions) (length positions)) [
   | inl inside ↦ inner-in_code (position_at positions i) (position-inner positions has i inside)
   | inr outside ↦ subst IsInCode (sym (position-end positions has i outside)) tt
 ]
 
-module _ (positions : List SentPosition) (has : HasInner positions) (long : 95 ≤ length positions) where
+module _ (positions : List SentPosition) (has : HasInner positions) (long : fewest_positions ≤ length positions) where
   all_as_sent : (slot : ℕ) → first_slot ≤ slot → slot < slots_of positions → IsAsSent positions (drop first_slot (emission positions)) slot
   all_as_sent slot from to =
       let e : first_slot + (slot - first_slot) ≡ slot = omega arith in

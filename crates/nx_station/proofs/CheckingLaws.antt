@@ -1,6 +1,5 @@
 -- What checking answers follows from what its steps said; and it gives back what was sent.
 use Rattle.std.proofs.Common.{◌≡◌, ℕ, ◌<◌, ◌≤◌, ◌^◌, Bool, List, [], ◌∷◌, ◌++◌, length, get_or, Result, Ok, Err, refl, sym, ap, ◌∙◌, subst, arith, length-append}
-use Rattle.std.specs.Io.KnownBytes.{Appends}
 use Rattle.nx_envelope.specs.Message.{MessageView}
 use Rattle.nx_fec.specs.AirFile.{moment}
 use Rattle.nx_fec.specs.BitLines.{bit_lines}
@@ -8,7 +7,7 @@ use Rattle.nx_fec.specs.Transfers.{WroteSome, Devices, IsReadOut, Reads}
 use Rattle.nx_fec.specs.Emission.{bits_of, emission}
 use Rattle.nx_fec.specs.Lines.{IsBitFile, IsFaultless, line_bytes}
 use Rattle.nx_fec.specs.Lines.{file_of as air_file_of}
-use Rattle.nx_fec.specs.Runs.{IsOutside}
+use Rattle.nx_fec.specs.Runs.{IsOutside, file_limit}
 use Rattle.nx_fec.specs.declared.fault.RunFault.{RunFault}
 use Rattle.nx_fec.specs.declared.fault.RunFault.TheVariants as run
 use Rattle.nx_fec.proofs.EncodingLaws.{bit_lines-IsBitFile}
@@ -43,7 +42,7 @@ write-read written e = cc
 
 -- the elements have a fault
 pub unread : {R W N : Type 0} (d : Devices R W) (bits : N) (items given : List Bool) (fault : EmissionFault)
-    → Reads d.remaining d.reader d.reader_after run.Read IsOutside (as_read {N = N} (Ok bits)) (IsFaultless 1048576) (λ bytes. IsReadOut d × IsBitFile 1048576 bytes items) (λ bytes. IsBitFile 1048576 bytes items)
+    → Reads d.remaining d.reader d.reader_after run.Read IsOutside (as_read {N = N} (Ok bits)) (IsFaultless file_limit) (λ bytes. IsReadOut d × IsBitFile file_limit bytes items) (λ bytes. IsBitFile file_limit bytes items)
     → d.writer_after ≡ d.writer → d.writer.failures ≡ 0 → given ≡ items → ExplainsEmission given fault → Checks d (Err (Emission fault))
 unread d bits items given fault reads same none is explains =
     let h = subst (λ l. ExplainsEmission l fault) is explains in record {
@@ -61,7 +60,7 @@ pub record AreReported (items : List Bool) (text : List ℕ) (count : ℕ) : Typ
   pub whole : text ≡ report station messages
   pub counted : count ≡ length messages
 
-checked-of : (air : List ℕ) (items : List Bool) (text : List ℕ) (count : ℕ) → IsBitFile 1048576 air items → AreReported items text count → IsChecked 1048576 air text count
+checked-of : (air : List ℕ) (items : List Bool) (text : List ℕ) (count : ℕ) → IsBitFile file_limit air items → AreReported items text count → IsChecked file_limit air text count
 checked-of air items text count file h = record {
   bits = items;
   file = file;
@@ -75,7 +74,7 @@ checked-of air items text count file h = record {
 
 -- the report is written in part
 pub unwritten : {R W N : Type 0} (d : Devices R W) (bits : N) (items : List Bool) (text : List ℕ) (count written : ℕ)
-    → Reads d.remaining d.reader d.reader_after run.Read IsOutside (as_read {N = N} (Ok bits)) (IsFaultless 1048576) (λ bytes. IsReadOut d × IsBitFile 1048576 bytes items) (λ bytes. IsBitFile 1048576 bytes items)
+    → Reads d.remaining d.reader d.reader_after run.Read IsOutside (as_read {N = N} (Ok bits)) (IsFaultless file_limit) (λ bytes. IsReadOut d × IsBitFile file_limit bytes items) (λ bytes. IsBitFile file_limit bytes items)
     → d.writer_after.failures ≡ 1 → AreReported items text count → WroteSome (d.contents d.writer.inner) (d.contents d.writer_after.inner) text written
     → Checks d (Err (Run (run.Write written)))
 unwritten d bits items text count written reads one is wrote = record {

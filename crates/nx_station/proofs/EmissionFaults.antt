@@ -89,10 +89,10 @@ read-one bits messages other h k = printed-one messages other h.sound k.sendable
 unsendable : (messages : List MessageView) (why : SendFault) → IsRefusal messages why → IsSendable messages → unread_fault why ≡ BadEnvelope → ⊥
 unsendable messages refusal.NoMessages h k e = k.of_one.some h
 unsendable messages (refusal.MixedStations at) h k e = of_one-None k.station messages at k.of_one h
-unsendable messages refusal.NoSlot h k e = h.without (subst HasSlots (same-station k.station h.station messages k.of_one h.of_one) k.has_slots)
+unsendable messages refusal.NoSlot h k e = h.2 (subst HasSlots (same-station k.station h.0 messages k.of_one h.1) k.has_slots)
 unsendable messages (refusal.SlotFull count) h k e =
-    let same = broadcast-one messages h.positions.positions k.positions.positions h.positions.broadcast k.positions.broadcast in
-    omega (arith, h.too_many, k.fits, h.positions.counted, k.positions.counted, ap length same)
+    let same = broadcast-one messages h.positions.0 k.positions h.positions.1 k.broadcast in
+    omega (arith, h.too_many, k.fits, h.positions.2, ap length same)
 unsendable messages (refusal.Memory error) h k e = cc
 
 refused : (bits : List Bool) (messages : List MessageView) (why : SendFault) → AreRead bits messages → IsRefusal messages why → unread_fault why ≡ BadEnvelope → ExplainsEmission bits BadEnvelope

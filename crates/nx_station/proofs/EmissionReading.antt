@@ -4,19 +4,16 @@ use Rattle.std.specs.List.{flat_map, AllByRecursion}
 use Rattle.std.proofs.lemmas.Bool.{cases_lt, cases_eq}
 use Rattle.std.proofs.lemmas.List.{map-append, take_at}
 use Rattle.std.proofs.lemmas.List.Elements.{All-from_recursion}
-use Rattle.nx_code.specs.Reading.{combination, idle, shift_after, shift_after_all, text}
-use Rattle.nx_code.specs.Spelling.{EachFits}
+use Rattle.nx_code.specs.Reading.{idle, text}
 use Rattle.nx_code.specs.Word.{weight}
-use Rattle.nx_code.specs.declared.shifts.Shift.{Shift}
-use Rattle.nx_code.specs.declared.shifts.Shift.TheVariants.{Letters, Figures}
+use Rattle.nx_code.specs.declared.shifts.Shift.TheVariants.{Letters}
 use Rattle.nx_code.proofs.ReadingLemmas.{text-append}
 use Rattle.nx_envelope.specs.Message.{MessageView}
-use Rattle.nx_envelope.specs.declared.identity.Identity.{Identity}
 use Rattle.nx_fec.specs.Aligned.{aligned_text, words_of}
 use Rattle.nx_fec.specs.Emission.{SentPosition, AreInCode, IsInCode, bits_of, emission, end_position, phasing_position, position_at, reception, traffic_position, word_sent}
 use Rattle.nx_fec.proofs.EmissionLemmas.{AreWords-emission, IsEmission-emission, get_or-emission, length-emission, word_sent-dx, word_sent-rx}
 use Rattle.nx_fec.proofs.RoundTripLemmas.{length-bits_of, receptions-IsEmission, words_of-bits_of}
-use Rattle.nx_station.specs.Broadcast.{AreSpelled, IsBroadcast, IsSpelled, ending, head, layout, letter_combination, phasing_and_message, printed_text, first_phasing, further_phasing, end_positions}
+use Rattle.nx_station.specs.Broadcast.{AreSpelled, IsBroadcast, IsSpelled, layout, phasing_and_message, printed_text, first_phasing, further_phasing, end_positions}
 use Rattle.nx_station.specs.StrictReading.{IsEmissionOf, AreRight, ArePaired, AreWhole, IsPair}
 use Rattle.nx_station.proofs.ChannelPositions.{spelled-combinations}
 use Rattle.nx_station.proofs.PrintedText.{printed-one}
@@ -89,9 +86,9 @@ front-text : (positions front : List SentPosition) → positions ≡ front ++ re
 front-text positions front whole code =
     let count = ap length whole in
     let long = length-append front (replicate end_positions end_position) in
-    let three : 3 ≤ length positions = omega (arith, count, long) in
-    let n : length front ≡ length positions - 3 = omega (arith, count, long) in
-    let taken : take (length positions - 3) positions ≡ front = ap (take (length positions - 3)) whole ∙ take_at front (replicate end_positions end_position) (length positions - 3) n in
+    let three : end_positions ≤ length positions = omega (arith, count, long) in
+    let n : length front ≡ length positions - end_positions = omega (arith, count, long) in
+    let taken : take (length positions - end_positions) positions ≡ front = ap (take (length positions - end_positions)) whole ∙ take_at front (replicate end_positions end_position) (length positions - end_positions) n in
     ap aligned_text (words_of-bits_of (emission positions) (AreWords-emission positions code))
     ∙ ap (λ l. text l Letters) (receptions-IsEmission positions (emission positions) (IsEmission-emission positions) code three)
     ∙ ap (λ l. text (idle ∷ idle ∷ map reception l) Letters) taken

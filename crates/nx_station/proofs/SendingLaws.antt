@@ -10,20 +10,20 @@ use Rattle.nx_fec.specs.Emission.{SentPosition, bits_of, emission}
 use Rattle.nx_fec.specs.BitLines.{bit_lines}
 use Rattle.nx_fec.specs.Lines.{file_of, line_bytes}
 use Rattle.nx_fec.specs.AirFile.{moment}
-use Rattle.nx_fec.specs.Runs.{ExplainsWhole, IsOutsideWhole, IsWithin}
+use Rattle.nx_fec.specs.Runs.{ExplainsWhole, IsOutsideWhole, IsWithin, file_limit}
 use Rattle.nx_fec.specs.declared.fault.ReadFault.{ReadFault}
 use Rattle.nx_fec.specs.declared.fault.ReadFault.TheVariants as read
 use Rattle.nx_fec.proofs.TransferLaws.{Reads-on}
 use Rattle.nx_station.specs.Broadcast.{IsBroadcast}
 use Rattle.nx_station.specs.Faults.{read_fault, send_fault}
 use Rattle.nx_station.specs.MessageFile.{IsMessageFile, file_message_of}
-use Rattle.nx_station.specs.FileSending.{ExplainsFile, ExplainsSending, IsOutside, IsTransmission, Sends}
+use Rattle.nx_station.specs.FileSending.{ExplainsSending, IsOutside, IsTransmission, Sends}
 use Rattle.nx_station.specs.Sendable.{AreOf, IsRefusal, IsSendable, first_of_another, HasSlots}
 use Rattle.nx_station.specs.Slots.{IsNextSlot}
 use Rattle.nx_station.specs.declared.fault.SendFault.{SendFault}
 use Rattle.nx_station.specs.declared.fault.SendFault.TheVariants as refusal
 use Rattle.nx_station.specs.declared.fault.SendRunFault.{SendRunFault}
-use Rattle.nx_station.specs.declared.fault.SendRunFault.TheVariants.{Read, FileTooLong, BadLine, Text, LineCut, Open, Send, Write, Memory}
+use Rattle.nx_station.specs.declared.fault.SendRunFault.TheVariants.{Read, Write}
 use Rattle.nx_station.specs.declared.sending.Sent.{Sent}
 
 -- an outcome of reading a file whole
@@ -53,8 +53,8 @@ write-read written e = cc
 
 -- ---- the file isn't read whole
 
-whole-explains : (AtEnd : Type 0) (station from : ℕ) (bytes : List ℕ) (old new : Option (List ℕ)) (why : ReadFault) → ExplainsWhole 1048576 bytes why
-    → ExplainsSending AtEnd 1048576 station from bytes old new (read_fault why)
+whole-explains : (AtEnd : Type 0) (station from : ℕ) (bytes : List ℕ) (old new : Option (List ℕ)) (why : ReadFault) → ExplainsWhole file_limit bytes why
+    → ExplainsSending AtEnd file_limit station from bytes old new (read_fault why)
 whole-explains AtEnd station from bytes old new read.Read h = tt
 whole-explains AtEnd station from bytes old new read.FileTooLong h = h
 whole-explains AtEnd station from bytes old new (read.Memory error) h = tt
@@ -78,7 +78,7 @@ whole-write read.FileTooLong written e = cc
 whole-write (read.Memory error) written e = cc
 
 pub unread : {R W N : Type 0} (d : Devices R W) (station from : ℕ) (why : ReadFault)
-    → Reads d.remaining d.reader d.reader_after read.Read IsOutsideWhole (as_read {N = N} (Err why)) (IsWithin 1048576) (λ bytes. ExplainsWhole 1048576 bytes why) (λ bytes. ExplainsWhole 1048576 bytes why)
+    → Reads d.remaining d.reader d.reader_after read.Read IsOutsideWhole (as_read {N = N} (Err why)) (IsWithin file_limit) (λ bytes. ExplainsWhole file_limit bytes why) (λ bytes. ExplainsWhole file_limit bytes why)
     → d.writer_after ≡ d.writer → d.writer.failures ≡ 0 → Sends d station from (Err (read_fault why))
 unread d station from why reads same none = record {
   reads = Reads-on _ _ _ _ _ _ _ _ _ _ _ reads (λ bytes k. whole-explains _ station from bytes _ _ why k) (λ bytes k. whole-explains _ station from bytes _ _ why k) (λ bytes k h outside. h (whole-outside why outside)) (whole-read why) (read-whole why);
@@ -90,14 +90,14 @@ unread d station from why reads same none = record {
 
 -- the fault comes before anything is written
 pub unsent : {R W N : Type 0} (d : Devices R W) (station from : ℕ) (text : N) (items : List ℕ) (fault : SendRunFault)
-    → Reads d.remaining d.reader d.reader_after read.Read IsOutsideWhole (as_read {N = N} (Ok text)) (IsWithin 1048576) (λ bytes. IsReadOut d × (length bytes ≤ 1048576) × (items ≡ bytes)) (λ bytes. (length bytes ≤ 1048576) × (items ≡ bytes))
+    → Reads d.remaining d.reader d.reader_after read.Read IsOutsideWhole (as_read {N = N} (Ok text)) (IsWithin file_limit) (λ bytes. IsReadOut d × (length bytes ≤ file_limit) × (items ≡ bytes)) (λ bytes. (length bytes ≤ file_limit) × (items ≡ bytes))
     → d.writer_after ≡ d.writer → d.writer.failures ≡ 0 → IsInside fault
-    → ((AtEnd : Type 0) → AtEnd → length items ≤ 1048576 → ExplainsSending AtEnd 1048576 station from items (d.contents d.writer.inner) (d.contents d.writer_after.inner) fault)
+    → ((AtEnd : Type 0) → AtEnd → length items ≤ file_limit → ExplainsSending AtEnd file_limit station from items (d.contents d.writer.inner) (d.contents d.writer_after.inner) fault)
     → Sends d station from (Err fault)
 unsent d station from text items fault reads same none inside explains = record {
   reads = Reads-on _ _ _ _ _ _ _ _ _ _ _ reads
-      (λ bytes k. subst (λ l. ExplainsSending (IsReadOut d) 1048576 station from l (d.contents d.writer.inner) (d.contents d.writer_after.inner) fault) k.2 (explains (IsReadOut d) k.0 (subst (λ l. length l ≤ 1048576) (sym k.2) k.1)))
-      (λ bytes k. subst (λ l. ExplainsSending (Unit {0}) 1048576 station from l (d.contents d.writer.inner) (d.contents d.writer_after.inner) fault) k.1 (explains (Unit {0}) tt (subst (λ l. length l ≤ 1048576) (sym k.1) k.0)))
+      (λ bytes k. subst (λ l. ExplainsSending (IsReadOut d) file_limit station from l (d.contents d.writer.inner) (d.contents d.writer_after.inner) fault) k.2 (explains (IsReadOut d) k.0 (subst (λ l. length l ≤ file_limit) (sym k.2) k.1)))
+      (λ bytes k. subst (λ l. ExplainsSending (Unit {0}) file_limit station from l (d.contents d.writer.inner) (d.contents d.writer_after.inner) fault) k.1 (explains (Unit {0}) tt (subst (λ l. length l ≤ file_limit) (sym k.1) k.0)))
       (λ bytes k h outside. k.1) (λ e. absurd (inside-read fault inside e)) (λ e. absurd (ok-read text e));
   writes = record { failed = (λ w. absurd (inside-write fault w.0 inside w.1), λ one. absurd (omega (arith, ap (λ x. x.failures) same, none, one))); once = omega (arith, ap (λ x. x.failures) same, none) };
   unwritten = λ other. same;
@@ -105,7 +105,7 @@ unsent d station from text items fault reads same none inside explains = record 
 
 -- the file is written, or a part of it
 pub unwritten : {R W N : Type 0} (d : Devices R W) (station from : ℕ) (text : N) (items air : List ℕ) (sent : Sent) (written : ℕ)
-    → Reads d.remaining d.reader d.reader_after read.Read IsOutsideWhole (as_read {N = N} (Ok text)) (IsWithin 1048576) (λ bytes. IsReadOut d × (length bytes ≤ 1048576) × (items ≡ bytes)) (λ bytes. (length bytes ≤ 1048576) × (items ≡ bytes))
+    → Reads d.remaining d.reader d.reader_after read.Read IsOutsideWhole (as_read {N = N} (Ok text)) (IsWithin file_limit) (λ bytes. IsReadOut d × (length bytes ≤ file_limit) × (items ≡ bytes)) (λ bytes. (length bytes ≤ file_limit) × (items ≡ bytes))
     → d.writer_after.failures ≡ 1 → IsTransmission station from items air sent → WroteSome (d.contents d.writer.inner) (d.contents d.writer_after.inner) air written
     → Sends d station from (Err (Write written))
 unwritten d station from text items air sent written reads one is wrote = record {
@@ -118,7 +118,7 @@ unwritten d station from text items air sent written reads one is wrote = record
 }
 
 pub sent-all : {R W N : Type 0} (d : Devices R W) (station from : ℕ) (text : N) (items air : List ℕ) (sent : Sent)
-    → Reads d.remaining d.reader d.reader_after read.Read IsOutsideWhole (as_read {N = N} (Ok text)) (IsWithin 1048576) (λ bytes. IsReadOut d × (length bytes ≤ 1048576) × (items ≡ bytes)) (λ bytes. (length bytes ≤ 1048576) × (items ≡ bytes))
+    → Reads d.remaining d.reader d.reader_after read.Read IsOutsideWhole (as_read {N = N} (Ok text)) (IsWithin file_limit) (λ bytes. IsReadOut d × (length bytes ≤ file_limit) × (items ≡ bytes)) (λ bytes. (length bytes ≤ file_limit) × (items ≡ bytes))
     → d.writer_after.failures ≡ 0 → IsTransmission station from items air sent → Appends (d.contents d.writer.inner) (d.contents d.writer_after.inner) air
     → Sends d station from (Ok sent)
 sent-all d station from text items air sent reads none is wrote = record {
@@ -143,12 +143,12 @@ pub same-station : (one other : ℕ) (messages : List MessageView) → AreOf one
 same-station one other [] h k = absurd (h.some refl)
 same-station one other (m ∷ ms) h k = sym h.each.0 ∙ k.each.0
 
-pub refusal-explains : (AtEnd : Type 0) (station from slot : ℕ) (file : List ℕ) (messages : List MessageView) (old new : Option (List ℕ)) (why : SendFault) → AtEnd → length file ≤ 1048576
-    → IsMessageFile file (map file_message_of messages) → AreOf station messages → IsNextSlot station from slot → IsRefusal messages why → ExplainsSending AtEnd 1048576 station from file old new (send_fault why)
+pub refusal-explains : (AtEnd : Type 0) (station from slot : ℕ) (file : List ℕ) (messages : List MessageView) (old new : Option (List ℕ)) (why : SendFault) → AtEnd → length file ≤ file_limit
+    → IsMessageFile file (map file_message_of messages) → AreOf station messages → IsNextSlot station from slot → IsRefusal messages why → ExplainsSending AtEnd file_limit station from file old new (send_fault why)
 refusal-explains AtEnd station from slot file messages old new refusal.NoMessages end few is of next h = absurd (of.some h)
 refusal-explains AtEnd station from slot file messages old new (refusal.MixedStations at) end few is of next h = absurd (of_one-None station messages at of h)
 refusal-explains AtEnd station from slot file messages old new refusal.NoSlot end few is of next h =
-    absurd (h.without (subst HasSlots (same-station station h.station messages of h.of_one) next.is_slot.has_slots))
+    absurd (h.2 (subst HasSlots (same-station station h.0 messages of h.1) next.is_slot.has_slots))
 refusal-explains AtEnd station from slot file messages old new (refusal.SlotFull count) end few is of next h =
     (end, few, record { messages = messages; is_file = is; of_station = of; slot = slot; next = next; positions = h.positions; too_many = h.too_many })
 refusal-explains AtEnd station from slot file messages old new (refusal.Memory error) end few is of next h = tt

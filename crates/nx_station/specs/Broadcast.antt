@@ -1,8 +1,8 @@
 -- The positions of a message and of a list of messages (ITU-R M.540, form of a message; ITU-R
 -- M.625, mode B, for phasing and the end; how many positions of phasing are sent is this
 -- profile's).
-use Rattle.std.specs.Prelude.{◌≡◌, ℕ, ◌-◌, ◌/◌, ◌%◌, List, [], ◌∷◌, ◌++◌, length, map, replicate, slice_index}
-use Rattle.std.specs.List.{flat_map}
+use Rattle.std.specs.Prelude.{◌≡◌, ℕ, ◌-◌, ◌/◌, ◌%◌, List, [], ◌∷◌, ◌++◌, map, replicate, slice_index}
+use Rattle.std.specs.List.{AllZip, flat_map}
 use Rattle.nx_code.specs.Reading.{combination, shift_after_all}
 use Rattle.nx_code.specs.Spelling.{Spells}
 use Rattle.nx_code.specs.declared.shifts.Shift.{Shift}
@@ -45,11 +45,7 @@ pub record IsSpelled (message : MessageView) (numbers : List ℕ) : Type 0 where
 
 -- the combinations of each message of a list, in order
 abbrev pub AreSpelled : List MessageView → List (List ℕ) → Type 0
-AreSpelled [] [] = Unit {0}
-AreSpelled [] (numbers ∷ spellings) = ⊥
-AreSpelled (message ∷ messages) [] = ⊥
-AreSpelled (message ∷ messages) (numbers ∷ spellings) =
-    IsSpelled message numbers × AreSpelled messages spellings
+AreSpelled = AllZip IsSpelled
 
 -- how many positions of phasing come before the first message, and before each further one, and how
 -- many positions end an emission

@@ -20,12 +20,6 @@ pub record AreOf (station : ℕ) (messages : List MessageView) : Type 0 where
   pub some : messages ≢ []
   pub each : AllByRecursion (λ (message : MessageView). message.identity.b1.byte ≡ station) messages
 
--- the messages have so many positions
-pub record HavePositions (messages : List MessageView) (count : ℕ) : Type 0 where
-  pub positions : List SentPosition
-  pub broadcast : IsBroadcast messages positions
-  pub counted : count ≡ length positions
-
 -- a station may send the messages: they are some, all of one station that has slots, and fit into a
 -- slot
 pub record IsSendable (messages : List MessageView) : Type 0 where
@@ -33,9 +27,14 @@ pub record IsSendable (messages : List MessageView) : Type 0 where
   pub of_one : AreOf station messages
   pub has_slots : HasSlots station
   pub sound : AllByRecursion (λ (message : MessageView). AreLines message.lines) messages
-  pub count : ℕ
-  pub positions : HavePositions messages count
-  pub fits : count ≤ max_positions
+  pub positions : List SentPosition
+  pub broadcast : IsBroadcast messages positions
+  pub fits : length positions ≤ max_positions
+
+-- the messages have so many positions
+abbrev pub HavePositions : List MessageView → ℕ → Type 0
+HavePositions messages count =
+    (positions : List SentPosition) × IsBroadcast messages positions × (count ≡ length positions)
 
 -- the least index of a message whose station isn't that of the first
 abbrev pub first_of_another : List MessageView → Option ℕ
@@ -45,12 +44,6 @@ first_of_another (first ∷ messages) =
     (λ (message : MessageView). not (message.identity.b1.byte == first.identity.b1.byte))
     (first ∷ messages)
 
--- the messages are of one station, which has no slots
-pub record HaveNoSlot (messages : List MessageView) : Type 0 where
-  pub station : ℕ
-  pub of_one : AreOf station messages
-  pub without : ¬ HasSlots station
-
 -- the messages are of one station, which has slots, and have so many positions, too many for a slot
 pub record FillSlot (messages : List MessageView) (count : ℕ) : Type 0 where
   pub station : ℕ
@@ -59,10 +52,11 @@ pub record FillSlot (messages : List MessageView) (count : ℕ) : Type 0 where
   pub positions : HavePositions messages count
   pub too_many : max_positions < count
 
--- what a refusal says of the messages; want of memory says that they may be sent
+-- what a refusal says of the messages, `NoSlot` that they are of one station, which has no slots;
+-- want of memory says that they may be sent
 abbrev pub IsRefusal : List MessageView → SendFault → Type 0
 IsRefusal messages NoMessages = messages ≡ []
 IsRefusal messages (MixedStations at) = first_of_another messages ≡ Some at
-IsRefusal messages NoSlot = HaveNoSlot messages
+IsRefusal messages NoSlot = (station : ℕ) × AreOf station messages × (¬ HasSlots station)
 IsRefusal messages (SlotFull positions) = FillSlot messages positions
 IsRefusal messages (Memory error) = IsSendable messages

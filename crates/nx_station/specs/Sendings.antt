@@ -4,12 +4,12 @@ use Rattle.std.specs.Prelude.{◌≡◌, ℕ, ◌+◌, ◌-◌, ◌*◌, Bool, L
 use Rattle.std.specs.List.{AllByRecursion, flat_map}
 use Rattle.nx_fec.specs.Emission.{SentPosition, traffic_position, bits_of}
 use Rattle.nx_envelope.specs.Message.{MessageView}
-use Rattle.nx_station.specs.Broadcast.{AreSpelled, IsSpelled, first_phasing, further_phasing, layout}
+use Rattle.nx_station.specs.Broadcast.{AreSpelled, IsSpelled, end_positions, first_phasing, further_phasing, layout}
 use Rattle.nx_station.specs.Channel.{PassesChannel, first_slot}
 use Rattle.nx_station.specs.Sendable.{IsSendable}
 
 -- an emission that is received: its messages, the combinations of each, and the words that are
--- heard from slot 96 on
+-- heard from the first slot on
 pub record ReceivedEmission : Type 0 where
   pub messages : List MessageView
   pub spellings : List (List ℕ)
@@ -27,7 +27,7 @@ pub data Part : Type 0 where
   gap : List Bool → Part
   received : ReceivedEmission → Part
 
--- the bits of a part: those of an emission are the bits of its words from slot 96 on
+-- the bits of a part: those of an emission are the bits of its words from the first slot on
 abbrev pub part_bits : Part → List Bool
 part_bits (gap bits) = bits
 part_bits (received emission) = bits_of emission.heard
@@ -49,28 +49,32 @@ pub record IsCut (bits : List Bool) (parts : List Part) : Type 0 where
 -- phasing before the first message, and that before each further one
 abbrev pub positions_before : List (List ℕ) → ℕ
 positions_before [] = first_phasing
-positions_before (numbers ∷ spellings) = (length numbers + further_phasing) + positions_before spellings
+positions_before (numbers ∷ more) = (length numbers + further_phasing) + positions_before more
 
 -- the slot of the RX of the second digit of message i, which is position 10 of the message
 abbrev pub digit_slot : List (List ℕ) → ℕ → ℕ
 digit_slot spellings i = 2 * (positions_before (take i spellings) + 10) + 5
 
--- A message that is sent, and the place of its header: the index, among all bits, of the last bit
--- of the RX word of its second digit.
-pub record Sending : Type 0 where
-  pub message : MessageView
-  pub place : ℕ
-
--- the sending is the message of this index in a received emission that is one of these parts
-pub record IsSending (parts : List Part) (sending : Sending) : Type 0 where
+-- The message is sent in a received emission that is one of these parts, as the message of this
+-- index; and its header is at this place: the index, among all bits, of the last bit of the RX word
+-- of its second digit.
+pub record IsSentAt (parts : List Part) (sent : MessageView) (at : ℕ) : Type 0 where
   pub before : List Part
   pub emission : ReceivedEmission
   pub after : List Part
   pub among : parts ≡ before ++ received emission ∷ after
   pub index : ℕ
-  pub message : slice_get emission.messages index ≡ Some sending.message
-  pub place : sending.place ≡ length (bits_of_parts before)
+  pub message : slice_get emission.messages index ≡ Some sent
+  pub place : at ≡ length (bits_of_parts before)
       + 7 * (digit_slot emission.spellings index - first_slot) + 6
+
+-- a message that is sent, and the place of its header
+pub record Sending : Type 0 where
+  pub message : MessageView
+  pub place : ℕ
+
+abbrev pub IsSending : List Part → Sending → Type 0
+IsSending parts sending = IsSentAt parts sending.message sending.place
 
 -- a message stands in the positions from a place on: its combinations are sent there, one after
 -- another
@@ -82,10 +86,5 @@ pub record StandsFrom (positions : List SentPosition) (message : MessageView) (f
   pub back : List SentPosition
   pub whole : positions ≡ front ++ (map traffic_position numbers ++ back)
   pub place : length front ≡ from
-  -- three positions of the end, at least, come after it
-  pub ended : 3 ≤ length back
-
--- the message is sent in one of the received emissions, with the second digit of its header at this
--- place
-abbrev pub IsSentAt : List Part → MessageView → ℕ → Type 0
-IsSentAt parts message place = IsSending parts (record { message = message; place = place })
+  -- the positions of the end, at least, come after it
+  pub ended : end_positions ≤ length back

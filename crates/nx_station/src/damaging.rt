@@ -87,7 +87,8 @@ struct Named {
 /// Copies an air file line by line, and inverts element 1 of each word k with `k >= from` and `k -
 /// from < count` that the kind names. Word k is the elements 7k to 7k+6 of all lines of elements
 /// together; an incomplete last word is treated alike. Answers how many elements it inverted. It
-/// takes no memory, and holds no more than a piece of the file, a line, and what waits to be written.
+/// takes no memory, and holds no more than a piece of the file, a line, and what waits to be
+/// written.
 ///
 /// The faults are those of an air file of at most 268,435,456 bytes, in the order of its bytes:
 /// `AirTooLong`, `LineLong`, `LineCut`, `BadLine`; `Read` where a read failed. The whole lines

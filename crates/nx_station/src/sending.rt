@@ -1,9 +1,9 @@
 //! Sending: from a message file to the air file of its emission.
-ghost use Rattle.std.specs.Prelude.{◌≡◌, ◌≤◌, ◌↔◌, ◌++◌, IfErr, IfOk, IsErr, OnOk};
+ghost use Rattle.std.specs.Prelude.{◌≡◌, ◌++◌, IfErr, IfOk, OnOk};
 ghost use Rattle.std.specs.Io.KnownBytes.{Appends};
 ghost use Rattle.nx_fec.specs.AirFile.{moment};
 ghost use Rattle.nx_fec.specs.BitLines.{bit_lines};
-ghost use Rattle.nx_fec.specs.Transfers.{WroteSome, devices};
+ghost use Rattle.nx_fec.specs.Transfers.{FailsOnce, WroteSome, devices};
 ghost use Rattle.nx_fec.specs.Lines.{file_of, line_bytes};
 ghost use Rattle.nx_station.specs.FileSending.{Sends};
 
@@ -86,9 +86,7 @@ fn write_air<W: Write>(
     ensures err { IfErr result (λ fault.
         WroteSome (W.contents writer.old.inner) (W.contents writer.new.inner)
         (line.now ++ file_of (bit_lines bits.now)) fault.written) }
-    ensures failed { IsErr result ↔ (writer.new.failures ≡ 1) }
-    ensures once { writer.new.failures ≤ 1 }
-    ensures none { OnOk result (writer.new.failures ≡ 0) }
+    ensures counts { FailsOnce writer.new result }
 {
     write_out(writer, line)?;
     match write_bits(writer, bits) {

@@ -6,7 +6,7 @@ use Rattle.std.proofs.Math.Pow.{shl_lt}
 use Rattle.std.proofs.Math.Seq.{take-add}
 use Rattle.std.proofs.lemmas.Bool.{cases_eq, cases_Bool, both_ways, agree_below_at, ne_eqb}
 use Rattle.std.proofs.lemmas.List.{drop-append-le, take_at, take_all}
-use Rattle.nx_code.specs.Word.{number_of, elements_from}
+use Rattle.nx_code.specs.Word.{number_of, elements_from, elements}
 use Rattle.nx_sync.specs.Locks.{before_dx, before_rx}
 use Rattle.nx_sync.specs.Windows.{window_before_dx, window_before_rx, is_lock_window}
 use Rattle.nx_sync.specs.private.Windows.{blocks, is_one_of, is_block, next_window, window_after}
@@ -32,11 +32,11 @@ last_ten xs bits l few pattern e =
 
 -- ten elements in a row of the patterns
 in_before_dx : (i : ℕ) → i < 19 → is_block (number_of (take 10 (drop i before_dx))) ≡ true
-unfolding number_of before_dx blocks is_one_of
+unfolding number_of before_dx blocks is_one_of elements elements_from
 in_before_dx i h = agree_below_at (λ i. is_block (number_of (take 10 (drop i before_dx)))) (λ _. true) 19 i refl h
 
 in_before_rx : (i : ℕ) → i < 19 → is_block (number_of (take 10 (drop i before_rx))) ≡ true
-unfolding number_of before_rx blocks is_one_of
+unfolding number_of before_rx blocks is_one_of elements elements_from
 in_before_rx i h = agree_below_at (λ i. is_block (number_of (take 10 (drop i before_rx)))) (λ _. true) 19 i refl h
 
 locks_in_block : (xs bits : List Bool) → length xs ≡ 28 → length bits ≤ 18 → is_lock_window (number_of (drop (length bits) xs ++ bits)) ≡ true → is_block (number_of xs / 2 ^ 18) ≡ true

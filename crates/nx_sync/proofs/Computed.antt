@@ -8,7 +8,8 @@ use Rattle.nx_sync.specs.declared.step.Change.TheVariants.{Locked, Ended, LostLo
 use Rattle.nx_code.specs.Table.{phasing_1}
 use Rattle.nx_sync.specs.Words.{losing_count, is_dx, role_of, wrong_until, word_of_lock, first_role}
 use Rattle.nx_sync.specs.private.Releases.{releases_as_ended, change_at, release}
-use Rattle.nx_sync.specs.Locks.{IsSecondPhasing1, EndedAt, LostAt, IsEarlier, ended, lost, IsReleased, Holds}
+use Rattle.nx_sync.specs.Locks.{IsSecondPhasing1, EndedAt, LostAt, IsEarlier, ended, lost, IsReleased}
+use Rattle.nx_sync.specs.Laws.{Holds}
 
 -- the least number that passes a test, if one below n does
 pub data Least (f : ℕ → Bool) (n : ℕ) : Type 0 where
@@ -204,15 +205,13 @@ module _ (bits : List Bool) (t : ℕ) where
       brings_none None e = e
       brings_none (Some how) e =
           let least = least_released k how heard e in
-          absurd (held.never least.0 least.2.0 least.2.1)
+          absurd (held least.0 least.2.0 least.2.1)
 
   pub holds-to : ((k : ℕ) → t + 7 * (k + 1) ≤ length bits → release bits t k ≡ None) → Holds bits t
-  holds-to quiet = record {
-    never = λ w how r.
-        let a : release bits t w ≡ None = quiet w r.heard in
-        let b : release bits t w ≡ Some how = (released-from w how r).here in
-        cc;
-  }
+  holds-to quiet w how r =
+      let a : release bits t w ≡ None = quiet w r.heard in
+      let b : release bits t w ≡ Some how = (released-from w how r).here in
+      cc
 
   -- one word releases a lock, in one way
   pub released-word : (v w : ℕ) (how other : Change) → IsReleased bits t v how → IsReleased bits t w other → v ≡ w
@@ -244,7 +243,7 @@ module _ (bits : List Bool) (t : ℕ) where
 
   pub neither-held : ((w : ℕ) → t + 7 * (w + 1) ≤ length bits
       → (EndedAt (first_role bits t) (word_of_lock bits t) w → ⊥) × (LostAt (word_of_lock bits t) w → ⊥)) → Holds bits t
-  neither-held quiet = record { never = λ w how r. by_kind w how r.heard r.earlier }
+  neither-held quiet = λ w how r. by_kind w how r.heard r.earlier
     where
       by_kind : (w : ℕ) (how : Change) → t + 7 * (w + 1) ≤ length bits
           → IsEarlier (first_role bits t) (word_of_lock bits t) w how → ⊥

@@ -1,8 +1,12 @@
 -- Counts of wrong words, and roles of later words.
-use Rattle.std.proofs.Common.{◌≡◌, ℕ, zero, suc, ◌+◌, ◌*◌, ◌<◌, ◌≤◌, Bool, true, false, refl, ap, ◌∙◌, arith}
+use Rattle.std.proofs.Common.{◌≡◌, ℕ, zero, suc, ◌+◌, ◌*◌, ◌<◌, ◌≤◌, if◌then◌else◌, Bool, true, false, refl, ap, ◌∙◌, arith}
 use Rattle.nx_sync.specs.declared.step.Role.{Role}
 use Rattle.nx_sync.specs.declared.step.Role.TheVariants.{Dx, Rx}
-use Rattle.nx_sync.specs.Words.{other_role, is_wrong, one_if, role_of, wrong_in}
+use Rattle.nx_sync.specs.Words.{other_role, role_of}
+use Rattle.nx_code.specs.Word.{is_wrong, wrong_in}
+
+abbrev pub one_if : Bool → ℕ
+one_if b = if b then 1 else 0
 
 -- a run of words in two parts
 pub wrong_in-add : (f : ℕ → ℕ) (i a b : ℕ) → wrong_in f i (a + b) ≡ wrong_in f i a + wrong_in f (i + a) b

@@ -2,12 +2,12 @@
 use Rattle.std.proofs.Common.{◌≡◌, ◌==◌, ◌||◌, [], ◌∷◌, ◌++◌, ℕ, Bool, is_some, true, false, refl, inl, arith, Some, if◌then◌else◌}
 use Rattle.std.proofs.lemmas.Bool.{agree_below, agree_below_at}
 use Rattle.nx_code.specs.Table.{phasing_1, phasing_2, elements_of_phasing_1, elements_of_phasing_2}
-use Rattle.nx_code.specs.Word.{number_of, weight, elements, elements_from}
+use Rattle.nx_code.specs.Word.{number_of, weight, elements, elements_from, is_wrong, wrong_in}
 use Rattle.nx_sync.specs.declared.step.Role.TheVariants.{Dx, Rx}
 use Rattle.nx_sync.specs.declared.step.Role.{Role}
 use Rattle.nx_sync.specs.declared.step.Change.{Change}
 use Rattle.nx_sync.specs.declared.step.Change.TheVariants.{Ended, LostLock}
-use Rattle.nx_sync.specs.Words.{word_of_lock, first_role, role_of, is_wrong, wrong_in, wrong_until, lock_words}
+use Rattle.nx_sync.specs.Words.{word_of_lock, first_role, role_of, wrong_until, lock_words}
 use Rattle.nx_sync.specs.Locks.{before_dx, before_rx, IsPattern, Finds, IsEarlier}
 use Rattle.nx_sync.specs.private.Releases.{releases_as_ended, change_at}
 use Rattle.nx_sync.proofs.Computed.{earlier-from, none_from}
@@ -15,24 +15,24 @@ use Rattle.nx_sync.specs.Windows.{is_lock_window}
 
 -- P2 P1 P2 P1 gives a lock after 28 bits, whose word 0 is a DX word; P1 P2 P1 P2 one whose word 0 is an RX word
 pub pattern_found : IsPattern (before_dx ++ true ∷ false ∷ []) 28
-unfolding before_dx
+unfolding before_dx elements elements_from
 pattern_found = record { enough = omega arith; heard = omega arith; pattern = inl refl }
 
 pub found_at_28 : Finds (before_dx ++ true ∷ false ∷ []) 0 28
-unfolding before_dx
+unfolding before_dx elements elements_from
 found_at_28 = record { after = omega arith; here = pattern_found; least = λ s after before here. omega (arith, here.enough) }
 
 pub first_is_dx : first_role before_dx 28 ≡ Dx
-unfolding first_role before_dx number_of
+unfolding first_role before_dx number_of elements elements_from
 first_is_dx = refl
 
 pub first_is_rx : first_role before_rx 28 ≡ Rx
-unfolding first_role before_rx number_of
+unfolding first_role before_rx number_of elements elements_from
 first_is_rx = refl
 
 -- the words after a pattern, with their roles
 pub two_words : lock_words (before_dx ++ elements_of_phasing_2 ++ elements_of_phasing_1) 28 2 ≡ (phasing_2, Dx) ∷ (phasing_1, Rx) ∷ []
-unfolding lock_words word_of_lock first_role role_of before_dx number_of
+unfolding lock_words word_of_lock first_role role_of before_dx number_of elements elements_from
 two_words = refl
 
 -- a phasing signal and BYBYBYB have the right weight; six B have not

@@ -8,11 +8,12 @@ use Rattle.nx_sync.specs.declared.step.Role.{Role}
 use Rattle.nx_sync.specs.declared.step.Role.TheVariants.{Dx, Rx}
 use Rattle.nx_sync.specs.declared.track.Track.{Track}
 use Rattle.nx_code.specs.Table.{phasing_1}
-use Rattle.nx_sync.specs.Words.{marked_words, other_role, is_dx, is_wrong, one_if, role_of, wrong_in, wrong_until}
+use Rattle.nx_sync.specs.Words.{marked_words, other_role, is_dx, role_of, wrong_until}
+use Rattle.nx_sync.proofs.Counts.{one_if}
 use Rattle.nx_sync.specs.private.Releases.{releases_as_ended, change_at}
 use Rattle.nx_sync.specs.Synchroniser.{wrong_marks, was_p1, p1_marks}
 use Rattle.nx_sync.specs.private.Calls.{fills_releasing_word, change_of}
-use Rattle.nx_code.specs.Word.{number_of, value_of}
+use Rattle.nx_code.specs.Word.{number_of, value_of, is_wrong, wrong_in}
 use Rattle.nx_sync.proofs.Numbers.{number_of-next, first_bit, third_on}
 use Rattle.nx_sync.proofs.Lists.{keep_last-push}
 

@@ -13,14 +13,12 @@ module _ (bits : List Bool) (b : Bool) where
   pub hunts_on : (locks : List Lock) (p : ℕ) → IsHunting bits locks p → (IsPattern (bits ++ b ∷ []) (length bits + 1) → ⊥) → IsHunting (bits ++ b ∷ []) locks p
   hunts_on locks p now absent = record {
     past = Past-more bits (b ∷ []) locks p now.past;
-    none = record {
-      never = λ s after here. elim (cases_lt (length bits) s) [
-        | inl new ↦
-            let e : s ≡ length bits + 1 = omega (arith, here.heard, length_push bits b) in
-            absent (subst (λ x. IsPattern (bits ++ b ∷ []) x) e here)
-        | inr old ↦ now.none.never s after (IsPattern-less bits (b ∷ []) s old here)
-      ];
-    };
+    none = λ s after here. elim (cases_lt (length bits) s) [
+      | inl new ↦
+          let e : s ≡ length bits + 1 = omega (arith, here.heard, length_push bits b) in
+          absent (subst (λ x. IsPattern (bits ++ b ∷ []) x) e here)
+      | inr old ↦ now.none s after (IsPattern-less bits (b ∷ []) s old here)
+    ];
   }
 
   -- a lock is found where a pattern ends with the bit
@@ -30,9 +28,9 @@ module _ (bits : List Bool) (b : Bool) where
     found = record {
       after = omega (arith, Past-within bits locks p now.past);
       here = here;
-      least = λ s after before at. now.none.never s after (IsPattern-less bits (b ∷ []) s (omega arith) at);
+      least = λ s after before at. now.none s after (IsPattern-less bits (b ∷ []) s (omega arith) at);
     };
-    holds = record { never = λ w how r. absurd (omega (arith, r.heard, length_push bits b)) };
+    holds = λ w how r. absurd (omega (arith, r.heard, length_push bits b));
   }
 
   -- a lock stands on where a word that the bit completes brings no change
@@ -59,5 +57,5 @@ module _ (bits : List Bool) (b : Bool) where
       },
       Past-more bits (b ∷ []) locks p now.past,
     );
-    none = record { never = λ s after here. absurd (omega (arith, here.heard, length_push bits b)) };
+    none = λ s after here. absurd (omega (arith, here.heard, length_push bits b));
   }

@@ -3,7 +3,7 @@ use Rattle.std.proofs.Common.{◌≡◌, ℕ, ◌+◌, ◌-◌, ◌/◌, ◌^◌
 use Rattle.std.proofs.lemmas.Bool.{cases_eq, ne_eqb}
 use Rattle.std.proofs.lemmas.List.{drop-take}
 use Rattle.circular_buffer.specs.Buffer.{keep_last}
-use Rattle.nx_code.specs.Word.{number_of}
+use Rattle.nx_code.specs.Word.{number_of, elements, elements_from}
 use Rattle.nx_sync.specs.declared.step.Role.TheVariants.{Dx, Rx}
 use Rattle.nx_sync.specs.Words.{first_role}
 use Rattle.nx_sync.specs.Locks.{before_dx, before_rx, last_28}
@@ -14,19 +14,19 @@ use Rattle.nx_sync.proofs.Numbers.{number_of-same, number_of-drop}
 
 -- the numbers of the two patterns
 pub number_of-before_dx : number_of before_dx ≡ window_before_dx
-unfolding number_of before_dx
+unfolding number_of before_dx elements elements_from
 number_of-before_dx = refl
 
 pub number_of-before_rx : number_of before_rx ≡ window_before_rx
-unfolding number_of before_rx
+unfolding number_of before_rx elements elements_from
 number_of-before_rx = refl
 
 pub is_dx_window : (w : List Bool) → length w ≡ 28 → number_of w ≡ window_before_dx → w ≡ before_dx
-unfolding before_dx
+unfolding before_dx elements elements_from
 is_dx_window w l e = number_of-same w before_dx l (e ∙ sym number_of-before_dx)
 
 pub is_rx_window : (w : List Bool) → length w ≡ 28 → number_of w ≡ window_before_rx → w ≡ before_rx
-unfolding before_rx
+unfolding before_rx elements elements_from
 is_rx_window w l e = number_of-same w before_rx l (e ∙ sym number_of-before_rx)
 
 -- what the two tests of a window say
@@ -72,11 +72,11 @@ last_word-window bits t low h =
 
 -- the role that follows a pattern
 pub first_role-dx : (bits : List Bool) (t : ℕ) → 28 ≤ t → t ≤ length bits → last_28 bits t ≡ before_dx → first_role bits t ≡ Dx
-unfolding first_role before_dx number_of
+unfolding first_role before_dx number_of elements elements_from
 first_role-dx bits t low h e = rw (last_word-window bits t low h ∙ ap (drop 21) e) refl
 
 pub first_role-rx : (bits : List Bool) (t : ℕ) → 28 ≤ t → t ≤ length bits → last_28 bits t ≡ before_rx → first_role bits t ≡ Rx
-unfolding first_role before_rx number_of
+unfolding first_role before_rx number_of elements elements_from
 first_role-rx bits t low h e = rw (last_word-window bits t low h ∙ ap (drop 21) e) refl
 
 -- the last 28 bits behind the padding, where so many were heard
@@ -85,7 +85,7 @@ window-heard bits h =
     keep_last-padded 28 bits h ∙ sym (take_all 28 (drop (length bits - 28) bits) (simp length-drop (omega arith)))
 
 -- the number of the last seven of them
-pub word-heard : (bits : List Bool) → 28 ≤ length bits → number_of (keep_last 28 (replicate 28 false ++ bits)) / 2 ^ 21 ≡ number_of (take 7 (drop (length bits - 7) bits))
-word-heard bits h =
+pub newest_word : (bits : List Bool) → 28 ≤ length bits → number_of (keep_last 28 (replicate 28 false ++ bits)) / 2 ^ 21 ≡ number_of (take 7 (drop (length bits - 7) bits))
+newest_word bits h =
     sym (number_of-drop 21 (keep_last 28 (replicate 28 false ++ bits)))
     ∙ ap number_of (ap (drop 21) (window-heard bits h) ∙ sym (last_word-window bits (length bits) h (omega arith)))

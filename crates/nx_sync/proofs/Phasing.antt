@@ -2,13 +2,13 @@
 use Rattle.std.proofs.Common.{◌≡◌, ℕ, zero, suc, ◌+◌, ◌-◌, ◌*◌, ◌/◌, ◌%◌, ◌<◌, ◌≤◌, ◌⊎◌, List, [], ◌∷◌, ◌++◌, length, take, drop, Bool, true, false, not, ◌||◌, eqb, refl, sym, ap, ap₂, subst, ◌∙◌, inl, inr, arith, Some, None, drop-drop, length-append}
 use Rattle.std.proofs.Math.Seq.{drop-append-add}
 use Rattle.std.proofs.lemmas.Bool.{cases_lt, cases_eq, both_ways, agree_below_at, ne_eqb}
-use Rattle.nx_code.specs.Word.{number_of, weight, elements, elements_from}
+use Rattle.nx_code.specs.Word.{number_of, weight, elements, elements_from, is_wrong, wrong_in}
 use Rattle.nx_sync.specs.declared.step.Role.{Role}
 use Rattle.nx_sync.specs.declared.step.Role.TheVariants.{Dx, Rx}
 use Rattle.nx_sync.specs.declared.step.Change.{Change}
 use Rattle.nx_sync.specs.declared.step.Change.TheVariants.{Locked, Ended, LostLock}
 use Rattle.nx_code.specs.Table.{phasing_1, phasing_2}
-use Rattle.nx_sync.specs.Words.{marked_words, losing_count, other_role, is_wrong, word_of_lock, first_role, role_of, wrong_in, wrong_until}
+use Rattle.nx_sync.specs.Words.{marked_words, losing_count, other_role, word_of_lock, first_role, role_of, wrong_until}
 use Rattle.nx_sync.specs.private.Releases.{releases_as_ended, release}
 use Rattle.nx_sync.specs.Locks.{pattern_elements, before_dx, before_rx, IsPattern, IsSecondPhasing1, Lock, Past, Now, hunting, locked, IsLocked, IsNow}
 use Rattle.nx_sync.specs.Laws.{phasing, LockedBeforeDx}
@@ -87,7 +87,7 @@ length-phasing (suc n) = omega (arith, length-phasing n)
 
 -- 24 pairs end with a pattern
 ends_with_pattern : take pattern_elements (drop 308 (phasing 24)) ≡ before_dx
-unfolding phasing before_dx
+unfolding phasing before_dx elements elements_from
 ends_with_pattern = refl
 
 -- What a lock at t is, seen from the phasing that begins at the bit count n: word g of it is a DX word, and begins with
@@ -151,7 +151,7 @@ module _ (earlier : List Bool) where
 
   -- the word before a pattern is a phasing signal
   before_pattern : (t : ℕ) → IsPattern (earlier ++ phasing 24) t → (number_of (take 7 (drop (t - 7) (earlier ++ phasing 24))) ≡ phasing_1) ⊎ (number_of (take 7 (drop (t - 7) (earlier ++ phasing 24))) ≡ phasing_2)
-  unfolding before_dx before_rx number_of
+  unfolding before_dx before_rx number_of elements elements_from
   before_pattern t here =
       let window = ap number_of (last_word-window (earlier ++ phasing 24) t here.enough here.heard) in
       elim here.pattern [
@@ -324,7 +324,7 @@ module _ (earlier : List Bool) where
   after_phasing : (locks : List Lock) (now : Now) → IsNow (earlier ++ phasing 24) locks now → LockedBeforeDx (earlier ++ phasing 24)
   after_phasing locks (locked p t) n = stands_right locks p t n
   after_phasing locks (hunting p) n = elim (cases_lt p (length earlier + 336)) [
-    | inl before ↦ absurd (n.none.never (length earlier + 336) before pattern_at_end)
+    | inl before ↦ absurd (n.none (length earlier + 336) before pattern_at_end)
     | inr late ↦ absurd (not_hunting locks p late n.past)
   ]
 

@@ -7,7 +7,8 @@ use Rattle.nx_code.specs.Table.{phasing_1, phasing_2}
 use Rattle.nx_sync.specs.declared.step.Role.{Role}
 use Rattle.nx_sync.specs.declared.step.Role.TheVariants.{Dx, Rx}
 use Rattle.nx_sync.specs.declared.step.Change.{Change}
-use Rattle.nx_sync.specs.Words.{marked_words, losing_count, other_role, is_wrong, word_of_lock, first_role, role_of, wrong_in, wrong_until}
+use Rattle.nx_sync.specs.Words.{marked_words, losing_count, other_role, word_of_lock, first_role, role_of, wrong_until}
+use Rattle.nx_code.specs.Word.{is_wrong, wrong_in, elements, elements_from}
 use Rattle.nx_sync.specs.Locks.{pattern_elements, before_dx, before_rx, IsPattern, Finds, IsSecondPhasing1, Lock, IsHunting, IsLocked}
 use Rattle.nx_sync.specs.private.Releases.{release}
 use Rattle.nx_sync.specs.Laws.{phasing, IsOnPhasing, IsBetweenLimits, IsReleasedBy}
@@ -29,11 +30,11 @@ drop-pairs (suc q) n =
     ∙ (sym (drop-drop (14 * q) 14 (phasing (suc (q + n)))) ∙ drop-pairs q n))
 
 two_pairs : (n : ℕ) → take pattern_elements (phasing (suc (suc n))) ≡ before_dx
-unfolding phasing before_dx
+unfolding phasing before_dx elements elements_from
 two_pairs n = refl
 
 three_pairs : (n : ℕ) → take pattern_elements (drop 7 (phasing (suc (suc (suc n))))) ≡ before_rx
-unfolding phasing before_rx
+unfolding phasing before_rx elements elements_from
 three_pairs n = refl
 
 -- the patterns in 24 pairs
@@ -98,7 +99,7 @@ module _ (earlier : List Bool) where
                 absurd (omega (arith, x.place))
             | inr early ↦
                 let at' = subst (λ xs. IsPattern xs s) (sym (split_at i)) at in
-                now.none.never s after (IsPattern-less (earlier ++ take i (phasing 24)) (drop i (phasing 24)) s (omega (arith, l)) at')
+                now.none s after (IsPattern-less (earlier ++ take i (phasing 24)) (drop i (phasing 24)) s (omega (arith, l)) at')
           ];
         },
         on_phasing (length earlier + 7 * (i / 7 + 1)) here (omega arith),

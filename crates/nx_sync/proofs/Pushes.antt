@@ -4,7 +4,7 @@ use Rattle.std.proofs.Common.{◌≡◌, ℕ, suc, ◌+◌, ◌-◌, ◌*◌, �
 use Rattle.std.proofs.lemmas.List.{length_push}
 use Rattle.std.proofs.lemmas.Bool.{cases_lt}
 use Rattle.circular_buffer.specs.Buffer.{keep_last}
-use Rattle.nx_code.specs.Word.{number_of, value_of}
+use Rattle.nx_code.specs.Word.{number_of, value_of, is_wrong}
 use Rattle.nx_sync.specs.declared.step.Role.{Role}
 use Rattle.nx_sync.specs.declared.step.Role.TheVariants.{Dx, Rx}
 use Rattle.nx_sync.specs.declared.step.Change.{Change}
@@ -12,7 +12,7 @@ use Rattle.nx_sync.specs.declared.step.Change.TheVariants.{Locked}
 use Rattle.nx_sync.specs.declared.step.Step.{Step}
 use Rattle.nx_sync.specs.declared.track.Track.{Track}
 use Rattle.nx_code.specs.Table.{phasing_1}
-use Rattle.nx_sync.specs.Words.{marked_words, other_role, is_wrong, word_of_lock, first_role, role_of}
+use Rattle.nx_sync.specs.Words.{marked_words, other_role, word_of_lock, first_role, role_of}
 use Rattle.nx_sync.specs.private.Releases.{release}
 use Rattle.nx_sync.specs.Locks.{before_dx, before_rx, last_28, IsPattern, Lock, Now, hunting, locked, IsHunting, IsLocked, IsNow}
 use Rattle.nx_sync.specs.Steps.{LockStands, step, found, word, inside, over, hunts, IsStep}
@@ -23,7 +23,7 @@ use Rattle.nx_sync.proofs.Lists.{padded-push, length-padded}
 use Rattle.nx_sync.proofs.Numbers.{number_of-next}
 use Rattle.nx_sync.proofs.KeptPast.{word_at-more, first_role-more, Past-within}
 use Rattle.nx_sync.proofs.OneBit.{hunts_on, locks_now, stands_on, ends_now}
-use Rattle.nx_sync.proofs.Patterns.{length-last_28, IsNeither, Which, dx, rx, neither, which, first_role-dx, first_role-rx, window-heard, word-heard}
+use Rattle.nx_sync.proofs.Patterns.{length-last_28, IsNeither, Which, dx, rx, neither, which, first_role-dx, first_role-rx, window-heard, newest_word}
 use Rattle.nx_sync.proofs.Marks.{wrong_marks-same, p1_marks-same, p1_number-next, p1_number-none, wrong_marks-next, change_of-change_at}
 use Rattle.nx_sync.proofs.UniqueStates.{now-unique}
 
@@ -60,8 +60,8 @@ module _ (s : Held) (bits : List Bool) (b : Bool) (a : StandsAfter s bits) where
   seen_heard = omega (arith, a.seen, length_push bits b)
 
   -- hunting goes on
-  goes_on : (locks : List Lock) (p : ℕ) → s.track ≡ None → IsHunting (bits ++ b ∷ []) locks p → p ≤ length bits → IsGood (heard_one s b) (bits ++ b ∷ []) (step None None)
-  goes_on locks p none now within = record {
+  hunts_still : (locks : List Lock) (p : ℕ) → s.track ≡ None → IsHunting (bits ++ b ∷ []) locks p → p ≤ length bits → IsGood (heard_one s b) (bits ++ b ∷ []) (step None None)
+  hunts_still locks p none now within = record {
     stands = record {
       locks = locks;
       now = hunting p;
@@ -130,7 +130,7 @@ module _ (s : Held) (bits : List Bool) (b : Bool) (a : StandsAfter s bits) where
       let window = recent_heard ∙ ap number_of (window-heard (bits ++ b ∷ []) enough) in
       let result = quiet (ap role_after window ∙ e) in
       good_at x (heard_one s b) (bits ++ b ∷ []) r (step None None) result.0 result.1
-      (goes_on locks p none (hunts_on bits b locks p now (no_pattern enough not)) within)
+      (hunts_still locks p none (hunts_on bits b locks p now (no_pattern enough not)) within)
   hunts_at x r locks p none now within enough quiet finding (dx d e) =
       let window = recent_heard ∙ ap number_of (window-heard (bits ++ b ∷ []) enough) in
       let result = finding Dx (omega (arith, seen_heard)) (ap role_after window ∙ e) in
@@ -158,7 +158,7 @@ module _ (s : Held) (bits : List Bool) (b : Bool) (a : StandsAfter s bits) where
         | inl few ↦
             let result = early (omega (arith, seen_heard)) in
             good_at x (heard_one s b) (bits ++ b ∷ []) r (step None None) result.0 result.1
-            (goes_on locks p none (hunts_on bits b locks p n (λ here. absurd (omega (arith, here.enough, length_push bits b)))) within)
+            (hunts_still locks p none (hunts_on bits b locks p n (λ here. absurd (omega (arith, here.enough, length_push bits b)))) within)
         | inr enough ↦ hunts_at x r locks p none n within enough quiet finding (which (last_28 (bits ++ b ∷ []) (length (bits ++ b ∷ []))) (length-last_28 (bits ++ b ∷ []) (length (bits ++ b ∷ [])) enough (omega arith)))
       ]
 
@@ -213,7 +213,7 @@ module _ (s : Held) (bits : List Bool) (b : Bool) (a : StandsAfter s bits) where
       let enough : 28 ≤ length (bits ++ b ∷ []) = omega (arith, length_push bits b) in
       let i : length (bits ++ b ∷ []) - 7 ≡ t + 7 * k = omega (arith, length_push bits b) in
       ap (λ n. n / 2 ^ 21) recent_heard
-      ∙ (word-heard (bits ++ b ∷ []) enough ∙ ap (λ j. number_of (take 7 (drop j (bits ++ b ∷ [])))) i)
+      ∙ (newest_word (bits ++ b ∷ []) enough ∙ ap (λ j. number_of (take 7 (drop j (bits ++ b ∷ [])))) i)
 
   -- a push that completes a word
   module _ (locks : List Lock) (p t : ℕ) (track : Track) (now : IsLocked bits locks p t) (f : Follows bits t s.wrong track) (last : track.filled ≡ 6) (x : Held) (r : Step) (c : Completes (heard_one s b) track x r) where

@@ -4,7 +4,8 @@ use Rattle.std.proofs.lemmas.Bool.{cases_lt, false_from_ne_true}
 use Rattle.nx_sync.specs.declared.step.Role.{Role}
 use Rattle.nx_sync.specs.declared.step.Role.TheVariants.{Dx, Rx}
 use Rattle.nx_code.specs.Table.{phasing_1}
-use Rattle.nx_sync.specs.Words.{marked_words, losing_count, other_role, role_of, wrong_in, wrong_until, word_of_lock, first_role}
+use Rattle.nx_sync.specs.Words.{marked_words, losing_count, other_role, role_of, wrong_until, word_of_lock, first_role}
+use Rattle.nx_code.specs.Word.{wrong_in}
 use Rattle.nx_sync.specs.Locks.{IsSecondPhasing1, Finds, Lock, Past, IsLocked}
 use Rattle.nx_sync.proofs.Computed.{IsSecondPhasing1-from, change-none, holds-from, holds-to}
 use Rattle.nx_sync.proofs.KeptPast.{release-more, Finds-more, Past-more}

@@ -140,7 +140,7 @@ first_hunt : IsNow [] [] (hunting 0)
 unfolding Past
 first_hunt = record {
   past = refl;
-  none = record { never = λ s after here. absurd (omega (arith, here.enough, here.heard)) };
+  none = λ s after here. absurd (omega (arith, here.enough, here.heard));
 }
 
 -- something stands after every list of bits

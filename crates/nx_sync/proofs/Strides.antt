@@ -5,7 +5,7 @@ use Rattle.std.proofs.Math.Nat.{pow-succ'}
 use Rattle.std.proofs.Math.Seq.{drop-cons}
 use Rattle.std.proofs.lemmas.Bool.{cases_eq, cases_Bool, both_ways, agree_below_at, ne_eqb}
 use Rattle.std.proofs.lemmas.List.{drop-append-le, take_at, take_all, drop_all}
-use Rattle.nx_code.specs.Word.{number_of, value_of, elements_from}
+use Rattle.nx_code.specs.Word.{number_of, value_of, elements_from, elements}
 use Rattle.nx_sync.specs.Locks.{before_dx, before_rx}
 use Rattle.nx_sync.specs.Windows.{window_before_dx, window_before_rx, is_lock_window}
 use Rattle.nx_sync.specs.private.Windows.{is_in_phasing, window_after}
@@ -67,11 +67,11 @@ module _ (xs bits : List Bool) (l : length xs ≡ 28) (some : 0 < length bits) (
 
 -- seven elements in a row of the patterns
 in_before_dx : (i : ℕ) → i < 21 → is_in_phasing (number_of (take 7 (drop i before_dx))) ≡ true
-unfolding number_of before_dx
+unfolding number_of before_dx elements elements_from
 in_before_dx i h = agree_below_at (λ i. is_in_phasing (number_of (take 7 (drop i before_dx)))) (λ _. true) 21 i refl h
 
 in_before_rx : (i : ℕ) → i < 21 → is_in_phasing (number_of (take 7 (drop i before_rx))) ≡ true
-unfolding number_of before_rx
+unfolding number_of before_rx elements elements_from
 in_before_rx i h = agree_below_at (λ i. is_in_phasing (number_of (take 7 (drop i before_rx)))) (λ _. true) 21 i refl h
 
 locks_in_phasing : (xs bits : List Bool) → length xs ≡ 28 → 0 < length bits → length bits ≤ 21 → is_lock_window (number_of (drop (length bits) xs ++ bits)) ≡ true → is_in_phasing (number_of xs / 2 ^ 21) ≡ true

@@ -84,11 +84,11 @@ module _ (bits : List Bool) where
   pub now-newest : (ls ks : List Lock) (now : Now) (x : Lock) (q : ℕ) → IsNow bits ks now → Extends ls (x ∷ ks) → Past bits ls q → ⊥
   now-newest ls ks (hunting p) x q n e b =
       let found = past_next ls ks x p q n.past e b in
-      n.none.never x.at found.0.after found.0.here
+      n.none x.at found.0.after found.0.here
   now-newest ls ks (locked p t) x q n e b =
       let found = past_next ls ks x p q n.past e b in
       let at : x.at ≡ t = Finds-unique p x.at t found.0 n.found in
-      n.holds.never x.last x.how (subst (λ s. IsReleased bits s x.last x.how) at found.1)
+      n.holds x.last x.how (subst (λ s. IsReleased bits s x.last x.how) at found.1)
 
   pub IsNow-past : (ls : List Lock) (now : Now) → IsNow bits ls now → (p : ℕ) × Past bits ls p
   IsNow-past ls (hunting p) n = (p, n.past)
@@ -108,11 +108,11 @@ module _ (bits : List Bool) where
   now-same ls (hunting p) (locked q t) a b =
       let from : q ≡ p = Past-unique ls q p b.past a.past in
       let f : Finds bits p t = subst (λ n. Finds bits n t) from b.found in
-      absurd (a.none.never t f.after f.here)
+      absurd (a.none t f.after f.here)
   now-same ls (locked q t) (hunting p) b a =
       let from : q ≡ p = Past-unique ls q p b.past a.past in
       let f : Finds bits p t = subst (λ n. Finds bits n t) from b.found in
-      absurd (a.none.never t f.after f.here)
+      absurd (a.none t f.after f.here)
   now-same ls (locked p s) (locked q t) a b =
       let from : q ≡ p = Past-unique ls q p b.past a.past in
       let f : Finds bits p t = subst (λ n. Finds bits n t) from b.found in

@@ -4,10 +4,10 @@ use Rattle.std.proofs.Common.{◌≡◌, ℕ, suc, ◌+◌, ◌-◌, ◌/◌, �
 use Rattle.std.proofs.lemmas.Bool.{cases_lt, eqb-true}
 use Rattle.std.proofs.lemmas.List.{take_more, take_all}
 use Rattle.circular_buffer.specs.Buffer.{keep_last}
-use Rattle.nx_code.specs.Word.{number_of}
+use Rattle.nx_code.specs.Word.{number_of, is_wrong}
 use Rattle.nx_sync.specs.declared.step.Step.{Step}
 use Rattle.nx_sync.specs.declared.track.Track.{Track}
-use Rattle.nx_sync.specs.Words.{marked_words, is_wrong}
+use Rattle.nx_sync.specs.Words.{marked_words}
 use Rattle.nx_sync.specs.private.Windows.{next_word_window, window_after}
 use Rattle.nx_sync.specs.Steps.{step, IsStep, IsWordStep}
 use Rattle.nx_sync.specs.Synchroniser.{Held, is_at_limit, is_between_words, StandsAfter}

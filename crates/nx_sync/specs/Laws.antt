@@ -47,6 +47,10 @@ pub data OneMore (bits : List Bool) : List Lock → Now → List Lock → Now �
   now_over : {older : List Lock} {p t q : ℕ} (lock : Lock) → lock.from ≡ p → lock.at ≡ t
       → length bits ≡ q → OneMore bits older (locked p t) (lock ∷ older) (hunting q)
 
+-- no word of the lock at t released it
+abbrev pub Holds : List Bool → ℕ → Type 0
+Holds bits t = (w : ℕ) (how : Change) → IsReleased bits t w how → ⊥
+
 -- P2 P1, so many times: phasing as it is sent (M.476, M.625)
 unfoldable pub phasing : ℕ → List Bool
 phasing zero = []

@@ -1,11 +1,13 @@
 -- The locks of a receiver, over the whole list of bits that it has heard. When a lock begins, which
 -- role its words have, what releases it and where the next search begins is this profile's.
 use Rattle.std.specs.Prelude.{◌≡◌, ℕ, ◌+◌, ◌-◌, ◌*◌, ◌<◌, ◌≤◌, Bool, ◌⊎◌, List, [], ◌∷◌, ◌++◌, length, take, drop}
+use Rattle.std.specs.List.{flat_map}
 use Rattle.nx_sync.specs.declared.step.Role.{Role}
 use Rattle.nx_sync.specs.declared.step.Role.TheVariants.{Dx}
 use Rattle.nx_sync.specs.declared.step.Change.{Change}
 use Rattle.nx_sync.specs.declared.step.Change.TheVariants.{Ended, LostLock}
-use Rattle.nx_code.specs.Table.{phasing_1, elements_of_phasing_1, elements_of_phasing_2}
+use Rattle.nx_code.specs.Table.{phasing_1, phasing_2}
+use Rattle.nx_code.specs.Word.{elements}
 use Rattle.nx_sync.specs.Words.{losing_count, word_of_lock, first_role, role_of, wrong_until, lock_words}
 
 -- How many elements the patterns have that give a lock: four words (this profile).
@@ -15,14 +17,10 @@ pattern_elements = 28
 -- The two patterns of 28 bits that give a lock: P2 P1 P2 P1, after which a DX word follows, and P1
 -- P2 P1 P2, after which an RX word follows (this profile).
 unfoldable pub before_dx : List Bool
-before_dx =
-    elements_of_phasing_2 ++ elements_of_phasing_1
-    ++ elements_of_phasing_2 ++ elements_of_phasing_1
+before_dx = flat_map elements (phasing_2 ∷ phasing_1 ∷ phasing_2 ∷ phasing_1 ∷ [])
 
 unfoldable pub before_rx : List Bool
-before_rx =
-    elements_of_phasing_1 ++ elements_of_phasing_2
-    ++ elements_of_phasing_1 ++ elements_of_phasing_2
+before_rx = flat_map elements (phasing_1 ∷ phasing_2 ∷ phasing_1 ∷ phasing_2 ∷ [])
 
 -- the 28 bits before the bit count t
 abbrev pub last_28 : List Bool → ℕ → List Bool
@@ -40,10 +38,6 @@ pub record Finds (bits : List Bool) (p t : ℕ) : Type 0 where
   pub after : p < t
   pub here : IsPattern bits t
   pub least : (s : ℕ) → p < s → s < t → IsPattern bits s → ⊥
-
--- a search from p finds nothing in these bits
-pub record FindsNone (bits : List Bool) (p : ℕ) : Type 0 where
-  pub never : (s : ℕ) → p < s → IsPattern bits s → ⊥
 
 -- Word k is the second of two DX words in a row that are phasing signal 1: it is a DX word, at
 -- least word 2, and it and word k - 2 are phasing signal 1 (the end of an emission: M.625, mode B).
@@ -78,10 +72,6 @@ pub record IsReleased (bits : List Bool) (t w : ℕ) (how : Change) : Type 0 whe
   pub heard : t + 7 * (w + 1) ≤ length bits
   pub earlier : IsEarlier (first_role bits t) (word_of_lock bits t) w how
 
--- no word of the lock at t released it
-pub record Holds (bits : List Bool) (t : ℕ) : Type 0 where
-  pub never : (w : ℕ) (how : Change) → IsReleased bits t w how → ⊥
-
 -- a lock that was released: from where it was searched, the bit count where it began, its last
 -- word, and how it was released
 pub record Lock : Type 0 where
@@ -113,14 +103,16 @@ pub data Now : Type 0 where
   hunting : ℕ → Now
   locked : ℕ → ℕ → Now
 
+-- a search from p finds nothing in these bits
 pub record IsHunting (bits : List Bool) (locks : List Lock) (p : ℕ) : Type 0 where
   pub past : Past bits locks p
-  pub none : FindsNone bits p
+  pub none : (s : ℕ) → p < s → IsPattern bits s → ⊥
 
+-- a search from p found t, and no word released the lock that began there
 pub record IsLocked (bits : List Bool) (locks : List Lock) (p t : ℕ) : Type 0 where
   pub past : Past bits locks p
   pub found : Finds bits p t
-  pub holds : Holds bits t
+  pub holds : (w : ℕ) (how : Change) → IsReleased bits t w how → ⊥
 
 -- what stands after these bits: the locks before, and whether a lock stands
 abbrev pub IsNow : List Bool → List Lock → Now → Type 0

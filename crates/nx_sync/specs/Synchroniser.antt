@@ -4,8 +4,8 @@ use Rattle.std.specs.Prelude.{◌≡◌, ℕ, zero, suc, ◌+◌, ◌-◌, ◌*�
 use Rattle.circular_buffer.specs.Buffer.{keep_last}
 use Rattle.nx_sync.specs.declared.track.Track.{Track}
 use Rattle.nx_code.specs.Table.{phasing_1}
-use Rattle.nx_code.specs.Word.{number_of}
-use Rattle.nx_sync.specs.Words.{marked_words, is_wrong, word_of_lock, first_role, role_of}
+use Rattle.nx_code.specs.Word.{number_of, is_wrong}
+use Rattle.nx_sync.specs.Words.{marked_words, word_of_lock, first_role, role_of}
 use Rattle.nx_sync.specs.Locks.{pattern_elements, Lock, Now, hunting, locked, IsNow}
 
 -- what contracts see of a synchroniser: the last 28 bits as a number, the oldest in the least

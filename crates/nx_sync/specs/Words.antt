@@ -1,8 +1,8 @@
 -- The words of a lock: where they stand, their roles, and how many of them have the wrong weight. A
 -- bit is an element, B is true; words have seven elements (ITU-R M.476 and M.625).
-use Rattle.std.specs.Prelude.{ℕ, zero, suc, ◌+◌, ◌-◌, ◌*◌, ◌/◌, ◌==◌, Bool, true, false, not, List, [], ◌∷◌, ◌++◌, length, if◌then◌else◌}
+use Rattle.std.specs.Prelude.{ℕ, zero, suc, ◌+◌, ◌-◌, ◌*◌, ◌/◌, ◌==◌, Bool, true, false, List, [], ◌∷◌, ◌++◌, length, if◌then◌else◌}
 use Rattle.nx_code.specs.Table.{phasing_1}
-use Rattle.nx_code.specs.Word.{weight, word_from}
+use Rattle.nx_code.specs.Word.{word_from, wrong_in}
 use Rattle.nx_sync.specs.declared.step.Role.{Role}
 use Rattle.nx_sync.specs.declared.step.Role.TheVariants.{Dx, Rx}
 
@@ -36,18 +36,6 @@ role_of first (suc k) = other_role (role_of first k)
 abbrev pub is_dx : Role → Bool
 is_dx Dx = true
 is_dx Rx = false
-
--- a word that is no signal: not four of its seven elements are B (M.476, M.625)
-abbrev pub is_wrong : ℕ → Bool
-is_wrong word = not (weight word == 4)
-
-abbrev pub one_if : Bool → ℕ
-one_if b = if b then 1 else 0
-
--- how many of the words i to i + n - 1 have the wrong weight
-unfoldable pub wrong_in : (ℕ → ℕ) → ℕ → ℕ → ℕ
-wrong_in words i zero = 0
-wrong_in words i (suc n) = wrong_in words i n + one_if (is_wrong (words (i + n)))
 
 -- how many of the last 64 words up to word k, or of all up to it where they are fewer, have the
 -- wrong weight

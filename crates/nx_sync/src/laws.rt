@@ -6,12 +6,12 @@ ghost use Rattle.std.specs.Prelude.{◌≡◌, ℕ, ◌+◌, ◌*◌, ◌/◌, �
 ghost use Rattle.nx_sync.specs.declared.step.Change.{Change as How};
 ghost use Rattle.nx_sync.specs.declared.step.Role.{Role as RoleOf};
 ghost use Rattle.nx_sync.specs.declared.step.Step.{Step};
-ghost use Rattle.nx_code.specs.Word.{number_of};
+ghost use Rattle.nx_code.specs.Word.{number_of, is_wrong, wrong_in};
 ghost use Rattle.nx_code.specs.Table.{phasing_1};
-ghost use Rattle.nx_sync.specs.Words.{is_wrong, lock_words, words_heard, heard_word, marked_words, losing_count, word_of_lock, first_role, role_of, wrong_in, wrong_until};
-ghost use Rattle.nx_sync.specs.Locks.{pattern_elements, before_dx, before_rx, hunting, locked, IsHunting, words_of_past, IsPattern, Finds, IsSecondPhasing1, EndedAt, LostAt, IsReleased, Holds, Lock, Past, Now, IsLocked, IsNow};
+ghost use Rattle.nx_sync.specs.Words.{lock_words, words_heard, heard_word, marked_words, losing_count, word_of_lock, first_role, role_of, wrong_until};
+ghost use Rattle.nx_sync.specs.Locks.{pattern_elements, before_dx, before_rx, hunting, locked, IsHunting, words_of_past, IsPattern, Finds, IsSecondPhasing1, EndedAt, LostAt, IsReleased, Lock, Past, Now, IsLocked, IsNow};
 ghost use Rattle.nx_sync.specs.Steps.{Brings, IsStep, word_of_step};
-ghost use Rattle.nx_sync.specs.Laws.{IsOnPhasing, IsBetweenLimits, IsReleasedBy, WhatStands, GoesOn, Stood, OneMore, phasing, LockedBeforeDx};
+ghost use Rattle.nx_sync.specs.Laws.{IsOnPhasing, IsBetweenLimits, IsReleasedBy, WhatStands, GoesOn, Stood, OneMore, phasing, LockedBeforeDx, Holds};
 
 /// The two patterns as numbers, their oldest element in the least place.
 pub fn patterns_have_these_numbers()

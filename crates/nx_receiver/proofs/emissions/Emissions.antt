@@ -1,10 +1,10 @@
 -- A received emission: its words keep a lock, and each of its messages gives a copy.
-use Rattle.std.proofs.Common.{◌≡◌, ◌≢◌, ℕ, zero, suc, ◌+◌, ◌-◌, ◌*◌, ◌<◌, ◌≤◌, Bool, true, false, not, cond, eqb, List, [], ◌∷◌, ◌++◌, length, take, replicate, get_or, Some, slice_get, refl, sym, ap, ap₂, ◌∙◌, subst, arith}
+use Rattle.std.proofs.Common.{◌≡◌, ◌≢◌, ℕ, ◌+◌, ◌-◌, ◌*◌, ◌<◌, ◌≤◌, Bool, List, [], ◌∷◌, ◌++◌, length, take, replicate, get_or, Some, slice_get, refl, sym, ap, ap₂, ◌∙◌, subst, arith}
 use Rattle.std.specs.List.{Contains, flat_map}
 use Rattle.std.proofs.lemmas.List.{length-append, length-replicate, get_or-replicate, get_or_append_left, get_or-append_right}
 use Rattle.std.proofs.lemmas.List.Elements.{Contains-append_left, Contains-append_right}
 use Rattle.nx_code.specs.Table.{phasing_1, phasing_2}
-use Rattle.nx_code.specs.Word.{weight}
+use Rattle.nx_code.specs.Word.{wrong_in}
 use Rattle.nx_envelope.specs.Message.{text_of, MessageView}
 use Rattle.nx_envelope.specs.declared.found.How.TheVariants.{Full}
 use Rattle.nx_fec.specs.Emission.{SentPosition, phasing_position, end_position, dx_word, rx_word, position_at, bits_of, reception}
@@ -12,11 +12,12 @@ use Rattle.nx_fec.specs.Pairing.{counts_as, pairing}
 use Rattle.nx_fec.proofs.EmissionLemmas.{word_sent-dx, word_sent-rx}
 use Rattle.nx_fec.proofs.RoundTripLemmas.{length-bits_of}
 use Rattle.nx_station.specs.Broadcast.{AreSpelled, layout, phasing_and_message}
-use Rattle.nx_station.specs.Channel.{PassesChannel, heard_in, wrong_words, first_slot}
+use Rattle.nx_station.specs.Channel.{PassesChannel, heard_in, first_slot}
 use Rattle.nx_station.specs.Sendings.{IsReceived, digit_slot}
+use Rattle.nx_station.proofs.ChannelCounts.{wrong_in-same}
 use Rattle.nx_station.proofs.ChannelLaws.{few-wrong, no-phasing_1, taken-as_sent}
 use Rattle.nx_station.proofs.ChannelPositions.{HasInner, layout-inner}
-use Rattle.nx_sync.specs.Words.{word_of_lock, first_role, one_if, is_wrong, wrong_in, whole_words}
+use Rattle.nx_sync.specs.Words.{word_of_lock, first_role, whole_words}
 use Rattle.nx_sync.specs.Locks.{Lock, Now, locked, IsNow}
 use Rattle.nx_receiver.specs.FoundCopies.{FoundCopy, ended_in, past_copies, ended_so_far}
 use Rattle.nx_receiver.specs.LockText.{word_place, lock_text}
@@ -25,19 +26,6 @@ use Rattle.nx_receiver.proofs.emissions.Locks.{KeepsLock, LockedThrough, word_of
 use Rattle.nx_receiver.proofs.emissions.Positions.{AreTaken}
 use Rattle.nx_receiver.proofs.emissions.Printed.{HearsMessage, digit_word, message_found}
 use Rattle.nx_receiver.proofs.emissions.Texts.{on_air, on_air_before, on_air-parts, layout-parts, positions-before, SpelledAt, spelled_at, lines_at}
-
--- the counts of the station are those of the lock
-same_one : (right : Bool) → cond right 0 1 ≡ one_if (not right)
-same_one true = refl
-same_one false = refl
-
-same_count : (f g : ℕ → ℕ) (i a n : ℕ) → ((j : ℕ) → j < n → f (i + j) ≡ g (a + j))
-    → wrong_in f i n ≡ wrong_words g a n
-unfolding wrong_in wrong_words
-same_count f g i a zero same = refl
-same_count f g i a (suc n) same =
-    ap₂ ◌+◌ (same_count f g i a n (λ j lt. same j (omega arith)))
-    (ap (λ w. one_if (is_wrong w)) (same n (omega arith)) ∙ sym (same_one (eqb (weight (g (a + n))) 4)))
 
 -- the word of a slot
 word_of-heard_in : (heard : List ℕ) (i : ℕ) → word_of heard i ≡ heard_in heard (96 + i)
@@ -90,8 +78,8 @@ module _ (numbers : List ℕ) (spellings : List (List ℕ)) (heard : List ℕ) (
   few_at : (a n : ℕ) → n ≤ 64 → a + n ≤ length heard → wrong_in (word_of heard) a n < 40
   few_at a n some to =
       let few = few-wrong sent heard has passes (96 + a) n (omega arith) some (omega (arith, passes.whole)) in
-      let same : wrong_in (word_of heard) a n ≡ wrong_words (heard_in heard) (96 + a) n =
-      same_count (word_of heard) (heard_in heard) a (96 + a) n (λ j lt. let e : 96 + (a + j) ≡ 96 + a + j = omega arith in word_of-heard_in heard (a + j) ∙ ap (heard_in heard) e) in
+      let same : wrong_in (word_of heard) a n ≡ wrong_in (heard_in heard) (96 + a) n =
+      wrong_in-same (word_of heard) (heard_in heard) a (96 + a) n (λ j lt. let e : 96 + (a + j) ≡ 96 + a + j = omega arith in word_of-heard_in heard (a + j) ∙ ap (heard_in heard) e) in
       omega arith
 
   apart_at : (a : ℕ) → 2 * a + 5 < length heard → word_of heard (2 * a) ≡ phasing_1

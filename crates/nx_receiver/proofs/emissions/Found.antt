@@ -131,9 +131,7 @@ stands_between : (bits more rest : List Bool) (locks : List Lock) (p t : ℕ) �
 stands_between bits more rest locks p t before after = record {
   past = Past-more bits more locks p before.past;
   found = Finds-more bits more p t before.found;
-  holds = record {
-    never = λ w how r. after.holds.never w how (IsReleased-more (bits ++ more) rest t w before.found.here.enough r);
-  };
+  holds = λ w how r. after.holds w how (IsReleased-more (bits ++ more) rest t w before.found.here.enough r);
 }
 
 pub lock_holds : (earlier : List Bool) (emission : ReceivedEmission) → IsReceived emission

@@ -5,17 +5,17 @@ use Rattle.std.proofs.lemmas.List.{length-append, take-append-drop, take_at, len
 use Rattle.std.proofs.lemmas.List.Concat.{flat_map-append}
 use Rattle.std.proofs.Math.Seq.{drop-append-add}
 use Rattle.nx_code.specs.Table.{phasing_1, phasing_2}
-use Rattle.nx_code.specs.Word.{elements, elements_from, weight, number_of, word_from}
+use Rattle.nx_code.specs.Word.{elements, elements_from, weight, number_of, word_from, is_wrong, wrong_in}
 use Rattle.nx_fec.specs.Aligned.{word_in}
 use Rattle.nx_fec.specs.Emission.{bits_of, AreWords}
 use Rattle.nx_fec.proofs.AlignedLemmas.{get_or-words_of}
 use Rattle.nx_fec.proofs.RoundTripLemmas.{length-bits_of, words_of-bits_of}
-use Rattle.nx_sync.specs.Words.{word_of_lock, first_role, role_of, other_role, one_if, is_wrong, wrong_in, wrong_until, losing_count}
+use Rattle.nx_sync.specs.Words.{word_of_lock, first_role, role_of, other_role, wrong_until, losing_count}
 use Rattle.nx_sync.specs.Locks.{IsSecondPhasing1, Lock, IsLocked}
 use Rattle.nx_sync.specs.Laws.{LockedBeforeDx, phasing}
 use Rattle.nx_sync.specs.declared.step.Role.{Role}
 use Rattle.nx_sync.specs.declared.step.Role.TheVariants.{Dx, Rx}
-use Rattle.nx_sync.proofs.Counts.{wrong_in-add, wrong_in-le, wrong_in-none, role_of-even}
+use Rattle.nx_sync.proofs.Counts.{wrong_in-add, wrong_in-le, wrong_in-none, role_of-even, one_if}
 use Rattle.nx_sync.proofs.KeptPast.{first_role-more}
 use Rattle.nx_sync.proofs.Phasing.{phasing_locks, phasing_heard}
 use Rattle.nx_sync.proofs.Releases.{stands_longer}

@@ -6,7 +6,7 @@ use Rattle.std.specs.List.{Contains}
 use Rattle.std.proofs.lemmas.List.{length-append, length-map, take-append-drop}
 use Rattle.std.proofs.lemmas.List.Concat.{flat_map-append}
 use Rattle.nx_code.specs.Word.{elements}
-use Rattle.nx_envelope.specs.Header.{letter_from, letter_of, digit_from, digit_of, read_identity, read_spaced, read_header, identity_at_end}
+use Rattle.nx_envelope.specs.Header.{read_header, identity_at_end}
 use Rattle.nx_envelope.specs.Copies.{beginnings, header_at_end, headers, copies}
 use Rattle.nx_fec.specs.Emission.{bits_of}
 use Rattle.nx_station.specs.Channel.{phasing_words}
@@ -62,7 +62,7 @@ abbrev pub found : List FoundCopy
 found = found_to_end (elements_among events) [] (locked 0 28)
 
 one_header : length (copies (codes "ZCZC EA01\nTEST\nNNNN\n\n")) ≡ 1
-unfolding copies headers beginnings header_at_end identity_at_end read_header read_spaced read_identity letter_of letter_from digit_of digit_from
+unfolding copies headers beginnings header_at_end identity_at_end read_header
 one_header = refl
 
 pub one_found : length found ≡ 1

@@ -3,7 +3,7 @@ use Rattle.std.proofs.Common.{◌≡◌, ℕ, ◌+◌, ◌-◌, ◌*◌, ◌/◌
 use Rattle.std.specs.Prelude.{codes, ◌==◌}
 use Rattle.std.proofs.lemmas.Bool.{agree_below, agree_below_at, ltb-true, lt-leb}
 use Rattle.nx_code.specs.Table.{phasing_1, table, words, place_of, row_of}
-use Rattle.nx_code.specs.Word.{elements, elements_from, weight, word_from}
+use Rattle.nx_code.specs.Word.{elements, elements_from, weight, word_from, wrong_in}
 use Rattle.nx_code.specs.Reading.{text, character_of}
 use Rattle.nx_code.specs.declared.shifts.Shift.TheVariants.{Letters}
 use Rattle.nx_fec.specs.Aligned.{word_in}
@@ -13,7 +13,7 @@ use Rattle.nx_fec.proofs.AlignedLemmas.{get_or-words_of}
 use Rattle.nx_fec.proofs.RoundTripLemmas.{length-bits_of, words_of-bits_of}
 use Rattle.nx_station.specs.Channel.{phasing_words}
 use Rattle.nx_station.specs.ChannelExample.{damaged_in, example_words, heard_half}
-use Rattle.nx_sync.specs.Words.{word_of_lock, first_role, role_of, wrong_in, wrong_until, losing_count, whole_words}
+use Rattle.nx_sync.specs.Words.{word_of_lock, first_role, role_of, wrong_until, losing_count, whole_words}
 use Rattle.nx_sync.specs.Locks.{before_dx, last_28, Past, IsLocked}
 use Rattle.nx_sync.specs.private.Releases.{releases_as_ended, change_at}
 use Rattle.nx_sync.proofs.Computed.{holds-to}

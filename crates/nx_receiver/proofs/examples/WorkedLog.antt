@@ -9,8 +9,8 @@ use Rattle.nx_envelope.specs.declared.digit.Digit.{Digit}
 use Rattle.nx_envelope.specs.declared.found.How.TheVariants.{Full}
 use Rattle.nx_envelope.specs.declared.identity.Identity.{Identity}
 use Rattle.nx_envelope.specs.declared.letter.Letter.{Letter}
-use Rattle.nx_envelope.specs.Header.{letter_from, letter_of, digit_from, digit_of, identity_of, read_identity, read_spaced, read_header, identity_at_end, marker_at_end}
-use Rattle.nx_envelope.specs.Copies.{Copy, beginnings, header_at_end, headers, raw_text, ending_by_marker, long_within, ending_within, ending_of, ended_copy, closed_copy, copies}
+use Rattle.nx_envelope.specs.Header.{nearest_identity, read_header, identity_at_end, marker_at_end}
+use Rattle.nx_envelope.specs.Copies.{Copy, beginnings, header_at_end, headers, raw_text, ending_by_marker, ending_of, ended_copy, closed_copy, copies}
 use Rattle.nx_envelope.proofs.Examples.{slot_of_e}
 use Rattle.nx_envelope.proofs.Identities.{same_identity-true}
 use Rattle.nx_memory.specs.Selection.{admits}
@@ -42,25 +42,18 @@ at_first s (b ∷ bits) zero = refl
 at_first s (b ∷ bits) (suc place) = at_first s bits place
 
 -- the copy in the text
-letter : (b : ℕ) → nat_le 65 b ≡ true → nat_le b 90 ≡ true → Letter
-letter b low high = record { byte = b; in_range = (leb-true 65 b low, leb-true b 90 high) }
-
-digit : (b : ℕ) → nat_le (b - 48) 9 ≡ true → Digit
-digit b low = record { value = b - 48; below_ten = leb-true (b - 48) 9 low }
-
 found_identity : Identity
-unfolding letter digit
-found_identity = identity_of (letter 69 refl refl) (letter 65 refl refl) (digit 48 refl) (digit 49 refl)
+found_identity = nearest_identity (codes "EA01")
 
 found : Copy
 found = record { header = record { identity = found_identity; behind = 9 }; how = Full; text = codes "TEST\n" }
 
 copies_are : copies (codes "ZCZC EA01\nTEST\nNNNN\n\n") ≡ found ∷ []
-unfolding found found_identity letter digit copies headers beginnings header_at_end identity_at_end read_header read_spaced read_identity letter_of letter_from digit_of digit_from raw_text ending_by_marker marker_at_end long_within ending_within ending_of ended_copy closed_copy
+unfolding found found_identity copies headers beginnings header_at_end identity_at_end read_header raw_text ending_by_marker marker_at_end ending_of ended_copy closed_copy
 copies_are = refl
 
 same_name : found_identity ≡ ea01
-unfolding found_identity letter digit
+unfolding found_identity
 same_name = same_identity-true found_identity ea01 refl
 
 pub all_selected : admits (first_setting at_its_slot).refused ea01 ≡ true

@@ -47,8 +47,8 @@ module _ (station from : ℕ) (file air : List ℕ) (sent : Sent) (h : IsTransmi
 
   few_positions : length h.positions ≤ 4286
   few_positions =
-      let same = broadcast-one h.messages h.positions h.sendable.positions.positions h.broadcast h.sendable.positions.broadcast in
-      omega (arith, ap length same, h.sendable.positions.counted, h.sendable.fits)
+      let same = broadcast-one h.messages h.positions h.sendable.positions h.broadcast h.sendable.broadcast in
+      omega (arith, ap length same, h.sendable.fits)
 
   within : length air ≤ air_limit
   within =

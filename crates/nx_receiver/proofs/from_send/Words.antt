@@ -6,7 +6,7 @@ use Rattle.std.proofs.lemmas.Bool.{cases_lt}
 use Rattle.std.proofs.lemmas.List.{length-append, length-replicate, map-append, get_or-drop, get_or_append_left}
 use Rattle.nx_code.specs.Table.{phasing_1, phasing_2}
 use Rattle.nx_code.specs.Reading.{idle, text}
-use Rattle.nx_code.specs.Word.{weight, elements, elements_from}
+use Rattle.nx_code.specs.Word.{weight, elements, elements_from, is_wrong, wrong_in}
 use Rattle.nx_code.specs.declared.shifts.Shift.TheVariants.{Letters}
 use Rattle.nx_code.proofs.ReadingLemmas.{text-append}
 use Rattle.nx_envelope.specs.Message.{MessageView}
@@ -23,7 +23,7 @@ use Rattle.nx_station.proofs.ChannelUndamaged.{undamaged-received}
 use Rattle.nx_station.proofs.ReadingBack.{broadcast-prints}
 use Rattle.nx_sync.specs.Laws.{IsOnPhasing, LockedBeforeDx, phasing}
 use Rattle.nx_sync.specs.Locks.{IsLocked, Past, before_dx, last_28}
-use Rattle.nx_sync.specs.Words.{first_role, is_wrong, losing_count, role_of, whole_words, word_of_lock, wrong_in}
+use Rattle.nx_sync.specs.Words.{first_role, losing_count, role_of, whole_words, word_of_lock}
 use Rattle.nx_sync.specs.declared.step.Role.TheVariants.{Dx}
 use Rattle.nx_sync.proofs.Counts.{role_of-even, wrong_in-none}
 use Rattle.nx_sync.proofs.Patterns.{first_role-dx}
@@ -39,7 +39,7 @@ use Rattle.nx_receiver.proofs.emissions.Texts.{layout-parts, on_air}
 -- ---- the first 48 words, which are phasing
 
 first_28 : last_28 (phasing 24) 28 ≡ before_dx
-unfolding phasing before_dx
+unfolding phasing before_dx elements elements_from
 first_28 = refl
 
 first_dx : first_role (phasing 24) 28 ≡ Dx
@@ -50,7 +50,7 @@ unfolding phasing
 length_28 = refl
 
 pattern_28 : last_28 (take 28 (phasing 24)) 28 ≡ before_dx
-unfolding phasing before_dx
+unfolding phasing before_dx elements elements_from
 pattern_28 = refl
 
 -- four words of phasing give a lock behind them
@@ -63,7 +63,7 @@ four_lock = record {
     here = record { enough = lit≤ tt; heard = omega (arith, length_28); pattern = inl pattern_28 };
     least = λ s after before here. absurd (omega (arith, before, here.enough));
   };
-  holds = record { never = λ w how r. absurd (omega (arith, r.heard, length_28)) };
+  holds = λ w how r. absurd (omega (arith, r.heard, length_28));
 }
 
 is_on_phasing : IsOnPhasing (phasing 24) 0 28

@@ -190,7 +190,7 @@ module _ (start : Start) where
 
   as-fault : (bytes : List ℕ) (why : LineFault) → StopsWith bytes (run.Line why) → HasFault air_limit bytes why
   unfolding StopsWith
-  as-fault bytes why h = record { lines = h.lines; rest = h.rest; more = h.more; whole = h.whole; each = h.each; part = h.part; cause = h.here.0 }
+  as-fault bytes why h = record { lines = h.lines; rest = h.rest; more = h.more; whole = h.whole; each = h.each; part = h.part; here = h.here.0 }
 
   -- a stop at a line that is refused
   record AtLine (bytes : List ℕ) (number : ℕ) (why : LineRefusal) : Type 0 where
@@ -232,7 +232,7 @@ module _ (start : Start) where
       let cause = cause-same _ k.lines k.rest b.next (b.between ++ a.after) b.between fault (subst (λ m. IsCause air_limit (length (file_of k.lines ++ k.rest)) k.lines k.rest m fault) b.rest_is k.here.0) in
       IsAirFile-good air_limit (file_of all) all fault
       (record { whole = refl; each = good-more a.lines a.line a.each a.good; within = omega (arith, a.within, line-longer a.lines a.line) })
-      (record { lines = k.lines; rest = k.rest; more = b.next ∷ b.between; whole = b.reaches; each = k.each; part = k.part; cause = cause })
+      (record { lines = k.lines; rest = k.rest; more = b.next ∷ b.between; whole = b.reaches; each = k.each; part = k.part; here = cause })
 
   -- it stands before the end of the other
   not-after : (bytes : List ℕ) (n m : ℕ) (v w : LineRefusal) (a : AtLine bytes n v) (b : AtLine bytes m w) → length (file_of b.lines ++ spelling b.line) ≤ length (file_of a.lines ++ spelling a.line)

@@ -7,8 +7,8 @@ use Rattle.std.proofs.KnownBytes.{Consumes-nil}
 use Rattle.std.proofs.lemmas.List.{length-map}
 use Rattle.nx_fec.specs.AirFile.{Line, moment, elements, refuse_station, accept_station, refuse_subject, accept_subject, element_digit, spelling}
 use Rattle.nx_fec.specs.Transfers.{CountedDevice, HasWritten, Devices, devices}
-use Rattle.nx_fec.specs.LineRuns.{ExplainsLines, HasTaken, HasTakenAll, IsLineRefused, RunsLines}
-use Rattle.nx_fec.specs.Lines.{StopsAt, air_limit, file_of, line_bytes}
+use Rattle.nx_fec.specs.LineRuns.{ExplainsLines, HasTaken, HasTakenAll, RunsLines}
+use Rattle.nx_fec.specs.Lines.{IsLineRefused, StopsAt, air_limit, file_of, line_bytes}
 use Rattle.nx_fec.specs.declared.fault.LineFault.TheVariants as file
 use Rattle.nx_fec.specs.declared.line_run.LinesFault.{LinesFault}
 use Rattle.nx_fec.specs.declared.line_run.LinesFault.TheVariants as run

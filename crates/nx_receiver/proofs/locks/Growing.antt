@@ -51,7 +51,7 @@ not_past_yet bits more locks p lock q now past =
     elim (cases_lt (lock.last + 1) (whole_words bits lock.at)) [
       | inl beyond ↦
           let heard : lock.at + 7 * (lock.last + 1) ≤ length bits = omega (arith, whole_heard bits lock.at now.found.here.heard) in
-          absurd (now.holds.never lock.last lock.how (IsReleased-less bits more lock.at lock.last now.found.here.enough heard past.released))
+          absurd (now.holds lock.last lock.how (IsReleased-less bits more lock.at lock.last now.found.here.enough heard past.released))
       | inr within ↦ within
     ]
 

@@ -168,7 +168,7 @@ nothing_heard first watch stands fresh = record {
   reads = record {
     locks = [];
     now = hunting 0;
-    stands = record { past = refl; none = record { never = λ s after here. absurd (omega (arith, here.heard)) } };
+    stands = record { past = refl; none = λ s after here. absurd (omega (arith, here.heard)) };
     many = refl;
     ended = ap (copies_by first []) (hunted [] [] 0);
     reads = fresh;

@@ -50,7 +50,8 @@ AreNamed damage place named bits =
 
 -- it stands so after these lines, for which it gave these bytes; its count goes up to the greatest
 -- number of 64 bits
-pub record HasDamaged (damage : Damage) (now : Damager) (lines : List Line) (given : List ℕ) : Type 0 where
+pub record HasDamaged (damage : Damage) (now : Damager) (lines : List Line) (given : List ℕ)
+    : Type 0 where
   pub at : IsAt damage now (length (flat_map elements_of lines))
   pub counted : now.inverted
       ≡ min (inverted_count damage 0 (flat_map elements_of lines)) (2 ^ 64 - 1)

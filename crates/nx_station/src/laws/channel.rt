@@ -1,28 +1,29 @@
 //! Laws of what is received under the channel, each the contract of a function that does nothing.
-ghost use Rattle.std.specs.Prelude.{◌≡◌, ◌≢◌, ℕ, ◌+◌, ◌-◌, ◌*◌, ◌%◌, ◌<◌, ◌≤◌, ◌==◌, not, Bool, List, [], ◌∷◌, ◌++◌, Some, count_by, drop, length, slice_get, take};
+ghost use Rattle.std.specs.Prelude.{◌≡◌, ◌≢◌, ℕ, ◌+◌, ◌-◌, ◌*◌, ◌%◌, ◌<◌, ◌≤◌, Bool, List, [], ◌∷◌, ◌++◌, Some, count_by, drop, length, slice_get, take};
 ghost use Rattle.nx_code.specs.Table.{phasing_1, traffic_word};
-ghost use Rattle.nx_code.specs.Word.{weight, word_from};
+ghost use Rattle.nx_code.specs.Word.{is_wrong, word_from, wrong_in};
 ghost use Rattle.nx_envelope.specs.Message.{MessageView};
 ghost use Rattle.nx_fec.specs.Emission.{SentPosition, bits_of, emission, position_at, reception, word_sent};
 ghost use Rattle.nx_fec.specs.Pairing.{counts_as, pairing};
 ghost use Rattle.nx_station.specs.Broadcast.{AreSpelled, IsBroadcast, digit_combination, end_positions, layout};
-ghost use Rattle.nx_station.specs.Channel.{PassesChannel, first_position, first_slot, heard_in, message_slot, most_wrong, phasing_received, phasing_words, slots_of, window, wrong_words};
+ghost use Rattle.nx_station.specs.Channel.{PassesChannel, first_slot, heard_in, message_slot, most_wrong, phasing_received, phasing_words, slots_of, window};
 ghost use Rattle.nx_station.specs.ChannelExample.{example_emission, example_numbers, example_parts, example_sending, heard_half, heard_without_75};
 ghost use Rattle.nx_station.specs.Sendings.{IsCut, IsReceived, IsSending, StandsFrom, digit_slot, positions_before};
 
-/// Under the channel any 64 successive words from slot 96 on, and any fewer, have at most 35 of
-/// wrong weight. So have the last 64 words of a lock, up to each word from slot 144 on, whatever
-/// words of the lock came before slot 96: `whole` is the word of the lock that stands in slot 144.
+/// Under the channel any 64 successive words from the first slot on, and any fewer, have at most 35
+/// of wrong weight. So have the last 64 words of a lock, up to each word of the first message or
+/// later, whatever words of the lock came before the first slot: `whole` is the word of the lock
+/// that is the first of the first message.
 pub fn few_words_are_wrong()
     ensures few { (messages : List MessageView) (positions : List SentPosition) (heard : List ℕ)
         → IsBroadcast messages positions → PassesChannel positions heard
         → (first n : ℕ) → n ≤ window
-        → count_by (λ word. not (weight word == 4)) (take n (drop first heard)) ≤ most_wrong }
+        → count_by is_wrong (take n (drop first heard)) ≤ most_wrong }
     ensures by_slots { (messages : List MessageView) (positions : List SentPosition)
         (heard : List ℕ)
         → IsBroadcast messages positions → PassesChannel positions heard
         → (slot n : ℕ) → first_slot ≤ slot → n ≤ window → slot + n ≤ slots_of positions
-        → wrong_words (heard_in heard) slot n ≤ most_wrong }
+        → wrong_in (heard_in heard) slot n ≤ most_wrong }
     ensures in_a_lock { (messages : List MessageView) (positions : List SentPosition)
         (heard : List ℕ)
         → IsBroadcast messages positions → PassesChannel positions heard
@@ -32,29 +33,30 @@ pub fn few_words_are_wrong()
         → words k ≡ heard_in heard slot)
         → (k slot : ℕ) → k + message_slot ≡ slot + whole → message_slot ≤ slot
         → slot < slots_of positions
-        → wrong_words words (k + 1 - window) (k + 1 - (k + 1 - window)) ≤ most_wrong }
+        → wrong_in words (k + 1 - window) (k + 1 - (k + 1 - window)) ≤ most_wrong }
 {}
 
-/// Under the channel no DX word from slot 96 on is phasing signal 1 before the three positions of
+/// Under the channel no DX word from the first slot on is phasing signal 1 before the positions of
 /// the end, so no two in a row are: a word that is damaged has the wrong weight, and so is no
 /// phasing signal.
 pub fn no_phasing_1_before_the_end()
     ensures { (messages : List MessageView) (positions : List SentPosition) (heard : List ℕ)
         → IsBroadcast messages positions → PassesChannel positions heard
-        → (i : ℕ) → first_position ≤ i → i + end_positions < length positions → heard_in heard (2 * i) ≢ phasing_1 }
+        → (i : ℕ) → first_slot ≤ 2 * i → i + end_positions < length positions
+        → heard_in heard (2 * i) ≢ phasing_1 }
 {}
 
-/// Under the channel each position from 48 on, but for the three of the end, is taken as it was
-/// sent: from its two words, in the slots 2i and 2i+5.
+/// Under the channel each position from the first slot on, but for those of the end, is taken as it
+/// was sent: from its two words, in the slots 2i and 2i+5.
 pub fn positions_are_taken_as_sent()
     ensures { (messages : List MessageView) (positions : List SentPosition) (heard : List ℕ)
         → IsBroadcast messages positions → PassesChannel positions heard
-        → (i : ℕ) → first_position ≤ i → i + end_positions < length positions
+        → (i : ℕ) → first_slot ≤ 2 * i → i + end_positions < length positions
         → pairing (counts_as (heard_in heard (2 * i))) (counts_as (heard_in heard (2 * i + 5)))
         ≡ reception (position_at positions i) }
 {}
 
-/// What is heard under the channel begins with 48 phasing words as sent. And each word that is
+/// What is heard under the channel begins with phasing words as sent. And each word that is
 /// heard stands in the bits, whatever stands before and after.
 pub fn words_stand_in_the_bits()
     ensures phasing { (messages : List MessageView) (positions : List SentPosition) (heard : List ℕ)
@@ -85,14 +87,15 @@ pub fn messages_stand_in_their_emission()
         → digit_slot spellings i < slots_of (layout spellings) }
 {}
 
-/// An emission that arrives as it is sent passes the channel: the bits of its slots before slot 96
-/// belong to the gap before it, and those from there on are received.
+/// An emission that arrives as it is sent passes the channel: the bits of its slots before the
+/// first belong to the gap before it, and those from there on are received.
 pub fn an_undamaged_emission_is_received()
     ensures passes { (messages : List MessageView) (positions : List SentPosition)
         → messages ≢ [] → IsBroadcast messages positions
         → PassesChannel positions (drop first_slot (emission positions)) }
     ensures cut { (positions : List SentPosition) → bits_of (emission positions)
-        ≡ bits_of (take first_slot (emission positions)) ++ bits_of (drop first_slot (emission positions)) }
+        ≡ bits_of (take first_slot (emission positions))
+        ++ bits_of (drop first_slot (emission positions)) }
 {}
 
 /// The definitions at a worked emission, of EA01 with the line TEST: it is received where the first

@@ -3,13 +3,13 @@
 use Rattle.std.specs.Prelude.{◌≡◌, ℕ, ◌+◌, ◌*◌, ◌/◌, ◌%◌, ◌^◌, ◌<◌, ◌≤◌, ◌==◌, nat_le, min, Bool, not, ◌&&◌, ◌⊎◌, List, [], ◌∷◌, ◌++◌, length, take, count_by, Option, Some, None, if◌then◌else◌}
 use Rattle.circular_buffer.specs.Buffer.{keep_last}
 use Rattle.nx_code.specs.Table.{phasing_1}
-use Rattle.nx_code.specs.Word.{value_of}
+use Rattle.nx_code.specs.Word.{value_of, is_wrong}
 use Rattle.nx_sync.specs.declared.track.Track.{Track}
 use Rattle.nx_sync.specs.declared.step.Step.{Step}
 use Rattle.nx_sync.specs.declared.step.Role.{Role}
 use Rattle.nx_sync.specs.declared.step.Change.{Change}
 use Rattle.nx_sync.specs.declared.step.Change.TheVariants.{Locked, Ended, LostLock}
-use Rattle.nx_sync.specs.Words.{marked_words, losing_count, other_role, is_dx, is_wrong}
+use Rattle.nx_sync.specs.Words.{marked_words, losing_count, other_role, is_dx}
 use Rattle.nx_sync.specs.Locks.{pattern_elements}
 use Rattle.nx_sync.specs.private.Windows.{role_after, next_window, window_after}
 use Rattle.nx_sync.specs.Steps.{step}

@@ -18,7 +18,7 @@ returns-in-Err g c = λ first s.
     (taken-some t.stands t.begins t.refuses first c.loop-fault.taker old new (HasGiven old (g.W.Write.contents c.loop-fault.writer.inner) c.loop-fault.batch) r.2.lines c.in-Err.fault.written
     (λ lines given k. g.met.T.LineTaker.whole first c.loop-fault.taker lines given k) (λ given k. c.in-Err.ensures.bytes old given k) r.2.taken))
     (read_failed-none _ _ _ (Write-other _) c.loop-fault.invariant.reader) (omega (arith, c.loop-fault.invariant.reader))
-    (record { failed = (λ w. c.in-Err.ensures.failed.0 refl, λ one. (c.in-Err.fault.written, refl)); once = c.in-Err.ensures.once })
+    (record { failed = (λ w. c.in-Err.ensures.counts.failed.0 refl, λ one. (c.in-Err.fault.written, refl)); once = c.in-Err.ensures.counts.once })
 
 pub returns-in-Failed : goal.returns-in-Failed
 returns-in-Failed g c = λ first s.
@@ -34,7 +34,7 @@ returns-in-Failed g c = λ first s.
           (λ given k. HasGiven-empty old new c.send.new.self given c.in_default.ensures.empty (c.in_default.ensures.bytes old given k)) r.2.taken,
     ))
     (λ e. c.in-Failed.ensures.1, λ one. refl) (omega (arith, c.in-Failed.ensures.1))
-    (Writes-none _ _ _ Read-other c.in_default.ensures.none)
+    (Writes-none _ _ _ Read-other c.in_default.ensures.counts.none)
 
 pub returns-in-Err-take_piece : goal.returns-in-Err-take_piece
 returns-in-Err-take_piece g c = λ first s.
@@ -86,7 +86,7 @@ returns-in-Err-end g c = λ first s.
       ),
     )
     (read_failed-none _ _ _ (Line-read _) c.in-End.ensures.2) (omega (arith, c.in-End.ensures.2))
-    (Writes-none _ _ _ (Line-write _) c.in_default.ensures.none)
+    (Writes-none _ _ _ (Line-write _) c.in_default.ensures.counts.none)
 
 pub returns : goal.returns
 returns g c = λ first s.
@@ -105,4 +105,4 @@ returns g c = λ first s.
       },
     )
     (read_failed-none _ _ _ (Ok-not_err _ _) c.in-End.ensures.2) (omega (arith, c.in-End.ensures.2))
-    (Writes-none _ _ _ (λ written. Ok-not_err _ _) c.in_default.ensures.none)
+    (Writes-none _ _ _ (λ written. Ok-not_err _ _) c.in_default.ensures.counts.none)

@@ -17,7 +17,7 @@ returns-in_err-write_out g c =
           (λ bytes k. (k.0, c.deref-2.result.now, length bits / 7, shown bytes k.1, wrote.err))
           (λ bytes k. (tt, c.deref-2.result.now, length bits / 7, shown bytes k, wrote.err))
           (λ bytes k h outside. absurd outside) (λ e. absurd (Write-not_read _ e)) (λ e. absurd (Ok-not_err _ _ e));
-      writes = record { failed = (λ w. wrote.failed.0 refl, λ one. (c.in_err-write_out.field-0.0.written, refl)); once = wrote.once };
+      writes = record { failed = (λ w. wrote.counts.failed.0 refl, λ one. (c.in_err-write_out.field-0.0.written, refl)); once = wrote.counts.once };
       unwritten = λ other. absurd (other c.in_err-write_out.field-0.0.written refl);
     }))
 
@@ -33,6 +33,6 @@ returns g c =
           (λ bytes k. (k.0, c.deref-2.result.now, shown bytes k.1, wrote.ok))
           (λ bytes k. (tt, c.deref-2.result.now, shown bytes k, wrote.ok))
           (λ bytes k h. h) (λ e. absurd (Ok-not_err _ _ e)) (λ e. absurd (Ok-not_err _ _ e));
-      writes = record { failed = (λ w. absurd (Ok-not_err _ _ w.1), λ one. absurd (omega (arith, wrote.none, one))); once = wrote.once };
+      writes = record { failed = (λ w. absurd (Ok-not_err _ _ w.1), λ one. absurd (omega (arith, wrote.counts.none, one))); once = wrote.counts.once };
       unwritten = tt;
     }

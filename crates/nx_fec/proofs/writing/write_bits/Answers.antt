@@ -18,7 +18,7 @@ loop-index-preserved g c =
     let now = c.if-remaining_capacity-lt-LINE_BYTES in
     let none : now.writer.failures ≡ 0 =
     elim now.branch [
-      | then-remaining_capacity-lt-LINE_BYTES+in_ok-sent w ↦ ap (λ x. x.failures) w.writer-is ∙ w.in_ok-sent.ensures.none
+      | then-remaining_capacity-lt-LINE_BYTES+in_ok-sent w ↦ ap (λ x. x.failures) w.writer-is ∙ w.in_ok-sent.ensures.counts.none
       | else-remaining_capacity-lt-LINE_BYTES w ↦ ap (λ x. x.failures) w.writer-is ∙ before.none
     ] in
     let batched : Batched (contents c.args.writer.now.inner) (contents now.writer.inner) c.args.bits.now c.loop-index.index now.sent now.batch.items =

@@ -12,12 +12,11 @@ returns-in-Some-first_of_another-clause-refused c =
 pub returns-then-not-has_slots-clause-refused : goal.returns-then-not-has_slots-clause-refused
 returns-then-not-has_slots-clause-refused c =
     let first = rw c.in-Some.is at c.first.ensures.value in
-    let none = none_of c.first_of_another.result c.in_default-first_of_another.not-Some in
-    record {
-      station = c.b1-station.result.byte;
-      of_one = all-same c.args.messages.now c.in-Some.first.now c.b1-station.result.byte first (sym c.first_of_another.ensures ∙ none);
-      without = λ h. false≢true (sym c.if-not-has_slots.true ∙ c.has_slots.ensures.1 h);
-    }
+    let none = none_of c.first_of_another.result c.in_default-first_of_another.not-Some in (
+      c.b1-station.result.byte,
+      all-same c.args.messages.now c.in-Some.first.now c.b1-station.result.byte first (sym c.first_of_another.ensures ∙ none),
+      λ h. false≢true (sym c.if-not-has_slots.true ∙ c.has_slots.ensures.1 h),
+    )
 
 pub returns-clause-ok : goal.returns-clause-ok
 returns-clause-ok c =

@@ -1,3 +1,4 @@
+use Rattle.std.proofs.Common.{arith}
 use Rattle.nx_station.proofs.broadcast.emission.Goals as goal
 
 pub count_positions-count-requires : goal.count_positions-count-requires
@@ -9,9 +10,9 @@ returns-in-Ok-clause-sendable c = record {
   of_one = c.in_ok-check_stations.ensures.ok.1;
   has_slots = c.in_ok-check_stations.ensures.ok.2;
   sound = c.count_positions-count.ensures.sound;
-  count = c.count_positions-count.result;
-  positions = c.count_positions-count.ensures.count;
-  fits = c.if-count-gt-MAX_POSITIONS.false;
+  positions = c.count_positions-count.ensures.count.0;
+  broadcast = c.count_positions-count.ensures.count.1;
+  fits = omega (arith, c.count_positions-count.ensures.count.2, c.if-count-gt-MAX_POSITIONS.false);
 }
 
 pub returns-in-Err-clause-refused : goal.returns-in-Err-clause-refused
@@ -20,7 +21,7 @@ returns-in-Err-clause-refused c = record {
   of_one = c.in_ok-check_stations.ensures.ok.1;
   has_slots = c.in_ok-check_stations.ensures.ok.2;
   sound = c.count_positions-count.ensures.sound;
-  count = c.count_positions-count.result;
-  positions = c.count_positions-count.ensures.count;
-  fits = c.if-count-gt-MAX_POSITIONS.false;
+  positions = c.count_positions-count.ensures.count.0;
+  broadcast = c.count_positions-count.ensures.count.1;
+  fits = omega (arith, c.count_positions-count.ensures.count.2, c.if-count-gt-MAX_POSITIONS.false);
 }

@@ -23,5 +23,5 @@ returns-in_err-write_out g c =
     let of = of_first messages c.index.result.now c.b1-station.result.byte read.sendable.station read.sendable.of_one c.index.ensures
     (ap (λ identity. identity.b1.byte) (sym c.identity.ensures) ∙ ap (λ letter. letter.byte) (sym c.b1-station.ensures)) in
     rw p.1 (rw p.2 (unwritten (devices g.R.Read.remaining g.W.Write.contents c.args.reader.now c.read_bits.new.reader c.args.writer.now c.write_out.new.writer)
-    c.in_ok-bits.bits bits c.deref-3.result.now (length messages) c.in_err-write_out.field-0.0.written c.in_ok-bits.ensures.reads (wrote.failed.0 refl)
+    c.in_ok-bits.bits bits c.deref-3.result.now (length messages) c.in_err-write_out.field-0.0.written c.in_ok-bits.ensures.reads (wrote.counts.failed.0 refl)
     record { messages = messages; emission = read; station = c.b1-station.result.byte; of_station = of; whole = text; counted = refl } wrote.err))

@@ -55,7 +55,7 @@ returns-in_err-write_air g c =
     (c.as_bytes.ensures.value ∙ c.in_ok-line.ensures) (c.deref-4.ensures.value ∙ c.in_ok-bits.ensures ∙ ap (λ l. bits_of (emission (map sent_position l))) c.deref-3.ensures.value) refl refl in
     rw p.1 (rw p.2 (unwritten (devices g.R.Read.remaining g.W.Write.contents c.args.reader.now c.read_whole.new.reader c.args.writer.now c.write_air.new.writer) c.args.station.byte c.args.moment
     c.in_ok-file.file c.in_ok-file.file.items (c.as_bytes.result.now ++ file_of (bit_lines c.deref-4.result.now)) _ c.in_err-write_air.field-0.0.written c.in_ok-file.ensures
-    (wrote.failed.0 refl) is wrote.err))
+    (wrote.counts.failed.0 refl) is wrote.err))
 
 pub returns : goal.returns
 returns g c =
@@ -70,4 +70,4 @@ returns g c =
     record { some = some; each = c.in_ok-messages.ensures.station } c.in_ok-positions.ensures.sendable c.in-Some.ensures.next c.in_ok-positions.ensures.positions
     (c.as_bytes.ensures.value ∙ c.in_ok-line.ensures) (c.deref-4.ensures.value ∙ c.in_ok-bits.ensures ∙ ap (λ l. bits_of (emission (map sent_position l))) c.deref-3.ensures.value) count all in
     sent-all (devices g.R.Read.remaining g.W.Write.contents c.args.reader.now c.read_whole.new.reader c.args.writer.now c.write_air.new.writer) c.args.station.byte c.args.moment
-    c.in_ok-file.file c.in_ok-file.file.items (c.as_bytes.result.now ++ file_of (bit_lines c.deref-4.result.now)) _ c.in_ok-file.ensures wrote.none is wrote.ok
+    c.in_ok-file.file c.in_ok-file.file.items (c.as_bytes.result.now ++ file_of (bit_lines c.deref-4.result.now)) _ c.in_ok-file.ensures wrote.counts.none is wrote.ok

@@ -11,7 +11,7 @@ returns-clause-stands c = record {
   now = hunting 0;
   stands = record {
     past = refl;
-    none = record { never = λ s after here. absurd (omega (arith, here.enough, here.heard)) };
+    none = λ s after here. absurd (omega (arith, here.enough, here.heard));
   };
   recent = refl;
   seen = refl;
