@@ -2,7 +2,7 @@
 PREFIX = /usr/local
 PROGRAM = crates/nx_cli/out/nx_cli
 
-.PHONY: install uninstall
+.PHONY: install uninstall deb
 
 install:
 	install -D -m 755 $(PROGRAM) $(DESTDIR)$(PREFIX)/bin/navtex
@@ -17,3 +17,7 @@ uninstall:
 	rm -f $(DESTDIR)$(PREFIX)/share/bash-completion/completions/navtex
 	rm -f $(DESTDIR)$(PREFIX)/share/zsh/site-functions/_navtex
 	rm -f $(DESTDIR)$(PREFIX)/share/fish/vendor_completions.d/navtex.fish
+
+# A Debian package of a static program, out/navtex_VERSION_amd64.deb; it installs nothing.
+deb:
+	package/deb
