@@ -4,4 +4,8 @@ pub mod Known
 pub mod Letters
 pub mod Loading
 pub mod Rings
+pub mod Rising
+pub mod StateLines
+pub mod StateTexts
+pub mod StateWriting
 pub mod Tables
