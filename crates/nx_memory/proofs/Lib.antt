@@ -5,6 +5,7 @@ pub mod Letters
 pub mod Loading
 pub mod Rings
 pub mod Rising
+pub mod StateLaws
 pub mod StateLines
 pub mod StateTexts
 pub mod StateWriting

@@ -147,7 +147,7 @@ not_vital saved is x there = elim (is_vital x) as (λ b. is_vital x ≡ b → b 
   | false ↦ λ _. refl
 ] refl
 
-said_good : (saved : SavedState) → IsSavedState saved → AllByRecursion IsGood (said saved)
+pub said_good : (saved : SavedState) → IsSavedState saved → AllByRecursion IsGood (said saved)
 said_good saved is =
     let stations = rising saved.refused.stations in
     let subjects = rising saved.refused.subjects in

@@ -209,7 +209,7 @@ not_next later saved line c r m sound short other refused e = elim (cut (section
   | inr p ↦ refused p.0 p.1
 ]
 
-versions_differ : (xs ys : List (List ℕ)) → codes "STATE 1" ∷ xs ≡ codes "STATE 2" ∷ ys → ⊥
+pub versions_differ : (xs ys : List (List ℕ)) → codes "STATE 1" ∷ xs ≡ codes "STATE 2" ∷ ys → ⊥
 versions_differ xs ys e = let one : codes "STATE 1" ≡ codes "STATE 2" = cc in absurd (omega (arith, ap (λ (l : List ℕ). get_or l 6 0) one))
 
 -- what the first two lines of a text of version 2 are, and what follows them
