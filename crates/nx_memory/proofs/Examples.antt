@@ -3,7 +3,6 @@ use Rattle.std.specs.Prelude.{◌≡◌, ℕ, true, false, List, [], ◌∷◌, 
 use Rattle.std.specs.Fmt.{digits}
 use Rattle.std.specs.FinSet as set
 use Rattle.std.proofs.Common.{lit≤, ap}
-use Rattle.nx_code.specs.Lists.{last_of}
 use Rattle.nx_envelope.specs.declared.identity.Identity.{Identity}
 use Rattle.nx_memory.specs.declared.entry.MemoryEntry.{MemoryEntry}
 use Rattle.nx_memory.specs.declared.saved_line.SavedLine.TheVariants.{Station, Subject, Entry}

@@ -1,6 +1,6 @@
 -- The lines of a channel: what a further line has to be.
-use Rattle.std.proofs.Common.{◌≡◌, ◌≢◌, ℕ, ◌+◌, ◌-◌, ◌*◌, ◌/◌, ◌%◌, ◌^◌, ◌<◌, ◌≤◌, zero, suc, Bool, true, false, not, ◌&&◌, ◌||◌, cond, List, [], ◌∷◌, ◌++◌, length, map, get_or, drop, eqb, ltb, leb, inl, inr, refl, sym, ap, ◌∙◌, subst, append_assoc, arith}
-use Rattle.std.specs.List.{All, AllByRecursion, list_all}
+use Rattle.std.proofs.Common.{◌≡◌, ◌≢◌, ℕ, ◌+◌, ◌-◌, ◌/◌, ◌%◌, ◌<◌, ◌≤◌, Bool, true, false, not, ◌&&◌, List, [], ◌∷◌, ◌++◌, length, map, get_or, drop, eqb, leb, refl, sym, ap, ◌∙◌, subst, append_assoc, arith}
+use Rattle.std.specs.List.{AllByRecursion}
 use Rattle.std.specs.Fmt.{decimal}
 use Rattle.std.specs.FinSet as set
 use Rattle.std.proofs.lemmas.Bool.{and_parts, and_from, eq-eqb, ltb-true, lt-ltb, leb-true, le-leb, true≢false}
@@ -18,8 +18,8 @@ use Rattle.nx_memory.specs.declared.saved_line.SavedLine.TheVariants.{Station, S
 use Rattle.nx_code.specs.Reading.{IsCapital}
 use Rattle.nx_memory.specs.Content.{IsLater, AreInTurn, IsContent}
 use Rattle.nx_memory.specs.Memory.{most_entries, newest_moment, content_after, is_known}
-use Rattle.nx_memory.specs.Selection.{is_vital, IsRefusable}
-use Rattle.nx_memory.specs.Saved.{SavedState, IsSavedState, AreSavedEntries}
+use Rattle.nx_memory.specs.Selection.{is_vital}
+use Rattle.nx_memory.specs.Saved.{SavedState, IsSavedState}
 use Rattle.nx_memory.specs.StateText.{spelling, rising, said, section}
 use Rattle.nx_memory.specs.private.StateReading.{IsSpelled, IsRefused, is_behind, takes, with_line}
 use Rattle.nx_memory.proofs.Content.{none_later, newest_behind, content_after-IsContent}

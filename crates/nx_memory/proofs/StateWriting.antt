@@ -1,8 +1,8 @@
 -- The lines of the text of a state by their places.
-use Rattle.std.proofs.Common.{◌≡◌, ℕ, ◌+◌, ◌-◌, ◌<◌, ◌≤◌, zero, suc, List, [], ◌∷◌, ◌++◌, length, map, codes, slice_get, Option, Some, None, inl, inr, refl, sym, ap, ◌∙◌, subst, arith}
+use Rattle.std.proofs.Common.{◌≡◌, ℕ, ◌+◌, ◌≤◌, zero, suc, List, [], ◌∷◌, ◌++◌, length, map, codes, slice_get, Some, None, inl, inr, sym, ap, ◌∙◌, arith}
 use Rattle.std.specs.Option.{option_map}
 use Rattle.std.proofs.lemmas.List.{length-append, length-map}
-use Rattle.std.proofs.lemmas.Option.{none-some, slice_get-map, slice_get_cases, slice_get_past}
+use Rattle.std.proofs.lemmas.Option.{none-some, slice_get-map, slice_get_cases}
 use Rattle.nx_memory.specs.declared.saved_line.SavedLine.{SavedLine}
 use Rattle.nx_memory.specs.Saved.{SavedStates}
 use Rattle.nx_memory.specs.StateText.{spelling, said, section, last_line, text_2}

@@ -1,4 +1,4 @@
-use Rattle.std.proofs.Common.{◌≡◌, ℕ, arith, length, sym}
+use Rattle.std.proofs.Common.{arith}
 use Rattle.std.proofs.lemmas.List.{length-map}
 use Rattle.nx_memory.specs.StateText.{said, spelling}
 use Rattle.nx_memory.proofs.StateWriting.{at_line, past_lines}

@@ -1,13 +1,13 @@
-use Rattle.std.proofs.Common.{◌≡◌, ℕ, ◌<◌, true, false, not, List, [], ◌∷◌, ◌++◌, length, Result, Ok, Err, sym, ap, subst, ◌∙◌, refl, arith}
+use Rattle.std.proofs.Common.{◌≡◌, ℕ, ◌<◌, true, List, [], ◌∷◌, ◌++◌, length, Result, Ok, Err, sym, ap, subst, ◌∙◌, refl, arith}
 use Rattle.std.specs.Result.{IsErr, OnOk}
 use Rattle.std.proofs.lemmas.Bool.{true≢false}
 use Rattle.std.specs.FinSet as set
 use Rattle.nx_memory.specs.declared.entry.MemoryEntry.{MemoryEntry}
 use Rattle.nx_memory.specs.declared.saved_line.SavedLine.{SavedLine}
-use Rattle.nx_memory.specs.declared.saved_line.SavedLine.TheVariants.{Station, Subject, Entry}
+use Rattle.nx_memory.specs.declared.saved_line.SavedLine.TheVariants.{Subject}
 use Rattle.nx_memory.specs.Saved.{SavedState, IsSavedState, AreSavedEntries}
 use Rattle.nx_memory.specs.Selection.{Refused, is_vital}
-use Rattle.nx_memory.specs.private.StateReading.{IsSpelled, takes, with_line}
+use Rattle.nx_memory.specs.private.StateReading.{takes, with_line}
 use Rattle.nx_memory.proofs.StateLines.{taken_station, taken_subject, taken_entry, is_taken}
 use Rattle.nx_memory.proofs.saved.Saved.add.Goals as goal
 
