@@ -7,12 +7,7 @@ use Rattle.nx_memory.specs.declared.saved_line.SavedLine.{SavedLine}
 use Rattle.nx_memory.specs.Saved.{SavedStates}
 use Rattle.nx_memory.specs.StateText.{spelling, said, section, last_line, text_2}
 
--- in the first of two lists, and in the second
-pub at_front : {X : Type 0} (xs ys : List X) (place : ℕ) (x : X) → slice_get xs place ≡ Some x → slice_get (xs ++ ys) place ≡ Some x
-at_front [] ys place x e = absurd (none-some x e)
-at_front (y ∷ xs) ys zero x e = e
-at_front (y ∷ xs) ys (suc place) x e = at_front xs ys place x e
-
+-- in the second of two lists
 pub at_back : {X : Type 0} (xs ys : List X) (place behind : ℕ) → place ≡ length xs + behind → slice_get (xs ++ ys) place ≡ slice_get ys behind
 at_back [] ys place behind e = let here : place ≡ behind = omega arith in ap (slice_get ys) here
 at_back (x ∷ xs) ys zero behind e = absurd (omega arith)
@@ -44,18 +39,3 @@ count_lines states =
       length-map (said states.on_1) spelling,
       length-map (said states.on_2) spelling,
     )
-
--- the lines of each channel in the text
-pub on_channel_0 : (states : SavedStates) (place before : ℕ) (line : List ℕ) → place ≡ before + 1 → slice_get (codes "C0" ∷ section states.on_0) before ≡ Some line → slice_get (text_2 states) place ≡ Some line
-on_channel_0 states place before line next there =
-    at_next (codes "STATE 2") ((codes "C0" ∷ section states.on_0) ++ (codes "C1" ∷ (section states.on_1 ++ codes "C2" ∷ (section states.on_2 ++ last_line)))) place before next
-    ∙ at_front (codes "C0" ∷ section states.on_0) (codes "C1" ∷ (section states.on_1 ++ codes "C2" ∷ (section states.on_2 ++ last_line))) before line there
-
-pub behind_channel_0 : (states : SavedStates) (place before behind : ℕ) → place ≡ before + 1 → before ≡ length (codes "C0" ∷ section states.on_0) + behind → slice_get (text_2 states) place ≡ slice_get ((codes "C1" ∷ section states.on_1) ++ (codes "C2" ∷ (section states.on_2 ++ last_line))) behind
-behind_channel_0 states place before behind next there =
-    at_next (codes "STATE 2") ((codes "C0" ∷ section states.on_0) ++ (codes "C1" ∷ (section states.on_1 ++ codes "C2" ∷ (section states.on_2 ++ last_line)))) place before next
-    ∙ at_back (codes "C0" ∷ section states.on_0) (codes "C1" ∷ (section states.on_1 ++ codes "C2" ∷ (section states.on_2 ++ last_line))) before behind there
-
-pub behind_channel_1 : (states : SavedStates) (before behind : ℕ) → before ≡ length (codes "C1" ∷ section states.on_1) + behind → slice_get ((codes "C1" ∷ section states.on_1) ++ (codes "C2" ∷ (section states.on_2 ++ last_line))) before ≡ slice_get ((codes "C2" ∷ section states.on_2) ++ last_line) behind
-behind_channel_1 states before behind there =
-    at_back (codes "C1" ∷ section states.on_1) (codes "C2" ∷ (section states.on_2 ++ last_line)) before behind there
