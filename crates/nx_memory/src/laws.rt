@@ -1,5 +1,5 @@
-//! What the words of the memory and of the text of a state mean: laws over the definitions alone; and
-//! that nothing is lost by saving and loading.
+//! What the words of the memory and of the text of a state mean: laws over the definitions alone;
+//! and that nothing is lost by saving and loading.
 
 ghost use Rattle.std.specs.Prelude.{◌≡◌, ℕ, ◌<◌, ◌≤◌, ◌↔◌, List, [], ◌∷◌, ◌++◌, IsTrue, false};
 ghost use Rattle.nx_code.specs.Lists.{last_of};

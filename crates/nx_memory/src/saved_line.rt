@@ -94,7 +94,8 @@ fn identity(bytes: [u8; 4]) -> Option<Identity>
 fn moment(digits: &[u8]) -> Option<u64>
     ensures found { IfSome result (λ moment.
         (moment ≤ last_moment) × (digits.now ≡ decimal moment)) }
-    ensures none { IfNone result ((moment : ℕ) → moment ≤ last_moment → digits.now ≢ decimal moment) }
+    ensures none { IfNone result ((moment : ℕ) → moment ≤ last_moment
+        → digits.now ≢ decimal moment) }
 {
     let Ok(text) = str::from_utf8(digits) else {
         return None;
