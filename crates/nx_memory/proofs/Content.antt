@@ -40,7 +40,7 @@ newest_behind entry next later =
     ap (λ (i : ℕ). unwrap_or (option_map (λ (it : MemoryEntry). it.moment) (slice_get (entry ∷ next ∷ later) i)) 0) place
 
 -- where the newest isn't later than a moment, none is
-none_later : (entries : List MemoryEntry) (moment : ℕ) → AreInTurn entries → newest_moment entries ≤ moment → All (λ entry. entry.moment ≤ moment) entries
+pub none_later : (entries : List MemoryEntry) (moment : ℕ) → AreInTurn entries → newest_moment entries ≤ moment → All (λ entry. entry.moment ≤ moment) entries
 none_later [] moment turn newest = All-nil (λ (entry : MemoryEntry). entry.moment ≤ moment)
 none_later (entry ∷ []) moment turn newest = All-one (λ (it : MemoryEntry). it.moment ≤ moment) entry newest
 none_later (entry ∷ next ∷ later) moment turn newest =

@@ -1,9 +1,14 @@
 -- The definitions of the memory, evaluated on worked examples.
-use Rattle.std.specs.Prelude.{◌≡◌, ℕ, true, false, [], ◌∷◌, Some, None, refl}
-use Rattle.std.proofs.Common.{lit≤}
-use Rattle.nx_code.specs.Lists.{last_of}
+use Rattle.std.specs.Prelude.{◌≡◌, ℕ, true, false, List, [], ◌∷◌, ◌++◌, map, codes, Some, None, refl}
+use Rattle.std.specs.Fmt.{digits}
+use Rattle.std.specs.FinSet as set
+use Rattle.std.proofs.Common.{lit≤, ap}
 use Rattle.nx_envelope.specs.declared.identity.Identity.{Identity}
 use Rattle.nx_memory.specs.declared.entry.MemoryEntry.{MemoryEntry}
+use Rattle.nx_memory.specs.declared.saved_line.SavedLine.TheVariants.{Station, Subject, Entry}
+use Rattle.nx_memory.specs.Saved.{SavedState, nothing_saved}
+use Rattle.nx_memory.specs.StateText.{spelling, last_line, text_1, text_2}
+use Rattle.nx_memory.proofs.Rising.{rising-empty}
 use Rattle.nx_memory.specs.Memory.{content_after, newest_of, is_known}
 use Rattle.nx_memory.specs.Table.{index_of, moment_of_last}
 use Rattle.nx_memory.specs.Selection.{is_vital}
@@ -67,3 +72,22 @@ l_is_vital = refl
 
 pub c_is_not_vital : is_vital 67 ≡ false
 c_is_not_vital = refl
+
+-- the text of version 1 of one entry of EA01, and that of version 2 where channel 1 has another
+pub one_entry : ℕ → SavedState
+one_entry moment = record {
+  refused = record { stations = set.empty; subjects = set.empty };
+  entries = entry_at ea01 moment ∷ [];
+}
+
+pub text_of_one : text_1 (one_entry 1735692000) ≡ codes "STATE 1" ∷ codes "EA01 1735692000" ∷ codes "END" ∷ []
+unfolding one_entry digits
+text_of_one = ap (λ (l : List ℕ). codes "STATE 1" ∷ (map spelling (map Station l ++ (map Subject l ++ Entry (entry_at ea01 1735692000) ∷ [])) ++ last_line)) rising-empty
+
+pub text_of_two : text_2 (record { on_0 = one_entry 1735692000; on_1 = one_entry 1735706400; on_2 = nothing_saved })
+    ≡ codes "STATE 2" ∷ codes "C0" ∷ codes "EA01 1735692000" ∷ codes "C1" ∷ codes "EA01 1735706400" ∷ codes "C2" ∷ codes "END" ∷ []
+unfolding one_entry digits
+text_of_two = ap (λ (l : List ℕ).
+    codes "STATE 2" ∷ codes "C0" ∷ (map spelling (map Station l ++ (map Subject l ++ Entry (entry_at ea01 1735692000) ∷ []))
+    ++ codes "C1" ∷ (map spelling (map Station l ++ (map Subject l ++ Entry (entry_at ea01 1735706400) ∷ []))
+    ++ codes "C2" ∷ (map spelling (map Station l ++ (map Subject l ++ [])) ++ last_line)))) rising-empty

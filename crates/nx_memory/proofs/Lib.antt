@@ -4,4 +4,9 @@ pub mod Known
 pub mod Letters
 pub mod Loading
 pub mod Rings
+pub mod Rising
+pub mod StateLaws
+pub mod StateLines
+pub mod StateTexts
+pub mod StateWriting
 pub mod Tables

@@ -1,5 +1,5 @@
 -- What of a list that stands in turn was entered before one of its entries.
-use Rattle.std.proofs.Common.{◌≡◌, ℕ, ◌+◌, ◌-◌, ◌<◌, ◌≤◌, zero, suc, Bool, true, false, ◌&&◌, ◌||◌, List, [], ◌∷◌, ◌++◌, length, take, drop, get_or, ltb, Option, Some, None, refl, sym, ap, ◌∙◌, subst, arith}
+use Rattle.std.proofs.Common.{◌≡◌, ℕ, ◌+◌, ◌-◌, ◌<◌, ◌≤◌, zero, suc, true, false, ◌&&◌, ◌||◌, List, [], ◌∷◌, ◌++◌, length, take, drop, get_or, ltb, Option, Some, None, refl, sym, ap, ◌∙◌, subst, arith}
 use Rattle.std.specs.List.{All}
 use Rattle.std.proofs.lemmas.Bool.{le-ltb}
 use Rattle.std.proofs.lemmas.List.{take_more, length-take}
@@ -23,7 +23,7 @@ later_than_before (entry ∷ later) (suc k) d turn within =
     (later_than_before later k d turn.1 inside)
 
 -- so the newest of these isn't later than it
-newest_within : (before : List MemoryEntry) (last : MemoryEntry) → All (λ it. IsLater it last) before → newest_moment before ≤ last.moment
+pub newest_within : (before : List MemoryEntry) (last : MemoryEntry) → All (λ it. IsLater it last) before → newest_moment before ≤ last.moment
 newest_within [] last all = omega arith
 newest_within (entry ∷ []) last all = (All-head (λ (it : MemoryEntry). IsLater it last) entry [] all).in_turn
 newest_within (entry ∷ next ∷ later) last all =
@@ -37,7 +37,7 @@ not_recent entry last is = elim (same_identity entry.identity last.identity) as 
   | false ↦ λ other. refl
 ] refl
 
-unknown_within : (before : List MemoryEntry) (last : MemoryEntry) → All (λ it. IsLater it last) before → is_known last.identity last.moment before ≡ false
+pub unknown_within : (before : List MemoryEntry) (last : MemoryEntry) → All (λ it. IsLater it last) before → is_known last.identity last.moment before ≡ false
 unknown_within [] last all = refl
 unknown_within (entry ∷ later) last all =
     ap (λ b. b || is_known last.identity last.moment later) (not_recent entry last (All-head (λ (it : MemoryEntry). IsLater it last) entry later all))

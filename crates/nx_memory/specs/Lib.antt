@@ -4,5 +4,6 @@ pub mod Memory
 pub mod Ring
 pub mod Saved
 pub mod Selection
+pub mod StateText
 pub mod Table
 pub mod private

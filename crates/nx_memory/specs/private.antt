@@ -1,3 +1,4 @@
 pub mod LetterFlags
 pub mod RefusedCode
 pub mod RingAndTable
+pub mod StateReading

@@ -1,5 +1,5 @@
-//! What the words of the memory mean: laws over its definitions alone; and that nothing is lost by
-//! saving and loading.
+//! What the words of the memory and of the text of a state mean: laws over the definitions alone;
+//! and that nothing is lost by saving and loading.
 
 ghost use Rattle.std.specs.Prelude.{◌≡◌, ℕ, ◌<◌, ◌≤◌, ◌↔◌, List, [], ◌∷◌, ◌++◌, IsTrue, false};
 ghost use Rattle.nx_code.specs.Lists.{last_of};
@@ -9,6 +9,9 @@ ghost use Rattle.nx_memory.specs.Content.{IsContent};
 ghost use Rattle.nx_memory.specs.Memory.{IsLive, content_after, is_known, most_entries, newest_moment};
 ghost use Rattle.nx_memory.specs.Table.{identities, index_of, is_recent_moment, moment_of_last};
 ghost use Rattle.nx_envelope.specs.Moment.{last_moment};
+ghost use Rattle.std.specs.List.{AllByRecursion};
+ghost use Rattle.nx_memory.specs.Saved.{SavedStates, AreSavedStates};
+ghost use Rattle.nx_memory.specs.StateText.{IsShortLine, IsStateText, IsText1, IsText2, text_2};
 
 use crate::listed::Listed;
 use crate::recall::Recall;
@@ -59,6 +62,24 @@ pub fn the_last_entry_tells()
     ensures { (content : List MemoryEntry) (identity : Identity) (moment : ℕ) → IsContent content →
         is_known identity moment content
         ≡ is_recent_moment moment (moment_of_last identity content) }
+{}
+
+/// A text of a state stands for one state, and of one version a state has one text. What is written
+/// is a text of what is saved, so it is read back as the same. No text begins another, and no line
+/// has more than 16 bytes or a line feed in it.
+pub fn a_state_text_stands_for_one_state()
+    ensures one_state { (lines : List (List ℕ)) (states others : SavedStates) →
+        IsStateText lines states → IsStateText lines others → states ≡ others }
+    ensures one_text_1 { (lines others : List (List ℕ)) (states : SavedStates) →
+        IsText1 lines states → IsText1 others states → lines ≡ others }
+    ensures one_text_2 { (lines others : List (List ℕ)) (states : SavedStates) →
+        IsText2 lines states → IsText2 others states → lines ≡ others }
+    ensures written { (states : SavedStates) →
+        AreSavedStates states → IsStateText (text_2 states) states }
+    ensures none_begins { (lines more : List (List ℕ)) (states others : SavedStates) →
+        IsStateText lines states → IsStateText (lines ++ more) others → more ≡ [] }
+    ensures short { (lines : List (List ℕ)) (states : SavedStates) →
+        IsStateText lines states → AllByRecursion IsShortLine lines }
 {}
 
 /// Nothing is lost where a memory is loaded and saved: what is saved of it is what was loaded.

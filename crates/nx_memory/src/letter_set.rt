@@ -2,7 +2,9 @@
 
 ghost use Rattle.std.specs.Prelude.{◌≡◌, ◌+◌, ◌<◌};
 ghost use Rattle.std.specs.FinSet as set;
+ghost use Rattle.nx_memory.specs.StateText.{rising};
 
+use arrayvec::ArrayVec;
 use nx_envelope::Letter;
 use std::marker::Model;
 
@@ -65,6 +67,19 @@ impl LetterSet {
         ensures { self.new ≡ set.remove self.old letter.byte }
     {
         self.flags[place_in_alphabet(letter)] = false;
+    }
+
+    /// The letters in rising order, each by its byte.
+    pub(crate) fn letters(&self) -> ArrayVec<u8, LETTERS>
+        ensures { result.items ≡ rising self.now }
+    {
+        let mut letters = ArrayVec::new();
+        for place in 0..LETTERS {
+            if self.flags[place] {
+                letters.push(b'A' + place as u8);
+            }
+        }
+        letters
     }
 }
 

@@ -12,7 +12,11 @@ mod plain;
 mod recall;
 mod ring;
 mod saved;
+mod saved_line;
+mod saved_set;
 mod selection;
+mod state_reader;
+mod state_text;
 
 pub use entry::MemoryEntry;
 pub use listed::Listed;
@@ -20,7 +24,11 @@ pub use plain::PlainRecall;
 pub use recall::{CAPACITY, LIFETIME, Recall};
 pub use ring::RingRecall;
 pub use saved::Saved;
+pub use saved_line::MAX_STATE_LINE;
+pub use saved_set::SavedSet;
 pub use selection::{Selection, Vital};
+pub use state_reader::{StateReader, StateStep};
+pub use state_text::state_line;
 
 #[cfg(test)]
 mod tests;

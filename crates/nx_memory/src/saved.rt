@@ -14,6 +14,8 @@ use arrayvec::ArrayVec;
 use nx_envelope::Identity;
 use std::marker::Model;
 
+mod text;
+
 /// A selection and the entries of a memory, at most 200, none past the last moment. Contracts see
 /// it as what is refused and the list of the entries, oldest first, and it holds nothing else.
 #[derive(Drop)]

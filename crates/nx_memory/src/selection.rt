@@ -3,8 +3,10 @@
 ghost use Rattle.std.specs.Prelude.{◌≡◌, ◌↔◌, false, not, IsTrue, IsErr, IfErr, OnOk, OnErr};
 ghost use Rattle.std.specs.FinSet as set;
 ghost use Rattle.nx_memory.specs.Selection.{IsRefusable, is_vital, admits};
+ghost use Rattle.nx_memory.specs.StateText.{rising};
 
-use crate::letter_set::LetterSet;
+use crate::letter_set::{LETTERS, LetterSet};
+use arrayvec::ArrayVec;
 use nx_envelope::{Identity, Letter};
 use std::marker::Model;
 use thiserror::Error;
@@ -98,7 +100,7 @@ impl Selection {
             IsTrue (set.contains self.old.subjects subject.byte) → self.new ≡ self.old) }
         ensures unchanged { OnErr result (self.new ≡ self.old) }
     {
-        if is_vital_subject(subject) {
+        if is_vital_subject(subject.byte()) {
             return Err(Vital { subject });
         }
         self.refused_subjects.insert(subject);
@@ -121,6 +123,22 @@ impl Selection {
         self.refused_subjects.contains(subject)
     }
 
+    /// The refused stations in rising order, each by its letter's byte.
+    pub(crate) fn refused_stations(&self) -> ArrayVec<u8, LETTERS>
+        ensures letters { result.items ≡ rising self.now.stations }
+        ensures refusable { IsRefusable self.now }
+    {
+        self.refused_stations.letters()
+    }
+
+    /// The refused subjects in rising order, each by its letter's byte.
+    pub(crate) fn refused_subjects(&self) -> ArrayVec<u8, LETTERS>
+        ensures letters { result.items ≡ rising self.now.subjects }
+        ensures refusable { IsRefusable self.now }
+    {
+        self.refused_subjects.letters()
+    }
+
     /// Whether neither the station nor the subject is refused. A vital subject never is.
     pub fn admits(&self, identity: &Identity) -> bool
         ensures selected { result ≡ admits self.now identity.now }
@@ -133,8 +151,8 @@ impl Selection {
 }
 
 /// Whether the subject is A, B, D or L.
-fn is_vital_subject(subject: Letter) -> bool
-    ensures { result ≡ is_vital subject.byte }
+pub(crate) fn is_vital_subject(subject: u8) -> bool
+    ensures { result ≡ is_vital subject }
 {
-    matches!(subject.byte(), b'A' | b'B' | b'D' | b'L')
+    matches!(subject, b'A' | b'B' | b'D' | b'L')
 }

@@ -173,8 +173,110 @@ fn names_the_vital_subject(rt: HostRuntime) -> Result<(), Fail> {
     Ok(())
 }
 
+/// Whether a reader takes each of the lines but the last, and can't take that.
+fn refuses_last(lines: &[&str]) -> bool {
+    let mut reader = StateReader::new();
+    let mut places = lines.len();
+    for line in lines {
+        places = places.saturating_sub(1);
+        if matches!(reader.line(line.as_bytes()), StateStep::Bad) {
+            return places == 0;
+        }
+    }
+    false
+}
+
+/// Reads the lines, of which the last ends a text of a state.
+fn read(rt: &impl Abort, lines: &[&str]) -> SavedSet {
+    let mut reader = StateReader::new();
+    let mut read = None;
+    for line in lines {
+        if let StateStep::Done(states) = reader.line(line.as_bytes()) {
+            read = Some(states);
+        }
+    }
+    read.expect(rt, "a text of a state")
+}
+
+/// Whether the text of the states is these lines.
+fn is_written(states: &SavedSet, lines: &[&str]) -> bool {
+    let mut place = 0;
+    for line in lines {
+        match state_line(states, place) {
+            Some(written) if written.as_slice() == line.as_bytes() => place = place.saturating_add(
+                1,
+            ),
+            _ => return false,
+        }
+    }
+    state_line(states, place).is_none()
+}
+
+#[test]
+fn states_are_read_and_written(rt: HostRuntime) {
+    let states = read(&rt, &["STATE 1", "EA01 1735692000", "END"]);
+    assert_eq!(rt; states.newest(), Some(SLOT_START));
+    assert!(rt; states.get(0).is_some_and(|saved| saved.count() == 1));
+    assert!(rt; states.get(1).is_some_and(|saved| saved.count() == 0));
+    assert!(rt; states.get(3).is_none());
+    assert!(rt;
+        is_written(
+            &states,
+            &["STATE 2", "C0", "EA01 1735692000", "C1", "C2", "END"]
+        )
+    );
+    let lines = [
+        "STATE 2",
+        "C0",
+        "EA01 1735692000",
+        "C1",
+        "RS B",
+        "RJ C",
+        "EA01 1735706400",
+        "C2",
+        "END",
+    ];
+    let states = read(&rt, &lines);
+    assert_eq!(rt; states.newest(), Some(1_735_706_400));
+    assert!(rt; is_written(&states, &lines));
+    let states = SavedSet::of(Saved::new(), Saved::new(), Saved::new());
+    assert!(rt; is_written(&states, &["STATE 2", "C0", "C1", "C2", "END"]));
+    assert_eq!(rt; SavedSet::new().newest(), None);
+}
+
+#[test]
+fn lines_that_no_state_has_are_refused(rt: HostRuntime) {
+    assert!(rt; refuses_last(&["STATE 1", "RS B", "RS A"]));
+    assert!(rt; refuses_last(&["STATE 1", "RJ D"]));
+    assert!(rt; refuses_last(&["STATE 1", "EA00 5"]));
+    assert!(rt; refuses_last(&["STATE 1", "EA01 6", "EB01 5"]));
+    assert!(rt; refuses_last(&["STATE 1", "EA01 5", "EA01 237604"]));
+    assert!(rt; refuses_last(&["STATE 1", "EA01 05"]));
+    assert!(rt; refuses_last(&["STATE 1", "EA01 32503680000"]));
+    assert!(rt; refuses_last(&["STATE 3"]));
+    assert!(rt; refuses_last(&["STATE 2", "C1"]));
+    assert!(rt; refuses_last(&["STATE 2", "C0", "END"]));
+    assert!(rt; !refuses_last(&["STATE 1", "EA01 5", "EA01 237605"]));
+}
+
+#[test]
+fn a_201st_entry_is_refused(rt: HostRuntime) {
+    let mut reader = StateReader::new();
+    assert!(rt; matches!(reader.line(b"STATE 1"), StateStep::More));
+    for place in 0..=200u8 {
+        let identity = Identity::new(b'A' + place / 99, b'A', place % 99 + 1).expect(
+            &rt,
+            "an identity",
+        );
+        let [b1, b2, tens, units] = identity.bytes();
+        let step = reader.line(&[b1, b2, tens, units, b' ', b'5']);
+        assert_eq!(rt; matches!(step, StateStep::Bad), place == 200);
+    }
+}
+
 #[test]
 fn laws_can_be_called() {
+    laws::a_state_text_stands_for_one_state();
     laws::known_is_live();
     laws::last_of_goes_on();
     laws::entries_stand_in_turn();

@@ -1,5 +1,4 @@
-use Rattle.std.proofs.Common.{◌≡◌, ◌≤◌, length, take}
-use Rattle.nx_memory.specs.Content.{IsContent}
+use Rattle.std.proofs.Common.{◌≡◌, take}
 use Rattle.nx_memory.proofs.saved.Saved.of.Given as goal
 
 -- the first entries were taken over
