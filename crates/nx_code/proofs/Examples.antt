@@ -25,7 +25,8 @@ unfolding weight elements elements_from
 weight_of_seven = refl
 
 -- the word that begins at the third of nine elements
-pub word_inside : word_from (false ∷ false ∷ true ∷ true ∷ true ∷ false ∷ false ∷ false ∷ true ∷ []) 2 ≡ 0x47
+pub word_inside : word_from (false ∷ false ∷ true ∷ true ∷ true ∷ false ∷ false ∷ false ∷ true ∷ [])
+    2 ≡ 0x47
 unfolding number_of
 word_inside = refl
 
@@ -104,16 +105,20 @@ nothing_for_33 = refl
 pub combinations_of_example : List ℕ
 combinations_of_example = 1 ∷ 30 ∷ 17 ∷ 31 ∷ 23 ∷ 1 ∷ 29 ∷ 2 ∷ 27 ∷ 28 ∷ []
 
-pub text_of_example : text (map combination combinations_of_example) Letters ≡ codes "A1 2-B" ++ 10 ∷ []
+pub text_of_example : text (map combination combinations_of_example) Letters
+    ≡ codes "A1 2-B" ++ 10 ∷ []
 unfolding combinations_of_example character_of row_of table
 text_of_example = refl
 
 -- neither a lost position nor a space nor an idle one changes the shift
-pub text_with_lost : text (combination 30 ∷ combination 17 ∷ lost ∷ combination 31 ∷ idle ∷ combination 23 ∷ []) Letters ≡ codes "1* 2"
+pub text_with_lost : text
+    (combination 30 ∷ combination 17 ∷ lost ∷ combination 31 ∷ idle ∷ combination 23 ∷ []) Letters
+    ≡ codes "1* 2"
 unfolding character_of row_of table
 text_with_lost = refl
 
-pub shift_with_lost : shift_after_all (combination 30 ∷ lost ∷ combination 31 ∷ idle ∷ []) Letters ≡ Figures
+pub shift_with_lost : shift_after_all (combination 30 ∷ lost ∷ combination 31 ∷ idle ∷ []) Letters
+    ≡ Figures
 shift_with_lost = refl
 
 -- ---- characters and spelling
@@ -134,13 +139,16 @@ spelled_a = spells_here Letters 1 65 (omega arith) (omega arith) refl (λ e. ome
 spelled_1 : Spells (codes "A1") Letters (1 ∷ 30 ∷ 17 ∷ [])
 unfolding character_of row_of table
 spelled_1 =
-    Spells-push (codes "A") 49 Letters Letters (1 ∷ []) (30 ∷ 17 ∷ []) (1 ∷ 30 ∷ 17 ∷ []) spelled_a refl
-    (spells_there Figures Letters 30 17 49 refl refl (omega arith) (omega arith) refl (λ e. cc) (λ e. omega arith)) refl
+    Spells-push (codes "A") 49 Letters Letters (1 ∷ []) (30 ∷ 17 ∷ []) (1 ∷ 30 ∷ 17 ∷ []) spelled_a
+    refl
+    (spells_there Figures Letters 30 17 49 refl refl (omega arith) (omega arith) refl (λ e. cc)
+    (λ e. omega arith)) refl
 
 -- A1 and a newline
 pub spelled_line : Spells (codes "A1" ++ 10 ∷ []) Letters (1 ∷ 30 ∷ 17 ∷ 27 ∷ 28 ∷ [])
 spelled_line =
-    Spells-push (codes "A1") 10 Letters Figures (1 ∷ 30 ∷ 17 ∷ []) (27 ∷ 28 ∷ []) (1 ∷ 30 ∷ 17 ∷ 27 ∷ 28 ∷ []) spelled_1 refl (spells_newline Figures) refl
+    Spells-push (codes "A1") 10 Letters Figures (1 ∷ 30 ∷ 17 ∷ []) (27 ∷ 28 ∷ [])
+    (1 ∷ 30 ∷ 17 ∷ 27 ∷ 28 ∷ []) spelled_1 refl (spells_newline Figures) refl
 
 -- a shift that is in force already isn't sent again
 pub needless_shift : Spells (codes "A") Letters (29 ∷ 1 ∷ []) → ⊥
@@ -161,8 +169,10 @@ return_alone h = let clash = h.fits.0.carriage_return.0 refl in cc
 -- combination 32 isn't sent, nor the figure of D
 pub blank : Spells [] Letters (32 ∷ []) → ⊥
 unfolding character_of row_of table
-blank h = h.fits.0.not_silent (record { prints_nothing = refl; sets_no_shift = refl; no_return = λ e. omega arith })
+blank h = h.fits.0.not_silent
+    (record { prints_nothing = refl; sets_no_shift = refl; no_return = λ e. omega arith })
 
 pub figure_of_d : Spells [] Figures (4 ∷ []) → ⊥
 unfolding character_of row_of table
-figure_of_d h = h.fits.0.not_silent (record { prints_nothing = refl; sets_no_shift = refl; no_return = λ e. omega arith })
+figure_of_d h = h.fits.0.not_silent
+    (record { prints_nothing = refl; sets_no_shift = refl; no_return = λ e. omega arith })

@@ -15,40 +15,54 @@ all_words : map place_given BY_WORD ≡ map place_of (range_with_len 0 128)
 unfolding place_of words table
 all_words = refl
 
-pub place_of-BY_WORD : (word fallback : ℕ) → word < 128 → place_given (get_or BY_WORD word fallback) ≡ place_of word
+pub place_of-BY_WORD : (word fallback : ℕ) → word < 128
+    → place_given (get_or BY_WORD word fallback) ≡ place_of word
 place_of-BY_WORD word fallback h =
-    sym (get_or-map place_given BY_WORD word fallback None h) ∙ ap (λ l. get_or l word None) all_words ∙ get_or-map-range_with_len place_of 0 128 word word None h (omega arith)
+    sym (get_or-map place_given BY_WORD word fallback None h)
+    ∙ ap (λ l. get_or l word None) all_words
+    ∙ get_or-map-range_with_len place_of 0 128 word word None h (omega arith)
 
 -- the first of two places that is one
 abbrev pub or_else : Option ℕ → Option ℕ → Option ℕ
 or_else (Some at) other = Some at
 or_else None other = other
 
--- the place of the combination that prints a character in letters, else of the one that prints it in figures
+-- the place of the combination that prints a character in letters, else of the one that prints it
+-- in figures
 abbrev pub place_in_either : ℕ → Option ℕ
 place_in_either c = or_else (place_for Letters c) (place_for Figures c)
 
 all_characters : map place_given BY_CHARACTER ≡ map place_in_either (range_with_len 0 256)
 all_characters = refl
 
-pub place_for-BY_CHARACTER : (c fallback : ℕ) → c < 256 → place_given (get_or BY_CHARACTER c fallback) ≡ place_in_either c
+pub place_for-BY_CHARACTER : (c fallback : ℕ) → c < 256
+    → place_given (get_or BY_CHARACTER c fallback) ≡ place_in_either c
 place_for-BY_CHARACTER c fallback h =
-    sym (get_or-map place_given BY_CHARACTER c fallback None h) ∙ ap (λ l. get_or l c None) all_characters ∙ get_or-map-range_with_len place_in_either 0 256 c c None h (omega arith)
+    sym (get_or-map place_given BY_CHARACTER c fallback None h)
+    ∙ ap (λ l. get_or l c None) all_characters
+    ∙ get_or-map-range_with_len place_in_either 0 256 c c None h (omega arith)
 
 -- a character that a combination prints has its place
-pub place_in_either-printed : (shift : Shift) (n c : ℕ) → 1 ≤ n → n ≤ 32 → character_of n shift ≡ Some c → place_in_either c ≡ Some (n - 1)
-place_in_either-printed Letters n c low high h = ap (λ o. or_else o (place_for Figures c)) (place_for-printed Letters n c low high h)
+pub place_in_either-printed : (shift : Shift) (n c : ℕ) → 1 ≤ n → n ≤ 32
+    → character_of n shift ≡ Some c → place_in_either c ≡ Some (n - 1)
+place_in_either-printed Letters n c low high h =
+    ap (λ o. or_else o (place_for Figures c)) (place_for-printed Letters n c low high h)
 place_in_either-printed Figures n c low high h =
     let figure = place_for-printed Figures n c low high h in
-    elim (place_for Letters c) as (λ o. place_for Letters c ≡ o → or_else o (place_for Figures c) ≡ Some (n - 1)) [
+    elim (place_for Letters c) as (λ o. place_for Letters c ≡ o
+    → or_else o (place_for Figures c) ≡ Some (n - 1)) [
       | Some at ↦ λ e. ap Some (sym (same_place_for c at (n - 1) e figure))
       | None ↦ λ e. figure
     ] refl
 
 -- what has a place is printed by the combination there
-pub place_in_either-Some : (c at : ℕ) → place_in_either c ≡ Some at → (at < 32) × (shift : Shift) × (character_of (at + 1) shift ≡ Some c)
+pub place_in_either-Some : (c at : ℕ) → place_in_either c ≡ Some at
+    → (at < 32) × (shift : Shift) × (character_of (at + 1) shift ≡ Some c)
 place_in_either-Some c at =
-    elim (place_for Letters c) as (λ o. place_for Letters c ≡ o → or_else o (place_for Figures c) ≡ Some at → (at < 32) × (shift : Shift) × (character_of (at + 1) shift ≡ Some c)) [
-      | Some other ↦ λ e h. let found = place_for-Some Letters c at (e ∙ h) in (found.0, Letters, found.1)
+    elim (place_for Letters c) as (λ o. place_for Letters c ≡ o
+    → or_else o (place_for Figures c) ≡ Some at
+    → (at < 32) × (shift : Shift) × (character_of (at + 1) shift ≡ Some c)) [
+      | Some other ↦ λ e h. let found = place_for-Some Letters c at (e ∙ h) in
+          (found.0, Letters, found.1)
       | None ↦ λ e h. let found = place_for-Some Figures c at h in (found.0, Figures, found.1)
     ] refl

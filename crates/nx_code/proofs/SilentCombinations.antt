@@ -12,7 +12,8 @@ use Rattle.nx_code.proofs.SpellingLemmas.{shift_set-None}
 
 -- a combination is silent, as a test
 abbrev is_silent : Shift → ℕ → Bool
-is_silent shift n = not (is_some (character_of n shift)) && (not (eqb n 27) && (not (eqb n 29) && not (eqb n 30)))
+is_silent shift n = not (is_some (character_of n shift))
+    && (not (eqb n 27) && (not (eqb n 29) && not (eqb n 30)))
 
 abbrev is_figure_shift : Shift → Bool
 is_figure_shift Letters = false
@@ -20,12 +21,18 @@ is_figure_shift Figures = true
 
 -- it is one of the combinations that the profile names
 abbrev is_named : Shift → ℕ → Bool
-is_named shift n = eqb n 32 || (is_figure_shift shift && list_any (λ k. eqb k n) (4 ∷ 6 ∷ 7 ∷ 8 ∷ 10 ∷ []))
+is_named shift n = eqb n 32
+    || (is_figure_shift shift && list_any (λ k. eqb k n) (4 ∷ 6 ∷ 7 ∷ 8 ∷ 10 ∷ []))
 
-named-silent : (shift : Shift) (n : ℕ) → n < 33 → (eqb n 0 || is_silent shift n) ≡ (eqb n 0 || is_named shift n)
+named-silent : (shift : Shift) (n : ℕ) → n < 33
+    → (eqb n 0 || is_silent shift n) ≡ (eqb n 0 || is_named shift n)
 unfolding character_of row_of table
-named-silent Letters n h = agree_below_at (λ k. eqb k 0 || is_silent Letters k) (λ k. eqb k 0 || is_named Letters k) 33 n refl h
-named-silent Figures n h = agree_below_at (λ k. eqb k 0 || is_silent Figures k) (λ k. eqb k 0 || is_named Figures k) 33 n refl h
+named-silent Letters n h =
+    agree_below_at (λ k. eqb k 0 || is_silent Letters k) (λ k. eqb k 0 || is_named Letters k) 33 n
+    refl h
+named-silent Figures n h =
+    agree_below_at (λ k. eqb k 0 || is_silent Figures k) (λ k. eqb k 0 || is_named Figures k) 33 n
+    refl h
 
 same_tests : (shift : Shift) (n : ℕ) → 1 ≤ n → n ≤ 32 → is_silent shift n ≡ is_named shift n
 same_tests shift n low high =
@@ -45,9 +52,13 @@ none_of (Some c) h = absurd (false≢true h)
 silent-test : (shift : Shift) (n : ℕ) → IsSilent shift n → is_silent shift n ≡ true
 silent-test shift n h =
     let none = h.prints_nothing in
-    let no_letters : n ≡ 29 → ⊥ = λ e. let clash : Some Letters ≡ None = sym (ap (λ k. shift_set (combination k)) e) ∙ h.sets_no_shift in cc in
-    let no_figures : n ≡ 30 → ⊥ = λ e. let clash : Some Figures ≡ None = sym (ap (λ k. shift_set (combination k)) e) ∙ h.sets_no_shift in cc in
-    and_from _ _ (rw none refl) (and_from _ _ (not-false_of n 27 h.no_return) (and_from _ _ (not-false_of n 29 no_letters) (not-false_of n 30 no_figures)))
+    let no_letters : n ≡ 29 → ⊥ = λ e. let clash : Some Letters ≡ None =
+    sym (ap (λ k. shift_set (combination k)) e) ∙ h.sets_no_shift in cc in
+    let no_figures : n ≡ 30 → ⊥ = λ e. let clash : Some Figures ≡ None =
+    sym (ap (λ k. shift_set (combination k)) e) ∙ h.sets_no_shift in cc in
+    and_from _ _ (rw none refl)
+    (and_from _ _ (not-false_of n 27 h.no_return)
+    (and_from _ _ (not-false_of n 29 no_letters) (not-false_of n 30 no_figures)))
 
 test-silent : (shift : Shift) (n : ℕ) → is_silent shift n ≡ true → IsSilent shift n
 test-silent shift n h =
@@ -64,13 +75,17 @@ figures : (shift : Shift) → is_figure_shift shift ≡ true → shift ≡ Figur
 figures Letters h = absurd (false≢true h)
 figures Figures h = refl
 
-pub silent_named : (shift : Shift) (n : ℕ) → 1 ≤ n → n ≤ 32 → IsSilent shift n ↔ ((n ≡ 32) ⊎ ((shift ≡ Figures) × (list_any (λ k. eqb k n) (4 ∷ 6 ∷ 7 ∷ 8 ∷ 10 ∷ []) ≡ true)))
+pub silent_named : (shift : Shift) (n : ℕ) → 1 ≤ n → n ≤ 32
+    → IsSilent shift n ↔ ((n ≡ 32)
+    ⊎ ((shift ≡ Figures) × (list_any (λ k. eqb k n) (4 ∷ 6 ∷ 7 ∷ 8 ∷ 10 ∷ []) ≡ true)))
 silent_named shift n low high = (
   λ h.
       let named = sym (same_tests shift n low high) ∙ silent-test shift n h in
-      elim (or_cases (eqb n 32) (is_figure_shift shift && list_any (λ k. eqb k n) (4 ∷ 6 ∷ 7 ∷ 8 ∷ 10 ∷ [])) named) [
+      elim (or_cases (eqb n 32)
+      (is_figure_shift shift && list_any (λ k. eqb k n) (4 ∷ 6 ∷ 7 ∷ 8 ∷ 10 ∷ [])) named) [
         | inl e ↦ inl (eqb-true n 32 e)
-        | inr e ↦ let parts = and_parts (is_figure_shift shift) _ e in inr (figures shift parts.0, parts.1)
+        | inr e ↦ let parts = and_parts (is_figure_shift shift) _ e in
+            inr (figures shift parts.0, parts.1)
       ],
   λ h. test-silent shift n (same_tests shift n low high ∙ elim h [
     | inl e ↦ or_left (eqb n 32) _ (eq-eqb n 32 e)

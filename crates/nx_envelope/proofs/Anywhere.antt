@@ -25,7 +25,8 @@ empty_none text i e h =
     cc
 
 empty_in : (h : Header) → ¬ StandsIn [] h
-empty_in h s = empty_none (take h.behind []) h.identity (take_all h.behind [] (omega arith)) s.spelled
+empty_in h s = empty_none (take h.behind []) h.identity (take_all h.behind [] (omega arith))
+    s.spelled
 
 none_in : (h : Header) → ¬ Contains [] h
 none_in h (k, lt, is) = omega arith
@@ -38,14 +39,20 @@ in_only : (x h : Header) → x ≡ h → Contains (x ∷ []) h
 in_only x h e = (0, omega arith, e)
 
 -- the header that the last byte completes
-completed : (text : List ℕ) (b : ℕ) (i : Identity) → header_back (b ∷ reverse text) ≡ Some i → StandsIn (text ++ b ∷ []) (record { identity = i; behind = length text + 1 })
+completed : (text : List ℕ) (b : ℕ) (i : Identity) → header_back (b ∷ reverse text) ≡ Some i
+    → StandsIn (text ++ b ∷ []) (record { identity = i; behind = length text + 1 })
 completed text b i e =
-    let long : length (text ++ b ∷ []) ≡ length text + 1 = omega (arith, length-append text (b ∷ [])) in
-    let whole : take (length text + 1) (text ++ b ∷ []) ≡ text ++ b ∷ [] = take_all (length text + 1) (text ++ b ∷ []) (omega arith) in
-    let ends : EndsWithHeader (text ++ b ∷ []) i = (header_both (text ++ b ∷ []) i).0 (ap header_back (reverse-push text b) ∙ e) in
+    let long : length (text ++ b ∷ []) ≡ length text + 1 =
+    omega (arith, length-append text (b ∷ [])) in
+    let whole : take (length text + 1) (text ++ b ∷ []) ≡ text ++ b ∷ [] =
+    take_all (length text + 1) (text ++ b ∷ []) (omega arith) in
+    let ends : EndsWithHeader (text ++ b ∷ []) i =
+    (header_both (text ++ b ∷ []) i).0 (ap header_back (reverse-push text b) ∙ e) in
     record { within = omega arith; spelled = rw whole ends }
 
-last_forth : (text : List ℕ) (b : ℕ) (h : Header) (o : Option Identity) → header_back (b ∷ reverse text) ≡ o → Contains (option_to_list (header_at_end (text ++ b ∷ []))) h → StandsIn (text ++ b ∷ []) h
+last_forth : (text : List ℕ) (b : ℕ) (h : Header) (o : Option Identity)
+    → header_back (b ∷ reverse text) ≡ o
+    → Contains (option_to_list (header_at_end (text ++ b ∷ []))) h → StandsIn (text ++ b ∷ []) h
 last_forth text b h None e c =
     let last = header_at_end-push text b in
     absurd (none_in h (rw (last, e) at c))
@@ -57,33 +64,52 @@ last_forth text b h (Some i) e c =
 earlier : (text : List ℕ) (b : ℕ) (h : Header) → StandsIn text h → StandsIn (text ++ b ∷ []) h
 earlier text b h s =
     let same = take-append-le h.behind text (b ∷ []) s.within in
-    record { within = omega (arith, s.within, length-append text (b ∷ [])); spelled = rw same s.spelled }
+    record {
+      within = omega (arith, s.within, length-append text (b ∷ []));
+      spelled =
+          rw same s.spelled;
+    }
 
-push_forth : (text : List ℕ) (b : ℕ) (h : Header) → (Contains (headers text) h → StandsIn text h) → Contains (headers (text ++ b ∷ [])) h → StandsIn (text ++ b ∷ []) h
+push_forth : (text : List ℕ) (b : ℕ) (h : Header) → (Contains (headers text) h → StandsIn text h)
+    → Contains (headers (text ++ b ∷ [])) h → StandsIn (text ++ b ∷ []) h
 push_forth text b h before c =
     let push = headers-push text b in
-    elim (Contains-append_cases (headers text) (option_to_list (header_at_end (text ++ b ∷ []))) h (rw push at c)) [
+    elim (Contains-append_cases (headers text) (option_to_list (header_at_end (text ++ b ∷ []))) h
+    (rw push at c)) [
       | inl old ↦ earlier text b h (before old)
       | inr new ↦ last_forth text b h _ refl new
     ]
 
-at_the_end : (text : List ℕ) (b : ℕ) (h : Header) → h.behind ≡ length text + 1 → StandsIn (text ++ b ∷ []) h → Contains (option_to_list (header_at_end (text ++ b ∷ []))) h
+at_the_end : (text : List ℕ) (b : ℕ) (h : Header) → h.behind ≡ length text + 1
+    → StandsIn (text ++ b ∷ []) h → Contains (option_to_list (header_at_end (text ++ b ∷ []))) h
 at_the_end text b h e s =
-    let long : length (text ++ b ∷ []) ≡ length text + 1 = omega (arith, length-append text (b ∷ [])) in
-    let whole : take h.behind (text ++ b ∷ []) ≡ text ++ b ∷ [] = take_all h.behind (text ++ b ∷ []) (omega arith) in
+    let long : length (text ++ b ∷ []) ≡ length text + 1 =
+    omega (arith, length-append text (b ∷ [])) in
+    let whole : take h.behind (text ++ b ∷ []) ≡ text ++ b ∷ [] =
+    take_all h.behind (text ++ b ∷ []) (omega arith) in
     let ends : EndsWithHeader (text ++ b ∷ []) h.identity = rw whole at s.spelled in
-    let is : header_back (b ∷ reverse text) ≡ Some h.identity = ap header_back (sym (reverse-push text b)) ∙ (header_both (text ++ b ∷ []) h.identity).1 ends in
+    let is : header_back (b ∷ reverse text) ≡ Some h.identity =
+    ap header_back (sym (reverse-push text b))
+    ∙ (header_both (text ++ b ∷ []) h.identity).1 ends in
     let last = header_at_end-push text b in
-    let same : header_named h.identity (length text + 1) ≡ h = ap (header_named h.identity) (sym e) in
+    let same : header_named h.identity (length text + 1) ≡ h =
+    ap (header_named h.identity) (sym e) in
     rw (last, is) (in_only _ h same)
 
-push_back : (text : List ℕ) (b : ℕ) (h : Header) → (StandsIn text h → Contains (headers text) h) → StandsIn (text ++ b ∷ []) h → Contains (headers (text ++ b ∷ [])) h
+push_back : (text : List ℕ) (b : ℕ) (h : Header) → (StandsIn text h → Contains (headers text) h)
+    → StandsIn (text ++ b ∷ []) h → Contains (headers (text ++ b ∷ [])) h
 push_back text b h before s =
     let push = headers-push text b in
-    let long : length (text ++ b ∷ []) ≡ length text + 1 = omega (arith, length-append text (b ∷ [])) in
+    let long : length (text ++ b ∷ []) ≡ length text + 1 =
+    omega (arith, length-append text (b ∷ [])) in
     rw push (elim (leb_tells h.behind (length text)) [
-      | inl p ↦ let same = take-append-le h.behind text (b ∷ []) p.1 in let old : StandsIn text h = record { within = p.1; spelled = rw same at s.spelled } in Contains-append_left (headers text) (option_to_list (header_at_end (text ++ b ∷ []))) h (before old)
-      | inr p ↦ Contains-append_right (headers text) (option_to_list (header_at_end (text ++ b ∷ []))) h (at_the_end text b h (omega (arith, p.1, s.within)) s)
+      | inl p ↦ let same = take-append-le h.behind text (b ∷ []) p.1 in let old : StandsIn text h =
+          record { within = p.1; spelled = rw same at s.spelled } in
+          Contains-append_left (headers text) (option_to_list (header_at_end (text ++ b ∷ []))) h
+          (before old)
+      | inr p ↦ Contains-append_right (headers text)
+          (option_to_list (header_at_end (text ++ b ∷ []))) h
+          (at_the_end text b h (omega (arith, p.1, s.within)) s)
     ])
 
 pub record Anywhere (text : List ℕ) (h : Header) : Type 0 where
@@ -97,10 +123,15 @@ anywhere_back [] h =
 anywhere_back (b ∷ back) h =
     let whole : reverse (b ∷ back) ≡ reverse back ++ b ∷ [] = reverse-append (b ∷ []) back in
     let before = anywhere_back back h in
-    rw whole (record { forth = push_forth (reverse back) b h before.forth; back = push_back (reverse back) b h before.back })
+    rw whole (record {
+      forth = push_forth (reverse back) b h before.forth;
+      back =
+          push_back (reverse back) b h before.back;
+    })
 
 anywhere : (text : List ℕ) (h : Header) → Anywhere text h
 anywhere text h = rw (← reverse-reverse text) (anywhere_back (reverse text) h)
 
-pub anywhere_both : (text : List ℕ) (h : Header) → (Contains (headers text) h → StandsIn text h) × (StandsIn text h → Contains (headers text) h)
+pub anywhere_both : (text : List ℕ) (h : Header)
+    → (Contains (headers text) h → StandsIn text h) × (StandsIn text h → Contains (headers text) h)
 anywhere_both text h = let a = anywhere text h in (a.forth, a.back)

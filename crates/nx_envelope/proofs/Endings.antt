@@ -19,7 +19,9 @@ use Rattle.nx_envelope.proofs.SpelledHeaders.{ends_in-true, nnnn_word, starts_bo
 abbrev mark_of : Bool → Bool → Option How
 mark_of full cut = if full then Some Full else (if cut then Some Cut else None)
 
-marks_of : (text : List ℕ) (how : How) (full cut : Bool) → ends_in end_marker (reverse text) ≡ full → ends_in start_marker (reverse text) ≡ cut → mark_of full cut ≡ Some how → EndsWithMarker text how
+marks_of : (text : List ℕ) (how : How) (full cut : Bool) → ends_in end_marker (reverse text) ≡ full
+    → ends_in start_marker (reverse text) ≡ cut → mark_of full cut ≡ Some how
+    → EndsWithMarker text how
 marks_of text Full true cut f s e = (ends_both text).0 f
 marks_of text Cut true cut f s e = absurd (cc)
 marks_of text Long true cut f s e = absurd (cc)
@@ -28,7 +30,8 @@ marks_of text Cut false true f s e = (starts_both text).0 s
 marks_of text Long false true f s e = absurd (cc)
 marks_of text how false false f s e = absurd (cc)
 
-pub marks : (text : List ℕ) (how : How) → marker_back (reverse text) ≡ Some how → EndsWithMarker text how
+pub marks : (text : List ℕ) (how : How) → marker_back (reverse text) ≡ Some how
+    → EndsWithMarker text how
 marks text how e = marks_of text how _ _ refl refl e
 
 -- ZCZC is not NNNN
@@ -36,24 +39,29 @@ abbrev first_byte : List ℕ → ℕ
 first_byte [] = 0
 first_byte (b ∷ rest) = b
 
-not_both : (text : List ℕ) → ends_in end_marker (reverse text) ≡ true → ends_in start_marker (reverse text) ≡ true → ⊥
+not_both : (text : List ℕ) → ends_in end_marker (reverse text) ≡ true
+    → ends_in start_marker (reverse text) ≡ true → ⊥
 not_both text f s =
     let n = ends_in-true 78 78 78 78 nnnn_word (reverse text) f in
     let c = ends_in-true 90 67 90 67 zczc_word (reverse text) s in
-    let heads : 78 ∷ (78 ∷ 78 ∷ 78 ∷ drop 4 (reverse text)) ≡ 67 ∷ (90 ∷ 67 ∷ 90 ∷ drop 4 (reverse text)) = sym n ∙ c in
+    let heads : 78 ∷ (78 ∷ 78 ∷ 78 ∷ drop 4 (reverse text))
+    ≡ 67 ∷ (90 ∷ 67 ∷ 90 ∷ drop 4 (reverse text)) = sym n ∙ c in
     let same : (◌≡◌ {A = ℕ} 78 67) = ap first_byte heads in
     omega (arith, same)
 
-cut_only : (text : List ℕ) (full : Bool) → ends_in end_marker (reverse text) ≡ full → ends_in start_marker (reverse text) ≡ true → marker_back (reverse text) ≡ Some Cut
+cut_only : (text : List ℕ) (full : Bool) → ends_in end_marker (reverse text) ≡ full
+    → ends_in start_marker (reverse text) ≡ true → marker_back (reverse text) ≡ Some Cut
 cut_only text true f s = absurd (not_both text f s)
 cut_only text false f s = rw (f, s) refl
 
-pub marker_is : (text : List ℕ) (how : How) → EndsWithMarker text how → marker_back (reverse text) ≡ Some how
+pub marker_is : (text : List ℕ) (how : How) → EndsWithMarker text how
+    → marker_back (reverse text) ≡ Some how
 marker_is text Full h = let end = (ends_both text).1 h in rw end refl
 marker_is text Cut h = cut_only text _ refl ((starts_both text).1 h)
 marker_is text Long h = absurd h
 
-no_marker_at : (text : List ℕ) (how : How) → marker_back (reverse text) ≡ None → ¬ EndsWithMarker text how
+no_marker_at : (text : List ℕ) (how : How) → marker_back (reverse text) ≡ None
+    → ¬ EndsWithMarker text how
 no_marker_at text how e h = let is = marker_is text how h in cc
 
 -- The first marker of a text.
@@ -73,7 +81,8 @@ FirstIs text None = IsUnmarked text
 FirstIs text (Some ending) = FirstMarker text ending
 
 -- with one more byte
-stays_first : (text : List ℕ) (b : ℕ) (ending : Ending) → FirstMarker text ending → FirstMarker (text ++ b ∷ []) ending
+stays_first : (text : List ℕ) (b : ℕ) (ending : Ending) → FirstMarker text ending
+    → FirstMarker (text ++ b ∷ []) ending
 stays_first text b ending f =
     let same = take-append-le f.place text (b ∷ []) f.within in
     let shorter = take-append-le (f.place - 4) text (b ∷ []) (omega (arith, f.within)) in
@@ -81,40 +90,55 @@ stays_first text b ending f =
       place = f.place;
       within = omega (arith, f.within, length-append text (b ∷ []));
       marker = rw same f.marker;
-      least = λ earlier how lt. rw (take-append-le earlier text (b ∷ []) (omega (arith, f.within, lt))) (f.least earlier how lt);
+      least = λ earlier how lt. rw
+          (take-append-le earlier text (b ∷ []) (omega (arith, f.within, lt)))
+          (f.least earlier how lt);
       text = rw shorter f.text;
     }
 
-whole_at : (text : List ℕ) (b place : ℕ) → length text < place → take place (text ++ b ∷ []) ≡ text ++ b ∷ []
+whole_at : (text : List ℕ) (b place : ℕ) → length text < place
+    → take place (text ++ b ∷ []) ≡ text ++ b ∷ []
 whole_at text b place lt =
     take_all place (text ++ b ∷ []) (omega (arith, lt, length-append text (b ∷ [])))
 
-completes : (text : List ℕ) (b : ℕ) (how : How) → IsUnmarked text → marker_back (reverse (text ++ b ∷ [])) ≡ Some how → FirstMarker (text ++ b ∷ []) (record { how = how; text = take (length (text ++ b ∷ []) - 4) (text ++ b ∷ []) })
+completes : (text : List ℕ) (b : ℕ) (how : How) → IsUnmarked text
+    → marker_back (reverse (text ++ b ∷ [])) ≡ Some how
+    → FirstMarker (text ++ b ∷ [])
+    (record { how = how; text = take (length (text ++ b ∷ []) - 4) (text ++ b ∷ []) })
 completes text b how none m =
     let whole = whole_at text b (length text + 1) (omega arith) in
-    let long : length (text ++ b ∷ []) ≡ length text + 1 = omega (arith, length-append text (b ∷ [])) in
+    let long : length (text ++ b ∷ []) ≡ length text + 1 =
+    omega (arith, length-append text (b ∷ [])) in
     record {
       place = length text + 1;
       within = omega (arith, long);
       marker = rw whole (marks (text ++ b ∷ []) how m);
-      least = λ earlier other lt. rw (take-append-le earlier text (b ∷ []) (omega (arith, lt))) (none earlier other (omega (arith, lt)));
+      least = λ earlier other lt. rw (take-append-le earlier text (b ∷ []) (omega (arith, lt)))
+          (none earlier other (omega (arith, lt)));
       text = ap (λ (n : ℕ). take (n - 4) (text ++ b ∷ [])) long;
     }
 
-unmarked_at : (text : List ℕ) (b : ℕ) → IsUnmarked text → marker_back (reverse (text ++ b ∷ [])) ≡ None → IsUnmarked (text ++ b ∷ [])
+unmarked_at : (text : List ℕ) (b : ℕ) → IsUnmarked text
+    → marker_back (reverse (text ++ b ∷ [])) ≡ None → IsUnmarked (text ++ b ∷ [])
 unmarked_at text b none m place how le h =
     elim (leb_tells place (length text)) [
       | inl p ↦ none place how p.1 (rw (take-append-le place text (b ∷ []) p.1) at h)
       | inr p ↦ no_marker_at (text ++ b ∷ []) how m (rw (whole_at text b place p.1) at h)
     ]
 
-last_gives : (text : List ℕ) (b : ℕ) (m : Option How) → marker_back (reverse (text ++ b ∷ [])) ≡ m → IsUnmarked text → FirstIs (text ++ b ∷ []) (option_map (λ how. record { how = how; text = take (length (text ++ b ∷ []) - 4) (text ++ b ∷ []) }) m)
+last_gives : (text : List ℕ) (b : ℕ) (m : Option How) → marker_back (reverse (text ++ b ∷ [])) ≡ m
+    → IsUnmarked text → FirstIs (text ++ b ∷ [])
+    (option_map (λ how. record
+    { how = how; text = take (length (text ++ b ∷ []) - 4) (text ++ b ∷ []) }) m)
 last_gives text b None m none = unmarked_at text b none m
 last_gives text b (Some how) m none = completes text b how none m
 
-gives_push : (text : List ℕ) (b : ℕ) (o : Option Ending) → FirstIs text o → FirstIs (text ++ b ∷ []) (option_or o (ending_by_marker (text ++ b ∷ [])))
+gives_push : (text : List ℕ) (b : ℕ) (o : Option Ending) → FirstIs text o
+    → FirstIs (text ++ b ∷ []) (option_or o (ending_by_marker (text ++ b ∷ [])))
 unfolding ending_by_marker
-gives_push text b None none = last_gives text b (marker_at_end (text ++ b ∷ [])) (sym (marker_at_end-back (text ++ b ∷ []))) none
+gives_push text b None none =
+    last_gives text b (marker_at_end (text ++ b ∷ [])) (sym (marker_at_end-back (text ++ b ∷ [])))
+    none
 gives_push text b (Some ending) f = stays_first text b ending f
 
 first_nil : FirstIs [] (first_value ending_by_marker (beginnings []))
@@ -122,11 +146,16 @@ unfolding ending_by_marker marker_at_end beginnings
 first_nil place how le h =
     no_marker_at [] how refl (rw (take_all {A = ℕ} place [] (omega arith)) at h)
 
-first_back : (back : List ℕ) → FirstIs (reverse back) (first_value ending_by_marker (beginnings (reverse back)))
+first_back : (back : List ℕ)
+    → FirstIs (reverse back) (first_value ending_by_marker (beginnings (reverse back)))
 first_back [] = first_nil
 first_back (b ∷ back) =
     let whole : reverse (b ∷ back) ≡ reverse back ++ b ∷ [] = reverse-append (b ∷ []) back in
-    let push : first_value ending_by_marker (beginnings (reverse back ++ b ∷ [])) ≡ option_or (first_value ending_by_marker (beginnings (reverse back))) (ending_by_marker (reverse back ++ b ∷ [])) = ap (first_value ending_by_marker) (beginnings-push (reverse back) b) ∙ first_value-push ending_by_marker (beginnings (reverse back)) (reverse back ++ b ∷ []) in
+    let push : first_value ending_by_marker (beginnings (reverse back ++ b ∷ []))
+    ≡ option_or (first_value ending_by_marker (beginnings (reverse back)))
+    (ending_by_marker (reverse back ++ b ∷ [])) =
+    ap (first_value ending_by_marker) (beginnings-push (reverse back) b)
+    ∙ first_value-push ending_by_marker (beginnings (reverse back)) (reverse back ++ b ∷ []) in
     rw (whole, push) (gives_push (reverse back) b _ (first_back back))
 
 first_is : (text : List ℕ) → FirstIs text (first_value ending_by_marker (beginnings text))
@@ -141,12 +170,14 @@ EndIs raw (Some ending) = IsEnding raw ending
 reach : (most : ℕ) (raw : List ℕ) → length (take most raw) ≡ min most (length raw)
 reach most raw = length-take most raw
 
-at_earlier : (most : ℕ) (raw : List ℕ) (earlier : ℕ) (how : How) → earlier ≤ most → ¬ MarkerEndsAt (take most raw) earlier how → ¬ MarkerEndsAt raw earlier how
+at_earlier : (most : ℕ) (raw : List ℕ) (earlier : ℕ) (how : How) → earlier ≤ most
+    → ¬ MarkerEndsAt (take most raw) earlier how → ¬ MarkerEndsAt raw earlier how
 at_earlier most raw earlier how le none h =
     let same = take-take earlier most raw le in
     none (rw same h)
 
-at_marker : (most : ℕ) (raw : List ℕ) (ending : Ending) → most ≡ most_found → FirstMarker (take most raw) ending → EndsAtMarker raw ending
+at_marker : (most : ℕ) (raw : List ℕ) (ending : Ending) → most ≡ most_found
+    → FirstMarker (take most raw) ending → EndsAtMarker raw ending
 at_marker most raw ending is f =
     let within : f.place ≤ most = omega (arith, f.within, reach most raw) in
     let same = take-take f.place most raw within in
@@ -156,30 +187,43 @@ at_marker most raw ending is f =
       within = omega (arith, f.within, reach most raw);
       in_reach = omega (arith, within, is);
       marker = rw same at f.marker;
-      least = λ earlier how lt. at_earlier most raw earlier how (omega (arith, within, lt)) (f.least earlier how lt);
+      least = λ earlier how lt. at_earlier most raw earlier how (omega (arith, within, lt))
+          (f.least earlier how lt);
       text = rw shorter at f.text;
     }
 
-without : (most : ℕ) (raw : List ℕ) → most ≡ most_found → IsUnmarked (take most raw) → HasNoMarker raw
+without : (most : ℕ) (raw : List ℕ) → most ≡ most_found → IsUnmarked (take most raw)
+    → HasNoMarker raw
 without most raw is none place how within in_reach h =
     let same = take-take place most raw (omega (arith, in_reach, is)) in
     none place how (omega (arith, within, in_reach, is, reach most raw)) (rw same h)
 
-end_gives : (raw : List ℕ) (o : Option Ending) → FirstIs (take most_found raw) o → EndIs raw (option_or o (long_within most_found raw))
+end_gives : (raw : List ℕ) (o : Option Ending) → FirstIs (take most_found raw) o
+    → EndIs raw (option_or o (long_within most_found raw))
 end_gives raw (Some ending) f = inl (at_marker most_found raw ending refl f)
 end_gives raw None none =
     elim (leb_tells most_found (length raw)) [
-      | inl p ↦ let long = long_at most_found raw p.1 in rw long (inr (record { how = refl; unmarked = without most_found raw refl none; stand = p.1; text = refl }))
-      | inr p ↦ let short = not_long most_found raw p.1 in rw short (record { unmarked = without most_found raw refl none; short = p.1 })
+      | inl p ↦ let long = long_at most_found raw p.1 in
+          rw long (inr (record {
+            how = refl;
+            unmarked = without most_found raw refl none;
+            stand =
+                p.1;
+            text = refl;
+          }))
+      | inr p ↦ let short = not_long most_found raw p.1 in
+          rw short (record { unmarked = without most_found raw refl none; short = p.1 })
     ]
 
 end_is : (raw : List ℕ) → EndIs raw (ending_of raw)
 unfolding ending_within
-end_is raw = subst (EndIs raw) (sym (ending_of-within raw)) (end_gives raw _ (first_is (take most_found raw)))
+end_is raw = subst (EndIs raw) (sym (ending_of-within raw))
+    (end_gives raw _ (first_is (take most_found raw)))
 
 -- The end is one.
 
-same_place : (raw : List ℕ) (a b : Ending) (p : EndsAtMarker raw a) (q : EndsAtMarker raw b) → p.place ≡ q.place
+same_place : (raw : List ℕ) (a b : Ending) (p : EndsAtMarker raw a) (q : EndsAtMarker raw b)
+    → p.place ≡ q.place
 same_place raw a b p q =
     elim (leb_tells p.place q.place) [
       | inl le ↦ elim (leb_tells q.place p.place) [
@@ -192,11 +236,13 @@ same_place raw a b p q =
 abbrev ending_with : How → List ℕ → Ending
 ending_with how text = record { how = how; text = text }
 
-same_how : (text other : List ℕ) (how also : How) → text ≡ other → EndsWithMarker text how → EndsWithMarker other also → how ≡ also
+same_how : (text other : List ℕ) (how also : How) → text ≡ other → EndsWithMarker text how
+    → EndsWithMarker other also → how ≡ also
 same_how text other how also e h g =
     let x = marker_is text how h in
     let y = marker_is other also g in
-    let z : marker_back (reverse text) ≡ marker_back (reverse other) = ap (λ (xs : List ℕ). marker_back (reverse xs)) e in
+    let z : marker_back (reverse text) ≡ marker_back (reverse other) =
+    ap (λ (xs : List ℕ). marker_back (reverse xs)) e in
     cc
 
 same_ending : (a b : Ending) → a.how ≡ b.how → a.text ≡ b.text → a ≡ b
@@ -206,7 +252,9 @@ same_ending a b how text =
 same_marker : (raw : List ℕ) (a b : Ending) → EndsAtMarker raw a → EndsAtMarker raw b → a ≡ b
 same_marker raw a b p q =
     let place = same_place raw a b p q in
-    same_ending a b (same_how (take p.place raw) (take q.place raw) a.how b.how (ap (λ (n : ℕ). take n raw) place) p.marker q.marker) (p.text ∙ ap (λ (n : ℕ). take (n - 4) raw) place ∙ sym q.text)
+    same_ending a b (same_how (take p.place raw) (take q.place raw) a.how b.how
+    (ap (λ (n : ℕ). take n raw) place) p.marker q.marker)
+    (p.text ∙ ap (λ (n : ℕ). take (n - 4) raw) place ∙ sym q.text)
 
 pub one_ending : (raw : List ℕ) (a b : Ending) → IsEnding raw a → IsEnding raw b → a ≡ b
 one_ending raw a b (inl p) (inl q) = same_marker raw a b p q
@@ -218,7 +266,8 @@ pub ended_or_not : (raw : List ℕ) (a : Ending) → IsEnding raw a → ¬ IsUne
 ended_or_not raw a (inl p) u = u.unmarked p.place a.how p.within p.in_reach p.marker
 ended_or_not raw a (inr p) u = omega (arith, p.stand, u.short)
 
-is_end : (raw : List ℕ) (o : Option Ending) (ending : Ending) → EndIs raw o → IsEnding raw ending → o ≡ Some ending
+is_end : (raw : List ℕ) (o : Option Ending) (ending : Ending) → EndIs raw o → IsEnding raw ending
+    → o ≡ Some ending
 is_end raw None ending u e = absurd (ended_or_not raw ending e u)
 is_end raw (Some other) ending f e = ap Some (one_ending raw other ending f e)
 
@@ -227,12 +276,15 @@ is_open raw None u e = refl
 is_open raw (Some other) f u = absurd (ended_or_not raw other f u)
 
 -- so the end that is computed is the end by places
-pub ended_both : (raw : List ℕ) (ending : Ending) → (ending_of raw ≡ Some ending → IsEnding raw ending) × (IsEnding raw ending → ending_of raw ≡ Some ending)
+pub ended_both : (raw : List ℕ) (ending : Ending)
+    → (ending_of raw ≡ Some ending → IsEnding raw ending)
+    × (IsEnding raw ending → ending_of raw ≡ Some ending)
 ended_both raw ending =
     let is : EndIs raw (ending_of raw) = end_is raw in
     (λ e. subst (EndIs raw) e is, λ e. is_end raw _ ending is e)
 
-pub open_both : (raw : List ℕ) → (ending_of raw ≡ None → IsUnended raw) × (IsUnended raw → ending_of raw ≡ None)
+pub open_both : (raw : List ℕ)
+    → (ending_of raw ≡ None → IsUnended raw) × (IsUnended raw → ending_of raw ≡ None)
 open_both raw =
     let is : EndIs raw (ending_of raw) = end_is raw in
     (λ e. subst (EndIs raw) e is, λ u. is_open raw _ is u)

@@ -27,7 +27,8 @@ first_day = record {
 
 in_month : (n : ℕ) (d : DateOf n) → d.day + 1 ≤ days_in_month (pos d.year) d.month → DateOf (n + 1)
 in_month n d le =
-    let next = days_from_civil-day (pos d.year) d.month d.day (d.day + 1) d.is_date.2.0 (omega arith) in
+    let next = days_from_civil-day (pos d.year) d.month d.day (d.day + 1) d.is_date.2.0
+    (omega arith) in
     record {
       year = d.year;
       month = d.month;
@@ -36,7 +37,8 @@ in_month n d le =
       number = omega (arith, signed_arith, next, d.number);
     }
 
-next_month : (n : ℕ) (d : DateOf n) → d.day ≡ days_in_month (pos d.year) d.month → d.month + 1 ≤ 12 → DateOf (n + 1)
+next_month : (n : ℕ) (d : DateOf n) → d.day ≡ days_in_month (pos d.year) d.month → d.month + 1 ≤ 12
+    → DateOf (n + 1)
 next_month n d last le =
     let next = days_from_civil-next_month (pos d.year) d.month d.day d.is_date.1.0 last in
     let long = days_in_month_bounds (pos d.year) (d.month + 1) in
@@ -52,14 +54,18 @@ next_month n d last le =
 year_below : (n : ℕ) (d : DateOf n) → n < 2932896 → d.month ≡ 12 → d.day ≡ 31 → d.year < 9999
 year_below n d few month day =
     elim (leb_tells 9999 d.year) [
-      | inl p ↦ let year : d.year ≡ 9999 = omega (arith, signed_arith, p.1, d.is_date.0.1) in let number : days_from_civil (pos 9999) 12 31 ≡ pos n = rw (year, month, day) at d.number in absurd (omega (arith, signed_arith, number, days_from_civil-max, few))
+      | inl p ↦ let year : d.year ≡ 9999 = omega (arith, signed_arith, p.1, d.is_date.0.1) in
+          let number : days_from_civil (pos 9999) 12 31 ≡ pos n =
+          rw (year, month, day) at d.number in
+          absurd (omega (arith, signed_arith, number, days_from_civil-max, few))
       | inr p ↦ p.1
     ]
 
 next_year : (n : ℕ) (d : DateOf n) → n < 2932896 → d.month ≡ 12 → d.day ≡ 31 → DateOf (n + 1)
 next_year n d few month day =
     let below = year_below n d few month day in
-    let next = days_from_civil-next_year (pos d.year) (pos (d.year + 1)) (search rules) (omega (arith, signed_arith)) in
+    let next = days_from_civil-next_year (pos d.year) (pos (d.year + 1)) (search rules)
+    (omega (arith, signed_arith)) in
     let number : days_from_civil (pos d.year) 12 31 ≡ pos n = rw (month, day) at d.number in
     record {
       year = d.year + 1;
@@ -73,10 +79,12 @@ next_day : (n : ℕ) → n < 2932896 → DateOf n → DateOf (n + 1)
 next_day n few d =
     elim (leb_tells (d.day + 1) (days_in_month (pos d.year) d.month)) [
       | inl p ↦ in_month n d p.1
-      | inr p ↦ let last : d.day ≡ days_in_month (pos d.year) d.month = omega (arith, p.1, d.is_date.2.1) in elim (leb_tells (d.month + 1) 12) [
-        | inl q ↦ next_month n d last q.1
-        | inr q ↦ let month : d.month ≡ 12 = omega (arith, q.1, d.is_date.1.1) in next_year n d few month (last ∙ rw month refl)
-      ]
+      | inr p ↦ let last : d.day ≡ days_in_month (pos d.year) d.month =
+          omega (arith, p.1, d.is_date.2.1) in elim (leb_tells (d.month + 1) 12) [
+            | inl q ↦ next_month n d last q.1
+            | inr q ↦ let month : d.month ≡ 12 = omega (arith, q.1, d.is_date.1.1) in
+                next_year n d few month (last ∙ rw month refl)
+          ]
     ]
 
 date_of : (n : ℕ) → n < 2932897 → DateOf n
@@ -88,12 +96,26 @@ date_of (suc n) few =
 -- so is a moment, by its day and the time of that day
 shown : (moment : ℕ) → DateOf (moment / 86400) → HasText moment
 shown moment d =
-    let time : CivilTime = record { year = d.year; month = d.month; day = d.day; hour = moment % 86400 / 3600; minute = moment % 3600 / 60; second = moment % 60 } in
+    let time : CivilTime = record {
+      year = d.year;
+      month = d.month;
+      day = d.day;
+      hour = moment % 86400 / 3600;
+      minute =
+          moment % 3600 / 60;
+      second = moment % 60;
+    } in
     record {
       text = civil_text time;
       is_shown = record {
         time = time;
-        is_civil = record { date = d.is_date; hour = omega arith; minute = omega arith; second = omega arith };
+        is_civil = record {
+          date = d.is_date;
+          hour = omega arith;
+          minute = omega arith;
+          second =
+              omega arith;
+        };
         is_moment = omega (arith, signed_arith, d.number);
         is_text = refl;
       };

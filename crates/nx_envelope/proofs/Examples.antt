@@ -26,7 +26,8 @@ unfolding headers beginnings header_at_end identity_at_end read_header
 behind_zc = refl
 
 -- ZC may be a station and a subject: two headers, of which the second begins in the first
-pub of_zc : map shown_header (headers (codes "ZCZC  ZC12ZCZC EA01")) ≡ (codes "ZC12", 10) ∷ (codes "EA01", 19) ∷ []
+pub of_zc : map shown_header (headers (codes "ZCZC  ZC12ZCZC EA01"))
+    ≡ (codes "ZC12", 10) ∷ (codes "EA01", 19) ∷ []
 unfolding headers beginnings header_at_end identity_at_end read_header
 of_zc = refl
 
@@ -44,26 +45,35 @@ unfolding headers beginnings header_at_end identity_at_end read_header
 lost_digit = refl
 
 -- one newline (10) behind the header is no part of the text, a second is
-pub full_copy : map shown_copy (copies (codes "ZCZC EA01" ++ 10 ∷ 10 ∷ codes "A*NNNN")) ≡ (codes "EA01", Full, 10 ∷ codes "A*") ∷ []
-unfolding headers beginnings header_at_end identity_at_end read_header copies ended_copy closed_copy raw_text ending_of ending_by_marker marker_at_end
+pub full_copy : map shown_copy (copies (codes "ZCZC EA01" ++ 10 ∷ 10 ∷ codes "A*NNNN"))
+    ≡ (codes "EA01", Full, 10 ∷ codes "A*") ∷ []
+unfolding headers beginnings header_at_end identity_at_end read_header copies ended_copy closed_copy
+    raw_text ending_of ending_by_marker marker_at_end
 full_copy = refl
 
 -- cut by a ZCZC, which begins another header, whose copy the end of the text cuts
-pub cut_copies : map shown_copy (copies (codes "ZCZC EA01NNZCZC FB02X*")) ≡ (codes "EA01", Cut, codes "NN") ∷ (codes "FB02", Cut, codes "X*") ∷ []
-unfolding headers beginnings header_at_end identity_at_end read_header copies ended_copy closed_copy raw_text ending_of ending_by_marker marker_at_end
+pub cut_copies : map shown_copy (copies (codes "ZCZC EA01NNZCZC FB02X*"))
+    ≡ (codes "EA01", Cut, codes "NN") ∷ (codes "FB02", Cut, codes "X*") ∷ []
+unfolding headers beginnings header_at_end identity_at_end read_header copies ended_copy closed_copy
+    raw_text ending_of ending_by_marker marker_at_end
 cut_copies = refl
 
 -- the second of these stands open before the end of the text
-pub one_is_open : map shown_header (open_headers (codes "ZCZC EA01NNZCZC FB02X*")) ≡ (codes "FB02", 20) ∷ []
-unfolding headers beginnings header_at_end identity_at_end read_header open_headers is_open raw_text ending_of ending_by_marker marker_at_end
+pub one_is_open : map shown_header (open_headers (codes "ZCZC EA01NNZCZC FB02X*"))
+    ≡ (codes "FB02", 20) ∷ []
+unfolding headers beginnings header_at_end identity_at_end read_header open_headers is_open raw_text
+    ending_of ending_by_marker marker_at_end
 one_is_open = refl
 
--- with a limit of 5 characters in place of 4,100: a marker that is complete at the limit wins, and else the copy is long
-pub marker_at_the_limit : ending_within 5 (codes "ANNNN") ≡ Some (record { how = Full; text = codes "A" })
+-- with a limit of 5 characters in place of 4,100: a marker that is complete at the limit wins, and
+-- else the copy is long
+pub marker_at_the_limit : ending_within 5 (codes "ANNNN")
+    ≡ Some (record { how = Full; text = codes "A" })
 unfolding beginnings ending_within long_within ending_by_marker marker_at_end
 marker_at_the_limit = refl
 
-pub long_at_the_limit : ending_within 5 (codes "ABNNNN") ≡ Some (record { how = Long; text = codes "ABNNN" })
+pub long_at_the_limit : ending_within 5 (codes "ABNNNN")
+    ≡ Some (record { how = Long; text = codes "ABNNN" })
 unfolding beginnings ending_within long_within ending_by_marker marker_at_end
 long_at_the_limit = refl
 
@@ -78,7 +88,19 @@ two_errors = refl
 pub slot_of_e : IsShownAs 1735692000 (codes "2025-01-01 00:40:00")
 slot_of_e = record {
   time = record { year = 2025; month = 1; day = 1; hour = 0; minute = 40; second = 0 };
-  is_civil = record { date = (search rules, search rules, search rules); hour = search rules; minute = search rules; second = search rules };
-  is_moment = omega (arith, signed_arith, days_from_civil-day_count (pos 2025) 1 1, day_count-early (pos 2025) 12024 1 1 refl (search rules) (search rules) (search rules));
+  is_civil = record {
+    date = (search rules, search rules, search rules);
+    hour =
+        search rules;
+    minute = search rules;
+    second = search rules;
+  };
+  is_moment = omega (
+    arith,
+    signed_arith,
+    days_from_civil-day_count (pos 2025) 1 1,
+    day_count-early
+        (pos 2025) 12024 1 1 refl (search rules) (search rules) (search rules),
+  );
   is_text = refl;
 }

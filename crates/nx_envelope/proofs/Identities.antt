@@ -8,7 +8,9 @@ use Rattle.nx_envelope.proofs.LettersAndDigits.{same_letter, identity_at, same_i
 
 of_parts : (a b : Identity) → a.b1 ≡ b.b1 → a.b2 ≡ b.b2 → a.number ≡ b.number → a ≡ b
 of_parts a b station subject number =
-    ap (λ (l : Letter). identity_at l a.b2 a.number a.two_digits) station ∙ ap (λ (l : Letter). identity_at b.b1 l a.number a.two_digits) subject ∙ same_identity_at b.b1 b.b2 a.number b.number number a.two_digits b.two_digits
+    ap (λ (l : Letter). identity_at l a.b2 a.number a.two_digits) station
+    ∙ ap (λ (l : Letter). identity_at b.b1 l a.number a.two_digits) subject
+    ∙ same_identity_at b.b1 b.b2 a.number b.number number a.two_digits b.two_digits
 
 pub same_identity-true : (a b : Identity) → same_identity a b ≡ true → a ≡ b
 same_identity-true a b e =
@@ -21,11 +23,13 @@ same_identity-true a b e =
 
 pub same_itself : (a : Identity) → same_identity a a ≡ true
 same_itself a =
-    and_from _ _ (and_from _ _ (eq-eqb a.b1.byte a.b1.byte refl) (eq-eqb a.b2.byte a.b2.byte refl)) (eq-eqb a.number a.number refl)
+    and_from _ _ (and_from _ _ (eq-eqb a.b1.byte a.b1.byte refl) (eq-eqb a.b2.byte a.b2.byte refl))
+    (eq-eqb a.number a.number refl)
 
 same_equal : (a b : Identity) → a ≡ b → same_identity a b ≡ true
 same_equal a b e =
     subst (λ (it : Identity). same_identity a it ≡ true) e (same_itself a)
 
-pub same_identity_both : (a b : Identity) → (same_identity a b ≡ true → a ≡ b) × (a ≡ b → same_identity a b ≡ true)
+pub same_identity_both : (a b : Identity)
+    → (same_identity a b ≡ true → a ≡ b) × (a ≡ b → same_identity a b ≡ true)
 same_identity_both a b = (same_identity-true a b, same_equal a b)

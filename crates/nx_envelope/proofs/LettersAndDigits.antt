@@ -22,10 +22,12 @@ letter_at x p = record { byte = x; in_range = p }
 abbrev pub digit_at : (x : ℕ) → x ≤ 9 → Digit
 digit_at x p = record { value = x; below_ten = p }
 
-same_letter_at : (x y : ℕ) (e : x ≡ y) (p : IsCapital x) (q : IsCapital y) → letter_at x p ≡ letter_at y q
+same_letter_at : (x y : ℕ) (e : x ≡ y) (p : IsCapital x) (q : IsCapital y)
+    → letter_at x p ≡ letter_at y q
 same_letter_at x y e =
     let alike : IsProp (IsCapital x) = hlevel props in
-    let P : ℕ → Type 0 = λ (z : ℕ). (p : IsCapital x) (q : IsCapital z) → letter_at x p ≡ letter_at z q in
+    let P : ℕ → Type 0 = λ (z : ℕ). (p : IsCapital x) (q : IsCapital z)
+    → letter_at x p ≡ letter_at z q in
     subst P e (λ p q. ap (letter_at x) (alike p q))
 
 pub same_letter : (a b : Letter) → a.byte ≡ b.byte → a ≡ b
@@ -40,7 +42,8 @@ same_digit_at x y e =
 pub same_digit : (a b : Digit) → a.value ≡ b.value → a ≡ b
 same_digit a b e = same_digit_at a.value b.value e a.below_ten b.below_ten
 
-letter_from-byte : (l : Letter) (low high : Bool) (p : nat_le 65 l.byte ≡ low) (q : nat_le l.byte 90 ≡ high) → letter_from l.byte low high p q ≡ Some l
+letter_from-byte : (l : Letter) (low high : Bool) (p : nat_le 65 l.byte ≡ low)
+    (q : nat_le l.byte 90 ≡ high) → letter_from l.byte low high p q ≡ Some l
 unfolding letter_from
 letter_from-byte l true true p q = ap Some (same_letter _ l refl)
 letter_from-byte l true false p q = absurd (grind (arith, nat_tests))
@@ -52,9 +55,11 @@ letter_of-byte l = letter_from-byte l _ _ refl refl
 
 -- the letter nearest to a letter is that letter
 nearest_letter-is : (l : Letter) → nearest_letter l.byte ≡ l
-nearest_letter-is l = same_letter (nearest_letter l.byte) l (omega (arith, l.in_range.0, l.in_range.1))
+nearest_letter-is l = same_letter (nearest_letter l.byte) l
+    (omega (arith, l.in_range.0, l.in_range.1))
 
-letter_from-none : (b : ℕ) (low high : Bool) (p : nat_le 65 b ≡ low) (q : nat_le b 90 ≡ high) → ¬ IsCapital b → letter_from b low high p q ≡ None
+letter_from-none : (b : ℕ) (low high : Bool) (p : nat_le 65 b ≡ low) (q : nat_le b 90 ≡ high)
+    → ¬ IsCapital b → letter_from b low high p q ≡ None
 unfolding letter_from
 letter_from-none b true true p q not_so = absurd (not_so (grind (arith, nat_tests)))
 letter_from-none b true false p q not_so = refl
@@ -65,11 +70,13 @@ unfolding letter_of
 letter_of-none b not_so = letter_from-none b _ _ refl refl not_so
 
 -- what is made of a byte that may be a letter
-pub letter_given : (b : ℕ) (o : Option Letter) → (IsSome o ↔ IsCapital b) → IfSome o (λ l. l.byte ≡ b) → o ≡ letter_of b
+pub letter_given : (b : ℕ) (o : Option Letter) → (IsSome o ↔ IsCapital b)
+    → IfSome o (λ l. l.byte ≡ b) → o ≡ letter_of b
 letter_given b None in_range given = sym (letter_of-none b (λ h. let e = in_range.1 h in cc))
 letter_given b (Some l) in_range given = sym (letter_of-byte l) ∙ ap letter_of given
 
-digit_from-value : (b : ℕ) (d : Digit) (low high : Bool) (p : nat_le 48 b ≡ low) (q : nat_le (b - 48) 9 ≡ high) → 48 ≤ b → d.value ≡ b - 48 → digit_from b low high p q ≡ Some d
+digit_from-value : (b : ℕ) (d : Digit) (low high : Bool) (p : nat_le 48 b ≡ low)
+    (q : nat_le (b - 48) 9 ≡ high) → 48 ≤ b → d.value ≡ b - 48 → digit_from b low high p q ≡ Some d
 unfolding digit_from
 digit_from-value b d true true p q at e = ap Some (same_digit _ d (sym e))
 digit_from-value b d true false p q at e = absurd (grind (arith, nat_tests, d.below_ten))
@@ -79,7 +86,8 @@ pub digit_of-value : (b : ℕ) (d : Digit) → 48 ≤ b → d.value ≡ b - 48 �
 unfolding digit_of
 digit_of-value b d at e = digit_from-value b d _ _ refl refl at e
 
-digit_from-none : (b : ℕ) (low high : Bool) (p : nat_le 48 b ≡ low) (q : nat_le (b - 48) 9 ≡ high) → ¬ IsDigit b → digit_from b low high p q ≡ None
+digit_from-none : (b : ℕ) (low high : Bool) (p : nat_le 48 b ≡ low) (q : nat_le (b - 48) 9 ≡ high)
+    → ¬ IsDigit b → digit_from b low high p q ≡ None
 unfolding digit_from
 digit_from-none b true true p q not_so = absurd (not_so (grind (arith, nat_tests)))
 digit_from-none b true false p q not_so = refl
@@ -97,7 +105,8 @@ pub record StageParts (stage : Stage) (start : Bool) (b : ℕ) (back : List ℕ)
   pub tens : tens_back (b ∷ back) ≡ both (subject_in stage) (digit_of b)
   pub header : header_back (b ∷ back) ≡ identity_with (both (tens_in stage) (digit_of b))
 
-pub stage_parts : (stage : Stage) (start : Bool) (b : ℕ) (back : List ℕ) → IsStageOf stage back → start ≡ ends_in start_marker back → StageParts stage start b back
+pub stage_parts : (stage : Stage) (start : Bool) (b : ℕ) (back : List ℕ) → IsStageOf stage back
+    → start ≡ ends_in start_marker back → StageParts stage start b back
 unfolding spaces_back station_back subject_back tens_back header_back
 stage_parts stage start b back h e = record {
   spaces = rw (← e, h.spaces) refl;
@@ -121,10 +130,12 @@ digit_of-space = digit_of-none 32 (λ h. absurd (omega arith))
 abbrev pub identity_at : Letter → Letter → (n : ℕ) → n ≤ 99 → Identity
 identity_at l m n p = record { b1 = l; b2 = m; number = n; two_digits = p }
 
-pub same_identity_at : (l m : Letter) (x y : ℕ) (e : x ≡ y) (p : x ≤ 99) (q : y ≤ 99) → identity_at l m x p ≡ identity_at l m y q
+pub same_identity_at : (l m : Letter) (x y : ℕ) (e : x ≡ y) (p : x ≤ 99) (q : y ≤ 99)
+    → identity_at l m x p ≡ identity_at l m y q
 same_identity_at l m x y e =
     let alike : IsProp (x ≤ 99) = hlevel props in
-    let P : ℕ → Type 0 = λ (z : ℕ). (p : x ≤ 99) (q : z ≤ 99) → identity_at l m x p ≡ identity_at l m z q in
+    let P : ℕ → Type 0 = λ (z : ℕ). (p : x ≤ 99) (q : z ≤ 99)
+    → identity_at l m x p ≡ identity_at l m z q in
     subst P e (λ p q. ap (identity_at l m x) (alike p q))
 
 -- the identity nearest to the bytes of one is that one
@@ -137,15 +148,18 @@ nearest_identity-is i =
     ∙ ap (λ m. identity_at i.b1 m n small) (nearest_letter-is i.b2)
     ∙ same_identity_at i.b1 i.b2 n i.number number small i.two_digits
 
-pub identity_is : (l m : Letter) (t u : Digit) (p : t.value * 10 + u.value ≤ 99) → identity_at l m (t.value * 10 + u.value) p ≡ identity_of l m t u
+pub identity_is : (l m : Letter) (t u : Digit) (p : t.value * 10 + u.value ≤ 99)
+    → identity_at l m (t.value * 10 + u.value) p ≡ identity_of l m t u
 identity_is l m t u p = same_identity_at l m _ _ refl p _
 
-pub both_first : {A B : Type 0} (o : Option A) (p : Option B) (q : A × B) → both o p ≡ Some q → o ≡ Some q.0
+pub both_first : {A B : Type 0} (o : Option A) (p : Option B) (q : A × B) → both o p ≡ Some q
+    → o ≡ Some q.0
 both_first None p q e = absurd (let contra : None ≡ Some q = e in cc)
 both_first (Some a) None q e = absurd (let contra : None ≡ Some q = e in cc)
 both_first (Some a) (Some b) q e = let same : (a, b) ≡ q = cc in ap (λ z. Some z.0) same
 
-pub both_second : {A B : Type 0} (o : Option A) (p : Option B) (q : A × B) → both o p ≡ Some q → p ≡ Some q.1
+pub both_second : {A B : Type 0} (o : Option A) (p : Option B) (q : A × B) → both o p ≡ Some q
+    → p ≡ Some q.1
 both_second None p q e = absurd (let contra : None ≡ Some q = e in cc)
 both_second (Some a) None q e = absurd (let contra : None ≡ Some q = e in cc)
 both_second (Some a) (Some b) q e = let same : (a, b) ≡ q = cc in ap (λ z. Some z.1) same
@@ -154,7 +168,8 @@ pub record IsWith (o : Option (((Letter × Letter) × Digit) × Digit)) : Type 0
   pub found : ((Letter × Letter) × Digit) × Digit
   pub is : o ≡ Some found
 
-pub identity_some : (o : Option (((Letter × Letter) × Digit) × Digit)) (i : Identity) → identity_with o ≡ Some i → IsWith o
+pub identity_some : (o : Option (((Letter × Letter) × Digit) × Digit)) (i : Identity)
+    → identity_with o ≡ Some i → IsWith o
 identity_some None i e = absurd (cc)
 identity_some (Some found) i e = record { found = found; is = refl }
 

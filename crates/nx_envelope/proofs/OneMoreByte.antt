@@ -1,4 +1,5 @@
--- What one more byte does to a text of which no copy is open, or one, which is its last: the cases that a byte can be.
+-- What one more byte does to a text of which no copy is open, or one, which is its last: the cases
+-- that a byte can be.
 use Rattle.std.proofs.Common.{◌≡◌, ◌≢◌, ℕ, ◌+◌, ◌<◌, ◌≤◌, true, false, if◌then◌else◌, Option, Some, None, List, [], ◌∷◌, ◌++◌, length, drop, reverse, refl, sym, ap, ◌∙◌, arith, length-append, append_assoc}
 use Rattle.std.specs.List.{filter, filter_map}
 use Rattle.std.specs.Option.{option_map, option_to_list, is_none}
@@ -21,11 +22,13 @@ use Rattle.nx_envelope.proofs.Stages.{quiet_more, no_header, after_header}
 -- Copies that have ended.
 
 -- what a header gives, by its end
-pub ended_with : (text : List ℕ) (h : Header) (o : Option Ending) → ending_of (raw_text text h) ≡ o → ended_copy text h ≡ option_map (copy_with h) o
+pub ended_with : (text : List ℕ) (h : Header) (o : Option Ending) → ending_of (raw_text text h) ≡ o
+    → ended_copy text h ≡ option_map (copy_with h) o
 unfolding ended_copy
 ended_with text h o e = ap (option_map (copy_with h)) e
 
-pub open_with : (text : List ℕ) (h : Header) (o : Option Ending) → ending_of (raw_text text h) ≡ o → is_open text h ≡ is_none o
+pub open_with : (text : List ℕ) (h : Header) (o : Option Ending) → ending_of (raw_text text h) ≡ o
+    → is_open text h ≡ is_none o
 unfolding is_open
 open_with text h o e = ap is_none e
 
@@ -34,7 +37,9 @@ pub record Stay (text : List ℕ) (b : ℕ) (hs : List Header) : Type 0 where
   pub ended : filter_map (ended_copy (text ++ b ∷ [])) hs ≡ filter_map (ended_copy text) hs
   pub none : filter (is_open (text ++ b ∷ [])) hs ≡ []
 
-stay_at : (text : List ℕ) (b : ℕ) (h : Header) (hs : List Header) (o : Option Ending) → ending_of (raw_text text h) ≡ o → filter (is_open text) (h ∷ hs) ≡ [] → (filter (is_open text) hs ≡ [] → Stay text b hs) → Stay text b (h ∷ hs)
+stay_at : (text : List ℕ) (b : ℕ) (h : Header) (hs : List Header) (o : Option Ending)
+    → ending_of (raw_text text h) ≡ o → filter (is_open text) (h ∷ hs) ≡ []
+    → (filter (is_open text) hs ≡ [] → Stay text b hs) → Stay text b (h ∷ hs)
 stay_at text b h hs None e none rest =
     let yes = open_with text h None e in
     absurd (let contra : h ∷ filter (is_open text) hs ≡ [] = rw yes at none in cc)
@@ -47,13 +52,15 @@ stay_at text b h hs (Some ending) e none rest =
     let below : Stay text b hs = rest (rw was at none) in
     record { ended = rw (old, new, below.ended) refl; none = rw is below.none }
 
-pub stay : (text : List ℕ) (b : ℕ) (hs : List Header) → filter (is_open text) hs ≡ [] → Stay text b hs
+pub stay : (text : List ℕ) (b : ℕ) (hs : List Header) → filter (is_open text) hs ≡ []
+    → Stay text b hs
 stay text b [] none = record { ended = refl; none = refl }
 stay text b (h ∷ hs) none = stay_at text b h hs _ refl none (stay text b hs)
 
 -- The one open copy.
 
--- a text whose last header begins a copy that has not ended, while all others have; the byte before its raw text is no
+-- a text whose last header begins a copy that has not ended, while all others have; the byte before
+-- its raw text is no
 -- letter of a marker, and no header has begun behind it
 pub record OneOpen (text : List ℕ) : Type 0 where
   pub earlier : List Header
@@ -70,21 +77,28 @@ pub record OneOpen (text : List ℕ) : Type 0 where
   pub no_start : ends_in start_marker (reverse text) ≡ false
 
 -- the last header, after others that are all over
-open_last : (text : List ℕ) (earlier : List Header) (h : Header) (o : Option Ending) → headers text ≡ earlier ++ h ∷ [] → filter (is_open text) earlier ≡ [] → ending_of (raw_text text h) ≡ o → open_headers text ≡ (if is_none o then h ∷ [] else [])
+open_last : (text : List ℕ) (earlier : List Header) (h : Header) (o : Option Ending)
+    → headers text ≡ earlier ++ h ∷ [] → filter (is_open text) earlier ≡ []
+    → ending_of (raw_text text h) ≡ o → open_headers text ≡ (if is_none o then h ∷ [] else [])
 unfolding open_headers
 open_last text earlier h o all over e =
     let parted = ap (filter (is_open text)) all ∙ filter-append (is_open text) earlier (h ∷ []) in
     let is = open_with text h o e in
     parted ∙ rw (over, is) refl
 
-ended_last : (text : List ℕ) (earlier : List Header) (h : Header) (o : Option Ending) → headers text ≡ earlier ++ h ∷ [] → ending_of (raw_text text h) ≡ o → ended_copies text ≡ filter_map (ended_copy text) earlier ++ option_to_list (option_map (copy_with h) o)
+ended_last : (text : List ℕ) (earlier : List Header) (h : Header) (o : Option Ending)
+    → headers text ≡ earlier ++ h ∷ [] → ending_of (raw_text text h) ≡ o
+    → ended_copies text ≡ filter_map (ended_copy text) earlier
+    ++ option_to_list (option_map (copy_with h) o)
 unfolding ended_copies
 ended_last text earlier h None all e =
-    let parted = ap (filter_map (ended_copy text)) all ∙ filter_map-append (ended_copy text) earlier (h ∷ []) in
+    let parted = ap (filter_map (ended_copy text)) all
+    ∙ filter_map-append (ended_copy text) earlier (h ∷ []) in
     let is = ended_with text h None e in
     parted ∙ rw is refl
 ended_last text earlier h (Some ending) all e =
-    let parted = ap (filter_map (ended_copy text)) all ∙ filter_map-append (ended_copy text) earlier (h ∷ []) in
+    let parted = ap (filter_map (ended_copy text)) all
+    ∙ filter_map-append (ended_copy text) earlier (h ∷ []) in
     let is = ended_with text h (Some ending) e in
     parted ∙ rw is refl
 
@@ -94,23 +108,34 @@ open_headers-one text o = open_last text o.earlier o.header None o.all o.over o.
 -- One more byte.
 
 -- no header is completed
-pub no_more_headers : (text : List ℕ) (b : ℕ) → header_back (b ∷ reverse text) ≡ None → headers (text ++ b ∷ []) ≡ headers text
+pub no_more_headers : (text : List ℕ) (b : ℕ) → header_back (b ∷ reverse text) ≡ None
+    → headers (text ++ b ∷ []) ≡ headers text
 no_more_headers text b none =
     let last = header_at_end-push text b in
     headers-push text b ∙ rw (last, none) (append-nil (headers text))
 
-pub one_more_header : (text : List ℕ) (b : ℕ) (i : Identity) → header_back (b ∷ reverse text) ≡ Some i → headers (text ++ b ∷ []) ≡ headers text ++ record { identity = i; behind = length text + 1 } ∷ []
+pub one_more_header : (text : List ℕ) (b : ℕ) (i : Identity)
+    → header_back (b ∷ reverse text) ≡ Some i
+    → headers (text ++ b ∷ [])
+    ≡ headers text ++ record { identity = i; behind = length text + 1 } ∷ []
 one_more_header text b i is =
     let last = header_at_end-push text b in
     headers-push text b ∙ rw (last, is) refl
 
 -- no copy is open, and none begins
-pub still_none : (text : List ℕ) (b : ℕ) → open_headers text ≡ [] → header_back (b ∷ reverse text) ≡ None → Keeps text b
+pub still_none : (text : List ℕ) (b : ℕ) → open_headers text ≡ []
+    → header_back (b ∷ reverse text) ≡ None → Keeps text b
 unfolding open_headers ended_copies
 still_none text b none no_more =
     let same = no_more_headers text b no_more in
     let s = stay text b (headers text) none in
-    record { headers = same; ended = ap (filter_map (ended_copy (text ++ b ∷ []))) same ∙ s.ended; still_open = ap (filter (is_open (text ++ b ∷ []))) same ∙ s.none ∙ sym none }
+    record {
+      headers = same;
+      ended =
+          ap (filter_map (ended_copy (text ++ b ∷ []))) same ∙ s.ended;
+      still_open =
+          ap (filter (is_open (text ++ b ∷ []))) same ∙ s.none ∙ sym none;
+    }
 
 -- no copy is open, and one begins
 pub record Opens (text : List ℕ) (b : ℕ) (header : Header) : Type 0 where
@@ -120,16 +145,21 @@ pub record Opens (text : List ℕ) (b : ℕ) (header : Header) : Type 0 where
   pub raw : raw_text (text ++ b ∷ []) header ≡ []
   pub fresh : drop header.behind (text ++ b ∷ []) ≡ []
 
-pub opens : (text : List ℕ) (b : ℕ) (i : Identity) → open_headers text ≡ [] → header_back (b ∷ reverse text) ≡ Some i → Opens text b (record { identity = i; behind = length text + 1 })
+pub opens : (text : List ℕ) (b : ℕ) (i : Identity) → open_headers text ≡ []
+    → header_back (b ∷ reverse text) ≡ Some i
+    → Opens text b (record { identity = i; behind = length text + 1 })
 unfolding open_headers ended_copies
 opens text b i none is =
     let h : Header = record { identity = i; behind = length text + 1 } in
     let more : headers (text ++ b ∷ []) ≡ headers text ++ h ∷ [] = one_more_header text b i is in
     let s = stay text b (headers text) none in
-    let long : length (text ++ b ∷ []) ≡ length text + 1 = omega (arith, length-append text (b ∷ [])) in
-    let fresh : drop h.behind (text ++ b ∷ []) ≡ [] = drop_all h.behind (text ++ b ∷ []) (omega arith) in
+    let long : length (text ++ b ∷ []) ≡ length text + 1 =
+    omega (arith, length-append text (b ∷ [])) in
+    let fresh : drop h.behind (text ++ b ∷ []) ≡ [] =
+    drop_all h.behind (text ++ b ∷ []) (omega arith) in
     let raw : raw_text (text ++ b ∷ []) h ≡ [] = raw-none (text ++ b ∷ []) h fresh in
-    let unended : ending_of (raw_text (text ++ b ∷ []) h) ≡ None = ap ending_of raw ∙ ending_of-nil in
+    let unended : ending_of (raw_text (text ++ b ∷ []) h) ≡ None =
+    ap ending_of raw ∙ ending_of-nil in
     let a = after_header b (reverse text) i is in
     let back = reverse-push text b in
     let mark : marker_back (reverse (text ++ b ∷ [])) ≡ None = marker_apart text [] b a.plain in
@@ -137,7 +167,8 @@ opens text b i none is =
       begins = record {
         behind = refl;
         headers = more;
-        ended = ended_last (text ++ b ∷ []) (headers text) h None more unended ∙ append-nil _ ∙ s.ended;
+        ended = ended_last (text ++ b ∷ []) (headers text) h None more unended ∙ append-nil _
+            ∙ s.ended;
         was_none = none;
         now_open = open_last (text ++ b ∷ []) (headers text) h None more s.none unended;
       };
@@ -165,25 +196,32 @@ opens text b i none is =
 headers_stay : (text : List ℕ) (b : ℕ) (o : OneOpen text) → headers (text ++ b ∷ []) ≡ headers text
 headers_stay text b o = no_more_headers text b (no_header b (reverse text) o.stage)
 
-pub ended_before : (text : List ℕ) (o : OneOpen text) → ended_copies text ≡ filter_map (ended_copy text) o.earlier
+pub ended_before : (text : List ℕ) (o : OneOpen text)
+    → ended_copies text ≡ filter_map (ended_copy text) o.earlier
 ended_before text o =
-    ended_last text o.earlier o.header None o.all o.unended ∙ append-nil (filter_map (ended_copy text) o.earlier)
+    ended_last text o.earlier o.header None o.all o.unended
+    ∙ append-nil (filter_map (ended_copy text) o.earlier)
 
 -- it stays open
-stays_open : (text : List ℕ) (b : ℕ) (o : OneOpen text) → ending_of (raw_text (text ++ b ∷ []) o.header) ≡ None → Keeps text b
+stays_open : (text : List ℕ) (b : ℕ) (o : OneOpen text)
+    → ending_of (raw_text (text ++ b ∷ []) o.header) ≡ None → Keeps text b
 stays_open text b o unended =
     let same = headers_stay text b o in
     let all : headers (text ++ b ∷ []) ≡ o.earlier ++ o.header ∷ [] = same ∙ o.all in
     let s = stay text b o.earlier o.over in
-    let now = ended_last (text ++ b ∷ []) o.earlier o.header None all unended ∙ append-nil (filter_map (ended_copy (text ++ b ∷ [])) o.earlier) in
+    let now = ended_last (text ++ b ∷ []) o.earlier o.header None all unended
+    ∙ append-nil (filter_map (ended_copy (text ++ b ∷ [])) o.earlier) in
     record {
       headers = same;
       ended = now ∙ s.ended ∙ sym (ended_before text o);
-      still_open = open_last (text ++ b ∷ []) o.earlier o.header None all s.none unended ∙ sym (open_headers-one text o);
+      still_open = open_last (text ++ b ∷ []) o.earlier o.header None all s.none unended
+          ∙ sym (open_headers-one text o);
     }
 
 -- it ends
-ends_copy : (text : List ℕ) (b : ℕ) (o : OneOpen text) (ending : Ending) → ending_of (raw_text (text ++ b ∷ []) o.header) ≡ Some ending → Ends text b (copy_with o.header ending)
+ends_copy : (text : List ℕ) (b : ℕ) (o : OneOpen text) (ending : Ending)
+    → ending_of (raw_text (text ++ b ∷ []) o.header) ≡ Some ending
+    → Ends text b (copy_with o.header ending)
 ends_copy text b o ending e =
     let same = headers_stay text b o in
     let all : headers (text ++ b ∷ []) ≡ o.earlier ++ o.header ∷ [] = same ∙ o.all in
@@ -198,7 +236,10 @@ ends_copy text b o ending e =
     }
 
 -- what is open one byte later
-one_later : (text : List ℕ) (b : ℕ) (o : OneOpen text) (front : List ℕ) (before : ℕ) → ending_of (raw_text (text ++ b ∷ []) o.header) ≡ None → text ++ b ∷ [] ≡ front ++ before ∷ raw_text (text ++ b ∷ []) o.header → IsPlain before → marker_back (reverse (text ++ b ∷ [])) ≡ None → OneOpen (text ++ b ∷ [])
+one_later : (text : List ℕ) (b : ℕ) (o : OneOpen text) (front : List ℕ) (before : ℕ)
+    → ending_of (raw_text (text ++ b ∷ []) o.header) ≡ None
+    → text ++ b ∷ [] ≡ front ++ before ∷ raw_text (text ++ b ∷ []) o.header → IsPlain before
+    → marker_back (reverse (text ++ b ∷ [])) ≡ None → OneOpen (text ++ b ∷ [])
 one_later text b o front before unended spelled plain mark =
     let same = headers_stay text b o in
     let s = stay text b o.earlier o.over in
@@ -214,7 +255,8 @@ one_later text b o front before unended spelled plain mark =
       before = before;
       spelled = spelled;
       plain = plain;
-      stage = rw back (quiet_more b (reverse text) (record { is = o.stage; flag = sym o.no_start }));
+      stage = rw back (quiet_more b (reverse text)
+          (record { is = o.stage; flag = sym o.no_start }));
       no_start = no_start (reverse (text ++ b ∷ [])) mark;
     }
 
@@ -225,44 +267,87 @@ pub record GoesOn (text : List ℕ) (b : ℕ) (header : Header) : Type 0 where
   pub is : one.header ≡ header
 
 -- it is a newline directly behind the header
-pub drops_newline : (text : List ℕ) (b : ℕ) (o : OneOpen text) → is_empty (drop o.header.behind text) ≡ true → b ≡ 10 → GoesOn text b o.header
+pub drops_newline : (text : List ℕ) (b : ℕ) (o : OneOpen text)
+    → is_empty (drop o.header.behind text) ≡ true → b ≡ 10 → GoesOn text b o.header
 unfolding one_later
 drops_newline text b o fresh is =
     let raw = raw-newline text b o.header o.within fresh is in
-    let unended : ending_of (raw_text (text ++ b ∷ []) o.header) ≡ None = ap ending_of raw ∙ ending_of-nil in
-    let plain : IsPlain b = record { no_n = λ e. omega arith; no_z = λ e. omega arith; no_c = λ e. omega arith } in
+    let unended : ending_of (raw_text (text ++ b ∷ []) o.header) ≡ None =
+    ap ending_of raw ∙ ending_of-nil in
+    let plain : IsPlain b = record
+    { no_n = λ e. omega arith; no_z = λ e. omega arith; no_c = λ e. omega arith } in
     let mark : marker_back (reverse (text ++ b ∷ [])) ≡ None = marker_apart text [] b plain in
-    record { keeps = stays_open text b o unended; one = one_later text b o text b unended (rw raw refl) plain mark; is = refl }
+    record {
+      keeps = stays_open text b o unended;
+      one =
+          one_later text b o text b unended (rw raw refl) plain mark;
+      is = refl;
+    }
 
 -- the byte is added to the raw text
-spelled_more : (text : List ℕ) (b : ℕ) (o : OneOpen text) → text ++ b ∷ [] ≡ o.front ++ o.before ∷ (raw_text text o.header ++ b ∷ [])
+spelled_more : (text : List ℕ) (b : ℕ) (o : OneOpen text)
+    → text ++ b ∷ [] ≡ o.front ++ o.before ∷ (raw_text text o.header ++ b ∷ [])
 spelled_more text b o =
-    ap (λ (xs : List ℕ). xs ++ b ∷ []) o.spelled ∙ append_assoc o.front (o.before ∷ raw_text text o.header) (b ∷ [])
+    ap (λ (xs : List ℕ). xs ++ b ∷ []) o.spelled
+    ∙ append_assoc o.front (o.before ∷ raw_text text o.header) (b ∷ [])
 
 -- the marker of the text is that of the raw text
-pub marker_more : (text : List ℕ) (b : ℕ) (o : OneOpen text) → marker_back (reverse (raw_text text o.header ++ b ∷ [])) ≡ marker_back (b ∷ reverse text)
+pub marker_more : (text : List ℕ) (b : ℕ) (o : OneOpen text)
+    → marker_back (reverse (raw_text text o.header ++ b ∷ [])) ≡ marker_back (b ∷ reverse text)
 marker_more text b o =
-    sym (marker_apart o.front (raw_text text o.header ++ b ∷ []) o.before o.plain) ∙ ap (λ (xs : List ℕ). marker_back (reverse xs)) (sym (spelled_more text b o)) ∙ ap marker_back (reverse-push text b)
+    sym (marker_apart o.front (raw_text text o.header ++ b ∷ []) o.before o.plain)
+    ∙ ap (λ (xs : List ℕ). marker_back (reverse xs)) (sym (spelled_more text b o))
+    ∙ ap marker_back (reverse-push text b)
 
-pub adds : (text : List ℕ) (b : ℕ) (o : OneOpen text) → (is_empty (drop o.header.behind text) ≡ true → b ≢ 10) → marker_back (b ∷ reverse text) ≡ None → length (raw_text text o.header) + 1 < 4100 → GoesOn text b o.header
+pub adds : (text : List ℕ) (b : ℕ) (o : OneOpen text)
+    → (is_empty (drop o.header.behind text) ≡ true → b ≢ 10) → marker_back (b ∷ reverse text) ≡ None
+    → length (raw_text text o.header) + 1 < 4100 → GoesOn text b o.header
 unfolding one_later
 adds text b o apart mark short =
     let raw = raw-push text b o.header o.within apart in
-    let unended : ending_of (raw_text (text ++ b ∷ []) o.header) ≡ None = ap ending_of raw ∙ ending-open (raw_text text o.header) b o.unended (marker_more text b o ∙ mark) short in
-    let spelled : text ++ b ∷ [] ≡ o.front ++ o.before ∷ raw_text (text ++ b ∷ []) o.header = rw raw (spelled_more text b o) in
-    let here : marker_back (reverse (text ++ b ∷ [])) ≡ None = ap marker_back (reverse-push text b) ∙ mark in
-    record { keeps = stays_open text b o unended; one = one_later text b o o.front o.before unended spelled o.plain here; is = refl }
+    let unended : ending_of (raw_text (text ++ b ∷ []) o.header) ≡ None =
+    ap ending_of raw ∙ ending-open (raw_text text o.header) b o.unended
+    (marker_more text b o ∙ mark) short in
+    let spelled : text ++ b ∷ [] ≡ o.front ++ o.before ∷ raw_text (text ++ b ∷ []) o.header =
+    rw raw (spelled_more text b o) in
+    let here : marker_back (reverse (text ++ b ∷ [])) ≡ None =
+    ap marker_back (reverse-push text b) ∙ mark in
+    record {
+      keeps = stays_open text b o unended;
+      one =
+          one_later text b o o.front o.before unended spelled o.plain here;
+      is = refl;
+    }
 
 -- a marker ends it
-pub ends_marked : (text : List ℕ) (b : ℕ) (o : OneOpen text) (how : How) → (is_empty (drop o.header.behind text) ≡ true → b ≢ 10) → marker_back (b ∷ reverse text) ≡ Some how → Ends text b (record { header = o.header; how = how; text = found_text how (raw_text text o.header) b })
+pub ends_marked : (text : List ℕ) (b : ℕ) (o : OneOpen text) (how : How)
+    → (is_empty (drop o.header.behind text) ≡ true → b ≢ 10)
+    → marker_back (b ∷ reverse text) ≡ Some how
+    → Ends text b (record {
+      header = o.header;
+      how = how;
+      text =
+          found_text how (raw_text text o.header) b;
+    })
 ends_marked text b o how apart mark =
     let raw = raw-push text b o.header o.within apart in
-    let ended = ap ending_of raw ∙ ending-marker (raw_text text o.header) b how o.unended (marker_more text b o ∙ mark) in
-    ends_copy text b o (record { how = how; text = found_text how (raw_text text o.header) b }) ended
+    let ended = ap ending_of raw
+    ∙ ending-marker (raw_text text o.header) b how o.unended (marker_more text b o ∙ mark) in
+    ends_copy text b o (record { how = how; text = found_text how (raw_text text o.header) b })
+    ended
 
 -- the 4,100th byte ends it
-pub ends_long : (text : List ℕ) (b : ℕ) (o : OneOpen text) → (is_empty (drop o.header.behind text) ≡ true → b ≢ 10) → marker_back (b ∷ reverse text) ≡ None → length (raw_text text o.header) + 1 ≡ 4100 → Ends text b (record { header = o.header; how = Long; text = raw_text text o.header ++ b ∷ [] })
+pub ends_long : (text : List ℕ) (b : ℕ) (o : OneOpen text)
+    → (is_empty (drop o.header.behind text) ≡ true → b ≢ 10) → marker_back (b ∷ reverse text) ≡ None
+    → length (raw_text text o.header) + 1 ≡ 4100
+    → Ends text b (record {
+      header = o.header;
+      how = Long;
+      text =
+          raw_text text o.header ++ b ∷ [];
+    })
 ends_long text b o apart mark full =
     let raw = raw-push text b o.header o.within apart in
-    let ended = ap ending_of raw ∙ ending-long (raw_text text o.header) b o.unended (marker_more text b o ∙ mark) full in
+    let ended = ap ending_of raw
+    ∙ ending-long (raw_text text o.header) b o.unended (marker_more text b o ∙ mark) full in
     ends_copy text b o (record { how = Long; text = raw_text text o.header ++ b ∷ [] }) ended

@@ -1,4 +1,5 @@
--- The header and the marker with which a text ends: looked for by their spelling, and read from the back of the text.
+-- The header and the marker with which a text ends: looked for by their spelling, and read from the
+-- back of the text.
 use Rattle.std.proofs.Common.{◌≡◌, ℕ, zero, suc, ◌+◌, ◌-◌, ◌*◌, ◌/◌, ◌%◌, ◌≤◌, ◌==◌, Bool, true, false, ◌&&◌, nat_le, inl, inr, if◌then◌else◌, Option, Some, None, List, [], ◌∷◌, ◌++◌, length, take, drop, reverse, refl, sym, ap, ◌∙◌, ◌⊎◌, arith, length-append, subst}
 use Rattle.std.specs.Option.{option_or}
 use Rattle.std.specs.Prelude.{replicate}
@@ -24,7 +25,8 @@ same_bools true b forth back = sym (forth refl)
 same_bools false true forth back = back refl
 same_bools false false forth back = refl
 
-same_options : {A : Type 0} (o p : Option A) → ((x : A) → o ≡ Some x → p ≡ Some x) → ((x : A) → p ≡ Some x → o ≡ Some x) → o ≡ p
+same_options : {A : Type 0} (o p : Option A) → ((x : A) → o ≡ Some x → p ≡ Some x)
+    → ((x : A) → p ≡ Some x → o ≡ Some x) → o ≡ p
 same_options (Some x) p forth back = sym (forth x refl)
 same_options None (Some y) forth back = back y refl
 same_options None None forth back = refl
@@ -34,12 +36,20 @@ same_options None None forth back = refl
 word_forth : (word text : List ℕ) → ends_with word text ≡ true → EndsWith text word
 word_forth word text e =
     let same : last_of 4 text ≡ word = (bytes_eq-Decides (last_of 4 text) word).0 e in
-    record { front = take (length text - 4) text; spelled = sym (take-append-drop (length text - 4) text) ∙ ap (λ (xs : List ℕ). take (length text - 4) text ++ xs) same }
+    record {
+      front = take (length text - 4) text;
+      spelled =
+          sym (take-append-drop (length text - 4) text)
+          ∙ ap (λ (xs : List ℕ). take (length text - 4) text ++ xs) same;
+    }
 
 word_back : (word text : List ℕ) → length word ≡ 4 → EndsWith text word → ends_with word text ≡ true
 word_back word text four h =
-    let long : length text - 4 ≡ length h.front = omega (arith, ap length h.spelled, length-append h.front word, four) in
-    let same : last_of 4 text ≡ word = ap (λ (n : ℕ). drop n text) long ∙ ap (drop (length h.front)) h.spelled ∙ drop-append_seam h.front word in
+    let long : length text - 4 ≡ length h.front =
+    omega (arith, ap length h.spelled, length-append h.front word, four) in
+    let same : last_of 4 text ≡ word =
+    ap (λ (n : ℕ). drop n text) long ∙ ap (drop (length h.front)) h.spelled
+    ∙ drop-append_seam h.front word in
     (bytes_eq-Decides (last_of 4 text) word).1 same
 
 starts_same : (text : List ℕ) → ends_with start_marker text ≡ ends_in start_marker (reverse text)
@@ -64,15 +74,20 @@ marker_at_end-back text =
     ∙ ap (mark_of (ends_in end_marker (reverse text))) (starts_same text)
 
 -- what the law says of both markers
-pub start_spelled : (text : List ℕ) → (ends_with start_marker text ≡ true → EndsWith text start_marker) × (EndsWith text start_marker → ends_with start_marker text ≡ true)
+pub start_spelled : (text : List ℕ)
+    → (ends_with start_marker text ≡ true → EndsWith text start_marker)
+    × (EndsWith text start_marker → ends_with start_marker text ≡ true)
 start_spelled text = (word_forth start_marker text, word_back start_marker text refl)
 
-pub end_spelled : (text : List ℕ) → (ends_with end_marker text ≡ true → EndsWith text end_marker) × (EndsWith text end_marker → ends_with end_marker text ≡ true)
+pub end_spelled : (text : List ℕ)
+    → (ends_with end_marker text ≡ true → EndsWith text end_marker)
+    × (EndsWith text end_marker → ends_with end_marker text ≡ true)
 end_spelled text = (word_forth end_marker text, word_back end_marker text refl)
 
 -- Headers: what is read is spelled.
 
-or_cases : {A : Type 0} (o p : Option A) (x : A) → option_or o p ≡ Some x → (o ≡ Some x) ⊎ (p ≡ Some x)
+or_cases : {A : Type 0} (o p : Option A) (x : A) → option_or o p ≡ Some x
+    → (o ≡ Some x) ⊎ (p ≡ Some x)
 or_cases (Some y) p x e = inl e
 or_cases None p x e = inr e
 
@@ -89,11 +104,18 @@ header_forth text i e =
     let is : text ≡ spelled = (bytes_eq-Decides text spelled).0 q.0 in
     let whole : text ≡ start_marker ++ replicate (length text - 9 + 1) 32 ++ identity_bytes i =
     is ∙ ap (λ (n : ℕ). start_marker ++ replicate n 32 ++ identity_bytes near) more
-    ∙ ap (λ (j : Identity). start_marker ++ replicate (length text - 9 + 1) 32 ++ identity_bytes j) same in
+    ∙ ap (λ (j : Identity). start_marker ++ replicate (length text - 9 + 1) 32 ++ identity_bytes j)
+    same in
     record { front = []; more_spaces = length text - 9; spelled = whole }
 
-behind : (b : ℕ) (text : List ℕ) (i : Identity) → EndsWithHeader text i → EndsWithHeader (b ∷ text) i
-behind b text i h = record { front = b ∷ h.front; more_spaces = h.more_spaces; spelled = ap (λ (xs : List ℕ). b ∷ xs) h.spelled }
+behind : (b : ℕ) (text : List ℕ) (i : Identity) → EndsWithHeader text i
+    → EndsWithHeader (b ∷ text) i
+behind b text i h = record {
+  front = b ∷ h.front;
+  more_spaces = h.more_spaces;
+  spelled =
+      ap (λ (xs : List ℕ). b ∷ xs) h.spelled;
+}
 
 forth : (text : List ℕ) (i : Identity) → identity_at_end text ≡ Some i → EndsWithHeader text i
 unfolding identity_at_end
@@ -118,32 +140,45 @@ gives_second None p g = g
 
 last_is : (front back : List ℕ) → length back ≡ 4 → last_of 4 (front ++ back) ≡ back
 last_is front back four =
-    let long : length (front ++ back) - 4 ≡ length front = omega (arith, length-append front back, four) in
+    let long : length (front ++ back) - 4 ≡ length front =
+    omega (arith, length-append front back, four) in
     ap (λ (n : ℕ). drop n (front ++ back)) long ∙ drop-append_seam front back
 
-header_spelled : (text spaces : List ℕ) (i : Identity) → (text ≡ (start_marker ++ spaces) ++ identity_bytes i) → nearest_identity (last_of 4 text) ≡ i
+header_spelled : (text spaces : List ℕ) (i : Identity)
+    → (text ≡ (start_marker ++ spaces) ++ identity_bytes i) → nearest_identity (last_of 4 text) ≡ i
 header_spelled text spaces i e =
     ap (λ (xs : List ℕ). nearest_identity (last_of 4 xs)) e
-    ∙ ap nearest_identity (last_is (start_marker ++ spaces) (identity_bytes i) refl) ∙ nearest_identity-is i
+    ∙ ap nearest_identity (last_is (start_marker ++ spaces) (identity_bytes i) refl)
+    ∙ nearest_identity-is i
 
-header_reads : (n : ℕ) (i : Identity) → Gives (read_header (start_marker ++ (replicate (n + 1) 32 ++ identity_bytes i)))
+header_reads : (n : ℕ) (i : Identity)
+    → Gives (read_header (start_marker ++ (replicate (n + 1) 32 ++ identity_bytes i)))
 unfolding read_header
 header_reads n i =
     let spaces : List ℕ = replicate (n + 1) 32 in
     let text : List ℕ = start_marker ++ (spaces ++ identity_bytes i) in
-    let joined : text ≡ (start_marker ++ spaces) ++ identity_bytes i = sym (append_assoc start_marker spaces (identity_bytes i)) in
+    let joined : text ≡ (start_marker ++ spaces) ++ identity_bytes i =
+    sym (append_assoc start_marker spaces (identity_bytes i)) in
     let near : nearest_identity (last_of 4 text) ≡ i = header_spelled text spaces i joined in
     let room : length spaces ≡ n + 1 = length-replicate (n + 1) 32 in
     let long : length text ≡ n + 9 = omega (arith, length-append spaces (identity_bytes i), room) in
     let count : length text - 8 ≡ n + 1 = omega (arith, long) in
-    let P : ℕ → Identity → Type 0 = λ (k : ℕ) (j : Identity). (bytes_eq text (start_marker ++ replicate k 32 ++ identity_bytes j) && nat_le 9 (length text)) ≡ true in
-    let same : bytes_eq text (start_marker ++ spaces ++ identity_bytes i) ≡ true = (bytes_eq-Decides text (start_marker ++ spaces ++ identity_bytes i)).1 joined in
+    let P : ℕ → Identity → Type 0 =
+    λ (k : ℕ) (j : Identity).
+    (bytes_eq text (start_marker ++ replicate k 32 ++ identity_bytes j)
+    && nat_le 9 (length text)) ≡ true in
+    let same : bytes_eq text (start_marker ++ spaces ++ identity_bytes i) ≡ true =
+    (bytes_eq-Decides text (start_marker ++ spaces ++ identity_bytes i)).1 joined in
     let enough : nat_le 9 (length text) ≡ true = le-leb 9 (length text) (omega (arith, long)) in
     let here : P (n + 1) i = rw (same, enough) refl in
-    let holds : P (length text - 8) (nearest_identity (last_of 4 text)) = subst (λ (k : ℕ). P k (nearest_identity (last_of 4 text))) (sym count) (subst (P (n + 1)) (sym near) here) in
+    let holds : P (length text - 8) (nearest_identity (last_of 4 text)) =
+    subst (λ (k : ℕ). P k (nearest_identity (last_of 4 text))) (sym count)
+    (subst (P (n + 1)) (sym near) here) in
     record { it = nearest_identity (last_of 4 text); is = rw holds refl }
 
-end_reads : (front : List ℕ) (n : ℕ) (i : Identity) → Gives (identity_at_end (front ++ (start_marker ++ (replicate (n + 1) 32 ++ identity_bytes i))))
+end_reads : (front : List ℕ) (n : ℕ) (i : Identity)
+    → Gives (identity_at_end (front
+    ++ (start_marker ++ (replicate (n + 1) 32 ++ identity_bytes i))))
 unfolding identity_at_end
 end_reads [] n i = gives_first _ _ (header_reads n i)
 end_reads (b ∷ front) n i = gives_second _ _ (end_reads front n i)
@@ -158,10 +193,13 @@ back text i h =
     let g = end_reads h.front h.more_spaces i in
     let reads : identity_at_end text ≡ Some g.it = ap identity_at_end joined ∙ g.is in
     let one : header_back (reverse text) ≡ Some i = (header_both text i).1 h in
-    let other : header_back (reverse text) ≡ Some g.it = (header_both text g.it).1 (forth text g.it reads) in
+    let other : header_back (reverse text) ≡ Some g.it =
+    (header_both text g.it).1 (forth text g.it reads) in
     reads ∙ sym other ∙ one
 
-pub identity_spelled_at_end : (text : List ℕ) (i : Identity) → (identity_at_end text ≡ Some i → EndsWithHeader text i) × (EndsWithHeader text i → identity_at_end text ≡ Some i)
+pub identity_spelled_at_end : (text : List ℕ) (i : Identity)
+    → (identity_at_end text ≡ Some i → EndsWithHeader text i)
+    × (EndsWithHeader text i → identity_at_end text ≡ Some i)
 identity_spelled_at_end text i = (forth text i, back text i)
 
 pub identity_at_end-back : (text : List ℕ) → identity_at_end text ≡ header_back (reverse text)

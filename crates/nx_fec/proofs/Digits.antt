@@ -32,11 +32,13 @@ decimal-digits n fits =
     (λ m ds big each. AreDigits-push ds (m % 10) (omega arith) each) n fits
 
 -- one more digit at the end
-pub decimal-more : (n d : ℕ) → 0 < n → d < 10 → n < 10 ^ 11 → decimal (10 * n + d) ≡ decimal n ++ ((48 + d) ∷ [])
+pub decimal-more : (n d : ℕ) → 0 < n → d < 10 → n < 10 ^ 11
+    → decimal (10 * n + d) ≡ decimal n ++ ((48 + d) ∷ [])
 decimal-more n d some small fits =
     let front : (10 * n + d) / 10 ≡ n = omega arith in
     let last : (10 * n + d) % 10 ≡ d = omega arith in
-    decimal_step (10 * n + d) (omega arith) (omega arith) ∙ ap (λ m. decimal m ++ ((48 + (10 * n + d) % 10) ∷ [])) front
+    decimal_step (10 * n + d) (omega arith) (omega arith)
+    ∙ ap (λ m. decimal m ++ ((48 + (10 * n + d) % 10) ∷ [])) front
     ∙ ap (λ m. decimal n ++ ((48 + m) ∷ [])) last
 
 -- the digit of an element is 0 or 1
@@ -45,7 +47,8 @@ element_digit-cases true no_zero no_one = no_one refl
 element_digit-cases false no_zero no_one = no_zero refl
 
 -- a byte that is neither digit stands in no list of elements
-pub element_digits-none : (ds : List ℕ) (bits : List Bool) (i : ℕ) → i < length ds → get_or ds i 0 ≢ 48 → get_or ds i 0 ≢ 49 → ds ≢ map element_digit bits
+pub element_digits-none : (ds : List ℕ) (bits : List Bool) (i : ℕ) → i < length ds
+    → get_or ds i 0 ≢ 48 → get_or ds i 0 ≢ 49 → ds ≢ map element_digit bits
 element_digits-none ds [] i h no_zero no_one e = absurd (omega (arith, ap length e))
 element_digits-none [] (b ∷ bits) i h no_zero no_one e = absurd (omega arith)
 element_digits-none (d ∷ ds) (b ∷ bits) zero h no_zero no_one e =
@@ -55,16 +58,23 @@ element_digits-none (d ∷ ds) (b ∷ bits) (suc i) h no_zero no_one e =
     element_digits-none ds bits i (omega arith) no_zero no_one (cc)
 
 -- the step of a loop that reads a number from its digits
-pub decimal-step : (digits : List ℕ) (at value d : ℕ) → at < length digits → at < 11 → value < 10 ^ at → d < 10 → get_or digits at 0 ≡ 48 + d
-    → (at ≡ 0 → value ≡ 0) → (0 < at → 0 < value) → (0 < at → take at digits ≡ decimal value) → take (at + 1) digits ≡ decimal (10 * value + d)
+pub decimal-step : (digits : List ℕ) (at value d : ℕ) → at < length digits → at < 11
+    → value < 10 ^ at → d < 10 → get_or digits at 0 ≡ 48 + d
+    → (at ≡ 0 → value ≡ 0) → (0 < at → 0 < value) → (0 < at → take at digits ≡ decimal value)
+    → take (at + 1) digits ≡ decimal (10 * value + d)
 decimal-step digits at value d below few fits digit byte start some same =
-    let one : take (at + 1) digits ≡ take at digits ++ (get_or digits at 0 ∷ []) = take_more digits at 0 below in
-    let here : take (at + 1) digits ≡ take at digits ++ ((48 + d) ∷ []) = one ∙ ap (λ x. take at digits ++ (x ∷ [])) byte in
+    let one : take (at + 1) digits ≡ take at digits ++ (get_or digits at 0 ∷ []) =
+    take_more digits at 0 below in
+    let here : take (at + 1) digits ≡ take at digits ++ ((48 + d) ∷ []) =
+    one ∙ ap (λ x. take at digits ++ (x ∷ [])) byte in
     ⊎_elim (λ zero. here ∙ ap (λ i. take i digits ++ ((48 + d) ∷ [])) zero
-    ∙ sym (ap decimal (let v : 10 * value + d ≡ d = omega (arith, start zero) in v) ∙ decimal_digit d digit))
+    ∙ sym (ap decimal (let v : 10 * value + d ≡ d = omega (arith, start zero) in v)
+    ∙ decimal_digit d digit))
     (λ other. let positive : 0 < at = omega arith in
     here ∙ ap (λ x. x ++ ((48 + d) ∷ [])) (same positive)
-    ∙ sym (decimal-more value d (some positive) digit (let most : 10 ^ at ≤ 10 ^ 11 = pow-le-pow_right {n = 10} (omega arith) {i = at} {j = 11} (omega arith) in omega arith)))
+    ∙ sym (decimal-more value d (some positive) digit
+    (let most : 10 ^ at ≤ 10 ^ 11 =
+    pow-le-pow_right {n = 10} (omega arith) {i = at} {j = 11} (omega arith) in omega arith)))
     (cases_eq at 0)
 
 pub below-ten-step : (at value d : ℕ) → value < 10 ^ at → d < 10 → 10 * value + d < 10 ^ (at + 1)
@@ -72,32 +82,42 @@ below-ten-step at value d fits digit =
     let more : 10 ^ (at + 1) ≡ 10 * 10 ^ at = rw (add-one, pow-suc) (omega arith) in omega arith
 
 -- what refuses a number: bytes that no number up to eleven digits is written with
-pub decimal-nonempty : (digits : List ℕ) (n : ℕ) → length digits ≡ 0 → n < 10 ^ 11 → digits ≢ decimal n
-decimal-nonempty digits n none fits e = absurd (omega (arith, ap length e, decimal_nonempty n (omega arith)))
+pub decimal-nonempty : (digits : List ℕ) (n : ℕ) → length digits ≡ 0 → n < 10 ^ 11
+    → digits ≢ decimal n
+decimal-nonempty digits n none fits e =
+    absurd (omega (arith, ap length e, decimal_nonempty n (omega arith)))
 
-pub decimal-short : (digits : List ℕ) (n : ℕ) → 11 < length digits → n < 10 ^ 11 → digits ≢ decimal n
+pub decimal-short : (digits : List ℕ) (n : ℕ) → 11 < length digits → n < 10 ^ 11
+    → digits ≢ decimal n
 decimal-short digits n long fits e =
     let most : length (decimal n) ≤ 11 = length-decimal-le 11 n (omega arith) fits (omega arith) in
     absurd (omega (arith, ap length e))
 
-pub decimal-leading : (digits : List ℕ) (n : ℕ) → 1 < length digits → get_or digits 0 0 ≡ 48 → n < 10 ^ 11 → digits ≢ decimal n
+pub decimal-leading : (digits : List ℕ) (n : ℕ) → 1 < length digits → get_or digits 0 0 ≡ 48
+    → n < 10 ^ 11 → digits ≢ decimal n
 decimal-leading digits n long first_zero fits e =
-    ⊎_elim (λ none. let one : decimal n ≡ 48 ∷ [] = ap decimal none ∙ decimal_digit 0 (omega arith) in
+    ⊎_elim (λ none. let one : decimal n ≡ 48 ∷ [] =
+    ap decimal none ∙ decimal_digit 0 (omega arith) in
     absurd (omega (arith, ap length (e ∙ one))))
-    (λ some. let first : 48 < get_or (decimal n) 0 0 = first_decimal n (omega arith) (omega arith) in
+    (λ some. let first : 48 < get_or (decimal n) 0 0 =
+    first_decimal n (omega arith) (omega arith) in
     absurd (omega (arith, ap (λ l. get_or l 0 0) e)))
     (cases_eq n 0)
 
-pub decimal-no_other : (digits : List ℕ) (n i : ℕ) → i < length digits → (48 ≤ get_or digits i 0 → get_or digits i 0 < 58 → ⊥) → n < 10 ^ 11 → digits ≢ decimal n
+pub decimal-no_other : (digits : List ℕ) (n i : ℕ) → i < length digits
+    → (48 ≤ get_or digits i 0 → get_or digits i 0 < 58 → ⊥) → n < 10 ^ 11 → digits ≢ decimal n
 decimal-no_other digits n i below other fits e =
     let at : get_or digits i 0 ≡ get_or (decimal n) i 0 = ap (λ l. get_or l i 0) e in
-    let digit : IsDigit (get_or (decimal n) i 0) = decimal-digits n (omega arith) i (omega (arith, ap length e)) in
+    let digit : IsDigit (get_or (decimal n) i 0) =
+    decimal-digits n (omega arith) i (omega (arith, ap length e)) in
     other (omega (arith, digit.0)) (omega (arith, digit.1))
 
 -- a number with another first digit than 0 is above 0
-pub positive-step : (digits : List ℕ) (at value d : ℕ) → get_or digits at 0 ≡ 48 + d → (0 < at → get_or digits 0 0 ≢ 48 → 0 < value)
+pub positive-step : (digits : List ℕ) (at value d : ℕ) → get_or digits at 0 ≡ 48 + d
+    → (0 < at → get_or digits 0 0 ≢ 48 → 0 < value)
     → get_or digits 0 0 ≢ 48 → 0 < 10 * value + d
 positive-step digits at value d byte some nonzero =
-    ⊎_elim (λ start. let here : get_or digits 0 0 ≡ 48 + d = ap (λ i. get_or digits i 0) (sym start) ∙ byte in omega arith)
+    ⊎_elim (λ start. let here : get_or digits 0 0 ≡ 48 + d =
+    ap (λ i. get_or digits i 0) (sym start) ∙ byte in omega arith)
     (λ other. let v : 0 < value = some (omega arith) nonzero in omega arith)
     (cases_eq at 0)

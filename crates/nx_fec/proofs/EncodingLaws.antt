@@ -27,90 +27,125 @@ use Rattle.nx_fec.proofs.WritingLaws.{first_lines}
 use Rattle.nx_fec.proofs.RoundTripLemmas.{length-bits_of, aligned_text-framed_positions}
 
 -- a text that isn't spelled
-pub spelling-explains : (AtEnd : Type 0) (limit : ℕ) (bytes text : List ℕ) (old new : Option (List ℕ)) (e : SpellFault) → AtEnd → length bytes ≤ limit → text ≡ bytes
-    → ((at : ℕ) → e ≡ NoSuchCharacter at → position (λ byte. not (is_in_code byte)) text ≡ Some at) → ExplainsEncoding AtEnd limit bytes old new (spell_fault e)
-spelling-explains AtEnd limit bytes text old new (NoSuchCharacter at) end within same h =
-    (end, within, subst (λ l. position (λ byte. not (is_in_code byte)) l ≡ Some at) same (h at refl))
+pub spelling-explains : (AtEnd : Type 0) (limit : ℕ) (bytes text : List ℕ)
+    (old new : Option (List ℕ)) (e : SpellFault) → AtEnd → length bytes ≤ limit → text ≡ bytes
+    → ((at : ℕ) → e ≡ NoSuchCharacter at → position (λ byte. not (is_in_code byte)) text ≡ Some at)
+    → ExplainsEncoding AtEnd limit bytes old new (spell_fault e)
+spelling-explains AtEnd limit bytes text old new (NoSuchCharacter at) end within same h = (
+  end,
+  within,
+  subst (λ l. position (λ byte. not (is_in_code byte)) l ≡ Some at) same
+      (h at refl),
+)
 spelling-explains AtEnd limit bytes text old new (Memory error) end within same h = tt
 
-pub spell_fault-not_read : {T : Type 0} (e : SpellFault) → ◌≡◌ {A = Result T RunFault} (Err (spell_fault e)) (Err Read) → ⊥
+pub spell_fault-not_read : {T : Type 0} (e : SpellFault)
+    → ◌≡◌ {A = Result T RunFault} (Err (spell_fault e)) (Err Read) → ⊥
 spell_fault-not_read (NoSuchCharacter at) same = cc
 spell_fault-not_read (Memory error) same = cc
 
-pub spell_fault-not_write : {T : Type 0} (e : SpellFault) (written : ℕ) → ◌≡◌ {A = Result T RunFault} (Err (spell_fault e)) (Err (Write written)) → ⊥
+pub spell_fault-not_write : {T : Type 0} (e : SpellFault) (written : ℕ)
+    → ◌≡◌ {A = Result T RunFault} (Err (spell_fault e)) (Err (Write written)) → ⊥
 spell_fault-not_write (NoSuchCharacter at) written same = cc
 spell_fault-not_write (Memory error) written same = cc
 
 -- what is written is the file of the text
-pub IsEncoded-of : (bytes text : List ℕ) (combs : List Comb) (positions : List Position) (bits : List Bool) → text ≡ bytes
-    → Spells text Letters (map (λ (comb : Comb). comb.number) combs) → map sent_position positions ≡ framed_positions (map (λ (comb : Comb). comb.number) combs)
-    → bits ≡ bits_of (emission (map sent_position positions)) → IsEncoded bytes (file_of (bit_lines bits)) (length positions)
+pub IsEncoded-of : (bytes text : List ℕ) (combs : List Comb) (positions : List Position)
+    (bits : List Bool) → text ≡ bytes
+    → Spells text Letters (map (λ (comb : Comb). comb.number) combs)
+    → map sent_position positions ≡ framed_positions (map (λ (comb : Comb). comb.number) combs)
+    → bits ≡ bits_of (emission (map sent_position positions))
+    → IsEncoded bytes (file_of (bit_lines bits)) (length positions)
 IsEncoded-of bytes text combs positions bits same spells framed_positions-is bits-are =
     let numbers = map (λ (comb : Comb). comb.number) combs in
     record {
       numbers = numbers;
       spells = subst (λ l. Spells l Letters numbers) same spells;
-      written = ap (λ l. file_of (bit_lines l)) (bits-are ∙ ap (λ l. bits_of (emission l)) framed_positions-is);
+      written = ap (λ l. file_of (bit_lines l))
+          (bits-are ∙ ap (λ l. bits_of (emission l)) framed_positions-is);
       count = sym (length-map positions sent_position) ∙ ap length framed_positions-is;
     }
 
 -- ---- lines of elements are lines of an air file, and hold these elements
 
-All-push : (lines : List Line) (line : Line) → AllByRecursion IsLine lines → IsLine line → AllByRecursion IsLine (lines ++ (line ∷ []))
+All-push : (lines : List Line) (line : Line) → AllByRecursion IsLine lines → IsLine line
+    → AllByRecursion IsLine (lines ++ (line ∷ []))
 All-push [] line h good = (good, tt)
 All-push (a ∷ lines) line h good = (h.0, All-push lines line h.1 good)
 
 bit_line-IsLine : (bits : List Bool) (i : ℕ) → 490 * i < length bits → IsLine (bit_line bits i)
 bit_line-IsLine bits i some =
-    let count : length (take 490 (drop (490 * i) bits)) ≡ _ = length-take 490 (drop (490 * i) bits) in
+    let count : length (take 490 (drop (490 * i) bits)) ≡ _ =
+    length-take 490 (drop (490 * i) bits) in
     let rest = length-drop (490 * i) bits in
     (omega (arith, count, rest, some), omega (arith, count, rest))
 
-first_lines-more : (bits : List Bool) (n : ℕ) → first_lines bits (suc n) ≡ first_lines bits n ++ (bit_line bits n ∷ [])
-first_lines-more bits n = ap (first_lines bits) (sym (add-one n)) ∙ map-range_with_len_more (bit_line bits) 0 n n (omega arith)
+first_lines-more : (bits : List Bool) (n : ℕ)
+    → first_lines bits (suc n) ≡ first_lines bits n ++ (bit_line bits n ∷ [])
+first_lines-more bits n =
+    ap (first_lines bits) (sym (add-one n))
+    ∙ map-range_with_len_more (bit_line bits) 0 n n (omega arith)
 
-pub first_lines-each : (bits : List Bool) (n : ℕ) → ((i : ℕ) → i < n → 490 * i < length bits) → AllByRecursion IsLine (first_lines bits n)
+pub first_lines-each : (bits : List Bool) (n : ℕ) → ((i : ℕ) → i < n → 490 * i < length bits)
+    → AllByRecursion IsLine (first_lines bits n)
 first_lines-each bits zero h = tt
 first_lines-each bits (suc n) h =
     subst (AllByRecursion IsLine) (sym (first_lines-more bits n))
-    (All-push (first_lines bits n) (bit_line bits n) (first_lines-each bits n (λ i below. h i (omega arith))) (bit_line-IsLine bits n (h n (omega arith))))
+    (All-push (first_lines bits n) (bit_line bits n)
+    (first_lines-each bits n (λ i below. h i (omega arith)))
+    (bit_line-IsLine bits n (h n (omega arith))))
 
-pub first_lines-elements : (bits : List Bool) (n : ℕ) → flat_map elements_of (first_lines bits n) ≡ take (490 * n) bits
+pub first_lines-elements : (bits : List Bool) (n : ℕ)
+    → flat_map elements_of (first_lines bits n) ≡ take (490 * n) bits
 first_lines-elements bits zero = refl
 first_lines-elements bits (suc n) =
     let size : 490 * n + 490 ≡ 490 * suc n = omega arith in
-    ap (flat_map elements_of) (first_lines-more bits n) ∙ flat_map-append elements_of (first_lines bits n) (bit_line bits n ∷ [])
+    ap (flat_map elements_of) (first_lines-more bits n)
+    ∙ flat_map-append elements_of (first_lines bits n) (bit_line bits n ∷ [])
     ∙ ap (λ l. l ++ (take 490 (drop (490 * n) bits) ++ [])) (first_lines-elements bits n)
     ∙ ap (λ l. take (490 * n) bits ++ l) (append-nil (take 490 (drop (490 * n) bits)))
     ∙ sym (take-add (490 * n) 490 bits) ∙ ap (λ m. take m bits) size
 
-pub bit_lines-IsBitFile : (limit : ℕ) (bits : List Bool) → length (file_of (bit_lines bits)) ≤ limit → IsBitFile limit (file_of (bit_lines bits)) bits
+pub bit_lines-IsBitFile : (limit : ℕ) (bits : List Bool) → length (file_of (bit_lines bits)) ≤ limit
+    → IsBitFile limit (file_of (bit_lines bits)) bits
 bit_lines-IsBitFile limit bits within =
     let n = div_ceil (length bits) 490 in
     record {
       lines = bit_lines bits;
-      file = record { whole = refl; each = first_lines-each bits n (λ i below. omega (arith, below)); within = within };
+      file = record {
+        whole = refl;
+        each =
+            first_lines-each bits n (λ i below. omega (arith, below));
+        within = within;
+      };
       joined = sym (first_lines-elements bits n ∙ take_all (490 * n) bits (omega arith));
     }
 
 -- ---- the round trip
 
-EachFits-combinations : (shift : Shift) (numbers : List ℕ) → EachFits shift numbers → AreCombinations numbers
+EachFits-combinations : (shift : Shift) (numbers : List ℕ) → EachFits shift numbers
+    → AreCombinations numbers
 EachFits-combinations shift [] h i below = absurd (omega arith)
 EachFits-combinations shift (n ∷ numbers) h zero below = (h.0.from_one, h.0.to_thirty_two)
-EachFits-combinations shift (n ∷ numbers) h (suc i) below = EachFits-combinations (shift_after (combination n) shift) numbers h.1 i (omega arith)
+EachFits-combinations shift (n ∷ numbers) h (suc i) below =
+    EachFits-combinations (shift_after (combination n) shift) numbers h.1 i (omega arith)
 
-pub IsDecoded-encoded : (limit : ℕ) (text file : List ℕ) (positions : ℕ) → IsEncoded text file positions → length file ≤ limit → IsDecoded limit file text
+pub IsDecoded-encoded : (limit : ℕ) (text file : List ℕ) (positions : ℕ)
+    → IsEncoded text file positions → length file ≤ limit → IsDecoded limit file text
 IsDecoded-encoded limit text file positions h within =
     let bits = bits_of (emission (framed_positions h.numbers)) in
     let count = length-bits_of (emission (framed_positions h.numbers)) in
     record {
       bits = bits;
-      file = subst (λ l. IsBitFile limit l bits) (sym h.written) (bit_lines-IsBitFile limit bits (subst (λ l. length l ≤ limit) h.written within));
+      file = subst (λ l. IsBitFile limit l bits) (sym h.written)
+          (bit_lines-IsBitFile limit bits (subst (λ l. length l ≤ limit) h.written within));
       whole = omega (arith, count);
-      read = sym (aligned_text-framed_positions h.numbers (EachFits-combinations Letters h.numbers h.spells.fits) ∙ h.spells.reads);
+      read = sym (aligned_text-framed_positions h.numbers
+          (EachFits-combinations Letters h.numbers h.spells.fits) ∙ h.spells.reads);
     }
 
-pub IsDecoded-unique : (limit : ℕ) (file a b : List ℕ) → IsDecoded limit file a → IsDecoded limit file b → a ≡ b
+pub IsDecoded-unique : (limit : ℕ) (file a b : List ℕ) → IsDecoded limit file a
+    → IsDecoded limit file b → a ≡ b
 IsDecoded-unique limit file a b h k =
-    h.read ∙ ap (λ l. aligned_text (words_of l)) (IsBitFile-unique limit file h.bits k.bits h.file k.file) ∙ sym k.read
+    h.read ∙ ap (λ l. aligned_text (words_of l))
+    (IsBitFile-unique limit file h.bits k.bits h.file k.file) ∙ sym k.read

@@ -17,14 +17,20 @@ pub moment-spelled : spelling (moment 5) ≡ codes "T 5"
 moment-spelled = rw (decimal_digit 5 (omega arith)) refl
 
 -- two lines, each with its end
-pub two-lines : file_of (elements (true ∷ []) ∷ accept_subject 65 ∷ []) ≡ codes "B 1" ++ (10 ∷ (codes "AJ A" ++ (10 ∷ [])))
+pub two-lines : file_of (elements (true ∷ []) ∷ accept_subject 65 ∷ [])
+    ≡ codes "B 1" ++ (10 ∷ (codes "AJ A" ++ (10 ∷ [])))
 two-lines = refl
 
 -- the elements of these lines
 pub two-lines-elements : IsBitFile 9 (codes "B 1" ++ (10 ∷ (codes "AJ A" ++ (10 ∷ [])))) (true ∷ [])
 two-lines-elements = record {
   lines = elements (true ∷ []) ∷ accept_subject 65 ∷ [];
-  file = record { whole = refl; each = ((omega arith, omega arith), ((omega arith, omega arith), tt)); within = omega arith };
+  file = record {
+    whole = refl;
+    each =
+        ((omega arith, omega arith), ((omega arith, omega arith), tt));
+    within = omega arith;
+  };
   joined = refl;
 }
 
@@ -36,7 +42,16 @@ two-lines-too-long = record {
   more = 10 ∷ [];
   whole = refl;
   each = ((omega arith, omega arith), tt);
-  part = record { none = ((λ e. absurd (omega arith)), ((λ e. absurd (omega arith)), ((λ e. absurd (omega arith)), ((λ e. absurd (omega arith)), tt)))); short = omega arith };
+  part = record {
+    none = (
+      (λ e. absurd (omega arith)),
+      (
+        (λ e. absurd (omega arith)),
+        ((λ e. absurd (omega arith)), ((λ e. absurd (omega arith)), tt)),
+      ),
+    );
+    short = omega arith;
+  };
   here = refl;
 }
 
@@ -48,7 +63,11 @@ cut-line = record {
   more = [];
   whole = refl;
   each = ((omega arith, omega arith), tt);
-  part = record { none = ((λ e. absurd (omega arith)), ((λ e. absurd (omega arith)), tt)); short = omega arith };
+  part = record {
+    none = ((λ e. absurd (omega arith)), ((λ e. absurd (omega arith)), tt));
+    short =
+        omega arith;
+  };
   here = (omega arith, omega arith, refl);
 }
 

@@ -1,4 +1,5 @@
--- Laws of lines and of files of lines: one spelling for each line, one reading of each file, one outcome.
+-- Laws of lines and of files of lines: one spelling for each line, one reading of each file, one
+-- outcome.
 use Rattle.std.proofs.Common.{◌≡◌, ◌≢◌, ℕ, suc, ◌<◌, ◌≤◌, Bool, true, false, List, [], ◌∷◌, ◌++◌, length, map, drop, get_or, if◌then◌else◌, nat_eq, refl, sym, ap, ◌∙◌, subst, inl, inr, append_assoc, append-nil, arith, ◌⊎◌}
 use Rattle.std.specs.List.{flat_map, AllByRecursion}
 use Rattle.std.specs.Fmt.{decimal}
@@ -16,9 +17,13 @@ use Rattle.nx_fec.specs.declared.fault.LineFault.TheVariants.{TooLong, LineLong,
 
 abbrev reads_as : ℕ → ℕ → List ℕ → Line
 reads_as first second rest =
-    if nat_eq second 32 then (if nat_eq first 84 then moment (digits_value 10 rest) else elements (map (λ d. nat_eq d 49) rest))
-    else (if nat_eq second 83 then (if nat_eq first 82 then refuse_station (get_or rest 1 0) else accept_station (get_or rest 1 0))
-    else (if nat_eq first 82 then refuse_subject (get_or rest 1 0) else accept_subject (get_or rest 1 0)))
+    if nat_eq second 32 then (if nat_eq first 84 then moment (digits_value 10 rest) else elements
+    (map (λ d. nat_eq d 49) rest))
+    else (if nat_eq second 83 then
+    (if nat_eq first 82 then refuse_station (get_or rest 1 0) else accept_station
+    (get_or rest 1 0))
+    else (if nat_eq first 82 then refuse_subject (get_or rest 1 0) else accept_subject
+    (get_or rest 1 0)))
 
 -- what bytes say, if they spell a line
 abbrev line_read : List ℕ → Line
@@ -38,7 +43,8 @@ line_read-spelling (refuse_subject letter) h = refl
 line_read-spelling (accept_subject letter) h = refl
 
 pub spelling-injective : (a b : Line) → IsLine a → IsLine b → spelling a ≡ spelling b → a ≡ b
-spelling-injective a b h k e = sym (line_read-spelling a h) ∙ ap line_read e ∙ line_read-spelling b k
+spelling-injective a b h k e =
+    sym (line_read-spelling a h) ∙ ap line_read e ∙ line_read-spelling b k
 
 -- ---- a line holds no line feed, and is short
 
@@ -47,7 +53,11 @@ NoFeed bytes = AllByRecursion (λ byte. byte ≢ line_end) bytes
 
 digits-no_feed : (ds : List ℕ) → AreDigits ds → NoFeed ds
 digits-no_feed [] h = tt
-digits-no_feed (d ∷ ds) h = ((λ e. absurd (omega (arith, h 0 (omega arith)))), digits-no_feed ds (λ i below. h (suc i) (omega arith)))
+digits-no_feed (d ∷ ds) h = (
+  (λ e. absurd (omega (arith, h 0 (omega arith)))),
+  digits-no_feed ds
+      (λ i below. h (suc i) (omega arith)),
+)
 
 elements-no_feed : (bits : List Bool) → NoFeed (map element_digit bits)
 elements-no_feed [] = tt
@@ -57,13 +67,66 @@ elements-no_feed (false ∷ bits) = ((λ e. absurd (omega arith)), elements-no_f
 pub spelling-IsBeginning : (line : Line) → IsLine line → IsBeginning (spelling line)
 spelling-IsBeginning (moment n) h =
     let few : length (decimal n) ≤ 11 = length-decimal-le 11 n (omega arith) h (omega arith) in
-    record { none = ((λ e. absurd (omega arith)), ((λ e. absurd (omega arith)), digits-no_feed (decimal n) (decimal-digits n (omega arith)))); short = omega arith }
+    record {
+      none = (
+        (λ e. absurd (omega arith)),
+        ((λ e. absurd (omega arith)), digits-no_feed (decimal n) (decimal-digits n (omega arith))),
+      );
+      short = omega arith;
+    }
 spelling-IsBeginning (elements bits) h =
-    record { none = ((λ e. absurd (omega arith)), ((λ e. absurd (omega arith)), elements-no_feed bits)); short = omega (arith, length-map bits element_digit, h.1) }
-spelling-IsBeginning (refuse_station letter) h = record { none = ((λ e. absurd (omega arith)), ((λ e. absurd (omega arith)), ((λ e. absurd (omega arith)), ((λ e. absurd (omega (arith, h.0))), tt)))); short = omega arith }
-spelling-IsBeginning (accept_station letter) h = record { none = ((λ e. absurd (omega arith)), ((λ e. absurd (omega arith)), ((λ e. absurd (omega arith)), ((λ e. absurd (omega (arith, h.0))), tt)))); short = omega arith }
-spelling-IsBeginning (refuse_subject letter) h = record { none = ((λ e. absurd (omega arith)), ((λ e. absurd (omega arith)), ((λ e. absurd (omega arith)), ((λ e. absurd (omega (arith, h.0))), tt)))); short = omega arith }
-spelling-IsBeginning (accept_subject letter) h = record { none = ((λ e. absurd (omega arith)), ((λ e. absurd (omega arith)), ((λ e. absurd (omega arith)), ((λ e. absurd (omega (arith, h.0))), tt)))); short = omega arith }
+    record {
+      none = (
+        (λ e. absurd (omega arith)),
+        ((λ e. absurd (omega arith)), elements-no_feed bits),
+      );
+      short =
+          omega (arith, length-map bits element_digit, h.1);
+    }
+spelling-IsBeginning (refuse_station letter) h =
+    record {
+      none = (
+        (λ e. absurd (omega arith)),
+        (
+          (λ e. absurd (omega arith)),
+          ((λ e. absurd (omega arith)), ((λ e. absurd (omega (arith, h.0))), tt)),
+        ),
+      );
+      short = omega arith;
+    }
+spelling-IsBeginning (accept_station letter) h =
+    record {
+      none = (
+        (λ e. absurd (omega arith)),
+        (
+          (λ e. absurd (omega arith)),
+          ((λ e. absurd (omega arith)), ((λ e. absurd (omega (arith, h.0))), tt)),
+        ),
+      );
+      short = omega arith;
+    }
+spelling-IsBeginning (refuse_subject letter) h =
+    record {
+      none = (
+        (λ e. absurd (omega arith)),
+        (
+          (λ e. absurd (omega arith)),
+          ((λ e. absurd (omega arith)), ((λ e. absurd (omega (arith, h.0))), tt)),
+        ),
+      );
+      short = omega arith;
+    }
+spelling-IsBeginning (accept_subject letter) h =
+    record {
+      none = (
+        (λ e. absurd (omega arith)),
+        (
+          (λ e. absurd (omega arith)),
+          ((λ e. absurd (omega arith)), ((λ e. absurd (omega (arith, h.0))), tt)),
+        ),
+      );
+      short = omega arith;
+    }
 
 -- ---- one reading of each file
 
@@ -79,7 +142,8 @@ no_feed-last : (p : List ℕ) (x : ℕ) → NoFeed (p ++ (x ∷ [])) → x ≢ 1
 no_feed-last [] x h = h.0
 no_feed-last (y ∷ p) x h = no_feed-last p x h.1
 
-pub first_feed : (p q x y : List ℕ) → NoFeed p → NoFeed q → p ++ (10 ∷ x) ≡ q ++ (10 ∷ y) → (p ≡ q) × (x ≡ y)
+pub first_feed : (p q x y : List ℕ) → NoFeed p → NoFeed q → p ++ (10 ∷ x) ≡ q ++ (10 ∷ y)
+    → (p ≡ q) × (x ≡ y)
 first_feed [] [] x y h k e = (refl, cc)
 first_feed [] (b ∷ q) x y h k e = let same : b ≡ 10 = cc in absurd (k.0 same)
 first_feed (a ∷ p) [] x y h k e = let same : a ≡ 10 = cc in absurd (h.0 same)
@@ -89,25 +153,33 @@ first_feed (a ∷ p) (b ∷ q) x y h k e =
     let r = first_feed p q x y h.1 k.1 tails in
     (cc (r.0, heads), r.1)
 
-pub regroup : (a : Line) (lines : List Line) (rest : List ℕ) → file_of (a ∷ lines) ++ rest ≡ spelling a ++ (10 ∷ (file_of lines ++ rest))
-regroup a lines rest = append_assoc (line_bytes a) (file_of lines) rest ∙ append_assoc (spelling a) (10 ∷ []) (file_of lines ++ rest)
+pub regroup : (a : Line) (lines : List Line) (rest : List ℕ)
+    → file_of (a ∷ lines) ++ rest ≡ spelling a ++ (10 ∷ (file_of lines ++ rest))
+regroup a lines rest = append_assoc (line_bytes a) (file_of lines) rest
+    ∙ append_assoc (spelling a) (10 ∷ []) (file_of lines ++ rest)
 
-pub reading-unique : (l1 l2 : List Line) (r1 r2 : List ℕ) → AllByRecursion IsLine l1 → AllByRecursion IsLine l2 → IsBeginning r1 → IsBeginning r2
+pub reading-unique : (l1 l2 : List Line) (r1 r2 : List ℕ) → AllByRecursion IsLine l1
+    → AllByRecursion IsLine l2 → IsBeginning r1 → IsBeginning r2
     → file_of l1 ++ r1 ≡ file_of l2 ++ r2 → (l1 ≡ l2) × (r1 ≡ r2)
 reading-unique [] [] r1 r2 g1 g2 b1 b2 e = (refl, e)
 reading-unique [] (b ∷ l2) r1 r2 g1 g2 b1 b2 e =
-    absurd (no_feed-not (spelling b) (file_of l2 ++ r2) (subst NoFeed (e ∙ regroup b l2 r2) b1.none))
+    absurd (no_feed-not (spelling b) (file_of l2 ++ r2)
+    (subst NoFeed (e ∙ regroup b l2 r2) b1.none))
 reading-unique (a ∷ l1) [] r1 r2 g1 g2 b1 b2 e =
-    absurd (no_feed-not (spelling a) (file_of l1 ++ r1) (subst NoFeed (sym e ∙ regroup a l1 r1) b2.none))
+    absurd (no_feed-not (spelling a) (file_of l1 ++ r1)
+    (subst NoFeed (sym e ∙ regroup a l1 r1) b2.none))
 reading-unique (a ∷ l1) (b ∷ l2) r1 r2 g1 g2 b1 b2 e =
-    let parts = first_feed (spelling a) (spelling b) (file_of l1 ++ r1) (file_of l2 ++ r2) (spelling-IsBeginning a g1.0).none (spelling-IsBeginning b g2.0).none
+    let parts = first_feed (spelling a) (spelling b) (file_of l1 ++ r1) (file_of l2 ++ r2)
+    (spelling-IsBeginning a g1.0).none (spelling-IsBeginning b g2.0).none
     (sym (regroup a l1 r1) ∙ e ∙ regroup b l2 r2) in
     let heads : a ≡ b = spelling-injective a b g1.0 g2.0 parts.0 in
     let r = reading-unique l1 l2 r1 r2 g1.1 g2.1 b1 b2 parts.1 in
     (cc (r.0, heads), r.1)
 
-pub Splits-unique : (bytes : List ℕ) (l1 l2 : List Line) (r1 r2 : List ℕ) → Splits bytes l1 r1 → Splits bytes l2 r2 → (l1 ≡ l2) × (r1 ≡ r2)
-Splits-unique bytes l1 l2 r1 r2 h k = reading-unique l1 l2 r1 r2 h.each k.each h.part k.part (sym h.whole ∙ k.whole)
+pub Splits-unique : (bytes : List ℕ) (l1 l2 : List Line) (r1 r2 : List ℕ) → Splits bytes l1 r1
+    → Splits bytes l2 r2 → (l1 ≡ l2) × (r1 ≡ r2)
+Splits-unique bytes l1 l2 r1 r2 h k =
+    reading-unique l1 l2 r1 r2 h.each k.each h.part k.part (sym h.whole ∙ k.whole)
 
 -- ---- the beginnings of a file are beginnings of files
 
@@ -125,7 +197,8 @@ split (a ∷ p) x (b ∷ q) y e =
     ]
 
 IsBeginning-front : (p q : List ℕ) → IsBeginning (p ++ q) → IsBeginning p
-IsBeginning-front p q h = record { none = no_feed-front p q h.none; short = omega (arith, h.short, length-append p q) }
+IsBeginning-front p q h =
+    record { none = no_feed-front p q h.none; short = omega (arith, h.short, length-append p q) }
 
 -- a beginning of a file, read as lines
 record Begins (front : List ℕ) : Type 0 where
@@ -134,12 +207,19 @@ record Begins (front : List ℕ) : Type 0 where
   splits : Splits front lines rest
 
 -- a front that reaches past the first line
-Begins-past : (a : Line) (lines : List Line) (rest front more : List ℕ) → IsLine a → ((t : List ℕ) → t ++ more ≡ file_of lines ++ rest → Begins t)
-    → (t : List ℕ) → front ≡ spelling a ++ t → 10 ∷ (file_of lines ++ rest) ≡ t ++ more → Begins front
+Begins-past : (a : Line) (lines : List Line) (rest front more : List ℕ) → IsLine a
+    → ((t : List ℕ) → t ++ more ≡ file_of lines ++ rest → Begins t)
+    → (t : List ℕ) → front ≡ spelling a ++ t → 10 ∷ (file_of lines ++ rest) ≡ t ++ more
+    → Begins front
 Begins-past a lines rest front more good later [] is e = record {
   lines = [];
   rest = front;
-  splits = record { whole = refl; each = tt; part = subst IsBeginning (sym (is ∙ append-nil (spelling a))) (spelling-IsBeginning a good) };
+  splits = record {
+    whole = refl;
+    each = tt;
+    part =
+        subst IsBeginning (sym (is ∙ append-nil (spelling a))) (spelling-IsBeginning a good);
+  };
 }
 Begins-past a lines rest front more good later (b ∷ t) is e =
     let head : b ≡ 10 = cc in
@@ -149,26 +229,39 @@ Begins-past a lines rest front more good later (b ∷ t) is e =
       lines = a ∷ r.lines;
       rest = r.rest;
       splits = record {
-        whole = is ∙ ap (λ x. spelling a ++ (x ∷ t)) head ∙ ap (λ l. spelling a ++ (10 ∷ l)) r.splits.whole ∙ sym (regroup a r.lines r.rest);
+        whole = is ∙ ap (λ x. spelling a ++ (x ∷ t)) head
+            ∙ ap (λ l. spelling a ++ (10 ∷ l)) r.splits.whole ∙ sym (regroup a r.lines r.rest);
         each = (good, r.splits.each);
         part = r.splits.part;
       };
     }
 
-Begins-in : (lines : List Line) (rest front more : List ℕ) → AllByRecursion IsLine lines → IsBeginning rest → front ++ more ≡ file_of lines ++ rest → Begins front
+Begins-in : (lines : List Line) (rest front more : List ℕ) → AllByRecursion IsLine lines
+    → IsBeginning rest → front ++ more ≡ file_of lines ++ rest → Begins front
 Begins-in [] rest front more good part e = record {
   lines = [];
   rest = front;
-  splits = record { whole = refl; each = tt; part = IsBeginning-front front more (subst IsBeginning (sym e) part) };
+  splits = record {
+    whole = refl;
+    each = tt;
+    part =
+        IsBeginning-front front more (subst IsBeginning (sym e) part);
+  };
 }
 Begins-in (a ∷ lines) rest front more good part e =
     elim (split front more (spelling a) (10 ∷ (file_of lines ++ rest)) (e ∙ regroup a lines rest)) [
       | inl s ↦ record {
         lines = [];
         rest = front;
-        splits = record { whole = refl; each = tt; part = IsBeginning-front front s.0 (subst IsBeginning s.1 (spelling-IsBeginning a good.0)) };
+        splits = record {
+          whole = refl;
+          each = tt;
+          part =
+              IsBeginning-front front s.0 (subst IsBeginning s.1 (spelling-IsBeginning a good.0));
+        };
       }
-      | inr s ↦ Begins-past a lines rest front more good.0 (λ t k. Begins-in lines rest t more good.1 part k) s.0 s.1 s.2
+      | inr s ↦ Begins-past a lines rest front more good.0
+          (λ t k. Begins-in lines rest t more good.1 part k) s.0 s.1 s.2
     ]
 
 -- ---- one outcome for each file
@@ -181,19 +274,24 @@ record EndsWith {X : Type 0} (xs : List X) : Type 0 where
 
 ends-more : {X : Type 0} (x : X) (xs : List X) → (xs ≡ []) ⊎ EndsWith xs → EndsWith (x ∷ xs)
 ends-more x xs (inl e) = record { front = []; last = x; whole = ap (λ l. x ∷ l) e }
-ends-more x xs (inr h) = record { front = x ∷ h.front; last = h.last; whole = ap (λ l. x ∷ l) h.whole }
+ends-more x xs (inr h) = record
+    { front = x ∷ h.front; last = h.last; whole = ap (λ l. x ∷ l) h.whole }
 
 ends : {X : Type 0} (xs : List X) → (xs ≡ []) ⊎ EndsWith xs
 ends [] = inl refl
 ends (x ∷ xs) = inr (ends-more x xs (ends xs))
 
-All-last : (lines : List Line) (line : Line) → AllByRecursion IsLine (lines ++ (line ∷ [])) → AllByRecursion IsLine lines × IsLine line
+All-last : (lines : List Line) (line : Line) → AllByRecursion IsLine (lines ++ (line ∷ []))
+    → AllByRecursion IsLine lines × IsLine line
 All-last [] line h = (tt, h.0)
 All-last (a ∷ lines) line h = let r = All-last lines line h.1 in ((h.0, r.0), r.1)
 
-file_of-last : (lines : List Line) (line : Line) → file_of (lines ++ (line ∷ [])) ≡ (file_of lines ++ spelling line) ++ (10 ∷ [])
+file_of-last : (lines : List Line) (line : Line)
+    → file_of (lines ++ (line ∷ [])) ≡ (file_of lines ++ spelling line) ++ (10 ∷ [])
 file_of-last lines line =
-    flat_map-append line_bytes lines (line ∷ []) ∙ ap (λ l. file_of lines ++ l) (append-nil (line_bytes line)) ∙ sym (append_assoc (file_of lines) (spelling line) (10 ∷ []))
+    flat_map-append line_bytes lines (line ∷ [])
+    ∙ ap (λ l. file_of lines ++ l) (append-nil (line_bytes line))
+    ∙ sym (append_assoc (file_of lines) (spelling line) (10 ∷ []))
 
 -- one more byte after lines and an open line: it goes on with that line, or ends it
 record Goes (rest : List ℕ) (byte : ℕ) : Type 0 where
@@ -206,37 +304,45 @@ record Closes (rest : List ℕ) (byte : ℕ) : Type 0 where
   good : IsLine line
   spelled : rest ≡ spelling line
 
-goes : (lines ls : List Line) (rest r : List ℕ) (byte : ℕ) → AllByRecursion IsLine lines → IsBeginning rest → AllByRecursion IsLine ls → IsBeginning r
+goes : (lines ls : List Line) (rest r : List ℕ) (byte : ℕ) → AllByRecursion IsLine lines
+    → IsBeginning rest → AllByRecursion IsLine ls → IsBeginning r
     → (file_of lines ++ rest) ++ (byte ∷ []) ≡ file_of ls ++ r → EndsWith r → Goes rest byte
 goes lines ls rest r byte good part each begun e k =
     let begun-k : IsBeginning (k.front ++ (k.last ∷ [])) = subst IsBeginning k.whole begun in
     let same = same_from_push (file_of lines ++ rest) (file_of ls ++ k.front) byte k.last
-    (e ∙ ap (λ l. file_of ls ++ l) k.whole ∙ sym (append_assoc (file_of ls) k.front (k.last ∷ []))) in
-    let u = reading-unique lines ls rest k.front good each part (IsBeginning-front k.front (k.last ∷ []) begun-k) same.0 in
+    (e ∙ ap (λ l. file_of ls ++ l) k.whole
+    ∙ sym (append_assoc (file_of ls) k.front (k.last ∷ []))) in
+    let u = reading-unique lines ls rest k.front good each part
+    (IsBeginning-front k.front (k.last ∷ []) begun-k) same.0 in
     record {
       other = λ x. no_feed-last k.front k.last begun-k.none (sym same.1 ∙ x);
       room = omega (arith, begun-k.short, length-append k.front (k.last ∷ []), ap length u.1);
     }
 
-closes : (lines ls : List Line) (rest : List ℕ) (byte : ℕ) → AllByRecursion IsLine lines → IsBeginning rest → AllByRecursion IsLine ls
+closes : (lines ls : List Line) (rest : List ℕ) (byte : ℕ) → AllByRecursion IsLine lines
+    → IsBeginning rest → AllByRecursion IsLine ls
     → (file_of lines ++ rest) ++ (byte ∷ []) ≡ file_of ls → EndsWith ls → Closes rest byte
 closes lines ls rest byte good part each e k =
     let all = All-last k.front k.last (subst (AllByRecursion IsLine) k.whole each) in
-    let same = same_from_push (file_of lines ++ rest) (file_of k.front ++ spelling k.last) byte 10 (e ∙ ap file_of k.whole ∙ file_of-last k.front k.last) in
-    let u = reading-unique lines k.front rest (spelling k.last) good all.0 part (spelling-IsBeginning k.last all.1) same.0 in
+    let same = same_from_push (file_of lines ++ rest) (file_of k.front ++ spelling k.last) byte 10
+    (e ∙ ap file_of k.whole ∙ file_of-last k.front k.last) in
+    let u = reading-unique lines k.front rest (spelling k.last) good all.0 part
+    (spelling-IsBeginning k.last all.1) same.0 in
     record { feed = same.1; line = k.last; good = all.1; spelled = u.1 }
 
 no_byte : (xs : List ℕ) (byte : ℕ) → xs ++ (byte ∷ []) ≡ [] → ⊥
 no_byte [] byte e = cc
 no_byte (x ∷ xs) byte e = cc
 
-step : (lines ls : List Line) (rest r : List ℕ) (byte : ℕ) → AllByRecursion IsLine lines → IsBeginning rest → AllByRecursion IsLine ls → IsBeginning r
+step : (lines ls : List Line) (rest r : List ℕ) (byte : ℕ) → AllByRecursion IsLine lines
+    → IsBeginning rest → AllByRecursion IsLine ls → IsBeginning r
     → (file_of lines ++ rest) ++ (byte ∷ []) ≡ file_of ls ++ r → Goes rest byte ⊎ Closes rest byte
 step lines ls rest r byte good part each begun e =
     elim (ends r) [
       | inr k ↦ inl (goes lines ls rest r byte good part each begun e k)
       | inl none ↦
-          let whole : (file_of lines ++ rest) ++ (byte ∷ []) ≡ file_of ls = e ∙ ap (λ l. file_of ls ++ l) none ∙ append-nil (file_of ls) in
+          let whole : (file_of lines ++ rest) ++ (byte ∷ []) ≡ file_of ls =
+          e ∙ ap (λ l. file_of ls ++ l) none ∙ append-nil (file_of ls) in
           elim (ends ls) [
             | inr k ↦ inr (closes lines ls rest byte good part each whole k)
             | inl empty ↦ absurd (no_byte (file_of lines ++ rest) byte (whole ∙ ap file_of empty))
@@ -244,16 +350,20 @@ step lines ls rest r byte good part each begun e =
     ]
 
 -- what a byte that goes on or ends a line rules out
-IsCause-goes : (limit front : ℕ) (lines : List Line) (rest : List ℕ) (byte : ℕ) (more : List ℕ) (why : LineFault) → front < limit
+IsCause-goes : (limit front : ℕ) (lines : List Line) (rest : List ℕ) (byte : ℕ) (more : List ℕ)
+    (why : LineFault) → front < limit
     → Goes rest byte ⊎ Closes rest byte → IsCause limit front lines rest (byte ∷ more) why → ⊥
 IsCause-goes limit front lines rest byte more TooLong below s h = absurd (omega (arith, h))
-IsCause-goes limit front lines rest byte more (LineLong line) below (inl s) h = absurd (omega (arith, s.room, h.2))
+IsCause-goes limit front lines rest byte more (LineLong line) below (inl s) h =
+    absurd (omega (arith, s.room, h.2))
 IsCause-goes limit front lines rest byte more (LineLong line) below (inr s) h = h.1 s.feed
 IsCause-goes limit front lines rest byte more (LineCut line) below s h = h
 IsCause-goes limit front lines rest byte more (BadLine line) below (inl s) h = s.other h.1
-IsCause-goes limit front lines rest byte more (BadLine line) below (inr s) h = h.2 s.line s.good s.spelled
+IsCause-goes limit front lines rest byte more (BadLine line) below (inr s) h =
+    h.2 s.line s.good s.spelled
 
-IsCause-within : (limit front : ℕ) (lines : List Line) (rest more : List ℕ) (why : LineFault) → IsCause limit front lines rest more why → front ≤ limit
+IsCause-within : (limit front : ℕ) (lines : List Line) (rest more : List ℕ) (why : LineFault)
+    → IsCause limit front lines rest more why → front ≤ limit
 IsCause-within limit front lines rest [] TooLong h = absurd h
 IsCause-within limit front lines rest [] (LineLong line) h = absurd h
 IsCause-within limit front lines rest [] (LineCut line) h = h.0
@@ -264,19 +374,24 @@ IsCause-within limit front lines rest (byte ∷ more) (LineCut line) h = absurd 
 IsCause-within limit front lines rest (byte ∷ more) (BadLine line) h = omega (arith, h.0)
 
 -- a fault doesn't stand before the end of a longer beginning
-HasFault-last : (limit : ℕ) (lines ls : List Line) (rest r t more : List ℕ) (why : LineFault) → AllByRecursion IsLine lines → IsBeginning rest
-    → AllByRecursion IsLine ls → IsBeginning r → length (file_of ls ++ r) ≤ limit → file_of ls ++ r ≡ (file_of lines ++ rest) ++ t
+HasFault-last : (limit : ℕ) (lines ls : List Line) (rest r t more : List ℕ) (why : LineFault)
+    → AllByRecursion IsLine lines → IsBeginning rest
+    → AllByRecursion IsLine ls → IsBeginning r → length (file_of ls ++ r) ≤ limit
+    → file_of ls ++ r ≡ (file_of lines ++ rest) ++ t
     → IsCause limit (length (file_of lines ++ rest)) lines rest (t ++ more) why → t ≡ []
 HasFault-last limit lines ls rest r [] more why good part each begun within e h = refl
 HasFault-last limit lines ls rest r (byte ∷ t) more why good part each begun within e h =
     let front = file_of lines ++ rest in
-    let next : (front ++ (byte ∷ [])) ++ t ≡ file_of ls ++ r = append_assoc front (byte ∷ []) t ∙ sym e in
+    let next : (front ++ (byte ∷ [])) ++ t ≡ file_of ls ++ r =
+    append_assoc front (byte ∷ []) t ∙ sym e in
     let b = Begins-in ls r (front ++ (byte ∷ [])) t each begun next in
-    absurd (IsCause-goes limit (length front) lines rest byte (t ++ more) why (omega (arith, within, ap length e, length-append front (byte ∷ t)))
+    absurd (IsCause-goes limit (length front) lines rest byte (t ++ more) why
+    (omega (arith, within, ap length e, length-append front (byte ∷ t)))
     (step lines b.lines rest b.rest byte good part b.splits.each b.splits.part b.splits.whole) h)
 
 -- one place has one fault
-IsCause-unique : (limit front : ℕ) (lines : List Line) (rest more : List ℕ) (v w : LineFault) → IsCause limit front lines rest more v → IsCause limit front lines rest more w → v ≡ w
+IsCause-unique : (limit front : ℕ) (lines : List Line) (rest more : List ℕ) (v w : LineFault)
+    → IsCause limit front lines rest more v → IsCause limit front lines rest more w → v ≡ w
 IsCause-unique limit front lines rest [] TooLong w h k = absurd h
 IsCause-unique limit front lines rest [] (LineLong n) w h k = absurd h
 IsCause-unique limit front lines rest [] (BadLine n) w h k = absurd h
@@ -285,47 +400,63 @@ IsCause-unique limit front lines rest [] (LineCut n) (LineLong m) h k = absurd k
 IsCause-unique limit front lines rest [] (LineCut n) (BadLine m) h k = absurd k
 IsCause-unique limit front lines rest [] (LineCut n) (LineCut m) h k = ap LineCut (h.2 ∙ sym k.2)
 IsCause-unique limit front lines rest (byte ∷ more) TooLong TooLong h k = refl
-IsCause-unique limit front lines rest (byte ∷ more) TooLong (LineLong m) h k = absurd (omega (arith, h, k.0))
+IsCause-unique limit front lines rest (byte ∷ more) TooLong (LineLong m) h k =
+    absurd (omega (arith, h, k.0))
 IsCause-unique limit front lines rest (byte ∷ more) TooLong (LineCut m) h k = absurd k
-IsCause-unique limit front lines rest (byte ∷ more) TooLong (BadLine m) h k = absurd (omega (arith, h, k.0))
-IsCause-unique limit front lines rest (byte ∷ more) (LineLong n) TooLong h k = absurd (omega (arith, k, h.0))
-IsCause-unique limit front lines rest (byte ∷ more) (LineLong n) (LineLong m) h k = ap LineLong (h.3 ∙ sym k.3)
+IsCause-unique limit front lines rest (byte ∷ more) TooLong (BadLine m) h k =
+    absurd (omega (arith, h, k.0))
+IsCause-unique limit front lines rest (byte ∷ more) (LineLong n) TooLong h k =
+    absurd (omega (arith, k, h.0))
+IsCause-unique limit front lines rest (byte ∷ more) (LineLong n) (LineLong m) h k =
+    ap LineLong (h.3 ∙ sym k.3)
 IsCause-unique limit front lines rest (byte ∷ more) (LineLong n) (LineCut m) h k = absurd k
 IsCause-unique limit front lines rest (byte ∷ more) (LineLong n) (BadLine m) h k = absurd (h.1 k.1)
 IsCause-unique limit front lines rest (byte ∷ more) (LineCut n) w h k = absurd h
-IsCause-unique limit front lines rest (byte ∷ more) (BadLine n) TooLong h k = absurd (omega (arith, k, h.0))
+IsCause-unique limit front lines rest (byte ∷ more) (BadLine n) TooLong h k =
+    absurd (omega (arith, k, h.0))
 IsCause-unique limit front lines rest (byte ∷ more) (BadLine n) (LineLong m) h k = absurd (k.1 h.1)
 IsCause-unique limit front lines rest (byte ∷ more) (BadLine n) (LineCut m) h k = absurd k
-IsCause-unique limit front lines rest (byte ∷ more) (BadLine n) (BadLine m) h k = ap BadLine (h.3 ∙ sym k.3)
+IsCause-unique limit front lines rest (byte ∷ more) (BadLine n) (BadLine m) h k =
+    ap BadLine (h.3 ∙ sym k.3)
 
 pair : (a b : List Line) (x y : List ℕ) → a ≡ b → x ≡ y → ◌≡◌ {A = List Line × List ℕ} (a, x) (b, y)
 pair a b x y p q = cc
 
 -- two faults at one front
-HasFault-same : (limit : ℕ) (bytes t : List ℕ) (v w : LineFault) (h : HasFault limit bytes v) (k : HasFault limit bytes w)
+HasFault-same : (limit : ℕ) (bytes t : List ℕ) (v w : LineFault) (h : HasFault limit bytes v)
+    (k : HasFault limit bytes w)
     → file_of k.lines ++ k.rest ≡ (file_of h.lines ++ h.rest) ++ t → h.more ≡ t ++ k.more → v ≡ w
 HasFault-same limit bytes t v w h k e m =
-    let within : length (file_of k.lines ++ k.rest) ≤ limit = IsCause-within limit _ k.lines k.rest k.more w k.here in
+    let within : length (file_of k.lines ++ k.rest) ≤ limit =
+    IsCause-within limit _ k.lines k.rest k.more w k.here in
     let cause : IsCause limit (length (file_of h.lines ++ h.rest)) h.lines h.rest (t ++ k.more) v =
     subst (λ l. IsCause limit (length (file_of h.lines ++ h.rest)) h.lines h.rest l v) m h.here in
-    let nothing : t ≡ [] = HasFault-last limit h.lines k.lines h.rest k.rest t k.more v h.each h.part k.each k.part within e cause in
-    let front : file_of k.lines ++ k.rest ≡ file_of h.lines ++ h.rest = e ∙ ap (λ l. (file_of h.lines ++ h.rest) ++ l) nothing ∙ append-nil (file_of h.lines ++ h.rest) in
+    let nothing : t ≡ [] = HasFault-last limit h.lines k.lines h.rest k.rest t k.more v h.each
+    h.part k.each k.part within e cause in
+    let front : file_of k.lines ++ k.rest ≡ file_of h.lines ++ h.rest =
+    e ∙ ap (λ l. (file_of h.lines ++ h.rest) ++ l) nothing
+    ∙ append-nil (file_of h.lines ++ h.rest) in
     let u = reading-unique h.lines k.lines h.rest k.rest h.each k.each h.part k.part (sym front) in
     let here : IsCause limit (length (file_of h.lines ++ h.rest)) h.lines h.rest k.more v =
-    subst (λ l. IsCause limit (length (file_of h.lines ++ h.rest)) h.lines h.rest (l ++ k.more) v) nothing cause in
+    subst (λ l. IsCause limit (length (file_of h.lines ++ h.rest)) h.lines h.rest (l ++ k.more) v)
+    nothing cause in
     let there : IsCause limit (length (file_of h.lines ++ h.rest)) h.lines h.rest k.more w =
-    subst (λ (p : List Line × List ℕ). IsCause limit (length (file_of p.0 ++ p.1)) p.0 p.1 k.more w) (pair k.lines h.lines k.rest h.rest (sym u.0) (sym u.1)) k.here in
+    subst (λ (p : List Line × List ℕ). IsCause limit (length (file_of p.0 ++ p.1)) p.0 p.1 k.more w)
+    (pair k.lines h.lines k.rest h.rest (sym u.0) (sym u.1)) k.here in
     IsCause-unique limit (length (file_of h.lines ++ h.rest)) h.lines h.rest k.more v w here there
 
-pub HasFault-unique : (limit : ℕ) (bytes : List ℕ) (v w : LineFault) → HasFault limit bytes v → HasFault limit bytes w → v ≡ w
+pub HasFault-unique : (limit : ℕ) (bytes : List ℕ) (v w : LineFault) → HasFault limit bytes v
+    → HasFault limit bytes w → v ≡ w
 HasFault-unique limit bytes v w h k =
-    elim (split (file_of h.lines ++ h.rest) h.more (file_of k.lines ++ k.rest) k.more (sym h.whole ∙ k.whole)) [
+    elim (split (file_of h.lines ++ h.rest) h.more (file_of k.lines ++ k.rest) k.more
+    (sym h.whole ∙ k.whole)) [
       | inl s ↦ HasFault-same limit bytes s.0 v w h k s.1 s.2
       | inr s ↦ sym (HasFault-same limit bytes s.0 w v k h s.1 s.2)
     ]
 
 -- no fault at a byte stands at the end
-IsCause-at_end : (limit front : ℕ) (lines : List Line) (rest more : List ℕ) (why : LineFault) → IsAtByte why → more ≡ [] → IsCause limit front lines rest more why → ⊥
+IsCause-at_end : (limit front : ℕ) (lines : List Line) (rest more : List ℕ) (why : LineFault)
+    → IsAtByte why → more ≡ [] → IsCause limit front lines rest more why → ⊥
 IsCause-at_end limit front lines rest [] TooLong at e h = h
 IsCause-at_end limit front lines rest [] (LineLong n) at e h = h
 IsCause-at_end limit front lines rest [] (LineCut n) at e h = at
@@ -333,17 +464,23 @@ IsCause-at_end limit front lines rest [] (BadLine n) at e h = h
 IsCause-at_end limit front lines rest (b ∷ more) why at e h = cc
 
 -- a good beginning has no fault at a byte
-pub Splits-good : (limit : ℕ) (front : List ℕ) (lines : List Line) (rest : List ℕ) (why : LineFault) → Splits front lines rest → length front ≤ limit → IsAtByte why
+pub Splits-good : (limit : ℕ) (front : List ℕ) (lines : List Line) (rest : List ℕ) (why : LineFault)
+    → Splits front lines rest → length front ≤ limit → IsAtByte why
     → HasFault limit front why → ⊥
 Splits-good limit front lines rest why s within at h =
-    let cause : IsCause limit (length (file_of h.lines ++ h.rest)) h.lines h.rest (h.more ++ []) why =
-    subst (λ l. IsCause limit (length (file_of h.lines ++ h.rest)) h.lines h.rest l why) (sym (append-nil h.more)) h.here in
-    let nothing : h.more ≡ [] = HasFault-last limit h.lines lines h.rest rest h.more [] why h.each h.part s.each s.part
+    let cause : IsCause limit (length (file_of h.lines ++ h.rest)) h.lines h.rest (h.more ++ [])
+    why =
+    subst (λ l. IsCause limit (length (file_of h.lines ++ h.rest)) h.lines h.rest l why)
+    (sym (append-nil h.more)) h.here in
+    let nothing : h.more ≡ [] =
+    HasFault-last limit h.lines lines h.rest rest h.more [] why h.each h.part s.each s.part
     (subst (λ l. length l ≤ limit) s.whole within) (sym s.whole ∙ h.whole) cause in
-    IsCause-at_end limit (length (file_of h.lines ++ h.rest)) h.lines h.rest h.more why at nothing h.here
+    IsCause-at_end limit (length (file_of h.lines ++ h.rest)) h.lines h.rest h.more why at nothing
+    h.here
 
 -- a good file has no fault
-HasFault-past : (limit : ℕ) (lines : List Line) (rest ms : List ℕ) (why : LineFault) → ms ≡ [] → rest ≡ [] → IsCause limit (length (file_of lines ++ rest)) lines rest ms why → ⊥
+HasFault-past : (limit : ℕ) (lines : List Line) (rest ms : List ℕ) (why : LineFault) → ms ≡ []
+    → rest ≡ [] → IsCause limit (length (file_of lines ++ rest)) lines rest ms why → ⊥
 HasFault-past limit lines rest [] TooLong e none h = h
 HasFault-past limit lines rest [] (LineLong n) e none h = h
 HasFault-past limit lines rest [] (LineCut n) e none h = absurd (omega (arith, h.1, ap length none))
@@ -354,31 +491,42 @@ nil-parts : (t m : List ℕ) → [] ≡ t ++ m → (t ≡ []) × (m ≡ [])
 nil-parts [] m e = (refl, sym e)
 nil-parts (x ∷ t) m e = cc
 
-pub IsAirFile-good : (limit : ℕ) (bytes : List ℕ) (lines : List Line) (why : LineFault) → IsAirFile limit bytes lines → HasFault limit bytes why → ⊥
+pub IsAirFile-good : (limit : ℕ) (bytes : List ℕ) (lines : List Line) (why : LineFault)
+    → IsAirFile limit bytes lines → HasFault limit bytes why → ⊥
 IsAirFile-good limit bytes lines why h k =
     let nothing : IsBeginning [] = record { none = tt; short = omega arith } in
     let whole : file_of lines ++ [] ≡ bytes = append-nil (file_of lines) ∙ sym h.whole in
     let within : length (file_of lines ++ []) ≤ limit = omega (arith, h.within, ap length whole) in
     let front = file_of k.lines ++ k.rest in
-    let here : (ms : List ℕ) → k.more ≡ ms → front ≡ file_of lines ++ [] → ms ≡ [] → ⊥ = λ ms e same none.
+    let here : (ms : List ℕ) → k.more ≡ ms → front ≡ file_of lines ++ [] → ms ≡ [] → ⊥ =
+    λ ms e same none.
     let u = reading-unique k.lines lines k.rest [] k.each h.each k.part nothing same in
     HasFault-past limit k.lines k.rest k.more why (e ∙ none) u.1 k.here in
-    elim (split front k.more (file_of lines ++ []) [] (sym k.whole ∙ sym whole ∙ sym (append-nil (file_of lines ++ [])))) [
+    elim (split front k.more (file_of lines ++ []) []
+    (sym k.whole ∙ sym whole ∙ sym (append-nil (file_of lines ++ [])))) [
       | inl s ↦
-          let cause : IsCause limit (length front) k.lines k.rest (s.0 ++ []) why = subst (λ l. IsCause limit (length front) k.lines k.rest l why) s.2 k.here in
-          let none : s.0 ≡ [] = HasFault-last limit k.lines lines k.rest [] s.0 [] why k.each k.part h.each nothing within s.1 cause in
-          here k.more refl (sym (s.1 ∙ ap (λ l. front ++ l) none ∙ append-nil front)) (s.2 ∙ append-nil s.0 ∙ none)
+          let cause : IsCause limit (length front) k.lines k.rest (s.0 ++ []) why =
+          subst (λ l. IsCause limit (length front) k.lines k.rest l why) s.2 k.here in
+          let none : s.0 ≡ [] = HasFault-last limit k.lines lines k.rest [] s.0 [] why k.each k.part
+          h.each nothing within s.1 cause in
+          here k.more refl (sym (s.1 ∙ ap (λ l. front ++ l) none ∙ append-nil front))
+          (s.2 ∙ append-nil s.0 ∙ none)
       | inr s ↦
           let p = nil-parts s.0 k.more s.2 in
-          here k.more refl (s.1 ∙ ap (λ l. (file_of lines ++ []) ++ l) p.0 ∙ append-nil (file_of lines ++ [])) p.1
+          here k.more refl (s.1 ∙ ap (λ l. (file_of lines ++ []) ++ l) p.0
+          ∙ append-nil (file_of lines ++ [])) p.1
     ]
 
 -- a file has one reading of its elements
-pub IsAirFile-unique : (limit : ℕ) (bytes : List ℕ) (l1 l2 : List Line) → IsAirFile limit bytes l1 → IsAirFile limit bytes l2 → l1 ≡ l2
+pub IsAirFile-unique : (limit : ℕ) (bytes : List ℕ) (l1 l2 : List Line) → IsAirFile limit bytes l1
+    → IsAirFile limit bytes l2 → l1 ≡ l2
 IsAirFile-unique limit bytes l1 l2 h k =
     let nothing : IsBeginning [] = record { none = tt; short = omega arith } in
-    (reading-unique l1 l2 [] [] h.each k.each nothing nothing (append-nil (file_of l1) ∙ sym h.whole ∙ k.whole ∙ sym (append-nil (file_of l2)))).0
+    (reading-unique l1 l2 [] [] h.each k.each nothing nothing
+    (append-nil (file_of l1) ∙ sym h.whole ∙ k.whole ∙ sym (append-nil (file_of l2)))).0
 
-pub IsBitFile-unique : (limit : ℕ) (bytes : List ℕ) (a b : List Bool) → IsBitFile limit bytes a → IsBitFile limit bytes b → a ≡ b
+pub IsBitFile-unique : (limit : ℕ) (bytes : List ℕ) (a b : List Bool) → IsBitFile limit bytes a
+    → IsBitFile limit bytes b → a ≡ b
 IsBitFile-unique limit bytes a b h k =
-    h.joined ∙ ap (flat_map elements_of) (IsAirFile-unique limit bytes h.lines k.lines h.file k.file) ∙ sym k.joined
+    h.joined ∙ ap (flat_map elements_of)
+    (IsAirFile-unique limit bytes h.lines k.lines h.file k.file) ∙ sym k.joined

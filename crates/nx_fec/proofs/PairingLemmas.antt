@@ -42,25 +42,34 @@ counts_at place = if nat_lt place 32 then traffic (place + 1) else idle_signal
 pub counts_as-words : (at : ℕ) → at < 35 → counts_as (get_or words at 0) ≡ counts_at at
 unfolding table words place_of counts_as
 counts_as-words at h =
-    is_alike-true (counts_as (get_or words at 0)) (counts_at at) (agree_below_at (λ k. is_alike (counts_as (get_or words k 0)) (counts_at k)) (λ _. true) 35 at refl h)
+    is_alike-true (counts_as (get_or words at 0)) (counts_at at)
+    (agree_below_at (λ k. is_alike (counts_as (get_or words k 0)) (counts_at k)) (λ _. true) 35
+    at refl h)
 
 -- the word of a combination counts as it
-pub counts_as-combination : (number : ℕ) → 1 ≤ number → number ≤ 32 → counts_as (get_or words (number - 1) 0) ≡ traffic number
+pub counts_as-combination : (number : ℕ) → 1 ≤ number → number ≤ 32
+    → counts_as (get_or words (number - 1) 0) ≡ traffic number
 unfolding table words place_of counts_as
 counts_as-combination number low high =
     let e : number - 1 + 1 ≡ number = omega arith in
-    subst (λ n. counts_as (get_or words (number - 1) 0) ≡ traffic n) e (is_alike-true (counts_as (get_or words (number - 1) 0)) (traffic (number - 1 + 1)) (agree_below_at (λ k. is_alike (counts_as (get_or words k 0)) (traffic (k + 1))) (λ _. true) 32 (number - 1) refl (omega arith)))
+    subst (λ n. counts_as (get_or words (number - 1) 0) ≡ traffic n) e
+    (is_alike-true (counts_as (get_or words (number - 1) 0)) (traffic (number - 1 + 1))
+    (agree_below_at (λ k. is_alike (counts_as (get_or words k 0)) (traffic (k + 1))) (λ _. true)
+    32 (number - 1) refl (omega arith)))
 
 -- the word of a signal counts as the signal does
-pub counts_as-number_of_signal : (signal : Signal) → counts_as (number_of_signal signal) ≡ heard_as (Intact signal)
-counts_as-number_of_signal (Traffic comb) = counts_as-combination comb.number comb.from_one comb.to_thirty_two
+pub counts_as-number_of_signal : (signal : Signal)
+    → counts_as (number_of_signal signal) ≡ heard_as (Intact signal)
+counts_as-number_of_signal (Traffic comb) =
+    counts_as-combination comb.number comb.from_one comb.to_thirty_two
 counts_as-number_of_signal Alpha = counts_as-words 32 (omega arith)
 counts_as-number_of_signal Beta = counts_as-words 33 (omega arith)
 counts_as-number_of_signal Repeat = counts_as-words 34 (omega arith)
 
 weight-words : (at : ℕ) → at < 35 → weight (get_or words at 0) ≡ 4
 unfolding table words weight elements elements_from
-weight-words at h = eqb-true (weight (get_or words at 0)) 4 (agree_below_at (λ k. eqb (weight (get_or words k 0)) 4) (λ _. true) 35 at refl h)
+weight-words at h = eqb-true (weight (get_or words at 0)) 4
+    (agree_below_at (λ k. eqb (weight (get_or words k 0)) 4) (λ _. true) 35 at refl h)
 
 -- a word that is found in the table has weight four
 weight-found : (word at : ℕ) → place_of word ≡ Some at → weight word ≡ 4
@@ -69,7 +78,8 @@ weight-found word at h =
     let found = position-Some (λ n. eqb n word) words at 0 h in
     subst (λ n. weight n ≡ 4) (eqb-true (get_or words at 0) word found.1) (weight-words at found.0)
 
-counts_at-none : (word : ℕ) (found : Option ℕ) → place_of word ≡ found → (weight word ≡ 4 → ⊥) → option_map_or counts_at found nothing ≡ nothing
+counts_at-none : (word : ℕ) (found : Option ℕ) → place_of word ≡ found → (weight word ≡ 4 → ⊥)
+    → option_map_or counts_at found nothing ≡ nothing
 counts_at-none word (Some at) h wrong = absurd (wrong (weight-found word at h))
 counts_at-none word None h wrong = refl
 
@@ -79,10 +89,18 @@ unfolding counts_as
 counts_as-wrong word wrong = counts_at-none word (place_of word) refl wrong
 
 -- of the latest three and one more word the latest three are those of all words and this one
-pub latest-push : (latest next words : List Counted) (x : Counted) → latest ≡ drop (length words - 3) words
-    → next ≡ drop (length (latest ++ x ∷ []) - 3) (latest ++ x ∷ []) → next ≡ drop (length (words ++ x ∷ []) - 3) (words ++ x ∷ [])
+pub latest-push : (latest next words : List Counted) (x : Counted)
+    → latest ≡ drop (length words - 3) words
+    → next ≡ drop (length (latest ++ x ∷ []) - 3) (latest ++ x ∷ [])
+    → next ≡ drop (length (words ++ x ∷ []) - 3) (words ++ x ∷ [])
 latest-push latest next words x old new =
-    let n : length latest ≡ length words - (length words - 3) = ap length old ∙ length-drop (length words - 3) words in
-    let e : drop (length words - 3) (words ++ x ∷ []) ≡ latest ++ x ∷ [] = drop-append-le (length words - 3) words (x ∷ []) (omega arith) ∙ ap (λ l. l ++ x ∷ []) (sym old) in
-    let k : (length words - 3) + (length (latest ++ x ∷ []) - 3) ≡ length (words ++ x ∷ []) - 3 = simp length-append (omega arith) in
-    new ∙ ap (drop (length (latest ++ x ∷ []) - 3)) (sym e) ∙ drop-drop (length (latest ++ x ∷ []) - 3) (length words - 3) (words ++ x ∷ []) ∙ ap (λ m. drop m (words ++ x ∷ [])) k
+    let n : length latest ≡ length words - (length words - 3) =
+    ap length old ∙ length-drop (length words - 3) words in
+    let e : drop (length words - 3) (words ++ x ∷ []) ≡ latest ++ x ∷ [] =
+    drop-append-le (length words - 3) words (x ∷ []) (omega arith)
+    ∙ ap (λ l. l ++ x ∷ []) (sym old) in
+    let k : (length words - 3) + (length (latest ++ x ∷ []) - 3) ≡ length (words ++ x ∷ []) - 3 =
+    simp length-append (omega arith) in
+    new ∙ ap (drop (length (latest ++ x ∷ []) - 3)) (sym e)
+    ∙ drop-drop (length (latest ++ x ∷ []) - 3) (length words - 3) (words ++ x ∷ [])
+    ∙ ap (λ m. drop m (words ++ x ∷ [])) k

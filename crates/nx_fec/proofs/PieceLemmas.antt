@@ -4,7 +4,8 @@ use Rattle.std.proofs.lemmas.List.{take_rest}
 use Rattle.std.proofs.Math.Seq.{take-add}
 
 -- a piece, up to an index and from it on
-pub piece-parts : (bytes piece more : List ℕ) (count : ℕ) → (bytes ++ piece) ++ more ≡ (bytes ++ take count piece) ++ (drop count piece ++ more)
+pub piece-parts : (bytes piece more : List ℕ) (count : ℕ)
+    → (bytes ++ piece) ++ more ≡ (bytes ++ take count piece) ++ (drop count piece ++ more)
 piece-parts bytes piece more count =
     ap (λ l. (bytes ++ l) ++ more) (sym (take-append-drop count piece))
     ∙ ap (λ l. l ++ more) (sym (append_assoc bytes (take count piece) (drop count piece)))
@@ -12,19 +13,25 @@ piece-parts bytes piece more count =
 
 -- what is left of a piece after an index
 pub piece-rest : (bytes piece more : List ℕ) (at : ℕ)
-    → ((bytes ++ take at piece) ++ take (length piece - at) (drop at piece)) ++ more ≡ (bytes ++ piece) ++ more
+    → ((bytes ++ take at piece) ++ take (length piece - at) (drop at piece)) ++ more
+    ≡ (bytes ++ piece) ++ more
 piece-rest bytes piece more at =
     ap (λ l. ((bytes ++ take at piece) ++ l) ++ more) (take_rest piece at)
     ∙ append_assoc (bytes ++ take at piece) (drop at piece) more
     ∙ sym (piece-parts bytes piece more at)
 
-pub piece-whole : (bytes piece : List ℕ) (at : ℕ) → (bytes ++ take at piece) ++ take (length piece - at) (drop at piece) ≡ bytes ++ piece
+pub piece-whole : (bytes piece : List ℕ) (at : ℕ)
+    → (bytes ++ take at piece) ++ take (length piece - at) (drop at piece) ≡ bytes ++ piece
 piece-whole bytes piece at =
     append_assoc bytes (take at piece) (take (length piece - at) (drop at piece))
-    ∙ ap (λ l. bytes ++ l) (ap (λ l. take at piece ++ l) (take_rest piece at) ∙ take-append-drop at piece)
+    ∙ ap (λ l. bytes ++ l) (ap (λ l. take at piece ++ l) (take_rest piece at)
+    ∙ take-append-drop at piece)
 
 -- the next bytes of a piece
-pub piece-next : (bytes piece : List ℕ) (at count : ℕ) → (bytes ++ take at piece) ++ take count (take (length piece - at) (drop at piece)) ≡ bytes ++ take (at + count) piece
+pub piece-next : (bytes piece : List ℕ) (at count : ℕ)
+    → (bytes ++ take at piece) ++ take count (take (length piece - at) (drop at piece))
+    ≡ bytes ++ take (at + count) piece
 piece-next bytes piece at count =
     append_assoc bytes (take at piece) (take count (take (length piece - at) (drop at piece)))
-    ∙ ap (λ l. bytes ++ l) (ap (λ l. take at piece ++ take count l) (take_rest piece at) ∙ sym (take-add at count piece))
+    ∙ ap (λ l. bytes ++ l) (ap (λ l. take at piece ++ take count l) (take_rest piece at)
+    ∙ sym (take-add at count piece))

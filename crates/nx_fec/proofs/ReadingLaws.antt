@@ -15,15 +15,23 @@ use Rattle.nx_fec.specs.declared.fault.RunFault.{RunFault}
 use Rattle.nx_fec.specs.declared.fault.RunFault.TheVariants.{Read, FileTooLong, LineLong, LineCut, BadLine, Ragged, NoSuchCharacter, Write, Memory}
 
 -- no fault stands in the bytes that a scanner took
-pub Scans-faultless : (limit : ℕ) (scanner : Scanning) (bytes : List ℕ) (lines : List Line) → Scans limit scanner bytes lines → IsFaultless limit bytes
-Scans-faultless limit scanner bytes lines h = record { lines = lines; rest = scanner.part; splits = h.splits; within = omega (arith, h.room) }
+pub Scans-faultless : (limit : ℕ) (scanner : Scanning) (bytes : List ℕ) (lines : List Line)
+    → Scans limit scanner bytes lines → IsFaultless limit bytes
+Scans-faultless limit scanner bytes lines h =
+    record { lines = lines; rest = scanner.part; splits = h.splits; within = omega (arith, h.room) }
 
 -- nor in those of a file that was read to its end, nor where no byte was read
-pub IsBitFile-faultless : (limit : ℕ) (bytes : List ℕ) (bits : List Bool) → IsBitFile limit bytes bits → IsFaultless limit bytes
+pub IsBitFile-faultless : (limit : ℕ) (bytes : List ℕ) (bits : List Bool)
+    → IsBitFile limit bytes bits → IsFaultless limit bytes
 IsBitFile-faultless limit bytes bits h = record {
   lines = h.lines;
   rest = [];
-  splits = record { whole = h.file.whole ∙ sym (append-nil (file_of h.lines)); each = h.file.each; part = record { none = tt; short = omega arith } };
+  splits = record {
+    whole = h.file.whole ∙ sym (append-nil (file_of h.lines));
+    each =
+        h.file.each;
+    part = record { none = tt; short = omega arith };
+  };
   within = h.file.within;
 }
 
@@ -36,7 +44,8 @@ none-faultless limit = record {
 }
 
 -- a cause after good lines and the beginning of one more is a fault of the file
-pub HasFault-cause : (limit : ℕ) (bytes : List ℕ) (lines : List Line) (rest more : List ℕ) (why : LineFault) → Splits bytes lines rest
+pub HasFault-cause : (limit : ℕ) (bytes : List ℕ) (lines : List Line) (rest more : List ℕ)
+    (why : LineFault) → Splits bytes lines rest
     → IsCause limit (length bytes) lines rest more why → HasFault limit (bytes ++ more) why
 HasFault-cause limit bytes lines rest more why s cause = record {
   lines = lines;
@@ -49,38 +58,49 @@ HasFault-cause limit bytes lines rest more why s cause = record {
 }
 
 -- a scanner before the first byte
-pub HasRead-first : (limit : ℕ) (scanner : Scanning) (bits : List Bool) → Scans limit scanner [] [] → bits ≡ [] → HasRead limit scanner bits []
+pub HasRead-first : (limit : ℕ) (scanner : Scanning) (bits : List Bool) → Scans limit scanner [] []
+    → bits ≡ [] → HasRead limit scanner bits []
 HasRead-first limit scanner bits scans none = record { lines = []; scans = scans; joined = none }
 
 -- one more step of the scanner, over the bytes of some more lines
-pub HasRead-step : (limit : ℕ) (old new : Scanning) (bits more : List Bool) (bytes bytes' : List ℕ) (some : List Line) (h : HasRead limit old bits bytes)
-    → Scans limit new bytes' (h.lines ++ some) → more ≡ bits ++ flat_map elements_of some → HasRead limit new more bytes'
+pub HasRead-step : (limit : ℕ) (old new : Scanning) (bits more : List Bool) (bytes bytes' : List ℕ)
+    (some : List Line) (h : HasRead limit old bits bytes)
+    → Scans limit new bytes' (h.lines ++ some) → more ≡ bits ++ flat_map elements_of some
+    → HasRead limit new more bytes'
 HasRead-step limit old new bits more bytes bytes' some h scans joined = record {
   lines = h.lines ++ some;
   scans = scans;
-  joined = joined ∙ ap (λ l. l ++ flat_map elements_of some) h.joined ∙ sym (flat_map-append elements_of h.lines some);
+  joined = joined ∙ ap (λ l. l ++ flat_map elements_of some) h.joined
+      ∙ sym (flat_map-append elements_of h.lines some);
 }
 
 -- a fault of the file explains the fault of the run
-explains : (AtEnd : Type 0) (limit : ℕ) (bytes : List ℕ) (why : LineFault) → AtEnd → HasFault limit bytes why → ExplainsReading AtEnd limit bytes (run_fault why)
+explains : (AtEnd : Type 0) (limit : ℕ) (bytes : List ℕ) (why : LineFault) → AtEnd
+    → HasFault limit bytes why → ExplainsReading AtEnd limit bytes (run_fault why)
 explains AtEnd limit bytes file.TooLong end fault = fault
 explains AtEnd limit bytes (file.LineLong line) end fault = fault
 explains AtEnd limit bytes (file.LineCut line) end fault = (end, fault)
 explains AtEnd limit bytes (file.BadLine line) end fault = fault
 
 -- and so does its cause at the end of the bytes
-pub ExplainsReading-fault : (AtEnd : Type 0) (limit : ℕ) (bytes : List ℕ) (why : LineFault) (lines : List Line) (rest : List ℕ) → AtEnd → Splits bytes lines rest
-    → IsCause limit (length bytes) lines rest [] why → ExplainsReading AtEnd limit bytes (run_fault why)
+pub ExplainsReading-fault : (AtEnd : Type 0) (limit : ℕ) (bytes : List ℕ) (why : LineFault)
+    (lines : List Line) (rest : List ℕ) → AtEnd → Splits bytes lines rest
+    → IsCause limit (length bytes) lines rest [] why
+    → ExplainsReading AtEnd limit bytes (run_fault why)
 ExplainsReading-fault AtEnd limit bytes why lines rest end splits cause =
-    explains AtEnd limit bytes why end (subst (λ l. HasFault limit l why) (append-nil bytes) (HasFault-cause limit bytes lines rest [] why splits cause))
+    explains AtEnd limit bytes why end
+    (subst (λ l. HasFault limit l why) (append-nil bytes)
+    (HasFault-cause limit bytes lines rest [] why splits cause))
 
-pub ExplainsReading-at_byte : (limit : ℕ) (bytes : List ℕ) (why : LineFault) → IsAtByte why → HasFault limit bytes why → ExplainsReading ⊥ limit bytes (run_fault why)
+pub ExplainsReading-at_byte : (limit : ℕ) (bytes : List ℕ) (why : LineFault) → IsAtByte why
+    → HasFault limit bytes why → ExplainsReading ⊥ limit bytes (run_fault why)
 ExplainsReading-at_byte limit bytes file.TooLong at refused = refused
 ExplainsReading-at_byte limit bytes (file.LineLong line) at refused = refused
 ExplainsReading-at_byte limit bytes (file.LineCut line) at refused = absurd at
 ExplainsReading-at_byte limit bytes (file.BadLine line) at refused = refused
 
-pub ExplainsReading-weaker : (A B : Type 0) (limit : ℕ) (bytes : List ℕ) (fault : RunFault) → (A → B) → ExplainsReading A limit bytes fault → ExplainsReading B limit bytes fault
+pub ExplainsReading-weaker : (A B : Type 0) (limit : ℕ) (bytes : List ℕ) (fault : RunFault)
+    → (A → B) → ExplainsReading A limit bytes fault → ExplainsReading B limit bytes fault
 ExplainsReading-weaker A B limit bytes Read f h = tt
 ExplainsReading-weaker A B limit bytes FileTooLong f h = h
 ExplainsReading-weaker A B limit bytes (LineLong line) f h = h
@@ -99,7 +119,9 @@ run_fault-inside (file.LineCut line) h = h
 run_fault-inside (file.BadLine line) h = h
 
 -- the same cause, with more bytes after it
-pub IsCause-more : (limit front : ℕ) (lines : List Line) (rest more ys : List ℕ) (why : LineFault) → IsAtByte why → IsCause limit front lines rest more why → IsCause limit front lines rest (more ++ ys) why
+pub IsCause-more : (limit front : ℕ) (lines : List Line) (rest more ys : List ℕ) (why : LineFault)
+    → IsAtByte why → IsCause limit front lines rest more why
+    → IsCause limit front lines rest (more ++ ys) why
 IsCause-more limit front lines rest [] ys file.TooLong at h = absurd h
 IsCause-more limit front lines rest [] ys (file.LineLong line) at h = absurd h
 IsCause-more limit front lines rest [] ys (file.LineCut line) at h = absurd at
@@ -110,39 +132,50 @@ IsCause-more limit front lines rest (byte ∷ more) ys (file.LineCut line) at h 
 IsCause-more limit front lines rest (byte ∷ more) ys (file.BadLine line) at h = h
 
 -- the elements that a scanner keeps are those of the line that was ended
-pub elements_kept-list : (latest : Option Line) → flat_map elements_of (option_to_list latest) ≡ elements_kept latest
+pub elements_kept-list : (latest : Option Line)
+    → flat_map elements_of (option_to_list latest) ≡ elements_kept latest
 elements_kept-list None = refl
 elements_kept-list (Some line) = append-nil (elements_of line)
 
 -- a scanner that stops in a piece
-pub ExplainsPiece-stop : (limit : ℕ) (s : Scanning) (bytes piece : List ℕ) (lines : List Line) (why : LineFault) → IsAtByte why → StopsIn limit s bytes piece lines why
+pub ExplainsPiece-stop : (limit : ℕ) (s : Scanning) (bytes piece : List ℕ) (lines : List Line)
+    (why : LineFault) → IsAtByte why → StopsIn limit s bytes piece lines why
     → ExplainsPiece limit (bytes ++ piece) (run_fault why)
 ExplainsPiece-stop limit s bytes piece lines why at stops = (
   λ h. absurd (run_fault-inside why h),
   λ more.
-      ExplainsReading-at_byte limit _ why at (subst (λ l. HasFault limit l why) (sym (piece-parts bytes piece more stops.count))
-      (HasFault-cause limit (bytes ++ take stops.count piece) lines s.part (drop stops.count piece ++ more) why stops.scans.splits (stops.cause more))),
+      ExplainsReading-at_byte limit _ why at
+      (subst (λ l. HasFault limit l why) (sym (piece-parts bytes piece more stops.count))
+      (HasFault-cause limit (bytes ++ take stops.count piece) lines s.part
+      (drop stops.count piece ++ more) why stops.scans.splits (stops.cause more))),
 )
 
 -- or goes over all of it, where memory ran out before
-pub ExplainsPiece-memory : (limit : ℕ) (s : Scanning) (bytes : List ℕ) (lines : List Line) (error : AllocError) → Scans limit s bytes lines → ExplainsPiece limit bytes (Memory error)
-ExplainsPiece-memory limit s bytes lines error scans = (λ h. Scans-faultless limit s bytes lines scans, λ more. tt)
+pub ExplainsPiece-memory : (limit : ℕ) (s : Scanning) (bytes : List ℕ) (lines : List Line)
+    (error : AllocError) → Scans limit s bytes lines → ExplainsPiece limit bytes (Memory error)
+ExplainsPiece-memory limit s bytes lines error scans =
+    (λ h. Scans-faultless limit s bytes lines scans, λ more. tt)
 
-pub IfErr-always : {N F : Type 0} (o : Result N F) (P : F → Type 0) → ((fault : F) → P fault) → IfErr o P
+pub IfErr-always : {N F : Type 0} (o : Result N F) (P : F → Type 0) → ((fault : F) → P fault)
+    → IfErr o P
 IfErr-always (Ok answer) P h = tt
 IfErr-always (Err fault) P h = h fault
 
-pub IfSome-always : (o : Option (List ℕ)) (P : List ℕ → Type 0) → ((xs : List ℕ) → P xs) → IfSome o P
+pub IfSome-always : (o : Option (List ℕ)) (P : List ℕ → Type 0) → ((xs : List ℕ) → P xs)
+    → IfSome o P
 IfSome-always None P h = tt
 IfSome-always (Some xs) P h = h xs
 
 -- a fault of the file is no failed read
-pub run_fault-not_read : {T : Type 0} (why : LineFault) → ◌≡◌ {A = Result T RunFault} (Err (run_fault why)) (Err Read) → ⊥
+pub run_fault-not_read : {T : Type 0} (why : LineFault)
+    → ◌≡◌ {A = Result T RunFault} (Err (run_fault why)) (Err Read) → ⊥
 run_fault-not_read file.TooLong e = cc
 run_fault-not_read (file.LineLong line) e = cc
 run_fault-not_read (file.LineCut line) e = cc
 run_fault-not_read (file.BadLine line) e = cc
 
 -- one error, at two results
-pub Err-same : {T U E : Type 0} (e f : E) → ◌≡◌ {A = Result T E} (Err e) (Err f) → ◌≡◌ {A = Result U E} (Err e) (Err f)
-Err-same {T} {U} {E} e f h = let same : e ≡ f = cc in let out : E → Result U E = λ x. Err x in ap out same
+pub Err-same : {T U E : Type 0} (e f : E) → ◌≡◌ {A = Result T E} (Err e) (Err f)
+    → ◌≡◌ {A = Result U E} (Err e) (Err f)
+Err-same {T} {U} {E} e f h = let same : e ≡ f = cc in let out : E → Result U E = λ x. Err x in
+    ap out same

@@ -38,9 +38,11 @@ pub length-bits_of : (sent : List ℕ) → length (bits_of sent) ≡ 7 * length 
 unfolding bits_of
 length-bits_of [] = refl
 length-bits_of (word ∷ sent) =
-    length-append (elements word) (bits_of sent) ∙ omega (arith, length-elements word, length-bits_of sent)
+    length-append (elements word) (bits_of sent)
+    ∙ omega (arith, length-elements word, length-bits_of sent)
 
-word_in-bits_of : (sent : List ℕ) (slot : ℕ) → AreWords sent → slot < length sent → word_in (bits_of sent) slot ≡ get_or sent slot 0
+word_in-bits_of : (sent : List ℕ) (slot : ℕ) → AreWords sent → slot < length sent
+    → word_in (bits_of sent) slot ≡ get_or sent slot 0
 unfolding bits_of word_in
 word_in-bits_of [] slot h k = absurd (omega arith)
 word_in-bits_of (word ∷ sent) zero h k =
@@ -58,15 +60,19 @@ unfolding words_of
 words_of-bits_of sent h =
     let n = length-bits_of sent in
     let e : length sent ≡ length (bits_of sent) / 7 = omega arith in
-    sym (fill_by_all (word_in (bits_of sent)) sent (length (bits_of sent) / 7) 0 e (λ k l. sym (word_in-bits_of sent k h (omega arith))))
+    sym (fill_by_all (word_in (bits_of sent)) sent (length (bits_of sent) / 7) 0 e
+    (λ k l. sym (word_in-bits_of sent k h (omega arith))))
 
 -- seven elements from a slot on
-word-elements : (bits : List Bool) (slot : ℕ) → 7 * slot + 7 ≤ length bits → elements (word_in bits slot) ≡ take 7 (drop (7 * slot) bits)
+word-elements : (bits : List Bool) (slot : ℕ) → 7 * slot + 7 ≤ length bits
+    → elements (word_in bits slot) ≡ take 7 (drop (7 * slot) bits)
 unfolding word_in
 word-elements bits slot h =
-    elements-number_of (take 7 (drop (7 * slot) bits)) (length-take-le 7 (drop (7 * slot) bits) (omega (arith, length-drop (7 * slot) bits)))
+    elements-number_of (take 7 (drop (7 * slot) bits))
+    (length-take-le 7 (drop (7 * slot) bits) (omega (arith, length-drop (7 * slot) bits)))
 
-bits_of-first : (bits : List Bool) (count : ℕ) → 7 * count ≤ length bits → bits_of (map (word_in bits) (range_with_len 0 count)) ≡ take (7 * count) bits
+bits_of-first : (bits : List Bool) (count : ℕ) → 7 * count ≤ length bits
+    → bits_of (map (word_in bits) (range_with_len 0 count)) ≡ take (7 * count) bits
 unfolding bits_of
 bits_of-first bits zero h = refl
 bits_of-first bits (suc count) h =
@@ -74,7 +80,8 @@ bits_of-first bits (suc count) h =
     let seven : 7 * count + 7 ≡ 7 * suc count = omega arith in
     ap (λ n. flat_map elements (map (word_in bits) (range_with_len 0 n))) (sym more)
     ∙ ap (flat_map elements) (map-range_with_len_more (word_in bits) 0 count count (omega arith))
-    ∙ sym (flat_map_more elements [] (map (word_in bits) (range_with_len 0 count)) (word_in bits count))
+    ∙ sym (flat_map_more elements [] (map (word_in bits) (range_with_len 0 count))
+    (word_in bits count))
     ∙ ap (λ l. l ++ elements (word_in bits count)) (bits_of-first bits count (omega arith))
     ∙ ap (λ l. take (7 * count) bits ++ l) (word-elements bits count (omega arith))
     ∙ sym (take-add (7 * count) 7 bits)
@@ -84,7 +91,8 @@ bits_of-first bits (suc count) h =
 pub bits_of-words_of : (bits : List Bool) → length bits % 7 ≡ 0 → bits_of (words_of bits) ≡ bits
 unfolding words_of
 bits_of-words_of bits h =
-    bits_of-first bits (length bits / 7) (omega arith) ∙ take_all (7 * (length bits / 7)) bits (omega arith)
+    bits_of-first bits (length bits / 7) (omega arith)
+    ∙ take_all (7 * (length bits / 7)) bits (omega arith)
 
 number_of-lt : (bits : List Bool) (count : ℕ) → length bits ≤ count → number_of bits < 2 ^ count
 unfolding number_of
@@ -99,7 +107,9 @@ pub AreWords-words_of : (bits : List Bool) → AreWords (words_of bits)
 unfolding word_in
 AreWords-words_of bits slot h =
     let n = length-words_of bits in
-    subst (λ w. w < 128) (sym (get_or-words_of bits slot (omega arith))) (number_of-lt (take 7 (drop (7 * slot) bits)) 7 (omega (arith, length-take 7 (drop (7 * slot) bits))))
+    subst (λ w. w < 128) (sym (get_or-words_of bits slot (omega arith)))
+    (number_of-lt (take 7 (drop (7 * slot) bits)) 7
+    (omega (arith, length-take 7 (drop (7 * slot) bits))))
 
 -- the words of a position count as what is taken of it
 counts_as-phasing_1 : counts_as phasing_1 ≡ idle_signal
@@ -114,42 +124,59 @@ eqb-refl n = eq-eqb n n refl
 pairing-same : (number : ℕ) → pairing (traffic number) (traffic number) ≡ combination number
 pairing-same number = ap (λ b. cond b (combination number) lost) (eqb-refl number)
 
-pairing-sent : (position : SentPosition) → IsInCode position → pairing (counts_as (dx_word position)) (counts_as (rx_word position)) ≡ reception position
-pairing-sent phasing_position h = ap (λ c. pairing c (counts_as phasing_1)) counts_as-phasing_2 ∙ ap (pairing idle_signal) counts_as-phasing_1
+pairing-sent : (position : SentPosition) → IsInCode position
+    → pairing (counts_as (dx_word position)) (counts_as (rx_word position)) ≡ reception position
+pairing-sent phasing_position h =
+    ap (λ c. pairing c (counts_as phasing_1)) counts_as-phasing_2
+    ∙ ap (pairing idle_signal) counts_as-phasing_1
 pairing-sent (traffic_position number) h =
     let e = ap counts_as (traffic_word-is number h.0 h.1) ∙ counts_as-combination number h.0 h.1 in
     ap (λ c. pairing c c) e ∙ pairing-same number
 pairing-sent end_position h = ap (λ c. pairing c c) counts_as-phasing_1
 
 -- what is taken of an emission's slots
-taken_at-early : (sent : List ℕ) (n : ℕ) → n < 2 → get_or sent (2 * n + 1) 0 ≡ phasing_1 → taken_at sent (2 * n + 1) ≡ idle
+taken_at-early : (sent : List ℕ) (n : ℕ) → n < 2 → get_or sent (2 * n + 1) 0 ≡ phasing_1
+    → taken_at sent (2 * n + 1) ≡ idle
 taken_at-early sent n h p =
     taken_at-pairing sent n
-    ∙ ap (λ c. pairing c (counts_as (get_or sent (2 * n + 1) 0))) (five_before-early sent (2 * n + 1) (omega arith))
+    ∙ ap (λ c. pairing c (counts_as (get_or sent (2 * n + 1) 0)))
+    (five_before-early sent (2 * n + 1) (omega arith))
     ∙ ap (λ w. pairing nothing (counts_as w)) p
     ∙ ap (pairing nothing) counts_as-phasing_1
 
-taken_at-late : (positions : List SentPosition) (sent : List ℕ) (i : ℕ) → IsEmission positions sent → AreInCode positions → i + 3 < length positions → taken_at sent (2 * (i + 2) + 1) ≡ reception (position_at positions i)
+taken_at-late : (positions : List SentPosition) (sent : List ℕ) (i : ℕ) → IsEmission positions sent
+    → AreInCode positions → i + 3 < length positions
+    → taken_at sent (2 * (i + 2) + 1) ≡ reception (position_at positions i)
 taken_at-late positions sent i e code h =
     let slot : 2 * (i + 2) + 1 ≡ 2 * i + 5 = omega arith in
     let five : 2 * (i + 2) + 1 - 5 ≡ 2 * i = omega arith in
     taken_at-pairing sent (i + 2)
-    ∙ ap (λ c. pairing c (counts_as (get_or sent (2 * (i + 2) + 1) 0))) (five_before-late sent (2 * (i + 2) + 1) (omega arith) ∙ ap (λ k. counts_as (get_or sent k 0)) five ∙ ap counts_as (e.dx i (omega arith)))
-    ∙ ap (λ k. pairing (counts_as (dx_word (position_at positions i))) (counts_as (get_or sent k 0))) slot
-    ∙ ap (λ w. pairing (counts_as (dx_word (position_at positions i))) (counts_as w)) (e.rx i (omega arith))
+    ∙ ap (λ c. pairing c (counts_as (get_or sent (2 * (i + 2) + 1) 0)))
+    (five_before-late sent (2 * (i + 2) + 1) (omega arith)
+    ∙ ap (λ k. counts_as (get_or sent k 0)) five ∙ ap counts_as (e.dx i (omega arith)))
+    ∙ ap (λ k. pairing (counts_as (dx_word (position_at positions i)))
+    (counts_as (get_or sent k 0))) slot
+    ∙ ap (λ w. pairing (counts_as (dx_word (position_at positions i))) (counts_as w))
+    (e.rx i (omega arith))
     ∙ pairing-sent (position_at positions i) (code i (omega arith))
 
 -- the positions that are taken of an emission
 abbrev expected : List SentPosition → List Reception
 expected positions = idle ∷ idle ∷ map reception (take (length positions - 3) positions)
 
-length-front : (positions : List SentPosition) → 3 ≤ length positions → length (map reception (take (length positions - 3) positions)) ≡ length positions - 3
-length-front positions h = length-map (take (length positions - 3) positions) reception ∙ length-take (length positions - 3) positions ∙ omega arith
+length-front : (positions : List SentPosition) → 3 ≤ length positions
+    → length (map reception (take (length positions - 3) positions)) ≡ length positions - 3
+length-front positions h =
+    length-map (take (length positions - 3) positions) reception
+    ∙ length-take (length positions - 3) positions ∙ omega arith
 
-at-expected : (positions : List SentPosition) (sent : List ℕ) (k : ℕ) → IsEmission positions sent → AreInCode positions → 3 ≤ length positions → k < length positions - 1
+at-expected : (positions : List SentPosition) (sent : List ℕ) (k : ℕ) → IsEmission positions sent
+    → AreInCode positions → 3 ≤ length positions → k < length positions - 1
     → get_or (expected positions) k idle ≡ taken_at sent (2 * k + 1)
-at-expected positions sent zero e code h lt = let n = e.slots in sym (taken_at-early sent 0 (omega arith) (e.first_rx (omega arith)))
-at-expected positions sent (suc zero) e code h lt = let n = e.slots in sym (taken_at-early sent 1 (omega arith) (e.second_rx (omega arith)))
+at-expected positions sent zero e code h lt = let n = e.slots in
+    sym (taken_at-early sent 0 (omega arith) (e.first_rx (omega arith)))
+at-expected positions sent (suc zero) e code h lt = let n = e.slots in
+    sym (taken_at-early sent 1 (omega arith) (e.second_rx (omega arith)))
 at-expected positions sent (suc (suc i)) e code h lt =
     let k : i + 2 ≡ suc (suc i) = omega arith in
     let l = length-take (length positions - 3) positions in
@@ -158,26 +185,33 @@ at-expected positions sent (suc (suc i)) e code h lt =
     ∙ sym (taken_at-late positions sent i e code (omega arith))
     ∙ ap (λ j. taken_at sent (2 * j + 1)) k
 
-pub receptions-IsEmission : (positions : List SentPosition) (sent : List ℕ) → IsEmission positions sent → AreInCode positions → 3 ≤ length positions → receptions sent ≡ expected positions
+pub receptions-IsEmission : (positions : List SentPosition) (sent : List ℕ)
+    → IsEmission positions sent → AreInCode positions → 3 ≤ length positions
+    → receptions sent ≡ expected positions
 unfolding receptions
 receptions-IsEmission positions sent e code h =
     let n = e.slots in
     let count : length sent / 2 ≡ length positions - 1 = omega arith in
     let f = length-front positions h in
     ap (λ m. map (λ i. taken_at sent (2 * i + 1)) (range_with_len 0 m)) count
-    ∙ sym (fill_by_all (λ i. taken_at sent (2 * i + 1)) (expected positions) (length positions - 1) idle (omega arith) (λ k lt. at-expected positions sent k e code h lt))
+    ∙ sym (fill_by_all (λ i. taken_at sent (2 * i + 1)) (expected positions) (length positions - 1)
+    idle (omega arith) (λ k lt. at-expected positions sent k e code h lt))
 
 -- combinations that are sent alone
-length-framed_positions : (numbers : List ℕ) → length (framed_positions numbers) ≡ length numbers + 7
+length-framed_positions : (numbers : List ℕ)
+    → length (framed_positions numbers) ≡ length numbers + 7
 unfolding framed_positions
 length-framed_positions numbers = simp (length-append, length-map) (omega arith)
 
-code-traffic : (numbers : List ℕ) → AreCombinations numbers → (i : ℕ) → i < length numbers → IsInCode (position_at (map traffic_position numbers ++ replicate 3 end_position) i)
+code-traffic : (numbers : List ℕ) → AreCombinations numbers → (i : ℕ) → i < length numbers
+    → IsInCode (position_at (map traffic_position numbers ++ replicate 3 end_position) i)
 code-traffic [] h i lt = absurd (omega arith)
 code-traffic (number ∷ numbers) h zero lt = h 0 (omega arith)
-code-traffic (number ∷ numbers) h (suc i) lt = code-traffic numbers (λ j k. h (suc j) (omega arith)) i (omega arith)
+code-traffic (number ∷ numbers) h (suc i) lt =
+    code-traffic numbers (λ j k. h (suc j) (omega arith)) i (omega arith)
 
-code-rest : (numbers : List ℕ) → AreCombinations numbers → (i : ℕ) → IsInCode (position_at (map traffic_position numbers ++ replicate 3 end_position) i)
+code-rest : (numbers : List ℕ) → AreCombinations numbers → (i : ℕ)
+    → IsInCode (position_at (map traffic_position numbers ++ replicate 3 end_position) i)
 code-rest [] h zero = tt
 code-rest [] h (suc zero) = tt
 code-rest [] h (suc (suc zero)) = tt
@@ -185,7 +219,8 @@ code-rest [] h (suc (suc (suc i))) = tt
 code-rest (number ∷ numbers) h zero = h 0 (omega arith)
 code-rest (number ∷ numbers) h (suc i) = code-rest numbers (λ j k. h (suc j) (omega arith)) i
 
-AreInCode-framed_positions : (numbers : List ℕ) → AreCombinations numbers → AreInCode (framed_positions numbers)
+AreInCode-framed_positions : (numbers : List ℕ) → AreCombinations numbers
+    → AreInCode (framed_positions numbers)
 unfolding framed_positions
 AreInCode-framed_positions numbers h zero lt = tt
 AreInCode-framed_positions numbers h (suc zero) lt = tt
@@ -193,42 +228,58 @@ AreInCode-framed_positions numbers h (suc (suc zero)) lt = tt
 AreInCode-framed_positions numbers h (suc (suc (suc zero))) lt = tt
 AreInCode-framed_positions numbers h (suc (suc (suc (suc i)))) lt = code-rest numbers h i
 
-take-framed_positions : (numbers : List ℕ) → take (length (framed_positions numbers) - 3) (framed_positions numbers) ≡ replicate 4 phasing_position ++ map traffic_position numbers
+take-framed_positions : (numbers : List ℕ)
+    → take (length (framed_positions numbers) - 3) (framed_positions numbers)
+    ≡ replicate 4 phasing_position ++ map traffic_position numbers
 unfolding framed_positions
 take-framed_positions numbers =
     let front = replicate 4 phasing_position ++ map traffic_position numbers in
-    let n : length front ≡ length (framed_positions numbers) - 3 = simp (length-append, length-map) (omega (arith, length-framed_positions numbers)) in
+    let n : length front ≡ length (framed_positions numbers) - 3 =
+    simp (length-append, length-map) (omega (arith, length-framed_positions numbers)) in
     take_at front (replicate 3 end_position) (length (framed_positions numbers) - 3) n
 
-map-reception : (numbers : List ℕ) → map reception (map traffic_position numbers) ≡ map (λ n. combination n) numbers
+map-reception : (numbers : List ℕ)
+    → map reception (map traffic_position numbers) ≡ map (λ n. combination n) numbers
 map-reception [] = refl
 map-reception (number ∷ numbers) = ap (λ l. combination number ∷ l) (map-reception numbers)
 
 -- the text of the emission of combinations that are sent alone
-pub aligned_text-framed_positions : (numbers : List ℕ) → AreCombinations numbers → aligned_text (words_of (bits_of (emission (framed_positions numbers)))) ≡ text (map (λ n. combination n) numbers) Letters
+pub aligned_text-framed_positions : (numbers : List ℕ) → AreCombinations numbers
+    → aligned_text (words_of (bits_of (emission (framed_positions numbers))))
+    ≡ text (map (λ n. combination n) numbers) Letters
 aligned_text-framed_positions numbers h =
     let n = length-framed_positions numbers in
-    let words = words_of-bits_of (emission (framed_positions numbers)) (AreWords-emission (framed_positions numbers) (AreInCode-framed_positions numbers h)) in
-    let taken = receptions-IsEmission (framed_positions numbers) (emission (framed_positions numbers)) (IsEmission-emission (framed_positions numbers)) (AreInCode-framed_positions numbers h) (omega arith) in
+    let words = words_of-bits_of (emission (framed_positions numbers))
+    (AreWords-emission (framed_positions numbers) (AreInCode-framed_positions numbers h)) in
+    let taken = receptions-IsEmission (framed_positions numbers)
+    (emission (framed_positions numbers)) (IsEmission-emission (framed_positions numbers))
+    (AreInCode-framed_positions numbers h) (omega arith) in
     ap aligned_text words
     ∙ ap (λ l. text l Letters) taken
     ∙ ap (λ l. text (idle ∷ idle ∷ map reception l) Letters) (take-framed_positions numbers)
     ∙ ap (λ l. text l Letters) (map-reception numbers)
 
 -- combinations of the code are combinations
-pub AreCombinations-numbers : (combs : List Comb) → AreCombinations (map (λ (comb : Comb). comb.number) combs)
+pub AreCombinations-numbers : (combs : List Comb)
+    → AreCombinations (map (λ (comb : Comb). comb.number) combs)
 AreCombinations-numbers [] i lt = absurd (omega arith)
 AreCombinations-numbers (comb ∷ combs) zero lt = (comb.from_one, comb.to_thirty_two)
 AreCombinations-numbers (comb ∷ combs) (suc i) lt = AreCombinations-numbers combs i (omega arith)
 
-sent_position-traffic : (combs : List Comb) → map sent_position (map (λ (comb : Comb). Traffic comb) combs) ≡ map traffic_position (map (λ (comb : Comb). comb.number) combs)
+sent_position-traffic : (combs : List Comb)
+    → map sent_position (map (λ (comb : Comb). Traffic comb) combs)
+    ≡ map traffic_position (map (λ (comb : Comb). comb.number) combs)
 sent_position-traffic [] = refl
-sent_position-traffic (comb ∷ combs) = ap (λ l. traffic_position comb.number ∷ l) (sent_position-traffic combs)
+sent_position-traffic (comb ∷ combs) =
+    ap (λ l. traffic_position comb.number ∷ l) (sent_position-traffic combs)
 
 -- the positions by which the code sends combinations alone
-pub sent_position-framed_positions : (combs : List Comb) → map sent_position (replicate 4 Phasing ++ map (λ (comb : Comb). Traffic comb) combs ++ replicate 3 End) ≡ framed_positions (map (λ (comb : Comb). comb.number) combs)
+pub sent_position-framed_positions : (combs : List Comb)
+    → map sent_position (replicate 4 Phasing ++ map (λ (comb : Comb). Traffic comb) combs
+    ++ replicate 3 End) ≡ framed_positions (map (λ (comb : Comb). comb.number) combs)
 unfolding framed_positions
 sent_position-framed_positions combs =
     let front = replicate 4 Phasing ++ map (λ (comb : Comb). Traffic comb) combs in
     map-append sent_position front (replicate 3 End)
-    ∙ ap (λ l. phasing_position ∷ phasing_position ∷ phasing_position ∷ phasing_position ∷ l ++ replicate 3 end_position) (sent_position-traffic combs)
+    ∙ ap (λ l. phasing_position ∷ phasing_position ∷ phasing_position ∷ phasing_position ∷ l
+    ++ replicate 3 end_position) (sent_position-traffic combs)

@@ -30,7 +30,8 @@ NoFeed-append (b ∷ front) more h k = (h.0, NoFeed-append front more h.1 k)
 -- ---- a scanner over bytes of the open line
 
 -- it took some of these, of which none is a line feed, and first opened a line
-pub Scans-on : (limit : ℕ) (s o t : Scanning) (before bytes : List ℕ) (lines : List Line) (count : ℕ) → NoFeed bytes → count ≤ length bytes → length o.part + count ≤ 514
+pub Scans-on : (limit : ℕ) (s o t : Scanning) (before bytes : List ℕ) (lines : List Line)
+    (count : ℕ) → NoFeed bytes → count ≤ length bytes → length o.part + count ≤ 514
     → o.part ≡ s.part → o.lines ≡ s.lines → o.room ≡ s.room
     → t.part ≡ o.part ++ take count bytes → t.lines ≡ o.lines → t.room + count ≡ o.room
     → Scans limit s before lines → Scans limit t (before ++ take count bytes) lines
@@ -39,93 +40,142 @@ Scans-on limit s o t before bytes lines count none within fits part same room mo
     let whole : t.part ≡ s.part ++ taken = more ∙ ap (λ l. l ++ taken) part in
     record {
       splits = record {
-        whole = ap (λ l. l ++ taken) h.splits.whole ∙ append_assoc (file_of lines) s.part taken ∙ ap (λ l. file_of lines ++ l) (sym whole);
+        whole = ap (λ l. l ++ taken) h.splits.whole ∙ append_assoc (file_of lines) s.part taken
+            ∙ ap (λ l. file_of lines ++ l) (sym whole);
         each = h.splits.each;
         part = record {
-          none = subst NoFeed (sym whole) (NoFeed-append s.part taken h.splits.part.none (NoFeed-front bytes count none));
-          short = omega (arith, ap length more, length-append o.part taken, length-take-le count bytes within, fits);
+          none = subst NoFeed (sym whole)
+              (NoFeed-append s.part taken h.splits.part.none (NoFeed-front bytes count none));
+          short = omega (
+            arith,
+            ap length more,
+            length-append o.part taken,
+            length-take-le count
+                bytes within,
+            fits,
+          );
         };
       };
       count = same' ∙ same ∙ h.count;
-      room = omega (arith, room, room', h.room, length-append before taken, length-take-le count bytes within);
+      room = omega (
+        arith,
+        room,
+        room',
+        h.room,
+        length-append before taken,
+        length-take-le count
+            bytes within,
+      );
     }
 
 -- what the next byte of the open line is a cause of, where there is no room for it
-cause-on : (limit : ℕ) (t : Scanning) (front : ℕ) (lines : List Line) (bytes more : List ℕ) (why : LineFault) → NoFeed bytes → 0 < length bytes
-    → ((byte : ℕ) (rest : List ℕ) → byte ≢ 10 → IsCause limit front lines t.part (byte ∷ rest) why) → IsCause limit front lines t.part (bytes ++ more) why
+cause-on : (limit : ℕ) (t : Scanning) (front : ℕ) (lines : List Line) (bytes more : List ℕ)
+    (why : LineFault) → NoFeed bytes → 0 < length bytes
+    → ((byte : ℕ) (rest : List ℕ) → byte ≢ 10 → IsCause limit front lines t.part (byte ∷ rest) why)
+    → IsCause limit front lines t.part (bytes ++ more) why
 cause-on limit t front lines [] more why none some h = absurd (omega arith)
 cause-on limit t front lines (b ∷ bytes) more why none some h = h b (bytes ++ more) none.0
 
 -- it took some of these bytes, and stopped
-StopsIn-on : (limit : ℕ) (t : Scanning) (before bytes : List ℕ) (lines : List Line) (count : ℕ) (why : LineFault) → NoFeed bytes → count < length bytes
+StopsIn-on : (limit : ℕ) (t : Scanning) (before bytes : List ℕ) (lines : List Line) (count : ℕ)
+    (why : LineFault) → NoFeed bytes → count < length bytes
     → Scans limit t (before ++ take count bytes) lines
-    → ((byte : ℕ) (rest : List ℕ) → byte ≢ 10 → IsCause limit (length (before ++ take count bytes)) lines t.part (byte ∷ rest) why) → StopsIn limit t before bytes lines why
+    → ((byte : ℕ) (rest : List ℕ) → byte ≢ 10
+    → IsCause limit (length (before ++ take count bytes)) lines t.part (byte ∷ rest) why)
+    → StopsIn limit t before bytes lines why
 StopsIn-on limit t before bytes lines count why none within scans h = record {
   count = count;
   within = within;
   scans = scans;
-  cause = λ more. cause-on limit t _ lines (drop count bytes) more why (NoFeed-drop bytes count none) (omega (arith, length-drop count bytes, within)) h;
+  cause = λ more. cause-on limit t _ lines (drop count bytes) more why
+      (NoFeed-drop bytes count none) (omega (arith, length-drop count bytes, within)) h;
 }
 
 -- it took as many as there is room for, in the line and in the file
-pub StopsIn-room : (limit : ℕ) (t : Scanning) (before bytes : List ℕ) (lines : List Line) (count : ℕ) (why : LineFault) → NoFeed bytes → count < length bytes
-    → (t.room ≡ 0 → why ≡ TooLong) → (0 < t.room → why ≡ LineLong (t.lines + 1)) → (0 < t.room → length t.part ≡ 514)
+pub StopsIn-room : (limit : ℕ) (t : Scanning) (before bytes : List ℕ) (lines : List Line)
+    (count : ℕ) (why : LineFault) → NoFeed bytes → count < length bytes
+    → (t.room ≡ 0 → why ≡ TooLong) → (0 < t.room → why ≡ LineLong (t.lines + 1))
+    → (0 < t.room → length t.part ≡ 514)
     → Scans limit t (before ++ take count bytes) lines → StopsIn limit t before bytes lines why
 StopsIn-room limit t before bytes lines count why none within empty some full scans =
-    ⊎_elim (λ zero. StopsIn-on limit t before bytes lines count why none within scans (λ byte rest other.
-    subst (IsCause limit (length (before ++ take count bytes)) lines t.part (byte ∷ rest)) (sym (empty zero))
-    (let front : length (before ++ take count bytes) ≡ limit = omega (arith, scans.room, zero) in front)))
-    (λ other. let room : 0 < t.room = omega (arith, other) in StopsIn-on limit t before bytes lines count why none within scans (λ byte rest feed.
-    subst (IsCause limit (length (before ++ take count bytes)) lines t.part (byte ∷ rest)) (sym (some room))
+    ⊎_elim (λ zero. StopsIn-on limit t before bytes lines count why none within scans
+    (λ byte rest other.
+    subst (IsCause limit (length (before ++ take count bytes)) lines t.part (byte ∷ rest))
+    (sym (empty zero))
+    (let front : length (before ++ take count bytes) ≡ limit = omega (arith, scans.room, zero) in
+    front)))
+    (λ other. let room : 0 < t.room = omega (arith, other) in
+    StopsIn-on limit t before bytes lines count why none within scans (λ byte rest feed.
+    subst (IsCause limit (length (before ++ take count bytes)) lines t.part (byte ∷ rest))
+    (sym (some room))
     (omega (arith, scans.room, room), feed, full room, ap (λ n. n + 1) scans.count)))
     (cases_eq t.room 0)
 
 -- ---- a scanner over a piece
 
 -- bytes that ended no line
-pub Scans-open : (limit : ℕ) (s : Scanning) (bytes : List ℕ) (lines : List Line) (latest : Option Line) → latest ≡ None
+pub Scans-open : (limit : ℕ) (s : Scanning) (bytes : List ℕ) (lines : List Line)
+    (latest : Option Line) → latest ≡ None
     → Scans limit s bytes lines → Scans limit s bytes (lines ++ option_to_list latest)
 Scans-open limit s bytes lines latest none scans =
-    subst (Scans limit s bytes) (sym (append-nil lines) ∙ ap (λ l. lines ++ option_to_list l) (sym none)) scans
+    subst (Scans limit s bytes)
+    (sym (append-nil lines) ∙ ap (λ l. lines ++ option_to_list l) (sym none)) scans
 
 -- the line feed of a piece, after the bytes before it
-feed-next : (bytes piece : List ℕ) (at : ℕ) → at < length piece → get_or piece at 0 ≡ 10 → (bytes ++ take at piece) ++ 10 ∷ [] ≡ bytes ++ take (at + 1) piece
+feed-next : (bytes piece : List ℕ) (at : ℕ) → at < length piece → get_or piece at 0 ≡ 10
+    → (bytes ++ take at piece) ++ 10 ∷ [] ≡ bytes ++ take (at + 1) piece
 feed-next bytes piece at within feed =
-    ap (λ b. (bytes ++ take at piece) ++ b ∷ []) (sym feed) ∙ append_assoc bytes (take at piece) (get_or piece at 0 ∷ []) ∙ ap (λ l. bytes ++ l) (sym (take_more piece at 0 within))
+    ap (λ b. (bytes ++ take at piece) ++ b ∷ []) (sym feed)
+    ∙ append_assoc bytes (take at piece) (get_or piece at 0 ∷ [])
+    ∙ ap (λ l. bytes ++ l) (sym (take_more piece at 0 within))
 
-pub Scans-ended : (limit : ℕ) (s : Scanning) (bytes piece : List ℕ) (at : ℕ) (lines : List Line) → at < length piece → get_or piece at 0 ≡ 10
-    → Scans limit s ((bytes ++ take at piece) ++ 10 ∷ []) lines → Scans limit s (bytes ++ take (at + 1) piece) lines
-Scans-ended limit s bytes piece at lines within feed scans = subst (λ l. Scans limit s l lines) (feed-next bytes piece at within feed) scans
+pub Scans-ended : (limit : ℕ) (s : Scanning) (bytes piece : List ℕ) (at : ℕ) (lines : List Line)
+    → at < length piece → get_or piece at 0 ≡ 10
+    → Scans limit s ((bytes ++ take at piece) ++ 10 ∷ []) lines
+    → Scans limit s (bytes ++ take (at + 1) piece) lines
+Scans-ended limit s bytes piece at lines within feed scans =
+    subst (λ l. Scans limit s l lines) (feed-next bytes piece at within feed) scans
 
 -- a scanner that stops in the front of a piece stops in the piece
-StopsIn-more : (limit : ℕ) (t : Scanning) (bytes front rest : List ℕ) (lines : List Line) (why : LineFault) → StopsIn limit t bytes front lines why
+StopsIn-more : (limit : ℕ) (t : Scanning) (bytes front rest : List ℕ) (lines : List Line)
+    (why : LineFault) → StopsIn limit t bytes front lines why
     → StopsIn limit t bytes (front ++ rest) lines why
 StopsIn-more limit t bytes front rest lines why h =
-    let takes : take h.count front ≡ take h.count (front ++ rest) = sym (take-append-le h.count front rest (omega (arith, h.within))) in
+    let takes : take h.count front ≡ take h.count (front ++ rest) =
+    sym (take-append-le h.count front rest (omega (arith, h.within))) in
     record {
       count = h.count;
       within = omega (arith, h.within, length-append front rest);
       scans = subst (λ l. Scans limit t (bytes ++ l) lines) takes h.scans;
-      cause = λ more. subst (λ (l : List ℕ). IsCause limit (length (bytes ++ l)) lines t.part (drop h.count (front ++ rest) ++ more) why) takes
+      cause = λ more. subst (λ (l : List ℕ). IsCause limit (length (bytes ++ l)) lines t.part
+          (drop h.count (front ++ rest) ++ more) why) takes
           (subst (λ l. IsCause limit (length (bytes ++ take h.count front)) lines t.part l why)
-          (sym (append_assoc (drop h.count front) rest more) ∙ ap (λ l. l ++ more) (sym (drop-append-le h.count front rest (omega (arith, h.within)))))
+          (sym (append_assoc (drop h.count front) rest more)
+          ∙ ap (λ l. l ++ more) (sym
+          (drop-append-le h.count front rest (omega (arith, h.within)))))
           (h.cause (rest ++ more)));
     }
 
-pub StopsIn-piece : (limit : ℕ) (t : Scanning) (bytes piece : List ℕ) (at : ℕ) (lines : List Line) (why : LineFault)
+pub StopsIn-piece : (limit : ℕ) (t : Scanning) (bytes piece : List ℕ) (at : ℕ) (lines : List Line)
+    (why : LineFault)
     → StopsIn limit t bytes (take at piece) lines why → StopsIn limit t bytes piece lines why
 StopsIn-piece limit t bytes piece at lines why h =
-    subst (λ l. StopsIn limit t bytes l lines why) (take-append-drop at piece) (StopsIn-more limit t bytes (take at piece) (drop at piece) lines why h)
+    subst (λ l. StopsIn limit t bytes l lines why) (take-append-drop at piece)
+    (StopsIn-more limit t bytes (take at piece) (drop at piece) lines why h)
 
 -- it stops at the line feed
-pub StopsIn-feed : (limit : ℕ) (s t : Scanning) (bytes piece : List ℕ) (at : ℕ) (lines : List Line) (why : LineFault) → at < length piece → get_or piece at 0 ≡ 10
+pub StopsIn-feed : (limit : ℕ) (s t : Scanning) (bytes piece : List ℕ) (at : ℕ) (lines : List Line)
+    (why : LineFault) → at < length piece → get_or piece at 0 ≡ 10
     → t ≡ s → Scans limit s (bytes ++ take at piece) lines
-    → ((more : List ℕ) → IsCause limit (length (bytes ++ take at piece)) lines s.part (10 ∷ more) why) → StopsIn limit t bytes piece lines why
+    → ((more : List ℕ) → IsCause limit (length (bytes ++ take at piece)) lines s.part (10 ∷ more)
+    why) → StopsIn limit t bytes piece lines why
 StopsIn-feed limit s t bytes piece at lines why within feed same scans cause = record {
   count = at;
   within = within;
   scans = subst (λ u. Scans limit u (bytes ++ take at piece) lines) (sym same) scans;
-  cause = λ more. subst (λ (u : Scanning). IsCause limit (length (bytes ++ take at piece)) lines u.part (drop at piece ++ more) why) (sym same)
+  cause = λ more. subst (λ (u : Scanning). IsCause limit (length (bytes ++ take at piece)) lines
+      u.part (drop at piece ++ more) why) (sym same)
       (subst (λ l. IsCause limit (length (bytes ++ take at piece)) lines s.part (l ++ more) why)
-      (ap (λ b. b ∷ drop (at + 1) piece) (sym feed) ∙ sym (drop_more piece at 0 within)) (cause (drop (at + 1) piece ++ more)));
+      (ap (λ b. b ∷ drop (at + 1) piece) (sym feed) ∙ sym (drop_more piece at 0 within))
+      (cause (drop (at + 1) piece ++ more)));
 }

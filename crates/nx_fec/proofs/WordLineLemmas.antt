@@ -17,10 +17,12 @@ use Rattle.nx_fec.specs.Runs.{IsShown}
 use Rattle.nx_fec.proofs.AlignedLemmas.{length-words_of}
 
 -- the name of the word of a signal
-pub name-signal : (signal : Signal) (word : ℕ) → number_of_signal signal ≡ word → word_name word ≡ (get_or table (place signal) (row 0x00 [] [])).letter
+pub name-signal : (signal : Signal) (word : ℕ) → number_of_signal signal ≡ word
+    → word_name word ≡ (get_or table (place signal) (row 0x00 [] [])).letter
 unfolding word_name
 name-signal signal word h =
-    let at : place_of word ≡ Some (place signal) = ap place_of (sym h) ∙ place_of-words (place signal) (place-lt signal) in
+    let at : place_of word ≡ Some (place signal) =
+    ap place_of (sym h) ∙ place_of-words (place signal) (place-lt signal) in
     ap (λ o. option_map_or (λ at. (get_or table at (row 0x00 [] [])).letter) o (codes "wrong")) at
 
 weights : (at : ℕ) → at < 35 → eqb (weight (get_or words at 0)) 4 ≡ true
@@ -31,21 +33,27 @@ nowhere : (word : ℕ) (o : Option ℕ) → place_of word ≡ o → (weight word
 nowhere word None e h = refl
 nowhere word (Some at) e h =
     let p = place_of-Some word at e in
-    absurd (h (subst (λ w. weight w ≡ 4) p.1 (eqb-true (weight (get_or words at 0)) 4 (weights at p.0))))
+    absurd (h (subst (λ w. weight w ≡ 4) p.1
+    (eqb-true (weight (get_or words at 0)) 4 (weights at p.0))))
 
 -- and that of another word
 pub name-wrong : (word : ℕ) → (weight word ≡ 4 → ⊥) → word_name word ≡ codes "wrong"
 unfolding word_name
 name-wrong word h =
-    ap (λ o. option_map_or (λ at. (get_or table at (row 0x00 [] [])).letter) o (codes "wrong")) (nowhere word (place_of word) refl h)
+    ap (λ o. option_map_or (λ at. (get_or table at (row 0x00 [] [])).letter) o (codes "wrong"))
+    (nowhere word (place_of word) refl h)
 
 -- a line, piece by piece
-pub word_line-parts : (t0 t1 t2 t3 t4 t5 t6 t7 t8 slot role digits name : List ℕ) → t1 ≡ t0 ++ slot → t2 ≡ t1 ++ 32 ∷ [] → t3 ≡ t2 ++ role → t4 ≡ t3 ++ 32 ∷ []
-    → t5 ≡ t4 ++ digits → t6 ≡ t5 ++ 32 ∷ [] → t7 ≡ t6 ++ name → t8 ≡ t7 ++ 10 ∷ [] → t8 ≡ t0 ++ (slot ++ 32 ∷ role ++ 32 ∷ digits ++ 32 ∷ name ++ 10 ∷ [])
-word_line-parts t0 t1 t2 t3 t4 t5 t6 t7 t8 slot role digits name i1 i2 i3 i4 i5 i6 i7 i8 = rw (i8, i7, i6, i5, i4, i3, i2, i1) (simp append_assoc refl)
+pub word_line-parts : (t0 t1 t2 t3 t4 t5 t6 t7 t8 slot role digits name : List ℕ) → t1 ≡ t0 ++ slot
+    → t2 ≡ t1 ++ 32 ∷ [] → t3 ≡ t2 ++ role → t4 ≡ t3 ++ 32 ∷ []
+    → t5 ≡ t4 ++ digits → t6 ≡ t5 ++ 32 ∷ [] → t7 ≡ t6 ++ name → t8 ≡ t7 ++ 10 ∷ []
+    → t8 ≡ t0 ++ (slot ++ 32 ∷ role ++ 32 ∷ digits ++ 32 ∷ name ++ 10 ∷ [])
+word_line-parts t0 t1 t2 t3 t4 t5 t6 t7 t8 slot role digits name i1 i2 i3 i4 i5 i6 i7 i8 =
+    rw (i8, i7, i6, i5, i4, i3, i2, i1) (simp append_assoc refl)
 
 -- one line more
-pub first_word_lines-more : (words : List ℕ) (count word : ℕ) → word ≡ get_or words count 0 → first_word_lines words count ++ word_line count word ≡ first_word_lines words (count + 1)
+pub first_word_lines-more : (words : List ℕ) (count word : ℕ) → word ≡ get_or words count 0
+    → first_word_lines words count ++ word_line count word ≡ first_word_lines words (count + 1)
 unfolding first_word_lines
 first_word_lines-more words count word is =
     let line = λ (p : ℕ × ℕ). word_line p.0 p.1 in
@@ -53,10 +61,13 @@ first_word_lines-more words count word is =
     ap (λ w. flat_map line first ++ word_line count w) is
     ∙ sym (ap (λ l. flat_map line first ++ l) (append-nil (word_line count (get_or words count 0))))
     ∙ sym (flat_map-append line first ((count, get_or words count 0) ∷ []))
-    ∙ sym (ap (flat_map line) (map-range_with_len_more (λ slot. (slot, get_or words slot 0)) 0 count count (omega arith)))
+    ∙ sym (ap (flat_map line)
+    (map-range_with_len_more (λ slot. (slot, get_or words slot 0)) 0 count count (omega arith)))
 
 -- the lines of the words of a file of elements
-pub IsShown-of : (limit : ℕ) (bytes : List ℕ) (bits given : List Bool) (lines text : List ℕ) (count : ℕ) → given ≡ bits → length given % 7 ≡ 0 → lines ≡ word_lines (words_of given) → text ≡ lines
+pub IsShown-of : (limit : ℕ) (bytes : List ℕ) (bits given : List Bool) (lines text : List ℕ)
+    (count : ℕ) → given ≡ bits → length given % 7 ≡ 0 → lines ≡ word_lines (words_of given)
+    → text ≡ lines
     → count ≡ length bits / 7 → IsBitFile limit bytes bits → IsShown limit bytes text count
 IsShown-of limit bytes bits given lines text count same whole shown is counted file = record {
   bits = bits;

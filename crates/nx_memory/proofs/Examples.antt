@@ -53,11 +53,14 @@ newest_is_last = refl
 pub newest_of_none : newest_of [] ≡ None
 newest_of_none = refl
 
--- EA01 has the place 4 stations and its own number behind AA00, and the last moment of an identity is that of its last entry
+-- EA01 has the place 4 stations and its own number behind AA00, and the last moment of an identity
+-- is that of its last entry
 pub place_of_ea01 : index_of ea01 ≡ 10401
 place_of_ea01 = refl
 
-pub last_of_two : moment_of_last ea01 (entry_at ea01 0 ∷ entry_at ea02 5 ∷ entry_at ea01 237600 ∷ entry_at ea02 237700 ∷ []) ≡ Some 237600
+pub last_of_two : moment_of_last ea01
+    (entry_at ea01 0 ∷ entry_at ea02 5 ∷ entry_at ea01 237600 ∷ entry_at ea02 237700 ∷ [])
+    ≡ Some 237600
 last_of_two = refl
 
 pub last_of_none : moment_of_last ea01 (entry_at ea02 5 ∷ []) ≡ None
@@ -80,14 +83,22 @@ one_entry moment = record {
   entries = entry_at ea01 moment ∷ [];
 }
 
-pub text_of_one : text_1 (one_entry 1735692000) ≡ codes "STATE 1" ∷ codes "EA01 1735692000" ∷ codes "END" ∷ []
+pub text_of_one : text_1 (one_entry 1735692000)
+    ≡ codes "STATE 1" ∷ codes "EA01 1735692000" ∷ codes "END" ∷ []
 unfolding one_entry digits
-text_of_one = ap (λ (l : List ℕ). codes "STATE 1" ∷ (map spelling (map Station l ++ (map Subject l ++ Entry (entry_at ea01 1735692000) ∷ [])) ++ last_line)) rising-empty
+text_of_one = ap (λ (l : List ℕ). codes "STATE 1"
+    ∷ (map spelling (map Station l ++ (map Subject l ++ Entry (entry_at ea01 1735692000) ∷ []))
+    ++ last_line)) rising-empty
 
-pub text_of_two : text_2 (record { on_0 = one_entry 1735692000; on_1 = one_entry 1735706400; on_2 = nothing_saved })
-    ≡ codes "STATE 2" ∷ codes "C0" ∷ codes "EA01 1735692000" ∷ codes "C1" ∷ codes "EA01 1735706400" ∷ codes "C2" ∷ codes "END" ∷ []
+pub text_of_two : text_2 (record
+    { on_0 = one_entry 1735692000; on_1 = one_entry 1735706400; on_2 = nothing_saved })
+    ≡ codes "STATE 2" ∷ codes "C0" ∷ codes "EA01 1735692000" ∷ codes "C1" ∷ codes "EA01 1735706400"
+    ∷ codes "C2" ∷ codes "END" ∷ []
 unfolding one_entry digits
 text_of_two = ap (λ (l : List ℕ).
-    codes "STATE 2" ∷ codes "C0" ∷ (map spelling (map Station l ++ (map Subject l ++ Entry (entry_at ea01 1735692000) ∷ []))
-    ++ codes "C1" ∷ (map spelling (map Station l ++ (map Subject l ++ Entry (entry_at ea01 1735706400) ∷ []))
-    ++ codes "C2" ∷ (map spelling (map Station l ++ (map Subject l ++ [])) ++ last_line)))) rising-empty
+    codes "STATE 2" ∷ codes "C0"
+    ∷ (map spelling (map Station l ++ (map Subject l ++ Entry (entry_at ea01 1735692000) ∷ []))
+    ++ codes "C1" ∷ (map spelling
+    (map Station l ++ (map Subject l ++ Entry (entry_at ea01 1735706400) ∷ []))
+    ++ codes "C2" ∷ (map spelling (map Station l ++ (map Subject l ++ [])) ++ last_line))))
+    rising-empty

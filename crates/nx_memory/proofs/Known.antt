@@ -25,19 +25,32 @@ found p (x ∷ xs) e =
     elim (p x) as (λ b. p x ≡ b → (b || list_any p xs) ≡ true → Found p (x ∷ xs)) [
       | true ↦ λ passes _. record { before = []; it = x; after = xs; whole = refl; passes = passes }
       | false ↦ λ _ others. let rest = found p xs others in
-          record { before = x ∷ rest.before; it = rest.it; after = rest.after; whole = ap (λ ys. x ∷ ys) rest.whole; passes = rest.passes }
+          record {
+            before = x ∷ rest.before;
+            it = rest.it;
+            after = rest.after;
+            whole =
+                ap (λ ys. x ∷ ys) rest.whole;
+            passes = rest.passes;
+          }
     ] refl e
 
-any_from : {A : Type 0} (p : A → Bool) (before after : List A) (x : A) → p x ≡ true → list_any p (before ++ x ∷ after) ≡ true
+any_from : {A : Type 0} (p : A → Bool) (before after : List A) (x : A) → p x ≡ true
+    → list_any p (before ++ x ∷ after) ≡ true
 any_from p before after x passes =
-    list_any-append p before (x ∷ after) ∙ or_right (list_any p before) (p x || list_any p after) (or_left (p x) (list_any p after) passes)
+    list_any-append p before (x ∷ after)
+    ∙ or_right (list_any p before) (p x || list_any p after)
+    (or_left (p x) (list_any p after) passes)
 
 -- of all the entries made so far, one among the last 200 that makes the identity known is live
-pub live_from_known : (identity : Identity) (moment : ℕ) (entries : List MemoryEntry) → is_known identity moment (last_of most_entries entries) ≡ true → IsLive identity moment entries
+pub live_from_known : (identity : Identity) (moment : ℕ) (entries : List MemoryEntry)
+    → is_known identity moment (last_of most_entries entries) ≡ true
+    → IsLive identity moment entries
 live_from_known identity moment entries known =
     let it = found (is_recent identity moment) (last_of most_entries entries) known in
     let n : ℕ = length entries - most_entries in
-    let lengths : length (drop n entries) ≡ length it.before + (1 + length it.after) = ap length it.whole ∙ length-append it.before (it.it ∷ it.after) ∙ omega arith in
+    let lengths : length (drop n entries) ≡ length it.before + (1 + length it.after) =
+    ap length it.whole ∙ length-append it.before (it.it ∷ it.after) ∙ omega arith in
     let parts = and_parts _ _ it.passes in
     let age : moment - it.it.moment < seconds_known = ltb-true _ _ parts.1 in
     record {
@@ -54,12 +67,21 @@ live_from_known identity moment entries known =
     }
 
 -- a live entry is among the last 200, and makes the identity known
-pub known_from_live : (identity : Identity) (moment : ℕ) (entries : List MemoryEntry) → IsLive identity moment entries → is_known identity moment (last_of most_entries entries) ≡ true
+pub known_from_live : (identity : Identity) (moment : ℕ) (entries : List MemoryEntry)
+    → IsLive identity moment entries
+    → is_known identity moment (last_of most_entries entries) ≡ true
 known_from_live identity moment entries live =
     let n : ℕ = length entries - most_entries in
-    let lengths : length entries ≡ length live.before + (1 + length live.after) = ap length live.made ∙ length-append live.before (live.entry ∷ live.after) ∙ omega arith in
-    let kept : drop n entries ≡ drop n live.before ++ live.entry ∷ live.after = ap (drop n) live.made ∙ drop-append-le n live.before (live.entry ∷ live.after) (omega arith) in
-    let same : same_identity live.entry.identity identity ≡ true = subst (λ (it : Identity). same_identity it identity ≡ true) (sym live.same) (same_itself identity) in
-    let recent : ltb (moment - live.entry.moment) seconds_known ≡ true = lt-ltb (moment - live.entry.moment) seconds_known (omega arith) in
+    let lengths : length entries ≡ length live.before + (1 + length live.after) =
+    ap length live.made ∙ length-append live.before (live.entry ∷ live.after) ∙ omega arith in
+    let kept : drop n entries ≡ drop n live.before ++ live.entry ∷ live.after =
+    ap (drop n) live.made ∙ drop-append-le n live.before (live.entry ∷ live.after)
+    (omega arith) in
+    let same : same_identity live.entry.identity identity ≡ true =
+    subst (λ (it : Identity). same_identity it identity ≡ true) (sym live.same)
+    (same_itself identity) in
+    let recent : ltb (moment - live.entry.moment) seconds_known ≡ true =
+    lt-ltb (moment - live.entry.moment) seconds_known (omega arith) in
     ap (list_any (is_recent identity moment)) kept
-    ∙ any_from (is_recent identity moment) (drop n live.before) live.after live.entry (and_from _ _ same recent)
+    ∙ any_from (is_recent identity moment) (drop n live.before) live.after live.entry
+    (and_from _ _ same recent)

@@ -20,13 +20,16 @@ pub one_if_wrong-le : (word : ℕ) → one_if_wrong word ≤ 1
 one_if_wrong-le word = bit-le (weight word == 4)
 
 -- a run of words in two parts
-pub wrong_in-add : (words : ℕ → ℕ) (i a b : ℕ) → wrong_in words i (a + b) ≡ wrong_in words i a + wrong_in words (i + a) b
+pub wrong_in-add : (words : ℕ → ℕ) (i a b : ℕ)
+    → wrong_in words i (a + b) ≡ wrong_in words i a + wrong_in words (i + a) b
 unfolding wrong_in
-wrong_in-add words i a zero = let e : a + 0 ≡ a = omega arith in ap (wrong_in words i) e ∙ omega arith
+wrong_in-add words i a zero = let e : a + 0 ≡ a = omega arith in
+    ap (wrong_in words i) e ∙ omega arith
 wrong_in-add words i a (suc b) =
     let e : a + suc b ≡ suc (a + b) = omega arith in
     let g : i + (a + b) ≡ i + a + b = omega arith in
-    let w : one_if_wrong (words (i + (a + b))) ≡ one_if_wrong (words (i + a + b)) = ap (λ j. one_if_wrong (words j)) g in
+    let w : one_if_wrong (words (i + (a + b))) ≡ one_if_wrong (words (i + a + b)) =
+    ap (λ j. one_if_wrong (words j)) g in
     ap (wrong_in words i) e ∙ omega (arith, wrong_in-add words i a b, w)
 
 -- no more than there are
@@ -35,23 +38,36 @@ unfolding wrong_in
 wrong_in-le words i zero = omega arith
 wrong_in-le words i (suc n) = omega (arith, wrong_in-le words i n, one_if_wrong-le (words (i + n)))
 
-pub wrong_in-none : (words : ℕ → ℕ) (i n : ℕ) → ((j : ℕ) → j < n → weight (words (i + j)) ≡ 4) → wrong_in words i n ≡ 0
+pub wrong_in-none : (words : ℕ → ℕ) (i n : ℕ) → ((j : ℕ) → j < n → weight (words (i + j)) ≡ 4)
+    → wrong_in words i n ≡ 0
 unfolding wrong_in
 wrong_in-none words i zero h = refl
 wrong_in-none words i (suc n) h =
-    omega (arith, wrong_in-none words i n (λ j lt. h j (omega arith)), right-counts_none (words (i + n)) (h n (omega arith)))
+    omega (
+      arith,
+      wrong_in-none words i n (λ j lt. h j (omega arith)),
+      right-counts_none
+          (words (i + n)) (h n (omega arith)),
+    )
 
 -- one word, and two more words
-pub wrong_in-one : (words : ℕ → ℕ) (i n : ℕ) → wrong_in words i (n + 1) ≡ wrong_in words i n + one_if_wrong (words (i + n))
+pub wrong_in-one : (words : ℕ → ℕ) (i n : ℕ)
+    → wrong_in words i (n + 1) ≡ wrong_in words i n + one_if_wrong (words (i + n))
 unfolding wrong_in
 wrong_in-one words i n = let e : n + 1 ≡ suc n = omega arith in ap (wrong_in words i) e
 
 -- words that are the same count the same
-pub wrong_in-same : (words others : ℕ → ℕ) (i k n : ℕ) → ((j : ℕ) → j < n → words (i + j) ≡ others (k + j)) → wrong_in words i n ≡ wrong_in others k n
+pub wrong_in-same : (words others : ℕ → ℕ) (i k n : ℕ)
+    → ((j : ℕ) → j < n → words (i + j) ≡ others (k + j)) → wrong_in words i n ≡ wrong_in others k n
 unfolding wrong_in
 wrong_in-same words others i k zero h = refl
 wrong_in-same words others i k (suc n) h =
-    omega (arith, wrong_in-same words others i k n (λ j lt. h j (omega arith)), ap one_if_wrong (h n (omega arith)))
+    omega (
+      arith,
+      wrong_in-same words others i k n (λ j lt. h j (omega arith)),
+      ap one_if_wrong
+          (h n (omega arith)),
+    )
 
 -- the count of a part of a list
 count-step : (xs : List ℕ) (n : ℕ) → n < length xs → (b : Bool) → (weight (get_or xs n 0) == 4) ≡ b
@@ -59,13 +75,17 @@ count-step : (xs : List ℕ) (n : ℕ) → n < length xs → (b : Bool) → (wei
 count-step xs n lt true h = count_by_more_no is_wrong xs n 0 lt (ap not h) ∙ omega arith
 count-step xs n lt false h = count_by_more_yes is_wrong xs n 0 lt (ap not h)
 
-pub wrong_in-count : (heard : List ℕ) (words : ℕ → ℕ) (i first n : ℕ) → first + n ≤ length heard → ((j : ℕ) → words (i + j) ≡ get_or heard (first + j) 0)
+pub wrong_in-count : (heard : List ℕ) (words : ℕ → ℕ) (i first n : ℕ) → first + n ≤ length heard
+    → ((j : ℕ) → words (i + j) ≡ get_or heard (first + j) 0)
     → wrong_in words i n ≡ count_by is_wrong (take n (drop first heard))
 unfolding wrong_in
 wrong_in-count heard words i first zero h same = refl
 wrong_in-count heard words i first (suc n) h same =
     let e : suc n ≡ n + 1 = omega arith in
-    let here : words (i + n) ≡ get_or (drop first heard) n 0 = same n ∙ sym (get_or-drop first heard n 0) in
+    let here : words (i + n) ≡ get_or (drop first heard) n 0 =
+    same n ∙ sym (get_or-drop first heard n 0) in
     let one = ap one_if_wrong here in
-    let step = count-step (drop first heard) n (omega (arith, length-drop first heard)) (weight (get_or (drop first heard) n 0) == 4) refl in
-    omega (arith, wrong_in-count heard words i first n (omega arith) same, one, step) ∙ ap (λ k. count_by is_wrong (take k (drop first heard))) (sym e)
+    let step = count-step (drop first heard) n (omega (arith, length-drop first heard))
+    (weight (get_or (drop first heard) n 0) == 4) refl in
+    omega (arith, wrong_in-count heard words i first n (omega arith) same, one, step)
+    ∙ ap (λ k. count_by is_wrong (take k (drop first heard))) (sym e)

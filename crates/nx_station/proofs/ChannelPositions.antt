@@ -1,4 +1,5 @@
--- The positions of a broadcast: those of the end, and before them only phasing and combinations that are in the code.
+-- The positions of a broadcast: those of the end, and before them only phasing and combinations
+-- that are in the code.
 use Rattle.std.proofs.Common.{◌≡◌, ◌≢◌, ℕ, zero, suc, ◌+◌, ◌-◌, ◌/◌, ◌%◌, ◌<◌, ◌≤◌, List, [], ◌∷◌, ◌++◌, length, map, replicate, get_or, refl, sym, ap, ◌∙◌, subst, arith, append_assoc, lit≤}
 use Rattle.std.specs.List.{flat_map, AllByRecursion}
 use Rattle.std.proofs.lemmas.List.{length-append, get_or_append_left, get_or-append_right}
@@ -22,16 +23,21 @@ IsInner phasing_position = Unit {0}
 IsInner (traffic_position number) = IsCombination number
 IsInner end_position = ⊥
 
-each-append : {A : Type 0} (P : A → Type 0) (xs ys : List A) → AllByRecursion P xs → AllByRecursion P ys → AllByRecursion P (xs ++ ys)
+each-append : {A : Type 0} (P : A → Type 0) (xs ys : List A) → AllByRecursion P xs
+    → AllByRecursion P ys → AllByRecursion P (xs ++ ys)
 each-append P [] ys h k = k
 each-append P (x ∷ xs) ys h k = (h.0, each-append P xs ys h.1 k)
 
 -- ---- the combinations of a message
 
-fits-combinations : (shift : Shift) (numbers : List ℕ) → EachFits shift numbers → AllByRecursion IsCombination numbers
+fits-combinations : (shift : Shift) (numbers : List ℕ) → EachFits shift numbers
+    → AllByRecursion IsCombination numbers
 fits-combinations shift [] h = tt
-fits-combinations shift (n ∷ numbers) h =
-    ((h.0.from_one, h.0.to_thirty_two), fits-combinations (shift_after (combination n) shift) numbers h.1)
+fits-combinations shift (n ∷ numbers) h = (
+  (h.0.from_one, h.0.to_thirty_two),
+  fits-combinations (shift_after (combination n) shift)
+      numbers h.1,
+)
 
 digit-combination : (digit : ℕ) → digit < 10 → IsCombination (digit_combination digit)
 digit-combination digit h = let r = digit_combination-range digit h in (r.0, omega (arith, r.1))
@@ -44,27 +50,69 @@ head-combinations identity =
     let digits = identity.two_digits in
     let tens = digit-combination (identity.number / 10) (omega arith) in
     let ones = digit-combination (identity.number % 10) (omega arith) in
-    let letters : IsCombination (letter_combination identity.b1.byte) × IsCombination (letter_combination identity.b2.byte) =
+    let letters : IsCombination (letter_combination identity.b1.byte)
+    × IsCombination (letter_combination identity.b2.byte) =
     ((omega arith, omega arith), (omega arith, omega arith)) in
-    let number : AllByRecursion IsCombination (digit_combination (identity.number / 10) ∷ digit_combination (identity.number % 10) ∷ 27 ∷ 28 ∷ []) =
+    let number : AllByRecursion IsCombination
+    (digit_combination (identity.number / 10) ∷ digit_combination (identity.number % 10) ∷ 27
+    ∷ 28 ∷ []) =
     (tens, (ones, ((lit≤ tt, lit≤ tt), ((lit≤ tt, lit≤ tt), tt)))) in
-    each-append IsCombination (29 ∷ 26 ∷ 3 ∷ 26 ∷ 3 ∷ 31 ∷ []) (letter_combination identity.b1.byte ∷ letter_combination identity.b2.byte ∷ 30 ∷ digit_combination (identity.number / 10) ∷ digit_combination (identity.number % 10) ∷ 27 ∷ 28 ∷ [])
-    ((lit≤ tt, lit≤ tt), ((lit≤ tt, lit≤ tt), ((lit≤ tt, lit≤ tt), ((lit≤ tt, lit≤ tt), ((lit≤ tt, lit≤ tt), ((lit≤ tt, lit≤ tt), tt))))))
+    each-append IsCombination (29 ∷ 26 ∷ 3 ∷ 26 ∷ 3 ∷ 31 ∷ [])
+    (letter_combination identity.b1.byte ∷ letter_combination identity.b2.byte ∷ 30
+    ∷ digit_combination (identity.number / 10) ∷ digit_combination (identity.number % 10) ∷ 27
+    ∷ 28 ∷ []) (
+      (lit≤ tt, lit≤ tt),
+      (
+        (lit≤ tt, lit≤ tt),
+        ((lit≤ tt, lit≤ tt), ((lit≤ tt, lit≤ tt), ((lit≤ tt, lit≤ tt), ((lit≤ tt, lit≤ tt), tt)))),
+      ),
+    )
     (letters.0, (letters.1, ((lit≤ tt, lit≤ tt), number)))
 
 ending-combinations : (shift : Shift) → AllByRecursion IsCombination (ending shift)
 unfolding ending
-ending-combinations Letters =
-    ((lit≤ tt, lit≤ tt), ((lit≤ tt, lit≤ tt), ((lit≤ tt, lit≤ tt), ((lit≤ tt, lit≤ tt), ((lit≤ tt, lit≤ tt), ((lit≤ tt, lit≤ tt), ((lit≤ tt, lit≤ tt), tt)))))))
-ending-combinations Figures =
-    ((lit≤ tt, lit≤ tt), ((lit≤ tt, lit≤ tt), ((lit≤ tt, lit≤ tt), ((lit≤ tt, lit≤ tt), ((lit≤ tt, lit≤ tt), ((lit≤ tt, lit≤ tt), ((lit≤ tt, lit≤ tt), ((lit≤ tt, lit≤ tt), tt))))))))
+ending-combinations Letters = (
+  (lit≤ tt, lit≤ tt),
+  (
+    (lit≤ tt, lit≤ tt),
+    (
+      (lit≤ tt, lit≤ tt),
+      (
+        (lit≤ tt, lit≤ tt),
+        ((lit≤ tt, lit≤ tt), ((lit≤ tt, lit≤ tt), ((lit≤ tt, lit≤ tt), tt))),
+      ),
+    ),
+  ),
+)
+ending-combinations Figures = (
+  (lit≤ tt, lit≤ tt),
+  (
+    (lit≤ tt, lit≤ tt),
+    (
+      (lit≤ tt, lit≤ tt),
+      (
+        (lit≤ tt, lit≤ tt),
+        (
+          (lit≤ tt, lit≤ tt),
+          (
+            (lit≤ tt, lit≤ tt),
+            ((lit≤ tt, lit≤ tt), ((lit≤ tt, lit≤ tt), tt)),
+          ),
+        ),
+      ),
+    ),
+  ),
+)
 
-pub spelled-combinations : (message : MessageView) (numbers : List ℕ) → IsSpelled message numbers → AllByRecursion IsCombination numbers
+pub spelled-combinations : (message : MessageView) (numbers : List ℕ) → IsSpelled message numbers
+    → AllByRecursion IsCombination numbers
 spelled-combinations message numbers h =
     let last = ending (shift_after_all (map combination h.text) Figures) in
     subst (AllByRecursion IsCombination) (sym h.whole)
-    (each-append IsCombination (head message.identity) (h.text ++ last) (head-combinations message.identity)
-    (each-append IsCombination h.text last (fits-combinations Figures h.text h.spells.fits) (ending-combinations (shift_after_all (map combination h.text) Figures))))
+    (each-append IsCombination (head message.identity) (h.text ++ last)
+    (head-combinations message.identity)
+    (each-append IsCombination h.text last (fits-combinations Figures h.text h.spells.fits)
+    (ending-combinations (shift_after_all (map combination h.text) Figures))))
 
 -- ---- the positions
 
@@ -72,20 +120,27 @@ phasing-inner : (count : ℕ) → AllByRecursion IsInner (replicate count phasin
 phasing-inner zero = tt
 phasing-inner (suc count) = (tt, phasing-inner count)
 
-traffic-inner : (numbers : List ℕ) → AllByRecursion IsCombination numbers → AllByRecursion IsInner (map traffic_position numbers)
+traffic-inner : (numbers : List ℕ) → AllByRecursion IsCombination numbers
+    → AllByRecursion IsInner (map traffic_position numbers)
 traffic-inner [] h = tt
 traffic-inner (n ∷ numbers) h = (h.0, traffic-inner numbers h.1)
 
-message-inner : (count : ℕ) (message : MessageView) (numbers : List ℕ) → IsSpelled message numbers → AllByRecursion IsInner (phasing_and_message count numbers)
+message-inner : (count : ℕ) (message : MessageView) (numbers : List ℕ) → IsSpelled message numbers
+    → AllByRecursion IsInner (phasing_and_message count numbers)
 message-inner count message numbers h =
-    each-append IsInner (replicate count phasing_position) (map traffic_position numbers) (phasing-inner count) (traffic-inner numbers (spelled-combinations message numbers h))
+    each-append IsInner (replicate count phasing_position) (map traffic_position numbers)
+    (phasing-inner count) (traffic-inner numbers (spelled-combinations message numbers h))
 
-others-inner : (messages : List MessageView) (spellings : List (List ℕ)) → AreSpelled messages spellings → AllByRecursion IsInner (flat_map (phasing_and_message further_phasing) spellings)
+others-inner : (messages : List MessageView) (spellings : List (List ℕ))
+    → AreSpelled messages spellings
+    → AllByRecursion IsInner (flat_map (phasing_and_message further_phasing) spellings)
 others-inner [] [] h = tt
 others-inner [] (s ∷ ss) h = absurd h
 others-inner (m ∷ ms) [] h = absurd h
 others-inner (m ∷ ms) (s ∷ ss) h =
-    each-append IsInner (phasing_and_message further_phasing s) (flat_map (phasing_and_message further_phasing) ss) (message-inner further_phasing m s h.0) (others-inner ms ss h.1)
+    each-append IsInner (phasing_and_message further_phasing s)
+    (flat_map (phasing_and_message further_phasing) ss) (message-inner further_phasing m s h.0)
+    (others-inner ms ss h.1)
 
 -- positions that end with those of the end, and have none before
 pub record HasInner (positions : List SentPosition) : Type 0 where
@@ -93,42 +148,56 @@ pub record HasInner (positions : List SentPosition) : Type 0 where
   pub each : AllByRecursion IsInner inner
   pub whole : positions ≡ inner ++ replicate end_positions end_position
 
-pub layout-inner : (messages : List MessageView) (spellings : List (List ℕ)) → spellings ≢ [] → AreSpelled messages spellings → HasInner (layout spellings)
+pub layout-inner : (messages : List MessageView) (spellings : List (List ℕ)) → spellings ≢ []
+    → AreSpelled messages spellings → HasInner (layout spellings)
 unfolding layout
 layout-inner messages [] some h = absurd (some refl)
 layout-inner [] (s ∷ ss) some h = absurd h
 layout-inner (m ∷ ms) (s ∷ ss) some h = record {
   inner = phasing_and_message first_phasing s ++ flat_map (phasing_and_message further_phasing) ss;
-  each = each-append IsInner (phasing_and_message first_phasing s) (flat_map (phasing_and_message further_phasing) ss) (message-inner first_phasing m s h.0) (others-inner ms ss h.1);
-  whole = sym (append_assoc (phasing_and_message first_phasing s) (flat_map (phasing_and_message further_phasing) ss) (replicate end_positions end_position));
+  each = each-append IsInner (phasing_and_message first_phasing s)
+      (flat_map (phasing_and_message further_phasing) ss) (message-inner first_phasing m s h.0)
+      (others-inner ms ss h.1);
+  whole = sym (append_assoc (phasing_and_message first_phasing s)
+      (flat_map (phasing_and_message further_phasing) ss) (replicate end_positions end_position));
 }
 
-inner-at : (inner : List SentPosition) (i : ℕ) → AllByRecursion IsInner inner → i < length inner → IsInner (get_or inner i end_position)
+inner-at : (inner : List SentPosition) (i : ℕ) → AllByRecursion IsInner inner → i < length inner
+    → IsInner (get_or inner i end_position)
 inner-at [] i h lt = absurd (omega (arith, lt))
 inner-at (x ∷ xs) zero h lt = h.0
 inner-at (x ∷ xs) (suc i) h lt = inner-at xs i h.1 (omega (arith, lt))
 
-get_or-replicate : (count i : ℕ) → get_or (replicate count end_position) i end_position ≡ end_position
+get_or-replicate : (count i : ℕ)
+    → get_or (replicate count end_position) i end_position ≡ end_position
 get_or-replicate zero i = refl
 get_or-replicate (suc count) zero = refl
 get_or-replicate (suc count) (suc i) = get_or-replicate count i
 
-pub length-inner : (positions : List SentPosition) (h : HasInner positions) → length positions ≡ length h.inner + end_positions
-length-inner positions h = ap length h.whole ∙ length-append h.inner (replicate end_positions end_position)
+pub length-inner : (positions : List SentPosition) (h : HasInner positions)
+    → length positions ≡ length h.inner + end_positions
+length-inner positions h =
+    ap length h.whole ∙ length-append h.inner (replicate end_positions end_position)
 
 -- before the last positions there is none of the end
-pub position-inner : (positions : List SentPosition) → HasInner positions → (i : ℕ) → i + end_positions < length positions → IsInner (position_at positions i)
+pub position-inner : (positions : List SentPosition) → HasInner positions → (i : ℕ)
+    → i + end_positions < length positions → IsInner (position_at positions i)
 position-inner positions h i lt =
     let n = length-inner positions h in
     let here : position_at positions i ≡ get_or h.inner i end_position =
-    ap (λ l. get_or l i end_position) h.whole ∙ get_or_append_left h.inner (replicate end_positions end_position) end_position i (omega arith) in
+    ap (λ l. get_or l i end_position) h.whole
+    ∙ get_or_append_left h.inner (replicate end_positions end_position) end_position i
+    (omega arith) in
     subst IsInner (sym here) (inner-at h.inner i h.each (omega arith))
 
 -- from there on there are only those of the end
-pub position-end : (positions : List SentPosition) → HasInner positions → (i : ℕ) → length positions ≤ i + end_positions → position_at positions i ≡ end_position
+pub position-end : (positions : List SentPosition) → HasInner positions → (i : ℕ)
+    → length positions ≤ i + end_positions → position_at positions i ≡ end_position
 position-end positions h i past =
     let n = length-inner positions h in
-    ap (λ l. get_or l i end_position) h.whole ∙ get_or-append_right h.inner (replicate end_positions end_position) (length h.inner) i end_position refl (omega arith)
+    ap (λ l. get_or l i end_position) h.whole
+    ∙ get_or-append_right h.inner (replicate end_positions end_position) (length h.inner) i
+    end_position refl (omega arith)
     ∙ get_or-replicate end_positions (i - length h.inner)
 
 pub inner-no_end : (position : SentPosition) → IsInner position → position ≢ end_position

@@ -34,20 +34,36 @@ ok-read bits e = cc
 ok-err : (count : ℕ) (fault : CheckFault) → ◌≡◌ {A = Result ℕ CheckFault} (Ok count) (Err fault) → ⊥
 ok-err count fault e = cc
 
-emission-run : (fault : EmissionFault) (other : RunFault) → ◌≡◌ {A = Result ℕ CheckFault} (Err (Emission fault)) (Err (Run other)) → ⊥
+emission-run : (fault : EmissionFault) (other : RunFault)
+    → ◌≡◌ {A = Result ℕ CheckFault} (Err (Emission fault)) (Err (Run other)) → ⊥
 emission-run fault other e = cc
 
-write-read : (written : ℕ) → ◌≡◌ {A = Result ℕ CheckFault} (Err (Run (run.Write written))) (Err (Run run.Read)) → ⊥
+write-read : (written : ℕ)
+    → ◌≡◌ {A = Result ℕ CheckFault} (Err (Run (run.Write written))) (Err (Run run.Read)) → ⊥
 write-read written e = cc
 
 -- the elements have a fault
-pub unread : {R W N : Type 0} (d : Devices R W) (bits : N) (items given : List Bool) (fault : EmissionFault)
-    → Reads d.remaining d.reader d.reader_after run.Read IsOutside (as_read {N = N} (Ok bits)) (IsFaultless file_limit) (λ bytes. IsReadOut d × IsBitFile file_limit bytes items) (λ bytes. IsBitFile file_limit bytes items)
-    → d.writer_after ≡ d.writer → d.writer.failures ≡ 0 → given ≡ items → ExplainsEmission given fault → Checks d (Err (Emission fault))
+pub unread : {R W N : Type 0} (d : Devices R W) (bits : N) (items given : List Bool)
+    (fault : EmissionFault)
+    → Reads d.remaining d.reader d.reader_after run.Read IsOutside (as_read {N = N} (Ok bits))
+    (IsFaultless file_limit) (λ bytes. IsReadOut d × IsBitFile file_limit bytes items)
+    (λ bytes. IsBitFile file_limit bytes items)
+    → d.writer_after ≡ d.writer → d.writer.failures ≡ 0 → given ≡ items
+    → ExplainsEmission given fault → Checks d (Err (Emission fault))
 unread d bits items given fault reads same none is explains =
     let h = subst (λ l. ExplainsEmission l fault) is explains in record {
-      reads = Reads-on _ _ _ _ _ _ _ _ _ _ _ reads (λ bytes k. (k.0, items, k.1, h)) (λ bytes k. (tt, items, k, h)) (λ bytes k h outside. absurd outside) (λ e. absurd (emission-run fault run.Read e)) (λ e. absurd (ok-read bits e));
-      writes = record { failed = (λ w. absurd (emission-run fault (run.Write w.0) w.1), λ one. absurd (omega (arith, ap (λ x. x.failures) same, none, one))); once = omega (arith, ap (λ x. x.failures) same, none) };
+      reads = Reads-on _ _ _ _ _ _ _ _ _ _ _ reads (λ bytes k. (k.0, items, k.1, h))
+          (λ bytes k. (tt, items, k, h)) (λ bytes k h outside. absurd outside)
+          (λ e. absurd (emission-run fault run.Read e)) (λ e. absurd (ok-read bits e));
+      writes = record {
+        failed = (
+          λ w. absurd (emission-run fault (run.Write w.0) w.1),
+          λ one. absurd
+              (omega (arith, ap (λ x. x.failures) same, none, one)),
+        );
+        once =
+            omega (arith, ap (λ x. x.failures) same, none);
+      };
       unwritten = λ other. same;
     }
 
@@ -60,7 +76,9 @@ pub record AreReported (items : List Bool) (text : List ℕ) (count : ℕ) : Typ
   pub whole : text ≡ report station messages
   pub counted : count ≡ length messages
 
-checked-of : (air : List ℕ) (items : List Bool) (text : List ℕ) (count : ℕ) → IsBitFile file_limit air items → AreReported items text count → IsChecked file_limit air text count
+checked-of : (air : List ℕ) (items : List Bool) (text : List ℕ) (count : ℕ)
+    → IsBitFile file_limit air items → AreReported items text count
+    → IsChecked file_limit air text count
 checked-of air items text count file h = record {
   bits = items;
   file = file;
@@ -73,33 +91,45 @@ checked-of air items text count file h = record {
 }
 
 -- the report is written in part
-pub unwritten : {R W N : Type 0} (d : Devices R W) (bits : N) (items : List Bool) (text : List ℕ) (count written : ℕ)
-    → Reads d.remaining d.reader d.reader_after run.Read IsOutside (as_read {N = N} (Ok bits)) (IsFaultless file_limit) (λ bytes. IsReadOut d × IsBitFile file_limit bytes items) (λ bytes. IsBitFile file_limit bytes items)
-    → d.writer_after.failures ≡ 1 → AreReported items text count → WroteSome (d.contents d.writer.inner) (d.contents d.writer_after.inner) text written
+pub unwritten : {R W N : Type 0} (d : Devices R W) (bits : N) (items : List Bool) (text : List ℕ)
+    (count written : ℕ)
+    → Reads d.remaining d.reader d.reader_after run.Read IsOutside (as_read {N = N} (Ok bits))
+    (IsFaultless file_limit) (λ bytes. IsReadOut d × IsBitFile file_limit bytes items)
+    (λ bytes. IsBitFile file_limit bytes items)
+    → d.writer_after.failures ≡ 1 → AreReported items text count
+    → WroteSome (d.contents d.writer.inner) (d.contents d.writer_after.inner) text written
     → Checks d (Err (Run (run.Write written)))
 unwritten d bits items text count written reads one is wrote = record {
   reads = Reads-on _ _ _ _ _ _ _ _ _ _ _ reads
       (λ bytes k. (k.0, text, count, checked-of bytes items text count k.1 is, wrote))
       (λ bytes k. (tt, text, count, checked-of bytes items text count k is, wrote))
-      (λ bytes k h outside. absurd outside) (λ e. absurd (write-read written e)) (λ e. absurd (ok-read bits e));
+      (λ bytes k h outside. absurd outside) (λ e. absurd (write-read written e))
+      (λ e. absurd (ok-read bits e));
   writes = record { failed = (λ w. one, λ h. (written, refl)); once = omega (arith, one) };
   unwritten = λ other. absurd (other written refl);
 }
 
 -- messages of one station are of the first one's
-pub of_first : (messages : List MessageView) (first : MessageView) (station other : ℕ) → AreOf other messages → first ≡ get_or messages 0 first → first.identity.b1.byte ≡ station → AreOf station messages
+pub of_first : (messages : List MessageView) (first : MessageView) (station other : ℕ)
+    → AreOf other messages → first ≡ get_or messages 0 first → first.identity.b1.byte ≡ station
+    → AreOf station messages
 of_first [] first station other h e is = absurd (h.some refl)
 of_first (m ∷ ms) first station other h e is =
-    let same : other ≡ station = sym h.each.0 ∙ ap (λ (message : MessageView). message.identity.b1.byte) (sym e) ∙ is in subst (λ s. AreOf s (m ∷ ms)) same h
+    let same : other ≡ station =
+    sym h.each.0 ∙ ap (λ (message : MessageView). message.identity.b1.byte) (sym e) ∙ is in
+    subst (λ s. AreOf s (m ∷ ms)) same h
 
 -- ---- what was sent is given back
 
 -- the elements of an air file that was sent
-sent-bits : (limit station from : ℕ) (file air : List ℕ) (sent : Sent) (h : IsTransmission station from file air sent) → length air ≤ limit → IsBitFile limit air (bits_of (emission h.positions))
+sent-bits : (limit station from : ℕ) (file air : List ℕ) (sent : Sent)
+    (h : IsTransmission station from file air sent) → length air ≤ limit
+    → IsBitFile limit air (bits_of (emission h.positions))
 sent-bits limit station from file air sent h within =
     let bits = bits_of (emission h.positions) in
     let lines = moment sent.slot ∷ bit_lines bits in
-    let long = ap length h.whole ∙ length-append (line_bytes (moment sent.slot)) (air_file_of (bit_lines bits)) in
+    let long = ap length h.whole
+    ∙ length-append (line_bytes (moment sent.slot)) (air_file_of (bit_lines bits)) in
     let later = bit_lines-IsBitFile limit bits (omega (arith, within, long)) in
     let few : sent.slot < 10 ^ 11 = omega (arith, h.next.in_range) in
     record {
@@ -112,11 +142,15 @@ sent-bits limit station from file air sent h within =
       joined = later.joined;
     }
 
-pub sent-emission : (station from : ℕ) (file air : List ℕ) (sent : Sent) (h : IsTransmission station from file air sent) → IsEmissionOf h.messages (bits_of (emission h.positions))
-sent-emission station from file air sent h = record { sendable = h.sendable; positions = h.positions; broadcast = h.broadcast; whole = refl }
+pub sent-emission : (station from : ℕ) (file air : List ℕ) (sent : Sent)
+    (h : IsTransmission station from file air sent)
+    → IsEmissionOf h.messages (bits_of (emission h.positions))
+sent-emission station from file air sent h =
+    record { sendable = h.sendable; positions = h.positions; broadcast = h.broadcast; whole = refl }
 
 -- such a file is checked
-pub sent-checked : (limit station from : ℕ) (file air : List ℕ) (sent : Sent) → IsTransmission station from file air sent → length air ≤ limit
+pub sent-checked : (limit station from : ℕ) (file air : List ℕ) (sent : Sent)
+    → IsTransmission station from file air sent → length air ≤ limit
     → IsChecked limit air (station_line station ++ file) sent.messages
 sent-checked limit station from file air sent h within = record {
   bits = bits_of (emission h.positions);
@@ -130,11 +164,15 @@ sent-checked limit station from file air sent h within = record {
 }
 
 -- and an air file has one report
-pub checked-one : (limit : ℕ) (air one other : List ℕ) (m n : ℕ) → IsChecked limit air one m → IsChecked limit air other n → (one ≡ other) × (m ≡ n)
+pub checked-one : (limit : ℕ) (air one other : List ℕ) (m n : ℕ) → IsChecked limit air one m
+    → IsChecked limit air other n → (one ≡ other) × (m ≡ n)
 checked-one limit air one other m n h k =
     let bits = IsBitFile-unique limit air h.bits k.bits h.file k.file in
-    let messages = emission-one h.messages k.messages k.bits (subst (IsEmissionOf h.messages) bits h.emission) k.emission in
-    let station = same-station h.station k.station k.messages (subst (AreOf h.station) messages h.of_station) k.of_station in (
-      h.whole ∙ ap (λ s. report s h.messages) station ∙ ap (report k.station) messages ∙ sym k.whole,
+    let messages = emission-one h.messages k.messages k.bits
+    (subst (IsEmissionOf h.messages) bits h.emission) k.emission in
+    let station = same-station h.station k.station k.messages
+    (subst (AreOf h.station) messages h.of_station) k.of_station in (
+      h.whole ∙ ap (λ s. report s h.messages) station ∙ ap (report k.station) messages
+          ∙ sym k.whole,
       h.counted ∙ ap length messages ∙ sym k.counted,
     )

@@ -49,7 +49,8 @@ first_for damage = record {
 damage-first : (damage : Damage) → damage_of (first_for damage) ≡ damage
 damage-first damage =
     let from : (7 * damage.from) / 7 ≡ damage.from = omega arith in
-    let count : (7 * damage.from + 7 * damage.count) / 7 - (7 * damage.from) / 7 ≡ damage.count = omega arith in
+    let count : (7 * damage.from + 7 * damage.count) / 7 - (7 * damage.from) / 7 ≡ damage.count =
+    omega arith in
     λ i. record { kind = damage.kind; from = from i; count = count i }
 
 pub starts : (damage : Damage) → HasDamaged (damage_of (first_for damage)) (first_for damage) [] []
@@ -59,33 +60,50 @@ starts damage = record {
   whole = refl;
 }
 
-elements-more : (lines : List Line) (line : Line) → flat_map elements_of (lines ++ (line ∷ [])) ≡ flat_map elements_of lines ++ elements_of line
-elements-more lines line = flat_map-append elements_of lines (line ∷ []) ∙ ap (λ l. flat_map elements_of lines ++ l) (append-nil (elements_of line))
+elements-more : (lines : List Line) (line : Line)
+    → flat_map elements_of (lines ++ (line ∷ [])) ≡ flat_map elements_of lines ++ elements_of line
+elements-more lines line =
+    flat_map-append elements_of lines (line ∷ [])
+    ∙ ap (λ l. flat_map elements_of lines ++ l) (append-nil (elements_of line))
 
-pub taken-more : (damage : Damage) (old new : Damager) (lines : List Line) (line : Line) (given bytes : List ℕ) → HasDamaged damage old lines given
+pub taken-more : (damage : Damage) (old new : Damager) (lines : List Line) (line : Line)
+    (given bytes : List ℕ) → HasDamaged damage old lines given
     → ((place : ℕ) → IsAt damage old place → bytes ≡ line_bytes (damaged_line damage place line))
     → ((place : ℕ) → IsAt damage old place → IsAt damage new (place + length (elements_of line)))
-    → ((place total : ℕ) → IsAt damage old place → old.inverted ≡ min total (2 ^ 64 - 1) → new.inverted ≡ min (total + inverted_count damage place (elements_of line)) (2 ^ 64 - 1))
+    → ((place total : ℕ) → IsAt damage old place → old.inverted ≡ min total (2 ^ 64 - 1)
+    → new.inverted ≡ min (total + inverted_count damage place (elements_of line)) (2 ^ 64 - 1))
     → HasDamaged damage new (lines ++ (line ∷ [])) (given ++ bytes)
 taken-more damage old new lines line given bytes h written moved counted =
     let bits = flat_map elements_of lines in
     let more = elements-more lines line in
-    let long : length bits + length (elements_of line) ≡ length (flat_map elements_of (lines ++ (line ∷ []))) = sym (ap length more ∙ length-append bits (elements_of line)) in
-    let total : inverted_count damage 0 bits + inverted_count damage (length bits) (elements_of line) ≡ inverted_count damage 0 (flat_map elements_of (lines ++ (line ∷ []))) =
-    sym (ap (inverted_count damage 0) more ∙ inverted-append damage 0 bits (elements_of line) ∙ ap (λ p. inverted_count damage 0 bits + inverted_count damage p (elements_of line)) (let e : 0 + length bits ≡ length bits = omega arith in e)) in
+    let long : length bits + length (elements_of line)
+    ≡ length (flat_map elements_of (lines ++ (line ∷ []))) =
+    sym (ap length more ∙ length-append bits (elements_of line)) in
+    let total : inverted_count damage 0 bits + inverted_count damage (length bits)
+    (elements_of line) ≡ inverted_count damage 0 (flat_map elements_of (lines ++ (line ∷ []))) =
+    sym (ap (inverted_count damage 0) more ∙ inverted-append damage 0 bits (elements_of line)
+    ∙ ap (λ p. inverted_count damage 0 bits + inverted_count damage p (elements_of line))
+    (let e : 0 + length bits ≡ length bits = omega arith in e)) in
     let place : 0 + length bits ≡ length bits = omega arith in
-    let file : damaged_file damage (lines ++ (line ∷ [])) ≡ damaged_file damage lines ++ line_bytes (damaged_line damage (length bits) line) =
-    ap file_of (lines-append damage 0 lines line) ∙ flat_map-append line_bytes _ (damaged_line damage (0 + length bits) line ∷ [])
-    ∙ ap (λ l. damaged_file damage lines ++ l) (append-nil (line_bytes (damaged_line damage (0 + length bits) line)))
+    let file : damaged_file damage (lines ++ (line ∷ []))
+    ≡ damaged_file damage lines ++ line_bytes (damaged_line damage (length bits) line) =
+    ap file_of (lines-append damage 0 lines line)
+    ∙ flat_map-append line_bytes _ (damaged_line damage (0 + length bits) line ∷ [])
+    ∙ ap (λ l. damaged_file damage lines ++ l)
+    (append-nil (line_bytes (damaged_line damage (0 + length bits) line)))
     ∙ ap (λ p. damaged_file damage lines ++ line_bytes (damaged_line damage p line)) place in
     record {
       at = subst (IsAt damage new) long (moved (length bits) h.at);
-      counted = subst (λ n. new.inverted ≡ min n (2 ^ 64 - 1)) total (counted (length bits) (inverted_count damage 0 bits) h.at h.counted);
-      whole = ap (λ l. l ++ bytes) h.whole ∙ ap (λ l. damaged_file damage lines ++ l) (written (length bits) h.at) ∙ sym file;
+      counted = subst (λ n. new.inverted ≡ min n (2 ^ 64 - 1)) total
+          (counted (length bits) (inverted_count damage 0 bits) h.at h.counted);
+      whole = ap (λ l. l ++ bytes) h.whole
+          ∙ ap (λ l. damaged_file damage lines ++ l) (written (length bits) h.at) ∙ sym file;
     }
 
 -- the text of a line that was ended has at most 514 bytes
-pub text-short : (latest : Option Line) (text : Option (List ℕ)) (bytes : List ℕ) → IsSomeAnd latest IsLine → text ≡ option_map spelling latest → text ≡ Some bytes → length bytes ≤ 514
+pub text-short : (latest : Option Line) (text : Option (List ℕ)) (bytes : List ℕ)
+    → IsSomeAnd latest IsLine → text ≡ option_map spelling latest → text ≡ Some bytes
+    → length bytes ≤ 514
 text-short None text bytes h e is = let clash : None ≡ Some bytes = sym e ∙ is in cc
 text-short (Some line) text bytes h e is =
     let clash : Some (spelling line) ≡ Some bytes = sym e ∙ is in
@@ -102,70 +120,138 @@ line-of-elements (refuse_subject letter) h = cc
 line-of-elements (accept_subject letter) h = cc
 
 -- the text that is kept is that of the line
-pub text-of : (latest : Option Line) (text : Option (List ℕ)) (bytes : List ℕ) (line : Line) → text ≡ option_map spelling latest → text ≡ Some bytes → latest ≡ Some line → bytes ≡ spelling line
+pub text-of : (latest : Option Line) (text : Option (List ℕ)) (bytes : List ℕ) (line : Line)
+    → text ≡ option_map spelling latest → text ≡ Some bytes → latest ≡ Some line
+    → bytes ≡ spelling line
 text-of latest text bytes line e is here =
     let clash : Some bytes ≡ Some (spelling line) = sym is ∙ e ∙ ap (option_map spelling) here in
     cc
 
 -- its bytes, with its end, are those of a line of elements
-pub bytes-of-elements : (latest : Option Line) (text : Option (List ℕ)) (kept bytes : List ℕ) (line : Line) → text ≡ option_map spelling latest → text ≡ Some kept → latest ≡ Some line → kind_of line ≡ Elements → bytes ≡ kept ++ 10 ∷ []
+pub bytes-of-elements : (latest : Option Line) (text : Option (List ℕ)) (kept bytes : List ℕ)
+    (line : Line) → text ≡ option_map spelling latest → text ≡ Some kept → latest ≡ Some line
+    → kind_of line ≡ Elements → bytes ≡ kept ++ 10 ∷ []
     → bytes ≡ line_bytes (elements (elements_of line))
-bytes-of-elements latest text kept bytes line e is here kind b = b ∙ ap (λ l. l ++ 10 ∷ []) (text-of latest text kept line e is here) ∙ ap line_bytes (line-of-elements line kind)
+bytes-of-elements latest text kept bytes line e is here kind b =
+    b ∙ ap (λ l. l ++ 10 ∷ []) (text-of latest text kept line e is here)
+    ∙ ap line_bytes (line-of-elements line kind)
 
 -- its digits stand behind two bytes, before its end
-pub line-long : (bits : List Bool) (bytes : List ℕ) (n : ℕ) → bytes ≡ line_bytes (elements bits) → n ≡ length bytes → (n - 1) - 2 ≡ length bits
-line-long bits bytes n is e = omega (arith, e, ap length is, length-map bits element_digit, length-append (map element_digit bits) (10 ∷ []))
+pub line-long : (bits : List Bool) (bytes : List ℕ) (n : ℕ) → bytes ≡ line_bytes (elements bits)
+    → n ≡ length bytes → (n - 1) - 2 ≡ length bits
+line-long bits bytes n is e =
+    omega (
+      arith,
+      e,
+      ap length is,
+      length-map bits element_digit,
+      length-append
+          (map element_digit bits) (10 ∷ []),
+    )
 
-pub line-digits : (bits : List Bool) (bytes : List ℕ) (n : ℕ) → bytes ≡ line_bytes (elements bits) → n ≡ length bits → take n (drop 2 bytes) ≡ map element_digit bits
+pub line-digits : (bits : List Bool) (bytes : List ℕ) (n : ℕ) → bytes ≡ line_bytes (elements bits)
+    → n ≡ length bits → take n (drop 2 bytes) ≡ map element_digit bits
 line-digits bits bytes n is long =
     let digits = map element_digit bits in
-    ap (λ l. take n (drop 2 l)) is ∙ ap (λ k. take k (digits ++ 10 ∷ [])) (long ∙ sym (length-map bits element_digit)) ∙ take-append_seam digits (10 ∷ [])
+    ap (λ l. take n (drop 2 l)) is
+    ∙ ap (λ k. take k (digits ++ 10 ∷ [])) (long ∙ sym (length-map bits element_digit))
+    ∙ take-append_seam digits (10 ∷ [])
 
 -- its bytes, where others are written over its digits
-pub line-refilled : (bits : List Bool) (bytes now new : List ℕ) (n : ℕ) → bytes ≡ line_bytes (elements bits) → now ≡ bytes → n ≡ length bits → length new ≡ length bits
-    → refill (length bytes) bytes (take 2 now ++ (new ++ drop n (drop 2 now))) ≡ 66 ∷ 32 ∷ (new ++ 10 ∷ [])
+pub line-refilled : (bits : List Bool) (bytes now new : List ℕ) (n : ℕ)
+    → bytes ≡ line_bytes (elements bits) → now ≡ bytes → n ≡ length bits → length new ≡ length bits
+    → refill (length bytes) bytes (take 2 now ++ (new ++ drop n (drop 2 now)))
+    ≡ 66 ∷ 32 ∷ (new ++ 10 ∷ [])
 line-refilled bits bytes now new n is same long fits =
     let e : now ≡ line_bytes (elements bits) = same ∙ is in
     let digits = map element_digit bits in
-    let rest : drop n (digits ++ 10 ∷ []) ≡ 10 ∷ [] = ap (λ k. drop k (digits ++ 10 ∷ [])) (long ∙ sym (length-map bits element_digit)) ∙ drop-append_seam digits (10 ∷ []) in
-    let whole : take 2 now ++ (new ++ drop n (drop 2 now)) ≡ 66 ∷ 32 ∷ (new ++ 10 ∷ []) = ap (λ l. take 2 l ++ (new ++ drop n (drop 2 l))) e ∙ ap (λ l. 66 ∷ 32 ∷ (new ++ l)) rest in
-    let size : length bytes ≡ length (66 ∷ 32 ∷ (new ++ 10 ∷ [])) = omega (arith, ap length is, fits, length-map bits element_digit, length-append digits (10 ∷ []), length-append new (10 ∷ [])) in
-    ap (refill (length bytes) bytes) whole ∙ ap (λ k. take k ((66 ∷ 32 ∷ (new ++ 10 ∷ [])) ++ drop (length (66 ∷ 32 ∷ (new ++ 10 ∷ []))) bytes)) size ∙ take-append_seam (66 ∷ 32 ∷ (new ++ 10 ∷ [])) _
+    let rest : drop n (digits ++ 10 ∷ []) ≡ 10 ∷ [] =
+    ap (λ k. drop k (digits ++ 10 ∷ [])) (long ∙ sym (length-map bits element_digit))
+    ∙ drop-append_seam digits (10 ∷ []) in
+    let whole : take 2 now ++ (new ++ drop n (drop 2 now)) ≡ 66 ∷ 32 ∷ (new ++ 10 ∷ []) =
+    ap (λ l. take 2 l ++ (new ++ drop n (drop 2 l))) e ∙ ap (λ l. 66 ∷ 32 ∷ (new ++ l)) rest in
+    let size : length bytes ≡ length (66 ∷ 32 ∷ (new ++ 10 ∷ [])) =
+    omega (
+      arith,
+      ap length is,
+      fits,
+      length-map bits element_digit,
+      length-append digits
+          (10 ∷ []),
+      length-append new (10 ∷ []),
+    ) in
+    ap (refill (length bytes) bytes) whole
+    ∙ ap (λ k. take k ((66 ∷ 32 ∷ (new ++ 10 ∷ []))
+    ++ drop (length (66 ∷ 32 ∷ (new ++ 10 ∷ []))) bytes)) size
+    ∙ take-append_seam (66 ∷ 32 ∷ (new ++ 10 ∷ [])) _
 
 -- ---- what was taken is what is damaged
 
 elements-few : (lines : List Line) → length (flat_map elements_of lines) ≤ length (file_of lines)
 elements-few [] = omega arith
 elements-few (line ∷ lines) =
-    omega (arith, elements-few lines, line-few line, length-append (elements_of line) (flat_map elements_of lines), length-append (line_bytes line) (file_of lines))
+    omega (
+      arith,
+      elements-few lines,
+      line-few line,
+      length-append (elements_of line)
+          (flat_map elements_of lines),
+      length-append (line_bytes line) (file_of lines),
+    )
   where
     line-few : (line : Line) → length (elements_of line) ≤ length (line_bytes line)
     line-few (moment n) = omega arith
-    line-few (elements bits) = omega (arith, length-append (spelling (elements bits)) (10 ∷ []), length-map bits element_digit)
+    line-few (elements bits) =
+        omega (
+          arith,
+          length-append (spelling (elements bits)) (10 ∷ []),
+          length-map bits
+              element_digit,
+        )
     line-few (refuse_station letter) = omega arith
     line-few (accept_station letter) = omega arith
     line-few (refuse_subject letter) = omega arith
     line-few (accept_subject letter) = omega arith
 
-taken-appends : (first now : Damager) (lines : List Line) (old new : Option (List ℕ)) → HasTaken stands first now lines (Appends old new) → Appends old new (damaged_file (damage_of first) lines)
+taken-appends : (first now : Damager) (lines : List Line) (old new : Option (List ℕ))
+    → HasTaken stands first now lines (Appends old new)
+    → Appends old new (damaged_file (damage_of first) lines)
 taken-appends first now lines old new h = subst (Appends old new) h.stood.whole h.here
 
-some-damaged : (first : Damager) (lines : List Line) (old new : Option (List ℕ)) (written : ℕ) → HasTakenSome begins first old new lines written → WroteSome old new (damaged_file (damage_of first) lines) written
+some-damaged : (first : Damager) (lines : List Line) (old new : Option (List ℕ)) (written : ℕ)
+    → HasTakenSome begins first old new lines written
+    → WroteSome old new (damaged_file (damage_of first) lines) written
 some-damaged first lines old new written h = subst (λ l. WroteSome old new l written) h.begun h.some
 
-stops-map : (bytes : List ℕ) (P Q : List Line → List ℕ → List ℕ → Type 0) → ((lines : List Line) (rest more : List ℕ) → P lines rest more → Q lines rest more) → StopsAt bytes P → StopsAt bytes Q
-stops-map bytes P Q f h = record { lines = h.lines; rest = h.rest; more = h.more; whole = h.whole; each = h.each; part = h.part; here = f h.lines h.rest h.more h.here }
+stops-map : (bytes : List ℕ) (P Q : List Line → List ℕ → List ℕ → Type 0)
+    → ((lines : List Line) (rest more : List ℕ) → P lines rest more → Q lines rest more)
+    → StopsAt bytes P → StopsAt bytes Q
+stops-map bytes P Q f h =
+    record {
+      lines = h.lines;
+      rest = h.rest;
+      more = h.more;
+      whole = h.whole;
+      each = h.each;
+      part =
+          h.part;
+      here = f h.lines h.rest h.more h.here;
+    }
 
 -- ---- the outcomes
 
-abbrev pub Ran : {R W : Type 0} → Damager → Damager → Devices R W → Result LinesRead (LinesFault (Unit {0})) → Type 0
+abbrev pub Ran : {R W : Type 0} → Damager → Damager → Devices R W
+    → Result LinesRead (LinesFault (Unit {0})) → Type 0
 Ran first now d outcome = RunsLines stands begins refuses 268435456 first now d outcome
 
 ok-err : {N E : Type 0} (x : N) (e : E) → ◌≡◌ {A = Result N E} (Ok x) (Err e) → ⊥
 ok-err x e h = cc
 
-pub refused-none : {R W : Type 0} (d : Devices R W) (first now : Damager) (line : ℕ) (why : Unit {0}) (fault : LinesFault (Unit {0})) → fault ≡ run.Refused line why → Ran first now d (Err fault) → ⊥
-refused-none d first now line why fault is h = (subst (λ f. Ran first now d (Err f)) is h).reads.answer.here.0.refused
+pub refused-none : {R W : Type 0} (d : Devices R W) (first now : Damager) (line : ℕ)
+    (why : Unit {0}) (fault : LinesFault (Unit {0})) → fault ≡ run.Refused line why
+    → Ran first now d (Err fault) → ⊥
+refused-none d first now line why fault is h =
+    (subst (λ f. Ran first now d (Err f)) is h).reads.answer.here.0.refused
 
 line-read : (why : LineFault) → ◌≡◌ {A = Result ℕ DamageFault} (Err (line_fault why)) (Err Read) → ⊥
 line-read file.TooLong e = cc
@@ -173,22 +259,30 @@ line-read (file.LineLong line) e = cc
 line-read (file.LineCut line) e = cc
 line-read (file.BadLine line) e = cc
 
-line-write : (why : LineFault) (written : ℕ) → ◌≡◌ {A = Result ℕ DamageFault} (Err (line_fault why)) (Err (Write written)) → ⊥
+line-write : (why : LineFault) (written : ℕ)
+    → ◌≡◌ {A = Result ℕ DamageFault} (Err (line_fault why)) (Err (Write written)) → ⊥
 line-write file.TooLong written e = cc
 line-write (file.LineLong line) written e = cc
 line-write (file.LineCut line) written e = cc
 line-write (file.BadLine line) written e = cc
 
-run-line-read : (why : LineFault) → ◌≡◌ {A = Result LinesRead (LinesFault (Unit {0}))} (Err (run.Line why)) (Err run.Read) → ⊥
+run-line-read : (why : LineFault)
+    → ◌≡◌ {A = Result LinesRead (LinesFault (Unit {0}))} (Err (run.Line why)) (Err run.Read) → ⊥
 run-line-read why e = cc
 
-run-line-write : (why : LineFault) (written : ℕ) → ◌≡◌ {A = Result LinesRead (LinesFault (Unit {0}))} (Err (run.Line why)) (Err (run.Write written)) → ⊥
+run-line-write : (why : LineFault) (written : ℕ)
+    → ◌≡◌ {A = Result LinesRead (LinesFault (Unit {0}))} (Err (run.Line why))
+    (Err (run.Write written)) → ⊥
 run-line-write why written e = cc
 
-run-read-write : (written : ℕ) → ◌≡◌ {A = Result LinesRead (LinesFault (Unit {0}))} (Err run.Read) (Err (run.Write written)) → ⊥
+run-read-write : (written : ℕ)
+    → ◌≡◌ {A = Result LinesRead (LinesFault (Unit {0}))} (Err run.Read) (Err (run.Write written))
+    → ⊥
 run-read-write written e = cc
 
-run-write-read : (written : ℕ) → ◌≡◌ {A = Result LinesRead (LinesFault (Unit {0}))} (Err (run.Write written)) (Err run.Read) → ⊥
+run-write-read : (written : ℕ)
+    → ◌≡◌ {A = Result LinesRead (LinesFault (Unit {0}))} (Err (run.Write written)) (Err run.Read)
+    → ⊥
 run-write-read written e = cc
 
 read-write : (written : ℕ) → ◌≡◌ {A = Result ℕ DamageFault} (Err Read) (Err (Write written)) → ⊥
@@ -197,8 +291,10 @@ read-write written e = cc
 write-read : (written : ℕ) → ◌≡◌ {A = Result ℕ DamageFault} (Err (Write written)) (Err Read) → ⊥
 write-read written e = cc
 
-whole-damaged : (first now : Damager) (old new : Option (List ℕ)) (bytes : List ℕ) (read : LinesRead) → HasTakenAll stands first now old new 268435456 bytes read
-    → (text : List ℕ) × IsDamaged (damage_of first) 268435456 bytes text now.inverted × Appends old new text
+whole-damaged : (first now : Damager) (old new : Option (List ℕ)) (bytes : List ℕ)
+    (read : LinesRead) → HasTakenAll stands first now old new 268435456 bytes read
+    → (text : List ℕ) × IsDamaged (damage_of first) 268435456 bytes text now.inverted
+    × Appends old new text
 whole-damaged first now old new bytes read h =
     let few = elements-few h.lines in
     let bound = inverted-le (damage_of first) 0 (flat_map elements_of h.lines) in (
@@ -207,84 +303,178 @@ whole-damaged first now old new bytes read h =
         lines = h.lines;
         file = h.file;
         whole = refl;
-        counted = omega (arith, h.taken.stood.counted, few, bound, h.file.within, ap length h.file.whole);
+        counted = omega (
+          arith,
+          h.taken.stood.counted,
+          few,
+          bound,
+          h.file.within,
+          ap length
+              h.file.whole,
+        );
       },
       subst (Appends old new) h.taken.stood.whole h.taken.here.appended,
     )
 
-damaged-ok : {R W : Type 0} (d : Devices R W) (first now : Damager) (read : LinesRead) → Ran first now d (Ok read) → Damages (damage_of first) d (Ok now.inverted)
+damaged-ok : {R W : Type 0} (d : Devices R W) (first now : Damager) (read : LinesRead)
+    → Ran first now d (Ok read) → Damages (damage_of first) d (Ok now.inverted)
 damaged-ok d first now read h = record {
-  reads = Reads-on _ _ _ _ _ _ _ _ _ _ _ h.reads (λ bytes k. let w = whole-damaged first now _ _ bytes read k.1 in (k.0, w.0, w.1, w.2)) (λ bytes k. let w = whole-damaged first now _ _ bytes read k.1 in (tt, w.0, w.1, w.2))
-      (λ bytes k h. h) (λ e. absurd (ok-err now.inverted Read e)) (λ e. absurd (ok-err read run.Read e));
-  writes = record { failed = (λ w. absurd (ok-err now.inverted (Write w.0) w.1), λ one. let w = h.writes.failed.1 one in absurd (ok-err read (run.Write w.0) w.1)); once = h.writes.once };
+  reads = Reads-on _ _ _ _ _ _ _ _ _ _ _ h.reads
+      (λ bytes k. let w = whole-damaged first now _ _ bytes read k.1 in (k.0, w.0, w.1, w.2))
+      (λ bytes k. let w = whole-damaged first now _ _ bytes read k.1 in (tt, w.0, w.1, w.2))
+      (λ bytes k h. h) (λ e. absurd (ok-err now.inverted Read e))
+      (λ e. absurd (ok-err read run.Read e));
+  writes = record {
+    failed = (
+      λ w. absurd (ok-err now.inverted (Write w.0) w.1),
+      λ one. let w = h.writes.failed.1 one in
+          absurd (ok-err read (run.Write w.0) w.1),
+    );
+    once = h.writes.once;
+  };
   unwritten = tt;
 }
 
-damaged-read : {R W : Type 0} (d : Devices R W) (first now : Damager) → Ran first now d (Err run.Read) → Damages (damage_of first) d (Err Read)
+damaged-read : {R W : Type 0} (d : Devices R W) (first now : Damager)
+    → Ran first now d (Err run.Read) → Damages (damage_of first) d (Err Read)
 damaged-read d first now h = record {
-  reads = Reads-on _ _ _ _ _ _ _ _ _ _ _ h.reads (λ bytes k. stops-map bytes _ _ (λ lines rest more p. (p.0, p.1, taken-appends first now lines _ _ p.2)) k)
-      (λ bytes k. stops-map bytes _ _ (λ lines rest more p. (p.0, p.1, taken-appends first now lines _ _ p.2)) k) (λ bytes k h outside. tt) (λ e. refl) (λ e. refl);
-  writes = record { failed = (λ w. absurd (read-write w.0 w.1), λ one. let w = h.writes.failed.1 one in absurd (run-read-write w.0 w.1)); once = h.writes.once };
+  reads = Reads-on _ _ _ _ _ _ _ _ _ _ _ h.reads
+      (λ bytes k. stops-map bytes _ _
+      (λ lines rest more p. (p.0, p.1, taken-appends first now lines _ _ p.2)) k)
+      (λ bytes k. stops-map bytes _ _
+      (λ lines rest more p. (p.0, p.1, taken-appends first now lines _ _ p.2)) k)
+      (λ bytes k h outside. tt) (λ e. refl) (λ e. refl);
+  writes = record {
+    failed = (
+      λ w. absurd (read-write w.0 w.1),
+      λ one. let w = h.writes.failed.1 one in
+          absurd (run-read-write w.0 w.1),
+    );
+    once = h.writes.once;
+  };
   unwritten = tt;
 }
 
-damaged-write : {R W : Type 0} (d : Devices R W) (first now : Damager) (written : ℕ) → Ran first now d (Err (run.Write written)) → Damages (damage_of first) d (Err (Write written))
+damaged-write : {R W : Type 0} (d : Devices R W) (first now : Damager) (written : ℕ)
+    → Ran first now d (Err (run.Write written)) → Damages (damage_of first) d (Err (Write written))
 damaged-write d first now written h = record {
-  reads = Reads-on _ _ _ _ _ _ _ _ _ _ _ h.reads (λ bytes k. stops-map bytes _ _ (λ lines rest more p. some-damaged first lines _ _ written p) k)
-      (λ bytes k. stops-map bytes _ _ (λ lines rest more p. some-damaged first lines _ _ written p) k) (λ bytes k h outside. tt) (λ e. absurd (write-read written e)) (λ e. absurd (run-write-read written e));
-  writes = record { failed = (λ w. h.writes.failed.0 (written, refl), λ one. (written, refl)); once = h.writes.once };
+  reads = Reads-on _ _ _ _ _ _ _ _ _ _ _ h.reads
+      (λ bytes k. stops-map bytes _ _ (λ lines rest more p. some-damaged first lines _ _ written p)
+      k)
+      (λ bytes k. stops-map bytes _ _ (λ lines rest more p. some-damaged first lines _ _ written p)
+      k) (λ bytes k h outside. tt) (λ e. absurd (write-read written e))
+      (λ e. absurd (run-write-read written e));
+  writes = record {
+    failed =
+        (λ w. h.writes.failed.0 (written, refl), λ one. (written, refl));
+    once = h.writes.once;
+  };
   unwritten = tt;
 }
 
-stopped : (AtEnd : Type 0) (first now : Damager) (old new : Option (List ℕ)) (bytes : List ℕ) (why : LineFault) (IsLeft : List ℕ → Type 0)
-    → IsPlaced AtEnd why × StopsAt bytes (λ lines rest more. IsCause 268435456 (length (file_of lines ++ rest)) lines rest more why × HasTaken stands first now lines (Appends old new))
+stopped : (AtEnd : Type 0) (first now : Damager) (old new : Option (List ℕ)) (bytes : List ℕ)
+    (why : LineFault) (IsLeft : List ℕ → Type 0)
+    → IsPlaced AtEnd why × StopsAt bytes
+    (λ lines rest more. IsCause 268435456 (length (file_of lines ++ rest)) lines rest more why
+    × HasTaken stands first now lines (Appends old new))
     → ExplainsDamaging AtEnd IsLeft 268435456 (damage_of first) old new bytes (line_fault why)
-stopped AtEnd first now old new bytes file.TooLong left k = (k.0, stops-map bytes _ _ (λ lines rest more p. (p.0, taken-appends first now lines old new p.1)) k.1)
-stopped AtEnd first now old new bytes (file.LineLong line) left k = (k.0, stops-map bytes _ _ (λ lines rest more p. (p.0, taken-appends first now lines old new p.1)) k.1)
-stopped AtEnd first now old new bytes (file.LineCut line) left k = (k.0, stops-map bytes _ _ (λ lines rest more p. (p.0, taken-appends first now lines old new p.1)) k.1)
-stopped AtEnd first now old new bytes (file.BadLine line) left k = (k.0, stops-map bytes _ _ (λ lines rest more p. (p.0, taken-appends first now lines old new p.1)) k.1)
+stopped AtEnd first now old new bytes file.TooLong left k = (
+  k.0,
+  stops-map bytes _ _
+      (λ lines rest more p. (p.0, taken-appends first now lines old new p.1)) k.1,
+)
+stopped AtEnd first now old new bytes (file.LineLong line) left k = (
+  k.0,
+  stops-map bytes _ _
+      (λ lines rest more p. (p.0, taken-appends first now lines old new p.1)) k.1,
+)
+stopped AtEnd first now old new bytes (file.LineCut line) left k = (
+  k.0,
+  stops-map bytes _ _
+      (λ lines rest more p. (p.0, taken-appends first now lines old new p.1)) k.1,
+)
+stopped AtEnd first now old new bytes (file.BadLine line) left k = (
+  k.0,
+  stops-map bytes _ _
+      (λ lines rest more p. (p.0, taken-appends first now lines old new p.1)) k.1,
+)
 
-damaged-line : {R W : Type 0} (d : Devices R W) (first now : Damager) (why : LineFault) → Ran first now d (Err (run.Line why)) → Damages (damage_of first) d (Err (line_fault why))
+damaged-line : {R W : Type 0} (d : Devices R W) (first now : Damager) (why : LineFault)
+    → Ran first now d (Err (run.Line why)) → Damages (damage_of first) d (Err (line_fault why))
 damaged-line d first now why h = record {
-  reads = Reads-on _ _ _ _ _ _ _ _ _ _ _ h.reads (λ bytes k. stopped _ first now _ _ bytes why _ k) (λ bytes k. stopped _ first now _ _ bytes why _ k)
+  reads = Reads-on _ _ _ _ _ _ _ _ _ _ _ h.reads (λ bytes k. stopped _ first now _ _ bytes why _ k)
+      (λ bytes k. stopped _ first now _ _ bytes why _ k)
       (λ bytes k h outside. tt) (λ e. absurd (line-read why e)) (λ e. absurd (run-line-read why e));
-  writes = record { failed = (λ w. absurd (line-write why w.0 w.1), λ one. let w = h.writes.failed.1 one in absurd (run-line-write why w.0 w.1)); once = h.writes.once };
+  writes = record {
+    failed = (
+      λ w. absurd (line-write why w.0 w.1),
+      λ one. let w = h.writes.failed.1 one in
+          absurd (run-line-write why w.0 w.1),
+    );
+    once = h.writes.once;
+  };
   unwritten = tt;
 }
 
 -- the outcomes of a run for a damage
-for-damage : {R W : Type 0} (damage : Damage) (d : Devices R W) (outcome : Result ℕ DamageFault) → Damages (damage_of (first_for damage)) d outcome → Damages damage d outcome
+for-damage : {R W : Type 0} (damage : Damage) (d : Devices R W) (outcome : Result ℕ DamageFault)
+    → Damages (damage_of (first_for damage)) d outcome → Damages damage d outcome
 for-damage damage d outcome h = subst (λ D. Damages D d outcome) (damage-first damage) h
 
-pub ok-of : {R W : Type 0} (damage : Damage) (d : Devices R W) (now : Damager) (read : LinesRead) → Ran (first_for damage) now d (Ok read) → Damages damage d (Ok now.inverted)
+pub ok-of : {R W : Type 0} (damage : Damage) (d : Devices R W) (now : Damager) (read : LinesRead)
+    → Ran (first_for damage) now d (Ok read) → Damages damage d (Ok now.inverted)
 ok-of damage d now read h = for-damage damage d _ (damaged-ok d (first_for damage) now read h)
 
-pub read-of : {R W : Type 0} (damage : Damage) (d : Devices R W) (now : Damager) (fault : LinesFault (Unit {0})) → fault ≡ run.Read → Ran (first_for damage) now d (Err fault) → Damages damage d (Err Read)
-read-of damage d now fault is h = for-damage damage d _ (damaged-read d (first_for damage) now (subst (λ f. Ran (first_for damage) now d (Err f)) is h))
+pub read-of : {R W : Type 0} (damage : Damage) (d : Devices R W) (now : Damager)
+    (fault : LinesFault (Unit {0})) → fault ≡ run.Read → Ran (first_for damage) now d (Err fault)
+    → Damages damage d (Err Read)
+read-of damage d now fault is h =
+    for-damage damage d _ (damaged-read d (first_for damage) now
+    (subst (λ f. Ran (first_for damage) now d (Err f)) is h))
 
-pub write-of : {R W : Type 0} (damage : Damage) (d : Devices R W) (now : Damager) (fault : LinesFault (Unit {0})) (written : ℕ) → fault ≡ run.Write written → Ran (first_for damage) now d (Err fault) → Damages damage d (Err (Write written))
-write-of damage d now fault written is h = for-damage damage d _ (damaged-write d (first_for damage) now written (subst (λ f. Ran (first_for damage) now d (Err f)) is h))
+pub write-of : {R W : Type 0} (damage : Damage) (d : Devices R W) (now : Damager)
+    (fault : LinesFault (Unit {0})) (written : ℕ) → fault ≡ run.Write written
+    → Ran (first_for damage) now d (Err fault) → Damages damage d (Err (Write written))
+write-of damage d now fault written is h =
+    for-damage damage d _ (damaged-write d (first_for damage) now written
+    (subst (λ f. Ran (first_for damage) now d (Err f)) is h))
 
-pub line-of : {R W : Type 0} (damage : Damage) (d : Devices R W) (now : Damager) (fault : LinesFault (Unit {0})) (why : LineFault) (made : DamageFault) → fault ≡ run.Line why → made ≡ line_fault why → Ran (first_for damage) now d (Err fault)
+pub line-of : {R W : Type 0} (damage : Damage) (d : Devices R W) (now : Damager)
+    (fault : LinesFault (Unit {0})) (why : LineFault) (made : DamageFault) → fault ≡ run.Line why
+    → made ≡ line_fault why → Ran (first_for damage) now d (Err fault)
     → Damages damage d (Err made)
-line-of damage d now fault why made is e h = subst (λ m. Damages damage d (Err m)) (sym e) (for-damage damage d _ (damaged-line d (first_for damage) now why (subst (λ f. Ran (first_for damage) now d (Err f)) is h)))
+line-of damage d now fault why made is e h =
+    subst (λ m. Damages damage d (Err m)) (sym e)
+    (for-damage damage d _ (damaged-line d (first_for damage) now why
+    (subst (λ f. Ran (first_for damage) now d (Err f)) is h)))
 
 -- ---- twice
 
 -- lines after the damage are lines of an air file
-line-is : (damage : Damage) (place : ℕ) (line : Line) → IsLine line → IsLine (damaged_line damage place line)
+line-is : (damage : Damage) (place : ℕ) (line : Line) → IsLine line
+    → IsLine (damaged_line damage place line)
 line-is damage place (moment n) h = h
-line-is damage place (elements bits) h = let long = length-damaged damage place bits in (omega (arith, h.0, long), omega (arith, h.1, long))
+line-is damage place (elements bits) h = let long = length-damaged damage place bits in
+    (omega (arith, h.0, long), omega (arith, h.1, long))
 line-is damage place (refuse_station letter) h = h
 line-is damage place (accept_station letter) h = h
 line-is damage place (refuse_subject letter) h = h
 line-is damage place (accept_subject letter) h = h
 
-lines-are : (damage : Damage) (place : ℕ) (lines : List Line) → AllByRecursion IsLine lines → AllByRecursion IsLine (damaged_lines damage place lines)
+lines-are : (damage : Damage) (place : ℕ) (lines : List Line) → AllByRecursion IsLine lines
+    → AllByRecursion IsLine (damaged_lines damage place lines)
 lines-are damage place [] h = tt
-lines-are damage place (line ∷ lines) h = (line-is damage place line h.0, lines-are damage (place + length (elements_of line)) lines h.1)
+lines-are damage place (line ∷ lines) h =
+    (line-is damage place line h.0, lines-are damage (place + length (elements_of line)) lines h.1)
 
-pub files-twice : (damage : Damage) (limit : ℕ) (air once twice : List ℕ) (m n : ℕ) → IsDamaged damage limit air once m → IsDamaged damage limit once twice n → twice ≡ air
+pub files-twice : (damage : Damage) (limit : ℕ) (air once twice : List ℕ) (m n : ℕ)
+    → IsDamaged damage limit air once m → IsDamaged damage limit once twice n → twice ≡ air
 files-twice damage limit air once twice m n h k =
-    let lines = IsAirFile-unique limit once k.lines (damaged_lines damage 0 h.lines) k.file record { whole = h.whole; each = lines-are damage 0 h.lines h.file.each; within = k.file.within } in
-    k.whole ∙ ap (damaged_file damage) lines ∙ ap file_of (lines-twice damage 0 h.lines) ∙ sym h.file.whole
+    let lines = IsAirFile-unique limit once k.lines (damaged_lines damage 0 h.lines) k.file record {
+      whole = h.whole;
+      each = lines-are damage 0 h.lines h.file.each;
+      within =
+          k.file.within;
+    } in
+    k.whole ∙ ap (damaged_file damage) lines ∙ ap file_of (lines-twice damage 0 h.lines)
+    ∙ sym h.file.whole

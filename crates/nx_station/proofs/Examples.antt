@@ -24,7 +24,9 @@ pub positions_of_two : length (layout ((1 ∷ 2 ∷ []) ∷ (3 ∷ []) ∷ [])) 
 unfolding layout
 positions_of_two = refl
 
-pub file_of_ea01 : message_file_bytes (record { subject = 65; number = 1; lines = codes "TEST" ∷ [] } ∷ []) ≡ codes "#A01" ++ 10 ∷ (codes "TEST" ++ 10 ∷ (codes ";" ++ 10 ∷ []))
+pub file_of_ea01 : message_file_bytes
+    (record { subject = 65; number = 1; lines = codes "TEST" ∷ [] } ∷ [])
+    ≡ codes "#A01" ++ 10 ∷ (codes "TEST" ++ 10 ∷ (codes ";" ++ 10 ∷ []))
 file_of_ea01 = refl
 
 -- 2025-01-01 00:40:00

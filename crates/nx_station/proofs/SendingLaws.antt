@@ -36,16 +36,19 @@ IsInside Read = ⊥
 IsInside (Write written) = ⊥
 IsInside _ = Unit {0}
 
-inside-read : {T : Type 0} (fault : SendRunFault) → IsInside fault → ◌≡◌ {A = Result T SendRunFault} (Err fault) (Err Read) → ⊥
+inside-read : {T : Type 0} (fault : SendRunFault) → IsInside fault
+    → ◌≡◌ {A = Result T SendRunFault} (Err fault) (Err Read) → ⊥
 inside-read {T} fault h e = let same : fault ≡ Read = cc in subst IsInside same h
 
-inside-write : {T : Type 0} (fault : SendRunFault) (written : ℕ) → IsInside fault → ◌≡◌ {A = Result T SendRunFault} (Err fault) (Err (Write written)) → ⊥
+inside-write : {T : Type 0} (fault : SendRunFault) (written : ℕ) → IsInside fault
+    → ◌≡◌ {A = Result T SendRunFault} (Err fault) (Err (Write written)) → ⊥
 inside-write {T} fault written h e = let same : fault ≡ Write written = cc in subst IsInside same h
 
 ok-read : {N : Type 0} (text : N) → ◌≡◌ {A = Result N ReadFault} (Ok text) (Err read.Read) → ⊥
 ok-read text e = cc
 
-ok-err : (sent : Sent) (fault : SendRunFault) → ◌≡◌ {A = Result Sent SendRunFault} (Ok sent) (Err fault) → ⊥
+ok-err : (sent : Sent) (fault : SendRunFault)
+    → ◌≡◌ {A = Result Sent SendRunFault} (Ok sent) (Err fault) → ⊥
 ok-err sent fault e = cc
 
 write-read : (written : ℕ) → ◌≡◌ {A = Result Sent SendRunFault} (Err (Write written)) (Err Read) → ⊥
@@ -53,18 +56,22 @@ write-read written e = cc
 
 -- ---- the file isn't read whole
 
-whole-explains : (AtEnd : Type 0) (station from : ℕ) (bytes : List ℕ) (old new : Option (List ℕ)) (why : ReadFault) → ExplainsWhole file_limit bytes why
+whole-explains : (AtEnd : Type 0) (station from : ℕ) (bytes : List ℕ) (old new : Option (List ℕ))
+    (why : ReadFault) → ExplainsWhole file_limit bytes why
     → ExplainsSending AtEnd file_limit station from bytes old new (read_fault why)
 whole-explains AtEnd station from bytes old new read.Read h = tt
 whole-explains AtEnd station from bytes old new read.FileTooLong h = h
 whole-explains AtEnd station from bytes old new (read.Memory error) h = tt
 
-whole-read : {N : Type 0} (why : ReadFault) → ◌≡◌ {A = Result Sent SendRunFault} (Err (read_fault why)) (Err Read) → ◌≡◌ {A = Result N ReadFault} (Err why) (Err read.Read)
+whole-read : {N : Type 0} (why : ReadFault)
+    → ◌≡◌ {A = Result Sent SendRunFault} (Err (read_fault why)) (Err Read)
+    → ◌≡◌ {A = Result N ReadFault} (Err why) (Err read.Read)
 whole-read read.Read e = refl
 whole-read read.FileTooLong e = cc
 whole-read (read.Memory error) e = cc
 
-read-whole : {N : Type 0} (why : ReadFault) → ◌≡◌ {A = Result N ReadFault} (Err why) (Err read.Read) → ◌≡◌ {A = Result Sent SendRunFault} (Err (read_fault why)) (Err Read)
+read-whole : {N : Type 0} (why : ReadFault) → ◌≡◌ {A = Result N ReadFault} (Err why) (Err read.Read)
+    → ◌≡◌ {A = Result Sent SendRunFault} (Err (read_fault why)) (Err Read)
 read-whole why e = let same : why ≡ read.Read = cc in ap (λ w. Err (read_fault w)) same
 
 whole-outside : (why : ReadFault) → IsOutside (read_fault why) → IsOutsideWhole why
@@ -72,86 +79,179 @@ whole-outside read.Read h = tt
 whole-outside read.FileTooLong h = h
 whole-outside (read.Memory error) h = tt
 
-whole-write : (why : ReadFault) (written : ℕ) → ◌≡◌ {A = Result Sent SendRunFault} (Err (read_fault why)) (Err (Write written)) → ⊥
+whole-write : (why : ReadFault) (written : ℕ)
+    → ◌≡◌ {A = Result Sent SendRunFault} (Err (read_fault why)) (Err (Write written)) → ⊥
 whole-write read.Read written e = cc
 whole-write read.FileTooLong written e = cc
 whole-write (read.Memory error) written e = cc
 
 pub unread : {R W N : Type 0} (d : Devices R W) (station from : ℕ) (why : ReadFault)
-    → Reads d.remaining d.reader d.reader_after read.Read IsOutsideWhole (as_read {N = N} (Err why)) (IsWithin file_limit) (λ bytes. ExplainsWhole file_limit bytes why) (λ bytes. ExplainsWhole file_limit bytes why)
-    → d.writer_after ≡ d.writer → d.writer.failures ≡ 0 → Sends d station from (Err (read_fault why))
+    → Reads d.remaining d.reader d.reader_after read.Read IsOutsideWhole (as_read {N = N} (Err why))
+    (IsWithin file_limit) (λ bytes. ExplainsWhole file_limit bytes why)
+    (λ bytes. ExplainsWhole file_limit bytes why)
+    → d.writer_after ≡ d.writer → d.writer.failures ≡ 0
+    → Sends d station from (Err (read_fault why))
 unread d station from why reads same none = record {
-  reads = Reads-on _ _ _ _ _ _ _ _ _ _ _ reads (λ bytes k. whole-explains _ station from bytes _ _ why k) (λ bytes k. whole-explains _ station from bytes _ _ why k) (λ bytes k h outside. h (whole-outside why outside)) (whole-read why) (read-whole why);
-  writes = record { failed = (λ w. absurd (whole-write why w.0 w.1), λ one. absurd (omega (arith, ap (λ x. x.failures) same, none, one))); once = omega (arith, ap (λ x. x.failures) same, none) };
+  reads = Reads-on _ _ _ _ _ _ _ _ _ _ _ reads
+      (λ bytes k. whole-explains _ station from bytes _ _ why k)
+      (λ bytes k. whole-explains _ station from bytes _ _ why k)
+      (λ bytes k h outside. h (whole-outside why outside)) (whole-read why) (read-whole why);
+  writes = record {
+    failed = (
+      λ w. absurd (whole-write why w.0 w.1),
+      λ one. absurd
+          (omega (arith, ap (λ x. x.failures) same, none, one)),
+    );
+    once =
+        omega (arith, ap (λ x. x.failures) same, none);
+  };
   unwritten = λ other. same;
 }
 
 -- ---- it is read whole
 
 -- the fault comes before anything is written
-pub unsent : {R W N : Type 0} (d : Devices R W) (station from : ℕ) (text : N) (items : List ℕ) (fault : SendRunFault)
-    → Reads d.remaining d.reader d.reader_after read.Read IsOutsideWhole (as_read {N = N} (Ok text)) (IsWithin file_limit) (λ bytes. IsReadOut d × (length bytes ≤ file_limit) × (items ≡ bytes)) (λ bytes. (length bytes ≤ file_limit) × (items ≡ bytes))
+pub unsent : {R W N : Type 0} (d : Devices R W) (station from : ℕ) (text : N) (items : List ℕ)
+    (fault : SendRunFault)
+    → Reads d.remaining d.reader d.reader_after read.Read IsOutsideWhole (as_read {N = N} (Ok text))
+    (IsWithin file_limit) (λ bytes. IsReadOut d × (length bytes ≤ file_limit) × (items ≡ bytes))
+    (λ bytes. (length bytes ≤ file_limit) × (items ≡ bytes))
     → d.writer_after ≡ d.writer → d.writer.failures ≡ 0 → IsInside fault
-    → ((AtEnd : Type 0) → AtEnd → length items ≤ file_limit → ExplainsSending AtEnd file_limit station from items (d.contents d.writer.inner) (d.contents d.writer_after.inner) fault)
+    → ((AtEnd : Type 0) → AtEnd → length items ≤ file_limit
+    → ExplainsSending AtEnd file_limit station from items (d.contents d.writer.inner)
+    (d.contents d.writer_after.inner) fault)
     → Sends d station from (Err fault)
 unsent d station from text items fault reads same none inside explains = record {
   reads = Reads-on _ _ _ _ _ _ _ _ _ _ _ reads
-      (λ bytes k. subst (λ l. ExplainsSending (IsReadOut d) file_limit station from l (d.contents d.writer.inner) (d.contents d.writer_after.inner) fault) k.2 (explains (IsReadOut d) k.0 (subst (λ l. length l ≤ file_limit) (sym k.2) k.1)))
-      (λ bytes k. subst (λ l. ExplainsSending (Unit {0}) file_limit station from l (d.contents d.writer.inner) (d.contents d.writer_after.inner) fault) k.1 (explains (Unit {0}) tt (subst (λ l. length l ≤ file_limit) (sym k.1) k.0)))
-      (λ bytes k h outside. k.1) (λ e. absurd (inside-read fault inside e)) (λ e. absurd (ok-read text e));
-  writes = record { failed = (λ w. absurd (inside-write fault w.0 inside w.1), λ one. absurd (omega (arith, ap (λ x. x.failures) same, none, one))); once = omega (arith, ap (λ x. x.failures) same, none) };
+      (λ bytes k. subst (λ l. ExplainsSending (IsReadOut d) file_limit station from l
+      (d.contents d.writer.inner) (d.contents d.writer_after.inner) fault) k.2
+      (explains (IsReadOut d) k.0 (subst (λ l. length l ≤ file_limit) (sym k.2) k.1)))
+      (λ bytes k. subst (λ l. ExplainsSending (Unit {0}) file_limit station from l
+      (d.contents d.writer.inner) (d.contents d.writer_after.inner) fault) k.1
+      (explains (Unit {0}) tt (subst (λ l. length l ≤ file_limit) (sym k.1) k.0)))
+      (λ bytes k h outside. k.1) (λ e. absurd (inside-read fault inside e))
+      (λ e. absurd (ok-read text e));
+  writes = record {
+    failed = (
+      λ w. absurd (inside-write fault w.0 inside w.1),
+      λ one. absurd
+          (omega (arith, ap (λ x. x.failures) same, none, one)),
+    );
+    once =
+        omega (arith, ap (λ x. x.failures) same, none);
+  };
   unwritten = λ other. same;
 }
 
 -- the file is written, or a part of it
-pub unwritten : {R W N : Type 0} (d : Devices R W) (station from : ℕ) (text : N) (items air : List ℕ) (sent : Sent) (written : ℕ)
-    → Reads d.remaining d.reader d.reader_after read.Read IsOutsideWhole (as_read {N = N} (Ok text)) (IsWithin file_limit) (λ bytes. IsReadOut d × (length bytes ≤ file_limit) × (items ≡ bytes)) (λ bytes. (length bytes ≤ file_limit) × (items ≡ bytes))
-    → d.writer_after.failures ≡ 1 → IsTransmission station from items air sent → WroteSome (d.contents d.writer.inner) (d.contents d.writer_after.inner) air written
+pub unwritten : {R W N : Type 0} (d : Devices R W) (station from : ℕ) (text : N)
+    (items air : List ℕ) (sent : Sent) (written : ℕ)
+    → Reads d.remaining d.reader d.reader_after read.Read IsOutsideWhole (as_read {N = N} (Ok text))
+    (IsWithin file_limit) (λ bytes. IsReadOut d × (length bytes ≤ file_limit) × (items ≡ bytes))
+    (λ bytes. (length bytes ≤ file_limit) × (items ≡ bytes))
+    → d.writer_after.failures ≡ 1 → IsTransmission station from items air sent
+    → WroteSome (d.contents d.writer.inner) (d.contents d.writer_after.inner) air written
     → Sends d station from (Err (Write written))
 unwritten d station from text items air sent written reads one is wrote = record {
   reads = Reads-on _ _ _ _ _ _ _ _ _ _ _ reads
-      (λ bytes k. (k.0, k.1, air, sent, subst (λ l. IsTransmission station from l air sent) k.2 is, wrote))
-      (λ bytes k. (tt, k.0, air, sent, subst (λ l. IsTransmission station from l air sent) k.1 is, wrote))
-      (λ bytes k h outside. k.1) (λ e. absurd (write-read written e)) (λ e. absurd (ok-read text e));
+      (λ bytes k. (
+        k.0,
+        k.1,
+        air,
+        sent,
+        subst (λ l. IsTransmission station from l air sent) k.2 is,
+        wrote,
+      ))
+      (λ bytes k. (
+        tt,
+        k.0,
+        air,
+        sent,
+        subst (λ l. IsTransmission station from l air sent) k.1 is,
+        wrote,
+      ))
+      (λ bytes k h outside. k.1) (λ e. absurd (write-read written e))
+      (λ e. absurd (ok-read text e));
   writes = record { failed = (λ w. one, λ h. (written, refl)); once = omega (arith, one) };
   unwritten = λ other. absurd (other written refl);
 }
 
-pub sent-all : {R W N : Type 0} (d : Devices R W) (station from : ℕ) (text : N) (items air : List ℕ) (sent : Sent)
-    → Reads d.remaining d.reader d.reader_after read.Read IsOutsideWhole (as_read {N = N} (Ok text)) (IsWithin file_limit) (λ bytes. IsReadOut d × (length bytes ≤ file_limit) × (items ≡ bytes)) (λ bytes. (length bytes ≤ file_limit) × (items ≡ bytes))
-    → d.writer_after.failures ≡ 0 → IsTransmission station from items air sent → Appends (d.contents d.writer.inner) (d.contents d.writer_after.inner) air
+pub sent-all : {R W N : Type 0} (d : Devices R W) (station from : ℕ) (text : N) (items air : List ℕ)
+    (sent : Sent)
+    → Reads d.remaining d.reader d.reader_after read.Read IsOutsideWhole (as_read {N = N} (Ok text))
+    (IsWithin file_limit) (λ bytes. IsReadOut d × (length bytes ≤ file_limit) × (items ≡ bytes))
+    (λ bytes. (length bytes ≤ file_limit) × (items ≡ bytes))
+    → d.writer_after.failures ≡ 0 → IsTransmission station from items air sent
+    → Appends (d.contents d.writer.inner) (d.contents d.writer_after.inner) air
     → Sends d station from (Ok sent)
 sent-all d station from text items air sent reads none is wrote = record {
   reads = Reads-on _ _ _ _ _ _ _ _ _ _ _ reads
-      (λ bytes k. (k.0, k.1, air, subst (λ l. IsTransmission station from l air sent) k.2 is, wrote))
+      (λ bytes k. (
+        k.0,
+        k.1,
+        air,
+        subst (λ l. IsTransmission station from l air sent) k.2 is,
+        wrote,
+      ))
       (λ bytes k. (tt, k.0, air, subst (λ l. IsTransmission station from l air sent) k.1 is, wrote))
       (λ bytes k h. h) (λ e. absurd (ok-err sent Read e)) (λ e. absurd (ok-read text e));
-  writes = record { failed = (λ w. absurd (ok-err sent (Write w.0) w.1), λ one. absurd (omega (arith, none, one))); once = omega (arith, none) };
+  writes = record {
+    failed =
+        (λ w. absurd (ok-err sent (Write w.0) w.1), λ one. absurd (omega (arith, none, one)));
+    once =
+        omega (arith, none);
+  };
   unwritten = tt;
 }
 
 -- ---- the refusals of an emission
 
-pub of_one-None : (station : ℕ) (messages : List MessageView) (at : ℕ) → AreOf station messages → first_of_another messages ≡ Some at → ⊥
+pub of_one-None : (station : ℕ) (messages : List MessageView) (at : ℕ) → AreOf station messages
+    → first_of_another messages ≡ Some at → ⊥
 of_one-None station [] at h e = cc
 of_one-None station (m ∷ ms) at h e =
-    let there = position-Some (λ (other : MessageView). not (other.identity.b1.byte == m.identity.b1.byte)) (m ∷ ms) at m e in
-    let here : (get_or (m ∷ ms) at m).identity.b1.byte ≡ station = All-from_recursion (λ (message : MessageView). message.identity.b1.byte ≡ station) (m ∷ ms) h.each at m there.0 in
+    let there = position-Some
+    (λ (other : MessageView). not (other.identity.b1.byte == m.identity.b1.byte)) (m ∷ ms) at m
+    e in
+    let here : (get_or (m ∷ ms) at m).identity.b1.byte ≡ station =
+    All-from_recursion (λ (message : MessageView). message.identity.b1.byte ≡ station) (m ∷ ms)
+    h.each at m there.0 in
     false≢true (sym (not-true _ there.1) ∙ eq-eqb _ _ (here ∙ sym h.each.0))
 
-pub same-station : (one other : ℕ) (messages : List MessageView) → AreOf one messages → AreOf other messages → one ≡ other
+pub same-station : (one other : ℕ) (messages : List MessageView) → AreOf one messages
+    → AreOf other messages → one ≡ other
 same-station one other [] h k = absurd (h.some refl)
 same-station one other (m ∷ ms) h k = sym h.each.0 ∙ k.each.0
 
-pub refusal-explains : (AtEnd : Type 0) (station from slot : ℕ) (file : List ℕ) (messages : List MessageView) (old new : Option (List ℕ)) (why : SendFault) → AtEnd → length file ≤ file_limit
-    → IsMessageFile file (map file_message_of messages) → AreOf station messages → IsNextSlot station from slot → IsRefusal messages why → ExplainsSending AtEnd file_limit station from file old new (send_fault why)
-refusal-explains AtEnd station from slot file messages old new refusal.NoMessages end few is of next h = absurd (of.some h)
-refusal-explains AtEnd station from slot file messages old new (refusal.MixedStations at) end few is of next h = absurd (of_one-None station messages at of h)
+pub refusal-explains : (AtEnd : Type 0) (station from slot : ℕ) (file : List ℕ)
+    (messages : List MessageView) (old new : Option (List ℕ)) (why : SendFault) → AtEnd
+    → length file ≤ file_limit
+    → IsMessageFile file (map file_message_of messages) → AreOf station messages
+    → IsNextSlot station from slot → IsRefusal messages why
+    → ExplainsSending AtEnd file_limit station from file old new (send_fault why)
+refusal-explains AtEnd station from slot file messages old new refusal.NoMessages end few is of next
+    h = absurd (of.some h)
+refusal-explains AtEnd station from slot file messages old new (refusal.MixedStations at) end few is
+    of next h = absurd (of_one-None station messages at of h)
 refusal-explains AtEnd station from slot file messages old new refusal.NoSlot end few is of next h =
     absurd (h.2 (subst HasSlots (same-station station h.0 messages of h.1) next.is_slot.has_slots))
-refusal-explains AtEnd station from slot file messages old new (refusal.SlotFull count) end few is of next h =
-    (end, few, record { messages = messages; is_file = is; of_station = of; slot = slot; next = next; positions = h.positions; too_many = h.too_many })
-refusal-explains AtEnd station from slot file messages old new (refusal.Memory error) end few is of next h = tt
+refusal-explains AtEnd station from slot file messages old new (refusal.SlotFull count) end few is
+    of next h = (
+      end,
+      few,
+      record {
+        messages = messages;
+        is_file = is;
+        of_station = of;
+        slot = slot;
+        next =
+            next;
+        positions = h.positions;
+        too_many = h.too_many;
+      },
+    )
+refusal-explains AtEnd station from slot file messages old new (refusal.Memory error) end few is of
+    next h = tt
 
 pub refusal-inside : (why : SendFault) → IsInside (send_fault why)
 refusal-inside refusal.NoMessages = tt
@@ -162,19 +262,27 @@ refusal-inside (refusal.Memory error) = tt
 
 -- ---- what is sent
 
-pub transmission-of : (station from slot : ℕ) (file given : List ℕ) (messages shown : List MessageView) (positions : List SentPosition) (line : List ℕ) (bits : List Bool) (count all : ℕ)
-    → given ≡ file → shown ≡ messages → IsMessageFile given (map file_message_of messages) → AreOf station messages → IsSendable shown → IsNextSlot station from slot → IsBroadcast shown positions
-    → line ≡ line_bytes (moment slot) → bits ≡ bits_of (emission positions) → count ≡ length positions → all ≡ length messages
-    → IsTransmission station from file (line ++ file_of (bit_lines bits)) record { slot = slot; positions = count; messages = all }
-transmission-of station from slot file given messages shown positions line bits count all same alike is of sendable next broadcast spelled sounds counted whole = record {
-  messages = messages;
-  is_file = subst (λ l. IsMessageFile l (map file_message_of messages)) same is;
-  of_station = of;
-  sendable = subst IsSendable alike sendable;
-  next = next;
-  positions = positions;
-  broadcast = subst (λ l. IsBroadcast l positions) alike broadcast;
-  whole = ap (λ l. l ++ file_of (bit_lines bits)) spelled ∙ ap (λ b. line_bytes (moment slot) ++ file_of (bit_lines b)) sounds;
-  count = counted;
-  all = whole;
-}
+pub transmission-of : (station from slot : ℕ) (file given : List ℕ)
+    (messages shown : List MessageView) (positions : List SentPosition) (line : List ℕ)
+    (bits : List Bool) (count all : ℕ)
+    → given ≡ file → shown ≡ messages → IsMessageFile given (map file_message_of messages)
+    → AreOf station messages → IsSendable shown → IsNextSlot station from slot
+    → IsBroadcast shown positions
+    → line ≡ line_bytes (moment slot) → bits ≡ bits_of (emission positions)
+    → count ≡ length positions → all ≡ length messages
+    → IsTransmission station from file (line ++ file_of (bit_lines bits)) record
+    { slot = slot; positions = count; messages = all }
+transmission-of station from slot file given messages shown positions line bits count all same alike
+    is of sendable next broadcast spelled sounds counted whole = record {
+      messages = messages;
+      is_file = subst (λ l. IsMessageFile l (map file_message_of messages)) same is;
+      of_station = of;
+      sendable = subst IsSendable alike sendable;
+      next = next;
+      positions = positions;
+      broadcast = subst (λ l. IsBroadcast l positions) alike broadcast;
+      whole = ap (λ l. l ++ file_of (bit_lines bits)) spelled
+          ∙ ap (λ b. line_bytes (moment slot) ++ file_of (bit_lines b)) sounds;
+      count = counted;
+      all = whole;
+    }

@@ -9,17 +9,20 @@ abbrev pub one_if : Bool → ℕ
 one_if b = if b then 1 else 0
 
 -- a run of words in two parts
-pub wrong_in-add : (f : ℕ → ℕ) (i a b : ℕ) → wrong_in f i (a + b) ≡ wrong_in f i a + wrong_in f (i + a) b
+pub wrong_in-add : (f : ℕ → ℕ) (i a b : ℕ)
+    → wrong_in f i (a + b) ≡ wrong_in f i a + wrong_in f (i + a) b
 unfolding wrong_in
 wrong_in-add f i a zero = let e : a + 0 ≡ a = omega arith in ap (wrong_in f i) e ∙ omega arith
 wrong_in-add f i a (suc b) =
     let e : a + suc b ≡ suc (a + b) = omega arith in
     let g : i + (a + b) ≡ i + a + b = omega arith in
-    let w : one_if (is_wrong (f (i + (a + b)))) ≡ one_if (is_wrong (f (i + a + b))) = ap (λ j. one_if (is_wrong (f j))) g in
+    let w : one_if (is_wrong (f (i + (a + b)))) ≡ one_if (is_wrong (f (i + a + b))) =
+    ap (λ j. one_if (is_wrong (f j))) g in
     ap (wrong_in f i) e ∙ omega (arith, wrong_in-add f i a b, w)
 
 -- all wrong
-pub wrong_in-all : (f : ℕ → ℕ) (i n : ℕ) → ((j : ℕ) → j < n → is_wrong (f (i + j)) ≡ true) → wrong_in f i n ≡ n
+pub wrong_in-all : (f : ℕ → ℕ) (i n : ℕ) → ((j : ℕ) → j < n → is_wrong (f (i + j)) ≡ true)
+    → wrong_in f i n ≡ n
 unfolding wrong_in
 wrong_in-all f i zero all = refl
 wrong_in-all f i (suc n) all =
@@ -27,7 +30,8 @@ wrong_in-all f i (suc n) all =
     omega (arith, wrong_in-all f i n (λ j h. all j (omega arith)), w)
 
 -- none wrong
-pub wrong_in-none : (f : ℕ → ℕ) (i n : ℕ) → ((j : ℕ) → j < n → is_wrong (f (i + j)) ≡ false) → wrong_in f i n ≡ 0
+pub wrong_in-none : (f : ℕ → ℕ) (i n : ℕ) → ((j : ℕ) → j < n → is_wrong (f (i + j)) ≡ false)
+    → wrong_in f i n ≡ 0
 unfolding wrong_in
 wrong_in-none f i zero all = refl
 wrong_in-none f i (suc n) all =

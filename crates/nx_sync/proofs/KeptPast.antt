@@ -10,31 +10,44 @@ use Rattle.nx_sync.proofs.Lists.{part-append}
 use Rattle.nx_sync.proofs.Computed.{released-from, released-to}
 
 -- a count looks at its words alone
-pub wrong_in-same : (f g : ℕ → ℕ) (i n : ℕ) → ((j : ℕ) → j < i + n → f j ≡ g j) → wrong_in f i n ≡ wrong_in g i n
+pub wrong_in-same : (f g : ℕ → ℕ) (i n : ℕ) → ((j : ℕ) → j < i + n → f j ≡ g j)
+    → wrong_in f i n ≡ wrong_in g i n
 unfolding wrong_in
 wrong_in-same f g i zero same = refl
 wrong_in-same f g i (suc n) same =
-    ap₂ ◌+◌ (wrong_in-same f g i n (λ j h. same j (omega arith))) (ap (λ w. one_if (is_wrong w)) (same (i + n) (omega arith)))
+    ap₂ ◌+◌ (wrong_in-same f g i n (λ j h. same j (omega arith)))
+    (ap (λ w. one_if (is_wrong w)) (same (i + n) (omega arith)))
 
 -- what word k would bring looks at the words to k alone
-pub change_at-same : (first : Role) (f g : ℕ → ℕ) (k : ℕ) → ((j : ℕ) → j ≤ k → f j ≡ g j) → change_at first f k ≡ change_at first g k
+pub change_at-same : (first : Role) (f g : ℕ → ℕ) (k : ℕ) → ((j : ℕ) → j ≤ k → f j ≡ g j)
+    → change_at first f k ≡ change_at first g k
 unfolding change_at releases_as_ended
 change_at-same first f g k same =
-    simp (same (k - 3) (omega arith), same (k - 5) (omega arith), wrong_in-same f g (k + 1 - marked_words) (k + 1 - (k + 1 - marked_words)) (λ j h. same j (omega arith)))
+    simp (
+      same (k - 3) (omega arith),
+      same (k - 5) (omega arith),
+      wrong_in-same f g
+          (k + 1 - marked_words) (k + 1 - (k + 1 - marked_words)) (λ j h. same j (omega arith)),
+    )
 
 module _ (bits more : List Bool) where
-  pub word_at-more : (t k : ℕ) → t + 7 * (k + 1) ≤ length bits → word_of_lock (bits ++ more) t k ≡ word_of_lock bits t k
+  pub word_at-more : (t k : ℕ) → t + 7 * (k + 1) ≤ length bits
+      → word_of_lock (bits ++ more) t k ≡ word_of_lock bits t k
   unfolding word_of_lock
   word_at-more t k h = ap number_of (part-append (t + 7 * k) 7 bits more (omega arith))
 
-  pub first_role-more : (t : ℕ) → 28 ≤ t → t ≤ length bits → first_role (bits ++ more) t ≡ first_role bits t
+  pub first_role-more : (t : ℕ) → 28 ≤ t → t ≤ length bits
+      → first_role (bits ++ more) t ≡ first_role bits t
   unfolding first_role
   first_role-more t low h = simp (part-append (t - 7) 7 bits more (omega arith))
 
-  pub release-more : (t k : ℕ) → 28 ≤ t → t + 7 * (k + 1) ≤ length bits → release (bits ++ more) t k ≡ release bits t k
+  pub release-more : (t k : ℕ) → 28 ≤ t → t + 7 * (k + 1) ≤ length bits
+      → release (bits ++ more) t k ≡ release bits t k
   release-more t k low h =
-      ap (λ role. change_at role (word_of_lock (bits ++ more) t) k) (first_role-more t low (omega arith))
-      ∙ change_at-same (first_role bits t) (word_of_lock (bits ++ more) t) (word_of_lock bits t) k (λ j le. word_at-more t j (omega arith))
+      ap (λ role. change_at role (word_of_lock (bits ++ more) t) k)
+      (first_role-more t low (omega arith))
+      ∙ change_at-same (first_role bits t) (word_of_lock (bits ++ more) t) (word_of_lock bits t) k
+      (λ j le. word_at-more t j (omega arith))
 
   pub last_28-more : (t : ℕ) → 28 ≤ t → t ≤ length bits → last_28 (bits ++ more) t ≡ last_28 bits t
   last_28-more t low h = part-append (t - 28) 28 bits more (omega arith)
@@ -61,7 +74,8 @@ module _ (bits more : List Bool) where
   Finds-more p t f = record {
     after = f.after;
     here = IsPattern-more t f.here;
-    least = λ s after before here. f.least s after before (IsPattern-less s (omega (arith, f.here.heard)) here);
+    least = λ s after before here. f.least s after before
+        (IsPattern-less s (omega (arith, f.here.heard)) here);
   }
 
   pub Finds-less : (p t : ℕ) → t ≤ length bits → Finds (bits ++ more) p t → Finds bits p t
@@ -71,14 +85,16 @@ module _ (bits more : List Bool) where
     least = λ s after before here. f.least s after before (IsPattern-more s here);
   }
 
-  pub IsReleased-more : (t w : ℕ) {how : _} → 28 ≤ t → IsReleased bits t w how → IsReleased (bits ++ more) t w how
+  pub IsReleased-more : (t w : ℕ) {how : _} → 28 ≤ t → IsReleased bits t w how
+      → IsReleased (bits ++ more) t w how
   IsReleased-more t w {how} low r =
       let c = released-from bits t w how r in
       released-to (bits ++ more) t w how (simp length-append (omega (arith, r.heard)))
       (release-more t w low r.heard ∙ c.here)
       (λ j h. release-more t j low (omega (arith, r.heard)) ∙ c.least j h)
 
-  pub IsReleased-less : (t w : ℕ) {how : _} → 28 ≤ t → t + 7 * (w + 1) ≤ length bits → IsReleased (bits ++ more) t w how → IsReleased bits t w how
+  pub IsReleased-less : (t w : ℕ) {how : _} → 28 ≤ t → t + 7 * (w + 1) ≤ length bits
+      → IsReleased (bits ++ more) t w how → IsReleased bits t w how
   IsReleased-less t w {how} low heard r =
       let c = released-from (bits ++ more) t w how r in
       released-to bits t w how heard
@@ -86,11 +102,15 @@ module _ (bits more : List Bool) where
       (λ j h. sym (release-more t j low (omega (arith, heard))) ∙ c.least j h)
 
   -- the two tests of a word look at the words to it alone
-  pub wrong_until-more : (t k : ℕ) → t + 7 * (k + 1) ≤ length bits → wrong_until (word_of_lock (bits ++ more) t) k ≡ wrong_until (word_of_lock bits t) k
+  pub wrong_until-more : (t k : ℕ) → t + 7 * (k + 1) ≤ length bits
+      → wrong_until (word_of_lock (bits ++ more) t) k ≡ wrong_until (word_of_lock bits t) k
   wrong_until-more t k h =
-      wrong_in-same (word_of_lock (bits ++ more) t) (word_of_lock bits t) (k + 1 - marked_words) (k + 1 - (k + 1 - marked_words)) (λ j s. word_at-more t j (omega arith))
+      wrong_in-same (word_of_lock (bits ++ more) t) (word_of_lock bits t) (k + 1 - marked_words)
+      (k + 1 - (k + 1 - marked_words)) (λ j s. word_at-more t j (omega arith))
 
-  pub IsSecondPhasing1-more : (t k : ℕ) → 28 ≤ t → t + 7 * (k + 1) ≤ length bits → IsSecondPhasing1 (first_role bits t) (word_of_lock bits t) k → IsSecondPhasing1 (first_role (bits ++ more) t) (word_of_lock (bits ++ more) t) k
+  pub IsSecondPhasing1-more : (t k : ℕ) → 28 ≤ t → t + 7 * (k + 1) ≤ length bits
+      → IsSecondPhasing1 (first_role bits t) (word_of_lock bits t) k
+      → IsSecondPhasing1 (first_role (bits ++ more) t) (word_of_lock (bits ++ more) t) k
   IsSecondPhasing1-more t k low h second = record {
     two = second.two;
     dx = ap (λ first. role_of first k) (first_role-more t low (omega arith)) ∙ second.dx;
@@ -98,7 +118,9 @@ module _ (bits more : List Bool) where
     before = word_at-more t (k - 2) (omega arith) ∙ second.before;
   }
 
-  pub IsSecondPhasing1-less : (t k : ℕ) → 28 ≤ t → t + 7 * (k + 1) ≤ length bits → IsSecondPhasing1 (first_role (bits ++ more) t) (word_of_lock (bits ++ more) t) k → IsSecondPhasing1 (first_role bits t) (word_of_lock bits t) k
+  pub IsSecondPhasing1-less : (t k : ℕ) → 28 ≤ t → t + 7 * (k + 1) ≤ length bits
+      → IsSecondPhasing1 (first_role (bits ++ more) t) (word_of_lock (bits ++ more) t) k
+      → IsSecondPhasing1 (first_role bits t) (word_of_lock bits t) k
   IsSecondPhasing1-less t k low h second = record {
     two = second.two;
     dx = ap (λ first. role_of first k) (sym (first_role-more t low (omega arith))) ∙ second.dx;
@@ -119,7 +141,8 @@ module _ (bits more : List Bool) where
   Past-more (lock ∷ older) p past = (IsPast-more lock p past.0, Past-more older lock.from past.1)
 
 -- a search after past locks begins within the bits
-pub Past-within : (bits : List Bool) (locks : List Lock) (p : ℕ) → Past bits locks p → p ≤ length bits
+pub Past-within : (bits : List Bool) (locks : List Lock) (p : ℕ) → Past bits locks p
+    → p ≤ length bits
 unfolding Past
 Past-within bits [] p past = omega arith
 Past-within bits (lock ∷ older) p past = omega (arith, past.0.next, past.0.released.heard)

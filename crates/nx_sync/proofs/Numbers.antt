@@ -7,11 +7,13 @@ use Rattle.nx_code.specs.Word.{elements, elements_from, number_of, value_of}
 use Rattle.nx_code.proofs.WordLemmas.{value_of-le}
 
 -- bits of which others come after
-pub number_of-append : (xs ys : List Bool) → number_of (xs ++ ys) ≡ number_of xs + 2 ^ length xs * number_of ys
+pub number_of-append : (xs ys : List Bool)
+    → number_of (xs ++ ys) ≡ number_of xs + 2 ^ length xs * number_of ys
 unfolding number_of
 number_of-append [] ys = omega arith
 number_of-append (x ∷ xs) ys =
-    let e : 2 ^ suc (length xs) * number_of ys ≡ 2 * (2 ^ length xs * number_of ys) = rw pow-succ' (mul_assoc 2 (2 ^ length xs) (number_of ys)) in
+    let e : 2 ^ suc (length xs) * number_of ys ≡ 2 * (2 ^ length xs * number_of ys) =
+    rw pow-succ' (mul_assoc 2 (2 ^ length xs) (number_of ys)) in
     omega (arith, number_of-append xs ys, e)
 
 -- without the first bit
@@ -37,7 +39,8 @@ same_value false true e = absurd (omega arith)
 same_value false false e = refl
 
 -- as many bits with the same number are the same bits
-pub number_of-same : (xs ys : List Bool) → length xs ≡ length ys → number_of xs ≡ number_of ys → xs ≡ ys
+pub number_of-same : (xs ys : List Bool) → length xs ≡ length ys → number_of xs ≡ number_of ys
+    → xs ≡ ys
 unfolding number_of
 number_of-same [] [] l e = refl
 number_of-same [] (y ∷ ys) l e = absurd (omega arith)
@@ -52,7 +55,8 @@ number_of-one : (b : Bool) → number_of (b ∷ []) ≡ value_of b
 unfolding number_of
 number_of-one b = omega arith
 
-pub number_of-next : (n : ℕ) (xs : List Bool) (b : Bool) → length xs ≡ n + 1 → number_of (drop 1 xs ++ b ∷ []) ≡ number_of xs / 2 + 2 ^ n * value_of b
+pub number_of-next : (n : ℕ) (xs : List Bool) (b : Bool) → length xs ≡ n + 1
+    → number_of (drop 1 xs ++ b ∷ []) ≡ number_of xs / 2 + 2 ^ n * value_of b
 number_of-next n xs b l =
     let e : length (drop 1 xs) ≡ n = simp length-drop (omega arith) in
     let make : ℕ → ℕ → ℕ → ℕ = λ a k v. a + 2 ^ k * v in
@@ -71,7 +75,8 @@ third_on a b rest = omega (arith, value_of-le a, value_of-le b)
 
 -- 28 bits moved up by seven
 
-pub number_of-next_word : (xs ys : List Bool) → length xs ≡ 28 → length ys ≡ 7 → number_of (drop 7 xs ++ ys) ≡ number_of xs / 2 ^ 7 + 2 ^ 21 * number_of ys
+pub number_of-next_word : (xs ys : List Bool) → length xs ≡ 28 → length ys ≡ 7
+    → number_of (drop 7 xs ++ ys) ≡ number_of xs / 2 ^ 7 + 2 ^ 21 * number_of ys
 number_of-next_word xs ys l m =
     let e : length (drop 7 xs) ≡ 21 = simp length-drop (omega arith) in
     number_of-append (drop 7 xs) ys ∙ ap₂ (λ a n. a + 2 ^ n * number_of ys) (number_of-drop 7 xs) e

@@ -36,8 +36,10 @@ role_after-dx window e = rw e refl
 pub role_after-rx : (window : ℕ) → window ≡ window_before_rx → role_after window ≡ Some Rx
 role_after-rx window e = rw e refl
 
-pub role_after-none : (window : ℕ) → (window ≡ window_before_dx → ⊥) → (window ≡ window_before_rx → ⊥) → role_after window ≡ None
-role_after-none window d r = rw (ne_eqb window window_before_dx d, ne_eqb window window_before_rx r) refl
+pub role_after-none : (window : ℕ) → (window ≡ window_before_dx → ⊥)
+    → (window ≡ window_before_rx → ⊥) → role_after window ≡ None
+role_after-none window d r =
+    rw (ne_eqb window window_before_dx d, ne_eqb window window_before_rx r) refl
 
 -- which of the two patterns these 28 bits are, by what the tests of their number answer
 pub record IsNeither (w : List Bool) : Type 0 where
@@ -61,31 +63,42 @@ which w l = elim (cases_eq (number_of w) window_before_dx) [
   ]
 ]
 
-pub length-last_28 : (bits : List Bool) (t : ℕ) → 28 ≤ t → t ≤ length bits → length (last_28 bits t) ≡ 28
+pub length-last_28 : (bits : List Bool) (t : ℕ) → 28 ≤ t → t ≤ length bits
+    → length (last_28 bits t) ≡ 28
 length-last_28 bits t low h = simp (length-take, length-drop) (omega arith)
 
 -- the word before the bit count t is the last of the 28 bits before it
-pub last_word-window : (bits : List Bool) (t : ℕ) → 28 ≤ t → t ≤ length bits → take 7 (drop (t - 7) bits) ≡ drop 21 (last_28 bits t)
+pub last_word-window : (bits : List Bool) (t : ℕ) → 28 ≤ t → t ≤ length bits
+    → take 7 (drop (t - 7) bits) ≡ drop 21 (last_28 bits t)
 last_word-window bits t low h =
     let e : t - 28 + 21 ≡ t - 7 = omega arith in
-    ap (λ i. take 7 (drop i bits)) (sym e) ∙ (ap (take 7) (sym (drop-drop 21 (t - 28) bits)) ∙ sym (drop-take 21 7 (drop (t - 28) bits)))
+    ap (λ i. take 7 (drop i bits)) (sym e)
+    ∙ (ap (take 7) (sym (drop-drop 21 (t - 28) bits))
+    ∙ sym (drop-take 21 7 (drop (t - 28) bits)))
 
 -- the role that follows a pattern
-pub first_role-dx : (bits : List Bool) (t : ℕ) → 28 ≤ t → t ≤ length bits → last_28 bits t ≡ before_dx → first_role bits t ≡ Dx
+pub first_role-dx : (bits : List Bool) (t : ℕ) → 28 ≤ t → t ≤ length bits
+    → last_28 bits t ≡ before_dx → first_role bits t ≡ Dx
 unfolding first_role before_dx number_of elements elements_from
 first_role-dx bits t low h e = rw (last_word-window bits t low h ∙ ap (drop 21) e) refl
 
-pub first_role-rx : (bits : List Bool) (t : ℕ) → 28 ≤ t → t ≤ length bits → last_28 bits t ≡ before_rx → first_role bits t ≡ Rx
+pub first_role-rx : (bits : List Bool) (t : ℕ) → 28 ≤ t → t ≤ length bits
+    → last_28 bits t ≡ before_rx → first_role bits t ≡ Rx
 unfolding first_role before_rx number_of elements elements_from
 first_role-rx bits t low h e = rw (last_word-window bits t low h ∙ ap (drop 21) e) refl
 
 -- the last 28 bits behind the padding, where so many were heard
-pub window-heard : (bits : List Bool) → 28 ≤ length bits → keep_last 28 (replicate 28 false ++ bits) ≡ last_28 bits (length bits)
+pub window-heard : (bits : List Bool) → 28 ≤ length bits
+    → keep_last 28 (replicate 28 false ++ bits) ≡ last_28 bits (length bits)
 window-heard bits h =
-    keep_last-padded 28 bits h ∙ sym (take_all 28 (drop (length bits - 28) bits) (simp length-drop (omega arith)))
+    keep_last-padded 28 bits h
+    ∙ sym (take_all 28 (drop (length bits - 28) bits) (simp length-drop (omega arith)))
 
 -- the number of the last seven of them
-pub newest_word : (bits : List Bool) → 28 ≤ length bits → number_of (keep_last 28 (replicate 28 false ++ bits)) / 2 ^ 21 ≡ number_of (take 7 (drop (length bits - 7) bits))
+pub newest_word : (bits : List Bool) → 28 ≤ length bits
+    → number_of (keep_last 28 (replicate 28 false ++ bits)) / 2 ^ 21
+    ≡ number_of (take 7 (drop (length bits - 7) bits))
 newest_word bits h =
     sym (number_of-drop 21 (keep_last 28 (replicate 28 false ++ bits)))
-    ∙ ap number_of (ap (drop 21) (window-heard bits h) ∙ sym (last_word-window bits (length bits) h (omega arith)))
+    ∙ ap number_of (ap (drop 21) (window-heard bits h)
+    ∙ sym (last_word-window bits (length bits) h (omega arith)))

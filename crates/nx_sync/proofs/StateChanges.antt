@@ -19,7 +19,8 @@ pattern_or_not bits t = elim (cases_lt t 28) [
     | inr heard ↦ elim (which (last_28 bits t) (length-last_28 bits t enough heard)) [
       | dx e _ ↦ inl (record { enough = enough; heard = heard; pattern = inl e })
       | rx e _ ↦ inl (record { enough = enough; heard = heard; pattern = inr e })
-      | neither not _ ↦ inr (λ here. elim here.pattern [ inl d ↦ not.not_dx d | inr r ↦ not.not_rx r ])
+      | neither not _ ↦ inr (λ here.
+          elim here.pattern [ inl d ↦ not.not_dx d | inr r ↦ not.not_rx r ])
     ]
   ]
 ]
@@ -38,7 +39,9 @@ record Onward (bits : List Bool) (locks : List Lock) (now : Now) : Type 0 where
   standing : WhatStands bits
   one : OneMore bits locks now standing.locks standing.now
 
-onward_locked : (bits : List Bool) (b : Bool) (locks : List Lock) (p t k : ℕ) → IsLocked bits locks p t → length bits + 1 ≡ t + 7 * (k + 1) → (how : Option Change) → release (bits ++ b ∷ []) t k ≡ how → Onward (bits ++ b ∷ []) locks (locked p t)
+onward_locked : (bits : List Bool) (b : Bool) (locks : List Lock) (p t k : ℕ)
+    → IsLocked bits locks p t → length bits + 1 ≡ t + 7 * (k + 1) → (how : Option Change)
+    → release (bits ++ b ∷ []) t k ≡ how → Onward (bits ++ b ∷ []) locks (locked p t)
 onward_locked bits b locks p t k now e (Some how) h =
     let lock : Lock = record { from = p; at = t; last = k; how = how } in
     record {
@@ -53,39 +56,60 @@ onward_locked bits b locks p t k now e None h = record {
   standing = record {
     locks = locks;
     now = locked p t;
-    stands = one.stands_on bits b locks p t now (λ j f. let d : j ≡ k = omega arith in ap (release (bits ++ b ∷ []) t) d ∙ h);
+    stands = one.stands_on bits b locks p t now
+        (λ j f. let d : j ≡ k = omega arith in ap (release (bits ++ b ∷ []) t) d ∙ h);
   };
   one = still_stands;
 }
 
-onward : (bits : List Bool) (b : Bool) (locks : List Lock) (now : Now) → IsNow bits locks now → Onward (bits ++ b ∷ []) locks now
+onward : (bits : List Bool) (b : Bool) (locks : List Lock) (now : Now) → IsNow bits locks now
+    → Onward (bits ++ b ∷ []) locks now
 onward bits b locks (hunting p) n = elim (pattern_or_not (bits ++ b ∷ []) (length bits + 1)) [
   | inl here ↦ record {
-    standing = record { locks = locks; now = locked p (length bits + 1); stands = one.locks_now bits b locks p n here };
+    standing = record {
+      locks = locks;
+      now = locked p (length bits + 1);
+      stands =
+          one.locks_now bits b locks p n here;
+    };
     one = now_finds (length_push bits b);
   }
   | inr absent ↦ record {
-    standing = record { locks = locks; now = hunting p; stands = one.hunts_on bits b locks p n absent };
+    standing = record {
+      locks = locks;
+      now = hunting p;
+      stands =
+          one.hunts_on bits b locks p n absent;
+    };
     one = still_hunts;
   }
 ]
 onward bits b locks (locked p t) n = elim (word_or_not (length bits + 1) t) [
   | inl w ↦ onward_locked bits b locks p t w.0 n w.1 (release (bits ++ b ∷ []) t w.0) refl
   | inr none ↦ record {
-    standing = record { locks = locks; now = locked p t; stands = one.stands_on bits b locks p t n (λ k e. absurd (none k e)) };
+    standing = record {
+      locks = locks;
+      now = locked p t;
+      stands =
+          one.stands_on bits b locks p t n (λ k e. absurd (none k e));
+    };
     one = still_stands;
   }
 ]
 
 -- what one more bit makes of what stood, for whatever stands after it
-pub one_more : (bits : List Bool) (b : Bool) (ls ks : List Lock) (m n : Now) → IsNow bits ls m → IsNow (bits ++ b ∷ []) ks n → OneMore (bits ++ b ∷ []) ls m ks n
+pub one_more : (bits : List Bool) (b : Bool) (ls ks : List Lock) (m n : Now) → IsNow bits ls m
+    → IsNow (bits ++ b ∷ []) ks n → OneMore (bits ++ b ∷ []) ls m ks n
 one_more bits b ls ks m n a c =
     let way = onward bits b ls m a in
-    let locks = locks-unique (bits ++ b ∷ []) way.standing.locks ks way.standing.now n way.standing.stands c in
-    let now = now-unique (bits ++ b ∷ []) way.standing.locks ks way.standing.now n way.standing.stands c in
+    let locks = locks-unique (bits ++ b ∷ []) way.standing.locks ks way.standing.now n
+    way.standing.stands c in
+    let now = now-unique (bits ++ b ∷ []) way.standing.locks ks way.standing.now n
+    way.standing.stands c in
     subst₂ (λ ks n. OneMore (bits ++ b ∷ []) ls m ks n) locks now way.one
 
-pub GoesOn-one : (bits : List Bool) {ls ks : List Lock} {m n : Now} → OneMore bits ls m ks n → GoesOn ls m ks n
+pub GoesOn-one : (bits : List Bool) {ls ks : List Lock} {m n : Now} → OneMore bits ls m ks n
+    → GoesOn ls m ks n
 GoesOn-one bits still_hunts = hunts_on
 GoesOn-one bits (now_finds e) = finds_one
 GoesOn-one bits still_stands = stands_still
@@ -108,12 +132,14 @@ GoesOn-extends stands_still = same
 GoesOn-extends (found_and_past lock e f) = Extends-trans f (newer same)
 GoesOn-extends (is_past lock e h f) = Extends-trans f (newer same)
 
-pub GoesOn-trans : {ls ks js : List Lock} {l m n : Now} → GoesOn ls l ks m → GoesOn ks m js n → GoesOn ls l js n
+pub GoesOn-trans : {ls ks js : List Lock} {l m n : Now} → GoesOn ls l ks m → GoesOn ks m js n
+    → GoesOn ls l js n
 GoesOn-trans hunts_on g = g
 GoesOn-trans stands_still g = g
 GoesOn-trans finds_one stands_still = finds_one
 GoesOn-trans finds_one (is_past lock e h f) = found_and_past lock e f
-GoesOn-trans (found_and_past lock e f) g = found_and_past lock e (Extends-trans (GoesOn-extends g) f)
+GoesOn-trans (found_and_past lock e f) g =
+    found_and_past lock e (Extends-trans (GoesOn-extends g) f)
 GoesOn-trans (is_past lock e h f) g = is_past lock e h (Extends-trans (GoesOn-extends g) f)
 
 pub GoesOn-same : (ls : List Lock) (n : Now) → GoesOn ls n ls n
@@ -121,7 +147,8 @@ GoesOn-same ls (hunting p) = hunts_on
 GoesOn-same ls (locked p t) = stands_still
 
 -- any more bits
-more_bits : (more bits : List Bool) (locks : List Lock) (now : Now) → IsNow bits locks now → From locks now (bits ++ more)
+more_bits : (more bits : List Bool) (locks : List Lock) (now : Now) → IsNow bits locks now
+    → From locks now (bits ++ more)
 more_bits [] bits locks now n =
     subst (From locks now) (sym (append-nil bits)) (record {
       standing = record { locks = locks; now = now; stands = n };
@@ -129,7 +156,8 @@ more_bits [] bits locks now n =
     })
 more_bits (b ∷ more) bits locks now n =
     let step = onward bits b locks now n in
-    let rest = more_bits more (bits ++ b ∷ []) step.standing.locks step.standing.now step.standing.stands in
+    let rest = more_bits more (bits ++ b ∷ []) step.standing.locks step.standing.now
+    step.standing.stands in
     subst (From locks now) (append_assoc bits (b ∷ []) more) (record {
       standing = rest.standing;
       goes = GoesOn-trans (GoesOn-one (bits ++ b ∷ []) step.one) rest.goes;
@@ -148,15 +176,19 @@ pub standing_after : (bits : List Bool) → WhatStands bits
 standing_after bits = (more_bits bits [] [] (hunting 0) first_hunt).standing
 
 -- what stands after more bits goes on from what stood
-pub goes-on : (bits more : List Bool) (ls ks : List Lock) (m n : Now) → IsNow bits ls m → IsNow (bits ++ more) ks n → GoesOn ls m ks n
+pub goes-on : (bits more : List Bool) (ls ks : List Lock) (m n : Now) → IsNow bits ls m
+    → IsNow (bits ++ more) ks n → GoesOn ls m ks n
 goes-on bits more ls ks m n a b =
     let way = more_bits more bits ls m a in
-    let locks = locks-unique (bits ++ more) way.standing.locks ks way.standing.now n way.standing.stands b in
-    let now = now-unique (bits ++ more) way.standing.locks ks way.standing.now n way.standing.stands b in
+    let locks = locks-unique (bits ++ more) way.standing.locks ks way.standing.now n
+    way.standing.stands b in
+    let now = now-unique (bits ++ more) way.standing.locks ks way.standing.now n way.standing.stands
+    b in
     subst₂ (λ ks n. GoesOn ls m ks n) locks now way.goes
 
 -- what stood after the first of these bits
-pub stood_before : (bits more : List Bool) (locks : List Lock) (now : Now) → IsNow (bits ++ more) locks now → Stood bits locks now
+pub stood_before : (bits more : List Bool) (locks : List Lock) (now : Now)
+    → IsNow (bits ++ more) locks now → Stood bits locks now
 stood_before bits more locks now n =
     let a = standing_after bits in
     record {

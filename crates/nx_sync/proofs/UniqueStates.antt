@@ -37,28 +37,35 @@ module _ (bits : List Bool) where
   Past-unique (l ∷ ls) p q a b = a.0.next ∙ sym b.0.next
 
   -- two locks that follow the same past ones are equal
-  pub next-unique : (x y : Lock) (ls : List Lock) (p q : ℕ) → Past bits (x ∷ ls) p → Past bits (y ∷ ls) q → x ≡ y
+  pub next-unique : (x y : Lock) (ls : List Lock) (p q : ℕ) → Past bits (x ∷ ls) p
+      → Past bits (y ∷ ls) q → x ≡ y
   unfolding Past
   next-unique x y ls p q a b =
       let from : x.from ≡ y.from = Past-unique ls x.from y.from a.1 b.1 in
       let found : Finds bits x.from y.at = subst (λ n. Finds bits n y.at) (sym from) b.0.found in
       let at : x.at ≡ y.at = Finds-unique x.from x.at y.at a.0.found found in
-      let released : IsReleased bits x.at y.last y.how = subst (λ n. IsReleased bits n y.last y.how) (sym at) b.0.released in
-      let last : x.last ≡ y.last = released-word bits x.at x.last y.last x.how y.how a.0.released released in
-      let how : x.how ≡ y.how = released-how bits x.at x.last y.last x.how y.how a.0.released released in
-      let make : ℕ → ℕ → ℕ → Change → Lock = λ f t w h. record { from = f; at = t; last = w; how = h } in
+      let released : IsReleased bits x.at y.last y.how =
+      subst (λ n. IsReleased bits n y.last y.how) (sym at) b.0.released in
+      let last : x.last ≡ y.last =
+      released-word bits x.at x.last y.last x.how y.how a.0.released released in
+      let how : x.how ≡ y.how =
+      released-how bits x.at x.last y.last x.how y.how a.0.released released in
+      let make : ℕ → ℕ → ℕ → Change → Lock =
+      λ f t w h. record { from = f; at = t; last = w; how = h } in
       ap (λ n. make n x.at x.last x.how) from
       ∙ (ap (λ n. make y.from n x.last x.how) at
       ∙ (ap (λ n. make y.from y.at n x.how) last ∙ ap (λ h. make y.from y.at y.last h) how))
 
   -- an older part of past locks is past locks too
-  pub Past-part : {ls ks : List Lock} → Extends ls ks → (p : ℕ) → Past bits ls p → (q : ℕ) × Past bits ks q
+  pub Past-part : {ls ks : List Lock} → Extends ls ks → (p : ℕ) → Past bits ls p
+      → (q : ℕ) × Past bits ks q
   unfolding Past
   Past-part same p past = (p, past)
   Past-part (newer {lock} {locks} {older} e) p past = Past-part e lock.from past.1
 
   -- of two lists of past locks one has the other as its oldest part
-  pub compare : (ls ks : List Lock) (p q : ℕ) → Past bits ls p → Past bits ks q → Extends ls ks ⊎ Extends ks ls
+  pub compare : (ls ks : List Lock) (p q : ℕ) → Past bits ls p → Past bits ks q
+      → Extends ls ks ⊎ Extends ks ls
   unfolding Past
   compare ls [] p q a b = inl (Extends-nil ls)
   compare ls (k ∷ ks) p q a b = elim (compare ls ks p k.from a b.1) [
@@ -73,7 +80,8 @@ module _ (bits : List Bool) where
   ]
 
   -- a search that goes on from past locks that are not the newest finds the next one
-  pub past_next : (ls ks : List Lock) (x : Lock) (p q : ℕ) → Past bits ks p → Extends ls (x ∷ ks) → Past bits ls q → Finds bits p x.at × IsReleased bits x.at x.last x.how
+  pub past_next : (ls ks : List Lock) (x : Lock) (p q : ℕ) → Past bits ks p → Extends ls (x ∷ ks)
+      → Past bits ls q → Finds bits p x.at × IsReleased bits x.at x.last x.how
   unfolding Past
   past_next ls ks x p q a e b =
       let part = Past-part e q b in
@@ -81,7 +89,8 @@ module _ (bits : List Bool) where
       (subst (λ n. Finds bits n x.at) from part.1.0.found, part.1.0.released)
 
   -- so nothing that stands now has newer past locks
-  pub now-newest : (ls ks : List Lock) (now : Now) (x : Lock) (q : ℕ) → IsNow bits ks now → Extends ls (x ∷ ks) → Past bits ls q → ⊥
+  pub now-newest : (ls ks : List Lock) (now : Now) (x : Lock) (q : ℕ) → IsNow bits ks now
+      → Extends ls (x ∷ ks) → Past bits ls q → ⊥
   now-newest ls ks (hunting p) x q n e b =
       let found = past_next ls ks x p q n.past e b in
       n.none x.at found.0.after found.0.here
@@ -99,8 +108,16 @@ module _ (bits : List Bool) where
       let past = IsNow-past ls m a in
       let older = IsNow-past ks n b in
       elim (compare ls ks past.0 older.0 past.1 older.1) [
-        | inl e ↦ elim (next_lock e) [ equal h ↦ h | next x f ↦ absurd (now-newest ls ks n x past.0 b f past.1) ]
-        | inr e ↦ elim (next_lock e) [ equal h ↦ sym h | next x f ↦ absurd (now-newest ks ls m x older.0 a f older.1) ]
+        | inl e ↦ elim (next_lock e) [
+          | equal h ↦ h
+          | next x f ↦
+              absurd (now-newest ls ks n x past.0 b f past.1)
+        ]
+        | inr e ↦ elim (next_lock e) [
+          | equal h ↦ sym h
+          | next x f ↦
+              absurd (now-newest ks ls m x older.0 a f older.1)
+        ]
       ]
 
   pub now-same : (ls : List Lock) (m n : Now) → IsNow bits ls m → IsNow bits ls n → m ≡ n

@@ -31,25 +31,33 @@ IsFound cut = AreFoundIn (events_in cut.run) cut.run.found
 abbrev runs_of : List CutRun → List Run
 runs_of cuts = map (λ (cut : CutRun). cut.run) cuts
 
-chain_found : (first : SavedState) (cuts : List CutRun) (last : SavedState) → IsChain first (runs_of cuts) last → All IsFound cuts
+chain_found : (first : SavedState) (cuts : List CutRun) (last : SavedState)
+    → IsChain first (runs_of cuts) last → All IsFound cuts
 chain_found first [] last chain = All-nil IsFound
 chain_found first (cut ∷ cuts) last chain =
     All-cons IsFound cut cuts chain.1.found (chain_found chain.0 cuts last chain.2)
 
 -- a copy of one of the runs is among all
-in_all : (cuts : List CutRun) (cut : CutRun) (copy : TaggedCopy) → Contains cuts cut → Contains (copies_in cut.run) copy → Contains (all_copies (runs_of cuts)) copy
+in_all : (cuts : List CutRun) (cut : CutRun) (copy : TaggedCopy) → Contains cuts cut
+    → Contains (copies_in cut.run) copy → Contains (all_copies (runs_of cuts)) copy
 in_all cuts cut copy c d = at cuts cut copy c.0 c.1 c.2 d
   where
-    at : (cuts : List CutRun) (cut : CutRun) (copy : TaggedCopy) (k : ℕ) → k < length cuts → get_or cuts k cut ≡ cut → Contains (copies_in cut.run) copy → Contains (all_copies (runs_of cuts)) copy
+    at : (cuts : List CutRun) (cut : CutRun) (copy : TaggedCopy) (k : ℕ) → k < length cuts
+        → get_or cuts k cut ≡ cut → Contains (copies_in cut.run) copy
+        → Contains (all_copies (runs_of cuts)) copy
     at [] cut copy k lt e d = absurd (omega arith)
     at (x ∷ cuts) cut copy zero lt e d =
-        Contains-append_left (copies_in x.run) (all_copies (runs_of cuts)) copy (subst (λ (y : CutRun). Contains (copies_in y.run) copy) (sym e) d)
+        Contains-append_left (copies_in x.run) (all_copies (runs_of cuts)) copy
+        (subst (λ (y : CutRun). Contains (copies_in y.run) copy) (sym e) d)
     at (x ∷ cuts) cut copy (suc k) lt e d =
-        Contains-append_right (copies_in x.run) (all_copies (runs_of cuts)) copy (at cuts cut copy k (omega arith) e d)
+        Contains-append_right (copies_in x.run) (all_copies (runs_of cuts)) copy
+        (at cuts cut copy k (omega arith) e d)
 
-module _ (first last : SavedState) (runs : List Run) (message : MessageView) (chain : IsChain first runs last) (h : IsHeardInTimeOver first runs message) where
+module _ (first last : SavedState) (runs : List Run) (message : MessageView)
+    (chain : IsChain first runs last) (h : IsHeardInTimeOver first runs message) where
   each_found : All IsFound h.cuts
-  each_found = chain_found first h.cuts last (subst (λ (rs : List Run). IsChain first rs last) h.whole chain)
+  each_found = chain_found first h.cuts last
+      (subst (λ (rs : List Run). IsChain first rs last) h.whole chain)
 
   found_in : (cut : CutRun) → Contains h.cuts cut → IsFound cut
   found_in cut there = All-contains IsFound h.cuts cut each_found there
@@ -62,7 +70,8 @@ module _ (first last : SavedState) (runs : List Run) (message : MessageView) (ch
 
   -- the copy of a sending of the message, with what is in force there
   abbrev copy_at : CutRun → ℕ → TaggedCopy
-  copy_at cut place = tag (in_force_in cut place) (copy_of_sending (record { message = message; place = place }))
+  copy_at cut place = tag (in_force_in cut place)
+      (copy_of_sending (record { message = message; place = place }))
 
   -- each copy that bears the identity is that of a sending of the message in one of the runs
   record IsOfSending (copy : TaggedCopy) : Type 0 where
@@ -81,30 +90,47 @@ module _ (first last : SavedState) (runs : List Run) (message : MessageView) (ch
   of_found cut among copy there named =
       let f = found_in cut among in
       let bits = elements_among (events_in cut.run) in
-      let sent = h.alone cut copy among there (same_identity-true copy.identity message.identity named) in
+      let sent = h.alone cut copy among there
+      (same_identity-true copy.identity message.identity named) in
       let sending : Sending = record { message = message; place = copy.place } in
-      let inside : Contains (found_to_end bits f.locks f.now) copy = subst (λ (cs : List FoundCopy). Contains cs copy) f.whole there in
+      let inside : Contains (found_to_end bits f.locks f.now) copy =
+      subst (λ (cs : List FoundCopy). Contains cs copy) f.whole there in
       let one = one_found bits cut.parts sending f.locks f.now (h.cut cut among) sent f.stands in
-      let this = one_of_key (λ (c : FoundCopy). c.place) (found_to_end bits f.locks f.now) copy (found_rise bits f.locks f.now f.stands) inside in
+      let this = one_of_key (λ (c : FoundCopy). c.place) (found_to_end bits f.locks f.now) copy
+      (found_rise bits f.locks f.now f.stands) inside in
       let same : copy ∷ [] ≡ copy_of_sending sending ∷ [] = sym this ∙ one in
       let is : copy ≡ copy_of_sending sending = cc in
-      record { cut = cut; place = copy.place; sent = record { among = among; sent = sent }; is = ap (tag (in_force_in cut copy.place)) is }
+      record {
+        cut = cut;
+        place = copy.place;
+        sent = record { among = among; sent = sent };
+        is =
+            ap (tag (in_force_in cut copy.place)) is;
+      }
 
   of_run : (cut : CutRun) → Contains h.cuts cut → All IfNamed (copies_in cut.run)
   unfolding tagged_copies tag
   of_run cut among =
       All-map IfNamed (λ (copy : FoundCopy). tag (in_force_in cut copy.place) copy) cut.run.found
-      (All-weaker (Contains cut.run.found) (λ (copy : FoundCopy). same_identity copy.identity message.identity ≡ true → IsOfSending (tag (in_force_in cut copy.place) copy)) (λ copy there named. of_found cut among copy there named) cut.run.found (All-contains_itself cut.run.found))
+      (All-weaker (Contains cut.run.found)
+      (λ (copy : FoundCopy). same_identity copy.identity message.identity ≡ true
+      → IsOfSending (tag (in_force_in cut copy.place) copy))
+      (λ copy there named. of_found cut among copy there named) cut.run.found
+      (All-contains_itself cut.run.found))
 
-  of_runs : (cuts : List CutRun) → All (Contains h.cuts) cuts → All IfNamed (all_copies (runs_of cuts))
+  of_runs : (cuts : List CutRun) → All (Contains h.cuts) cuts
+      → All IfNamed (all_copies (runs_of cuts))
   of_runs [] among = All-nil IfNamed
   of_runs (cut ∷ cuts) among =
-      All-append IfNamed (copies_in cut.run) (all_copies (runs_of cuts)) (of_run cut (All-head (Contains h.cuts) cut cuts among)) (of_runs cuts (All-tail (Contains h.cuts) cut cuts among))
+      All-append IfNamed (copies_in cut.run) (all_copies (runs_of cuts))
+      (of_run cut (All-head (Contains h.cuts) cut cuts among))
+      (of_runs cuts (All-tail (Contains h.cuts) cut cuts among))
 
   all_of_sendings : All IsOfSending (copies_of message.identity heard)
   unfolding copies_of
   all_of_sendings =
-      filter_all (λ (c : TaggedCopy). same_identity c.identity message.identity) IsOfSending heard (of_runs h.cuts (All-contains_itself h.cuts))
+      filter_all (λ (c : TaggedCopy). same_identity c.identity message.identity) IsOfSending heard
+      (of_runs h.cuts (All-contains_itself h.cuts))
 
   -- and there is one
   some_heard : Contains (copies_of message.identity heard) (copy_at h.at h.place)
@@ -115,15 +141,19 @@ module _ (first last : SavedState) (runs : List Run) (message : MessageView) (ch
       let sending : Sending = record { message = message; place = h.place } in
       let there : Contains h.at.run.found (copy_of_sending sending) =
       subst (λ (cs : List FoundCopy). Contains cs (copy_of_sending sending)) (sym f.whole)
-      (sending_in_end bits h.at.parts sending f.locks f.now (h.cut h.at h.sent.among) h.sent.sent f.stands) in
-      contains_filter (λ (c : TaggedCopy). same_identity c.identity message.identity) heard (copy_at h.at h.place)
+      (sending_in_end bits h.at.parts sending f.locks f.now (h.cut h.at h.sent.among) h.sent.sent
+      f.stands) in
+      contains_filter (λ (c : TaggedCopy). same_identity c.identity message.identity) heard
+      (copy_at h.at h.place)
       (in_all h.cuts h.at (copy_at h.at h.place) h.sent.among
-      (contains_map (λ (copy : FoundCopy). tag (in_force_in h.at copy.place) copy) h.at.run.found (copy_of_sending sending) there))
+      (contains_map (λ (copy : FoundCopy). tag (in_force_in h.at copy.place) copy) h.at.run.found
+      (copy_of_sending sending) there))
       (same_itself message.identity)
 
   no_errors : errors_of (text_of message.lines) ≡ 0
   no_errors =
-      sending_errors (elements_among (events_in h.at.run)) h.at.parts (record { message = message; place = h.place }) (h.cut h.at h.sent.among) h.sent.sent
+      sending_errors (elements_among (events_in h.at.run)) h.at.parts
+      (record { message = message; place = h.place }) (h.cut h.at h.sent.among) h.sent.sent
 
   good_of : (copy : TaggedCopy) → IsOfSending copy → IsTrue (is_good copy)
   unfolding tag
@@ -138,17 +168,22 @@ module _ (first last : SavedState) (runs : List Run) (message : MessageView) (ch
   unfolding tag
   close_of one other o p =
       let near = h.close o.cut p.cut o.place p.place o.sent p.sent in
-      let m : one.moment ≡ (in_force_in o.cut o.place).moment = ap (λ (c : TaggedCopy). c.moment) o.is in
-      let n : other.moment ≡ (in_force_in p.cut p.place).moment = ap (λ (c : TaggedCopy). c.moment) p.is in
+      let m : one.moment ≡ (in_force_in o.cut o.place).moment =
+      ap (λ (c : TaggedCopy). c.moment) o.is in
+      let n : other.moment ≡ (in_force_in p.cut p.place).moment =
+      ap (λ (c : TaggedCopy). c.moment) p.is in
       omega arith
 
-  named_first : (first : TaggedCopy) (rest : List TaggedCopy) → copies_of message.identity heard ≡ first ∷ rest
+  named_first : (first : TaggedCopy) (rest : List TaggedCopy)
+      → copies_of message.identity heard ≡ first ∷ rest
       → same_identity first.identity message.identity ≡ true
   unfolding copies_of
   named_first first rest e =
-      first_passes (λ (c : TaggedCopy). same_identity c.identity message.identity) heard first rest e
+      first_passes (λ (c : TaggedCopy). same_identity c.identity message.identity) heard first rest
+      e
 
-  repeats : (one : TaggedCopy) (rest : List TaggedCopy) → copies_of message.identity heard ≡ one ∷ rest
+  repeats : (one : TaggedCopy) (rest : List TaggedCopy)
+      → copies_of message.identity heard ≡ one ∷ rest
       → AreRepeats first.entries message.identity heard one rest
   repeats one rest e =
       let each : All IsOfSending (one ∷ rest) = subst (All IsOfSending) e all_of_sendings in
@@ -156,26 +191,35 @@ module _ (first last : SavedState) (runs : List Run) (message : MessageView) (ch
         heard = e;
         numbered = h.numbered;
         unknown = subst (IsUnknownAtFirst first.entries message.identity) heard_is h.unknown;
-        good = All-weaker IsOfSending (λ (copy : TaggedCopy). IsTrue (is_good copy)) good_of (one ∷ rest) each;
-        selected = All-weaker IsOfSending (λ (copy : TaggedCopy). IsTrue copy.selected) selected_of (one ∷ rest) each;
-        close = λ a b c d. close_of a b (All-contains IsOfSending (one ∷ rest) a each c) (All-contains IsOfSending (one ∷ rest) b each d);
+        good = All-weaker IsOfSending (λ (copy : TaggedCopy). IsTrue (is_good copy)) good_of
+            (one ∷ rest) each;
+        selected = All-weaker IsOfSending (λ (copy : TaggedCopy). IsTrue copy.selected) selected_of
+            (one ∷ rest) each;
+        close = λ a b c d. close_of a b (All-contains IsOfSending (one ∷ rest) a each c)
+            (All-contains IsOfSending (one ∷ rest) b each d);
         few = λ before between after later whole none named.
-            h.few before between after one later (heard_is ∙ whole) none (named_first one rest e) named;
+            h.few before between after one later (heard_is ∙ whole) none (named_first one rest e)
+            named;
       }
 
   pub chain_once : IsPrintedOnce message (all_printed runs)
   unfolding tag
   chain_once =
-      let start_of = has_first (copies_of message.identity heard) (copy_at h.at h.place) some_heard in
+      let start_of = has_first (copies_of message.identity heard) (copy_at h.at h.place)
+      some_heard in
       let all = repeats start_of.first start_of.rest start_of.whole in
       let of =
-      All-head IsOfSending start_of.first start_of.rest (subst (All IsOfSending) start_of.whole all_of_sendings) in
+      All-head IsOfSending start_of.first start_of.rest
+      (subst (All IsOfSending) start_of.whole all_of_sendings) in
       let log_is : all_printed runs ≡ printed_copies first.entries heard =
-      chain_prints first.entries first runs last refl chain ∙ ap (printed_copies first.entries) heard_is in
-      let text : start_of.first.text ≡ text_of message.lines = ap (λ (c : TaggedCopy). c.text) of.is in
+      chain_prints first.entries first runs last refl chain
+      ∙ ap (printed_copies first.entries) heard_is in
+      let text : start_of.first.text ≡ text_of message.lines =
+      ap (λ (c : TaggedCopy). c.text) of.is in
       record {
         copy = start_of.first;
-        one = ap (copies_of message.identity) log_is ∙ once first.entries message.identity heard start_of.first start_of.rest all;
+        one = ap (copies_of message.identity) log_is
+            ∙ once first.entries message.identity heard start_of.first start_of.rest all;
         full = ap (λ (c : TaggedCopy). c.how) of.is;
         whole = ap errors_of text ∙ no_errors;
         letters = text;

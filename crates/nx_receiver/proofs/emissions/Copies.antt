@@ -1,4 +1,5 @@
--- The copy of a message in a text that holds all that is printed of it, whatever stands before and behind it.
+-- The copy of a message in a text that holds all that is printed of it, whatever stands before and
+-- behind it.
 use Rattle.std.proofs.Common.{◌≡◌, ℕ, ◌+◌, ◌≤◌, List, [], ◌∷◌, ◌++◌, map, length, take, drop, Option, Some, None, unwrap_or, refl, sym, ap, ◌∙◌, arith, append_assoc}
 use Rattle.std.specs.List.{Contains}
 use Rattle.std.specs.Option.{option_map}
@@ -23,7 +24,8 @@ sent_header at identity = record { identity = identity; behind = at + 9 }
 
 -- its copy
 abbrev pub sent_copy : ℕ → MessageView → Copy
-sent_copy at message = record { header = sent_header at message.identity; how = Full; text = text_of message.lines }
+sent_copy at message = record
+    { header = sent_header at message.identity; how = Full; text = text_of message.lines }
 
 -- the copy of a header bears the header
 kept : (h : Header) (o : Option Ending) (closed : Copy) → closed.header ≡ h
@@ -53,7 +55,9 @@ module _ (front back : List ℕ) (message : MessageView) (good : AreLines messag
   parts =
       let ends : (text_of message.lines ++ (end_marker ++ 10 ∷ 10 ∷ [])) ++ back ≡ behind =
       append_assoc (text_of message.lines) (end_marker ++ 10 ∷ 10 ∷ []) back in
-      ap (λ l. front ++ l) (append_assoc (header message.identity) (10 ∷ (text_of message.lines ++ (end_marker ++ 10 ∷ 10 ∷ []))) back ∙ ap (λ l. header message.identity ++ 10 ∷ l) ends)
+      ap (λ l. front ++ l) (append_assoc (header message.identity)
+      (10 ∷ (text_of message.lines ++ (end_marker ++ 10 ∷ 10 ∷ []))) back
+      ∙ ap (λ l. header message.identity ++ 10 ∷ l) ends)
       ∙ sym (append_assoc front (header message.identity) (10 ∷ behind))
 
   long : length (front ++ header message.identity) ≡ length front + 9
@@ -61,9 +65,11 @@ module _ (front back : List ℕ) (message : MessageView) (good : AreLines messag
 
   stands_here : StandsIn all here
   stands_here =
-      let size : length all ≡ length (front ++ header message.identity) + length (10 ∷ behind) = ap length parts
+      let size : length all ≡ length (front ++ header message.identity) + length (10 ∷ behind) =
+      ap length parts
       ∙ length-append (front ++ header message.identity) (10 ∷ behind) in
-      let spelled_there : front ++ header message.identity ≡ ((front ++ start_marker) ++ (32 ∷ [])) ++ identity_bytes message.identity =
+      let spelled_there : front ++ header message.identity
+      ≡ ((front ++ start_marker) ++ (32 ∷ [])) ++ identity_bytes message.identity =
       sym (append_assoc front start_marker (32 ∷ identity_bytes message.identity))
       ∙ sym (append_assoc (front ++ start_marker) (32 ∷ []) (identity_bytes message.identity)) in
       record {
@@ -72,7 +78,8 @@ module _ (front back : List ℕ) (message : MessageView) (good : AreLines messag
           front = front;
           more_spaces = 0;
           spelled = ap (take (length front + 9)) parts
-              ∙ take_at (front ++ header message.identity) (10 ∷ behind) (length front + 9) long ∙ spelled_there;
+              ∙ take_at (front ++ header message.identity) (10 ∷ behind) (length front + 9) long
+              ∙ spelled_there;
         };
       }
 
@@ -82,28 +89,50 @@ module _ (front back : List ℕ) (message : MessageView) (good : AreLines messag
   pub ended_here : ended_copy all here ≡ Some (sent_copy (length front) message)
   unfolding ended_copy raw_text
   ended_here =
-      ap (λ l. option_map (copy_with here) (ending_of (less_newline l))) (ap (drop (length front + 9)) parts ∙ drop_at (front ++ header message.identity) (10 ∷ behind) (length front + 9) long)
+      ap (λ l. option_map (copy_with here) (ending_of (less_newline l)))
+      (ap (drop (length front + 9)) parts
+      ∙ drop_at (front ++ header message.identity) (10 ∷ behind) (length front + 9) long)
       ∙ ap (option_map (copy_with here)) (full_ending message.lines good (10 ∷ 10 ∷ back))
 
   pub ended_there : Contains (ended_copies all) (sent_copy (length front) message)
   unfolding ended_copies
   ended_there =
-      contains_filter_map (ended_copy all) (headers all) here (sent_copy (length front) message) header_there ended_here
+      contains_filter_map (ended_copy all) (headers all) here (sent_copy (length front) message)
+      header_there ended_here
 
 -- the copies of a text come in rising order
 pub copies_rise : (text : List ℕ) → Rises (λ (copy : Copy). copy.header.behind) (copies text)
 unfolding copies
 copies_rise text =
-    rises_map (copy_at text) (λ (h : Header). h.behind) (λ (copy : Copy). copy.header.behind) (headers text)
-    (λ x y _ _ lt. omega (arith, ap (λ (h : Header). h.behind) (header_of text x), ap (λ (h : Header). h.behind) (header_of text y)))
-    (rises_from (λ (h : Header). h.behind) (headers text) (λ front between back earlier later e. headers_rise_in text earlier later (record { front = front; between = between; back = back; listed = e ∙ sym (append_assoc front (earlier ∷ between) (later ∷ back)) })))
+    rises_map (copy_at text) (λ (h : Header). h.behind) (λ (copy : Copy). copy.header.behind)
+    (headers text)
+    (λ x y _ _ lt. omega (
+      arith,
+      ap (λ (h : Header). h.behind) (header_of text x),
+      ap
+          (λ (h : Header). h.behind) (header_of text y),
+    ))
+    (rises_from (λ (h : Header). h.behind) (headers text)
+    (λ front between back earlier later e. headers_rise_in text earlier later
+    (record {
+      front = front;
+      between = between;
+      back = back;
+      listed =
+          e ∙ sym (append_assoc front (earlier ∷ between) (later ∷ back));
+    })))
 
 -- and stand behind the letters of their headers, in the text
 pub copies_within : (text : List ℕ) (copy : Copy) → Contains (copies text) copy
     → (1 ≤ copy.header.behind) × (copy.header.behind ≤ length text)
 unfolding copies
 copies_within text copy c =
-    All-contains (λ (c : Copy). (1 ≤ c.header.behind) × (c.header.behind ≤ length text)) (map (copy_at text) (headers text)) copy
-    (All-map (λ (c : Copy). (1 ≤ c.header.behind) × (c.header.behind ≤ length text)) (copy_at text) (headers text)
-    (All-weaker (λ (h : Header). (1 ≤ h.behind) × (h.behind ≤ length text)) (λ (h : Header). (1 ≤ (copy_at text h).header.behind) × ((copy_at text h).header.behind ≤ length text))
-    (λ h i. let e = ap (λ (h : Header). h.behind) (header_of text h) in (omega (arith, i.0), omega (arith, i.1))) (headers text) (headers_in text))) c
+    All-contains (λ (c : Copy). (1 ≤ c.header.behind) × (c.header.behind ≤ length text))
+    (map (copy_at text) (headers text)) copy
+    (All-map (λ (c : Copy). (1 ≤ c.header.behind) × (c.header.behind ≤ length text)) (copy_at text)
+    (headers text)
+    (All-weaker (λ (h : Header). (1 ≤ h.behind) × (h.behind ≤ length text))
+    (λ (h : Header). (1 ≤ (copy_at text h).header.behind)
+    × ((copy_at text h).header.behind ≤ length text))
+    (λ h i. let e = ap (λ (h : Header). h.behind) (header_of text h) in
+    (omega (arith, i.0), omega (arith, i.1))) (headers text) (headers_in text))) c

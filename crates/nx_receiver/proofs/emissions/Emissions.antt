@@ -30,9 +30,12 @@ use Rattle.nx_receiver.proofs.emissions.Texts.{on_air, on_air_before, on_air-par
 
 -- the word of a slot
 word_of-heard_in : (heard : List ℕ) (i : ℕ) → word_of heard i ≡ heard_in heard (96 + i)
-word_of-heard_in heard i = let e : 96 + i - 96 ≡ i = omega arith in ap (λ n. get_or heard n 0) (sym e)
+word_of-heard_in heard i = let e : 96 + i - 96 ≡ i = omega arith in
+    ap (λ n. get_or heard n 0) (sym e)
 
-module _ (numbers : List ℕ) (spellings : List (List ℕ)) (heard : List ℕ) (has : HasInner (layout (numbers ∷ spellings))) (passes : PassesChannel (layout (numbers ∷ spellings)) heard) where
+module _ (numbers : List ℕ) (spellings : List (List ℕ)) (heard : List ℕ)
+    (has : HasInner (layout (numbers ∷ spellings)))
+    (passes : PassesChannel (layout (numbers ∷ spellings)) heard) where
   abbrev sent : List SentPosition
   sent = layout (numbers ∷ spellings)
 
@@ -43,7 +46,13 @@ module _ (numbers : List ℕ) (spellings : List (List ℕ)) (heard : List ℕ) (
   long_sent =
       ap length (layout-parts numbers spellings)
       ∙ length-append (replicate 72 phasing_position) (air ++ replicate 3 end_position)
-      ∙ omega (arith, length-replicate 72 phasing_position, length-append air (replicate 3 end_position), length-replicate 3 end_position)
+      ∙ omega (
+        arith,
+        length-replicate 72 phasing_position,
+        length-append air
+            (replicate 3 end_position),
+        length-replicate 3 end_position,
+      )
 
   pub long_heard : length heard ≡ 53 + 2 * length air
   long_heard = omega (arith, long_sent, passes.whole)
@@ -51,14 +60,16 @@ module _ (numbers : List ℕ) (spellings : List (List ℕ)) (heard : List ℕ) (
   pub phasing_at : (i : ℕ) → i < 72 → position_at sent i ≡ phasing_position
   phasing_at i lt =
       ap (λ l. get_or l i end_position) (layout-parts numbers spellings)
-      ∙ get_or_append_left (replicate 72 phasing_position) (air ++ replicate 3 end_position) end_position i (omega (arith, length-replicate 72 phasing_position))
+      ∙ get_or_append_left (replicate 72 phasing_position) (air ++ replicate 3 end_position)
+      end_position i (omega (arith, length-replicate 72 phasing_position))
       ∙ get_or-replicate 72 i phasing_position end_position lt
 
   air_at : (i : ℕ) → i < length air → position_at sent (72 + i) ≡ position_at air i
   air_at i lt =
       let e : 72 + i - 72 ≡ i = omega arith in
       ap (λ l. get_or l (72 + i) end_position) (layout-parts numbers spellings)
-      ∙ get_or-append_right (replicate 72 phasing_position) (air ++ replicate 3 end_position) 72 (72 + i) end_position (length-replicate 72 phasing_position) (omega arith)
+      ∙ get_or-append_right (replicate 72 phasing_position) (air ++ replicate 3 end_position) 72
+      (72 + i) end_position (length-replicate 72 phasing_position) (omega arith)
       ∙ ap (λ n. get_or (air ++ replicate 3 end_position) n end_position) e
       ∙ get_or_append_left air (replicate 3 end_position) end_position i lt
 
@@ -78,24 +89,38 @@ module _ (numbers : List ℕ) (spellings : List (List ℕ)) (heard : List ℕ) (
 
   few_at : (a n : ℕ) → n ≤ 64 → a + n ≤ length heard → wrong_in (word_of heard) a n < losing_count
   few_at a n some to =
-      let few = few-wrong sent heard has passes (96 + a) n (omega arith) some (omega (arith, passes.whole)) in
+      let few = few-wrong sent heard has passes (96 + a) n (omega arith) some
+      (omega (arith, passes.whole)) in
       let same : wrong_in (word_of heard) a n ≡ wrong_in (heard_in heard) (96 + a) n =
-      wrong_in-same (word_of heard) (heard_in heard) a (96 + a) n (λ j lt. let e : 96 + (a + j) ≡ 96 + a + j = omega arith in word_of-heard_in heard (a + j) ∙ ap (heard_in heard) e) in
+      wrong_in-same (word_of heard) (heard_in heard) a (96 + a) n
+      (λ j lt. let e : 96 + (a + j) ≡ 96 + a + j = omega arith in
+      word_of-heard_in heard (a + j) ∙ ap (heard_in heard) e) in
       omega arith
 
   apart_at : (a : ℕ) → 2 * a + 5 < length heard → word_of heard (2 * a) ≡ phasing_1
       → word_of heard (2 * a + 2) ≡ phasing_1 → ⊥
   apart_at a lt one two =
       let slot : 96 + 2 * a ≡ 2 * (48 + a) = omega arith in
-      no-phasing_1 sent heard has passes (48 + a) (omega arith) (omega (arith, long_heard, long_sent)) (ap (heard_in heard) (sym slot) ∙ sym (word_of-heard_in heard (2 * a)) ∙ one)
+      no-phasing_1 sent heard has passes (48 + a) (omega arith)
+      (omega (arith, long_heard, long_sent))
+      (ap (heard_in heard) (sym slot) ∙ sym (word_of-heard_in heard (2 * a)) ∙ one)
 
   pub keeps : KeepsLock heard
   keeps =
-      record { words = passes.words; long = omega (arith, long_heard); second = second_at; first = first_at; few = few_at; apart = apart_at }
+      record {
+        words = passes.words;
+        long = omega (arith, long_heard);
+        second = second_at;
+        first =
+            first_at;
+        few = few_at;
+        apart = apart_at;
+      }
 
   -- the words of a lock on the emission take its positions
   pub taken_of_lock : (words : ℕ → ℕ) (w : ℕ)
-      → ((j i : ℕ) → j + 48 ≡ i + w → i < length heard → words j ≡ word_of heard i) → AreTaken words w air
+      → ((j i : ℕ) → j + 48 ≡ i + w → i < length heard → words j ≡ word_of heard i)
+      → AreTaken words w air
   taken_of_lock words w same i lt =
       let dx : 96 + (48 + 2 * i) ≡ 2 * (72 + i) = omega arith in
       let rx : 96 + (53 + 2 * i) ≡ 2 * (72 + i) + 5 = omega arith in
@@ -116,7 +141,14 @@ emission_copy bits_before spellings index message = record {
   place = bits_before + 7 * (digit_slot spellings index - first_slot) + 6;
 }
 
-module _ (gap : List Bool) (messages : List MessageView) (numbers : List ℕ) (spellings : List (List ℕ)) (heard : List ℕ) (is : IsReceived (record { messages = messages; spellings = numbers ∷ spellings; heard = heard })) where
+module _ (gap : List Bool) (messages : List MessageView) (numbers : List ℕ)
+    (spellings : List (List ℕ)) (heard : List ℕ)
+    (is : IsReceived (record {
+      messages = messages;
+      spellings = numbers ∷ spellings;
+      heard =
+          heard;
+    })) where
   abbrev all_bits : List Bool
   all_bits = gap ++ bits_of heard
 
@@ -129,17 +161,20 @@ module _ (gap : List Bool) (messages : List MessageView) (numbers : List ℕ) (s
   pub lock_on : LockedThrough gap heard
   lock_on = locked_through gap heard (keeps numbers spellings heard has_inner is.passes)
 
-  module _ (l : LockedThrough gap heard) (index : ℕ) (message : MessageView) (at : slice_get messages index ≡ Some message) where
+  module _ (l : LockedThrough gap heard) (index : ℕ) (message : MessageView)
+      (at : slice_get messages index ≡ Some message) where
     among : SpelledAt (numbers ∷ spellings) index message
     among = spelled_at messages (numbers ∷ spellings) index message is.spelled at
 
     abbrev before : List SentPosition
     before = on_air_before 36 (take index (numbers ∷ spellings))
 
-    hears : HearsMessage (first_role all_bits l.t) (word_of_lock all_bits l.t) l.whole air_of message
+    hears : HearsMessage (first_role all_bits l.t) (word_of_lock all_bits l.t) l.whole air_of
+        message
     hears = record {
       dx = l.dx;
-      taken = taken_of_lock numbers spellings heard has_inner is.passes (word_of_lock all_bits l.t) l.whole l.same;
+      taken = taken_of_lock numbers spellings heard has_inner is.passes (word_of_lock all_bits l.t)
+          l.whole l.same;
       numbers = among.numbers;
       spelled = among.spelled;
       before = before;
@@ -150,32 +185,51 @@ module _ (gap : List Bool) (messages : List MessageView) (numbers : List ℕ) (s
 
     count_is : whole_words all_bits l.t ≡ l.whole + 5 + 2 * length air_of
     count_is =
-        let bits : length all_bits ≡ length gap + 7 * length heard = length-append gap (bits_of heard)
+        let bits : length all_bits ≡ length gap + 7 * length heard =
+        length-append gap (bits_of heard)
         ∙ ap (λ n. length gap + n) (length-bits_of heard) in
-        let long : length heard ≡ 53 + 2 * length air_of = long_heard numbers spellings heard has_inner is.passes in
-        let e : length all_bits - l.t ≡ 7 * (l.whole + 5 + 2 * length air_of) = omega (arith, l.limit) in
+        let long : length heard ≡ 53 + 2 * length air_of =
+        long_heard numbers spellings heard has_inner is.passes in
+        let e : length all_bits - l.t ≡ 7 * (l.whole + 5 + 2 * length air_of) =
+        omega (arith, l.limit) in
         omega arith
 
-    place_is : word_place l.t (digit_word l.whole before) ≡ length gap + 7 * (digit_slot (numbers ∷ spellings) index - first_slot) + 6
+    place_is : word_place l.t (digit_word l.whole before)
+        ≡ length gap + 7 * (digit_slot (numbers ∷ spellings) index - first_slot) + 6
     place_is = omega (arith, l.limit, positions-before (take index (numbers ∷ spellings)))
 
-    copy_in_lock : Contains (ended_in (lock_text all_bits l.t (whole_words all_bits l.t))) (emission_copy (length gap) (numbers ∷ spellings) index message)
+    copy_in_lock : Contains (ended_in (lock_text all_bits l.t (whole_words all_bits l.t)))
+        (emission_copy (length gap) (numbers ∷ spellings) index message)
     unfolding hears
     copy_in_lock =
-        subst (λ n. Contains (ended_in (lock_text all_bits l.t n)) (emission_copy (length gap) (numbers ∷ spellings) index message)) (sym count_is)
-        (subst (λ p. Contains (ended_in (lock_text all_bits l.t (l.whole + 5 + 2 * length air_of))) (record { identity = message.identity; how = Full; text = text_of message.lines; place = p })) place_is
-        (message_found (first_role all_bits l.t) (word_of_lock all_bits l.t) l.t l.whole air_of message hears (lines_at messages index message is.sendable.sound at)))
+        subst (λ n. Contains (ended_in (lock_text all_bits l.t n))
+        (emission_copy (length gap) (numbers ∷ spellings) index message)) (sym count_is)
+        (subst (λ p. Contains (ended_in (lock_text all_bits l.t (l.whole + 5 + 2 * length air_of)))
+        (record {
+          identity = message.identity;
+          how = Full;
+          text = text_of message.lines;
+          place =
+              p;
+        })) place_is
+        (message_found (first_role all_bits l.t) (word_of_lock all_bits l.t) l.t l.whole air_of
+        message hears (lines_at messages index message is.sendable.sound at)))
 
-    copy_ended : Contains (ended_so_far all_bits l.locks (locked l.p l.t)) (emission_copy (length gap) (numbers ∷ spellings) index message)
+    copy_ended : Contains (ended_so_far all_bits l.locks (locked l.p l.t))
+        (emission_copy (length gap) (numbers ∷ spellings) index message)
     unfolding ended_so_far
-    copy_ended = Contains-append_right (past_copies all_bits l.locks) (ended_in (lock_text all_bits l.t (whole_words all_bits l.t))) _ copy_in_lock
+    copy_ended = Contains-append_right (past_copies all_bits l.locks)
+        (ended_in (lock_text all_bits l.t (whole_words all_bits l.t))) _ copy_in_lock
 
     -- and whatever bits follow
-    copy_stays : (more : List Bool) (locks : List Lock) (now : Now) → IsNow (all_bits ++ more) locks now
-        → Contains (ended_so_far (all_bits ++ more) locks now) (emission_copy (length gap) (numbers ∷ spellings) index message)
+    copy_stays : (more : List Bool) (locks : List Lock) (now : Now)
+        → IsNow (all_bits ++ more) locks now
+        → Contains (ended_so_far (all_bits ++ more) locks now)
+        (emission_copy (length gap) (numbers ∷ spellings) index message)
     copy_stays more locks now stands =
         let g = ended_go_on all_bits more l.locks locks (locked l.p l.t) now l.stands stands in
-        subst (λ (cs : List FoundCopy). Contains cs (emission_copy (length gap) (numbers ∷ spellings) index message)) (sym g.whole)
+        subst (λ (cs : List FoundCopy). Contains cs
+        (emission_copy (length gap) (numbers ∷ spellings) index message)) (sym g.whole)
         (Contains-append_left (ended_so_far all_bits l.locks (locked l.p l.t)) g.rest _ copy_ended)
 
 -- the combinations of messages, of which there are some
@@ -184,17 +238,25 @@ some_spelled [] some h = some refl
 some_spelled (m ∷ messages) some h = h
 
 -- A received emission keeps the lock that its phasing leaves.
-pub emission_locks : (gap : List Bool) (messages : List MessageView) (spellings : List (List ℕ)) (heard : List ℕ)
-    → IsReceived (record { messages = messages; spellings = spellings; heard = heard }) → LockedThrough gap heard
-emission_locks gap messages [] heard is = absurd (some_spelled messages is.sendable.of_one.some is.spelled)
-emission_locks gap messages (numbers ∷ spellings) heard is = lock_on gap messages numbers spellings heard is
+pub emission_locks : (gap : List Bool) (messages : List MessageView) (spellings : List (List ℕ))
+    (heard : List ℕ)
+    → IsReceived (record { messages = messages; spellings = spellings; heard = heard })
+    → LockedThrough gap heard
+emission_locks gap messages [] heard is =
+    absurd (some_spelled messages is.sendable.of_one.some is.spelled)
+emission_locks gap messages (numbers ∷ spellings) heard is =
+    lock_on gap messages numbers spellings heard is
 
 -- Each of its messages gives a copy, whatever bits came before it and whatever follow.
-pub message_copied : (gap more : List Bool) (messages : List MessageView) (spellings : List (List ℕ)) (heard : List ℕ)
+pub message_copied : (gap more : List Bool) (messages : List MessageView)
+    (spellings : List (List ℕ)) (heard : List ℕ)
     → IsReceived (record { messages = messages; spellings = spellings; heard = heard })
     → (index : ℕ) (message : MessageView) → slice_get messages index ≡ Some message
-    → (locks : List Lock) (now : Now) → IsNow ((gap ++ bits_of heard) ++ more) locks now → Contains (ended_so_far ((gap ++ bits_of heard) ++ more) locks now) (emission_copy (length gap) spellings index message)
+    → (locks : List Lock) (now : Now) → IsNow ((gap ++ bits_of heard) ++ more) locks now
+    → Contains (ended_so_far ((gap ++ bits_of heard) ++ more) locks now)
+    (emission_copy (length gap) spellings index message)
 message_copied gap more messages [] heard is index message at locks now stands =
     absurd (some_spelled messages is.sendable.of_one.some is.spelled)
 message_copied gap more messages (numbers ∷ spellings) heard is index message at locks now stands =
-    copy_stays gap messages numbers spellings heard is (lock_on gap messages numbers spellings heard is) index message at more locks now stands
+    copy_stays gap messages numbers spellings heard is
+    (lock_on gap messages numbers spellings heard is) index message at more locks now stands

@@ -24,8 +24,10 @@ use Rattle.nx_sync.proofs.Releases.{stands_longer}
 abbrev pub word_of : List ℕ → ℕ → ℕ
 word_of heard i = get_or heard i 0
 
--- Words by which a lock is kept: 48 phasing words as they are sent, and then words of which, with those, any 64 in a row
--- have too few wrong ones to lose it, and no two DX words in a row are phasing signal 1 before the last words.
+-- Words by which a lock is kept: 48 phasing words as they are sent, and then words of which, with
+-- those, any 64 in a row
+-- have too few wrong ones to lose it, and no two DX words in a row are phasing signal 1 before the
+-- last words.
 pub record KeepsLock (heard : List ℕ) : Type 0 where
   pub words : AreWords heard
   pub long : 48 ≤ length heard
@@ -36,7 +38,8 @@ pub record KeepsLock (heard : List ℕ) : Type 0 where
       → word_of heard (2 * a + 2) ≡ phasing_1 → ⊥
 
 -- pairs of phasing words have the bits of phasing
-phasing_bits : (n : ℕ) (heard : List ℕ) → 2 * n ≤ length heard → ((j : ℕ) → j < n → word_of heard (2 * j) ≡ phasing_2)
+phasing_bits : (n : ℕ) (heard : List ℕ) → 2 * n ≤ length heard
+    → ((j : ℕ) → j < n → word_of heard (2 * j) ≡ phasing_2)
     → ((j : ℕ) → j < n → word_of heard (2 * j + 1) ≡ phasing_1)
     → bits_of (take (2 * n) heard) ≡ phasing n
 unfolding bits_of phasing elements elements_from
@@ -52,7 +55,10 @@ phasing_bits (suc n) (a ∷ (b ∷ heard)) long second first =
     ap (λ m. bits_of (take m (a ∷ (b ∷ heard)))) two
     ∙ ap (λ x. elements x ++ (elements b ++ bits_of (take (2 * n) heard))) p2
     ∙ ap (λ x. elements phasing_2 ++ (elements x ++ bits_of (take (2 * n) heard))) p1
-    ∙ ap (λ l. elements phasing_2 ++ (elements phasing_1 ++ l)) (phasing_bits n heard (omega arith) (λ j lt. ap (word_of (a ∷ (b ∷ heard))) (sym (at j)) ∙ second (j + 1) (omega arith)) (λ j lt. ap (word_of (a ∷ (b ∷ heard))) (sym (next j)) ∙ first (j + 1) (omega arith)))
+    ∙ ap (λ l. elements phasing_2 ++ (elements phasing_1 ++ l))
+    (phasing_bits n heard (omega arith)
+    (λ j lt. ap (word_of (a ∷ (b ∷ heard))) (sym (at j)) ∙ second (j + 1) (omega arith))
+    (λ j lt. ap (word_of (a ∷ (b ∷ heard))) (sym (next j)) ∙ first (j + 1) (omega arith)))
 
 bits_of-append : (xs ys : List ℕ) → bits_of (xs ++ ys) ≡ bits_of xs ++ bits_of ys
 unfolding bits_of
@@ -65,7 +71,8 @@ unfolding word_in
 word_from-bits_of gap heard i words lt =
     let n = length-bits_of heard in
     ap (λ l. number_of (take 7 l)) (drop-append-add gap (bits_of heard) (7 * i))
-    ∙ sym (get_or-words_of (bits_of heard) i (omega arith)) ∙ ap (λ ws. get_or ws i 0) (words_of-bits_of heard words)
+    ∙ sym (get_or-words_of (bits_of heard) i (omega arith))
+    ∙ ap (λ ws. get_or ws i 0) (words_of-bits_of heard words)
 
 -- runs of the same words have as many wrong
 wrong_in-shift : (f g : ℕ → ℕ) (i a n : ℕ) → ((j : ℕ) → j < n → f (i + j) ≡ g (a + j))
@@ -73,7 +80,8 @@ wrong_in-shift : (f g : ℕ → ℕ) (i a n : ℕ) → ((j : ℕ) → j < n → 
 unfolding wrong_in
 wrong_in-shift f g i a zero same = refl
 wrong_in-shift f g i a (suc n) same =
-    ap₂ ◌+◌ (wrong_in-shift f g i a n (λ j lt. same j (omega arith))) (ap (λ w. one_if (is_wrong w)) (same n (omega arith)))
+    ap₂ ◌+◌ (wrong_in-shift f g i a n (λ j lt. same j (omega arith)))
+    (ap (λ w. one_if (is_wrong w)) (same n (omega arith)))
 
 right_2 : is_wrong phasing_2 ≡ false
 unfolding weight elements elements_from
@@ -83,12 +91,15 @@ right_1 : is_wrong phasing_1 ≡ false
 unfolding weight elements elements_from
 right_1 = refl
 
-phasing_right : (heard : List ℕ) → KeepsLock heard → (j : ℕ) → j < 48 → is_wrong (word_of heard j) ≡ false
+phasing_right : (heard : List ℕ) → KeepsLock heard → (j : ℕ) → j < 48
+    → is_wrong (word_of heard j) ≡ false
 phasing_right heard k j lt =
     elim (cases_lt (j - 2 * (j / 2)) 1) [
-      | inl even ↦ let e : 2 * (j / 2) ≡ j = omega arith in ap (λ i. is_wrong (word_of heard i)) (sym e)
+      | inl even ↦ let e : 2 * (j / 2) ≡ j = omega arith in
+          ap (λ i. is_wrong (word_of heard i)) (sym e)
           ∙ ap is_wrong (k.second (j / 2) (omega arith)) ∙ right_2
-      | inr odd ↦ let e : 2 * (j / 2) + 1 ≡ j = omega arith in ap (λ i. is_wrong (word_of heard i)) (sym e)
+      | inr odd ↦ let e : 2 * (j / 2) + 1 ≡ j = omega arith in
+          ap (λ i. is_wrong (word_of heard i)) (sym e)
           ∙ ap is_wrong (k.first (j / 2) (omega arith)) ∙ right_1
     ]
 
@@ -113,7 +124,8 @@ even_apart first w k dw dk le =
       | inr odd ↦ omega arith
     ]
 
--- The lock that the phasing leaves stands after all the words, and its words from its word `whole` on are those from the
+-- The lock that the phasing leaves stands after all the words, and its words from its word `whole`
+-- on are those from the
 -- 49th on.
 pub record LockedThrough (gap : List Bool) (heard : List ℕ) : Type 0 where
   pub locks : List Lock
@@ -125,9 +137,11 @@ pub record LockedThrough (gap : List Bool) (heard : List ℕ) : Type 0 where
   pub whole : ℕ
   pub limit : length gap + 336 ≡ t + 7 * whole
   pub dx : role_of (first_role (gap ++ bits_of heard) t) whole ≡ Dx
-  pub same : (j i : ℕ) → j + 48 ≡ i + whole → i < length heard → word_of_lock (gap ++ bits_of heard) t j ≡ word_of heard i
+  pub same : (j i : ℕ) → j + 48 ≡ i + whole → i < length heard
+      → word_of_lock (gap ++ bits_of heard) t j ≡ word_of heard i
 
-module _ (gap : List Bool) (heard : List ℕ) (k : KeepsLock heard) (l : LockedBeforeDx (gap ++ phasing 24)) where
+module _ (gap : List Bool) (heard : List ℕ) (k : KeepsLock heard)
+    (l : LockedBeforeDx (gap ++ phasing 24)) where
   abbrev early : List Bool
   early = gap ++ phasing 24
 
@@ -138,13 +152,15 @@ module _ (gap : List Bool) (heard : List ℕ) (k : KeepsLock heard) (l : LockedB
   together =
       append_assoc gap (phasing 24) more
       ∙ ap (λ b. gap ++ (b ++ more)) (sym (phasing_bits 24 heard k.long k.second k.first))
-      ∙ ap (λ b. gap ++ b) (sym (bits_of-append (take 48 heard) (drop 48 heard)) ∙ ap bits_of (take-append-drop 48 heard))
+      ∙ ap (λ b. gap ++ b) (sym (bits_of-append (take 48 heard) (drop 48 heard))
+      ∙ ap bits_of (take-append-drop 48 heard))
 
   begins_is : take 336 (bits_of heard) ≡ phasing 24
   begins_is =
       let words : length (bits_of (take 48 heard)) ≡ 336 = length-bits_of (take 48 heard)
       ∙ ap (λ n. 7 * n) (length-take-le 48 heard k.long) in
-      ap (λ b. take 336 b) (ap bits_of (sym (take-append-drop 48 heard)) ∙ bits_of-append (take 48 heard) (drop 48 heard))
+      ap (λ b. take 336 b) (ap bits_of (sym (take-append-drop 48 heard))
+      ∙ bits_of-append (take 48 heard) (drop 48 heard))
       ∙ take_at (bits_of (take 48 heard)) (bits_of (drop 48 heard)) 336 words
       ∙ phasing_bits 24 heard k.long k.second k.first
 
@@ -153,7 +169,8 @@ module _ (gap : List Bool) (heard : List ℕ) (k : KeepsLock heard) (l : LockedB
 
   heard_bits : length (early ++ more) ≡ length gap + 7 * length heard
   heard_bits =
-      ap length together ∙ length-append gap (bits_of heard) ∙ ap (λ n. length gap + n) (length-bits_of heard)
+      ap length together ∙ length-append gap (bits_of heard)
+      ∙ ap (λ n. length gap + n) (length-bits_of heard)
 
   abbrev lock_word : ℕ → ℕ
   lock_word = word_of_lock (early ++ more) l.t
@@ -168,7 +185,8 @@ module _ (gap : List Bool) (heard : List ℕ) (k : KeepsLock heard) (l : LockedB
   role_is : first_role (early ++ more) l.t ≡ first_role early l.t
   role_is = first_role-more early more l.t l.stands.found.here.enough l.stands.found.here.heard
 
-  few_wrong : (j : ℕ) → length early < l.t + 7 * (j + 1) → l.t + 7 * (j + 1) ≤ length (early ++ more)
+  few_wrong : (j : ℕ) → length early < l.t + 7 * (j + 1)
+      → l.t + 7 * (j + 1) ≤ length (early ++ more)
       → wrong_until lock_word j < losing_count
   few_wrong j new in' =
       let i : ℕ = j + 1 - 64 in
@@ -180,16 +198,29 @@ module _ (gap : List Bool) (heard : List ℕ) (k : KeepsLock heard) (l : LockedB
             let front : ℕ = l.whole - 48 - i in
             let back : ℕ = j + 1 - l.whole in
             let parts : n ≡ front + (48 + back) = omega arith in
-            let count : wrong_in lock_word i n ≡ wrong_in lock_word i front + (wrong_in lock_word (i + front) 48 + wrong_in lock_word (i + front + 48) back) =
+            let count : wrong_in lock_word i n
+            ≡ wrong_in lock_word i front + (wrong_in lock_word (i + front) 48 + wrong_in
+            lock_word (i + front + 48) back) =
             ap (wrong_in lock_word i) parts ∙ wrong_in-add lock_word i front (48 + back)
-            ∙ ap (λ x. wrong_in lock_word i front + x) (wrong_in-add lock_word (i + front) 48 back) in
+            ∙ ap (λ x. wrong_in lock_word i front + x)
+            (wrong_in-add lock_word (i + front) 48 back) in
             let none : wrong_in lock_word (i + front) 48 ≡ 0 =
-            wrong_in-none lock_word (i + front) 48 (λ h lt. ap is_wrong (lock_word_is (i + front + h) h (omega arith) (omega (arith, k.long))) ∙ phasing_right heard k h lt) in
-            omega (arith, count, none, wrong_in-le lock_word i front, wrong_in-le lock_word (i + front + 48) back)
+            wrong_in-none lock_word (i + front) 48
+            (λ h lt. ap is_wrong (lock_word_is (i + front + h) h (omega arith)
+            (omega (arith, k.long))) ∙ phasing_right heard k h lt) in
+            omega (
+              arith,
+              count,
+              none,
+              wrong_in-le lock_word i front,
+              wrong_in-le lock_word
+                  (i + front + 48) back,
+            )
         | inr within ↦
             let a : ℕ = i + 48 - l.whole in
             let same : wrong_in lock_word i n ≡ wrong_in (word_of heard) a n =
-            wrong_in-shift lock_word (word_of heard) i a n (λ h lt. lock_word_is (i + h) (a + h) (omega arith) (omega arith)) in
+            wrong_in-shift lock_word (word_of heard) i a n
+            (λ h lt. lock_word_is (i + h) (a + h) (omega arith) (omega arith)) in
             subst (λ x. x < losing_count) (sym same) (k.few a n (omega arith) (omega arith))
       ]
 
@@ -200,13 +231,16 @@ module _ (gap : List Bool) (heard : List ℕ) (k : KeepsLock heard) (l : LockedB
       let near : l.whole ≤ j + 3 = omega (arith, l.limit) in
       let short : j + 52 ≤ length heard + l.whole = omega (arith, limit_is, heard_bits) in
       let even : j + 2 ≡ l.whole + 2 * q =
-      even_apart (first_role (early ++ more) l.t) l.whole j (ap (λ r. role_of r l.whole) role_is ∙ l.dx) s.dx near in
+      even_apart (first_role (early ++ more) l.t) l.whole j
+      (ap (λ r. role_of r l.whole) role_is ∙ l.dx) s.dx near in
       let two = s.two in
       let here : 2 * (22 + q) + 2 ≡ 46 + 2 * q = omega arith in
       let there : 2 * (22 + q) ≡ 44 + 2 * q = omega arith in
       k.apart (22 + q) (omega arith)
-      (ap (word_of heard) there ∙ sym (lock_word_is (j - 2) (44 + 2 * q) (omega arith) (omega arith)) ∙ s.before)
-      (ap (word_of heard) here ∙ sym (lock_word_is j (46 + 2 * q) (omega arith) (omega arith)) ∙ s.this)
+      (ap (word_of heard) there
+      ∙ sym (lock_word_is (j - 2) (44 + 2 * q) (omega arith) (omega arith)) ∙ s.before)
+      (ap (word_of heard) here ∙ sym (lock_word_is j (46 + 2 * q) (omega arith) (omega arith))
+      ∙ s.this)
 
   through : IsLocked (early ++ more) l.locks l.p l.t
   through = stands_longer early more l.locks l.p l.t l.stands few_wrong no_end
@@ -216,7 +250,8 @@ module _ (gap : List Bool) (heard : List ℕ) (k : KeepsLock heard) (l : LockedB
 
   pub dx_through : role_of (first_role (gap ++ bits_of heard) l.t) l.whole ≡ Dx
   dx_through =
-      subst (λ b. role_of (first_role b l.t) l.whole ≡ Dx) together (ap (λ r. role_of r l.whole) role_is ∙ l.dx)
+      subst (λ b. role_of (first_role b l.t) l.whole ≡ Dx) together
+      (ap (λ r. role_of r l.whole) role_is ∙ l.dx)
 
   pub same_through : (j i : ℕ) → j + 48 ≡ i + l.whole → i < length heard
       → word_of_lock (gap ++ bits_of heard) l.t j ≡ word_of heard i

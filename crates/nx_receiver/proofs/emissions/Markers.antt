@@ -26,11 +26,35 @@ pub record IsWord (word : List ℕ) : Type 0 where
 
 pub start_word : IsWord start_marker
 start_word =
-    record { a = 90; b = 67; c = 90; d = 67; spelled = refl; first = λ e. absurd (omega (arith, e)); second = λ e. absurd (omega (arith, e)); third = λ e. absurd (omega (arith, e)); fourth = λ e. absurd (omega (arith, e)) }
+    record {
+      a = 90;
+      b = 67;
+      c = 90;
+      d = 67;
+      spelled = refl;
+      first =
+          λ e. absurd (omega (arith, e));
+      second = λ e. absurd (omega (arith, e));
+      third =
+          λ e. absurd (omega (arith, e));
+      fourth = λ e. absurd (omega (arith, e));
+    }
 
 end_word : IsWord end_marker
 end_word =
-    record { a = 78; b = 78; c = 78; d = 78; spelled = refl; first = λ e. absurd (omega (arith, e)); second = λ e. absurd (omega (arith, e)); third = λ e. absurd (omega (arith, e)); fourth = λ e. absurd (omega (arith, e)) }
+    record {
+      a = 78;
+      b = 78;
+      c = 78;
+      d = 78;
+      spelled = refl;
+      first =
+          λ e. absurd (omega (arith, e));
+      second = λ e. absurd (omega (arith, e));
+      third =
+          λ e. absurd (omega (arith, e));
+      fourth = λ e. absurd (omega (arith, e));
+    }
 
 -- where such a word begins before a newline, it ends before it
 pub record Begins (word line : List ℕ) : Type 0 where
@@ -41,14 +65,21 @@ begins_four : (a b c d : ℕ) (line rest back : List ℕ) → a ≢ 10 → b ≢
     → line ++ 10 ∷ rest ≡ a ∷ b ∷ c ∷ d ∷ back → Begins (a ∷ b ∷ c ∷ d ∷ []) line
 begins_four a b c d [] rest back na nb nc nd e = let same : a ≡ 10 = cc in absurd (na same)
 begins_four a b c d (w ∷ []) rest back na nb nc nd e = let same : b ≡ 10 = cc in absurd (nb same)
-begins_four a b c d (w ∷ x ∷ []) rest back na nb nc nd e = let same : c ≡ 10 = cc in absurd (nc same)
-begins_four a b c d (w ∷ x ∷ y ∷ []) rest back na nb nc nd e = let same : d ≡ 10 = cc in absurd (nd same)
-begins_four a b c d (w ∷ x ∷ y ∷ z ∷ line) rest back na nb nc nd e = record { rest = line; whole = cc }
+begins_four a b c d (w ∷ x ∷ []) rest back na nb nc nd e = let same : c ≡ 10 = cc in
+    absurd (nc same)
+begins_four a b c d (w ∷ x ∷ y ∷ []) rest back na nb nc nd e = let same : d ≡ 10 = cc in
+    absurd (nd same)
+begins_four a b c d (w ∷ x ∷ y ∷ z ∷ line) rest back na nb nc nd e =
+    record { rest = line; whole = cc }
 
-pub begins_word : (word line rest back : List ℕ) → IsWord word → line ++ 10 ∷ rest ≡ word ++ back → Begins word line
+pub begins_word : (word line rest back : List ℕ) → IsWord word → line ++ 10 ∷ rest ≡ word ++ back
+    → Begins word line
 begins_word word line rest back is e =
-    let spelled : line ++ 10 ∷ rest ≡ is.a ∷ is.b ∷ is.c ∷ is.d ∷ back = e ∙ ap (λ w. w ++ back) is.spelled in
-    subst (λ (w : List ℕ). Begins w line) (sym is.spelled) (begins_four is.a is.b is.c is.d line rest back is.first is.second is.third is.fourth spelled)
+    let spelled : line ++ 10 ∷ rest ≡ is.a ∷ is.b ∷ is.c ∷ is.d ∷ back =
+    e ∙ ap (λ w. w ++ back) is.spelled in
+    subst (λ (w : List ℕ). Begins w line) (sym is.spelled)
+    (begins_four is.a is.b is.c is.d line rest back is.first is.second is.third is.fourth
+    spelled)
 
 -- no line holds the word
 abbrev pub LackWord : List ℕ → List (List ℕ) → Type 0
@@ -56,26 +87,32 @@ LackWord word lines = All (λ (line : List ℕ). ¬ HoldsWord word line) lines
 
 -- then it begins nowhere in the text of the lines
 pub begins_nowhere : (word : List ℕ) → IsWord word → (lines : List (List ℕ)) → LackWord word lines
-    → (k : ℕ) (rest back : List ℕ) → k < length (text_of lines) → drop k (text_of lines ++ rest) ≡ word ++ back → ⊥
+    → (k : ℕ) (rest back : List ℕ) → k < length (text_of lines)
+    → drop k (text_of lines ++ rest) ≡ word ++ back → ⊥
 begins_nowhere word is [] lack k rest back lt e = omega arith
 begins_nowhere word is (line ∷ lines) lack k rest back lt e =
     let more = text_of lines ++ rest in
-    let whole : text_of (line ∷ lines) ++ rest ≡ line ++ 10 ∷ more = append_assoc (line ++ 10 ∷ []) (text_of lines) rest
+    let whole : text_of (line ∷ lines) ++ rest ≡ line ++ 10 ∷ more =
+    append_assoc (line ++ 10 ∷ []) (text_of lines) rest
     ∙ append_assoc line (10 ∷ []) more in
     elim (cases_lt (length line) k) [
       | inl beyond ↦
           let over : (length line + 1) + (k - (length line + 1)) ≡ k = omega arith in
           let long : length (text_of (line ∷ lines)) ≡ length line + 1 + length (text_of lines) =
           simp length-append in
-          let behind : drop (length line + 1) (line ++ 10 ∷ more) ≡ more = ap (drop (length line + 1)) (sym (append_assoc line (10 ∷ []) more))
+          let behind : drop (length line + 1) (line ++ 10 ∷ more) ≡ more =
+          ap (drop (length line + 1)) (sym (append_assoc line (10 ∷ []) more))
           ∙ drop_at (line ++ 10 ∷ []) more (length line + 1) (length-append line (10 ∷ [])) in
           let there : drop (k - (length line + 1)) more ≡ word ++ back =
           ap (drop (k - (length line + 1))) (sym behind)
           ∙ drop-drop (k - (length line + 1)) (length line + 1) (line ++ 10 ∷ more)
           ∙ ap (λ j. drop j (line ++ 10 ∷ more)) over ∙ ap (drop k) (sym whole) ∙ e in
-          begins_nowhere word is lines (All-tail (λ (l : List ℕ). ¬ HoldsWord word l) line lines lack) (k - (length line + 1)) rest back (omega arith) there
+          begins_nowhere word is lines
+          (All-tail (λ (l : List ℕ). ¬ HoldsWord word l) line lines lack)
+          (k - (length line + 1)) rest back (omega arith) there
       | inr within ↦
-          let here : drop k line ++ 10 ∷ more ≡ word ++ back = sym (drop-append-le k line (10 ∷ more) within)
+          let here : drop k line ++ 10 ∷ more ≡ word ++ back =
+          sym (drop-append-le k line (10 ∷ more) within)
           ∙ ap (drop k) (sym whole) ∙ e in
           let b = begins_word word (drop k line) more back is here in
           All-head (λ (l : List ℕ). ¬ HoldsWord word l) line lines lack (record {
@@ -93,12 +130,15 @@ ends_nowhere : (word : List ℕ) → IsWord word → (lines : List (List ℕ)) �
 ends_nowhere word is lines lack rest place lt h =
     let raw = text_of lines ++ rest in
     let four : length word ≡ 4 = ap length is.spelled in
-    let long : length h.front + length word ≡ length (take place raw) = sym (length-append h.front word)
+    let long : length h.front + length word ≡ length (take place raw) =
+    sym (length-append h.front word)
     ∙ ap length (sym h.spelled) in
     let short = length-take place raw in
     let whole : raw ≡ h.front ++ (word ++ drop place raw) = sym (take-append-drop place raw)
     ∙ ap (λ l. l ++ drop place raw) h.spelled ∙ append_assoc h.front word (drop place raw) in
-    begins_nowhere word is lines lack (length h.front) rest (drop place raw) (omega arith) (ap (drop (length h.front)) whole ∙ drop_at h.front (word ++ drop place raw) (length h.front) refl)
+    begins_nowhere word is lines lack (length h.front) rest (drop place raw) (omega arith)
+    (ap (drop (length h.front)) whole
+    ∙ drop_at h.front (word ++ drop place raw) (length h.front) refl)
 
 pub lack_start : (lines : List (List ℕ)) → AreLines lines → LackWord start_marker lines
 lack_start lines good k d lt h = (good.each k d lt).unreserved (inl h)
@@ -135,5 +175,6 @@ full_ending lines good rest =
       in_reach = omega (arith, good.fits);
       marker = record { front = body; spelled = up_to };
       least = λ earlier how lt. ends_none lines good (end_marker ++ rest) earlier how lt;
-      text = sym (take_at body (end_marker ++ rest) (length body) refl) ∙ ap (λ n. take n raw) (sym at);
+      text = sym (take_at body (end_marker ++ rest) (length body) refl)
+          ∙ ap (λ n. take n raw) (sym at);
     }))

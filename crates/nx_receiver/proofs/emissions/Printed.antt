@@ -1,4 +1,5 @@
--- The text of a lock that hears the words of an emission, and the copy of one of its messages in it.
+-- The text of a lock that hears the words of an emission, and the copy of one of its messages in
+-- it.
 use Rattle.std.proofs.Common.{◌≡◌, ℕ, suc, ◌+◌, ◌-◌, ◌*◌, ◌/◌, ◌%◌, ◌<◌, List, [], ◌∷◌, ◌++◌, map, length, take, get_or, refl, sym, ap, ◌∙◌, subst, arith, append_assoc, append-nil}
 use Rattle.std.specs.List.{Contains}
 use Rattle.std.specs.Option.{option_to_list}
@@ -25,8 +26,10 @@ use Rattle.nx_receiver.proofs.emissions.Copies.{sent_copy, ended_there}
 use Rattle.nx_receiver.proofs.emissions.Positions.{AreTaken, positions-taken, taken_at-sent}
 use Rattle.nx_receiver.proofs.emissions.Texts.{head_front, second_digit, head-parts, head_front-prints, digit-prints}
 
--- A lock hears positions from its DX word w on, and among them those of a message: so many stand before it.
-pub record HearsMessage (first : Role) (words : ℕ → ℕ) (w : ℕ) (sent : List SentPosition) (message : MessageView) : Type 0 where
+-- A lock hears positions from its DX word w on, and among them those of a message: so many stand
+-- before it.
+pub record HearsMessage (first : Role) (words : ℕ → ℕ) (w : ℕ) (sent : List SentPosition)
+    (message : MessageView) : Type 0 where
   pub dx : role_of first w ≡ Dx
   pub taken : AreTaken words w sent
   pub numbers : List ℕ
@@ -39,7 +42,8 @@ pub record HearsMessage (first : Role) (words : ℕ → ℕ) (w : ℕ) (sent : L
 abbrev pub digit_word : ℕ → List SentPosition → ℕ
 digit_word w before = w + 5 + 2 * (length before + 10)
 
-module _ (first : Role) (words : ℕ → ℕ) (t w : ℕ) (sent : List SentPosition) (message : MessageView) (h : HearsMessage first words w sent message) (good : AreLines message.lines) where
+module _ (first : Role) (words : ℕ → ℕ) (t w : ℕ) (sent : List SentPosition) (message : MessageView)
+    (h : HearsMessage first words w sent message) (good : AreLines message.lines) where
   -- what is taken before the message
   abbrev taken_before : List Reception
   taken_before = positions first words (w + 5) ++ map reception h.before
@@ -50,11 +54,13 @@ module _ (first : Role) (words : ℕ → ℕ) (t w : ℕ) (sent : List SentPosit
 
   -- what is taken of beginnings of the positions
   taken_of : (some rest : List SentPosition) → sent ≡ some ++ rest
-      → positions first words (w + 5 + 2 * length some) ≡ positions first words (w + 5) ++ map reception some
+      → positions first words (w + 5 + 2 * length some)
+      ≡ positions first words (w + 5) ++ map reception some
   taken_of some rest e =
       let long : length sent ≡ length some + length rest = ap length e ∙ length-append some rest in
       positions-taken first words w sent (length some) h.dx h.taken (omega arith)
-      ∙ ap (λ l. positions first words (w + 5) ++ map reception l) (ap (take (length some)) e ∙ take_at some rest (length some) refl)
+      ∙ ap (λ l. positions first words (w + 5) ++ map reception l)
+      (ap (take (length some)) e ∙ take_at some rest (length some) refl)
 
   bytes_at : (n : ℕ) → bytes_of (text_by first words t n) ≡ text (positions first words n) Letters
   bytes_at n = bytes_are_reading first words t n
@@ -65,41 +71,57 @@ module _ (first : Role) (words : ℕ → ℕ) (t w : ℕ) (sent : List SentPosit
   -- after all of them the message is printed whole
   abbrev behind_bytes : List ℕ
   behind_bytes =
-      text (map reception h.behind) (shift_after_all (map combination h.numbers) (shift_after_all taken_before Letters))
+      text (map reception h.behind)
+      (shift_after_all (map combination h.numbers) (shift_after_all taken_before Letters))
 
-  whole_bytes : bytes_of (text_by first words t all) ≡ front ++ (printed_text message ++ behind_bytes)
+  whole_bytes : bytes_of (text_by first words t all)
+      ≡ front ++ (printed_text message ++ behind_bytes)
   whole_bytes =
       let shift = shift_after_all taken_before Letters in
       let of_message = message-prints message h.numbers shift h.spelled in
-      let receptions : positions first words all ≡ taken_before ++ (map combination h.numbers ++ map reception h.behind) =
+      let receptions : positions first words all
+      ≡ taken_before ++ (map combination h.numbers ++ map reception h.behind) =
       taken_of sent [] (sym (append-nil sent))
       ∙ ap (λ l. positions first words (w + 5) ++ map reception l) h.parts
-      ∙ ap (λ l. positions first words (w + 5) ++ l) (map-append reception h.before (map traffic_position h.numbers ++ h.behind) ∙ ap (λ l. map reception h.before ++ l) (map-append reception (map traffic_position h.numbers) h.behind ∙ ap (λ l. l ++ map reception h.behind) (traffic-receptions h.numbers)))
-      ∙ sym (append_assoc (positions first words (w + 5)) (map reception h.before) (map combination h.numbers ++ map reception h.behind)) in
+      ∙ ap (λ l. positions first words (w + 5) ++ l)
+      (map-append reception h.before (map traffic_position h.numbers ++ h.behind)
+      ∙ ap (λ l. map reception h.before ++ l)
+      (map-append reception (map traffic_position h.numbers) h.behind
+      ∙ ap (λ l. l ++ map reception h.behind) (traffic-receptions h.numbers)))
+      ∙ sym (append_assoc (positions first words (w + 5)) (map reception h.before)
+      (map combination h.numbers ++ map reception h.behind)) in
       bytes_at all
       ∙ ap (λ l. text l Letters) receptions
       ∙ text-append taken_before (map combination h.numbers ++ map reception h.behind) Letters
-      ∙ ap (λ l. front ++ l) (text-append (map combination h.numbers) (map reception h.behind) shift)
-      ∙ ap (λ l. front ++ (l ++ text (map reception h.behind) (shift_after_all (map combination h.numbers) shift))) of_message.reads
+      ∙ ap (λ l. front ++ l) (text-append (map combination h.numbers) (map reception h.behind)
+      shift)
+      ∙ ap (λ l. front ++ (l ++ text (map reception h.behind)
+      (shift_after_all (map combination h.numbers) shift))) of_message.reads
 
   -- the positions up to the second digit, and it
   abbrev up_to_digit : List SentPosition
   up_to_digit = h.before ++ map traffic_position (head_front message.identity)
 
-  digit_parts : (rest : List SentPosition) × (sent ≡ up_to_digit ++ traffic_position (second_digit message.identity) ∷ rest)
+  digit_parts : (rest : List SentPosition)
+      × (sent ≡ up_to_digit ++ traffic_position (second_digit message.identity) ∷ rest)
   digit_parts =
       let shown = ending (shift_after_all (map combination h.spelled.text) Figures) in
       let behind_head = h.spelled.text ++ shown in
       let tail = second_digit message.identity ∷ (27 ∷ (28 ∷ behind_head)) in
       let spelled : h.numbers ≡ head_front message.identity ++ tail =
       h.spelled.whole ∙ ap (λ l. l ++ behind_head) (head-parts message.identity)
-      ∙ append_assoc (head_front message.identity) (second_digit message.identity ∷ (27 ∷ (28 ∷ []))) behind_head in (
+      ∙ append_assoc (head_front message.identity)
+      (second_digit message.identity ∷ (27 ∷ (28 ∷ []))) behind_head in (
         map traffic_position (27 ∷ (28 ∷ behind_head)) ++ h.behind,
         h.parts
             ∙ ap (λ l. h.before ++ (map traffic_position l ++ h.behind)) spelled
-            ∙ ap (λ l. h.before ++ (l ++ h.behind)) (map-append traffic_position (head_front message.identity) tail)
-            ∙ ap (λ l. h.before ++ l) (append_assoc (map traffic_position (head_front message.identity)) (map traffic_position tail) h.behind)
-            ∙ sym (append_assoc h.before (map traffic_position (head_front message.identity)) (map traffic_position tail ++ h.behind)),
+            ∙ ap (λ l. h.before ++ (l ++ h.behind))
+            (map-append traffic_position (head_front message.identity) tail)
+            ∙ ap (λ l. h.before ++ l)
+            (append_assoc (map traffic_position (head_front message.identity))
+            (map traffic_position tail) h.behind)
+            ∙ sym (append_assoc h.before (map traffic_position (head_front message.identity))
+            (map traffic_position tail ++ h.behind)),
       )
 
   long_up_to : length up_to_digit ≡ length h.before + 10
@@ -111,14 +133,22 @@ module _ (first : Role) (words : ℕ → ℕ) (t w : ℕ) (sent : List SentPosit
   at_here : w + 5 + 2 * length up_to_digit ≡ here
   at_here = omega (arith, long_up_to)
 
-  positions_here : positions first words here ≡ taken_before ++ map combination (head_front message.identity)
+  positions_here : positions first words here
+      ≡ taken_before ++ map combination (head_front message.identity)
   positions_here =
       ap (positions first words) (sym at_here)
-      ∙ taken_of up_to_digit (traffic_position (second_digit message.identity) ∷ digit_parts.0) digit_parts.1
-      ∙ ap (λ l. positions first words (w + 5) ++ l) (map-append reception h.before (map traffic_position (head_front message.identity)) ∙ ap (λ l. map reception h.before ++ l) (traffic-receptions (head_front message.identity)))
-      ∙ sym (append_assoc (positions first words (w + 5)) (map reception h.before) (map combination (head_front message.identity)))
+      ∙ taken_of up_to_digit (traffic_position (second_digit message.identity) ∷ digit_parts.0)
+      digit_parts.1
+      ∙ ap (λ l. positions first words (w + 5) ++ l)
+      (map-append reception h.before (map traffic_position (head_front message.identity))
+      ∙ ap (λ l. map reception h.before ++ l)
+      (traffic-receptions (head_front message.identity)))
+      ∙ sym (append_assoc (positions first words (w + 5)) (map reception h.before)
+      (map combination (head_front message.identity)))
 
-  head_is : text (positions first words here) Letters ≡ front ++ (90 ∷ 67 ∷ 90 ∷ 67 ∷ 32 ∷ message.identity.b1.byte ∷ message.identity.b2.byte ∷ (48 + message.identity.number / 10) ∷ [])
+  head_is : text (positions first words here) Letters
+      ≡ front ++ (90 ∷ 67 ∷ 90 ∷ 67 ∷ 32 ∷ message.identity.b1.byte ∷ message.identity.b2.byte
+      ∷ (48 + message.identity.number / 10) ∷ [])
   head_is =
       let shift = shift_after_all taken_before Letters in
       ap (λ l. text l Letters) positions_here
@@ -134,15 +164,19 @@ module _ (first : Role) (words : ℕ → ℕ) (t w : ℕ) (sent : List SentPosit
 
   digit_index : length up_to_digit < length sent
   digit_index =
-      let e : length sent ≡ length up_to_digit + suc (length digit_parts.0) = ap length digit_parts.1
-      ∙ length-append up_to_digit (traffic_position (second_digit message.identity) ∷ digit_parts.0) in omega arith
+      let e : length sent ≡ length up_to_digit + suc (length digit_parts.0) =
+      ap length digit_parts.1
+      ∙ length-append up_to_digit
+      (traffic_position (second_digit message.identity) ∷ digit_parts.0) in omega arith
 
   taken_here : taken_at first words here ≡ combination (second_digit message.identity) ∷ []
   taken_here =
       ap (taken_at first words) (sym at_here)
       ∙ taken_at-sent first words w sent (length up_to_digit) h.dx h.taken digit_index
       ∙ ap (λ l. reception (position_at l (length up_to_digit)) ∷ []) digit_parts.1
-      ∙ ap (λ p. reception p ∷ []) (get_or_at up_to_digit (traffic_position (second_digit message.identity)) digit_parts.0 end_position (length up_to_digit) refl)
+      ∙ ap (λ p. reception p ∷ [])
+      (get_or_at up_to_digit (traffic_position (second_digit message.identity)) digit_parts.0
+      end_position (length up_to_digit) refl)
 
   abbrev digit_byte : PlacedByte
   digit_byte = record { byte = 48 + message.identity.number % 10; place = word_place t here }
@@ -150,14 +184,18 @@ module _ (first : Role) (words : ℕ → ℕ) (t w : ℕ) (sent : List SentPosit
   printed_here : printed_by first words t here ≡ digit_byte ∷ []
   unfolding printed_by
   printed_here =
-      ap (λ l. map (λ b. record { byte = b; place = word_place t here }) (printed_after (positions first words here) l)) taken_here
-      ∙ ap (λ s. map (λ b. record { byte = b; place = word_place t here }) (option_to_list (byte_of (combination (second_digit message.identity)) s))) shift_is
-      ∙ ap (λ o. map (λ b. record { byte = b; place = word_place t here }) (option_to_list o)) (digit-prints message.identity)
+      ap (λ l. map (λ b. record { byte = b; place = word_place t here })
+      (printed_after (positions first words here) l)) taken_here
+      ∙ ap (λ s. map (λ b. record { byte = b; place = word_place t here })
+      (option_to_list (byte_of (combination (second_digit message.identity)) s))) shift_is
+      ∙ ap (λ o. map (λ b. record { byte = b; place = word_place t here }) (option_to_list o))
+      (digit-prints message.identity)
 
   long_here : length (text_by first words t here) ≡ length front + 8
   long_here =
       sym (length-bytes_of (text_by first words t here)) ∙ ap length (bytes_at here ∙ head_is)
-      ∙ length-append front (90 ∷ 67 ∷ 90 ∷ 67 ∷ 32 ∷ message.identity.b1.byte ∷ message.identity.b2.byte ∷ (48 + message.identity.number / 10) ∷ [])
+      ∙ length-append front (90 ∷ 67 ∷ 90 ∷ 67 ∷ 32 ∷ message.identity.b1.byte
+      ∷ message.identity.b2.byte ∷ (48 + message.identity.number / 10) ∷ [])
 
   next_text : text_by first words t (here + 1) ≡ text_by first words t here ++ digit_byte ∷ []
   unfolding text_by
@@ -171,21 +209,42 @@ module _ (first : Role) (words : ℕ → ℕ) (t w : ℕ) (sent : List SentPosit
       let whole : text_by first words t all ≡ text_by first words t here ++ digit_byte ∷ g.rest =
       g.whole ∙ ap (λ l. l ++ g.rest) next_text
       ∙ append_assoc (text_by first words t here) (digit_byte ∷ []) g.rest in
-      let long : length (text_by first words t all) ≡ length (text_by first words t here) + suc (length g.rest) = ap length whole
+      let long : length (text_by first words t all)
+      ≡ length (text_by first words t here) + suc (length g.rest) = ap length whole
       ∙ length-append (text_by first words t here) (digit_byte ∷ g.rest) in
       let d : PlacedByte = record { byte = 0; place = 0 } in
       place_in-get_or (text_by first words t all) (length front + 8) d (omega (arith, long_here))
       ∙ ap (λ l. (get_or l (length front + 8) d).place) whole
-      ∙ ap (λ b. b.place) (get_or_at (text_by first words t here) digit_byte g.rest d (length front + 8) long_here)
+      ∙ ap (λ b. b.place) (get_or_at (text_by first words t here) digit_byte g.rest d
+      (length front + 8) long_here)
 
   -- the copy of the message, at the place of its second digit
-  pub message_found : Contains (ended_in (text_by first words t all)) (record { identity = message.identity; how = Full; text = text_of message.lines; place = word_place t here })
+  pub message_found : Contains (ended_in (text_by first words t all))
+      (record {
+        identity = message.identity;
+        how = Full;
+        text = text_of message.lines;
+        place =
+            word_place t here;
+      })
   unfolding found_copy
   message_found =
-      let ended : Contains (ended_copies (bytes_of (text_by first words t all))) (sent_copy (length front) message) =
-      subst (λ l. Contains (ended_copies l) (sent_copy (length front) message)) (sym whole_bytes) (ended_there front behind_bytes message good) in
+      let ended : Contains (ended_copies (bytes_of (text_by first words t all)))
+      (sent_copy (length front) message) =
+      subst (λ l. Contains (ended_copies l) (sent_copy (length front) message)) (sym whole_bytes)
+      (ended_there front behind_bytes message good) in
       let at : length front + 9 - 1 ≡ length front + 8 = omega arith in
-      let place : place_in (text_by first words t all) (length front + 9 - 1) ≡ word_place t here = ap (place_in (text_by first words t all)) at
+      let place : place_in (text_by first words t all) (length front + 9 - 1) ≡ word_place t here =
+      ap (place_in (text_by first words t all)) at
       ∙ digit_place in
-      subst (λ (p : ℕ). Contains (ended_in (text_by first words t all)) (record { identity = message.identity; how = Full; text = text_of message.lines; place = p })) place
-      (contains_map (found_copy (text_by first words t all)) (ended_copies (bytes_of (text_by first words t all))) (sent_copy (length front) message) ended)
+      subst (λ (p : ℕ). Contains (ended_in (text_by first words t all))
+      (record {
+        identity = message.identity;
+        how = Full;
+        text = text_of message.lines;
+        place =
+            p;
+      })) place
+      (contains_map (found_copy (text_by first words t all))
+      (ended_copies (bytes_of (text_by first words t all))) (sent_copy (length front) message)
+      ended)

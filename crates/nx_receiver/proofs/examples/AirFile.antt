@@ -1,4 +1,5 @@
--- The worked air file: it meets what is asked of a message that is printed once, and it has its log.
+-- The worked air file: it meets what is asked of a message that is printed once, and it has its
+-- log.
 use Rattle.std.proofs.Common.{◌≡◌, ℕ, zero, suc, ◌+◌, ◌*◌, ◌<◌, ◌≤◌, Bool, List, [], ◌∷◌, length, map, take, refl, sym, ap, ◌∙◌, subst, arith, length-append, lit<, lit≤}
 use Rattle.std.specs.Prelude.{slice_index_or}
 use Rattle.std.specs.List.{Contains}
@@ -55,7 +56,14 @@ file-is = record {
   whole = refl;
   each = (moment-good, good-lines bits);
   within =
-      omega (arith, lines-short, (spelling-IsBeginning (moment 1735692000) moment-good).short, length-append (spelling (moment 1735692000)) (10 ∷ []), length-append (line_bytes (moment 1735692000)) (file_of (bit_lines bits)));
+      omega (
+        arith,
+        lines-short,
+        (spelling-IsBeginning (moment 1735692000) moment-good).short,
+        length-append (spelling (moment 1735692000)) (10 ∷ []),
+        length-append
+            (line_bytes (moment 1735692000)) (file_of (bit_lines bits)),
+      );
 }
 
 -- ---- what it gives to a receiver
@@ -91,11 +99,15 @@ pub one-sending : (at : ℕ) → IsSentAt (example_parts first_bits []) example_
 one-sending at sent =
     let sending : Sending = record { message = example_message; place = at } in
     let there : Contains found (copy_of_sending sending) =
-    sending_in_end (elements_among events) (example_parts first_bits []) sending [] (locked 0 28) cut_is sent stands_is in
-    ap (λ (c : FoundCopy). c.place) (one_in found (copy_of_sending sending) (copy_of_sending (example_sending first_bits)) one_found there sent_there)
+    sending_in_end (elements_among events) (example_parts first_bits []) sending [] (locked 0 28)
+    cut_is sent stands_is in
+    ap (λ (c : FoundCopy). c.place)
+    (one_in found (copy_of_sending sending) (copy_of_sending (example_sending first_bits))
+    one_found there sent_there)
 
 -- at an element the moment is that of the file's first line
-pub inside : (now first : Setting) (xs : List Bool) (at : ℕ) → at < length xs → slice_index_or (settings now (map element xs)) at first ≡ now
+pub inside : (now first : Setting) (xs : List Bool) (at : ℕ) → at < length xs
+    → slice_index_or (settings now (map element xs)) at first ≡ now
 unfolding settings
 inside now first [] at h = absurd (omega arith)
 inside now first (x ∷ xs) zero h = refl
@@ -103,16 +115,19 @@ inside now first (x ∷ xs) (suc at) h = inside now first xs at (omega arith)
 
 pub place-within : place < length bits
 place-within =
-    let count : length (take 96 damaged_words) ≡ 96 = length-take 96 damaged_words ∙ omega (arith, damaged_computed.long) in
+    let count : length (take 96 damaged_words) ≡ 96 =
+    length-take 96 damaged_words ∙ omega (arith, damaged_computed.long) in
     omega (arith, long, count, length-bits_of (take 96 damaged_words))
 
 in-force : setting_at (first_setting at_zero) heard place ≡ first_setting at_its_slot
 unfolding settings
 in-force =
-    ap (λ es. slice_index_or (settings (first_setting at_zero) es) place (first_setting at_zero)) events-are
+    ap (λ es. slice_index_or (settings (first_setting at_zero) es) place (first_setting at_zero))
+    events-are
     ∙ inside (first_setting at_its_slot) (first_setting at_zero) bits place place-within
 
-in-force-at : (at : ℕ) → IsSentAt (example_parts first_bits []) example_message at → setting_at (first_setting at_zero) heard at ≡ first_setting at_its_slot
+in-force-at : (at : ℕ) → IsSentAt (example_parts first_bits []) example_message at
+    → setting_at (first_setting at_zero) heard at ≡ first_setting at_its_slot
 in-force-at at sent = ap (setting_at (first_setting at_zero) heard) (one-sending at sent) ∙ in-force
 
 one-tagged : length (tagged_copies (first_setting at_zero) heard all-found) ≡ 1
@@ -129,26 +144,44 @@ heard-there = record {
   now = locked 0 28;
   stands = stands-heard;
   alone = λ copy there named.
-      let among : Contains found copy = subst (λ (cs : List FoundCopy). Contains cs copy) (sym found-same) there in
-      subst (IsSentAt (example_parts first_bits []) example_message) (ap (λ (c : FoundCopy). c.place) (one_in found (copy_of_sending (example_sending first_bits)) copy one_found sent_there among)) (example_sent first_bits []);
-  selected = λ at sent. ap (λ (s : Setting). admits s.refused example_message.identity) (in-force-at at sent) ∙ all_selected;
+      let among : Contains found copy =
+      subst (λ (cs : List FoundCopy). Contains cs copy) (sym found-same) there in
+      subst (IsSentAt (example_parts first_bits []) example_message)
+      (ap (λ (c : FoundCopy). c.place)
+      (one_in found (copy_of_sending (example_sending first_bits)) copy one_found sent_there
+      among)) (example_sent first_bits []);
+  selected = λ at sent. ap (λ (s : Setting). admits s.refused example_message.identity)
+      (in-force-at at sent) ∙ all_selected;
   close = λ one other a b.
       let m = ap (λ (s : Setting). s.moment) (in-force-at one a) in
       let n = ap (λ (s : Setting). s.moment) (in-force-at other b) in
       omega arith;
-  unknown = none_live example_message.identity (tagged_copies (first_setting at_zero) heard all-found);
+  unknown = none_live example_message.identity
+      (tagged_copies (first_setting at_zero) heard all-found);
   few =
-      λ before between after first later e none named again. absurd (not_two (tagged_copies (first_setting at_zero) heard all-found) before between after first later one-tagged e);
+      λ before between after first later e none named again. absurd
+      (not_two (tagged_copies (first_setting at_zero) heard all-found) before between after
+      first later one-tagged e);
 }
 
 pub heard-in-time : IsHeardInTimeIn at_zero example_air_file example_message
-heard-in-time = record { lines = example_lines; spelled = file-is; parts = example_parts first_bits []; heard = heard-there }
+heard-in-time = record {
+  lines = example_lines;
+  spelled = file-is;
+  parts =
+      example_parts first_bits [];
+  heard = heard-there;
+}
 
 -- ---- its log
 
 taken : AreTaken at_zero example_lines
 unfolding AreTakenAfter setting_after_all
-taken = record { in_range = lit≤ tt; each = ((lit≤ tt, lit≤ tt), taken-lines at_zero (moment 1735692000 ∷ []) bits refl) }
+taken = record {
+  in_range = lit≤ tt;
+  each =
+      ((lit≤ tt, lit≤ tt), taken-lines at_zero (moment 1735692000 ∷ []) bits refl);
+}
 
 -- a list of one that holds an item is that item alone
 pub alone : {A : Type 0} (xs : List A) (x : A) → length xs ≡ 1 → Contains xs x → xs ≡ x ∷ []
@@ -156,27 +189,37 @@ alone [] x one c = absurd (omega (arith, one))
 alone (y ∷ (z ∷ ys)) x one c = absurd (omega (arith, one))
 alone (y ∷ []) x one c = ap (λ w. w ∷ []) (one_in (y ∷ []) y x refl (0, omega arith, refl) c)
 
-tagged-same : tagged_copies (first_setting at_zero) heard found ≡ tagged_copies (first_setting at_its_slot) events found
+tagged-same : tagged_copies (first_setting at_zero) heard found
+    ≡ tagged_copies (first_setting at_its_slot) events found
 unfolding tagged_copies
 tagged-same =
     let this = copy_of_sending (example_sending first_bits) in
     let is : found ≡ this ∷ [] = alone found this one_found sent_there in
     ap (tagged_copies (first_setting at_zero) heard) is
-    ∙ ap (λ (s : Setting). tag s this ∷ []) (in-force ∙ sym (at_first (first_setting at_its_slot) bits place))
+    ∙ ap (λ (s : Setting). tag s this ∷ [])
+    (in-force ∙ sym (at_first (first_setting at_its_slot) bits place))
     ∙ ap (tagged_copies (first_setting at_its_slot) events) (sym is)
 
 printed : PrintsToEnd at_zero heard (first_copy ∷ [])
 printed =
     let before = printed_to_end damaged_words damaged_computed in
-    let mine : PrintsToEnd at_its_slot events (printed_copies [] (tagged_copies (first_setting at_its_slot) events found)) =
+    let mine : PrintsToEnd at_its_slot events
+    (printed_copies [] (tagged_copies (first_setting at_its_slot) events found)) =
     record { locks = []; now = locked 0 28; stands = stands_is; printed = refl } in
     record {
       locks = [];
       now = locked 0 28;
       stands = stands-heard;
-      printed = one_to_end at_its_slot events _ _ before mine ∙ ap (printed_copies []) (sym tagged-same)
-          ∙ ap (λ (cs : List FoundCopy). printed_copies [] (tagged_copies (first_setting at_zero) heard cs)) found-same;
+      printed = one_to_end at_its_slot events _ _ before mine
+          ∙ ap (printed_copies []) (sym tagged-same)
+          ∙ ap (λ (cs : List FoundCopy). printed_copies []
+          (tagged_copies (first_setting at_zero) heard cs)) found-same;
     }
 
 pub logged : IsLogOf at_zero example_air_file worked_log
-logged = (example_lines, first_copy ∷ [], record { file = file-is; taken = taken; printed = printed; spelled = log_is })
+logged = (
+  example_lines,
+  first_copy
+      ∷ [],
+  record { file = file-is; taken = taken; printed = printed; spelled = log_is },
+)

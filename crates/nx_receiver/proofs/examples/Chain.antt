@@ -1,4 +1,5 @@
--- The worked chain of two runs: it is one, and it meets what is asked of a message that is printed once.
+-- The worked chain of two runs: it is one, and it meets what is asked of a message that is printed
+-- once.
 use Rattle.std.proofs.Common.{◌≡◌, ℕ, ◌+◌, ◌<◌, ◌≤◌, Bool, List, [], ◌∷◌, ◌++◌, length, take, refl, sym, ap, ◌∙◌, subst, arith, append-nil, length-append, lit<, lit≤}
 use Rattle.std.specs.Prelude.{codes, slice_index_or}
 use Rattle.std.specs.List.{Contains}
@@ -43,12 +44,21 @@ use Rattle.nx_receiver.proofs.examples.WorkedLog.{all_selected, log_is}
 abbrev lines_heard : ℕ → List Line
 lines_heard n = moment n ∷ bit_lines bits
 
-file-is : (n : ℕ) → IsLine (moment n) → IsAirFile air_limit (file_of (lines_heard n)) (lines_heard n)
+file-is : (n : ℕ) → IsLine (moment n)
+    → IsAirFile air_limit (file_of (lines_heard n)) (lines_heard n)
 file-is n good = record {
   whole = refl;
   each = (good, good-lines bits);
   within =
-      omega (arith, lines-short, (spelling-IsBeginning (moment n) good).short, length-append (spelling (moment n)) (10 ∷ []), length-append (line_bytes (moment n)) (file_of (bit_lines bits)));
+      omega (
+        arith,
+        lines-short,
+        (spelling-IsBeginning (moment n) good).short,
+        length-append
+            (spelling (moment n)) (10 ∷ []),
+        length-append (line_bytes (moment n))
+            (file_of (bit_lines bits)),
+      );
 }
 
 events-are : (n : ℕ) → events_of (lines_heard n) ≡ at_moment n ∷ events
@@ -58,13 +68,15 @@ same : (n : ℕ) → elements_among events ≡ elements_among (events_of (lines_
 unfolding elements_among
 same n = sym (ap elements_among (events-are n))
 
-cut-heard : (n : ℕ) → IsCut (elements_among (events_of (lines_heard n))) (example_parts first_bits [])
+cut-heard : (n : ℕ) → IsCut (elements_among (events_of (lines_heard n)))
+    (example_parts first_bits [])
 cut-heard n = subst (λ (b : List Bool). IsCut b (example_parts first_bits [])) (same n) cut_is
 
 -- the copy, and its place
 first-long : length first_bits ≡ 672
 first-long =
-    let words : length (take 96 damaged_words) ≡ 96 = length-take 96 damaged_words ∙ omega (arith, damaged_computed.long) in
+    let words : length (take 96 damaged_words) ≡ 96 =
+    length-take 96 damaged_words ∙ omega (arith, damaged_computed.long) in
     omega (arith, words, length-bits_of (take 96 damaged_words))
 
 place-is : length first_bits + 517 ≡ 1189
@@ -73,7 +85,8 @@ place-is = omega (arith, first-long)
 copy-is : found ≡ copy_heard ∷ []
 copy-is =
     alone found (copy_of_sending (example_sending first_bits)) one_found sent_there
-    ∙ ap (λ (p : ℕ). copy_of_sending (record { message = example_message; place = p }) ∷ []) place-is
+    ∙ ap (λ (p : ℕ). copy_of_sending (record { message = example_message; place = p }) ∷ [])
+    place-is
 
 found-in : (n : ℕ) → AreFoundIn (events_of (lines_heard n)) (copy_heard ∷ [])
 found-in n = record {
@@ -84,7 +97,8 @@ found-in n = record {
 }
 
 sent-there : IsSentAt (example_parts first_bits []) example_message 1189
-sent-there = subst (IsSentAt (example_parts first_bits []) example_message) place-is (example_sent first_bits [])
+sent-there = subst (IsSentAt (example_parts first_bits []) example_message) place-is
+    (example_sent first_bits [])
 
 -- the copy with its moment
 abbrev copy_then : ℕ → TaggedCopy
@@ -105,14 +119,22 @@ module _ (entries : List MemoryEntry) (from n : ℕ) where
   in-force : setting_at (first_setting begun) given 1189 ≡ then
   unfolding settings
   in-force =
-      ap (λ es. slice_index_or (settings (first_setting begun) es) 1189 (first_setting begun)) (events-are n)
+      ap (λ es. slice_index_or (settings (first_setting begun) es) 1189 (first_setting begun))
+      (events-are n)
       ∙ inside then (first_setting begun) bits 1189 (omega (arith, place-within, place-is))
 
   tagged : tagged_copies (first_setting begun) given (copy_heard ∷ []) ≡ copy_then n ∷ []
   unfolding tagged_copies tag
   tagged =
       ap (λ (s : Setting). tag s copy_heard ∷ []) in-force
-      ∙ ap (λ b. record { identity = ea01; how = Full; text = codes "TEST\n"; moment = n; selected = b } ∷ []) all_selected
+      ∙ ap (λ b. record {
+        identity = ea01;
+        how = Full;
+        text = codes "TEST\n";
+        moment = n;
+        selected =
+            b;
+      } ∷ []) all_selected
 
   printed : PrintsToEnd begun given (printed_copies entries (copy_then n ∷ []))
   printed =
@@ -122,7 +144,8 @@ module _ (entries : List MemoryEntry) (from n : ℕ) where
         now = f.now;
         stands = f.stands;
         printed = ap (printed_copies entries) (sym tagged)
-            ∙ ap (λ (cs : List FoundCopy). printed_copies entries (tagged_copies (first_setting begun) given cs)) f.whole;
+            ∙ ap (λ (cs : List FoundCopy). printed_copies entries
+            (tagged_copies (first_setting begun) given cs)) f.whole;
       }
 
   taken : from ≤ n → n ≤ last_moment → AreTaken begun (lines_heard n)
@@ -138,7 +161,9 @@ module _ (entries : List MemoryEntry) (from n : ℕ) where
       sym (ap (λ es. (setting_after_all (first_setting begun) es).refused) (events-are n)
       ∙ ap (λ (s : Setting). s.refused) (force-more (first_setting begun) (at_moment n ∷ []) bits))
 
-  leaves : (left : SavedState) → left.entries ≡ last_of most_entries (entries_after entries (copy_then n ∷ [])) → left.refused ≡ none_refused → Leaves begun given left
+  leaves : (left : SavedState)
+      → left.entries ≡ last_of most_entries (entries_after entries (copy_then n ∷ []))
+      → left.refused ≡ none_refused → Leaves begun given left
   leaves left made saved = record {
     copies = copy_heard ∷ [];
     found = found-in n;
@@ -152,7 +177,8 @@ first-printed : printed_copies [] (copy_then 1735692000 ∷ []) ≡ first_copy �
 unfolding printed_copies if_printed is_printed
 first-printed = refl
 
-first-made : last_of most_entries (entries_after [] (copy_then 1735692000 ∷ [])) ≡ saved_after.entries
+first-made : last_of most_entries (entries_after [] (copy_then 1735692000 ∷ []))
+    ≡ saved_after.entries
 unfolding entries_made entry_made is_entered is_printed
 first-made = refl
 
@@ -160,7 +186,8 @@ second-printed : printed_copies saved_after.entries (copy_then 1735706400 ∷ []
 unfolding printed_copies if_printed is_printed
 second-printed = refl
 
-second-made : last_of most_entries (entries_after saved_after.entries (copy_then 1735706400 ∷ [])) ≡ saved_after.entries
+second-made : last_of most_entries (entries_after saved_after.entries (copy_then 1735706400 ∷ []))
+    ≡ saved_after.entries
 unfolding entries_made entry_made is_entered is_printed
 second-made = refl
 
@@ -172,7 +199,8 @@ is-chain = (
     heard = record {
       file = file-is 1735692000 (lit< tt);
       taken = taken [] 0 1735692000 (lit≤ tt) (lit≤ tt);
-      printed = subst (PrintsToEnd (start_from nothing_saved) (events_in first_run)) first-printed (printed [] 0 1735692000);
+      printed = subst (PrintsToEnd (start_from nothing_saved) (events_in first_run)) first-printed
+          (printed [] 0 1735692000);
       spelled = log_is;
     };
     found = found-in 1735692000;
@@ -185,7 +213,8 @@ is-chain = (
       heard = record {
         file = file-is 1735706400 (lit< tt);
         taken = taken saved_after.entries 1735692000 1735706400 (lit≤ tt) (lit≤ tt);
-        printed = subst (PrintsToEnd (start_from saved_after) (events_in second_run)) second-printed (printed saved_after.entries 1735692000 1735706400);
+        printed = subst (PrintsToEnd (start_from saved_after) (events_in second_run)) second-printed
+            (printed saved_after.entries 1735692000 1735706400);
         spelled = record { entries = []; each = tt; joined = refl };
       };
       found = found-in 1735706400;
@@ -236,13 +265,17 @@ hears-second = record {
 }
 
 hears : (one : CutRun) → Contains cuts one → Hears one
-hears one c = All-contains Hears cuts one (All-cons Hears (cut_of first_run) (cut_of second_run ∷ []) hears-first (All-cons Hears (cut_of second_run) [] hears-second (All-nil Hears))) c
+hears one c = All-contains Hears cuts one
+    (All-cons Hears (cut_of first_run) (cut_of second_run ∷ []) hears-first
+    (All-cons Hears (cut_of second_run) [] hears-second (All-nil Hears))) c
 
 -- each sending is at the same element of its run
-sent-at : (one : CutRun) (at : ℕ) (s : IsSentIn cuts example_message one at) → in_force_in one at ≡ record { moment = (hears one s.among).n; refused = none_refused }
+sent-at : (one : CutRun) (at : ℕ) (s : IsSentIn cuts example_message one at)
+    → in_force_in one at ≡ record { moment = (hears one s.among).n; refused = none_refused }
 sent-at one at s =
     let h = hears one s.among in
-    let there : IsSentAt (example_parts first_bits []) example_message at = subst (λ (ps : List Part). IsSentAt ps example_message at) h.parts s.sent in
+    let there : IsSentAt (example_parts first_bits []) example_message at =
+    subst (λ (ps : List Part). IsSentAt ps example_message at) h.parts s.sent in
     ap (in_force_in one) (one-sending at there ∙ place-is) ∙ h.force
 
 two-copies : length (all_copies example_runs) ≡ 2
@@ -250,13 +283,16 @@ unfolding tagged_copies
 two-copies = refl
 
 -- where there are two copies, nothing is between two of them
-none-made : (entries : List MemoryEntry) (between : List TaggedCopy) → length between ≡ 0 → length (entries_made entries between) < most_entries
+none-made : (entries : List MemoryEntry) (between : List TaggedCopy) → length between ≡ 0
+    → length (entries_made entries between) < most_entries
 unfolding entries_made
 none-made entries [] e = lit< tt
 none-made entries (x ∷ xs) e = absurd (omega (arith, e))
 
-none-between : (entries : List MemoryEntry) (copies before between after : List TaggedCopy) (first later : TaggedCopy) → length copies ≡ 2
-    → copies ≡ before ++ first ∷ (between ++ later ∷ after) → length (entries_made entries between) < most_entries
+none-between : (entries : List MemoryEntry) (copies before between after : List TaggedCopy)
+    (first later : TaggedCopy) → length copies ≡ 2
+    → copies ≡ before ++ first ∷ (between ++ later ∷ after)
+    → length (entries_made entries between) < most_entries
 none-between entries copies before between after first later two e =
     let whole = ap length e ∙ length-append before (first ∷ (between ++ later ∷ after)) in
     let more = length-append between (later ∷ after) in
@@ -273,17 +309,21 @@ heard-in-time = record {
   numbered = lit< tt;
   alone = λ one copy among there named.
       let h = hears one among in
-      let is = one_in (copy_heard ∷ []) copy_heard copy refl (0, lit< tt, refl) (subst (λ (cs : List FoundCopy). Contains cs copy) h.found there) in
-      let sent = subst (IsSentAt (example_parts first_bits []) example_message) (ap (λ (c : FoundCopy). c.place) is) sent-there in
+      let is = one_in (copy_heard ∷ []) copy_heard copy refl (0, lit< tt, refl)
+      (subst (λ (cs : List FoundCopy). Contains cs copy) h.found there) in
+      let sent = subst (IsSentAt (example_parts first_bits []) example_message)
+      (ap (λ (c : FoundCopy). c.place) is) sent-there in
       subst (λ (ps : List Part). IsSentAt ps example_message copy.place) (sym h.parts) sent;
-  selected = λ one at s. ap (λ (f : Setting). admits f.refused example_message.identity) (sent-at one at s) ∙ all_selected;
+  selected = λ one at s. ap (λ (f : Setting). admits f.refused example_message.identity)
+      (sent-at one at s) ∙ all_selected;
   close = λ one other at place s t.
       let m = ap (λ (f : Setting). f.moment) (sent-at one at s) in
       let n = ap (λ (f : Setting). f.moment) (sent-at other place t) in
       omega (arith, m, n, (hears one s.among).high, (hears other t.among).low);
   unknown = none_live example_message.identity (all_copies example_runs);
   few = λ before between after first later e none named again.
-      none-between (entries_after [] (before ++ first ∷ [])) (all_copies example_runs) before between after first later two-copies e;
+      none-between (entries_after [] (before ++ first ∷ [])) (all_copies example_runs) before
+      between after first later two-copies e;
 }
 
 pub logs-are : all_logs example_runs ≡ worked_log

@@ -1,4 +1,5 @@
--- The worked emission, of which each DX word of the message is damaged, meets what is asked of a message that is printed
+-- The worked emission, of which each DX word of the message is damaged, meets what is asked of a
+-- message that is printed
 -- once.
 use Rattle.std.proofs.Common.{◌≡◌, ℕ, zero, suc, ◌+◌, ◌<◌, Bool, List, [], ◌∷◌, ◌++◌, length, take, drop, get_or, refl, sym, ap, ◌∙◌, subst, arith, append-nil, lit<}
 use Rattle.std.specs.Prelude.{codes}
@@ -51,11 +52,13 @@ events_are = bits_among-elements (bits_of damaged_words)
 
 pub cut_is : IsCut (elements_among events) (example_parts first_bits [])
 cut_is =
-    subst (λ (b : List Bool). IsCut b (example_parts first_bits [])) (sym (events_are ∙ bits_are)) (example_cut first_bits [])
+    subst (λ (b : List Bool). IsCut b (example_parts first_bits [])) (sym (events_are ∙ bits_are))
+    (example_cut first_bits [])
 
 pub stands_is : IsNow (elements_among events) [] (locked 0 28)
 stands_is =
-    subst (λ (b : List Bool). IsNow b [] (locked 0 28)) (sym events_are) (stands damaged_words damaged_computed)
+    subst (λ (b : List Bool). IsNow b [] (locked 0 28)) (sym events_are)
+    (stands damaged_words damaged_computed)
 
 abbrev pub found : List FoundCopy
 found = found_to_end (elements_among events) [] (locked 0 28)
@@ -74,7 +77,8 @@ one_found =
     ∙ ap (λ t. length (copies t)) (text_is damaged_words damaged_computed) ∙ one_header
 
 -- a list of one holds one
-pub one_in : {A : Type 0} (xs : List A) (x y : A) → length xs ≡ 1 → Contains xs x → Contains xs y → x ≡ y
+pub one_in : {A : Type 0} (xs : List A) (x y : A) → length xs ≡ 1 → Contains xs x → Contains xs y
+    → x ≡ y
 one_in [] x y e c d = absurd (omega (arith, e))
 one_in (z ∷ (w ∷ xs)) x y e c d = absurd (omega (arith, e))
 one_in (z ∷ []) x y e c d = sym (at_zero z x c.0 c.1 c.2) ∙ at_zero z y d.0 d.1 d.2
@@ -85,9 +89,11 @@ one_in (z ∷ []) x y e c d = sym (at_zero z x c.0 c.1 c.2) ∙ at_zero z y d.0 
 
 pub sent_there : Contains found (copy_of_sending (example_sending first_bits))
 sent_there =
-    sending_in_end (elements_among events) (example_parts first_bits []) (example_sending first_bits) [] (locked 0 28) cut_is (example_sent first_bits []) stands_is
+    sending_in_end (elements_among events) (example_parts first_bits [])
+    (example_sending first_bits) [] (locked 0 28) cut_is (example_sent first_bits []) stands_is
 
-pub not_two : (copies before between after : List TaggedCopy) (first later : TaggedCopy) → length copies ≡ 1
+pub not_two : (copies before between after : List TaggedCopy) (first later : TaggedCopy)
+    → length copies ≡ 1
     → copies ≡ before ++ first ∷ (between ++ later ∷ after) → ⊥
 not_two copies before between after first later one e =
     let long = ap length e ∙ length-append before (first ∷ (between ++ later ∷ after)) in
@@ -108,15 +114,24 @@ heard_in_time = record {
   now = locked 0 28;
   stands = stands_is;
   alone = λ copy there named.
-      subst (IsSentAt (example_parts first_bits []) example_message) (ap (λ (c : FoundCopy). c.place) (one_in found (copy_of_sending (example_sending first_bits)) copy one_found sent_there there)) (example_sent first_bits []);
+      subst (IsSentAt (example_parts first_bits []) example_message)
+      (ap (λ (c : FoundCopy). c.place)
+      (one_in found (copy_of_sending (example_sending first_bits)) copy one_found sent_there
+      there)) (example_sent first_bits []);
   selected =
-      λ at sent. ap (λ (s : Setting). admits s.refused example_message.identity) (at_first (first_setting at_its_slot) (bits_of damaged_words) at)
+      λ at sent. ap (λ (s : Setting). admits s.refused example_message.identity)
+      (at_first (first_setting at_its_slot) (bits_of damaged_words) at)
       ∙ all_selected;
   close = λ one other a b.
-      let m = ap (λ (s : Setting). s.moment) (at_first (first_setting at_its_slot) (bits_of damaged_words) one) in
-      let n = ap (λ (s : Setting). s.moment) (at_first (first_setting at_its_slot) (bits_of damaged_words) other) in
+      let m = ap (λ (s : Setting). s.moment)
+      (at_first (first_setting at_its_slot) (bits_of damaged_words) one) in
+      let n = ap (λ (s : Setting). s.moment)
+      (at_first (first_setting at_its_slot) (bits_of damaged_words) other) in
       omega arith;
-  unknown = none_live example_message.identity (tagged_copies (first_setting at_its_slot) events found);
+  unknown = none_live example_message.identity
+      (tagged_copies (first_setting at_its_slot) events found);
   few =
-      λ before between after first later e none named again. absurd (not_two (tagged_copies (first_setting at_its_slot) events found) before between after first later one_tagged e);
+      λ before between after first later e none named again. absurd
+      (not_two (tagged_copies (first_setting at_its_slot) events found) before between after
+      first later one_tagged e);
 }

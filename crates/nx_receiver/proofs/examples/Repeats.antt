@@ -11,11 +11,14 @@ use Rattle.nx_receiver.specs.FoundCopies.{TaggedCopy}
 use Rattle.nx_receiver.proofs.once.Repeats.{none_live}
 
 -- each copy makes one entry at most
-made_few : (entries : List MemoryEntry) (copies : List TaggedCopy) → length (entries_made entries copies) ≤ length copies
+made_few : (entries : List MemoryEntry) (copies : List TaggedCopy)
+    → length (entries_made entries copies) ≤ length copies
 unfolding entries_made entry_made
 made_few entries [] = omega arith
 made_few entries (c ∷ copies) =
-    elim (is_entered entries c) as (λ (b : Bool). length (cond b (entry_of c ∷ []) [] ++ entries_made (entries ++ cond b (entry_of c ∷ []) []) copies) ≤ suc (length copies)) [
+    elim (is_entered entries c) as (λ (b : Bool). length
+    (cond b (entry_of c ∷ []) []
+    ++ entries_made (entries ++ cond b (entry_of c ∷ []) []) copies) ≤ suc (length copies)) [
       | true ↦ omega (arith, made_few (entries ++ entry_of c ∷ []) copies)
       | false ↦ omega (arith, made_few (entries ++ []) copies)
     ]
@@ -26,15 +29,22 @@ example = record {
   heard = refl;
   numbered = lit≤ tt;
   unknown = none_live ea01 example_copies;
-  good = All-cons (λ (c : TaggedCopy). IsTrue (is_good c)) first_copy (repeated_copy ∷ []) refl (All-cons (λ (c : TaggedCopy). IsTrue (is_good c)) repeated_copy [] refl (All-nil (λ (c : TaggedCopy). IsTrue (is_good c))));
-  selected = All-cons (λ (c : TaggedCopy). IsTrue c.selected) first_copy (repeated_copy ∷ []) refl (All-cons (λ (c : TaggedCopy). IsTrue c.selected) repeated_copy [] refl (All-nil (λ (c : TaggedCopy). IsTrue c.selected)));
+  good = All-cons (λ (c : TaggedCopy). IsTrue (is_good c)) first_copy (repeated_copy ∷ []) refl
+      (All-cons (λ (c : TaggedCopy). IsTrue (is_good c)) repeated_copy [] refl
+      (All-nil (λ (c : TaggedCopy). IsTrue (is_good c))));
+  selected = All-cons (λ (c : TaggedCopy). IsTrue c.selected) first_copy (repeated_copy ∷ []) refl
+      (All-cons (λ (c : TaggedCopy). IsTrue c.selected) repeated_copy [] refl
+      (All-nil (λ (c : TaggedCopy). IsTrue c.selected)));
   close = λ one other h k.
       let P : TaggedCopy → Type 0 = λ c. (1735692000 ≤ c.moment) × (c.moment ≤ 1735706400) in
-      let all = All-cons P first_copy (repeated_copy ∷ []) (lit≤ tt, lit≤ tt) (All-cons P repeated_copy [] (lit≤ tt, lit≤ tt) (All-nil P)) in
+      let all = All-cons P first_copy (repeated_copy ∷ []) (lit≤ tt, lit≤ tt)
+      (All-cons P repeated_copy [] (lit≤ tt, lit≤ tt) (All-nil P)) in
       let a = All-contains P (first_copy ∷ repeated_copy ∷ []) one all h in
       let b = All-contains P (first_copy ∷ repeated_copy ∷ []) other all k in
       omega (arith, a.0, a.1, b.0, b.1);
   few = λ before between after later e none h.
-      let long : 4 ≡ length before + suc (length between + suc (length after)) = ap length e ∙ length-append before (first_copy ∷ (between ++ later ∷ after)) ∙ ap (λ n. length before + suc n) (length-append between (later ∷ after)) in
+      let long : 4 ≡ length before + suc (length between + suc (length after)) =
+      ap length e ∙ length-append before (first_copy ∷ (between ++ later ∷ after))
+      ∙ ap (λ n. length before + suc n) (length-append between (later ∷ after)) in
       omega (arith, made_few (entries_after [] (before ++ first_copy ∷ [])) between);
 }

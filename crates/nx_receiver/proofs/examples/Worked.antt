@@ -40,16 +40,40 @@ pub record Computed (sent : List ℕ) : Type 0 where
   pub reads : text (positions Dx (lock_word sent) 199) Letters ≡ codes "ZCZC EA01\nTEST\nNNNN\n\n"
 
 pub sent_computed : Computed worked_words
-unfolding positions taken_at role_of counts_as place_of words table character_of row_of worked_words example_words phasing_words before_dx bits_of elements elements_from wrong_in weight releases_as_ended
-sent_computed = record { long = refl; are_words = refl; pattern = refl; before = refl; no_end = refl; few_wrong = lit≤ tt; reads = refl }
+unfolding positions taken_at role_of counts_as place_of words table character_of row_of worked_words
+    example_words phasing_words before_dx bits_of elements elements_from wrong_in weight
+    releases_as_ended
+sent_computed = record {
+  long = refl;
+  are_words = refl;
+  pattern = refl;
+  before = refl;
+  no_end =
+      refl;
+  few_wrong = lit≤ tt;
+  reads = refl;
+}
 
 pub damaged_computed : Computed damaged_words
-unfolding positions taken_at role_of counts_as place_of words table character_of row_of damaged_words heard_half damaged_in example_words phasing_words before_dx bits_of elements elements_from wrong_in weight releases_as_ended
-damaged_computed = record { long = refl; are_words = refl; pattern = refl; before = refl; no_end = refl; few_wrong = lit≤ tt; reads = refl }
+unfolding positions taken_at role_of counts_as place_of words table character_of row_of
+    damaged_words heard_half damaged_in example_words phasing_words before_dx bits_of elements
+    elements_from wrong_in weight releases_as_ended
+damaged_computed = record {
+  long = refl;
+  are_words = refl;
+  pattern = refl;
+  before = refl;
+  no_end = refl;
+  few_wrong =
+      lit≤ tt;
+  reads = refl;
+}
 
 module _ (sent : List ℕ) (is : Computed sent) where
   are_words : AreWords sent
-  are_words k h = ltb-true (get_or sent k 0) 128 (agree_below_at (λ k. ltb (get_or sent k 0) 128) (λ _. true) 203 k is.are_words (omega (arith, is.long)))
+  are_words k h = ltb-true (get_or sent k 0) 128
+      (agree_below_at (λ k. ltb (get_or sent k 0) 128) (λ _. true) 203 k is.are_words
+      (omega (arith, is.long)))
 
   bit_count : length (bits_of sent) ≡ 1421
   bit_count = length-bits_of sent ∙ omega (arith, is.long)
@@ -58,7 +82,8 @@ module _ (sent : List ℕ) (is : Computed sent) where
   word_is : (slot : ℕ) → slot < 203 → word_from (bits_of sent) (7 * slot) ≡ get_or sent slot 0
   unfolding word_in
   word_is slot h =
-      sym (get_or-words_of (bits_of sent) slot (omega (arith, bit_count))) ∙ ap (λ ws. get_or ws slot 0) (words_of-bits_of sent are_words)
+      sym (get_or-words_of (bits_of sent) slot (omega (arith, bit_count)))
+      ∙ ap (λ ws. get_or ws slot 0) (words_of-bits_of sent are_words)
 
   lock_word_is : (k : ℕ) → k < 199 → word_of_lock (bits_of sent) 28 k ≡ lock_word sent k
   unfolding word_of_lock
@@ -76,16 +101,24 @@ module _ (sent : List ℕ) (is : Computed sent) where
   part_wrong i n h =
       let rest : ℕ = 199 - (i + n) in
       let all : 199 ≡ i + (n + rest) = omega arith in
-      let sum : wrong_in (lock_word sent) 0 199 ≡ wrong_in (lock_word sent) 0 i + (wrong_in (lock_word sent) i n + wrong_in (lock_word sent) (i + n) rest) =
-      ap (wrong_in (lock_word sent) 0) all ∙ wrong_in-add (lock_word sent) 0 i (n + rest) ∙ ap (λ x. wrong_in (lock_word sent) 0 i + wrong_in (lock_word sent) x (n + rest)) (zero-add i) ∙ ap (λ x. wrong_in (lock_word sent) 0 i + x) (wrong_in-add (lock_word sent) i n rest) in
+      let sum : wrong_in (lock_word sent) 0 199
+      ≡ wrong_in (lock_word sent) 0
+      i + (wrong_in (lock_word sent) i n + wrong_in (lock_word sent) (i + n) rest) =
+      ap (wrong_in (lock_word sent) 0) all ∙ wrong_in-add (lock_word sent) 0 i (n + rest)
+      ∙ ap (λ x. wrong_in (lock_word sent) 0 i + wrong_in (lock_word sent) x (n + rest))
+      (zero-add i) ∙ ap (λ x. wrong_in (lock_word sent) 0 i + x)
+      (wrong_in-add (lock_word sent) i n rest) in
       omega (arith, is.few_wrong)
 
   quiet : (k : ℕ) → k < 199 → change_at Dx (lock_word sent) k ≡ None
   unfolding change_at
   quiet k h =
       let few = part_wrong (k + 1 - 64) (k + 1 - (k + 1 - 64)) (omega arith) in
-      ap (λ b. cond b (Some Ended) (cond (nat_le losing_count (wrong_until (lock_word sent) k)) (Some LostLock) None)) (agree_below_at (releases_as_ended Dx (lock_word sent)) (λ _. false) 199 k is.no_end h)
-      ∙ ap (λ b. cond b (Some LostLock) None) (lt-leb losing_count (wrong_until (lock_word sent) k) (omega (arith, few)))
+      ap (λ b. cond b (Some Ended)
+      (cond (nat_le losing_count (wrong_until (lock_word sent) k)) (Some LostLock) None))
+      (agree_below_at (releases_as_ended Dx (lock_word sent)) (λ _. false) 199 k is.no_end h)
+      ∙ ap (λ b. cond b (Some LostLock) None)
+      (lt-leb losing_count (wrong_until (lock_word sent) k) (omega (arith, few)))
 
   pub stands : IsLocked (bits_of sent) [] 0 28
   unfolding Past
@@ -93,18 +126,28 @@ module _ (sent : List ℕ) (is : Computed sent) where
     past = refl;
     found = record {
       after = lit< tt;
-      here = record { enough = lit≤ tt; heard = omega (arith, bit_count); pattern = inl is.pattern };
+      here = record {
+        enough = lit≤ tt;
+        heard = omega (arith, bit_count);
+        pattern =
+            inl is.pattern;
+      };
       least = λ s after before here. absurd (omega (arith, before, here.enough));
     };
-    holds = holds-to (bits_of sent) 28 (λ k h. ap (λ first. change_at first (word_of_lock (bits_of sent) 28) k) role_is ∙ change_at-same Dx (word_of_lock (bits_of sent) 28) (lock_word sent) k (λ j le. lock_word_is j (omega (arith, bit_count))) ∙ quiet k (omega (arith, bit_count)));
+    holds = holds-to (bits_of sent) 28
+        (λ k h. ap (λ first. change_at first (word_of_lock (bits_of sent) 28) k) role_is
+        ∙ change_at-same Dx (word_of_lock (bits_of sent) 28) (lock_word sent) k
+        (λ j le. lock_word_is j (omega (arith, bit_count))) ∙ quiet k (omega (arith, bit_count)));
   }
 
   -- the text of the lock
-  pub text_is : bytes_of (lock_text (bits_of sent) 28 (whole_words (bits_of sent) 28)) ≡ codes "ZCZC EA01\nTEST\nNNNN\n\n"
+  pub text_is : bytes_of (lock_text (bits_of sent) 28 (whole_words (bits_of sent) 28))
+      ≡ codes "ZCZC EA01\nTEST\nNNNN\n\n"
   text_is =
       let n : whole_words (bits_of sent) 28 ≡ 199 = ap (λ l. (l - 28) / 7) bit_count in
       ap (λ n. bytes_of (lock_text (bits_of sent) 28 n)) n
       ∙ bytes_are_reading (first_role (bits_of sent) 28) (word_of_lock (bits_of sent) 28) 28 199
       ∙ ap (λ first. text (positions first (word_of_lock (bits_of sent) 28) 199) Letters) role_is
-      ∙ ap (λ ps. text ps Letters) (positions-same Dx (word_of_lock (bits_of sent) 28) (lock_word sent) 199 lock_word_is)
+      ∙ ap (λ ps. text ps Letters)
+      (positions-same Dx (word_of_lock (bits_of sent) 28) (lock_word sent) 199 lock_word_is)
       ∙ is.reads

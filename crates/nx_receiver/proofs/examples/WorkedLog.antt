@@ -34,7 +34,8 @@ bits_among-elements [] = refl
 bits_among-elements (b ∷ bits) = ap (λ bs. b ∷ bs) (bits_among-elements bits)
 
 -- nothing but elements changes nothing
-pub at_first : (s : Setting) (bits : List Bool) (place : ℕ) → setting_at s (map element bits) place ≡ s
+pub at_first : (s : Setting) (bits : List Bool) (place : ℕ)
+    → setting_at s (map element bits) place ≡ s
 unfolding settings
 at_first s [] place = refl
 at_first s (b ∷ bits) zero = refl
@@ -45,10 +46,16 @@ found_identity : Identity
 found_identity = nearest_identity (codes "EA01")
 
 found : Copy
-found = record { header = record { identity = found_identity; behind = 9 }; how = Full; text = codes "TEST\n" }
+found = record {
+  header = record { identity = found_identity; behind = 9 };
+  how = Full;
+  text =
+      codes "TEST\n";
+}
 
 copies_are : copies (codes "ZCZC EA01\nTEST\nNNNN\n\n") ≡ found ∷ []
-unfolding found found_identity copies headers beginnings header_at_end identity_at_end read_header raw_text ending_by_marker marker_at_end ending_of ended_copy closed_copy
+unfolding found found_identity copies headers beginnings header_at_end identity_at_end read_header
+    raw_text ending_by_marker marker_at_end ending_of ended_copy closed_copy
 copies_are = refl
 
 same_name : found_identity ≡ ea01
@@ -57,18 +64,37 @@ same_name = same_identity-true found_identity ea01 refl
 
 pub all_selected : admits (first_setting at_its_slot).refused ea01 ≡ true
 all_selected =
-    ap (λ b. not b && not (set.contains (set.empty {R = nat_cmp}) 65)) (set.contains-empty nat_cmp 69) ∙ ap (λ b. not false && not b) (set.contains-empty nat_cmp 65)
+    ap (λ b. not b && not (set.contains (set.empty {R = nat_cmp}) 65))
+    (set.contains-empty nat_cmp 69)
+    ∙ ap (λ b. not false && not b) (set.contains-empty nat_cmp 65)
 
-tagged_is : (text : List PlacedByte) → tag (first_setting at_its_slot) (found_copy text found) ≡ first_copy
+tagged_is : (text : List PlacedByte)
+    → tag (first_setting at_its_slot) (found_copy text found) ≡ first_copy
 unfolding tag found_copy found
-tagged_is text = ap (λ (i : Identity). record { identity = i; how = Full; text = codes "TEST\n"; moment = 1735692000; selected = admits (first_setting at_its_slot).refused i }) same_name ∙ ap (λ b. record { identity = ea01; how = Full; text = codes "TEST\n"; moment = 1735692000; selected = b }) all_selected
+tagged_is text = ap (λ (i : Identity). record {
+  identity = i;
+  how = Full;
+  text = codes "TEST\n";
+  moment = 1735692000;
+  selected =
+      admits (first_setting at_its_slot).refused i;
+}) same_name
+    ∙ ap (λ b. record {
+      identity = ea01;
+      how = Full;
+      text = codes "TEST\n";
+      moment =
+          1735692000;
+      selected = b;
+    }) all_selected
 
 printed_is : printed_copies [] (first_copy ∷ []) ≡ first_copy ∷ []
 unfolding printed_copies if_printed is_printed
 printed_is = refl
 
 -- the log of the words that were heard
-pub printed_to_end : (sent : List ℕ) → Computed sent → PrintsToEnd at_its_slot (heard_elements sent) (first_copy ∷ [])
+pub printed_to_end : (sent : List ℕ) → Computed sent
+    → PrintsToEnd at_its_slot (heard_elements sent) (first_copy ∷ [])
 unfolding tagged_copies found_to_end past_copies
 printed_to_end sent is =
     let bits = bits_of sent in
@@ -80,17 +106,23 @@ printed_to_end sent is =
     record {
       locks = [];
       now = locked 0 28;
-      stands = subst (λ (bs : List Bool). IsNow bs [] (locked 0 28)) (sym (bits_among-elements bits)) (stands sent is);
+      stands = subst (λ (bs : List Bool). IsNow bs [] (locked 0 28))
+          (sym (bits_among-elements bits)) (stands sent is);
       printed =
-          sym (ap (λ bs. printed_of at_its_slot events (found_to_end bs [] (locked 0 28))) (bits_among-elements bits)
+          sym (ap (λ bs. printed_of at_its_slot events (found_to_end bs [] (locked 0 28)))
+          (bits_among-elements bits)
           ∙ ap (printed_of at_its_slot events) all
           ∙ ap (λ s. printed_copies [] (tag s copy ∷ [])) (at_first first bits copy.place)
           ∙ ap (λ c. printed_copies [] (c ∷ [])) (tagged_is text)
           ∙ printed_is);
     }
   where
-    all_found : (sent : List ℕ) → Computed sent → found_to_end (bits_of sent) [] (locked 0 28) ≡ found_copy (lock_text (bits_of sent) 28 (whole_words (bits_of sent) 28)) found ∷ []
-    all_found sent is = ap (map (found_copy (lock_text (bits_of sent) 28 (whole_words (bits_of sent) 28)))) (ap copies (text_is sent is) ∙ copies_are)
+    all_found : (sent : List ℕ) → Computed sent
+        → found_to_end (bits_of sent) [] (locked 0 28)
+        ≡ found_copy (lock_text (bits_of sent) 28 (whole_words (bits_of sent) 28)) found ∷ []
+    all_found sent is = ap (map
+        (found_copy (lock_text (bits_of sent) 28 (whole_words (bits_of sent) 28))))
+        (ap copies (text_is sent is) ∙ copies_are)
 
 -- its bytes
 entry_is : entry_with first_copy (codes "2025-01-01 00:40:00") ≡ worked_log
@@ -100,6 +132,9 @@ entry_is = refl
 pub log_is : IsLog (first_copy ∷ []) worked_log
 log_is = record {
   entries = worked_log ∷ [];
-  each = (record { civil = codes "2025-01-01 00:40:00"; shown = slot_of_e; spelled = sym entry_is }, tt);
+  each = (
+    record { civil = codes "2025-01-01 00:40:00"; shown = slot_of_e; spelled = sym entry_is },
+    tt,
+  );
   joined = refl;
 }

@@ -38,7 +38,8 @@ events-as_sent : (slot : ℕ) (bits : List Bool)
 events-as_sent slot bits =
     ap (λ l. at_moment slot ∷ l) (events-lines bits)
 
-module _ (station from : ℕ) (file air : List ℕ) (sent : Sent) (h : IsTransmission station from file air sent) where
+module _ (station from : ℕ) (file air : List ℕ) (sent : Sent)
+    (h : IsTransmission station from file air sent) where
   abbrev bits : List Bool
   bits = bits_of (emission h.positions)
 
@@ -47,29 +48,46 @@ module _ (station from : ℕ) (file air : List ℕ) (sent : Sent) (h : IsTransmi
 
   few_positions : length h.positions ≤ 4286
   few_positions =
-      let same = broadcast-one h.messages h.positions h.sendable.positions h.broadcast h.sendable.broadcast in
+      let same = broadcast-one h.messages h.positions h.sendable.positions h.broadcast
+      h.sendable.broadcast in
       omega (arith, ap length same, h.sendable.fits)
 
   within : length air ≤ air_limit
   within =
-      let size : length bits ≤ 59997 = omega (arith, length-bits_of (emission h.positions), length-emission h.positions, few_positions) in
+      let size : length bits ≤ 59997 =
+      omega (
+        arith,
+        length-bits_of (emission h.positions),
+        length-emission h.positions,
+        few_positions,
+      ) in
       let count : div_ceil (length bits) 490 ≤ 123 = omega arith in
       let all = length-lines bits in
       let good : sent.slot < 10 ^ 11 = omega (arith, h.next.in_range) in
       let first = (spelling-IsBeginning (moment sent.slot) good).short in
       let line = length-append (spelling (moment sent.slot)) (10 ∷ []) in
-      let whole = ap length h.whole ∙ length-append (line_bytes (moment sent.slot)) (file_of (bit_lines bits)) in
+      let whole = ap length h.whole
+      ∙ length-append (line_bytes (moment sent.slot)) (file_of (bit_lines bits)) in
       omega arith
 
   is_file : IsAirFile air_limit air lines
-  is_file = record { whole = h.whole; each = (omega (arith, h.next.in_range), good-lines bits); within = within }
+  is_file = record {
+    whole = h.whole;
+    each =
+        (omega (arith, h.next.in_range), good-lines bits);
+    within = within;
+  }
 
   are_taken : AreTaken at_zero lines
   unfolding AreTakenAfter setting_after_all
   are_taken =
       record {
         in_range = omega arith;
-        each = ((omega arith, h.next.in_range), taken-lines at_zero (moment sent.slot ∷ []) bits refl);
+        each = (
+          (omega arith, h.next.in_range),
+          taken-lines at_zero (moment sent.slot ∷ []) bits
+              refl,
+        );
       }
 
   -- it has a log
@@ -85,14 +103,17 @@ module _ (station from : ℕ) (file air : List ℕ) (sent : Sent) (h : IsTransmi
       ∙ ap (λ p. at_moment sent.slot ∷ fed.elements (bits_of (emission p))) h.broadcast.whole
 
   -- its lines are those that were sent
-  prints_as_sent : (read : List Line) (copies : List TaggedCopy) (log : List ℕ) → IsLogOfFile at_zero air read copies log
+  prints_as_sent : (read : List Line) (copies : List TaggedCopy) (log : List ℕ)
+      → IsLogOfFile at_zero air read copies log
       → PrintsToEnd at_zero (events_as_sent sent.slot combinations) copies
   prints_as_sent read copies log is =
       let same : read ≡ lines = IsAirFile-unique air_limit air read lines is.file is_file in
-      subst (λ (e : List Event). PrintsToEnd at_zero e copies) (ap events_of same ∙ events_are) is.printed
+      subst (λ (e : List Event). PrintsToEnd at_zero e copies) (ap events_of same ∙ events_are)
+      is.printed
 
   -- each of its messages is heard in time in it
-  pub sent_in_time : (message : MessageView) → BearsAlone h.messages message → 0 < message.identity.number
+  pub sent_in_time : (message : MessageView) → BearsAlone h.messages message
+      → 0 < message.identity.number
       → IsHeardInTimeIn at_zero air message
   sent_in_time message alone numbered =
       let parts = parts_as_sent h.messages combinations in
@@ -101,19 +122,27 @@ module _ (station from : ℕ) (file air : List ℕ) (sent : Sent) (h : IsTransmi
         spelled = is_file;
         parts = parts;
         heard =
-            subst (λ (e : List Event). IsHeardInTime at_zero e parts message) (sym events_are) (heard_in_time h.messages combinations sent.slot message h.sendable h.broadcast.each alone numbered);
+            subst (λ (e : List Event). IsHeardInTime at_zero e parts message) (sym events_are)
+            (heard_in_time h.messages combinations sent.slot message h.sendable h.broadcast.each
+            alone numbered);
       }
 
   -- what is printed of its messages
-  pub sent_log : (read : List Line) (copies : List TaggedCopy) (log : List ℕ) → IsLogOfFile at_zero air read copies log
+  pub sent_log : (read : List Line) (copies : List TaggedCopy) (log : List ℕ)
+      → IsLogOfFile at_zero air read copies log
       → copies ≡ printed_copies [] (map (copy_as_sent sent.slot) h.messages)
   sent_log read copies log is =
-      log_as_sent h.messages combinations sent.slot copies h.sendable h.broadcast.each (prints_as_sent read copies log is)
+      log_as_sent h.messages combinations sent.slot copies h.sendable h.broadcast.each
+      (prints_as_sent read copies log is)
 
   -- each of them once
-  pub sent_once : (message : MessageView) (read : List Line) (copies : List TaggedCopy) (log : List ℕ) → BearsAlone h.messages message
-      → 0 < message.identity.number → IsLogOfFile at_zero air read copies log → IsPrintedOnce message copies
+  pub sent_once : (message : MessageView) (read : List Line) (copies : List TaggedCopy)
+      (log : List ℕ) → BearsAlone h.messages message
+      → 0 < message.identity.number → IsLogOfFile at_zero air read copies log
+      → IsPrintedOnce message copies
   sent_once message read copies log alone numbered is =
-      printed_once at_zero (events_as_sent sent.slot combinations) (parts_as_sent h.messages combinations) message
-      (heard_in_time h.messages combinations sent.slot message h.sendable h.broadcast.each alone numbered)
+      printed_once at_zero (events_as_sent sent.slot combinations)
+      (parts_as_sent h.messages combinations) message
+      (heard_in_time h.messages combinations sent.slot message h.sendable h.broadcast.each alone
+      numbered)
       copies (prints_as_sent read copies log is)

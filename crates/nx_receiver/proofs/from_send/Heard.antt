@@ -31,147 +31,192 @@ use Rattle.nx_receiver.proofs.from_send.Words.{lock_stands, passes, text_is}
 use Rattle.nx_receiver.proofs.examples.WorkedLog.{bits_among-elements}
 
 -- elements leave what is refused
-elements-refused : (now default : Setting) (refused : Refused) (bits : List Bool) (place : ℕ) → now.refused ≡ refused
-    → default.refused ≡ refused → (get_or (settings now (elements bits)) place default).refused ≡ refused
+elements-refused : (now default : Setting) (refused : Refused) (bits : List Bool) (place : ℕ)
+    → now.refused ≡ refused
+    → default.refused ≡ refused
+    → (get_or (settings now (elements bits)) place default).refused ≡ refused
 unfolding settings
 elements-refused now default refused [] place h k = k
 elements-refused now default refused (b ∷ bits) zero h k = h
-elements-refused now default refused (b ∷ bits) (suc place) h k = elements-refused now default refused bits place h k
+elements-refused now default refused (b ∷ bits) (suc place) h k =
+    elements-refused now default refused bits place h k
 
 -- at first all is selected
 pub all_selected : (identity : Identity) → IsTrue (admits (first_setting at_zero).refused identity)
 all_selected identity =
-    ap (λ b. not b && not (set.contains (set.empty {R = nat_cmp}) identity.b2.byte)) (set.contains-empty nat_cmp identity.b1.byte)
+    ap (λ b. not b && not (set.contains (set.empty {R = nat_cmp}) identity.b2.byte))
+    (set.contains-empty nat_cmp identity.b1.byte)
     ∙ ap (λ b. not false && not b) (set.contains-empty nat_cmp identity.b2.byte)
 
-module _ (messages : List MessageView) (numbers : List ℕ) (others : List (List ℕ)) (sendable : IsSendable messages) (spelled : AreSpelled messages (numbers ∷ others)) (slot : ℕ) where
-  abbrev pub spellings : List (List ℕ)
-  spellings = numbers ∷ others
+module _ (messages : List MessageView) (numbers : List ℕ) (others : List (List ℕ))
+    (sendable : IsSendable messages) (spelled : AreSpelled messages (numbers ∷ others)) (slot : ℕ)
+  where
+    abbrev pub spellings : List (List ℕ)
+    spellings = numbers ∷ others
 
-  abbrev pub events : List Event
-  events = events_as_sent slot spellings
+    abbrev pub events : List Event
+    events = events_as_sent slot spellings
 
-  abbrev parts : List Part
-  parts = parts_as_sent messages spellings
+    abbrev parts : List Part
+    parts = parts_as_sent messages spellings
 
-  abbrev sent_bits : List Bool
-  sent_bits = bits_of (words_sent spellings)
+    abbrev sent_bits : List Bool
+    sent_bits = bits_of (words_sent spellings)
 
-  pub bits_are : elements_among events ≡ sent_bits
-  unfolding elements_among
-  bits_are = bits_among-elements sent_bits
+    pub bits_are : elements_among events ≡ sent_bits
+    unfolding elements_among
+    bits_are = bits_among-elements sent_bits
 
-  is_received : IsReceived (record { messages = messages; spellings = spellings; heard = drop first_slot (words_sent spellings) })
-  is_received = record { sendable = sendable; spelled = spelled; passes = passes messages numbers others spelled }
-
-  cut : IsCut (elements_among events) parts
-  cut = record {
-    whole = bits_are ∙ undamaged-cut (layout spellings)
-        ∙ ap (λ b. bits_of (take first_slot (words_sent spellings)) ++ b) (sym (append-nil (bits_of (drop first_slot (words_sent spellings)))));
-    each = (tt, (is_received, tt));
-  }
-
-  -- the lock of its first four words, and its text
-  pub stands : IsNow (elements_among events) [] (locked 0 28)
-  stands = subst (λ (b : List Bool). IsNow b [] (locked 0 28)) (sym bits_are) (lock_stands messages numbers others spelled)
-
-  abbrev pub text : List PlacedByte
-  text = lock_text (elements_among events) 28 (whole_words (elements_among events) 28)
-
-  pub reads : bytes_of text ≡ flat_map printed_text messages
-  reads =
-      ap (λ (b : List Bool). bytes_of (lock_text b 28 (whole_words b 28))) bits_are ∙ text_is messages numbers others spelled
-
-  abbrev pub found : List FoundCopy
-  found = found_to_end (elements_among events) [] (locked 0 28)
-
-  module _ (message : MessageView) (alone : BearsAlone messages message) (numbered : 0 < message.identity.number) where
-    -- one copy bears the identity
-    one_alone : (a b : FoundCopy) → Contains found a → Contains found b → a.identity ≡ message.identity
-        → b.identity ≡ message.identity → a ≡ b
-    unfolding found_to_end past_copies
-    one_alone a b in_a in_b = one_copy messages message alone sendable.sound text reads a b in_a in_b
-
-    -- it is that of the sending
-    at_index : HasIndex messages message
-    at_index = has_index (λ (one : MessageView). same_identity one.identity message.identity) messages message alone
-
-    abbrev place : ℕ
-    place =
-        length (bits_of_parts (gap (bits_of (take first_slot (words_sent spellings))) ∷ [])) + 7 * (digit_slot spellings at_index.index - first_slot) + 6
-
-    is_sent : IsSentAt parts message place
-    is_sent = record {
-      before = gap (bits_of (take first_slot (words_sent spellings))) ∷ [];
-      emission = record { messages = messages; spellings = spellings; heard = drop first_slot (words_sent spellings) };
-      after = [];
-      among = refl;
-      index = at_index.index;
-      message = at_index.at;
-      place = refl;
+    is_received : IsReceived (record {
+      messages = messages;
+      spellings = spellings;
+      heard =
+          drop first_slot (words_sent spellings);
+    })
+    is_received = record {
+      sendable = sendable;
+      spelled = spelled;
+      passes =
+          passes messages numbers others spelled;
     }
 
-    abbrev copy_at : ℕ → FoundCopy
-    copy_at at = copy_of_sending (record { message = message; place = at })
-
-    is_found : (at : ℕ) → IsSentAt parts message at → Contains found (copy_at at)
-    is_found at sent =
-        sending_in_end (elements_among events) parts (record { message = message; place = at }) [] (locked 0 28) cut sent stands
-
-    copy_is_sent : (copy : FoundCopy) → Contains found copy → copy.identity ≡ message.identity
-        → IsSentAt parts message copy.place
-    copy_is_sent copy there named =
-        let same = one_alone copy (copy_at place) there (is_found place is_sent) named refl in
-        subst (IsSentAt parts message) (sym (ap (λ (c : FoundCopy). c.place) same)) is_sent
-
-    one_place : (one other : ℕ) → IsSentAt parts message one → IsSentAt parts message other → one ≡ other
-    one_place one other a b =
-        ap (λ (c : FoundCopy). c.place) (one_alone (copy_at one) (copy_at other) (is_found one a) (is_found other b) refl refl)
-
-    selected_at : (at : ℕ) → IsTrue (admits (setting_at (first_setting at_zero) events at).refused message.identity)
-    unfolding settings
-    selected_at at =
-        ap (λ (refused : Refused). admits refused message.identity) (elements-refused (record (first_setting at_zero) { moment = slot }) (first_setting at_zero) (first_setting at_zero).refused sent_bits at refl refl)
-        ∙ all_selected message.identity
-
-    close_at : (one other : ℕ) → IsSentAt parts message one → IsSentAt parts message other
-        → (setting_at (first_setting at_zero) events one).moment < (setting_at (first_setting at_zero) events other).moment + seconds_known
-    close_at one other a b =
-        let same : (setting_at (first_setting at_zero) events one).moment ≡ (setting_at (first_setting at_zero) events other).moment = ap (λ (at : ℕ). (setting_at (first_setting at_zero) events at).moment) (one_place one other a b) in
-        omega (arith, same)
-
-    abbrev tagging : FoundCopy → TaggedCopy
-    tagging copy = tag (setting_at (first_setting at_zero) events copy.place) copy
-
-    identity_is : (copy : FoundCopy) (tagged : TaggedCopy) → tagging copy ≡ tagged
-        → IsTrue (same_identity tagged.identity message.identity) → copy.identity ≡ message.identity
-    unfolding tag
-    identity_is copy tagged e named =
-        ap (λ (c : TaggedCopy). c.identity) e ∙ same_identity-true tagged.identity message.identity named
-
-    -- so no two copies bear it
-    no_two : FewBetween (tagged_copies (first_setting at_zero) events found) at_zero message
-    unfolding tagged_copies
-    no_two before between after first later e none named again =
-        let two = has_two tagging (λ (c : FoundCopy). c.place) found (copy_at place) before between after first later (found_rise (elements_among events) [] (locked 0 28) stands) e in
-        let same = one_alone two.one two.other two.one_in two.other_in (identity_is two.one first two.first_is named) (identity_is two.other later two.later_is again) in
-        absurd (omega (arith, two.below, ap (λ (c : FoundCopy). c.place) same))
-
-    pub heard_as_sent : IsHeardInTime at_zero events parts message
-    heard_as_sent = record {
-      cut = cut;
-      numbered = numbered;
-      place = place;
-      sent = is_sent;
-      locks = [];
-      now = locked 0 28;
-      stands = stands;
-      alone = copy_is_sent;
-      selected = λ at sent. selected_at at;
-      close = close_at;
-      unknown = none_live message.identity (tagged_copies (first_setting at_zero) events found);
-      few = no_two;
+    cut : IsCut (elements_among events) parts
+    cut = record {
+      whole = bits_are ∙ undamaged-cut (layout spellings)
+          ∙ ap (λ b. bits_of (take first_slot (words_sent spellings)) ++ b)
+          (sym (append-nil (bits_of (drop first_slot (words_sent spellings)))));
+      each = (tt, (is_received, tt));
     }
+
+    -- the lock of its first four words, and its text
+    pub stands : IsNow (elements_among events) [] (locked 0 28)
+    stands = subst (λ (b : List Bool). IsNow b [] (locked 0 28)) (sym bits_are)
+        (lock_stands messages numbers others spelled)
+
+    abbrev pub text : List PlacedByte
+    text = lock_text (elements_among events) 28 (whole_words (elements_among events) 28)
+
+    pub reads : bytes_of text ≡ flat_map printed_text messages
+    reads =
+        ap (λ (b : List Bool). bytes_of (lock_text b 28 (whole_words b 28))) bits_are
+        ∙ text_is messages numbers others spelled
+
+    abbrev pub found : List FoundCopy
+    found = found_to_end (elements_among events) [] (locked 0 28)
+
+    module _ (message : MessageView) (alone : BearsAlone messages message)
+        (numbered : 0 < message.identity.number) where
+      -- one copy bears the identity
+      one_alone : (a b : FoundCopy) → Contains found a → Contains found b
+          → a.identity ≡ message.identity
+          → b.identity ≡ message.identity → a ≡ b
+      unfolding found_to_end past_copies
+      one_alone a b in_a in_b =
+          one_copy messages message alone sendable.sound text reads a b in_a in_b
+
+      -- it is that of the sending
+      at_index : HasIndex messages message
+      at_index = has_index (λ (one : MessageView). same_identity one.identity message.identity)
+          messages message alone
+
+      abbrev place : ℕ
+      place =
+          length (bits_of_parts (gap (bits_of (take first_slot (words_sent spellings)))
+          ∷ [])) + 7 * (digit_slot spellings at_index.index - first_slot) + 6
+
+      is_sent : IsSentAt parts message place
+      is_sent = record {
+        before = gap (bits_of (take first_slot (words_sent spellings))) ∷ [];
+        emission = record {
+          messages = messages;
+          spellings = spellings;
+          heard =
+              drop first_slot (words_sent spellings);
+        };
+        after = [];
+        among = refl;
+        index = at_index.index;
+        message = at_index.at;
+        place = refl;
+      }
+
+      abbrev copy_at : ℕ → FoundCopy
+      copy_at at = copy_of_sending (record { message = message; place = at })
+
+      is_found : (at : ℕ) → IsSentAt parts message at → Contains found (copy_at at)
+      is_found at sent =
+          sending_in_end (elements_among events) parts (record { message = message; place = at }) []
+          (locked 0 28) cut sent stands
+
+      copy_is_sent : (copy : FoundCopy) → Contains found copy → copy.identity ≡ message.identity
+          → IsSentAt parts message copy.place
+      copy_is_sent copy there named =
+          let same = one_alone copy (copy_at place) there (is_found place is_sent) named refl in
+          subst (IsSentAt parts message) (sym (ap (λ (c : FoundCopy). c.place) same)) is_sent
+
+      one_place : (one other : ℕ) → IsSentAt parts message one → IsSentAt parts message other
+          → one ≡ other
+      one_place one other a b =
+          ap (λ (c : FoundCopy). c.place)
+          (one_alone (copy_at one) (copy_at other) (is_found one a) (is_found other b) refl refl)
+
+      selected_at : (at : ℕ) → IsTrue
+          (admits (setting_at (first_setting at_zero) events at).refused message.identity)
+      unfolding settings
+      selected_at at =
+          ap (λ (refused : Refused). admits refused message.identity)
+          (elements-refused (record (first_setting at_zero) { moment = slot })
+          (first_setting at_zero) (first_setting at_zero).refused sent_bits at refl refl)
+          ∙ all_selected message.identity
+
+      close_at : (one other : ℕ) → IsSentAt parts message one → IsSentAt parts message other
+          → (setting_at (first_setting at_zero) events one).moment < (setting_at
+          (first_setting at_zero) events other).moment + seconds_known
+      close_at one other a b =
+          let same : (setting_at (first_setting at_zero) events one).moment
+          ≡ (setting_at (first_setting at_zero) events other).moment =
+          ap (λ (at : ℕ). (setting_at (first_setting at_zero) events at).moment)
+          (one_place one other a b) in
+          omega (arith, same)
+
+      abbrev tagging : FoundCopy → TaggedCopy
+      tagging copy = tag (setting_at (first_setting at_zero) events copy.place) copy
+
+      identity_is : (copy : FoundCopy) (tagged : TaggedCopy) → tagging copy ≡ tagged
+          → IsTrue (same_identity tagged.identity message.identity)
+          → copy.identity ≡ message.identity
+      unfolding tag
+      identity_is copy tagged e named =
+          ap (λ (c : TaggedCopy). c.identity) e
+          ∙ same_identity-true tagged.identity message.identity named
+
+      -- so no two copies bear it
+      no_two : FewBetween (tagged_copies (first_setting at_zero) events found) at_zero message
+      unfolding tagged_copies
+      no_two before between after first later e none named again =
+          let two = has_two tagging (λ (c : FoundCopy). c.place) found (copy_at place) before
+          between
+          after first later (found_rise (elements_among events) [] (locked 0 28) stands) e in
+          let same = one_alone two.one two.other two.one_in two.other_in
+          (identity_is two.one first two.first_is named)
+          (identity_is two.other later two.later_is again) in
+          absurd (omega (arith, two.below, ap (λ (c : FoundCopy). c.place) same))
+
+      pub heard_as_sent : IsHeardInTime at_zero events parts message
+      heard_as_sent = record {
+        cut = cut;
+        numbered = numbered;
+        place = place;
+        sent = is_sent;
+        locks = [];
+        now = locked 0 28;
+        stands = stands;
+        alone = copy_is_sent;
+        selected = λ at sent. selected_at at;
+        close = close_at;
+        unknown = none_live message.identity (tagged_copies (first_setting at_zero) events found);
+        few = no_two;
+      }
 
 -- messages of which there are some have combinations
 pub none_spelled : (messages : List MessageView) → messages ≢ [] → AreSpelled messages [] → ⊥
@@ -179,9 +224,11 @@ none_spelled [] some h = some refl
 none_spelled (m ∷ messages) some h = h
 
 -- whatever the combinations are
-pub heard_in_time : (messages : List MessageView) (spellings : List (List ℕ)) (slot : ℕ) (message : MessageView) → IsSendable messages
+pub heard_in_time : (messages : List MessageView) (spellings : List (List ℕ)) (slot : ℕ)
+    (message : MessageView) → IsSendable messages
     → AreSpelled messages spellings → BearsAlone messages message → 0 < message.identity.number
-    → IsHeardInTime at_zero (events_as_sent slot spellings) (parts_as_sent messages spellings) message
+    → IsHeardInTime at_zero (events_as_sent slot spellings) (parts_as_sent messages spellings)
+    message
 heard_in_time messages [] slot message sendable spelled alone numbered =
     absurd (none_spelled messages sendable.of_one.some spelled)
 heard_in_time messages (numbers ∷ others) slot message sendable spelled alone numbered =

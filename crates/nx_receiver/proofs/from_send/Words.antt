@@ -1,4 +1,5 @@
--- The words of an emission that arrives as it is sent: they keep the lock that its first four words give, and the text of
+-- The words of an emission that arrives as it is sent: they keep the lock that its first four words
+-- give, and the text of
 -- that lock is what its messages print.
 use Rattle.std.proofs.Common.{◌≡◌, ℕ, zero, suc, ◌+◌, ◌-◌, ◌*◌, ◌/◌, ◌<◌, ◌≤◌, Bool, false, not, eqb, List, [], ◌∷◌, ◌++◌, map, length, take, drop, replicate, get_or, refl, sym, ap, ap₂, ◌∙◌, subst, arith, inl, inr, lit≤, lit<, append_assoc, append-nil, take_all}
 use Rattle.std.specs.List.{flat_map}
@@ -99,7 +100,8 @@ counts_2 = ap counts_as (sym phasing_2-words) ∙ counts_as-words 34 (lit< tt)
 
 -- ---- all words
 
-module _ (messages : List MessageView) (numbers : List ℕ) (spellings : List (List ℕ)) (spelled : AreSpelled messages (numbers ∷ spellings)) where
+module _ (messages : List MessageView) (numbers : List ℕ) (spellings : List (List ℕ))
+    (spelled : AreSpelled messages (numbers ∷ spellings)) where
   abbrev pub sent : List SentPosition
   sent = layout (numbers ∷ spellings)
 
@@ -120,7 +122,9 @@ module _ (messages : List MessageView) (numbers : List ℕ) (spellings : List (L
 
   pub passes : PassesChannel sent late
   passes =
-      undamaged-received messages sent (λ e. subst (λ (m : List MessageView). AreSpelled m (numbers ∷ spellings)) e spelled) is_broadcast
+      undamaged-received messages sent
+      (λ e. subst (λ (m : List MessageView). AreSpelled m (numbers ∷ spellings)) e spelled)
+      is_broadcast
 
   long_sent : length sent ≡ 75 + length air
   long_sent = omega (arith, long_heard numbers spellings late has_inner passes, passes.whole)
@@ -139,7 +143,8 @@ module _ (messages : List MessageView) (numbers : List ℕ) (spellings : List (L
 
   -- the phasing before the first message
   second_at : (j : ℕ) → j < 72 → word_of heard (2 * j) ≡ phasing_2
-  second_at j lt = (IsEmission-emission sent).dx j (omega (arith, long_sent)) ∙ ap dx_word (phasing_is j lt)
+  second_at j lt = (IsEmission-emission sent).dx j (omega (arith, long_sent))
+      ∙ ap dx_word (phasing_is j lt)
 
   first_at : (j : ℕ) → j < 74 → word_of heard (2 * j + 1) ≡ phasing_1
   first_at zero lt = (IsEmission-emission sent).first_rx (omega (arith, long))
@@ -158,9 +163,11 @@ module _ (messages : List MessageView) (numbers : List ℕ) (spellings : List (L
   right_at : (slot : ℕ) → slot < length heard → is_wrong (word_of heard slot) ≡ false
   right_at slot lt = elim (cases_lt slot 96) [
     | inl early ↦ elim (cases_lt (slot - 2 * (slot / 2)) 1) [
-      | inl even ↦ let e : 2 * (slot / 2) ≡ slot = omega arith in ap (λ i. is_wrong (word_of heard i)) (sym e)
+      | inl even ↦ let e : 2 * (slot / 2) ≡ slot = omega arith in
+          ap (λ i. is_wrong (word_of heard i)) (sym e)
           ∙ ap is_wrong (second_at (slot / 2) (omega arith)) ∙ right_2
-      | inr odd ↦ let e : 2 * (slot / 2) + 1 ≡ slot = omega arith in ap (λ i. is_wrong (word_of heard i)) (sym e)
+      | inr odd ↦ let e : 2 * (slot / 2) + 1 ≡ slot = omega arith in
+          ap (λ i. is_wrong (word_of heard i)) (sym e)
           ∙ ap is_wrong (first_at (slot / 2) (omega arith)) ∙ right_1
     ]
     | inr from ↦ ap is_wrong (get_or-emission sent slot 0 (omega (arith, length-emission sent)))
@@ -169,14 +176,17 @@ module _ (messages : List MessageView) (numbers : List ℕ) (spellings : List (L
 
   few : (a n : ℕ) → n ≤ 64 → a + n ≤ length heard → wrong_in (word_of heard) a n < losing_count
   few a n some to =
-      let none = wrong_in-none (word_of heard) a n (λ j lt. right_at (a + j) (omega arith)) in omega (arith, none)
+      let none = wrong_in-none (word_of heard) a n (λ j lt. right_at (a + j) (omega arith)) in
+      omega (arith, none)
 
   apart : (a : ℕ) → 2 * a + 5 < length heard → word_of heard (2 * a) ≡ phasing_1
       → word_of heard (2 * a + 2) ≡ phasing_1 → ⊥
   apart a lt one two = elim (cases_lt a 72) [
-    | inl early ↦ let clash : phasing_2 ≡ phasing_1 = sym (second_at a early) ∙ one in omega (arith, clash)
+    | inl early ↦ let clash : phasing_2 ≡ phasing_1 = sym (second_at a early) ∙ one in
+        omega (arith, clash)
     | inr from ↦
-        no-phasing_1 sent late has_inner passes a (omega arith) (omega (arith, length-emission sent)) (heard_is (2 * a) (omega arith) ∙ one)
+        no-phasing_1 sent late has_inner passes a (omega arith)
+        (omega (arith, length-emission sent)) (heard_is (2 * a) (omega arith) ∙ one)
   ]
 
   keeps : KeepsLock heard
@@ -209,7 +219,8 @@ module _ (messages : List MessageView) (numbers : List ℕ) (spellings : List (L
 
   -- what is taken of the two words of a position
   pair_is : (i : ℕ) → i + 3 < length sent
-      → pairing (counts_as (word_of heard (2 * i))) (counts_as (word_of heard (2 * i + 5))) ≡ reception (position_at sent i)
+      → pairing (counts_as (word_of heard (2 * i))) (counts_as (word_of heard (2 * i + 5)))
+      ≡ reception (position_at sent i)
   pair_is i lt = elim (cases_lt i 72) [
     | inl early ↦
         let at : 2 * i + 5 ≡ 2 * (i + 2) + 1 = omega arith in
@@ -217,7 +228,8 @@ module _ (messages : List MessageView) (numbers : List ℕ) (spellings : List (L
         let rx = ap counts_as (ap (word_of heard) at ∙ first_at (i + 2) (omega arith)) ∙ counts_1 in
         ap₂ pairing dx rx ∙ ap reception (sym (phasing_is i early))
     | inr from ↦
-        ap₂ (λ a b. pairing (counts_as a) (counts_as b)) (sym (heard_is (2 * i) (omega arith))) (sym (heard_is (2 * i + 5) (omega arith)))
+        ap₂ (λ a b. pairing (counts_as a) (counts_as b)) (sym (heard_is (2 * i) (omega arith)))
+        (sym (heard_is (2 * i + 5) (omega arith)))
         ∙ taken-as_sent sent late has_inner passes i (omega arith) lt
   ]
 
@@ -229,12 +241,14 @@ module _ (messages : List MessageView) (numbers : List ℕ) (spellings : List (L
   ends = replicate 3 end_position
 
   long_taken : length taken ≡ 70 + length air
-  long_taken = length-append (replicate 70 phasing_position) air ∙ omega (arith, length-replicate 70 phasing_position)
+  long_taken = length-append (replicate 70 phasing_position) air
+      ∙ omega (arith, length-replicate 70 phasing_position)
 
   sent_is : sent ≡ phasing_position ∷ (phasing_position ∷ (taken ++ ends))
   sent_is =
       layout-parts numbers spellings
-      ∙ ap (λ l. phasing_position ∷ (phasing_position ∷ l)) (sym (append_assoc (replicate 70 phasing_position) air ends))
+      ∙ ap (λ l. phasing_position ∷ (phasing_position ∷ l))
+      (sym (append_assoc (replicate 70 phasing_position) air ends))
 
   position_is : (i : ℕ) → i < length taken → position_at sent (i + 2) ≡ position_at taken i
   position_is i lt =
@@ -251,7 +265,8 @@ module _ (messages : List MessageView) (numbers : List ℕ) (spellings : List (L
       let dx : 0 + 2 * i + 4 ≡ 2 * (i + 2) = omega arith in
       let rx : 0 + 2 * i + 5 + 4 ≡ 2 * (i + 2) + 5 = omega arith in
       let first = word_is (0 + 2 * i) (omega (arith, long, long_taken)) ∙ ap (word_of heard) dx in
-      let second = word_is (0 + 2 * i + 5) (omega (arith, long, long_taken)) ∙ ap (word_of heard) rx in
+      let second = word_is (0 + 2 * i + 5) (omega (arith, long, long_taken))
+      ∙ ap (word_of heard) rx in
       ap₂ (λ a b. pairing (counts_as a) (counts_as b)) first second
       ∙ pair_is (i + 2) (omega (arith, long_sent, long_taken))
       ∙ ap reception (position_is i lt)
@@ -260,28 +275,33 @@ module _ (messages : List MessageView) (numbers : List ℕ) (spellings : List (L
   unfolding positions taken_at role_of
   first_five =
       let one = ap counts_as (word_is 1 (omega (arith, long)) ∙ first_at 2 (lit< tt)) ∙ counts_1 in
-      let three = ap counts_as (word_is 3 (omega (arith, long)) ∙ first_at 3 (lit< tt)) ∙ counts_1 in
+      let three = ap counts_as (word_is 3 (omega (arith, long)) ∙ first_at 3 (lit< tt))
+      ∙ counts_1 in
       ap₂ (λ a b. pairing nothing a ∷ (pairing nothing b ∷ [])) one three
 
   dx_first : role_of Dx 0 ≡ Dx
   unfolding role_of
   dx_first = refl
 
-  all_positions : positions Dx lock_word (5 + 2 * length taken) ≡ idle ∷ (idle ∷ map reception taken)
+  all_positions : positions Dx lock_word (5 + 2 * length taken)
+      ≡ idle ∷ (idle ∷ map reception taken)
   all_positions =
       positions-taken Dx lock_word 0 taken (length taken) dx_first are_taken (omega arith)
-      ∙ ap (λ l. positions Dx lock_word 5 ++ map reception l) (take_all (length taken) taken (omega arith))
+      ∙ ap (λ l. positions Dx lock_word 5 ++ map reception l)
+      (take_all (length taken) taken (omega arith))
       ∙ ap (λ l. l ++ map reception taken) first_five
 
   -- what they print
-  receptions_are : map reception sent ≡ (idle ∷ (idle ∷ map reception taken)) ++ (idle ∷ (idle ∷ (idle ∷ [])))
+  receptions_are : map reception sent
+      ≡ (idle ∷ (idle ∷ map reception taken)) ++ (idle ∷ (idle ∷ (idle ∷ [])))
   receptions_are =
       ap (map reception) sent_is ∙ ap (λ l. idle ∷ (idle ∷ l)) (map-append reception taken ends)
 
   prints : text (idle ∷ (idle ∷ map reception taken)) Letters ≡ flat_map printed_text messages
   prints =
       sym (append-nil (text (idle ∷ (idle ∷ map reception taken)) Letters))
-      ∙ sym (text-append (idle ∷ (idle ∷ map reception taken)) (idle ∷ (idle ∷ (idle ∷ []))) Letters)
+      ∙ sym (text-append (idle ∷ (idle ∷ map reception taken)) (idle ∷ (idle ∷ (idle ∷ [])))
+      Letters)
       ∙ ap (λ l. text l Letters) (sym receptions_are)
       ∙ broadcast-prints messages sent Letters is_broadcast
 

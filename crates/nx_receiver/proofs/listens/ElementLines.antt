@@ -1,4 +1,5 @@
--- Lines of elements: they are lines of an air file and hold these elements, how many bytes they have, that they are
+-- Lines of elements: they are lines of an air file and hold these elements, how many bytes they
+-- have, that they are
 -- taken, and what they give to a receiver.
 use Rattle.std.proofs.Common.{◌≡◌, ℕ, ◌+◌, ◌*◌, ◌≤◌, Bool, true, List, [], ◌∷◌, ◌++◌, map, length, take, drop, sym, ap, ◌∙◌, arith, refl, take_all}
 use Rattle.std.specs.Int.{div_ceil}
@@ -18,7 +19,8 @@ abbrev lines_of : (ℕ → List Bool) → List ℕ → List Line
 lines_of bits indices = map (λ i. elements (bits i)) indices
 
 pub good-lines : (bits : List Bool) → AllByRecursion IsLine (bit_lines bits)
-good-lines bits = first_lines-each bits (div_ceil (length bits) 490) (λ i below. omega (arith, below))
+good-lines bits = first_lines-each bits (div_ceil (length bits) 490)
+    (λ i below. omega (arith, below))
 
 -- they hold these elements
 pub joined-lines : (bits : List Bool) → flat_map elements_of (bit_lines bits) ≡ bits
@@ -37,28 +39,39 @@ length-some bits (i ∷ indices) short =
     let digits = length-map (bits i) element_digit in
     omega (arith, short i)
 
-pub length-lines : (bits : List Bool) → length (file_of (bit_lines bits)) ≤ 493 * div_ceil (length bits) 490
+pub length-lines : (bits : List Bool)
+    → length (file_of (bit_lines bits)) ≤ 493 * div_ceil (length bits) 490
 length-lines bits =
     let many = div_ceil (length bits) 490 in
     let all : length (file_of (bit_lines bits)) ≤ 493 * length (range_with_len 0 many) =
-    length-some (λ i. take 490 (drop (490 * i) bits)) (range_with_len 0 many) (λ i. omega (arith, length-take 490 (drop (490 * i) bits))) in
-    let indices = sym (length-map (range_with_len 0 many) (λ (i : ℕ). i)) ∙ length-map-range_with_len (λ (i : ℕ). i) 0 many in
+    length-some (λ i. take 490 (drop (490 * i) bits)) (range_with_len 0 many)
+    (λ i. omega (arith, length-take 490 (drop (490 * i) bits))) in
+    let indices = sym (length-map (range_with_len 0 many) (λ (i : ℕ). i))
+    ∙ length-map-range_with_len (λ (i : ℕ). i) 0 many in
     omega (arith, all, indices)
 
 -- they are taken once there was a moment
-taken-some : (start : Start) (first : List Line) (bits : ℕ → List Bool) (indices : List ℕ) → has_moment first ≡ true
+taken-some : (start : Start) (first : List Line) (bits : ℕ → List Bool) (indices : List ℕ)
+    → has_moment first ≡ true
     → AreTakenAfter start first (lines_of bits indices)
 unfolding AreTakenAfter
 taken-some start first bits [] h = tt
-taken-some start first bits (i ∷ indices) h =
-    (h, taken-some start (first ++ elements (bits i) ∷ []) bits indices (sym (moment-other first (elements (bits i)) true (sym h) refl)))
+taken-some start first bits (i ∷ indices) h = (
+  h,
+  taken-some start (first ++ elements (bits i) ∷ []) bits indices
+      (sym (moment-other first (elements (bits i)) true (sym h) refl)),
+)
 
-pub taken-lines : (start : Start) (first : List Line) (bits : List Bool) → has_moment first ≡ true → AreTakenAfter start first (bit_lines bits)
-taken-lines start first bits h = taken-some start first (λ i. take 490 (drop (490 * i) bits)) (range_with_len 0 (div_ceil (length bits) 490)) h
+pub taken-lines : (start : Start) (first : List Line) (bits : List Bool) → has_moment first ≡ true
+    → AreTakenAfter start first (bit_lines bits)
+taken-lines start first bits h =
+    taken-some start first (λ i. take 490 (drop (490 * i) bits))
+    (range_with_len 0 (div_ceil (length bits) 490)) h
 
 -- what they give to a receiver
 events-some : (bits : ℕ → List Bool) (indices : List ℕ)
-    → events_of (lines_of bits indices) ≡ fed.elements (flat_map elements_of (lines_of bits indices))
+    → events_of (lines_of bits indices)
+    ≡ fed.elements (flat_map elements_of (lines_of bits indices))
 events-some bits [] = refl
 events-some bits (i ∷ indices) =
     ap (λ l. fed.elements (bits i) ++ l) (events-some bits indices)
@@ -66,5 +79,6 @@ events-some bits (i ∷ indices) =
 
 pub events-lines : (bits : List Bool) → events_of (bit_lines bits) ≡ fed.elements bits
 events-lines bits =
-    events-some (λ i. take 490 (drop (490 * i) bits)) (range_with_len 0 (div_ceil (length bits) 490))
+    events-some (λ i. take 490 (drop (490 * i) bits))
+    (range_with_len 0 (div_ceil (length bits) 490))
     ∙ ap fed.elements (joined-lines bits)

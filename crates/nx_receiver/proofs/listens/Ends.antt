@@ -13,11 +13,15 @@ use Rattle.nx_receiver.proofs.listens.Listener.{counts-on, one-log}
 use Rattle.nx_receiver.proofs.receiving.Log.{logs_join}
 
 -- the end printed nothing
-pub closed-none : (start : Start) (listener : Listening) (old new : Option (List ℕ)) (events : List Event) (given : List ℕ) (entry : Option Entry) (report : Report) (h : HearsLog start listener events given)
-    → entry ≡ None → PrintsToEnd start events (h.log ++ entry_list entry) → Appends old new given → report.bits ≡ listener.elements → report.printed ≡ listener.entries
+pub closed-none : (start : Start) (listener : Listening) (old new : Option (List ℕ))
+    (events : List Event) (given : List ℕ) (entry : Option Entry) (report : Report)
+    (h : HearsLog start listener events given)
+    → entry ≡ None → PrintsToEnd start events (h.log ++ entry_list entry) → Appends old new given
+    → report.bits ≡ listener.elements → report.printed ≡ listener.entries
     → HasClosed start old new events report
 closed-none start listener old new events given entry report h none ends written bits printed =
-    let same : h.log ++ entry_list entry ≡ h.log = ap (λ e. h.log ++ entry_list e) none ∙ append-nil h.log in
+    let same : h.log ++ entry_list entry ≡ h.log =
+    ap (λ e. h.log ++ entry_list e) none ∙ append-nil h.log in
     record {
       copies = h.log;
       log = given;
@@ -30,29 +34,39 @@ closed-none start listener old new events given entry report h none ends written
     }
 
 -- the end printed an entry
-pub closed-some : (start : Start) (listener : Listening) (old new : Option (List ℕ)) (events : List Event) (given bytes : List ℕ) (entry : Entry) (report : Report) (h : HearsLog start listener events given)
-    → PrintsToEnd start events (h.log ++ copy_of entry ∷ []) → IsEntry (copy_of entry) bytes → Appends old new (given ++ bytes) → report.bits ≡ listener.elements
+pub closed-some : (start : Start) (listener : Listening) (old new : Option (List ℕ))
+    (events : List Event) (given bytes : List ℕ) (entry : Entry) (report : Report)
+    (h : HearsLog start listener events given)
+    → PrintsToEnd start events (h.log ++ copy_of entry ∷ []) → IsEntry (copy_of entry) bytes
+    → Appends old new (given ++ bytes) → report.bits ≡ listener.elements
     → report.printed ≡ count_of (listener.entries + 1) → HasClosed start old new events report
 closed-some start listener old new events given bytes entry report h ends is written bits printed =
-    let longer : length (h.log ++ copy_of entry ∷ []) ≡ length h.log + 1 = length-append h.log (copy_of entry ∷ []) in
+    let longer : length (h.log ++ copy_of entry ∷ []) ≡ length h.log + 1 =
+    length-append h.log (copy_of entry ∷ []) in
     record {
       copies = h.log ++ copy_of entry ∷ [];
       log = given ++ bytes;
       printed = ends;
-      spelled = logs_join h.log (copy_of entry ∷ []) given bytes h.spelled (one-log (copy_of entry) bytes is);
+      spelled = logs_join h.log (copy_of entry ∷ []) given bytes h.spelled
+          (one-log (copy_of entry) bytes is);
       written = written;
       bits_counted = bits ∙ h.hears.elements;
-      printed_counted = counts-on listener.entries report.printed (length h.log) 1 _ h.hears.entries printed longer;
+      printed_counted = counts-on listener.entries report.printed (length h.log) 1 _ h.hears.entries
+          printed longer;
       few = omega (arith, h.hears.few, longer);
     }
 
 -- the entry that the end printed was written in part
-pub closed-part : (start : Start) (listener : Listening) (old new : Option (List ℕ)) (events : List Event) (given bytes : List ℕ) (entry : Entry) (written : ℕ) (h : HearsLog start listener events given)
-    → PrintsToEnd start events (h.log ++ copy_of entry ∷ []) → IsEntry (copy_of entry) bytes → WroteSome old new (given ++ bytes) written → HasClosedSome start old new events written
+pub closed-part : (start : Start) (listener : Listening) (old new : Option (List ℕ))
+    (events : List Event) (given bytes : List ℕ) (entry : Entry) (written : ℕ)
+    (h : HearsLog start listener events given)
+    → PrintsToEnd start events (h.log ++ copy_of entry ∷ []) → IsEntry (copy_of entry) bytes
+    → WroteSome old new (given ++ bytes) written → HasClosedSome start old new events written
 closed-part start listener old new events given bytes entry written h ends is some = record {
   copies = h.log ++ copy_of entry ∷ [];
   log = given ++ bytes;
   printed = ends;
-  spelled = logs_join h.log (copy_of entry ∷ []) given bytes h.spelled (one-log (copy_of entry) bytes is);
+  spelled = logs_join h.log (copy_of entry ∷ []) given bytes h.spelled
+      (one-log (copy_of entry) bytes is);
   some = some;
 }

@@ -22,39 +22,67 @@ use Rattle.nx_receiver.proofs.once.Listen.{on-some}
 use Rattle.nx_receiver.proofs.listens.Listener.{nothing-refused}
 
 -- an outcome that is this fault
-pub err-is : (outcome : Result (Report × SavedState) ListenFault) (fault : ListenFault) → IsErr outcome → IsErrAnd outcome (λ made. made ≡ fault) → reported outcome ≡ Err fault
+pub err-is : (outcome : Result (Report × SavedState) ListenFault) (fault : ListenFault)
+    → IsErr outcome → IsErrAnd outcome (λ made. made ≡ fault) → reported outcome ≡ Err fault
 err-is (Ok x) fault h e = cc
 err-is (Err made) fault h e = cc
 
 -- nothing is saved: a run begins with nothing
-pub from-nothing : (saved : SavedState) → saved.refused.stations ≡ set.empty → saved.refused.subjects ≡ set.empty → saved.entries ≡ [] → start_from saved ≡ at_zero
+pub from-nothing : (saved : SavedState) → saved.refused.stations ≡ set.empty
+    → saved.refused.subjects ≡ set.empty → saved.entries ≡ [] → start_from saved ≡ at_zero
 from-nothing saved stations subjects entries =
-    ap₂ (λ (es : List MemoryEntry) (r : Refused). start_from (record { entries = es; refused = r })) entries (sym (nothing-refused saved.refused stations subjects))
+    ap₂ (λ (es : List MemoryEntry) (r : Refused). start_from (record { entries = es; refused = r }))
+    entries (sym (nothing-refused saved.refused stations subjects))
 
 -- the whole file was read, and its end printed
-gone : (saved left : SavedState) (first now : Listening) (old mid new : Option (List ℕ)) (bytes : List ℕ) (read : LinesRead) (report : Report) → start_of first ≡ start_from saved
+gone : (saved left : SavedState) (first now : Listening) (old mid new : Option (List ℕ))
+    (bytes : List ℕ) (read : LinesRead) (report : Report) → start_of first ≡ start_from saved
     → HasTakenAll StandsFrom first now old mid air_limit bytes read
-    → ((lines : List Line) (given : List ℕ) → IsListening (start_of first) now lines given → HasWritten old mid given read.written → HasClosed (start_of first) old new (events_of lines) report)
-    → ((lines : List Line) (given : List ℕ) → IsListening (start_of first) now lines given → Leaves (start_of first) (events_of lines) left) → HasGoneOn saved old new bytes left
+    → ((lines : List Line) (given : List ℕ) → IsListening (start_of first) now lines given
+    → HasWritten old mid given read.written
+    → HasClosed (start_of first) old new (events_of lines) report)
+    → ((lines : List Line) (given : List ℕ) → IsListening (start_of first) now lines given
+    → Leaves (start_of first) (events_of lines) left) → HasGoneOn saved old new bytes left
 gone saved left first now old mid new bytes read report begins h closed leaves =
     let t = h.taken in
     let e = closed h.lines t.given t.stood t.here in
     let log : IsLogOfFile (start_of first) bytes h.lines e.copies e.log =
     record { file = h.file; taken = t.stood.taken; printed = e.printed; spelled = e.spelled } in
-    let run = goes_on saved left bytes h.lines e.copies e.log (subst (λ (s : Start). IsLogOfFile s bytes h.lines e.copies e.log) begins log) (subst (λ (s : Start). Leaves s (events_of h.lines) left) begins (leaves h.lines t.given t.stood)) in
-    record { run = run.0; read = run.1; written = subst (Appends old new) (sym run.2) e.written; goes = run.3 }
+    let run = goes_on saved left bytes h.lines e.copies e.log
+    (subst (λ (s : Start). IsLogOfFile s bytes h.lines e.copies e.log) begins log)
+    (subst (λ (s : Start). Leaves s (events_of h.lines) left) begins
+    (leaves h.lines t.given t.stood)) in
+    record {
+      run = run.0;
+      read = run.1;
+      written =
+          subst (Appends old new) (sym run.2) e.written;
+      goes = run.3;
+    }
 
--- a run over lines that read its file to the end, and what the end prints, go on by what the listener leaves
-pub goes-on : {R W : Type 0} (remaining : R → Option (List ℕ)) (contents : W → Option (List ℕ)) (saved left : SavedState) (first now : Listening) (reader reader_after : CountedDevice R) (writer mid new : CountedDevice W) (read : LinesRead) (report : Report)
+-- a run over lines that read its file to the end, and what the end prints, go on by what the
+-- listener leaves
+pub goes-on : {R W : Type 0} (remaining : R → Option (List ℕ)) (contents : W → Option (List ℕ))
+    (saved left : SavedState) (first now : Listening) (reader reader_after : CountedDevice R)
+    (writer mid new : CountedDevice W) (read : LinesRead) (report : Report)
     → start_of first ≡ start_from saved
-    → RunsLines StandsFrom BeginsFrom RefusesFrom air_limit first now (devices remaining contents reader reader_after writer mid) (Ok read)
-    → ((lines : List Line) (given : List ℕ) → IsListening (start_of first) now lines given → HasWritten (contents writer.inner) (contents mid.inner) given read.written
-    → HasClosed (start_of first) (contents writer.inner) (contents new.inner) (events_of lines) report)
-    → ((lines : List Line) (given : List ℕ) → IsListening (start_of first) now lines given → Leaves (start_of first) (events_of lines) left)
+    → RunsLines StandsFrom BeginsFrom RefusesFrom air_limit first now
+    (devices remaining contents reader reader_after writer mid) (Ok read)
+    → ((lines : List Line) (given : List ℕ) → IsListening (start_of first) now lines given
+    → HasWritten (contents writer.inner) (contents mid.inner) given read.written
+    → HasClosed (start_of first) (contents writer.inner) (contents new.inner) (events_of lines)
+    report)
+    → ((lines : List Line) (given : List ℕ) → IsListening (start_of first) now lines given
+    → Leaves (start_of first) (events_of lines) left)
     → GoesOnBy saved (devices remaining contents reader reader_after writer new) left
-goes-on remaining contents saved left first now reader reader_after writer mid new read report begins h closed leaves = record {
-  bytes = h.reads.bytes;
-  consumed = h.reads.consumed;
-  gone = gone saved left first now _ _ _ h.reads.bytes read report begins h.reads.answer.1 closed leaves;
-  file = on-some (remaining reader.inner) _ _ (λ file k. gone saved left first now _ _ _ file read report begins k.1 closed leaves) h.reads.file;
-}
+goes-on remaining contents saved left first now reader reader_after writer mid new read report
+    begins h closed leaves = record {
+      bytes = h.reads.bytes;
+      consumed = h.reads.consumed;
+      gone = gone saved left first now _ _ _ h.reads.bytes read report begins h.reads.answer.1
+          closed
+          leaves;
+      file = on-some (remaining reader.inner) _ _
+          (λ file k. gone saved left first now _ _ _ file read report begins k.1 closed leaves)
+          h.reads.file;
+    }

@@ -1,4 +1,5 @@
--- Where the lines of an air file are taken, all that is printed has a moment in range, and so has a log.
+-- Where the lines of an air file are taken, all that is printed has a moment in range, and so has a
+-- log.
 use Rattle.std.proofs.Common.{◌≡◌, inl, inr, ℕ, ◌≤◌, Bool, true, false, cond, List, [], ◌∷◌, ◌++◌, Option, length, get_or, sym, subst, arith}
 use Rattle.std.specs.List.{All}
 use Rattle.std.specs.Prelude.{⊤}
@@ -36,12 +37,14 @@ IsCopyInRange copy = copy.moment ≤ last_moment
 
 elements-in_range : (bits : List Bool) → All IsInRange (fed.elements bits)
 elements-in_range [] = All-nil IsInRange
-elements-in_range (bit ∷ bits) = All-cons IsInRange (element bit) (fed.elements bits) tt (elements-in_range bits)
+elements-in_range (bit ∷ bits) =
+    All-cons IsInRange (element bit) (fed.elements bits) tt (elements-in_range bits)
 
 one-in_range : (event : Event) → IsInRange event → All IsInRange (event ∷ [])
 one-in_range event h = All-cons IsInRange event [] h (All-nil IsInRange)
 
-line-in_range : (start : Start) (first : List Line) (line : Line) → IsTakenAfter start first line → All IsInRange (line_events line)
+line-in_range : (start : Start) (first : List Line) (line : Line) → IsTakenAfter start first line
+    → All IsInRange (line_events line)
 line-in_range start first (moment n) h = one-in_range _ h.1
 line-in_range start first (elements bits) h = elements-in_range bits
 line-in_range start first (refuse_station letter) h = one-in_range _ tt
@@ -49,84 +52,111 @@ line-in_range start first (accept_station letter) h = one-in_range _ tt
 line-in_range start first (refuse_subject letter) h = one-in_range _ tt
 line-in_range start first (accept_subject letter) h = one-in_range _ tt
 
-lines-in_range : (start : Start) (first lines : List Line) → AreTakenAfter start first lines → All IsInRange (events_of lines)
+lines-in_range : (start : Start) (first lines : List Line) → AreTakenAfter start first lines
+    → All IsInRange (events_of lines)
 unfolding AreTakenAfter
 lines-in_range start first [] h = All-nil IsInRange
 lines-in_range start first (line ∷ lines) h =
-    All-append IsInRange (line_events line) (events_of lines) (line-in_range start first line h.0) (lines-in_range start (first ++ line ∷ []) lines h.1)
+    All-append IsInRange (line_events line) (events_of lines) (line-in_range start first line h.0)
+    (lines-in_range start (first ++ line ∷ []) lines h.1)
 
-settings-in_range : (now : Setting) (events : List Event) → IsSetInRange now → All IsInRange events → All IsSetInRange (settings now events)
+settings-in_range : (now : Setting) (events : List Event) → IsSetInRange now → All IsInRange events
+    → All IsSetInRange (settings now events)
 unfolding settings
 settings-in_range now [] h k = All-nil IsSetInRange
 settings-in_range now (at_moment n ∷ events) h k =
-    settings-in_range (setting_after now (at_moment n)) events (All-head IsInRange (at_moment n) events k) (All-tail IsInRange (at_moment n) events k)
+    settings-in_range (setting_after now (at_moment n)) events
+    (All-head IsInRange (at_moment n) events k) (All-tail IsInRange (at_moment n) events k)
 settings-in_range now (element bit ∷ events) h k =
-    All-cons IsSetInRange now (settings now events) h (settings-in_range now events h (All-tail IsInRange (element bit) events k))
+    All-cons IsSetInRange now (settings now events) h
+    (settings-in_range now events h (All-tail IsInRange (element bit) events k))
 settings-in_range now (command c ∷ events) h k =
-    settings-in_range (setting_after now (command c)) events h (All-tail IsInRange (command c) events k)
+    settings-in_range (setting_after now (command c)) events h
+    (All-tail IsInRange (command c) events k)
 
-at-in_range : (xs : List Setting) (first : Setting) (place : ℕ) → IsSetInRange first → All IsSetInRange xs → IsSetInRange (get_or xs place first)
+at-in_range : (xs : List Setting) (first : Setting) (place : ℕ) → IsSetInRange first
+    → All IsSetInRange xs → IsSetInRange (get_or xs place first)
 at-in_range xs first place h k =
     elim (cases_lt place (length xs)) [
       | inl within ↦ All-get_or IsSetInRange xs place first within k
       | inr past ↦ subst IsSetInRange (sym (get_or_past xs place first (omega (arith, past)))) h
     ]
 
-tagged-in_range : (first : Setting) (events : List Event) (copies : List FoundCopy) → IsSetInRange first → All IsSetInRange (settings first events)
+tagged-in_range : (first : Setting) (events : List Event) (copies : List FoundCopy)
+    → IsSetInRange first → All IsSetInRange (settings first events)
     → All IsCopyInRange (tagged_copies first events copies)
 unfolding tagged_copies tag
 tagged-in_range first events [] h k = All-nil IsCopyInRange
 tagged-in_range first events (copy ∷ copies) h k =
-    All-cons IsCopyInRange _ _ (at-in_range (settings first events) first copy.place h k) (tagged-in_range first events copies h k)
+    All-cons IsCopyInRange _ _ (at-in_range (settings first events) first copy.place h k)
+    (tagged-in_range first events copies h k)
 
-if-in_range : (shown : Bool) (copy : TaggedCopy) → IsCopyInRange copy → All IsCopyInRange (cond shown (copy ∷ []) [])
+if-in_range : (shown : Bool) (copy : TaggedCopy) → IsCopyInRange copy
+    → All IsCopyInRange (cond shown (copy ∷ []) [])
 if-in_range true copy h = All-cons IsCopyInRange copy [] h (All-nil IsCopyInRange)
 if-in_range false copy h = All-nil IsCopyInRange
 
-printed-in_range : (entries : List MemoryEntry) (copies : List TaggedCopy) → All IsCopyInRange copies → All IsCopyInRange (printed_copies entries copies)
+printed-in_range : (entries : List MemoryEntry) (copies : List TaggedCopy)
+    → All IsCopyInRange copies → All IsCopyInRange (printed_copies entries copies)
 unfolding printed_copies if_printed
 printed-in_range entries [] h = All-nil IsCopyInRange
 printed-in_range entries (copy ∷ copies) h =
-    All-append IsCopyInRange _ (printed_copies (entries ++ entry_made entries copy) copies) (if-in_range (is_printed entries copy) copy (All-head IsCopyInRange copy copies h))
-    (printed-in_range (entries ++ entry_made entries copy) copies (All-tail IsCopyInRange copy copies h))
+    All-append IsCopyInRange _ (printed_copies (entries ++ entry_made entries copy) copies)
+    (if-in_range (is_printed entries copy) copy (All-head IsCopyInRange copy copies h))
+    (printed-in_range (entries ++ entry_made entries copy) copies
+    (All-tail IsCopyInRange copy copies h))
 
 -- all that lines print is in range
-printed_of-in_range : (start : Start) (lines : List Line) (copies : List FoundCopy) → AreTaken start lines → All IsCopyInRange (printed_of start (events_of lines) copies)
+printed_of-in_range : (start : Start) (lines : List Line) (copies : List FoundCopy)
+    → AreTaken start lines → All IsCopyInRange (printed_of start (events_of lines) copies)
 printed_of-in_range start lines copies taken =
     let first = first_setting start in
     printed-in_range start.entries _
-    (tagged-in_range first (events_of lines) copies taken.in_range (settings-in_range first (events_of lines) taken.in_range (lines-in_range start [] lines taken.each)))
+    (tagged-in_range first (events_of lines) copies taken.in_range
+    (settings-in_range first (events_of lines) taken.in_range
+    (lines-in_range start [] lines taken.each)))
 
-log-in_range : (start : Start) (lines : List Line) (log : List TaggedCopy) → AreTaken start lines → HasPrinted start (events_of lines) log → All IsCopyInRange log
-log-in_range start lines log taken h = All-same IsCopyInRange log _ h.printed (printed_of-in_range start lines _ taken)
+log-in_range : (start : Start) (lines : List Line) (log : List TaggedCopy) → AreTaken start lines
+    → HasPrinted start (events_of lines) log → All IsCopyInRange log
+log-in_range start lines log taken h =
+    All-same IsCopyInRange log _ h.printed (printed_of-in_range start lines _ taken)
 
 -- so lines have a log, with the end and without it
-pub some-open : (start : Start) (lines : List Line) → AreTaken start lines → (log : List ℕ) × IsLogOfLines start lines log
+pub some-open : (start : Start) (lines : List Line) → AreTaken start lines
+    → (log : List ℕ) × IsLogOfLines start lines log
 some-open start lines taken =
     let all = some_printed start (events_of lines) in
     let log = some_log all.0 (log-in_range start lines all.0 taken all.1) in
     (log.0, record { taken = taken; copies = all.0; printed = all.1; spelled = log.1 })
 
-pub some-closed : (start : Start) (bytes : List ℕ) (lines : List Line) → IsAirFile air_limit bytes lines → AreTaken start lines → (log : List ℕ) × IsLogOf start bytes log
+pub some-closed : (start : Start) (bytes : List ℕ) (lines : List Line)
+    → IsAirFile air_limit bytes lines → AreTaken start lines
+    → (log : List ℕ) × IsLogOf start bytes log
 some-closed start bytes lines file taken =
     let all = some_to_end start (events_of lines) in
-    let log = some_log all.0 (All-same IsCopyInRange all.0 _ all.1.printed (printed_of-in_range start lines _ taken)) in
+    let log = some_log all.0 (All-same IsCopyInRange all.0 _ all.1.printed
+    (printed_of-in_range start lines _ taken)) in
     (log.0, (lines, all.0, record { file = file; taken = taken; printed = all.1; spelled = log.1 }))
 
 -- and one alone
-pub one-open : (start : Start) (lines : List Line) (log other : List ℕ) → IsLogOfLines start lines log → IsLogOfLines start lines other → log ≡ other
+pub one-open : (start : Start) (lines : List Line) (log other : List ℕ)
+    → IsLogOfLines start lines log → IsLogOfLines start lines other → log ≡ other
 one-open start lines log other a b =
     let same = one_printed start (events_of lines) a.copies b.copies a.printed b.printed in
     one_log b.copies log other (subst (λ copies. IsLog copies log) same a.spelled) b.spelled
 
-pub one-closed : (start : Start) (bytes log other : List ℕ) → IsLogOf start bytes log → IsLogOf start bytes other → log ≡ other
+pub one-closed : (start : Start) (bytes log other : List ℕ) → IsLogOf start bytes log
+    → IsLogOf start bytes other → log ≡ other
 one-closed start bytes log other a b =
     let lines = IsAirFile-unique air_limit bytes a.0 b.0 a.2.file b.2.file in
-    let same = one_to_end start (events_of b.0) a.1 b.1 (subst (λ l. PrintsToEnd start (events_of l) a.1) lines a.2.printed) b.2.printed in
+    let same = one_to_end start (events_of b.0) a.1 b.1
+    (subst (λ l. PrintsToEnd start (events_of l) a.1) lines a.2.printed) b.2.printed in
     one_log b.1 log other (subst (λ copies. IsLog copies log) same a.2.spelled) b.2.spelled
 
--- what is the log of a beginning of what lines give was written in part: so was the log of the lines
-pub logged-some : (start : Start) (old new : Option (List ℕ)) (written : ℕ) (lines : List Line) (given : List ℕ) → BeginsListening start lines given → WroteSome old new given written
+-- what is the log of a beginning of what lines give was written in part: so was the log of the
+-- lines
+pub logged-some : (start : Start) (old new : Option (List ℕ)) (written : ℕ) (lines : List Line)
+    (given : List ℕ) → BeginsListening start lines given → WroteSome old new given written
     → HasLoggedSome (IsLogOfLines start lines) old new written
 logged-some start old new written lines given h some =
     let b = h.begun in
@@ -134,8 +164,10 @@ logged-some start old new written lines given h some =
     let later = subst (λ es. HasPrinted start es all.0) b.whole all.1 in
     let on = has_printed_on start b.before b.later b.log all.0 b.printed later in
     let log = some_log all.0 (log-in_range start lines all.0 h.taken all.1) in
-    let front = log_begins b.log on.rest given log.0 b.spelled (subst (λ l. IsLog l log.0) on.whole log.1) in (
+    let front = log_begins b.log on.rest given log.0 b.spelled
+    (subst (λ l. IsLog l log.0) on.whole log.1) in (
       log.0,
       record { taken = h.taken; copies = all.0; printed = all.1; spelled = log.1 },
-      subst (λ l. WroteSome old new l written) (sym front.1) (WroteSome-front old new given front.0 written some),
+      subst (λ l. WroteSome old new l written) (sym front.1)
+          (WroteSome-front old new given front.0 written some),
     )

@@ -28,24 +28,38 @@ use Rattle.nx_receiver.proofs.receiving.Logged.{bits_of-append}
 use Rattle.nx_receiver.proofs.receiving.Events.{bits_of-more}
 
 -- what the lines gave was written: their log
-logged : (first now : Listening) (old new : Option (List ℕ)) (lines : List Line) → HasTaken StandsFrom first now lines (Appends old new) → HasLogged (start_of first) old new lines
+logged : (first now : Listening) (old new : Option (List ℕ)) (lines : List Line)
+    → HasTaken StandsFrom first now lines (Appends old new)
+    → HasLogged (start_of first) old new lines
 logged first now old new lines h = (
   h.given,
   record {
     taken = h.stood.taken;
     copies = h.stood.hears.log;
-    printed = printed-so_far _ (start_of first) now.receiver (events_of lines) h.stood.hears.log h.stood.hears.hears.receiver;
+    printed = printed-so_far _ (start_of first) now.receiver (events_of lines) h.stood.hears.log
+        h.stood.hears.hears.receiver;
     spelled = h.stood.hears.spelled;
   },
   h.here,
 )
 
-stops-on : (bytes : List ℕ) (P Q : List Line → List ℕ → List ℕ → Type 0) → ((lines : List Line) (rest more : List ℕ) → P lines rest more → Q lines rest more)
+stops-on : (bytes : List ℕ) (P Q : List Line → List ℕ → List ℕ → Type 0)
+    → ((lines : List Line) (rest more : List ℕ) → P lines rest more → Q lines rest more)
     → StopsAt bytes P → StopsAt bytes Q
-stops-on bytes P Q f h = record { lines = h.lines; rest = h.rest; more = h.more; whole = h.whole; each = h.each; part = h.part; here = f h.lines h.rest h.more h.here }
+stops-on bytes P Q f h = record {
+  lines = h.lines;
+  rest = h.rest;
+  more = h.more;
+  whole = h.whole;
+  each = h.each;
+  part =
+      h.part;
+  here = f h.lines h.rest h.more h.here;
+}
 
 -- a line that is refused isn't taken, as its fault says
-fault-says : (start : Start) (number : ℕ) (lines : List Line) (line : Line) (why : LineRefusal) → number ≡ length lines + 1 → RefusesLine start lines line why
+fault-says : (start : Start) (number : ℕ) (lines : List Line) (line : Line) (why : LineRefusal)
+    → number ≡ length lines + 1 → RefusesLine start lines line why
     → RefusesAfter start (refusal_fault number why) lines line
 fault-says start number lines (moment n) refusal.NoMoment e h = h
 fault-says start number lines (moment n) (refusal.Moment why) e h = (e, h)
@@ -66,9 +80,12 @@ fault-says start number lines (accept_subject letter) refusal.NoMoment e h = h
 fault-says start number lines (accept_subject letter) (refusal.Moment why) e h = h
 fault-says start number lines (accept_subject letter) (refusal.Vital subject) e h = h
 
-next-refused : (first : Listening) (number : ℕ) (lines : List Line) (rest more : List ℕ) (why : LineRefusal)
-    → IsLineRefused (λ before line. RefusesFrom first before line why) air_limit lines rest more number
-    → IsLineRefused (RefusesAfter (start_of first) (refusal_fault number why)) air_limit lines rest more (length lines + 1)
+next-refused : (first : Listening) (number : ℕ) (lines : List Line) (rest more : List ℕ)
+    (why : LineRefusal)
+    → IsLineRefused (λ before line. RefusesFrom first before line why) air_limit lines rest more
+    number
+    → IsLineRefused (RefusesAfter (start_of first) (refusal_fault number why)) air_limit lines rest
+    more (length lines + 1)
 next-refused first number lines rest more why h = record {
   line = h.line;
   after = h.after;
@@ -81,8 +98,11 @@ next-refused first number lines rest more why h = record {
 }
 
 -- what a fault of the lines explains
-explains : (AtEnd : Type 0) (IsLeft : List ℕ → Type 0) (first now : Listening) (old new : Option (List ℕ)) (bytes : List ℕ) (fault : LinesFault LineRefusal)
-    → ExplainsLines StandsFrom BeginsFrom RefusesFrom AtEnd IsLeft air_limit first now old new (Appends old new) bytes fault → AnswersListening (start_of first) AtEnd IsLeft old new (Err (lines_fault fault)) bytes
+explains : (AtEnd : Type 0) (IsLeft : List ℕ → Type 0) (first now : Listening)
+    (old new : Option (List ℕ)) (bytes : List ℕ) (fault : LinesFault LineRefusal)
+    → ExplainsLines StandsFrom BeginsFrom RefusesFrom AtEnd IsLeft air_limit first now old new
+    (Appends old new) bytes fault
+    → AnswersListening (start_of first) AtEnd IsLeft old new (Err (lines_fault fault)) bytes
 explains AtEnd IsLeft first now old new bytes run.Read h =
     stops-on bytes _ _ (λ lines rest more p. (p.0, p.1, logged first now old new lines p.2)) h
 explains AtEnd IsLeft first now old new bytes (run.Line file.TooLong) h =
@@ -94,13 +114,26 @@ explains AtEnd IsLeft first now old new bytes (run.Line (file.LineCut line)) h =
 explains AtEnd IsLeft first now old new bytes (run.Line (file.BadLine line)) h =
     stops-on bytes _ _ (λ lines rest more p. (p.0, logged first now old new lines p.1)) h.1
 explains AtEnd IsLeft first now old new bytes (run.Refused line refusal.NoMoment) h =
-    stops-on bytes _ _ (λ lines rest more p. (next-refused first line lines rest more refusal.NoMoment p.0, logged first now old new lines p.1)) h
+    stops-on bytes _ _ (λ lines rest more p. (
+      next-refused first line lines rest more refusal.NoMoment p.0,
+      logged first now old new
+          lines p.1,
+    )) h
 explains AtEnd IsLeft first now old new bytes (run.Refused line (refusal.Moment why)) h =
-    stops-on bytes _ _ (λ lines rest more p. (next-refused first line lines rest more (refusal.Moment why) p.0, logged first now old new lines p.1)) h
+    stops-on bytes _ _ (λ lines rest more p. (
+      next-refused first line lines rest more (refusal.Moment why) p.0,
+      logged first now old new
+          lines p.1,
+    )) h
 explains AtEnd IsLeft first now old new bytes (run.Refused line (refusal.Vital subject)) h =
-    stops-on bytes _ _ (λ lines rest more p. (next-refused first line lines rest more (refusal.Vital subject) p.0, logged first now old new lines p.1)) h
+    stops-on bytes _ _ (λ lines rest more p. (
+      next-refused first line lines rest more (refusal.Vital subject) p.0,
+      logged first now old
+          new lines p.1,
+    )) h
 explains AtEnd IsLeft first now old new bytes (run.Write written) h =
-    inl (stops-on bytes _ _ (λ lines rest more p. logged-some (start_of first) old new written lines p.given p.begun p.some) h)
+    inl (stops-on bytes _ _ (λ lines rest more p. logged-some (start_of first) old new written lines
+    p.given p.begun p.some) h)
 
 -- the faults of devices are those of devices
 read-back : (fault : LinesFault LineRefusal) → lines_fault fault ≡ Read → fault ≡ run.Read
@@ -114,7 +147,8 @@ read-back (run.Refused line refusal.NoMoment) e = cc
 read-back (run.Refused line (refusal.Moment why)) e = cc
 read-back (run.Refused line (refusal.Vital subject)) e = cc
 
-write-back : (fault : LinesFault LineRefusal) (written : ℕ) → lines_fault fault ≡ Write written → fault ≡ run.Write written
+write-back : (fault : LinesFault LineRefusal) (written : ℕ) → lines_fault fault ≡ Write written
+    → fault ≡ run.Write written
 write-back run.Read written e = cc
 write-back (run.Write n) written e = cc
 write-back (run.Line file.TooLong) written e = cc
@@ -128,23 +162,30 @@ write-back (run.Refused line (refusal.Vital subject)) written e = cc
 err-of : {N : Type 0} (a b : ListenFault) → ◌≡◌ {A = Result N ListenFault} (Err a) (Err b) → a ≡ b
 err-of a b e = cc
 
-run-err-of : {N : Type 0} (a b : LinesFault LineRefusal) → ◌≡◌ {A = Result N (LinesFault LineRefusal)} (Err a) (Err b) → a ≡ b
+run-err-of : {N : Type 0} (a b : LinesFault LineRefusal)
+    → ◌≡◌ {A = Result N (LinesFault LineRefusal)} (Err a) (Err b) → a ≡ b
 run-err-of a b e = cc
 
 as-err : {N F : Type 0} (a b : F) → a ≡ b → ◌≡◌ {A = Result N F} (Err a) (Err b)
 as-err {N} {F} a b e = let out : F → Result N F = λ x. Err x in ap out e
 
 -- a run over lines that ended early is a run of `listen` that did
-pub listens-fault : {R W : Type 0} (first now : Listening) (d : Devices R W) (fault : LinesFault LineRefusal)
-    → RunsLines StandsFrom BeginsFrom RefusesFrom air_limit first now d (Err fault) → Listens (start_of first) d (Err (lines_fault fault))
+pub listens-fault : {R W : Type 0} (first now : Listening) (d : Devices R W)
+    (fault : LinesFault LineRefusal)
+    → RunsLines StandsFrom BeginsFrom RefusesFrom air_limit first now d (Err fault)
+    → Listens (start_of first) d (Err (lines_fault fault))
 listens-fault first now d fault h = record {
-  reads = Reads-on d.remaining d.reader d.reader_after run.Read Read (Err fault) (Err (lines_fault fault)) _ _ _ _ h.reads
-      (λ bytes k. explains _ _ first now _ _ bytes fault k) (λ bytes k. explains _ _ first now _ _ bytes fault k)
-      (λ bytes k h outside. tt) (λ e. as-err _ _ (read-back fault (err-of _ _ e))) (λ e. as-err _ _ (ap lines_fault (run-err-of _ _ e)));
+  reads = Reads-on d.remaining d.reader d.reader_after run.Read Read (Err fault)
+      (Err (lines_fault fault)) _ _ _ _ h.reads
+      (λ bytes k. explains _ _ first now _ _ bytes fault k)
+      (λ bytes k. explains _ _ first now _ _ bytes fault k)
+      (λ bytes k h outside. tt) (λ e. as-err _ _ (read-back fault (err-of _ _ e)))
+      (λ e. as-err _ _ (ap lines_fault (run-err-of _ _ e)));
   writes = record {
     failed = (
       λ w. h.writes.failed.0 (w.0, as-err _ _ (write-back fault w.0 (err-of _ _ w.1))),
-      λ one. let w = h.writes.failed.1 one in (w.0, as-err _ _ (ap lines_fault (run-err-of _ _ w.1))),
+      λ one. let w = h.writes.failed.1 one in
+          (w.0, as-err _ _ (ap lines_fault (run-err-of _ _ w.1))),
     );
     once = h.writes.once;
   };
@@ -156,35 +197,64 @@ line-fewer : (line : Line) → length (elements_among (line_events line)) ≤ le
 unfolding elements_among
 line-fewer (moment n) = omega arith
 line-fewer (elements bits) =
-    let heard : length (elements_among (line_events (elements bits))) ≡ length bits = ap length (bits_of-more [] bits) in
+    let heard : length (elements_among (line_events (elements bits))) ≡ length bits =
+    ap length (bits_of-more [] bits) in
     let digits : length (map element_digit bits) ≡ length bits = simp length-map in
-    omega (arith, heard, digits, length-append (spelling (elements bits)) (10 ∷ []), length-append (codes "B ") (map element_digit bits))
+    omega (
+      arith,
+      heard,
+      digits,
+      length-append (spelling (elements bits)) (10 ∷ []),
+      length-append
+          (codes "B ") (map element_digit bits),
+    )
 line-fewer (refuse_station letter) = omega arith
 line-fewer (accept_station letter) = omega arith
 line-fewer (refuse_subject letter) = omega arith
 line-fewer (accept_subject letter) = omega arith
 
-lines-fewer : (lines : List Line) → length (elements_among (events_of lines)) ≤ length (file_of lines)
+lines-fewer : (lines : List Line)
+    → length (elements_among (events_of lines)) ≤ length (file_of lines)
 unfolding elements_among
 lines-fewer [] = omega arith
 lines-fewer (line ∷ lines) =
-    let heard : length (elements_among (events_of (line ∷ lines))) ≡ length (elements_among (line_events line)) + length (elements_among (events_of lines)) =
-    ap length (bits_of-append (line_events line) (events_of lines)) ∙ length-append (elements_among (line_events line)) (elements_among (events_of lines)) in
-    omega (arith, heard, line-fewer line, lines-fewer lines, length-append (line_bytes line) (file_of lines))
+    let heard : length (elements_among (events_of (line ∷ lines)))
+    ≡ length (elements_among (line_events line)) + length (elements_among (events_of lines)) =
+    ap length (bits_of-append (line_events line) (events_of lines))
+    ∙ length-append (elements_among (line_events line)) (elements_among (events_of lines)) in
+    omega (
+      arith,
+      heard,
+      line-fewer line,
+      lines-fewer lines,
+      length-append (line_bytes line)
+          (file_of lines),
+    )
 
 -- the whole file was read, and its end printed
-listened : (first now : Listening) (old mid new : Option (List ℕ)) (bytes : List ℕ) (read : LinesRead) (report : Report) → HasTakenAll StandsFrom first now old mid air_limit bytes read
-    → ((lines : List Line) (given : List ℕ) → IsListening (start_of first) now lines given → HasWritten old mid given read.written → HasClosed (start_of first) old new (events_of lines) report)
+listened : (first now : Listening) (old mid new : Option (List ℕ)) (bytes : List ℕ)
+    (read : LinesRead) (report : Report)
+    → HasTakenAll StandsFrom first now old mid air_limit bytes read
+    → ((lines : List Line) (given : List ℕ) → IsListening (start_of first) now lines given
+    → HasWritten old mid given read.written
+    → HasClosed (start_of first) old new (events_of lines) report)
     → report.lines ≡ read.lines → HasListened (start_of first) old new bytes report
 listened first now old mid new bytes read report h closed counted =
     let t = h.taken in
     let e = closed h.lines t.given t.stood t.here in
-    let few : length (elements_among (events_of h.lines)) ≤ 268435456 = omega (arith, lines-fewer h.lines, ap length h.file.whole, h.file.within) in
+    let few : length (elements_among (events_of h.lines)) ≤ 268435456 =
+    omega (arith, lines-fewer h.lines, ap length h.file.whole, h.file.within) in
     record {
       lines = h.lines;
       copies = e.copies;
       log = e.log;
-      heard = record { file = h.file; taken = t.stood.taken; printed = e.printed; spelled = e.spelled };
+      heard = record {
+        file = h.file;
+        taken = t.stood.taken;
+        printed = e.printed;
+        spelled =
+            e.spelled;
+      };
       written = e.written;
       lines_counted = counted ∙ h.counted;
       bits_counted = omega (arith, few, e.bits_counted);
@@ -192,48 +262,83 @@ listened first now old mid new bytes read report h closed counted =
     }
 
 -- a run over lines that read its file to the end, and what the end prints, are a run of `listen`
-pub listens-ok : {R W : Type 0} (remaining : R → Option (List ℕ)) (contents : W → Option (List ℕ)) (first now : Listening) (reader reader_after : CountedDevice R) (writer mid new : CountedDevice W) (read : LinesRead) (report : Report)
-    → RunsLines StandsFrom BeginsFrom RefusesFrom air_limit first now (devices remaining contents reader reader_after writer mid) (Ok read)
-    → ((lines : List Line) (given : List ℕ) → IsListening (start_of first) now lines given → HasWritten (contents writer.inner) (contents mid.inner) given read.written
-    → HasClosed (start_of first) (contents writer.inner) (contents new.inner) (events_of lines) report)
-    → report.lines ≡ read.lines → new.failures ≡ 0 → Listens (start_of first) (devices remaining contents reader reader_after writer new) (Ok report)
-listens-ok remaining contents first now reader reader_after writer mid new read report h closed counted none = record {
-  reads = Reads-on remaining reader reader_after run.Read Read (Ok read) (Ok report) _ _ _ _ h.reads
-      (λ bytes k. (k.0, listened first now _ _ _ bytes read report k.1 closed counted)) (λ bytes k. (k.0, listened first now _ _ _ bytes read report k.1 closed counted))
-      (λ bytes k h. h) (λ e. absurd (Ok-not_err _ _ e)) (λ e. absurd (Ok-not_err _ _ e));
-  writes = Writes-none _ _ _ (λ written. Ok-not_err _ _) none;
-  unwritten = tt;
-}
+pub listens-ok : {R W : Type 0} (remaining : R → Option (List ℕ)) (contents : W → Option (List ℕ))
+    (first now : Listening) (reader reader_after : CountedDevice R)
+    (writer mid new : CountedDevice W) (read : LinesRead) (report : Report)
+    → RunsLines StandsFrom BeginsFrom RefusesFrom air_limit first now
+    (devices remaining contents reader reader_after writer mid) (Ok read)
+    → ((lines : List Line) (given : List ℕ) → IsListening (start_of first) now lines given
+    → HasWritten (contents writer.inner) (contents mid.inner) given read.written
+    → HasClosed (start_of first) (contents writer.inner) (contents new.inner) (events_of lines)
+    report)
+    → report.lines ≡ read.lines → new.failures ≡ 0
+    → Listens (start_of first) (devices remaining contents reader reader_after writer new)
+    (Ok report)
+listens-ok remaining contents first now reader reader_after writer mid new read report h closed
+    counted none = record {
+      reads = Reads-on remaining reader reader_after run.Read Read (Ok read) (Ok report) _ _ _ _
+          h.reads
+          (λ bytes k. (k.0, listened first now _ _ _ bytes read report k.1 closed counted))
+          (λ bytes k. (k.0, listened first now _ _ _ bytes read report k.1 closed counted))
+          (λ bytes k h. h) (λ e. absurd (Ok-not_err _ _ e)) (λ e. absurd (Ok-not_err _ _ e));
+      writes = Writes-none _ _ _ (λ written. Ok-not_err _ _) none;
+      unwritten = tt;
+    }
 
 -- the whole file was read, and a write of what its end prints failed
-part-listened : (first now : Listening) (old mid new : Option (List ℕ)) (bytes : List ℕ) (read : LinesRead) (written : ℕ) → HasTakenAll StandsFrom first now old mid air_limit bytes read
-    → ((lines : List Line) (given : List ℕ) → IsListening (start_of first) now lines given → HasWritten old mid given read.written → HasClosedSome (start_of first) old new (events_of lines) written)
+part-listened : (first now : Listening) (old mid new : Option (List ℕ)) (bytes : List ℕ)
+    (read : LinesRead) (written : ℕ) → HasTakenAll StandsFrom first now old mid air_limit bytes read
+    → ((lines : List Line) (given : List ℕ) → IsListening (start_of first) now lines given
+    → HasWritten old mid given read.written
+    → HasClosedSome (start_of first) old new (events_of lines) written)
     → HasLoggedSome (IsLogOf (start_of first) bytes) old new written
 part-listened first now old mid new bytes read written h closed =
     let t = h.taken in
-    let e = closed h.lines t.given t.stood t.here in
-    (e.log, (h.lines, e.copies, record { file = h.file; taken = t.stood.taken; printed = e.printed; spelled = e.spelled }), e.some)
+    let e = closed h.lines t.given t.stood t.here in (
+      e.log,
+      (
+        h.lines,
+        e.copies,
+        record
+            { file = h.file; taken = t.stood.taken; printed = e.printed; spelled = e.spelled },
+      ),
+      e.some,
+    )
 
-write-not_read : {N : Type 0} (written : ℕ) → ◌≡◌ {A = Result N ListenFault} (Err (Write written)) (Err Read) → ⊥
+write-not_read : {N : Type 0} (written : ℕ)
+    → ◌≡◌ {A = Result N ListenFault} (Err (Write written)) (Err Read) → ⊥
 write-not_read written e = cc
 
-pub listens-part : {R W : Type 0} (remaining : R → Option (List ℕ)) (contents : W → Option (List ℕ)) (first now : Listening) (reader reader_after : CountedDevice R) (writer mid new : CountedDevice W) (read : LinesRead) (written : ℕ)
-    → RunsLines StandsFrom BeginsFrom RefusesFrom air_limit first now (devices remaining contents reader reader_after writer mid) (Ok read)
-    → ((lines : List Line) (given : List ℕ) → IsListening (start_of first) now lines given → HasWritten (contents writer.inner) (contents mid.inner) given read.written
-    → HasClosedSome (start_of first) (contents writer.inner) (contents new.inner) (events_of lines) written)
-    → new.failures ≡ 1 → Listens (start_of first) (devices remaining contents reader reader_after writer new) (Err (Write written))
-listens-part remaining contents first now reader reader_after writer mid new read written h closed one = record {
-  reads = Reads-on remaining reader reader_after run.Read Read (Ok read) (Err (Write written)) _ _ _ _ h.reads
-      (λ bytes k. inr (k.0, part-listened first now _ _ _ bytes read written k.1 closed)) (λ bytes k. inr (k.0, part-listened first now _ _ _ bytes read written k.1 closed))
-      (λ bytes k h outside. tt) (λ e. absurd (write-not_read written e)) (λ e. absurd (Ok-not_err _ _ e));
-  writes = record { failed = (λ w. one, λ k. (written, refl)); once = omega (arith, one) };
-  unwritten = tt;
-}
+pub listens-part : {R W : Type 0} (remaining : R → Option (List ℕ)) (contents : W → Option (List ℕ))
+    (first now : Listening) (reader reader_after : CountedDevice R)
+    (writer mid new : CountedDevice W) (read : LinesRead) (written : ℕ)
+    → RunsLines StandsFrom BeginsFrom RefusesFrom air_limit first now
+    (devices remaining contents reader reader_after writer mid) (Ok read)
+    → ((lines : List Line) (given : List ℕ) → IsListening (start_of first) now lines given
+    → HasWritten (contents writer.inner) (contents mid.inner) given read.written
+    → HasClosedSome (start_of first) (contents writer.inner) (contents new.inner) (events_of lines)
+    written)
+    → new.failures ≡ 1 → Listens (start_of first)
+    (devices remaining contents reader reader_after writer new) (Err (Write written))
+listens-part remaining contents first now reader reader_after writer mid new read written h closed
+    one = record {
+      reads = Reads-on remaining reader reader_after run.Read Read (Ok read) (Err (Write written)) _
+          _ _
+          _ h.reads
+          (λ bytes k. inr (k.0, part-listened first now _ _ _ bytes read written k.1 closed))
+          (λ bytes k. inr (k.0, part-listened first now _ _ _ bytes read written k.1 closed))
+          (λ bytes k h outside. tt) (λ e. absurd (write-not_read written e))
+          (λ e. absurd (Ok-not_err _ _ e));
+      writes = record { failed = (λ w. one, λ k. (written, refl)); once = omega (arith, one) };
+      unwritten = tt;
+    }
 
-memory-read : {N : Type 0} (error : AllocError) → ◌≡◌ {A = Result N ListenFault} (Err (Memory error)) (Err Read) → ⊥
+memory-read : {N : Type 0} (error : AllocError)
+    → ◌≡◌ {A = Result N ListenFault} (Err (Memory error)) (Err Read) → ⊥
 memory-read error e = cc
 
-memory-write : {N : Type 0} (error : AllocError) (written : ℕ) → ◌≡◌ {A = Result N ListenFault} (Err (Memory error)) (Err (Write written)) → ⊥
+memory-write : {N : Type 0} (error : AllocError) (written : ℕ)
+    → ◌≡◌ {A = Result N ListenFault} (Err (Memory error)) (Err (Write written)) → ⊥
 memory-write error written e = cc
 
 whatever : (o : Option (List ℕ)) → IfSome o (λ _. ⊤)
@@ -241,8 +346,12 @@ whatever None = tt
 whatever (Some xs) = tt
 
 -- memory ran out before anything was read
-pub listens-memory : {R W : Type 0} (start : Start) (remaining : R → Option (List ℕ)) (contents : W → Option (List ℕ)) (reader : CountedDevice R) (writer : CountedDevice W) (error : AllocError)
-    → reader.failures ≡ 0 → writer.failures ≡ 0 → Listens start (devices remaining contents reader reader writer writer) (Err (Memory error))
+pub listens-memory : {R W : Type 0} (start : Start) (remaining : R → Option (List ℕ))
+    (contents : W → Option (List ℕ)) (reader : CountedDevice R) (writer : CountedDevice W)
+    (error : AllocError)
+    → reader.failures ≡ 0 → writer.failures ≡ 0
+    → Listens start (devices remaining contents reader reader writer writer)
+    (Err (Memory error))
 listens-memory start remaining contents reader writer error read written = record {
   reads = record {
     bytes = [];

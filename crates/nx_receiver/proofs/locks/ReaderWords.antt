@@ -1,4 +1,5 @@
--- The words of a lock: the third last of the DX words before an RX word is the word five before it; and what one word
+-- The words of a lock: the third last of the DX words before an RX word is the word five before it;
+-- and what one word
 -- more adds to the positions.
 use Rattle.std.proofs.Common.{◌≡◌, ℕ, Option, None, zero, suc, ◌+◌, ◌-◌, ◌*◌, ◌<◌, ◌≤◌, cond, List, [], ◌∷◌, ◌++◌, length, map, get_or, inl, inr, refl, sym, ap, ◌∙◌, subst, add-one, append_assoc, append-nil, length-append, arith}
 use Rattle.std.proofs.lemmas.Bool.{cases_lt}
@@ -34,7 +35,8 @@ abbrev one_if_rx : Role → ℕ
 one_if_rx Dx = 0
 one_if_rx Rx = 1
 
-length-one_more : (xs : List Counted) (role : Role) (word : Counted) (n : ℕ) → 2 * length xs ≤ n + one_if_rx role
+length-one_more : (xs : List Counted) (role : Role) (word : Counted) (n : ℕ)
+    → 2 * length xs ≤ n + one_if_rx role
     → 2 * length (xs ++ if_dx role word) ≤ suc n + one_if_rx (other_role role)
 length-one_more xs Dx word n h = simp length-append (omega arith)
 length-one_more xs Rx word n h = simp append-nil (omega arith)
@@ -45,7 +47,8 @@ length-dx_words : (first : Role) (words : ℕ → ℕ) (n : ℕ)
 unfolding dx_words role_of
 length-dx_words first words zero = omega arith
 length-dx_words first words (suc n) =
-    length-one_more (dx_words first words n) (role_of first n) (counts_as (words n)) n (length-dx_words first words n)
+    length-one_more (dx_words first words n) (role_of first n) (counts_as (words n)) n
+    (length-dx_words first words n)
 
 one_if_rx-small : (role : Role) → one_if_rx role ≤ 1
 one_if_rx-small Dx = omega arith
@@ -54,7 +57,8 @@ one_if_rx-small Rx = omega arith
 third_last-few : (xs : List Counted) → length xs < 3 → third_last xs ≡ nothing
 third_last-few xs h = grind (arith, nat_tests)
 
-third_last-many : (xs : List Counted) → 3 ≤ length xs → third_last xs ≡ get_or xs (length xs - 3) nothing
+third_last-many : (xs : List Counted) → 3 ≤ length xs
+    → third_last xs ≡ get_or xs (length xs - 3) nothing
 third_last-many xs h = grind (arith, nat_tests)
 
 third_last-three : (xs : List Counted) (a b c : Counted) → third_last (xs ++ a ∷ b ∷ c ∷ []) ≡ a
@@ -89,7 +93,8 @@ third_last-late first words m h =
     let c = counts (suc (suc m)) in
     let d = counts (suc (suc (suc m))) in
     let e = counts (suc (suc (suc (suc m)))) in
-    third_last-five (dx_words first words m) (role_of first m) (counts m) b c d e (five_on (role_of first m) h)
+    third_last-five (dx_words first words m) (role_of first m) (counts m) b c d e
+    (five_on (role_of first m) h)
 
 five_before-early : (words : ℕ → ℕ) (n : ℕ) → n < 5 → five_before words n ≡ nothing
 five_before-early words n h = grind (arith, nat_tests)
@@ -105,7 +110,8 @@ third_last-dx_words first words n h =
       | inl early ↦
           let few = length-dx_words first words n in
           let one = one_if_rx-small (role_of first n) in
-          third_last-few (dx_words first words n) (omega arith) ∙ sym (five_before-early words n early)
+          third_last-few (dx_words first words n) (omega arith)
+          ∙ sym (five_before-early words n early)
       | inr late ↦
           let e : n ≡ after_five (n - 5) = omega arith in
           ap (λ k. third_last (dx_words first words k)) e
@@ -118,7 +124,8 @@ dx_words-dx : (first : Role) (words : ℕ → ℕ) (n : ℕ) → role_of first n
     → dx_words first words (n + 1) ≡ dx_words first words n ++ counts_as (words n) ∷ []
 unfolding dx_words
 dx_words-dx first words n h =
-    ap (dx_words first words) (add-one n) ∙ ap (λ role. dx_words first words n ++ if_dx role (counts_as (words n))) h
+    ap (dx_words first words) (add-one n)
+    ∙ ap (λ role. dx_words first words n ++ if_dx role (counts_as (words n))) h
 
 dx_words-rx : (first : Role) (words : ℕ → ℕ) (n : ℕ) → role_of first n ≡ Rx
     → dx_words first words (n + 1) ≡ dx_words first words n
@@ -141,33 +148,41 @@ positions-dx first words n h =
     ∙ ap (λ role. positions first words n ++ if_rx role position) h
     ∙ append-nil (positions first words n)
 
-positions-rx : (first : Role) (words : ℕ → ℕ) (n : ℕ) → role_of first n ≡ Rx → positions first words (n + 1)
-    ≡ positions first words n ++ pairing (third_last (dx_words first words n)) (counts_as (words n)) ∷ []
+positions-rx : (first : Role) (words : ℕ → ℕ) (n : ℕ) → role_of first n ≡ Rx
+    → positions first words (n + 1)
+    ≡ positions first words n
+    ++ pairing (third_last (dx_words first words n)) (counts_as (words n)) ∷ []
 unfolding positions taken_at
 positions-rx first words n h =
     let rx = counts_as (words n) in
     ap (positions first words) (add-one n)
     ∙ ap (λ role. positions first words n ++ if_rx role (pairing (five_before words n) rx)) h
-    ∙ ap (λ dx. positions first words n ++ pairing dx rx ∷ []) (sym (third_last-dx_words first words n h))
+    ∙ ap (λ dx. positions first words n ++ pairing dx rx ∷ [])
+    (sym (third_last-dx_words first words n h))
 
 -- what is kept of the words after an RX word, and what it printed
-pub record HasReadRx (diversity : Diversity) (printer : Printer) (printed : Option ℕ) (first : Role) (words : ℕ → ℕ) (n : ℕ)
+pub record HasReadRx (diversity : Diversity) (printer : Printer) (printed : Option ℕ) (first : Role)
+    (words : ℕ → ℕ) (n : ℕ)
     : Type 0 where
   pub latest : IsLatest diversity (dx_words first words (n + 1))
   pub shift : printer ≡ shift_after_all (positions first words (n + 1)) Letters
   pub grows : text_after first words (n + 1) ≡ text_after first words n ++ option_to_list printed
 
 -- a reader that stands after the words before is given an RX word
-pub has_read_rx : {reader : LockReading} {diversity : Diversity} {printer : Printer} {word : Counted} {position : Reception}
-    {printed : Option ℕ} {first : Role} {words : ℕ → ℕ} {n : ℕ} → ReadsLock reader first words n → role_of first n ≡ Rx
+pub has_read_rx : {reader : LockReading} {diversity : Diversity} {printer : Printer}
+    {word : Counted} {position : Reception}
+    {printed : Option ℕ} {first : Role} {words : ℕ → ℕ} {n : ℕ} → ReadsLock reader first words n
+    → role_of first n ≡ Rx
     → word ≡ counts_as (words n)
-    → ((sent : List Counted) → IsLatest reader.diversity sent → position ≡ pairing (third_last sent) word)
+    → ((sent : List Counted) → IsLatest reader.diversity sent
+    → position ≡ pairing (third_last sent) word)
     → diversity ≡ reader.diversity
     → ((taken : List Reception) → reader.printer ≡ shift_after_all taken Letters
     → (printer ≡ shift_after_all (taken ++ position ∷ []) Letters)
     × (text (taken ++ position ∷ []) Letters ≡ text taken Letters ++ option_to_list printed))
     → HasReadRx diversity printer printed first words n
-has_read_rx {reader} {diversity} {position = position} {first = first} {words = words} {n = n} before rx counts pairs kept reads =
+has_read_rx {reader} {diversity} {position = position} {first = first} {words = words} {n = n}
+    before rx counts pairs kept reads =
     let sent = dx_words first words n in
     let pair : position ≡ pairing (third_last sent) (counts_as (words n)) =
     pairs sent before.latest ∙ ap (pairing (third_last sent)) counts in
@@ -175,19 +190,22 @@ has_read_rx {reader} {diversity} {position = position} {first = first} {words = 
     ap (λ p. positions first words n ++ p ∷ []) pair ∙ sym (positions-rx first words n rx) in
     let read = reads (positions first words n) before.shift in
     record {
-      latest = subst (IsLatest diversity) (sym (dx_words-rx first words n rx)) (ap (map heard_as) kept ∙ before.latest);
+      latest = subst (IsLatest diversity) (sym (dx_words-rx first words n rx))
+          (ap (map heard_as) kept ∙ before.latest);
       shift = read.0 ∙ ap (λ l. shift_after_all l Letters) more;
       grows = ap (λ l. text l Letters) (sym more) ∙ read.1;
     }
 
 -- what a DX word adds
 pub has_read_dx : (first : Role) (words : ℕ → ℕ) (n : ℕ) (word : Counted) → role_of first n ≡ Dx
-    → word ≡ counts_as (words n) → dx_words first words n ++ word ∷ [] ≡ dx_words first words (n + 1)
+    → word ≡ counts_as (words n)
+    → dx_words first words n ++ word ∷ [] ≡ dx_words first words (n + 1)
 has_read_dx first words n word dx counts =
     ap (λ x. dx_words first words n ++ x ∷ []) counts ∙ sym (dx_words-dx first words n dx)
 
 -- where the finder holds no copy, none stands open
-pub none_held : (copy : HeldCopy) (kept text : List ℕ) → held_identity copy ≡ None → HoldsCopy copy kept text → ClosesNone text
+pub none_held : (copy : HeldCopy) (kept text : List ℕ) → held_identity copy ≡ None
+    → HoldsCopy copy kept text → ClosesNone text
 none_held held.Nothing kept text e h = closes_none text h
 none_held (held.Open identity fresh) kept text e h = cc
 none_held (held.Ready identity how) kept text e h = cc

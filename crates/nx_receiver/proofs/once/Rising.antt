@@ -14,18 +14,22 @@ abbrev pub Rises : {A : Type 0} → (A → ℕ) → List A → Type 0
 Rises key [] = Unit {0}
 Rises key (x ∷ xs) = Above key (key x) xs × Rises key xs
 
-pub above_less : {A : Type 0} (key : A → ℕ) (m n : ℕ) (xs : List A) → m ≤ n → Above key n xs → Above key m xs
+pub above_less : {A : Type 0} (key : A → ℕ) (m n : ℕ) (xs : List A) → m ≤ n → Above key n xs
+    → Above key m xs
 above_less key m n [] le h = tt
 above_less key m n (x ∷ xs) le h = (omega (arith, h.0), above_less key m n xs le h.1)
 
-pub above_append : {A : Type 0} (key : A → ℕ) (n : ℕ) (xs ys : List A) → Above key n xs → Above key n ys
+pub above_append : {A : Type 0} (key : A → ℕ) (n : ℕ) (xs ys : List A) → Above key n xs
+    → Above key n ys
     → Above key n (xs ++ ys)
 above_append key n [] ys h k = k
 above_append key n (x ∷ xs) ys h k = (h.0, above_append key n xs ys h.1 k)
 
-pub above_all : {A : Type 0} (key : A → ℕ) (n : ℕ) (xs : List A) → All (λ x. n < key x) xs → Above key n xs
+pub above_all : {A : Type 0} (key : A → ℕ) (n : ℕ) (xs : List A) → All (λ x. n < key x) xs
+    → Above key n xs
 above_all key n [] h = tt
-above_all key n (x ∷ xs) h = (All-head (λ x. n < key x) x xs h, above_all key n xs (All-tail (λ x. n < key x) x xs h))
+above_all key n (x ∷ xs) h =
+    (All-head (λ x. n < key x) x xs h, above_all key n xs (All-tail (λ x. n < key x) x xs h))
 
 -- two such lists, the second of which has its keys from where those of the first end
 pub rises_append : {A : Type 0} (key : A → ℕ) (n : ℕ) (xs ys : List A) → Rises key xs → Rises key ys
@@ -34,16 +38,22 @@ rises_append key n [] ys h k below above = k
 rises_append key n (x ∷ xs) ys h k below above =
     let first = All-head (λ x. key x < n) x xs below in
     let rest : All (λ y. key x < key y) ys =
-    All-weaker (λ y. n ≤ key y) (λ y. key x < key y) (λ y le. omega arith) ys above in
-    (above_append key (key x) xs ys h.0 (above_all key (key x) ys rest), rises_append key n xs ys h.1 k (All-tail (λ x. key x < n) x xs below) above)
+    All-weaker (λ y. n ≤ key y) (λ y. key x < key y) (λ y le. omega arith) ys above in (
+      above_append key (key x) xs ys h.0 (above_all key (key x) ys rest),
+      rises_append key n xs ys
+          h.1 k (All-tail (λ x. key x < n) x xs below) above,
+    )
 
-none_above : {A : Type 0} (key : A → ℕ) (n : ℕ) (xs : List A) → Above key n xs → filter (λ y. eqb (key y) n) xs ≡ []
+none_above : {A : Type 0} (key : A → ℕ) (n : ℕ) (xs : List A) → Above key n xs
+    → filter (λ y. eqb (key y) n) xs ≡ []
 none_above key n [] h = refl
 none_above key n (x ∷ xs) h =
-    ap (λ b. cond b (x ∷ filter (λ y. eqb (key y) n) xs) (filter (λ y. eqb (key y) n) xs)) (ne_eqb (key x) n (λ e. absurd (omega (arith, h.0, e))))
+    ap (λ b. cond b (x ∷ filter (λ y. eqb (key y) n) xs) (filter (λ y. eqb (key y) n) xs))
+    (ne_eqb (key x) n (λ e. absurd (omega (arith, h.0, e))))
     ∙ none_above key n xs h.1
 
-above_at : {A : Type 0} (key : A → ℕ) (n : ℕ) (xs : List A) (k : ℕ) (d : A) → Above key n xs → k < length xs
+above_at : {A : Type 0} (key : A → ℕ) (n : ℕ) (xs : List A) (k : ℕ) (d : A) → Above key n xs
+    → k < length xs
     → n < key (get_or xs k d)
 above_at key n [] k d h lt = absurd (omega arith)
 above_at key n (x ∷ xs) zero d h lt = h.0
@@ -53,11 +63,14 @@ one_at : {A : Type 0} (key : A → ℕ) (xs : List A) (k : ℕ) (d : A) → Rise
     → filter (λ y. eqb (key y) (key (get_or xs k d))) xs ≡ get_or xs k d ∷ []
 one_at key [] k d h lt = absurd (omega arith)
 one_at key (x ∷ xs) zero d h lt =
-    ap (λ b. cond b (x ∷ filter (λ y. eqb (key y) (key x)) xs) (filter (λ y. eqb (key y) (key x)) xs)) (eq-eqb (key x) (key x) refl)
+    ap (λ b. cond b (x ∷ filter (λ y. eqb (key y) (key x)) xs)
+    (filter (λ y. eqb (key y) (key x)) xs)) (eq-eqb (key x) (key x) refl)
     ∙ ap (λ l. x ∷ l) (none_above key (key x) xs h.0)
 one_at key (x ∷ xs) (suc k) d h lt =
     let apart = above_at key (key x) xs k d h.0 (omega arith) in
-    ap (λ b. cond b (x ∷ filter (λ y. eqb (key y) (key (get_or xs k d))) xs) (filter (λ y. eqb (key y) (key (get_or xs k d))) xs)) (ne_eqb (key x) (key (get_or xs k d)) (λ e. absurd (omega (arith, apart, e))))
+    ap (λ b. cond b (x ∷ filter (λ y. eqb (key y) (key (get_or xs k d))) xs)
+    (filter (λ y. eqb (key y) (key (get_or xs k d))) xs))
+    (ne_eqb (key x) (key (get_or xs k d)) (λ e. absurd (omega (arith, apart, e))))
     ∙ one_at key xs k d h.1 (omega arith)
 
 -- so of an item that is there, the key is its own alone
@@ -68,57 +81,84 @@ one_of_key key xs x h c =
 
 -- a list of which each later item has a greater key
 pub rises_from : {A : Type 0} (key : A → ℕ) (xs : List A)
-    → ((front between back : List A) (earlier later : A) → xs ≡ front ++ earlier ∷ (between ++ later ∷ back) → key earlier < key later)
+    → ((front between back : List A) (earlier later : A)
+    → xs ≡ front ++ earlier ∷ (between ++ later ∷ back) → key earlier < key later)
     → Rises key xs
 rises_from key [] h = tt
-rises_from key (x ∷ xs) h =
-    (above_from key x [] xs (λ between back later e. h [] between back x later (ap (λ l. x ∷ l) e)), rises_from key xs (λ front between back earlier later e. h (x ∷ front) between back earlier later (ap (λ l. x ∷ l) e)))
+rises_from key (x ∷ xs) h = (
+  above_from key x [] xs (λ between back later e. h [] between back x later (ap (λ l. x ∷ l) e)),
+  rises_from key xs (λ front between back earlier later e. h (x ∷ front) between back earlier
+      later (ap (λ l. x ∷ l) e)),
+)
   where
     above_from : {A : Type 0} (key : A → ℕ) (x : A) (before xs : List A)
-        → ((between back : List A) (later : A) → before ++ xs ≡ between ++ later ∷ back → key x < key later)
+        → ((between back : List A) (later : A) → before ++ xs ≡ between ++ later ∷ back
+        → key x < key later)
         → Above key (key x) xs
     above_from key x before [] h = tt
-    above_from key x before (y ∷ xs) h = (h before xs y refl, above_from key x (before ++ y ∷ []) xs (λ between back later e. h between back later (sym (append_assoc before (y ∷ []) xs) ∙ e)))
+    above_from key x before (y ∷ xs) h = (
+      h before xs y refl,
+      above_from key x (before ++ y ∷ []) xs
+          (λ between back later e. h between back later
+          (sym (append_assoc before (y ∷ []) xs) ∙ e)),
+    )
 
 -- the items that are made of such items, with rising keys of their own
 pub rises_map : {A B : Type 0} (f : A → B) (key : A → ℕ) (of : B → ℕ) (xs : List A)
-    → ((x y : A) → Contains xs x → Contains xs y → key x < key y → of (f x) < of (f y)) → Rises key xs
+    → ((x y : A) → Contains xs x → Contains xs y → key x < key y → of (f x) < of (f y))
+    → Rises key xs
     → Rises of (map f xs)
 rises_map {A = A} {B = B} f key of xs keeps h = rises_in xs (All-contains_itself xs) h
   where
     above_in : (x : A) → Contains xs x → (ys : List A) → All (Contains xs) ys → Above key (key x) ys
         → Above of (of (f x)) (map f ys)
     above_in x c [] all h = tt
-    above_in x c (y ∷ ys) all h = (keeps x y c (All-head (Contains xs) y ys all) h.0, above_in x c ys (All-tail (Contains xs) y ys all) h.1)
+    above_in x c (y ∷ ys) all h = (
+      keeps x y c (All-head (Contains xs) y ys all) h.0,
+      above_in x c ys
+          (All-tail (Contains xs) y ys all) h.1,
+    )
 
     rises_in : (ys : List A) → All (Contains xs) ys → Rises key ys → Rises of (map f ys)
     rises_in [] all h = tt
-    rises_in (y ∷ ys) all h = (above_in y (All-head (Contains xs) y ys all) ys (All-tail (Contains xs) y ys all) h.0, rises_in ys (All-tail (Contains xs) y ys all) h.1)
+    rises_in (y ∷ ys) all h = (
+      above_in y (All-head (Contains xs) y ys all) ys (All-tail (Contains xs) y ys all) h.0,
+      rises_in ys (All-tail (Contains xs) y ys all) h.1,
+    )
 
 -- what is made of an item that is there is there
-pub contains_map : {A B : Type 0} (f : A → B) (xs : List A) (x : A) → Contains xs x → Contains (map f xs) (f x)
+pub contains_map : {A B : Type 0} (f : A → B) (xs : List A) (x : A) → Contains xs x
+    → Contains (map f xs) (f x)
 contains_map f xs x c = contains_at f xs x c.0 c.1 c.2
   where
-    contains_at : {A B : Type 0} (f : A → B) (xs : List A) (x : A) (k : ℕ) → k < length xs → get_or xs k x ≡ x
+    contains_at : {A B : Type 0} (f : A → B) (xs : List A) (x : A) (k : ℕ) → k < length xs
+        → get_or xs k x ≡ x
         → Contains (map f xs) (f x)
     contains_at f [] x k lt e = absurd (omega arith)
     contains_at f (y ∷ xs) x zero lt e = (0, omega arith, ap f e)
-    contains_at f (y ∷ xs) x (suc k) lt e = let c = contains_at f xs x k (omega arith) e in (suc c.0, omega (arith, c.1), c.2)
+    contains_at f (y ∷ xs) x (suc k) lt e = let c = contains_at f xs x k (omega arith) e in
+        (suc c.0, omega (arith, c.1), c.2)
 
-contains_tail : {A : Type 0} (o : Option A) (ys : List A) (y : A) → Contains ys y → Contains (cons_option o ys) y
+contains_tail : {A : Type 0} (o : Option A) (ys : List A) (y : A) → Contains ys y
+    → Contains (cons_option o ys) y
 contains_tail None ys y c = c
 contains_tail (Some x) ys y c = (suc c.0, omega (arith, c.1), c.2)
 
-contains_head : {A : Type 0} (o : Option A) (ys : List A) (y : A) → o ≡ Some y → Contains (cons_option o ys) y
+contains_head : {A : Type 0} (o : Option A) (ys : List A) (y : A) → o ≡ Some y
+    → Contains (cons_option o ys) y
 contains_head None ys y e = cc
 contains_head (Some x) ys y e = (0, omega arith, cc)
 
-pub contains_filter_map : {A B : Type 0} (f : A → Option B) (xs : List A) (x : A) (y : B) → Contains xs x
+pub contains_filter_map : {A B : Type 0} (f : A → Option B) (xs : List A) (x : A) (y : B)
+    → Contains xs x
     → f x ≡ Some y → Contains (filter_map f xs) y
 contains_filter_map f xs x y c made = contains_at f xs x y c.0 c.1 c.2 made
   where
-    contains_at : {A B : Type 0} (f : A → Option B) (xs : List A) (x : A) (y : B) (k : ℕ) → k < length xs
+    contains_at : {A B : Type 0} (f : A → Option B) (xs : List A) (x : A) (y : B) (k : ℕ)
+        → k < length xs
         → get_or xs k x ≡ x → f x ≡ Some y → Contains (filter_map f xs) y
     contains_at f [] x y k lt e made = absurd (omega arith)
-    contains_at f (z ∷ xs) x y zero lt e made = contains_head (f z) (filter_map f xs) y (ap f e ∙ made)
-    contains_at f (z ∷ xs) x y (suc k) lt e made = contains_tail (f z) (filter_map f xs) y (contains_at f xs x y k (omega arith) e made)
+    contains_at f (z ∷ xs) x y zero lt e made =
+        contains_head (f z) (filter_map f xs) y (ap f e ∙ made)
+    contains_at f (z ∷ xs) x y (suc k) lt e made =
+        contains_tail (f z) (filter_map f xs) y (contains_at f xs x y k (omega arith) e made)

@@ -1,4 +1,5 @@
--- What one more event, or some more elements, do to what a receiver was given, and to what it stands after.
+-- What one more event, or some more elements, do to what a receiver was given, and to what it
+-- stands after.
 use Rattle.std.proofs.Common.{◌≡◌, ℕ, Bool, List, [], ◌∷◌, ◌++◌, map, refl, sym, ap, ◌∙◌, subst, append-nil}
 use Rattle.nx_memory.specs.declared.entry.MemoryEntry.{MemoryEntry}
 use Rattle.nx_receiver.specs.Events.{Event, Command, Setting, Start, at_moment, elements_among, command, element, first_setting, setting_after, setting_after_all, settings, elements}
@@ -14,7 +15,8 @@ unfolding elements_among
 bits_of-elements [] = refl
 bits_of-elements (bit ∷ bits) = ap (λ bs. bit ∷ bs) (bits_of-elements bits)
 
-settings-elements : (now : Setting) (bits : List Bool) → settings now (elements bits) ≡ map (λ bit. now) bits
+settings-elements : (now : Setting) (bits : List Bool)
+    → settings now (elements bits) ≡ map (λ bit. now) bits
 unfolding settings
 settings-elements now [] = refl
 settings-elements now (bit ∷ bits) = ap (λ ss. now ∷ ss) (settings-elements now bits)
@@ -24,25 +26,33 @@ unfolding setting_after_all
 force-elements now [] = refl
 force-elements now (bit ∷ bits) = force-elements now bits
 
-pub force-append : (now : Setting) (xs ys : List Event) → setting_after_all now (xs ++ ys) ≡ setting_after_all (setting_after_all now xs) ys
+pub force-append : (now : Setting) (xs ys : List Event)
+    → setting_after_all now (xs ++ ys) ≡ setting_after_all (setting_after_all now xs) ys
 unfolding setting_after_all
 force-append now [] ys = refl
 force-append now (x ∷ xs) ys = force-append (setting_after now x) xs ys
 
 -- elements after other events
-pub bits_of-more : (events : List Event) (bits : List Bool) → elements_among (events ++ elements bits) ≡ elements_among events ++ bits
-bits_of-more events bits = bits_of-append events (elements bits) ∙ ap (λ bs. elements_among events ++ bs) (bits_of-elements bits)
+pub bits_of-more : (events : List Event) (bits : List Bool)
+    → elements_among (events ++ elements bits) ≡ elements_among events ++ bits
+bits_of-more events bits =
+    bits_of-append events (elements bits)
+    ∙ ap (λ bs. elements_among events ++ bs) (bits_of-elements bits)
 
-pub settings-more : (first : Setting) (watch : Watching) (events : List Event) (bits : List Bool) → in_force watch ≡ setting_after_all first events
+pub settings-more : (first : Setting) (watch : Watching) (events : List Event) (bits : List Bool)
+    → in_force watch ≡ setting_after_all first events
     → settings first (events ++ elements bits) ≡ settings first events ++ all_in_force watch bits
 unfolding all_in_force
 settings-more first watch events bits force =
     settings-append first events (elements bits)
-    ∙ ap (λ ss. settings first events ++ ss) (settings-elements (setting_after_all first events) bits)
+    ∙ ap (λ ss. settings first events ++ ss)
+    (settings-elements (setting_after_all first events) bits)
     ∙ ap (λ now. settings first events ++ map (λ bit. now) bits) (sym force)
 
-pub force-more : (first : Setting) (events : List Event) (bits : List Bool) → setting_after_all first (events ++ elements bits) ≡ setting_after_all first events
-force-more first events bits = force-append first events (elements bits) ∙ force-elements (setting_after_all first events) bits
+pub force-more : (first : Setting) (events : List Event) (bits : List Bool)
+    → setting_after_all first (events ++ elements bits) ≡ setting_after_all first events
+force-more first events bits =
+    force-append first events (elements bits) ∙ force-elements (setting_after_all first events) bits
 
 -- an event that is no element, after other events
 pub data IsNoElement : Event → Type 0 where
@@ -61,7 +71,8 @@ settings-one now (at_moment n) a_moment = refl
 settings-one now (element bit) none = elim none [ ]
 settings-one now (command c) a_command = refl
 
-force-one : (now : Setting) (event : Event) → setting_after_all now (event ∷ []) ≡ setting_after now event
+force-one : (now : Setting) (event : Event)
+    → setting_after_all now (event ∷ []) ≡ setting_after now event
 unfolding setting_after_all
 force-one now event = refl
 
@@ -70,28 +81,39 @@ abbrev pub with_force : Watching → Setting → Watching
 with_force watch now = record watch { moment = now.moment; refused = now.refused }
 
 -- a receiver in which this event alone changed what is in force stands after the event
-pub stands_after : {M : Type 0} (content : M → List MemoryEntry) (old : Receiving M) (watch : Watching) (event : Event)
+pub stands_after : {M : Type 0} (content : M → List MemoryEntry) (old : Receiving M)
+    (watch : Watching) (event : Event)
     → IsNoElement event → watch ≡ with_force old.watch (setting_after (in_force old.watch) event)
-    → (start : Start) (history : List Event) (log : List TaggedCopy) → Stands content start old history log
-    → Stands content start (record { watch = watch; memory = old.memory }) (history ++ event ∷ []) log
+    → (start : Start) (history : List Event) (log : List TaggedCopy)
+    → Stands content start old history log
+    → Stands content start (record { watch = watch; memory = old.memory }) (history ++ event ∷ [])
+    log
 stands_after content old watch event none change start history log stands =
     let first = first_setting start in
     let bits = elements_among (history ++ event ∷ []) in
     let before : elements_among history ≡ bits =
-    sym (bits_of-append history (event ∷ []) ∙ ap (λ bs. elements_among history ++ bs) (bits_of-one event none) ∙ append-nil (elements_among history)) in
+    sym (bits_of-append history (event ∷ [])
+    ∙ ap (λ bs. elements_among history ++ bs) (bits_of-one event none)
+    ∙ append-nil (elements_among history)) in
     let same : settings first history ≡ settings first (history ++ event ∷ []) =
     sym (settings-append first history (event ∷ [])
-    ∙ ap (λ ss. settings first history ++ ss) (settings-one (setting_after_all first history) event none)
+    ∙ ap (λ ss. settings first history ++ ss)
+    (settings-one (setting_after_all first history) event none)
     ∙ append-nil (settings first history)) in
     let was = stands.watch in
-    let new : WatchStands first watch (elements_among history) (settings first history) stands.copies =
-    subst (λ w. WatchStands first w (elements_among history) (settings first history) stands.copies) (sym change) (record { synchroniser = was.synchroniser; reads = was.reads }) in
+    let new : WatchStands first watch (elements_among history) (settings first history)
+    stands.copies =
+    subst (λ w. WatchStands first w (elements_among history) (settings first history) stands.copies)
+    (sym change) (record { synchroniser = was.synchroniser; reads = was.reads }) in
     record {
       copies = stands.copies;
-      watch = subst (λ ss. WatchStands first watch bits ss stands.copies) same (subst (λ bs. WatchStands first watch bs (settings first history) stands.copies) before new);
+      watch = subst (λ ss. WatchStands first watch bits ss stands.copies) same
+          (subst (λ bs. WatchStands first watch bs (settings first history) stands.copies) before
+          new);
       force = ap in_force change
           ∙ ap (λ now. setting_after now event) stands.force
-          ∙ sym (force-append first history (event ∷ []) ∙ force-one (setting_after_all first history) event);
+          ∙ sym (force-append first history (event ∷ [])
+          ∙ force-one (setting_after_all first history) event);
       printed = stands.printed;
       memory = stands.memory;
     }

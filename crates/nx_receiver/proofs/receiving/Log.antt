@@ -11,31 +11,40 @@ use Rattle.nx_receiver.specs.Log.{IsEntry, IsLog, entry_with}
 
 -- a copy has one entry
 pub one_entry : (copy : TaggedCopy) (xs ys : List ℕ) → IsEntry copy xs → IsEntry copy ys → xs ≡ ys
-one_entry copy xs ys e f = e.spelled ∙ ap (entry_with copy) (one_text copy.moment e.civil f.civil e.shown f.shown) ∙ sym f.spelled
+one_entry copy xs ys e f =
+    e.spelled ∙ ap (entry_with copy) (one_text copy.moment e.civil f.civil e.shown f.shown)
+    ∙ sym f.spelled
 
-one_list : (copies : List TaggedCopy) (es fs : List (List ℕ)) → AllZip IsEntry copies es → AllZip IsEntry copies fs → es ≡ fs
+one_list : (copies : List TaggedCopy) (es fs : List (List ℕ)) → AllZip IsEntry copies es
+    → AllZip IsEntry copies fs → es ≡ fs
 one_list [] [] [] h k = refl
 one_list [] [] (f ∷ fs) h k = absurd k
 one_list [] (e ∷ es) fs h k = absurd h
 one_list (c ∷ cs) [] fs h k = absurd h
 one_list (c ∷ cs) (e ∷ es) [] h k = absurd k
-one_list (c ∷ cs) (e ∷ es) (f ∷ fs) h k = ap (λ x. x ∷ es) (one_entry c e f h.0 k.0) ∙ ap (λ xs. f ∷ xs) (one_list cs es fs h.1 k.1)
+one_list (c ∷ cs) (e ∷ es) (f ∷ fs) h k =
+    ap (λ x. x ∷ es) (one_entry c e f h.0 k.0) ∙ ap (λ xs. f ∷ xs) (one_list cs es fs h.1 k.1)
 
-pub one_log : (copies : List TaggedCopy) (xs ys : List ℕ) → IsLog copies xs → IsLog copies ys → xs ≡ ys
-one_log copies xs ys l m = l.joined ∙ ap concat (one_list copies l.entries m.entries l.each m.each) ∙ sym m.joined
+pub one_log : (copies : List TaggedCopy) (xs ys : List ℕ) → IsLog copies xs → IsLog copies ys
+    → xs ≡ ys
+one_log copies xs ys l m =
+    l.joined ∙ ap concat (one_list copies l.entries m.entries l.each m.each) ∙ sym m.joined
 
-zip_join : (as' bs : List TaggedCopy) (es fs : List (List ℕ)) → AllZip IsEntry as' es → AllZip IsEntry bs fs → AllZip IsEntry (as' ++ bs) (es ++ fs)
+zip_join : (as' bs : List TaggedCopy) (es fs : List (List ℕ)) → AllZip IsEntry as' es
+    → AllZip IsEntry bs fs → AllZip IsEntry (as' ++ bs) (es ++ fs)
 zip_join [] bs [] fs h k = k
 zip_join [] bs (e ∷ es) fs h k = absurd h
 zip_join (c ∷ cs) bs [] fs h k = absurd h
 zip_join (c ∷ cs) bs (e ∷ es) fs h k = (h.0, zip_join cs bs es fs h.1 k)
 
 -- a log and then another are the log of both
-pub logs_join : (front back : List TaggedCopy) (xs ys : List ℕ) → IsLog front xs → IsLog back ys → IsLog (front ++ back) (xs ++ ys)
+pub logs_join : (front back : List TaggedCopy) (xs ys : List ℕ) → IsLog front xs → IsLog back ys
+    → IsLog (front ++ back) (xs ++ ys)
 logs_join front back xs ys l m = record {
   entries = l.entries ++ m.entries;
   each = zip_join front back l.entries m.entries l.each m.each;
-  joined = ap (λ bs. bs ++ ys) l.joined ∙ ap (λ bs. concat l.entries ++ bs) m.joined ∙ sym (concat-append l.entries m.entries);
+  joined = ap (λ bs. bs ++ ys) l.joined ∙ ap (λ bs. concat l.entries ++ bs) m.joined
+      ∙ sym (concat-append l.entries m.entries);
 }
 
 record Cut (front back : List TaggedCopy) (es : List (List ℕ)) : Type 0 where
@@ -45,26 +54,44 @@ record Cut (front back : List TaggedCopy) (es : List (List ℕ)) : Type 0 where
   front_each : AllZip IsEntry front left
   back_each : AllZip IsEntry back right
 
-cut : (front back : List TaggedCopy) (es : List (List ℕ)) → AllZip IsEntry (front ++ back) es → Cut front back es
+cut : (front back : List TaggedCopy) (es : List (List ℕ)) → AllZip IsEntry (front ++ back) es
+    → Cut front back es
 cut [] back es h = record { left = []; right = es; whole = refl; front_each = tt; back_each = h }
 cut (c ∷ cs) back [] h = absurd h
 cut (c ∷ cs) back (e ∷ es) h =
     let rest = cut cs back es h.1 in
-    record { left = e ∷ rest.left; right = rest.right; whole = ap (λ xs. e ∷ xs) rest.whole; front_each = (h.0, rest.front_each); back_each = rest.back_each }
+    record {
+      left = e ∷ rest.left;
+      right = rest.right;
+      whole =
+          ap (λ xs. e ∷ xs) rest.whole;
+      front_each = (h.0, rest.front_each);
+      back_each =
+          rest.back_each;
+    }
 
 -- the log of a beginning is a beginning of the log
-pub log_begins : (front back : List TaggedCopy) (bytes whole : List ℕ) → IsLog front bytes → IsLog (front ++ back) whole → (more : List ℕ) × (whole ≡ bytes ++ more)
+pub log_begins : (front back : List TaggedCopy) (bytes whole : List ℕ) → IsLog front bytes
+    → IsLog (front ++ back) whole → (more : List ℕ) × (whole ≡ bytes ++ more)
 log_begins front back bytes whole l m =
-    let c = cut front back m.entries m.each in
-    (concat c.right, m.joined ∙ ap concat c.whole ∙ concat-append c.left c.right ∙ ap (λ xs. xs ++ concat c.right) (ap concat (one_list front c.left l.entries c.front_each l.each) ∙ sym l.joined))
+    let c = cut front back m.entries m.each in (
+      concat c.right,
+      m.joined ∙ ap concat c.whole ∙ concat-append c.left c.right
+          ∙ ap (λ xs. xs ++ concat c.right)
+          (ap concat (one_list front c.left l.entries c.front_each l.each) ∙ sym l.joined),
+    )
 
 -- copies whose moments are in range have a log
-pub some_log : (copies : List TaggedCopy) → All (λ (copy : TaggedCopy). copy.moment ≤ last_moment) copies → (bytes : List ℕ) × IsLog copies bytes
+pub some_log : (copies : List TaggedCopy)
+    → All (λ (copy : TaggedCopy). copy.moment ≤ last_moment) copies
+    → (bytes : List ℕ) × IsLog copies bytes
 some_log [] k = ([], record { entries = []; each = tt; joined = refl })
 some_log (c ∷ cs) k =
-    let shown = every_moment c.moment (All-head (λ (copy : TaggedCopy). copy.moment ≤ last_moment) c cs k) in
+    let shown = every_moment c.moment
+    (All-head (λ (copy : TaggedCopy). copy.moment ≤ last_moment) c cs k) in
     let rest = some_log cs (All-tail (λ (copy : TaggedCopy). copy.moment ≤ last_moment) c cs k) in
-    let entry : IsEntry c (entry_with c shown.text) = record { civil = shown.text; shown = shown.is_shown; spelled = refl } in (
+    let entry : IsEntry c (entry_with c shown.text) =
+    record { civil = shown.text; shown = shown.is_shown; spelled = refl } in (
       entry_with c shown.text ++ rest.0,
       record {
         entries = entry_with c shown.text ∷ rest.1.entries;

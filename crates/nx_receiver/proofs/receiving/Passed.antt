@@ -1,4 +1,5 @@
--- What is passed over, since it brings no entry: a copy that isn't printed, and a lock in which no copy stands open.
+-- What is passed over, since it brings no entry: a copy that isn't printed, and a lock in which no
+-- copy stands open.
 use Rattle.std.proofs.Common.{◌≡◌, Bool, false, not, ◌==◌, ◌&&◌, ◌||◌, List, [], ◌∷◌, ◌++◌, Some, sym, ap, ◌∙◌, append-nil}
 use Rattle.nx_code.specs.Lists.{last_of}
 use Rattle.nx_memory.specs.Memory.{is_known, most_entries}
@@ -20,31 +21,44 @@ same_identity : (one two : Identity) → Some one ≡ Some two → one ≡ two
 same_identity one two e = cc
 
 -- A copy can be taken, and isn't printed: nothing is over.
-pub copy_passed : {M : Type 0} (content : M → List MemoryEntry) (start : Start) (r : Receiving M) (h : List Bool) (s : List Setting) (now : Setting) (log : List TaggedCopy) (identity : Identity)
+pub copy_passed : {M : Type 0} (content : M → List MemoryEntry) (start : Start) (r : Receiving M)
+    (h : List Bool) (s : List Setting) (now : Setting) (log : List TaggedCopy) (identity : Identity)
     → Some identity ≡ held_identity r.watch.reader.finder.copy
-    → (r.watch.tag.is_selected && ((identity.number == 0) || not (is_known identity r.watch.tag.moment (content r.memory)))) ≡ false
-    → AwaitsOver content start r h s now log over.Copy → AwaitsOver content start r h s now log over.Nothing
+    → (r.watch.tag.is_selected
+    && ((identity.number == 0)
+    || not (is_known identity r.watch.tag.moment (content r.memory)))) ≡ false
+    → AwaitsOver content start r h s now log over.Copy
+    → AwaitsOver content start r h s now log over.Nothing
 copy_passed content start r h s now log identity is hidden a =
     let o = a.watch in
     let entries = entries_after start.entries a.copies in
     let copy = ready_copy o.copy r.watch.tag in
-    let named : identity ≡ o.copy.header.identity = same_identity identity o.copy.header.identity (is ∙ ap held_identity o.ready.held) in
-    let none : is_printed entries copy ≡ false = sym (printed_by entries copy identity (content r.memory) named a.memory) ∙ hidden in
+    let named : identity ≡ o.copy.header.identity =
+    same_identity identity o.copy.header.identity (is ∙ ap held_identity o.ready.held) in
+    let none : is_printed entries copy ≡ false =
+    sym (printed_by entries copy identity (content r.memory) named a.memory) ∙ hidden in
     record {
       copies = a.copies ++ copy ∷ [];
       watch = o.stands;
       force = a.force;
       printed = a.printed
           ∙ sym (append-nil (printed_copies start.entries a.copies))
-          ∙ ap (λ l. printed_copies start.entries a.copies ++ l) (sym (not_printed entries copy none))
+          ∙ ap (λ l. printed_copies start.entries a.copies ++ l)
+          (sym (not_printed entries copy none))
           ∙ sym (printed_copies-append start.entries a.copies (copy ∷ []));
-      memory = a.memory ∙ ap (last_of most_entries) (sym (not_entered entries copy none) ∙ sym (entries_after-append start.entries a.copies (copy ∷ [])));
+      memory = a.memory ∙ ap (last_of most_entries)
+          (sym (not_entered entries copy none)
+          ∙ sym (entries_after-append start.entries a.copies (copy ∷ [])));
     }
 
 -- A lock is over in which no copy stands open, and its text ended: nothing is over.
-pub lock_passed : {M : Type 0} (content : M → List MemoryEntry) (start : Start) (r : Receiving M) (watch : Watching) (h : List Bool) (s : List Setting) (now : Setting) (log : List TaggedCopy)
-    → ((copies : List TaggedCopy) → LockIsOver (first_setting start) r.watch h s copies → WatchStands (first_setting start) watch h s copies) → in_force watch ≡ in_force r.watch
-    → AwaitsOver content start r h s now log over.Lock → AwaitsOver content start (record { watch = watch; memory = r.memory }) h s now log over.Nothing
+pub lock_passed : {M : Type 0} (content : M → List MemoryEntry) (start : Start) (r : Receiving M)
+    (watch : Watching) (h : List Bool) (s : List Setting) (now : Setting) (log : List TaggedCopy)
+    → ((copies : List TaggedCopy) → LockIsOver (first_setting start) r.watch h s copies
+    → WatchStands (first_setting start) watch h s copies) → in_force watch ≡ in_force r.watch
+    → AwaitsOver content start r h s now log over.Lock
+    → AwaitsOver content start (record { watch = watch; memory = r.memory }) h s now log
+    over.Nothing
 lock_passed content start r watch h s now log ends force a = record {
   copies = a.copies;
   watch = ends a.copies a.watch;

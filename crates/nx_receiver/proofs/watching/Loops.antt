@@ -27,16 +27,21 @@ goes_first watch bits = record {
 }
 
 -- more of them are heard
-pub goes_to : (old mid new : Watching) (bits piece : List Bool) (at n : ℕ) (answer : Over) → Goes old mid bits at → piece ≡ take n (drop at bits) → HearsAll mid new piece answer → HearsAll old new (take (at + n) bits) answer
+pub goes_to : (old mid new : Watching) (bits piece : List Bool) (at n : ℕ) (answer : Over)
+    → Goes old mid bits at → piece ≡ take n (drop at bits) → HearsAll mid new piece answer
+    → HearsAll old new (take (at + n) bits) answer
 goes_to old mid new bits piece at n answer g is more = record {
   hears = λ first h s copies w.
       let f = g.heard.hears first h s copies w in
-      let whole : take at bits ++ piece ≡ take (at + n) bits = ap (λ l. take at bits ++ l) is ∙ sym (take-add at n bits) in
+      let whole : take at bits ++ piece ≡ take (at + n) bits =
+      ap (λ l. take at bits ++ l) is ∙ sym (take-add at n bits) in
       subst (λ (l : List Bool). HearsBits first old new h s copies l answer) whole
-      (hears_on first old mid new h s copies (take at bits) piece answer g.force f (more.hears first (h ++ take at bits) _ copies f.brings));
+      (hears_on first old mid new h s copies (take at bits) piece answer g.force f
+      (more.hears first (h ++ take at bits) _ copies f.brings));
 }
 
-pub goes_on : (old mid new : Watching) (bits piece : List Bool) (at n : ℕ) → Goes old mid bits at → at + n ≤ length bits → piece ≡ take n (drop at bits) → HearsAll mid new piece over.Nothing
+pub goes_on : (old mid new : Watching) (bits piece : List Bool) (at n : ℕ) → Goes old mid bits at
+    → at + n ≤ length bits → piece ≡ take n (drop at bits) → HearsAll mid new piece over.Nothing
     → in_force new ≡ in_force mid → TagGoesOn mid new → Goes old new bits (at + n)
 goes_on old mid new bits piece at n g h is more force kept = record {
   within = h;
@@ -47,24 +52,34 @@ goes_on old mid new bits piece at n g h is more force kept = record {
 
 -- the piece of the elements from the place on
 pub rest_is : (bits : List Bool) (at : ℕ) → take (length bits - at) (drop at bits) ≡ drop at bits
-rest_is bits at = let long = length-drop at bits in take_all (length bits - at) (drop at bits) (omega arith)
+rest_is bits at = let long = length-drop at bits in
+    take_all (length bits - at) (drop at bits) (omega arith)
 
-pub chunk_is : (bits word : List Bool) (at n : ℕ) → IsFirstChunk (take (length bits - at) (drop at bits)) word n → word ≡ take n (drop at bits)
+pub chunk_is : (bits word : List Bool) (at n : ℕ)
+    → IsFirstChunk (take (length bits - at) (drop at bits)) word n → word ≡ take n (drop at bits)
 chunk_is bits word at n h = h.same ∙ ap (take n) (rest_is bits at)
 
-pub chunk_within : (bits word : List Bool) (at n : ℕ) → at ≤ length bits → IsFirstChunk (take (length bits - at) (drop at bits)) word n → at + n ≤ length bits
-chunk_within bits word at n within h = let long = length-drop at bits in omega (arith, h.enough, ap length (rest_is bits at), long)
+pub chunk_within : (bits word : List Bool) (at n : ℕ) → at ≤ length bits
+    → IsFirstChunk (take (length bits - at) (drop at bits)) word n → at + n ≤ length bits
+chunk_within bits word at n within h = let long = length-drop at bits in
+    omega (arith, h.enough, ap length (rest_is bits at), long)
 
 -- the one element at the place
-pub one_is : (bits : List Bool) (at : ℕ) → at < length bits → get_or bits at false ∷ [] ≡ take 1 (drop at bits)
+pub one_is : (bits : List Bool) (at : ℕ) → at < length bits
+    → get_or bits at false ∷ [] ≡ take 1 (drop at bits)
 one_is bits at lt = sym (ap (take 1) (drop_more bits at false lt))
 
 -- a hunt heard the first elements
-pub hunt_goes : (old : Watching) (sync : Held) (bits : List Bool) (n : ℕ) → n ≤ length bits → ((h : List Bool) → StandsAfter old.synchroniser h → StandsAfter sync (h ++ take n bits)) → ((h : List Bool) → StandsAfter old.synchroniser h → HuntsThrough h bits n)
+pub hunt_goes : (old : Watching) (sync : Held) (bits : List Bool) (n : ℕ) → n ≤ length bits
+    → ((h : List Bool) → StandsAfter old.synchroniser h → StandsAfter sync (h ++ take n bits))
+    → ((h : List Bool) → StandsAfter old.synchroniser h → HuntsThrough h bits n)
     → Goes old (record old { synchroniser = sync }) bits n
 hunt_goes old sync bits n within stands through = record {
   within = within;
-  heard = record { hears = λ first h s copies w. hunt_heard first old sync bits n h s copies (stands h w.synchroniser) (through h w.synchroniser) w };
+  heard = record {
+    hears = λ first h s copies w. hunt_heard first old sync bits n h s copies
+        (stands h w.synchroniser) (through h w.synchroniser) w;
+  };
   force = refl;
   kept = as_it_was refl;
 }

@@ -26,29 +26,60 @@ use Rattle.nx_receiver.proofs.receiving.Logged.{end_adds}
 use Rattle.nx_receiver.proofs.watching.Texts.{copies_by-append, tag-none}
 
 -- no copy stands open where no text is
-pub tag-hunting : (first : Setting) (settings : List Setting) (kept : CopyTag) → HasTag first settings [] kept
+pub tag-hunting : (first : Setting) (settings : List Setting) (kept : CopyTag)
+    → HasTag first settings [] kept
 unfolding bytes_of
 tag-hunting first settings kept = tag-none first settings [] kept open_headers-nil
 
 -- a reader that stands where another one stood
 abbrev pub StandsWhere : LockReading → LockReading → Type 0
-StandsWhere old new = (first : Role) (words : ℕ → ℕ) (n : ℕ) → ReadsLock old first words n → ReadsLock new first words n
+StandsWhere old new = (first : Role) (words : ℕ → ℕ) (n : ℕ) → ReadsLock old first words n
+    → ReadsLock new first words n
 
-reads_on : (old new : LockReading) → StandsWhere old new → (bits : List Bool) (now : Now) → ReadsNow old bits now → ReadsNow new bits now
-reads_on old new on bits (hunting p) r = record { fresh = λ first words. on first words 0 (r.fresh first words) }
-reads_on old new on bits (locked p t) r = on (first_role bits t) (word_of_lock bits t) (whole_words bits t) r
+reads_on : (old new : LockReading) → StandsWhere old new → (bits : List Bool) (now : Now)
+    → ReadsNow old bits now → ReadsNow new bits now
+reads_on old new on bits (hunting p) r =
+    record { fresh = λ first words. on first words 0 (r.fresh first words) }
+reads_on old new on bits (locked p t) r =
+    on (first_role bits t) (word_of_lock bits t) (whole_words bits t) r
 
 -- the copy that was taken is the one that the finder had
-taken : (copy : Copy) (found : Option Found) (kept : CopyTag) → MatchOption found ⊥ (IsFound copy) → handed_out found kept ≡ ready_copy copy kept ∷ []
+taken : (copy : Copy) (found : Option Found) (kept : CopyTag) → MatchOption found ⊥ (IsFound copy)
+    → handed_out found kept ≡ ready_copy copy kept ∷ []
 taken copy None kept h = absurd h
 taken copy (Some found) kept h =
-    ap (λ i. record { identity = i; how = found.how; text = found.text.items; moment = kept.moment; selected = kept.is_selected } ∷ []) h.identity
-    ∙ ap (λ i. record { identity = copy.header.identity; how = i; text = found.text.items; moment = kept.moment; selected = kept.is_selected } ∷ []) h.how
-    ∙ ap (λ i. record { identity = copy.header.identity; how = copy.how; text = i; moment = kept.moment; selected = kept.is_selected } ∷ []) h.text
+    ap (λ i. record {
+      identity = i;
+      how = found.how;
+      text = found.text.items;
+      moment =
+          kept.moment;
+      selected = kept.is_selected;
+    } ∷ []) h.identity
+    ∙ ap (λ i. record {
+      identity = copy.header.identity;
+      how = i;
+      text = found.text.items;
+      moment =
+          kept.moment;
+      selected = kept.is_selected;
+    } ∷ []) h.how
+    ∙ ap (λ i. record {
+      identity = copy.header.identity;
+      how = copy.how;
+      text = i;
+      moment =
+          kept.moment;
+      selected = kept.is_selected;
+    } ∷ []) h.text
 
-pub copy_taken : (first : Setting) (watch : Watching) (reader : LockReading) (found : Option Found) (h : List Bool) (s : List Setting) (copies : List TaggedCopy)
-    → StandsWhere watch.reader reader → ((copy : Copy) → HasReady watch.reader.finder copy → MatchOption found ⊥ (IsFound copy))
-    → CopyIsOver first watch h s copies → WatchStands first (record watch { reader = reader }) h s (copies ++ handed_out found watch.tag)
+pub copy_taken : (first : Setting) (watch : Watching) (reader : LockReading) (found : Option Found)
+    (h : List Bool) (s : List Setting) (copies : List TaggedCopy)
+    → StandsWhere watch.reader reader
+    → ((copy : Copy) → HasReady watch.reader.finder copy → MatchOption found ⊥ (IsFound copy))
+    → CopyIsOver first watch h s copies
+    → WatchStands first (record watch { reader = reader }) h s
+    (copies ++ handed_out found watch.tag)
 copy_taken first watch reader found h s copies on is over =
     let r = over.stands.reads in
     record {
@@ -58,15 +89,20 @@ copy_taken first watch reader found h s copies on is over =
         now = r.now;
         stands = r.stands;
         many = r.many;
-        ended = ap (λ l. copies ++ l) (taken over.copy found watch.tag (is over.copy over.ready)) ∙ r.ended;
+        ended = ap (λ l. copies ++ l) (taken over.copy found watch.tag (is over.copy over.ready))
+            ∙ r.ended;
         reads = reads_on watch.reader reader on h r.now r.reads;
         has_tag = r.has_tag;
       };
     }
 
-pub both_taken : (first : Setting) (watch : Watching) (reader : LockReading) (found : Option Found) (h : List Bool) (s : List Setting) (copies : List TaggedCopy)
-    → StandsWhere watch.reader reader → ((copy : Copy) → HasReady watch.reader.finder copy → MatchOption found ⊥ (IsFound copy))
-    → BothAreOver first watch h s copies → LockIsOver first (record watch { reader = reader }) h s (copies ++ handed_out found watch.tag)
+pub both_taken : (first : Setting) (watch : Watching) (reader : LockReading) (found : Option Found)
+    (h : List Bool) (s : List Setting) (copies : List TaggedCopy)
+    → StandsWhere watch.reader reader
+    → ((copy : Copy) → HasReady watch.reader.finder copy → MatchOption found ⊥ (IsFound copy))
+    → BothAreOver first watch h s copies
+    → LockIsOver first (record watch { reader = reader }) h s
+    (copies ++ handed_out found watch.tag)
 both_taken first watch reader found h s copies on is both =
     let r = both.lock in
     record {
@@ -76,41 +112,64 @@ both_taken first watch reader found h s copies on is both =
       from = r.from;
       stands = r.stands;
       many = r.many;
-      ended = ap (λ l. copies ++ l) (taken both.copy found watch.tag (is both.copy both.ready)) ∙ r.ended;
+      ended = ap (λ l. copies ++ l) (taken both.copy found watch.tag (is both.copy both.ready))
+          ∙ r.ended;
       reads = on (first_role h r.lock.at) (word_of_lock h r.lock.at) (r.lock.last + 1) r.reads;
       has_tag = r.has_tag;
     }
 
 -- the copy that stands open, as the end of the text hands it out
 closed-none : (text : List PlacedByte) → open_headers (bytes_of text) ≡ [] → open_in text ≡ []
-closed-none text e = ap (λ (hs : List Header). map (λ header. found_copy text (closed_copy (bytes_of text) header)) hs) e
+closed-none text e = ap (λ (hs : List Header). map
+    (λ header. found_copy text (closed_copy (bytes_of text) header)) hs) e
 
-closed-one : (text : List PlacedByte) (header : Header) → open_headers (bytes_of text) ≡ header ∷ [] → open_in text ≡ found_copy text (closed_copy (bytes_of text) header) ∷ []
-closed-one text header e = ap (λ (hs : List Header). map (λ header. found_copy text (closed_copy (bytes_of text) header)) hs) e
+closed-one : (text : List PlacedByte) (header : Header) → open_headers (bytes_of text) ≡ header ∷ []
+    → open_in text ≡ found_copy text (closed_copy (bytes_of text) header) ∷ []
+closed-one text header e =
+    ap (λ (hs : List Header). map (λ header. found_copy text (closed_copy (bytes_of text) header))
+    hs) e
 
-pub closes : (first : Setting) (settings : List Setting) (text : List PlacedByte) (found : Option Found) (kept : CopyTag) → HasTag first settings text kept → Closes (bytes_of text) found
+pub closes : (first : Setting) (settings : List Setting) (text : List PlacedByte)
+    (found : Option Found) (kept : CopyTag) → HasTag first settings text kept
+    → Closes (bytes_of text) found
     → copies_by first settings (open_in text) ≡ handed_out found kept
 unfolding copies_by HasTag found_copy closed_copy tag
 closes first settings text None kept k h = ap (copies_by first settings) (closed-none text h.none)
 closes first settings text (Some found) kept k h =
     let header = h.header in
-    let P : Header → Type 0 = λ header. kept ≡ tag_of (setting_in first settings (place_of_header text header)) header.identity in
+    let P : Header → Type 0 =
+    λ header. kept ≡ tag_of (setting_in first settings (place_of_header text header))
+    header.identity in
     let one : All P (header ∷ []) = subst (All P) h.was_open k in
-    let is : kept ≡ tag_of (setting_in first settings (place_of_header text header)) header.identity = All-head P header [] one in
+    let is : kept ≡ tag_of (setting_in first settings (place_of_header text header))
+    header.identity = All-head P header [] one in
     let copy = closed_copy (bytes_of text) header in
     ap (copies_by first settings) (closed-one text header h.was_open)
-    ∙ ap (λ (t : CopyTag). record { identity = header.identity; how = copy.how; text = copy.text; moment = t.moment; selected = t.is_selected } ∷ []) (sym is)
+    ∙ ap (λ (t : CopyTag). record {
+      identity = header.identity;
+      how = copy.how;
+      text = copy.text;
+      moment =
+          t.moment;
+      selected = t.is_selected;
+    } ∷ []) (sym is)
     ∙ sym (taken copy (Some found) kept h.is_found)
 
-pub lock_ended : (first : Setting) (watch : Watching) (reader : LockReading) (found : Option Found) (h : List Bool) (s : List Setting) (copies : List TaggedCopy)
-    → IsFresh reader → ((first : Role) (words : ℕ → ℕ) (n : ℕ) → ReadsLock watch.reader first words n → Closes (text_after first words n) found)
-    → LockIsOver first watch h s copies → WatchStands first (record watch { reader = reader }) h s (copies ++ handed_out found watch.tag)
+pub lock_ended : (first : Setting) (watch : Watching) (reader : LockReading) (found : Option Found)
+    (h : List Bool) (s : List Setting) (copies : List TaggedCopy)
+    → IsFresh reader → ((first : Role) (words : ℕ → ℕ) (n : ℕ)
+    → ReadsLock watch.reader first words n → Closes (text_after first words n) found)
+    → LockIsOver first watch h s copies
+    → WatchStands first (record watch { reader = reader }) h s
+    (copies ++ handed_out found watch.tag)
 unfolding past_copies
 lock_ended first watch reader found h s copies fresh ends over =
     let lock = over.lock in
     let text = past_text h lock in
     let closed : Closes (bytes_of text) found =
-    subst (λ (l : List ℕ). Closes l found) (sym (bytes_are_reading (first_role h lock.at) (word_of_lock h lock.at) lock.at (lock.last + 1)))
+    subst (λ (l : List ℕ). Closes l found)
+    (sym (bytes_are_reading (first_role h lock.at) (word_of_lock h lock.at) lock.at
+    (lock.last + 1)))
     (ends (first_role h lock.at) (word_of_lock h lock.at) (lock.last + 1) over.reads) in
     record {
       synchroniser = over.synchroniser;
@@ -120,33 +179,52 @@ lock_ended first watch reader found h s copies fresh ends over =
         stands = over.stands;
         many = over.many;
         ended = ap (λ l. l ++ handed_out found watch.tag) over.ended
-            ∙ ap (λ l. copies_by first s (past_copies h over.older ++ ended_in text) ++ l) (sym (closes first s text found watch.tag over.has_tag closed))
-            ∙ sym (copies_by-append first s (past_copies h over.older ++ ended_in text) (open_in text))
-            ∙ ap (copies_by first s) (append_assoc (past_copies h over.older) (ended_in text) (open_in text) ∙ ap (λ l. past_copies h over.older ++ l) (sym (all_in-parts text)) ∙ hunted h (lock ∷ over.older) over.from);
+            ∙ ap (λ l. copies_by first s (past_copies h over.older ++ ended_in text) ++ l)
+            (sym (closes first s text found watch.tag over.has_tag closed))
+            ∙ sym (copies_by-append first s (past_copies h over.older ++ ended_in text)
+            (open_in text))
+            ∙ ap (copies_by first s) (append_assoc (past_copies h over.older) (ended_in text)
+            (open_in text) ∙ ap (λ l. past_copies h over.older ++ l) (sym (all_in-parts text))
+            ∙ hunted h (lock ∷ over.older) over.from);
         reads = fresh;
         has_tag = tag-hunting first s watch.tag;
       };
     }
 
 -- where no copy stands open in it, none is handed out
-pub lock_ended_none : (first : Setting) (watch : Watching) (reader : LockReading) (h : List Bool) (s : List Setting) (copies : List TaggedCopy)
-    → IsFresh reader → ((first : Role) (words : ℕ → ℕ) (n : ℕ) → ReadsLock watch.reader first words n → Closes (text_after first words n) None)
-    → LockIsOver first watch h s copies → WatchStands first (record watch { reader = reader }) h s copies
+pub lock_ended_none : (first : Setting) (watch : Watching) (reader : LockReading) (h : List Bool)
+    (s : List Setting) (copies : List TaggedCopy)
+    → IsFresh reader → ((first : Role) (words : ℕ → ℕ) (n : ℕ)
+    → ReadsLock watch.reader first words n → Closes (text_after first words n) None)
+    → LockIsOver first watch h s copies
+    → WatchStands first (record watch { reader = reader }) h s copies
 lock_ended_none first watch reader h s copies fresh ends over =
-    subst (λ l. WatchStands first (record watch { reader = reader }) h s l) (append-nil copies) (lock_ended first watch reader None h s copies fresh ends over)
+    subst (λ l. WatchStands first (record watch { reader = reader }) h s l) (append-nil copies)
+    (lock_ended first watch reader None h s copies fresh ends over)
 
 -- what the reader stands after is the text of what stands
-stands_in : (reader : LockReading) (found : Option Found) → ((first : Role) (words : ℕ → ℕ) (n : ℕ) → ReadsLock reader first words n → Closes (text_after first words n) found)
-    → (bits : List Bool) (now : Now) → ReadsNow reader bits now → Closes (bytes_of (standing_text bits now)) found
+stands_in : (reader : LockReading) (found : Option Found)
+    → ((first : Role) (words : ℕ → ℕ) (n : ℕ) → ReadsLock reader first words n
+    → Closes (text_after first words n) found)
+    → (bits : List Bool) (now : Now) → ReadsNow reader bits now
+    → Closes (bytes_of (standing_text bits now)) found
 unfolding text_by
 stands_in reader found ends bits (hunting p) r =
-    subst (λ (l : List ℕ). Closes l found) (sym (bytes_are_reading (first_role bits 0) (word_of_lock bits 0) 0 zero)) (ends (first_role bits 0) (word_of_lock bits 0) 0 (r.fresh (first_role bits 0) (word_of_lock bits 0)))
+    subst (λ (l : List ℕ). Closes l found)
+    (sym (bytes_are_reading (first_role bits 0) (word_of_lock bits 0) 0 zero))
+    (ends (first_role bits 0) (word_of_lock bits 0) 0
+    (r.fresh (first_role bits 0) (word_of_lock bits 0)))
 stands_in reader found ends bits (locked p t) r =
-    subst (λ (l : List ℕ). Closes l found) (sym (bytes_are_reading (first_role bits t) (word_of_lock bits t) t (whole_words bits t))) (ends (first_role bits t) (word_of_lock bits t) (whole_words bits t) r)
+    subst (λ (l : List ℕ). Closes l found)
+    (sym (bytes_are_reading (first_role bits t) (word_of_lock bits t) t (whole_words bits t)))
+    (ends (first_role bits t) (word_of_lock bits t) (whole_words bits t) r)
 
-pub all_ended : (first : Setting) (watch : Watching) (found : Option Found) (h : List Bool) (s : List Setting) (copies : List TaggedCopy)
-    → ((first : Role) (words : ℕ → ℕ) (n : ℕ) → ReadsLock watch.reader first words n → Closes (text_after first words n) found)
-    → WatchStands first watch h s copies → HasEndedAll first h s (copies ++ handed_out found watch.tag)
+pub all_ended : (first : Setting) (watch : Watching) (found : Option Found) (h : List Bool)
+    (s : List Setting) (copies : List TaggedCopy)
+    → ((first : Role) (words : ℕ → ℕ) (n : ℕ) → ReadsLock watch.reader first words n
+    → Closes (text_after first words n) found)
+    → WatchStands first watch h s copies
+    → HasEndedAll first h s (copies ++ handed_out found watch.tag)
 all_ended first watch found h s copies ends stands =
     let r = stands.reads in
     record {
@@ -154,7 +232,9 @@ all_ended first watch found h s copies ends stands =
       now = r.now;
       stands = r.stands;
       ended = ap (λ l. l ++ handed_out found watch.tag) r.ended
-          ∙ ap (λ l. copies_by first s (ended_so_far h r.locks r.now) ++ l) (sym (closes first s (standing_text h r.now) found watch.tag r.has_tag (stands_in watch.reader found ends h r.now r.reads)))
+          ∙ ap (λ l. copies_by first s (ended_so_far h r.locks r.now) ++ l)
+          (sym (closes first s (standing_text h r.now) found watch.tag r.has_tag
+          (stands_in watch.reader found ends h r.now r.reads)))
           ∙ sym (copies_by-append first s (ended_so_far h r.locks r.now) (open_so_far h r.now))
           ∙ ap (copies_by first s) (sym (end_adds h r.locks r.now));
     }

@@ -9,4 +9,5 @@ pub returns-clause-some : goal.returns-clause-some
 returns-clause-some c = nearest
 
 pub returns-clause-only : goal.returns-clause-only
-returns-clause-only c xs first one other h k = sym (shift_after_all-nearest xs first one h) ∙ shift_after_all-nearest xs first other k
+returns-clause-only c xs first one other h k =
+    sym (shift_after_all-nearest xs first one h) ∙ shift_after_all-nearest xs first other k

@@ -8,4 +8,5 @@ use Rattle.nx_code.proofs.spelling.spell.Given as goal
 abbrev pub invariant-loop-character : goal.invariant-loop-character
 invariant-loop-character l =
     let numbers = map (λ (comb : Comb). comb.number) l.combs.items in
-    Spells (take l.character-index l.text) l.fn.from numbers × (l.shift ≡ shift_after_all (map combination numbers) l.fn.from)
+    Spells (take l.character-index l.text) l.fn.from numbers
+    × (l.shift ≡ shift_after_all (map combination numbers) l.fn.from)

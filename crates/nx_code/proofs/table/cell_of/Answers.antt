@@ -7,4 +7,5 @@ pub returns : goal.returns
 returns c =
     c.cell.ensures
     ∙ cell-TABLE c.args.shift c.place_of_signal.result _ c.place_of_signal.ensures.range
-    ∙ ap (λ at. cell c.args.shift (get_or table at (row 0x00 [] []))) c.place_of_signal.ensures.place
+    ∙ ap (λ at. cell c.args.shift (get_or table at (row 0x00 [] [])))
+    c.place_of_signal.ensures.place

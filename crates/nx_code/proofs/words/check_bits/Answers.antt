@@ -6,5 +6,6 @@ use Rattle.nx_code.proofs.words.check_bits.Goals as goal
 
 pub returns : goal.returns
 returns c =
-    let e = weight-ones c.word.inside.number c.word.invariant ∙ ap (λ n. eqb (weight n) 4) c.word.view_is in
+    let e = weight-ones c.word.inside.number c.word.invariant
+    ∙ ap (λ n. eqb (weight n) 4) c.word.view_is in
     (λ h. eqb-true _ _ (sym e ∙ h), λ h. e ∙ eq-eqb _ _ h)

@@ -7,5 +7,6 @@ abbrev pub invariant-loop-line : goal.invariant-loop-line
 invariant-loop-line l = record {
   counted : l.number ≡ l.line-index;
   good : All IsMessageLine (take l.line-index (map (λ line. line.now) l.lines));
-  text : l.text_len ≡ min (length (text_of (take l.line-index (map (λ line. line.now) l.lines)))) (2 ^ 64 - 1);
+  text : l.text_len ≡ min (length (text_of (take l.line-index (map (λ line. line.now) l.lines))))
+      (2 ^ 64 - 1);
 }

@@ -7,9 +7,13 @@ use Rattle.nx_envelope.proofs.message.holds_word.Goals as goal
 pub returns-then-starts_with : goal.returns-then-starts_with
 returns-then-starts_with c =
     let rest = take_rest c.args.line.now c.loop-at.at in
-    let begins : starts_with eqb (drop c.loop-at.at c.args.line.now) c.args.word.now ≡ true = rw (← rest) (sym c.if-starts_with.ensures.value) in
+    let begins : starts_with eqb (drop c.loop-at.at c.args.line.now) c.args.word.now ≡ true =
+    rw (← rest) (sym c.if-starts_with.ensures.value) in
     (λ _. holds_at c.args.line.now c.args.word.now c.loop-at.at begins, λ _. refl)
 
 pub returns : goal.returns
-returns c =
-    (λ h. cc, λ h. absurd (holds_none c.args.line.now c.args.word.now (omega arith) (λ k lt. c.loop-at.invariant k (omega arith)) h))
+returns c = (
+  λ h. cc,
+  λ h. absurd (holds_none c.args.line.now c.args.word.now (omega arith)
+      (λ k lt. c.loop-at.invariant k (omega arith)) h),
+)

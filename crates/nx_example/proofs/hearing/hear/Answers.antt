@@ -10,8 +10,10 @@ loop-at-init g c = record {
   unfailed = c.requires;
   heard = λ start history told h. (
     [],
-    subst (λ events. Stands g.M.Recall.content start c.args.receiver.now events (told ++ [])) (sym (append-nil history))
-        (subst (λ log. Stands g.M.Recall.content start c.args.receiver.now history log) (sym (append-nil told)) h),
+    subst (λ events. Stands g.M.Recall.content start c.args.receiver.now events (told ++ []))
+        (sym (append-nil history))
+        (subst (λ log. Stands g.M.Recall.content start c.args.receiver.now history log)
+        (sym (append-nil told)) h),
   );
 }
 
@@ -23,13 +25,20 @@ loop-at-preserved-in-Continue-1 g c =
     let entries = entry_list c.feed-count.result.1 in
     record {
       within = omega (arith, c.feed-count.ensures.within, rest-length bits at, c.loop-at-test.true);
-      unfailed = c.in_ok-entry_text.ensures.none;
+      unfailed = c.in_ok-entry_text.ensures.counts.none;
       heard = λ start history told h.
           let before = c.loop-at.invariant.heard start history told h in (
             before.0 ++ entries,
-            subst (λ events. Stands g.M.Recall.content start new events (told ++ (before.0 ++ entries))) (elements-next history bits at c.feed-count.result.0)
-                (subst (λ log. Stands g.M.Recall.content start new ((history ++ elements (take at bits)) ++ elements (take c.feed-count.result.0 (take (length bits - at) (drop at bits)))) log) (append_assoc told before.0 entries)
-                (c.feed-count.ensures.stands start (history ++ elements (take at bits)) (told ++ before.0) before.1)),
+            subst (λ events. Stands g.M.Recall.content start new events
+                (told ++ (before.0 ++ entries)))
+                (elements-next history bits at c.feed-count.result.0)
+                (subst (λ log. Stands g.M.Recall.content start new
+                ((history ++ elements (take at bits))
+                ++ elements (take c.feed-count.result.0
+                (take (length bits - at) (drop at bits)))) log)
+                (append_assoc told before.0 entries)
+                (c.feed-count.ensures.stands start (history ++ elements (take at bits))
+                (told ++ before.0) before.1)),
           );
     }
 
@@ -45,9 +54,16 @@ loop-at-preserved g c =
       heard = λ start history told h.
           let before = c.loop-at.invariant.heard start history told h in (
             before.0 ++ entries,
-            subst (λ events. Stands g.M.Recall.content start new events (told ++ (before.0 ++ entries))) (elements-next history bits at c.feed-count.result.0)
-                (subst (λ log. Stands g.M.Recall.content start new ((history ++ elements (take at bits)) ++ elements (take c.feed-count.result.0 (take (length bits - at) (drop at bits)))) log) (append_assoc told before.0 entries)
-                (c.feed-count.ensures.stands start (history ++ elements (take at bits)) (told ++ before.0) before.1)),
+            subst (λ events. Stands g.M.Recall.content start new events
+                (told ++ (before.0 ++ entries)))
+                (elements-next history bits at c.feed-count.result.0)
+                (subst (λ log. Stands g.M.Recall.content start new
+                ((history ++ elements (take at bits))
+                ++ elements (take c.feed-count.result.0
+                (take (length bits - at) (drop at bits)))) log)
+                (append_assoc told before.0 entries)
+                (c.feed-count.ensures.stands start (history ++ elements (take at bits))
+                (told ++ before.0) before.1)),
           );
     }
 
@@ -55,6 +71,8 @@ pub returns-clause-heard : goal.returns-clause-heard
 returns-clause-heard g c = λ start history told h.
     let heard = c.loop-at.invariant.heard start history told h in (
       heard.0,
-      subst (λ bits. Stands g.M.Recall.content start c.loop-at.receiver (history ++ elements bits) (told ++ heard.0)) (take_all c.loop-at.at c.args.bits.now (omega (arith, c.loop-at-test.false)))
+      subst (λ bits. Stands g.M.Recall.content start c.loop-at.receiver (history ++ elements bits)
+          (told ++ heard.0)) (take_all c.loop-at.at c.args.bits.now
+          (omega (arith, c.loop-at-test.false)))
           heard.1,
     )

@@ -11,7 +11,9 @@ invariant-loop-at g l = record {
   unfailed : l.log.failures ≡ 0;
   heard : (start : Start) (history : List Event) (told : List TaggedCopy)
       → Stands g.M.Recall.content start l.fn.receiver history told
-      → (more : List TaggedCopy) × Stands g.M.Recall.content start l.receiver (history ++ elements (take l.at l.bits)) (told ++ more);
+      → (more : List TaggedCopy)
+      × Stands g.M.Recall.content start l.receiver (history ++ elements (take l.at l.bits))
+      (told ++ more);
 }
 
 abbrev pub decreases-loop-at : goal.decreases-loop-at

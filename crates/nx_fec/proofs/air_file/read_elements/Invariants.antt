@@ -7,5 +7,6 @@ abbrev pub invariant-loop-place : goal.invariant-loop-place
 invariant-loop-place l = record {
   size : length l.elements ≡ 512;
   same : l.wrong ≡ false → take l.place l.digits ≡ map element_digit (take l.place l.elements);
-  wrong : l.wrong ≡ true → (i : ℕ) × (i < length l.digits) × (get_or l.digits i 0 ≢ 48) × (get_or l.digits i 0 ≢ 49);
+  wrong : l.wrong ≡ true → (i : ℕ) × (i < length l.digits) × (get_or l.digits i 0 ≢ 48)
+      × (get_or l.digits i 0 ≢ 49);
 }

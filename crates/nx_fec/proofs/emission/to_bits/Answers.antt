@@ -10,7 +10,9 @@ unfolding bits_of
 loop-word-init c = record { within = omega arith; written = c.new-bits.ensures.items }
 
 -- the elements so far with those of this slot
-written_more : (c : goal.In_ok-extend_from_slice) → c.extend_from_slice.new.self.items ≡ bits_of (take (c.loop-word.slot + 1) (emission (map sent_position c.args.positions.now)))
+written_more : (c : goal.In_ok-extend_from_slice)
+    → c.extend_from_slice.new.self.items
+    ≡ bits_of (take (c.loop-word.slot + 1) (emission (map sent_position c.args.positions.now)))
 written_more c =
     let sent = emission (map sent_position c.args.positions.now) in
     let slot = c.loop-word.slot in

@@ -18,18 +18,25 @@ loop-place-preserved c =
     let place = c.loop-place.place in
     let f = word_sent (map sent_position positions) in
     let below : place < 35 = omega (arith, c.loop-place-test.true, c.min-count.ensures) in
-    let inside : 35 * index + place < length positions = omega (arith, c.loop-place-test.true, c.min-count.ensures, c.requires.some) in
-    let a : length c.copy_from_slice.new.self ≡ 8 = omega (arith, ap length c.copy_from_slice.ensures.after) in
-    let b : length c.copy_from_slice-in-loop-place.new.self ≡ 8 = omega (arith, ap length c.copy_from_slice-in-loop-place.ensures.after) in
+    let inside : 35 * index + place < length positions =
+    omega (arith, c.loop-place-test.true, c.min-count.ensures, c.requires.some) in
+    let a : length c.copy_from_slice.new.self ≡ 8 =
+    omega (arith, ap length c.copy_from_slice.ensures.after) in
+    let b : length c.copy_from_slice-in-loop-place.new.self ≡ 8 =
+    omega (arith, ap length c.copy_from_slice-in-loop-place.ensures.after) in
     let even : 2 * (35 * index + place) ≡ 70 * index + 2 * place = omega arith in
     let odd : 2 * (35 * index + place) + 1 ≡ 70 * index + 2 * place + 1 = omega arith in
-    let dx = c.dx.ensures ∙ ap dx_word (sent_position-at positions (35 * index + place) c.index-positions-first.result inside c.index-positions-first.is)
+    let dx = c.dx.ensures ∙ ap dx_word
+    (sent_position-at positions (35 * index + place) c.index-positions-first.result inside
+    c.index-positions-first.is)
     ∙ sym (word_sent-dx (map sent_position positions) (35 * index + place)) ∙ ap f even in
     let j : 14 * place + 8 - 14 * place ≡ 8 = omega arith in
     let k : 14 * place + 7 + 8 - (14 * place + 7) ≡ 8 = omega arith in
     record {
-      size = position-written-long place _ _ c.loop-place.digits _ _ j k a b c.loop-place.invariant.size below;
-      same = position-written f (70 * index) place _ _ c.dx.result c.rx_behind.result c.loop-place.digits _ _ j a b c.loop-place.invariant.size below
+      size = position-written-long place _ _ c.loop-place.digits _ _ j k a b
+          c.loop-place.invariant.size below;
+      same = position-written f (70 * index) place _ _ c.dx.result c.rx_behind.result
+          c.loop-place.digits _ _ j a b c.loop-place.invariant.size below
           (ap (take 7) c.copy_from_slice.ensures.after ∙ c.digits_of-dx.ensures)
           (ap (take 7) c.copy_from_slice-in-loop-place.ensures.after ∙ c.digits_of-rx.ensures)
           dx (c.rx_behind.ensures ∙ ap f odd) c.loop-place.invariant.same;
@@ -43,16 +50,23 @@ returns c =
     let count = c.min-count.result in
     let slots = c.if-first-count.slots in
     let size = length-map positions sent_position in
-    let done : c.loop-place.place ≡ count = omega (arith, c.loop-place-test.false, c.loop-place.auto.place-end) in
+    let done : c.loop-place.place ≡ count =
+    omega (arith, c.loop-place-test.false, c.loop-place.auto.place-end) in
     let is : slots ≡ min 70 (2 * length sent - 1 - 70 * index) = elim c.if-first-count.branch [
-      | then-first-count w ↦ omega (arith, size, w.slots-is, w.if-first-count.true, c.min-count.ensures, c.requires.some)
-      | else-first-count w ↦ omega (arith, size, w.slots-is, w.if-first-count.false, c.min-count.ensures, c.requires.some)
+      | then-first-count w ↦ omega
+          (arith, size, w.slots-is, w.if-first-count.true, c.min-count.ensures, c.requires.some)
+      | else-first-count w ↦ omega
+          (arith, size, w.slots-is, w.if-first-count.false, c.min-count.ensures, c.requires.some)
     ] in
     let f = word_sent sent in
     let digits = c.loop-place.digits in
     let e : 14 * count ≡ 7 * (2 * count) = omega arith in
-    let so_far = subst (λ p. take (14 * p) digits ≡ slot_digits f (70 * index) (2 * p)) done c.loop-place.invariant.same in
-    let whole : take (7 * (2 * count)) digits ≡ slot_digits f (70 * index) (2 * count) = ap (λ n. take n digits) (sym e) ∙ so_far in
+    let so_far = subst (λ p. take (14 * p) digits ≡ slot_digits f (70 * index) (2 * p)) done
+    c.loop-place.invariant.same in
+    let whole : take (7 * (2 * count)) digits ≡ slot_digits f (70 * index) (2 * count) =
+    ap (λ n. take n digits) (sym e) ∙ so_far in
     let few : slots ≤ 2 * count = omega (arith, is, size, c.min-count.ensures, c.requires.some) in
-    let line = slot_digits-fewer f (70 * index) slots (2 * count) digits few whole ∙ ap (map element_digit) (sym (line-slots sent index slots (omega (arith, size, c.requires.some)) is)) in
+    let line = slot_digits-fewer f (70 * index) slots (2 * count) digits few whole
+    ∙ ap (map element_digit) (sym
+    (line-slots sent index slots (omega (arith, size, c.requires.some)) is)) in
     c.push_digits.ensures ∙ ap (λ d. c.args.batch.now.items ++ (66 ∷ 32 ∷ (d ++ 10 ∷ []))) line

@@ -9,4 +9,5 @@ pub returns : goal.returns
 returns c k =
     let piece = c.args.piece.now in
     subst (λ m. (bit_at m k ≡ 1) ↔ ((k < 32) × (get_or piece k 0 ≡ 10)))
-    (sym (bitmask_splat w8 eqb (take 32 piece) 32 10 (length-take-le 32 piece c.requires) (omega arith))) (feed-bit piece k c.requires)
+    (sym (bitmask_splat w8 eqb (take 32 piece) 32 10 (length-take-le 32 piece c.requires)
+    (omega arith))) (feed-bit piece k c.requires)

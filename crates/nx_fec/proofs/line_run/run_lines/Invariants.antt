@@ -11,7 +11,8 @@ invariant-loop-fault g l = record {
   chunk : 0 < length l.buffer;
   taken : (first : g.row.T.Denot) → g.T.LineTaker.stands first l.fn.taker [] [] → (bytes : List ℕ)
       × Consumes (g.R.Read.remaining l.fn.reader.inner) (g.R.Read.remaining l.reader.inner) bytes
-      × IsTaking g.T.LineTaker.stands first l.taker 268435456 l.scanner (g.W.Write.contents l.fn.writer.inner) (g.W.Write.contents l.writer.inner) l.batch bytes;
+      × IsTaking g.T.LineTaker.stands first l.taker 268435456 l.scanner
+      (g.W.Write.contents l.fn.writer.inner) (g.W.Write.contents l.writer.inner) l.batch bytes;
 }
 
 abbrev pub decreases-loop-fault : goal.decreases-loop-fault

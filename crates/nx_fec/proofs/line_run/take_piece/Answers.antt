@@ -7,10 +7,14 @@ use Rattle.nx_fec.proofs.line_run.take_piece.Goals as goal
 
 pub returns-in-Err-clause-taken : goal.returns-in-Err-clause-taken
 returns-in-Err-clause-taken g c = λ first old limit bytes h more.
-    subst (λ l. ExplainsLines g.T.LineTaker.stands g.T.LineTaker.begins g.T.LineTaker.refuses ⊥ (λ _. ⊥) limit first c.take_line.new.taker
-    old (g.W.Write.contents c.take_line.new.writer.inner) (HasGiven old (g.W.Write.contents c.take_line.new.writer.inner) c.take_line.new.batch) l c.in-Err.fault)
+    subst (λ l. ExplainsLines g.T.LineTaker.stands g.T.LineTaker.begins g.T.LineTaker.refuses ⊥
+    (λ _. ⊥) limit first c.take_line.new.taker
+    old (g.W.Write.contents c.take_line.new.writer.inner)
+    (HasGiven old (g.W.Write.contents c.take_line.new.writer.inner) c.take_line.new.batch) l
+    c.in-Err.fault)
     (piece-rest bytes c.args.piece.now more c.loop-at.at)
-    (c.in-Err.ensures.taken first old limit (bytes ++ take c.loop-at.at c.args.piece.now) (c.loop-at.invariant.taken first old limit bytes h) more)
+    (c.in-Err.ensures.taken first old limit (bytes ++ take c.loop-at.at c.args.piece.now)
+    (c.loop-at.invariant.taken first old limit bytes h) more)
 
 pub loop-at-preserved : goal.loop-at-preserved
 loop-at-preserved g c =
@@ -20,7 +24,10 @@ loop-at-preserved g c =
       within = omega (arith, some.1);
       room = omega (arith, some.2, c.loop-at.invariant.room);
       taken = λ first old limit bytes h.
-          subst (IsTaking g.T.LineTaker.stands first c.take_line.new.taker limit c.take_line.new.scanner old (g.W.Write.contents c.take_line.new.writer.inner) c.take_line.new.batch)
+          subst (IsTaking g.T.LineTaker.stands first c.take_line.new.taker limit
+          c.take_line.new.scanner old (g.W.Write.contents c.take_line.new.writer.inner)
+          c.take_line.new.batch)
           (piece-next bytes c.args.piece.now c.loop-at.at c.in-Ok.count)
-          (c.in-Ok.ensures.taken first old limit (bytes ++ take c.loop-at.at c.args.piece.now) (c.loop-at.invariant.taken first old limit bytes h));
+          (c.in-Ok.ensures.taken first old limit (bytes ++ take c.loop-at.at c.args.piece.now)
+          (c.loop-at.invariant.taken first old limit bytes h));
     }

@@ -9,8 +9,10 @@ invariant-loop-at g l = record {
   within : l.at ≤ length l.piece;
   room : l.scanner.room + l.at ≡ l.fn.scanner.room;
   taken : (first : g.row.T.Denot) (old : Option (List ℕ)) (limit : ℕ) (bytes : List ℕ)
-      → IsTaking g.T.LineTaker.stands first l.fn.taker limit l.fn.scanner old (g.W.Write.contents l.fn.writer.inner) l.fn.batch bytes
-      → IsTaking g.T.LineTaker.stands first l.taker limit l.scanner old (g.W.Write.contents l.writer.inner) l.batch (bytes ++ take l.at l.piece);
+      → IsTaking g.T.LineTaker.stands first l.fn.taker limit l.fn.scanner old
+      (g.W.Write.contents l.fn.writer.inner) l.fn.batch bytes
+      → IsTaking g.T.LineTaker.stands first l.taker limit l.scanner old
+      (g.W.Write.contents l.writer.inner) l.batch (bytes ++ take l.at l.piece);
 }
 
 abbrev pub decreases-loop-at : goal.decreases-loop-at

@@ -7,6 +7,7 @@ use Rattle.nx_fec.proofs.packed.pack.Given as goal
 abbrev pub invariant-loop-place : goal.invariant-loop-place
 invariant-loop-place l = record {
   size : length l.words ≡ 8;
-  elements : take (64 * l.place) (elements_of_words l.words) ≡ map is_one (take (64 * l.place) l.digits);
+  elements : take (64 * l.place) (elements_of_words l.words)
+      ≡ map is_one (take (64 * l.place) l.digits);
   right : l.right ≡ are_elements (take (64 * l.place) l.digits);
 }

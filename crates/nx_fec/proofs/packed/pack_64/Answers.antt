@@ -11,4 +11,5 @@ returns-clause-word c =
 pub returns-clause-right : goal.returns-clause-right
 returns-clause-right c =
     let digits = c.args.digits.now in
-    masks-full (take 64 digits) _ _ (length-take-le 64 digits c.requires) c.places_of-zeros.ensures c.places_of-ones.ensures
+    masks-full (take 64 digits) _ _ (length-take-le 64 digits c.requires) c.places_of-zeros.ensures
+    c.places_of-ones.ensures

@@ -6,4 +6,5 @@ use Rattle.nx_fec.proofs.packed.places_of.Goals as goal
 pub returns : goal.returns
 returns c =
     let digits = c.args.digits.now in
-    bitmask_splat w8 eqb (take 64 digits) 64 c.args.byte (length-take-le 64 digits c.requires) (omega arith)
+    bitmask_splat w8 eqb (take 64 digits) 64 c.args.byte (length-take-le 64 digits c.requires)
+    (omega arith)

@@ -13,7 +13,9 @@ loop-at-preserved c = record {
   scanned = λ limit bytes lines h.
       let s = c.loop-at.invariant.scanned limit bytes lines h in (
         s.0 ++ option_to_list c.push_line.new.self.latest,
-        subst (λ l. Scans limit c.push_line.new.self l (s.0 ++ option_to_list c.push_line.new.self.latest)) (piece-next bytes c.args.piece.now c.loop-at.at c.in-Ok.count)
+        subst (λ l. Scans limit c.push_line.new.self l
+            (s.0 ++ option_to_list c.push_line.new.self.latest))
+            (piece-next bytes c.args.piece.now c.loop-at.at c.in-Ok.count)
             (c.in-Ok.ensures.bytes limit (bytes ++ take c.loop-at.at c.args.piece.now) s.0 s.1),
       );
 }
@@ -21,12 +23,18 @@ loop-at-preserved c = record {
 pub returns-in-Err-clause-explained : goal.returns-in-Err-clause-explained
 returns-in-Err-clause-explained c = λ limit bytes lines h.
     let s = c.loop-at.invariant.scanned limit bytes lines h in
-    rw c.from.ensures (subst (λ l. ExplainsPiece limit l (run_fault c.in-Err.fault)) (piece-whole bytes c.args.piece.now c.loop-at.at)
-    (ExplainsPiece-stop limit _ (bytes ++ take c.loop-at.at c.args.piece.now) _ s.0 c.in-Err.fault c.in-Err.ensures.at_byte
+    rw c.from.ensures (subst (λ l. ExplainsPiece limit l (run_fault c.in-Err.fault))
+    (piece-whole bytes c.args.piece.now c.loop-at.at)
+    (ExplainsPiece-stop limit _ (bytes ++ take c.loop-at.at c.args.piece.now) _ s.0 c.in-Err.fault
+    c.in-Err.ensures.at_byte
     (c.in-Err.ensures.bytes limit (bytes ++ take c.loop-at.at c.args.piece.now) s.0 s.1)))
 
 pub returns-clause-explained : goal.returns-clause-explained
 returns-clause-explained c = λ limit bytes lines h.
     let s = c.loop-at.invariant.scanned limit bytes lines h in
-    let whole = take_all c.loop-at.at c.args.piece.now (omega (arith, c.loop-at.invariant.within)) in
-    (λ outside. Scans-faultless limit c.loop-at.scanner (bytes ++ c.args.piece.now) s.0 (subst (λ l. Scans limit c.loop-at.scanner (bytes ++ l) s.0) whole s.1), λ more. tt)
+    let whole = take_all c.loop-at.at c.args.piece.now
+    (omega (arith, c.loop-at.invariant.within)) in (
+      λ outside. Scans-faultless limit c.loop-at.scanner (bytes ++ c.args.piece.now) s.0
+          (subst (λ l. Scans limit c.loop-at.scanner (bytes ++ l) s.0) whole s.1),
+      λ more. tt,
+    )

@@ -17,19 +17,43 @@ returns-in_err-read_pieces g c =
 
 pub returns-in_err-end : goal.returns-in_err-end
 returns-in_err-end g c =
-    let p = err_from_is_err_and c.from_residual-in_err-end.result c.from_residual-in_err-end.ensures.1 in
+    let p = err_from_is_err_and c.from_residual-in_err-end.result
+    c.from_residual-in_err-end.ensures.1 in
     let start = HasRead-first 1048576 _ _ c.new.ensures.stands c.new-2.ensures.items in
-    let here = λ (bytes : List ℕ). subst (λ (v : TakenElements). HasRead 1048576 v.scanner v.bits.items bytes) (sym c.file.view_is) in
+    let here = λ (bytes : List ℕ). subst
+    (λ (v : TakenElements). HasRead 1048576 v.scanner v.bits.items bytes)
+    (sym c.file.view_is) in
     rw p.1 (rw p.2 (Reads-on _ _ _ _ _ _ _ _ _ _ _ (c.in_ok-read_pieces.ensures start)
-    (λ bytes k. let h = here bytes k.1 in ExplainsReading-fault _ 1048576 bytes _ h.lines _ k.0 h.scans.splits (c.in_err-end.ensures 1048576 bytes h.lines h.scans))
-    (λ bytes k. let h = here bytes k in ExplainsReading-fault _ 1048576 bytes _ h.lines _ tt h.scans.splits (c.in_err-end.ensures 1048576 bytes h.lines h.scans))
-    (λ bytes k h outside. absurd (run_fault-inside _ outside)) (λ e. absurd (run_fault-not_read _ e)) (λ e. absurd (Ok-not_err _ _ e))))
+    (λ bytes k. let h = here bytes k.1 in
+    ExplainsReading-fault _ 1048576 bytes _ h.lines _ k.0 h.scans.splits
+    (c.in_err-end.ensures 1048576 bytes h.lines h.scans))
+    (λ bytes k. let h = here bytes k in
+    ExplainsReading-fault _ 1048576 bytes _ h.lines _ tt h.scans.splits
+    (c.in_err-end.ensures 1048576 bytes h.lines h.scans))
+    (λ bytes k h outside. absurd (run_fault-inside _ outside))
+    (λ e. absurd (run_fault-not_read _ e)) (λ e. absurd (Ok-not_err _ _ e))))
 
 pub returns : goal.returns
 returns g c =
     let start = HasRead-first 1048576 _ _ c.new.ensures.stands c.new-2.ensures.items in
-    let here = λ (bytes : List ℕ). subst (λ (v : TakenElements). HasRead 1048576 v.scanner v.bits.items bytes) (sym c.file.view_is) in
+    let here = λ (bytes : List ℕ). subst
+    (λ (v : TakenElements). HasRead 1048576 v.scanner v.bits.items bytes)
+    (sym c.file.view_is) in
     Reads-on _ _ _ _ _ _ _ _ _ _ _ (c.in_ok-read_pieces.ensures start)
-    (λ bytes k. let h = here bytes k.1 in (k.0, record { lines = h.lines; file = c.in_ok-end.ensures 1048576 bytes h.lines h.scans; joined = h.joined }))
-    (λ bytes k. let h = here bytes k in record { lines = h.lines; file = c.in_ok-end.ensures 1048576 bytes h.lines h.scans; joined = h.joined })
+    (λ bytes k. let h = here bytes k.1 in (
+      k.0,
+      record {
+        lines = h.lines;
+        file =
+            c.in_ok-end.ensures 1048576 bytes h.lines h.scans;
+        joined = h.joined;
+      },
+    ))
+    (λ bytes k. let h = here bytes k in
+    record {
+      lines = h.lines;
+      file = c.in_ok-end.ensures 1048576 bytes h.lines h.scans;
+      joined =
+          h.joined;
+    })
     (λ bytes k h. h) (λ e. absurd (Ok-not_err _ _ e)) (λ e. absurd (Ok-not_err _ _ e))

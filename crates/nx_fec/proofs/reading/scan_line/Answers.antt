@@ -8,16 +8,20 @@ use Rattle.nx_fec.proofs.reading.scan_line.Goals as goal
 pub returns-in_err-count-clause-read : goal.returns-in_err-count-clause-read
 returns-in_err-count-clause-read c = λ limit bytes h.
     let p = err_from_is_err_and c.from_residual.result c.from_residual.ensures.1 in
-    rw p.1 (rw p.2 (ExplainsPiece-stop limit _ bytes c.args.piece.now h.lines _ c.in_err-count.ensures.at_byte
+    rw p.1 (rw p.2 (ExplainsPiece-stop limit _ bytes c.args.piece.now h.lines _
+    c.in_err-count.ensures.at_byte
     (c.in_err-count.ensures.bytes limit bytes h.lines h.scans)))
 
 pub returns-in-Ok-clause-read : goal.returns-in-Ok-clause-read
 returns-in-Ok-clause-read c = λ limit bytes h.
     HasRead-step limit _ _ _ _ bytes _ _ h (c.in_ok-count.ensures.bytes limit bytes h.lines h.scans)
-    (c.in-Ok.ensures ∙ ap (λ l. c.args.bits.now.items ++ l) (c.elements.ensures ∙ sym (elements_kept-list c.push_line.new.self.latest)))
+    (c.in-Ok.ensures ∙ ap (λ l. c.args.bits.now.items ++ l)
+    (c.elements.ensures ∙ sym (elements_kept-list c.push_line.new.self.latest)))
 
 pub returns-in-Err-clause-read : goal.returns-in-Err-clause-read
 returns-in-Err-clause-read c = λ limit bytes h.
     let scanned = c.in_ok-count.ensures.bytes limit bytes h.lines h.scans in
-    subst (λ l. ExplainsPiece limit l c.fault_behind.result) (piece-whole bytes c.args.piece.now c.in_ok-count.count)
-    (c.fault_behind.ensures.explained limit (bytes ++ take c.in_ok-count.count c.args.piece.now) (h.lines ++ option_to_list c.push_line.new.self.latest) scanned)
+    subst (λ l. ExplainsPiece limit l c.fault_behind.result)
+    (piece-whole bytes c.args.piece.now c.in_ok-count.count)
+    (c.fault_behind.ensures.explained limit (bytes ++ take c.in_ok-count.count c.args.piece.now)
+    (h.lines ++ option_to_list c.push_line.new.self.latest) scanned)

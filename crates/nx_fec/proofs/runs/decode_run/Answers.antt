@@ -6,7 +6,8 @@ use Rattle.nx_fec.specs.Runs.{IsDecoded}
 use Rattle.nx_fec.proofs.TransferLaws.{Reads-on, Ok-not_err, Write-not_read}
 use Rattle.nx_fec.proofs.runs.decode_run.Goals as goal
 
-decoded-of : (bytes text items : List ℕ) (bits given : List Bool) → given ≡ bits → length given % 7 ≡ 0
+decoded-of : (bytes text items : List ℕ) (bits given : List Bool) → given ≡ bits
+    → length given % 7 ≡ 0
     → items ≡ aligned_text (words_of given) → text ≡ items → IsBitFile 1048576 bytes bits
     → IsDecoded 1048576 bytes text
 decoded-of bytes text items bits given same whole decoded is file = record {
@@ -18,18 +19,26 @@ decoded-of bytes text items bits given same whole decoded is file = record {
 
 pub returns-in_err-write_out : goal.returns-in_err-write_out
 returns-in_err-write_out g c =
-    let p = err_from_is_err_and c.from_residual-in_err-write_out.result c.from_residual-in_err-write_out.ensures.1 in
+    let p = err_from_is_err_and c.from_residual-in_err-write_out.result
+    c.from_residual-in_err-write_out.ensures.1 in
     let bits = c.in_ok-bits.bits.items in
     let text = c.deref-2.result.now in
-    let decoded = λ (bytes : List ℕ) (file : IsBitFile 1048576 bytes bits). decoded-of bytes text c.in_ok-text.text.items bits c.deref.result.now
-    c.deref.ensures.value c.in_ok-text.ensures.whole c.in_ok-text.ensures.text c.deref-2.ensures.value file in
+    let decoded = λ (bytes : List ℕ) (file : IsBitFile 1048576 bytes bits). decoded-of bytes text
+    c.in_ok-text.text.items bits c.deref.result.now
+    c.deref.ensures.value c.in_ok-text.ensures.whole c.in_ok-text.ensures.text
+    c.deref-2.ensures.value file in
     let wrote = c.in_err-write_out.ensures in
     rw p.1 (rw p.2 (record {
       reads = Reads-on _ _ _ _ _ _ _ _ _ _ _ c.in_ok-bits.ensures.reads
           (λ bytes k. (k.0, text, length text, (decoded bytes k.1, refl), wrote.err))
           (λ bytes k. (tt, text, length text, (decoded bytes k, refl), wrote.err))
-          (λ bytes k h outside. absurd outside) (λ e. absurd (Write-not_read _ e)) (λ e. absurd (Ok-not_err _ _ e));
-      writes = record { failed = (λ w. wrote.counts.failed.0 refl, λ one. (c.in_err-write_out.field-0.0.written, refl)); once = wrote.counts.once };
+          (λ bytes k h outside. absurd outside) (λ e. absurd (Write-not_read _ e))
+          (λ e. absurd (Ok-not_err _ _ e));
+      writes = record {
+        failed =
+            (λ w. wrote.counts.failed.0 refl, λ one. (c.in_err-write_out.field-0.0.written, refl));
+        once = wrote.counts.once;
+      };
       unwritten = λ other. absurd (other c.in_err-write_out.field-0.0.written refl);
     }))
 
@@ -37,16 +46,26 @@ pub returns : goal.returns
 returns g c =
     let bits = c.in_ok-bits.bits.items in
     let text = c.deref-2.result.now in
-    let items : c.len.result ≡ length c.in_ok-text.text.items = omega (arith, c.len.ensures, c.in_ok-text.text.ok.0) in
+    let items : c.len.result ≡ length c.in_ok-text.text.items =
+    omega (arith, c.len.ensures, c.in_ok-text.text.ok.0) in
     let count : c.len.result ≡ length text = items ∙ ap length (sym c.deref-2.ensures.value) in
-    let decoded = λ (bytes : List ℕ) (file : IsBitFile 1048576 bytes bits). decoded-of bytes text c.in_ok-text.text.items bits c.deref.result.now
-    c.deref.ensures.value c.in_ok-text.ensures.whole c.in_ok-text.ensures.text c.deref-2.ensures.value file in
+    let decoded = λ (bytes : List ℕ) (file : IsBitFile 1048576 bytes bits). decoded-of bytes text
+    c.in_ok-text.text.items bits c.deref.result.now
+    c.deref.ensures.value c.in_ok-text.ensures.whole c.in_ok-text.ensures.text
+    c.deref-2.ensures.value file in
     let wrote = c.in_ok-write_out.ensures in
     record {
       reads = Reads-on _ _ _ _ _ _ _ _ _ _ _ c.in_ok-bits.ensures.reads
           (λ bytes k. (k.0, text, (decoded bytes k.1, count), wrote.ok))
           (λ bytes k. (tt, text, (decoded bytes k, count), wrote.ok))
           (λ bytes k h. h) (λ e. absurd (Ok-not_err _ _ e)) (λ e. absurd (Ok-not_err _ _ e));
-      writes = record { failed = (λ w. absurd (Ok-not_err _ _ w.1), λ one. absurd (omega (arith, wrote.counts.none, one))); once = wrote.counts.once };
+      writes = record {
+        failed = (
+          λ w. absurd (Ok-not_err _ _ w.1),
+          λ one. absurd
+              (omega (arith, wrote.counts.none, one)),
+        );
+        once = wrote.counts.once;
+      };
       unwritten = tt;
     }

@@ -11,15 +11,25 @@ use Rattle.nx_fec.proofs.runs.encode_run.Goals as goal
 
 pub returns-in_err-combs : goal.returns-in_err-combs
 returns-in_err-combs g c =
-    let p = err_from_is_err_and c.from_residual-in_err-combs.result c.from_residual-in_err-combs.ensures.1 in
+    let p = err_from_is_err_and c.from_residual-in_err-combs.result
+    c.from_residual-in_err-combs.ensures.1 in
     let fault = c.in_err-combs.field-0.0 in
     rw p.1 (rw p.2 (record {
       reads = Reads-on _ _ _ _ _ _ _ _ _ _ _ c.in_ok-text.ensures
-          (λ bytes k. spelling-explains _ 1048576 bytes _ _ _ fault k.0 k.1 (c.deref.ensures.value ∙ k.2) (λ at same. (c.in_err-combs.ensures.no_such_character at).0 (ap Err same)))
-          (λ bytes k. spelling-explains _ 1048576 bytes _ _ _ fault tt k.0 (c.deref.ensures.value ∙ k.1) (λ at same. (c.in_err-combs.ensures.no_such_character at).0 (ap Err same)))
-          (λ bytes k h outside. k.1) (λ e. absurd (spell_fault-not_read fault e)) (λ e. absurd (Ok-not_err _ _ e));
+          (λ bytes k. spelling-explains _ 1048576 bytes _ _ _ fault k.0 k.1
+          (c.deref.ensures.value ∙ k.2)
+          (λ at same. (c.in_err-combs.ensures.no_such_character at).0 (ap Err same)))
+          (λ bytes k. spelling-explains _ 1048576 bytes _ _ _ fault tt k.0
+          (c.deref.ensures.value ∙ k.1)
+          (λ at same. (c.in_err-combs.ensures.no_such_character at).0 (ap Err same)))
+          (λ bytes k h outside. k.1) (λ e. absurd (spell_fault-not_read fault e))
+          (λ e. absurd (Ok-not_err _ _ e));
       writes = record {
-        failed = (λ w. absurd (spell_fault-not_write fault w.0 w.1), λ one. absurd (omega (arith, c.requires.writer, one)));
+        failed = (
+          λ w. absurd (spell_fault-not_write fault w.0 w.1),
+          λ one. absurd
+              (omega (arith, c.requires.writer, one)),
+        );
         once = omega (arith, c.requires.writer);
       };
       unwritten = λ other. refl;
@@ -27,33 +37,51 @@ returns-in_err-combs g c =
 
 pub returns-in_err-write_emission : goal.returns-in_err-write_emission
 returns-in_err-write_emission g c =
-    let p = err_from_is_err_and c.from_residual-in_err-write_emission.result c.from_residual-in_err-write_emission.ensures.1 in
+    let p = err_from_is_err_and c.from_residual-in_err-write_emission.result
+    c.from_residual-in_err-write_emission.ensures.1 in
     let file = file_of (bit_lines (bits_of (emission (map sent_position c.deref-3.result.now)))) in
     let count = length c.in_ok-positions.positions.items in
-    let encoded : (bytes : List ℕ) → c.in_ok-text.text.items ≡ bytes → IsEncoded bytes file count = λ bytes same.
-    IsEncoded-of bytes c.deref.result.now c.in_ok-combs.combs.items c.in_ok-positions.positions.items (bits_of (emission (map sent_position c.deref-3.result.now)))
+    let encoded : (bytes : List ℕ) → c.in_ok-text.text.items ≡ bytes → IsEncoded bytes file count =
+    λ bytes same.
+    IsEncoded-of bytes c.deref.result.now c.in_ok-combs.combs.items
+    c.in_ok-positions.positions.items
+    (bits_of (emission (map sent_position c.deref-3.result.now)))
     (c.deref.ensures.value ∙ same) c.in_ok-combs.ensures.spelling
-    (c.in_ok-positions.ensures ∙ ap (λ l. framed_positions (map (λ (comb : Comb). comb.number) l)) c.deref-2.ensures.value)
+    (c.in_ok-positions.ensures
+    ∙ ap (λ l. framed_positions (map (λ (comb : Comb). comb.number) l)) c.deref-2.ensures.value)
     (ap (λ l. bits_of (emission (map sent_position l))) c.deref-3.ensures.value) in
     let wrote = c.in_err-write_emission.ensures in
     rw p.1 (rw p.2 (record {
       reads = Reads-on _ _ _ _ _ _ _ _ _ _ _ c.in_ok-text.ensures
           (λ bytes k. (k.0, k.1, file, count, encoded bytes k.2, wrote.err))
           (λ bytes k. (tt, k.0, file, count, encoded bytes k.1, wrote.err))
-          (λ bytes k h outside. k.1) (λ e. absurd (Write-not_read _ e)) (λ e. absurd (Ok-not_err _ _ e));
-      writes = record { failed = (λ w. wrote.counts.failed.0 refl, λ one. (c.in_err-write_emission.field-0.0.written, refl)); once = wrote.counts.once };
+          (λ bytes k h outside. k.1) (λ e. absurd (Write-not_read _ e))
+          (λ e. absurd (Ok-not_err _ _ e));
+      writes = record {
+        failed = (
+          λ w. wrote.counts.failed.0 refl,
+          λ one.
+              (c.in_err-write_emission.field-0.0.written, refl),
+        );
+        once = wrote.counts.once;
+      };
       unwritten = λ other. absurd (other c.in_err-write_emission.field-0.0.written refl);
     }))
 
 pub returns : goal.returns
 returns g c =
     let file = file_of (bit_lines (bits_of (emission (map sent_position c.deref-3.result.now)))) in
-    let count : length c.in_ok-positions.positions.items ≡ c.len.result = omega (arith, c.len.ensures, c.in_ok-positions.positions.ok.0) in
-    let encoded : (bytes : List ℕ) → c.in_ok-text.text.items ≡ bytes → IsEncoded bytes file c.len.result = λ bytes same.
+    let count : length c.in_ok-positions.positions.items ≡ c.len.result =
+    omega (arith, c.len.ensures, c.in_ok-positions.positions.ok.0) in
+    let encoded : (bytes : List ℕ) → c.in_ok-text.text.items ≡ bytes
+    → IsEncoded bytes file c.len.result = λ bytes same.
     subst (IsEncoded bytes file) count
-    (IsEncoded-of bytes c.deref.result.now c.in_ok-combs.combs.items c.in_ok-positions.positions.items (bits_of (emission (map sent_position c.deref-3.result.now)))
+    (IsEncoded-of bytes c.deref.result.now c.in_ok-combs.combs.items
+    c.in_ok-positions.positions.items
+    (bits_of (emission (map sent_position c.deref-3.result.now)))
     (c.deref.ensures.value ∙ same) c.in_ok-combs.ensures.spelling
-    (c.in_ok-positions.ensures ∙ ap (λ l. framed_positions (map (λ (comb : Comb). comb.number) l)) c.deref-2.ensures.value)
+    (c.in_ok-positions.ensures
+    ∙ ap (λ l. framed_positions (map (λ (comb : Comb). comb.number) l)) c.deref-2.ensures.value)
     (ap (λ l. bits_of (emission (map sent_position l))) c.deref-3.ensures.value)) in
     let wrote = c.in_ok-write_emission.ensures in
     record {
@@ -61,6 +89,13 @@ returns g c =
           (λ bytes k. (k.0, k.1, file, encoded bytes k.2, wrote.ok))
           (λ bytes k. (tt, k.0, file, encoded bytes k.1, wrote.ok))
           (λ bytes k h. h) (λ e. absurd (Ok-not_err _ _ e)) (λ e. absurd (Ok-not_err _ _ e));
-      writes = record { failed = (λ w. absurd (Ok-not_err _ _ w.1), λ one. absurd (omega (arith, wrote.counts.none, one))); once = wrote.counts.once };
+      writes = record {
+        failed = (
+          λ w. absurd (Ok-not_err _ _ w.1),
+          λ one. absurd
+              (omega (arith, wrote.counts.none, one)),
+        );
+        once = wrote.counts.once;
+      };
       unwritten = tt;
     }

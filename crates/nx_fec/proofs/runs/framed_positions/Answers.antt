@@ -10,5 +10,7 @@ pub returns : goal.returns
 returns c =
     let whole = take_all c.loop-comb.comb-index c.args.combs.now (omega arith) in
     ap (map sent_position) (c.in_ok-extend_from_slice-2.ensures.items
-    ∙ ap (λ l. l ++ (End ∷ End ∷ End ∷ [])) (c.loop-comb.invariant ∙ ap (λ l. replicate 4 Phasing ++ map (λ (comb : Comb). Traffic comb) l) whole))
+    ∙ ap (λ l. l ++ (End ∷ End ∷ End ∷ []))
+    (c.loop-comb.invariant ∙ ap
+    (λ l. replicate 4 Phasing ++ map (λ (comb : Comb). Traffic comb) l) whole))
     ∙ sent_position-framed_positions c.args.combs.now

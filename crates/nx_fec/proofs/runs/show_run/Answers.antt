@@ -7,32 +7,50 @@ use Rattle.nx_fec.proofs.runs.show_run.Goals as goal
 
 pub returns-in_err-write_out : goal.returns-in_err-write_out
 returns-in_err-write_out g c =
-    let p = err_from_is_err_and c.from_residual-in_err-write_out.result c.from_residual-in_err-write_out.ensures.1 in
+    let p = err_from_is_err_and c.from_residual-in_err-write_out.result
+    c.from_residual-in_err-write_out.ensures.1 in
     let bits = c.in_ok-bits.bits.items in
-    let shown = λ (bytes : List ℕ) (file : IsBitFile 1048576 bytes bits). IsShown-of 1048576 bytes bits c.deref.result.now c.in_ok-lines.lines.items c.deref-2.result.now (length bits / 7)
-    c.deref.ensures.value c.in_ok-lines.ensures.whole c.in_ok-lines.ensures.text c.deref-2.ensures.value refl file in
+    let shown = λ (bytes : List ℕ) (file : IsBitFile 1048576 bytes bits). IsShown-of 1048576 bytes
+    bits c.deref.result.now c.in_ok-lines.lines.items c.deref-2.result.now (length bits / 7)
+    c.deref.ensures.value c.in_ok-lines.ensures.whole c.in_ok-lines.ensures.text
+    c.deref-2.ensures.value refl file in
     let wrote = c.in_err-write_out.ensures in
     rw p.1 (rw p.2 (record {
       reads = Reads-on _ _ _ _ _ _ _ _ _ _ _ c.in_ok-bits.ensures.reads
           (λ bytes k. (k.0, c.deref-2.result.now, length bits / 7, shown bytes k.1, wrote.err))
           (λ bytes k. (tt, c.deref-2.result.now, length bits / 7, shown bytes k, wrote.err))
-          (λ bytes k h outside. absurd outside) (λ e. absurd (Write-not_read _ e)) (λ e. absurd (Ok-not_err _ _ e));
-      writes = record { failed = (λ w. wrote.counts.failed.0 refl, λ one. (c.in_err-write_out.field-0.0.written, refl)); once = wrote.counts.once };
+          (λ bytes k h outside. absurd outside) (λ e. absurd (Write-not_read _ e))
+          (λ e. absurd (Ok-not_err _ _ e));
+      writes = record {
+        failed =
+            (λ w. wrote.counts.failed.0 refl, λ one. (c.in_err-write_out.field-0.0.written, refl));
+        once = wrote.counts.once;
+      };
       unwritten = λ other. absurd (other c.in_err-write_out.field-0.0.written refl);
     }))
 
 pub returns : goal.returns
 returns g c =
     let bits = c.in_ok-bits.bits.items in
-    let count : c.len.result / 7 ≡ length bits / 7 = omega (arith, c.len.ensures, c.in_ok-bits.bits.ok.0) in
-    let shown = λ (bytes : List ℕ) (file : IsBitFile 1048576 bytes bits). IsShown-of 1048576 bytes bits c.deref.result.now c.in_ok-lines.lines.items c.deref-2.result.now (c.len.result / 7)
-    c.deref.ensures.value c.in_ok-lines.ensures.whole c.in_ok-lines.ensures.text c.deref-2.ensures.value count file in
+    let count : c.len.result / 7 ≡ length bits / 7 =
+    omega (arith, c.len.ensures, c.in_ok-bits.bits.ok.0) in
+    let shown = λ (bytes : List ℕ) (file : IsBitFile 1048576 bytes bits). IsShown-of 1048576 bytes
+    bits c.deref.result.now c.in_ok-lines.lines.items c.deref-2.result.now (c.len.result / 7)
+    c.deref.ensures.value c.in_ok-lines.ensures.whole c.in_ok-lines.ensures.text
+    c.deref-2.ensures.value count file in
     let wrote = c.in_ok-write_out.ensures in
     record {
       reads = Reads-on _ _ _ _ _ _ _ _ _ _ _ c.in_ok-bits.ensures.reads
           (λ bytes k. (k.0, c.deref-2.result.now, shown bytes k.1, wrote.ok))
           (λ bytes k. (tt, c.deref-2.result.now, shown bytes k, wrote.ok))
           (λ bytes k h. h) (λ e. absurd (Ok-not_err _ _ e)) (λ e. absurd (Ok-not_err _ _ e));
-      writes = record { failed = (λ w. absurd (Ok-not_err _ _ w.1), λ one. absurd (omega (arith, wrote.counts.none, one))); once = wrote.counts.once };
+      writes = record {
+        failed = (
+          λ w. absurd (Ok-not_err _ _ w.1),
+          λ one. absurd
+              (omega (arith, wrote.counts.none, one)),
+        );
+        once = wrote.counts.once;
+      };
       unwritten = tt;
     }

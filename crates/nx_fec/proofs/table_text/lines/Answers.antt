@@ -10,8 +10,11 @@ pub loop-at-preserved : goal.loop-at-preserved
 loop-at-preserved c =
     let at = c.loop-at.at in
     let i = c.loop-at.invariant in
-    let same : row_of_signal c.signal_at.result ≡ get_or table at (row 0x00 [] []) = ap (λ k. get_or table k (row 0x00 [] [])) c.signal_at.ensures in (
-      c.push_line.ensures.line ∙ ap (λ l. l ++ table_line (row_of_signal c.signal_at.result)) i.0 ∙ ap (λ r. flat_map table_line (take at table) ++ table_line r) same ∙ sym (lines_more at c.loop-at-test.true),
+    let same : row_of_signal c.signal_at.result ≡ get_or table at (row 0x00 [] []) =
+    ap (λ k. get_or table k (row 0x00 [] [])) c.signal_at.ensures in (
+      c.push_line.ensures.line ∙ ap (λ l. l ++ table_line (row_of_signal c.signal_at.result)) i.0
+          ∙ ap (λ r. flat_map table_line (take at table) ++ table_line r) same
+          ∙ sym (lines_more at c.loop-at-test.true),
       omega (arith, c.push_line.ensures.grows, i.1),
     )
 

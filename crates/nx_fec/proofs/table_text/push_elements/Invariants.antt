@@ -6,4 +6,5 @@ use Rattle.nx_fec.proofs.table_text.push_elements.Given as goal
 -- the letters of the elements so far are appended
 abbrev pub invariant-loop-element : goal.invariant-loop-element
 invariant-loop-element l =
-    (l.text.items ≡ l.fn.text.items ++ map element_letter (take l.element-index l.elements)) × (array_vec_len l.text ≡ array_vec_len l.fn.text + l.element-index)
+    (l.text.items ≡ l.fn.text.items ++ map element_letter (take l.element-index l.elements))
+    × (array_vec_len l.text ≡ array_vec_len l.fn.text + l.element-index)

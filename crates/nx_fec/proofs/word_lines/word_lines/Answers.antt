@@ -16,9 +16,11 @@ loop-slot-preserved c =
     let word = c.word_of_slot.result in
     c.in_default.ensures
     ∙ ap (λ l. l ++ word_line slot word) c.loop-slot.invariant
-    ∙ first_word_lines-more (words_of bits) slot word (c.word_of_slot.ensures ∙ sym (get_or-words_of bits slot (omega arith)))
+    ∙ first_word_lines-more (words_of bits) slot word
+    (c.word_of_slot.ensures ∙ sym (get_or-words_of bits slot (omega arith)))
 
 pub returns-clause-text : goal.returns-clause-text
 returns-clause-text c =
-    let all : c.loop-slot.slot ≡ length (words_of c.args.bits.now) = omega (arith, length-words_of c.args.bits.now) in
+    let all : c.loop-slot.slot ≡ length (words_of c.args.bits.now) =
+    omega (arith, length-words_of c.args.bits.now) in
     c.loop-slot.invariant ∙ ap (first_word_lines (words_of c.args.bits.now)) all

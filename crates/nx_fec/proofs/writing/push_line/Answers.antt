@@ -10,7 +10,8 @@ loop-place-preserved c =
     let size = c.loop-place.invariant.size in
     record {
       size = length-set _ _ _ ∙ size;
-      same = digits-more _ _ _ _ (omega (arith, within, size, c.requires.short)) within c.loop-place.invariant.same
+      same = digits-more _ _ _ _ (omega (arith, within, size, c.requires.short)) within
+          c.loop-place.invariant.same
           (elim c.if-line-place.branch [
             | then-line-place w ↦ w.digits-is ∙ sym (ap element_digit w.if-line-place.true)
             | else-line-place w ↦ w.digits-is ∙ sym (ap element_digit w.if-line-place.false)

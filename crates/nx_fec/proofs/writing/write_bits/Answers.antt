@@ -8,7 +8,8 @@ pub returns-in_err-sent-clause-err : goal.returns-in_err-sent-clause-err
 returns-in_err-sent-clause-err g c =
     let p = err_from_is_err_and c.from_residual.result c.from_residual.ensures.1 in
     let b = c.loop-index.invariant.batched in
-    rw p.1 (rw p.2 (Batched-failed _ _ _ _ _ _ _ _ _ b (omega (arith, c.div_ceil-index-end.ensures)) c.deref.ensures.0
+    rw p.1 (rw p.2 (Batched-failed _ _ _ _ _ _ _ _ _ b (omega (arith, c.div_ceil-index-end.ensures))
+    c.deref.ensures.0
     (c.in_err-sent.ensures.bytes (g.W.Write.contents c.args.writer.now.inner) b.done b.written)))
 
 pub loop-index-preserved : goal.loop-index-preserved
@@ -18,17 +19,20 @@ loop-index-preserved g c =
     let now = c.if-remaining_capacity-lt-LINE_BYTES in
     let none : now.writer.failures ≡ 0 =
     elim now.branch [
-      | then-remaining_capacity-lt-LINE_BYTES+in_ok-sent w ↦ ap (λ x. x.failures) w.writer-is ∙ w.in_ok-sent.ensures.counts.none
+      | then-remaining_capacity-lt-LINE_BYTES+in_ok-sent w ↦
+          ap (λ x. x.failures) w.writer-is ∙ w.in_ok-sent.ensures.counts.none
       | else-remaining_capacity-lt-LINE_BYTES w ↦ ap (λ x. x.failures) w.writer-is ∙ before.none
     ] in
-    let batched : Batched (contents c.args.writer.now.inner) (contents now.writer.inner) c.args.bits.now c.loop-index.index now.sent now.batch.items =
+    let batched : Batched (contents c.args.writer.now.inner) (contents now.writer.inner)
+    c.args.bits.now c.loop-index.index now.sent now.batch.items =
     elim now.branch [
       | then-remaining_capacity-lt-LINE_BYTES+in_ok-sent w ↦
           let empty : now.batch.items ≡ [] = ap (λ x. x.items) w.batch-is ∙ w.clear.ensures in
           let b = before.batched in
           rw (w.writer-is, empty, w.sent-is) (Batched-sent _ _ _ _ _ _ _ _ _ b w.deref.ensures.0
           (w.in_ok-sent.ensures.bytes (contents c.args.writer.now.inner) b.done b.written))
-      | else-remaining_capacity-lt-LINE_BYTES w ↦ rw (w.writer-is, w.batch-is, w.sent-is) before.batched
+      | else-remaining_capacity-lt-LINE_BYTES w ↦
+          rw (w.writer-is, w.batch-is, w.sent-is) before.batched
     ] in
     record {
       none = none;
@@ -37,13 +41,17 @@ loop-index-preserved g c =
 
 pub returns-in_err-write_on-clause-err : goal.returns-in_err-write_on-clause-err
 returns-in_err-write_on-clause-err g c =
-    let p = err_from_is_err_and c.from_residual-in_err-write_on.result c.from_residual-in_err-write_on.ensures.1 in
+    let p = err_from_is_err_and c.from_residual-in_err-write_on.result
+    c.from_residual-in_err-write_on.ensures.1 in
     let b = c.loop-index.invariant.batched in
-    rw p.1 (rw p.2 (Batched-failed _ _ _ _ _ _ _ _ _ b (omega (arith, c.div_ceil-index-end.ensures)) c.deref-2.ensures.0
-    (c.in_err-write_on.ensures.bytes (g.W.Write.contents c.args.writer.now.inner) b.done b.written)))
+    rw p.1 (rw p.2 (Batched-failed _ _ _ _ _ _ _ _ _ b (omega (arith, c.div_ceil-index-end.ensures))
+    c.deref-2.ensures.0
+    (c.in_err-write_on.ensures.bytes (g.W.Write.contents c.args.writer.now.inner) b.done
+    b.written)))
 
 pub returns-clause-ok : goal.returns-clause-ok
 returns-clause-ok g c =
     let b = c.loop-index.invariant.batched in
-    Batched-all _ _ _ _ _ _ c.in_ok-write_on.field-0 _ _ b (omega (arith, c.div_ceil-index-end.ensures)) c.deref-2.ensures.0
+    Batched-all _ _ _ _ _ _ c.in_ok-write_on.field-0 _ _ b
+    (omega (arith, c.div_ceil-index-end.ensures)) c.deref-2.ensures.0
     (c.in_ok-write_on.ensures.bytes (g.W.Write.contents c.args.writer.now.inner) b.done b.written)

@@ -6,7 +6,8 @@ use Rattle.nx_memory.proofs.state_text.channel_line.Goals as goal
 
 pub returns-in-Some-line : goal.returns-in-Some-line
 returns-in-Some-line c =
-    at_line c.args.head.now (said c.args.saved.now) c.args.place c.in-Some.place c.in-Some-line.line c.bytes.result.items (omega arith) c.in-Some-line.ensures.line c.bytes.ensures
+    at_line c.args.head.now (said c.args.saved.now) c.args.place c.in-Some.place c.in-Some-line.line
+    c.bytes.result.items (omega arith) c.in-Some-line.ensures.line c.bytes.ensures
 
 pub returns-in-None : goal.returns-in-None
 returns-in-None c =

@@ -8,30 +8,46 @@ use Rattle.nx_receiver.proofs.judging.judge.Goals as goal
 pub enter-requires-clause-unknown : goal.enter-requires-clause-unknown
 enter-requires-clause-unknown g c =
     let found = c.args.found.now in
-    (can_enter c.args.selected _ _ _ (sym (c.is_entered.ensures ∙ ap (λ b. b && is_good_text found.how found.text.items && not (found.identity.number == 0)) c.is_printed-printed.ensures) ∙ c.if-is_entered.true)).unknown
+    (can_enter c.args.selected _ _ _
+    (sym (c.is_entered.ensures
+    ∙ ap (λ b. b && is_good_text found.how found.text.items && not (found.identity.number == 0))
+    c.is_printed-printed.ensures) ∙ c.if-is_entered.true)).unknown
 
 pub enter-requires-clause-numbered : goal.enter-requires-clause-numbered
 enter-requires-clause-numbered g c =
     let found = c.args.found.now in
-    let numbered = (can_enter c.args.selected _ _ _ (sym (c.is_entered.ensures ∙ ap (λ b. b && is_good_text found.how found.text.items && not (found.identity.number == 0)) c.is_printed-printed.ensures) ∙ c.if-is_entered.true)).numbered in
+    let numbered = (can_enter c.args.selected _ _ _
+    (sym (c.is_entered.ensures
+    ∙ ap (λ b. b && is_good_text found.how found.text.items && not (found.identity.number == 0))
+    c.is_printed-printed.ensures) ∙ c.if-is_entered.true)).numbered in
     let above : found.identity.number ≡ 0 → ⊥ = eqb-false found.identity.number 0 numbered in
     omega arith
 
 pub returns-then-is_entered-clause-printed : goal.returns-then-is_entered-clause-printed
-returns-then-is_entered-clause-printed g c entries h = printed_as entries _ (tagged_found c.args.found.now c.args.moment c.args.selected) _ h c.is_printed-printed.ensures
+returns-then-is_entered-clause-printed g c entries h =
+    printed_as entries _ (tagged_found c.args.found.now c.args.moment c.args.selected) _ h
+    c.is_printed-printed.ensures
 
 pub returns-then-is_entered-clause-entered : goal.returns-then-is_entered-clause-entered
 returns-then-is_entered-clause-entered g c entries h =
     let copy = tagged_found c.args.found.now c.args.moment c.args.selected in
-    content_grows entries _ _ _ _ h c.enter.ensures (made_true entries copy _ _ (printed_as entries _ copy _ h c.is_printed-printed.ensures) c.is_entered.ensures c.if-is_entered.true)
+    content_grows entries _ _ _ _ h c.enter.ensures
+    (made_true entries copy _ _ (printed_as entries _ copy _ h c.is_printed-printed.ensures)
+    c.is_entered.ensures c.if-is_entered.true)
 
 pub returns-then-is_entered-clause-not_before : goal.returns-then-is_entered-clause-not_before
-returns-then-is_entered-clause-not_before g c = newest_is_last (g.M.Recall.content c.args.memory.now) _ c.args.found.now.identity c.args.moment c.enter.ensures
+returns-then-is_entered-clause-not_before g c =
+    newest_is_last (g.M.Recall.content c.args.memory.now) _ c.args.found.now.identity c.args.moment
+    c.enter.ensures
 
 pub returns-else-is_entered-clause-printed : goal.returns-else-is_entered-clause-printed
-returns-else-is_entered-clause-printed g c entries h = printed_as entries _ (tagged_found c.args.found.now c.args.moment c.args.selected) _ h c.is_printed-printed.ensures
+returns-else-is_entered-clause-printed g c entries h =
+    printed_as entries _ (tagged_found c.args.found.now c.args.moment c.args.selected) _ h
+    c.is_printed-printed.ensures
 
 pub returns-else-is_entered-clause-entered : goal.returns-else-is_entered-clause-entered
 returns-else-is_entered-clause-entered g c entries h =
     let copy = tagged_found c.args.found.now c.args.moment c.args.selected in
-    content_stays entries _ _ h (made_false entries copy _ _ (printed_as entries _ copy _ h c.is_printed-printed.ensures) c.is_entered.ensures c.if-is_entered.false)
+    content_stays entries _ _ h
+    (made_false entries copy _ _ (printed_as entries _ copy _ h c.is_printed-printed.ensures)
+    c.is_entered.ensures c.if-is_entered.false)

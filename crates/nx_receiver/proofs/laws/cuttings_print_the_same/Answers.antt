@@ -10,22 +10,31 @@ use Rattle.nx_receiver.proofs.receiving.Printing.{has_printed}
 use Rattle.nx_receiver.proofs.watching.Hears.{has_ended}
 use Rattle.nx_receiver.proofs.laws.cuttings_print_the_same.Goals as goal
 
-events-of_elements : (pieces : List (List Bool)) → events_of_pieces pieces ≡ elements (elements_of_pieces pieces)
+events-of_elements : (pieces : List (List Bool))
+    → events_of_pieces pieces ≡ elements (elements_of_pieces pieces)
 unfolding events_of_pieces elements_of_pieces
 events-of_elements [] = refl
-events-of_elements (piece ∷ pieces) = ap (λ es. elements piece ++ es) (events-of_elements pieces) ∙ sym (map-append element piece (elements_of_pieces pieces))
+events-of_elements (piece ∷ pieces) =
+    ap (λ es. elements piece ++ es) (events-of_elements pieces)
+    ∙ sym (map-append element piece (elements_of_pieces pieces))
 
-prints : {M : Type 0} (content : M → List MemoryEntry) (start : Start) (events : List Event) (receiver : Receiving M) (log : List TaggedCopy) → Stands content start receiver events log → HasPrinted start events log
+prints : {M : Type 0} (content : M → List MemoryEntry) (start : Start) (events : List Event)
+    (receiver : Receiving M) (log : List TaggedCopy) → Stands content start receiver events log
+    → HasPrinted start events log
 prints content start events receiver log stands =
     let r = stands.watch.reads in
-    has_printed start events stands.copies log (has_ended _ receiver.watch.reader receiver.watch.tag _ _ stands.copies r) stands.printed
+    has_printed start events stands.copies log
+    (has_ended _ receiver.watch.reader receiver.watch.tag _ _ stands.copies r) stands.printed
 
 pub returns : goal.returns
 returns g c = record {
-  printed = λ start events receiver log stands. prints g.M.Recall.content start events receiver log stands;
+  printed = λ start events receiver log stands. prints g.M.Recall.content start events receiver log
+      stands;
   same = λ start events pieces others one other log same e f h.
-      let alike : events_of_pieces pieces ≡ events_of_pieces others = events-of_elements pieces ∙ ap elements e ∙ sym (events-of_elements others) in
+      let alike : events_of_pieces pieces ≡ events_of_pieces others =
+      events-of_elements pieces ∙ ap elements e ∙ sym (events-of_elements others) in
       one_printed start (events ++ events_of_pieces others) log same
-      (subst (λ (es : List Event). HasPrinted start (events ++ es) log) alike (prints g.M.Recall.content start (events ++ events_of_pieces pieces) one log f))
+      (subst (λ (es : List Event). HasPrinted start (events ++ es) log) alike
+      (prints g.M.Recall.content start (events ++ events_of_pieces pieces) one log f))
       (prints g.M.Recall.content start (events ++ events_of_pieces others) other same h);
 }

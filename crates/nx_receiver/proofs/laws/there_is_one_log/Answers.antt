@@ -3,4 +3,12 @@ use Rattle.nx_receiver.proofs.receiving.Logged.{one_printed, one_to_end, some_pr
 use Rattle.nx_receiver.proofs.laws.there_is_one_log.Goals as goal
 
 pub returns : goal.returns
-returns c = record { some = some_printed; one = one_printed; some_closed = some_to_end; one_closed = one_to_end; some_bytes = some_log; one_bytes = one_log }
+returns c = record {
+  some = some_printed;
+  one = one_printed;
+  some_closed = some_to_end;
+  one_closed =
+      one_to_end;
+  some_bytes = some_log;
+  one_bytes = one_log;
+}

@@ -13,57 +13,91 @@ use Rattle.nx_receiver.proofs.listening.listen_from.Goals as goal
 
 pub returns-in_err-listener-clause-listens : goal.returns-in_err-listener-clause-listens
 returns-in_err-listener-clause-listens g c =
-    subst (Listens (start_from c.args.saved.now) (devices g.R.Read.remaining g.W.Write.contents c.args.reader.now c.args.reader.now c.args.writer.now c.args.writer.now)) (sym (err-is c.from_residual.result _ c.from_residual.ensures.0 c.from_residual.ensures.1))
-    (listens-memory (start_from c.args.saved.now) g.R.Read.remaining g.W.Write.contents c.args.reader.now c.args.writer.now c.in_err-listener.field-0.0 c.requires.reader c.requires.writer)
+    subst (Listens (start_from c.args.saved.now)
+    (devices g.R.Read.remaining g.W.Write.contents c.args.reader.now c.args.reader.now
+    c.args.writer.now c.args.writer.now))
+    (sym (err-is c.from_residual.result _ c.from_residual.ensures.0 c.from_residual.ensures.1))
+    (listens-memory (start_from c.args.saved.now) g.R.Read.remaining g.W.Write.contents
+    c.args.reader.now c.args.writer.now c.in_err-listener.field-0.0 c.requires.reader
+    c.requires.writer)
 
 pub returns-in-Err-clause-listens : goal.returns-in-Err-clause-listens
 returns-in-Err-clause-listens g c =
     let first = c.in_ok-listener.listener in
-    let d = devices g.R.Read.remaining g.W.Write.contents c.args.reader.now c.run_lines.new.reader c.args.writer.now c.run_lines.new.writer in
-    let begun : StandsFrom first first [] [] = subst (λ (start : Start). IsListening start first [] []) (sym c.in_ok-listener.ensures.start) c.in_ok-listener.ensures.listens in
-    subst (λ (start : Start). Listens start d (Err c.run_fault.result)) c.in_ok-listener.ensures.start
-    (subst (λ fault. Listens (start_of first) d (Err fault)) (sym c.run_fault.ensures) (listens-fault first c.run_lines.new.taker d c.in-Err.fault (c.in-Err.ensures first begun)))
+    let d = devices g.R.Read.remaining g.W.Write.contents c.args.reader.now c.run_lines.new.reader
+    c.args.writer.now c.run_lines.new.writer in
+    let begun : StandsFrom first first [] [] =
+    subst (λ (start : Start). IsListening start first [] [])
+    (sym c.in_ok-listener.ensures.start) c.in_ok-listener.ensures.listens in
+    subst (λ (start : Start). Listens start d (Err c.run_fault.result))
+    c.in_ok-listener.ensures.start
+    (subst (λ fault. Listens (start_of first) d (Err fault)) (sym c.run_fault.ensures)
+    (listens-fault first c.run_lines.new.taker d c.in-Err.fault (c.in-Err.ensures first begun)))
 
 pub close-requires : goal.close-requires
 close-requires g c =
     let first = c.in_ok-listener.listener in
-    let begun : StandsFrom first first [] [] = subst (λ (start : Start). IsListening start first [] []) (sym c.in_ok-listener.ensures.start) c.in_ok-listener.ensures.listens in
+    let begun : StandsFrom first first [] [] =
+    subst (λ (start : Start). IsListening start first [] [])
+    (sym c.in_ok-listener.ensures.start) c.in_ok-listener.ensures.listens in
     Writes-sound _ _ _ (λ written. Ok-not_err _ _) (c.in-Ok.ensures first begun).writes
 
 pub returns-in_err-report-clause-listens : goal.returns-in_err-report-clause-listens
 returns-in_err-report-clause-listens g c =
     let first = c.in_ok-listener.listener in
     let contents = g.W.Write.contents in
-    let d = devices g.R.Read.remaining contents c.args.reader.now c.run_lines.new.reader c.args.writer.now c.close.new.writer in
-    let begun : StandsFrom first first [] [] = subst (λ (start : Start). IsListening start first [] []) (sym c.in_ok-listener.ensures.start) c.in_ok-listener.ensures.listens in
-    subst (λ (start : Start). Listens start d (reported c.from_residual-in_err-report.result)) c.in_ok-listener.ensures.start
-    (subst (Listens (start_of first) d) (sym (err-is c.from_residual-in_err-report.result _ c.from_residual-in_err-report.ensures.0 c.from_residual-in_err-report.ensures.1))
-    (listens-part g.R.Read.remaining contents first c.run_lines.new.taker c.args.reader.now c.run_lines.new.reader c.args.writer.now c.run_lines.new.writer c.close.new.writer
+    let d = devices g.R.Read.remaining contents c.args.reader.now c.run_lines.new.reader
+    c.args.writer.now c.close.new.writer in
+    let begun : StandsFrom first first [] [] =
+    subst (λ (start : Start). IsListening start first [] [])
+    (sym c.in_ok-listener.ensures.start) c.in_ok-listener.ensures.listens in
+    subst (λ (start : Start). Listens start d (reported c.from_residual-in_err-report.result))
+    c.in_ok-listener.ensures.start
+    (subst (Listens (start_of first) d)
+    (sym (err-is c.from_residual-in_err-report.result _ c.from_residual-in_err-report.ensures.0
+    c.from_residual-in_err-report.ensures.1))
+    (listens-part g.R.Read.remaining contents first c.run_lines.new.taker c.args.reader.now
+    c.run_lines.new.reader c.args.writer.now c.run_lines.new.writer c.close.new.writer
     c.in-Ok.read c.in_err-report.field-0.0.written (c.in-Ok.ensures first begun)
-    (λ lines given h w. c.in_err-report.ensures.closed _ (contents c.args.writer.now.inner) (events_of lines) given h.hears w) (c.in_err-report.ensures.counts.failed.0 refl)))
+    (λ lines given h w. c.in_err-report.ensures.closed _ (contents c.args.writer.now.inner)
+    (events_of lines) given h.hears w) (c.in_err-report.ensures.counts.failed.0 refl)))
 
 pub returns-clause-listens : goal.returns-clause-listens
 returns-clause-listens g c =
     let first = c.in_ok-listener.listener in
     let contents = g.W.Write.contents in
-    let d = devices g.R.Read.remaining contents c.args.reader.now c.run_lines.new.reader c.args.writer.now c.close.new.writer in
-    let begun : StandsFrom first first [] [] = subst (λ (start : Start). IsListening start first [] []) (sym c.in_ok-listener.ensures.start) c.in_ok-listener.ensures.listens in
-    subst (λ (start : Start). Listens start d (Ok c.in_ok-report.report)) c.in_ok-listener.ensures.start
-    (listens-ok g.R.Read.remaining contents first c.run_lines.new.taker c.args.reader.now c.run_lines.new.reader c.args.writer.now c.run_lines.new.writer c.close.new.writer
+    let d = devices g.R.Read.remaining contents c.args.reader.now c.run_lines.new.reader
+    c.args.writer.now c.close.new.writer in
+    let begun : StandsFrom first first [] [] =
+    subst (λ (start : Start). IsListening start first [] [])
+    (sym c.in_ok-listener.ensures.start) c.in_ok-listener.ensures.listens in
+    subst (λ (start : Start). Listens start d (Ok c.in_ok-report.report))
+    c.in_ok-listener.ensures.start
+    (listens-ok g.R.Read.remaining contents first c.run_lines.new.taker c.args.reader.now
+    c.run_lines.new.reader c.args.writer.now c.run_lines.new.writer c.close.new.writer
     c.in-Ok.read c.in_ok-report.report (c.in-Ok.ensures first begun)
-    (λ lines given h w. c.in_ok-report.ensures.closed _ (contents c.args.writer.now.inner) (events_of lines) given h.hears w) c.in_ok-report.ensures.lines c.in_ok-report.ensures.counts.none)
+    (λ lines given h w. c.in_ok-report.ensures.closed _ (contents c.args.writer.now.inner)
+    (events_of lines) given h.hears w) c.in_ok-report.ensures.lines
+    c.in_ok-report.ensures.counts.none)
 
 pub returns-clause-left : goal.returns-clause-left
 returns-clause-left g c =
     let first = c.in_ok-listener.listener in
     let contents = g.W.Write.contents in
-    let begun : StandsFrom first first [] [] = subst (λ (start : Start). IsListening start first [] []) (sym c.in_ok-listener.ensures.start) c.in_ok-listener.ensures.listens in
-    goes-on g.R.Read.remaining contents c.args.saved.now c.saved-left.result first c.run_lines.new.taker c.args.reader.now c.run_lines.new.reader c.args.writer.now c.run_lines.new.writer c.close.new.writer
+    let begun : StandsFrom first first [] [] =
+    subst (λ (start : Start). IsListening start first [] [])
+    (sym c.in_ok-listener.ensures.start) c.in_ok-listener.ensures.listens in
+    goes-on g.R.Read.remaining contents c.args.saved.now c.saved-left.result first
+    c.run_lines.new.taker c.args.reader.now c.run_lines.new.reader c.args.writer.now
+    c.run_lines.new.writer c.close.new.writer
     c.in-Ok.read c.in_ok-report.report c.in_ok-listener.ensures.start (c.in-Ok.ensures first begun)
-    (λ lines given h w. c.in_ok-report.ensures.closed _ (contents c.args.writer.now.inner) (events_of lines) given h.hears w)
+    (λ lines given h w. c.in_ok-report.ensures.closed _ (contents c.args.writer.now.inner)
+    (events_of lines) given h.hears w)
     (λ lines given h. c.saved-left.ensures (start_of first) lines given h)
 
 pub returns-clause-once : goal.returns-clause-once
 returns-clause-once g c =
-    keeps-headline (start_from c.args.saved.now) (devices g.R.Read.remaining g.W.Write.contents c.args.reader.now c.run_lines.new.reader c.args.writer.now c.close.new.writer)
+    keeps-headline (start_from c.args.saved.now)
+    (devices g.R.Read.remaining g.W.Write.contents c.args.reader.now c.run_lines.new.reader
+    c.args.writer.now c.close.new.writer)
     c.in_ok-report.report (returns-clause-listens g c)

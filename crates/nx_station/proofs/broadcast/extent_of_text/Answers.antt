@@ -13,6 +13,14 @@ loop-i-preserved c =
     let few = rw c.unwrap-more.ensures at c.extent_of.ensures.few in
     let text = c.line_at-line.ensures.text in
     record {
-      spells = rw text (IsExtent-line (text_of (take c.loop-i.i lines)) line c.loop-i.extent c.unwrap-more.result before.spells c.line_at-line.ensures.in_code long after);
-      few = rw text (omega (arith, before.few, few, length-append (text_of (take c.loop-i.i lines)) (line ++ (10 ∷ [])), length-append line (10 ∷ [])));
+      spells = rw text (IsExtent-line (text_of (take c.loop-i.i lines)) line c.loop-i.extent
+          c.unwrap-more.result before.spells c.line_at-line.ensures.in_code long after);
+      few = rw text (omega (
+        arith,
+        before.few,
+        few,
+        length-append (text_of (take c.loop-i.i lines))
+            (line ++ (10 ∷ [])),
+        length-append line (10 ∷ []),
+      ));
     }

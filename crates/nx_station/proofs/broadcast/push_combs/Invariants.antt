@@ -5,4 +5,6 @@ use Rattle.nx_station.proofs.broadcast.push_combs.Given as goal
 
 abbrev pub invariant-loop-comb : goal.invariant-loop-comb
 invariant-loop-comb l =
-    map sent_position l.positions.items ≡ map sent_position l.fn.positions.items ++ map traffic_position (map (λ (comb : Comb). comb.number) (take l.comb-index l.combs))
+    map sent_position l.positions.items
+    ≡ map sent_position l.fn.positions.items
+    ++ map traffic_position (map (λ (comb : Comb). comb.number) (take l.comb-index l.combs))

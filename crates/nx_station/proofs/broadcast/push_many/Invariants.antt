@@ -3,4 +3,5 @@ use Rattle.nx_fec.specs.Emission.{sent_position}
 use Rattle.nx_station.proofs.broadcast.push_many.Given as goal
 
 abbrev pub invariant-loop : goal.invariant-loop
-invariant-loop l = map sent_position l.positions.items ≡ map sent_position l.fn.positions.items ++ replicate l.counter (sent_position l.position)
+invariant-loop l = map sent_position l.positions.items
+    ≡ map sent_position l.fn.positions.items ++ replicate l.counter (sent_position l.position)

@@ -13,11 +13,15 @@ pub unwrap-requires : goal.unwrap-requires
 unwrap-requires c =
     let d = c.args.digit in
     let range = digit_combination-range d c.requires in
-    is_some_of _ c.char_to_code.result (c.char_to_code.ensures.found (digit_combination d) Figures range.0 (omega (arith, range.1)) (digit_combination-prints d c.requires))
+    is_some_of _ c.char_to_code.result
+    (c.char_to_code.ensures.found (digit_combination d) Figures range.0 (omega (arith, range.1))
+    (digit_combination-prints d c.requires))
 
 pub returns : goal.returns
 returns c =
     let d = c.args.digit in
     let range = digit_combination-range d c.requires in
-    let found = rw c.unwrap.ensures at (c.char_to_code.ensures.found (digit_combination d) Figures range.0 (omega (arith, range.1)) (digit_combination-prints d c.requires)) in
+    let found = rw c.unwrap.ensures at
+    (c.char_to_code.ensures.found (digit_combination d) Figures range.0 (omega (arith, range.1))
+    (digit_combination-prints d c.requires)) in
     found.0

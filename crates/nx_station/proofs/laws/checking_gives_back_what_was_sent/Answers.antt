@@ -9,4 +9,5 @@ returns-clause-only c = checked-one
 
 pub returns-clause-back : goal.returns-clause-back
 returns-clause-back c limit station from file air text sent count h k =
-    checked-one limit air text _ count sent.messages k (sent-checked limit station from file air sent h k.file.file.within)
+    checked-one limit air text _ count sent.messages k
+    (sent-checked limit station from file air sent h k.file.file.within)

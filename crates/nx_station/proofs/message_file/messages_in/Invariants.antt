@@ -8,7 +8,8 @@ abbrev pub invariant-loop-rest : goal.invariant-loop-rest
 invariant-loop-rest l = record {
   whole : l.file ≡ message_file_bytes (map file_message_of l.messages.items) ++ l.rest;
   each : AllByRecursion IsFileMessage (map file_message_of l.messages.items);
-  station : AllByRecursion (λ (message : MessageView). message.identity.b1.byte ≡ l.station.byte) l.messages.items;
+  station : AllByRecursion (λ (message : MessageView). message.identity.b1.byte ≡ l.station.byte)
+      l.messages.items;
   counted : l.lines ≡ lines_of (map file_message_of l.messages.items);
   room : l.lines + length l.rest ≤ length l.file;
 }

@@ -11,23 +11,28 @@ use Rattle.nx_station.proofs.reading.read_emission.Goals as goal
 
 pub returns-in_err-messages-clause-fault : goal.returns-in_err-messages-clause-fault
 returns-in_err-messages-clause-fault c =
-    let p = err_from_is_err_and c.from_residual-in_err-messages.result c.from_residual-in_err-messages.ensures.1 in
+    let p = err_from_is_err_and c.from_residual-in_err-messages.result
+    c.from_residual-in_err-messages.ensures.1 in
     let checked = c.in_ok-check_words.ensures in
     rw p.1 (rw p.2 (unprinted-fault c.args.bits.now c.deref.result.now c.in_err-messages.field-0.0
-    record { whole = checked.whole; right = checked.right; paired = checked.paired } (c.deref.ensures.value ∙ c.in_ok-text.ensures) c.in_err-messages.ensures.fault))
+    record { whole = checked.whole; right = checked.right; paired = checked.paired }
+    (c.deref.ensures.value ∙ c.in_ok-text.ensures) c.in_err-messages.ensures.fault))
 
 pub returns-in_err-positions-clause-fault : goal.returns-in_err-positions-clause-fault
 returns-in_err-positions-clause-fault c =
-    let p = err_from_is_err_and c.from_residual-in_err-positions.result c.from_residual-in_err-positions.ensures.1 in
+    let p = err_from_is_err_and c.from_residual-in_err-positions.result
+    c.from_residual-in_err-positions.ensures.1 in
     let checked = c.in_ok-check_words.ensures in
     let why = c.in_err-positions.field-0.0 in
     let messages = c.in_ok-messages.messages.items in
-    let refused = subst (λ l. IsRefusal l why) c.deref-2.ensures.value c.in_err-positions.ensures.refused in
+    let refused = subst (λ l. IsRefusal l why) c.deref-2.ensures.value
+    c.in_err-positions.ensures.refused in
     rw p.1 (rw p.2 (refused-fault c.args.bits.now messages why
     record {
       checked = record { whole = checked.whole; right = checked.right; paired = checked.paired };
       sound = c.in_ok-messages.ensures.sound;
-      printed = sym c.in_ok-text.ensures ∙ sym c.deref.ensures.value ∙ c.in_ok-messages.ensures.messages;
+      printed = sym c.in_ok-text.ensures ∙ sym c.deref.ensures.value
+          ∙ c.in_ok-messages.ensures.messages;
     } refused))
 
 pub returns-then-ne-clause-fault : goal.returns-then-ne-clause-fault
@@ -39,19 +44,28 @@ returns-then-ne-clause-fault c =
     record {
       checked = record { whole = checked.whole; right = checked.right; paired = checked.paired };
       sound = c.in_ok-messages.ensures.sound;
-      printed = sym c.in_ok-text.ensures ∙ sym c.deref.ensures.value ∙ c.in_ok-messages.ensures.messages;
-    } (subst (λ l. IsBroadcast l positions) c.deref-2.ensures.value c.in_ok-positions.ensures.positions)
-    (c.in_ok-sent.ensures ∙ ap (λ l. bits_of (emission (map sent_position l))) c.deref-3.ensures.value)
-    (λ e. false≢true (sym (c.if-ne.ensures ∙ ap not ((pointwise_decides booleans_Decides c.as_slice.result.now c.args.bits.now).1 (c.as_slice.ensures.value ∙ e)))))
+      printed = sym c.in_ok-text.ensures ∙ sym c.deref.ensures.value
+          ∙ c.in_ok-messages.ensures.messages;
+    } (subst (λ l. IsBroadcast l positions) c.deref-2.ensures.value
+    c.in_ok-positions.ensures.positions)
+    (c.in_ok-sent.ensures ∙ ap (λ l. bits_of (emission (map sent_position l)))
+    c.deref-3.ensures.value)
+    (λ e. false≢true (sym (c.if-ne.ensures
+    ∙ ap not ((pointwise_decides booleans_Decides c.as_slice.result.now c.args.bits.now).1
+    (c.as_slice.ensures.value ∙ e)))))
 
 pub returns-clause-messages : goal.returns-clause-messages
 returns-clause-messages c =
     let messages = c.in_ok-messages.messages.items in
     let positions = map sent_position c.in_ok-positions.positions.items in
-    let own = c.in_ok-sent.ensures ∙ ap (λ l. bits_of (emission (map sent_position l))) c.deref-3.ensures.value in
+    let own = c.in_ok-sent.ensures
+    ∙ ap (λ l. bits_of (emission (map sent_position l))) c.deref-3.ensures.value in
     record {
       sendable = subst IsSendable c.deref-2.ensures.value c.in_ok-positions.ensures.sendable;
       positions = positions;
-      broadcast = subst (λ l. IsBroadcast l positions) c.deref-2.ensures.value c.in_ok-positions.ensures.positions;
-      whole = sym (sym c.as_slice.ensures.value ∙ (pointwise_decides booleans_Decides c.as_slice.result.now c.args.bits.now).0 (not-false _ (sym c.if-ne.ensures))) ∙ own;
+      broadcast = subst (λ l. IsBroadcast l positions) c.deref-2.ensures.value
+          c.in_ok-positions.ensures.positions;
+      whole = sym (sym c.as_slice.ensures.value
+          ∙ (pointwise_decides booleans_Decides c.as_slice.result.now c.args.bits.now).0
+          (not-false _ (sym c.if-ne.ensures))) ∙ own;
     }

@@ -17,44 +17,83 @@ use Rattle.nx_station.proofs.sending.send.Goals as goal
 
 -- the file has messages, all of the station
 abbrev AreThese : ℕ → List MessageView → List ℕ → Type 0
-AreThese station messages file = IsMessageFile file (map file_message_of messages) × AreOf station messages
+AreThese station messages file =
+    IsMessageFile file (map file_message_of messages) × AreOf station messages
 
 pub returns-in_default : goal.returns-in_default
 returns-in_default g c =
     let messages = c.in_ok-messages.messages in
-    let some : messages.items ≢ [] = λ e. false≢true (c.if-is_empty.ensures ∙ eq-eqb _ _ (omega (arith, ap length e, messages.ok.0))) in
-    let file = subst (λ l. IsMessageFile l (map file_message_of messages.items)) c.deref.ensures.value c.in_ok-messages.ensures.messages in
+    let some : messages.items ≢ [] =
+    λ e. false≢true (c.if-is_empty.ensures
+    ∙ eq-eqb _ _ (omega (arith, ap length e, messages.ok.0))) in
+    let file = subst (λ l. IsMessageFile l (map file_message_of messages.items))
+    c.deref.ensures.value c.in_ok-messages.ensures.messages in
     let none = rw c.in_default.is at c.next_slot.ensures.none refl in
-    unsent (devices g.R.Read.remaining g.W.Write.contents c.args.reader.now c.read_whole.new.reader c.args.writer.now c.args.writer.now) c.args.station.byte c.args.moment
-    c.in_ok-file.file c.in_ok-file.file.items (Send refusal.NoSlot) c.in_ok-file.ensures refl c.requires.writer tt
-    (λ AtEnd end few. (end, few, record { messages = messages.items; is_file = file; of_station = record { some = some; each = c.in_ok-messages.ensures.station }; none = none }))
+    unsent (devices g.R.Read.remaining g.W.Write.contents c.args.reader.now c.read_whole.new.reader
+    c.args.writer.now c.args.writer.now) c.args.station.byte c.args.moment
+    c.in_ok-file.file c.in_ok-file.file.items (Send refusal.NoSlot) c.in_ok-file.ensures refl
+    c.requires.writer tt
+    (λ AtEnd end few. (
+      end,
+      few,
+      record {
+        messages = messages.items;
+        is_file = file;
+        of_station =
+            record { some = some; each = c.in_ok-messages.ensures.station };
+        none = none;
+      },
+    ))
 
 pub returns-in_err-positions : goal.returns-in_err-positions
 returns-in_err-positions g c =
-    let p = err_from_is_err_and c.from_residual-in_err-positions.result c.from_residual-in_err-positions.ensures.1 in
+    let p = err_from_is_err_and c.from_residual-in_err-positions.result
+    c.from_residual-in_err-positions.ensures.1 in
     let why = c.in_err-positions.field-0.0 in
     let messages = c.in_ok-messages.messages in
-    let some : messages.items ≢ [] = λ e. false≢true (c.if-is_empty.ensures ∙ eq-eqb _ _ (omega (arith, ap length e, messages.ok.0))) in
-    let file = subst (λ l. IsMessageFile l (map file_message_of messages.items)) c.deref.ensures.value c.in_ok-messages.ensures.messages in
-    let refused = subst (λ l. IsRefusal l why) c.deref-2.ensures.value c.in_err-positions.ensures.refused in
-    rw p.1 (rw p.2 (unsent (devices g.R.Read.remaining g.W.Write.contents c.args.reader.now c.read_whole.new.reader c.args.writer.now c.args.writer.now) c.args.station.byte c.args.moment
-    c.in_ok-file.file c.in_ok-file.file.items (send_fault why) c.in_ok-file.ensures refl c.requires.writer (refusal-inside why)
-    (λ AtEnd end few. refusal-explains AtEnd c.args.station.byte c.args.moment c.in-Some.slot c.in_ok-file.file.items messages.items _ _ why end few file
-    record { some = some; each = c.in_ok-messages.ensures.station } c.in-Some.ensures.next refused)))
+    let some : messages.items ≢ [] =
+    λ e. false≢true (c.if-is_empty.ensures
+    ∙ eq-eqb _ _ (omega (arith, ap length e, messages.ok.0))) in
+    let file = subst (λ l. IsMessageFile l (map file_message_of messages.items))
+    c.deref.ensures.value c.in_ok-messages.ensures.messages in
+    let refused = subst (λ l. IsRefusal l why) c.deref-2.ensures.value
+    c.in_err-positions.ensures.refused in
+    rw p.1 (rw p.2 (unsent (devices g.R.Read.remaining g.W.Write.contents c.args.reader.now
+    c.read_whole.new.reader c.args.writer.now c.args.writer.now) c.args.station.byte
+    c.args.moment
+    c.in_ok-file.file c.in_ok-file.file.items (send_fault why) c.in_ok-file.ensures refl
+    c.requires.writer (refusal-inside why)
+    (λ AtEnd end few. refusal-explains AtEnd c.args.station.byte c.args.moment c.in-Some.slot
+    c.in_ok-file.file.items messages.items _ _ why end few file
+    record { some = some; each = c.in_ok-messages.ensures.station } c.in-Some.ensures.next
+    refused)))
 
 pub returns-in_err-write_air : goal.returns-in_err-write_air
 returns-in_err-write_air g c =
-    let p = err_from_is_err_and c.from_residual-in_err-write_air.result c.from_residual-in_err-write_air.ensures.1 in
+    let p = err_from_is_err_and c.from_residual-in_err-write_air.result
+    c.from_residual-in_err-write_air.ensures.1 in
     let wrote = c.in_err-write_air.ensures in
     let messages = c.in_ok-messages.messages in
     let positions = map sent_position c.in_ok-positions.positions.items in
-    let some : messages.items ≢ [] = λ e. false≢true (c.if-is_empty.ensures ∙ eq-eqb _ _ (omega (arith, ap length e, messages.ok.0))) in
-    let is = transmission-of c.args.station.byte c.args.moment c.in-Some.slot c.in_ok-file.file.items c.deref.result.now messages.items c.deref-2.result.now positions
-    c.as_bytes.result.now c.deref-4.result.now (length positions) (length messages.items) c.deref.ensures.value c.deref-2.ensures.value c.in_ok-messages.ensures.messages
-    record { some = some; each = c.in_ok-messages.ensures.station } c.in_ok-positions.ensures.sendable c.in-Some.ensures.next c.in_ok-positions.ensures.positions
-    (c.as_bytes.ensures.value ∙ c.in_ok-line.ensures) (c.deref-4.ensures.value ∙ c.in_ok-bits.ensures ∙ ap (λ l. bits_of (emission (map sent_position l))) c.deref-3.ensures.value) refl refl in
-    rw p.1 (rw p.2 (unwritten (devices g.R.Read.remaining g.W.Write.contents c.args.reader.now c.read_whole.new.reader c.args.writer.now c.write_air.new.writer) c.args.station.byte c.args.moment
-    c.in_ok-file.file c.in_ok-file.file.items (c.as_bytes.result.now ++ file_of (bit_lines c.deref-4.result.now)) _ c.in_err-write_air.field-0.0.written c.in_ok-file.ensures
+    let some : messages.items ≢ [] =
+    λ e. false≢true (c.if-is_empty.ensures
+    ∙ eq-eqb _ _ (omega (arith, ap length e, messages.ok.0))) in
+    let is = transmission-of c.args.station.byte c.args.moment c.in-Some.slot
+    c.in_ok-file.file.items c.deref.result.now messages.items c.deref-2.result.now positions
+    c.as_bytes.result.now c.deref-4.result.now (length positions) (length messages.items)
+    c.deref.ensures.value c.deref-2.ensures.value c.in_ok-messages.ensures.messages
+    record { some = some; each = c.in_ok-messages.ensures.station }
+    c.in_ok-positions.ensures.sendable c.in-Some.ensures.next
+    c.in_ok-positions.ensures.positions
+    (c.as_bytes.ensures.value ∙ c.in_ok-line.ensures)
+    (c.deref-4.ensures.value ∙ c.in_ok-bits.ensures
+    ∙ ap (λ l. bits_of (emission (map sent_position l))) c.deref-3.ensures.value) refl refl in
+    rw p.1 (rw p.2 (unwritten
+    (devices g.R.Read.remaining g.W.Write.contents c.args.reader.now c.read_whole.new.reader
+    c.args.writer.now c.write_air.new.writer) c.args.station.byte c.args.moment
+    c.in_ok-file.file c.in_ok-file.file.items
+    (c.as_bytes.result.now ++ file_of (bit_lines c.deref-4.result.now)) _
+    c.in_err-write_air.field-0.0.written c.in_ok-file.ensures
     (wrote.counts.failed.0 refl) is wrote.err))
 
 pub returns : goal.returns
@@ -62,12 +101,32 @@ returns g c =
     let wrote = c.in_ok-write_air.ensures in
     let messages = c.in_ok-messages.messages in
     let positions = map sent_position c.in_ok-positions.positions.items in
-    let some : messages.items ≢ [] = λ e. false≢true (c.if-is_empty.ensures ∙ eq-eqb _ _ (omega (arith, ap length e, messages.ok.0))) in
-    let count : c.len.result ≡ length positions = omega (arith, c.len.ensures, c.in_ok-positions.positions.ok.0, length-map c.in_ok-positions.positions.items sent_position) in
-    let all : c.len-2.result ≡ length messages.items = omega (arith, c.len-2.ensures, messages.ok.0) in
-    let is = transmission-of c.args.station.byte c.args.moment c.in-Some.slot c.in_ok-file.file.items c.deref.result.now messages.items c.deref-2.result.now positions
-    c.as_bytes.result.now c.deref-4.result.now c.len.result c.len-2.result c.deref.ensures.value c.deref-2.ensures.value c.in_ok-messages.ensures.messages
-    record { some = some; each = c.in_ok-messages.ensures.station } c.in_ok-positions.ensures.sendable c.in-Some.ensures.next c.in_ok-positions.ensures.positions
-    (c.as_bytes.ensures.value ∙ c.in_ok-line.ensures) (c.deref-4.ensures.value ∙ c.in_ok-bits.ensures ∙ ap (λ l. bits_of (emission (map sent_position l))) c.deref-3.ensures.value) count all in
-    sent-all (devices g.R.Read.remaining g.W.Write.contents c.args.reader.now c.read_whole.new.reader c.args.writer.now c.write_air.new.writer) c.args.station.byte c.args.moment
-    c.in_ok-file.file c.in_ok-file.file.items (c.as_bytes.result.now ++ file_of (bit_lines c.deref-4.result.now)) _ c.in_ok-file.ensures wrote.counts.none is wrote.ok
+    let some : messages.items ≢ [] =
+    λ e. false≢true (c.if-is_empty.ensures
+    ∙ eq-eqb _ _ (omega (arith, ap length e, messages.ok.0))) in
+    let count : c.len.result ≡ length positions =
+    omega (
+      arith,
+      c.len.ensures,
+      c.in_ok-positions.positions.ok.0,
+      length-map
+          c.in_ok-positions.positions.items sent_position,
+    ) in
+    let all : c.len-2.result ≡ length messages.items =
+    omega (arith, c.len-2.ensures, messages.ok.0) in
+    let is = transmission-of c.args.station.byte c.args.moment c.in-Some.slot
+    c.in_ok-file.file.items c.deref.result.now messages.items c.deref-2.result.now positions
+    c.as_bytes.result.now c.deref-4.result.now c.len.result c.len-2.result c.deref.ensures.value
+    c.deref-2.ensures.value c.in_ok-messages.ensures.messages
+    record { some = some; each = c.in_ok-messages.ensures.station }
+    c.in_ok-positions.ensures.sendable c.in-Some.ensures.next
+    c.in_ok-positions.ensures.positions
+    (c.as_bytes.ensures.value ∙ c.in_ok-line.ensures)
+    (c.deref-4.ensures.value ∙ c.in_ok-bits.ensures
+    ∙ ap (λ l. bits_of (emission (map sent_position l))) c.deref-3.ensures.value) count all in
+    sent-all (devices g.R.Read.remaining g.W.Write.contents c.args.reader.now
+    c.read_whole.new.reader c.args.writer.now c.write_air.new.writer) c.args.station.byte
+    c.args.moment
+    c.in_ok-file.file c.in_ok-file.file.items
+    (c.as_bytes.result.now ++ file_of (bit_lines c.deref-4.result.now)) _ c.in_ok-file.ensures
+    wrote.counts.none is wrote.ok

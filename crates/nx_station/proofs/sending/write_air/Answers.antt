@@ -4,7 +4,8 @@ use Rattle.nx_station.proofs.sending.write_air.Goals as goal
 
 pub returns-in-Err-clause-err : goal.returns-in-Err-clause-err
 returns-in-Err-clause-err g c =
-    let joined = WroteSome-after _ _ _ c.args.line.now _ _ c.in_ok-write_out.ensures.ok c.in-Err.ensures.err in
+    let joined = WroteSome-after _ _ _ c.args.line.now _ _ c.in_ok-write_out.ensures.ok
+    c.in-Err.ensures.err in
     record {
       taken = joined.taken;
       fewer = joined.fewer;

@@ -8,6 +8,10 @@ returns c = record {
   released = λ bits more t w how here r. IsReleased-more bits more t w here.enough r;
   words = word_at-more;
   roles = λ bits more t here. first_role-more bits more t here.enough here.heard;
-  seconds = λ bits more t k here h. (IsSecondPhasing1-less bits more t k here.enough h, IsSecondPhasing1-more bits more t k here.enough h);
+  seconds = λ bits more t k here h. (
+    IsSecondPhasing1-less bits more t k here.enough h,
+    IsSecondPhasing1-more bits more t k
+        here.enough h,
+  );
   wrong = wrong_until-more;
 }

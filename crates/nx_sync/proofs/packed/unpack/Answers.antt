@@ -7,8 +7,11 @@ loop-place-init c = (refl, refl)
 
 pub loop-place-preserved : goal.loop-place-preserved
 loop-place-preserved c =
-    let i = c.loop-place.invariant in
-    (simp length-set i.0, unpack-more c.loop-place.bits c.loop-place.place c.loop-place.rest i.0 c.loop-place-test.true ∙ i.1)
+    let i = c.loop-place.invariant in (
+      simp length-set i.0,
+      unpack-more c.loop-place.bits c.loop-place.place c.loop-place.rest i.0
+          c.loop-place-test.true ∙ i.1,
+    )
 
 pub returns : goal.returns
 returns c =

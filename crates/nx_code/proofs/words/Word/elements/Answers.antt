@@ -9,10 +9,14 @@ loop-place-init c = (refl, ap (elements_from 7) c.self.view_is)
 
 pub loop-place-preserved : goal.loop-place-preserved
 loop-place-preserved c =
-    let i = c.loop-place.invariant in
-    (simp length-set i.0, elements_from-more c.loop-place.bits c.loop-place.place c.loop-place.rest i.0 c.loop-place-test.true ∙ i.1)
+    let i = c.loop-place.invariant in (
+      simp length-set i.0,
+      elements_from-more c.loop-place.bits c.loop-place.place c.loop-place.rest
+          i.0 c.loop-place-test.true ∙ i.1,
+    )
 
 pub returns : goal.returns
 returns c =
     let i = c.loop-place.invariant in
-    sym (elements_from-all c.loop-place.bits c.loop-place.place c.loop-place.rest i.0 (omega arith)) ∙ i.1
+    sym (elements_from-all c.loop-place.bits c.loop-place.place c.loop-place.rest i.0 (omega arith))
+    ∙ i.1

@@ -8,4 +8,6 @@ pub returns-clause-latest : goal.returns-clause-latest
 returns-clause-latest c = grind (arith, common_steps)
 
 pub returns-clause-stands : goal.returns-clause-stands
-returns-clause-stands c words h = latest-push (map heard_as c.args.self.now) _ words (heard_as c.args.heard) h (returns-clause-latest c)
+returns-clause-stands c words h =
+    latest-push (map heard_as c.args.self.now) _ words (heard_as c.args.heard) h
+    (returns-clause-latest c)

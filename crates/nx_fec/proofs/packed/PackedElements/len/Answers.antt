@@ -7,5 +7,6 @@ use Rattle.nx_fec.proofs.packed.PackedElements.len.Goals as goal
 pub returns-clause-count : goal.returns-clause-count
 returns-clause-count c =
     let words = c.self.inside.words in
-    let size = length-take-le c.self.inside.length (elements_of_words words) (omega (arith, c.self.invariant, length-words words, c.self.told)) in
+    let size = length-take-le c.self.inside.length (elements_of_words words)
+    (omega (arith, c.self.invariant, length-words words, c.self.told)) in
     sym size ∙ ap length c.self.view_is

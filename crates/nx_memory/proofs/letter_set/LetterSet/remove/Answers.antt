@@ -4,8 +4,10 @@ use Rattle.nx_memory.proofs.letter_set.LetterSet.remove.Goals as goal
 
 pub returns : goal.returns
 returns c =
-    let changed = letters_of-set_false c.self.inside.flags c.place_in_alphabet.result c.args.letter.byte (omega arith) (omega arith) in
+    let changed = letters_of-set_false c.self.inside.flags c.place_in_alphabet.result
+    c.args.letter.byte (omega arith) (omega arith) in
     rw (← c.self.view_is, changed)
 
 pub invariant_of-self : goal.invariant_of-self
-invariant_of-self c = flags_of-set c.self.inside.flags c.place_in_alphabet.result false (omega arith)
+invariant_of-self c = flags_of-set c.self.inside.flags c.place_in_alphabet.result false
+    (omega arith)

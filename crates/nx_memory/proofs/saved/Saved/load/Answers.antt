@@ -5,18 +5,40 @@ use Rattle.nx_memory.proofs.saved.Saved.load.Goals as goal
 
 pub enter-requires-clause-not_before : goal.enter-requires-clause-not_before
 enter-requires-clause-not_before g c =
-    let content = subst IsContent (sym c.as_slice-entry-items.ensures.value) c.self.invariant.content in
-    newest-held _ _ _ _ (record { content = content; before = c.loop-entry.invariant; within = c.loop-entry-test.true; here = c.entry-item.is })
+    let content = subst IsContent (sym c.as_slice-entry-items.ensures.value)
+    c.self.invariant.content in
+    newest-held _ _ _ _ (record {
+      content = content;
+      before = c.loop-entry.invariant;
+      within =
+          c.loop-entry-test.true;
+      here = c.entry-item.is;
+    })
 
 pub enter-requires-clause-unknown : goal.enter-requires-clause-unknown
 enter-requires-clause-unknown g c =
-    let content = subst IsContent (sym c.as_slice-entry-items.ensures.value) c.self.invariant.content in
-    unknown-held _ _ _ _ (record { content = content; before = c.loop-entry.invariant; within = c.loop-entry-test.true; here = c.entry-item.is })
+    let content = subst IsContent (sym c.as_slice-entry-items.ensures.value)
+    c.self.invariant.content in
+    unknown-held _ _ _ _ (record {
+      content = content;
+      before = c.loop-entry.invariant;
+      within =
+          c.loop-entry-test.true;
+      here = c.entry-item.is;
+    })
 
 pub loop-entry-preserved : goal.loop-entry-preserved
 loop-entry-preserved g c =
-    let content = subst IsContent (sym c.as_slice-entry-items.ensures.value) c.self.invariant.content in
-    c.enter.ensures ∙ held-more _ _ _ _ (record { content = content; before = c.loop-entry.invariant; within = c.loop-entry-test.true; here = c.entry-item.is })
+    let content = subst IsContent (sym c.as_slice-entry-items.ensures.value)
+    c.self.invariant.content in
+    c.enter.ensures ∙ held-more _ _ _ _
+    (record {
+      content = content;
+      before = c.loop-entry.invariant;
+      within =
+          c.loop-entry-test.true;
+      here = c.entry-item.is;
+    })
 
 pub returns : goal.returns
 returns g c =

@@ -6,7 +6,8 @@ use Rattle.nx_memory.proofs.saved.Saved.of.Goals.{in-Some, in_default}
 
 pub loop-place-preserved : goal.loop-place-preserved
 loop-place-preserved g c =
-    let made : c.match-entry.entries.items ≡ c.loop-place.entries.items ++ one_of c.entry.result = elim c.match-entry.branch [ in-Some w ↦ search rules | in_default w ↦ search rules ] in
+    let made : c.match-entry.entries.items ≡ c.loop-place.entries.items ++ one_of c.entry.result =
+    elim c.match-entry.branch [ in-Some w ↦ search rules | in_default w ↦ search rules ] in
     made
     ∙ ap (λ (them : List MemoryEntry). them ++ one_of c.entry.result) c.loop-place.invariant
     ∙ rw c.entry.ensures (taken-more (g.M.Recall.content c.args.memory.now) c.loop-place.place)

@@ -7,7 +7,8 @@ use Rattle.nx_receiver.proofs.laws.chain.a_chain_logs_its_joined_copies.Goals as
 pub returns : goal.returns
 returns c = record {
   printed = λ first last runs chain. chain_prints first.entries first runs last refl chain;
-  log = λ first last runs chain. subst (λ copies. IsLog copies (all_logs runs)) (chain_prints first.entries first runs last refl chain) (chain_logs first runs last chain);
+  log = λ first last runs chain. subst (λ copies. IsLog copies (all_logs runs))
+      (chain_prints first.entries first runs last refl chain) (chain_logs first runs last chain);
   entries = λ first last runs chain few. chain_leaves first runs last few chain;
   selection = λ first last runs chain. chain_refuses first runs last chain;
 }

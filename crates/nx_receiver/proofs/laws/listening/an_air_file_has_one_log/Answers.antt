@@ -2,4 +2,10 @@ use Rattle.nx_receiver.proofs.listens.Moments.{one-closed, one-open, some-closed
 use Rattle.nx_receiver.proofs.laws.listening.an_air_file_has_one_log.Goals as goal
 
 pub returns : goal.returns
-returns c = record { some = some-closed; one = one-closed; some_open = some-open; one_open = one-open }
+returns c = record {
+  some = some-closed;
+  one = one-closed;
+  some_open = some-open;
+  one_open =
+      one-open;
+}

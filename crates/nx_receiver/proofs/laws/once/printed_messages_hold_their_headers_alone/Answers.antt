@@ -2,4 +2,5 @@ use Rattle.nx_receiver.proofs.emissions.Headers.{headers_of_messages, messages_h
 use Rattle.nx_receiver.proofs.laws.once.printed_messages_hold_their_headers_alone.Goals as goal
 
 pub returns : goal.returns
-returns c messages header good = (headers_of_messages messages header good, messages_have_headers messages header good)
+returns c messages header good =
+    (headers_of_messages messages header good, messages_have_headers messages header good)

@@ -6,7 +6,9 @@ use Rattle.nx_receiver.proofs.laws.sending.what_was_sent_is_printed.Goals as goa
 pub returns : goal.returns
 returns c = record {
   log = log_of_sent;
-  printed = λ station from file air log sent lines copies t is. sent_log station from file air sent t lines copies log is;
+  printed = λ station from file air log sent lines copies t is. sent_log station from file air sent
+      t lines copies log is;
   different = λ station from file air log sent lines copies t different is.
-      sent_log station from file air sent t lines copies log is ∙ all_printed sent.slot t.messages different;
+      sent_log station from file air sent t lines copies log is
+      ∙ all_printed sent.slot t.messages different;
 }

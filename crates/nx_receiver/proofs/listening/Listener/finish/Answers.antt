@@ -13,23 +13,30 @@ returns-in_default-clause-finished g c =
       [],
       record {
         entry = None;
-        stands = λ start events log awaits. subst (λ e. Stands content start c.finish.new.self events (log ++ entry_list e)) none (c.finish.ensures.stands start events log awaits);
+        stands = λ start events log awaits. subst
+            (λ e. Stands content start c.finish.new.self events (log ++ entry_list e)) none
+            (c.finish.ensures.stands start events log awaits);
         spelled = no-log;
         elements = refl;
         entries = λ fits. omega (arith, fits);
       },
-      λ old before given. subst (λ b. HasGiven old (g.W.Write.contents c.args.writer.now.inner) c.args.batch.now b) (sym (append-nil before)) given,
+      λ old before given. subst
+          (λ b. HasGiven old (g.W.Write.contents c.args.writer.now.inner) c.args.batch.now b)
+          (sym (append-nil before)) given,
     ))
 
 pub returns-clause-finished : goal.returns-clause-finished
 returns-clause-finished g c =
     rw (← c.self.view_is) (
     let bytes = c.deref.result.now in
-    let is = subst (λ b. IsEntry (copy_of c.in-Some.entry) b) (sym c.deref.ensures.0) c.entry_bytes.ensures in (
+    let is = subst (λ b. IsEntry (copy_of c.in-Some.entry) b) (sym c.deref.ensures.0)
+    c.entry_bytes.ensures in (
       bytes,
       record {
         entry = Some c.in-Some.entry;
-        stands = λ start events log awaits. subst (λ e. Stands content start c.finish.new.self events (log ++ entry_list e)) c.in-Some.is (c.finish.ensures.stands start events log awaits);
+        stands = λ start events log awaits. subst
+            (λ e. Stands content start c.finish.new.self events (log ++ entry_list e)) c.in-Some.is
+            (c.finish.ensures.stands start events log awaits);
         spelled = one-log (copy_of c.in-Some.entry) bytes is;
         elements = refl;
         entries = λ fits. c.saturating_add-self-inside.ensures;

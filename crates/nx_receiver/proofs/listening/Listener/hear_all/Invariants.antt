@@ -10,8 +10,11 @@ invariant-loop-at g l = record {
   none : l.writer.failures ≡ 0;
   within : l.at ≤ length l.bits;
   moment : l.self.has_moment ≡ l.fn.self.has_moment;
-  heard : (start : Start) (old : Option (List ℕ)) (events : List Event) → IsHearing start l.fn.self events (HasGiven old (g.W.Write.contents l.fn.writer.inner) l.fn.batch)
-      → IsHearing start l.self (events ++ elements (take l.at l.bits)) (HasGiven old (g.W.Write.contents l.writer.inner) l.batch);
+  heard : (start : Start) (old : Option (List ℕ)) (events : List Event)
+      → IsHearing start l.fn.self events
+      (HasGiven old (g.W.Write.contents l.fn.writer.inner) l.fn.batch)
+      → IsHearing start l.self (events ++ elements (take l.at l.bits))
+      (HasGiven old (g.W.Write.contents l.writer.inner) l.batch);
 }
 
 abbrev pub decreases-loop-at : goal.decreases-loop-at

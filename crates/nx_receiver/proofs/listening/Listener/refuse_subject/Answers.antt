@@ -14,7 +14,11 @@ unfolding elements_among
 returns-clause-taken c = rw (← c.self.view_is) (λ start lines given h.
     let byte = c.args.byte in
     let line = refuse_subject byte in
-    let allowed : is_vital byte ≡ false = ap is_vital (sym c.letter.ensures) ∙ ok-false Vital c.in-Ok.field-0 _ c.in-Ok.ensures.vital.1 in
-    goes_on start _ _ lines line given h allowed refl (moment-other lines line _ h.moment refl) refl refl
-    (λ log stands. subst (λ b. Stands content start c.refuse_subject.new.self (events_of lines ++ command (events.refuse_subject b) ∷ []) log) c.letter.ensures
+    let allowed : is_vital byte ≡ false =
+    ap is_vital (sym c.letter.ensures)
+    ∙ ok-false Vital c.in-Ok.field-0 _ c.in-Ok.ensures.vital.1 in
+    goes_on start _ _ lines line given h allowed refl (moment-other lines line _ h.moment refl) refl
+    refl
+    (λ log stands. subst (λ b. Stands content start c.refuse_subject.new.self
+    (events_of lines ++ command (events.refuse_subject b) ∷ []) log) c.letter.ensures
     (c.in-Ok.ensures.stands _ (events_of lines) log stands)))

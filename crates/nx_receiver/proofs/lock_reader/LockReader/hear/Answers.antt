@@ -15,14 +15,19 @@ returns-in-Dx-clause-stands c first words n reads is_word is_role =
     let sent = has_read_dx first words n _ dx (c.of.ensures.counts ∙ ap counts_as (sym is_word)) in
     let same = sym (positions-dx first words n dx) in
     record {
-      latest = subst (IsLatest c.dx.new.self) sent (c.dx.ensures.stands (dx_words first words n) before.latest);
+      latest = subst (IsLatest c.dx.new.self) sent
+          (c.dx.ensures.stands (dx_words first words n) before.latest);
       shift = before.shift ∙ ap (λ l. shift_after_all l Letters) same;
       finder = subst (λ l. StandsAfter c.self.inside.finder (text l Letters)) same before.finder;
     }
 
 pub returns-in-Dx-clause-hears : goal.returns-in-Dx-clause-hears
 returns-in-Dx-clause-hears c first words n reads is_word is_role =
-    inl (record { same = ap (λ l. text l Letters) (positions-dx first words n (sym is_role ∙ c.in-Dx.is)); nothing = refl })
+    inl (record {
+      same = ap (λ l. text l Letters)
+          (positions-dx first words n (sym is_role ∙ c.in-Dx.is));
+      nothing = refl;
+    })
 
 pub returns-in-Some-clause-stands : goal.returns-in-Some-clause-stands
 returns-in-Some-clause-stands c first words n reads is_word is_role =
@@ -30,11 +35,17 @@ returns-in-Some-clause-stands c first words n reads is_word is_role =
     let counts = c.of-in-Rx.ensures.counts ∙ ap counts_as (sym is_word) in
     let rx = c.rx-taken.ensures in
     let so_far = text_after first words n in
-    let read = has_read_rx before (sym is_role ∙ c.in-Rx.is) counts rx.stands rx.unchanged c.step.ensures.reading in
+    let read = has_read_rx before (sym is_role ∙ c.in-Rx.is) counts rx.stands rx.unchanged
+    c.step.ensures.reading in
     let grows : text_after first words (n + 1) ≡ text_after first words n ++ c.in-Some.byte ∷ [] =
     read.grows ∙ ap (λ o. so_far ++ option_to_list o) c.in-Some.is in
     let stands = c.hear.ensures.stands (text_after first words n) before.finder in
-    record { latest = read.latest; shift = read.shift; finder = subst (StandsAfter c.hear.new.self) (sym grows) stands }
+    record {
+      latest = read.latest;
+      shift = read.shift;
+      finder =
+          subst (StandsAfter c.hear.new.self) (sym grows) stands;
+    }
 
 pub returns-in-Some-clause-hears : goal.returns-in-Some-clause-hears
 returns-in-Some-clause-hears c first words n reads is_word is_role =
@@ -42,7 +53,8 @@ returns-in-Some-clause-hears c first words n reads is_word is_role =
     let counts = c.of-in-Rx.ensures.counts ∙ ap counts_as (sym is_word) in
     let rx = c.rx-taken.ensures in
     let so_far = text_after first words n in
-    let read = has_read_rx before (sym is_role ∙ c.in-Rx.is) counts rx.stands rx.unchanged c.step.ensures.reading in
+    let read = has_read_rx before (sym is_role ∙ c.in-Rx.is) counts rx.stands rx.unchanged
+    c.step.ensures.reading in
     inr (record {
       byte = c.in-Some.byte;
       grows = read.grows ∙ ap (λ o. so_far ++ option_to_list o) c.in-Some.is;
@@ -55,10 +67,17 @@ returns-in-None-clause-stands c first words n reads is_word is_role =
     let counts = c.of-in-Rx.ensures.counts ∙ ap counts_as (sym is_word) in
     let rx = c.rx-taken.ensures in
     let so_far = text_after first words n in
-    let read = has_read_rx before (sym is_role ∙ c.in-Rx.is) counts rx.stands rx.unchanged c.step.ensures.reading in
+    let read = has_read_rx before (sym is_role ∙ c.in-Rx.is) counts rx.stands rx.unchanged
+    c.step.ensures.reading in
     let same : text_after first words (n + 1) ≡ text_after first words n =
-    read.grows ∙ ap (λ o. so_far ++ option_to_list o) c.in-None.is ∙ append-nil (text_after first words n) in
-    record { latest = read.latest; shift = read.shift; finder = subst (StandsAfter c.self.inside.finder) (sym same) before.finder }
+    read.grows ∙ ap (λ o. so_far ++ option_to_list o) c.in-None.is
+    ∙ append-nil (text_after first words n) in
+    record {
+      latest = read.latest;
+      shift = read.shift;
+      finder =
+          subst (StandsAfter c.self.inside.finder) (sym same) before.finder;
+    }
 
 pub returns-in-None-clause-hears : goal.returns-in-None-clause-hears
 returns-in-None-clause-hears c first words n reads is_word is_role =
@@ -66,8 +85,10 @@ returns-in-None-clause-hears c first words n reads is_word is_role =
     let counts = c.of-in-Rx.ensures.counts ∙ ap counts_as (sym is_word) in
     let rx = c.rx-taken.ensures in
     let so_far = text_after first words n in
-    let read = has_read_rx before (sym is_role ∙ c.in-Rx.is) counts rx.stands rx.unchanged c.step.ensures.reading in
+    let read = has_read_rx before (sym is_role ∙ c.in-Rx.is) counts rx.stands rx.unchanged
+    c.step.ensures.reading in
     inl (record {
-      same = read.grows ∙ ap (λ o. so_far ++ option_to_list o) c.in-None.is ∙ append-nil (text_after first words n);
+      same = read.grows ∙ ap (λ o. so_far ++ option_to_list o) c.in-None.is
+          ∙ append-nil (text_after first words n);
       nothing = refl;
     })

@@ -4,4 +4,5 @@ use Rattle.nx_receiver.proofs.lock_reader.LockReader.restart.Goals as goal
 
 pub returns-clause-none : goal.returns-clause-none
 returns-clause-none c first words n reads none =
-    none_held c.args.self.now.finder.copy c.args.self.now.finder.text (text_after first words n) none reads.finder.copy
+    none_held c.args.self.now.finder.copy c.args.self.now.finder.text (text_after first words n)
+    none reads.finder.copy

@@ -10,6 +10,10 @@ returns-clause-stands g c start history log stands =
     let content = g.M.Recall.content in
     let first = first_setting start in
     let before = subst (λ r. Stands content start r history log) (sym c.self.view_is) stands in
-    let ended = c.end_text-found.ensures.all first (elements_among history) (settings first history) before.copies before.watch in
-    let all = subst (λ t. HasEndedAll first (elements_among history) (settings first history) (before.copies ++ handed_out c.end_text-found.result t)) (sym c.tag.ensures) ended in
-    prints_to_end content start history c.self.inside.memory before.copies log c.end_text-found.result c.tag.result (entry_list c.print_copy.result) all before.printed before.memory c.print_copy.ensures.printed
+    let ended = c.end_text-found.ensures.all first (elements_among history) (settings first history)
+    before.copies before.watch in
+    let all = subst (λ t. HasEndedAll first (elements_among history) (settings first history)
+    (before.copies ++ handed_out c.end_text-found.result t)) (sym c.tag.ensures) ended in
+    prints_to_end content start history c.self.inside.memory before.copies log
+    c.end_text-found.result c.tag.result (entry_list c.print_copy.result) all before.printed
+    before.memory c.print_copy.ensures.printed

@@ -22,22 +22,26 @@ returns-clause-stands g c start history log awaits =
     let found = c.match-over.found in
     let tag = c.tag-tag.result in
     let its = c.tag-tag.ensures in
-    let before : IsOver first inside h s copies c.args.over = subst (λ r. IsOver first r.watch h s copies c.args.over) (sym c.self.view_is) over in
+    let before : IsOver first inside h s copies c.args.over =
+    subst (λ r. IsOver first r.watch h s copies c.args.over) (sym c.self.view_is) over in
     let after : Handed first inside watch found tag h s copies =
     elim c.match-over.branch [
       | in-Nothing w ↦
           let is : watch ≡ inside = cc in
           let stands = subst (λ o. IsOver first inside h s copies o) w.in-Nothing.is before in
-          handed first inside inside watch None found tag h s copies is w.found-is its refl (none_handed first inside h s copies stands)
+          handed first inside inside watch None found tag h s copies is w.found-is its refl
+          (none_handed first inside h s copies stands)
       | in-Copy w ↦
           let is : watch ≡ w.take_copy-found.new.self = cc in
           let call = w.take_copy-found.ensures in
-          let stands = call.copy first h s copies (subst (λ o. IsOver first inside h s copies o) w.in-Copy.is before) in
+          let stands = call.copy first h s copies
+          (subst (λ o. IsOver first inside h s copies o) w.in-Copy.is before) in
           handed first inside _ watch _ found tag h s copies is w.found-is its call.force stands
       | in-Lock w ↦
           let is : watch ≡ w.end_text-found.new.self = cc in
           let call = w.end_text-found.ensures in
-          let stands = call.lock first h s copies (subst (λ o. IsOver first inside h s copies o) w.in-Lock.is before) in
+          let stands = call.lock first h s copies
+          (subst (λ o. IsOver first inside h s copies o) w.in-Lock.is before) in
           handed first inside _ watch _ found tag h s copies is w.found-is its call.force stands
       | in-CopyAndLock w ↦
           let is : watch ≡ w.end_text.new.self = cc in
@@ -47,8 +51,11 @@ returns-clause-stands g c start history log awaits =
           let lock = take.both first h s copies both in
           let all = ends.lock first h s _ lock in
           let none = both_ended first inside _ _ h s copies _ _ both lock all in
-          let stands = subst (λ l. WatchStands first w.end_text.new.self h s l) (none ∙ ap (λ t. copies ++ handed_out w.take_copy-found-in-CopyAndLock.result t) (sym ends.tag)) all in
-          handed first inside _ watch _ found tag h s copies is w.found-is its (ends.force ∙ take.force) stands
+          let stands = subst (λ l. WatchStands first w.end_text.new.self h s l)
+          (none ∙ ap (λ t. copies ++ handed_out w.take_copy-found-in-CopyAndLock.result t)
+          (sym ends.tag)) all in
+          handed first inside _ watch _ found tag h s copies is w.found-is its
+          (ends.force ∙ take.force) stands
     ] in
     let same : c.match-over.self-inside.memory ≡ c.self.inside.memory =
     elim c.match-over.branch [
@@ -57,7 +64,8 @@ returns-clause-stands g c start history log awaits =
       | in-Lock w ↦ ap (λ r. r.memory) w.self-inside-is
       | in-CopyAndLock w ↦ ap (λ r. r.memory) w.self-inside-is
     ] in
-    stands_with content start watch c.match-over.self-inside.memory c.print_copy.new.memory h s now copies log found tag (entry_list c.print_copy.result)
+    stands_with content start watch c.match-over.self-inside.memory c.print_copy.new.memory h s now
+    copies log found tag (entry_list c.print_copy.result)
     after.stands
     (after.force ∙ ap (λ r. in_force r.watch) c.self.view_is ∙ awaits.force)
     awaits.printed

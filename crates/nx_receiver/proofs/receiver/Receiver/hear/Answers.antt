@@ -12,7 +12,8 @@ returns-then-ne-clause-stands g c start history log stands =
     let bits = c.args.bits.now in
     let at = c.loop-at.at in
     let piece : List Bool = take part.result.0 (take (length bits - at) (drop at bits)) in
-    awaits_to g.M.Recall.content c.args.self.now c.loop-at.self part.new.self bits piece at part.result.0 part.result.1 c.loop-at.invariant (piece_is bits at part.result.0)
+    awaits_to g.M.Recall.content c.args.self.now c.loop-at.self part.new.self bits piece at
+    part.result.0 part.result.1 c.loop-at.invariant (piece_is bits at part.result.0)
     (λ start history log s. part.ensures.stands start history log s) start history log stands
 
 pub returns-then-ne-clause-first : goal.returns-then-ne-clause-first
@@ -21,9 +22,13 @@ returns-then-ne-clause-first g c start history log stands k lt =
     let bits = c.args.bits.now in
     let at = c.loop-at.at in
     let rest : List Bool = take (length bits - at) (drop at bits) in
-    let within = piece_within bits at part.result.0 c.loop-at.invariant.within part.ensures.within in
-    let none = prints_none g.M.Recall.content c.loop-at.self rest part.result.0 part.ensures.within part.ensures.first in
-    fed_before g.M.Recall.content c.args.self.now c.loop-at.self bits (take part.result.0 rest) at part.result.0 c.loop-at.invariant (piece_is bits at part.result.0) within none start history log stands k lt
+    let within = piece_within bits at part.result.0 c.loop-at.invariant.within
+    part.ensures.within in
+    let none = prints_none g.M.Recall.content c.loop-at.self rest part.result.0 part.ensures.within
+    part.ensures.first in
+    fed_before g.M.Recall.content c.args.self.now c.loop-at.self bits (take part.result.0 rest) at
+    part.result.0 c.loop-at.invariant (piece_is bits at part.result.0) within none start history
+    log stands k lt
 
 pub loop-at-preserved : goal.loop-at-preserved
 loop-at-preserved g c =
@@ -36,9 +41,12 @@ loop-at-preserved g c =
     let within = piece_within bits at n c.loop-at.invariant.within part.ensures.within in
     let none = prints_none content c.loop-at.self rest n part.ensures.within part.ensures.first in
     let nothing : part.result.1 ≡ Nothing = search rules in
-    let done = none_finished content c.loop-at.self part.new.self (take n rest) part.result.1 nothing (λ start history log s. part.ensures.stands start history log s) none in
-    fed_on content c.args.self.now c.loop-at.self part.new.self bits (take n rest) at n _ c.loop-at.invariant (piece_is bits at n) within done refl
+    let done = none_finished content c.loop-at.self part.new.self (take n rest) part.result.1
+    nothing (λ start history log s. part.ensures.stands start history log s) none in
+    fed_on content c.args.self.now c.loop-at.self part.new.self bits (take n rest) at n _
+    c.loop-at.invariant (piece_is bits at n) within done refl
 
 pub returns-clause-stands : goal.returns-clause-stands
 returns-clause-stands g c start history log stands =
-    awaits_nothing g.M.Recall.content start c.loop-at.self _ _ _ log (c.loop-at.invariant.stands start history log stands)
+    awaits_nothing g.M.Recall.content start c.loop-at.self _ _ _ log
+    (c.loop-at.invariant.stands start history log stands)

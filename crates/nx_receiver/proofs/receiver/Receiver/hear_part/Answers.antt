@@ -8,25 +8,31 @@ returns-clause-stands g c start history log stands =
     let content = g.M.Recall.content in
     let old : Receiving _ = record { watch = c.self.inside.watch; memory = c.self.inside.memory } in
     let piece = take c.hear-count.result.0 c.args.bits.now in
-    let done : Passed content old c.pass_over.new.self c.hear-count.new.self piece c.pass_over.result = record {
+    let done : Passed content old c.pass_over.new.self c.hear-count.new.self piece
+    c.pass_over.result = record {
       answer = c.hear-count.result.1;
       hears = c.hear-count.ensures.hears;
       passes = c.pass_over.ensures;
       force = c.hear-count.ensures.force;
     } in
-    awaits_on content old c.pass_over.new.self c.hear-count.new.self piece c.pass_over.result done start history log (subst (λ r. Stands content start r history log) (sym c.self.view_is) stands)
+    awaits_on content old c.pass_over.new.self c.hear-count.new.self piece c.pass_over.result done
+    start history log (subst (λ r. Stands content start r history log) (sym c.self.view_is)
+    stands)
 
 pub returns-clause-first : goal.returns-clause-first
 returns-clause-first g c start history log stands k lt =
     let content = g.M.Recall.content in
     let old : Receiving _ = record { watch = c.self.inside.watch; memory = c.self.inside.memory } in
     let piece = take c.hear-count.result.0 c.args.bits.now in
-    let done : Passed content old c.pass_over.new.self c.hear-count.new.self piece c.pass_over.result = record {
+    let done : Passed content old c.pass_over.new.self c.hear-count.new.self piece
+    c.pass_over.result = record {
       answer = c.hear-count.result.1;
       hears = c.hear-count.ensures.hears;
       passes = c.pass_over.ensures;
       force = c.hear-count.ensures.force;
     } in
     prints_none_of content old c.args.bits.now c.hear-count.result.0 c.hear-count.ensures.within
-    (λ start history log s k lt. printed_before content old c.pass_over.new.self c.hear-count.new.self piece c.pass_over.result done start history log s k lt)
-    start history log (subst (λ r. Stands content start r history log) (sym c.self.view_is) stands) k lt
+    (λ start history log s k lt. printed_before content old c.pass_over.new.self
+    c.hear-count.new.self piece c.pass_over.result done start history log s k lt)
+    start history log (subst (λ r. Stands content start r history log) (sym c.self.view_is) stands)
+    k lt

@@ -5,4 +5,5 @@ use Rattle.nx_receiver.proofs.receiver.Receiver.refuse_station.Goals as goal
 
 pub returns : goal.returns
 returns g c start history log stands =
-    stands_after _ _ _ _ a_command c.refuse_station.ensures start history log (subst (λ r. Stands g.M.Recall.content start r history log) (sym c.self.view_is) stands)
+    stands_after _ _ _ _ a_command c.refuse_station.ensures start history log
+    (subst (λ r. Stands g.M.Recall.content start r history log) (sym c.self.view_is) stands)

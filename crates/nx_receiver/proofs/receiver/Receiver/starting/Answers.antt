@@ -9,6 +9,9 @@ pub returns-clause-stands : goal.returns-clause-stands
 returns-clause-stands g c start entries moment selection =
     let cases = c.map_err.ensures.cases in
     let same = c.map_err.ensures.variant in
-    let stands = made _ _ (λ w. (first : Setting) → WatchStands first w [] [] []) _ _ cases same c.in_ok-watch.was c.new.ensures.stands in
-    let force = made _ _ (λ w. in_force w ≡ first_setting start) _ _ cases same c.in_ok-watch.was (c.new.ensures.force start moment selection) in
-    begins g.M.Recall.content start c.args.memory c.in_ok-watch.watch stands force entries c.newest.ensures.bounded
+    let stands = made _ _ (λ w. (first : Setting) → WatchStands first w [] [] []) _ _ cases same
+    c.in_ok-watch.was c.new.ensures.stands in
+    let force = made _ _ (λ w. in_force w ≡ first_setting start) _ _ cases same c.in_ok-watch.was
+    (c.new.ensures.force start moment selection) in
+    begins g.M.Recall.content start c.args.memory c.in_ok-watch.watch stands force entries
+    c.newest.ensures.bounded

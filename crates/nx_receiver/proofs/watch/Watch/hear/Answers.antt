@@ -13,8 +13,10 @@ returns-then-ne-clause-hears c =
     let bits = c.args.bits.now in
     let at = c.loop-at.at in
     let piece : List Bool = take part.result.0 (take (length bits - at) (drop at bits)) in
-    let is : piece ≡ take part.result.0 (drop at bits) = ap (take part.result.0) (rest_is bits at) in
-    goes_to c.args.self.now c.loop-at.self part.new.self bits piece at part.result.0 part.result.1 c.loop-at.invariant is part.ensures.hears
+    let is : piece ≡ take part.result.0 (drop at bits) =
+    ap (take part.result.0) (rest_is bits at) in
+    goes_to c.args.self.now c.loop-at.self part.new.self bits piece at part.result.0 part.result.1
+    c.loop-at.invariant is part.ensures.hears
 
 pub loop-at-preserved : goal.loop-at-preserved
 loop-at-preserved c =
@@ -22,10 +24,14 @@ loop-at-preserved c =
     let bits = c.args.bits.now in
     let at = c.loop-at.at in
     let piece : List Bool = take part.result.0 (take (length bits - at) (drop at bits)) in
-    let is : piece ≡ take part.result.0 (drop at bits) = ap (take part.result.0) (rest_is bits at) in
+    let is : piece ≡ take part.result.0 (drop at bits) =
+    ap (take part.result.0) (rest_is bits at) in
     let long = length-drop at bits in
-    let short : length (take (length bits - at) (drop at bits)) ≡ length (drop at bits) = ap length (rest_is bits at) in
-    let within : at + part.result.0 ≤ length bits = omega (arith, part.ensures.within, short, long, c.loop-at.invariant.within) in
+    let short : length (take (length bits - at) (drop at bits)) ≡ length (drop at bits) =
+    ap length (rest_is bits at) in
+    let within : at + part.result.0 ≤ length bits =
+    omega (arith, part.ensures.within, short, long, c.loop-at.invariant.within) in
     let nothing : part.result.1 ≡ Nothing = search rules in
     let heard = subst (HearsAll c.loop-at.self part.new.self piece) nothing part.ensures.hears in
-    goes_on c.args.self.now c.loop-at.self part.new.self bits piece at part.result.0 c.loop-at.invariant within is heard part.ensures.force part.ensures.tag
+    goes_on c.args.self.now c.loop-at.self part.new.self bits piece at part.result.0
+    c.loop-at.invariant within is heard part.ensures.force part.ensures.tag

@@ -7,9 +7,15 @@ use Rattle.nx_receiver.proofs.watch.Watch.hear_word.Goals as goal
 pub returns-clause-hears : goal.returns-clause-hears
 returns-clause-hears c = record {
   hears = λ first h s copies.
-      subst (λ w. WatchStands first w h s copies → HearsBits first w c.read.new.self h s copies c.args.bits.now c.read.result) c.self.view_is
-      (λ stands. word_heard first _ c.read.new.self c.push_word-step.new.self c.args.bits.now h s copies c.push_word-step.result c.read.result (c.told-bits) (c.push_word-step.ensures.stands h stands.synchroniser) (c.push_word-step.ensures.step h stands.synchroniser) c.read.ensures.step stands);
+      subst (λ w. WatchStands first w h s copies
+      → HearsBits first w c.read.new.self h s copies c.args.bits.now c.read.result)
+      c.self.view_is
+      (λ stands. word_heard first _ c.read.new.self c.push_word-step.new.self c.args.bits.now h s
+      copies c.push_word-step.result c.read.result (c.told-bits)
+      (c.push_word-step.ensures.stands h stands.synchroniser)
+      (c.push_word-step.ensures.step h stands.synchroniser) c.read.ensures.step stands);
 }
 
 pub returns-clause-force : goal.returns-clause-force
-returns-clause-force c = force_on _ c.read.new.self c.push_word-step.result c.read.result c.read.ensures.step ∙ ap in_force c.self.view_is
+returns-clause-force c = force_on _ c.read.new.self c.push_word-step.result c.read.result
+    c.read.ensures.step ∙ ap in_force c.self.view_is

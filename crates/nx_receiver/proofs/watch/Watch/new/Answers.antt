@@ -2,4 +2,5 @@ use Rattle.nx_receiver.proofs.watching.Hears.{nothing_heard}
 use Rattle.nx_receiver.proofs.watch.Watch.new.Goals as goal
 
 pub returns-clause-stands : goal.returns-clause-stands
-returns-clause-stands c first = nothing_heard first _ c.in_ok-synchroniser.ensures.stands (record { fresh = c.new-2.ensures })
+returns-clause-stands c first =
+    nothing_heard first _ c.in_ok-synchroniser.ensures.stands (record { fresh = c.new-2.ensures })

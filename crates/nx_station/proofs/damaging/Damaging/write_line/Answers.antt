@@ -13,7 +13,9 @@ use Rattle.nx_station.proofs.damaging.Damaging.write_line.Goals as goal
 
 pub copy_line-requires-clause-short : goal.copy_line-requires-clause-short
 copy_line-requires-clause-short c =
-    text-short c.args.scanner.now.latest (option_map (λ line. line.now) c.line.result) c.unwrap.result.now c.requires.line c.line.ensures (ap (option_map (λ line. line.now)) c.unwrap.ensures)
+    text-short c.args.scanner.now.latest (option_map (λ line. line.now) c.line.result)
+    c.unwrap.result.now c.requires.line c.line.ensures
+    (ap (option_map (λ line. line.now)) c.unwrap.ensures)
 
 pub returns-in-Some-Elements-clause-bytes : goal.returns-in-Some-Elements-clause-bytes
 returns-in-Some-Elements-clause-bytes c damage place line e at =
@@ -22,14 +24,21 @@ returns-in-Some-Elements-clause-bytes c damage place line e at =
     let said = c.in-Some-Elements.field-0-is in
     let kind : kind_of line ≡ Elements = cc in
     let bits = elements_of line in
-    let is = bytes-of-elements c.args.scanner.now.latest (option_map (λ line. line.now) c.line.result) c.unwrap.result.now c.copy_line.new.bytes.items line c.line.ensures (ap (option_map (λ line. line.now)) c.unwrap.ensures) e kind c.copy_line.ensures in
-    let long = line-long bits c.copy_line.new.bytes.items c.len-end.result is c.len-end.ensures.value in
-    let digits = line-digits bits c.deref_mut.result.now ((c.len-end.result - 1) - 2) (c.deref_mut.ensures.value ∙ is) long in
+    let is = bytes-of-elements c.args.scanner.now.latest
+    (option_map (λ line. line.now) c.line.result) c.unwrap.result.now
+    c.copy_line.new.bytes.items line c.line.ensures
+    (ap (option_map (λ line. line.now)) c.unwrap.ensures) e kind c.copy_line.ensures in
+    let long = line-long bits c.copy_line.new.bytes.items c.len-end.result is
+    c.len-end.ensures.value in
+    let digits = line-digits bits c.deref_mut.result.now ((c.len-end.result - 1) - 2)
+    (c.deref_mut.ensures.value ∙ is) long in
     let after = c.pass.ensures.digits damage place bits at digits in
     let damaged = damaged_elements damage place bits in
-    line-refilled bits c.copy_line.new.bytes.items c.deref_mut.result.now c.pass.new.digits ((c.len-end.result - 1) - 2) is c.deref_mut.ensures.value long
+    line-refilled bits c.copy_line.new.bytes.items c.deref_mut.result.now c.pass.new.digits
+    ((c.len-end.result - 1) - 2) is c.deref_mut.ensures.value long
     (ap length after ∙ length-map damaged element_digit ∙ length-damaged damage place bits)
-    ∙ ap (λ l. 66 ∷ 32 ∷ (l ++ 10 ∷ [])) after ∙ ap (λ l. line_bytes (damaged_line damage place l)) (sym (line-of-elements line kind))
+    ∙ ap (λ l. 66 ∷ 32 ∷ (l ++ 10 ∷ [])) after
+    ∙ ap (λ l. line_bytes (damaged_line damage place l)) (sym (line-of-elements line kind))
 
 pub returns-in-Some-Elements-clause-at : goal.returns-in-Some-Elements-clause-at
 returns-in-Some-Elements-clause-at c damage place line e at =
@@ -38,10 +47,16 @@ returns-in-Some-Elements-clause-at c damage place line e at =
     let said = c.in-Some-Elements.field-0-is in
     let kind : kind_of line ≡ Elements = cc in
     let bits = elements_of line in
-    let is = bytes-of-elements c.args.scanner.now.latest (option_map (λ line. line.now) c.line.result) c.unwrap.result.now c.copy_line.new.bytes.items line c.line.ensures (ap (option_map (λ line. line.now)) c.unwrap.ensures) e kind c.copy_line.ensures in
-    let long = line-long bits c.copy_line.new.bytes.items c.len-end.result is c.len-end.ensures.value in
-    let digits = line-digits bits c.deref_mut.result.now ((c.len-end.result - 1) - 2) (c.deref_mut.ensures.value ∙ is) long in
-    subst (λ n. IsAt damage c.pass.new.self (place + n)) (ap length digits ∙ length-map bits element_digit) (c.pass.ensures.at damage place at)
+    let is = bytes-of-elements c.args.scanner.now.latest
+    (option_map (λ line. line.now) c.line.result) c.unwrap.result.now
+    c.copy_line.new.bytes.items line c.line.ensures
+    (ap (option_map (λ line. line.now)) c.unwrap.ensures) e kind c.copy_line.ensures in
+    let long = line-long bits c.copy_line.new.bytes.items c.len-end.result is
+    c.len-end.ensures.value in
+    let digits = line-digits bits c.deref_mut.result.now ((c.len-end.result - 1) - 2)
+    (c.deref_mut.ensures.value ∙ is) long in
+    subst (λ n. IsAt damage c.pass.new.self (place + n))
+    (ap length digits ∙ length-map bits element_digit) (c.pass.ensures.at damage place at)
 
 pub returns-in-Some-Elements-clause-counted : goal.returns-in-Some-Elements-clause-counted
 returns-in-Some-Elements-clause-counted c damage place total line e at k =
@@ -50,7 +65,12 @@ returns-in-Some-Elements-clause-counted c damage place total line e at k =
     let said = c.in-Some-Elements.field-0-is in
     let kind : kind_of line ≡ Elements = cc in
     let bits = elements_of line in
-    let is = bytes-of-elements c.args.scanner.now.latest (option_map (λ line. line.now) c.line.result) c.unwrap.result.now c.copy_line.new.bytes.items line c.line.ensures (ap (option_map (λ line. line.now)) c.unwrap.ensures) e kind c.copy_line.ensures in
-    let long = line-long bits c.copy_line.new.bytes.items c.len-end.result is c.len-end.ensures.value in
-    let digits = line-digits bits c.deref_mut.result.now ((c.len-end.result - 1) - 2) (c.deref_mut.ensures.value ∙ is) long in
+    let is = bytes-of-elements c.args.scanner.now.latest
+    (option_map (λ line. line.now) c.line.result) c.unwrap.result.now
+    c.copy_line.new.bytes.items line c.line.ensures
+    (ap (option_map (λ line. line.now)) c.unwrap.ensures) e kind c.copy_line.ensures in
+    let long = line-long bits c.copy_line.new.bytes.items c.len-end.result is
+    c.len-end.ensures.value in
+    let digits = line-digits bits c.deref_mut.result.now ((c.len-end.result - 1) - 2)
+    (c.deref_mut.ensures.value ∙ is) long in
     c.pass.ensures.counted damage place total bits at digits k

@@ -10,8 +10,10 @@ returns-in-Ok-clause-taken g c first old lines line e h =
     let after = c.write_line.ensures in
     record {
       given = h.given ++ bytes;
-      stood = taken-more D c.args.self.now c.write_line.new.self lines line h.given bytes h.stood (λ place at. c.deref.ensures.0 ∙ after.bytes D place line e at)
-          (λ place at. after.at D place line e at) (λ place total at k. after.counted D place total line e at k);
+      stood = taken-more D c.args.self.now c.write_line.new.self lines line h.given bytes h.stood
+          (λ place at. c.deref.ensures.0 ∙ after.bytes D place line e at)
+          (λ place at. after.at D place line e at)
+          (λ place total at k. after.counted D place total line e at k);
       here = c.in-Ok.ensures.bytes old h.given h.here;
     }
 
@@ -22,7 +24,9 @@ returns-in-Err-clause-taken g c first old lines line e h =
     let after = c.write_line.ensures in
     record {
       given = h.given ++ bytes;
-      begun = (taken-more D c.args.self.now c.write_line.new.self lines line h.given bytes h.stood (λ place at. c.deref.ensures.0 ∙ after.bytes D place line e at)
-          (λ place at. after.at D place line e at) (λ place total at k. after.counted D place total line e at k)).whole;
+      begun = (taken-more D c.args.self.now c.write_line.new.self lines line h.given bytes h.stood
+          (λ place at. c.deref.ensures.0 ∙ after.bytes D place line e at)
+          (λ place at. after.at D place line e at)
+          (λ place total at k. after.counted D place total line e at k)).whole;
       some = c.in-Err.ensures.bytes old h.given h.here;
     }

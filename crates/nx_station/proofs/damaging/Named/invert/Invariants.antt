@@ -10,8 +10,11 @@ abbrev pub invariant-loop-at : goal.invariant-loop-at
 invariant-loop-at l = record {
   walk : IsOnWalk l.self l.at;
   few : l.count ≤ l.at;
-  digits : (damage : Damage) (place : ℕ) (bits : List Bool) → AreNamed damage place l.self bits → l.initial.digits ≡ map element_digit bits → l.digits ≡ map element_digit (front damage place l.at bits);
-  counted : (damage : Damage) (place : ℕ) (bits : List Bool) → AreNamed damage place l.self bits → l.initial.digits ≡ map element_digit bits → l.count ≡ front_count damage place l.at bits;
+  digits : (damage : Damage) (place : ℕ) (bits : List Bool) → AreNamed damage place l.self bits
+      → l.initial.digits ≡ map element_digit bits
+      → l.digits ≡ map element_digit (front damage place l.at bits);
+  counted : (damage : Damage) (place : ℕ) (bits : List Bool) → AreNamed damage place l.self bits
+      → l.initial.digits ≡ map element_digit bits → l.count ≡ front_count damage place l.at bits;
 }
 
 abbrev pub decreases-loop-at : goal.decreases-loop-at

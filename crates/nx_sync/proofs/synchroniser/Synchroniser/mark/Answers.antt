@@ -10,8 +10,11 @@ pub returns-then-len-eq-MARKS-clause-marks : goal.returns-then-len-eq-MARKS-clau
 returns-then-len-eq-MARKS-clause-marks c =
     let old : Held = c.args.self.now in
     let items : List Bool = c.self.inside.wrong.items in
-    let full : length items ≡ marked_words = omega (arith, c.len.ensures.len, c.if-len-eq-MARKS.true) in
+    let full : length items ≡ marked_words =
+    omega (arith, c.len.ensures.len, c.if-len-eq-MARKS.true) in
     let none : count_by (λ b. b) items ≡ 0 = sym c.self.invariant.4 ∙ c.if-self-eq0.true in
     let stay : old.wrong ≡ keep_last marked_words (old.wrong ++ c.args.is_wrong ∷ []) =
-    subst (λ xs. xs ≡ keep_last marked_words (xs ++ c.args.is_wrong ∷ [])) (ap (λ s. s.wrong) c.self.view_is) (marks_stay items c.args.is_wrong full none c.if-not-is_wrong.true) in
+    subst (λ xs. xs ≡ keep_last marked_words (xs ++ c.args.is_wrong ∷ []))
+    (ap (λ s. s.wrong) c.self.view_is)
+    (marks_stay items c.args.is_wrong full none c.if-not-is_wrong.true) in
     ap (λ xs. record old { wrong = xs }) stay

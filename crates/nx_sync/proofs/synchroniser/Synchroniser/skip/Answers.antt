@@ -10,13 +10,17 @@ returns-then-count-part c =
     let m : ℕ = c.skip_part-count.result in
     let i = c.loop-at.invariant in
     let s = c.skip_part-count.ensures in
-    let l : length (take n (drop at bits)) ≡ n = simp (length-take, length-drop) (omega (arith, c.min.ensures)) in
+    let l : length (take n (drop at bits)) ≡ n =
+    simp (length-take, length-drop) (omega (arith, c.min.ensures)) in
     let room : at + n ≤ length bits = omega (arith, c.min.ensures) in
     record {
       within = omega (arith, s.within, l);
-      held = part_held c.args.self.now bits at n m c.loop-at.self c.skip_part-count.new.self i.1 s room;
-      quiet = part_quiet c.args.self.now bits at n m c.loop-at.self c.skip_part-count.new.self i.1 s room i.2;
-      stops = λ h. part_stops c.args.self.now bits at n m c.loop-at.self c.skip_part-count.new.self i.1 s (omega (arith, l)) room;
+      held = part_held c.args.self.now bits at n m c.loop-at.self c.skip_part-count.new.self i.1 s
+          room;
+      quiet = part_quiet c.args.self.now bits at n m c.loop-at.self c.skip_part-count.new.self i.1 s
+          room i.2;
+      stops = λ h. part_stops c.args.self.now bits at n m c.loop-at.self c.skip_part-count.new.self
+          i.1 s (omega (arith, l)) room;
     }
 
 pub loop-at-preserved : goal.loop-at-preserved
@@ -27,10 +31,12 @@ loop-at-preserved c =
     let m : ℕ = c.skip_part-count.result in
     let i = c.loop-at.invariant in
     let s = c.skip_part-count.ensures in
-    let l : length (take n (drop at bits)) ≡ n = simp (length-take, length-drop) (omega (arith, c.min.ensures)) in
+    let l : length (take n (drop at bits)) ≡ n =
+    simp (length-take, length-drop) (omega (arith, c.min.ensures)) in
     let room : at + n ≤ length bits = omega (arith, c.min.ensures) in (
       omega (arith, s.within, l),
       part_held c.args.self.now bits at n m c.loop-at.self c.skip_part-count.new.self i.1 s room,
-      part_quiet c.args.self.now bits at n m c.loop-at.self c.skip_part-count.new.self i.1 s room i.2,
+      part_quiet c.args.self.now bits at n m c.loop-at.self c.skip_part-count.new.self i.1 s room
+          i.2,
       λ h. omega (arith, i.3 c.loop-at-test.true),
     )

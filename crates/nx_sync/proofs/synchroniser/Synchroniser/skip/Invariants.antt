@@ -2,7 +2,8 @@ use Rattle.std.proofs.Common.{ℕ, ◌≡◌, ◌+◌, ◌-◌, ◌<◌, ◌≤�
 use Rattle.nx_sync.specs.private.Calls.{heard_all, IsQuiet}
 use Rattle.nx_sync.proofs.synchroniser.Synchroniser.skip.Given as goal
 
--- the elements so far were heard, none of them ends a pattern, and the next one is not too early for one
+-- the elements so far were heard, none of them ends a pattern, and the next one is not too early
+-- for one
 abbrev pub invariant-loop-at : goal.invariant-loop-at
 invariant-loop-at l =
     (l.at ≤ length l.bits)

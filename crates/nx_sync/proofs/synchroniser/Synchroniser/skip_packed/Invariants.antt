@@ -8,7 +8,8 @@ abbrev pub invariant-loop-at : goal.invariant-loop-at
 invariant-loop-at l =
     (l.at ≤ l.count)
     × (l.self ≡ heard_all l.fn.self (take l.at (packed_part l.numbers l.from l.count)))
-    × ((k : ℕ) → k < l.at → IsQuiet (heard_all l.fn.self (take (k + 1) (packed_part l.numbers l.from l.count))))
+    × ((k : ℕ) → k < l.at → IsQuiet
+    (heard_all l.fn.self (take (k + 1) (packed_part l.numbers l.from l.count))))
 
 abbrev pub decreases-loop-at : goal.decreases-loop-at
 decreases-loop-at l = l.count - l.at

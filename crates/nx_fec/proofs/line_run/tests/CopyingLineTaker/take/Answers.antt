@@ -6,10 +6,13 @@ use Rattle.nx_fec.proofs.LineRunLemmas.{file_of-one}
 use Rattle.nx_fec.proofs.WritingLaws.{WroteSome-front}
 use Rattle.nx_fec.proofs.line_run.tests.CopyingLineTaker.take.Goals as goal
 
-spelled : (piece : List ℕ) (latest : Option Line) (line : Line) → Some piece ≡ option_map spelling latest → latest ≡ Some line → piece ≡ spelling line
-spelled piece latest line h e = let both : Some piece ≡ Some (spelling line) = h ∙ ap (option_map spelling) e in cc
+spelled : (piece : List ℕ) (latest : Option Line) (line : Line)
+    → Some piece ≡ option_map spelling latest → latest ≡ Some line → piece ≡ spelling line
+spelled piece latest line h e = let both : Some piece ≡ Some (spelling line) =
+    h ∙ ap (option_map spelling) e in cc
 
-copied : (lines : List Line) (line : Line) (given piece : List ℕ) → given ≡ file_of lines → piece ≡ spelling line → (given ++ piece) ++ 10 ∷ [] ≡ file_of (lines ++ line ∷ [])
+copied : (lines : List Line) (line : Line) (given piece : List ℕ) → given ≡ file_of lines
+    → piece ≡ spelling line → (given ++ piece) ++ 10 ∷ [] ≡ file_of (lines ++ line ∷ [])
 copied lines line given piece stood is =
     append_assoc given piece (10 ∷ [])
     ∙ ap (λ l. l ++ (piece ++ 10 ∷ [])) stood
@@ -20,14 +23,18 @@ pub returns-in-Err-clause-taken : goal.returns-in-Err-clause-taken
 returns-in-Err-clause-taken g c = λ first old lines line is h.
     record {
       given = (h.given ++ c.in-Some.line.now) ++ 10 ∷ [];
-      begun = copied lines line h.given c.in-Some.line.now h.stood (spelled _ c.args.scanner.now.latest line c.in-Some.ensures is);
-      some = WroteSome-front old _ (h.given ++ c.in-Some.line.now) (10 ∷ []) _ (c.in-Err.ensures.bytes old h.given h.here);
+      begun = copied lines line h.given c.in-Some.line.now h.stood
+          (spelled _ c.args.scanner.now.latest line c.in-Some.ensures is);
+      some = WroteSome-front old _ (h.given ++ c.in-Some.line.now) (10 ∷ []) _
+          (c.in-Err.ensures.bytes old h.given h.here);
     }
 
 pub returns-in-Err-give-clause-taken : goal.returns-in-Err-give-clause-taken
 returns-in-Err-give-clause-taken g c = λ first old lines line is h.
     record {
       given = (h.given ++ c.in-Some.line.now) ++ 10 ∷ [];
-      begun = copied lines line h.given c.in-Some.line.now h.stood (spelled _ c.args.scanner.now.latest line c.in-Some.ensures is);
-      some = c.in-Err-give.ensures.bytes old (h.given ++ c.in-Some.line.now) (c.in_default-give.ensures.bytes old h.given h.here);
+      begun = copied lines line h.given c.in-Some.line.now h.stood
+          (spelled _ c.args.scanner.now.latest line c.in-Some.ensures is);
+      some = c.in-Err-give.ensures.bytes old (h.given ++ c.in-Some.line.now)
+          (c.in_default-give.ensures.bytes old h.given h.here);
     }
