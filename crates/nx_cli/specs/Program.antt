@@ -9,6 +9,7 @@ use Rattle.std.specs.Fmt.{decimal}
 use Rattle.nx_fec.specs.Transfers.{CountedDevice, WroteSome, Devices}
 use Rattle.nx_fec.specs.Runs.{Decodes, Encodes, Shows}
 use Rattle.nx_fec.specs.TableText.{table_text}
+use Rattle.nx_locks.specs.Run.{ShowsLocks}
 use Rattle.nx_receiver.specs.Events.{at_zero}
 use Rattle.nx_receiver.specs.Listen.{Listens}
 use Rattle.nx_station.specs.Checking.{Checks}
@@ -19,7 +20,7 @@ use Rattle.nx_fec.specs.declared.fault.RunFault.TheVariants as run
 use Rattle.nx_station.specs.Slots.{HasNoSlot, IsNextSlot}
 use Rattle.nx_cli.specs.declared.words.Call.{Call}
 use Rattle.nx_cli.specs.declared.words.Call.TheVariants.{Check, Code, Decode, Encode, Listen, Show}
-use Rattle.nx_cli.specs.declared.words.Call.TheVariants.{Damage, Send, Slots}
+use Rattle.nx_cli.specs.declared.words.Call.TheVariants.{Damage, Locks, Send, Slots}
 use Rattle.nx_cli.specs.declared.fault.CallFault.{CallFault}
 use Rattle.nx_cli.specs.declared.fault.CallFault.TheVariants as call
 use Rattle.nx_cli.specs.declared.fault.Fault.{Fault}
@@ -97,6 +98,7 @@ Performs Code d outcome =
 Performs Show d outcome = Tells (λ why. call.Run why) (Shows d) outcome
 Performs Check d outcome = Tells (λ why. call.Check why) (Checks d) outcome
 Performs Listen d outcome = Tells (λ why. call.Listen why) (Listens at_zero d) outcome
+Performs Locks d outcome = Tells (λ why. call.Listen why) (ShowsLocks d) outcome
 Performs (Send station moment) d outcome =
     Tells (λ why. call.Send why) (Sends d station.byte moment) outcome
 Performs (Slots station moment) d outcome =

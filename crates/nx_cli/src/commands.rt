@@ -79,6 +79,63 @@ fn listen_command<'a>(alloc: Global) -> Command<'a>
         .after_long_help(LISTEN_EXAMPLE)
 }
 
+const LOCKS_SHORT: &str =
+    "An air file is text: lines of B with the elements on the air, 1 or 0 each, and
+lines of T with the time. A lock is a stretch of it in which a receiver reads
+words. --help says more, and how to find out why a log is empty.";
+
+const LOCKS_HELP: &str = "Print the locks of an air file and their running text.
+
+An air file is a text of what is on the air. A lock is a stretch of it in which
+a receiver reads words. It begins with phasing, and is over with the emission or
+where 40 of its last 64 words are wrong.
+
+Reads an air file of at most 268435456 bytes from standard input, to its end.
+Its lines are those that listen --help lists. The stations and subjects that
+they refuse are checked and change nothing here.
+
+Writes each lock to standard output, as soon as the line with its elements has
+come, whether a message stands in it or not:
+  a line         the time, and after how many elements the lock began
+  the text       as it is printed, with an asterisk for each lost character
+  a line         the time; whether the lock ended with the emission, was lost, or
+                 is open where the file ends; how many words it has, how many of
+                 them have other than four B, and how many copies of messages
+                 begin in its text
+  an empty line
+and at the end one line with the counts of elements, locks and copies.
+
+Why a log of listen is empty:
+  locks 0        the tones are exchanged, or the signal is too weak for a lock
+  lost locks     the signal is weak, or elements are lost or doubled
+  copies 0       a text was heard, but no first line of a message in it
+  copies 1 ...   the station or the subject of each copy is refused";
+
+const LOCKS_EXAMPLE: &str =
+    "Example: listen prints nothing of this file, since a part of the first line of
+its message was lost:
+  $ navtex damage all 160 6 < sent.air > lost.air
+  $ navtex listen < lost.air
+  $ navtex locks < lost.air
+  [2025-01-01 00:40:00 lock 28]
+  ZCZC EA*PQ
+  TEST
+  NNNN
+
+  [2025-01-01 00:40:00 open words 199 wrong 6 copies 0]
+
+  [elements 1421 locks 1 copies 0]";
+
+fn locks_command<'a>(alloc: Global) -> Command<'a>
+    ensures { IsBuiltAs (plain_tree (codes "locks")) result }
+{
+    Command::new(alloc, "locks")
+        .about("Print the locks of an air file and their running text")
+        .after_help(LOCKS_SHORT)
+        .long_about(LOCKS_HELP)
+        .after_long_help(LOCKS_EXAMPLE)
+}
+
 /// A command that takes a station and a moment.
 fn slot_command<'a>(alloc: Global, word: &'a str) -> Result<Command<'a>, AllocError>
     ensures { IfOk result (IsBuiltAs (slot_tree word.entry.now)) }
@@ -413,6 +470,7 @@ pub fn navtex_command<'a>(alloc: Global) -> Result<Command<'a>, AllocError>
 {
     bare_command(alloc)?
         .subcommand(listen_command(alloc))?
+        .subcommand(locks_command(alloc))?
         .subcommand(send_command(alloc)?)?
         .subcommand(slots_command(alloc)?)?
         .subcommand(check_command(alloc))?

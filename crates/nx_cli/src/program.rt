@@ -15,6 +15,7 @@ use crate::fault::{CallFault, Fault};
 use crate::slots::print_slot;
 use crate::words::{Call, WordsFault, call_of};
 use nx_fec::{Counting, RunFault, decode_run, encode_run, show_run, write_out, write_table};
+use nx_locks::locks;
 use nx_receiver::listen;
 use nx_station::{check_run, damage, send};
 use std::alloc::{AllocError, Global};
@@ -64,6 +65,9 @@ fn perform<R: Read, W: Write>(
         }
         Call::Listen => {
             listen(alloc, reader, writer)?;
+        }
+        Call::Locks => {
+            locks(alloc, reader, writer)?;
         }
         Call::Send { station, moment } => {
             send(alloc, reader, writer, station, moment)?;

@@ -14,6 +14,7 @@ mod listening;
 mod locking;
 mod reading;
 mod repeats;
+mod shown_locks;
 mod station;
 mod words;
 

@@ -33,6 +33,8 @@ pub enum Call {
     Check,
     /// Print the log of an air file.
     Listen,
+    /// Print the locks of an air file and their running text.
+    Locks,
     /// Write messages as an air file, to be sent in the station's next slot.
     Send {
         /// The station whose messages they are.
@@ -115,6 +117,7 @@ impl Call {
             "show" => Call::Show,
             "check" => Call::Check,
             "listen" => Call::Listen,
+            "locks" => Call::Locks,
             "send" => Call::Send {
                 station: station_in(arguments)?,
                 moment: number_in(arguments, "MOMENT")?,

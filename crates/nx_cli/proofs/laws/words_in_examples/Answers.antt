@@ -13,6 +13,7 @@ returns c = record {
   show = λ program. record { taken = refl; arguments = []; command = refl; given = tt };
   check = λ program. record { taken = refl; arguments = []; command = refl; given = tt };
   listen = λ program. record { taken = refl; arguments = []; command = refl; given = tt };
+  locks = λ program. record { taken = refl; arguments = []; command = refl; given = tt };
   help = λ program. inl refl;
   short_help = λ program. inl refl;
   help_of_call = λ program. inl refl;

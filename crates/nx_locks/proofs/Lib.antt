@@ -1,0 +1,9 @@
+pub mod ReaderWords
+pub mod Growing
+pub mod Bits
+pub mod Hears
+pub mod Ends
+pub mod Runs
+pub mod Taking
+pub mod OneReport
+pub mod FoundCopies

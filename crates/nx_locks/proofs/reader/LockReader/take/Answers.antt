@@ -1,0 +1,16 @@
+use Rattle.std.proofs.Common.{refl, ap, arith, length}
+use Rattle.nx_locks.proofs.ReaderWords.{headers_kept}
+use Rattle.nx_locks.proofs.reader.LockReader.take.Goals as goal
+
+pub returns-in_default : goal.returns-in_default
+returns-in_default c = rw (← c.self.view_is) (record {
+  headers = λ text stands. record {
+    stands = c.hear.ensures.stands text stands;
+    more = 0;
+    few = omega arith;
+    headers = omega (arith, ap length (headers_kept text c.args.byte c.hear.new.self c.hear.result (c.hear.ensures.hears text stands) c.in_default.not-Header));
+    copies = λ few. omega arith;
+  };
+  kept = refl;
+  few = omega arith;
+})

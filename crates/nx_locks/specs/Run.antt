@@ -1,0 +1,99 @@
+-- A run that shows the locks of an air file: the report of its lines, and its first fault (this
+-- profile). It reads the file as a run that listens does, with the same faults.
+use Rattle.std.specs.Prelude.{◌≡◌, ◌⊎◌, ℕ, ◌+◌, ◌≤◌, Bool, List, [], ◌++◌, length, map, Option, Result, Ok, Err, ⊤}
+use Rattle.std.specs.Io.KnownBytes.{Appends}
+use Rattle.nx_fec.specs.AirFile.{Line}
+use Rattle.nx_fec.specs.Lines.{StopsAt, air_limit}
+use Rattle.nx_fec.specs.Lines.{IsAirFile, file_of}
+use Rattle.nx_fec.specs.Transfers.{Devices, IsReadOut, Transfers, on_the_way}
+use Rattle.nx_receiver.specs.Events.{at_zero, elements_among, first_setting, settings}
+use Rattle.nx_receiver.specs.Listen.{AreTaken, HasListenFault, HasLoggedSome, events_of, in_force_after}
+use Rattle.nx_receiver.specs.declared.listen_fault.ListenFault.{ListenFault}
+use Rattle.nx_receiver.specs.declared.listen_fault.ListenFault.TheVariants.{Memory, Read, Write, LineCut}
+use Rattle.nx_locks.specs.Report.{IsReport, IsReportSoFar, now_headers, now_locks, past_headers}
+use Rattle.nx_locks.specs.declared.run.LocksReport.{LocksReport}
+
+-- the elements of lines, in order
+abbrev pub elements_of : List Line → List Bool
+elements_of lines = elements_among (events_of lines)
+
+-- the moment in force at each of them
+abbrev pub moments_of : List Line → List ℕ
+moments_of lines = map (λ setting. setting.moment) (settings (first_setting at_zero) (events_of lines))
+
+-- the moment in force after lines
+abbrev pub ending_of : List Line → ℕ
+ending_of lines = (in_force_after at_zero lines).moment
+
+-- the report so far of these lines, of which each is taken after those before it
+pub record IsReportOfLines (lines : List Line) (bytes : List ℕ) : Type 0 where
+  pub taken : AreTaken at_zero lines
+  pub report : IsReportSoFar (elements_of lines) (moments_of lines) bytes
+
+-- the report of an air file that is read to its end: its lines, each taken after those before it
+pub record IsReportOfFile (input : List ℕ) (lines : List Line) (bytes : List ℕ) : Type 0 where
+  pub file : IsAirFile air_limit input lines
+  pub taken : AreTaken at_zero lines
+  pub report : IsReport (elements_of lines) (moments_of lines) (ending_of lines) bytes
+
+abbrev pub IsReportOf : List ℕ → List ℕ → Type 0
+IsReportOf file bytes = (lines : List Line) × IsReportOfFile file lines bytes
+
+-- the report so far of these lines was written
+pub record HasShown (old new : Option (List ℕ)) (lines : List Line) : Type 0 where
+  pub bytes : List ℕ
+  pub report : IsReportOfLines lines bytes
+  pub written : Appends old new bytes
+
+-- the report of the whole file was written, and the answer counts its lines, its elements, its
+-- locks, and the headers in their texts
+pub record HasShownAll (old new : Option (List ℕ)) (file : List ℕ) (answer : LocksReport)
+    : Type 0 where
+  pub lines : List Line
+  pub bytes : List ℕ
+  pub report : IsReportOfFile file lines bytes
+  pub written : Appends old new bytes
+  pub lines_counted : answer.lines ≡ length lines
+  pub elements_counted : answer.elements ≡ length (elements_of lines)
+  pub locks_counted : answer.locks ≡ length report.report.locks + now_locks report.report.now
+  pub copies_counted : answer.copies
+      ≡ past_headers (elements_of lines) report.report.locks
+      + now_headers (elements_of lines) report.report.now
+
+-- What a fault of a run that shows locks says of the bytes that were read. The report so far of the
+-- whole lines before it was written, and nothing is closed but what was released. After a failed
+-- read no byte is left of which `IsLeft` doesn't hold. After a failed write the first bytes of the
+-- report of the lines that were read whole are written, closed if the file had ended. A want of
+-- memory says nothing of them. Each other fault is the first of the file; that of its end comes at
+-- its end.
+abbrev pub ExplainsShowing : Type 0 → (List ℕ → Type 0) → Option (List ℕ) → Option (List ℕ)
+    → List ℕ → ListenFault → Type 0
+ExplainsShowing AtEnd IsLeft old new bytes (Memory error) = ⊤
+ExplainsShowing AtEnd IsLeft old new bytes Read =
+    StopsAt bytes (λ lines rest more.
+    (length (file_of lines ++ rest) ≤ air_limit) × IsLeft more × HasShown old new lines)
+ExplainsShowing AtEnd IsLeft old new bytes (Write written) =
+    StopsAt bytes (λ lines rest more. HasLoggedSome (IsReportOfLines lines) old new written)
+    ⊎ (AtEnd × HasLoggedSome (IsReportOf bytes) old new written)
+ExplainsShowing AtEnd IsLeft old new bytes (LineCut line) =
+    AtEnd × HasListenFault at_zero (HasShown old new) bytes (LineCut line)
+ExplainsShowing AtEnd IsLeft old new bytes fault =
+    HasListenFault at_zero (HasShown old new) bytes fault
+
+-- what such a run answers of these bytes: counts, where the report of the file was written; or a
+-- fault
+abbrev pub AnswersShowing : Type 0 → (List ℕ → Type 0) → Option (List ℕ) → Option (List ℕ)
+    → Result LocksReport ListenFault → List ℕ → Type 0
+AnswersShowing AtEnd IsLeft old new (Ok answer) bytes = AtEnd × HasShownAll old new bytes answer
+AnswersShowing AtEnd IsLeft old new (Err fault) bytes =
+    ExplainsShowing AtEnd IsLeft old new bytes fault
+
+-- A run that shows locks: it answers so to the bytes that it read, and to the whole file, however
+-- it came; and it writes what the lines that it read give before each further read.
+abbrev pub ShowsLocks : {R W : Type 0} → Devices R W → Result LocksReport ListenFault → Type 0
+ShowsLocks d outcome =
+    Transfers Read (λ _. ⊥) (λ written. Write written) on_the_way d outcome (λ _. ⊤)
+    (λ bytes. AnswersShowing (IsReadOut d) (λ more. more ≡ []) (d.contents d.writer.inner)
+    (d.contents d.writer_after.inner) outcome bytes)
+    (λ bytes. AnswersShowing (Unit {0}) (λ more. Unit {0}) (d.contents d.writer.inner)
+    (d.contents d.writer_after.inner) outcome bytes)

@@ -1,0 +1,4 @@
+pub mod Reader
+pub mod Shower
+pub mod ShowerBegins
+pub mod Watch

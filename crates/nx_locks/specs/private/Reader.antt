@@ -1,0 +1,82 @@
+-- A reader of the text of a lock, and after which of its words it stands. `first` is the role of
+-- word 0 of the lock, and `words` gives each word's number.
+use Rattle.std.specs.Prelude.{◌≡◌, ℕ, ◌+◌, ◌-◌, ◌^◌, ◌<◌, ◌≤◌, Bool, if◌then◌else◌, not, List, [], ◌∷◌, ◌++◌, length, min, Option}
+use Rattle.std.specs.Option.{option_to_list}
+use Rattle.nx_code.specs.declared.printing.Printer.{Printer}
+use Rattle.nx_envelope.specs.Copies.{headers}
+use Rattle.nx_envelope.specs.Finder as finders
+use Rattle.nx_envelope.specs.declared.finder.Finder.{Finder}
+use Rattle.nx_fec.specs.declared.diversity.Diversity.{Diversity}
+use Rattle.nx_code.specs.Word.{is_wrong, wrong_in}
+use Rattle.nx_sync.specs.Words.{role_of}
+use Rattle.nx_sync.specs.declared.step.Role.{Role}
+use Rattle.nx_receiver.specs.Log.{is_of_lines}
+use Rattle.nx_receiver.specs.private.LockReader as receiver
+use Rattle.nx_receiver.specs.Watching.{LockReading}
+use Rattle.nx_receiver.specs.private.LockReader.{text_after}
+
+-- what contracts see of a reader: what arrived of the latest three DX words, the shift in force,
+-- the finder of the headers, three counts, and whether the last line of the text is open
+pub record Reading : Type 0 where
+  pub diversity : Diversity
+  pub printer : Printer
+  pub finder : Finder
+  pub words : ℕ
+  pub wrong : ℕ
+  pub copies : ℕ
+  pub is_line_open : Bool
+
+-- what reads the words
+abbrev pub reading_of : Reading → LockReading
+reading_of reader = record {
+  diversity = reader.diversity;
+  printer = reader.printer;
+  finder = reader.finder;
+}
+
+-- The reader stands after the first n words of a lock, and counted them, the wrong ones, and the
+-- headers in their text.
+pub record ReadsLock (reader : Reading) (first : Role) (words : ℕ → ℕ) (n : ℕ) : Type 0 where
+  pub reads : receiver.ReadsLock (reading_of reader) first words n
+  pub words_counted : reader.words ≡ n
+  pub wrong_counted : reader.wrong ≡ wrong_in words 0 n
+  pub copies_counted : reader.copies ≡ length (headers (text_after first words n))
+  pub wrong_few : reader.wrong ≤ n
+  pub copies_few : reader.copies ≤ n
+  pub line : reader.is_line_open ≡ not (is_of_lines (text_after first words n))
+
+-- the reader stands after no word of a lock, whichever lock comes
+pub record IsFresh (reader : Reading) : Type 0 where
+  pub fresh : (first : Role) (words : ℕ → ℕ) → ReadsLock reader first words 0
+
+-- the count after one more, at most the greatest number of 64 bits
+abbrev pub one_more : ℕ → ℕ
+one_more n = min (n + 1) (2 ^ 64 - 1)
+
+-- a word is counted, and as wrong where it is
+abbrev pub counted : Reading → ℕ → Reading
+counted reader word = record reader {
+  words = one_more reader.words;
+  wrong = if is_wrong word then one_more reader.wrong else reader.wrong;
+}
+
+-- a byte behind this text was taken: the headers are counted
+pub record TakesByte (old new : Reading) (text : List ℕ) (byte : ℕ) : Type 0 where
+  pub stands : finders.StandsAfter new.finder (text ++ byte ∷ [])
+  pub more : ℕ
+  pub few : more ≤ 1
+  pub headers : length (headers (text ++ byte ∷ [])) ≡ length (headers text) + more
+  pub copies : old.copies + more < 2 ^ 64 → new.copies ≡ old.copies + more
+
+-- a reader that stands after some words of a lock hears the next one: this is printed
+pub record HasHeard (new : Reading) (first : Role) (words : ℕ → ℕ) (n : ℕ) (printed : Option ℕ)
+    : Type 0 where
+  pub reads : ReadsLock new first words (n + 1)
+  pub grows : text_after first words (n + 1) ≡ text_after first words n ++ option_to_list printed
+
+-- The next word of a lock was heard, whichever lock it is of, and this was printed.
+pub record HearsWord (old new : Reading) (word : ℕ) (role : Role) (printed : Option ℕ) : Type 0 where
+  pub hears : (first : Role) (words : ℕ → ℕ) (n : ℕ) → ReadsLock old first words n
+      → words n ≡ word → role ≡ role_of first n → n + 1 < 2 ^ 64
+      → HasHeard new first words n printed
+  pub few : new.copies ≤ old.copies + 1

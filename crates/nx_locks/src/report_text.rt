@@ -1,0 +1,117 @@
+//! The lines of a report.
+
+ghost use Rattle.std.specs.Prelude.{◌≡◌, ◌+◌, ◌*◌, ◌≤◌, ℕ, List, [], ◌++◌, length};
+ghost use Rattle.arrayvec.specs.ArrayVec.{array_vec_len};
+ghost use Rattle.nx_envelope.specs.Moment.{IsShownAs, last_moment};
+ghost use Rattle.nx_locks.specs.ReportText.{closing_lines, how_name, last_line, opening_line};
+
+use arrayvec::ArrayVec;
+use itoa::Buffer;
+use nx_envelope::{CIVIL_LEN, civil};
+use nx_fec::MAX_ELEMENTS;
+use nx_sync::Change;
+
+/// The most bytes that one element brings: a byte of text, a newline, and the lines that close a
+/// lock, with a civil time, a word of at most 5 letters and three numbers of at most 20 digits.
+pub(crate) const MAX_STEP: usize = CIVIL_LEN + 94;
+
+/// The most bytes that the elements of a line bring.
+pub(crate) const MAX_SHOWN: usize = MAX_ELEMENTS * MAX_STEP;
+
+/// What the elements of a line bring.
+pub(crate) type Shown = ArrayVec<u8, MAX_SHOWN>;
+
+/// Appends the line that opens a lock after so many elements. The moment is at most the last one.
+// Not inlined, so that no loop over words has a place for a line.
+#[inline(never)]
+pub(crate) fn open_lock(shown: &mut Shown, moment: u64, elements: u64)
+    requires moment { moment ≤ last_moment }
+    requires room { array_vec_len shown.old + 113 ≤ 57856 }
+    ensures line { (civil : List ℕ) × IsShownAs moment civil
+        × (shown.new.items ≡ shown.old.items ++ opening_line civil elements) }
+    ensures few { array_vec_len shown.new ≤ array_vec_len shown.old + 113 }
+{
+    let Some(time) = civil(moment) else {
+        unreachable!()
+    };
+    append(shown, b"[");
+    append(shown, &time);
+    append(shown, b" lock ");
+    append(shown, Buffer::new().format(elements).as_bytes());
+    append(shown, b"]\n");
+}
+
+/// What is counted of a lock.
+#[derive(Clone, Copy, Debug)]
+pub(crate) struct Counts {
+    /// How many whole words it has.
+    pub(crate) words: u64,
+    /// How many of them have the wrong weight.
+    pub(crate) wrong: u64,
+    /// How many headers stand in its text.
+    pub(crate) copies: u64,
+}
+
+/// Appends the lines that close a lock, of which this came. The moment is at most the last one.
+// Not inlined, as `open_lock`.
+#[inline(never)]
+pub(crate) fn close_lock(shown: &mut Shown, moment: u64, how: Change, counts: Counts)
+    requires moment { moment ≤ last_moment }
+    requires room { array_vec_len shown.old + 111 ≤ 57856 }
+    ensures lines { (civil : List ℕ) × IsShownAs moment civil
+        × (shown.new.items
+        ≡ shown.old.items ++ closing_lines civil how counts.words counts.wrong counts.copies) }
+    ensures few { array_vec_len shown.new ≤ array_vec_len shown.old + 111 }
+{
+    let Some(time) = civil(moment) else {
+        unreachable!()
+    };
+    append(shown, b"[");
+    append(shown, &time);
+    append(shown, b" ");
+    append(shown, how_text(how).as_bytes());
+    append(shown, b" words ");
+    append(shown, Buffer::new().format(counts.words).as_bytes());
+    append(shown, b" wrong ");
+    append(shown, Buffer::new().format(counts.wrong).as_bytes());
+    append(shown, b" copies ");
+    append(shown, Buffer::new().format(counts.copies).as_bytes());
+    append(shown, b"]\n\n");
+}
+
+/// Appends the last line.
+pub(crate) fn end_report(shown: &mut Shown, elements: u64, locks: u64, copies: u64)
+    requires room { array_vec_len shown.old + 87 ≤ 57856 }
+    ensures line { shown.new.items ≡ shown.old.items ++ last_line elements locks copies }
+{
+    append(shown, b"[elements ");
+    append(shown, Buffer::new().format(elements).as_bytes());
+    append(shown, b" locks ");
+    append(shown, Buffer::new().format(locks).as_bytes());
+    append(shown, b" copies ");
+    append(shown, Buffer::new().format(copies).as_bytes());
+    append(shown, b"]\n");
+}
+
+/// What came of a lock, as it is printed.
+fn how_text(how: Change) -> &'static str
+    ensures name { result.now ≡ how_name how }
+    ensures short { length result.now ≤ 5 }
+{
+    match how {
+        Change::Locked => "open",
+        Change::Ended => "ended",
+        Change::LostLock => "lost",
+    }
+}
+
+/// Appends bytes, for which there is room.
+fn append(shown: &mut Shown, more: &[u8])
+    requires { array_vec_len shown.old + length more.now ≤ 57856 }
+    ensures items { shown.new.items ≡ shown.old.items ++ more.now }
+    ensures len { array_vec_len shown.new ≡ array_vec_len shown.old + length more.now }
+{
+    let Ok(()) = shown.try_extend_from_slice(more) else {
+        unreachable!()
+    };
+}

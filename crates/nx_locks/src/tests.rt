@@ -1,0 +1,149 @@
+//! Worked examples through `locks`: what it writes and answers, and its faults.
+
+mod emissions;
+
+use crate::{LocksReport, locks};
+use emissions::{AT_FIRST, EA01, EB02, after_pattern, air_file, emission};
+use nx_envelope::Letter;
+use nx_fec::Counting;
+use nx_receiver::ListenFault;
+use std::alloc::Global;
+use std::io;
+use std::io::{Error, ErrorKind, Read};
+use std::test::Fail;
+
+/// The report of EA01 with the one line TEST, sent at 2025-01-01 00:40:00.
+const EA01_REPORT: &[u8] = b"[2025-01-01 00:40:00 lock 28]\nZCZC EA01\nTEST\nNNNN\n\n\
+[2025-01-01 00:40:00 open words 199 wrong 0 copies 1]\n\n[elements 1421 locks 1 copies 1]\n";
+
+/// A reader that gives one byte for each call, and then fails or ends.
+#[derive(Drop)]
+struct Slow<'a> {
+    rest: &'a [u8],
+    fails: bool,
+}
+
+impl Read for Slow<'_> {
+    fn read(&mut self, buf: &mut [u8]) -> io::Result<usize> {
+        if self.rest.is_empty() && self.fails {
+            return Err(Error::from(ErrorKind::Other));
+        }
+        let count = self.rest.len().min(1).min(buf.len());
+        let (given, rest) = self.rest.split_at(count);
+        buf[..count].copy_from_slice(given);
+        self.rest = rest;
+        Ok(count)
+    }
+}
+
+/// What showing the locks of a file answers, and writes.
+fn shown<R: Read + Drop>(
+    alloc: Global,
+    reader: R,
+) -> Result<(Result<LocksReport, ListenFault>, Vec<u8>), Fail> {
+    let mut writer = Counting::new(Vec::new(alloc));
+    let outcome = locks(alloc, &mut Counting::new(reader), &mut writer);
+    Ok((outcome, writer.into_inner()))
+}
+
+/// The report of elements that are all heard at the first moment.
+fn report_of(alloc: Global, bits: &[bool]) -> Result<Vec<u8>, Fail> {
+    let file = air_file(alloc, AT_FIRST, bits)?;
+    let (outcome, report) = shown(alloc, file.as_slice())?;
+    outcome.or(Err("fault"))?;
+    Ok(report)
+}
+
+#[test]
+fn locks_of_ea01(rt: HostRuntime) -> Result<(), Fail> {
+    let file = air_file(rt.alloc(), AT_FIRST, &emission(rt.alloc(), &[EA01])?)?;
+    let counts = LocksReport {
+        lines: 4,
+        elements: 1421,
+        locks: 1,
+        copies: 1,
+    };
+    let (outcome, report) = shown(rt.alloc(), file.as_slice())?;
+    assert_eq!(rt; report.as_slice(), EA01_REPORT);
+    assert_eq!(rt; outcome, Ok(counts));
+    let slow = Slow {
+        rest: &file,
+        fails: false,
+    };
+    let (outcome, report) = shown(rt.alloc(), slow)?;
+    assert_eq!(rt; report.as_slice(), EA01_REPORT);
+    assert_eq!(rt; outcome, Ok(counts));
+    Ok(())
+}
+
+#[test]
+fn locks_that_are_over(rt: HostRuntime) -> Result<(), Fail> {
+    let x = emission(rt.alloc(), &[EA01])?;
+    // Three elements slip after a pattern.
+    let report = report_of(rt.alloc(), &after_pattern(rt.alloc(), 3, &x)?)?;
+    assert_eq!(rt;
+        report.as_slice(),
+        b"[2025-01-01 00:40:00 lock 28]\n********************\n\
+[2025-01-01 00:40:00 lost words 40 wrong 40 copies 0]\n\n\
+[2025-01-01 00:40:00 lock 311]\nZCZC EA01\nTEST\nNNNN\n\n\
+[2025-01-01 00:40:00 open words 163 wrong 0 copies 1]\n\n\
+[elements 1452 locks 2 copies 1]\n"
+            .as_slice()
+    );
+    // The roles are swapped after a pattern.
+    let (_, rest) = x.split_at_checked(7).ok_or("elements")?;
+    let report = report_of(rt.alloc(), &after_pattern(rt.alloc(), 0, rest)?)?;
+    assert_eq!(rt;
+        report.as_slice(),
+        b"[2025-01-01 00:40:00 lock 28]\n\
+[2025-01-01 00:40:00 ended words 6 wrong 0 copies 0]\n\n\
+[2025-01-01 00:40:00 lock 77]\nZCZC EA01\nTEST\nNNNN\n\n\
+[2025-01-01 00:40:00 open words 195 wrong 0 copies 1]\n\n\
+[elements 1442 locks 2 copies 1]\n"
+            .as_slice()
+    );
+    Ok(())
+}
+
+#[test]
+fn locks_of_two_messages(rt: HostRuntime) -> Result<(), Fail> {
+    let two = emission(rt.alloc(), &[EA01, EB02])?;
+    let report = report_of(rt.alloc(), &two)?;
+    assert_eq!(rt;
+        report.as_slice(),
+        b"[2025-01-01 00:40:00 lock 28]\nZCZC EA01\nTEST\nNNNN\n\nZCZC EB02\nNNNN\n\n\
+[2025-01-01 00:40:00 open words 313 wrong 0 copies 2]\n\n\
+[elements 2219 locks 1 copies 2]\n"
+            .as_slice()
+    );
+    Ok(())
+}
+
+#[test]
+fn locks_and_faults(rt: HostRuntime) -> Result<(), Fail> {
+    let (outcome, report) = shown(rt.alloc(), b"".as_slice())?;
+    assert_eq!(rt; outcome.map(|counts| counts.lines), Ok(0));
+    assert_eq!(rt;
+        report.as_slice(),
+        b"[elements 0 locks 0 copies 0]\n".as_slice()
+    );
+    // A fault in the text of a lock: what the lines before it show stands, and nothing is closed.
+    let mut file = air_file(rt.alloc(), AT_FIRST, &emission(rt.alloc(), &[EA01])?)?;
+    file.extend_from_slice(b"RJ L\n")?;
+    let (outcome, report) = shown(rt.alloc(), file.as_slice())?;
+    let subject = Letter::new(b'L').ok_or("subject")?;
+    assert_eq!(rt; outcome, Err(ListenFault::Vital { line: 5, subject }));
+    assert_eq!(rt;
+        report.as_slice(),
+        b"[2025-01-01 00:40:00 lock 28]\nZCZC EA01\nTEST\nNNNN\n\n".as_slice()
+    );
+    let (outcome, report) = shown(rt.alloc(), b"B 0\n".as_slice())?;
+    assert_eq!(rt; outcome, Err(ListenFault::NoMoment { line: 1 }));
+    assert!(rt; report.is_empty());
+    let mut space = [0; 10];
+    let mut writer = Counting::new(&mut space[..]);
+    let outcome = locks(rt.alloc(), &mut Counting::new(file.as_slice()), &mut writer);
+    assert_eq!(rt; outcome, Err(ListenFault::Write { written: 10 }));
+    assert_eq!(rt; &space[..], b"[2025-01-0".as_slice());
+    Ok(())
+}

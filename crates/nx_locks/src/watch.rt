@@ -1,0 +1,305 @@
+//! What shows the locks in the elements that arrive. What runs for each element or each word has a
+//! small answer.
+
+ghost use Rattle.std.specs.Prelude.{◌≡◌, ◌+◌, ◌*◌, ◌<◌, ◌≤◌, ℕ, List, Bool, [], ◌∷◌, ◌++◌, length, take, not, IfOk, IsTrue};
+ghost use Rattle.arrayvec.specs.ArrayVec.{array_vec_len};
+ghost use Rattle.nx_envelope.specs.Moment.{IsShownAs, last_moment};
+ghost use Rattle.nx_locks.specs.private.Watch.{EndsShown, HearsAll, Opens, ReadsWord, ShowsStep, WatchShows, closing_of};
+ghost use Rattle.nx_sync.specs.Synchroniser.{is_between_words, is_hunting};
+
+use crate::reader::LockReader;
+use crate::report_text::{Counts, Shown, close_lock, end_report, open_lock};
+use nx_code::{ELEMENTS, Word};
+use nx_envelope::NEWLINE;
+use nx_sync::{Change, Role, Step, Synchroniser};
+use std::alloc::{AllocError, Global};
+use std::marker::Model;
+
+/// A watch over the elements that arrive, which shows their locks.
+///
+/// It holds what the synchroniser and the reader of a lock hold, the moment in force, and counts.
+#[derive(Drop)]
+pub(crate) struct LockWatch {
+    synchroniser: Synchroniser,
+    reader: LockReader,
+    /// The moment in force, in whole seconds since 1970-01-01 00:00:00 UTC.
+    moment: u64,
+    /// How many elements were heard.
+    elements: u64,
+    /// How many locks began.
+    locks: u64,
+    /// How many headers stand in the texts of the locks that are over.
+    copies: u64,
+}
+
+impl Model for LockWatch {
+    ghost use Rattle.std.specs.Prelude.{◌≤◌};
+    ghost use Rattle.nx_envelope.specs.Moment.{last_moment};
+    ghost use Rattle.nx_locks.specs.private.Watch.{Watching};
+
+    ghost Value = { Watching };
+
+    ghost view = { λ w. record {
+      synchroniser = w.synchroniser;
+      reader = w.reader;
+      moment = w.moment;
+      elements = w.elements;
+      locks = w.locks;
+      copies = w.copies;
+    } };
+
+    ghost invariant = { λ w. w.moment ≤ last_moment };
+
+    // What contracts see gives every field back, so that no field for a history can stand beside
+    // them.
+    ghost inverse = { λ v. record {
+      synchroniser = v.synchroniser;
+      reader = v.reader;
+      moment = v.moment;
+      elements = v.elements;
+      locks = v.locks;
+      copies = v.copies;
+    } };
+}
+
+impl LockWatch {
+    /// A watch that has heard nothing, at moment 0. Fails where there is no memory for the
+    /// synchroniser.
+    pub(crate) fn new(alloc: Global) -> Result<LockWatch, AllocError>
+        ensures shows { IfOk result (λ watch. WatchShows watch [] [] []) }
+        ensures moment { IfOk result (λ watch. watch.moment ≡ 0) }
+    {
+        let synchroniser = Synchroniser::new(alloc)?;
+        Ok(LockWatch {
+            synchroniser,
+            reader: LockReader::new(),
+            moment: 0,
+            elements: 0,
+            locks: 0,
+            copies: 0,
+        })
+    }
+
+    /// The moment in force.
+    pub(crate) fn moment(&self) -> u64
+        ensures { result ≡ self.now.moment }
+    {
+        self.moment
+    }
+
+    /// Sets the moment in force, which is at most the last one.
+    pub(crate) fn set_moment(&mut self, moment: u64)
+        requires { moment ≤ last_moment }
+        ensures { self.new ≡ record self.old { moment = moment } }
+    {
+        self.moment = moment;
+    }
+
+    /// How many elements were heard.
+    pub(crate) fn elements(&self) -> u64
+        ensures { result ≡ self.now.elements }
+    {
+        self.elements
+    }
+
+    /// How many locks began.
+    pub(crate) fn locks(&self) -> u64
+        ensures { result ≡ self.now.locks }
+    {
+        self.locks
+    }
+
+    /// How many headers stand in the texts of the locks that are over.
+    pub(crate) fn copies(&self) -> u64
+        ensures { result ≡ self.now.copies }
+    {
+        self.copies
+    }
+
+    /// Hears elements, and appends what they show.
+    pub(crate) fn hear(&mut self, bits: &[bool], shown: &mut Shown)
+        requires room { array_vec_len shown.old + 113 * length bits.now ≤ 57856 }
+        ensures hears { HearsAll self.old self.new bits.now shown.old.items shown.new.items }
+    {
+        let mut at = 0;
+        while at < bits.len() {
+            at += self.hear_part(&bits[at..], shown);
+        }
+    }
+
+    /// Hears one or more elements, and appends what they show: those of a hunt, whole words, or one
+    /// element. Answers how many.
+    fn hear_part(&mut self, bits: &[bool], shown: &mut Shown) -> usize
+        requires some { 0 < length bits.now }
+        requires room { array_vec_len shown.old + 113 * length bits.now ≤ 57856 }
+        ensures within { result ≤ length bits.now }
+        ensures some { 0 < result }
+        ensures few { array_vec_len shown.new ≤ array_vec_len shown.old + 113 * result }
+        ensures hears { HearsAll self.old self.new (take result bits.now) shown.old.items
+            shown.new.items }
+    {
+        if !self.synchroniser.is_locked() {
+            return self.hunt(bits, shown);
+        }
+        if self.synchroniser.is_between_words() && bits.len() >= ELEMENTS {
+            return self.hear_words(bits, shown);
+        }
+        self.hear_element(bits[0], shown);
+        1
+    }
+
+    /// Hunts: hears elements up to and with the one that locks, all of them where none does.
+    fn hunt(&mut self, bits: &[bool], shown: &mut Shown) -> usize
+        requires hunting { IsTrue (is_hunting self.old.synchroniser) }
+        requires some { 0 < length bits.now }
+        requires room { array_vec_len shown.old + 113 * length bits.now ≤ 57856 }
+        ensures within { result ≤ length bits.now }
+        ensures some { 0 < result }
+        ensures few { array_vec_len shown.new ≤ array_vec_len shown.old + 113 * result }
+        ensures hears { HearsAll self.old self.new (take result bits.now) shown.old.items
+            shown.new.items }
+    {
+        let count = self.synchroniser.hunt(bits);
+        self.elements = self.elements.saturating_add(count as u64);
+        if count == bits.len() {
+            return count;
+        }
+        self.hear_element(bits[count], shown);
+        count + 1
+    }
+
+    /// Hears whole words, as many as there are up to the first that ends the lock.
+    fn hear_words(&mut self, bits: &[bool], shown: &mut Shown) -> usize
+        requires limit { IsTrue (is_between_words self.old.synchroniser) }
+        requires some { 7 ≤ length bits.now }
+        requires room { array_vec_len shown.old + 113 * length bits.now ≤ 57856 }
+        ensures within { result ≤ length bits.now }
+        ensures some { 0 < result }
+        ensures few { array_vec_len shown.new ≤ array_vec_len shown.old + 113 * result }
+        ensures hears { HearsAll self.old self.new (take result bits.now) shown.old.items
+            shown.new.items }
+    {
+        let mut at = 0;
+        while let Some(word) = bits[at..].first_chunk::<ELEMENTS>() {
+            self.hear_word(word, shown);
+            at += ELEMENTS;
+            if !self.synchroniser.is_between_words() {
+                return at;
+            }
+        }
+        at
+    }
+
+    /// Hears the seven elements of the next word of the lock.
+    // Inlined, since it is called for each word.
+    #[inline(always)]
+    fn hear_word(&mut self, bits: &[bool; ELEMENTS], shown: &mut Shown)
+        requires limit { IsTrue (is_between_words self.old.synchroniser) }
+        requires room { array_vec_len shown.old + 113 ≤ 57856 }
+        ensures few { array_vec_len shown.new ≤ array_vec_len shown.old + 113 }
+        ensures hears { HearsAll self.old self.new bits.now shown.old.items shown.new.items }
+    {
+        let step = self.synchroniser.push_word(bits);
+        self.elements = self.elements.saturating_add(ELEMENTS as u64);
+        self.show(step, shown);
+    }
+
+    /// Hears one element.
+    // Inlined, as `hear_word`.
+    #[inline(always)]
+    fn hear_element(&mut self, bit: bool, shown: &mut Shown)
+        requires room { array_vec_len shown.old + 113 ≤ 57856 }
+        ensures few { array_vec_len shown.new ≤ array_vec_len shown.old + 113 }
+        ensures hears { HearsAll self.old self.new (bit ∷ []) shown.old.items shown.new.items }
+    {
+        let step = self.synchroniser.push(bit);
+        self.elements = self.elements.saturating_add(1);
+        self.show(step, shown);
+    }
+
+    /// Shows what a step of the synchroniser brings.
+    // Inlined, so that the step is read where it is made.
+    #[inline(always)]
+    fn show(&mut self, step: Step, shown: &mut Shown)
+        requires room { array_vec_len shown.old + 113 ≤ 57856 }
+        ensures few { array_vec_len shown.new ≤ array_vec_len shown.old + 113 }
+        ensures shows { ShowsStep self.old self.new step shown.old.items shown.new.items }
+        ensures moment { self.new.moment ≡ self.old.moment }
+    {
+        let Step { word, change } = step;
+        match word {
+            Some((word, role)) => self.read(word, role, change, shown),
+            None => {
+                if change.is_some() {
+                    self.open(shown);
+                }
+            }
+        }
+    }
+
+    /// Opens a lock that was found.
+    #[inline(never)]
+    fn open(&mut self, shown: &mut Shown)
+        requires room { array_vec_len shown.old + 113 ≤ 57856 }
+        ensures few { array_vec_len shown.new ≤ array_vec_len shown.old + 113 }
+        ensures opens { Opens self.old self.new shown.old.items shown.new.items }
+        ensures moment { self.new.moment ≡ self.old.moment }
+    {
+        self.locks = self.locks.saturating_add(1);
+        open_lock(shown, self.moment, self.elements);
+    }
+
+    /// Reads a word of the lock, which may end it.
+    // Inlined, since it is called for each word.
+    #[inline(always)]
+    fn read(&mut self, word: Word, role: Role, change: Option<Change>, shown: &mut Shown)
+        requires room { array_vec_len shown.old + 113 ≤ 57856 }
+        ensures few { array_vec_len shown.new ≤ array_vec_len shown.old + 113 }
+        ensures reads { ReadsWord self.old self.new word role change shown.old.items
+            shown.new.items }
+        ensures moment { self.new.moment ≡ self.old.moment }
+    {
+        if let Some(byte) = self.reader.hear(word, role) {
+            shown.push(byte);
+        }
+        if let Some(how) = change {
+            self.close(how, shown);
+            self.copies = self.copies.saturating_add(self.reader.copies());
+            self.reader.restart();
+        }
+    }
+
+    /// Closes the text of the lock, of which this came.
+    #[inline(never)]
+    fn close(&self, how: Change, shown: &mut Shown)
+        requires room { array_vec_len shown.old + 112 ≤ 57856 }
+        ensures few { array_vec_len shown.new ≤ array_vec_len shown.old + 112 }
+        ensures closes { (civil : List ℕ) × IsShownAs self.now.moment civil
+            × (shown.new.items ≡ shown.old.items ++ closing_of self.now.reader civil how) }
+    {
+        if self.reader.is_line_open() {
+            shown.push(NEWLINE);
+        }
+        let counts = Counts {
+            words: self.reader.words(),
+            wrong: self.reader.wrong(),
+            copies: self.reader.copies(),
+        };
+        close_lock(shown, self.moment, how, counts);
+    }
+
+    /// Ends the report where the elements end: closes the lock that stands, if one does, and
+    /// appends the last line. Answers how many locks there are, and how many headers stand in their
+    /// texts.
+    pub(crate) fn end(&self, shown: &mut Shown) -> (u64, u64)
+        requires room { array_vec_len shown.old + 199 ≤ 57856 }
+        ensures ends { EndsShown self.now shown.old.items shown.new.items result }
+    {
+        if self.synchroniser.is_locked() {
+            self.close(Change::Locked, shown);
+        }
+        let copies = self.copies.saturating_add(self.reader.copies());
+        end_report(shown, self.elements, self.locks, copies);
+        (self.locks, copies)
+    }
+}
