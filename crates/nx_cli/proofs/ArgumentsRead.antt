@@ -13,9 +13,11 @@ if_none (Some x) P p = tt
 -- an argument that is the text of something
 module _ {T : Type 0} (text_of : T → Text) (name : Text) (f : Found) where
   pub text-some : (text : Text) → first_value f name ≡ Some text → (found : Option T)
-      → IfSome found (λ x. text ≡ text_of x) → IfSome found (λ x. first_of name (rows_of f) ≡ Some (text_of x))
+      → IfSome found (λ x. text ≡ text_of x)
+      → IfSome found (λ x. first_of name (rows_of f) ≡ Some (text_of x))
   text-some text is None some = tt
-  text-some text is (Some x) some = sym (first_value-rows f name) ∙ (is ∙ ap (λ (t : Text). Some t) some)
+  text-some text is (Some x) some =
+      sym (first_value-rows f name) ∙ (is ∙ ap (λ (t : Text). Some t) some)
 
   text-not : (text : Text) → first_value f name ≡ Some text → ((x : T) → text ≢ text_of x)
       → (x : T) → first_of name (rows_of f) ≡ Some (text_of x) → ⊥
@@ -30,13 +32,15 @@ module _ {T : Type 0} (text_of : T → Text) (name : Text) (f : Found) where
   text-none text is (Some x) none = tt
 
   -- and of no text
-  pub text-absent : first_value f name ≡ None → (x : T) → first_of name (rows_of f) ≡ Some (text_of x) → ⊥
+  pub text-absent : first_value f name ≡ None → (x : T)
+      → first_of name (rows_of f) ≡ Some (text_of x) → ⊥
   text-absent is x given =
       let bad : None ≡ Some (text_of x) = sym is ∙ (first_value-rows f name ∙ given) in
       absurd (cc)
 
 -- an argument that is a number, as the number that it is read as
-module _ {E : Type 0} (gives : List ℕ → Result ℕ E → Type 0) (only : (u : List ℕ) (x : Result ℕ E) → gives u x
+module _ {E : Type 0} (gives : List ℕ → Result ℕ E → Type 0)
+    (only : (u : List ℕ) (x : Result ℕ E) → gives u x
     → ParsesUnsigned 64 10 u x) (name : Text) (f : Found) where
   number-read : (t : Text) → one_text f name ≡ Some t → (r : Option ℕ) → ReadsOne gives t r
       → IfSome r (IsNumber name (rows_of f))
@@ -50,7 +54,8 @@ module _ {E : Type 0} (gives : List ℕ → Result ℕ E → Type 0) (only : (u 
       }
   number-read t is None read = tt
 
-  number-unread : (t : Text) → one_text f name ≡ Some t → (r : Option ℕ) → ReadsOne gives t r → IfNone r ((m : ℕ)
+  number-unread : (t : Text) → one_text f name ≡ Some t → (r : Option ℕ) → ReadsOne gives t r
+      → IfNone r ((m : ℕ)
       → IsNumber name (rows_of f) m → ⊥)
   number-unread t is (Some m) read = tt
   number-unread t is None read = λ m number.
@@ -59,12 +64,16 @@ module _ {E : Type 0} (gives : List ℕ → Result ℕ E → Type 0) (only : (u 
       let P : ℕ → Type 0 = λ n. n < 2 ^ 64 in
       let Q : Text → Type 0 = λ u. IsNumeral 10 (without_leading_plus u)
       × (digits_value 10 (without_leading_plus u) < 2 ^ 64) in
-      only t (Err read.0) read.1 (subst Q text_is (number.numeral, subst P number.value number.fits))
+      only t (Err read.0) read.1
+      (subst Q text_is (number.numeral, subst P number.value number.fits))
 
-  pub number-some : (o : Option Text) → one_text f name ≡ o → (r : Option ℕ) → (one_text f name ≡ None → r ≡ None)
-      → ((t : Text) → one_text f name ≡ Some t → ReadsOne gives t r) → IfSome r (IsNumber name (rows_of f))
+  pub number-some : (o : Option Text) → one_text f name ≡ o → (r : Option ℕ)
+      → (one_text f name ≡ None → r ≡ None)
+      → ((t : Text) → one_text f name ≡ Some t → ReadsOne gives t r)
+      → IfSome r (IsNumber name (rows_of f))
   number-some None is r none value =
-      let P : Option ℕ → Type 0 = λ x. IfSome x (IsNumber name (rows_of f)) in subst P (sym (none is)) tt
+      let P : Option ℕ → Type 0 = λ x. IfSome x (IsNumber name (rows_of f)) in
+      subst P (sym (none is)) tt
   number-some (Some t) is r none value = number-read t is r (value t is)
 
   pub number-none : (o : Option Text) → one_text f name ≡ o → (r : Option ℕ)

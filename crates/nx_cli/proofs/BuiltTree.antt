@@ -7,6 +7,7 @@ use Rattle.nx_cli.specs.private.Reading.{IsBuiltAs}
 pub with_one_more : (a b : App) (old sub new : Command) → IsBuiltAs a old → IsBuiltAs b sub
     → AddsSubcommand old sub new → IsBuiltAs (with_subcommand a b.top) new
 with_one_more a b old sub new built sub_built added = record {
-  tree = added.shape sub_built.local ∙ ap₂ with_subcommand built.tree (ap (λ (x : App). x.top) sub_built.tree);
+  tree = added.shape sub_built.local
+      ∙ ap₂ with_subcommand built.tree (ap (λ (x : App). x.top) sub_built.tree);
   local = added.globals ∙ ap₂ (λ x y. x || y) built.local sub_built.local;
 }

@@ -1,4 +1,5 @@
--- What the arguments of a call hold, as a function of them: at most one station, one kind of damage, and one number of
+-- What the arguments of a call hold, as a function of them: at most one station, one kind of
+-- damage, and one number of
 -- each name; and the call that is made of them.
 use mathlib.Core.HLevel.{is_prop→PathP, ×_prop}
 use native.Mathlib.Bridge.{le_prop}
@@ -53,7 +54,8 @@ pub record Reads {T : Type 0} (P : T → Type 0) (o : Option T) : Type 0 where
 
 reads-decided : {T : Type 0} (P : T → Type 0) → ((a b : T) → P a → P b → a ≡ b) → (d : IsDecided P)
     → Reads P (decided P d)
-reads-decided P once (inl x) = record { is = x.1; only = λ y p. ap (λ z. Some z) (once x.0 y x.1 p) }
+reads-decided P once (inl x) =
+    record { is = x.1; only = λ y p. ap (λ z. Some z) (once x.0 y x.1 p) }
 reads-decided P once (inr none) = record { is = tt; only = λ y p. absurd (none y p) }
 
 -- the station
@@ -65,11 +67,17 @@ station_once rows a b first second =
 station_of_byte : (b : ℕ) → ((s : Letter) × (b ≡ s.byte)) ⊎ ((s : Letter) → b ≢ s.byte)
 station_of_byte b = go (nat_le 65 b) (nat_le b 90) refl refl
   where
-    go : (low high : Bool) → nat_le 65 b ≡ low → nat_le b 90 ≡ high → ((s : Letter) × (b ≡ s.byte)) ⊎ ((s : Letter)
+    go : (low high : Bool) → nat_le 65 b ≡ low → nat_le b 90 ≡ high
+        → ((s : Letter) × (b ≡ s.byte)) ⊎ ((s : Letter)
         → b ≢ s.byte)
-    go true true l h = inl (record { byte = b; in_range = (leb-true 65 b l, leb-true b 90 h) }, refl)
-    go false high l h = inr (λ s e. let below = leb-false 65 b l in let low = s.in_range.0 in absurd (omega arith))
-    go true false l h = inr (λ s e. let above = leb-false b 90 h in let high = s.in_range.1 in absurd (omega arith))
+    go true true l h = inl (
+      record { byte = b; in_range = (leb-true 65 b l, leb-true b 90 h) },
+      refl,
+    )
+    go false high l h = inr (λ s e. let below = leb-false 65 b l in let low = s.in_range.0 in
+        absurd (omega arith))
+    go true false l h = inr (λ s e. let above = leb-false b 90 h in let high = s.in_range.1 in
+        absurd (omega arith))
 
 pub station_of_text : (o : Option Text) → ((s : Letter) × (o ≡ Some (s.byte ∷ []))) ⊎ ((s : Letter)
     → o ≢ Some (s.byte ∷ []))
@@ -105,13 +113,15 @@ kind_once rows a b first second =
     let same : Some (kind_name a) ≡ Some (kind_name b) = sym first ∙ second in
     same_kind a b (cc)
 
-pub no_kind : (text : Text) → text ≢ codes "dx" → text ≢ codes "rx" → text ≢ codes "all" → (kind : DamageKind)
+pub no_kind : (text : Text) → text ≢ codes "dx" → text ≢ codes "rx" → text ≢ codes "all"
+    → (kind : DamageKind)
     → Some text ≡ Some (kind_name kind) → ⊥
 no_kind text d r a Dx e = d (cc)
 no_kind text d r a Rx e = r (cc)
 no_kind text d r a All e = a (cc)
 
-pub kind_of_text : (o : Option Text) → ((k : DamageKind) × (o ≡ Some (kind_name k))) ⊎ ((k : DamageKind)
+pub kind_of_text : (o : Option Text)
+    → ((k : DamageKind) × (o ≡ Some (kind_name k))) ⊎ ((k : DamageKind)
     → o ≢ Some (kind_name k))
 kind_of_text None = inr (λ k e. absurd (cc))
 kind_of_text (Some text) = elim (is_or_not text (codes "dx")) [
@@ -129,14 +139,17 @@ abbrev pub kind_in : List Row → Option DamageKind
 kind_in rows = decided (IsKind rows) (kind_of_text (first_of (codes "KIND") rows))
 
 kind-reads : (rows : List Row) → Reads (IsKind rows) (kind_in rows)
-kind-reads rows = reads-decided (IsKind rows) (kind_once rows) (kind_of_text (first_of (codes "KIND") rows))
+kind-reads rows = reads-decided (IsKind rows) (kind_once rows)
+    (kind_of_text (first_of (codes "KIND") rows))
 
 -- a number
-pub number_once : (name : Text) (rows : List Row) (a b : ℕ) → IsNumber name rows a → IsNumber name rows b → a ≡ b
+pub number_once : (name : Text) (rows : List Row) (a b : ℕ) → IsNumber name rows a
+    → IsNumber name rows b → a ≡ b
 number_once name rows a b first second =
     let same : Some first.text ≡ Some second.text = sym first.given ∙ second.given in
     let is : first.text ≡ second.text = cc in
-    first.value ∙ (ap (λ (t : Text). digits_value 10 (without_leading_plus t)) is ∙ sym second.value)
+    first.value ∙ (ap (λ (t : Text). digits_value 10 (without_leading_plus t)) is
+    ∙ sym second.value)
 
 abbrev number : ValueParser
 number = parser.Unsigned 0 18446744073709551615
@@ -150,7 +163,8 @@ number-of name rows t is passes =
 
 pub number_of_text : (name : Text) (rows : List Row) (o : Option Text) → one_of name rows ≡ o
     → IsDecided (IsNumber name rows)
-number_of_text name rows None e = inr (λ m is. let bad : Some is.text ≡ None = sym is.given ∙ e in absurd (cc))
+number_of_text name rows None e =
+    inr (λ m is. let bad : Some is.text ≡ None = sym is.given ∙ e in absurd (cc))
 number_of_text name rows (Some t) e = go (accepts false number t) refl
   where
     go : (b : Bool) → accepts false number t ≡ b → IsDecided (IsNumber name rows)
@@ -161,46 +175,57 @@ number_of_text name rows (Some t) e = go (accepts false number t) refl
         let fits = is.fits in
         let value = is.value in
         let yes : accepts false number is.text ≡ true =
-        Accepts-accepts false number is.text (is.numeral, (omega arith), (omega arith), (omega arith)) in
-        let yes_too : accepts false number t ≡ true = ap (λ (u : Text). accepts false number u) (sym text_is) ∙ yes in
+        Accepts-accepts false number is.text
+        (is.numeral, (omega arith), (omega arith), (omega arith)) in
+        let yes_too : accepts false number t ≡ true =
+        ap (λ (u : Text). accepts false number u) (sym text_is) ∙ yes in
         absurd (cc))
 
 abbrev pub number_in : Text → List Row → Option ℕ
-number_in name rows = decided (IsNumber name rows) (number_of_text name rows (one_of name rows) refl)
+number_in name rows = decided (IsNumber name rows)
+    (number_of_text name rows (one_of name rows) refl)
 
 number-reads : (name : Text) (rows : List Row) → Reads (IsNumber name rows) (number_in name rows)
-number-reads name rows = reads-decided (IsNumber name rows) (number_once name rows) (number_of_text name rows
+number-reads name rows = reads-decided (IsNumber name rows) (number_once name rows)
+    (number_of_text name rows
     (one_of name rows) refl)
 
 -- the call of a station and a moment
 abbrev pub slot_call : (Letter → ℕ → Call) → List Row → Option Call
-slot_call make rows = option_and_then (λ s. option_map (λ m. make s m) (number_in (codes "MOMENT") rows))
+slot_call make rows = option_and_then
+    (λ s. option_map (λ m. make s m) (number_in (codes "MOMENT") rows))
     (station_in rows)
 
-pub slot_call-only : (make : Letter → ℕ → Call) (rows : List Row) (s : Letter) (m : ℕ) → IsStation rows s
+pub slot_call-only : (make : Letter → ℕ → Call) (rows : List Row) (s : Letter) (m : ℕ)
+    → IsStation rows s
     → IsNumber (codes "MOMENT") rows m → slot_call make rows ≡ Some (make s m)
 slot_call-only make rows s m is_s is_m =
     rw ((station-reads rows).only s is_s, (number-reads (codes "MOMENT") rows).only m is_m) refl
 
-pub slot_call-is : (make : Letter → ℕ → Call) (rows : List Row) (P : Call → Type 0) → ((s : Letter) (m : ℕ)
+pub slot_call-is : (make : Letter → ℕ → Call) (rows : List Row) (P : Call → Type 0)
+    → ((s : Letter) (m : ℕ)
     → IsStation rows s → IsNumber (codes "MOMENT") rows m → P (make s m))
     → IfSome (slot_call make rows) P
-slot_call-is make rows P has = go (station_in rows) (number_in (codes "MOMENT") rows) (station-reads rows).is
+slot_call-is make rows P has =
+    go (station_in rows) (number_in (codes "MOMENT") rows) (station-reads rows).is
     (number-reads (codes "MOMENT") rows).is
   where
-    go : (s : Option Letter) (m : Option ℕ) → IfSome s (IsStation rows) → IfSome m (IsNumber (codes "MOMENT") rows)
+    go : (s : Option Letter) (m : Option ℕ) → IfSome s (IsStation rows)
+        → IfSome m (IsNumber (codes "MOMENT") rows)
         → IfSome (option_and_then (λ s. option_map (λ m. make s m) m) s) P
     go None m is_s is_m = tt
     go (Some s) None is_s is_m = tt
     go (Some s) (Some m) is_s is_m = has s m is_s is_m
 
 -- where there is such a call, there is a station
-pub slot_call-station : (make : Letter → ℕ → Call) (rows : List Row) (call : Call) → slot_call make rows ≡ Some call
+pub slot_call-station : (make : Letter → ℕ → Call) (rows : List Row) (call : Call)
+    → slot_call make rows ≡ Some call
     → (letter : Letter) × IsStation rows letter
 slot_call-station make rows call made = go (station_in rows) (station-reads rows).is made
   where
     go : (s : Option Letter) → IfSome s (IsStation rows)
-        → option_and_then (λ s. option_map (λ m. make s m) (number_in (codes "MOMENT") rows)) s ≡ Some call
+        → option_and_then (λ s. option_map (λ m. make s m) (number_in (codes "MOMENT") rows)) s
+        ≡ Some call
         → (letter : Letter) × IsStation rows letter
     go None is e = absurd (cc)
     go (Some s) is e = (s, is)
@@ -209,11 +234,14 @@ slot_call-station make rows call made = go (station_in rows) (station-reads rows
 abbrev pub LacksSlot : List Row → Type 0
 LacksSlot rows = (s : Letter) (m : ℕ) → IsStation rows s → IsNumber (codes "MOMENT") rows m → ⊥
 
-pub slot_call-absent : (make : Letter → ℕ → Call) (rows : List Row) → LacksSlot rows → slot_call make rows ≡ None
-slot_call-absent make rows absent = go (station_in rows) (number_in (codes "MOMENT") rows) (station-reads rows).is
+pub slot_call-absent : (make : Letter → ℕ → Call) (rows : List Row) → LacksSlot rows
+    → slot_call make rows ≡ None
+slot_call-absent make rows absent =
+    go (station_in rows) (number_in (codes "MOMENT") rows) (station-reads rows).is
     (number-reads (codes "MOMENT") rows).is
   where
-    go : (s : Option Letter) (m : Option ℕ) → IfSome s (IsStation rows) → IfSome m (IsNumber (codes "MOMENT") rows)
+    go : (s : Option Letter) (m : Option ℕ) → IfSome s (IsStation rows)
+        → IfSome m (IsNumber (codes "MOMENT") rows)
         → option_and_then (λ s. option_map (λ m. make s m) m) s ≡ None
     go None m is_s is_m = refl
     go (Some s) None is_s is_m = refl
@@ -222,10 +250,12 @@ slot_call-absent make rows absent = go (station_in rows) (number_in (codes "MOME
 -- the call of a kind of damage, the first word and a count of words
 abbrev pub range_call : (DamageKind → ℕ → ℕ → Call) → List Row → Option Call
 range_call make rows =
-    option_and_then (λ k. option_and_then (λ f. option_map (λ c. make k f c) (number_in (codes "COUNT") rows))
+    option_and_then (λ k. option_and_then
+    (λ f. option_map (λ c. make k f c) (number_in (codes "COUNT") rows))
     (number_in (codes "FROM") rows)) (kind_in rows)
 
-pub range_call-only : (make : DamageKind → ℕ → ℕ → Call) (rows : List Row) (k : DamageKind) (f c : ℕ)
+pub range_call-only : (make : DamageKind → ℕ → ℕ → Call) (rows : List Row) (k : DamageKind)
+    (f c : ℕ)
     → IsKind rows k → IsNumber (codes "FROM") rows f → IsNumber (codes "COUNT") rows c
     → range_call make rows ≡ Some (make k f c)
 range_call-only make rows k f c is_k is_f is_c =
@@ -240,12 +270,14 @@ pub range_call-is : (make : DamageKind → ℕ → ℕ → Call) (rows : List Ro
     → IsNumber (codes "COUNT") rows c → P (make k f c))
     → IfSome (range_call make rows) P
 range_call-is make rows P has =
-    go (kind_in rows) (number_in (codes "FROM") rows) (number_in (codes "COUNT") rows) (kind-reads rows).is
+    go (kind_in rows) (number_in (codes "FROM") rows) (number_in (codes "COUNT") rows)
+    (kind-reads rows).is
     (number-reads (codes "FROM") rows).is (number-reads (codes "COUNT") rows).is
   where
     go : (k : Option DamageKind) (f c : Option ℕ) → IfSome k (IsKind rows)
         → IfSome f (IsNumber (codes "FROM") rows) → IfSome c (IsNumber (codes "COUNT") rows)
-        → IfSome (option_and_then (λ k. option_and_then (λ f. option_map (λ c. make k f c) c) f) k) P
+        → IfSome (option_and_then (λ k. option_and_then (λ f. option_map (λ c. make k f c) c) f) k)
+        P
     go None f c is_k is_f is_c = tt
     go (Some k) None c is_k is_f is_c = tt
     go (Some k) (Some f) None is_k is_f is_c = tt
@@ -256,7 +288,8 @@ pub range_call-kind : (make : DamageKind → ℕ → ℕ → Call) (rows : List 
 range_call-kind make rows call made = go (kind_in rows) (kind-reads rows).is made
   where
     go : (k : Option DamageKind) → IfSome k (IsKind rows)
-        → option_and_then (λ k. option_and_then (λ f. option_map (λ c. make k f c) (number_in (codes "COUNT") rows))
+        → option_and_then (λ k. option_and_then
+        (λ f. option_map (λ c. make k f c) (number_in (codes "COUNT") rows))
         (number_in (codes "FROM") rows)) k ≡ Some call
         → (kind : DamageKind) × IsKind rows kind
     go None is e = absurd (cc)
@@ -264,12 +297,14 @@ range_call-kind make rows call made = go (kind_in rows) (kind-reads rows).is mad
 
 abbrev pub LacksRange : List Row → Type 0
 LacksRange rows =
-    (k : DamageKind) (f c : ℕ) → IsKind rows k → IsNumber (codes "FROM") rows f → IsNumber (codes "COUNT") rows c → ⊥
+    (k : DamageKind) (f c : ℕ) → IsKind rows k → IsNumber (codes "FROM") rows f
+    → IsNumber (codes "COUNT") rows c → ⊥
 
 pub range_call-absent : (make : DamageKind → ℕ → ℕ → Call) (rows : List Row) → LacksRange rows
     → range_call make rows ≡ None
 range_call-absent make rows absent =
-    go (kind_in rows) (number_in (codes "FROM") rows) (number_in (codes "COUNT") rows) (kind-reads rows).is
+    go (kind_in rows) (number_in (codes "FROM") rows) (number_in (codes "COUNT") rows)
+    (kind-reads rows).is
     (number-reads (codes "FROM") rows).is (number-reads (codes "COUNT") rows).is
   where
     go : (k : Option DamageKind) (f c : Option ℕ) → IfSome k (IsKind rows)

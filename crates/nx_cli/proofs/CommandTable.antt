@@ -1,4 +1,5 @@
--- The commands of the program by name: what each takes, and the call that it makes of its arguments. A new command is
+-- The commands of the program by name: what each takes, and the call that it makes of its
+-- arguments. A new command is
 -- a row here and, where it takes what no other does, a kind of row.
 use Rattle.std.proofs.Common.{◌≡◌, ◌⊎◌, ℕ, List, [], ◌∷◌, Option, Some, None, codes, if◌then◌else◌, refl, rules}
 use Rattle.std.specs.Str.{bytes_eq}
@@ -22,9 +23,11 @@ Entry = Text × Maker
 
 abbrev pub entries : List Entry
 entries =
-    (codes "listen", plain Listen) ∷ (codes "locks", plain Locks) ∷ (codes "send", slot (λ s m. Send s m))
+    (codes "listen", plain Listen) ∷ (codes "locks", plain Locks)
+    ∷ (codes "send", slot (λ s m. Send s m))
     ∷ (codes "slots", slot (λ s m. Slots s m))
-    ∷ (codes "check", plain Check) ∷ (codes "damage", range (λ k f c. Damage k f c)) ∷ (codes "decode", plain Decode)
+    ∷ (codes "check", plain Check) ∷ (codes "damage", range (λ k f c. Damage k f c))
+    ∷ (codes "decode", plain Decode)
     ∷ (codes "encode", plain Encode) ∷ (codes "show", plain Show) ∷ (codes "code", plain Code) ∷ []
 
 -- the call that an entry makes of the arguments, and the one that the entry under this name makes
@@ -55,11 +58,13 @@ HasCall name rows call = (name ≡ command_name call) × HasArguments call rows
 abbrev pub Makes : Text → Maker → Type 0
 Makes name (plain call) = (rows : List Row) → HasCall name rows call
 Makes name (slot make) =
-    IsSlotWord name × ((rows : List Row) (s : Letter) (m : ℕ) → IsStation rows s → IsNumber (codes "MOMENT") rows m
+    IsSlotWord name × ((rows : List Row) (s : Letter) (m : ℕ) → IsStation rows s
+    → IsNumber (codes "MOMENT") rows m
     → HasCall name rows (make s m))
 Makes name (range make) =
     (name ≡ codes "damage") × ((rows : List Row) (k : DamageKind) (f c : ℕ) → IsKind rows k
-    → IsNumber (codes "FROM") rows f → IsNumber (codes "COUNT") rows c → HasCall name rows (make k f c))
+    → IsNumber (codes "FROM") rows f → IsNumber (codes "COUNT") rows c
+    → HasCall name rows (make k f c))
 
 abbrev pub IsSound : Entry → Type 0
 IsSound e = Makes e.0 e.1
@@ -78,5 +83,7 @@ call_in-only Check rows given = refl
 call_in-only Listen rows given = refl
 call_in-only Locks rows given = refl
 call_in-only (Send station moment) rows given = slot_call-only _ rows station moment given.0 given.1
-call_in-only (Slots station moment) rows given = slot_call-only _ rows station moment given.0 given.1
-call_in-only (Damage kind from count) rows given = range_call-only _ rows kind from count given.0 given.1 given.2
+call_in-only (Slots station moment) rows given =
+    slot_call-only _ rows station moment given.0 given.1
+call_in-only (Damage kind from count) rows given =
+    range_call-only _ rows kind from count given.0 given.1 given.2

@@ -13,16 +13,22 @@ use Rattle.nx_cli.proofs.NumbersGiven.{GivesNumber, IsNumeric, gets, uses-other,
 use Rattle.nx_cli.proofs.RowsKept.{UsesWell, or-first, or-second}
 use Rattle.nx_cli.specs.Words.{navtex, number_rule, text_rule}
 
--- the arguments of a command that wants a station and a moment, and of one that wants words, as they are built
+-- the arguments of a command that wants a station and a moment, and of one that wants words, as
+-- they are built
 abbrev slot_rules : List Rule
-slot_rules = filled_from 1 (text_rule (codes "STATION") ∷ number_rule (codes "MOMENT") 32503679999 ∷ help_rule ∷ [])
+slot_rules = filled_from 1
+    (text_rule (codes "STATION") ∷ number_rule (codes "MOMENT") 32503679999 ∷ help_rule ∷ [])
 
 abbrev damage_rules : List Rule
-damage_rules = filled_from 1 (text_rule (codes "KIND") ∷ number_rule (codes "FROM") 4294967295 ∷ number_rule
+damage_rules = filled_from 1
+    (text_rule (codes "KIND") ∷ number_rule (codes "FROM") 4294967295 ∷ number_rule
     (codes "COUNT") 4294967295 ∷ help_rule ∷ [])
 
 slot_rules-moment : Each (UsesWell (IsNumeric (codes "MOMENT") 32503679999)) slot_rules
-slot_rules-moment = (uses-text _ _ 1 _ refl, (uses-wanted _ _ 2, ((λ again vs rows e good. good), tt)))
+slot_rules-moment = (
+  uses-text _ _ 1 _ refl,
+  (uses-wanted _ _ 2, ((λ again vs rows e good. good), tt)),
+)
 
 damage_rules-from : Each (UsesWell (IsNumeric (codes "FROM") 4294967295)) damage_rules
 damage_rules-from = (
@@ -56,7 +62,8 @@ second_wanted false true e = absurd (cc)
 second_wanted false false e = absurd (cc)
 
 -- the second and the third of three arguments are given
-both_wanted : (a b c : Bool) → check_kinds false false ((true && not a) || ((true && not b) || ((true && not c) ||
+both_wanted : (a b c : Bool)
+    → check_kinds false false ((true && not a) || ((true && not b) || ((true && not c) ||
     (false || false)))) ≡ [] → (b ≡ true) × (c ≡ true)
 both_wanted true true true e = (refl, refl)
 both_wanted true true false e = absurd (cc)
@@ -94,7 +101,8 @@ leaf-is name (slot make) makes words e = record {
   maker = slot make;
   makes = makes;
   gives = gets _ _ _ slot_rules-moment (refl, (refl, (refl, tt)))
-      (λ rows checked. second_wanted (is_given (codes "STATION") rows) (is_given (codes "MOMENT") rows) checked) words e;
+      (λ rows checked. second_wanted (is_given (codes "STATION") rows)
+      (is_given (codes "MOMENT") rows) checked) words e;
 }
 leaf-is name (range make) makes words e =
     let wanted : (rows : List Row) → check_fault (leaf (name, range make)) rows false ≡ []
@@ -105,13 +113,16 @@ leaf-is name (range make) makes words e =
       maker = range make;
       makes = makes;
       gives = (
-        gets _ _ _ damage_rules-from (refl, (refl, (refl, (refl, tt)))) (λ rows checked. (wanted rows checked).0) words e,
-        gets _ _ _ damage_rules-count (refl, (refl, (refl, (refl, tt)))) (λ rows checked. (wanted rows checked).1) words e,
+        gets _ _ _ damage_rules-from (refl, (refl, (refl, (refl, tt))))
+            (λ rows checked. (wanted rows checked).0) words e,
+        gets _ _ _ damage_rules-count (refl, (refl, (refl, (refl, tt))))
+            (λ rows checked. (wanted rows checked).1) words e,
       );
     }
 
 commands-are : Each IsCommandOf (built navtex).subs
-commands-are = each-map IsSound IsCommandOf leaf (λ e sound. leaf-is e.0 e.1 sound) entries entries-sound
+commands-are = each-map IsSound IsCommandOf leaf (λ e sound. leaf-is e.0 e.1 sound) entries
+    entries-sound
 
 found-command : (words : List Text) (found : Option Shape) → IfSome found IsCommandOf
     → option_map_or (λ s. level_fault s [] nothing_held words false []) found [] ≡ []
@@ -130,7 +141,8 @@ entered-command : (stop : Option (Text × List Text)) → entered_fault (built n
 entered-command None e name rows is = absurd (cc)
 entered-command (Some p) e name rows is =
     found-command p.1 (find (λ s. answers_to p.0 (label_of s)) (built navtex).subs)
-    (found_is IsCommandOf (λ s. answers_to p.0 (label_of s)) (built navtex).subs commands-are) e name rows is
+    (found_is IsCommandOf (λ s. answers_to p.0 (label_of s)) (built navtex).subs commands-are) e
+    name rows is
 
 -- words that clap takes enter a command of the program, which is given the numbers that it wants
 pub taken-command : (words : List Text) (name : Text) (rows : List Row) → fault_of navtex words ≡ []

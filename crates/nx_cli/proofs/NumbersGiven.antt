@@ -1,4 +1,5 @@
--- Where clap takes the words of a command that wants a number, that number stands among its arguments, in its range.
+-- Where clap takes the words of a command that wants a number, that number stands among its
+-- arguments, in its range.
 use Rattle.std.proofs.Common.{◌≡◌, ◌≤◌, ◌∙◌, ℕ, option_map, option_and_then, ap₂, Bool, true, false, List, [], ◌∷◌, ◌++◌, Option, Some, None, IfSome, refl, ap, sym, subst, slice_get, find, fold, cond, if◌then◌else◌}
 use Rattle.std.specs.Option.{option_map_or}
 use Rattle.std.specs.Str.{bytes_eq}
@@ -48,7 +49,13 @@ accepted false k e = absurd (cc)
 
 -- an argument that is any text, and one that is a number, as they are built
 abbrev pub built_text : ℕ → Text → Rule
-built_text i name = record (text_rule name) { index = Some i; action = Some Set; parser = Some parser.String; range = Some (record { start_inclusive = 1; end_inclusive = 1 }) }
+built_text i name = record (text_rule name) {
+  index = Some i;
+  action = Some Set;
+  parser = Some parser.String;
+  range =
+      Some (record { start_inclusive = 1; end_inclusive = 1 });
+}
 
 abbrev pub built_number : ℕ → Text → ℕ → Rule
 built_number i name most = record (number_rule name most) {
@@ -69,7 +76,8 @@ no_default xs a none = elim (has_row a.id xs) as (λ b. (if b then xs else defau
 no_defaults : (rules : List Rule) → Each (λ a. a.defaults ≡ []) rules → (xs : List Row)
     → fold with_default xs rules ≡ xs
 no_defaults [] each xs = refl
-no_defaults (a ∷ rest) each xs = no_defaults rest each.1 (with_default xs a) ∙ no_default xs a each.0
+no_defaults (a ∷ rest) each xs =
+    no_defaults rest each.1 (with_default xs a) ∙ no_default xs a each.0
 
 -- a number up to the most stands among the arguments under this name
 pub record GivesNumber (id : Text) (most : ℕ) (rows : List Row) : Type 0 where
@@ -78,12 +86,15 @@ pub record GivesNumber (id : Text) (most : ℕ) (rows : List Row) : Type 0 where
   pub passes : accepts false (numbers most) text ≡ true
 
 module _ (id : Text) (most : ℕ) where
-  numeric-with_values : (name : Text) (how : Reading) (s : ValueSource) (vs : List Text) (rows : List Row)
-      → (bytes_eq name id ≡ true → AreNumbers most vs × (how ≡ AsWritten)) → Each (IsNumeric id most) rows
+  numeric-with_values : (name : Text) (how : Reading) (s : ValueSource) (vs : List Text)
+      (rows : List Row)
+      → (bytes_eq name id ≡ true → AreNumbers most vs × (how ≡ AsWritten))
+      → Each (IsNumeric id most) rows
       → Each (IsNumeric id most) (with_values name how s vs rows)
   numeric-with_values name how s vs rows new good =
       good-at_row (IsNumeric id most) name (more_values s vs) _ rows
-      (λ r is_good. ((λ is. (numbers-append most r.values vs (is_good is).0, (is_good is).1)), tt)) (new, tt) good
+      (λ r is_good. ((λ is. (numbers-append most r.values vs (is_good is).0, (is_good is).1)), tt))
+      (new, tt) good
 
   values-are : (i : ℕ) (again : Bool) (vs : List Text) (rows : List Row)
       → use_fault again (built_number i id most) vs rows ≡ []
@@ -99,7 +110,8 @@ module _ (id : Text) (most : ℕ) where
       numeric-with_values _ _ _ _ _ (λ is. (values-are i again vs rows e, refl)) (good-without
       (IsNumeric id most) _ _ good)
 
-  pub uses-text : (i : ℕ) (name : Text) → bytes_eq name id ≡ false → UsesWell (IsNumeric id most) (built_text i name)
+  pub uses-text : (i : ℕ) (name : Text) → bytes_eq name id ≡ false
+      → UsesWell (IsNumeric id most) (built_text i name)
   uses-text i name other again vs rows e good =
       numeric-with_values _ _ _ _ _ (λ is. absurd (let no : false ≡ true = sym other
       ∙ is in cc)) (good-without (IsNumeric id most) _ _ good)
@@ -111,17 +123,21 @@ module _ (id : Text) (most : ℕ) where
       ∙ is in cc)) (good-without (IsNumeric id most) _ _ good)
 
   -- a row of this argument that was found has a number
-  found-numeric : (rows : List Row) → Each (IsNumeric id most) rows → IfSome (find (λ r. bytes_eq r.id id) rows)
+  found-numeric : (rows : List Row) → Each (IsNumeric id most) rows
+      → IfSome (find (λ r. bytes_eq r.id id) rows)
       (HasNumber most)
   found-numeric [] good = tt
   found-numeric (r ∷ rs) good = go (bytes_eq r.id id) refl (found-numeric rs good.1)
     where
-      go : (b : Bool) → bytes_eq r.id id ≡ b → IfSome (find (λ r. bytes_eq r.id id) rs) (HasNumber most)
-          → IfSome (cond {A = Option Row} b (Some r) (find (λ r. bytes_eq r.id id) rs)) (HasNumber most)
+      go : (b : Bool) → bytes_eq r.id id ≡ b
+          → IfSome (find (λ r. bytes_eq r.id id) rs) (HasNumber most)
+          → IfSome (cond {A = Option Row} b (Some r) (find (λ r. bytes_eq r.id id) rs))
+          (HasNumber most)
       go true is rest = good.0 is
       go false is rest = rest
 
-  number-text : (vs : List Text) (r : Row) → r.values ≡ vs → AreNumbers most vs → r.reading ≡ AsWritten
+  number-text : (vs : List Text) (r : Row) → r.values ≡ vs → AreNumbers most vs
+      → r.reading ≡ AsWritten
       → (text : Text) × (row_text r ≡ Some text) × (accepts false (numbers most) text ≡ true)
   number-text [] r is are written = absurd are
   number-text (v ∷ vs) r is are written = (
@@ -132,19 +148,22 @@ module _ (id : Text) (most : ℕ) where
 
   gives-found : (o : Option Row) → IfSome o (HasNumber most)
       → option_map_or (λ r. explicit_source r.source) o false ≡ true
-      → (text : Text) × (option_and_then row_text o ≡ Some text) × (accepts false (numbers most) text ≡ true)
+      → (text : Text) × (option_and_then row_text o ≡ Some text)
+      × (accepts false (numbers most) text ≡ true)
   gives-found None has given = absurd (cc)
   gives-found (Some r) has given =
       let are : AreNumbers most r.values = has.0 in
       number-text r.values r refl are has.1
 
-  gives : (rows : List Row) → Each (IsNumeric id most) rows → is_given id rows ≡ true → GivesNumber id most rows
+  gives : (rows : List Row) → Each (IsNumeric id most) rows → is_given id rows ≡ true
+      → GivesNumber id most rows
   gives rows good given =
       let found = gives-found (find (λ r. bytes_eq r.id id) rows) (found-numeric rows good) given in
       record { text = found.0; given = found.1; passes = found.2 }
 
   -- a command whose arguments are used well, have no default and want this number is given it
-  pub gets : (s : Shape) → Each (UsesWell (IsNumeric id most)) s.rules → Each (λ a. a.defaults ≡ []) s.rules
+  pub gets : (s : Shape) → Each (UsesWell (IsNumeric id most)) s.rules
+      → Each (λ a. a.defaults ≡ []) s.rules
       → ((rows : List Row) → check_fault s rows false ≡ [] → is_given id rows ≡ true)
       → (words : List Text) → level_fault s [] nothing_held words false [] ≡ []
       → GivesNumber id most (rows_after s.rules [] words)
@@ -152,15 +171,24 @@ module _ (id : Text) (most : ℕ) where
       let end = (walk s.rules [] nothing_held words).held in
       let same = no_defaults s.rules none (settled s.rules end).rows in
       let P : List Row → Type 0 = λ rows. Each (IsNumeric id most) rows in
-      gives (rows_after s.rules [] words) (subst P (sym same) (good-settled_end (IsNumeric id most) s each words [] e))
+      gives (rows_after s.rules [] words)
+      (subst P (sym same) (good-settled_end (IsNumeric id most) s each words [] e))
       (wants (rows_after s.rules [] words) (level-check s words [] e))
 
   -- the number that is given, which is in its range
-  pub number-given : (rows : List Row) → GivesNumber id most rows → (number : ℕ) × IsNumber id rows number
+  pub number-given : (rows : List Row) → GivesNumber id most rows
+      → (number : ℕ) × IsNumber id rows number
       × (number ≤ most)
   number-given rows gives =
       let unsigned = accepts-Accepts false (numbers most) gives.text gives.passes in (
         digits_value 10 (without_leading_plus gives.text),
-        record { text = gives.text; given = gives.given; numeral = unsigned.0; value = refl; fits = unsigned.1 },
+        record {
+          text = gives.text;
+          given = gives.given;
+          numeral = unsigned.0;
+          value = refl;
+          fits =
+              unsigned.1;
+        },
         unsigned.3,
       )

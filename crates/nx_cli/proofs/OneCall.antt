@@ -37,23 +37,28 @@ only_named name rows call has =
     subst P (sym has.0) (call_in-only call rows has.1)
 
 -- a command and its arguments have at most one call
-pub same_call : (a b : Call) (rows : List Row) → command_name a ≡ command_name b → HasArguments a rows
+pub same_call : (a b : Call) (rows : List Row) → command_name a ≡ command_name b
+    → HasArguments a rows
     → HasArguments b rows → a ≡ b
 same_call a b rows e given other =
-    let same : Some a ≡ Some b = sym (call_in-only a rows given) ∙ only_named (command_name a) rows b (e, other) in
+    let same : Some a ≡ Some b =
+    sym (call_in-only a rows given) ∙ only_named (command_name a) rows b (e, other) in
     cc
 
 -- and whether there is one is decided
 abbrev pub IsNotCalled : Text → List Row → Type 0
 IsNotCalled name rows = (call : Call) → name ≡ command_name call → HasArguments call rows → ⊥
 
-not_called : (name : Text) (rows : List Row) → call_in entries name rows ≡ None → IsNotCalled name rows
+not_called : (name : Text) (rows : List Row) → call_in entries name rows ≡ None
+    → IsNotCalled name rows
 not_called name rows none call word given =
     let some : None ≡ Some call = sym none ∙ only_named name rows call (word, given) in
     absurd (cc)
 
-pub call_or_none : (name : Text) (rows : List Row) → ((call : Call) × HasCall name rows call) ⊎ IsNotCalled name rows
-call_or_none name rows = go (call_in entries name rows) refl (call_in-is entries entries-sound name rows)
+pub call_or_none : (name : Text) (rows : List Row)
+    → ((call : Call) × HasCall name rows call) ⊎ IsNotCalled name rows
+call_or_none name rows = go (call_in entries name rows) refl
+    (call_in-is entries entries-sound name rows)
   where
     go : (o : Option Call) → call_in entries name rows ≡ o → IfSome o (HasCall name rows)
         → ((call : Call) × HasCall name rows call) ⊎ IsNotCalled name rows
@@ -67,16 +72,22 @@ at_word word name rows is none =
     let P : Text → Type 0 = λ n. IsNotCalled n rows in subst P (sym is) (not_called word rows none)
 
 -- what the entry under a call's word makes of its arguments
-made_at : (word : Text) (call : Call) (rows : List Row) → command_name call ≡ word → HasArguments call rows
+made_at : (word : Text) (call : Call) (rows : List Row) → command_name call ≡ word
+    → HasArguments call rows
     → call_in entries word rows ≡ Some call
 made_at word call rows is given = only_named word rows call (sym is, given)
 
 -- a call of the word of a slot has a station, and one of the word of damage has a kind
-pub has-station : (call : Call) (rows : List Row) → IsSlotWord (command_name call) → HasArguments call rows
+pub has-station : (call : Call) (rows : List Row) → IsSlotWord (command_name call)
+    → HasArguments call rows
     → (letter : Letter) × IsStation rows letter
-has-station call rows (inl send) given = slot_call-station _ rows call (made_at (codes "send") call rows send given)
-has-station call rows (inr slots) given = slot_call-station _ rows call (made_at (codes "slots") call rows slots given)
+has-station call rows (inl send) given =
+    slot_call-station _ rows call (made_at (codes "send") call rows send given)
+has-station call rows (inr slots) given =
+    slot_call-station _ rows call (made_at (codes "slots") call rows slots given)
 
-pub has-kind : (call : Call) (rows : List Row) → command_name call ≡ codes "damage" → HasArguments call rows
+pub has-kind : (call : Call) (rows : List Row) → command_name call ≡ codes "damage"
+    → HasArguments call rows
     → (kind : DamageKind) × IsKind rows kind
-has-kind call rows is given = range_call-kind _ rows call (made_at (codes "damage") call rows is given)
+has-kind call rows is given =
+    range_call-kind _ rows call (made_at (codes "damage") call rows is given)

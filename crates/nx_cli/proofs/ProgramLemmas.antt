@@ -24,22 +24,29 @@ use Rattle.nx_cli.specs.Words.{IsRefused, Names}
 use Rattle.nx_cli.proofs.WordsLemmas.{help_not_refused, named_not_help, named_not_refused, named_not_version, named_once, version_not_refused}
 
 -- what was wrapped, with no failed call
-fresh-is : {T : Type 0} (c : CountedDevice T) (device : T) → c.inner ≡ device → c.failures ≡ 0 → c ≡ fresh_device device
+fresh-is : {T : Type 0} (c : CountedDevice T) (device : T) → c.inner ≡ device → c.failures ≡ 0
+    → c ≡ fresh_device device
 fresh-is {T} c device inner none =
-    let make : T → ℕ → CountedDevice T = λ i n. record { inner = i; failures = n } in ap₂ make inner none
+    let make : T → ℕ → CountedDevice T = λ i n. record { inner = i; failures = n } in
+    ap₂ make inner none
 
 -- how a run over devices that were wrapped ends, told of fresh ones
-pub exits-fresh : {R W : Type 0} (words : List Text) (remaining : R → Option (List ℕ)) (contents : W → Option (List ℕ))
-    (input : R) (reader reader_after : CountedDevice R) (output : W) (writer writer_after : CountedDevice W)
+pub exits-fresh : {R W : Type 0} (words : List Text) (remaining : R → Option (List ℕ))
+    (contents : W → Option (List ℕ))
+    (input : R) (reader reader_after : CountedDevice R) (output : W)
+    (writer writer_after : CountedDevice W)
     (status : ℕ)
     → reader.inner ≡ input → reader.failures ≡ 0 → writer.inner ≡ output → writer.failures ≡ 0
     → Exits words (devices remaining contents reader reader_after writer writer_after) status
-    → Exits words (devices remaining contents (fresh_device input) reader_after (fresh_device output) writer_after) status
-exits-fresh {R} {W} words remaining contents input reader reader_after output writer writer_after status input_is unread output_is unwritten exits =
+    → Exits words (devices remaining contents (fresh_device input) reader_after
+    (fresh_device output) writer_after) status
+exits-fresh {R} {W} words remaining contents input reader reader_after output writer writer_after
+    status input_is unread output_is unwritten exits =
     let P : Devices R W → Type 0 = λ d. Exits words d status in
     let on : CountedDevice R → CountedDevice W
     → Devices R W = λ r w. devices remaining contents r reader_after w writer_after in
-    subst P (ap₂ on (fresh-is reader input input_is unread) (fresh-is writer output output_is unwritten)) exits
+    subst P (ap₂ on (fresh-is reader input input_is unread)
+    (fresh-is writer output output_is unwritten)) exits
 
 -- a fault of a call has status 1 or 2
 run-status : (why : RunFault) → (run_status why ≡ 1) ⊎ (run_status why ≡ 2)
@@ -100,24 +107,29 @@ call-status (call.Listen why) = listen-status why
 call-status (call.Damage why) = damage-status why
 call-status call.NoSlot = inr refl
 
-fault-status : (why : Fault) → (fault_status why ≡ 1) ⊎ ((fault_status why ≡ 2) ⊎ (fault_status why ≡ 64))
+fault-status : (why : Fault)
+    → (fault_status why ≡ 1) ⊎ ((fault_status why ≡ 2) ⊎ (fault_status why ≡ 64))
 fault-status (fault.Words answer) = inr (inr refl)
 fault-status fault.NoText = inr (inr refl)
 fault-status fault.Station = inr (inr refl)
 fault-status fault.Kind = inr (inr refl)
-fault-status (fault.Call why) = elim (call-status why) [ inl one ↦ inl one | inr two ↦ inr (inl two) ]
+fault-status (fault.Call why) =
+    elim (call-status why) [ inl one ↦ inl one | inr two ↦ inr (inl two) ]
 
 outcome-status : (outcome : Result (Unit {0}) Fault) → IsStatus (status_of outcome)
 outcome-status (Ok done) = inl refl
 outcome-status (Err why) = inr (fault-status why)
 
 -- a run exits with one of the statuses
-pub status-exits : {R W : Type 0} (words : List Text) (d : Devices R W) (status : ℕ) → Exits words d status
+pub status-exits : {R W : Type 0} (words : List Text) (d : Devices R W) (status : ℕ)
+    → Exits words d status
     → IsStatus status
 status-exits words d status exits =
-    let P : ℕ → Type 0 = λ n. IsStatus n in subst P (sym exits.status_is) (outcome-status exits.outcome)
+    let P : ℕ → Type 0 = λ n. IsStatus n in
+    subst P (sym exits.status_is) (outcome-status exits.outcome)
 
-success-ends : {R W : Type 0} (words : List Text) (d : Devices R W) (outcome : Result (Unit {0}) Fault)
+success-ends : {R W : Type 0} (words : List Text) (d : Devices R W)
+    (outcome : Result (Unit {0}) Fault)
     → EndsRun words d outcome → status_of outcome ≡ 0 → Succeeds words d
 success-ends words d (Ok done) ends zero = ends
 success-ends words d (Err why) ends zero = elim (fault-status why) [
@@ -126,9 +138,11 @@ success-ends words d (Err why) ends zero = elim (fault-status why) [
 ]
 
 -- status 0 is a success
-pub success-exits : {R W : Type 0} (words : List Text) (d : Devices R W) (status : ℕ) → Exits words d status
+pub success-exits : {R W : Type 0} (words : List Text) (d : Devices R W) (status : ℕ)
+    → Exits words d status
     → status ≡ 0 → Succeeds words d
-success-exits words d status exits zero = success-ends words d exits.outcome exits.ends (sym exits.status_is ∙ zero)
+success-exits words d status exits zero =
+    success-ends words d exits.outcome exits.ends (sym exits.status_is ∙ zero)
 
 words-end : {R W : Type 0} (words : List Text) (d : Devices R W) (outcome : Result (Unit {0}) Fault)
     → EndsRun words d outcome → status_of outcome ≡ 64 → IsRefused words
@@ -144,11 +158,14 @@ words-end words d (Err (fault.Call why)) ends is = elim (call-status why) [
 ]
 
 -- status 64 is a refusal of the words
-pub words-exit : {R W : Type 0} (words : List Text) (d : Devices R W) (status : ℕ) → Exits words d status
+pub words-exit : {R W : Type 0} (words : List Text) (d : Devices R W) (status : ℕ)
+    → Exits words d status
     → status ≡ 64 → IsRefused words
-words-exit words d status exits is = words-end words d exits.outcome exits.ends (sym exits.status_is ∙ is)
+words-exit words d status exits is =
+    words-end words d exits.outcome exits.ends (sym exits.status_is ∙ is)
 
-refused-ends : {R W : Type 0} (words : List Text) (d : Devices R W) (outcome : Result (Unit {0}) Fault)
+refused-ends : {R W : Type 0} (words : List Text) (d : Devices R W)
+    (outcome : Result (Unit {0}) Fault)
     → EndsRun words d outcome → IsRefused words → (status_of outcome ≡ 64) ⊎ (status_of outcome ≡ 1)
 refused-ends words d (Ok done) ends refused = elim ends [
   | inl runs ↦ absurd (named_not_refused words runs.call runs.named refused)
@@ -167,15 +184,18 @@ refused-ends words d (Err (fault.Call why)) ends refused = elim ends [
 ]
 
 -- words that are refused end with status 64, or with 1 for want of memory
-pub refused-exits : {R W : Type 0} (words : List Text) (d : Devices R W) (status : ℕ) → Exits words d status
+pub refused-exits : {R W : Type 0} (words : List Text) (d : Devices R W) (status : ℕ)
+    → Exits words d status
     → IsRefused words → (status ≡ 64) ⊎ (status ≡ 1)
-refused-exits words d status exits refused = elim (refused-ends words d exits.outcome exits.ends refused) [
-  | inl is ↦ inl (exits.status_is ∙ is)
-  | inr is ↦ inr (exits.status_is ∙ is)
-]
+refused-exits words d status exits refused =
+    elim (refused-ends words d exits.outcome exits.ends refused) [
+      | inl is ↦ inl (exits.status_is ∙ is)
+      | inr is ↦ inr (exits.status_is ∙ is)
+    ]
 
 -- a success of words that name a call is the success of that call
-pub success-named : {R W : Type 0} (words : List Text) (d : Devices R W) (call : Call) → Names words call
+pub success-named : {R W : Type 0} (words : List Text) (d : Devices R W) (call : Call)
+    → Names words call
     → Succeeds words d → Performs call d (Ok tt)
 success-named words d call named success = elim success [
   | inl runs ↦ let P : Call → Type 0 = λ c. Performs c d (Ok tt) in
@@ -190,7 +210,8 @@ pub tells-ok : {N F : Type 0} (name : F → CallFault) (answers : Result N F →
 tells-ok name answers answer answered = record { own = Ok answer; answered = answered; told = refl }
 
 pub tells-err : {N F : Type 0} (name : F → CallFault) (answers : Result N F
-    → Type 0) (outcome : Result (Unit {0}) CallFault) (why : F) (fault : CallFault) → answers (Err why)
+    → Type 0) (outcome : Result (Unit {0}) CallFault) (why : F) (fault : CallFault)
+    → answers (Err why)
     → outcome ≡ Err fault → fault ≡ name why → Tells name answers outcome
 tells-err name answers outcome why fault answered is named = record {
   own = Err why;

@@ -16,8 +16,10 @@ unfolding cut_to
 cut_to-fits room text fits = rw (le-leb (length text) room fits) refl
 
 -- how the program ended is part of what it answers
-pub answers-exits : {R W E : Type 0} (words : List Text) (d : Devices R W) (contents : E → Option (List ℕ))
-    (old new : CountedDevice E) (status : ℕ) → Answers words d contents old new status → Exits words d status
+pub answers-exits : {R W E : Type 0} (words : List Text) (d : Devices R W)
+    (contents : E → Option (List ℕ))
+    (old new : CountedDevice E) (status : ℕ) → Answers words d contents old new status
+    → Exits words d status
 answers-exits words d contents old new status answers = record {
   outcome = answers.outcome;
   ends = answers.ends;
@@ -25,7 +27,8 @@ answers-exits words d contents old new status answers = record {
 }
 
 -- each fault but one of the words is reported by a line
-text-line : (why : Fault) (text : List ℕ) → fault_status why ≢ 64 → IsFaultText why text → IsFaultLine text
+text-line : (why : Fault) (text : List ℕ) → fault_status why ≢ 64 → IsFaultText why text
+    → IsFaultLine text
 text-line (fault.Words answer) text other is = absurd (other refl)
 text-line fault.NoText text other is = absurd (other refl)
 text-line fault.Station text other is = absurd (other refl)

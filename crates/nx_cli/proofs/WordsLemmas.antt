@@ -39,15 +39,18 @@ pub navtex-is_simple_and_free : is_simple_and_free navtex ≡ true
 unfolding clap_on_literals
 navtex-is_simple_and_free = refl
 
-pub explained : (words : List Text) (error : Error) (fault : WordsFault) → HasKind (fault_of navtex words) error
+pub explained : (words : List Text) (error : Error) (fault : WordsFault)
+    → HasKind (fault_of navtex words) error
     → IsSortedAs error fault → ExplainsWords words fault
 explained words error (Help answer) kinds sorts = elim kinds [
   | inl memory ↦ absurd (let e : OutOfMemory ≡ DisplayHelp = sym memory ∙ sorts.1 in cc)
-  | inr among ↦ let P : ErrorKind → Type 0 = λ k. IsAmong k (fault_of navtex words) in subst P sorts.1 among
+  | inr among ↦ let P : ErrorKind → Type 0 = λ k. IsAmong k (fault_of navtex words) in
+      subst P sorts.1 among
 ]
 explained words error Version kinds sorts = elim kinds [
   | inl memory ↦ absurd (let e : OutOfMemory ≡ DisplayVersion = sym memory ∙ sorts in cc)
-  | inr among ↦ let P : ErrorKind → Type 0 = λ k. IsAmong k (fault_of navtex words) in subst P sorts among
+  | inr among ↦ let P : ErrorKind → Type 0 = λ k. IsAmong k (fault_of navtex words) in
+      subst P sorts among
 ]
 explained words error (Refused answer) kinds sorts = elim kinds [
   | inl memory ↦ absurd (sorts.2 memory)
@@ -58,12 +61,14 @@ explained words error Kind kinds sorts = absurd sorts
 explained words error (Memory want) kinds sorts = tt
 
 name_at : (b : Option (Box SubCommand Global))
-    → option_map (λ b. (out-SubCommand (box_value b)).name.now) b ≡ option_map (λ p. p.0) (subcommand_rows b)
+    → option_map (λ b. (out-SubCommand (box_value b)).name.now) b
+    ≡ option_map (λ p. p.0) (subcommand_rows b)
 name_at None = refl
 name_at (Some b) = refl
 
 -- the name of the command that a parse entered
-pub name_of_rows : (m : ArgMatches) → subcommand_name_of m ≡ option_map (λ p. p.0) (subcommand_rows_of m)
+pub name_of_rows : (m : ArgMatches)
+    → subcommand_name_of m ≡ option_map (λ p. p.0) (subcommand_rows_of m)
 name_of_rows m = name_at (out-ArgMatches m).subcommand
 
 -- a pair from its parts
@@ -78,10 +83,12 @@ pair_from (Some p) a b first second =
 -- the words enter the command that the parse found, with its arguments
 pub entered_pair : (words : List Text) (m : ArgMatches) (name : Text) (arguments : List Row)
     → subcommand_rows_of m ≡ subcommand_of navtex words
-    → subcommand_name_of m ≡ Some name → option_map (λ p. p.1) (subcommand_rows_of m) ≡ Some arguments
+    → subcommand_name_of m ≡ Some name
+    → option_map (λ p. p.1) (subcommand_rows_of m) ≡ Some arguments
     → subcommand_of navtex words ≡ Some (name, arguments)
 entered_pair words m name arguments rows name_is arguments_are =
-    sym rows ∙ pair_from (subcommand_rows_of m) name arguments (sym (name_of_rows m) ∙ name_is) arguments_are
+    sym rows ∙ pair_from (subcommand_rows_of m) name arguments (sym (name_of_rows m) ∙ name_is)
+    arguments_are
 
 none_among : (kinds : Kinds) (k : ErrorKind) → kinds ≡ [] → IsAmong k kinds → ⊥
 none_among [] k e among = among
@@ -93,9 +100,11 @@ leaf-no_help name (slot make) = refl
 leaf-no_help name (range make) = refl
 
 calls_without_help : Each HasNoHelp (built navtex).subs
-calls_without_help = each-map IsSound HasNoHelp leaf (λ e sound. leaf-no_help e.0 e.1) entries entries-sound
+calls_without_help = each-map IsSound HasNoHelp leaf (λ e sound. leaf-no_help e.0 e.1) entries
+    entries-sound
 
-IfSome-weaker : {X : Type 0} (o : Option X) (P Q : X → Type 0) → ((x : X) → P x → Q x) → IfSome o P → IfSome o Q
+IfSome-weaker : {X : Type 0} (o : Option X) (P Q : X → Type 0) → ((x : X) → P x → Q x) → IfSome o P
+    → IfSome o Q
 IfSome-weaker None P Q weaker some = tt
 IfSome-weaker (Some x) P Q weaker some = weaker x some
 
@@ -103,26 +112,31 @@ u-entered : (stop : Option (Text × List Text)) → IsUniform (entered_fault (bu
 u-entered None = u-none
 u-entered (Some p) =
     u-option _ _ [] (IfSome-weaker _ _ _ (λ s no. u-level s [] nothing_held p.1 false [] no u-none)
-    (found_is HasNoHelp (λ s. answers_to p.0 (label_of s)) (built navtex).subs calls_without_help)) u-none
+    (found_is HasNoHelp (λ s. answers_to p.0 (label_of s)) (built navtex).subs calls_without_help))
+    u-none
 
 -- clap's faults of the words are all help, all the version, or all refusals
 pub faults_are_uniform : (words : List Text) → IsUniform (fault_of navtex words)
 faults_are_uniform words =
     let stop = (walk (built navtex).top.rules (names_of (built navtex)) nothing_held
     (argument_words navtex words)).stopped in
-    u-level (built navtex).top (names_of (built navtex)) nothing_held (argument_words navtex words) (is_some
+    u-level (built navtex).top (names_of (built navtex)) nothing_held (argument_words navtex words)
+    (is_some
     (entered (built navtex) stop))
     (entered_fault (built navtex) stop) refl (u-entered stop)
 
 pub help_not_version : (words : List Text) → AsksForHelp words → AsksForVersion words → ⊥
-help_not_version words help version = help-no_version (fault_of navtex words) (faults_are_uniform words) help version
+help_not_version words help version =
+    help-no_version (fault_of navtex words) (faults_are_uniform words) help version
 
 pub help_not_refused : (words : List Text) → AsksForHelp words → IsRefused words → ⊥
 help_not_refused words help (inl refused) =
     help-alone (fault_of navtex words) refused.0 (faults_are_uniform words) help refused.2
     (refusal_is refused.0 refused.1)
-help_not_refused words help (inr (inl lacks)) = none_among (fault_of navtex words) DisplayHelp lacks.taken help
-help_not_refused words help (inr (inr lacks)) = none_among (fault_of navtex words) DisplayHelp lacks.taken help
+help_not_refused words help (inr (inl lacks)) =
+    none_among (fault_of navtex words) DisplayHelp lacks.taken help
+help_not_refused words help (inr (inr lacks)) =
+    none_among (fault_of navtex words) DisplayHelp lacks.taken help
 
 pub version_not_refused : (words : List Text) → AsksForVersion words → IsRefused words → ⊥
 version_not_refused words version (inl refused) =
@@ -134,10 +148,13 @@ version_not_refused words version (inr (inr lacks)) =
     none_among (fault_of navtex words) DisplayVersion lacks.taken version
 
 pub named_not_help : (words : List Text) (call : Call) → Names words call → AsksForHelp words → ⊥
-named_not_help words call named help = none_among (fault_of navtex words) DisplayHelp named.taken help
+named_not_help words call named help =
+    none_among (fault_of navtex words) DisplayHelp named.taken help
 
-pub named_not_version : (words : List Text) (call : Call) → Names words call → AsksForVersion words → ⊥
-named_not_version words call named version = none_among (fault_of navtex words) DisplayVersion named.taken version
+pub named_not_version : (words : List Text) (call : Call) → Names words call → AsksForVersion words
+    → ⊥
+named_not_version words call named version =
+    none_among (fault_of navtex words) DisplayVersion named.taken version
 
 -- the arguments with which the words enter this command
 entered_once : (words : List Text) (a b : Text) (first second : List Row)
@@ -154,7 +171,8 @@ named-lacks_station words call named lacks = elim lacks.entered [
   | inr slots ↦ go (codes "slots") (inr refl) (entered_once words _ _ _ _ named.command slots)
 ]
   where
-    go : (name : Text) → IsSlotWord name → (command_name call ≡ name) × (named.arguments ≡ lacks.arguments) → ⊥
+    go : (name : Text) → IsSlotWord name
+        → (command_name call ≡ name) × (named.arguments ≡ lacks.arguments) → ⊥
     go name is same =
         let P : Text → Type 0 = λ word. IsSlotWord word in
         let station = has-station call named.arguments (subst P (sym same.0) is) named.given in
@@ -169,14 +187,17 @@ named-lacks_kind words call named lacks =
     lacks.no_kind kind.0 (subst Q same.1 kind.1)
 
 pub named_not_refused : (words : List Text) (call : Call) → Names words call → IsRefused words → ⊥
-named_not_refused words call named (inl refused) = none_among (fault_of navtex words) refused.0 named.taken refused.2
+named_not_refused words call named (inl refused) =
+    none_among (fault_of navtex words) refused.0 named.taken refused.2
 named_not_refused words call named (inr (inl lacks)) = named-lacks_station words call named lacks
 named_not_refused words call named (inr (inr lacks)) = named-lacks_kind words call named lacks
 
 -- words with no call, which clap takes, lack a station or a kind of damage
-lacks_argument : (words : List Text) (name : Text) (arguments : List Row) → fault_of navtex words ≡ []
+lacks_argument : (words : List Text) (name : Text) (arguments : List Row)
+    → fault_of navtex words ≡ []
     → subcommand_of navtex words ≡ Some (name, arguments)
-    → IsNotCalled name arguments → (IsSlotWord name × LacksStation words) ⊎ ((name ≡ codes "damage") × LacksKind words)
+    → IsNotCalled name arguments
+    → (IsSlotWord name × LacksStation words) ⊎ ((name ≡ codes "damage") × LacksKind words)
 lacks_argument words name arguments taken entered none =
     let command = taken-command words name arguments taken entered in
     go command.maker command.makes command.gives
@@ -196,7 +217,8 @@ lacks_argument words name arguments taken entered none =
               | inr slots ↦ inr (entered ∙ ap (λ (t : Text). Some (t, arguments)) slots)
             ];
             no_letter = λ letter found.
-                let has = makes.1 arguments letter moment.0 found moment.1 in none (make letter moment.0) has.0 has.1;
+                let has = makes.1 arguments letter moment.0 found moment.1 in
+                none (make letter moment.0) has.0 has.1;
           },
         )
     go (range make) makes gives =
@@ -221,7 +243,8 @@ no_numbers name number is =
     absurd (cc)
 
 -- the calls of a command without arguments have no number among them
-plain_no_number : (call other : Call) (rows : List Row) → ((rows : List Row) → HasCall (command_name call) rows other)
+plain_no_number : (call other : Call) (rows : List Row)
+    → ((rows : List Row) → HasCall (command_name call) rows other)
     → HasArguments call rows → (name : Text) (number : ℕ)
     → ((rows : List Row) → HasArguments call rows → IsNumber name rows number) → ⊥
 plain_no_number call other rows makes given name number gives =
@@ -236,12 +259,15 @@ not_both name (inr slots) damage = differ _ _ refl (sym slots ∙ damage)
 -- the moment of a call of a slot is in its range
 moment-bound : (words : List Text) (call : Call) (named : Names words call) (moment : ℕ)
     → IsSlotWord (command_name call)
-    → ((rows : List Row) → HasArguments call rows → IsNumber (codes "MOMENT") rows moment) → moment ≤ 32503679999
+    → ((rows : List Row) → HasArguments call rows → IsNumber (codes "MOMENT") rows moment)
+    → moment ≤ 32503679999
 moment-bound words call named moment wants gives =
-    let command = taken-command words (command_name call) named.arguments named.taken named.command in
+    let command = taken-command words (command_name call) named.arguments named.taken
+    named.command in
     go command.maker command.makes command.gives
   where
-    go : (maker : Maker) → Makes (command_name call) maker → Gives maker named.arguments → moment ≤ 32503679999
+    go : (maker : Maker) → Makes (command_name call) maker → Gives maker named.arguments
+        → moment ≤ 32503679999
     go (plain other) makes given = absurd
         (plain_no_number call other named.arguments makes named.given (codes "MOMENT") moment gives)
     go (slot make) makes given =
@@ -251,18 +277,23 @@ moment-bound words call named moment wants gives =
         (gives named.arguments named.given)) number.2
     go (range make) makes given = absurd (not_both _ wants makes.0)
 
-pub send-bound : (words : List Text) (station : Letter) (moment : ℕ) → Names words (Send station moment)
+pub send-bound : (words : List Text) (station : Letter) (moment : ℕ)
+    → Names words (Send station moment)
     → moment ≤ 32503679999
-send-bound words station moment named = moment-bound words (Send station moment) named moment (inl refl)
+send-bound words station moment named =
+    moment-bound words (Send station moment) named moment (inl refl)
     (λ rows given. given.1)
 
-pub slots-bound : (words : List Text) (station : Letter) (moment : ℕ) → Names words (Slots station moment)
+pub slots-bound : (words : List Text) (station : Letter) (moment : ℕ)
+    → Names words (Slots station moment)
     → moment ≤ 32503679999
-slots-bound words station moment named = moment-bound words (Slots station moment) named moment (inr refl)
+slots-bound words station moment named =
+    moment-bound words (Slots station moment) named moment (inr refl)
     (λ rows given. given.1)
 
 -- and so are the numbers of a call that damages
-pub damage-bounds : (words : List Text) (kind : DamageKind) (from count : ℕ) → Names words (Damage kind from count)
+pub damage-bounds : (words : List Text) (kind : DamageKind) (from count : ℕ)
+    → Names words (Damage kind from count)
     → (from ≤ 4294967295) × (count ≤ 4294967295)
 damage-bounds words kind from count named =
     let command = taken-command words (codes "damage") named.arguments named.taken named.command in
@@ -271,21 +302,26 @@ damage-bounds words kind from count named =
     go : (maker : Maker) → Makes (codes "damage") maker → Gives maker named.arguments
         → (from ≤ 4294967295) × (count ≤ 4294967295)
     go (plain other) makes given = absurd
-        (plain_no_number (Damage kind from count) other named.arguments makes named.given (codes "FROM") from
+        (plain_no_number (Damage kind from count) other named.arguments makes named.given
+        (codes "FROM") from
         (λ rows has. has.1))
     go (slot make) makes given = absurd (not_both _ makes.0 refl)
     go (range make) makes given =
         let first = number-given _ _ named.arguments given.0 in
         let second = number-given _ _ named.arguments given.1 in
         let P : ℕ → Type 0 = λ n. n ≤ 4294967295 in (
-          subst P (number_once (codes "FROM") named.arguments first.0 from first.1 named.given.1) first.2,
-          subst P (number_once (codes "COUNT") named.arguments second.0 count second.1 named.given.2) second.2,
+          subst P (number_once (codes "FROM") named.arguments first.0 from first.1 named.given.1)
+              first.2,
+          subst P (number_once (codes "COUNT") named.arguments second.0 count second.1
+              named.given.2) second.2,
         )
 
 -- where clap takes the words, they enter a command
-pub taken_enters : (words : List Text) → fault_of navtex words ≡ [] → is_some (subcommand_of navtex words) ≡ true
+pub taken_enters : (words : List Text) → fault_of navtex words ≡ []
+    → is_some (subcommand_of navtex words) ≡ true
 taken_enters words taken =
-    level-nil (built navtex).top (names_of (built navtex)) nothing_held (argument_words navtex words) _ _ refl taken
+    level-nil (built navtex).top (names_of (built navtex)) nothing_held
+    (argument_words navtex words) _ _ refl taken
 
 named_by : (words : List Text) → fault_of navtex words ≡ [] → (e : Option (Text × List Row))
     → subcommand_of navtex words ≡ e → is_some e ≡ true
@@ -301,17 +337,23 @@ named_by words taken (Some p) entered some = elim (call_or_none p.0 p.1) [
       given = call.1.1;
     },
   )
-  | inr none ↦ inr (elim (lacks_argument words p.0 p.1 taken entered none) [ inl station ↦ inl station.1 | inr kind ↦ inr kind.1 ])
+  | inr none ↦ inr (elim (lacks_argument words p.0 p.1 taken entered none) [
+    | inl station ↦
+        inl station.1
+    | inr kind ↦ inr kind.1
+  ])
 ]
 
 -- each list of words names a call, asks for help, asks for the version or is refused
 pub read_as_one : (words : List Text)
-    → ((call : Call) × Names words call) ⊎ (AsksForHelp words ⊎ (AsksForVersion words ⊎ IsRefused words))
+    → ((call : Call) × Names words call)
+    ⊎ (AsksForHelp words ⊎ (AsksForVersion words ⊎ IsRefused words))
 read_as_one words = elim (kinds_cases (fault_of navtex words)) [
-  | inl taken ↦ elim (named_by words taken (subcommand_of navtex words) refl (taken_enters words taken)) [
-    | inl named ↦ inl named
-    | inr lacks ↦ inr (inr (inr (inr lacks)))
-  ]
+  | inl taken ↦ elim (named_by words taken (subcommand_of navtex words) refl
+      (taken_enters words taken)) [
+        | inl named ↦ inl named
+        | inr lacks ↦ inr (inr (inr (inr lacks)))
+      ]
   | inr (inl help) ↦ inr (inl help)
   | inr (inr (inl version)) ↦ inr (inr (inl version))
   | inr (inr (inr refused)) ↦ inr (inr (inr (inl refused)))
@@ -320,7 +362,8 @@ read_as_one words = elim (kinds_cases (fault_of navtex words)) [
 -- and it names at most one
 pub named_once : (words : List Text) (a b : Call) → Names words a → Names words b → a ≡ b
 named_once words a b first second =
-    let same : Some (command_name a, first.arguments) ≡ Some (command_name b, second.arguments) = sym first.command
+    let same : Some (command_name a, first.arguments) ≡ Some (command_name b, second.arguments) =
+    sym first.command
     ∙ second.command in
     let is : (command_name a, first.arguments) ≡ (command_name b, second.arguments) = cc in
     let P : List Row → Type 0 = λ rows. HasArguments b rows in
@@ -331,7 +374,8 @@ named_once words a b first second =
 pub outcome-named : (words : List Text) (name : Text) (arguments : List Row) (found : Option Call)
     (unfit : WordsFault) (outcome : Result Call WordsFault)
     → fault_of navtex words ≡ [] → subcommand_of navtex words ≡ Some (name, arguments)
-    → IfSome found (λ call. (name ≡ command_name call) × HasArguments call arguments) → outcome ≡ ok_or found unfit
+    → IfSome found (λ call. (name ≡ command_name call) × HasArguments call arguments)
+    → outcome ≡ ok_or found unfit
     → IfOk outcome (Names words)
 outcome-named words name arguments None unfit outcome taken entered some is = rw is tt
 outcome-named words name arguments (Some call) unfit outcome taken entered some is =
@@ -348,7 +392,8 @@ pub outcome-refused : (words : List Text) (name : Text) (arguments : List Row) (
     → IfNone found (IsNotCalled name arguments)
     → (name ≡ codes "damage" → unfit ≡ Kind) → (name ≢ codes "damage" → unfit ≡ Station)
     → outcome ≡ ok_or found unfit → IfErr outcome (ExplainsWords words)
-outcome-refused words name arguments (Some call) unfit outcome taken entered none kind station is = rw is tt
+outcome-refused words name arguments (Some call) unfit outcome taken entered none kind station is =
+    rw is tt
 outcome-refused words name arguments None unfit outcome taken entered none kind station is = elim
     (lacks_argument words name arguments taken entered none) [
       | inl lacks ↦ rw (is, station (not_both name lacks.0)) lacks.1

@@ -19,7 +19,8 @@ use Rattle.nx_locks.specs.private.Reader.{HasHeard, HearsWord, IsFresh, Reading,
 use Rattle.nx_locks.specs.private.Watch.{ReadsNow, Shows, closing_of}
 use Rattle.nx_locks.proofs.Growing.{headers-more, missing_is, no_headers, none_shown, opened-more, past-more, past_headers-more, reads-on, shown_is}
 
-pub past_is : (bits : List Bool) (locks : List Lock) (now : Now) → IsNow bits locks now → (p : ℕ) × Past bits locks p
+pub past_is : (bits : List Bool) (locks : List Lock) (now : Now) → IsNow bits locks now
+    → (p : ℕ) × Past bits locks p
 past_is bits locks (hunting p) is = (p, is.past)
 past_is bits locks (locked p t) is = (p, is.past)
 
@@ -44,10 +45,14 @@ module _ (bits : List Bool) (b : Bool) (moments : List ℕ) (m : ℕ) where
   longer = length_push bits b
 
   -- no lock is released: the one that stands is shown on
-  goes : (reader reader' : Reading) (began began' copies : ℕ) (given more rest' : List ℕ) (next : Now) (s : Shows reader began copies bits moments given) → IsNow bits' s.locks next
-      → IsNowShown bits' moments' next rest' → rest' ≡ s.rest ++ more → ReadsNow reader' bits' next → began' ≡ length s.locks + now_locks next → now_locks next ≤ now_locks s.now + 1
-      → now_headers bits' next ≤ now_headers bits s.now + 1 → Shows reader' began' copies bits' moments' (given ++ more)
-  goes reader reader' began began' copies given more rest' next s on standing e reads counted few headers' =
+  goes : (reader reader' : Reading) (began began' copies : ℕ) (given more rest' : List ℕ)
+      (next : Now) (s : Shows reader began copies bits moments given) → IsNow bits' s.locks next
+      → IsNowShown bits' moments' next rest' → rest' ≡ s.rest ++ more → ReadsNow reader' bits' next
+      → began' ≡ length s.locks + now_locks next → now_locks next ≤ now_locks s.now + 1
+      → now_headers bits' next ≤ now_headers bits s.now + 1
+      → Shows reader' began' copies bits' moments' (given ++ more)
+  goes reader reader' began began' copies given more rest' next s on standing e reads counted few
+      headers' =
       let past = past_is bits s.locks s.now s.stands in
       let same = past_headers-more bits (b ∷ []) s.locks past.0 past.1 in
       record {
@@ -56,10 +61,12 @@ module _ (bits : List Bool) (b : Bool) (moments : List ℕ) (m : ℕ) where
         stands = on;
         many = omega (arith, length_push bits b, length_push moments m, s.many);
         past = s.past;
-        shown = past-more bits (b ∷ []) moments (m ∷ []) s.many s.locks past.0 past.1 s.past s.shown;
+        shown = past-more bits (b ∷ []) moments (m ∷ []) s.many s.locks past.0 past.1 s.past
+            s.shown;
         rest = rest';
         standing = standing;
-        spelled = ap (λ l. l ++ more) s.spelled ∙ append_assoc s.past s.rest more ∙ ap (λ l. s.past ++ l) (sym e);
+        spelled = ap (λ l. l ++ more) s.spelled ∙ append_assoc s.past s.rest more
+            ∙ ap (λ l. s.past ++ l) (sym e);
         reads = reads;
         locks_counted = counted;
         copies_counted = s.copies_counted ∙ sym same;
@@ -69,113 +76,183 @@ module _ (bits : List Bool) (b : Bool) (moments : List ℕ) (m : ℕ) where
 
   module _ (reader : Reading) (began copies : ℕ) (given : List ℕ) where
     -- an element with which nothing comes
-    pub still_hunting : (p : ℕ) (s : Shows reader began copies bits moments given) → s.now ≡ hunting p → IsNow bits' s.locks (hunting p) → Shows reader began copies bits' moments' (given ++ [])
+    pub still_hunting : (p : ℕ) (s : Shows reader began copies bits moments given)
+        → s.now ≡ hunting p → IsNow bits' s.locks (hunting p)
+        → Shows reader began copies bits' moments' (given ++ [])
     still_hunting p s e on =
         goes reader reader began began copies given [] [] (hunting p) s on refl
-        (sym (append-nil s.rest ∙ subst (λ n. IsNowShown bits moments n s.rest) e s.standing)) (subst (ReadsNow reader bits) e s.reads)
+        (sym (append-nil s.rest ∙ subst (λ n. IsNowShown bits moments n s.rest) e s.standing))
+        (subst (ReadsNow reader bits) e s.reads)
         (s.locks_counted ∙ ap (λ n. length s.locks + now_locks n) e) (omega arith) (omega arith)
 
-    pub still_inside : (p t : ℕ) (s : Shows reader began copies bits moments given) → s.now ≡ locked p t → IsPattern bits t → whole_words bits' t ≡ whole_words bits t → IsNow bits' s.locks (locked p t)
+    pub still_inside : (p t : ℕ) (s : Shows reader began copies bits moments given)
+        → s.now ≡ locked p t → IsPattern bits t → whole_words bits' t ≡ whole_words bits t
+        → IsNow bits' s.locks (locked p t)
         → Shows reader began copies bits' moments' (given ++ [])
     still_inside p t s e here same on =
         let n = whole_words bits t in
         let heard = whole_heard bits t here.heard in
-        let was : IsOpened bits moments t n s.rest = subst (λ k. IsNowShown bits moments k s.rest) e s.standing in
-        let reads : ReadsLock reader (first_role bits t) (word_of_lock bits t) n = subst (ReadsNow reader bits) e s.reads in
-        let headers' : headers_shown bits' t n ≡ headers_shown bits t n = headers-more bits (b ∷ []) t n here heard in
+        let was : IsOpened bits moments t n s.rest =
+        subst (λ k. IsNowShown bits moments k s.rest) e s.standing in
+        let reads : ReadsLock reader (first_role bits t) (word_of_lock bits t) n =
+        subst (ReadsNow reader bits) e s.reads in
+        let headers' : headers_shown bits' t n ≡ headers_shown bits t n =
+        headers-more bits (b ∷ []) t n here heard in
         goes reader reader began began copies given [] s.rest (locked p t) s on
-        (subst (λ k. IsOpened bits' moments' t k s.rest) (sym same) (opened-more bits (b ∷ []) t n here heard moments (m ∷ []) s.many s.rest was))
-        (sym (append-nil s.rest)) (subst (ReadsLock reader (first_role bits' t) (word_of_lock bits' t)) (sym same) (reads-on bits (b ∷ []) t n here heard reader reads))
+        (subst (λ k. IsOpened bits' moments' t k s.rest) (sym same)
+        (opened-more bits (b ∷ []) t n here heard moments (m ∷ []) s.many s.rest was))
+        (sym (append-nil s.rest))
+        (subst (ReadsLock reader (first_role bits' t) (word_of_lock bits' t)) (sym same)
+        (reads-on bits (b ∷ []) t n here heard reader reads))
         (s.locks_counted ∙ ap (λ k. length s.locks + now_locks k) e) (omega (arith, ap now_locks e))
         (omega (arith, headers', ap (headers_shown bits' t) same, ap (now_headers bits) e))
 
     -- an element with which a lock is found
-    pub now_found : (p t : ℕ) (s : Shows reader began copies bits moments given) → s.now ≡ hunting p → length bits' ≡ t → IsNow bits' s.locks (locked p t) → (civil : List ℕ) → IsShownAs m civil
+    pub now_found : (p t : ℕ) (s : Shows reader began copies bits moments given) → s.now ≡ hunting p
+        → length bits' ≡ t → IsNow bits' s.locks (locked p t) → (civil : List ℕ) → IsShownAs m civil
         → Shows reader (began + 1) copies bits' moments' (given ++ opening_line civil t)
     now_found p t s e at on civil shown =
         let whole : whole_words bits' t ≡ 0 = omega (arith, at) in
         let fresh : IsFresh reader = subst (ReadsNow reader bits) e s.reads in
         let empty : s.rest ≡ [] = subst (λ n. IsNowShown bits moments n s.rest) e s.standing in
         let place : t - 1 ≡ length moments = omega (arith, at, longer, s.many) in
-        let moment : moment_at moments' (t - 1) ≡ m = ap (λ k. get_or moments' k 0) place ∙ get_or-pushed moments m 0 in
+        let moment : moment_at moments' (t - 1) ≡ m =
+        ap (λ k. get_or moments' k 0) place ∙ get_or-pushed moments m 0 in
         let opening = opening_line civil t in
         let opened : IsOpened bits' moments' t 0 opening = record {
           opening = opening;
-          opens = record { civil = civil; shown = subst (λ k. IsShownAs k civil) (sym moment) shown; spelled = refl };
+          opens = record {
+            civil = civil;
+            shown =
+                subst (λ k. IsShownAs k civil) (sym moment) shown;
+            spelled = refl;
+          };
           spelled = sym (ap (λ l. opening ++ l) (none_shown bits' t) ∙ append-nil opening);
         } in
         goes reader reader began (began + 1) copies given opening opening (locked p t) s on
         (subst (λ k. IsOpened bits' moments' t k opening) (sym whole) opened)
         (ap (λ l. l ++ opening) (sym empty))
-        (subst (ReadsLock reader (first_role bits' t) (word_of_lock bits' t)) (sym whole) (fresh.fresh (first_role bits' t) (word_of_lock bits' t)))
+        (subst (ReadsLock reader (first_role bits' t) (word_of_lock bits' t)) (sym whole)
+        (fresh.fresh (first_role bits' t) (word_of_lock bits' t)))
         (omega (arith, s.locks_counted, ap now_locks e)) (omega arith)
         (omega (arith, ap (headers_shown bits' t) whole, no_headers bits' t))
 
     -- an element with which word n of the lock at t is complete
-    record WordShown (reader' : Reading) (printed : Option ℕ) (rest : List ℕ) (t n : ℕ) : Type 0 where
-      opened : IsOpened bits' moments' t (n + 1) (rest ++ option_to_list printed)
-      reads : ReadsLock reader' (first_role bits' t) (word_of_lock bits' t) (n + 1)
+    record WordShown (reader' : Reading) (printed : Option ℕ) (rest : List ℕ) (t n : ℕ) : Type 0
+      where
+        opened : IsOpened bits' moments' t (n + 1) (rest ++ option_to_list printed)
+        reads : ReadsLock reader' (first_role bits' t) (word_of_lock bits' t) (n + 1)
 
-    word_shown : (reader' : Reading) (printed : Option ℕ) (w : ℕ) (role : Role) (rest : List ℕ) (t n : ℕ) → length moments ≡ length bits → IsPattern bits t → length bits' ≡ t + 7 * (n + 1) → length bits' < 2 ^ 64
-        → IsOpened bits moments t n rest → ReadsLock reader (first_role bits t) (word_of_lock bits t) n → heard_word bits' t n ≡ (w, role) → HearsWord reader reader' w role printed → WordShown reader' printed rest t n
+    word_shown : (reader' : Reading) (printed : Option ℕ) (w : ℕ) (role : Role) (rest : List ℕ)
+        (t n : ℕ) → length moments ≡ length bits → IsPattern bits t → length bits' ≡ t + 7 * (n + 1)
+        → length bits' < 2 ^ 64
+        → IsOpened bits moments t n rest
+        → ReadsLock reader (first_role bits t) (word_of_lock bits t) n
+        → heard_word bits' t n ≡ (w, role) → HearsWord reader reader' w role printed
+        → WordShown reader' printed rest t n
     word_shown reader' printed w role rest t n many here at few was reads pair hears =
         let heard : t + 7 * n ≤ length bits = omega (arith, at, longer) in
         let before = reads-on bits (b ∷ []) t n here heard reader reads in
         let has : HasHeard reader' (first_role bits' t) (word_of_lock bits' t) n printed =
-        hears.hears (first_role bits' t) (word_of_lock bits' t) n before (ap (λ x. x.0) pair) (sym (ap (λ x. x.1) pair)) (omega (arith, at, few)) in
+        hears.hears (first_role bits' t) (word_of_lock bits' t) n before (ap (λ x. x.0) pair)
+        (sym (ap (λ x. x.1) pair)) (omega (arith, at, few)) in
         let grows : shown_text bits' t (n + 1) ≡ shown_text bits' t n ++ option_to_list printed =
-        shown_is bits' t (n + 1) ∙ has.grows ∙ ap (λ l. l ++ option_to_list printed) (sym (shown_is bits' t n)) in
+        shown_is bits' t (n + 1) ∙ has.grows
+        ∙ ap (λ l. l ++ option_to_list printed) (sym (shown_is bits' t n)) in
         let on = opened-more bits (b ∷ []) t n here heard moments (m ∷ []) many rest was in
         record {
           opened = record {
             opening = on.opening;
             opens = on.opens;
-            spelled = ap (λ l. l ++ option_to_list printed) on.spelled ∙ append_assoc on.opening (shown_text bits' t n) (option_to_list printed) ∙ ap (λ l. on.opening ++ l) (sym grows);
+            spelled = ap (λ l. l ++ option_to_list printed) on.spelled
+                ∙ append_assoc on.opening (shown_text bits' t n) (option_to_list printed)
+                ∙ ap (λ l. on.opening ++ l) (sym grows);
           };
           reads = has.reads;
         }
 
-    headers_read : (reader' : Reading) (t n : ℕ) (cs : List Bool) → ReadsLock reader' (first_role cs t) (word_of_lock cs t) n → headers_shown cs t n ≡ reader'.copies
+    headers_read : (reader' : Reading) (t n : ℕ) (cs : List Bool)
+        → ReadsLock reader' (first_role cs t) (word_of_lock cs t) n
+        → headers_shown cs t n ≡ reader'.copies
     unfolding headers_shown
-    headers_read reader' t n cs reads = ap (λ l. length (headers l)) (shown_is cs t n) ∙ sym reads.copies_counted
+    headers_read reader' t n cs reads =
+        ap (λ l. length (headers l)) (shown_is cs t n) ∙ sym reads.copies_counted
 
-    pub word_on : (reader' : Reading) (printed : Option ℕ) (w : ℕ) (role : Role) (p t n : ℕ) (s : Shows reader began copies bits moments given) → s.now ≡ locked p t → IsPattern bits t → length bits' ≡ t + 7 * (n + 1)
-        → length bits' < 2 ^ 64 → IsNow bits' s.locks (locked p t) → heard_word bits' t n ≡ (w, role) → HearsWord reader reader' w role printed → Shows reader' began copies bits' moments' (given ++ option_to_list printed)
+    pub word_on : (reader' : Reading) (printed : Option ℕ) (w : ℕ) (role : Role) (p t n : ℕ)
+        (s : Shows reader began copies bits moments given) → s.now ≡ locked p t → IsPattern bits t
+        → length bits' ≡ t + 7 * (n + 1)
+        → length bits' < 2 ^ 64 → IsNow bits' s.locks (locked p t)
+        → heard_word bits' t n ≡ (w, role) → HearsWord reader reader' w role printed
+        → Shows reader' began copies bits' moments' (given ++ option_to_list printed)
     word_on reader' printed w role p t n s e here at few on pair hears =
         let whole : whole_words bits t ≡ n = omega (arith, at, longer) in
         let whole' : whole_words bits' t ≡ n + 1 = omega (arith, at) in
-        let was : IsOpened bits moments t n s.rest = subst (λ k. IsOpened bits moments t k s.rest) whole (subst (λ k. IsNowShown bits moments k s.rest) e s.standing) in
-        let reads : ReadsLock reader (first_role bits t) (word_of_lock bits t) n = subst (ReadsLock reader (first_role bits t) (word_of_lock bits t)) whole (subst (ReadsNow reader bits) e s.reads) in
-        let w' = word_shown reader' printed w role s.rest t n s.many here at few was reads pair hears in
-        goes reader reader' began began copies given (option_to_list printed) (s.rest ++ option_to_list printed) (locked p t) s on
-        (subst (λ k. IsOpened bits' moments' t k (s.rest ++ option_to_list printed)) (sym whole') w'.opened) refl
-        (subst (ReadsLock reader' (first_role bits' t) (word_of_lock bits' t)) (sym whole') w'.reads)
+        let was : IsOpened bits moments t n s.rest =
+        subst (λ k. IsOpened bits moments t k s.rest) whole
+        (subst (λ k. IsNowShown bits moments k s.rest) e s.standing) in
+        let reads : ReadsLock reader (first_role bits t) (word_of_lock bits t) n =
+        subst (ReadsLock reader (first_role bits t) (word_of_lock bits t)) whole
+        (subst (ReadsNow reader bits) e s.reads) in
+        let w' = word_shown reader' printed w role s.rest t n s.many here at few was reads pair
+        hears in
+        goes reader reader' began began copies given (option_to_list printed)
+        (s.rest ++ option_to_list printed) (locked p t) s on
+        (subst (λ k. IsOpened bits' moments' t k (s.rest ++ option_to_list printed)) (sym whole')
+        w'.opened) refl
+        (subst (ReadsLock reader' (first_role bits' t) (word_of_lock bits' t)) (sym whole')
+        w'.reads)
         (s.locks_counted ∙ ap (λ k. length s.locks + now_locks k) e) (omega (arith, ap now_locks e))
-        (omega (arith, ap (headers_shown bits' t) whole', headers_read reader' t (n + 1) bits' w'.reads, headers_read reader t n bits reads, ap (headers_shown bits t) whole, ap (now_headers bits) e, hears.few))
+        (omega (
+          arith,
+          ap (headers_shown bits' t) whole',
+          headers_read reader' t (n + 1) bits'
+              w'.reads,
+          headers_read reader t n bits reads,
+          ap (headers_shown bits t) whole,
+          ap
+              (now_headers bits) e,
+          hears.few,
+        ))
 
     -- an element with which the lock is over
-    pub word_over : (reader' last : Reading) (printed : Option ℕ) (w : ℕ) (role : Role) (copies' p q : ℕ) (lock : Lock) (s : Shows reader began copies bits moments given) → s.now ≡ locked p lock.at → IsNow bits s.locks (locked p lock.at)
-        → length bits' ≡ q → length bits' < 2 ^ 64 → IsNow bits' (lock ∷ s.locks) (hunting q) → heard_word bits' lock.at lock.last ≡ (w, role) → HearsWord reader reader' w role printed
-        → (civil : List ℕ) → IsShownAs m civil → IsFresh last → copies' ≡ min (copies + reader'.copies) (2 ^ 64 - 1)
-        → Shows last began copies' bits' moments' (given ++ (option_to_list printed ++ closing_of reader' civil lock.how))
+    pub word_over : (reader' last : Reading) (printed : Option ℕ) (w : ℕ) (role : Role)
+        (copies' p q : ℕ) (lock : Lock) (s : Shows reader began copies bits moments given)
+        → s.now ≡ locked p lock.at → IsNow bits s.locks (locked p lock.at)
+        → length bits' ≡ q → length bits' < 2 ^ 64 → IsNow bits' (lock ∷ s.locks) (hunting q)
+        → heard_word bits' lock.at lock.last ≡ (w, role)
+        → HearsWord reader reader' w role printed
+        → (civil : List ℕ) → IsShownAs m civil → IsFresh last
+        → copies' ≡ min (copies + reader'.copies) (2 ^ 64 - 1)
+        → Shows last began copies' bits' moments'
+        (given ++ (option_to_list printed ++ closing_of reader' civil lock.how))
     unfolding Past AreShown past_headers wrong_words
-    word_over reader' last printed w role copies' p q lock s e is end few on pair hears civil shown fresh counted =
+    word_over reader' last printed w role copies' p q lock s e is end few on pair hears civil shown
+        fresh counted =
         let t = lock.at in
         let n = lock.last in
         let here = is.found.here in
         let at : length bits' ≡ t + 7 * (n + 1) = end ∙ on.past.0.next in
         let whole : whole_words bits t ≡ n = omega (arith, at, longer) in
-        let was : IsOpened bits moments t n s.rest = subst (λ k. IsOpened bits moments t k s.rest) whole (subst (λ k. IsNowShown bits moments k s.rest) e s.standing) in
-        let reads : ReadsLock reader (first_role bits t) (word_of_lock bits t) n = subst (ReadsLock reader (first_role bits t) (word_of_lock bits t)) whole (subst (ReadsNow reader bits) e s.reads) in
-        let w' = word_shown reader' printed w role s.rest t n s.many here at few was reads pair hears in
+        let was : IsOpened bits moments t n s.rest =
+        subst (λ k. IsOpened bits moments t k s.rest) whole
+        (subst (λ k. IsNowShown bits moments k s.rest) e s.standing) in
+        let reads : ReadsLock reader (first_role bits t) (word_of_lock bits t) n =
+        subst (ReadsLock reader (first_role bits t) (word_of_lock bits t)) whole
+        (subst (ReadsNow reader bits) e s.reads) in
+        let w' = word_shown reader' printed w role s.rest t n s.many here at few was reads pair
+        hears in
         let text = shown_text bits' t (n + 1) in
         let place : word_place t n ≡ length moments = omega (arith, at, longer, s.many) in
-        let moment : moment_at moments' (word_place t n) ≡ m = ap (λ k. get_or moments' k 0) place ∙ get_or-pushed moments m 0 in
-        let headers' : headers_shown bits' t (n + 1) ≡ reader'.copies = headers_read reader' t (n + 1) bits' w'.reads in
-        let headers'' : headers_shown bits t n ≡ reader.copies = headers_read reader t n bits reads in
+        let moment : moment_at moments' (word_place t n) ≡ m =
+        ap (λ k. get_or moments' k 0) place ∙ get_or-pushed moments m 0 in
+        let headers' : headers_shown bits' t (n + 1) ≡ reader'.copies =
+        headers_read reader' t (n + 1) bits' w'.reads in
+        let headers'' : headers_shown bits t n ≡ reader.copies =
+        headers_read reader t n bits reads in
         let front = s.rest ++ option_to_list printed in
         let lines = closing_lines civil lock.how reader'.words reader'.wrong reader'.copies in
-        let missing = missing_is reader'.is_line_open text (w'.reads.line ∙ ap (λ l. not (is_of_lines l)) (sym (shown_is bits' t (n + 1)))) in
+        let missing = missing_is reader'.is_line_open text
+        (w'.reads.line ∙ ap (λ l. not (is_of_lines l)) (sym (shown_is bits' t (n + 1)))) in
         let this = front ++ missing_newline text ++ lines in
         let past = past_is bits s.locks s.now s.stands in
         let same = past_headers-more bits (b ∷ []) s.locks past.0 past.1 in
@@ -196,16 +273,48 @@ module _ (bits : List Bool) (b : Bool) (moments : List ℕ) (m : ℕ) where
           stands = on;
           many = omega (arith, length_push bits b, length_push moments m, s.many);
           past = s.past ++ this;
-          shown = (s.past, this, past-more bits (b ∷ []) moments (m ∷ []) s.many s.locks past.0 past.1 s.past s.shown, block, refl);
+          shown = (
+            s.past,
+            this,
+            past-more bits (b ∷ []) moments (m ∷ []) s.many s.locks past.0
+                past.1 s.past s.shown,
+            block,
+            refl,
+          );
           rest = [];
           standing = refl;
-          spelled = ap (λ l. l ++ (option_to_list printed ++ closing_of reader' civil lock.how)) s.spelled
+          spelled = ap (λ l. l ++ (option_to_list printed ++ closing_of reader' civil lock.how))
+              s.spelled
               ∙ ap (λ l. (s.past ++ s.rest) ++ (option_to_list printed ++ (l ++ lines))) missing
               ∙ joined s.past s.rest (option_to_list printed) (missing_newline text) lines
               ∙ sym (append-nil (s.past ++ this));
           reads = fresh;
           locks_counted = omega (arith, s.locks_counted, ap now_locks e);
-          copies_counted = omega (arith, counted, s.copies_counted, same, headers', headers'', hears.few, s.few_copies, ap (now_headers bits) e, ap (headers_shown bits t) whole, few, longer);
+          copies_counted = omega (
+            arith,
+            counted,
+            s.copies_counted,
+            same,
+            headers',
+            headers'',
+            hears.few,
+            s.few_copies,
+            ap (now_headers bits) e,
+            ap (headers_shown bits t) whole,
+            few,
+            longer,
+          );
           few_locks = omega (arith, s.few_locks, ap now_locks e, longer);
-          few_copies = omega (arith, s.few_copies, same, headers', headers'', hears.few, ap (now_headers bits) e, ap (headers_shown bits t) whole, longer);
+          few_copies = omega (
+            arith,
+            s.few_copies,
+            same,
+            headers',
+            headers'',
+            hears.few,
+            ap
+                (now_headers bits) e,
+            ap (headers_shown bits t) whole,
+            longer,
+          );
         }

@@ -31,15 +31,28 @@ use Rattle.nx_receiver.proofs.receiving.Logged.{bits_of-append}
 use Rattle.nx_receiver.proofs.receiving.Events.{bits_of-more}
 
 -- what the lines gave was written: their report so far
-shown : (first now : Showing) (old new : Option (List ℕ)) (lines : List Line) → HasTaken StandsFrom first now lines (Appends old new) → HasShown old new lines
-shown first now old new lines h = record { bytes = h.given; report = begins-report now lines h.given h.stood; written = h.here }
+shown : (first now : Showing) (old new : Option (List ℕ)) (lines : List Line)
+    → HasTaken StandsFrom first now lines (Appends old new) → HasShown old new lines
+shown first now old new lines h =
+    record { bytes = h.given; report = begins-report now lines h.given h.stood; written = h.here }
 
-stops-on : (bytes : List ℕ) (P Q : List Line → List ℕ → List ℕ → Type 0) → ((lines : List Line) (rest more : List ℕ) → P lines rest more → Q lines rest more)
+stops-on : (bytes : List ℕ) (P Q : List Line → List ℕ → List ℕ → Type 0)
+    → ((lines : List Line) (rest more : List ℕ) → P lines rest more → Q lines rest more)
     → StopsAt bytes P → StopsAt bytes Q
-stops-on bytes P Q f h = record { lines = h.lines; rest = h.rest; more = h.more; whole = h.whole; each = h.each; part = h.part; here = f h.lines h.rest h.more h.here }
+stops-on bytes P Q f h = record {
+  lines = h.lines;
+  rest = h.rest;
+  more = h.more;
+  whole = h.whole;
+  each = h.each;
+  part =
+      h.part;
+  here = f h.lines h.rest h.more h.here;
+}
 
 -- a line that is refused isn't taken, as its fault says
-fault-says : (number : ℕ) (lines : List Line) (line : Line) (why : LineRefusal) → number ≡ length lines + 1 → (why ≡ refusal.TooMany → ⊥) → RefusesLine lines line why
+fault-says : (number : ℕ) (lines : List Line) (line : Line) (why : LineRefusal)
+    → number ≡ length lines + 1 → (why ≡ refusal.TooMany → ⊥) → RefusesLine lines line why
     → RefusesAfter at_zero (refusal_fault number why) lines line
 fault-says number lines (moment n) refusal.NoMoment e some h = h
 fault-says number lines (moment n) (refusal.Moment why) e some h = (e, h)
@@ -66,9 +79,12 @@ fault-says number lines (accept_subject letter) (refusal.Moment why) e some h = 
 fault-says number lines (accept_subject letter) (refusal.Vital subject) e some h = h
 fault-says number lines (accept_subject letter) refusal.TooMany e some h = absurd (some refl)
 
-next-refused : (first : Showing) (number : ℕ) (lines : List Line) (rest more : List ℕ) (why : LineRefusal) → (why ≡ refusal.TooMany → ⊥)
-    → IsLineRefused (λ before line. RefusesFrom first before line why) air_limit lines rest more number
-    → IsLineRefused (RefusesAfter at_zero (refusal_fault number why)) air_limit lines rest more (length lines + 1)
+next-refused : (first : Showing) (number : ℕ) (lines : List Line) (rest more : List ℕ)
+    (why : LineRefusal) → (why ≡ refusal.TooMany → ⊥)
+    → IsLineRefused (λ before line. RefusesFrom first before line why) air_limit lines rest more
+    number
+    → IsLineRefused (RefusesAfter at_zero (refusal_fault number why)) air_limit lines rest more
+    (length lines + 1)
 next-refused first number lines rest more why some h = record {
   line = h.line;
   after = h.after;
@@ -85,30 +101,61 @@ line-fewer : (line : Line) → length (elements_among (line_events line)) ≤ le
 unfolding elements_among
 line-fewer (moment n) = omega arith
 line-fewer (elements bits) =
-    let heard : length (elements_among (line_events (elements bits))) ≡ length bits = ap length (bits_of-more [] bits) in
+    let heard : length (elements_among (line_events (elements bits))) ≡ length bits =
+    ap length (bits_of-more [] bits) in
     let digits : length (map element_digit bits) ≡ length bits = simp length-map in
-    omega (arith, heard, digits, length-append (spelling (elements bits)) (10 ∷ []), length-append (codes "B ") (map element_digit bits))
+    omega (
+      arith,
+      heard,
+      digits,
+      length-append (spelling (elements bits)) (10 ∷ []),
+      length-append
+          (codes "B ") (map element_digit bits),
+    )
 line-fewer (refuse_station letter) = omega arith
 line-fewer (accept_station letter) = omega arith
 line-fewer (refuse_subject letter) = omega arith
 line-fewer (accept_subject letter) = omega arith
 
-lines-fewer : (lines : List Line) → length (elements_among (events_of lines)) ≤ length (file_of lines)
+lines-fewer : (lines : List Line)
+    → length (elements_among (events_of lines)) ≤ length (file_of lines)
 unfolding elements_among
 lines-fewer [] = omega arith
 lines-fewer (line ∷ lines) =
-    let heard : length (elements_among (events_of (line ∷ lines))) ≡ length (elements_among (line_events line)) + length (elements_among (events_of lines)) =
-    ap length (bits_of-append (line_events line) (events_of lines)) ∙ length-append (elements_among (line_events line)) (elements_among (events_of lines)) in
-    omega (arith, heard, line-fewer line, lines-fewer lines, length-append (line_bytes line) (file_of lines))
+    let heard : length (elements_among (events_of (line ∷ lines)))
+    ≡ length (elements_among (line_events line)) + length (elements_among (events_of lines)) =
+    ap length (bits_of-append (line_events line) (events_of lines))
+    ∙ length-append (elements_among (line_events line)) (elements_among (events_of lines)) in
+    omega (
+      arith,
+      heard,
+      line-fewer line,
+      lines-fewer lines,
+      length-append (line_bytes line)
+          (file_of lines),
+    )
 
 -- there are never more elements than a counter counts
-not-too_many : (lines : List Line) (rest more : List ℕ) (number : ℕ) → IsLineRefused (λ before line. RefusesLine before line refusal.TooMany) air_limit lines rest more number → ⊥
+not-too_many : (lines : List Line) (rest more : List ℕ) (number : ℕ)
+    → IsLineRefused (λ before line. RefusesLine before line refusal.TooMany) air_limit lines rest
+    more number → ⊥
 not-too_many lines rest more number h =
     too_many h.line h.refused h.spelled
   where
     too_many : (line : Line) → HasTooMany lines line → rest ≡ spelling line → ⊥
     too_many (elements bits) many e =
-        omega (arith, many, h.within, ap length e, lines-fewer lines, length-append (file_of lines) rest, length-append (codes "B ") (map element_digit bits), length-map bits element_digit)
+        omega (
+          arith,
+          many,
+          h.within,
+          ap length e,
+          lines-fewer lines,
+          length-append (file_of lines)
+              rest,
+          length-append (codes "B ") (map element_digit bits),
+          length-map bits
+              element_digit,
+        )
     too_many (moment n) many e = many
     too_many (refuse_station letter) many e = many
     too_many (accept_station letter) many e = many
@@ -116,8 +163,11 @@ not-too_many lines rest more number h =
     too_many (accept_subject letter) many e = many
 
 -- what a fault of the lines explains
-explains : (AtEnd : Type 0) (IsLeft : List ℕ → Type 0) (first now : Showing) (old new : Option (List ℕ)) (bytes : List ℕ) (fault : LinesFault LineRefusal)
-    → ExplainsLines StandsFrom BeginsFrom RefusesFrom AtEnd IsLeft air_limit first now old new (Appends old new) bytes fault → ExplainsShowing AtEnd IsLeft old new bytes (lines_fault fault)
+explains : (AtEnd : Type 0) (IsLeft : List ℕ → Type 0) (first now : Showing)
+    (old new : Option (List ℕ)) (bytes : List ℕ) (fault : LinesFault LineRefusal)
+    → ExplainsLines StandsFrom BeginsFrom RefusesFrom AtEnd IsLeft air_limit first now old new
+    (Appends old new) bytes fault
+    → ExplainsShowing AtEnd IsLeft old new bytes (lines_fault fault)
 explains AtEnd IsLeft first now old new bytes run.Read h =
     stops-on bytes _ _ (λ lines rest more p. (p.0, p.1, shown first now old new lines p.2)) h
 explains AtEnd IsLeft first now old new bytes (run.Line file.TooLong) h =
@@ -129,11 +179,23 @@ explains AtEnd IsLeft first now old new bytes (run.Line (file.LineCut line)) h =
 explains AtEnd IsLeft first now old new bytes (run.Line (file.BadLine line)) h =
     stops-on bytes _ _ (λ lines rest more p. (p.0, shown first now old new lines p.1)) h.1
 explains AtEnd IsLeft first now old new bytes (run.Refused line refusal.NoMoment) h =
-    stops-on bytes _ _ (λ lines rest more p. (next-refused first line lines rest more refusal.NoMoment (λ e. cc) p.0, shown first now old new lines p.1)) h
+    stops-on bytes _ _ (λ lines rest more p. (
+      next-refused first line lines rest more refusal.NoMoment (λ e. cc) p.0,
+      shown first now old
+          new lines p.1,
+    )) h
 explains AtEnd IsLeft first now old new bytes (run.Refused line (refusal.Moment why)) h =
-    stops-on bytes _ _ (λ lines rest more p. (next-refused first line lines rest more (refusal.Moment why) (λ e. cc) p.0, shown first now old new lines p.1)) h
+    stops-on bytes _ _ (λ lines rest more p. (
+      next-refused first line lines rest more (refusal.Moment why) (λ e. cc) p.0,
+      shown first now
+          old new lines p.1,
+    )) h
 explains AtEnd IsLeft first now old new bytes (run.Refused line (refusal.Vital subject)) h =
-    stops-on bytes _ _ (λ lines rest more p. (next-refused first line lines rest more (refusal.Vital subject) (λ e. cc) p.0, shown first now old new lines p.1)) h
+    stops-on bytes _ _ (λ lines rest more p. (
+      next-refused first line lines rest more (refusal.Vital subject) (λ e. cc) p.0,
+      shown first
+          now old new lines p.1,
+    )) h
 explains AtEnd IsLeft first now old new bytes (run.Refused line refusal.TooMany) h =
     absurd (not-too_many h.lines h.rest h.more line h.here.0)
 explains AtEnd IsLeft first now old new bytes (run.Write written) h =
@@ -152,7 +214,8 @@ read-back (run.Refused line (refusal.Moment why)) e = cc
 read-back (run.Refused line (refusal.Vital subject)) e = cc
 read-back (run.Refused line refusal.TooMany) e = cc
 
-write-back : (fault : LinesFault LineRefusal) (written : ℕ) → lines_fault fault ≡ Write written → fault ≡ run.Write written
+write-back : (fault : LinesFault LineRefusal) (written : ℕ) → lines_fault fault ≡ Write written
+    → fault ≡ run.Write written
 write-back run.Read written e = cc
 write-back (run.Write n) written e = cc
 write-back (run.Line file.TooLong) written e = cc
@@ -167,23 +230,30 @@ write-back (run.Refused line refusal.TooMany) written e = cc
 err-of : {N : Type 0} (a b : ListenFault) → ◌≡◌ {A = Result N ListenFault} (Err a) (Err b) → a ≡ b
 err-of a b e = cc
 
-run-err-of : {N : Type 0} (a b : LinesFault LineRefusal) → ◌≡◌ {A = Result N (LinesFault LineRefusal)} (Err a) (Err b) → a ≡ b
+run-err-of : {N : Type 0} (a b : LinesFault LineRefusal)
+    → ◌≡◌ {A = Result N (LinesFault LineRefusal)} (Err a) (Err b) → a ≡ b
 run-err-of a b e = cc
 
 as-err : {N F : Type 0} (a b : F) → a ≡ b → ◌≡◌ {A = Result N F} (Err a) (Err b)
 as-err {N} {F} a b e = let out : F → Result N F = λ x. Err x in ap out e
 
 -- a run over lines that ended early is a run that shows locks that did
-pub shows-fault : {R W : Type 0} (first now : Showing) (d : Devices R W) (fault : LinesFault LineRefusal)
-    → RunsLines StandsFrom BeginsFrom RefusesFrom air_limit first now d (Err fault) → ShowsLocks d (Err (lines_fault fault))
+pub shows-fault : {R W : Type 0} (first now : Showing) (d : Devices R W)
+    (fault : LinesFault LineRefusal)
+    → RunsLines StandsFrom BeginsFrom RefusesFrom air_limit first now d (Err fault)
+    → ShowsLocks d (Err (lines_fault fault))
 shows-fault first now d fault h = record {
-  reads = Reads-on d.remaining d.reader d.reader_after run.Read Read (Err fault) (Err (lines_fault fault)) _ _ _ _ h.reads
-      (λ bytes k. explains _ _ first now _ _ bytes fault k) (λ bytes k. explains _ _ first now _ _ bytes fault k)
-      (λ bytes k h outside. tt) (λ e. as-err _ _ (read-back fault (err-of _ _ e))) (λ e. as-err _ _ (ap lines_fault (run-err-of _ _ e)));
+  reads = Reads-on d.remaining d.reader d.reader_after run.Read Read (Err fault)
+      (Err (lines_fault fault)) _ _ _ _ h.reads
+      (λ bytes k. explains _ _ first now _ _ bytes fault k)
+      (λ bytes k. explains _ _ first now _ _ bytes fault k)
+      (λ bytes k h outside. tt) (λ e. as-err _ _ (read-back fault (err-of _ _ e)))
+      (λ e. as-err _ _ (ap lines_fault (run-err-of _ _ e)));
   writes = record {
     failed = (
       λ w. h.writes.failed.0 (w.0, as-err _ _ (write-back fault w.0 (err-of _ _ w.1))),
-      λ one. let w = h.writes.failed.1 one in (w.0, as-err _ _ (ap lines_fault (run-err-of _ _ w.1))),
+      λ one. let w = h.writes.failed.1 one in
+          (w.0, as-err _ _ (ap lines_fault (run-err-of _ _ w.1))),
     );
     once = h.writes.once;
   };
@@ -191,8 +261,11 @@ shows-fault first now d fault h = record {
 }
 
 -- the whole file was read, and its end printed
-shown_all : (first now : Showing) (old mid new : Option (List ℕ)) (bytes : List ℕ) (read : LinesRead) (report : LocksReport) → HasTakenAll StandsFrom first now old mid air_limit bytes read
-    → ((lines : List Line) (given : List ℕ) → IsShowing now lines given → HasWritten old mid given read.written → HasClosed old new lines report)
+shown_all : (first now : Showing) (old mid new : Option (List ℕ)) (bytes : List ℕ)
+    (read : LinesRead) (report : LocksReport)
+    → HasTakenAll StandsFrom first now old mid air_limit bytes read
+    → ((lines : List Line) (given : List ℕ) → IsShowing now lines given
+    → HasWritten old mid given read.written → HasClosed old new lines report)
     → report.lines ≡ read.lines → HasShownAll old new bytes report
 shown_all first now old mid new bytes read report h closed counted =
     let t = h.taken in
@@ -208,49 +281,73 @@ shown_all first now old mid new bytes read report h closed counted =
       copies_counted = e.copies;
     }
 
--- a run over lines that read its file to the end, and what the end prints, are a run that shows locks
-pub shows-ok : {R W : Type 0} (remaining : R → Option (List ℕ)) (contents : W → Option (List ℕ)) (first now : Showing) (reader reader_after : CountedDevice R) (writer mid new : CountedDevice W) (read : LinesRead) (report : LocksReport)
-    → RunsLines StandsFrom BeginsFrom RefusesFrom air_limit first now (devices remaining contents reader reader_after writer mid) (Ok read)
-    → ((lines : List Line) (given : List ℕ) → IsShowing now lines given → HasWritten (contents writer.inner) (contents mid.inner) given read.written
+-- a run over lines that read its file to the end, and what the end prints, are a run that shows
+-- locks
+pub shows-ok : {R W : Type 0} (remaining : R → Option (List ℕ)) (contents : W → Option (List ℕ))
+    (first now : Showing) (reader reader_after : CountedDevice R) (writer mid new : CountedDevice W)
+    (read : LinesRead) (report : LocksReport)
+    → RunsLines StandsFrom BeginsFrom RefusesFrom air_limit first now
+    (devices remaining contents reader reader_after writer mid) (Ok read)
+    → ((lines : List Line) (given : List ℕ) → IsShowing now lines given
+    → HasWritten (contents writer.inner) (contents mid.inner) given read.written
     → HasClosed (contents writer.inner) (contents new.inner) lines report)
-    → report.lines ≡ read.lines → new.failures ≡ 0 → ShowsLocks (devices remaining contents reader reader_after writer new) (Ok report)
-shows-ok remaining contents first now reader reader_after writer mid new read report h closed counted none = record {
-  reads = Reads-on remaining reader reader_after run.Read Read (Ok read) (Ok report) _ _ _ _ h.reads
-      (λ bytes k. (k.0, shown_all first now _ _ _ bytes read report k.1 closed counted)) (λ bytes k. (k.0, shown_all first now _ _ _ bytes read report k.1 closed counted))
-      (λ bytes k h. h) (λ e. absurd (Ok-not_err _ _ e)) (λ e. absurd (Ok-not_err _ _ e));
-  writes = Writes-none _ _ _ (λ written. Ok-not_err _ _) none;
-  unwritten = tt;
-}
+    → report.lines ≡ read.lines → new.failures ≡ 0
+    → ShowsLocks (devices remaining contents reader reader_after writer new) (Ok report)
+shows-ok remaining contents first now reader reader_after writer mid new read report h closed
+    counted none = record {
+      reads = Reads-on remaining reader reader_after run.Read Read (Ok read) (Ok report) _ _ _ _
+          h.reads
+          (λ bytes k. (k.0, shown_all first now _ _ _ bytes read report k.1 closed counted))
+          (λ bytes k. (k.0, shown_all first now _ _ _ bytes read report k.1 closed counted))
+          (λ bytes k h. h) (λ e. absurd (Ok-not_err _ _ e)) (λ e. absurd (Ok-not_err _ _ e));
+      writes = Writes-none _ _ _ (λ written. Ok-not_err _ _) none;
+      unwritten = tt;
+    }
 
 -- the whole file was read, and a write of what its end prints failed
-part-shown : (first now : Showing) (old mid new : Option (List ℕ)) (bytes : List ℕ) (read : LinesRead) (written : ℕ) → HasTakenAll StandsFrom first now old mid air_limit bytes read
-    → ((lines : List Line) (given : List ℕ) → IsShowing now lines given → HasWritten old mid given read.written → HasClosedSome old new lines written)
+part-shown : (first now : Showing) (old mid new : Option (List ℕ)) (bytes : List ℕ)
+    (read : LinesRead) (written : ℕ) → HasTakenAll StandsFrom first now old mid air_limit bytes read
+    → ((lines : List Line) (given : List ℕ) → IsShowing now lines given
+    → HasWritten old mid given read.written → HasClosedSome old new lines written)
     → HasLoggedSome (IsReportOf bytes) old new written
 part-shown first now old mid new bytes read written h closed =
     let t = h.taken in
     let e = closed h.lines t.given t.stood t.here in
     (e.bytes, (h.lines, record { file = h.file; taken = t.stood.taken; report = e.report }), e.some)
 
-write-not_read : {N : Type 0} (written : ℕ) → ◌≡◌ {A = Result N ListenFault} (Err (Write written)) (Err Read) → ⊥
+write-not_read : {N : Type 0} (written : ℕ)
+    → ◌≡◌ {A = Result N ListenFault} (Err (Write written)) (Err Read) → ⊥
 write-not_read written e = cc
 
-pub shows-part : {R W : Type 0} (remaining : R → Option (List ℕ)) (contents : W → Option (List ℕ)) (first now : Showing) (reader reader_after : CountedDevice R) (writer mid new : CountedDevice W) (read : LinesRead) (written : ℕ)
-    → RunsLines StandsFrom BeginsFrom RefusesFrom air_limit first now (devices remaining contents reader reader_after writer mid) (Ok read)
-    → ((lines : List Line) (given : List ℕ) → IsShowing now lines given → HasWritten (contents writer.inner) (contents mid.inner) given read.written
+pub shows-part : {R W : Type 0} (remaining : R → Option (List ℕ)) (contents : W → Option (List ℕ))
+    (first now : Showing) (reader reader_after : CountedDevice R) (writer mid new : CountedDevice W)
+    (read : LinesRead) (written : ℕ)
+    → RunsLines StandsFrom BeginsFrom RefusesFrom air_limit first now
+    (devices remaining contents reader reader_after writer mid) (Ok read)
+    → ((lines : List Line) (given : List ℕ) → IsShowing now lines given
+    → HasWritten (contents writer.inner) (contents mid.inner) given read.written
     → HasClosedSome (contents writer.inner) (contents new.inner) lines written)
-    → new.failures ≡ 1 → ShowsLocks (devices remaining contents reader reader_after writer new) (Err (Write written))
-shows-part remaining contents first now reader reader_after writer mid new read written h closed one = record {
-  reads = Reads-on remaining reader reader_after run.Read Read (Ok read) (Err (Write written)) _ _ _ _ h.reads
-      (λ bytes k. inr (k.0, part-shown first now _ _ _ bytes read written k.1 closed)) (λ bytes k. inr (k.0, part-shown first now _ _ _ bytes read written k.1 closed))
-      (λ bytes k h outside. tt) (λ e. absurd (write-not_read written e)) (λ e. absurd (Ok-not_err _ _ e));
-  writes = record { failed = (λ w. one, λ k. (written, refl)); once = omega (arith, one) };
-  unwritten = tt;
-}
+    → new.failures ≡ 1 → ShowsLocks (devices remaining contents reader reader_after writer new)
+    (Err (Write written))
+shows-part remaining contents first now reader reader_after writer mid new read written h closed
+    one = record {
+      reads = Reads-on remaining reader reader_after run.Read Read (Ok read) (Err (Write written)) _
+          _ _
+          _ h.reads
+          (λ bytes k. inr (k.0, part-shown first now _ _ _ bytes read written k.1 closed))
+          (λ bytes k. inr (k.0, part-shown first now _ _ _ bytes read written k.1 closed))
+          (λ bytes k h outside. tt) (λ e. absurd (write-not_read written e))
+          (λ e. absurd (Ok-not_err _ _ e));
+      writes = record { failed = (λ w. one, λ k. (written, refl)); once = omega (arith, one) };
+      unwritten = tt;
+    }
 
-memory-read : {N : Type 0} (error : AllocError) → ◌≡◌ {A = Result N ListenFault} (Err (Memory error)) (Err Read) → ⊥
+memory-read : {N : Type 0} (error : AllocError)
+    → ◌≡◌ {A = Result N ListenFault} (Err (Memory error)) (Err Read) → ⊥
 memory-read error e = cc
 
-memory-write : {N : Type 0} (error : AllocError) (written : ℕ) → ◌≡◌ {A = Result N ListenFault} (Err (Memory error)) (Err (Write written)) → ⊥
+memory-write : {N : Type 0} (error : AllocError) (written : ℕ)
+    → ◌≡◌ {A = Result N ListenFault} (Err (Memory error)) (Err (Write written)) → ⊥
 memory-write error written e = cc
 
 whatever : (o : Option (List ℕ)) → IfSome o (λ _. ⊤)
@@ -258,8 +355,10 @@ whatever None = tt
 whatever (Some xs) = tt
 
 -- memory ran out before anything was read
-pub shows-memory : {R W : Type 0} (remaining : R → Option (List ℕ)) (contents : W → Option (List ℕ)) (reader : CountedDevice R) (writer : CountedDevice W) (error : AllocError)
-    → reader.failures ≡ 0 → writer.failures ≡ 0 → ShowsLocks (devices remaining contents reader reader writer writer) (Err (Memory error))
+pub shows-memory : {R W : Type 0} (remaining : R → Option (List ℕ)) (contents : W → Option (List ℕ))
+    (reader : CountedDevice R) (writer : CountedDevice W) (error : AllocError)
+    → reader.failures ≡ 0 → writer.failures ≡ 0
+    → ShowsLocks (devices remaining contents reader reader writer writer) (Err (Memory error))
 shows-memory remaining contents reader writer error read written = record {
   reads = record {
     bytes = [];
@@ -275,6 +374,7 @@ shows-memory remaining contents reader writer error read written = record {
 }
 
 -- an outcome that is this fault
-pub err-is : (outcome : Result LocksReport ListenFault) (fault : ListenFault) → IsErr outcome → IsErrAnd outcome (λ made. made ≡ fault) → outcome ≡ Err fault
+pub err-is : (outcome : Result LocksReport ListenFault) (fault : ListenFault) → IsErr outcome
+    → IsErrAnd outcome (λ made. made ≡ fault) → outcome ≡ Err fault
 err-is (Ok x) fault h e = cc
 err-is (Err made) fault h e = cc

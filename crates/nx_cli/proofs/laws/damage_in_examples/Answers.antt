@@ -10,7 +10,8 @@ use Rattle.nx_cli.proofs.WordsLemmas.{invalid_is_refusal, missing_argument_is_re
 use Rattle.nx_cli.proofs.laws.damage_in_examples.Goals as goal
 
 abbrev arguments : Text → Text → Text → List Row
-arguments kind from count = given (codes "KIND") kind ∷ given (codes "FROM") from ∷ given (codes "COUNT") count ∷ []
+arguments kind from count =
+    given (codes "KIND") kind ∷ given (codes "FROM") from ∷ given (codes "COUNT") count ∷ []
 
 -- no kind is written in capitals
 no_capitals : (kind : DamageKind) → Some (codes "DX") ≡ Some (kind_name kind) → ⊥

@@ -33,7 +33,8 @@ returns c = record {
     command = refl;
     given = (
       ap (λ (b : ℕ). Some (b ∷ [])) (sym is),
-      number-of (codes "MOMENT") (arguments (codes "E") (codes "1735689600")) (codes "1735689600") refl refl,
+      number-of (codes "MOMENT") (arguments (codes "E") (codes "1735689600")) (codes "1735689600")
+          refl refl,
     );
   };
   slots = λ program station is. record {

@@ -8,18 +8,29 @@ use Rattle.nx_cli.proofs.program.run.Goals as goal
 pub returns : goal.returns
 returns g c =
     let words = map g.S.AsStr.text c.args.words.now in
-    let d = devices g.R.Read.remaining g.W.Write.contents (fresh_device c.args.input) c.exit_status.new.reader
+    let d = devices g.R.Read.remaining g.W.Write.contents (fresh_device c.args.input)
+    c.exit_status.new.reader
     (fresh_device c.args.output) c.exit_status.new.writer in
-    let exits : Exits words d c.exit_status.result = exits-fresh words g.R.Read.remaining g.W.Write.contents c.args.input c.new-reader.result
-    c.exit_status.new.reader c.args.output c.new-writer.result c.exit_status.new.writer c.exit_status.result
-    c.new-reader.ensures.inner c.new-reader.ensures.none c.new-writer.ensures.inner c.new-writer.ensures.none
-    (answers-exits words (devices g.R.Read.remaining g.W.Write.contents c.new-reader.result c.exit_status.new.reader
-    c.new-writer.result c.exit_status.new.writer) g.E.Write.contents c.new-lines.result c.exit_status.new.faults
+    let exits : Exits words d c.exit_status.result =
+    exits-fresh words g.R.Read.remaining g.W.Write.contents c.args.input c.new-reader.result
+    c.exit_status.new.reader c.args.output c.new-writer.result c.exit_status.new.writer
+    c.exit_status.result
+    c.new-reader.ensures.inner c.new-reader.ensures.none c.new-writer.ensures.inner
+    c.new-writer.ensures.none
+    (answers-exits words (devices g.R.Read.remaining g.W.Write.contents c.new-reader.result
+    c.exit_status.new.reader
+    c.new-writer.result c.exit_status.new.writer) g.E.Write.contents c.new-lines.result
+    c.exit_status.new.faults
     c.exit_status.result c.exit_status.ensures) in
     record {
       exits = (c.exit_status.new.reader, c.exit_status.new.writer, exits);
       status = status-exits words d c.exit_status.result exits;
-      success = λ is. (c.exit_status.new.reader, c.exit_status.new.writer, success-exits words d c.exit_status.result exits is);
+      success = λ is. (
+        c.exit_status.new.reader,
+        c.exit_status.new.writer,
+        success-exits words d
+            c.exit_status.result exits is,
+      );
       called = λ call named is. (
         c.exit_status.new.reader,
         c.exit_status.new.writer,

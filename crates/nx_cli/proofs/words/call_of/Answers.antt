@@ -7,7 +7,8 @@ use Rattle.nx_cli.proofs.words.call_of.Goals as goal
 
 pub returns-in_err-matches-clause-refused : goal.returns-in_err-matches-clause-refused
 returns-in_err-matches-clause-refused g c =
-    let p = err_from_is_err_and c.from_residual-in_err-matches.result c.from_residual-in_err-matches.ensures.1 in
+    let p = err_from_is_err_and c.from_residual-in_err-matches.result
+    c.from_residual-in_err-matches.ensures.1 in
     let tree = c.in_ok-command.ensures.tree in
     let words = map g.S.AsStr.text c.args.words.now in
     let P : App → Type 0 = λ a. HasKind (fault_of a words) c.in_err-matches.field-0.0 in
@@ -32,7 +33,8 @@ returns-clause-named g c =
     let taken = ap (λ (a : App). fault_of a words) (sym tree)
     ∙ c.in_ok-matches.ensures.kinds (ap is_simple_and_free tree ∙ navtex-is_simple_and_free) in
     outcome-named words c.unwrap.result.0.now (rows_of
-    (found_of c.unwrap.result.1.now)) c.of_command.result c.unfit_argument.result c.ok_or.result taken entered c.of_command.ensures.some c.ok_or.ensures.value
+    (found_of c.unwrap.result.1.now)) c.of_command.result c.unfit_argument.result c.ok_or.result
+    taken entered c.of_command.ensures.some c.ok_or.ensures.value
 
 pub returns-clause-refused : goal.returns-clause-refused
 returns-clause-refused g c =
@@ -51,5 +53,6 @@ returns-clause-refused g c =
     let taken = ap (λ (a : App). fault_of a words) (sym tree)
     ∙ c.in_ok-matches.ensures.kinds (ap is_simple_and_free tree ∙ navtex-is_simple_and_free) in
     outcome-refused words c.unwrap.result.0.now (rows_of
-    (found_of c.unwrap.result.1.now)) c.of_command.result c.unfit_argument.result c.ok_or.result taken entered c.of_command.ensures.none
+    (found_of c.unwrap.result.1.now)) c.of_command.result c.unfit_argument.result c.ok_or.result
+    taken entered c.of_command.ensures.none
     c.unfit_argument.ensures.kind c.unfit_argument.ensures.station c.ok_or.ensures.value

@@ -7,8 +7,10 @@ use Rattle.nx_cli.proofs.words.kind_in.Goals as goal
 pub returns-in_err-get_str-clause-none : goal.returns-in_err-get_str-clause-none
 returns-in_err-get_str-clause-none c =
     let absent : c.get_str.result ≡ None = search rules in
-    if_none c.from_residual.result _ (text-absent kind_name (codes "KIND") (found_of c.args.arguments.now)
-    (sym c.get_str.ensures ∙ ap (λ (o : Option (Bor Text)). option_map (λ (s : Bor Text). s.now) o) absent))
+    if_none c.from_residual.result _
+    (text-absent kind_name (codes "KIND") (found_of c.args.arguments.now)
+    (sym c.get_str.ensures ∙ ap (λ (o : Option (Bor Text)). option_map (λ (s : Bor Text). s.now) o)
+    absent))
 
 pub returns-clause-some : goal.returns-clause-some
 returns-clause-some c =

@@ -9,9 +9,11 @@ returns c = record {
   some = number-some (λ bs r. ParsesUnsigned 64 10 bs r × ExplainsUnsignedError 10 bs r
       × HasUnsignedDigitsIfOk bs r) (λ u x read. read.0)
       c.args.name.now (found_of c.args.arguments.now) (one_text
-      (found_of c.args.arguments.now) c.args.name.now) refl c.get_one.result c.get_one.ensures.none c.get_one.ensures.value;
+      (found_of c.args.arguments.now) c.args.name.now) refl c.get_one.result c.get_one.ensures.none
+      c.get_one.ensures.value;
   none = number-none (λ bs r. ParsesUnsigned 64 10 bs r × ExplainsUnsignedError 10 bs r
       × HasUnsignedDigitsIfOk bs r) (λ u x read. read.0)
       c.args.name.now (found_of c.args.arguments.now) (one_text
-      (found_of c.args.arguments.now) c.args.name.now) refl c.get_one.result c.get_one.ensures.value;
+      (found_of c.args.arguments.now) c.args.name.now) refl c.get_one.result
+      c.get_one.ensures.value;
 }

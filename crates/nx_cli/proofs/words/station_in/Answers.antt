@@ -10,8 +10,10 @@ alone letter = letter.byte ∷ []
 pub returns-in_err-get_str-clause-none : goal.returns-in_err-get_str-clause-none
 returns-in_err-get_str-clause-none c =
     let absent : c.get_str.result ≡ None = search rules in
-    if_none c.from_residual.result _ (text-absent alone (codes "STATION") (found_of c.args.arguments.now)
-    (sym c.get_str.ensures ∙ ap (λ (o : Option (Bor Text)). option_map (λ (s : Bor Text). s.now) o) absent))
+    if_none c.from_residual.result _
+    (text-absent alone (codes "STATION") (found_of c.args.arguments.now)
+    (sym c.get_str.ensures ∙ ap (λ (o : Option (Bor Text)). option_map (λ (s : Bor Text). s.now) o)
+    absent))
 
 pub returns-clause-some : goal.returns-clause-some
 returns-clause-some c =

@@ -7,34 +7,48 @@ use Rattle.nx_locks.proofs.run.locks.Goals as goal
 
 pub returns-in_err-shower-clause-shows : goal.returns-in_err-shower-clause-shows
 returns-in_err-shower-clause-shows g c =
-    subst (ShowsLocks (devices g.R.Read.remaining g.W.Write.contents c.args.reader.now c.args.reader.now c.args.writer.now c.args.writer.now)) (sym (err-is c.from_residual.result _ c.from_residual.ensures.0 c.from_residual.ensures.1))
-    (shows-memory g.R.Read.remaining g.W.Write.contents c.args.reader.now c.args.writer.now c.in_err-shower.field-0.0 c.requires.reader c.requires.writer)
+    subst (ShowsLocks (devices g.R.Read.remaining g.W.Write.contents c.args.reader.now
+    c.args.reader.now c.args.writer.now c.args.writer.now))
+    (sym (err-is c.from_residual.result _ c.from_residual.ensures.0 c.from_residual.ensures.1))
+    (shows-memory g.R.Read.remaining g.W.Write.contents c.args.reader.now c.args.writer.now
+    c.in_err-shower.field-0.0 c.requires.reader c.requires.writer)
 
 pub returns-in-Err-clause-shows : goal.returns-in-Err-clause-shows
 returns-in-Err-clause-shows g c =
     let first = c.in_ok-shower.shower in
-    let d = devices g.R.Read.remaining g.W.Write.contents c.args.reader.now c.run_lines.new.reader c.args.writer.now c.run_lines.new.writer in
-    subst (λ fault. ShowsLocks d (Err fault)) (sym c.run_fault.ensures) (shows-fault first c.run_lines.new.taker d c.in-Err.fault (c.in-Err.ensures first c.in_ok-shower.ensures))
+    let d = devices g.R.Read.remaining g.W.Write.contents c.args.reader.now c.run_lines.new.reader
+    c.args.writer.now c.run_lines.new.writer in
+    subst (λ fault. ShowsLocks d (Err fault)) (sym c.run_fault.ensures)
+    (shows-fault first c.run_lines.new.taker d c.in-Err.fault
+    (c.in-Err.ensures first c.in_ok-shower.ensures))
 
 pub close-requires : goal.close-requires
 close-requires g c =
     let first = c.in_ok-shower.shower in
-    Writes-sound _ _ _ (λ written. Ok-not_err _ _) (c.in-Ok.ensures first c.in_ok-shower.ensures).writes
+    Writes-sound _ _ _ (λ written. Ok-not_err _ _)
+    (c.in-Ok.ensures first c.in_ok-shower.ensures).writes
 
 pub returns-in_err-report-clause-shows : goal.returns-in_err-report-clause-shows
 returns-in_err-report-clause-shows g c =
     let first = c.in_ok-shower.shower in
     let contents = g.W.Write.contents in
-    let d = devices g.R.Read.remaining contents c.args.reader.now c.run_lines.new.reader c.args.writer.now c.close.new.writer in
-    subst (ShowsLocks d) (sym (err-is c.from_residual-in_err-report.result _ c.from_residual-in_err-report.ensures.0 c.from_residual-in_err-report.ensures.1))
-    (shows-part g.R.Read.remaining contents first c.run_lines.new.taker c.args.reader.now c.run_lines.new.reader c.args.writer.now c.run_lines.new.writer c.close.new.writer
+    let d = devices g.R.Read.remaining contents c.args.reader.now c.run_lines.new.reader
+    c.args.writer.now c.close.new.writer in
+    subst (ShowsLocks d) (sym
+    (err-is c.from_residual-in_err-report.result _ c.from_residual-in_err-report.ensures.0
+    c.from_residual-in_err-report.ensures.1))
+    (shows-part g.R.Read.remaining contents first c.run_lines.new.taker c.args.reader.now
+    c.run_lines.new.reader c.args.writer.now c.run_lines.new.writer c.close.new.writer
     c.in-Ok.read c.in_err-report.field-0.0.written (c.in-Ok.ensures first c.in_ok-shower.ensures)
-    (λ lines given h w. c.in_err-report.ensures.closed (contents c.args.writer.now.inner) lines given h w) (c.in_err-report.ensures.failed.0 refl))
+    (λ lines given h w. c.in_err-report.ensures.closed (contents c.args.writer.now.inner) lines
+    given h w) (c.in_err-report.ensures.failed.0 refl))
 
 pub returns-clause-shows : goal.returns-clause-shows
 returns-clause-shows g c =
     let first = c.in_ok-shower.shower in
     let contents = g.W.Write.contents in
-    shows-ok g.R.Read.remaining contents first c.run_lines.new.taker c.args.reader.now c.run_lines.new.reader c.args.writer.now c.run_lines.new.writer c.close.new.writer
+    shows-ok g.R.Read.remaining contents first c.run_lines.new.taker c.args.reader.now
+    c.run_lines.new.reader c.args.writer.now c.run_lines.new.writer c.close.new.writer
     c.in-Ok.read c.in_ok-report.report (c.in-Ok.ensures first c.in_ok-shower.ensures)
-    (λ lines given h w. c.in_ok-report.ensures.closed (contents c.args.writer.now.inner) lines given h w) c.in_ok-report.ensures.lines c.in_ok-report.ensures.none
+    (λ lines given h w. c.in_ok-report.ensures.closed (contents c.args.writer.now.inner) lines given
+    h w) c.in_ok-report.ensures.lines c.in_ok-report.ensures.none

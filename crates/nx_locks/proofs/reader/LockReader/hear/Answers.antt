@@ -8,11 +8,22 @@ use Rattle.nx_locks.proofs.reader.LockReader.hear.Goals as goal
 pub returns-in-Dx : goal.returns-in-Dx
 returns-in-Dx c =
     let i = c.self.inside in
-    let mid : Reading = record { diversity = i.diversity; printer = i.printer; finder = i.finder; words = i.words; wrong = i.wrong; copies = i.copies; is_line_open = i.is_line_open } in
+    let mid : Reading = record {
+      diversity = i.diversity;
+      printer = i.printer;
+      finder = i.finder;
+      words = i.words;
+      wrong =
+          i.wrong;
+      copies = i.copies;
+      is_line_open = i.is_line_open;
+    } in
     let mid_is : mid ≡ counted c.args.self.now c.args.word = c.self.view_is ∙ c.count.ensures in
     record {
       hears = λ first words n r is_word is_role few.
-          heard_dx mid c.dx.new.self _ first words n (is_counted c.args.self.now mid c.args.word first words n mid_is r is_word few) (sym is_role ∙ c.in-Dx.is)
+          heard_dx mid c.dx.new.self _ first words n
+          (is_counted c.args.self.now mid c.args.word first words n mid_is r is_word few)
+          (sym is_role ∙ c.in-Dx.is)
           (c.of.ensures.counts ∙ ap counts_as (sym is_word)) c.dx.ensures.stands;
       few = omega (arith, ap (λ (r : Reading). r.copies) mid_is);
     }
@@ -20,14 +31,28 @@ returns-in-Dx c =
 pub returns-in-Some : goal.returns-in-Some
 returns-in-Some c =
     let i = c.self-in-Rx.inside in
-    let mid : Reading = record { diversity = i.diversity; printer = i.printer; finder = i.finder; words = i.words; wrong = i.wrong; copies = i.copies; is_line_open = i.is_line_open } in
-    let mid_is : mid ≡ counted c.args.self.now c.args.word = c.self-in-Rx.view_is ∙ c.count.ensures in
+    let mid : Reading = record {
+      diversity = i.diversity;
+      printer = i.printer;
+      finder = i.finder;
+      words = i.words;
+      wrong =
+          i.wrong;
+      copies = i.copies;
+      is_line_open = i.is_line_open;
+    } in
+    let mid_is : mid ≡ counted c.args.self.now c.args.word =
+    c.self-in-Rx.view_is ∙ c.count.ensures in
     let rx = c.rx-taken.ensures in
     record {
       hears = λ first words n r is_word is_role few.
-          let counted' = is_counted c.args.self.now mid c.args.word first words n mid_is r is_word few in
-          let read = has_read_rx counted'.reads (sym is_role ∙ c.in-Rx.is) (c.of-in-Rx.ensures.counts ∙ ap counts_as (sym is_word)) rx.stands rx.unchanged c.step.ensures.reading in
-          heard_some mid c.take.new.self c.rx-taken.new.self c.step.new.self c.step.result c.in-Some.byte first words n counted' few read c.in-Some.is
+          let counted' = is_counted c.args.self.now mid c.args.word first words n mid_is r is_word
+          few in
+          let read = has_read_rx counted'.reads (sym is_role ∙ c.in-Rx.is)
+          (c.of-in-Rx.ensures.counts ∙ ap counts_as (sym is_word)) rx.stands rx.unchanged
+          c.step.ensures.reading in
+          heard_some mid c.take.new.self c.rx-taken.new.self c.step.new.self c.step.result
+          c.in-Some.byte first words n counted' few read c.in-Some.is
           (c.take.ensures.headers _ counted'.reads.finder) c.take.ensures.kept;
       few = omega (arith, ap (λ (r : Reading). r.copies) mid_is, c.take.ensures.few);
     }
@@ -35,13 +60,27 @@ returns-in-Some c =
 pub returns-in-None : goal.returns-in-None
 returns-in-None c =
     let i = c.self-in-Rx.inside in
-    let mid : Reading = record { diversity = i.diversity; printer = i.printer; finder = i.finder; words = i.words; wrong = i.wrong; copies = i.copies; is_line_open = i.is_line_open } in
-    let mid_is : mid ≡ counted c.args.self.now c.args.word = c.self-in-Rx.view_is ∙ c.count.ensures in
+    let mid : Reading = record {
+      diversity = i.diversity;
+      printer = i.printer;
+      finder = i.finder;
+      words = i.words;
+      wrong =
+          i.wrong;
+      copies = i.copies;
+      is_line_open = i.is_line_open;
+    } in
+    let mid_is : mid ≡ counted c.args.self.now c.args.word =
+    c.self-in-Rx.view_is ∙ c.count.ensures in
     let rx = c.rx-taken.ensures in
     record {
       hears = λ first words n r is_word is_role few.
-          let counted' = is_counted c.args.self.now mid c.args.word first words n mid_is r is_word few in
-          let read = has_read_rx counted'.reads (sym is_role ∙ c.in-Rx.is) (c.of-in-Rx.ensures.counts ∙ ap counts_as (sym is_word)) rx.stands rx.unchanged c.step.ensures.reading in
-          heard_none mid c.rx-taken.new.self c.step.new.self c.step.result first words n counted' read c.in-None.is;
+          let counted' = is_counted c.args.self.now mid c.args.word first words n mid_is r is_word
+          few in
+          let read = has_read_rx counted'.reads (sym is_role ∙ c.in-Rx.is)
+          (c.of-in-Rx.ensures.counts ∙ ap counts_as (sym is_word)) rx.stands rx.unchanged
+          c.step.ensures.reading in
+          heard_none mid c.rx-taken.new.self c.step.new.self c.step.result first words n counted'
+          read c.in-None.is;
       few = omega (arith, ap (λ (r : Reading). r.copies) mid_is);
     }

@@ -8,7 +8,12 @@ returns-in_default c = rw (← c.self.view_is) (record {
     stands = c.hear.ensures.stands text stands;
     more = 0;
     few = omega arith;
-    headers = omega (arith, ap length (headers_kept text c.args.byte c.hear.new.self c.hear.result (c.hear.ensures.hears text stands) c.in_default.not-Header));
+    headers = omega (
+      arith,
+      ap length
+          (headers_kept text c.args.byte c.hear.new.self c.hear.result
+          (c.hear.ensures.hears text stands) c.in_default.not-Header),
+    );
     copies = λ few. omega arith;
   };
   kept = refl;

@@ -7,14 +7,23 @@ pub returns-in-Err-clause-closed : goal.returns-in-Err-clause-closed
 returns-in-Err-clause-closed g c = rw (← c.self.view_is) (λ old lines given h w.
     let i = c.self.inside in
     let e = c.end-locks.ensures.ends (elements_of lines) (moments_of lines) given h.shows in
-    let r = reported i.watch (elements_of lines) (moments_of lines) given c.clear.new.self.items c.end-locks.new.shown.items c.deref.result.now c.end-locks.result (ending_of lines) c.clear.ensures c.deref.ensures.0 h.moment e in
-    record { bytes = given ++ c.deref.result.now; report = r.report; some = c.in-Err.ensures.bytes old given w })
+    let r = reported i.watch (elements_of lines) (moments_of lines) given c.clear.new.self.items
+    c.end-locks.new.shown.items c.deref.result.now c.end-locks.result (ending_of lines)
+    c.clear.ensures c.deref.ensures.0 h.moment e in
+    record {
+      bytes = given ++ c.deref.result.now;
+      report = r.report;
+      some =
+          c.in-Err.ensures.bytes old given w;
+    })
 
 pub returns-clause-closed : goal.returns-clause-closed
 returns-clause-closed g c = rw (← c.self.view_is) (λ old lines given h w.
     let i = c.self.inside in
     let e = c.end-locks.ensures.ends (elements_of lines) (moments_of lines) given h.shows in
-    let r = reported i.watch (elements_of lines) (moments_of lines) given c.clear.new.self.items c.end-locks.new.shown.items c.deref.result.now c.end-locks.result (ending_of lines) c.clear.ensures c.deref.ensures.0 h.moment e in
+    let r = reported i.watch (elements_of lines) (moments_of lines) given c.clear.new.self.items
+    c.end-locks.new.shown.items c.deref.result.now c.end-locks.result (ending_of lines)
+    c.clear.ensures c.deref.ensures.0 h.moment e in
     record {
       bytes = given ++ c.deref.result.now;
       report = r.report;

@@ -10,29 +10,43 @@ use Rattle.nx_locks.proofs.shower.Shower.take_elements.Goals as goal
 pub returns-in-Err-clause-taken : goal.returns-in-Err-clause-taken
 returns-in-Err-clause-taken g c = rw (← c.self.view_is) (λ first old lines h.
     let i = c.self.inside in
-    let before : Showing = record { watch = i.watch; has_moment = i.has_moment; shown = i.shown.items } in
-    let after : Showing = record { watch = c.hear.new.self; has_moment = i.has_moment; shown = c.hear.new.shown.items } in
+    let before : Showing = record
+    { watch = i.watch; has_moment = i.has_moment; shown = i.shown.items } in
+    let after : Showing = record
+    { watch = c.hear.new.self; has_moment = i.has_moment; shown = c.hear.new.shown.items } in
     let some : has_moment lines ≡ true = sym h.stood.has_moment ∙ c.if-not-self.false in
-    let heard : HearsAll i.watch c.hear.new.self c.args.bits.now [] c.hear.new.shown.items = subst (λ l. HearsAll i.watch c.hear.new.self c.args.bits.now l c.hear.new.shown.items) c.clear.ensures c.hear.ensures.hears in
+    let heard : HearsAll i.watch c.hear.new.self c.args.bits.now [] c.hear.new.shown.items =
+    subst (λ l. HearsAll i.watch c.hear.new.self c.args.bits.now l c.hear.new.shown.items)
+    c.clear.ensures c.hear.ensures.hears in
     let shown : c.deref.result.now ≡ c.hear.new.shown.items = c.deref.ensures.0 in
-    let now = element_line before after lines c.args.bits.now h.given c.hear.new.shown.items h.stood some refl heard (omega (arith, h.stood.shows.elements)) in
+    let now = element_line before after lines c.args.bits.now h.given c.hear.new.shown.items h.stood
+    some refl heard (omega (arith, h.stood.shows.elements)) in
     record {
       given = h.given ++ c.deref.result.now;
-      begun = begins-report after (lines ++ line.elements c.args.bits.now ∷ []) (h.given ++ c.deref.result.now) (subst (λ l. IsShowing after (lines ++ line.elements c.args.bits.now ∷ []) (h.given ++ l)) (sym shown) now);
+      begun = begins-report after (lines ++ line.elements c.args.bits.now ∷ [])
+          (h.given ++ c.deref.result.now)
+          (subst (λ l. IsShowing after (lines ++ line.elements c.args.bits.now ∷ []) (h.given ++ l))
+          (sym shown) now);
       some = c.in-Err.ensures.bytes old h.given h.here;
     })
 
 pub returns-clause-taken : goal.returns-clause-taken
 returns-clause-taken g c = rw (← c.self.view_is) (λ first old lines h.
     let i = c.self.inside in
-    let before : Showing = record { watch = i.watch; has_moment = i.has_moment; shown = i.shown.items } in
-    let after : Showing = record { watch = c.hear.new.self; has_moment = i.has_moment; shown = c.hear.new.shown.items } in
+    let before : Showing = record
+    { watch = i.watch; has_moment = i.has_moment; shown = i.shown.items } in
+    let after : Showing = record
+    { watch = c.hear.new.self; has_moment = i.has_moment; shown = c.hear.new.shown.items } in
     let some : has_moment lines ≡ true = sym h.stood.has_moment ∙ c.if-not-self.false in
-    let heard : HearsAll i.watch c.hear.new.self c.args.bits.now [] c.hear.new.shown.items = subst (λ l. HearsAll i.watch c.hear.new.self c.args.bits.now l c.hear.new.shown.items) c.clear.ensures c.hear.ensures.hears in
+    let heard : HearsAll i.watch c.hear.new.self c.args.bits.now [] c.hear.new.shown.items =
+    subst (λ l. HearsAll i.watch c.hear.new.self c.args.bits.now l c.hear.new.shown.items)
+    c.clear.ensures c.hear.ensures.hears in
     let shown : c.deref.result.now ≡ c.hear.new.shown.items = c.deref.ensures.0 in
-    let now = element_line before after lines c.args.bits.now h.given c.hear.new.shown.items h.stood some refl heard (omega (arith, h.stood.shows.elements)) in
+    let now = element_line before after lines c.args.bits.now h.given c.hear.new.shown.items h.stood
+    some refl heard (omega (arith, h.stood.shows.elements)) in
     record {
       given = h.given ++ c.deref.result.now;
-      stood = subst (λ l. IsShowing after (lines ++ line.elements c.args.bits.now ∷ []) (h.given ++ l)) (sym shown) now;
+      stood = subst (λ l. IsShowing after (lines ++ line.elements c.args.bits.now ∷ [])
+          (h.given ++ l)) (sym shown) now;
       here = c.in_default.ensures.bytes old h.given h.here;
     })

@@ -6,5 +6,7 @@ use Rattle.nx_locks.proofs.shower.Shower.take_moment.Goals as goal
 pub returns-clause-taken : goal.returns-clause-taken
 returns-clause-taken c = rw (← c.self.view_is) (λ lines bytes h.
     let i = c.self.inside in
-    let old : Showing = record { watch = i.watch; has_moment = i.has_moment; shown = i.shown.items } in
-    moment_line old _ lines c.args.given bytes h (omega arith) (omega arith) refl c.set_moment.ensures)
+    let old : Showing = record
+    { watch = i.watch; has_moment = i.has_moment; shown = i.shown.items } in
+    moment_line old _ lines c.args.given bytes h (omega arith) (omega arith) refl
+    c.set_moment.ensures)

@@ -15,23 +15,47 @@ returns-in-Some-change-clause-reads c = rw (← c.self.view_is) (
     let before = c.args.shown.now.items in
     let printed : c.match-hear.shown.items ≡ before ++ option_to_list c.hear.result =
     elim c.match-hear.branch [
-      | in-Some w ↦ ap (λ b. b.items) w.shown-is ∙ w.push.ensures.items ∙ ap (λ o. before ++ option_to_list o) (sym w.in-Some.is)
-      | in_default w ↦ ap (λ b. b.items) w.shown-is ∙ sym (append-nil before) ∙ ap (λ o. before ++ option_to_list o) (sym (none-left _ w.in_default.not-Some))
+      | in-Some w ↦ ap (λ b. b.items) w.shown-is ∙ w.push.ensures.items
+          ∙ ap (λ o. before ++ option_to_list o) (sym w.in-Some.is)
+      | in_default w ↦ ap (λ b. b.items) w.shown-is ∙ sym (append-nil before)
+          ∙ ap (λ o. before ++ option_to_list o) (sym (none-left _ w.in_default.not-Some))
     ] in
     let i = c.self.inside in
-    let old : Watching = record { synchroniser = i.synchroniser; reader = i.reader; moment = i.moment; elements = i.elements; locks = i.locks; copies = i.copies } in
-    let made : ℕ → Watching = λ k. record { synchroniser = i.synchroniser; reader = c.restart.new.self; moment = i.moment; elements = i.elements; locks = i.locks; copies = k } in
+    let old : Watching = record {
+      synchroniser = i.synchroniser;
+      reader = i.reader;
+      moment = i.moment;
+      elements =
+          i.elements;
+      locks = i.locks;
+      copies = i.copies;
+    } in
+    let made : ℕ → Watching =
+    λ k. record {
+      synchroniser = i.synchroniser;
+      reader = c.restart.new.self;
+      moment =
+          i.moment;
+      elements = i.elements;
+      locks = i.locks;
+      copies = k;
+    } in
     record {
       reader = c.hear.new.self;
       printed = c.hear.result;
       hears = c.hear.ensures;
-      to = subst (λ (change : Option Change). ReadsTo old (made c.saturating_add-self-inside.result) c.hear.new.self c.hear.result change before c.close.new.shown.items) (sym c.in-Some-change.is) (record {
-        civil = c.close.ensures.closes.0;
-        shown = c.close.ensures.closes.1;
-        spelled = c.close.ensures.closes.2 ∙ ap (λ l. l ++ closing_of c.hear.new.self c.close.ensures.closes.0 c.in-Some-change.how) printed;
-        fresh = c.restart.ensures.fresh;
-        kept = ap made (c.saturating_add-self-inside.ensures ∙ ap (λ n. min (i.copies + n) (2 ^ 64 - 1)) c.copies.ensures);
-      });
+      to = subst (λ (change : Option Change). ReadsTo old (made c.saturating_add-self-inside.result)
+          c.hear.new.self c.hear.result change before c.close.new.shown.items)
+          (sym c.in-Some-change.is) (record {
+            civil = c.close.ensures.closes.0;
+            shown = c.close.ensures.closes.1;
+            spelled = c.close.ensures.closes.2
+                ∙ ap (λ l. l ++ closing_of c.hear.new.self c.close.ensures.closes.0
+                c.in-Some-change.how) printed;
+            fresh = c.restart.ensures.fresh;
+            kept = ap made (c.saturating_add-self-inside.ensures
+                ∙ ap (λ n. min (i.copies + n) (2 ^ 64 - 1)) c.copies.ensures);
+          });
     })
 
 pub returns-in_default-change-clause-reads : goal.returns-in_default-change-clause-reads
@@ -39,15 +63,35 @@ returns-in_default-change-clause-reads c = rw (← c.self.view_is) (
     let before = c.args.shown.now.items in
     let printed : c.match-hear.shown.items ≡ before ++ option_to_list c.hear.result =
     elim c.match-hear.branch [
-      | in-Some w ↦ ap (λ b. b.items) w.shown-is ∙ w.push.ensures.items ∙ ap (λ o. before ++ option_to_list o) (sym w.in-Some.is)
-      | in_default w ↦ ap (λ b. b.items) w.shown-is ∙ sym (append-nil before) ∙ ap (λ o. before ++ option_to_list o) (sym (none-left _ w.in_default.not-Some))
+      | in-Some w ↦ ap (λ b. b.items) w.shown-is ∙ w.push.ensures.items
+          ∙ ap (λ o. before ++ option_to_list o) (sym w.in-Some.is)
+      | in_default w ↦ ap (λ b. b.items) w.shown-is ∙ sym (append-nil before)
+          ∙ ap (λ o. before ++ option_to_list o) (sym (none-left _ w.in_default.not-Some))
     ] in
     let i = c.self.inside in
-    let old : Watching = record { synchroniser = i.synchroniser; reader = i.reader; moment = i.moment; elements = i.elements; locks = i.locks; copies = i.copies } in
-    let new : Watching = record { synchroniser = i.synchroniser; reader = c.hear.new.self; moment = i.moment; elements = i.elements; locks = i.locks; copies = i.copies } in
+    let old : Watching = record {
+      synchroniser = i.synchroniser;
+      reader = i.reader;
+      moment = i.moment;
+      elements =
+          i.elements;
+      locks = i.locks;
+      copies = i.copies;
+    } in
+    let new : Watching = record {
+      synchroniser = i.synchroniser;
+      reader = c.hear.new.self;
+      moment = i.moment;
+      elements =
+          i.elements;
+      locks = i.locks;
+      copies = i.copies;
+    } in
     record {
       reader = c.hear.new.self;
       printed = c.hear.result;
       hears = c.hear.ensures;
-      to = subst (λ (change : Option Change). ReadsTo old new c.hear.new.self c.hear.result change before c.match-hear.shown.items) (sym (none-left _ c.in_default-change.not-Some)) (record { kept = refl; spelled = printed });
+      to = subst (λ (change : Option Change). ReadsTo old new c.hear.new.self c.hear.result change
+          before c.match-hear.shown.items) (sym (none-left _ c.in_default-change.not-Some))
+          (record { kept = refl; spelled = printed });
     })
