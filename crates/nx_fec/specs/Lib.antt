@@ -1,6 +1,7 @@
 pub mod AirFile
 pub mod Aligned
 pub mod BitLines
+pub mod Channels
 pub mod Emission
 pub mod LineRuns
 pub mod Lines

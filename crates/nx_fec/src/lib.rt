@@ -5,6 +5,7 @@
 mod air_file;
 mod aligned;
 mod batch;
+mod channel;
 mod counting;
 mod diversity;
 mod emission;
@@ -28,6 +29,7 @@ mod writing;
 pub use air_file::{AirLine, LineKind, MAX_ELEMENTS, air_line};
 pub use aligned::{AlignedFault, decode_aligned, word_in};
 pub use batch::Batch;
+pub use channel::Channel;
 pub use counting::Counting;
 pub use diversity::{Diversity, Heard, combine};
 pub use emission::to_bits;

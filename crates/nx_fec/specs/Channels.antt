@@ -1,0 +1,21 @@
+-- The channels of an air file: three frequencies that a receiver hears at once (this profile).
+use Rattle.std.specs.Prelude.{ℕ, Bool, true, false, List, [], ◌∷◌}
+use Rattle.nx_fec.specs.declared.channel.Channel.{Channel}
+use Rattle.nx_fec.specs.declared.channel.Channel.TheVariants.{Zero, One, Two}
+
+-- the number of a channel
+abbrev pub channel_number : Channel → ℕ
+channel_number Zero = 0
+channel_number One = 1
+channel_number Two = 2
+
+-- whether two channels are the same
+abbrev pub same_channel : Channel → Channel → Bool
+same_channel Zero Zero = true
+same_channel One One = true
+same_channel Two Two = true
+same_channel _ _ = false
+
+-- all channels, in order
+abbrev pub all_channels : List Channel
+all_channels = Zero ∷ One ∷ Two ∷ []
