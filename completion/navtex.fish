@@ -2,6 +2,8 @@
 complete -c navtex -f
 complete -c navtex -n __fish_use_subcommand -l version -d 'Write the version, and with which logic it was proved'
 complete -c navtex -n __fish_use_subcommand -a listen -d 'Write the log of an air file'
+complete -c navtex -n __fish_use_subcommand -a resume -d 'Write the log of an air file, and go on from a state'
+complete -c navtex -n __fish_use_subcommand -a save -d 'Write the state that an air file leaves behind a state'
 complete -c navtex -n __fish_use_subcommand -a locks -d 'Write the locks of an air file and their running text'
 complete -c navtex -n __fish_use_subcommand -a send -d 'Write the air file of an emission'
 complete -c navtex -n __fish_use_subcommand -a decode -d 'Write the text of an air file'

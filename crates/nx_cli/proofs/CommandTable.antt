@@ -7,7 +7,7 @@ use Rattle.clap.specs.Words.{App, Row, Text}
 use Rattle.nx_envelope.specs.declared.letter.Letter.{Letter}
 use Rattle.nx_station.specs.declared.damaging.DamageKind.{DamageKind}
 use Rattle.nx_cli.specs.declared.words.Call.{Call}
-use Rattle.nx_cli.specs.declared.words.Call.TheVariants.{Check, Code, Damage, Decode, Encode, Listen, Locks, Send, Show, Slots}
+use Rattle.nx_cli.specs.declared.words.Call.TheVariants.{Check, Code, Damage, Decode, Encode, Listen, Locks, Resume, Save, Send, Show, Slots}
 use Rattle.nx_cli.specs.Words.{HasArguments, IsKind, IsNumber, IsStation, command_name, damage_tree, plain_tree, slot_tree}
 use Rattle.nx_cli.proofs.CallArguments.{range_call, range_call-only, slot_call, slot_call-only}
 use Rattle.nx_cli.proofs.EachFound.{Each}
@@ -23,7 +23,8 @@ Entry = Text × Maker
 
 abbrev pub entries : List Entry
 entries =
-    (codes "listen", plain Listen) ∷ (codes "locks", plain Locks)
+    (codes "listen", plain Listen) ∷ (codes "resume", plain Resume) ∷ (codes "save", plain Save)
+    ∷ (codes "locks", plain Locks)
     ∷ (codes "send", slot (λ s m. Send s m))
     ∷ (codes "slots", slot (λ s m. Slots s m))
     ∷ (codes "check", plain Check) ∷ (codes "damage", range (λ k f c. Damage k f c))
@@ -81,6 +82,8 @@ call_in-only Code rows given = refl
 call_in-only Show rows given = refl
 call_in-only Check rows given = refl
 call_in-only Listen rows given = refl
+call_in-only Resume rows given = refl
+call_in-only Save rows given = refl
 call_in-only Locks rows given = refl
 call_in-only (Send station moment) rows given = slot_call-only _ rows station moment given.0 given.1
 call_in-only (Slots station moment) rows given =

@@ -7,6 +7,9 @@ use Rattle.nx_cli.specs.declared.fault.Fault.{Fault}
 use Rattle.nx_cli.specs.declared.fault.Fault.TheVariants as fault
 use Rattle.nx_receiver.specs.declared.listen_fault.ListenFault.{ListenFault}
 use Rattle.nx_receiver.specs.declared.listen_fault.ListenFault.TheVariants as listen
+use Rattle.nx_receiver.specs.declared.resume_fault.ResumeFault.{ResumeFault}
+use Rattle.nx_receiver.specs.declared.resume_fault.ResumeFault.TheVariants as resume
+use Rattle.nx_receiver.specs.declared.state_fault.StateFault.TheVariants as state
 use Rattle.nx_station.specs.declared.fault.CheckFault.{CheckFault}
 use Rattle.nx_station.specs.declared.fault.CheckFault.TheVariants as check
 use Rattle.nx_station.specs.declared.fault.DamageFault.{DamageFault}
@@ -18,7 +21,7 @@ use Rattle.nx_cli.specs.declared.words.Call.{Call}
 use Rattle.nx_fec.specs.declared.fault.RunFault.{RunFault}
 use Rattle.nx_fec.specs.declared.fault.RunFault.TheVariants as run
 use Rattle.nx_cli.specs.Program.{EndsRun, Exits, Performs, Succeeds, Tells, fresh_device}
-use Rattle.nx_cli.specs.Status.{IsStatus, call_status, check_status, damage_status, listen_status, fault_status, run_status, send_status, status_of}
+use Rattle.nx_cli.specs.Status.{IsStatus, call_status, check_status, damage_status, listen_status, fault_status, resume_status, run_status, send_status, status_of}
 use Rattle.nx_fec.specs.Transfers.{Devices, devices, CountedDevice}
 use Rattle.nx_cli.specs.Words.{IsRefused, Names}
 use Rattle.nx_cli.proofs.WordsLemmas.{help_not_refused, named_not_help, named_not_refused, named_not_version, named_once, version_not_refused}
@@ -91,6 +94,13 @@ listen-status (listen.Vital line subject) = inr refl
 listen-status (listen.Write written) = inl refl
 listen-status (listen.Memory want) = inl refl
 
+resume-status : (why : ResumeFault) → (resume_status why ≡ 1) ⊎ (resume_status why ≡ 2)
+resume-status (resume.State state.Read) = inl refl
+resume-status (resume.State (state.StateLine line)) = inr refl
+resume-status (resume.State (state.StateCut line)) = inr refl
+resume-status (resume.Listen why) = listen-status why
+resume-status (resume.Write written) = inl refl
+
 damage-status : (why : DamageFault) → (damage_status why ≡ 1) ⊎ (damage_status why ≡ 2)
 damage-status damage.Read = inl refl
 damage-status damage.AirTooLong = inr refl
@@ -104,6 +114,7 @@ call-status (call.Run why) = run-status why
 call-status (call.Send why) = send-status why
 call-status (call.Check why) = check-status why
 call-status (call.Listen why) = listen-status why
+call-status (call.Resume why) = resume-status why
 call-status (call.Damage why) = damage-status why
 call-status call.NoSlot = inr refl
 

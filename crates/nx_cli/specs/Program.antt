@@ -10,8 +10,10 @@ use Rattle.nx_fec.specs.Transfers.{CountedDevice, WroteSome, Devices}
 use Rattle.nx_fec.specs.Runs.{Decodes, Encodes, Shows}
 use Rattle.nx_fec.specs.TableText.{table_text}
 use Rattle.nx_locks.specs.Run.{ShowsLocks}
-use Rattle.nx_receiver.specs.Events.{at_zero}
+use Rattle.nx_receiver.specs.Shares.{all_at_zero}
 use Rattle.nx_receiver.specs.Listen.{Listens}
+use Rattle.nx_receiver.specs.Resume.{Resumes}
+use Rattle.nx_receiver.specs.declared.resume_fault.Want.TheVariants.{Log, State}
 use Rattle.nx_station.specs.Checking.{Checks}
 use Rattle.nx_station.specs.Damage.{Damages}
 use Rattle.nx_station.specs.FileSending.{Sends}
@@ -20,7 +22,7 @@ use Rattle.nx_fec.specs.declared.fault.RunFault.TheVariants as run
 use Rattle.nx_station.specs.Slots.{HasNoSlot, IsNextSlot}
 use Rattle.nx_cli.specs.declared.words.Call.{Call}
 use Rattle.nx_cli.specs.declared.words.Call.TheVariants.{Check, Code, Decode, Encode, Listen, Show}
-use Rattle.nx_cli.specs.declared.words.Call.TheVariants.{Damage, Locks, Send, Slots}
+use Rattle.nx_cli.specs.declared.words.Call.TheVariants.{Damage, Locks, Resume, Save, Send, Slots}
 use Rattle.nx_cli.specs.declared.fault.CallFault.{CallFault}
 use Rattle.nx_cli.specs.declared.fault.CallFault.TheVariants as call
 use Rattle.nx_cli.specs.declared.fault.Fault.{Fault}
@@ -97,7 +99,9 @@ Performs Code d outcome =
     (WritesText (λ text. text ≡ table_text) d.contents d.writer d.writer_after) outcome
 Performs Show d outcome = Tells (λ why. call.Run why) (Shows d) outcome
 Performs Check d outcome = Tells (λ why. call.Check why) (Checks d) outcome
-Performs Listen d outcome = Tells (λ why. call.Listen why) (Listens at_zero d) outcome
+Performs Listen d outcome = Tells (λ why. call.Listen why) (Listens all_at_zero d) outcome
+Performs Resume d outcome = Tells (λ why. call.Resume why) (Resumes Log d) outcome
+Performs Save d outcome = Tells (λ why. call.Resume why) (Resumes State d) outcome
 Performs Locks d outcome = Tells (λ why. call.Listen why) (ShowsLocks d) outcome
 Performs (Send station moment) d outcome =
     Tells (λ why. call.Send why) (Sends d station.byte moment) outcome

@@ -4,6 +4,9 @@ use Rattle.nx_fec.specs.declared.fault.RunFault.{RunFault}
 use Rattle.nx_fec.specs.declared.fault.RunFault.TheVariants as run
 use Rattle.nx_receiver.specs.declared.listen_fault.ListenFault.{ListenFault}
 use Rattle.nx_receiver.specs.declared.listen_fault.ListenFault.TheVariants as listen
+use Rattle.nx_receiver.specs.declared.resume_fault.ResumeFault.{ResumeFault}
+use Rattle.nx_receiver.specs.declared.resume_fault.ResumeFault.TheVariants as resume
+use Rattle.nx_receiver.specs.declared.state_fault.StateFault.TheVariants as state
 use Rattle.nx_station.specs.declared.fault.CheckFault.{CheckFault}
 use Rattle.nx_station.specs.declared.fault.CheckFault.TheVariants as check
 use Rattle.nx_station.specs.declared.fault.DamageFault.{DamageFault}
@@ -40,6 +43,12 @@ listen_status (listen.Write written) = 1
 listen_status (listen.Memory want) = 1
 listen_status _ = 2
 
+abbrev pub resume_status : ResumeFault → ℕ
+resume_status (resume.State state.Read) = 1
+resume_status (resume.State _) = 2
+resume_status (resume.Listen why) = listen_status why
+resume_status (resume.Write written) = 1
+
 abbrev pub damage_status : DamageFault → ℕ
 damage_status damage.Read = 1
 damage_status (damage.Write written) = 1
@@ -50,6 +59,7 @@ call_status (call.Run why) = run_status why
 call_status (call.Send why) = send_status why
 call_status (call.Check why) = check_status why
 call_status (call.Listen why) = listen_status why
+call_status (call.Resume why) = resume_status why
 call_status (call.Damage why) = damage_status why
 call_status call.NoSlot = 2
 

@@ -11,7 +11,7 @@ use Rattle.clap.specs.declared.error.kind.ErrorKind.TheVariants.{DisplayHelp, Di
 use Rattle.nx_envelope.specs.declared.letter.Letter.{Letter}
 use Rattle.nx_cli.specs.declared.words.Call.{Call}
 use Rattle.nx_cli.specs.declared.words.Call.TheVariants.{Check, Code, Decode, Encode, Listen, Show}
-use Rattle.nx_cli.specs.declared.words.Call.TheVariants.{Damage, Locks, Send, Slots}
+use Rattle.nx_cli.specs.declared.words.Call.TheVariants.{Damage, Locks, Resume, Save, Send, Slots}
 use Rattle.nx_station.specs.declared.damaging.DamageKind.{DamageKind}
 use Rattle.nx_station.specs.declared.damaging.DamageKind.TheVariants.{Dx, Rx, All}
 
@@ -23,6 +23,8 @@ command_name Code = codes "code"
 command_name Show = codes "show"
 command_name Check = codes "check"
 command_name Listen = codes "listen"
+command_name Resume = codes "resume"
+command_name Save = codes "save"
 command_name Locks = codes "locks"
 command_name (Send station moment) = codes "send"
 command_name (Slots station moment) = codes "slots"
@@ -72,10 +74,10 @@ bare_tree = on_top (λ s. record s {
 -- the commands of the program, in the order in which help lists them
 abbrev pub commands : List App
 commands =
-    plain_tree (codes "listen") ∷ plain_tree (codes "locks") ∷ slot_tree (codes "send")
-    ∷ slot_tree (codes "slots") ∷ plain_tree (codes "check") ∷ damage_tree (codes "damage")
-    ∷ plain_tree (codes "decode") ∷ plain_tree (codes "encode") ∷ plain_tree (codes "show")
-    ∷ plain_tree (codes "code") ∷ []
+    plain_tree (codes "listen") ∷ plain_tree (codes "resume") ∷ plain_tree (codes "save")
+    ∷ plain_tree (codes "locks") ∷ slot_tree (codes "send") ∷ slot_tree (codes "slots")
+    ∷ plain_tree (codes "check") ∷ damage_tree (codes "damage") ∷ plain_tree (codes "decode")
+    ∷ plain_tree (codes "encode") ∷ plain_tree (codes "show") ∷ plain_tree (codes "code") ∷ []
 
 -- the command tree of the program
 abbrev pub navtex : App
@@ -106,6 +108,8 @@ HasArguments Code arguments = ⊤
 HasArguments Show arguments = ⊤
 HasArguments Check arguments = ⊤
 HasArguments Listen arguments = ⊤
+HasArguments Resume arguments = ⊤
+HasArguments Save arguments = ⊤
 HasArguments Locks arguments = ⊤
 HasArguments (Send station moment) arguments =
     IsStation arguments station × IsNumber (codes "MOMENT") arguments moment

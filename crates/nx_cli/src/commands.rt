@@ -39,7 +39,13 @@ Its lines, each ended by a line feed, are:
                 accepts it again
   RJ C          refuse subject C from here on, which A, B, D and L can't be;
                 AJ C accepts it again
-A line that ends in CR and LF is not understood: tr -d '\\r' takes the CR away.
+These are lines of channel 0. A receiver of two or three frequencies hears each
+as a channel of its own, whose lines name it directly behind the letters, 0, 1
+or 2:
+  B1 0110011    elements on channel 1, 1 to 511 of them
+  RS2 E         refuse station E on channel 2 alone; so with AS2, RJ2 and AJ2
+A line of T is for all channels. A line that ends in CR and LF is not
+understood: tr -d '\\r' takes the CR away.
 
 Writes an entry to standard output for each copy of a message that is printed,
 as soon as the line with its last element has come: a head, the text, and an
@@ -47,7 +53,9 @@ empty line. The head has the identity, the time of the copy, how it ended (full,
 cut or long), its errors, which are asterisks in the text, and its characters.
 A message that was printed full, with less than 4 per cent of errors, is not
 printed again within 66 hours, unless 200 others came in between; one numbered
-00 is printed each time that it is selected.
+00 is printed each time that it is selected. What is heard on channel 1 or 2 has
+/1 or /2 behind the identity, and no channel knows of the others. Nothing is kept
+for a later run: resume and save do that.
 
 An empty log can mean:
   exchanged tones    each 1 should be a 0 and each 0 a 1. This exchanges them:
@@ -67,6 +75,11 @@ letter is damaged, and it is printed whole:
   B 01100111111000011001111110000110011111
   $ navtex listen < ea01.air
   [EA01 2025-01-01 00:40:00 full 0/5]
+  TEST
+
+The same on channel 1:
+  $ sed 's/^B /B1 /' ea01.air | navtex listen
+  [EA01/1 2025-01-01 00:40:00 full 0/5]
   TEST";
 
 fn listen_command<'a>(alloc: Global) -> Command<'a>
@@ -77,6 +90,111 @@ fn listen_command<'a>(alloc: Global) -> Command<'a>
         .after_help(LISTEN_SHORT)
         .long_about(LISTEN_HELP)
         .after_long_help(LISTEN_EXAMPLE)
+}
+
+const RESUME_SHORT: &str =
+    "A state is a text of what a receiver knows when it is switched off, and an air
+file one of what is on the air behind it. A log is what a receiver prints of it:
+an entry for each message. --help says more.";
+
+const RESUME_HELP: &str = "Print the log of an air file, and go on from a state.
+
+A state is a text of what a receiver knows when it is switched off: for each
+channel what is refused, and which messages were printed and when. So they are
+not printed again when it is switched on.
+
+Reads a state from standard input, as far as its line END, and behind it an air
+file of at most 268435456 bytes, to its end. The lines of the air file are those
+that listen --help lists. Those of a state, each ended by a line feed, are:
+  STATE 2          first of all
+  C0               what follows is that of channel 0; then C1, and last C2
+  RS E             station E is refused
+  RJ C             subject C is refused
+  EA01 1735692000  message EA01 was printed, and this was its moment; the oldest
+                   stands first, and there are 200 at most
+  END              last of all
+Behind STATE 1 stand the lines of channel 0 alone, without C0. So the state of a
+receiver that has heard nothing yet is the two lines STATE 1 and END.
+
+Writes the log to standard output, as listen does. What the state holds as
+printed is not printed again within 66 hours, what it refuses stays refused, and
+no moment is before its newest one. Lines are counted from the start of the air
+file, and those of a state from its own start.
+
+Writes no state. save does, over the same input: both read the state first and
+the air file behind it.";
+
+const RESUME_EXAMPLE: &str =
+    "Example: a message is heard, and four hours later again, when it is not printed:
+  $ printf 'STATE 1\\nEND\\n' > state
+  $ printf '#A01\\nTEST\\n;\\n' > ea01
+  $ navtex send E 1735689600 < ea01 | cat state - > in
+  $ navtex resume < in
+  [EA01 2025-01-01 00:40:00 full 0/5]
+  TEST
+
+  $ navtex save < in > state.new && mv state.new state
+  $ navtex send E 1735692001 < ea01 | cat state - | navtex resume";
+
+fn resume_command<'a>(alloc: Global) -> Command<'a>
+    ensures { IsBuiltAs (plain_tree (codes "resume")) result }
+{
+    Command::new(alloc, "resume")
+        .about("Print the log of an air file, and go on from a state")
+        .after_help(RESUME_SHORT)
+        .long_about(RESUME_HELP)
+        .after_long_help(RESUME_EXAMPLE)
+}
+
+const SAVE_SHORT: &str =
+    "A state is a text of what a receiver knows when it is switched off, and an air
+file one of what is on the air behind it. --help says more, and how a state is
+kept from run to run.";
+
+const SAVE_HELP: &str = "Print the state that an air file leaves behind a state.
+
+A state is a text of what a receiver knows when it is switched off: for each
+channel what is refused, and which messages were printed and when.
+
+Reads what resume reads, in the same way: a state, as far as its line END, and
+behind it an air file of at most 268435456 bytes, to its end. resume --help says
+which lines they have, and with what state to begin.
+
+Writes no log, but the state that the receiver of that log ends with, once all
+was read. It is of version 2, as resume and save read it. A copy that is still
+open where the air file ends is no part of it.
+
+After a fault nothing was written, but for a write that failed. So a run that
+fails leaves the old state, where the new one is written beside it and is put in
+its place by a run that succeeds:
+  navtex save < in > state.new && mv state.new state
+The log and the new state of one run come from two commands over one file in,
+which is the state and the air file behind it:
+  cat state day.air > in
+  navtex resume < in >> log
+  navtex save < in > state.new && mv state.new state";
+
+const SAVE_EXAMPLE: &str = "Example: the state of a receiver that has heard one message:
+  $ printf 'STATE 1\\nEND\\n' > state
+  $ printf '#A01\\nTEST\\n;\\n' | navtex send E 1735689600 > day.air
+  $ cat state day.air > in
+  $ navtex save < in > state.new && mv state.new state
+  $ cat state
+  STATE 2
+  C0
+  EA01 1735692000
+  C1
+  C2
+  END";
+
+fn save_command<'a>(alloc: Global) -> Command<'a>
+    ensures { IsBuiltAs (plain_tree (codes "save")) result }
+{
+    Command::new(alloc, "save")
+        .about("Print the state that an air file leaves behind a state")
+        .after_help(SAVE_SHORT)
+        .long_about(SAVE_HELP)
+        .after_long_help(SAVE_EXAMPLE)
 }
 
 const LOCKS_SHORT: &str =
@@ -91,16 +209,16 @@ a receiver reads words. It begins with phasing, and is over with the emission or
 where 40 of its last 64 words are wrong.
 
 Reads an air file of at most 268435456 bytes from standard input, to its end.
-Its lines are those that listen --help lists. The stations and subjects that
-they refuse are checked and change nothing here.
+Its lines are those that listen --help lists; the locks are those of channel 0.
+The stations and subjects that lines refuse are checked and change nothing here.
 
 Writes each lock to standard output, as soon as the line with its elements has
 come, whether a message stands in it or not:
   a line         the time, and after how many elements the lock began
   the text       as it is printed, with an asterisk for each lost character
-  a line         the time; whether the lock ended with the emission, was lost, or
-                 is open where the file ends; how many words it has, how many of
-                 them have other than four B, and how many copies of messages
+  a line         the time; whether the lock ended with the emission, was lost,
+                 or is open where the file ends; how many words it has, how many
+                 of them have other than four B, and how many copies of messages
                  begin in its text
   an empty line
 and at the end one line with the counts of elements, locks and copies.
@@ -470,6 +588,8 @@ pub fn navtex_command<'a>(alloc: Global) -> Result<Command<'a>, AllocError>
 {
     bare_command(alloc)?
         .subcommand(listen_command(alloc))?
+        .subcommand(resume_command(alloc))?
+        .subcommand(save_command(alloc))?
         .subcommand(locks_command(alloc))?
         .subcommand(send_command(alloc)?)?
         .subcommand(slots_command(alloc)?)?

@@ -5,12 +5,12 @@ ghost use Rattle.std.specs.Prelude.{◌≡◌};
 ghost use Rattle.nx_cli.specs.Report.{IsFaultLine, IsFaultText, WritesOne};
 ghost use Rattle.nx_cli.specs.Status.{call_status, fault_status};
 ghost use Rattle.nx_cli.specs.declared.fault.CallFault.TheVariants.{Check, Damage, Listen};
-ghost use Rattle.nx_cli.specs.declared.fault.CallFault.TheVariants.{Run, Send};
+ghost use Rattle.nx_cli.specs.declared.fault.CallFault.TheVariants.{Resume, Run, Send};
 ghost use Rattle.nx_cli.specs.declared.fault.Fault.TheVariants.{Call};
 ghost use Rattle.nx_fec.specs.declared.fault.RunFault.TheVariants.{Memory};
 
 use nx_fec::{Counting, RunFault, write_out};
-use nx_receiver::ListenFault;
+use nx_receiver::{ListenFault, ResumeFault, StateFault};
 use nx_station::{CheckFault, DamageFault, EmissionFault, SendRunFault};
 use std::alloc::AllocError;
 use std::fmt::InlineText;
@@ -53,6 +53,10 @@ pub enum CallFault {
     /// An air file was not listened to, or not to its end.
     #[error(transparent)]
     Listen(ListenFault),
+    /// A state was not read, the air file behind it was not listened to, or not to its end, or a new
+    /// state was not written whole.
+    #[error(transparent)]
+    Resume(ResumeFault),
     /// An air file was not copied whole.
     #[error(transparent)]
     Damage(DamageFault),
@@ -79,6 +83,13 @@ impl CallFault {
             ) => DEVICE_OR_MEMORY,
             CallFault::Listen(
                 ListenFault::Read | ListenFault::Write { written: _ } | ListenFault::Memory(_),
+            ) => DEVICE_OR_MEMORY,
+            CallFault::Resume(
+                ResumeFault::State(StateFault::Read)
+                | ResumeFault::Listen(
+                    ListenFault::Read | ListenFault::Write { written: _ } | ListenFault::Memory(_),
+                )
+                | ResumeFault::Write { written: _ },
             ) => DEVICE_OR_MEMORY,
             CallFault::Damage(DamageFault::Read | DamageFault::Write { written: _ }) =>
                 DEVICE_OR_MEMORY,
@@ -170,6 +181,14 @@ impl From<ListenFault> for CallFault {
 
     fn from(why: ListenFault) -> CallFault {
         CallFault::Listen(why)
+    }
+}
+
+impl From<ResumeFault> for CallFault {
+    ghost from_gives = { λ why fault. fault ≡ Resume why };
+
+    fn from(why: ResumeFault) -> CallFault {
+        CallFault::Resume(why)
     }
 }
 

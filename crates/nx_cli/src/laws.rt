@@ -7,7 +7,7 @@ ghost use Rattle.nx_cli.specs.Words.{AsksForHelp, AsksForVersion, IsRefused, IsR
 ghost use Rattle.nx_cli.specs.Words.{LacksKind, LacksStation, Names};
 ghost use Rattle.nx_cli.specs.declared.words.Call.{Call};
 ghost use Rattle.nx_cli.specs.declared.words.Call.TheVariants.{Check, Code, Decode, Encode, Listen, Show};
-ghost use Rattle.nx_cli.specs.declared.words.Call.TheVariants.{Damage, Locks, Send, Slots};
+ghost use Rattle.nx_cli.specs.declared.words.Call.TheVariants.{Damage, Locks, Resume, Save, Send, Slots};
 ghost use Rattle.nx_station.specs.declared.damaging.DamageKind.{DamageKind};
 ghost use Rattle.nx_station.specs.declared.damaging.DamageKind.TheVariants.{All, Dx};
 
@@ -36,6 +36,8 @@ pub fn words_in_examples()
     ensures show { (program : Text) → Names (program ∷ codes "show" ∷ []) Show }
     ensures check { (program : Text) → Names (program ∷ codes "check" ∷ []) Check }
     ensures listen { (program : Text) → Names (program ∷ codes "listen" ∷ []) Listen }
+    ensures resume { (program : Text) → Names (program ∷ codes "resume" ∷ []) Resume }
+    ensures save { (program : Text) → Names (program ∷ codes "save" ∷ []) Save }
     ensures locks { (program : Text) → Names (program ∷ codes "locks" ∷ []) Locks }
     ensures help { (program : Text) → AsksForHelp (program ∷ codes "--help" ∷ []) }
     ensures short_help { (program : Text) → AsksForHelp (program ∷ codes "-h" ∷ []) }

@@ -16,7 +16,7 @@ use crate::slots::print_slot;
 use crate::words::{Call, WordsFault, call_of};
 use nx_fec::{Counting, RunFault, decode_run, encode_run, show_run, write_out, write_table};
 use nx_locks::locks;
-use nx_receiver::listen;
+use nx_receiver::{Want, listen, resume};
 use nx_station::{check_run, damage, send};
 use std::alloc::{AllocError, Global};
 use std::convert::AsStr;
@@ -65,6 +65,12 @@ fn perform<R: Read, W: Write>(
         }
         Call::Listen => {
             listen(alloc, reader, writer)?;
+        }
+        Call::Resume => {
+            resume(alloc, reader, writer, Want::Log)?;
+        }
+        Call::Save => {
+            resume(alloc, reader, writer, Want::State)?;
         }
         Call::Locks => {
             locks(alloc, reader, writer)?;

@@ -2,6 +2,7 @@
 //! it makes on devices that fail.
 
 mod air;
+mod channels;
 mod clocked;
 mod copies;
 mod damaging;
@@ -14,6 +15,7 @@ mod listening;
 mod locking;
 mod reading;
 mod repeats;
+mod resuming;
 mod shown_locks;
 mod station;
 mod words;
@@ -46,8 +48,15 @@ impl Ended {
 }
 
 fn run_on(alloc: Global, words: &[&str], input: &[u8]) -> Ended {
+    run_in_pieces(alloc, words, input, usize::MAX)
+}
+
+// What a run left behind that reads and writes at most so many bytes at once.
+fn run_in_pieces(alloc: Global, words: &[&str], input: &[u8], piece: usize) -> Ended {
     let mut source = Source::of(input);
+    source.piece = piece;
     let mut output = Sink::new(Vec::new(alloc));
+    output.piece = piece;
     let mut faults = Sink::new(Vec::new(alloc));
     let status = run(alloc, words, &mut source, &mut output, &mut faults);
     Ended {

@@ -33,6 +33,10 @@ pub enum Call {
     Check,
     /// Print the log of an air file.
     Listen,
+    /// Print the log of the air file behind a state, from which it goes on.
+    Resume,
+    /// Print the state that listening to the air file behind a state leaves.
+    Save,
     /// Print the locks of an air file and their running text.
     Locks,
     /// Write messages as an air file, to be sent in the station's next slot.
@@ -117,6 +121,8 @@ impl Call {
             "show" => Call::Show,
             "check" => Call::Check,
             "listen" => Call::Listen,
+            "resume" => Call::Resume,
+            "save" => Call::Save,
             "locks" => Call::Locks,
             "send" => Call::Send {
                 station: station_in(arguments)?,

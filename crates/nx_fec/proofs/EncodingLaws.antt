@@ -14,7 +14,8 @@ use Rattle.nx_code.specs.declared.signals.Comb.{Comb}
 use Rattle.nx_code.specs.declared.spelling.SpellFault.{SpellFault}
 use Rattle.nx_code.specs.declared.spelling.SpellFault.TheVariants.{NoSuchCharacter, Memory}
 use Rattle.nx_fec.specs.AirFile.{Line, IsLine}
-use Rattle.nx_fec.specs.Lines.{file_of, elements_of, IsBitFile}
+use Rattle.nx_fec.specs.declared.channel.Channel.TheVariants.{Zero}
+use Rattle.nx_fec.specs.Lines.{file_of, elements_on, IsBitFile}
 use Rattle.nx_fec.specs.BitLines.{bit_line, bit_lines}
 use Rattle.nx_fec.specs.Aligned.{aligned_text, words_of}
 use Rattle.nx_fec.specs.Emission.{bits_of, emission, framed_positions, sent_position, AreCombinations}
@@ -96,12 +97,12 @@ first_lines-each bits (suc n) h =
     (bit_line-IsLine bits n (h n (omega arith))))
 
 pub first_lines-elements : (bits : List Bool) (n : ℕ)
-    → flat_map elements_of (first_lines bits n) ≡ take (490 * n) bits
+    → flat_map (elements_on Zero) (first_lines bits n) ≡ take (490 * n) bits
 first_lines-elements bits zero = refl
 first_lines-elements bits (suc n) =
     let size : 490 * n + 490 ≡ 490 * suc n = omega arith in
-    ap (flat_map elements_of) (first_lines-more bits n)
-    ∙ flat_map-append elements_of (first_lines bits n) (bit_line bits n ∷ [])
+    ap (flat_map (elements_on Zero)) (first_lines-more bits n)
+    ∙ flat_map-append (elements_on Zero) (first_lines bits n) (bit_line bits n ∷ [])
     ∙ ap (λ l. l ++ (take 490 (drop (490 * n) bits) ++ [])) (first_lines-elements bits n)
     ∙ ap (λ l. take (490 * n) bits ++ l) (append-nil (take 490 (drop (490 * n) bits)))
     ∙ sym (take-add (490 * n) 490 bits) ∙ ap (λ m. take m bits) size

@@ -1,6 +1,6 @@
 -- Laws of lines and of files of lines: one spelling for each line, one reading of each file, one
 -- outcome.
-use Rattle.std.proofs.Common.{◌≡◌, ◌≢◌, ℕ, suc, ◌<◌, ◌≤◌, Bool, true, false, List, [], ◌∷◌, ◌++◌, length, map, drop, get_or, if◌then◌else◌, nat_eq, refl, sym, ap, ◌∙◌, subst, inl, inr, append_assoc, append-nil, arith, ◌⊎◌}
+use Rattle.std.proofs.Common.{◌≡◌, ◌≢◌, ℕ, suc, ◌<◌, ◌≤◌, Bool, true, false, List, [], ◌∷◌, ◌++◌, length, map, drop, get_or, if◌then◌else◌, nat_eq, refl, sym, ap, ◌∙◌, subst, inl, inr, append_assoc, append-nil, arith, ◌⊎◌, ◌+◌, Option, Some, None}
 use Rattle.std.specs.List.{flat_map, AllByRecursion}
 use Rattle.std.specs.Fmt.{decimal}
 use Rattle.std.specs.Str.Parse.{digits_value}
@@ -8,26 +8,47 @@ use Rattle.std.proofs.lemmas.Fmt.{decimal_is_IsNumeral, length-decimal-le}
 use Rattle.std.proofs.lemmas.List.{length-append, length-map, same_from_push}
 use Rattle.std.proofs.lemmas.List.Concat.{flat_map-append}
 use Rattle.nx_fec.proofs.Digits.{AreDigits, decimal-digits}
-use Rattle.nx_fec.specs.AirFile.{Line, moment, elements, refuse_station, accept_station, refuse_subject, accept_subject, element_digit, spelling, IsLine}
-use Rattle.nx_fec.specs.Lines.{IsAtByte, line_bytes, file_of, IsBeginning, Splits, IsCause, HasFault, IsAirFile, IsBitFile, elements_of, line_end}
+use Rattle.nx_fec.specs.AirFile.{Line, moment, elements, refuse_station, accept_station, refuse_subject, accept_subject, element_digit, mark_bytes, marked, most_elements, spelling, IsLine}
+use Rattle.nx_fec.specs.Lines.{IsAtByte, line_bytes, file_of, IsBeginning, Splits, IsCause, HasFault, IsAirFile, IsBitFile, elements_on, line_end}
+use Rattle.nx_code.specs.Reading.{IsCapital}
+use Rattle.nx_fec.specs.declared.channel.Channel.{Channel}
+use Rattle.nx_fec.specs.declared.channel.Channel.TheVariants.{Zero, One, Two}
 use Rattle.nx_fec.specs.declared.fault.LineFault.{LineFault}
 use Rattle.nx_fec.specs.declared.fault.LineFault.TheVariants.{TooLong, LineLong, LineCut, BadLine}
 
 -- ---- one spelling for each line
 
-abbrev reads_as : ℕ → ℕ → List ℕ → Line
-reads_as first second rest =
-    if nat_eq second 32 then (if nat_eq first 84 then moment (digits_value 10 rest) else elements
-    (map (λ d. nat_eq d 49) rest))
-    else (if nat_eq second 83 then
-    (if nat_eq first 82 then refuse_station (get_or rest 1 0) else accept_station
-    (get_or rest 1 0))
-    else (if nat_eq first 82 then refuse_subject (get_or rest 1 0) else accept_subject
-    (get_or rest 1 0)))
+-- the channel that the bytes behind a word name, and what follows it and a space
+abbrev mark_read : List ℕ → Option Channel
+mark_read bytes =
+    if nat_eq (get_or bytes 0 0) 32 then None
+    else (if nat_eq (get_or bytes 0 0) 48 then Some Zero
+    else (if nat_eq (get_or bytes 0 0) 49 then Some One else Some Two))
+
+abbrev behind : List ℕ → List ℕ
+behind bytes = if nat_eq (get_or bytes 0 0) 32 then drop 1 bytes else drop 2 bytes
+
+marked-read : (line : Option Channel → List ℕ → Line) (mark : Option Channel) (rest : List ℕ)
+    → line (mark_read (marked [] mark rest)) (behind (marked [] mark rest)) ≡ line mark rest
+marked-read line None rest = refl
+marked-read line (Some Zero) rest = refl
+marked-read line (Some One) rest = refl
+marked-read line (Some Two) rest = refl
+
+abbrev command_read : ℕ → ℕ → Option Channel → ℕ → Line
+command_read first second mark letter =
+    if nat_eq second 83 then
+    (if nat_eq first 82 then refuse_station mark letter else accept_station mark letter)
+    else (if nat_eq first 82 then refuse_subject mark letter else accept_subject mark letter)
 
 -- what bytes say, if they spell a line
 abbrev line_read : List ℕ → Line
-line_read bytes = reads_as (get_or bytes 0 0) (get_or bytes 1 0) (drop 2 bytes)
+line_read bytes =
+    if nat_eq (get_or bytes 0 0) 84 then moment (digits_value 10 (drop 2 bytes))
+    else (if nat_eq (get_or bytes 0 0) 66 then elements (mark_read (drop 1 bytes))
+    (map (λ d. nat_eq d 49) (behind (drop 1 bytes)))
+    else command_read (get_or bytes 0 0) (get_or bytes 1 0) (mark_read (drop 2 bytes))
+    (get_or (behind (drop 2 bytes)) 0 0))
 
 elements-read : (bits : List Bool) → map (λ d. nat_eq d 49) (map element_digit bits) ≡ bits
 elements-read [] = refl
@@ -36,11 +57,17 @@ elements-read (false ∷ bits) = ap (λ l. false ∷ l) (elements-read bits)
 
 line_read-spelling : (line : Line) → IsLine line → line_read (spelling line) ≡ line
 line_read-spelling (moment n) h = ap moment (decimal_is_IsNumeral n (omega arith)).1
-line_read-spelling (elements bits) h = ap elements (elements-read bits)
-line_read-spelling (refuse_station letter) h = refl
-line_read-spelling (accept_station letter) h = refl
-line_read-spelling (refuse_subject letter) h = refl
-line_read-spelling (accept_subject letter) h = refl
+line_read-spelling (elements mark bits) h =
+    marked-read (λ m l. elements m (map (λ d. nat_eq d 49) l)) mark (map element_digit bits)
+    ∙ ap (elements mark) (elements-read bits)
+line_read-spelling (refuse_station mark letter) h =
+    marked-read (λ m l. refuse_station m (get_or l 0 0)) mark (letter ∷ [])
+line_read-spelling (accept_station mark letter) h =
+    marked-read (λ m l. accept_station m (get_or l 0 0)) mark (letter ∷ [])
+line_read-spelling (refuse_subject mark letter) h =
+    marked-read (λ m l. refuse_subject m (get_or l 0 0)) mark (letter ∷ [])
+line_read-spelling (accept_subject mark letter) h =
+    marked-read (λ m l. accept_subject m (get_or l 0 0)) mark (letter ∷ [])
 
 pub spelling-injective : (a b : Line) → IsLine a → IsLine b → spelling a ≡ spelling b → a ≡ b
 spelling-injective a b h k e =
@@ -64,6 +91,30 @@ elements-no_feed [] = tt
 elements-no_feed (true ∷ bits) = ((λ e. absurd (omega arith)), elements-no_feed bits)
 elements-no_feed (false ∷ bits) = ((λ e. absurd (omega arith)), elements-no_feed bits)
 
+marked-no_feed : (mark : Option Channel) (rest : List ℕ) → NoFeed rest
+    → NoFeed (marked [] mark rest)
+marked-no_feed None rest h = ((λ e. absurd (omega arith)), h)
+marked-no_feed (Some channel) rest h =
+    ((λ e. absurd (omega arith)), ((λ e. absurd (omega arith)), h))
+
+-- a line that names its channel has one byte more, and one element less
+mark-short : (mark : Option Channel)
+    → (length (mark_bytes mark) ≤ 1) × (length (mark_bytes mark) + most_elements mark ≡ 512)
+mark-short None = (omega arith, refl)
+mark-short (Some channel) = (omega arith, refl)
+
+marked-length : (mark : Option Channel) (rest : List ℕ)
+    → length (marked [] mark rest) ≡ length (mark_bytes mark) + suc (length rest)
+marked-length mark rest = length-append (mark_bytes mark) (32 ∷ rest)
+
+command-IsBeginning : (first second letter : ℕ) (mark : Option Channel) → first ≢ 10 → second ≢ 10
+    → IsCapital letter → IsBeginning (first ∷ second ∷ marked [] mark (letter ∷ []))
+command-IsBeginning first second letter mark f s h = record {
+  none =
+      (f, (s, marked-no_feed mark (letter ∷ []) ((λ e. absurd (omega (arith, e, h.0))), tt)));
+  short = omega (arith, marked-length mark (letter ∷ []), (mark-short mark).0);
+}
+
 pub spelling-IsBeginning : (line : Line) → IsLine line → IsBeginning (spelling line)
 spelling-IsBeginning (moment n) h =
     let few : length (decimal n) ≤ 11 = length-decimal-le 11 n (omega arith) h (omega arith) in
@@ -74,59 +125,26 @@ spelling-IsBeginning (moment n) h =
       );
       short = omega arith;
     }
-spelling-IsBeginning (elements bits) h =
+spelling-IsBeginning (elements mark bits) h =
+    let digits = map element_digit bits in
     record {
-      none = (
-        (λ e. absurd (omega arith)),
-        ((λ e. absurd (omega arith)), elements-no_feed bits),
+      none = ((λ e. absurd (omega arith)), marked-no_feed mark digits (elements-no_feed bits));
+      short = omega (
+        arith,
+        marked-length mark digits,
+        length-map bits element_digit,
+        h.1,
+        (mark-short mark).1,
       );
-      short =
-          omega (arith, length-map bits element_digit, h.1);
     }
-spelling-IsBeginning (refuse_station letter) h =
-    record {
-      none = (
-        (λ e. absurd (omega arith)),
-        (
-          (λ e. absurd (omega arith)),
-          ((λ e. absurd (omega arith)), ((λ e. absurd (omega (arith, h.0))), tt)),
-        ),
-      );
-      short = omega arith;
-    }
-spelling-IsBeginning (accept_station letter) h =
-    record {
-      none = (
-        (λ e. absurd (omega arith)),
-        (
-          (λ e. absurd (omega arith)),
-          ((λ e. absurd (omega arith)), ((λ e. absurd (omega (arith, h.0))), tt)),
-        ),
-      );
-      short = omega arith;
-    }
-spelling-IsBeginning (refuse_subject letter) h =
-    record {
-      none = (
-        (λ e. absurd (omega arith)),
-        (
-          (λ e. absurd (omega arith)),
-          ((λ e. absurd (omega arith)), ((λ e. absurd (omega (arith, h.0))), tt)),
-        ),
-      );
-      short = omega arith;
-    }
-spelling-IsBeginning (accept_subject letter) h =
-    record {
-      none = (
-        (λ e. absurd (omega arith)),
-        (
-          (λ e. absurd (omega arith)),
-          ((λ e. absurd (omega arith)), ((λ e. absurd (omega (arith, h.0))), tt)),
-        ),
-      );
-      short = omega arith;
-    }
+spelling-IsBeginning (refuse_station mark letter) h =
+    command-IsBeginning 82 83 letter mark (λ e. absurd (omega arith)) (λ e. absurd (omega arith)) h
+spelling-IsBeginning (accept_station mark letter) h =
+    command-IsBeginning 65 83 letter mark (λ e. absurd (omega arith)) (λ e. absurd (omega arith)) h
+spelling-IsBeginning (refuse_subject mark letter) h =
+    command-IsBeginning 82 74 letter mark (λ e. absurd (omega arith)) (λ e. absurd (omega arith)) h
+spelling-IsBeginning (accept_subject mark letter) h =
+    command-IsBeginning 65 74 letter mark (λ e. absurd (omega arith)) (λ e. absurd (omega arith)) h
 
 -- ---- one reading of each file
 
@@ -528,5 +546,5 @@ IsAirFile-unique limit bytes l1 l2 h k =
 pub IsBitFile-unique : (limit : ℕ) (bytes : List ℕ) (a b : List Bool) → IsBitFile limit bytes a
     → IsBitFile limit bytes b → a ≡ b
 IsBitFile-unique limit bytes a b h k =
-    h.joined ∙ ap (flat_map elements_of)
+    h.joined ∙ ap (flat_map (elements_on Zero))
     (IsAirFile-unique limit bytes h.lines k.lines h.file k.file) ∙ sym k.joined

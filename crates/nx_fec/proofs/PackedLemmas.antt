@@ -1,5 +1,5 @@
 -- Elements that are packed into words of 64, and the digits that they are read from.
-use Rattle.std.proofs.Common.{◌≡◌, ℕ, zero, suc, ◌+◌, ◌*◌, ◌/◌, ◌%◌, ◌<◌, ◌≤◌, ◌==◌, cond, Bool, true, false, List, [], ◌∷◌, ◌++◌, length, map, take, drop, set, replicate, ◌&&◌, ◌||◌, ◌^◌, ◌-◌, ◌≢◌, IsTrue, codes, refl, sym, ap, ◌∙◌, subst, arith, append_assoc, length-append, take-append-drop}
+use Rattle.std.proofs.Common.{◌≡◌, ℕ, zero, suc, ◌+◌, ◌*◌, ◌/◌, ◌%◌, ◌<◌, ◌≤◌, ◌==◌, cond, Bool, true, false, List, [], ◌∷◌, ◌++◌, length, map, take, drop, set, replicate, ◌&&◌, ◌||◌, ◌^◌, ◌-◌, ◌≢◌, IsTrue, refl, sym, ap, ◌∙◌, subst, arith, append_assoc, length-append, take-append-drop}
 use Rattle.std.specs.Simd.Lanes.{mask_l}
 use Rattle.std.proofs.lemmas.Bool.{eq-eqb, eqb-true}
 use Rattle.std.proofs.lemmas.List.{length-drop, length-map, length-take-le, map-append, set_split, take-append-le, take_all, take_rest}
@@ -286,16 +286,15 @@ pub wrong-digits : (digits : List ℕ) (bits : List Bool) → are_elements digit
 wrong-digits digits bits h same =
     absurd (let both : false ≡ true = sym h ∙ ap are_elements same ∙ spelled-right bits in cc)
 
--- what was read of the line of these elements is these elements
-pub packed-line : (kept : List ℕ) (bits packed : List Bool) (right : Bool)
-    → kept ≡ codes "B " ++ map element_digit bits → 0 < length bits → length bits ≤ 512
+-- what was read of the digits of these elements is these elements
+pub packed-line : (digits : List ℕ) (bits packed : List Bool) (right : Bool)
+    → digits ≡ map element_digit bits → 0 < length bits → length bits ≤ 512
     → (IsTrue right → (0 < length packed) × (length packed ≤ 512)
-    × (take (length kept - 2) (drop 2 kept) ≡ map element_digit packed))
+    × (digits ≡ map element_digit packed))
     → (right ≡ false → (elements : List Bool) → 0 < length elements → length elements ≤ 512
-    → take (length kept - 2) (drop 2 kept) ≢ map element_digit elements)
+    → digits ≢ map element_digit elements)
     → packed ≡ bits
-packed-line kept bits packed true spelled some few found none =
-    let digits = take_rest kept 2 ∙ ap (drop 2) spelled in
-    sym (ones-spelled packed) ∙ ap (map is_one) (sym (found refl).2 ∙ digits) ∙ ones-spelled bits
-packed-line kept bits packed false spelled some few found none =
-    absurd (none refl bits some few (take_rest kept 2 ∙ ap (drop 2) spelled))
+packed-line digits bits packed true spelled some few found none =
+    sym (ones-spelled packed) ∙ ap (map is_one) (sym (found refl).2 ∙ spelled) ∙ ones-spelled bits
+packed-line digits bits packed false spelled some few found none =
+    absurd (none refl bits some few spelled)

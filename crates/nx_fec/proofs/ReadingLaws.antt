@@ -1,14 +1,14 @@
 -- Lemmas on what a scanner has read, and on the faults that explain why it stopped.
-use Rattle.std.proofs.Common.{◌≡◌, ℕ, arith, Bool, length, take, drop, option_to_list, refl, List, [], ◌∷◌, ◌++◌, sym, ap, ◌∙◌, subst, append-nil, Option, None, Some, IfSome, Result, Ok, Err, IfErr}
+use Rattle.std.proofs.Common.{◌≡◌, ℕ, arith, Bool, length, take, drop, refl, List, [], ◌∷◌, ◌++◌, sym, ap, ◌∙◌, subst, append-nil, Option, None, Some, IfSome, Result, Ok, Err, IfErr}
 use Rattle.std.specs.List.{flat_map}
 use Rattle.std.proofs.lemmas.List.Concat.{flat_map-append}
 use Rattle.nx_fec.specs.AirFile.{Line}
-use Rattle.nx_fec.specs.Lines.{HasFault, IsAtByte, IsBitFile, IsCause, IsFaultless, Scanning, Scans, Splits, StopsIn, elements_of, file_of}
-use Rattle.nx_fec.specs.Scanner.{elements_kept}
+use Rattle.nx_fec.specs.Lines.{HasFault, IsAtByte, IsBitFile, IsCause, IsFaultless, Scanning, Scans, Splits, StopsIn, elements_on, file_of}
 use Rattle.nx_fec.specs.Runs.{run_fault, ExplainsReading, IsOutside}
 use Rattle.nx_fec.specs.private.Takers.{ExplainsPiece, HasRead}
 use Rattle.std.specs.declared.alloc.AllocError.{AllocError}
 use Rattle.nx_fec.proofs.PieceLemmas.{piece-parts}
+use Rattle.nx_fec.specs.declared.channel.Channel.TheVariants.{Zero}
 use Rattle.nx_fec.specs.declared.fault.LineFault.{LineFault}
 use Rattle.nx_fec.specs.declared.fault.LineFault.TheVariants as file
 use Rattle.nx_fec.specs.declared.fault.RunFault.{RunFault}
@@ -65,13 +65,13 @@ HasRead-first limit scanner bits scans none = record { lines = []; scans = scans
 -- one more step of the scanner, over the bytes of some more lines
 pub HasRead-step : (limit : ℕ) (old new : Scanning) (bits more : List Bool) (bytes bytes' : List ℕ)
     (some : List Line) (h : HasRead limit old bits bytes)
-    → Scans limit new bytes' (h.lines ++ some) → more ≡ bits ++ flat_map elements_of some
+    → Scans limit new bytes' (h.lines ++ some) → more ≡ bits ++ flat_map (elements_on Zero) some
     → HasRead limit new more bytes'
 HasRead-step limit old new bits more bytes bytes' some h scans joined = record {
   lines = h.lines ++ some;
   scans = scans;
-  joined = joined ∙ ap (λ l. l ++ flat_map elements_of some) h.joined
-      ∙ sym (flat_map-append elements_of h.lines some);
+  joined = joined ∙ ap (λ l. l ++ flat_map (elements_on Zero) some) h.joined
+      ∙ sym (flat_map-append (elements_on Zero) h.lines some);
 }
 
 -- a fault of the file explains the fault of the run
@@ -130,12 +130,6 @@ IsCause-more limit front lines rest (byte ∷ more) ys file.TooLong at h = h
 IsCause-more limit front lines rest (byte ∷ more) ys (file.LineLong line) at h = h
 IsCause-more limit front lines rest (byte ∷ more) ys (file.LineCut line) at h = absurd at
 IsCause-more limit front lines rest (byte ∷ more) ys (file.BadLine line) at h = h
-
--- the elements that a scanner keeps are those of the line that was ended
-pub elements_kept-list : (latest : Option Line)
-    → flat_map elements_of (option_to_list latest) ≡ elements_kept latest
-elements_kept-list None = refl
-elements_kept-list (Some line) = append-nil (elements_of line)
 
 -- a scanner that stops in a piece
 pub ExplainsPiece-stop : (limit : ℕ) (s : Scanning) (bytes piece : List ℕ) (lines : List Line)

@@ -1,5 +1,5 @@
 -- Lemmas on what a writer holds while lines of elements are written to it in batches.
-use Rattle.std.proofs.Common.{◌≡◌, ℕ, ◌+◌, ◌-◌, ◌*◌, ◌^◌, ◌<◌, ◌≤◌, min, Bool, List, [], ◌∷◌, ◌++◌, length, map, take, drop, set, get_or, false, sym, ap, ◌∙◌, subst, append_assoc, append-nil, arith, Option}
+use Rattle.std.proofs.Common.{◌≡◌, ℕ, ◌+◌, ◌-◌, ◌*◌, ◌^◌, ◌<◌, ◌≤◌, min, Bool, List, [], ◌∷◌, ◌++◌, length, map, take, drop, set, get_or, false, sym, ap, ◌∙◌, subst, append_assoc, append-nil, arith, Option, None}
 use Rattle.std.specs.List.{range_with_len}
 use Rattle.std.specs.Int.{div_ceil}
 use Rattle.std.specs.Io.KnownBytes.{Appends}
@@ -44,10 +44,10 @@ file_of-push lines line =
 -- the elements of a line, as the code takes them
 pub line-is : (bits : List Bool) (i : ℕ) → let rest =
     take (length bits - 490 * i) (drop (490 * i) bits) in
-    elements (take (min 490 (length rest)) rest) ≡ bit_line bits i
+    elements None (take (min 490 (length rest)) rest) ≡ bit_line bits i
 line-is bits i =
     let rest = take (length bits - 490 * i) (drop (490 * i) bits) in
-    ap elements (take_min 490 rest ∙ ap (take 490) (take_rest bits (490 * i)))
+    ap (elements None) (take_min 490 rest ∙ ap (take 490) (take_rest bits (490 * i)))
 
 -- one more line
 pub Batched-more : (old now : Option (List ℕ)) (bits : List Bool) (index sent : ℕ)
@@ -151,9 +151,9 @@ pub Batched-line : (old now : Option (List ℕ)) (bits : List Bool) (index sent 
     (batch more : List ℕ) (count : ℕ) → Batched old now bits index sent batch
     → count ≡ min 490 (length (take (length bits - 490 * index) (drop (490 * index) bits)))
     → more ≡ batch ++ line_bytes
-    (elements (take count (take (length bits - 490 * index) (drop (490 * index) bits))))
+    (elements None (take count (take (length bits - 490 * index) (drop (490 * index) bits))))
     → Batched old now bits (index + 1) sent more
 Batched-line old now bits index sent batch more count h is added =
     let rest = take (length bits - 490 * index) (drop (490 * index) bits) in
-    Batched-more old now bits index sent batch more (elements (take count rest)) h added
-    (ap (λ n. elements (take n rest)) is ∙ line-is bits index)
+    Batched-more old now bits index sent batch more (elements None (take count rest)) h added
+    (ap (λ n. elements None (take n rest)) is ∙ line-is bits index)

@@ -1,5 +1,5 @@
 -- The channels of an air file: three frequencies that a receiver hears at once (this profile).
-use Rattle.std.specs.Prelude.{ℕ, Bool, true, false, List, [], ◌∷◌}
+use Rattle.std.specs.Prelude.{ℕ, Bool, true, false, List, [], ◌∷◌, Option, Some, None}
 use Rattle.nx_fec.specs.declared.channel.Channel.{Channel}
 use Rattle.nx_fec.specs.declared.channel.Channel.TheVariants.{Zero, One, Two}
 
@@ -19,3 +19,8 @@ same_channel _ _ = false
 -- all channels, in order
 abbrev pub all_channels : List Channel
 all_channels = Zero ∷ One ∷ Two ∷ []
+
+-- the channel that a line belongs to: the one that it names, or channel 0 where it names none
+abbrev pub channel_of : Option Channel → Channel
+channel_of None = Zero
+channel_of (Some channel) = channel

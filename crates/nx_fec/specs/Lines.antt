@@ -1,6 +1,9 @@
 -- The lines of a whole air file, its first fault, and its elements (this profile).
-use Rattle.std.specs.Prelude.{◌≡◌, ◌≢◌, ℕ, ◌+◌, ◌<◌, ◌≤◌, Bool, List, [], ◌∷◌, ◌++◌, length, take, drop, Option, ⊤}
+use Rattle.std.specs.Prelude.{◌≡◌, ◌≢◌, ℕ, ◌+◌, ◌<◌, ◌≤◌, Bool, List, [], ◌∷◌, ◌++◌, length, take, drop, Option, if◌then◌else◌, ⊤}
 use Rattle.std.specs.List.{flat_map, AllByRecursion}
+use Rattle.nx_fec.specs.Channels.{channel_of, same_channel}
+use Rattle.nx_fec.specs.declared.channel.Channel.{Channel}
+use Rattle.nx_fec.specs.declared.channel.Channel.TheVariants.{Zero}
 use Rattle.nx_fec.specs.AirFile.{Line, elements, spelling, IsLine, IsNoLine}
 use Rattle.nx_fec.specs.declared.fault.LineFault.{LineFault}
 use Rattle.nx_fec.specs.declared.fault.LineFault.TheVariants.{TooLong, LineLong, LineCut, BadLine}
@@ -99,14 +102,20 @@ pub record IsAirFile (limit : ℕ) (bytes : List ℕ) (lines : List Line) : Type
 
 -- the elements of a line, which only a line of elements has
 abbrev pub elements_of : Line → List Bool
-elements_of (elements bits) = bits
+elements_of (elements mark bits) = bits
 elements_of _ = []
 
--- the file of these bytes has these elements, over all its lines
+-- the elements of a line that belongs to this channel
+abbrev pub elements_on : Channel → Line → List Bool
+elements_on channel (elements mark bits) =
+    if same_channel (channel_of mark) channel then bits else []
+elements_on channel _ = []
+
+-- the file of these bytes has these elements on channel 0, over all its lines
 pub record IsBitFile (limit : ℕ) (bytes : List ℕ) (bits : List Bool) : Type 0 where
   pub lines : List Line
   pub file : IsAirFile limit bytes lines
-  pub joined : bits ≡ flat_map elements_of lines
+  pub joined : bits ≡ flat_map (elements_on Zero) lines
 
 -- what a scanner of lines holds: the open line, how many lines were ended, how many more bytes it
 -- may take, and the line that the last byte ended, if it did

@@ -9,20 +9,20 @@ use Rattle.nx_fec.specs.declared.air_file.LineKind.TheVariants.{Moment, Elements
 -- what a line says but for its elements
 abbrev pub kind_of : Line → LineKind
 kind_of (moment n) = Moment n
-kind_of (elements bits) = Elements
-kind_of (refuse_station letter) = RefuseStation letter
-kind_of (accept_station letter) = AcceptStation letter
-kind_of (refuse_subject letter) = RefuseSubject letter
-kind_of (accept_subject letter) = AcceptSubject letter
+kind_of (elements mark bits) = Elements mark
+kind_of (refuse_station mark letter) = RefuseStation mark letter
+kind_of (accept_station mark letter) = AcceptStation mark letter
+kind_of (refuse_subject mark letter) = RefuseSubject mark letter
+kind_of (accept_subject mark letter) = AcceptSubject mark letter
 
 -- the line that says so, with these elements
 abbrev pub line_with : LineKind → List Bool → Line
 line_with (Moment n) bits = moment n
-line_with Elements bits = elements bits
-line_with (RefuseStation letter) bits = refuse_station letter
-line_with (AcceptStation letter) bits = accept_station letter
-line_with (RefuseSubject letter) bits = refuse_subject letter
-line_with (AcceptSubject letter) bits = accept_subject letter
+line_with (Elements mark) bits = elements mark bits
+line_with (RefuseStation mark letter) bits = refuse_station mark letter
+line_with (AcceptStation mark letter) bits = accept_station mark letter
+line_with (RefuseSubject mark letter) bits = refuse_subject mark letter
+line_with (AcceptSubject mark letter) bits = accept_subject mark letter
 
 -- what a scanner keeps, by the line that was ended and the line that is open
 abbrev pub kind_kept : Option Line → Option LineKind

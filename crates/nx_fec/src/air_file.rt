@@ -1,10 +1,11 @@
 //! The lines of an air file, which carries what a receiver hears: moments, elements and commands of selection.
-ghost use Rattle.std.specs.Prelude.{◌≡◌, ◌≢◌, ◌<◌, ◌≤◌, ◌^◌, ℕ, Bool, List, ◌++◌, length, map, IfSome, IfNone, IsTrue, MatchOption, [], ◌∷◌, false};
+ghost use Rattle.std.specs.Prelude.{◌≡◌, ◌≢◌, ◌<◌, ◌≤◌, ◌^◌, ℕ, Bool, List, ◌++◌, length, map, IfSome, IfNone, IsTrue, MatchOption, [], ◌∷◌, false, Some};
 ghost use Rattle.std.specs.Fmt.{decimal};
 ghost use Rattle.nx_code.specs.Reading.{IsCapital};
-ghost use Rattle.nx_fec.specs.AirFile.{IsLine, IsNoLine, element_digit, line_of, spelling};
-ghost use Rattle.nx_fec.specs.private.ScannerKept.{SpellsLine};
+ghost use Rattle.nx_fec.specs.AirFile.{IsLine, IsNoLine, Line, Means, element_digit, mark_bytes, spelling};
+ghost use Rattle.nx_fec.specs.private.ScannerKept.{IsMarked, SpellsLine};
 
+use crate::channel::Channel;
 use arrayvec::ArrayVec;
 
 /// The most elements of one line.
@@ -13,54 +14,54 @@ pub const MAX_ELEMENTS: usize = 512;
 /// The most digits of a moment.
 const MAX_DIGITS: usize = 11;
 
-/// One line of an air file.
+/// One line of an air file: what it means. It belongs to the channel that it names, or to channel 0 where it names none;
+/// a moment belongs to all channels.
 #[derive(Debug, PartialEq, Drop)]
 pub enum AirLine {
     /// `T`: the moment from here on, in seconds, of at most 11 digits.
     Moment(u64),
-    /// `B`: 1 to 512 elements in the order of sending; true is B.
-    Bits(ArrayVec<bool, MAX_ELEMENTS>),
+    /// `B`: 1 to 512 elements in the order of sending, or to 511 where the line names its channel; true is B.
+    Bits(Channel, ArrayVec<bool, MAX_ELEMENTS>),
     /// `RS`: refuse the station of this letter A to Z.
-    RefuseStation(u8),
+    RefuseStation(Channel, u8),
     /// `AS`: accept the station of this letter A to Z.
-    AcceptStation(u8),
+    AcceptStation(Channel, u8),
     /// `RJ`: refuse the subject of this letter A to Z.
-    RefuseSubject(u8),
+    RefuseSubject(Channel, u8),
     /// `AJ`: accept the subject of this letter A to Z.
-    AcceptSubject(u8),
+    AcceptSubject(Channel, u8),
 }
 
-/// What a line of an air file says, but for its elements.
+/// What a line of an air file says, but for its elements, with the channel that it names, if it names one.
 #[derive(Clone, Copy, Debug, PartialEq, Eq)]
 pub enum LineKind {
     /// `T`: the moment from here on, in seconds, of at most 11 digits.
     Moment(u64),
     /// `B`: elements.
-    Elements,
+    Elements(Option<Channel>),
     /// `RS`: refuse the station of this letter A to Z.
-    RefuseStation(u8),
+    RefuseStation(Option<Channel>, u8),
     /// `AS`: accept the station of this letter A to Z.
-    AcceptStation(u8),
+    AcceptStation(Option<Channel>, u8),
     /// `RJ`: refuse the subject of this letter A to Z.
-    RefuseSubject(u8),
+    RefuseSubject(Option<Channel>, u8),
     /// `AJ`: accept the subject of this letter A to Z.
-    AcceptSubject(u8),
+    AcceptSubject(Option<Channel>, u8),
 }
 
 /// Reads a line, given without its line feed. None where it is no line of an air file.
 pub fn air_line(line: &[u8]) -> Option<AirLine>
-    ensures found { IfSome result
-        (λ found. IsLine (line_of found) × (line.now ≡ spelling (line_of found))) }
+    ensures found { IfSome result (λ found. Means line.now found) }
     ensures none { IfNone result (IsNoLine line.now) }
 {
     let mut bits = ArrayVec::new();
     Some(match read_line(line, &mut bits)? {
         LineKind::Moment(moment) => AirLine::Moment(moment),
-        LineKind::Elements => AirLine::Bits(bits),
-        LineKind::RefuseStation(letter) => AirLine::RefuseStation(letter),
-        LineKind::AcceptStation(letter) => AirLine::AcceptStation(letter),
-        LineKind::RefuseSubject(letter) => AirLine::RefuseSubject(letter),
-        LineKind::AcceptSubject(letter) => AirLine::AcceptSubject(letter),
+        LineKind::Elements(mark) => AirLine::Bits(Channel::of(mark), bits),
+        LineKind::RefuseStation(mark, letter) => AirLine::RefuseStation(Channel::of(mark), letter),
+        LineKind::AcceptStation(mark, letter) => AirLine::AcceptStation(Channel::of(mark), letter),
+        LineKind::RefuseSubject(mark, letter) => AirLine::RefuseSubject(Channel::of(mark), letter),
+        LineKind::AcceptSubject(mark, letter) => AirLine::AcceptSubject(Channel::of(mark), letter),
     })
 }
 
@@ -79,22 +80,78 @@ pub(crate) fn read_line(line: &[u8], bits: &mut ArrayVec<bool, MAX_ELEMENTS>) ->
     }
     if let Some(rest) = after(line, b"B ") {
         return if read_elements(rest, bits) {
-            Some(LineKind::Elements)
+            Some(LineKind::Elements(None))
         } else {
             None
         };
     }
     if let Some(rest) = after(line, b"RS ") {
-        return Some(LineKind::RefuseStation(letter(rest)?));
+        return Some(LineKind::RefuseStation(None, letter(rest)?));
     }
     if let Some(rest) = after(line, b"AS ") {
-        return Some(LineKind::AcceptStation(letter(rest)?));
+        return Some(LineKind::AcceptStation(None, letter(rest)?));
     }
     if let Some(rest) = after(line, b"RJ ") {
-        return Some(LineKind::RefuseSubject(letter(rest)?));
+        return Some(LineKind::RefuseSubject(None, letter(rest)?));
     }
     if let Some(rest) = after(line, b"AJ ") {
-        return Some(LineKind::AcceptSubject(letter(rest)?));
+        return Some(LineKind::AcceptSubject(None, letter(rest)?));
+    }
+    read_marked(line, bits)
+}
+
+/// Reads a line that names its channel, as `read_line` does.
+// Never inlined: lines that name none pay nothing for it.
+#[inline(never)]
+fn read_marked(line: &[u8], bits: &mut ArrayVec<bool, MAX_ELEMENTS>) -> Option<LineKind>
+    requires { bits.old.items ≡ [] }
+    ensures found { IfSome result (λ kind. SpellsLine kind bits.new.items line.now) }
+    ensures none { IfNone result ((sent : Line) → IsMarked sent → IsLine sent
+        → line.now ≢ spelling sent) }
+    ensures unread { IfNone result (bits.new.items ≡ []) }
+{
+    if let Some(rest) = after(line, b"B") {
+        let (channel, digits) = marked(rest)?;
+        return if digits.len() < MAX_ELEMENTS && read_elements(digits, bits) {
+            Some(LineKind::Elements(Some(channel)))
+        } else {
+            None
+        };
+    }
+    if let Some(rest) = after(line, b"RS") {
+        let (channel, rest) = marked(rest)?;
+        return Some(LineKind::RefuseStation(Some(channel), letter(rest)?));
+    }
+    if let Some(rest) = after(line, b"AS") {
+        let (channel, rest) = marked(rest)?;
+        return Some(LineKind::AcceptStation(Some(channel), letter(rest)?));
+    }
+    if let Some(rest) = after(line, b"RJ") {
+        let (channel, rest) = marked(rest)?;
+        return Some(LineKind::RefuseSubject(Some(channel), letter(rest)?));
+    }
+    if let Some(rest) = after(line, b"AJ") {
+        let (channel, rest) = marked(rest)?;
+        return Some(LineKind::AcceptSubject(Some(channel), letter(rest)?));
+    }
+    None
+}
+
+/// The channel that is named by the digit at the front, and what follows it and a space.
+fn marked(text: &[u8]) -> Option<(Channel, &[u8])>
+    ensures found { IfSome result (λ found.
+        text.now ≡ mark_bytes (Some found.0) ++ (32 ∷ found.1.now)) }
+    ensures none { IfNone result ((channel : Channel) (rest : List ℕ)
+        → text.now ≢ mark_bytes (Some channel) ++ (32 ∷ rest)) }
+{
+    if let Some(rest) = after(text, b"0 ") {
+        return Some((Channel::Zero, rest));
+    }
+    if let Some(rest) = after(text, b"1 ") {
+        return Some((Channel::One, rest));
+    }
+    if let Some(rest) = after(text, b"2 ") {
+        return Some((Channel::Two, rest));
     }
     None
 }
@@ -166,4 +223,59 @@ fn read_elements(digits: &[u8], bits: &mut ArrayVec<bool, MAX_ELEMENTS>) -> bool
     bits.try_extend_from_slice(&elements[..digits.len()])
         .unwrap();
     true
+}
+
+#[cfg(test)]
+mod tests {
+    use super::*;
+
+    /// Lines that name their channel, and lines that name none.
+    #[test]
+    fn commands(rt: HostRuntime) {
+        let cases: [(&[u8], Option<AirLine>); 10] = [
+            (b"T 12345678901", Some(AirLine::Moment(12_345_678_901))),
+            (b"RS E", Some(AirLine::RefuseStation(Channel::Zero, b'E'))),
+            (b"RS0 E", Some(AirLine::RefuseStation(Channel::Zero, b'E'))),
+            (b"AS1 E", Some(AirLine::AcceptStation(Channel::One, b'E'))),
+            (b"RJ2 L", Some(AirLine::RefuseSubject(Channel::Two, b'L'))),
+            (b"AJ Z", Some(AirLine::AcceptSubject(Channel::Zero, b'Z'))),
+            (b"AJ3 Z", None),
+            (b"RS1E", None),
+            (b"RS 1 E", None),
+            (b"T1 5", None),
+        ];
+        for (line, said) in cases {
+            assert_eq!(rt; air_line(line), said);
+        }
+    }
+
+    /// The elements 011 on a channel.
+    fn three_elements(channel: Channel) -> Option<AirLine> {
+        let mut bits = ArrayVec::new();
+        bits.try_extend_from_slice(&[false, true, true]).unwrap();
+        Some(AirLine::Bits(channel, bits))
+    }
+
+    /// Elements of channels, and lines of no channel.
+    #[test]
+    fn elements(rt: HostRuntime) {
+        assert_eq!(rt; air_line(b"B 011"), three_elements(Channel::Zero));
+        assert_eq!(rt; air_line(b"B0 011"), three_elements(Channel::Zero));
+        assert_eq!(rt; air_line(b"B2 011"), three_elements(Channel::Two));
+        for line in [b"B3 1", b"B1  ", b"B012", b"B 1 "] {
+            assert_eq!(rt; air_line(line), None);
+        }
+    }
+
+    /// A line of elements has 512, or 511 where it names its channel.
+    #[test]
+    fn longest_lines(rt: HostRuntime) {
+        let mut line = [b'0'; 515];
+        line[..2].copy_from_slice(b"B ");
+        assert_eq!(rt; air_line(&line[..514]).is_some(), true);
+        assert_eq!(rt; air_line(&line), None);
+        line[..3].copy_from_slice(b"B1 ");
+        assert_eq!(rt; air_line(&line[..514]).is_some(), true);
+        assert_eq!(rt; air_line(&line), None);
+    }
 }

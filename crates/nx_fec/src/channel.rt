@@ -1,6 +1,6 @@
 //! The channels of an air file: the frequencies that a receiver hears at once.
 ghost use Rattle.std.specs.Prelude.{◌≡◌, ◌<◌, IfSome, IfNone};
-ghost use Rattle.nx_fec.specs.Channels.{channel_number};
+ghost use Rattle.nx_fec.specs.Channels.{channel_number, channel_of};
 
 /// One of the three frequencies that a receiver hears, each with its own elements and commands (this profile).
 #[derive(Clone, Copy, Debug, PartialEq, Eq)]
@@ -27,6 +27,13 @@ impl Channel {
         }
     }
 
+    /// The channel that a line belongs to: the one that it names, or channel 0 where it names none.
+    pub fn of(mark: Option<Channel>) -> Channel
+        ensures { result ≡ channel_of mark }
+    {
+        mark.unwrap_or(Channel::Zero)
+    }
+
     /// Its number, 0 to 2.
     pub fn number(self) -> u8
         ensures { result ≡ channel_number self }
@@ -50,5 +57,7 @@ mod tests {
         assert_eq!(rt; Channel::new(2), Some(Channel::Two));
         assert_eq!(rt; Channel::new(3), None);
         assert_eq!(rt; Channel::Two.number(), 2);
+        assert_eq!(rt; Channel::of(None), Channel::Zero);
+        assert_eq!(rt; Channel::of(Some(Channel::Two)), Channel::Two);
     }
 }

@@ -93,6 +93,20 @@ impl PackedElements {
         self.length = digits.len();
         true
     }
+
+    /// Reads elements as `read` does.
+    // Never inlined: it runs for the lines that name their channel, and the others pay nothing for it.
+    #[inline(never)]
+    pub(crate) fn read_apart(&mut self, digits: &[u8]) -> bool
+        ensures found { IsTrue result → (0 < length self.new) × (length self.new ≤ 512)
+            × (digits.now ≡ map element_digit self.new) }
+        ensures none { result ≡ false → (elements : List Bool) → 0 < length elements
+            → length elements ≤ 512
+            → digits.now ≢ map element_digit elements }
+        ensures unread { result ≡ false → self.new ≡ [] }
+    {
+        self.read(digits)
+    }
 }
 
 /// Packs digits into words. Whether each of them is one of an element.

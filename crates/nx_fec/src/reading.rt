@@ -1,11 +1,15 @@
 //! Reading the elements of an air file, or a text whole, from a reader.
-ghost use Rattle.std.specs.Prelude.{◌≡◌, ◌+◌, ◌<◌, ◌≤◌, ℕ, List, ◌++◌, take, length, IfSome, IfOk, OnOk, IsErrOf, IsErrAnd, MatchResult, ◌⊎◌, Bool, vec_len};
+ghost use Rattle.std.specs.Prelude.{◌≡◌, ◌+◌, ◌<◌, ◌≤◌, ℕ, List, ◌++◌, take, length, IfSome, IfOk, OnOk, IsErrOf, IsErrAnd, MatchResult, ◌⊎◌, Bool, vec_len, option_to_list};
+ghost use Rattle.std.specs.List.{flat_map};
 ghost use Rattle.nx_fec.specs.AirFile.{Line};
-ghost use Rattle.nx_fec.specs.Lines.{IsBitFile, HasFault, Scans};
+ghost use Rattle.nx_fec.specs.Lines.{IsBitFile, HasFault, Scans, elements_on};
+ghost use Rattle.nx_fec.specs.declared.channel.Channel.TheVariants.{Zero};
 ghost use Rattle.nx_fec.specs.declared.fault.LineFault.{LineFault};
 ghost use Rattle.nx_fec.specs.Runs.{IsOutside, ReadsElements, ReadsWhole, file_limit, run_fault};
 ghost use Rattle.nx_fec.specs.private.Takers.{ExplainsPiece, HasRead};
 
+use crate::air_file::LineKind;
+use crate::channel::Channel;
 use crate::counting::Counting;
 use crate::fault::{ReadFault, RunFault};
 use crate::pieces::{CHUNK, PieceTaker, read_pieces};
@@ -18,7 +22,8 @@ use std::mem::size_of;
 /// The most bytes of a text, and of an air file that is read to its end before it is used.
 const FILE_LIMIT: u64 = 1_048_576;
 
-/// Reads an air file to its end, and joins the elements of all its lines. The other lines are checked and skipped.
+/// Reads an air file to its end, and joins the elements of all its lines on channel 0. The other lines are checked and
+/// skipped.
 ///
 /// The fault is the first in the order of the bytes: `LineLong`, `LineCut` or `BadLine`, or `FileTooLong` where there
 /// is a byte past 1,048,576; `Read` where a read failed before any of them; and `Memory` where it ran out, and no fault
@@ -238,7 +243,7 @@ fn scan_line(piece: &[u8], scanner: &mut Scanner, bits: &mut Vec<bool>) -> Resul
     ensures no_read { IsErrOf result RunFault.Read → ⊥ }
 {
     let count = scanner.push_line(piece)?;
-    match append_elements(scanner.elements(), bits) {
+    match append_elements(scanner, bits) {
         Ok(()) => Ok(count),
         Err(_) => Err(fault_behind(&piece[count..], scanner)),
     }
@@ -262,14 +267,18 @@ fn fault_behind(piece: &[u8], scanner: &mut Scanner) -> RunFault
     RunFault::Memory(AllocError)
 }
 
-/// Appends the elements of a line, which only a line of elements has.
-fn append_elements(elements: &[bool], bits: &mut Vec<bool>) -> Result<(), AllocError>
-    ensures { OnOk result (bits.new.items ≡ bits.old.items ++ elements.now) }
+/// Appends the elements of the line that the last byte ended, if it ended a line of channel 0.
+fn append_elements(scanner: &Scanner, bits: &mut Vec<bool>) -> Result<(), AllocError>
+    ensures { OnOk result (bits.new.items ≡ bits.old.items
+        ++ flat_map (elements_on Zero) (option_to_list scanner.now.latest)) }
 {
-    if elements.is_empty() {
+    let Some(LineKind::Elements(mark)) = scanner.latest() else {
         return Ok(());
+    };
+    match Channel::of(mark) {
+        Channel::Zero => bits.extend_from_slice(scanner.elements()),
+        Channel::One | Channel::Two => Ok(()),
     }
-    bits.extend_from_slice(elements)
 }
 
 #[cfg(test)]
@@ -291,6 +300,9 @@ mod tests {
         assert_eq!(rt; whole.as_slice(), b"ABC".as_slice());
         let bits = read_bits(rt.alloc(), &mut Counting::new(&b"T 5\nB 01\nB 1\n"[..]))?;
         assert_eq!(rt; bits.as_slice(), [false, true, true].as_slice());
+        let mixed = b"B 0\nB1 1\nB0 11\nRS2 A\nB2 0\nB0 0\n";
+        let bits = read_bits(rt.alloc(), &mut Counting::new(&mixed[..]))?;
+        assert_eq!(rt; bits.as_slice(), [false, true, true, false].as_slice());
         Ok(())
     }
 }

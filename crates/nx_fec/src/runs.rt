@@ -128,9 +128,10 @@ mod tests {
 
     #[test]
     fn decode_cases(rt: HostRuntime) -> Result<(), Fail> {
-        let cases: [(&[u8], Result<u64, RunFault>, &[u8]); 5] = [
+        let cases: [(&[u8], Result<u64, RunFault>, &[u8]); 6] = [
             (FILE_OF_A, Ok(1), b"A"),
             (b"", Ok(0), b""),
+            (b"B1 0110011\nRJ2 D\n", Ok(0), b""),
             (b"B 01100111\n", Err(RunFault::Ragged { bits: 8 }), b""),
             (b"B 012\n", Err(RunFault::BadLine { line: 1 }), b""),
             (b"T 5\nAS E\nB 0", Err(RunFault::LineCut { line: 3 }), b""),

@@ -113,10 +113,14 @@ impl Scanner {
     pub fn pack(&self, packed: &mut PackedElements)
         ensures { packed.new ≡ elements_kept self.now.latest }
     {
-        if let Some(LineKind::Elements) = self.ended {
-            let _ = packed.read(&self.kept.as_slice()[2..]);
-        } else {
-            packed.clear();
+        match self.ended {
+            Some(LineKind::Elements(None)) => {
+                let _ = packed.read(&self.kept.as_slice()[2..]);
+            }
+            Some(LineKind::Elements(Some(_))) => {
+                let _ = packed.read_apart(&self.kept.as_slice()[3..]);
+            }
+            _ => packed.clear(),
         }
     }
 
@@ -292,6 +296,7 @@ impl Scanner {
 #[cfg(test)]
 mod tests {
     use super::*;
+    use crate::channel::Channel;
 
     /// Gives a scanner good bytes that end at most one line, and answers how many it took.
     fn taken(scanner: &mut Scanner, bytes: &[u8]) -> Option<usize> {
@@ -309,7 +314,7 @@ mod tests {
         assert_eq!(rt; scanner.latest(), Some(LineKind::Moment(5)));
         assert_eq!(rt; taken(&mut scanner, b"B 01\n"), Some(5));
         assert_eq!(rt; scanner.lines(), 2);
-        assert_eq!(rt; scanner.latest(), Some(LineKind::Elements));
+        assert_eq!(rt; scanner.latest(), Some(LineKind::Elements(None)));
         assert_eq!(rt; scanner.elements(), [false, true].as_slice());
         assert_eq!(rt; scanner.line(), Some(b"B 01".as_slice()));
         assert_eq!(rt; taken(&mut scanner, b"RS EX"), Some(5));
@@ -318,5 +323,41 @@ mod tests {
         assert_eq!(rt; scanner.line(), None);
         assert_eq!(rt; scanner.end(), Err(LineFault::LineCut { line: 3 }));
         assert_eq!(rt; taken(&mut scanner, b"\n"), None);
+    }
+
+    /// Lines that name their channel are told as they were sent.
+    #[test]
+    fn lines_of_channels(rt: HostRuntime) {
+        let mut scanner = Scanner::new(1000);
+        let mut packed = PackedElements::new();
+        assert_eq!(rt; taken(&mut scanner, b"B0 011\n"), Some(7));
+        assert_eq!(rt;
+            scanner.latest(),
+            Some(LineKind::Elements(Some(Channel::Zero)))
+        );
+        assert_eq!(rt; scanner.elements(), [false, true, true].as_slice());
+        assert_eq!(rt; scanner.line(), Some(b"B0 011".as_slice()));
+        scanner.pack(&mut packed);
+        assert_eq!(rt; (packed.len(), packed.words()[0]), (3, 6));
+        assert_eq!(rt; taken(&mut scanner, b"B 011\n"), Some(6));
+        assert_eq!(rt; scanner.latest(), Some(LineKind::Elements(None)));
+        assert_eq!(rt; taken(&mut scanner, b"RJ2 A\n"), Some(6));
+        assert_eq!(rt;
+            scanner.latest(),
+            Some(LineKind::RefuseSubject(Some(Channel::Two), b'A'))
+        );
+        assert_eq!(rt;
+            scanner.push_line(b"B3 1\n"),
+            Err(LineFault::BadLine { line: 4 })
+        );
+        let mut scanner = Scanner::new(1000);
+        assert_eq!(rt; taken(&mut scanner, b"B1 "), Some(3));
+        assert_eq!(rt; taken(&mut scanner, &[b'1'; 511]), Some(511));
+        assert_eq!(rt;
+            scanner.push_line(b"1\n"),
+            Err(LineFault::LineLong { line: 1 })
+        );
+        assert_eq!(rt; taken(&mut scanner, b"\n"), Some(1));
+        assert_eq!(rt; scanner.elements().len(), 511);
     }
 }

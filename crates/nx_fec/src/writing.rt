@@ -1,5 +1,5 @@
 //! Writing bytes, and the elements of an air file, to a writer.
-ghost use Rattle.std.specs.Prelude.{◌≡◌, ◌+◌, ◌≤◌, ℕ, List, [], ◌∷◌, ◌++◌, codes, length, Option, IfErr, OnOk, MatchResult};
+ghost use Rattle.std.specs.Prelude.{◌≡◌, ◌+◌, ◌≤◌, ℕ, List, [], ◌∷◌, ◌++◌, codes, length, Option, IfErr, OnOk, MatchResult, None};
 ghost use Rattle.std.specs.Io.KnownBytes.{Appends};
 ghost use Rattle.arrayvec.specs.ArrayVec.{array_vec_len};
 ghost use Rattle.nx_fec.specs.AirFile.{elements};
@@ -96,7 +96,7 @@ pub fn write_on<W: Write>(
 fn push_line(line: &[bool], batch: &mut ArrayVec<u8, BATCH_BYTES>)
     requires short { length line.now ≤ LINE_ELEMENTS }
     requires room { array_vec_len batch.old + LINE_BYTES ≤ BATCH_BYTES }
-    ensures { batch.new.items ≡ batch.old.items ++ line_bytes (elements line.now) }
+    ensures { batch.new.items ≡ batch.old.items ++ line_bytes (elements None line.now) }
 {
     let mut digits = [b'0'; LINE_ELEMENTS];
     for place in 0..line.len() {

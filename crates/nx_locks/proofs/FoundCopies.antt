@@ -5,6 +5,7 @@ use Rattle.nx_envelope.specs.Copies.{Copy, beginnings, copies, header_at_end, he
 use Rattle.nx_envelope.specs.Header.{identity_at_end}
 use Rattle.nx_fec.specs.AirFile.{Line}
 use Rattle.nx_fec.specs.Lines.{air_limit}
+use Rattle.nx_fec.specs.declared.channel.Channel.TheVariants.{Zero}
 use Rattle.nx_fec.proofs.LineLaws.{IsAirFile-unique}
 use Rattle.nx_memory.specs.declared.entry.MemoryEntry.{MemoryEntry}
 use Rattle.nx_sync.specs.Locks.{IsNow, Lock, Now, hunting, locked}
@@ -12,16 +13,18 @@ use Rattle.nx_sync.specs.Words.{whole_words}
 use Rattle.nx_sync.specs.declared.step.Change.{Change}
 use Rattle.nx_sync.specs.declared.step.Change.TheVariants.{Locked}
 use Rattle.nx_sync.proofs.UniqueStates.{locks-unique, now-unique}
-use Rattle.nx_receiver.specs.Events.{Event, Setting, Start, elements_among, first_setting, setting_at}
+use Rattle.nx_receiver.specs.Events.{Event, Setting, elements_among, first_setting, setting_at}
 use Rattle.nx_receiver.specs.FoundCopies.{FoundCopy, TaggedCopy, all_in, found_copy, found_to_end, past_copies, past_text, standing_text, tag, tagged_copies}
-use Rattle.nx_receiver.specs.Listen.{IsLogOfFile, events_of}
+use Rattle.nx_receiver.specs.Listen.{IsLogOfFile, events_on, given_by}
 use Rattle.nx_receiver.specs.Log.{missing_newline}
 use Rattle.nx_receiver.specs.LockText.{PlacedByte, bytes_of, lock_text}
 use Rattle.nx_receiver.specs.Printing.{entry_made, if_printed, is_printed, printed_copies}
+use Rattle.nx_receiver.specs.Shares.{MarkedCopy, Starts, copies_on, start_on}
+use Rattle.nx_receiver.proofs.Shares.{to_end-on}
 use Rattle.nx_locks.specs.Found.{IsCopyAmong, StandsIn, now_texts, past_texts, shown_texts}
 use Rattle.nx_locks.specs.LockText.{shown_text}
 use Rattle.nx_locks.specs.Report.{AreShown, IsEndShown, IsReport, IsShown}
-use Rattle.nx_locks.specs.Run.{IsReportOfFile, elements_of}
+use Rattle.nx_locks.specs.Run.{IsReportOfFile, elements_on_0}
 
 -- what holds of each copy holds of those that are printed
 one_printed : (P : TaggedCopy → Type 0) (copy : TaggedCopy) → P copy → (b : Bool)
@@ -111,31 +114,33 @@ all_tagged first events texts found all =
     (λ (copy : FoundCopy). IsCopyAmong texts (tag (setting_at first events copy.place) copy))
     (λ copy of_each. of_each (setting_at first events copy.place)) found all)
 
--- each copy of a log is one of the texts of the locks
-pub copy-among : (start : Start) (file report log : List ℕ) (lines other : List Line)
-    (printed : List TaggedCopy) (copy : TaggedCopy) → IsLogOfFile start file lines printed log
-    → (shown : IsReportOfFile file other report) → Contains printed copy
-    → IsCopyAmong (shown_texts (elements_of other) shown.report.locks shown.report.now) copy
-copy-among start file report log lines other printed copy heard shown there =
-    let p = heard.printed in
-    let bits = elements_among (events_of lines) in
+-- each copy of a log on channel 0 is one of the texts of the locks
+pub copy-among : (starts : Starts) (file report log : List ℕ) (lines other : List Line)
+    (printed : List MarkedCopy) (copy : TaggedCopy) → IsLogOfFile starts file lines printed log
+    → (shown : IsReportOfFile file other report) → Contains (copies_on Zero printed) copy
+    → IsCopyAmong (shown_texts (elements_on_0 other) shown.report.locks shown.report.now) copy
+copy-among starts file report log lines other printed copy heard shown there =
+    let p = to_end-on starts (given_by lines) printed Zero heard.printed in
+    let first = first_setting (start_on starts Zero) in
+    let events = events_on Zero lines in
+    let bits = elements_among events in
     let texts = shown_texts bits p.locks p.now in
-    let all : All (IsCopyAmong texts) printed =
+    let all : All (IsCopyAmong texts) (copies_on Zero printed) =
     subst (All (IsCopyAmong texts)) (sym p.printed)
-    (all_printed (IsCopyAmong texts) start.entries
-    (tagged_copies (first_setting start) (events_of lines) (found_to_end bits p.locks p.now))
-    (all_tagged (first_setting start) (events_of lines) texts (found_to_end bits p.locks p.now)
+    (all_printed (IsCopyAmong texts) (start_on starts Zero).entries
+    (tagged_copies first events (found_to_end bits p.locks p.now))
+    (all_tagged first events texts (found_to_end bits p.locks p.now)
     (all_found bits p.locks p.now))) in
     let same : lines ≡ other = IsAirFile-unique air_limit file lines other heard.file shown.file in
-    let stands = subst (λ l. IsNow (elements_of l) p.locks p.now) same p.stands in
-    let locks = locks-unique (elements_of other) p.locks shown.report.locks p.now shown.report.now
+    let stands = subst (λ l. IsNow (elements_on_0 l) p.locks p.now) same p.stands in
+    let locks = locks-unique (elements_on_0 other) p.locks shown.report.locks p.now shown.report.now
     stands shown.report.stands in
-    let now = now-unique (elements_of other) p.locks shown.report.locks p.now shown.report.now
+    let now = now-unique (elements_on_0 other) p.locks shown.report.locks p.now shown.report.now
     stands shown.report.stands in
     subst (λ (t : List (List ℕ)). IsCopyAmong t copy)
-    (ap (λ l. shown_texts (elements_of l) p.locks p.now) same
-    ∙ ap₂ (shown_texts (elements_of other)) locks now)
-    (All-contains (IsCopyAmong texts) printed copy all there)
+    (ap (λ l. shown_texts (elements_on_0 l) p.locks p.now) same
+    ∙ ap₂ (shown_texts (elements_on_0 other)) locks now)
+    (All-contains (IsCopyAmong texts) (copies_on Zero printed) copy all there)
 
 -- a text that stands in a part stands in the whole
 in_part : (text part front back whole : List ℕ) → whole ≡ front ++ part ++ back → StandsIn text part

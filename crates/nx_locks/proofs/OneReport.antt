@@ -14,7 +14,7 @@ use Rattle.nx_receiver.specs.private.LockReader.{word_place}
 use Rattle.nx_locks.specs.LockText.{headers_shown, shown_text, wrong_words}
 use Rattle.nx_locks.specs.Report.{AreShown, IsClosing, IsEndShown, IsNowShown, IsOpened, IsOpening, IsReport, IsReportSoFar, IsShown, moment_at, now_headers, now_locks, past_headers}
 use Rattle.nx_locks.specs.ReportText.{closing_lines, last_line, opening_line}
-use Rattle.nx_locks.specs.Run.{IsReportOf, IsReportOfLines, elements_of, ending_of, moments_of}
+use Rattle.nx_locks.specs.Run.{IsReportOf, IsReportOfLines, elements_on_0, ending_of, moments_on_0}
 
 one_opening : (moments : List ℕ) (t : ℕ) (a b : List ℕ) → IsOpening moments t a
     → IsOpening moments t b → a ≡ b
@@ -97,11 +97,12 @@ one_report bits moments ending a b x y =
 
 pub one_of_lines : (lines : List Line) (a b : List ℕ) → IsReportOfLines lines a
     → IsReportOfLines lines b → a ≡ b
-one_of_lines lines a b x y = one_so_far (elements_of lines) (moments_of lines) a b x.report y.report
+one_of_lines lines a b x y =
+    one_so_far (elements_on_0 lines) (moments_on_0 lines) a b x.report y.report
 
 pub one_of_file : (file a b : List ℕ) → IsReportOf file a → IsReportOf file b → a ≡ b
 one_of_file file a b x y =
     let lines = IsAirFile-unique air_limit file x.0 y.0 x.1.file y.1.file in
-    one_report (elements_of y.0) (moments_of y.0) (ending_of y.0) a b
-    (subst (λ l. IsReport (elements_of l) (moments_of l) (ending_of l) a) lines x.1.report)
+    one_report (elements_on_0 y.0) (moments_on_0 y.0) (ending_of y.0) a b
+    (subst (λ l. IsReport (elements_on_0 l) (moments_on_0 l) (ending_of l) a) lines x.1.report)
     y.1.report

@@ -1,11 +1,14 @@
 -- What a run over lines says, said of the report and in the faults of `listen`.
-use Rattle.std.proofs.Common.{◌≡◌, inl, inr, ℕ, ◌+◌, ◌≤◌, List, [], ◌∷◌, length, map, Option, None, Some, IfSome, Result, Ok, Err, IsErr, IsErrAnd, refl, ap, ◌∙◌, arith, length-append, codes}
+use Rattle.std.proofs.Common.{◌≡◌, inl, inr, ℕ, ◌+◌, ◌<◌, ◌≤◌, Bool, List, [], ◌∷◌, ◌++◌, length, map, Option, None, Some, IfSome, Result, Ok, Err, IsErr, IsErrAnd, refl, ap, ◌∙◌, arith, length-append, codes}
 use Rattle.std.specs.Prelude.{⊤}
 use Rattle.std.specs.Io.KnownBytes.{Appends}
 use Rattle.std.specs.declared.alloc.AllocError.{AllocError}
 use Rattle.std.proofs.KnownBytes.{Consumes-nil}
 use Rattle.std.proofs.lemmas.List.{length-map}
-use Rattle.nx_fec.specs.AirFile.{Line, moment, elements, refuse_station, accept_station, refuse_subject, accept_subject, element_digit, spelling}
+use Rattle.nx_fec.specs.AirFile.{Line, moment, elements, refuse_station, accept_station, refuse_subject, accept_subject, element_digit, mark_bytes, spelling}
+use Rattle.nx_fec.specs.Channels.{channel_of}
+use Rattle.nx_fec.specs.declared.channel.Channel.{Channel}
+use Rattle.nx_fec.specs.declared.channel.Channel.TheVariants.{Zero, One, Two}
 use Rattle.nx_fec.specs.Transfers.{CountedDevice, HasWritten}
 use Rattle.nx_fec.specs.LineRuns.{ExplainsLines, HasTaken, HasTakenAll, RunsLines}
 use Rattle.nx_fec.specs.Lines.{IsLineRefused, StopsAt, air_limit}
@@ -16,9 +19,10 @@ use Rattle.nx_fec.specs.declared.line_run.LinesFault.{LinesFault}
 use Rattle.nx_fec.specs.declared.line_run.LinesFault.TheVariants as run
 use Rattle.nx_fec.specs.declared.line_run.LinesRead.{LinesRead}
 use Rattle.nx_fec.proofs.TransferLaws.{Ok-not_err, Reads-on, Writes-none, read_failed-none}
-use Rattle.nx_receiver.specs.Events.{elements_among}
-use Rattle.nx_receiver.specs.Events.{at_zero}
-use Rattle.nx_receiver.specs.Listen.{HasLoggedSome, RefusesAfter, events_of, line_events}
+use Rattle.nx_receiver.specs.Events as events
+use Rattle.nx_receiver.specs.Events.{Command, command, elements_among}
+use Rattle.nx_receiver.specs.Listen.{HasLoggedSome, RefusesAfter, events_on, given_of}
+use Rattle.nx_receiver.specs.Shares.{all_at_zero, events_for, to_one}
 use Rattle.nx_locks.specs.Run.{ExplainsShowing, HasShown, HasShownAll, IsReportOf, ShowsLocks}
 use Rattle.nx_locks.specs.private.ShowerBegins.{begins-report}
 use Rattle.nx_locks.specs.private.Shower.{BeginsFrom, HasClosed, HasClosedSome, HasTooMany, IsShowing, RefusesFrom, RefusesLine, Showing, StandsFrom, lines_fault, refusal_fault}
@@ -53,37 +57,38 @@ stops-on bytes P Q f h = record {
 -- a line that is refused isn't taken, as its fault says
 fault-says : (number : ℕ) (lines : List Line) (line : Line) (why : LineRefusal)
     → number ≡ length lines + 1 → (why ≡ refusal.TooMany → ⊥) → RefusesLine lines line why
-    → RefusesAfter at_zero (refusal_fault number why) lines line
+    → RefusesAfter all_at_zero (refusal_fault number why) lines line
 fault-says number lines (moment n) refusal.NoMoment e some h = h
 fault-says number lines (moment n) (refusal.Moment why) e some h = (e, h)
 fault-says number lines (moment n) (refusal.Vital subject) e some h = h
 fault-says number lines (moment n) refusal.TooMany e some h = absurd (some refl)
-fault-says number lines (elements bits) refusal.NoMoment e some h = (e, h)
-fault-says number lines (elements bits) (refusal.Moment why) e some h = h
-fault-says number lines (elements bits) (refusal.Vital subject) e some h = h
-fault-says number lines (elements bits) refusal.TooMany e some h = absurd (some refl)
-fault-says number lines (refuse_subject letter) refusal.NoMoment e some h = h
-fault-says number lines (refuse_subject letter) (refusal.Moment why) e some h = h
-fault-says number lines (refuse_subject letter) (refusal.Vital subject) e some h = (e, h.0, h.1)
-fault-says number lines (refuse_subject letter) refusal.TooMany e some h = absurd (some refl)
-fault-says number lines (refuse_station letter) refusal.NoMoment e some h = h
-fault-says number lines (refuse_station letter) (refusal.Moment why) e some h = h
-fault-says number lines (refuse_station letter) (refusal.Vital subject) e some h = h
-fault-says number lines (refuse_station letter) refusal.TooMany e some h = absurd (some refl)
-fault-says number lines (accept_station letter) refusal.NoMoment e some h = h
-fault-says number lines (accept_station letter) (refusal.Moment why) e some h = h
-fault-says number lines (accept_station letter) (refusal.Vital subject) e some h = h
-fault-says number lines (accept_station letter) refusal.TooMany e some h = absurd (some refl)
-fault-says number lines (accept_subject letter) refusal.NoMoment e some h = h
-fault-says number lines (accept_subject letter) (refusal.Moment why) e some h = h
-fault-says number lines (accept_subject letter) (refusal.Vital subject) e some h = h
-fault-says number lines (accept_subject letter) refusal.TooMany e some h = absurd (some refl)
+fault-says number lines (elements mark bits) refusal.NoMoment e some h = (e, h)
+fault-says number lines (elements mark bits) (refusal.Moment why) e some h = h
+fault-says number lines (elements mark bits) (refusal.Vital subject) e some h = h
+fault-says number lines (elements mark bits) refusal.TooMany e some h = absurd (some refl)
+fault-says number lines (refuse_subject mark letter) refusal.NoMoment e some h = h
+fault-says number lines (refuse_subject mark letter) (refusal.Moment why) e some h = h
+fault-says number lines (refuse_subject mark letter) (refusal.Vital subject) e some h =
+    (e, h.0, h.1)
+fault-says number lines (refuse_subject mark letter) refusal.TooMany e some h = absurd (some refl)
+fault-says number lines (refuse_station mark letter) refusal.NoMoment e some h = h
+fault-says number lines (refuse_station mark letter) (refusal.Moment why) e some h = h
+fault-says number lines (refuse_station mark letter) (refusal.Vital subject) e some h = h
+fault-says number lines (refuse_station mark letter) refusal.TooMany e some h = absurd (some refl)
+fault-says number lines (accept_station mark letter) refusal.NoMoment e some h = h
+fault-says number lines (accept_station mark letter) (refusal.Moment why) e some h = h
+fault-says number lines (accept_station mark letter) (refusal.Vital subject) e some h = h
+fault-says number lines (accept_station mark letter) refusal.TooMany e some h = absurd (some refl)
+fault-says number lines (accept_subject mark letter) refusal.NoMoment e some h = h
+fault-says number lines (accept_subject mark letter) (refusal.Moment why) e some h = h
+fault-says number lines (accept_subject mark letter) (refusal.Vital subject) e some h = h
+fault-says number lines (accept_subject mark letter) refusal.TooMany e some h = absurd (some refl)
 
 next-refused : (first : Showing) (number : ℕ) (lines : List Line) (rest more : List ℕ)
     (why : LineRefusal) → (why ≡ refusal.TooMany → ⊥)
     → IsLineRefused (λ before line. RefusesFrom first before line why) air_limit lines rest more
     number
-    → IsLineRefused (RefusesAfter at_zero (refusal_fault number why)) air_limit lines rest more
+    → IsLineRefused (RefusesAfter all_at_zero (refusal_fault number why)) air_limit lines rest more
     (length lines + 1)
 next-refused first number lines rest more why some h = record {
   line = h.line;
@@ -96,36 +101,62 @@ next-refused first number lines rest more why some h = record {
   refused = fault-says number lines h.line why h.counted some h.refused;
 }
 
--- lines have fewer elements than bytes
-line-fewer : (line : Line) → length (elements_among (line_events line)) ≤ length (line_bytes line)
+-- lines have fewer elements of channel 0 than bytes
+some_elements : (channel : Channel) (bits : List Bool)
+    → length (elements_among (events_for Zero (to_one channel (events.elements bits))))
+    ≤ length bits
 unfolding elements_among
-line-fewer (moment n) = omega arith
-line-fewer (elements bits) =
-    let heard : length (elements_among (line_events (elements bits))) ≡ length bits =
-    ap length (bits_of-more [] bits) in
-    let digits : length (map element_digit bits) ≡ length bits = simp length-map in
+some_elements Zero bits = omega (arith, ap length (bits_of-more [] bits))
+some_elements One bits = omega arith
+some_elements Two bits = omega arith
+
+no_elements : (channel : Channel) (c : Command)
+    → length (elements_among (events_for Zero (to_one channel (command c ∷ [])))) ≡ 0
+unfolding elements_among
+no_elements Zero c = refl
+no_elements One c = refl
+no_elements Two c = refl
+
+longer-line : (mark : Option Channel) (bits : List Bool)
+    → length bits < length (spelling (elements mark bits))
+longer-line mark bits =
     omega (
       arith,
-      heard,
-      digits,
-      length-append (spelling (elements bits)) (10 ∷ []),
-      length-append
-          (codes "B ") (map element_digit bits),
+      length-map bits element_digit,
+      length-append (codes "B") (mark_bytes mark ++ (32 ∷ map element_digit bits)),
+      length-append (mark_bytes mark) (32 ∷ map element_digit bits),
     )
-line-fewer (refuse_station letter) = omega arith
-line-fewer (accept_station letter) = omega arith
-line-fewer (refuse_subject letter) = omega arith
-line-fewer (accept_subject letter) = omega arith
+
+line-fewer : (line : Line)
+    → length (elements_among (events_for Zero (given_of line))) ≤ length (line_bytes line)
+unfolding elements_among
+line-fewer (moment n) = omega arith
+line-fewer (elements mark bits) =
+    omega (
+      arith,
+      some_elements (channel_of mark) bits,
+      longer-line mark bits,
+      length-append (spelling (elements mark bits)) (10 ∷ []),
+    )
+line-fewer (refuse_station mark letter) =
+    omega (arith, no_elements (channel_of mark) (events.refuse_station letter))
+line-fewer (accept_station mark letter) =
+    omega (arith, no_elements (channel_of mark) (events.accept_station letter))
+line-fewer (refuse_subject mark letter) =
+    omega (arith, no_elements (channel_of mark) (events.refuse_subject letter))
+line-fewer (accept_subject mark letter) =
+    omega (arith, no_elements (channel_of mark) (events.accept_subject letter))
 
 lines-fewer : (lines : List Line)
-    → length (elements_among (events_of lines)) ≤ length (file_of lines)
+    → length (elements_among (events_on Zero lines)) ≤ length (file_of lines)
 unfolding elements_among
 lines-fewer [] = omega arith
 lines-fewer (line ∷ lines) =
-    let heard : length (elements_among (events_of (line ∷ lines)))
-    ≡ length (elements_among (line_events line)) + length (elements_among (events_of lines)) =
-    ap length (bits_of-append (line_events line) (events_of lines))
-    ∙ length-append (elements_among (line_events line)) (elements_among (events_of lines)) in
+    let gives = events_for Zero (given_of line) in
+    let heard : length (elements_among (events_on Zero (line ∷ lines)))
+    ≡ length (elements_among gives) + length (elements_among (events_on Zero lines)) =
+    ap length (bits_of-append gives (events_on Zero lines))
+    ∙ length-append (elements_among gives) (elements_among (events_on Zero lines)) in
     omega (
       arith,
       heard,
@@ -143,7 +174,7 @@ not-too_many lines rest more number h =
     too_many h.line h.refused h.spelled
   where
     too_many : (line : Line) → HasTooMany lines line → rest ≡ spelling line → ⊥
-    too_many (elements bits) many e =
+    too_many (elements mark bits) many e =
         omega (
           arith,
           many,
@@ -152,15 +183,13 @@ not-too_many lines rest more number h =
           lines-fewer lines,
           length-append (file_of lines)
               rest,
-          length-append (codes "B ") (map element_digit bits),
-          length-map bits
-              element_digit,
+          longer-line mark bits,
         )
     too_many (moment n) many e = many
-    too_many (refuse_station letter) many e = many
-    too_many (accept_station letter) many e = many
-    too_many (refuse_subject letter) many e = many
-    too_many (accept_subject letter) many e = many
+    too_many (refuse_station mark letter) many e = many
+    too_many (accept_station mark letter) many e = many
+    too_many (refuse_subject mark letter) many e = many
+    too_many (accept_subject mark letter) many e = many
 
 -- what a fault of the lines explains
 explains : (AtEnd : Type 0) (IsLeft : List ℕ → Type 0) (first now : Showing)

@@ -1,69 +1,88 @@
 -- What a line does to a taker of lines.
 use Rattle.std.proofs.Common.{◌≡◌, ℕ, ◌+◌, ◌^◌, ◌<◌, ◌≤◌, Option, Result, Ok, Err, MatchResult, OnErr, Bool, true, false, arith, List, [], ◌∷◌, ◌++◌, map, length, refl, sym, ap, ◌∙◌, subst, subst₂, append-nil}
+use Rattle.std.specs.Prelude.{if◌then◌else◌}
 use Rattle.std.proofs.lemmas.List.{map-append}
 use Rattle.nx_envelope.specs.Moment.{last_moment}
 use Rattle.nx_fec.specs.AirFile.{Line, moment, elements, refuse_station, accept_station, refuse_subject, accept_subject}
+use Rattle.nx_fec.specs.Channels.{channel_of, same_channel}
 use Rattle.nx_fec.specs.LineRuns.{ExplainsTaking, HasGiven, HasTaken, Waiting}
+use Rattle.nx_fec.specs.declared.channel.Channel.{Channel}
+use Rattle.nx_fec.specs.declared.channel.Channel.TheVariants.{Zero, One, Two}
 use Rattle.nx_fec.specs.declared.line_run.TakeFault.{TakeFault}
 use Rattle.nx_fec.specs.declared.line_run.TakeFault.TheVariants as take
 use Rattle.nx_memory.specs.Selection.{is_vital}
 use Rattle.nx_receiver.specs.Events as events
-use Rattle.nx_receiver.specs.Events.{Event, Setting, at_zero, command, elements_among, element, first_setting, setting_after, setting_after_all, settings}
-use Rattle.nx_receiver.specs.Listen.{AreTakenAfter, IsTakenAfter, events_of, has_moment, in_force_after, line_events}
-use Rattle.nx_receiver.proofs.listens.Listener.{events_of-one, moment-one, moment-other, taken-one}
-use Rattle.nx_receiver.proofs.receiving.Events.{force-append}
+use Rattle.nx_receiver.specs.Events.{Command, Event, Setting, command, elements_among, element, first_setting, setting_after, setting_after_all, settings}
+use Rattle.nx_receiver.specs.Listen.{AreTakenAfter, IsTakenAfter, events_on, given_by, given_of, has_moment, moment_after}
+use Rattle.nx_receiver.specs.Shares.{all_at_zero, events_for, share, start_on, to_one}
+use Rattle.nx_receiver.proofs.Shares.{share-one}
+use Rattle.nx_receiver.proofs.listens.Listener.{given_by-one, moment-on, moment-one, moment-other, taken-one}
 use Rattle.nx_receiver.proofs.receiving.Logged.{bits_of-append, settings-append}
-use Rattle.nx_locks.specs.Run.{elements_of, ending_of, moments_of}
+use Rattle.nx_locks.specs.Run.{elements_on_0, ending_of, moments_on_0}
 use Rattle.nx_locks.specs.private.Shower.{BeginsFrom, IsShowing, RefusesFrom, RefusesLine, Showing, StandsFrom}
 use Rattle.nx_locks.specs.declared.shower.LineRefusal.{LineRefusal}
 use Rattle.nx_locks.specs.private.Watch.{HearsAll, Watching, WatchShows, all_at}
 
+-- what a line gives to channel 0, and what is in force there after lines
+abbrev gives : Line → List Event
+gives line = events_for Zero (given_of line)
+
+abbrev in_force : List Line → Setting
+in_force lines =
+    setting_after_all (first_setting (start_on all_at_zero Zero)) (events_on Zero lines)
+
 abbrev moments_in : Setting → List Event → List ℕ
 moments_in now events = map (λ (s : Setting). s.moment) (settings now events)
 
-elements_of-one : (lines : List Line) (line : Line)
-    → elements_of (lines ++ line ∷ []) ≡ elements_of lines ++ elements_among (line_events line)
-elements_of-one lines line =
-    ap elements_among (events_of-one lines line)
-    ∙ bits_of-append (events_of lines) (line_events line)
+given-one : (lines : List Line) (line : Line)
+    → events_on Zero (lines ++ line ∷ []) ≡ events_on Zero lines ++ gives line
+given-one lines line =
+    ap (share Zero) (given_by-one lines line) ∙ share-one Zero (given_by lines) (given_of line)
 
-moments_of-one : (lines : List Line) (line : Line)
-    → moments_of (lines ++ line ∷ [])
-    ≡ moments_of lines ++ moments_in (in_force_after at_zero lines) (line_events line)
-moments_of-one lines line =
-    ap (moments_in (first_setting at_zero)) (events_of-one lines line)
+elements-one : (lines : List Line) (line : Line)
+    → elements_on_0 (lines ++ line ∷ []) ≡ elements_on_0 lines ++ elements_among (gives line)
+elements-one lines line =
+    ap elements_among (given-one lines line) ∙ bits_of-append (events_on Zero lines) (gives line)
+
+moments-one : (lines : List Line) (line : Line)
+    → moments_on_0 (lines ++ line ∷ [])
+    ≡ moments_on_0 lines ++ moments_in (in_force lines) (gives line)
+moments-one lines line =
+    let first = first_setting (start_on all_at_zero Zero) in
+    ap (moments_in first) (given-one lines line)
     ∙ ap (map (λ (s : Setting). s.moment))
-    (settings-append (first_setting at_zero) (events_of lines) (line_events line))
-    ∙ map-append (λ (s : Setting). s.moment) (settings (first_setting at_zero) (events_of lines))
-    (settings (in_force_after at_zero lines) (line_events line))
+    (settings-append first (events_on Zero lines) (gives line))
+    ∙ map-append (λ (s : Setting). s.moment) (settings first (events_on Zero lines))
+    (settings (in_force lines) (gives line))
 
-ending_of-one : (lines : List Line) (line : Line)
-    → ending_of (lines ++ line ∷ [])
-    ≡ (setting_after_all (in_force_after at_zero lines) (line_events line)).moment
-ending_of-one lines line =
-    ap (λ (s : Setting). s.moment)
-    (ap (setting_after_all (first_setting at_zero)) (events_of-one lines line)
-    ∙ force-append (first_setting at_zero) (events_of lines) (line_events line))
+-- the moment after some lines and more
+after-append : (first : ℕ) (lines more : List Line)
+    → moment_after first (lines ++ more) ≡ moment_after (moment_after first lines) more
+after-append first [] more = refl
+after-append first (moment n ∷ lines) more = after-append n lines more
+after-append first (elements mark bits ∷ lines) more = after-append first lines more
+after-append first (refuse_station mark letter ∷ lines) more = after-append first lines more
+after-append first (accept_station mark letter ∷ lines) more = after-append first lines more
+after-append first (refuse_subject mark letter ∷ lines) more = after-append first lines more
+after-append first (accept_subject mark letter ∷ lines) more = after-append first lines more
 
--- a line that has no elements
-pub other_line : (old new : Showing) (lines : List Line) (line : Line) (given : List ℕ)
-    → IsShowing old lines given → IsTakenAfter at_zero lines line
-    → elements_among (line_events line) ≡ []
-    → map (λ (s : Setting). s.moment) (settings (in_force_after at_zero lines) (line_events line))
-    ≡ [] → new.has_moment ≡ has_moment (lines ++ line ∷ [])
-    → new.watch.moment ≡ (setting_after_all (in_force_after at_zero lines)
-    (line_events line)).moment
-    → WatchShows new.watch (elements_of lines) (moments_of lines) given
+-- a line that has no elements of channel 0
+other_line : (old new : Showing) (lines : List Line) (line : Line) (given : List ℕ)
+    → IsShowing old lines given → IsTakenAfter all_at_zero lines line
+    → elements_among (gives line) ≡ [] → moments_in (in_force lines) (gives line) ≡ []
+    → new.has_moment ≡ has_moment (lines ++ line ∷ [])
+    → new.watch.moment ≡ moment_after (ending_of lines) (line ∷ [])
+    → WatchShows new.watch (elements_on_0 lines) (moments_on_0 lines) given
     → IsShowing new (lines ++ line ∷ []) given
 other_line old new lines line given h taken none never said now shows = record {
-  taken = taken-one at_zero lines line h.taken taken;
+  taken = taken-one all_at_zero lines line h.taken taken;
   has_moment = said;
-  moment = now ∙ sym (ending_of-one lines line);
+  moment = now ∙ sym (after-append 0 lines (line ∷ []));
   shows = subst₂ (λ (x : List Bool) (y : List ℕ). WatchShows new.watch x y given)
-      (sym (elements_of-one lines line ∙ ap (λ l. elements_of lines ++ l) none
-      ∙ append-nil (elements_of lines)))
-      (sym (moments_of-one lines line ∙ ap (λ l. moments_of lines ++ l) never
-      ∙ append-nil (moments_of lines))) shows;
+      (sym (elements-one lines line ∙ ap (λ l. elements_on_0 lines ++ l) none
+      ∙ append-nil (elements_on_0 lines)))
+      (sym (moments-one lines line ∙ ap (λ l. moments_on_0 lines ++ l) never
+      ∙ append-nil (moments_on_0 lines))) shows;
 }
 
 bits_of-elements : (bits : List Bool) → elements_among (events.elements bits) ≡ bits
@@ -77,36 +96,41 @@ unfolding settings all_at
 moments-elements now [] = refl
 moments-elements now (bit ∷ bits) = ap (λ l. now.moment ∷ l) (moments-elements now bits)
 
-force-elements : (now : Setting) (bits : List Bool)
-    → setting_after_all now (events.elements bits) ≡ now
-unfolding setting_after_all
-force-elements now [] = refl
-force-elements now (bit ∷ bits) = force-elements now bits
+-- what a line of elements gives to channel 0, whether it is of that channel or not
+given-elements : (mark : Option Channel) (bits : List Bool) (b : Bool)
+    → same_channel (channel_of mark) Zero ≡ b
+    → gives (elements mark bits) ≡ if b then events.elements bits else []
+given-elements mark bits b e = ap (λ (c : Bool). if c then events.elements bits else []) e
 
--- a line of elements
-pub element_line : (old new : Showing) (lines : List Line) (bits : List Bool) (given shown : List ℕ)
-    → IsShowing old lines given → has_moment lines ≡ true → new.has_moment ≡ old.has_moment
-    → HearsAll old.watch new.watch bits [] shown → length (elements_of lines) + length bits < 2 ^ 64
-    → IsShowing new (lines ++ elements bits ∷ []) (given ++ shown)
-element_line old new lines bits given shown h some same heard few =
-    let g = heard.hears (elements_of lines) (moments_of lines) given h.shows few in
-    let now = in_force_after at_zero lines in
-    let times : moments_of lines ++ all_at old.watch.moment bits
-    ≡ moments_of (lines ++ elements bits ∷ []) =
-    ap (λ m. moments_of lines ++ all_at m bits) h.moment
-    ∙ ap (λ l. moments_of lines ++ l) (sym (moments-elements now bits))
-    ∙ sym (moments_of-one lines (elements bits)) in
-    let all : elements_of lines ++ bits ≡ elements_of (lines ++ elements bits ∷ []) =
-    ap (λ l. elements_of lines ++ l) (sym (bits_of-elements bits))
-    ∙ sym (elements_of-one lines (elements bits)) in
+-- a line of elements of channel 0
+pub element_line : (old new : Showing) (lines : List Line) (mark : Option Channel)
+    (bits : List Bool) (given shown : List ℕ)
+    → same_channel (channel_of mark) Zero ≡ true → IsShowing old lines given
+    → has_moment lines ≡ true → new.has_moment ≡ old.has_moment
+    → HearsAll old.watch new.watch bits [] shown
+    → length (elements_on_0 lines) + length bits < 2 ^ 64
+    → IsShowing new (lines ++ elements mark bits ∷ []) (given ++ shown)
+element_line old new lines mark bits given shown zero h some same heard few =
+    let line = elements mark bits in
+    let g = heard.hears (elements_on_0 lines) (moments_on_0 lines) given h.shows few in
+    let gives_bits = given-elements mark bits true zero in
+    let times : moments_on_0 lines ++ all_at old.watch.moment bits
+    ≡ moments_on_0 (lines ++ line ∷ []) =
+    ap (λ m. moments_on_0 lines ++ all_at m bits)
+    (h.moment ∙ sym (moment-on Zero (first_setting (start_on all_at_zero Zero)) lines))
+    ∙ ap (λ l. moments_on_0 lines ++ l)
+    (sym (ap (moments_in (in_force lines)) gives_bits ∙ moments-elements (in_force lines) bits))
+    ∙ sym (moments-one lines line) in
+    let all : elements_on_0 lines ++ bits ≡ elements_on_0 (lines ++ line ∷ []) =
+    ap (λ l. elements_on_0 lines ++ l)
+    (sym (ap elements_among gives_bits ∙ bits_of-elements bits))
+    ∙ sym (elements-one lines line) in
     record {
-      taken = taken-one at_zero lines (elements bits) h.taken some;
-      has_moment = moment-other lines (elements bits) _ (same ∙ h.has_moment) refl;
-      moment = heard.moment ∙ h.moment
-          ∙ sym (ap (λ (s : Setting). s.moment) (force-elements now bits))
-          ∙ sym (ending_of-one lines (elements bits));
-      shows = subst (λ l. WatchShows new.watch (elements_of (lines ++ elements bits ∷ []))
-          (moments_of (lines ++ elements bits ∷ [])) (given ++ l)) (sym g.grown)
+      taken = taken-one all_at_zero lines line h.taken some;
+      has_moment = moment-other lines line _ (same ∙ h.has_moment) refl;
+      moment = heard.moment ∙ h.moment ∙ sym (after-append 0 lines (line ∷ []));
+      shows = subst (λ l. WatchShows new.watch (elements_on_0 (lines ++ line ∷ []))
+          (moments_on_0 (lines ++ line ∷ [])) (given ++ l)) (sym g.grown)
           (subst₂ (λ (x : List Bool) (y : List ℕ). WatchShows new.watch x y (given ++ g.more)) all
           times g.shows);
     }
@@ -114,7 +138,7 @@ element_line old new lines bits given shown h some same heard few =
 -- a taker that has taken nothing
 pub nothing_taken : (shower : Showing) → WatchShows shower.watch [] [] [] → shower.watch.moment ≡ 0
     → shower.has_moment ≡ false → IsShowing shower [] []
-unfolding AreTakenAfter elements_among settings setting_after_all
+unfolding AreTakenAfter elements_among settings
 nothing_taken shower shows zero has = record {
   taken = record { in_range = omega arith; each = tt };
   has_moment = has;
@@ -127,12 +151,12 @@ pub moment_line : (old new : Showing) (lines : List Line) (n : ℕ) (given : Lis
     → IsShowing old lines given → old.watch.moment ≤ n → n ≤ last_moment → new.has_moment ≡ true
     → new.watch ≡ record old.watch { moment = n }
     → IsShowing new (lines ++ moment n ∷ []) given
-unfolding elements_among settings setting_after_all
+unfolding elements_among settings
 moment_line old new lines n given h after within said now =
     other_line old new lines (moment n) given h (subst (λ m. m ≤ n) h.moment after, within) refl
     refl (said ∙ moment-one lines n) (ap (λ (w : Watching). w.moment) now)
-    (subst (λ (w : Watching). WatchShows w (elements_of lines) (moments_of lines) given) (sym now)
-    (record {
+    (subst (λ (w : Watching). WatchShows w (elements_on_0 lines) (moments_on_0 lines) given)
+    (sym now) (record {
       synchroniser = h.shows.synchroniser;
       elements = h.shows.elements;
       room =
@@ -140,40 +164,67 @@ moment_line old new lines n given h after within said now =
       shows = h.shows.shows;
     }))
 
--- a command changes nothing
-pub refuse_station_line : (now : Showing) (lines : List Line) (letter : ℕ) (given : List ℕ)
-    → IsShowing now lines given → IsShowing now (lines ++ refuse_station letter ∷ []) given
-unfolding elements_among settings setting_after_all
-refuse_station_line now lines letter given h =
-    other_line now now lines (refuse_station letter) given h tt refl refl
-    (moment-other lines (refuse_station letter) _ h.has_moment refl) h.moment h.shows
+-- elements of another channel change nothing
+pub skipped_line : (now : Showing) (lines : List Line) (mark : Option Channel) (bits : List Bool)
+    (given : List ℕ) → same_channel (channel_of mark) Zero ≡ false → IsShowing now lines given
+    → has_moment lines ≡ true → IsShowing now (lines ++ elements mark bits ∷ []) given
+unfolding elements_among settings
+skipped_line now lines mark bits given other h some =
+    let none = given-elements mark bits false other in
+    other_line now now lines (elements mark bits) given h some (ap elements_among none)
+    (ap (moments_in (in_force lines)) none)
+    (moment-other lines (elements mark bits) _ h.has_moment refl) h.moment h.shows
 
-pub accept_station_line : (now : Showing) (lines : List Line) (letter : ℕ) (given : List ℕ)
-    → IsShowing now lines given → IsShowing now (lines ++ accept_station letter ∷ []) given
-unfolding elements_among settings setting_after_all
-accept_station_line now lines letter given h =
-    other_line now now lines (accept_station letter) given h tt refl refl
-    (moment-other lines (accept_station letter) _ h.has_moment refl) h.moment h.shows
+-- a command changes nothing, on whichever channel
+none_of_command : (channel : Channel) (c : Command)
+    → elements_among (events_for Zero (to_one channel (command c ∷ []))) ≡ []
+unfolding elements_among
+none_of_command Zero c = refl
+none_of_command One c = refl
+none_of_command Two c = refl
 
-pub accept_subject_line : (now : Showing) (lines : List Line) (letter : ℕ) (given : List ℕ)
-    → IsShowing now lines given → IsShowing now (lines ++ accept_subject letter ∷ []) given
-unfolding elements_among settings setting_after_all
-accept_subject_line now lines letter given h =
-    other_line now now lines (accept_subject letter) given h tt refl refl
-    (moment-other lines (accept_subject letter) _ h.has_moment refl) h.moment h.shows
+never_of_command : (channel : Channel) (c : Command) (now : Setting)
+    → moments_in now (events_for Zero (to_one channel (command c ∷ []))) ≡ []
+unfolding settings
+never_of_command Zero c now = refl
+never_of_command One c now = refl
+never_of_command Two c now = refl
 
-same_moment : (now : Setting) (letter : ℕ)
-    → now.moment ≡ (setting_after now (command (events.refuse_subject letter))).moment
-same_moment now letter = refl
+pub refuse_station_line : (now : Showing) (lines : List Line) (mark : Option Channel) (letter : ℕ)
+    (given : List ℕ) → IsShowing now lines given
+    → IsShowing now (lines ++ refuse_station mark letter ∷ []) given
+refuse_station_line now lines mark letter given h =
+    other_line now now lines (refuse_station mark letter) given h tt
+    (none_of_command (channel_of mark) (events.refuse_station letter))
+    (never_of_command (channel_of mark) (events.refuse_station letter) (in_force lines))
+    (moment-other lines (refuse_station mark letter) _ h.has_moment refl) h.moment h.shows
 
-pub refuse_subject_line : (now : Showing) (lines : List Line) (letter : ℕ) (given : List ℕ)
-    → is_vital letter ≡ false → IsShowing now lines given
-    → IsShowing now (lines ++ refuse_subject letter ∷ []) given
-unfolding elements_among settings setting_after_all
-refuse_subject_line now lines letter given allowed h =
-    other_line now now lines (refuse_subject letter) given h allowed refl refl
-    (moment-other lines (refuse_subject letter) _ h.has_moment refl)
-    (h.moment ∙ same_moment (in_force_after at_zero lines) letter) h.shows
+pub accept_station_line : (now : Showing) (lines : List Line) (mark : Option Channel) (letter : ℕ)
+    (given : List ℕ) → IsShowing now lines given
+    → IsShowing now (lines ++ accept_station mark letter ∷ []) given
+accept_station_line now lines mark letter given h =
+    other_line now now lines (accept_station mark letter) given h tt
+    (none_of_command (channel_of mark) (events.accept_station letter))
+    (never_of_command (channel_of mark) (events.accept_station letter) (in_force lines))
+    (moment-other lines (accept_station mark letter) _ h.has_moment refl) h.moment h.shows
+
+pub accept_subject_line : (now : Showing) (lines : List Line) (mark : Option Channel) (letter : ℕ)
+    (given : List ℕ) → IsShowing now lines given
+    → IsShowing now (lines ++ accept_subject mark letter ∷ []) given
+accept_subject_line now lines mark letter given h =
+    other_line now now lines (accept_subject mark letter) given h tt
+    (none_of_command (channel_of mark) (events.accept_subject letter))
+    (never_of_command (channel_of mark) (events.accept_subject letter) (in_force lines))
+    (moment-other lines (accept_subject mark letter) _ h.has_moment refl) h.moment h.shows
+
+pub refuse_subject_line : (now : Showing) (lines : List Line) (mark : Option Channel) (letter : ℕ)
+    (given : List ℕ) → is_vital letter ≡ false → IsShowing now lines given
+    → IsShowing now (lines ++ refuse_subject mark letter ∷ []) given
+refuse_subject_line now lines mark letter given allowed h =
+    other_line now now lines (refuse_subject mark letter) given h allowed
+    (none_of_command (channel_of mark) (events.refuse_subject letter))
+    (never_of_command (channel_of mark) (events.refuse_subject letter) (in_force lines))
+    (moment-other lines (refuse_subject mark letter) _ h.has_moment refl) h.moment h.shows
 
 -- a line that may be refused
 pub taken-line : (first before after : Showing) (old new : Option (List ℕ)) (batch : Waiting)

@@ -1,4 +1,5 @@
--- What a log and a report of the same elements have in common: the texts of the locks (this profile).
+-- What a log and a report of the same elements have in common: the texts of the locks (this
+-- profile).
 use Rattle.std.specs.Prelude.{◌≡◌, ℕ, ◌+◌, Bool, List, [], ◌∷◌, ◌++◌, Contains}
 use Rattle.nx_envelope.specs.Copies.{Copy, copies}
 use Rattle.nx_sync.specs.Locks.{Lock, Now, hunting, locked}

@@ -1,40 +1,45 @@
--- A run that shows the locks of an air file: the report of its lines, and its first fault (this
--- profile). It reads the file as a run that listens does, with the same faults.
+-- A run that shows the locks of an air file on channel 0: the report of its lines, and its first
+-- fault (this profile). It reads the file as a run that listens does, with the same faults, which
+-- are those of all channels.
 use Rattle.std.specs.Prelude.{◌≡◌, ◌⊎◌, ℕ, ◌+◌, ◌≤◌, Bool, List, [], ◌++◌, length, map, Option, Result, Ok, Err, ⊤}
 use Rattle.std.specs.Io.KnownBytes.{Appends}
 use Rattle.nx_fec.specs.AirFile.{Line}
 use Rattle.nx_fec.specs.Lines.{StopsAt, air_limit}
 use Rattle.nx_fec.specs.Lines.{IsAirFile, file_of}
+use Rattle.nx_fec.specs.declared.channel.Channel.TheVariants.{Zero}
 use Rattle.nx_fec.specs.Transfers.{Devices, IsReadOut, Transfers, on_the_way}
-use Rattle.nx_receiver.specs.Events.{at_zero, elements_among, first_setting, settings}
-use Rattle.nx_receiver.specs.Listen.{AreTaken, HasListenFault, HasLoggedSome, events_of, in_force_after}
+use Rattle.nx_receiver.specs.Events.{elements_among, first_setting, settings}
+use Rattle.nx_receiver.specs.Listen.{AreTaken, HasListenFault, HasLoggedSome, events_on, moment_after}
+use Rattle.nx_receiver.specs.Shares.{all_at_zero, start_on}
 use Rattle.nx_receiver.specs.declared.listen_fault.ListenFault.{ListenFault}
 use Rattle.nx_receiver.specs.declared.listen_fault.ListenFault.TheVariants.{Memory, Read, Write, LineCut}
 use Rattle.nx_locks.specs.Report.{IsReport, IsReportSoFar, now_headers, now_locks, past_headers}
 use Rattle.nx_locks.specs.declared.run.LocksReport.{LocksReport}
 
--- the elements of lines, in order
-abbrev pub elements_of : List Line → List Bool
-elements_of lines = elements_among (events_of lines)
+-- the elements of lines on channel 0, in order
+abbrev pub elements_on_0 : List Line → List Bool
+elements_on_0 lines = elements_among (events_on Zero lines)
 
 -- the moment in force at each of them
-abbrev pub moments_of : List Line → List ℕ
-moments_of lines = map (λ setting. setting.moment) (settings (first_setting at_zero) (events_of lines))
+abbrev pub moments_on_0 : List Line → List ℕ
+moments_on_0 lines =
+    map (λ setting. setting.moment)
+    (settings (first_setting (start_on all_at_zero Zero)) (events_on Zero lines))
 
 -- the moment in force after lines
 abbrev pub ending_of : List Line → ℕ
-ending_of lines = (in_force_after at_zero lines).moment
+ending_of lines = moment_after 0 lines
 
 -- the report so far of these lines, of which each is taken after those before it
 pub record IsReportOfLines (lines : List Line) (bytes : List ℕ) : Type 0 where
-  pub taken : AreTaken at_zero lines
-  pub report : IsReportSoFar (elements_of lines) (moments_of lines) bytes
+  pub taken : AreTaken all_at_zero lines
+  pub report : IsReportSoFar (elements_on_0 lines) (moments_on_0 lines) bytes
 
 -- the report of an air file that is read to its end: its lines, each taken after those before it
 pub record IsReportOfFile (input : List ℕ) (lines : List Line) (bytes : List ℕ) : Type 0 where
   pub file : IsAirFile air_limit input lines
-  pub taken : AreTaken at_zero lines
-  pub report : IsReport (elements_of lines) (moments_of lines) (ending_of lines) bytes
+  pub taken : AreTaken all_at_zero lines
+  pub report : IsReport (elements_on_0 lines) (moments_on_0 lines) (ending_of lines) bytes
 
 abbrev pub IsReportOf : List ℕ → List ℕ → Type 0
 IsReportOf file bytes = (lines : List Line) × IsReportOfFile file lines bytes
@@ -45,8 +50,8 @@ pub record HasShown (old new : Option (List ℕ)) (lines : List Line) : Type 0 w
   pub report : IsReportOfLines lines bytes
   pub written : Appends old new bytes
 
--- the report of the whole file was written, and the answer counts its lines, its elements, its
--- locks, and the headers in their texts
+-- the report of the whole file was written, and the answer counts its lines, its elements on
+-- channel 0, its locks, and the headers in their texts
 pub record HasShownAll (old new : Option (List ℕ)) (file : List ℕ) (answer : LocksReport)
     : Type 0 where
   pub lines : List Line
@@ -54,11 +59,11 @@ pub record HasShownAll (old new : Option (List ℕ)) (file : List ℕ) (answer :
   pub report : IsReportOfFile file lines bytes
   pub written : Appends old new bytes
   pub lines_counted : answer.lines ≡ length lines
-  pub elements_counted : answer.elements ≡ length (elements_of lines)
+  pub elements_counted : answer.elements ≡ length (elements_on_0 lines)
   pub locks_counted : answer.locks ≡ length report.report.locks + now_locks report.report.now
   pub copies_counted : answer.copies
-      ≡ past_headers (elements_of lines) report.report.locks
-      + now_headers (elements_of lines) report.report.now
+      ≡ past_headers (elements_on_0 lines) report.report.locks
+      + now_headers (elements_on_0 lines) report.report.now
 
 -- What a fault of a run that shows locks says of the bytes that were read. The report so far of the
 -- whole lines before it was written, and nothing is closed but what was released. After a failed
@@ -76,9 +81,9 @@ ExplainsShowing AtEnd IsLeft old new bytes (Write written) =
     StopsAt bytes (λ lines rest more. HasLoggedSome (IsReportOfLines lines) old new written)
     ⊎ (AtEnd × HasLoggedSome (IsReportOf bytes) old new written)
 ExplainsShowing AtEnd IsLeft old new bytes (LineCut line) =
-    AtEnd × HasListenFault at_zero (HasShown old new) bytes (LineCut line)
+    AtEnd × HasListenFault all_at_zero (HasShown old new) bytes (LineCut line)
 ExplainsShowing AtEnd IsLeft old new bytes fault =
-    HasListenFault at_zero (HasShown old new) bytes fault
+    HasListenFault all_at_zero (HasShown old new) bytes fault
 
 -- what such a run answers of these bytes: counts, where the report of the file was written; or a
 -- fault

@@ -1,5 +1,5 @@
-//! The locks of an air file and their running text: what was heard, whether a message stands in it
-//! or not.
+//! The locks of an air file on channel 0 and their running text: what was heard, whether a message
+//! stands in it or not.
 #![tactic(auto)]
 
 pub mod laws;

@@ -1,4 +1,4 @@
-//! Showing the locks of an air file: the report of its lines, written while it is read.
+//! Showing the locks of an air file on channel 0: their report, written while the file is read.
 
 ghost use Rattle.std.specs.Prelude.{◌≡◌, Err};
 ghost use Rattle.nx_fec.specs.Transfers.{devices};
@@ -17,7 +17,7 @@ use std::io::{Read, Write};
 pub struct LocksReport {
     /// How many lines the file has.
     pub lines: u64,
-    /// How many elements its lines have.
+    /// How many elements its lines have on channel 0.
     pub elements: u64,
     /// How many locks there are.
     pub locks: u64,
@@ -27,14 +27,16 @@ pub struct LocksReport {
 
 /// Shows the locks of an air file of at most 268,435,456 bytes to its end, and writes their report:
 /// for each lock a line that opens it, its running text, a line that closes it, and an empty line;
-/// and one last line. What the lines so far show is written before each further read. All memory is
+/// and one last line. They are the locks in the elements of channel 0: elements of other channels
+/// change nothing. What the lines so far show is written before each further read. All memory is
 /// taken before the first read.
 ///
-/// It reads the file as `listen` does, with the same faults; what is selected changes nothing. The
-/// first fault in the order of the bytes ends the run; the line that has it has no effect. After a
-/// fault of a line, `AirTooLong` and `Read`, what the whole lines before it show is written, and an
-/// open lock isn't closed. After `Write` the first `written` bytes of the report of the lines read
-/// whole by then are written, closed if the file had ended. After `Memory` nothing was read.
+/// It reads the file as `listen` does, with the same faults, on whichever channel they stand; what
+/// is selected changes nothing. The first fault in the order of the bytes ends the run; the line
+/// that has it has no effect. After a fault of a line, `AirTooLong` and `Read`, what the whole
+/// lines before it show is written, and an open lock isn't closed. After `Write` the first
+/// `written` bytes of the report of the lines read whole by then are written, closed if the file
+/// had ended. After `Memory` nothing was read.
 pub fn locks<R: Read, W: Write>(
     alloc: Global,
     reader: &mut Counting<R>,

@@ -1,9 +1,12 @@
-//! What takes the lines of an air file and shows the locks in their elements.
+//! What takes the lines of an air file and shows the locks in their elements of channel 0.
 
 ghost use Rattle.std.specs.Prelude.{◌≡◌, ◌↔◌, ◌≤◌, ℕ, false, Option, List, [], ◌∷◌, ◌++◌, length, IfOk, IsErr, MatchResult, OnErr, OnOk};
 ghost use Rattle.nx_code.specs.Reading.{IsCapital};
 ghost use Rattle.nx_fec.specs.AirFile.{Line};
 ghost use Rattle.nx_fec.specs.AirFile as line;
+ghost use Rattle.nx_fec.specs.Channels.{channel_of, same_channel};
+ghost use Rattle.nx_fec.specs.declared.channel.Channel.{Channel};
+ghost use Rattle.nx_fec.specs.declared.channel.Channel.TheVariants.{Zero};
 ghost use Rattle.nx_fec.specs.Transfers.{HasWritten};
 ghost use Rattle.nx_fec.specs.LineRuns.{ExplainsTaking, HasGiven, HasTaken};
 ghost use Rattle.nx_fec.specs.Transfers.{Writes};
@@ -16,7 +19,8 @@ use crate::watch::LockWatch;
 use arrayvec::ArrayVec;
 use nx_envelope::{LAST_MOMENT, Letter};
 use nx_fec::{
-    Batch, Counting, LineKind, LineTaker, LinesRead, Scanner, TakeFault, WriteFault, write_on,
+    Batch, Channel, Counting, LineKind, LineTaker, LinesRead, Scanner, TakeFault, WriteFault,
+    write_on,
 };
 use nx_memory::Selection;
 use nx_receiver::MomentFault;
@@ -27,13 +31,13 @@ use std::marker::Model;
 /// Why a line of an air file isn't taken.
 #[derive(Clone, Copy, Debug, Drop, PartialEq, Eq)]
 pub enum LineRefusal {
-    /// Elements come before any moment.
+    /// Elements come before any moment, on whichever channel.
     NoMoment,
     /// The moment is out of range, or before the last one.
     Moment(MomentFault),
     /// The subject can't be refused.
     Vital { subject: Letter },
-    /// There are more elements than are counted, and so than an air file has.
+    /// There are more elements of channel 0 than are counted, and so than an air file has.
     TooMany,
 }
 
@@ -42,7 +46,7 @@ pub enum LineRefusal {
 pub(crate) struct Shower {
     watch: LockWatch,
     has_moment: bool,
-    /// What the last line of elements showed.
+    /// What the last line of elements of channel 0 showed.
     shown: Shown,
 }
 
@@ -99,9 +103,11 @@ impl Shower {
         Ok(())
     }
 
-    /// Takes the elements of a line, and gives what they show.
+    /// Takes the elements of a line that names this channel, or none. Gives what they show where
+    /// they are of channel 0, and skips those of other channels.
     fn take_elements<W: Write>(
         &mut self,
+        mark: Option<Channel>,
         bits: &[bool],
         writer: &mut Counting<W>,
         batch: &mut Batch,
@@ -111,14 +117,18 @@ impl Shower {
         ensures taken { (first : Showing) (old : Option (List ℕ)) (lines : List Line)
             → HasTaken StandsFrom first self.old lines
             (HasGiven old (W.contents writer.old.inner) batch.old) → MatchResult result
-            (λ _. HasTaken StandsFrom first self.new (lines ++ line.elements bits.now ∷ [])
+            (λ _. HasTaken StandsFrom first self.new (lines ++ line.elements mark bits.now ∷ [])
             (HasGiven old (W.contents writer.new.inner) batch.new))
             (λ fault. ExplainsTaking StandsFrom BeginsFrom RefusesFrom first self.new old
-            (W.contents writer.new.inner) batch.new lines (line.elements bits.now) fault) }
+            (W.contents writer.new.inner) batch.new lines (line.elements mark bits.now) fault) }
         ensures writes { Writes writer.new TakeFault.Write result }
     {
         if !self.has_moment {
             return Err(TakeFault::Refused(LineRefusal::NoMoment));
+        }
+        // Only the locks of channel 0 are shown.
+        if !is_on_0(mark) {
+            return Ok(());
         }
         if bits.len() as u64 > u64::MAX - self.watch.elements() {
             return Err(TakeFault::Refused(LineRefusal::TooMany));
@@ -185,22 +195,30 @@ impl LineTaker for Shower {
         };
         match kind {
             LineKind::Moment(moment) => taking_of(self.take_moment(moment)),
-            LineKind::Elements => self.take_elements(scanner.elements(), writer, batch),
-            LineKind::RefuseSubject(byte) => taking_of(check_subject(letter(byte))),
+            LineKind::Elements(mark) => self.take_elements(mark, scanner.elements(), writer, batch),
+            LineKind::RefuseSubject(_, byte) => taking_of(check_subject(letter(byte))),
             // What is selected changes nothing here.
-            LineKind::RefuseStation(_) | LineKind::AcceptStation(_) | LineKind::AcceptSubject(_) =>
-                Ok(()),
+            LineKind::RefuseStation(_, _)
+            | LineKind::AcceptStation(_, _)
+            | LineKind::AcceptSubject(_, _) => Ok(()),
         }
     }
 
     ghost whole = { λ first now lines given h. begins-report now lines given h };
 }
 
+/// Whether a line that names this channel, or none, is of channel 0.
+fn is_on_0(mark: Option<Channel>) -> bool
+    ensures { result ≡ same_channel (channel_of mark) Zero }
+{
+    Channel::of(mark) == Channel::Zero
+}
+
 /// Whether a subject can be refused.
 fn check_subject(subject: Letter) -> Result<(), LineRefusal>
-    ensures { (lines : List Line) → MatchResult result
+    ensures { (lines : List Line) (mark : Option Channel) → MatchResult result
         (λ _. is_vital subject.byte ≡ false)
-        (λ why. RefusesLine lines (line.refuse_subject subject.byte) why) }
+        (λ why. RefusesLine lines (line.refuse_subject mark subject.byte) why) }
 {
     match Selection::all().refuse_subject(subject) {
         Ok(()) => Ok(()),

@@ -3,7 +3,7 @@
 mod emissions;
 
 use crate::{LocksReport, locks};
-use emissions::{AT_FIRST, EA01, EB02, after_pattern, air_file, emission};
+use emissions::{AT_FIRST, EA01, EB02, after_pattern, air_file, emission, two_channels};
 use nx_envelope::Letter;
 use nx_fec::Counting;
 use nx_receiver::ListenFault;
@@ -77,6 +77,21 @@ fn locks_of_ea01(rt: HostRuntime) -> Result<(), Fail> {
 }
 
 #[test]
+fn locks_of_channel_0(rt: HostRuntime) -> Result<(), Fail> {
+    let file = two_channels(rt.alloc(), AT_FIRST, &emission(rt.alloc(), &[EA01])?)?;
+    let counts = LocksReport {
+        lines: 7,
+        elements: 1421,
+        locks: 1,
+        copies: 1,
+    };
+    let (outcome, report) = shown(rt.alloc(), file.as_slice())?;
+    assert_eq!(rt; report.as_slice(), EA01_REPORT);
+    assert_eq!(rt; outcome, Ok(counts));
+    Ok(())
+}
+
+#[test]
 fn locks_that_are_over(rt: HostRuntime) -> Result<(), Fail> {
     let x = emission(rt.alloc(), &[EA01])?;
     // Three elements slip after a pattern.
@@ -140,6 +155,11 @@ fn locks_and_faults(rt: HostRuntime) -> Result<(), Fail> {
     let (outcome, report) = shown(rt.alloc(), b"B 0\n".as_slice())?;
     assert_eq!(rt; outcome, Err(ListenFault::NoMoment { line: 1 }));
     assert!(rt; report.is_empty());
+    // Faults are those of all channels.
+    let (outcome, _) = shown(rt.alloc(), b"B1 1\n".as_slice())?;
+    assert_eq!(rt; outcome, Err(ListenFault::NoMoment { line: 1 }));
+    let (outcome, _) = shown(rt.alloc(), b"RJ2 L\n".as_slice())?;
+    assert_eq!(rt; outcome, Err(ListenFault::Vital { line: 1, subject }));
     let mut space = [0; 10];
     let mut writer = Counting::new(&mut space[..]);
     let outcome = locks(rt.alloc(), &mut Counting::new(file.as_slice()), &mut writer);

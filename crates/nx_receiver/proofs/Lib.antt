@@ -6,4 +6,7 @@ pub mod listens
 pub mod locks
 pub mod once
 pub mod receiving
+pub mod turns
+pub mod Shares
+pub mod states
 pub mod watching

@@ -1,3 +1,4 @@
+pub mod Alone
 pub mod Left
 pub mod Moments
 pub mod Once

@@ -1,5 +1,6 @@
 pub mod AirFile
 pub mod Chain
+pub mod Channels
 pub mod Emission
 pub mod Repeats
 pub mod Worked

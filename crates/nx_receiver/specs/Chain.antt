@@ -4,31 +4,20 @@ use Rattle.std.specs.Io.KnownBytes.{Appends}
 use Rattle.std.specs.List.{flat_map}
 use Rattle.nx_code.specs.Lists.{last_of}
 use Rattle.nx_fec.specs.AirFile.{Line}
-use Rattle.nx_memory.specs.Memory.{most_entries, newest_moment}
-use Rattle.nx_memory.specs.Saved.{SavedState}
+use Rattle.nx_fec.specs.declared.channel.Channel.{Channel}
+use Rattle.nx_memory.specs.Memory.{most_entries}
+use Rattle.nx_memory.specs.Saved.{SavedState, SavedStates}
 use Rattle.nx_memory.specs.declared.entry.MemoryEntry.{MemoryEntry}
 use Rattle.nx_sync.specs.Locks.{IsNow, Lock, Now}
-use Rattle.nx_receiver.specs.Events.{Event, Start, elements_among, first_setting, none_refused, setting_after_all}
+use Rattle.nx_receiver.specs.Events.{Event, Start, elements_among, first_setting, setting_after_all}
 use Rattle.nx_receiver.specs.FoundCopies.{FoundCopy, found_to_end, TaggedCopy, tagged_copies}
-use Rattle.nx_receiver.specs.Listen.{IsLogOfFile, events_of}
+use Rattle.nx_receiver.specs.Listen.{IsLogOfFile, events_on}
 use Rattle.nx_receiver.specs.Printing.{entries_after}
+use Rattle.nx_receiver.specs.Shares.{MarkedCopy, Starts, saved_of, start_on, starts_from}
 
 -- two lists of entries agree in their last 200: a memory would hold the same of both
 abbrev pub AgreeInLast : List MemoryEntry → List MemoryEntry → Type 0
 AgreeInLast one other = last_of most_entries one ≡ last_of most_entries other
-
--- nothing is saved: there are no entries, and everything is selected
-abbrev pub nothing_saved : SavedState
-nothing_saved = record { entries = []; refused = none_refused }
-
--- A run starts with what is saved, at the moment of the newest entry, or 0 where there is none: so
--- no moment of it lies before that one.
-abbrev pub start_from : SavedState → Start
-start_from saved = record {
-  entries = saved.entries;
-  moment = newest_moment saved.entries;
-  refused = saved.refused;
-}
 
 -- these are all copies that are found where these events are all: the end closes the one that
 -- stands open
@@ -49,35 +38,41 @@ pub record Leaves (start : Start) (events : List Event) (left : SavedState) : Ty
   pub refused : left.refused ≡ (setting_after_all (first_setting start) events).refused
 
 -- a run: with what it starts; the bytes that it reads, with their lines; the copies that are found
--- in these; and those that it prints, with the bytes of its log
+-- on each channel; and those that it prints, with the bytes of its log
 pub record Run : Type 0 where
-  pub start : Start
+  pub starts : Starts
   pub file : List ℕ
   pub lines : List Line
-  pub found : List FoundCopy
-  pub printed : List TaggedCopy
+  pub found : Channel → List FoundCopy
+  pub printed : List MarkedCopy
   pub log : List ℕ
 
--- what a run gives to its receiver
-abbrev pub events_in : Run → List Event
-events_in run = events_of run.lines
+-- what a run gives to the receiver of a channel, and with what that starts
+abbrev pub events_in : Channel → Run → List Event
+events_in channel run = events_on channel run.lines
 
--- the copies of a run, each with what is in force at its second digit
-abbrev pub copies_in : Run → List TaggedCopy
-copies_in run = tagged_copies (first_setting run.start) (events_in run) run.found
+abbrev pub start_in : Channel → Run → Start
+start_in channel run = start_on run.starts channel
+
+-- the copies of a run on a channel, each with what is in force at its second digit
+abbrev pub copies_in : Channel → Run → List TaggedCopy
+copies_in channel run =
+    tagged_copies (first_setting (start_in channel run)) (events_in channel run)
+    (run.found channel)
 
 -- The run starts with what is saved, is read to its end without a fault, has this log, and leaves
 -- this.
-pub record GoesOn (saved : SavedState) (run : Run) (left : SavedState) : Type 0 where
-  pub begins : run.start ≡ start_from saved
-  pub heard : IsLogOfFile run.start run.file run.lines run.printed run.log
-  pub found : AreFoundIn (events_in run) run.found
-  pub leaves : Leaves run.start (events_in run) left
+pub record GoesOn (saved : SavedStates) (run : Run) (left : SavedStates) : Type 0 where
+  pub begins : run.starts ≡ starts_from saved
+  pub heard : IsLogOfFile run.starts run.file run.lines run.printed run.log
+  pub found : (channel : Channel) → AreFoundIn (events_in channel run) (run.found channel)
+  pub leaves : (channel : Channel)
+      → Leaves (start_in channel run) (events_in channel run) (saved_of left channel)
 
 -- a run that starts with what is saved read the file of these bytes to its end, wrote its log, and
 -- leaves this
-pub record HasGoneOn (saved : SavedState) (old new : Option (List ℕ)) (file : List ℕ)
-    (left : SavedState)
+pub record HasGoneOn (saved : SavedStates) (old new : Option (List ℕ)) (file : List ℕ)
+    (left : SavedStates)
     : Type 0 where
   pub run : Run
   pub read : run.file ≡ file
@@ -86,24 +81,25 @@ pub record HasGoneOn (saved : SavedState) (old new : Option (List ℕ)) (file : 
 
 -- The runs, in order, are a chain: the first starts with `first`, each other with what the run
 -- before it left, and the last leaves `last`.
-abbrev pub IsChain : SavedState → List Run → SavedState → Type 0
+abbrev pub IsChain : SavedStates → List Run → SavedStates → Type 0
 IsChain first [] last = last ≡ first
-IsChain first (run ∷ runs) last = (left : SavedState) × GoesOn first run left × IsChain left runs last
+IsChain first (run ∷ runs) last =
+    (left : SavedStates) × GoesOn first run left × IsChain left runs last
 
 -- the files that the runs read, in order
 abbrev pub files : List Run → List (List ℕ)
 files runs = map (λ run. run.file) runs
 
--- joined, in order: the copies of all runs, those that are printed, the bytes of the logs, and what
--- was given to a receiver
-abbrev pub all_copies : List Run → List TaggedCopy
-all_copies runs = flat_map copies_in runs
+-- joined, in order: the copies of all runs on a channel, those that are printed, the bytes of the
+-- logs, and what was given to the receiver of a channel
+abbrev pub all_copies : Channel → List Run → List TaggedCopy
+all_copies channel runs = flat_map (copies_in channel) runs
 
-abbrev pub all_printed : List Run → List TaggedCopy
+abbrev pub all_printed : List Run → List MarkedCopy
 all_printed runs = flat_map (λ run. run.printed) runs
 
 abbrev pub all_logs : List Run → List ℕ
 all_logs runs = flat_map (λ run. run.log) runs
 
-abbrev pub all_events : List Run → List Event
-all_events runs = flat_map events_in runs
+abbrev pub all_events : Channel → List Run → List Event
+all_events channel runs = flat_map (events_in channel) runs

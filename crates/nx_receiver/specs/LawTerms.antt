@@ -1,9 +1,13 @@
 -- What the laws of printing speak of.
-use Rattle.std.specs.Prelude.{◌≡◌, ℕ, ◌+◌, ◌-◌, ◌*◌, ◌<◌, Bool, List, [], ◌∷◌, ◌++◌, length, take, drop, IsTrue, All, Contains}
+use Rattle.std.specs.Prelude.{◌≡◌, ℕ, ◌+◌, ◌-◌, ◌*◌, ◌<◌, Bool, List, [], ◌∷◌, ◌++◌, length, map, take, drop, IsTrue, All, Contains, Option, None}
 use Rattle.nx_envelope.specs.declared.identity.Identity.{Identity}
+use Rattle.nx_fec.specs.AirFile.{Line, moment, elements, refuse_station, accept_station, refuse_subject, accept_subject}
+use Rattle.nx_fec.specs.declared.channel.Channel.{Channel}
 use Rattle.nx_envelope.specs.Identity.{same_identity}
 use Rattle.nx_memory.specs.Memory.{seconds_known, most_entries}
 use Rattle.nx_memory.specs.declared.entry.MemoryEntry.{MemoryEntry}
+use Rattle.nx_receiver.specs.Events as events
+use Rattle.nx_receiver.specs.Events.{Event, at_moment, command, element}
 use Rattle.nx_receiver.specs.FoundCopies.{TaggedCopy}
 use Rattle.nx_receiver.specs.Printing.{is_good, entries_made, entries_after, copies_of}
 use Rattle.nx_receiver.specs.Once.{IsUnknownAtFirst}
@@ -33,3 +37,21 @@ pub record AreRepeats (entries : List MemoryEntry) (identity : Identity) (copies
       → copies_of identity before ≡ []
       → IsTrue (same_identity later.identity identity)
       → length (entries_made (entries_after entries (before ++ first ∷ [])) between) < most_entries
+
+-- the channel that a line names, if it names one
+abbrev pub named_by : Line → Option Channel
+named_by (moment n) = None
+named_by (elements mark bits) = mark
+named_by (refuse_station mark letter) = mark
+named_by (accept_station mark letter) = mark
+named_by (refuse_subject mark letter) = mark
+named_by (accept_subject mark letter) = mark
+
+-- what a line says, to whichever channel
+abbrev pub events_said : Line → List Event
+events_said (moment n) = at_moment n ∷ []
+events_said (elements mark bits) = map element bits
+events_said (refuse_station mark letter) = command (events.refuse_station letter) ∷ []
+events_said (accept_station mark letter) = command (events.accept_station letter) ∷ []
+events_said (refuse_subject mark letter) = command (events.refuse_subject letter) ∷ []
+events_said (accept_subject mark letter) = command (events.accept_subject letter) ∷ []

@@ -1,11 +1,13 @@
 pub mod Chain
 pub mod ChainExample
 pub mod ChainOnce
+pub mod ChannelsExample
 pub mod Emissions
 pub mod Events
 pub mod Example
 pub mod FoundCopies
 pub mod FromSend
+pub mod InTurn
 pub mod LawTerms
 pub mod Listen
 pub mod ListenExample
@@ -16,6 +18,9 @@ pub mod Log
 pub mod Once
 pub mod Printing
 pub mod Receiver
+pub mod Resume
+pub mod Shares
+pub mod State
 pub mod Watching
 pub mod Worked
 pub mod private

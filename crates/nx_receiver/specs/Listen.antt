@@ -1,39 +1,53 @@
--- What a receiver that listens makes of an air file, with whatever it starts: the log of its lines,
--- and its first fault (this profile).
+-- What three receivers that listen make of an air file, with whatever they start: the log of its
+-- lines, and its first fault (this profile).
 use Rattle.std.specs.Prelude.{◌≡◌, ◌⊎◌, ℕ, ◌+◌, ◌<◌, ◌≤◌, Bool, true, false, List, [], ◌∷◌, ◌++◌, length, map, Option, Result, Ok, Err, IsTrue, ⊤}
 use Rattle.std.specs.List.{flat_map, list_any}
 use Rattle.std.specs.Io.KnownBytes.{Appends}
 use Rattle.nx_envelope.specs.Moment.{last_moment}
 use Rattle.nx_fec.specs.AirFile.{Line, moment, elements, refuse_station, accept_station, refuse_subject, accept_subject}
+use Rattle.nx_fec.specs.Channels.{channel_of}
+use Rattle.nx_fec.specs.declared.channel.Channel.{Channel}
 use Rattle.nx_fec.specs.Transfers.{WroteSome, Devices, IsReadOut, Transfers, on_the_way}
-use Rattle.nx_fec.specs.Lines.{StopsAt, air_limit, IsAirFile, IsCause, IsLineRefused, file_of}
+use Rattle.nx_fec.specs.Lines.{StopsAt, air_limit, IsAirFile, IsCause, IsLineRefused, elements_of, file_of}
 use Rattle.nx_fec.specs.declared.fault.LineFault.{LineFault}
 use Rattle.nx_fec.specs.declared.fault.LineFault.TheVariants as file
 use Rattle.nx_memory.specs.Selection.{is_vital}
 use Rattle.nx_receiver.specs.Events as events
-use Rattle.nx_receiver.specs.Events.{Event, Setting, Start, at_moment, element, elements_among, command, first_setting, setting_after_all, Refuses}
-use Rattle.nx_receiver.specs.Log.{HasPrinted, IsLog, PrintsToEnd}
-use Rattle.nx_receiver.specs.FoundCopies.{TaggedCopy}
+use Rattle.nx_receiver.specs.Events.{Command, Event, element, command, Refuses}
+use Rattle.nx_receiver.specs.InTurn.{PrintAllToEnd, PrintsInTurn}
+use Rattle.nx_receiver.specs.Log.{IsLog}
+use Rattle.nx_receiver.specs.Shares.{Given, MarkedCopy, Starts, share, to_all, to_one}
 use Rattle.nx_receiver.specs.declared.listen_fault.ListenFault.{ListenFault}
 use Rattle.nx_receiver.specs.declared.listen_fault.ListenFault.TheVariants.{Memory, Read, Write, AirTooLong, LineLong, LineCut, BadLine, NoMoment, Moment, Vital}
 use Rattle.nx_receiver.specs.declared.listening.Report.{Report}
 
--- what a line gives to a receiver
-abbrev pub line_events : Line → List Event
-line_events (moment n) = at_moment n ∷ []
-line_events (elements bits) = map element bits
-line_events (refuse_station letter) = command (events.refuse_station letter) ∷ []
-line_events (accept_station letter) = command (events.accept_station letter) ∷ []
-line_events (refuse_subject letter) = command (events.refuse_subject letter) ∷ []
-line_events (accept_subject letter) = command (events.accept_subject letter) ∷ []
+-- a command, for the channel that its line names
+abbrev pub commanded : Option Channel → Command → Given
+commanded mark c = to_one (channel_of mark) (command c ∷ [])
 
--- what lines give to it, in order
-abbrev pub events_of : List Line → List Event
-events_of lines = flat_map line_events lines
+-- what a line gives
+abbrev pub given_of : Line → Given
+given_of (moment n) = to_all n
+given_of (elements mark bits) = to_one (channel_of mark) (map element bits)
+given_of (refuse_station mark letter) = commanded mark (events.refuse_station letter)
+given_of (accept_station mark letter) = commanded mark (events.accept_station letter)
+given_of (refuse_subject mark letter) = commanded mark (events.refuse_subject letter)
+given_of (accept_subject mark letter) = commanded mark (events.accept_subject letter)
 
--- what is in force after these lines
-abbrev pub in_force_after : Start → List Line → Setting
-in_force_after start lines = setting_after_all (first_setting start) (events_of lines)
+-- what lines give, in order
+abbrev pub given_by : List Line → List Given
+given_by lines = map given_of lines
+
+-- Share of a channel, of lines: what they give to its receiver
+abbrev pub events_on : Channel → List Line → List Event
+events_on channel lines = share channel (given_by lines)
+
+-- the moment in force after these lines, which is one for all channels: that of the last line that
+-- says one, or else the first moment
+abbrev pub moment_after : ℕ → List Line → ℕ
+moment_after first [] = first
+moment_after first (moment n ∷ lines) = moment_after n lines
+moment_after first (line ∷ lines) = moment_after first lines
 
 abbrev pub is_moment_line : Line → Bool
 is_moment_line (moment n) = true
@@ -45,64 +59,64 @@ has_moment lines = list_any is_moment_line lines
 
 -- A line is taken after these lines: a moment in range, and not before the one in force; elements
 -- once there was a moment; and no refusal of a vital subject (ITU-R M.540).
-abbrev pub IsTakenAfter : Start → List Line → Line → Type 0
-IsTakenAfter start lines (moment n) =
-    ((in_force_after start lines).moment ≤ n) × (n ≤ last_moment)
-IsTakenAfter start lines (elements bits) = IsTrue (has_moment lines)
-IsTakenAfter start lines (refuse_subject letter) = is_vital letter ≡ false
-IsTakenAfter start lines _ = ⊤
+abbrev pub IsTakenAfter : Starts → List Line → Line → Type 0
+IsTakenAfter starts lines (moment n) =
+    (moment_after starts.moment lines ≤ n) × (n ≤ last_moment)
+IsTakenAfter starts lines (elements mark bits) = IsTrue (has_moment lines)
+IsTakenAfter starts lines (refuse_subject mark letter) = is_vital letter ≡ false
+IsTakenAfter starts lines _ = ⊤
 
 -- each of these lines is taken after the first ones and those before it
-unfoldable pub AreTakenAfter : Start → List Line → List Line → Type 0
-AreTakenAfter start first [] = ⊤
-AreTakenAfter start first (line ∷ lines) =
-    IsTakenAfter start first line × AreTakenAfter start (first ++ line ∷ []) lines
+unfoldable pub AreTakenAfter : Starts → List Line → List Line → Type 0
+AreTakenAfter starts first [] = ⊤
+AreTakenAfter starts first (line ∷ lines) =
+    IsTakenAfter starts first line × AreTakenAfter starts (first ++ line ∷ []) lines
 
 -- each of these lines is taken after those before it; and the first moment is in range too
-pub record AreTaken (start : Start) (lines : List Line) : Type 0 where
-  pub in_range : start.moment ≤ last_moment
-  pub each : AreTakenAfter start [] lines
+pub record AreTaken (starts : Starts) (lines : List Line) : Type 0 where
+  pub in_range : starts.moment ≤ last_moment
+  pub each : AreTakenAfter starts [] lines
 
 -- The log of an air file that is read to its end: its lines, each taken after those before it,
--- print these copies, where the end closes the copy that stands open, and these are the bytes of
+-- print these copies, where the end closes the copies that stand open, and these are the bytes of
 -- their entries.
-pub record IsLogOfFile (start : Start) (bytes : List ℕ) (lines : List Line)
-    (copies : List TaggedCopy) (log : List ℕ)
+pub record IsLogOfFile (starts : Starts) (bytes : List ℕ) (lines : List Line)
+    (copies : List MarkedCopy) (log : List ℕ)
     : Type 0 where
   pub file : IsAirFile air_limit bytes lines
-  pub taken : AreTaken start lines
-  pub printed : PrintsToEnd start (events_of lines) copies
+  pub taken : AreTaken starts lines
+  pub printed : PrintAllToEnd starts (given_by lines) copies
   pub spelled : IsLog copies log
 
 -- the first half of the headline: the air file of these bytes has this log
-abbrev pub IsLogOf : Start → List ℕ → List ℕ → Type 0
-IsLogOf start bytes log =
-    (lines : List Line) × (copies : List TaggedCopy) × IsLogOfFile start bytes lines copies log
+abbrev pub IsLogOf : Starts → List ℕ → List ℕ → Type 0
+IsLogOf starts bytes log =
+    (lines : List Line) × (copies : List MarkedCopy) × IsLogOfFile starts bytes lines copies log
 
 -- the log of these lines, of which each is taken after those before it, where nothing is closed:
 -- only copies that have ended count
-pub record IsLogOfLines (start : Start) (lines : List Line) (log : List ℕ) : Type 0 where
-  pub taken : AreTaken start lines
-  pub copies : List TaggedCopy
-  pub printed : HasPrinted start (events_of lines) copies
+pub record IsLogOfLines (starts : Starts) (lines : List Line) (log : List ℕ) : Type 0 where
+  pub taken : AreTaken starts lines
+  pub copies : List MarkedCopy
+  pub printed : PrintsInTurn starts (given_by lines) copies
   pub spelled : IsLog copies log
 
 -- the log of the whole file was written, and the report counts its lines, its elements and its
 -- entries
-pub record HasListened (start : Start) (old new : Option (List ℕ)) (bytes : List ℕ)
+pub record HasListened (starts : Starts) (old new : Option (List ℕ)) (bytes : List ℕ)
     (report : Report) : Type 0 where
   pub lines : List Line
-  pub copies : List TaggedCopy
+  pub copies : List MarkedCopy
   pub log : List ℕ
-  pub heard : IsLogOfFile start bytes lines copies log
+  pub heard : IsLogOfFile starts bytes lines copies log
   pub written : Appends old new log
   pub lines_counted : report.lines ≡ length lines
-  pub bits_counted : report.bits ≡ length (elements_among (events_of lines))
+  pub bits_counted : report.bits ≡ length (flat_map elements_of lines)
   pub printed_counted : report.printed ≡ length copies
 
 -- the log of these lines was written
-abbrev pub HasLogged : Start → Option (List ℕ) → Option (List ℕ) → List Line → Type 0
-HasLogged start old new lines = (log : List ℕ) × IsLogOfLines start lines log × Appends old new log
+abbrev pub HasLogged : Starts → Option (List ℕ) → Option (List ℕ) → List Line → Type 0
+HasLogged starts old new lines = (log : List ℕ) × IsLogOfLines starts lines log × Appends old new log
 
 -- a write failed, before which the writer took the first `written` bytes of the log, of which this
 -- holds
@@ -113,14 +127,14 @@ HasLoggedSome IsLogged old new written =
 -- Why a line is not taken after these lines, as a fault says it: elements, and there was no moment
 -- yet; a moment that is out of range or goes back; the refusal of a vital subject. Lines count from
 -- 1.
-abbrev pub RefusesAfter : Start → ListenFault → List Line → Line → Type 0
-RefusesAfter start (NoMoment number) lines (elements bits) =
+abbrev pub RefusesAfter : Starts → ListenFault → List Line → Line → Type 0
+RefusesAfter starts (NoMoment number) lines (elements mark bits) =
     (number ≡ length lines + 1) × (has_moment lines ≡ false)
-RefusesAfter start (Moment number why) lines (moment n) =
-    (number ≡ length lines + 1) × Refuses (in_force_after start lines).moment n why
-RefusesAfter start (Vital number subject) lines (refuse_subject letter) =
+RefusesAfter starts (Moment number why) lines (moment n) =
+    (number ≡ length lines + 1) × Refuses (moment_after starts.moment lines) n why
+RefusesAfter starts (Vital number subject) lines (refuse_subject mark letter) =
     (number ≡ length lines + 1) × IsTrue (is_vital letter) × (subject.byte ≡ letter)
-RefusesAfter start _ lines _ = ⊥
+RefusesAfter starts _ lines _ = ⊥
 
 -- Good lines and the beginning of one more stand before a fault of the file, of which this is the
 -- cause; and this holds of the lines.
@@ -132,14 +146,14 @@ HasFaultAfter holds bytes why =
 -- The first fault of an air file, by its bytes alone: a fault of the file, or the next line is not
 -- taken; and this holds of the whole lines before it. Those of devices and of memory are none of
 -- bytes.
-abbrev pub HasListenFault : Start → (List Line → Type 0) → List ℕ → ListenFault → Type 0
-HasListenFault start holds bytes AirTooLong = HasFaultAfter holds bytes file.TooLong
-HasListenFault start holds bytes (LineLong line) = HasFaultAfter holds bytes (file.LineLong line)
-HasListenFault start holds bytes (LineCut line) = HasFaultAfter holds bytes (file.LineCut line)
-HasListenFault start holds bytes (BadLine line) = HasFaultAfter holds bytes (file.BadLine line)
-HasListenFault start holds bytes fault =
+abbrev pub HasListenFault : Starts → (List Line → Type 0) → List ℕ → ListenFault → Type 0
+HasListenFault starts holds bytes AirTooLong = HasFaultAfter holds bytes file.TooLong
+HasListenFault starts holds bytes (LineLong line) = HasFaultAfter holds bytes (file.LineLong line)
+HasListenFault starts holds bytes (LineCut line) = HasFaultAfter holds bytes (file.LineCut line)
+HasListenFault starts holds bytes (BadLine line) = HasFaultAfter holds bytes (file.BadLine line)
+HasListenFault starts holds bytes fault =
     StopsAt bytes (λ lines rest more.
-    IsLineRefused (RefusesAfter start fault) air_limit lines rest more (length lines + 1)
+    IsLineRefused (RefusesAfter starts fault) air_limit lines rest more (length lines + 1)
     × holds lines)
 
 -- What a run that listens answers of the bytes that were read: a report, where the log of the file
@@ -148,29 +162,29 @@ HasListenFault start holds bytes fault =
 -- failed write the first bytes of the log of the lines that were read whole are written, closed if
 -- the file had ended. A want of memory says nothing of them. Each other fault is the first of the
 -- file; that of its end comes at its end.
-abbrev pub AnswersListening : Start → Type 0 → (List ℕ → Type 0) → Option (List ℕ)
+abbrev pub AnswersListening : Starts → Type 0 → (List ℕ → Type 0) → Option (List ℕ)
     → Option (List ℕ) → Result Report ListenFault → List ℕ
     → Type 0
-AnswersListening start AtEnd IsLeft old new (Ok report) bytes =
-    AtEnd × HasListened start old new bytes report
-AnswersListening start AtEnd IsLeft old new (Err (Memory error)) bytes = ⊤
-AnswersListening start AtEnd IsLeft old new (Err Read) bytes =
+AnswersListening starts AtEnd IsLeft old new (Ok report) bytes =
+    AtEnd × HasListened starts old new bytes report
+AnswersListening starts AtEnd IsLeft old new (Err (Memory error)) bytes = ⊤
+AnswersListening starts AtEnd IsLeft old new (Err Read) bytes =
     StopsAt bytes (λ lines rest more.
-    (length (file_of lines ++ rest) ≤ air_limit) × IsLeft more × HasLogged start old new lines)
-AnswersListening start AtEnd IsLeft old new (Err (Write written)) bytes =
-    StopsAt bytes (λ lines rest more. HasLoggedSome (IsLogOfLines start lines) old new written)
-    ⊎ (AtEnd × HasLoggedSome (IsLogOf start bytes) old new written)
-AnswersListening start AtEnd IsLeft old new (Err (LineCut line)) bytes =
-    AtEnd × HasListenFault start (HasLogged start old new) bytes (LineCut line)
-AnswersListening start AtEnd IsLeft old new (Err fault) bytes =
-    HasListenFault start (HasLogged start old new) bytes fault
+    (length (file_of lines ++ rest) ≤ air_limit) × IsLeft more × HasLogged starts old new lines)
+AnswersListening starts AtEnd IsLeft old new (Err (Write written)) bytes =
+    StopsAt bytes (λ lines rest more. HasLoggedSome (IsLogOfLines starts lines) old new written)
+    ⊎ (AtEnd × HasLoggedSome (IsLogOf starts bytes) old new written)
+AnswersListening starts AtEnd IsLeft old new (Err (LineCut line)) bytes =
+    AtEnd × HasListenFault starts (HasLogged starts old new) bytes (LineCut line)
+AnswersListening starts AtEnd IsLeft old new (Err fault) bytes =
+    HasListenFault starts (HasLogged starts old new) bytes fault
 
 -- A run that listens, with this start: it answers so to the bytes that it read, and to the whole
 -- file, however it came; and it writes the log of the lines that it read before each further read.
-abbrev pub Listens : {R W : Type 0} → Start → Devices R W → Result Report ListenFault → Type 0
-Listens start d outcome =
+abbrev pub Listens : {R W : Type 0} → Starts → Devices R W → Result Report ListenFault → Type 0
+Listens starts d outcome =
     Transfers Read (λ _. ⊥) (λ written. Write written) on_the_way d outcome (λ _. ⊤)
-    (λ bytes. AnswersListening start (IsReadOut d) (λ more. more ≡ []) (d.contents d.writer.inner)
+    (λ bytes. AnswersListening starts (IsReadOut d) (λ more. more ≡ []) (d.contents d.writer.inner)
     (d.contents d.writer_after.inner) outcome bytes)
-    (λ bytes. AnswersListening start (Unit {0}) (λ more. Unit {0}) (d.contents d.writer.inner)
+    (λ bytes. AnswersListening starts (Unit {0}) (λ more. Unit {0}) (d.contents d.writer.inner)
     (d.contents d.writer_after.inner) outcome bytes)

@@ -6,37 +6,41 @@ use Rattle.nx_envelope.specs.Message.{MessageView}
 use Rattle.nx_fec.specs.AirFile.{Line}
 use Rattle.nx_fec.specs.Lines.{air_limit, IsAirFile}
 use Rattle.nx_fec.specs.Transfers.{Devices}
+use Rattle.nx_fec.specs.declared.channel.Channel.{Channel}
 use Rattle.nx_station.specs.Sendings.{Part}
-use Rattle.nx_receiver.specs.Events.{Start}
-use Rattle.nx_receiver.specs.Listen.{HasListened, events_of}
+use Rattle.nx_receiver.specs.Listen.{HasListened, events_on}
 use Rattle.nx_receiver.specs.Once.{IsHeardInTime, IsPrintedOnce}
+use Rattle.nx_receiver.specs.Shares.{Starts, copies_on, start_on}
 use Rattle.nx_receiver.specs.declared.listening.Report.{Report}
 
--- What has to be met in an air file, so that a message is printed once: the file has these lines,
--- and in what they give to a receiver that begins with this start, the message is heard in time, in
--- these parts.
-pub record IsHeardInTimeIn (start : Start) (file : List ℕ) (message : MessageView) : Type 0 where
+-- What has to be met on a channel of an air file, so that a message is printed once: the file has
+-- these lines, and in the channel's share of what they give to receivers that begin with this start,
+-- the message is heard in time, in these parts.
+pub record IsHeardInTimeOn (channel : Channel) (starts : Starts) (file : List ℕ)
+    (message : MessageView)
+    : Type 0 where
   pub lines : List Line
   pub spelled : IsAirFile air_limit file lines
   pub parts : List Part
-  pub heard : IsHeardInTime start (events_of lines) parts message
+  pub heard : IsHeardInTime (start_on starts channel) (events_on channel lines) parts message
 
--- Both halves of the headline: the log of the file of these bytes was written, and of its entries
--- exactly one bears the identity of each message that is heard in time in the file: it is full, has
--- 0 errors, and its text is the message's, letter for letter.
-pub record HasPrintedOnce (start : Start) (old new : Option (List ℕ)) (file : List ℕ)
+-- Both halves of the headline: the log of the file of these bytes was written, and of its entries on
+-- a channel exactly one bears the identity of each message that is heard in time on that channel: it
+-- is full, has 0 errors, and its text is the message's, letter for letter.
+pub record HasPrintedOnce (starts : Starts) (old new : Option (List ℕ)) (file : List ℕ)
     : Type 0 where
   pub report : Report
-  pub listened : HasListened start old new file report
-  pub once : (message : MessageView) → IsHeardInTimeIn start file message
-      → IsPrintedOnce message listened.copies
+  pub listened : HasListened starts old new file report
+  pub once : (channel : Channel) (message : MessageView)
+      → IsHeardInTimeOn channel starts file message
+      → IsPrintedOnce message (copies_on channel listened.copies)
 
 -- Both halves of the headline hold of the bytes that a run read and wrote; and of the whole input,
 -- where it is known, however it came.
-pub record KeepsHeadline {R W : Type 0} (start : Start) (d : Devices R W) : Type 0 where
+pub record KeepsHeadline {R W : Type 0} (starts : Starts) (d : Devices R W) : Type 0 where
   pub bytes : List ℕ
   pub consumed : Consumes (d.remaining d.reader.inner) (d.remaining d.reader_after.inner) bytes
   pub printed :
-      HasPrintedOnce start (d.contents d.writer.inner) (d.contents d.writer_after.inner) bytes
+      HasPrintedOnce starts (d.contents d.writer.inner) (d.contents d.writer_after.inner) bytes
   pub file : IfSome (d.remaining d.reader.inner)
-      (HasPrintedOnce start (d.contents d.writer.inner) (d.contents d.writer_after.inner))
+      (HasPrintedOnce starts (d.contents d.writer.inner) (d.contents d.writer_after.inner))

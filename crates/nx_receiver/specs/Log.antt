@@ -8,10 +8,13 @@ use Rattle.nx_envelope.specs.Moment.{IsShownAs}
 use Rattle.nx_envelope.specs.Header.{newline}
 use Rattle.nx_envelope.specs.declared.found.How.{How}
 use Rattle.nx_envelope.specs.declared.found.How.TheVariants.{Full, Cut, Long}
+use Rattle.nx_fec.specs.declared.channel.Channel.{Channel}
+use Rattle.nx_fec.specs.declared.channel.Channel.TheVariants.{Zero, One, Two}
 use Rattle.nx_sync.specs.Locks.{Lock, Now, IsNow}
 use Rattle.nx_receiver.specs.Events.{Event, Start, elements_among, first_setting}
 use Rattle.nx_receiver.specs.FoundCopies.{FoundCopy, ended_so_far, found_to_end, TaggedCopy, tagged_copies}
 use Rattle.nx_receiver.specs.Printing.{printed_copies}
+use Rattle.nx_receiver.specs.Shares.{MarkedCopy}
 
 -- how a copy ended, as it is printed
 abbrev pub how_name : How → List ℕ
@@ -19,11 +22,18 @@ how_name Full = codes "full"
 how_name Cut = codes "cut"
 how_name Long = codes "long"
 
--- The line that heads an entry: `[`, the identity, the civil time, how the copy ended, its errors,
--- `/`, its characters, `]` and a newline, where 91 is the bracket, 32 a space and 47 the slash.
-unfoldable pub entry_head : TaggedCopy → List ℕ → List ℕ
-entry_head copy civil =
-    91 ∷ identity_bytes copy.identity ++ 32 ∷ civil
+-- the mark of a channel behind an identity, which channel 0 doesn't have
+abbrev pub channel_mark : Channel → List ℕ
+channel_mark Zero = []
+channel_mark One = codes "/1"
+channel_mark Two = codes "/2"
+
+-- The line that heads an entry: `[`, the identity, the mark of the channel, the civil time, how the
+-- copy ended, its errors, `/`, its characters, `]` and a newline, where 91 is the bracket, 32 a
+-- space and 47 the slash.
+unfoldable pub entry_head : Channel → TaggedCopy → List ℕ → List ℕ
+entry_head channel copy civil =
+    91 ∷ identity_bytes copy.identity ++ channel_mark channel ++ 32 ∷ civil
     ++ 32 ∷ how_name copy.how ++ 32 ∷ decimal (errors_of copy.text)
     ++ 47 ∷ decimal (length copy.text) ++ codes "]\n"
 
@@ -38,18 +48,18 @@ missing_newline text = if is_of_lines text then [] else newline ∷ []
 
 -- an entry: its head, the text, a newline where the text isn't empty and doesn't end with one, and
 -- a newline
-unfoldable pub entry_with : TaggedCopy → List ℕ → List ℕ
-entry_with copy civil =
-    entry_head copy civil ++ copy.text ++ missing_newline copy.text ++ newline ∷ []
+unfoldable pub entry_with : Channel → TaggedCopy → List ℕ → List ℕ
+entry_with channel copy civil =
+    entry_head channel copy civil ++ copy.text ++ missing_newline copy.text ++ newline ∷ []
 
 -- the bytes are the entry of a copy, with the civil time of its moment
-pub record IsEntry (copy : TaggedCopy) (bytes : List ℕ) : Type 0 where
+pub record IsEntry (one : MarkedCopy) (bytes : List ℕ) : Type 0 where
   pub civil : List ℕ
-  pub shown : IsShownAs copy.moment civil
-  pub spelled : bytes ≡ entry_with copy civil
+  pub shown : IsShownAs one.copy.moment civil
+  pub spelled : bytes ≡ entry_with one.channel one.copy civil
 
 -- the bytes are the log of these copies: their entries in order, and nothing between
-pub record IsLog (copies : List TaggedCopy) (bytes : List ℕ) : Type 0 where
+pub record IsLog (copies : List MarkedCopy) (bytes : List ℕ) : Type 0 where
   pub entries : List (List ℕ)
   pub each : AllZip IsEntry copies entries
   pub joined : bytes ≡ concat entries

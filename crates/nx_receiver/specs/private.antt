@@ -2,4 +2,5 @@ pub mod Awaiting
 pub mod Listener
 pub mod ListenerBegins
 pub mod LockReader
+pub mod StateParts
 pub mod Watch

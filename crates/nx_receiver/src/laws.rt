@@ -5,6 +5,7 @@ ghost use Rattle.std.specs.Prelude.{◌≡◌, ℕ, ◌+◌, ◌*◌, ◌<◌, �
 ghost use Rattle.nx_code.specs.Reading.{text};
 ghost use Rattle.nx_code.specs.declared.shifts.Shift.TheVariants.{Letters};
 ghost use Rattle.nx_envelope.specs.Moment.{last_moment};
+ghost use Rattle.nx_fec.specs.declared.channel.Channel.TheVariants.{Zero};
 ghost use Rattle.nx_envelope.specs.declared.identity.Identity.{Identity};
 ghost use Rattle.nx_memory.specs.declared.entry.MemoryEntry.{MemoryEntry};
 ghost use Rattle.nx_station.specs.ChannelExample.{ea01};
@@ -18,12 +19,15 @@ ghost use Rattle.nx_receiver.specs.Printing.{copies_of, printed_copies};
 ghost use Rattle.nx_receiver.specs.Once.{IsUnknownAtFirst};
 ghost use Rattle.nx_receiver.specs.LockText.{PlacedByte, bytes_of, lock_text, positions};
 ghost use Rattle.nx_receiver.specs.Log.{HasPrinted, IsLog, PrintsToEnd};
+ghost use Rattle.nx_receiver.specs.Shares.{MarkedCopy, marked};
 ghost use Rattle.nx_receiver.specs.Receiver.{Receiving, Stands, elements_of_pieces, events_of_pieces};
 ghost use Rattle.nx_receiver.specs.Worked.{at_its_slot, damaged_words, heard_elements, worked_words, worked_log};
 
 pub mod chain;
+pub mod channels;
 pub mod listening;
 pub mod once;
+pub mod resuming;
 pub mod sending;
 
 use nx_memory::Recall;
@@ -89,18 +93,18 @@ pub fn there_is_one_log()
         (log : List TaggedCopy) × PrintsToEnd start events log }
     ensures one_closed { (start : Start) (events : List Event) (log other : List TaggedCopy) →
         PrintsToEnd start events log → PrintsToEnd start events other → log ≡ other }
-    ensures some_bytes { (copies : List TaggedCopy)
-        → All (λ (copy : TaggedCopy). copy.moment ≤ last_moment) copies
+    ensures some_bytes { (copies : List MarkedCopy)
+        → All (λ (one : MarkedCopy). one.copy.moment ≤ last_moment) copies
         → (bytes : List ℕ) × IsLog copies bytes }
-    ensures one_bytes { (copies : List TaggedCopy) (bytes others : List ℕ) →
+    ensures one_bytes { (copies : List MarkedCopy) (bytes others : List ℕ) →
         IsLog copies bytes → IsLog copies others → bytes ≡ others }
 {}
 
 /// The log of a beginning is a beginning of the log; a log and then another are the log of both.
 pub fn logs_go_on()
-    ensures begins { (front back : List TaggedCopy) (bytes whole : List ℕ) → IsLog front bytes
+    ensures begins { (front back : List MarkedCopy) (bytes whole : List ℕ) → IsLog front bytes
         → IsLog (front ++ back) whole → (more : List ℕ) × (whole ≡ bytes ++ more) }
-    ensures join { (front back : List TaggedCopy) (bytes more : List ℕ)
+    ensures join { (front back : List MarkedCopy) (bytes more : List ℕ)
         → IsLog front bytes → IsLog back more
         → IsLog (front ++ back) (bytes ++ more) }
 {}
@@ -131,7 +135,7 @@ pub fn there_are_repeats()
 pub fn a_worked_emission_is_printed()
     ensures sent { PrintsToEnd at_its_slot (heard_elements worked_words) (first_copy ∷ []) }
     ensures damaged { PrintsToEnd at_its_slot (heard_elements damaged_words) (first_copy ∷ []) }
-    ensures log { IsLog (first_copy ∷ []) worked_log }
+    ensures log { IsLog (marked Zero first_copy ∷ []) worked_log }
     ensures bytes { length worked_log ≡ 42 }
 {}
 

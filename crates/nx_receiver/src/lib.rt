@@ -10,6 +10,10 @@ mod listening;
 mod lock_reader;
 mod over;
 mod receiver;
+mod resume_fault;
+mod resuming;
+mod state;
+mod state_fault;
 mod watch;
 mod writing;
 
@@ -19,7 +23,11 @@ pub use judging::judge;
 pub use listen_fault::ListenFault;
 pub use listening::{Report, listen, listen_from};
 pub use receiver::Receiver;
-pub use writing::{MAX_ENTRY, entry_text};
+pub use resume_fault::{ResumeFault, Want};
+pub use resuming::resume;
+pub use state::{read_state, write_state};
+pub use state_fault::StateFault;
+pub use writing::{MAX_ENTRY, entry_text, entry_text_on};
 
 #[cfg(test)]
 mod tests;

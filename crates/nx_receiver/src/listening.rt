@@ -1,19 +1,30 @@
 //! Listening to an air file: the log of its lines, written while it is read.
 
-ghost use Rattle.std.specs.Prelude.{◌≡◌, ◌+◌, ◌<◌, ◌≤◌, ◌↔◌, ℕ, true, List, [], ◌∷◌, ◌++◌, length, take, Option, Some, IfOk, MatchResult, OnErr, OnOk};
+ghost use Rattle.std.specs.Prelude.{◌≡◌, ◌+◌, ◌-◌, ◌^◌, ◌<◌, ◌≤◌, ℕ, Bool, false, List, [], ◌∷◌, ◌++◌, length, map, take, Option, Some, IfErr, IfOk, IfSome, MatchResult, OnErr, OnOk};
 ghost use Rattle.nx_code.specs.Reading.{IsCapital};
+ghost use Rattle.nx_envelope.specs.Moment.{last_moment};
 ghost use Rattle.nx_fec.specs.AirFile.{Line};
 ghost use Rattle.nx_fec.specs.AirFile as line;
 ghost use Rattle.nx_fec.specs.Transfers.{FailsOnce, HasWritten, WroteSome, Writes, devices};
 ghost use Rattle.nx_fec.specs.LineRuns.{ExplainsTaking, HasGiven, HasTaken};
-ghost use Rattle.nx_receiver.specs.Chain.{Leaves, start_from};
-ghost use Rattle.nx_receiver.specs.Events.{Event, Start, at_zero, elements};
-ghost use Rattle.nx_receiver.specs.Listen.{Listens, events_of};
+ghost use Rattle.nx_memory.specs.Memory.{newest_moment};
+ghost use Rattle.nx_memory.specs.Saved.{AreSavedEntries};
+ghost use Rattle.nx_memory.specs.Selection.{is_vital};
+ghost use Rattle.nx_receiver.specs.Chain.{Leaves};
+ghost use Rattle.nx_receiver.specs.Events.{Event, Refuses, Start, at_moment, command};
+ghost use Rattle.nx_receiver.specs.Events as events;
+ghost use Rattle.nx_receiver.specs.FoundCopies.{TaggedCopy};
+ghost use Rattle.nx_receiver.specs.Listen.{Listens, events_on};
 ghost use Rattle.nx_receiver.specs.ListenFrom.{GoesOnBy, reported};
 ghost use Rattle.nx_receiver.specs.ListenOnce.{KeepsHeadline};
-ghost use Rattle.nx_receiver.specs.private.Listener.{BeginsFrom, HasClosed, HasClosedSome, HasFinished, HeardSome, HearsLog, IsHearing, IsListening, Listening, RefusesFrom, RefusesLine, StandsFrom, lines_fault, refusal_fault, start_of};
+ghost use Rattle.nx_receiver.specs.Log.{IsLog};
+ghost use Rattle.nx_receiver.specs.Receiver.{Stands, TakesEvent, entry_list};
+ghost use Rattle.nx_receiver.specs.Shares.{Given, Starts, all_at_zero, marked, saved_of, start_on, starts_from};
+ghost use Rattle.nx_receiver.specs.private.Awaiting.{Awaits, HearsUpTo};
+ghost use Rattle.nx_receiver.specs.private.Listener.{BeginsFrom, HasClosed, HasClosedSome, HasFinished, HeardSome, HearsLog, IsHearing, IsListening, Listening, RefusesFrom, RefusesLine, StandsFrom, content, count_of, lines_fault, receiver_on, refusal_fault, starts_of, then_elements, with_receiver};
 ghost use Rattle.nx_receiver.specs.declared.listen_fault.ListenFault.TheVariants.{Memory};
 
+use crate::entry::Entry;
 use crate::fault::{MomentFault, ReceiverFault};
 use crate::listen_fault::ListenFault;
 use crate::over::Over;
@@ -21,10 +32,10 @@ use crate::receiver::Receiver;
 use crate::writing::entry_bytes;
 use nx_envelope::Letter;
 use nx_fec::{
-    Batch, Counting, LineFault, LineKind, LineTaker, LinesFault, LinesRead, Scanner, TakeFault,
-    WriteFault, run_lines, write_on,
+    Batch, Channel, Counting, LineFault, LineKind, LineTaker, LinesFault, LinesRead, Scanner,
+    TakeFault, WriteFault, run_lines, write_on,
 };
-use nx_memory::{RingRecall, Saved};
+use nx_memory::{RingRecall, Saved, SavedSet, Selection};
 use std::alloc::{AllocError, Global};
 use std::io::{Read, Write};
 use std::marker::Model;
@@ -34,21 +45,23 @@ use std::marker::Model;
 pub struct Report {
     /// How many lines the file has.
     pub lines: u64,
-    /// How many elements its lines have.
+    /// How many elements its lines have, over all channels.
     pub bits: u64,
-    /// How many entries were printed.
+    /// How many entries were printed, over all channels.
     pub printed: u64,
 }
 
 /// Listens to an air file of at most 268,435,456 bytes to its end, and writes its log: an entry for
-/// each copy that is printed, all that the lines so far print before each further read. The
-/// receiver starts with an empty memory, at moment 0, and everything is selected. All memory is
-/// taken before the first read.
+/// each copy that is printed, all that the lines so far print before each further read. Three
+/// receivers hear it, one for each channel; each starts with an empty memory, at moment 0, and
+/// everything is selected. Their entries stand in the log in the order in which their copies end;
+/// the end of the file closes the channels 0, 1 and 2 in order. All memory is taken before the first
+/// read.
 ///
-/// Where it answers Ok, each message that is heard in time in the file has exactly one entry in the
-/// log, full, with 0 errors and its text letter for letter: a message not numbered 00 that is
-/// selected whenever it is sent, whose sendings all lie within 66 hours and pass the channel while
-/// 200 identities suffice, and of whose identity nothing else is found.
+/// Where it answers Ok, each message that is heard in time on a channel of the file has exactly one
+/// entry of that channel in the log, full, with 0 errors and its text letter for letter: a message
+/// not numbered 00 that is selected whenever it is sent, whose sendings all lie within 66 hours and
+/// pass the channel while 200 identities suffice, and of whose identity nothing else is found on it.
 ///
 /// The first fault in the order of the bytes ends the run; the line that has it has no effect.
 /// After a fault of a line, `AirTooLong` and `Read`, the log of the whole lines before it is
@@ -62,42 +75,43 @@ pub fn listen<R: Read, W: Write>(
 ) -> Result<Report, ListenFault>
     requires reader { reader.old.failures ≡ 0 }
     requires writer { writer.old.failures ≡ 0 }
-    ensures listens { Listens at_zero
+    ensures listens { Listens all_at_zero
         (devices R.remaining W.contents reader.old reader.new writer.old writer.new) result }
-    ensures once { OnOk result (KeepsHeadline at_zero
+    ensures once { OnOk result (KeepsHeadline all_at_zero
         (devices R.remaining W.contents reader.old reader.new writer.old writer.new)) }
     ensures memory { (error : AllocError) → result ≡ Err (Memory error)
         → (reader.new ≡ reader.old) × (writer.new ≡ writer.old) }
 {
-    let (report, _) = listen_from(alloc, &Saved::new(), reader, writer)?;
+    let (report, _) = listen_from(alloc, &SavedSet::new(), reader, writer)?;
     Ok(report)
 }
 
-/// Listens as `listen` does, and goes on from what is saved: the receiver starts with the saved
-/// entries and the saved selection, at the moment of the newest entry, or 0 where there is none.
-/// Answers also what it leaves: the last 200 of all entries, the saved ones and those that the run
-/// made, and what is selected after the file. A copy that stands open at its end is no part of it.
-/// All memory is taken before the first read.
+/// Listens as `listen` does, and goes on from what is saved: the receiver of each channel starts with
+/// the saved entries and the saved selection of the channel, and all three at the greatest moment of
+/// an entry, or 0 where there is none. Answers also what it leaves of each channel: the last 200 of
+/// all entries, the saved ones and those that the run made, and what is selected after the file. A
+/// copy that stands open at its end is no part of it. All memory is taken before the first read.
 ///
-/// Where it answers Ok, each message that is heard in time in the file has exactly one entry in the
-/// log, as with `listen`, where no saved entry of its identity is live when it is first heard.
+/// Where it answers Ok, each message that is heard in time on a channel of the file has exactly one
+/// entry of that channel in the log, as with `listen`, where no saved entry of its identity on that
+/// channel is live when it is first heard.
 ///
 /// Faults are those of `listen`. After one there is nothing to go on from but what was saved
 /// before.
 pub fn listen_from<R: Read, W: Write>(
     alloc: Global,
-    saved: &Saved,
+    saved: &SavedSet,
     reader: &mut Counting<R>,
     writer: &mut Counting<W>,
-) -> Result<(Report, Saved), ListenFault>
+) -> Result<(Report, SavedSet), ListenFault>
     requires reader { reader.old.failures ≡ 0 }
     requires writer { writer.old.failures ≡ 0 }
-    ensures listens { Listens (start_from saved.now)
+    ensures listens { Listens (starts_from saved.now)
         (devices R.remaining W.contents reader.old reader.new writer.old writer.new)
         (reported result) }
     ensures left { IfOk result (λ answer. GoesOnBy saved.now
         (devices R.remaining W.contents reader.old reader.new writer.old writer.new) answer.1) }
-    ensures once { OnOk result (KeepsHeadline (start_from saved.now)
+    ensures once { OnOk result (KeepsHeadline (starts_from saved.now)
         (devices R.remaining W.contents reader.old reader.new writer.old writer.new)) }
     ensures memory { (error : AllocError) → result ≡ Err (Memory error)
         → (reader.new ≡ reader.old) × (writer.new ≡ writer.old) }
@@ -150,14 +164,16 @@ pub enum LineRefusal {
     Vital { subject: Letter },
 }
 
-/// A receiver that takes the lines of an air file.
+/// The receivers of three channels, which take the lines of an air file.
 ///
-/// It holds what its receiver holds, whether there was a moment, and two counts. No field can be
+/// It holds what its receivers hold, whether there was a moment, and two counts. No field can be
 /// added whose meaning contracts see (`inverse`); that no field's own type forgets, the proved size
 /// shows.
 #[derive(Drop)]
 struct Listener {
-    receiver: Receiver<RingRecall>,
+    on_0: Receiver<RingRecall>,
+    on_1: Receiver<RingRecall>,
+    on_2: Receiver<RingRecall>,
     has_moment: bool,
     /// How many elements were heard, and how many entries were given, each at most the greatest
     /// u64.
@@ -175,7 +191,9 @@ impl Model for Listener {
     ghost coded = { Prim.hlevel (codes, refused_code) };
 
     ghost view = { λ l. record {
-      receiver = l.receiver;
+      on_0 = l.on_0;
+      on_1 = l.on_1;
+      on_2 = l.on_2;
       has_moment = l.has_moment;
       elements = l.elements;
       entries = l.entries;
@@ -184,7 +202,9 @@ impl Model for Listener {
     // What contracts see gives every field back, so that no field for a history can stand beside
     // them.
     ghost inverse = { λ v. record {
-      receiver = v.receiver;
+      on_0 = v.on_0;
+      on_1 = v.on_1;
+      on_2 = v.on_2;
       has_moment = v.has_moment;
       elements = v.elements;
       entries = v.entries;
@@ -193,46 +213,48 @@ impl Model for Listener {
 
 impl Listener {
     /// A listener that has heard nothing, and starts with what is saved.
-    fn starting(alloc: Global, saved: &Saved) -> Result<Listener, AllocError>
+    fn starting(alloc: Global, saved: &SavedSet) -> Result<Listener, AllocError>
         ensures listens { IfOk result (λ listener.
-            IsListening (start_from saved.now) listener [] []) }
-        ensures start { IfOk result (λ listener. start_of listener ≡ start_from saved.now) }
+            IsListening (starts_from saved.now) listener [] []) }
+        ensures start { IfOk result (λ listener. starts_of listener ≡ starts_from saved.now) }
     {
         // No room for a field of a type whose own model forgets what it holds.
-        prove!(size_of::<Listener>() == size_of::<Receiver<RingRecall>>() + 24);
-        let mut memory = RingRecall::new(alloc)?;
-        saved.load(&mut memory);
+        prove!(size_of::<Listener>() == 3 * size_of::<Receiver<RingRecall>>() + 24);
+        let (selected_0, kept_0) = kept_on(saved, Channel::Zero);
+        let (selected_1, kept_1) = kept_on(saved, Channel::One);
+        let (selected_2, kept_2) = kept_on(saved, Channel::Two);
         let moment = saved.newest().unwrap_or(0);
-        match Receiver::starting(alloc, memory, moment, saved.selection()) {
-            Ok(receiver) => Ok(Listener {
-                receiver,
-                has_moment: false,
-                elements: 0,
-                entries: 0,
-            }),
-            Err(ReceiverFault::Memory(error)) => Err(error),
-            Err(ReceiverFault::MomentRange) => unreachable!(),
-        }
+        let on_0 = receiver_from(alloc, selected_0, kept_0, moment)?;
+        let on_1 = receiver_from(alloc, selected_1, kept_1, moment)?;
+        let on_2 = receiver_from(alloc, selected_2, kept_2, moment)?;
+        Ok(Listener {
+            on_0,
+            on_1,
+            on_2,
+            has_moment: false,
+            elements: 0,
+            entries: 0,
+        })
     }
 
     /// What it leaves after the lines that it heard.
-    fn saved(&self) -> Saved
-        ensures { (start : Start) (lines : List Line) (given : List ℕ)
-            → IsListening start self.now lines given → Leaves start (events_of lines) result }
+    fn saved(&self) -> SavedSet
+        ensures { (starts : Starts) (lines : List Line) (bytes : List ℕ)
+            → IsListening starts self.now lines bytes → (channel : Channel)
+            → Leaves (start_on starts channel) (events_on channel lines) (saved_of result channel) }
     {
-        self.receiver.saved()
+        SavedSet::of(self.on_0.saved(), self.on_1.saved(), self.on_2.saved())
     }
 
-    /// Takes a moment.
+    /// Takes a moment, which belongs to all channels.
     fn take_moment(&mut self, moment: u64) -> Result<(), LineRefusal>
-        ensures taken { (start : Start) (lines : List Line) (given : List ℕ)
-            → IsListening start self.old lines given
+        ensures { (starts : Starts) (lines : List Line) (bytes : List ℕ)
+            → IsListening starts self.old lines bytes
             → MatchResult result
-            (λ _. IsListening start self.new (lines ++ line.moment moment ∷ []) given)
-            (λ why. RefusesLine start lines (line.moment moment) why) }
-        ensures unchanged { OnErr result (self.new ≡ self.old) }
+            (λ _. IsListening starts self.new (lines ++ line.moment moment ∷ []) bytes)
+            (λ why. RefusesLine starts lines (line.moment moment) why × (self.new ≡ self.old)) }
     {
-        match self.receiver.set_moment(moment) {
+        match self.set_moments(moment) {
             Ok(()) => {
                 self.has_moment = true;
                 Ok(())
@@ -241,106 +263,217 @@ impl Listener {
         }
     }
 
-    /// Takes a command to refuse a subject.
-    fn refuse_subject(&mut self, byte: u8) -> Result<(), LineRefusal>
-        requires { IsCapital byte }
-        ensures taken { (start : Start) (lines : List Line) (given : List ℕ)
-            → IsListening start self.old lines given
-            → MatchResult result
-            (λ _. IsListening start self.new (lines ++ line.refuse_subject byte ∷ []) given)
-            (λ why. RefusesLine start lines (line.refuse_subject byte) why) }
-        ensures unchanged { OnErr result (self.new ≡ self.old) }
+    /// Sets the moment of each receiver. Where all have the same one, all take the next or none
+    /// does.
+    fn set_moments(&mut self, moment: u64) -> Result<(), MomentFault>
+        ensures stands { OnOk result ((channel : Channel)
+            → TakesEvent content (receiver_on self.old channel) (receiver_on self.new channel)
+            (at_moment moment)) }
+        ensures taken { OnOk result
+            ((self.old.on_0.watch.moment ≤ moment) × (moment ≤ last_moment)) }
+        ensures refused { self.old.on_1.watch.moment ≡ self.old.on_0.watch.moment
+            → self.old.on_2.watch.moment ≡ self.old.on_0.watch.moment
+            → IfErr result (λ fault.
+            Refuses self.old.on_0.watch.moment moment fault × (self.new ≡ self.old)) }
+        ensures elements { self.new.elements ≡ self.old.elements }
+        ensures entries { self.new.entries ≡ self.old.entries }
     {
-        match self.receiver.refuse_subject(letter(byte)) {
+        self.on_0.set_moment(moment)?;
+        self.on_1.set_moment(moment)?;
+        self.on_2.set_moment(moment)
+    }
+
+    /// Takes a command to refuse a subject on a channel.
+    fn refuse_subject(&mut self, channel: Channel, byte: u8) -> Result<(), LineRefusal>
+        requires { IsCapital byte }
+        ensures stands { OnOk result
+            (TakesEvent content (receiver_on self.old channel) (receiver_on self.new channel)
+            (command (events.refuse_subject byte))) }
+        ensures only { self.new
+            ≡ with_receiver self.old channel (receiver_on self.new channel) }
+        ensures refused { (starts : Starts) (lines : List Line) (mark : Option Channel)
+            → MatchResult result (λ _. is_vital byte ≡ false)
+            (λ why. RefusesLine starts lines (line.refuse_subject mark byte) why
+            × (self.new ≡ self.old)) }
+    {
+        let subject = letter(byte);
+        let refused = match channel {
+            Channel::Zero => self.on_0.refuse_subject(subject),
+            Channel::One => self.on_1.refuse_subject(subject),
+            Channel::Two => self.on_2.refuse_subject(subject),
+        };
+        match refused {
             Ok(()) => Ok(()),
-            Err(vital) => {
-                return Err(LineRefusal::Vital {
-                    subject: vital.subject,
-                });
-            }
+            Err(vital) => Err(LineRefusal::Vital {
+                subject: vital.subject,
+            }),
         }
     }
 
-    /// Hears elements up to and with the one that ends the first copy that is printed, and gives
-    /// its entry. Answers how many it heard.
+    /// Takes a command to refuse a station on a channel.
+    fn refuse_station(&mut self, channel: Channel, byte: u8)
+        requires { IsCapital byte }
+        ensures stands { TakesEvent content (receiver_on self.old channel)
+            (receiver_on self.new channel) (command (events.refuse_station byte)) }
+        ensures only { self.new ≡ with_receiver self.old channel (receiver_on self.new channel) }
+    {
+        let station = letter(byte);
+        match channel {
+            Channel::Zero => self.on_0.refuse_station(station),
+            Channel::One => self.on_1.refuse_station(station),
+            Channel::Two => self.on_2.refuse_station(station),
+        }
+    }
+
+    /// Takes a command to refuse a station no longer on a channel.
+    fn accept_station(&mut self, channel: Channel, byte: u8)
+        requires { IsCapital byte }
+        ensures stands { TakesEvent content (receiver_on self.old channel)
+            (receiver_on self.new channel) (command (events.accept_station byte)) }
+        ensures only { self.new ≡ with_receiver self.old channel (receiver_on self.new channel) }
+    {
+        let station = letter(byte);
+        match channel {
+            Channel::Zero => self.on_0.accept_station(station),
+            Channel::One => self.on_1.accept_station(station),
+            Channel::Two => self.on_2.accept_station(station),
+        }
+    }
+
+    /// Takes a command to refuse a subject no longer on a channel.
+    fn accept_subject(&mut self, channel: Channel, byte: u8)
+        requires { IsCapital byte }
+        ensures stands { TakesEvent content (receiver_on self.old channel)
+            (receiver_on self.new channel) (command (events.accept_subject byte)) }
+        ensures only { self.new ≡ with_receiver self.old channel (receiver_on self.new channel) }
+    {
+        let subject = letter(byte);
+        match channel {
+            Channel::Zero => self.on_0.accept_subject(subject),
+            Channel::One => self.on_1.accept_subject(subject),
+            Channel::Two => self.on_2.accept_subject(subject),
+        }
+    }
+
+    /// Hears elements of a channel up to and with the first one with which something is over that
+    /// may bring an entry; says how many, and what is over.
+    fn hear_on(&mut self, channel: Channel, bits: &[bool]) -> (usize, Over)
+        ensures within { result.0 ≤ length bits.now }
+        ensures stands { HearsUpTo content (receiver_on self.old channel)
+            (receiver_on self.new channel) (take result.0 bits.now) result.1 }
+        ensures some { 0 < length bits.now → 0 < result.0 }
+        ensures only { self.new ≡ with_receiver self.old channel (receiver_on self.new channel) }
+    {
+        match channel {
+            Channel::Zero => self.on_0.hear(bits),
+            Channel::One => self.on_1.hear(bits),
+            Channel::Two => self.on_2.hear(bits),
+        }
+    }
+
+    /// The entry of the copy that is over on a channel, where one is and it is printed.
+    fn finish_on(&mut self, channel: Channel, over: Over) -> Option<Entry>
+        ensures stands { (start : Start) (events : List Event) (log : List TaggedCopy)
+            → Awaits content start (receiver_on self.old channel) events log over
+            → Stands content start (receiver_on self.new channel) events
+            (log ++ entry_list result) }
+        ensures moment { IfSome result (λ entry. entry.moment ≤ last_moment) }
+        ensures only { self.new ≡ with_receiver self.old channel (receiver_on self.new channel) }
+    {
+        match channel {
+            Channel::Zero => self.on_0.finish(over),
+            Channel::One => self.on_1.finish(over),
+            Channel::Two => self.on_2.finish(over),
+        }
+    }
+
+    /// Hears elements of a channel up to and with the one that ends the first copy that is printed,
+    /// and gives its entry. Answers how many it heard.
     fn hear<W: Write>(
         &mut self,
+        channel: Channel,
         bits: &[bool],
         writer: &mut Counting<W>,
         batch: &mut Batch,
     ) -> Result<usize, WriteFault>
         requires some { 0 < length bits.now }
         requires none { writer.old.failures ≡ 0 }
-        ensures heard { (start : Start) (old : Option (List ℕ)) (events : List Event)
-            → IsHearing start self.old events (HasGiven old (W.contents writer.old.inner) batch.old)
+        ensures heard { (starts : Starts) (old : Option (List ℕ)) (given : List Given)
+            (part : List Bool) → IsHearing starts self.old (then_elements given channel part)
+            (HasGiven old (W.contents writer.old.inner) batch.old)
             → MatchResult result
-            (λ count. IsHearing start self.new (events ++ elements (take count bits.now))
+            (λ count. IsHearing starts self.new
+            (then_elements given channel (part ++ take count bits.now))
             (HasGiven old (W.contents writer.new.inner) batch.new))
-            (λ fault. HeardSome start (events ++ elements bits.now) old (W.contents writer.new.inner)
-            fault.written) }
+            (λ fault. HeardSome starts (then_elements given channel (part ++ bits.now)) old
+            (W.contents writer.new.inner) fault.written) }
         ensures within { IfOk result (λ count. (0 < count) × (count ≤ length bits.now)) }
         ensures moment { self.new.has_moment ≡ self.old.has_moment }
         ensures counts { FailsOnce writer.new result }
     {
-        let (count, over) = self.receiver.hear(bits);
+        let (count, over) = self.hear_on(channel, bits);
         self.elements = self.elements.saturating_add(count as u64);
         if over == Over::Nothing {
             return Ok(count);
         }
-        match self.finish(over, writer, batch) {
+        match self.finish(channel, over, writer, batch) {
             Ok(()) => Ok(count),
             Err(fault) => Err(fault),
         }
     }
 
-    /// Finishes what is over, and gives the entry that it brings, if it brings one.
+    /// Finishes what is over on a channel, and gives the entry that it brings, if it brings one.
     // Not inlined, so that no loop over elements has a place for an entry.
     #[inline(never)]
     fn finish<W: Write>(
         &mut self,
+        channel: Channel,
         over: Over,
         writer: &mut Counting<W>,
         batch: &mut Batch,
     ) -> Result<(), WriteFault>
         requires { writer.old.failures ≡ 0 }
-        ensures finished { (given : List ℕ) × HasFinished self.old self.new over given
+        ensures finished { (bytes : List ℕ) × HasFinished self.old self.new channel over bytes
             × ((old : Option (List ℕ)) (before : List ℕ)
             → HasGiven old (W.contents writer.old.inner) batch.old before
             → MatchResult result
-            (λ _. HasGiven old (W.contents writer.new.inner) batch.new (before ++ given))
-            (λ fault. WroteSome old (W.contents writer.new.inner) (before ++ given)
+            (λ _. HasGiven old (W.contents writer.new.inner) batch.new (before ++ bytes))
+            (λ fault. WroteSome old (W.contents writer.new.inner) (before ++ bytes)
             fault.written)) }
         ensures moment { self.new.has_moment ≡ self.old.has_moment }
         ensures counts { FailsOnce writer.new result }
     {
-        let Some(entry) = self.receiver.finish(over) else {
+        let Some(entry) = self.finish_on(channel, over) else {
             return Ok(());
         };
         self.entries = self.entries.saturating_add(1);
-        batch.give(writer, &entry_bytes(&entry))
+        batch.give(writer, &entry_bytes(&entry, channel))
     }
 
-    /// Hears the elements of a line, and gives the entries of the copies that they end.
+    /// Hears the elements of a line of a channel, and gives the entries of the copies that they
+    /// end.
     fn hear_all<W: Write>(
         &mut self,
+        channel: Channel,
         bits: &[bool],
         writer: &mut Counting<W>,
         batch: &mut Batch,
     ) -> Result<(), WriteFault>
         requires { writer.old.failures ≡ 0 }
-        ensures heard { (start : Start) (old : Option (List ℕ)) (events : List Event)
-            → IsHearing start self.old events (HasGiven old (W.contents writer.old.inner) batch.old)
+        ensures heard { (starts : Starts) (old : Option (List ℕ)) (given : List Given)
+            → IsHearing starts self.old (then_elements given channel [])
+            (HasGiven old (W.contents writer.old.inner) batch.old)
             → MatchResult result
-            (λ _. IsHearing start self.new (events ++ elements bits.now)
+            (λ _. IsHearing starts self.new (then_elements given channel bits.now)
             (HasGiven old (W.contents writer.new.inner) batch.new))
-            (λ fault. HeardSome start (events ++ elements bits.now) old (W.contents writer.new.inner)
-            fault.written) }
+            (λ fault. HeardSome starts (then_elements given channel bits.now) old
+            (W.contents writer.new.inner) fault.written) }
         ensures moment { self.new.has_moment ≡ self.old.has_moment }
         ensures counts { FailsOnce writer.new result }
     {
         let mut at = 0;
         while at < bits.len() {
-            match self.hear(&bits[at..], writer, batch) {
+            match self.hear(channel, &bits[at..], writer, batch) {
                 Ok(count) => at += count,
                 Err(fault) => return Err(fault),
             }
@@ -348,9 +481,10 @@ impl Listener {
         Ok(())
     }
 
-    /// Takes the elements of a line.
+    /// Takes the elements of a line, for the channel that it names.
     fn take_elements<W: Write>(
         &mut self,
+        mark: Option<Channel>,
         bits: &[bool],
         writer: &mut Counting<W>,
         batch: &mut Batch,
@@ -359,59 +493,102 @@ impl Listener {
         ensures taken { (first : Listening) (old : Option (List ℕ)) (lines : List Line)
             → HasTaken StandsFrom first self.old lines
             (HasGiven old (W.contents writer.old.inner) batch.old) → MatchResult result
-            (λ _. HasTaken StandsFrom first self.new (lines ++ line.elements bits.now ∷ [])
+            (λ _. HasTaken StandsFrom first self.new (lines ++ line.elements mark bits.now ∷ [])
             (HasGiven old (W.contents writer.new.inner) batch.new))
             (λ fault. ExplainsTaking StandsFrom BeginsFrom RefusesFrom first self.new old
-            (W.contents writer.new.inner) batch.new lines (line.elements bits.now) fault) }
+            (W.contents writer.new.inner) batch.new lines (line.elements mark bits.now) fault) }
         ensures writes { Writes writer.new TakeFault.Write result }
     {
         if !self.has_moment {
             return Err(TakeFault::Refused(LineRefusal::NoMoment));
         }
-        match self.hear_all(bits, writer, batch) {
+        match self.hear_all(Channel::of(mark), bits, writer, batch) {
             Ok(()) => Ok(()),
             Err(fault) => Err(TakeFault::Write(fault.written)),
         }
     }
 
-    /// Ends the file: writes the entry of the copy that its end closes, where that is printed, and
-    /// counts.
+    /// Ends the file: writes, channel by channel, the entry of the copy that its end closes, where
+    /// that is printed, and counts.
     fn close<W: Write>(
         self,
         writer: &mut Counting<W>,
         read: LinesRead,
     ) -> Result<Report, WriteFault>
         requires { writer.old.failures ≡ 0 }
-        ensures closed { (start : Start) (old : Option (List ℕ)) (events : List Event)
-            (given : List ℕ) → HearsLog start self events given
-            → HasWritten old (W.contents writer.old.inner) given read.written → MatchResult result
-            (λ report. HasClosed start old (W.contents writer.new.inner) events report)
-            (λ fault. HasClosedSome start old (W.contents writer.new.inner) events fault.written) }
+        ensures closed { (starts : Starts) (old : Option (List ℕ)) (given : List Given)
+            (bytes : List ℕ) → HearsLog starts self given bytes
+            → HasWritten old (W.contents writer.old.inner) bytes read.written → MatchResult result
+            (λ report. HasClosed starts old (W.contents writer.new.inner) given report)
+            (λ fault. HasClosedSome starts old (W.contents writer.new.inner) given fault.written) }
         ensures lines { IfOk result (λ report. report.lines ≡ read.lines) }
         ensures counts { FailsOnce writer.new result }
     {
         let Listener {
-            receiver,
+            on_0,
+            on_1,
+            on_2,
             has_moment: _,
             elements,
-            mut entries,
+            entries,
         } = self;
-        if let Some(entry) = receiver.close() {
-            entries = entries.saturating_add(1);
-            if let Err(fault) = write_on(writer, read.written, &entry_bytes(&entry)) {
-                return Err(fault);
-            }
-        }
+        let at_end = Ending {
+            written: read.written,
+            entries,
+        };
+        let (end_0, end_1, end_2) = (on_0.close(), on_1.close(), on_2.close());
+        let at_end = at_end.with(&end_0, Channel::Zero, writer)?;
+        let at_end = at_end.with(&end_1, Channel::One, writer)?;
+        let at_end = at_end.with(&end_2, Channel::Two, writer)?;
         Ok(Report {
             lines: read.lines,
             bits: elements,
-            printed: entries,
+            printed: at_end.entries,
+        })
+    }
+}
+
+/// How many bytes of the log are written at the end of a file, and how many entries were given.
+#[derive(Clone, Copy)]
+struct Ending {
+    written: u64,
+    entries: u64,
+}
+
+impl Ending {
+    /// Writes the entry that the end prints on a channel, where it prints one, and counts.
+    fn with<W: Write>(
+        self,
+        entry: &Option<Entry>,
+        channel: Channel,
+        writer: &mut Counting<W>,
+    ) -> Result<Ending, WriteFault>
+        requires none { writer.old.failures ≡ 0 }
+        requires moment { IfSome entry.now (λ entry. entry.moment ≤ last_moment) }
+        ensures bytes { (bytes : List ℕ) × IsLog (map (marked channel) (entry_list entry.now)) bytes
+            × ((old : Option (List ℕ)) (before : List ℕ)
+            → HasWritten old (W.contents writer.old.inner) before self.written
+            → MatchResult result
+            (λ next. HasWritten old (W.contents writer.new.inner) (before ++ bytes) next.written)
+            (λ fault. WroteSome old (W.contents writer.new.inner) (before ++ bytes)
+            fault.written)) }
+        ensures entries { IfOk result (λ next. self.entries ≤ 2 ^ 64 - 1
+            → next.entries ≡ count_of (self.entries + length (entry_list entry.now))) }
+        ensures counts { FailsOnce writer.new result }
+    {
+        let Some(entry) = entry else {
+            return Ok(self);
+        };
+        let written = write_on(writer, self.written, &entry_bytes(entry, channel))?;
+        Ok(Ending {
+            written,
+            entries: self.entries.saturating_add(1),
         })
     }
 }
 
 impl LineTaker for Listener {
-    ghost use Rattle.nx_receiver.specs.private.Listener.{BeginsFrom, RefusesFrom, StandsFrom, start_of};
+    ghost use Rattle.nx_receiver.specs.private.Listener.{BeginsFrom, RefusesFrom, StandsFrom, starts_of};
     ghost use Rattle.nx_receiver.specs.private.ListenerBegins.{begins-listening};
 
     type Refusal = LineRefusal;
@@ -433,17 +610,56 @@ impl LineTaker for Listener {
         };
         match kind {
             LineKind::Moment(moment) => return taking_of(self.take_moment(moment)),
-            LineKind::Elements => return self.take_elements(scanner.elements(), writer, batch),
-            LineKind::RefuseStation(byte) => self.receiver.refuse_station(letter(byte)),
-            LineKind::AcceptStation(byte) => self.receiver.accept_station(letter(byte)),
-            LineKind::RefuseSubject(byte) => return taking_of(self.refuse_subject(byte)),
-            LineKind::AcceptSubject(byte) => self.receiver.accept_subject(letter(byte)),
+            LineKind::Elements(mark) => {
+                return self.take_elements(mark, scanner.elements(), writer, batch);
+            }
+            LineKind::RefuseStation(mark, byte) => self.refuse_station(Channel::of(mark), byte),
+            LineKind::AcceptStation(mark, byte) => self.accept_station(Channel::of(mark), byte),
+            LineKind::RefuseSubject(mark, byte) => {
+                return taking_of(self.refuse_subject(Channel::of(mark), byte));
+            }
+            LineKind::AcceptSubject(mark, byte) => self.accept_subject(Channel::of(mark), byte),
         }
         Ok(())
     }
 
-    ghost whole = { λ first now lines given h.
-        begins-listening (start_of first) now lines given h };
+    ghost whole = { λ first now lines bytes h.
+        begins-listening (starts_of first) now lines bytes h };
+}
+
+/// What is selected on a channel at first, and what is saved of it.
+fn kept_on(saved: &SavedSet, channel: Channel) -> (Selection, &Saved)
+    ensures selected { result.0 ≡ (saved_of saved.now channel).refused }
+    ensures kept { result.1.now ≡ saved_of saved.now channel }
+    ensures sound { AreSavedEntries (saved_of saved.now channel).entries }
+{
+    let Some(kept) = saved.get(channel.number()) else {
+        unreachable!()
+    };
+    (kept.selection(), kept)
+}
+
+/// A receiver that has heard nothing, and starts with this selection and the saved entries, at this
+/// moment.
+fn receiver_from(
+    alloc: Global,
+    selected: Selection,
+    kept: &Saved,
+    moment: u64,
+) -> Result<Receiver<RingRecall>, AllocError>
+    requires newest { newest_moment kept.now.entries ≤ moment }
+    requires range { moment ≤ last_moment }
+    ensures stands { (start : Start) → start.entries ≡ kept.now.entries → start.moment ≡ moment
+        → start.refused ≡ selected → IfOk result (λ r. Stands content start r [] []) }
+    ensures kept { IfOk result (λ r. content r.memory ≡ kept.now.entries) }
+{
+    let mut memory = RingRecall::new(alloc)?;
+    kept.load(&mut memory);
+    match Receiver::starting(alloc, memory, moment, selected) {
+        Ok(receiver) => Ok(receiver),
+        Err(ReceiverFault::Memory(error)) => Err(error),
+        Err(ReceiverFault::MomentRange) => unreachable!(),
+    }
 }
 
 /// What came of taking a line that may be refused.

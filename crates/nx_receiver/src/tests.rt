@@ -3,9 +3,11 @@
 ghost use Rattle.std.specs.Prelude.{◌≤◌};
 ghost use Rattle.nx_memory.specs.Memory.{newest_moment};
 
+mod channels;
 mod emissions;
 mod listening;
 mod receiver;
+mod resuming;
 mod saving;
 
 use super::*;

@@ -6,45 +6,70 @@ ghost use Rattle.arrayvec.specs.ArrayVec.{array_vec_len};
 ghost use Rattle.nx_envelope.specs.Moment.{IsShownAs, last_moment};
 ghost use Rattle.nx_fec.specs.Transfers.{FailsOnce, WroteSome};
 ghost use Rattle.nx_receiver.specs.Log as spec;
-ghost use Rattle.nx_receiver.specs.Log.{IsEntry, how_name, entry_head};
+ghost use Rattle.nx_fec.specs.declared.channel.Channel.TheVariants.{Zero};
+ghost use Rattle.nx_receiver.specs.Log.{IsEntry, channel_mark, entry_head, how_name};
 ghost use Rattle.nx_receiver.specs.FoundCopies.{copy_of};
+ghost use Rattle.nx_receiver.specs.Shares.{marked};
 
 use crate::entry::Entry;
 use arrayvec::ArrayVec;
 use itoa::Buffer;
 use nx_envelope::{CIVIL_LEN, How, MAX_FOUND, NEWLINE, civil};
-use nx_fec::{Counting, WriteFault, write_out};
+use nx_fec::{Channel, Counting, WriteFault, write_out};
 use std::io::Write;
 
-/// The most bytes of the line that heads an entry: a number of at most 5 digits, one of at most 20,
+/// The most bytes of the line that heads an entry: a mark of at most 2 bytes, a number of at most 5
+/// digits, one of at most 20,
 /// and the rest.
-const MAX_HEAD: usize = CIVIL_LEN + 40;
+const MAX_HEAD: usize = CIVIL_LEN + 42;
 
 /// The most bytes of an entry: its head, its text and two newlines.
 pub const MAX_ENTRY: usize = MAX_HEAD + MAX_FOUND + 2;
 
-/// Writes an entry as it stands in the log: its head, its text, and newlines. The moment is at most
-/// the last one, as that of every copy is. Takes no memory.
+/// Writes an entry of channel 0 as it stands in the log: its head, its text, and newlines. The
+/// moment is at most the last one, as that of every copy is. Takes no memory.
 ///
 /// Where a write fails, the first `written` bytes of the entry were written.
 pub fn entry_text<W: Write>(entry: &Entry, writer: &mut Counting<W>) -> Result<(), WriteFault>
     requires unused { writer.old.failures ≡ 0 }
     requires moment { entry.now.moment ≤ last_moment }
-    ensures written { (bytes : List ℕ) × IsEntry (copy_of entry.now) bytes × MatchResult result
+    ensures written { (bytes : List ℕ) × IsEntry (marked Zero (copy_of entry.now)) bytes
+        × MatchResult result
         (λ _. Appends (W.contents writer.old.inner) (W.contents writer.new.inner) bytes)
         (λ fault. WroteSome (W.contents writer.old.inner) (W.contents writer.new.inner) bytes
         fault.written) }
     ensures counts { FailsOnce writer.new result }
 {
-    write_out(writer, &entry_bytes(entry))
+    entry_text_on(entry, Channel::Zero, writer)
+}
+
+/// Writes an entry as `entry_text` does, with the mark of its channel directly behind the identity:
+/// `/1` or `/2`, and none for channel 0.
+///
+/// Where a write fails, the first `written` bytes of the entry were written.
+pub fn entry_text_on<W: Write>(
+    entry: &Entry,
+    channel: Channel,
+    writer: &mut Counting<W>,
+) -> Result<(), WriteFault>
+    requires unused { writer.old.failures ≡ 0 }
+    requires moment { entry.now.moment ≤ last_moment }
+    ensures written { (bytes : List ℕ) × IsEntry (marked channel (copy_of entry.now)) bytes
+        × MatchResult result
+        (λ _. Appends (W.contents writer.old.inner) (W.contents writer.new.inner) bytes)
+        (λ fault. WroteSome (W.contents writer.old.inner) (W.contents writer.new.inner) bytes
+        fault.written) }
+    ensures counts { FailsOnce writer.new result }
+{
+    write_out(writer, &entry_bytes(entry, channel))
 }
 
 /// The bytes of an entry as it stands in the log. The moment is at most the last one.
-pub(crate) fn entry_bytes(entry: &Entry) -> ArrayVec<u8, MAX_ENTRY>
+pub(crate) fn entry_bytes(entry: &Entry, channel: Channel) -> ArrayVec<u8, MAX_ENTRY>
     requires { entry.now.moment ≤ last_moment }
-    ensures { IsEntry (copy_of entry.now) result.items }
+    ensures { IsEntry (marked channel (copy_of entry.now)) result.items }
 {
-    let mut bytes = head_of(entry);
+    let mut bytes = head_of(entry, channel);
     append(&mut bytes, &entry.text);
     if !is_of_lines(&entry.text) {
         bytes.push(NEWLINE);
@@ -54,10 +79,10 @@ pub(crate) fn entry_bytes(entry: &Entry) -> ArrayVec<u8, MAX_ENTRY>
 }
 
 /// The line that heads an entry.
-fn head_of(entry: &Entry) -> ArrayVec<u8, MAX_ENTRY>
+fn head_of(entry: &Entry, channel: Channel) -> ArrayVec<u8, MAX_ENTRY>
     requires { entry.now.moment ≤ last_moment }
     ensures head { (civil : List ℕ) × IsShownAs entry.now.moment civil
-        × (result.items ≡ entry_head (copy_of entry.now) civil) }
+        × (result.items ≡ entry_head channel (copy_of entry.now) civil) }
     ensures short { array_vec_len result ≤ MAX_HEAD }
 {
     let Some(time) = civil(entry.moment) else {
@@ -67,6 +92,7 @@ fn head_of(entry: &Entry) -> ArrayVec<u8, MAX_ENTRY>
     let mut bytes = ArrayVec::new();
     bytes.push(b'[');
     append(&mut bytes, &name);
+    append(&mut bytes, mark_of(channel).as_bytes());
     bytes.push(b' ');
     append(&mut bytes, &time);
     bytes.push(b' ');
@@ -80,6 +106,18 @@ fn head_of(entry: &Entry) -> ArrayVec<u8, MAX_ENTRY>
     );
     append(&mut bytes, b"]\n");
     bytes
+}
+
+/// The mark of a channel behind an identity, which channel 0 doesn't have.
+fn mark_of(channel: Channel) -> &'static str
+    ensures mark { result.now ≡ channel_mark channel }
+    ensures short { length result.now ≤ 2 }
+{
+    match channel {
+        Channel::Zero => "",
+        Channel::One => "/1",
+        Channel::Two => "/2",
+    }
 }
 
 /// How a copy ended, as it is printed.

@@ -1,13 +1,15 @@
 -- What checking answers follows from what its steps said; and it gives back what was sent.
 use Rattle.std.proofs.Common.{◌≡◌, ℕ, ◌<◌, ◌≤◌, ◌^◌, Bool, List, [], ◌∷◌, ◌++◌, length, get_or, Result, Ok, Err, refl, sym, ap, ◌∙◌, subst, arith, length-append}
 use Rattle.nx_envelope.specs.Message.{MessageView}
-use Rattle.nx_fec.specs.AirFile.{moment}
+use Rattle.std.specs.List.{flat_map}
+use Rattle.nx_fec.specs.AirFile.{Line, moment}
 use Rattle.nx_fec.specs.BitLines.{bit_lines}
 use Rattle.nx_fec.specs.Transfers.{WroteSome, Devices, IsReadOut, Reads}
 use Rattle.nx_fec.specs.Emission.{bits_of, emission}
-use Rattle.nx_fec.specs.Lines.{IsBitFile, IsFaultless, line_bytes}
+use Rattle.nx_fec.specs.Lines.{IsAirFile, IsBitFile, IsFaultless, elements_on, line_bytes}
 use Rattle.nx_fec.specs.Lines.{file_of as air_file_of}
 use Rattle.nx_fec.specs.Runs.{IsOutside, file_limit}
+use Rattle.nx_fec.specs.declared.channel.Channel.TheVariants.{Zero}
 use Rattle.nx_fec.specs.declared.fault.RunFault.{RunFault}
 use Rattle.nx_fec.specs.declared.fault.RunFault.TheVariants as run
 use Rattle.nx_fec.proofs.EncodingLaws.{bit_lines-IsBitFile}
@@ -176,3 +178,36 @@ checked-one limit air one other m n h k =
           ∙ sym k.whole,
       h.counted ∙ ap length messages ∙ sym k.counted,
     )
+
+-- ---- channel 0 alone
+
+-- it has the report of any other air file with the same elements on channel 0
+pub checked-alone : (limit most : ℕ) (one other text : List ℕ) (lines more : List Line) (count : ℕ)
+    → IsAirFile limit one lines → IsAirFile most other more
+    → flat_map (elements_on Zero) lines ≡ flat_map (elements_on Zero) more
+    → IsChecked limit one text count → IsChecked most other text count
+checked-alone limit most one other text lines more count file that same h = record {
+  bits = h.bits;
+  file = record {
+    lines = more;
+    file = that;
+    joined = IsBitFile-unique limit one h.bits (flat_map (elements_on Zero) lines) h.file
+        record { lines = lines; file = file; joined = refl } ∙ same;
+  };
+  messages = h.messages;
+  emission = h.emission;
+  station = h.station;
+  of_station = h.of_station;
+  whole = h.whole;
+  counted = h.counted;
+}
+
+-- so one with the elements of an air file that was sent is checked as that is
+pub sent-alone : (limit most station from : ℕ) (file air other : List ℕ) (sent : Sent)
+    (lines more : List Line) → IsTransmission station from file air sent
+    → IsAirFile limit air lines → IsAirFile most other more
+    → flat_map (elements_on Zero) lines ≡ flat_map (elements_on Zero) more
+    → IsChecked most other (station_line station ++ file) sent.messages
+sent-alone limit most station from file air other sent lines more h is that same =
+    checked-alone limit most air other (station_line station ++ file) lines more sent.messages is
+    that same (sent-checked limit station from file air sent h is.within)

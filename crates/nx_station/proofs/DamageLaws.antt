@@ -1,17 +1,20 @@
 -- What damaging answers follows from what its run over the lines said.
-use Rattle.std.proofs.Common.{Bool, drop, map, take, ◌≡◌, ℕ, ◌+◌, ◌-◌, ◌*◌, ◌/◌, ◌^◌, ◌≤◌, List, [], ◌∷◌, ◌++◌, length, min, Option, Some, None, Result, Ok, Err, refl, sym, ap, ◌∙◌, subst, arith, append-nil, length-append}
+use Rattle.std.proofs.Common.{Bool, drop, map, take, ◌≡◌, ℕ, ◌+◌, ◌-◌, ◌*◌, ◌/◌, ◌^◌, ◌≤◌, List, [], ◌∷◌, ◌++◌, length, min, Option, Some, None, Result, Ok, Err, if◌then◌else◌, refl, sym, ap, ◌∙◌, subst, arith, append-nil, length-append}
 use Rattle.std.specs.List.{flat_map, refill, AllByRecursion}
 use Rattle.std.proofs.Math.Seq.{drop-append_seam, take-append_seam}
 use Rattle.std.specs.Option.{option_map, IsSomeAnd}
 use Rattle.std.specs.Io.KnownBytes.{Appends}
 use Rattle.std.proofs.lemmas.List.{length-map}
 use Rattle.std.proofs.lemmas.List.Concat.{flat_map-append}
-use Rattle.nx_fec.specs.AirFile.{Line, IsLine, element_digit, moment, elements, refuse_station, accept_station, refuse_subject, accept_subject, spelling}
+use Rattle.nx_fec.specs.AirFile.{Line, IsLine, element_digit, mark_bytes, moment, elements, refuse_station, accept_station, refuse_subject, accept_subject, spelling}
+use Rattle.nx_fec.specs.Channels.{channel_of, same_channel}
 use Rattle.nx_fec.specs.Transfers.{WroteSome, Devices}
 use Rattle.nx_fec.specs.LineRuns.{Beginning, HasTaken, HasTakenAll, HasTakenSome, IsPlaced, Refusing, RunsLines, Standing}
-use Rattle.nx_fec.specs.Lines.{StopsAt, IsCause, elements_of, file_of, line_bytes}
-use Rattle.nx_fec.specs.Scanner.{kind_of}
+use Rattle.nx_fec.specs.Lines.{StopsAt, IsCause, elements_on, file_of, line_bytes}
+use Rattle.nx_fec.specs.Scanner.{kind_kept, kind_of}
 use Rattle.nx_fec.specs.declared.air_file.LineKind.TheVariants.{Elements}
+use Rattle.nx_fec.specs.declared.channel.Channel.{Channel}
+use Rattle.nx_fec.specs.declared.channel.Channel.TheVariants.{Zero, One, Two}
 use Rattle.nx_fec.specs.declared.fault.LineFault.{LineFault}
 use Rattle.nx_fec.specs.declared.fault.LineFault.TheVariants as file
 use Rattle.nx_fec.specs.declared.line_run.LinesFault.{LinesFault}
@@ -19,11 +22,11 @@ use Rattle.nx_fec.specs.declared.line_run.LinesFault.TheVariants as run
 use Rattle.nx_fec.specs.declared.line_run.LinesRead.{LinesRead}
 use Rattle.nx_fec.proofs.LineLaws.{IsAirFile-unique, spelling-IsBeginning}
 use Rattle.nx_fec.proofs.TransferLaws.{Reads-on}
-use Rattle.nx_station.specs.Damage.{Damage, Damages, ExplainsDamaging, IsDamaged, damaged_file, damaged_line, damaged_lines, inverted_count}
-use Rattle.nx_station.specs.private.DamageTaker.{Damager, HasDamaged, IsAt, damage_of, line_fault}
+use Rattle.nx_station.specs.Damage.{Damage, Damages, ExplainsDamaging, IsDamaged, damaged_elements, damaged_file, damaged_line, damaged_lines, damaged_on, inverted_count}
+use Rattle.nx_station.specs.private.DamageTaker.{Damager, HasDamaged, HasDigitsFrom, IsAt, damage_of, line_fault}
 use Rattle.nx_station.specs.declared.fault.DamageFault.{DamageFault}
 use Rattle.nx_station.specs.declared.fault.DamageFault.TheVariants.{Read, Write}
-use Rattle.nx_station.proofs.DamageLemmas.{inverted-append, inverted-le, length-damaged, lines-append, lines-twice}
+use Rattle.nx_station.proofs.DamageLemmas.{inverted-append, inverted-le, length-damaged, length-on, lines-append, lines-twice}
 
 abbrev pub stands : Standing Damager
 stands first now lines given = HasDamaged (damage_of first) now lines given
@@ -61,28 +64,31 @@ starts damage = record {
 }
 
 elements-more : (lines : List Line) (line : Line)
-    → flat_map elements_of (lines ++ (line ∷ [])) ≡ flat_map elements_of lines ++ elements_of line
+    → flat_map (elements_on Zero) (lines ++ (line ∷ []))
+    ≡ flat_map (elements_on Zero) lines ++ elements_on Zero line
 elements-more lines line =
-    flat_map-append elements_of lines (line ∷ [])
-    ∙ ap (λ l. flat_map elements_of lines ++ l) (append-nil (elements_of line))
+    flat_map-append (elements_on Zero) lines (line ∷ [])
+    ∙ ap (λ l. flat_map (elements_on Zero) lines ++ l) (append-nil (elements_on Zero line))
 
 pub taken-more : (damage : Damage) (old new : Damager) (lines : List Line) (line : Line)
     (given bytes : List ℕ) → HasDamaged damage old lines given
     → ((place : ℕ) → IsAt damage old place → bytes ≡ line_bytes (damaged_line damage place line))
-    → ((place : ℕ) → IsAt damage old place → IsAt damage new (place + length (elements_of line)))
+    → ((place : ℕ) → IsAt damage old place
+    → IsAt damage new (place + length (elements_on Zero line)))
     → ((place total : ℕ) → IsAt damage old place → old.inverted ≡ min total (2 ^ 64 - 1)
-    → new.inverted ≡ min (total + inverted_count damage place (elements_of line)) (2 ^ 64 - 1))
+    → new.inverted ≡ min (total + inverted_count damage place (elements_on Zero line)) (2 ^ 64 - 1))
     → HasDamaged damage new (lines ++ (line ∷ [])) (given ++ bytes)
 taken-more damage old new lines line given bytes h written moved counted =
-    let bits = flat_map elements_of lines in
+    let bits = flat_map (elements_on Zero) lines in
     let more = elements-more lines line in
-    let long : length bits + length (elements_of line)
-    ≡ length (flat_map elements_of (lines ++ (line ∷ []))) =
-    sym (ap length more ∙ length-append bits (elements_of line)) in
+    let long : length bits + length (elements_on Zero line)
+    ≡ length (flat_map (elements_on Zero) (lines ++ (line ∷ []))) =
+    sym (ap length more ∙ length-append bits (elements_on Zero line)) in
     let total : inverted_count damage 0 bits + inverted_count damage (length bits)
-    (elements_of line) ≡ inverted_count damage 0 (flat_map elements_of (lines ++ (line ∷ []))) =
-    sym (ap (inverted_count damage 0) more ∙ inverted-append damage 0 bits (elements_of line)
-    ∙ ap (λ p. inverted_count damage 0 bits + inverted_count damage p (elements_of line))
+    (elements_on Zero line)
+    ≡ inverted_count damage 0 (flat_map (elements_on Zero) (lines ++ (line ∷ []))) =
+    sym (ap (inverted_count damage 0) more ∙ inverted-append damage 0 bits (elements_on Zero line)
+    ∙ ap (λ p. inverted_count damage 0 bits + inverted_count damage p (elements_on Zero line))
     (let e : 0 + length bits ≡ length bits = omega arith in e)) in
     let place : 0 + length bits ≡ length bits = omega arith in
     let file : damaged_file damage (lines ++ (line ∷ []))
@@ -110,14 +116,27 @@ text-short (Some line) text bytes h e is =
     let same : spelling line ≡ bytes = cc in
     subst (λ l. length l ≤ 514) same (spelling-IsBeginning line h).short
 
--- the line whose kind is that of elements
-pub line-of-elements : (line : Line) → kind_of line ≡ Elements → line ≡ elements (elements_of line)
-line-of-elements (moment n) h = cc
-line-of-elements (elements bits) h = refl
-line-of-elements (refuse_station letter) h = cc
-line-of-elements (accept_station letter) h = cc
-line-of-elements (refuse_subject letter) h = cc
-line-of-elements (accept_subject letter) h = cc
+-- a line of elements on channel 0, by its kind
+pub line-of-elements : (line : Line) (mark : Option Channel) → kind_of line ≡ Elements mark
+    → channel_of mark ≡ Zero → line ≡ elements mark (elements_on Zero line)
+line-of-elements (moment n) mark h zero = cc
+line-of-elements (elements other bits) mark h zero =
+    let same : other ≡ mark = cc in
+    let here : channel_of other ≡ Zero = ap channel_of same ∙ zero in
+    ap (λ m. elements m bits) same
+    ∙ ap (λ c. elements mark (if same_channel c Zero then bits else [])) (sym here)
+line-of-elements (refuse_station other letter) mark h zero = cc
+line-of-elements (accept_station other letter) mark h zero = cc
+line-of-elements (refuse_subject other letter) mark h zero = cc
+line-of-elements (accept_subject other letter) mark h zero = cc
+
+-- what such a line is after the damage
+pub damaged-here : (damage : Damage) (place : ℕ) (mark : Option Channel) (bits : List Bool)
+    → channel_of mark ≡ Zero
+    → damaged_line damage place (elements mark bits)
+    ≡ elements mark (damaged_elements damage place bits)
+damaged-here damage place mark bits zero =
+    ap (λ c. elements mark (damaged_on c damage place bits)) zero
 
 -- the text that is kept is that of the line
 pub text-of : (latest : Option Line) (text : Option (List ℕ)) (bytes : List ℕ) (line : Line)
@@ -127,91 +146,157 @@ text-of latest text bytes line e is here =
     let clash : Some bytes ≡ Some (spelling line) = sym is ∙ e ∙ ap (option_map spelling) here in
     cc
 
--- its bytes, with its end, are those of a line of elements
-pub bytes-of-elements : (latest : Option Line) (text : Option (List ℕ)) (kept bytes : List ℕ)
-    (line : Line) → text ≡ option_map spelling latest → text ≡ Some kept → latest ≡ Some line
-    → kind_of line ≡ Elements → bytes ≡ kept ++ 10 ∷ []
-    → bytes ≡ line_bytes (elements (elements_of line))
-bytes-of-elements latest text kept bytes line e is here kind b =
-    b ∙ ap (λ l. l ++ 10 ∷ []) (text-of latest text kept line e is here)
-    ∙ ap line_bytes (line-of-elements line kind)
+-- what stands before the digits of a line of elements
+abbrev pub opening : Option Channel → List ℕ
+opening mark = 66 ∷ (mark_bytes mark ++ 32 ∷ [])
 
--- its digits stand behind two bytes, before its end
-pub line-long : (bits : List Bool) (bytes : List ℕ) (n : ℕ) → bytes ≡ line_bytes (elements bits)
-    → n ≡ length bytes → (n - 1) - 2 ≡ length bits
-line-long bits bytes n is e =
-    omega (
-      arith,
-      e,
-      ap length is,
-      length-map bits element_digit,
-      length-append
-          (map element_digit bits) (10 ∷ []),
-    )
+opening-long : (mark : Option Channel) → length (opening mark) ≡ 2 + length (mark_bytes mark)
+opening-long None = refl
+opening-long (Some channel) = refl
 
-pub line-digits : (bits : List Bool) (bytes : List ℕ) (n : ℕ) → bytes ≡ line_bytes (elements bits)
-    → n ≡ length bits → take n (drop 2 bytes) ≡ map element_digit bits
-line-digits bits bytes n is long =
-    let digits = map element_digit bits in
-    ap (λ l. take n (drop 2 l)) is
-    ∙ ap (λ k. take k (digits ++ 10 ∷ [])) (long ∙ sym (length-map bits element_digit))
+elements-bytes : (mark : Option Channel) (bits : List Bool)
+    → line_bytes (elements mark bits) ≡ opening mark ++ (map element_digit bits ++ 10 ∷ [])
+elements-bytes None bits = refl
+elements-bytes (Some channel) bits = refl
+
+-- A line of elements on channel 0 with its end: what it names, its elements, and where its digits
+-- stand among its bytes.
+pub record HasDigits (line : Line) (bytes : List ℕ) (start n : ℕ) : Type 0 where
+  pub mark : Option Channel
+  pub is : line ≡ elements mark (elements_on Zero line)
+  pub belongs : channel_of mark ≡ Zero
+  pub begins : start ≡ length (opening mark)
+  pub whole : bytes ≡ opening mark ++ (map element_digit (elements_on Zero line) ++ 10 ∷ [])
+  pub long : n ≡ length (elements_on Zero line)
+
+pub has-digits : (latest : Option Line) (text : Option (List ℕ)) (kept bytes : List ℕ)
+    (line : Line) (start n : ℕ) → text ≡ option_map spelling latest → text ≡ Some kept
+    → latest ≡ Some line → HasDigitsFrom (kind_kept latest) start → bytes ≡ kept ++ 10 ∷ []
+    → n ≡ length bytes → HasDigits line bytes start ((n - 1) - start)
+has-digits latest text kept bytes line start n e is here from b count =
+    let mark = from.mark in
+    let kind : kind_of line ≡ Elements mark =
+    (let some : Some (kind_of line) ≡ Some (Elements mark) =
+    sym (ap kind_kept here) ∙ from.elements in cc) in
+    let same = line-of-elements line mark kind from.belongs in
+    let bits = elements_on Zero line in
+    let whole = b ∙ ap (λ l. l ++ 10 ∷ []) (text-of latest text kept line e is here)
+    ∙ ap line_bytes same ∙ elements-bytes mark bits in
+    let begins : start ≡ length (opening mark) = from.front ∙ sym (opening-long mark) in
+    record {
+      mark = mark;
+      is = same;
+      belongs = from.belongs;
+      begins = begins;
+      whole = whole;
+      long = omega (
+        arith,
+        count,
+        begins,
+        ap length whole,
+        length-append (opening mark) (map element_digit bits ++ 10 ∷ []),
+        length-append (map element_digit bits) (10 ∷ []),
+        length-map bits element_digit,
+      );
+    }
+
+-- its digits
+pub line-digits : (line : Line) (bytes : List ℕ) (start n : ℕ) → HasDigits line bytes start n
+    → take n (drop start bytes) ≡ map element_digit (elements_on Zero line)
+line-digits line bytes start n h =
+    let digits = map element_digit (elements_on Zero line) in
+    ap (λ l. take n (drop start l)) h.whole
+    ∙ ap (λ k. take n (drop k (opening h.mark ++ (digits ++ 10 ∷ [])))) h.begins
+    ∙ ap (take n) (drop-append_seam (opening h.mark) (digits ++ 10 ∷ []))
+    ∙ ap (λ k. take k (digits ++ 10 ∷ []))
+    (h.long ∙ sym (length-map (elements_on Zero line) element_digit))
     ∙ take-append_seam digits (10 ∷ [])
 
 -- its bytes, where others are written over its digits
-pub line-refilled : (bits : List Bool) (bytes now new : List ℕ) (n : ℕ)
-    → bytes ≡ line_bytes (elements bits) → now ≡ bytes → n ≡ length bits → length new ≡ length bits
-    → refill (length bytes) bytes (take 2 now ++ (new ++ drop n (drop 2 now)))
-    ≡ 66 ∷ 32 ∷ (new ++ 10 ∷ [])
-line-refilled bits bytes now new n is same long fits =
-    let e : now ≡ line_bytes (elements bits) = same ∙ is in
+pub line-refilled : (line : Line) (bytes now new : List ℕ) (start n : ℕ)
+    → HasDigits line bytes start n → now ≡ bytes
+    → (damage : Damage) (place : ℕ)
+    → new ≡ map element_digit (damaged_elements damage place (elements_on Zero line))
+    → refill (length bytes) bytes (take start now ++ (new ++ drop n (drop start now)))
+    ≡ line_bytes (damaged_line damage place line)
+line-refilled line bytes now new start n h same damage place fits =
+    let bits = elements_on Zero line in
     let digits = map element_digit bits in
-    let rest : drop n (digits ++ 10 ∷ []) ≡ 10 ∷ [] =
-    ap (λ k. drop k (digits ++ 10 ∷ [])) (long ∙ sym (length-map bits element_digit))
+    let after = damaged_elements damage place bits in
+    let opened = opening h.mark in
+    let e = same ∙ h.whole in
+    let behind : drop start now ≡ digits ++ 10 ∷ [] =
+    ap (λ l. drop start l) e ∙ ap (λ k. drop k (opened ++ (digits ++ 10 ∷ []))) h.begins
+    ∙ drop-append_seam opened (digits ++ 10 ∷ []) in
+    let before : take start now ≡ opened =
+    ap (λ l. take start l) e ∙ ap (λ k. take k (opened ++ (digits ++ 10 ∷ []))) h.begins
+    ∙ take-append_seam opened (digits ++ 10 ∷ []) in
+    let rest : drop n (drop start now) ≡ 10 ∷ [] =
+    ap (drop n) behind
+    ∙ ap (λ k. drop k (digits ++ 10 ∷ [])) (h.long ∙ sym (length-map bits element_digit))
     ∙ drop-append_seam digits (10 ∷ []) in
-    let whole : take 2 now ++ (new ++ drop n (drop 2 now)) ≡ 66 ∷ 32 ∷ (new ++ 10 ∷ []) =
-    ap (λ l. take 2 l ++ (new ++ drop n (drop 2 l))) e ∙ ap (λ l. 66 ∷ 32 ∷ (new ++ l)) rest in
-    let size : length bytes ≡ length (66 ∷ 32 ∷ (new ++ 10 ∷ [])) =
+    let whole : take start now ++ (new ++ drop n (drop start now))
+    ≡ opened ++ (new ++ 10 ∷ []) =
+    ap (λ l. l ++ (new ++ drop n (drop start now))) before
+    ∙ ap (λ l. opened ++ (new ++ l)) rest in
+    let size : length bytes ≡ length (opened ++ (new ++ 10 ∷ [])) =
     omega (
       arith,
-      ap length is,
-      fits,
+      ap length h.whole,
+      ap length fits,
+      length-map after element_digit,
+      length-damaged damage place bits,
       length-map bits element_digit,
-      length-append digits
-          (10 ∷ []),
+      length-append digits (10 ∷ []),
       length-append new (10 ∷ []),
+      length-append opened (digits ++ 10 ∷ []),
+      length-append opened (new ++ 10 ∷ []),
     ) in
     ap (refill (length bytes) bytes) whole
-    ∙ ap (λ k. take k ((66 ∷ 32 ∷ (new ++ 10 ∷ []))
-    ++ drop (length (66 ∷ 32 ∷ (new ++ 10 ∷ []))) bytes)) size
-    ∙ take-append_seam (66 ∷ 32 ∷ (new ++ 10 ∷ [])) _
+    ∙ ap (λ k. take k ((opened ++ (new ++ 10 ∷ []))
+    ++ drop (length (opened ++ (new ++ 10 ∷ []))) bytes)) size
+    ∙ take-append_seam (opened ++ (new ++ 10 ∷ [])) _
+    ∙ ap (λ l. opened ++ (l ++ 10 ∷ [])) fits
+    ∙ sym (elements-bytes h.mark after)
+    ∙ ap line_bytes (sym (damaged-here damage place h.mark bits h.belongs))
+    ∙ ap (λ l. line_bytes (damaged_line damage place l)) (sym h.is)
 
 -- ---- what was taken is what is damaged
 
-elements-few : (lines : List Line) → length (flat_map elements_of lines) ≤ length (file_of lines)
+on-few : (channel : Channel) (bits : List Bool)
+    → length (if same_channel channel Zero then bits else []) ≤ length bits
+on-few Zero bits = omega arith
+on-few One bits = omega arith
+on-few Two bits = omega arith
+
+elements-few : (lines : List Line)
+    → length (flat_map (elements_on Zero) lines) ≤ length (file_of lines)
 elements-few [] = omega arith
 elements-few (line ∷ lines) =
     omega (
       arith,
       elements-few lines,
       line-few line,
-      length-append (elements_of line)
-          (flat_map elements_of lines),
+      length-append (elements_on Zero line)
+          (flat_map (elements_on Zero) lines),
       length-append (line_bytes line) (file_of lines),
     )
   where
-    line-few : (line : Line) → length (elements_of line) ≤ length (line_bytes line)
+    line-few : (line : Line) → length (elements_on Zero line) ≤ length (line_bytes line)
     line-few (moment n) = omega arith
-    line-few (elements bits) =
+    line-few (elements mark bits) =
         omega (
           arith,
-          length-append (spelling (elements bits)) (10 ∷ []),
-          length-map bits
-              element_digit,
+          ap length (elements-bytes mark bits),
+          length-append (opening mark) (map element_digit bits ++ 10 ∷ []),
+          length-append (map element_digit bits) (10 ∷ []),
+          length-map bits element_digit,
+          on-few (channel_of mark) bits,
         )
-    line-few (refuse_station letter) = omega arith
-    line-few (accept_station letter) = omega arith
-    line-few (refuse_subject letter) = omega arith
-    line-few (accept_subject letter) = omega arith
+    line-few (refuse_station mark letter) = omega arith
+    line-few (accept_station mark letter) = omega arith
+    line-few (refuse_subject mark letter) = omega arith
+    line-few (accept_subject mark letter) = omega arith
 
 taken-appends : (first now : Damager) (lines : List Line) (old new : Option (List ℕ))
     → HasTaken stands first now lines (Appends old new)
@@ -297,7 +382,7 @@ whole-damaged : (first now : Damager) (old new : Option (List ℕ)) (bytes : Lis
     × Appends old new text
 whole-damaged first now old new bytes read h =
     let few = elements-few h.lines in
-    let bound = inverted-le (damage_of first) 0 (flat_map elements_of h.lines) in (
+    let bound = inverted-le (damage_of first) 0 (flat_map (elements_on Zero) h.lines) in (
       damaged_file (damage_of first) h.lines,
       record {
         lines = h.lines;
@@ -454,18 +539,21 @@ line-of damage d now fault why made is e h =
 line-is : (damage : Damage) (place : ℕ) (line : Line) → IsLine line
     → IsLine (damaged_line damage place line)
 line-is damage place (moment n) h = h
-line-is damage place (elements bits) h = let long = length-damaged damage place bits in
+line-is damage place (elements mark bits) h =
+    let long = length-on (channel_of mark) damage place bits in
     (omega (arith, h.0, long), omega (arith, h.1, long))
-line-is damage place (refuse_station letter) h = h
-line-is damage place (accept_station letter) h = h
-line-is damage place (refuse_subject letter) h = h
-line-is damage place (accept_subject letter) h = h
+line-is damage place (refuse_station mark letter) h = h
+line-is damage place (accept_station mark letter) h = h
+line-is damage place (refuse_subject mark letter) h = h
+line-is damage place (accept_subject mark letter) h = h
 
 lines-are : (damage : Damage) (place : ℕ) (lines : List Line) → AllByRecursion IsLine lines
     → AllByRecursion IsLine (damaged_lines damage place lines)
 lines-are damage place [] h = tt
-lines-are damage place (line ∷ lines) h =
-    (line-is damage place line h.0, lines-are damage (place + length (elements_of line)) lines h.1)
+lines-are damage place (line ∷ lines) h = (
+  line-is damage place line h.0,
+  lines-are damage (place + length (elements_on Zero line)) lines h.1,
+)
 
 pub files-twice : (damage : Damage) (limit : ℕ) (air once twice : List ℕ) (m n : ℕ)
     → IsDamaged damage limit air once m → IsDamaged damage limit once twice n → twice ≡ air

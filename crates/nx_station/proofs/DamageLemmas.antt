@@ -1,11 +1,15 @@
 -- Damage of elements and of lines, one more after the others; and twice.
-use Rattle.std.proofs.Common.{◌≡◌, ℕ, zero, suc, ◌+◌, ◌<◌, ◌≤◌, Bool, true, false, cond, not, List, [], ◌∷◌, ◌++◌, length, get_or, set, refl, sym, ap, ◌∙◌, arith, length-append}
+use Rattle.std.proofs.Common.{◌≡◌, ◌≢◌, ℕ, zero, suc, ◌+◌, ◌<◌, ◌≤◌, Bool, true, false, cond, not, List, [], ◌∷◌, ◌++◌, length, get_or, set, map, Some, None, refl, sym, ap, ◌∙◌, arith, length-append}
 use Rattle.std.specs.List.{flat_map}
 use Rattle.nx_code.specs.Word.{value_of}
 use Rattle.nx_code.proofs.WordLemmas.{value_of-le}
 use Rattle.nx_fec.specs.AirFile.{Line, moment, elements, refuse_station, accept_station, refuse_subject, accept_subject}
-use Rattle.nx_fec.specs.Lines.{elements_of}
-use Rattle.nx_station.specs.Damage.{Damage, damaged_elements, damaged_element, damaged_line, damaged_lines, inverted_count, inverts}
+use Rattle.nx_fec.specs.Channels.{channel_of}
+use Rattle.nx_fec.specs.Lines.{elements_on}
+use Rattle.nx_fec.specs.Scanner.{kind_of}
+use Rattle.nx_fec.specs.declared.channel.Channel.{Channel}
+use Rattle.nx_fec.specs.declared.channel.Channel.TheVariants.{Zero, One, Two}
+use Rattle.nx_station.specs.Damage.{Damage, damaged_elements, damaged_element, damaged_line, damaged_lines, damaged_on, inverted_count, inverts}
 
 -- ---- elements
 
@@ -63,62 +67,126 @@ damaged-twice damage place (x ∷ xs) =
 pub lines-append : (damage : Damage) (place : ℕ) (ls : List Line) (line : Line)
     → damaged_lines damage place (ls ++ (line ∷ []))
     ≡ damaged_lines damage place ls
-    ++ (damaged_line damage (place + length (flat_map elements_of ls)) line ∷ [])
+    ++ (damaged_line damage (place + length (flat_map (elements_on Zero) ls)) line ∷ [])
 lines-append damage place [] line =
     ap (λ p. damaged_line damage p line ∷ []) (let e : place ≡ place + 0 = omega arith in e)
 lines-append damage place (l ∷ ls) line =
-    let long = length-append (elements_of l) (flat_map elements_of ls) in
-    let e : (place + length (elements_of l)) + length (flat_map elements_of ls)
-    ≡ place + length (flat_map elements_of (l ∷ ls)) = omega (arith, long) in
+    let long = length-append (elements_on Zero l) (flat_map (elements_on Zero) ls) in
+    let e : (place + length (elements_on Zero l)) + length (flat_map (elements_on Zero) ls)
+    ≡ place + length (flat_map (elements_on Zero) (l ∷ ls)) = omega (arith, long) in
     ap (λ m. damaged_line damage place l ∷ m)
-    (lines-append damage (place + length (elements_of l)) ls line
-    ∙ ap (λ p. damaged_lines damage (place + length (elements_of l)) ls
+    (lines-append damage (place + length (elements_on Zero l)) ls line
+    ∙ ap (λ p. damaged_lines damage (place + length (elements_on Zero l)) ls
     ++ (damaged_line damage p line ∷ [])) e)
 
+-- on channel 0 the elements of a damaged line are the damaged elements
 pub line-elements : (damage : Damage) (place : ℕ) (line : Line)
-    → elements_of (damaged_line damage place line)
-    ≡ damaged_elements damage place (elements_of line)
+    → elements_on Zero (damaged_line damage place line)
+    ≡ damaged_elements damage place (elements_on Zero line)
 line-elements damage place (moment n) = refl
-line-elements damage place (elements bits) = refl
-line-elements damage place (refuse_station letter) = refl
-line-elements damage place (accept_station letter) = refl
-line-elements damage place (refuse_subject letter) = refl
-line-elements damage place (accept_subject letter) = refl
+line-elements damage place (elements None bits) = refl
+line-elements damage place (elements (Some Zero) bits) = refl
+line-elements damage place (elements (Some One) bits) = refl
+line-elements damage place (elements (Some Two) bits) = refl
+line-elements damage place (refuse_station mark letter) = refl
+line-elements damage place (accept_station mark letter) = refl
+line-elements damage place (refuse_subject mark letter) = refl
+line-elements damage place (accept_subject mark letter) = refl
+
+-- on another channel they are as they were
+line-others : (damage : Damage) (place : ℕ) (line : Line) (channel : Channel) → channel ≢ Zero
+    → elements_on channel (damaged_line damage place line) ≡ elements_on channel line
+line-others damage place (moment n) channel other = refl
+line-others damage place (elements None bits) Zero other = absurd (other refl)
+line-others damage place (elements None bits) One other = refl
+line-others damage place (elements None bits) Two other = refl
+line-others damage place (elements (Some Zero) bits) Zero other = absurd (other refl)
+line-others damage place (elements (Some Zero) bits) One other = refl
+line-others damage place (elements (Some Zero) bits) Two other = refl
+line-others damage place (elements (Some One) bits) channel other = refl
+line-others damage place (elements (Some Two) bits) channel other = refl
+line-others damage place (refuse_station mark letter) channel other = refl
+line-others damage place (accept_station mark letter) channel other = refl
+line-others damage place (refuse_subject mark letter) channel other = refl
+line-others damage place (accept_subject mark letter) channel other = refl
+
+-- a damaged line says what it said, but for its elements
+line-kind : (damage : Damage) (place : ℕ) (line : Line)
+    → kind_of (damaged_line damage place line) ≡ kind_of line
+line-kind damage place (moment n) = refl
+line-kind damage place (elements mark bits) = refl
+line-kind damage place (refuse_station mark letter) = refl
+line-kind damage place (accept_station mark letter) = refl
+line-kind damage place (refuse_subject mark letter) = refl
+line-kind damage place (accept_subject mark letter) = refl
+
+on-twice : (channel : Channel) (damage : Damage) (place : ℕ) (bits : List Bool)
+    → damaged_on channel damage place (damaged_on channel damage place bits) ≡ bits
+on-twice Zero damage place bits = damaged-twice damage place bits
+on-twice One damage place bits = refl
+on-twice Two damage place bits = refl
+
+pub length-on : (channel : Channel) (damage : Damage) (place : ℕ) (bits : List Bool)
+    → length (damaged_on channel damage place bits) ≡ length bits
+length-on Zero damage place bits = length-damaged damage place bits
+length-on One damage place bits = refl
+length-on Two damage place bits = refl
 
 line-twice : (damage : Damage) (place : ℕ) (line : Line)
     → damaged_line damage place (damaged_line damage place line) ≡ line
 line-twice damage place (moment n) = refl
-line-twice damage place (elements bits) = ap elements (damaged-twice damage place bits)
-line-twice damage place (refuse_station letter) = refl
-line-twice damage place (accept_station letter) = refl
-line-twice damage place (refuse_subject letter) = refl
-line-twice damage place (accept_subject letter) = refl
+line-twice damage place (elements mark bits) =
+    ap (elements mark) (on-twice (channel_of mark) damage place bits)
+line-twice damage place (refuse_station mark letter) = refl
+line-twice damage place (accept_station mark letter) = refl
+line-twice damage place (refuse_subject mark letter) = refl
+line-twice damage place (accept_subject mark letter) = refl
 
--- the elements of damaged lines are the damaged elements of all lines
+-- the elements of damaged lines on channel 0 are the damaged elements of all lines there
 pub lines-elements : (damage : Damage) (place : ℕ) (lines : List Line)
-    → flat_map elements_of (damaged_lines damage place lines)
-    ≡ damaged_elements damage place (flat_map elements_of lines)
+    → flat_map (elements_on Zero) (damaged_lines damage place lines)
+    ≡ damaged_elements damage place (flat_map (elements_on Zero) lines)
 lines-elements damage place [] = refl
 lines-elements damage place (line ∷ lines) =
-    ap (λ l. l ++ flat_map elements_of
-    (damaged_lines damage (place + length (elements_of line)) lines))
+    ap (λ l. l ++ flat_map (elements_on Zero)
+    (damaged_lines damage (place + length (elements_on Zero line)) lines))
     (line-elements damage place line)
-    ∙ ap (λ l. damaged_elements damage place (elements_of line) ++ l)
-    (lines-elements damage (place + length (elements_of line)) lines)
-    ∙ sym (damaged-append damage place (elements_of line) (flat_map elements_of lines))
+    ∙ ap (λ l. damaged_elements damage place (elements_on Zero line) ++ l)
+    (lines-elements damage (place + length (elements_on Zero line)) lines)
+    ∙ sym (damaged-append damage place (elements_on Zero line) (flat_map (elements_on Zero) lines))
 
 pub lines-twice : (damage : Damage) (place : ℕ) (lines : List Line)
     → damaged_lines damage place (damaged_lines damage place lines) ≡ lines
 lines-twice damage place [] = refl
 lines-twice damage place (line ∷ lines) =
     let here = line-twice damage place line in
-    let same : place + length (elements_of (damaged_line damage place line))
-    ≡ place + length (elements_of line) =
+    let same : place + length (elements_on Zero (damaged_line damage place line))
+    ≡ place + length (elements_on Zero line) =
     ap (λ l. place + length l) (line-elements damage place line)
-    ∙ ap (λ n. place + n) (length-damaged damage place (elements_of line)) in
+    ∙ ap (λ n. place + n) (length-damaged damage place (elements_on Zero line)) in
     let later = ap (λ p. damaged_lines damage p
-    (damaged_lines damage (place + length (elements_of line)) lines)) same
-    ∙ lines-twice damage (place + length (elements_of line)) lines in
+    (damaged_lines damage (place + length (elements_on Zero line)) lines)) same
+    ∙ lines-twice damage (place + length (elements_on Zero line)) lines in
+    cc
+
+-- those on another channel are as they were, and no line's name is changed
+pub lines-others : (damage : Damage) (place : ℕ) (lines : List Line) (channel : Channel)
+    → channel ≢ Zero
+    → flat_map (elements_on channel) (damaged_lines damage place lines)
+    ≡ flat_map (elements_on channel) lines
+lines-others damage place [] channel other = refl
+lines-others damage place (line ∷ lines) channel other =
+    let after = place + length (elements_on Zero line) in
+    ap (λ l. l ++ flat_map (elements_on channel) (damaged_lines damage after lines))
+    (line-others damage place line channel other)
+    ∙ ap (λ l. elements_on channel line ++ l) (lines-others damage after lines channel other)
+
+pub lines-kinds : (damage : Damage) (place : ℕ) (lines : List Line)
+    → map kind_of (damaged_lines damage place lines) ≡ map kind_of lines
+lines-kinds damage place [] = refl
+lines-kinds damage place (line ∷ lines) =
+    let here = line-kind damage place line in
+    let later = lines-kinds damage (place + length (elements_on Zero line)) lines in
     cc
 
 -- ---- elements of which the first so many are damaged, and how many of these are inverted

@@ -20,8 +20,8 @@ station_line station = codes "station " ++ station ∷ line_end ∷ []
 abbrev pub report : ℕ → List MessageView → List ℕ
 report station messages = station_line station ++ message_file_bytes (map file_message_of messages)
 
--- What is written of an air file, and the count that is answered: its elements are the emission of
--- messages, all of one station.
+-- What is written of an air file, and the count that is answered: its elements on channel 0 are the
+-- emission of messages, all of one station.
 pub record IsChecked (limit : ℕ) (air written : List ℕ) (count : ℕ) : Type 0 where
   pub bits : List Bool
   pub file : IsBitFile limit air bits

@@ -4,9 +4,12 @@ use Rattle.std.specs.List.{flat_map}
 use Rattle.std.specs.Io.KnownBytes.{Appends}
 use Rattle.nx_code.specs.Word.{value_of}
 use Rattle.nx_fec.specs.AirFile.{Line, elements}
+use Rattle.nx_fec.specs.Channels.{channel_of}
 use Rattle.nx_fec.specs.Transfers.{WroteSome, Devices, IsReadOut, Transfers, on_the_way}
 use Rattle.nx_fec.specs.LineRuns.{IsPlaced}
-use Rattle.nx_fec.specs.Lines.{StopsAt, air_limit, IsAirFile, IsCause, elements_of, file_of}
+use Rattle.nx_fec.specs.Lines.{StopsAt, air_limit, IsAirFile, IsCause, elements_on, file_of}
+use Rattle.nx_fec.specs.declared.channel.Channel.{Channel}
+use Rattle.nx_fec.specs.declared.channel.Channel.TheVariants.{Zero}
 use Rattle.nx_fec.specs.declared.fault.LineFault.{LineFault}
 use Rattle.nx_fec.specs.declared.fault.LineFault.TheVariants as file
 use Rattle.nx_station.specs.declared.damaging.DamageKind.{DamageKind}
@@ -33,16 +36,16 @@ hits damage word =
     (not (nat_lt word damage.from) && nat_lt (word - damage.from) damage.count)
     && names damage.kind word
 
--- whether the element at this place of all elements is inverted: it is the first of a word that is
--- damaged, where word k has the elements 7k to 7k+6
+-- whether the element at this place of all elements of channel 0 is inverted: it is the first of a
+-- word that is damaged, where word k has the elements 7k to 7k+6
 abbrev pub inverts : Damage → ℕ → Bool
 inverts damage place = (place % 7 == 0) && hits damage (place / 7)
 
 abbrev pub damaged_element : Damage → ℕ → Bool → Bool
 damaged_element damage place element = if inverts damage place then not element else element
 
--- elements after the damage, and how many of them are inverted; the first stands at this place of
--- all elements
+-- elements of channel 0 after the damage, and how many of them are inverted; the first stands at
+-- this place of all
 abbrev pub damaged_elements : Damage → ℕ → List Bool → List Bool
 damaged_elements damage place [] = []
 damaged_elements damage place (element ∷ more) =
@@ -53,15 +56,23 @@ inverted_count damage place [] = 0
 inverted_count damage place (element ∷ more) =
     value_of (inverts damage place) + inverted_count damage (place + 1) more
 
--- lines after the damage: those that have no elements are as they were
+-- elements of a channel after the damage, which befalls channel 0 alone
+abbrev pub damaged_on : Channel → Damage → ℕ → List Bool → List Bool
+damaged_on Zero damage place bits = damaged_elements damage place bits
+damaged_on _ damage place bits = bits
+
+-- Lines after the damage: a line names what it named, and one that has no elements on channel 0 is
+-- as it was. Places are counted over the elements of channel 0.
 abbrev pub damaged_line : Damage → ℕ → Line → Line
-damaged_line damage place (elements bits) = elements (damaged_elements damage place bits)
+damaged_line damage place (elements mark bits) =
+    elements mark (damaged_on (channel_of mark) damage place bits)
 damaged_line damage place line = line
 
 abbrev pub damaged_lines : Damage → ℕ → List Line → List Line
 damaged_lines damage place [] = []
 damaged_lines damage place (line ∷ lines) =
-    damaged_line damage place line ∷ damaged_lines damage (place + length (elements_of line)) lines
+    damaged_line damage place line
+    ∷ damaged_lines damage (place + length (elements_on Zero line)) lines
 
 -- the file that is written of lines
 abbrev pub damaged_file : Damage → List Line → List ℕ
@@ -72,7 +83,7 @@ pub record IsDamaged (damage : Damage) (limit : ℕ) (air written : List ℕ) (c
   pub lines : List Line
   pub file : IsAirFile limit air lines
   pub whole : written ≡ damaged_file damage lines
-  pub counted : count ≡ inverted_count damage 0 (flat_map elements_of lines)
+  pub counted : count ≡ inverted_count damage 0 (flat_map (elements_on Zero) lines)
 
 -- the air file has this fault, its first, and the whole lines before it were written
 abbrev pub StopsFor : Type 0 → ℕ → Damage → Option (List ℕ) → Option (List ℕ) → List ℕ → LineFault

@@ -20,7 +20,7 @@ use Rattle.nx_station.specs.declared.sending.Sent.{Sent}
 
 -- The air file that is written of a message file. It has messages, all of that station, which may
 -- be sent. Its first line is the moment at which the station's next slot begins, and the others are
--- the elements of the emission.
+-- the elements of the emission, in lines that name no channel.
 pub record IsTransmission (station from : ℕ) (file written : List ℕ) (sent : Sent) : Type 0 where
   pub messages : List MessageView
   pub is_file : IsMessageFile file (map file_message_of messages)

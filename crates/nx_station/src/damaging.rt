@@ -1,26 +1,31 @@
 //! Damage of an air file on purpose: the first element of each word that is named is inverted.
-ghost use Rattle.std.specs.Prelude.{◌≡◌, ◌+◌, ◌-◌, ◌*◌, ◌^◌, ◌<◌, ◌≤◌, ◌↔◌, ◌⊎◌, ◌++◌, ◌∷◌, [], ℕ, Bool, List, IsSomeAnd, IsTrue, Some, length, map, min};
+ghost use Rattle.std.specs.Prelude.{◌≡◌, ◌≢◌, ◌+◌, ◌-◌, ◌*◌, ◌^◌, ◌<◌, ◌≤◌, ◌↔◌, ◌⊎◌, ◌++◌, ◌∷◌, [], ℕ, Bool, List, Option, IfNone, IfSome, IsSomeAnd, IsTrue, Some, length, map, min};
 ghost use Rattle.nx_fec.specs.AirFile.{IsLine, Line, element_digit};
-ghost use Rattle.nx_fec.specs.Lines.{elements_of, line_bytes};
+ghost use Rattle.nx_fec.specs.Channels.{channel_of};
+ghost use Rattle.nx_fec.specs.Lines.{elements_on, line_bytes};
+ghost use Rattle.nx_fec.specs.declared.air_file.LineKind.TheVariants.{Elements};
+ghost use Rattle.nx_fec.specs.declared.channel.Channel.{Channel};
+ghost use Rattle.nx_fec.specs.declared.channel.Channel.TheVariants.{Zero};
 ghost use Rattle.nx_fec.specs.Transfers.{devices};
 ghost use Rattle.nx_station.specs.Damage.{Damage, Damages, damaged_elements, damaged_line, inverted_count, inverts};
-ghost use Rattle.nx_station.specs.private.DamageTaker.{AreNamed, IsAmong, IsAt, line_fault};
+ghost use Rattle.nx_station.specs.private.DamageTaker.{AreNamed, HasDigitsFrom, IsAmong, IsAt, line_fault};
 
 use crate::fault::DamageFault;
 use arrayvec::ArrayVec;
 use nx_code::ELEMENTS;
 use nx_fec::{
-    Batch, Counting, LineFault, LineKind, LineTaker, LinesFault, MAX_ELEMENTS, Scanner, TakeFault,
-    run_lines,
+    Batch, Channel, Counting, LineFault, LineKind, LineTaker, LinesFault, MAX_ELEMENTS, Scanner,
+    TakeFault, run_lines,
 };
 use std::io::{Read, Write};
 use std::marker::Model;
 
-/// How many bytes stand before the digits of a line of elements.
-const MARK_BYTES: usize = 2;
+/// How many bytes stand before the digits of a line of elements that names no channel.
+const FRONT_BYTES: usize = 2;
 
-/// How many bytes a line of elements has at most, with its end.
-const LINE_BYTES: usize = MARK_BYTES + MAX_ELEMENTS + 1;
+/// How many bytes a line of elements has at most, with its end. One that names its channel has a
+/// byte more before its digits, and at most one digit less.
+const LINE_BYTES: usize = FRONT_BYTES + MAX_ELEMENTS + 1;
 
 /// How many elements a DX word and the RX word after it have.
 const PAIR: usize = 2 * ELEMENTS;
@@ -85,10 +90,10 @@ struct Named {
 }
 
 /// Copies an air file line by line, and inverts element 1 of each word k with `k >= from` and `k -
-/// from < count` that the kind names. Word k is the elements 7k to 7k+6 of all lines of elements
-/// together; an incomplete last word is treated alike. Answers how many elements it inverted. It
-/// takes no memory, and holds no more than a piece of the file, a line, and what waits to be
-/// written.
+/// from < count` that the kind names. Word k is the elements 7k to 7k+6 of all lines of elements on
+/// channel 0 together; an incomplete last word is treated alike. The lines of other channels are
+/// copied unchanged, and each line keeps its name. Answers how many elements it inverted. It takes
+/// no memory, and holds no more than a piece of the file, a line, and what waits to be written.
 ///
 /// The faults are those of an air file of at most 268,435,456 bytes, in the order of its bytes:
 /// `AirTooLong`, `LineLong`, `LineCut`, `BadLine`; `Read` where a read failed. The whole lines
@@ -130,6 +135,19 @@ fn copy_line(text: &[u8], bytes: &mut ArrayVec<u8, LINE_BYTES>)
 {
     bytes.try_extend_from_slice(text).unwrap();
     bytes.push(b'\n');
+}
+
+/// Where the digits begin of a line that says this, if it has elements on channel 0.
+fn digits_start(kind: Option<LineKind>) -> Option<usize>
+    ensures found { IfSome result (HasDigitsFrom kind) }
+    ensures none { IfNone result
+        ((mark : Option Channel) → channel_of mark ≡ Zero → kind ≢ Some (Elements mark)) }
+{
+    match kind {
+        Some(LineKind::Elements(None)) => Some(FRONT_BYTES),
+        Some(LineKind::Elements(Some(Channel::Zero))) => Some(FRONT_BYTES + 1),
+        _ => None,
+    }
 }
 
 /// The fault of damaging that stands for the fault of the air file.
@@ -184,17 +202,17 @@ impl Damaging {
             → bytes.new.items ≡ line_bytes (damaged_line damage place line) }
         ensures at { (damage : Damage) (place : ℕ) (line : Line)
             → scanner.now.latest ≡ Some line → IsAt damage self.old place
-            → IsAt damage self.new (place + length (elements_of line)) }
+            → IsAt damage self.new (place + length (elements_on Zero line)) }
         ensures counted { (damage : Damage) (place total : ℕ) (line : Line)
             → scanner.now.latest ≡ Some line → IsAt damage self.old place
             → self.old.inverted ≡ min total (2 ^ 64 - 1)
             → self.new.inverted
-            ≡ min (total + inverted_count damage place (elements_of line)) (2 ^ 64 - 1) }
+            ≡ min (total + inverted_count damage place (elements_on Zero line)) (2 ^ 64 - 1) }
     {
         copy_line(scanner.line().unwrap(), bytes);
-        if let Some(LineKind::Elements) = scanner.latest() {
+        if let Some(start) = digits_start(scanner.latest()) {
             let end = bytes.len() - 1;
-            self.pass(&mut bytes[MARK_BYTES..end]);
+            self.pass(&mut bytes[start..end]);
         }
     }
 

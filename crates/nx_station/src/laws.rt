@@ -1,5 +1,5 @@
 //! Laws of the definitions, each the contract of a function that does nothing.
-ghost use Rattle.std.specs.Prelude.{◌≡◌, ◌≤◌, ◌++◌, ◌⊎◌, ℕ, Bool, List, length, map};
+ghost use Rattle.std.specs.Prelude.{◌≡◌, ◌≢◌, ◌≤◌, ◌++◌, ◌⊎◌, ℕ, Bool, List, length, map};
 ghost use Rattle.std.specs.List.{AllByRecursion, flat_map};
 ghost use Rattle.nx_code.specs.Reading.{combination, shift_after_all, text};
 ghost use Rattle.nx_code.specs.declared.shifts.Shift.{Shift};
@@ -9,7 +9,10 @@ ghost use Rattle.nx_fec.specs.Emission.{SentPosition, reception};
 ghost use Rattle.nx_station.specs.Broadcast.{IsBroadcast, IsSpelled, printed_text};
 ghost use Rattle.nx_station.specs.MessageFile.{FileMessage, FileFault, IsMessageFile, HasFirstFault};
 ghost use Rattle.nx_fec.specs.AirFile.{Line};
-ghost use Rattle.nx_fec.specs.Lines.{elements_of};
+ghost use Rattle.nx_fec.specs.Lines.{IsAirFile, elements_on};
+ghost use Rattle.nx_fec.specs.Scanner.{kind_of};
+ghost use Rattle.nx_fec.specs.declared.channel.Channel.{Channel};
+ghost use Rattle.nx_fec.specs.declared.channel.Channel.TheVariants.{Zero};
 ghost use Rattle.nx_station.specs.Damage.{Damage, IsDamaged, damaged_elements, damaged_lines};
 ghost use Rattle.nx_station.specs.Checking.{IsChecked, station_line};
 ghost use Rattle.nx_station.specs.FileSending.{IsTransmission};
@@ -89,15 +92,43 @@ pub fn checking_gives_back_what_was_sent()
         → (text ≡ station_line station ++ file) × (count ≡ sent.messages) }
 {}
 
-/// Damage changes the elements that it names and nothing else, and twice it changes nothing: over
-/// lines, what is damaged again with the same damage is what was there; and the elements of all
-/// lines are damaged by their place among them all.
+/// Checking takes channel 0 alone, whatever else stands in the file. Two air files with the same
+/// elements on channel 0 have the same report. So a file that has there the elements of an air file
+/// that sending wrote is checked as that one is: the report is the line of the station and then the
+/// very bytes that were sent.
+pub fn checking_takes_channel_0_alone()
+    ensures same { (limit most : ℕ) (one other text : List ℕ) (lines more : List Line) (count : ℕ)
+        → IsAirFile limit one lines → IsAirFile most other more
+        → flat_map (elements_on Zero) lines ≡ flat_map (elements_on Zero) more
+        → IsChecked limit one text count → IsChecked most other text count }
+    ensures sent { (limit most station from : ℕ) (file air other : List ℕ) (sent : Sent)
+        (lines more : List Line) → IsTransmission station from file air sent
+        → IsAirFile limit air lines → IsAirFile most other more
+        → flat_map (elements_on Zero) lines ≡ flat_map (elements_on Zero) more
+        → IsChecked most other (station_line station ++ file) sent.messages }
+    ensures back { (limit most station from : ℕ) (file air other text : List ℕ) (sent : Sent)
+        (lines more : List Line) (count : ℕ) → IsTransmission station from file air sent
+        → IsAirFile limit air lines → IsAirFile most other more
+        → flat_map (elements_on Zero) lines ≡ flat_map (elements_on Zero) more
+        → IsChecked most other text count
+        → (text ≡ station_line station ++ file) × (count ≡ sent.messages) }
+{}
+
+/// Damage changes the elements that it names on channel 0 and nothing else, and twice it changes
+/// nothing: over lines, what is damaged again with the same damage is what was there; the elements
+/// of all lines on channel 0 are damaged by their place among them all; those on other channels are
+/// as they were; and each line says what it said, and names the channel that it named.
 pub fn damage_undoes_itself()
     ensures twice { (damage : Damage) (lines : List Line)
         → damaged_lines damage 0 (damaged_lines damage 0 lines) ≡ lines }
     ensures elements { (damage : Damage) (lines : List Line)
-        → flat_map elements_of (damaged_lines damage 0 lines)
-        ≡ damaged_elements damage 0 (flat_map elements_of lines) }
+        → flat_map (elements_on Zero) (damaged_lines damage 0 lines)
+        ≡ damaged_elements damage 0 (flat_map (elements_on Zero) lines) }
+    ensures others { (damage : Damage) (lines : List Line) (channel : Channel) → channel ≢ Zero
+        → flat_map (elements_on channel) (damaged_lines damage 0 lines)
+        ≡ flat_map (elements_on channel) lines }
+    ensures names { (damage : Damage) (lines : List Line)
+        → map kind_of (damaged_lines damage 0 lines) ≡ map kind_of lines }
     ensures long { (damage : Damage) (place : ℕ) (bits : List Bool)
         → length (damaged_elements damage place bits) ≡ length bits }
     ensures files { (damage : Damage) (limit : ℕ) (air once twice : List ℕ) (m n : ℕ)

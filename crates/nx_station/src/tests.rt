@@ -1,6 +1,7 @@
 //! Worked examples of slots, emissions and message files. The expected slots, words and counts were
 //! worked out apart from this program.
 
+mod channels;
 mod checks;
 
 use super::*;
@@ -316,5 +317,6 @@ fn laws_can_be_called() {
     laws::messages_have_one_broadcast();
     laws::an_emission_has_one_reading();
     laws::checking_gives_back_what_was_sent();
+    laws::checking_takes_channel_0_alone();
     laws::damage_undoes_itself();
 }

@@ -1,7 +1,7 @@
 //! How calls over devices end early, in one form.
 
 use nx_fec::{RunFault, WriteFault};
-use nx_receiver::ListenFault;
+use nx_receiver::{ListenFault, ResumeFault, StateFault};
 use nx_station::{CheckFault, DamageFault, SendRunFault};
 
 /// Why a call ended early.
@@ -53,6 +53,17 @@ impl From<DamageFault> for Ending {
             DamageFault::Read => Ending::Read,
             DamageFault::Write { written } => Ending::Write(written),
             _ => Ending::Other,
+        }
+    }
+}
+
+impl From<ResumeFault> for Ending {
+    fn from(fault: ResumeFault) -> Ending {
+        match fault {
+            ResumeFault::State(StateFault::Read) => Ending::Read,
+            ResumeFault::State(_) => Ending::Other,
+            ResumeFault::Listen(fault) => Ending::from(fault),
+            ResumeFault::Write { written } => Ending::Write(written),
         }
     }
 }

@@ -5,13 +5,16 @@ ghost use Rattle.std.specs.Prelude.{◌≡◌, ◌≤◌, IfOk};
 ghost use Rattle.nx_envelope.specs.Moment.{last_moment};
 
 use super::AIR_FILE_OF_A;
+use super::air::join;
 use super::clocked::{Clock, Reader, Writer};
 use super::endings::Ending;
+use super::resuming::{EA01_SAVED, NOTHING};
 use super::station::{AIR_FILE_OF_EA01, MESSAGE_FILE};
 use nx_envelope::{Finder, FinderStep, Identity, Letter};
 use nx_fec::{Counting, decode_run, encode_run, read_bits, show_run, write_bits, write_table};
-use nx_memory::{PlainRecall, Recall, Saved, Selection};
-use nx_receiver::{Entry, entry_text, listen, listen_from};
+use nx_locks::locks;
+use nx_memory::{PlainRecall, Recall, Saved, SavedSet, Selection};
+use nx_receiver::{Entry, Want, entry_text, listen, listen_from, resume};
 use nx_station::{DamageKind, check_run, damage, send};
 use std::alloc::Global;
 use std::io::{Read, Write};
@@ -23,6 +26,8 @@ enum Call {
     Send,
     Listen,
     ListenFrom,
+    Locks,
+    Resume(Want),
     ReadBits,
     DecodeRun,
     EncodeRun,
@@ -40,11 +45,13 @@ struct Given {
     station: Letter,
     entry: Entry,
     /// What a receiver left that heard EB02.
-    saved: Saved,
+    saved: SavedSet,
     bits: Vec<bool>,
     /// The air file of EA01 with 100 elements in each line, so that its copy is open behind some of
     /// them.
     short_lines: Vec<u8>,
+    /// The same behind the state of a receiver that has heard nothing.
+    resumed: Vec<u8>,
 }
 
 const MOMENT: u64 = 1_735_689_600;
@@ -70,6 +77,12 @@ impl Call {
             }
             Call::ListenFrom => {
                 listen_from(alloc, &given.saved, reader, writer)?;
+            }
+            Call::Locks => {
+                locks(alloc, reader, writer)?;
+            }
+            Call::Resume(want) => {
+                resume(alloc, reader, writer, want)?;
             }
             Call::ReadBits => {
                 read_bits(alloc, reader)?;
@@ -99,6 +112,10 @@ impl Call {
 
 /// The log of EA01, its identity, and its text in its copy.
 const LOG_OF_EA01: &[u8] = b"[EA01 2025-01-01 00:40:00 full 0/5]\nTEST\n\n";
+
+/// Its locks.
+const LOCKS_OF_EA01: &[u8] = b"[2025-01-01 00:40:00 lock 28]\nZCZC EA01\nTEST\nNNNN\n\n\
+    [2025-01-01 00:40:00 open words 199 wrong 0 copies 1]\n\n[elements 1421 locks 1 copies 1]\n";
 
 /// Lines of which `damage` inverts one element, and what is left.
 const LINES: &[u8] = b"T 0\nB 00000000\nRS E\nB 0\n";
@@ -133,10 +150,11 @@ fn entry_of_ea01() -> Result<Entry, Fail>
 }
 
 /// A memory that holds EB02, saved.
-fn saved_with_eb02() -> Result<Saved, Fail> {
+fn saved_with_eb02() -> Result<SavedSet, Fail> {
     let mut memory = PlainRecall::new();
     memory.enter(Identity::new(b'E', b'B', 2).ok_or("EB02")?, MOMENT);
-    Ok(Saved::of(&Selection::all(), &memory))
+    let on_0 = Saved::of(&Selection::all(), &memory);
+    Ok(SavedSet::of(on_0, Saved::new(), Saved::new()))
 }
 
 fn given_to_calls(alloc: Global) -> Result<Given, Fail>
@@ -144,11 +162,13 @@ fn given_to_calls(alloc: Global) -> Result<Given, Fail>
 {
     let mut file = Counting::new(AIR_FILE_OF_EA01);
     let bits = read_bits(alloc, &mut file).or(Err("elements"))?;
+    let short_lines = in_short_lines(alloc, &bits)?;
     Ok(Given {
         station: Letter::new(b'E').ok_or("a station")?,
         entry: entry_of_ea01()?,
         saved: saved_with_eb02()?,
-        short_lines: in_short_lines(alloc, &bits)?,
+        resumed: join(alloc, &[NOTHING, &short_lines])?,
+        short_lines,
         bits,
     })
 }
@@ -172,21 +192,27 @@ struct Case<'a> {
     call: Call,
     input: &'a [u8],
     output: &'a [u8],
-    /// Of `listen` and `listen_from`, how much of the input has the line that ends the copy, and all
-    /// before it.
-    heard: usize,
+    /// How many bytes of the input are those of a state, which are read one by one.
+    state: usize,
+    /// How many bytes are read before some are written, and how many are written then, twice. The
+    /// others are written at the end.
+    written: [(usize, usize); 2],
 }
 
 impl Case<'_> {
     /// How many bytes are written where so many were read, and the next read fails. `damage` writes
-    /// each line that it has read, `listen` an entry with the line that ends its copy; the others
-    /// write at the end.
+    /// each line that it has read.
     fn written_after(&self, read: usize) -> usize {
-        match self.call {
-            Call::Damage => whole_lines(self.input, read),
-            Call::Listen | Call::ListenFrom if read >= self.heard => self.output.len(),
-            _ => 0,
+        if self.call == Call::Damage {
+            return whole_lines(self.input, read);
         }
+        let mut written = 0;
+        for (enough, count) in self.written.iter() {
+            if read >= *enough {
+                written = *count;
+            }
+        }
+        written
     }
 
     /// How often the call reads, where one read gives so many bytes at most: a call that reads sees
@@ -194,7 +220,11 @@ impl Case<'_> {
     fn reads(&self, piece: usize) -> usize {
         match self.call {
             Call::EntryText | Call::WriteBits | Call::WriteTable => 0,
-            _ => self.input.len().div_ceil(piece.max(1)).saturating_add(1),
+            _ => {
+                let others = self.input.len().saturating_sub(self.state);
+                let reads = others.div_ceil(piece.max(1)).saturating_add(1);
+                reads.saturating_add(self.state)
+            }
         }
     }
 }
@@ -214,13 +244,16 @@ fn whole_lines(input: &[u8], read: usize) -> usize {
 /// that is in the 14th of 103 bytes, behind the line of the moment.
 const HEARD_IN_SHORT_LINES: usize = LINE_OF_MOMENT + 14 * 103;
 
-fn cases<'a>(given: &'a Given) -> [Case<'a>; 14] {
+fn cases<'a>(given: &'a Given) -> [Case<'a>; 17] {
     [
         row(Call::Send, MESSAGE_FILE, AIR_FILE_OF_EA01),
-        row(Call::Listen, AIR_FILE_OF_EA01, LOG_OF_EA01),
-        in_short(Call::Listen, given),
-        in_short(Call::ListenFrom, given),
+        heard(Call::Listen, AIR_FILE_OF_EA01, AIR_FILE_OF_EA01.len()),
+        heard(Call::Listen, &given.short_lines, HEARD_IN_SHORT_LINES),
+        heard(Call::ListenFrom, &given.short_lines, HEARD_IN_SHORT_LINES),
         row(Call::Listen, LINES, b""),
+        shown(),
+        resumed_for_the_log(given),
+        resumed_for_the_state(given),
         row(Call::ReadBits, LINES, b""),
         row(
             Call::DecodeRun,
@@ -245,23 +278,48 @@ fn cases<'a>(given: &'a Given) -> [Case<'a>; 14] {
     ]
 }
 
-/// A case in which EA01 is heard in short lines.
-fn in_short(call: Call, given: &Given) -> Case<'_> {
-    Case {
-        call,
-        input: &given.short_lines,
-        output: LOG_OF_EA01,
-        heard: HEARD_IN_SHORT_LINES,
-    }
-}
-
-/// A case in which `listen`, where it is the call, ends its copy with the last line.
+/// A case that writes at the end.
 fn row<'a>(call: Call, input: &'a [u8], output: &'a [u8]) -> Case<'a> {
     Case {
         call,
         input,
         output,
-        heard: input.len(),
+        state: 0,
+        written: [(usize::MAX, 0); 2],
+    }
+}
+
+/// A case in which EA01 is heard, whose entry is written where so many bytes were read.
+fn heard<'a>(call: Call, input: &'a [u8], enough: usize) -> Case<'a> {
+    Case {
+        written: [(enough, LOG_OF_EA01.len()); 2],
+        ..row(call, input, LOG_OF_EA01)
+    }
+}
+
+/// The locks of EA01: its first line of elements begins one, the third has its text.
+fn shown<'a>() -> Case<'a> {
+    let begun = b"[2025-01-01 00:40:00 lock 28]\n".len();
+    let text = b"ZCZC EA01\nTEST\nNNNN\n\n".len();
+    Case {
+        written: [(506, begun), (AIR_FILE_OF_EA01.len(), begun + text)],
+        ..row(Call::Locks, AIR_FILE_OF_EA01, LOCKS_OF_EA01)
+    }
+}
+
+/// EA01 in short lines is heard from a state on.
+fn resumed_for_the_log(given: &Given) -> Case<'_> {
+    let enough = NOTHING.len() + HEARD_IN_SHORT_LINES;
+    Case {
+        state: NOTHING.len(),
+        ..heard(Call::Resume(Want::Log), &given.resumed, enough)
+    }
+}
+
+fn resumed_for_the_state(given: &Given) -> Case<'_> {
+    Case {
+        state: NOTHING.len(),
+        ..row(Call::Resume(Want::State), &given.resumed, EA01_SAVED)
     }
 }
 

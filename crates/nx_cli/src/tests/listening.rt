@@ -3,7 +3,7 @@
 use super::air::{LOG_OF_EA01, MOMENT_OF_EA01, hears, join, part_of_ea01};
 use super::devices::{Sink, Source};
 use super::station::{AIR_FILE_OF_EA01, MESSAGE_FILE, SEND};
-use super::{output_of, refuses, run_on};
+use super::{output_of, refuses, run_in_pieces, run_on};
 use crate::program::run;
 use std::alloc::{AllocError, Global};
 use std::test::Fail;
@@ -24,13 +24,7 @@ fn listens_to_what_was_sent(rt: HostRuntime) -> Result<(), Fail> {
 
 // Whether EA01 is heard from a reader that gives one byte at a time, by a writer that takes one.
 fn hears_in_bytes(alloc: Global) -> bool {
-    let mut source = Source::of(AIR_FILE_OF_EA01);
-    source.piece = 1;
-    let mut output = Sink::new(Vec::new(alloc));
-    output.piece = 1;
-    let mut faults = Sink::new(Vec::new(alloc));
-    let status = run(alloc, &LISTEN, &mut source, &mut output, &mut faults);
-    status == 0 && faults.taken.is_empty() && output.took(LOG_OF_EA01)
+    run_in_pieces(alloc, &LISTEN, AIR_FILE_OF_EA01, 1).is(0, LOG_OF_EA01, b"")
 }
 
 #[test]

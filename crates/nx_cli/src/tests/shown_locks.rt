@@ -1,10 +1,8 @@
 //! What `locks` shows of whole files and of faulty ones, in one piece and byte by byte.
 
 use super::air::{MOMENT_OF_EA01, damage_in, hears, join, lines_of_ea01, part_of_ea01, send_from};
-use super::devices::{Sink, Source};
-use super::run_on;
 use super::station::AIR_FILE_OF_EA01;
-use crate::program::run;
+use super::{run_in_pieces, run_on};
 use std::alloc::{AllocError, Global};
 use std::test::Fail;
 
@@ -27,13 +25,8 @@ fn ends_so(
 ) -> Result<bool, AllocError> {
     let air_file = join(alloc, pieces)?;
     let at_once = run_on(alloc, &LOCKS, &air_file).is(status, report, line);
-    let mut source = Source::of(&air_file);
-    source.piece = 1;
-    let mut output = Sink::new(Vec::new(alloc));
-    output.piece = 1;
-    let mut faults = Sink::new(Vec::new(alloc));
-    let ended = run(alloc, &LOCKS, &mut source, &mut output, &mut faults);
-    Ok(at_once && ended == status && output.took(report) && faults.took(line))
+    let in_bytes = run_in_pieces(alloc, &LOCKS, &air_file, 1).is(status, report, line);
+    Ok(at_once && in_bytes)
 }
 
 /// Whether `locks` succeeds so, and writes this report, which has the text of EA01 between two parts.

@@ -14,11 +14,11 @@ pub record Back (ended : Option LineKind) (bits : List Bool) (kept : List ℕ) :
 kind_of-line_with : (kind : LineKind) (bits : List Bool)
     → kind_kept (Some (line_with kind bits)) ≡ Some kind
 kind_of-line_with (Moment n) bits = refl
-kind_of-line_with Elements bits = refl
-kind_of-line_with (RefuseStation letter) bits = refl
-kind_of-line_with (AcceptStation letter) bits = refl
-kind_of-line_with (RefuseSubject letter) bits = refl
-kind_of-line_with (AcceptSubject letter) bits = refl
+kind_of-line_with (Elements mark) bits = refl
+kind_of-line_with (RefuseStation mark letter) bits = refl
+kind_of-line_with (AcceptStation mark letter) bits = refl
+kind_of-line_with (RefuseSubject mark letter) bits = refl
+kind_of-line_with (AcceptSubject mark letter) bits = refl
 
 pub kept-back : (ended : Option LineKind) (bits : List Bool) (kept : List ℕ)
     → IsKept ended bits kept → Back ended bits kept

@@ -1,10 +1,19 @@
 -- The bytes, the line and the elements that a scanner keeps: those of the line that is open, or of
 -- the line that the last byte ended.
-use Rattle.std.specs.Prelude.{◌≡◌, ℕ, Bool, List, [], Option, Some, None}
-use Rattle.nx_fec.specs.AirFile.{IsLine, Line, spelling}
+use Rattle.std.specs.Prelude.{◌≡◌, ℕ, Bool, List, [], Option, Some, None, IsSome}
+use Rattle.nx_fec.specs.AirFile.{IsLine, Line, accept_station, accept_subject, elements, moment, refuse_station, refuse_subject, spelling}
 use Rattle.nx_fec.specs.Lines.{elements_of}
 use Rattle.nx_fec.specs.Scanner.{line_with}
 use Rattle.nx_fec.specs.declared.air_file.LineKind.{LineKind}
+
+-- the line names its channel
+abbrev pub IsMarked : Line → Type 0
+IsMarked (moment n) = ⊥
+IsMarked (elements mark bits) = IsSome mark
+IsMarked (refuse_station mark letter) = IsSome mark
+IsMarked (accept_station mark letter) = IsSome mark
+IsMarked (refuse_subject mark letter) = IsSome mark
+IsMarked (accept_subject mark letter) = IsSome mark
 
 -- these bytes spell the line that says so, and these are all its elements
 pub record SpellsLine (kind : LineKind) (bits : List Bool) (bytes : List ℕ) : Type 0 where

@@ -3,8 +3,9 @@ use Rattle.std.specs.Prelude.{◌≡◌, ℕ, Bool, List, ◌++◌}
 use Rattle.std.specs.Global.{Vec}
 use Rattle.std.specs.List.{flat_map}
 use Rattle.nx_fec.specs.AirFile.{Line}
-use Rattle.nx_fec.specs.Lines.{IsFaultless, Scanning, Scans, elements_of}
+use Rattle.nx_fec.specs.Lines.{IsFaultless, Scanning, Scans, elements_on}
 use Rattle.nx_fec.specs.Runs.{ExplainsReading, IsOutside}
+use Rattle.nx_fec.specs.declared.channel.Channel.TheVariants.{Zero}
 use Rattle.nx_fec.specs.declared.fault.RunFault.{RunFault}
 
 -- the scanner of an air file, and the elements of the lines that it ended
@@ -24,9 +25,10 @@ ExplainsPiece limit bytes fault =
     (IsOutside fault → IsFaultless limit bytes)
     × ((more : List ℕ) → ExplainsReading ⊥ limit (bytes ++ more) fault)
 
--- the scanner stands so after these bytes, and the elements are those of the lines that they ended
+-- the scanner stands so after these bytes, and the elements are those on channel 0
+-- of the lines that they ended
 pub record HasRead (limit : ℕ) (scanner : Scanning) (bits : List Bool)
     (bytes : List ℕ) : Type 0 where
   pub lines : List Line
   pub scans : Scans limit scanner bytes lines
-  pub joined : bits ≡ flat_map elements_of lines
+  pub joined : bits ≡ flat_map (elements_on Zero) lines

@@ -75,7 +75,8 @@ pub record HasHeard (new : Reading) (first : Role) (words : ℕ → ℕ) (n : �
   pub grows : text_after first words (n + 1) ≡ text_after first words n ++ option_to_list printed
 
 -- The next word of a lock was heard, whichever lock it is of, and this was printed.
-pub record HearsWord (old new : Reading) (word : ℕ) (role : Role) (printed : Option ℕ) : Type 0 where
+pub record HearsWord (old new : Reading) (word : ℕ) (role : Role) (printed : Option ℕ)
+    : Type 0 where
   pub hears : (first : Role) (words : ℕ → ℕ) (n : ℕ) → ReadsLock old first words n
       → words n ≡ word → role ≡ role_of first n → n + 1 < 2 ^ 64
       → HasHeard new first words n printed

@@ -6,13 +6,13 @@ use Rattle.nx_fec.specs.Transfers.{WroteSome}
 use Rattle.nx_fec.specs.declared.fault.LineFault.TheVariants as file
 use Rattle.nx_fec.specs.declared.line_run.LinesFault.{LinesFault}
 use Rattle.nx_fec.specs.declared.line_run.LinesFault.TheVariants as run
-use Rattle.nx_receiver.specs.Events.{at_zero}
 use Rattle.nx_receiver.specs.Listen.{AreTaken, has_moment}
+use Rattle.nx_receiver.specs.Shares.{all_at_zero}
 use Rattle.nx_receiver.specs.private.Listener.{LacksMoment, RefusesMoment, RefusesVital}
 use Rattle.nx_receiver.specs.declared.listen_fault.ListenFault.{ListenFault}
 use Rattle.nx_receiver.specs.declared.listen_fault.ListenFault.TheVariants as listen
 use Rattle.nx_locks.specs.Report.{IsReport, now_headers, now_locks, past_headers}
-use Rattle.nx_locks.specs.Run.{IsReportOfLines, elements_of, ending_of, moments_of}
+use Rattle.nx_locks.specs.Run.{IsReportOfLines, elements_on_0, ending_of, moments_on_0}
 use Rattle.nx_locks.specs.declared.shower.LineRefusal.{LineRefusal}
 use Rattle.nx_locks.specs.declared.shower.LineRefusal.TheVariants.{NoMoment, Moment, Vital, TooMany}
 use Rattle.nx_locks.specs.declared.run.LocksReport.{LocksReport}
@@ -28,20 +28,20 @@ pub record Showing : Type 0 where
 -- The taker stands so after these lines, each taken after those before it; these bytes are their
 -- report so far.
 pub record IsShowing (shower : Showing) (lines : List Line) (given : List ℕ) : Type 0 where
-  pub taken : AreTaken at_zero lines
+  pub taken : AreTaken all_at_zero lines
   pub has_moment : shower.has_moment ≡ has_moment lines
   pub moment : shower.watch.moment ≡ ending_of lines
-  pub shows : WatchShows shower.watch (elements_of lines) (moments_of lines) given
+  pub shows : WatchShows shower.watch (elements_on_0 lines) (moments_on_0 lines) given
 
--- there are more elements, with those of the line, than a counter counts
+-- there are more elements of channel 0, with those of the line, than a counter counts
 abbrev pub HasTooMany : List Line → Line → Type 0
-HasTooMany lines (elements bits) = 2 ^ 64 ≤ length (elements_of lines) + length bits
+HasTooMany lines (elements mark bits) = 2 ^ 64 ≤ length (elements_on_0 lines) + length bits
 HasTooMany lines _ = ⊥
 
 -- why a line is not taken after these
 abbrev pub RefusesLine : List Line → Line → LineRefusal → Type 0
 RefusesLine lines line NoMoment = LacksMoment lines line
-RefusesLine lines line (Moment why) = RefusesMoment at_zero why lines line
+RefusesLine lines line (Moment why) = RefusesMoment all_at_zero why lines line
 RefusesLine lines line (Vital subject) = RefusesVital subject lines line
 RefusesLine lines line TooMany = HasTooMany lines line
 
@@ -59,18 +59,19 @@ RefusesFrom first lines line why = RefusesLine lines line why
 pub record HasClosed (old new : Option (List ℕ)) (lines : List Line) (answer : LocksReport)
     : Type 0 where
   pub bytes : List ℕ
-  pub report : IsReport (elements_of lines) (moments_of lines) (ending_of lines) bytes
+  pub report : IsReport (elements_on_0 lines) (moments_on_0 lines) (ending_of lines) bytes
   pub written : Appends old new bytes
-  pub elements : answer.elements ≡ length (elements_of lines)
+  pub elements : answer.elements ≡ length (elements_on_0 lines)
   pub locks : answer.locks ≡ length report.locks + now_locks report.now
   pub copies : answer.copies
-      ≡ past_headers (elements_of lines) report.locks + now_headers (elements_of lines) report.now
+      ≡ past_headers (elements_on_0 lines) report.locks
+      + now_headers (elements_on_0 lines) report.now
 
 -- and was written in part
 pub record HasClosedSome (old new : Option (List ℕ)) (lines : List Line) (written : ℕ)
     : Type 0 where
   pub bytes : List ℕ
-  pub report : IsReport (elements_of lines) (moments_of lines) (ending_of lines) bytes
+  pub report : IsReport (elements_on_0 lines) (moments_on_0 lines) (ending_of lines) bytes
   pub some : WroteSome old new bytes written
 
 -- the fault of a run that stands for a line that is refused; a file of more elements than a counter

@@ -89,6 +89,22 @@ pub(super) fn air_file(alloc: Global, moment: &[u8], bits: &[bool]) -> Result<Ve
     Ok(file)
 }
 
+/// An air file of two channels: the line of a moment, and lines of elements, each of them on
+/// channel 0 and then the same on channel 1.
+pub(super) fn two_channels(alloc: Global, moment: &[u8], bits: &[bool]) -> Result<Vec<u8>, Fail> {
+    let mut file = Vec::new(alloc);
+    file.extend_from_slice(moment)?;
+    for part in bits.chunks(490) {
+        let line = air_file(alloc, b"", part)?;
+        let (word, digits) = line.split_at_checked(1).ok_or("line")?;
+        file.extend_from_slice(&line)?;
+        file.extend_from_slice(word)?;
+        file.push(b'1')?;
+        file.extend_from_slice(digits)?;
+    }
+    Ok(file)
+}
+
 /// P2 P1 P2 P1 and then so many elements that aren't B, before other elements.
 pub(super) fn after_pattern(alloc: Global, gap: usize, bits: &[bool]) -> Result<Vec<bool>, Fail> {
     let mut positions = Vec::new(alloc);

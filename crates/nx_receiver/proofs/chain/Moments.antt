@@ -1,20 +1,22 @@
--- No moment of a run lies before the newest entry that it starts with.
-use Rattle.std.proofs.Common.{◌≡◌, inl, inr, ℕ, ◌≤◌, Bool, List, [], ◌∷◌, ◌++◌, length, get_or, sym, ap, ◌∙◌, subst, arith, append-nil}
+-- On no channel a moment of a run lies before the newest entry that was saved of it.
+use Rattle.std.proofs.Common.{◌≡◌, inl, inr, ℕ, ◌≤◌, Bool, true, false, cond, List, [], ◌∷◌, ◌++◌, length, get_or, Option, Some, None, refl, sym, subst, arith}
 use Rattle.std.specs.List.{All}
-use Rattle.std.specs.Prelude.{⊤}
+use Rattle.std.specs.Prelude.{⊤, unwrap_or}
 use Rattle.std.proofs.lemmas.Bool.{cases_lt}
 use Rattle.std.proofs.lemmas.List.{get_or_past}
-use Rattle.std.proofs.lemmas.List.Concat.{flat_map-append}
-use Rattle.std.proofs.lemmas.List.Elements.{All-append, All-cons, All-get_or, All-head, All-nil, All-tail}
-use Rattle.nx_memory.specs.Saved.{SavedState}
-use Rattle.nx_memory.specs.Memory.{newest_moment}
+use Rattle.std.proofs.Math.Nat.{le-max_left, le-max_right}
+use Rattle.std.proofs.lemmas.List.Elements.{All-append, All-cons, All-get_or, All-head, All-nil, All-tail, All-weaker}
+use Rattle.nx_memory.specs.Saved.{SavedStates, later_of}
+use Rattle.nx_memory.specs.Memory.{newest_moment, newest_of}
+use Rattle.nx_fec.specs.declared.channel.Channel.{Channel}
+use Rattle.nx_fec.specs.declared.channel.Channel.TheVariants.{Zero, One, Two}
 use Rattle.nx_fec.specs.AirFile.{Line, accept_station, accept_subject, elements, moment, refuse_station, refuse_subject}
-use Rattle.nx_receiver.specs.Chain.{GoesOn, Run, copies_in, events_in}
-use Rattle.nx_receiver.specs.Events.{Event, Setting, Start, at_moment, command, element, first_setting, setting_after, setting_after_all, settings}
+use Rattle.nx_receiver.specs.Chain.{GoesOn, Run, copies_in, events_in, start_in}
+use Rattle.nx_receiver.specs.Events.{Command, Event, Setting, at_moment, command, element, first_setting, setting_after, settings}
 use Rattle.nx_receiver.specs.FoundCopies.{FoundCopy, TaggedCopy, tag, tagged_copies}
-use Rattle.nx_receiver.specs.Listen.{AreTakenAfter, IsTakenAfter, events_of, in_force_after, line_events}
+use Rattle.nx_receiver.specs.Listen.{AreTakenAfter, IsTakenAfter, events_on, given_of, moment_after}
 use Rattle.nx_receiver.specs.Events as fed
-use Rattle.nx_receiver.proofs.receiving.Events.{force-append}
+use Rattle.nx_receiver.specs.Shares.{Starts, events_for, saved_of, starts_from}
 
 -- from this moment on
 abbrev IsFrom : ℕ → Event → Type 0
@@ -38,47 +40,65 @@ elements-from m (bit ∷ bits) =
 one-from : (m : ℕ) (event : Event) → IsFrom m event → All (IsFrom m) (event ∷ [])
 one-from m event h = All-cons (IsFrom m) event [] h (All-nil (IsFrom m))
 
-line-from : (start : Start) (first : List Line) (line : Line)
-    → IsSetFrom start.moment (in_force_after start first) → IsTakenAfter start first line
-    → All (IsFrom start.moment) (line_events line)
-line-from start first (moment n) low h = one-from start.moment _ (omega (arith, low, h.0))
-line-from start first (elements bits) low h = elements-from start.moment bits
-line-from start first (refuse_station letter) low h = one-from start.moment _ tt
-line-from start first (accept_station letter) low h = one-from start.moment _ tt
-line-from start first (refuse_subject letter) low h = one-from start.moment _ tt
-line-from start first (accept_subject letter) low h = one-from start.moment _ tt
+-- what belongs to one channel alone, if it is this one
+if-from : (m : ℕ) (b : Bool) (events : List Event) → All (IsFrom m) events
+    → All (IsFrom m) (cond b events [])
+if-from m true events h = h
+if-from m false events h = All-nil (IsFrom m)
 
-after-from : (m : ℕ) (now : Setting) (events : List Event) → IsSetFrom m now → All (IsFrom m) events
-    → IsSetFrom m (setting_after_all now events)
-unfolding setting_after_all
-after-from m now [] low all = low
-after-from m now (at_moment n ∷ events) low all =
-    after-from m (setting_after now (at_moment n)) events
-    (All-head (IsFrom m) (at_moment n) events all)
-    (All-tail (IsFrom m) (at_moment n) events all)
-after-from m now (element bit ∷ events) low all =
-    after-from m now events low (All-tail (IsFrom m) (element bit) events all)
-after-from m now (command c ∷ events) low all =
-    after-from m (setting_after now (command c)) events low
-    (All-tail (IsFrom m) (command c) events all)
+command-from : (m : ℕ) (b : Bool) (c : Command)
+    → All (IsFrom m) (cond b (command c ∷ []) [])
+command-from m b c = if-from m b (command c ∷ []) (one-from m (command c) tt)
 
-lines-from : (start : Start) (first lines : List Line)
-    → IsSetFrom start.moment (in_force_after start first) → AreTakenAfter start first lines
-    → All (IsFrom start.moment) (events_of lines)
+line-from : (channel : Channel) (starts : Starts) (first : List Line) (line : Line)
+    → starts.moment ≤ moment_after starts.moment first → IsTakenAfter starts first line
+    → All (IsFrom starts.moment) (events_for channel (given_of line))
+line-from channel starts first (moment n) low h =
+    one-from starts.moment _ (omega (arith, low, h.0))
+line-from channel starts first (elements mark bits) low h =
+    if-from starts.moment _ _ (elements-from starts.moment bits)
+line-from channel starts first (refuse_station mark letter) low h =
+    command-from starts.moment _ (fed.refuse_station letter)
+line-from channel starts first (accept_station mark letter) low h =
+    command-from starts.moment _ (fed.accept_station letter)
+line-from channel starts first (refuse_subject mark letter) low h =
+    command-from starts.moment _ (fed.refuse_subject letter)
+line-from channel starts first (accept_subject mark letter) low h =
+    command-from starts.moment _ (fed.accept_subject letter)
+
+-- the moment in force after more lines
+after-more : (m : ℕ) (first lines : List Line)
+    → moment_after m (first ++ lines) ≡ moment_after (moment_after m first) lines
+after-more m [] lines = refl
+after-more m (moment n ∷ first) lines = after-more n first lines
+after-more m (elements mark bits ∷ first) lines = after-more m first lines
+after-more m (refuse_station mark letter ∷ first) lines = after-more m first lines
+after-more m (accept_station mark letter ∷ first) lines = after-more m first lines
+after-more m (refuse_subject mark letter ∷ first) lines = after-more m first lines
+after-more m (accept_subject mark letter ∷ first) lines = after-more m first lines
+
+one-after : (starts : Starts) (first : List Line) (line : Line)
+    → starts.moment ≤ moment_after starts.moment first → IsTakenAfter starts first line
+    → starts.moment ≤ moment_after (moment_after starts.moment first) (line ∷ [])
+one-after starts first (moment n) low h = omega (arith, low, h.0)
+one-after starts first (elements mark bits) low h = low
+one-after starts first (refuse_station mark letter) low h = low
+one-after starts first (accept_station mark letter) low h = low
+one-after starts first (refuse_subject mark letter) low h = low
+one-after starts first (accept_subject mark letter) low h = low
+
+lines-from : (channel : Channel) (starts : Starts) (first lines : List Line)
+    → starts.moment ≤ moment_after starts.moment first → AreTakenAfter starts first lines
+    → All (IsFrom starts.moment) (events_on channel lines)
 unfolding AreTakenAfter
-lines-from start first [] low h = All-nil (IsFrom start.moment)
-lines-from start first (line ∷ lines) low h =
-    let here = line-from start first line low h.0 in
-    let after : in_force_after start (first ++ line ∷ [])
-    ≡ setting_after_all (in_force_after start first) (line_events line) =
-    ap (setting_after_all (first_setting start))
-    (flat_map-append line_events first (line ∷ [])
-    ∙ ap (λ es. events_of first ++ es) (append-nil (line_events line)))
-    ∙ force-append (first_setting start) (events_of first) (line_events line) in
-    let next = subst (IsSetFrom start.moment) (sym after)
-    (after-from start.moment (in_force_after start first) (line_events line) low here) in
-    All-append (IsFrom start.moment) (line_events line) (events_of lines) here
-    (lines-from start (first ++ line ∷ []) lines next h.1)
+lines-from channel starts first [] low h = All-nil (IsFrom starts.moment)
+lines-from channel starts first (line ∷ lines) low h =
+    let next : starts.moment ≤ moment_after starts.moment (first ++ line ∷ []) =
+    subst (λ m. starts.moment ≤ m) (sym (after-more starts.moment first (line ∷ [])))
+    (one-after starts first line low h.0) in
+    All-append (IsFrom starts.moment) (events_for channel (given_of line)) (events_on channel lines)
+    (line-from channel starts first line low h.0)
+    (lines-from channel starts (first ++ line ∷ []) lines next h.1)
 
 -- ---- the copies in them
 
@@ -114,16 +134,53 @@ tagged-from m first events (copy ∷ copies) low all =
     All-cons (IsCopyFrom m) _ _ (at-from m (settings first events) first copy.place low all)
     (tagged-from m first events copies low all)
 
--- no copy of a run is older than the newest entry that the run starts with
-pub copies-from : (saved left : SavedState) (run : Run) → GoesOn saved run left
-    → All (IsCopyFrom (newest_moment saved.entries)) (copies_in run)
-unfolding setting_after_all
-copies-from saved left run g =
-    let first = first_setting run.start in
-    let itself : run.start.moment ≤ run.start.moment = omega arith in
-    let given = lines-from run.start [] run.lines itself g.heard.taken.each in
-    let all = tagged-from run.start.moment first (events_in run) run.found itself
-    (settings-from run.start.moment first (events_in run) itself given) in
-    let from : run.start.moment ≡ newest_moment saved.entries =
-    ap (λ (s : Start). s.moment) g.begins in
-    subst (λ m. All (IsCopyFrom m) (copies_in run)) from all
+-- ---- the moment at which all receivers of a run start
+
+later-first : (one other : Option ℕ) → unwrap_or one 0 ≤ unwrap_or (later_of one other) 0
+later-first None other = omega arith
+later-first (Some m) None = omega arith
+later-first (Some m) (Some n) = le-max_left m n
+
+later-second : (one other : Option ℕ) → unwrap_or other 0 ≤ unwrap_or (later_of one other) 0
+later-second None other = omega arith
+later-second (Some m) None = omega arith
+later-second (Some m) (Some n) = le-max_right m n
+
+-- it isn't before the newest entry that was saved of any channel
+newest-before : (saved : SavedStates) (channel : Channel)
+    → newest_moment (saved_of saved channel).entries ≤ (starts_from saved).moment
+newest-before saved Zero =
+    later-first (newest_of saved.on_0.entries)
+    (later_of (newest_of saved.on_1.entries) (newest_of saved.on_2.entries))
+newest-before saved One =
+    omega (
+      arith,
+      later-first (newest_of saved.on_1.entries) (newest_of saved.on_2.entries),
+      later-second (newest_of saved.on_0.entries)
+          (later_of (newest_of saved.on_1.entries) (newest_of saved.on_2.entries)),
+    )
+newest-before saved Two =
+    omega (
+      arith,
+      later-second (newest_of saved.on_1.entries) (newest_of saved.on_2.entries),
+      later-second (newest_of saved.on_0.entries)
+          (later_of (newest_of saved.on_1.entries) (newest_of saved.on_2.entries)),
+    )
+
+-- no copy of a run on a channel is older than the newest entry that was saved of it
+pub copies-from : (channel : Channel) (saved left : SavedStates) (run : Run)
+    → GoesOn saved run left
+    → All (IsCopyFrom (newest_moment (saved_of saved channel).entries)) (copies_in channel run)
+copies-from channel saved left run g =
+    let start = start_in channel run in
+    let first = first_setting start in
+    let events = events_in channel run in
+    let from = newest_moment (saved_of saved channel).entries in
+    let itself : start.moment ≤ start.moment = omega arith in
+    let given = lines-from channel run.starts [] run.lines itself g.heard.taken.each in
+    let all = tagged-from start.moment first events (run.found channel) itself
+    (settings-from start.moment first events itself given) in
+    let before : from ≤ start.moment =
+    subst (λ (s : Starts). from ≤ s.moment) (sym g.begins) (newest-before saved channel) in
+    All-weaker (IsCopyFrom start.moment) (IsCopyFrom from)
+    (λ copy low. omega (arith, low, before)) (copies_in channel run) all

@@ -2,26 +2,32 @@
 use Rattle.std.proofs.Common.{◌≡◌, ℕ, ◌≤◌, List, [], ◌∷◌, ◌++◌, length, Option, refl, sym, ap, ◌∙◌, subst, append-nil}
 use Rattle.std.specs.Io.KnownBytes.{Appends}
 use Rattle.nx_code.specs.Lists.{last_of}
-use Rattle.nx_memory.specs.Saved.{SavedState}
+use Rattle.nx_memory.specs.Saved.{SavedState, SavedStates}
 use Rattle.nx_memory.specs.Memory.{most_entries}
 use Rattle.nx_memory.specs.Selection.{Refused}
 use Rattle.nx_memory.specs.declared.entry.MemoryEntry.{MemoryEntry}
 use Rattle.nx_fec.specs.AirFile.{Line}
 use Rattle.nx_fec.specs.Lines.{air_limit, IsAirFile}
+use Rattle.nx_fec.specs.declared.channel.Channel.{Channel}
+use Rattle.nx_fec.specs.declared.channel.Channel.TheVariants.{Zero, One, Two}
 use Rattle.nx_fec.proofs.LineLaws.{IsAirFile-unique}
 use Rattle.nx_sync.proofs.StateChanges.{standing_after}
 use Rattle.nx_sync.proofs.UniqueStates.{locks-unique, now-unique}
-use Rattle.nx_receiver.specs.Chain.{AgreeInLast, AreFoundIn, GoesOn, HasGoneOn, IsChain, Leaves, Run, all_copies, all_events, all_logs, all_printed, copies_in, events_in, files, start_from}
+use Rattle.nx_receiver.specs.Chain.{AgreeInLast, AreFoundIn, GoesOn, HasGoneOn, IsChain, Leaves, Run, all_copies, all_events, all_logs, all_printed, copies_in, events_in, files, start_in}
 use Rattle.nx_receiver.specs.Events.{Event, Setting, Start, at_moment, command, element, elements_among, first_setting, refused_after, setting_after, setting_after_all}
-use Rattle.nx_receiver.specs.FoundCopies.{FoundCopy, found_to_end, TaggedCopy, tagged_copies}
-use Rattle.nx_receiver.specs.Listen.{HasListened, IsLogOfFile, events_of}
+use Rattle.nx_receiver.specs.FoundCopies.{FoundCopy, found_to_end, tagged_copies}
+use Rattle.nx_receiver.specs.InTurn.{PrintAllToEnd}
+use Rattle.nx_receiver.specs.Listen.{HasListened, IsLogOfFile, events_on, given_by}
 use Rattle.nx_receiver.specs.Log.{IsLog, printed_of}
 use Rattle.nx_receiver.specs.Printing.{entries_after, entries_made, printed_copies}
+use Rattle.nx_receiver.specs.Shares.{MarkedCopy, Starts, copies_on, saved_of, start_on, starts_from}
 use Rattle.nx_receiver.specs.declared.listening.Report.{Report}
+use Rattle.nx_receiver.proofs.Shares.{copies_on-append, to_end-on}
 use Rattle.nx_receiver.proofs.chain.Printing.{all_of_few, few_of_last, last_agrees, same_end, same_log}
 use Rattle.nx_receiver.proofs.receiving.Logged.{entries_after-append, printed_copies-append}
 use Rattle.nx_receiver.proofs.receiving.Log.{logs_join, one_log}
 use Rattle.nx_receiver.proofs.receiving.Events.{force-append}
+use Rattle.nx_receiver.proofs.turns.One.{one-to_end}
 
 -- ---- one run
 
@@ -36,54 +42,66 @@ found_same events copies others f g =
     ∙ ap (found_to_end bits g.locks) (now-unique bits f.locks g.locks f.now g.now f.stands g.stands)
     ∙ sym g.whole
 
--- a run prints what is printed of its copies, after the entries that it starts with
-run_prints : (saved : SavedState) (run : Run) (left : SavedState) → GoesOn saved run left
-    → run.printed ≡ printed_copies saved.entries (copies_in run)
-run_prints saved run left g =
-    let p = g.heard.printed in
-    let all = found_to_end (elements_among (events_in run)) p.locks p.now in
-    let found : AreFoundIn (events_in run) all =
+-- on each channel a run prints what is printed of its copies, after the entries that it starts with
+run_prints : (channel : Channel) (saved : SavedStates) (run : Run) (left : SavedStates)
+    → GoesOn saved run left
+    → copies_on channel run.printed
+    ≡ printed_copies (saved_of saved channel).entries (copies_in channel run)
+run_prints channel saved run left g =
+    let events = events_in channel run in
+    let p = to_end-on run.starts (given_by run.lines) run.printed channel g.heard.printed in
+    let all = found_to_end (elements_among events) p.locks p.now in
+    let found : AreFoundIn events all =
     record { locks = p.locks; now = p.now; stands = p.stands; whole = refl } in
     p.printed
-    ∙ ap (printed_of run.start (events_in run))
-    (found_same (events_in run) all run.found found g.found)
-    ∙ ap (λ s. printed_copies s.entries (copies_in run)) g.begins
+    ∙ ap (printed_of (start_in channel run) events)
+    (found_same events all (run.found channel) found (g.found channel))
+    ∙ ap (λ (s : Starts). printed_copies (saved_of s.saved channel).entries (copies_in channel run))
+    g.begins
 
 -- and leaves the last 200 of all entries made of them
-run_leaves : (saved : SavedState) (run : Run) (left : SavedState) → GoesOn saved run left
-    → left.entries ≡ last_of most_entries (entries_after saved.entries (copies_in run))
-run_leaves saved run left g =
-    let l = g.leaves in
+run_leaves : (channel : Channel) (saved : SavedStates) (run : Run) (left : SavedStates)
+    → GoesOn saved run left
+    → (saved_of left channel).entries
+    ≡ last_of most_entries
+    (entries_after (saved_of saved channel).entries (copies_in channel run))
+run_leaves channel saved run left g =
+    let l = g.leaves channel in
+    let start = start_in channel run in
+    let events = events_in channel run in
     l.entries
     ∙ ap (λ cs. last_of most_entries
-    (entries_after run.start.entries
-    (tagged_copies (first_setting run.start) (events_in run) cs)))
-    (found_same (events_in run) l.copies run.found l.found g.found)
-    ∙ ap (λ s. last_of most_entries (entries_after s.entries (copies_in run))) g.begins
+    (entries_after start.entries (tagged_copies (first_setting start) events cs)))
+    (found_same events l.copies (run.found channel) l.found (g.found channel))
+    ∙ ap (λ (s : Starts). last_of most_entries
+    (entries_after (saved_of s.saved channel).entries (copies_in channel run))) g.begins
 
 -- ---- what is printed
 
-pub chain_prints : (entries : List MemoryEntry) (first : SavedState) (runs : List Run)
-    (last : SavedState) → AgreeInLast entries first.entries → IsChain first runs last
-    → all_printed runs ≡ printed_copies entries (all_copies runs)
+pub chain_prints : (channel : Channel) (entries : List MemoryEntry) (first : SavedStates)
+    (runs : List Run) (last : SavedStates) → AgreeInLast entries (saved_of first channel).entries
+    → IsChain first runs last
+    → copies_on channel (all_printed runs) ≡ printed_copies entries (all_copies channel runs)
 unfolding printed_copies
-chain_prints entries first [] last agree chain = refl
-chain_prints entries first (run ∷ runs) last agree chain =
+chain_prints channel entries first [] last agree chain = refl
+chain_prints channel entries first (run ∷ runs) last agree chain =
     let left = chain.0 in
     let goes = chain.1 in
-    let copies = copies_in run in
-    let next : AgreeInLast (entries_after entries copies) left.entries =
-    same_end entries first.entries copies agree
-    ∙ last_agrees (entries_after first.entries copies)
-    ∙ ap (last_of most_entries) (sym (run_leaves first run left goes)) in
-    ap (λ ps. ps ++ all_printed runs)
-    (run_prints first run left goes ∙ sym (same_log entries first.entries copies agree))
+    let copies = copies_in channel run in
+    let begun = (saved_of first channel).entries in
+    let next : AgreeInLast (entries_after entries copies) (saved_of left channel).entries =
+    same_end entries begun copies agree
+    ∙ last_agrees (entries_after begun copies)
+    ∙ ap (last_of most_entries) (sym (run_leaves channel first run left goes)) in
+    copies_on-append channel run.printed (all_printed runs)
+    ∙ ap (λ ps. ps ++ copies_on channel (all_printed runs))
+    (run_prints channel first run left goes ∙ sym (same_log entries begun copies agree))
     ∙ ap (λ ps. printed_copies entries copies ++ ps)
-    (chain_prints (entries_after entries copies) left runs last next chain.2)
-    ∙ sym (printed_copies-append entries copies (all_copies runs))
+    (chain_prints channel (entries_after entries copies) left runs last next chain.2)
+    ∙ sym (printed_copies-append entries copies (all_copies channel runs))
 
 -- the logs are the log of all that is printed
-pub chain_logs : (first : SavedState) (runs : List Run) (last : SavedState)
+pub chain_logs : (first : SavedStates) (runs : List Run) (last : SavedStates)
     → IsChain first runs last → IsLog (all_printed runs) (all_logs runs)
 chain_logs first [] last chain = record { entries = []; each = tt; joined = refl }
 chain_logs first (run ∷ runs) last chain =
@@ -92,40 +110,45 @@ chain_logs first (run ∷ runs) last chain =
 
 -- ---- what is left
 
-chain_agrees : (entries : List MemoryEntry) (first : SavedState) (runs : List Run)
-    (last : SavedState) → AgreeInLast entries first.entries → IsChain first runs last
-    → AgreeInLast (entries_after entries (all_copies runs)) last.entries
+chain_agrees : (channel : Channel) (entries : List MemoryEntry) (first : SavedStates)
+    (runs : List Run) (last : SavedStates) → AgreeInLast entries (saved_of first channel).entries
+    → IsChain first runs last
+    → AgreeInLast (entries_after entries (all_copies channel runs)) (saved_of last channel).entries
 unfolding entries_made
-chain_agrees entries first [] last agree chain =
+chain_agrees channel entries first [] last agree chain =
     ap (last_of most_entries) (append-nil entries) ∙ agree
-    ∙ ap (λ k. last_of most_entries k.entries) (sym chain)
-chain_agrees entries first (run ∷ runs) last agree chain =
+    ∙ ap (λ (k : SavedStates). last_of most_entries (saved_of k channel).entries) (sym chain)
+chain_agrees channel entries first (run ∷ runs) last agree chain =
     let left = chain.0 in
     let goes = chain.1 in
-    let copies = copies_in run in
-    let next : AgreeInLast (entries_after entries copies) left.entries =
-    same_end entries first.entries copies agree
-    ∙ last_agrees (entries_after first.entries copies)
-    ∙ ap (last_of most_entries) (sym (run_leaves first run left goes)) in
-    ap (last_of most_entries) (entries_after-append entries copies (all_copies runs))
-    ∙ chain_agrees (entries_after entries copies) left runs last next chain.2
+    let copies = copies_in channel run in
+    let begun = (saved_of first channel).entries in
+    let next : AgreeInLast (entries_after entries copies) (saved_of left channel).entries =
+    same_end entries begun copies agree
+    ∙ last_agrees (entries_after begun copies)
+    ∙ ap (last_of most_entries) (sym (run_leaves channel first run left goes)) in
+    ap (last_of most_entries) (entries_after-append entries copies (all_copies channel runs))
+    ∙ chain_agrees channel (entries_after entries copies) left runs last next chain.2
 
-chain_few : (first : SavedState) (runs : List Run) (last : SavedState)
-    → length first.entries ≤ most_entries → IsChain first runs last
-    → length last.entries ≤ most_entries
-chain_few first [] last few chain = subst (λ k. length k.entries ≤ most_entries) (sym chain) few
-chain_few first (run ∷ runs) last few chain =
-    let made = entries_after first.entries (copies_in run) in
-    chain_few chain.0 runs last
-    (subst (λ es. length es ≤ most_entries) (sym (run_leaves first run chain.0 chain.1))
-    (few_of_last made)) chain.2
+chain_few : (channel : Channel) (first : SavedStates) (runs : List Run) (last : SavedStates)
+    → length (saved_of first channel).entries ≤ most_entries → IsChain first runs last
+    → length (saved_of last channel).entries ≤ most_entries
+chain_few channel first [] last few chain =
+    subst (λ (k : SavedStates). length (saved_of k channel).entries ≤ most_entries) (sym chain) few
+chain_few channel first (run ∷ runs) last few chain =
+    let made = entries_after (saved_of first channel).entries (copies_in channel run) in
+    chain_few channel chain.0 runs last
+    (subst (λ (es : List MemoryEntry). length es ≤ most_entries)
+    (sym (run_leaves channel first run chain.0 chain.1)) (few_of_last made)) chain.2
 
-pub chain_leaves : (first : SavedState) (runs : List Run) (last : SavedState)
-    → length first.entries ≤ most_entries → IsChain first runs last
-    → last.entries ≡ last_of most_entries (entries_after first.entries (all_copies runs))
-chain_leaves first runs last few chain =
-    sym (all_of_few last.entries (chain_few first runs last few chain))
-    ∙ sym (chain_agrees first.entries first runs last refl chain)
+pub chain_leaves : (channel : Channel) (first : SavedStates) (runs : List Run) (last : SavedStates)
+    → length (saved_of first channel).entries ≤ most_entries → IsChain first runs last
+    → (saved_of last channel).entries
+    ≡ last_of most_entries
+    (entries_after (saved_of first channel).entries (all_copies channel runs))
+chain_leaves channel first runs last few chain =
+    sym (all_of_few (saved_of last channel).entries (chain_few channel first runs last few chain))
+    ∙ sym (chain_agrees channel (saved_of first channel).entries first runs last refl chain)
 
 -- ---- what is refused
 
@@ -143,28 +166,33 @@ refused_all s t [] e = e
 refused_all s t (event ∷ events) e =
     refused_all (setting_after s event) (setting_after t event) events (refused_one s t event e)
 
-chain_refuses_from : (now : Setting) (first : SavedState) (runs : List Run) (last : SavedState)
-    → now.refused ≡ first.refused → IsChain first runs last
-    → last.refused ≡ (setting_after_all now (all_events runs)).refused
+chain_refuses_from : (channel : Channel) (now : Setting) (first : SavedStates) (runs : List Run)
+    (last : SavedStates) → now.refused ≡ (saved_of first channel).refused → IsChain first runs last
+    → (saved_of last channel).refused
+    ≡ (setting_after_all now (all_events channel runs)).refused
 unfolding setting_after_all
-chain_refuses_from now first [] last same chain = ap (λ k. k.refused) chain ∙ sym same
-chain_refuses_from now first (run ∷ runs) last same chain =
+chain_refuses_from channel now first [] last same chain =
+    ap (λ (k : SavedStates). (saved_of k channel).refused) chain ∙ sym same
+chain_refuses_from channel now first (run ∷ runs) last same chain =
     let left = chain.0 in
     let goes = chain.1 in
-    let events = events_in run in
-    let begun : now.refused ≡ (first_setting run.start).refused =
-    same ∙ ap (λ s. s.refused) (sym goes.begins) in
-    let next : (setting_after_all now events).refused ≡ left.refused =
-    refused_all now (first_setting run.start) events begun ∙ sym goes.leaves.refused in
-    chain_refuses_from (setting_after_all now events) left runs last next chain.2
-    ∙ ap (λ s. s.refused) (sym (force-append now events (all_events runs)))
+    let start = start_in channel run in
+    let events = events_in channel run in
+    let begun : now.refused ≡ (first_setting start).refused =
+    same ∙ ap (λ (s : Starts). (saved_of s.saved channel).refused) (sym goes.begins) in
+    let next : (setting_after_all now events).refused ≡ (saved_of left channel).refused =
+    refused_all now (first_setting start) events begun ∙ sym (goes.leaves channel).refused in
+    chain_refuses_from channel (setting_after_all now events) left runs last next chain.2
+    ∙ ap (λ (s : Setting). s.refused) (sym (force-append now events (all_events channel runs)))
 
-pub chain_refuses : (first : SavedState) (runs : List Run) (last : SavedState)
+pub chain_refuses : (channel : Channel) (first : SavedStates) (runs : List Run) (last : SavedStates)
     → IsChain first runs last
-    → last.refused ≡ (setting_after_all (first_setting (start_from first))
-    (all_events runs)).refused
-chain_refuses first runs last chain =
-    chain_refuses_from (first_setting (start_from first)) first runs last refl chain
+    → (saved_of last channel).refused
+    ≡ (setting_after_all (first_setting (start_on (starts_from first) channel))
+    (all_events channel runs)).refused
+chain_refuses channel first runs last chain =
+    chain_refuses_from channel (first_setting (start_on (starts_from first) channel)) first runs
+    last refl chain
 
 -- ---- what a run leaves is one, and what a chain logs is told by its files
 
@@ -207,42 +235,74 @@ few_left start events left l =
     (few_of_last (entries_after start.entries
     (tagged_copies (first_setting start) events l.copies)))
 
+-- what is left of each channel, after lines
+abbrev pub LeavesEach : Starts → List Line → SavedStates → Type 0
+LeavesEach starts lines left =
+    (channel : Channel)
+    → Leaves (start_on starts channel) (events_on channel lines) (saved_of left channel)
+
+some_left_of_each : (starts : Starts) (lines : List Line)
+    → (left : SavedStates) × LeavesEach starts lines left
+some_left_of_each starts lines =
+    (record { on_0 = (some Zero).0; on_1 = (some One).0; on_2 = (some Two).0 }, each)
+  where
+    some : (channel : Channel)
+        → (left : SavedState)
+        × Leaves (start_on starts channel) (events_on channel lines) left
+    some channel = some_left (start_on starts channel) (events_on channel lines)
+
+    each : LeavesEach starts lines
+        (record { on_0 = (some Zero).0; on_1 = (some One).0; on_2 = (some Two).0 })
+    each Zero = (some Zero).1
+    each One = (some One).1
+    each Two = (some Two).1
+
+-- where they are the same of each channel, they are the same
+same_of_each : (left other : SavedStates)
+    → ((channel : Channel) → saved_of left channel ≡ saved_of other channel) → left ≡ other
+same_of_each left other h =
+    ap (λ (s : SavedState). record { on_0 = s; on_1 = left.on_1; on_2 = left.on_2 }) (h Zero)
+    ∙ ap (λ (s : SavedState). record { on_0 = other.on_0; on_1 = s; on_2 = left.on_2 }) (h One)
+    ∙ ap (λ (s : SavedState). record { on_0 = other.on_0; on_1 = other.on_1; on_2 = s }) (h Two)
+
 -- two runs of one file, after the same
-record IsSameRun (run other : Run) (left next : SavedState) : Type 0 where
+record IsSameRun (run other : Run) (left next : SavedStates) : Type 0 where
   log : run.log ≡ other.log
   left_same : left ≡ next
 
-same_run : (saved : SavedState) (run other : Run) (left next : SavedState) → run.file ≡ other.file
+same_run : (saved : SavedStates) (run other : Run) (left next : SavedStates)
+    → run.file ≡ other.file
     → GoesOn saved run left → GoesOn saved other next → IsSameRun run other left next
 same_run saved run other left next file g h =
-    let start : run.start ≡ other.start = g.begins ∙ sym h.begins in
+    let starts : run.starts ≡ other.starts = g.begins ∙ sym h.begins in
     let lines : run.lines ≡ other.lines =
     IsAirFile-unique air_limit other.file run.lines other.lines
     (subst (λ (bytes : List ℕ). IsAirFile air_limit bytes run.lines) file g.heard.file)
     h.heard.file in
-    let events : events_in run ≡ events_in other = ap events_of lines in
-    let found : run.found ≡ other.found =
-    found_same (events_in other) run.found other.found
-    (subst (λ (es : List Event). AreFoundIn es run.found) events g.found) h.found in
-    let copies : copies_in run ≡ copies_in other =
-    ap (λ (s : Start). tagged_copies (first_setting s) (events_in run) run.found) start
-    ∙ ap (λ (es : List Event). tagged_copies (first_setting other.start) es run.found) events
-    ∙ ap (tagged_copies (first_setting other.start) (events_in other)) found in
+    let mine : PrintAllToEnd other.starts (given_by other.lines) run.printed =
+    subst (λ (ls : List Line). PrintAllToEnd other.starts (given_by ls) run.printed) lines
+    (subst (λ (s : Starts). PrintAllToEnd s (given_by run.lines) run.printed) starts
+    g.heard.printed) in
     let printed : run.printed ≡ other.printed =
-    run_prints saved run left g ∙ ap (printed_copies saved.entries) copies
-    ∙ sym (run_prints saved other next h) in
-    let leaves : Leaves other.start (events_in other) left =
-    subst (λ (es : List Event). Leaves other.start es left) events
-    (subst (λ (s : Start). Leaves s (events_in run) left) start g.leaves) in
+    one-to_end other.starts (given_by other.lines) run.printed other.printed mine
+    h.heard.printed in
+    let leaves : (channel : Channel)
+    → Leaves (start_in channel other) (events_in channel other) (saved_of left channel) =
+    λ channel. subst (λ (ls : List Line). Leaves (start_in channel other) (events_on channel ls)
+    (saved_of left channel)) lines
+    (subst (λ (s : Starts). Leaves (start_on s channel) (events_in channel run)
+    (saved_of left channel)) starts (g.leaves channel)) in
     record {
       log = one_log other.printed run.log other.log
-          (subst (λ (ps : List TaggedCopy). IsLog ps run.log) printed g.heard.spelled)
+          (subst (λ (ps : List MarkedCopy). IsLog ps run.log) printed g.heard.spelled)
           h.heard.spelled;
-      left_same = one_left other.start (events_in other) left next leaves h.leaves;
+      left_same = same_of_each left next (λ channel.
+          one_left (start_in channel other) (events_in channel other) (saved_of left channel)
+          (saved_of next channel) (leaves channel) (h.leaves channel));
     }
 
-pub files_decide : (first : SavedState) (runs : List Run) (last : SavedState) (others : List Run)
-    (end : SavedState) → files runs ≡ files others → IsChain first runs last
+pub files_decide : (first : SavedStates) (runs : List Run) (last : SavedStates) (others : List Run)
+    (end : SavedStates) → files runs ≡ files others → IsChain first runs last
     → IsChain first others end → (all_logs runs ≡ all_logs others) × (last ≡ end)
 files_decide first [] last [] end e c d = (refl, c ∙ sym d)
 files_decide first [] last (other ∷ others) end e c d = cc
@@ -252,40 +312,40 @@ files_decide first (run ∷ runs) last (other ∷ others) end e c d =
     let rest : files runs ≡ files others = cc in
     let s = same_run first run other c.0 d.0 file c.1 d.1 in
     let t = files_decide c.0 runs last others end rest c.2
-    (subst (λ (k : SavedState). IsChain k others end) (sym s.left_same) d.2) in
+    (subst (λ (k : SavedStates). IsChain k others end) (sym s.left_same) d.2) in
     (ap (λ l. l ++ all_logs runs) s.log ∙ ap (λ l. other.log ++ l) t.0, t.1)
 
 -- a chain and then another are one
-pub chains_join : (first : SavedState) (runs more : List Run) (saved last : SavedState)
+pub chains_join : (first : SavedStates) (runs more : List Run) (saved last : SavedStates)
     → IsChain first runs saved → IsChain saved more last → IsChain first (runs ++ more) last
-chains_join first [] more saved last c d = subst (λ (k : SavedState). IsChain k more last) c d
+chains_join first [] more saved last c d = subst (λ (k : SavedStates). IsChain k more last) c d
 chains_join first (run ∷ runs) more saved last c d =
     (c.0, c.1, chains_join c.0 runs more saved last c.2 d)
 
 -- a run of a file goes on
-pub goes_on : (saved left : SavedState) (file : List ℕ) (lines : List Line)
-    (printed : List TaggedCopy) (log : List ℕ)
-    → IsLogOfFile (start_from saved) file lines printed log
-    → Leaves (start_from saved) (events_of lines) left
+pub goes_on : (saved left : SavedStates) (file : List ℕ) (lines : List Line)
+    (printed : List MarkedCopy) (log : List ℕ)
+    → IsLogOfFile (starts_from saved) file lines printed log
+    → LeavesEach (starts_from saved) lines left
     → (run : Run) × (run.file ≡ file) × (run.log ≡ log) × GoesOn saved run left
 goes_on saved left file lines printed log h l = (
   record {
-    start = start_from saved;
+    starts = starts_from saved;
     file = file;
     lines = lines;
-    found = l.copies;
+    found = λ channel. (l channel).copies;
     printed = printed;
     log = log;
   },
   refl,
   refl,
-  record { begins = refl; heard = h; found = l.found; leaves = l },
+  record { begins = refl; heard = h; found = λ channel. (l channel).found; leaves = l },
 )
 
 -- a run that listened to it has gone on, whatever it leaves
-pub gone_on : (saved left : SavedState) (old new : Option (List ℕ)) (file : List ℕ)
-    (report : Report) → (h : HasListened (start_from saved) old new file report)
-    → Leaves (start_from saved) (events_of h.lines) left → HasGoneOn saved old new file left
+pub gone_on : (saved left : SavedStates) (old new : Option (List ℕ)) (file : List ℕ)
+    (report : Report) → (h : HasListened (starts_from saved) old new file report)
+    → LeavesEach (starts_from saved) h.lines left → HasGoneOn saved old new file left
 gone_on saved left old new file report h l =
     let g = goes_on saved left file h.lines h.copies h.log h.heard l in
     record {
@@ -296,9 +356,9 @@ gone_on saved left old new file report h l =
           g.3;
     }
 
-pub some_gone_on : (saved : SavedState) (old new : Option (List ℕ)) (file : List ℕ)
-    (report : Report) → HasListened (start_from saved) old new file report
-    → (left : SavedState) × HasGoneOn saved old new file left
+pub some_gone_on : (saved : SavedStates) (old new : Option (List ℕ)) (file : List ℕ)
+    (report : Report) → HasListened (starts_from saved) old new file report
+    → (left : SavedStates) × HasGoneOn saved old new file left
 some_gone_on saved old new file report h =
-    let l = some_left (start_from saved) (events_of h.lines) in
+    let l = some_left_of_each (starts_from saved) h.lines in
     (l.0, gone_on saved l.0 old new file report h l.1)

@@ -9,6 +9,7 @@ use Rattle.nx_memory.specs.Selection.{admits}
 use Rattle.nx_fec.specs.AirFile.{IsLine, moment, spelling}
 use Rattle.nx_fec.specs.BitLines.{bit_lines}
 use Rattle.nx_fec.specs.Emission.{bits_of}
+use Rattle.nx_fec.specs.declared.channel.Channel.TheVariants.{Zero}
 use Rattle.nx_fec.specs.Lines.{IsAirFile, file_of, line_bytes, air_limit}
 use Rattle.nx_fec.proofs.LineLaws.{spelling-IsBeginning}
 use Rattle.nx_fec.proofs.RoundTripLemmas.{length-bits_of}
@@ -16,21 +17,23 @@ use Rattle.nx_station.specs.ChannelExample.{example_message, example_parts, exam
 use Rattle.nx_station.specs.Sendings.{IsCut, Sending, IsSentAt}
 use Rattle.nx_station.proofs.ChannelExamples.{example_sent}
 use Rattle.nx_sync.specs.Locks.{locked, IsNow}
-use Rattle.nx_receiver.specs.Events.{Event, Setting, at_moment, at_zero, element, first_setting, setting_after_all, settings, elements_among, setting_at}
+use Rattle.nx_receiver.specs.Events.{Event, Setting, at_moment, at_zero, element, first_setting, settings, elements_among, setting_at}
 use Rattle.nx_receiver.specs.Example.{first_copy}
 use Rattle.nx_receiver.specs.FoundCopies.{FoundCopy, found_to_end, tag, tagged_copies}
-use Rattle.nx_receiver.specs.Listen.{AreTaken, AreTakenAfter, IsLogOf, events_of}
+use Rattle.nx_receiver.specs.Listen.{AreTaken, AreTakenAfter, IsLogOf, events_on, given_by}
 use Rattle.nx_receiver.specs.ListenExample.{example_air_file, example_lines}
-use Rattle.nx_receiver.specs.ListenOnce.{IsHeardInTimeIn}
+use Rattle.nx_receiver.specs.ListenOnce.{IsHeardInTimeOn}
 use Rattle.nx_receiver.specs.Log.{PrintsToEnd}
 use Rattle.nx_receiver.specs.Once.{IsHeardInTime}
 use Rattle.nx_receiver.specs.Printing.{printed_copies}
 use Rattle.nx_receiver.specs.Emissions.{copy_of_sending}
+use Rattle.nx_receiver.specs.Shares.{all_at_zero, marked}
 use Rattle.nx_receiver.specs.Worked.{at_its_slot, damaged_words, worked_log}
-use Rattle.nx_receiver.proofs.listens.ElementLines.{events-lines, good-lines, length-lines, taken-lines}
+use Rattle.nx_receiver.proofs.listens.ElementLines.{events-lines, events-others, good-lines, length-lines, taken-lines}
+use Rattle.nx_receiver.proofs.chain.Alone.{HearsAlone, printed-alone}
 use Rattle.nx_receiver.proofs.receiving.Logged.{one_to_end}
 use Rattle.nx_receiver.proofs.once.Repeats.{none_live}
-use Rattle.nx_receiver.proofs.examples.Emission.{cut_is, events, first_bits, found, not_two, one_found, one_in, sent_there, stands_is}
+use Rattle.nx_receiver.proofs.examples.Emission.{alone, cut_is, events, first_bits, found, not_two, one_found, one_in, sent_there, stands_is}
 use Rattle.nx_receiver.proofs.emissions.Found.{sending_in_end}
 use Rattle.nx_receiver.proofs.examples.Worked.{damaged_computed}
 use Rattle.nx_receiver.proofs.examples.WorkedLog.{all_selected, at_first, log_is, printed_to_end}
@@ -66,13 +69,13 @@ file-is = record {
       );
 }
 
--- ---- what it gives to a receiver
+-- ---- what it gives to the receiver of channel 0
 
-events-are : events_of example_lines ≡ at_moment 1735692000 ∷ events
+pub events-are : events_on Zero example_lines ≡ at_moment 1735692000 ∷ events
 events-are = ap (λ es. at_moment 1735692000 ∷ es) (events-lines bits)
 
 abbrev heard : List Event
-heard = events_of example_lines
+heard = events_on Zero example_lines
 
 same : elements_among events ≡ elements_among heard
 unfolding elements_among
@@ -164,7 +167,7 @@ heard-there = record {
       first later one-tagged e);
 }
 
-pub heard-in-time : IsHeardInTimeIn at_zero example_air_file example_message
+pub heard-in-time : IsHeardInTimeOn Zero all_at_zero example_air_file example_message
 heard-in-time = record {
   lines = example_lines;
   spelled = file-is;
@@ -175,19 +178,13 @@ heard-in-time = record {
 
 -- ---- its log
 
-taken : AreTaken at_zero example_lines
-unfolding AreTakenAfter setting_after_all
+taken : AreTaken all_at_zero example_lines
+unfolding AreTakenAfter
 taken = record {
   in_range = lit≤ tt;
   each =
-      ((lit≤ tt, lit≤ tt), taken-lines at_zero (moment 1735692000 ∷ []) bits refl);
+      ((lit≤ tt, lit≤ tt), taken-lines all_at_zero (moment 1735692000 ∷ []) bits refl);
 }
-
--- a list of one that holds an item is that item alone
-pub alone : {A : Type 0} (xs : List A) (x : A) → length xs ≡ 1 → Contains xs x → xs ≡ x ∷ []
-alone [] x one c = absurd (omega (arith, one))
-alone (y ∷ (z ∷ ys)) x one c = absurd (omega (arith, one))
-alone (y ∷ []) x one c = ap (λ w. w ∷ []) (one_in (y ∷ []) y x refl (0, omega arith, refl) c)
 
 tagged-same : tagged_copies (first_setting at_zero) heard found
     ≡ tagged_copies (first_setting at_its_slot) events found
@@ -200,7 +197,7 @@ tagged-same =
     (in-force ∙ sym (at_first (first_setting at_its_slot) bits place))
     ∙ ap (tagged_copies (first_setting at_its_slot) events) (sym is)
 
-printed : PrintsToEnd at_zero heard (first_copy ∷ [])
+pub printed : PrintsToEnd at_zero heard (first_copy ∷ [])
 printed =
     let before = printed_to_end damaged_words damaged_computed in
     let mine : PrintsToEnd at_its_slot events
@@ -216,10 +213,22 @@ printed =
           (tagged_copies (first_setting at_zero) heard cs)) found-same;
     }
 
-pub logged : IsLogOf at_zero example_air_file worked_log
+-- the other channels are given the moment alone
+one-heard : HearsAlone Zero (given_by example_lines)
+unfolding elements_among
+one-heard other h =
+    ap (λ es. elements_among (at_moment 1735692000 ∷ es)) (events-others other h bits)
+
+pub logged : IsLogOf all_at_zero example_air_file worked_log
 logged = (
   example_lines,
-  first_copy
+  marked Zero first_copy
       ∷ [],
-  record { file = file-is; taken = taken; printed = printed; spelled = log_is },
+  record {
+    file = file-is;
+    taken = taken;
+    printed = printed-alone Zero all_at_zero (given_by example_lines) (first_copy ∷ []) one-heard
+        printed;
+    spelled = log_is;
+  },
 )

@@ -1,40 +1,47 @@
 -- The worked chain of two runs: it is one, and it meets what is asked of a message that is printed
 -- once.
-use Rattle.std.proofs.Common.{◌≡◌, ℕ, ◌+◌, ◌<◌, ◌≤◌, Bool, List, [], ◌∷◌, ◌++◌, length, take, refl, sym, ap, ◌∙◌, subst, arith, append-nil, length-append, lit<, lit≤}
+use Rattle.std.proofs.Common.{◌≡◌, ℕ, ◌+◌, ◌<◌, ◌≤◌, Bool, false, List, [], ◌∷◌, ◌++◌, length, map, take, refl, sym, ap, ◌∙◌, subst, arith, append-nil, length-append, lit<, lit≤}
 use Rattle.std.specs.Prelude.{codes, slice_index_or}
 use Rattle.std.specs.List.{Contains}
 use Rattle.std.proofs.lemmas.List.{length-take}
 use Rattle.std.proofs.lemmas.List.Elements.{All-cons, All-contains, All-nil}
 use Rattle.nx_code.specs.Lists.{last_of}
+use Rattle.nx_envelope.specs.Copies.{copies}
 use Rattle.nx_envelope.specs.Moment.{last_moment}
 use Rattle.nx_envelope.specs.declared.found.How.TheVariants.{Full}
-use Rattle.nx_memory.specs.Saved.{SavedState}
+use Rattle.nx_memory.specs.Saved.{SavedState, nothing_saved, on_channel_0}
 use Rattle.nx_memory.specs.Memory.{most_entries}
 use Rattle.nx_memory.specs.Selection.{admits}
 use Rattle.nx_memory.specs.declared.entry.MemoryEntry.{MemoryEntry}
 use Rattle.nx_fec.specs.AirFile.{IsLine, Line, moment, spelling}
 use Rattle.nx_fec.specs.BitLines.{bit_lines}
 use Rattle.nx_fec.specs.Lines.{air_limit, IsAirFile, file_of, line_bytes}
+use Rattle.nx_fec.specs.Channels.{same_channel}
+use Rattle.nx_fec.specs.declared.channel.Channel.{Channel}
+use Rattle.nx_fec.specs.declared.channel.Channel.TheVariants.{Zero, One, Two}
 use Rattle.nx_fec.proofs.LineLaws.{spelling-IsBeginning}
 use Rattle.nx_fec.proofs.RoundTripLemmas.{length-bits_of}
 use Rattle.nx_station.specs.ChannelExample.{ea01, example_message, example_parts, example_sending}
 use Rattle.nx_station.specs.Sendings.{IsCut, Part, IsSentAt}
 use Rattle.nx_station.proofs.ChannelExamples.{example_sent}
 use Rattle.nx_sync.specs.Locks.{IsNow, locked}
-use Rattle.nx_receiver.specs.Chain.{AreFoundIn, IsChain, Leaves, Run, all_copies, all_logs, events_in, nothing_saved, start_from}
-use Rattle.nx_receiver.specs.ChainExample.{copy_heard, example_runs, first_run, saved_after, second_run}
+use Rattle.nx_receiver.specs.Chain.{AreFoundIn, GoesOn, IsChain, Leaves, Run, all_copies, all_logs, events_in}
+use Rattle.nx_receiver.specs.ChainExample.{copy_heard, example_runs, first_run, found_on, saved_after, second_run}
 use Rattle.nx_receiver.specs.ChainOnce.{CutRun, IsHeardInTimeOver, IsSentIn, in_force_in}
 use Rattle.nx_receiver.specs.Events.{Event, Setting, Start, at_moment, elements_among, first_setting, none_refused, setting_after_all, settings, setting_at}
 use Rattle.nx_receiver.specs.Example.{first_copy, heard_at}
 use Rattle.nx_receiver.specs.FoundCopies.{FoundCopy, found_to_end, TaggedCopy, tag, tagged_copies}
-use Rattle.nx_receiver.specs.Listen.{AreTaken, AreTakenAfter, events_of}
+use Rattle.nx_receiver.specs.InTurn.{PrintAllToEnd}
+use Rattle.nx_receiver.specs.Listen.{AreTaken, AreTakenAfter, events_on, given_by}
 use Rattle.nx_receiver.specs.Log.{PrintsToEnd}
 use Rattle.nx_receiver.specs.Printing.{entries_after, entries_made, entry_made, if_printed, is_entered, is_printed, printed_copies}
 use Rattle.nx_receiver.specs.Emissions.{copy_of_sending}
+use Rattle.nx_receiver.specs.Shares.{Starts, marked, none_saved, saved_of, start_on}
 use Rattle.nx_receiver.specs.Worked.{damaged_words, worked_log}
-use Rattle.nx_receiver.proofs.listens.ElementLines.{events-lines, good-lines, taken-lines}
-use Rattle.nx_receiver.proofs.examples.AirFile.{alone, bits, inside, lines-short, one-sending, place-within}
-use Rattle.nx_receiver.proofs.examples.Emission.{cut_is, events, first_bits, found, one_found, one_in, sent_there, stands_is}
+use Rattle.nx_receiver.proofs.chain.Alone.{found-none, printed-alone}
+use Rattle.nx_receiver.proofs.listens.ElementLines.{events-lines, events-others, good-lines, taken-lines}
+use Rattle.nx_receiver.proofs.examples.AirFile.{bits, inside, lines-short, one-sending, place-within}
+use Rattle.nx_receiver.proofs.examples.Emission.{alone, cut_is, events, first_bits, found, one_found, one_in, sent_there, stands_is}
 use Rattle.nx_receiver.proofs.once.Repeats.{none_live}
 use Rattle.nx_receiver.proofs.receiving.Events.{force-more}
 use Rattle.nx_receiver.proofs.examples.Worked.{damaged_computed}
@@ -61,14 +68,24 @@ file-is n good = record {
       );
 }
 
-events-are : (n : ℕ) → events_of (lines_heard n) ≡ at_moment n ∷ events
+events-are : (n : ℕ) → events_on Zero (lines_heard n) ≡ at_moment n ∷ events
 events-are n = ap (λ es. at_moment n ∷ es) (events-lines bits)
 
-same : (n : ℕ) → elements_among events ≡ elements_among (events_of (lines_heard n))
+-- the other channels are given the moment alone
+others-are : (channel : Channel) → same_channel Zero channel ≡ false → (n : ℕ)
+    → events_on channel (lines_heard n) ≡ at_moment n ∷ []
+others-are channel h n = ap (λ es. at_moment n ∷ es) (events-others channel h bits)
+
+same : (n : ℕ) → elements_among events ≡ elements_among (events_on Zero (lines_heard n))
 unfolding elements_among
 same n = sym (ap elements_among (events-are n))
 
-cut-heard : (n : ℕ) → IsCut (elements_among (events_of (lines_heard n)))
+none-among : (channel : Channel) → same_channel Zero channel ≡ false → (n : ℕ)
+    → elements_among (events_on channel (lines_heard n)) ≡ []
+unfolding elements_among
+none-among channel h n = ap elements_among (others-are channel h n)
+
+cut-heard : (n : ℕ) → IsCut (elements_among (events_on Zero (lines_heard n)))
     (example_parts first_bits [])
 cut-heard n = subst (λ (b : List Bool). IsCut b (example_parts first_bits [])) (same n) cut_is
 
@@ -88,13 +105,19 @@ copy-is =
     ∙ ap (λ (p : ℕ). copy_of_sending (record { message = example_message; place = p }) ∷ [])
     place-is
 
-found-in : (n : ℕ) → AreFoundIn (events_of (lines_heard n)) (copy_heard ∷ [])
-found-in n = record {
+found-first : (n : ℕ) → AreFoundIn (events_on Zero (lines_heard n)) (copy_heard ∷ [])
+found-first n = record {
   locks = [];
   now = locked 0 28;
   stands = subst (λ (b : List Bool). IsNow b [] (locked 0 28)) (same n) stands_is;
   whole = sym copy-is ∙ ap (λ (b : List Bool). found_to_end b [] (locked 0 28)) (same n);
 }
+
+found-in : (n : ℕ) (channel : Channel)
+    → AreFoundIn (events_on channel (lines_heard n)) (found_on channel)
+found-in n Zero = found-first n
+found-in n One = found-none (events_on One (lines_heard n)) (none-among One refl n)
+found-in n Two = found-none (events_on Two (lines_heard n)) (none-among Two refl n)
 
 sent-there : IsSentAt (example_parts first_bits []) example_message 1189
 sent-there = subst (IsSentAt (example_parts first_bits []) example_message) place-is
@@ -104,26 +127,34 @@ sent-there = subst (IsSentAt (example_parts first_bits []) example_message) plac
 abbrev copy_then : ℕ → TaggedCopy
 copy_then n = heard_at n ea01 Full (codes "TEST\n")
 
--- ---- a run that hears it, where nothing is refused
+-- ---- a run that hears it, where nothing is refused and nothing is saved of the other channels
 
 module _ (entries : List MemoryEntry) (from n : ℕ) where
-  abbrev begun : Start
-  begun = record { entries = entries; moment = from; refused = none_refused }
+  abbrev begun : Starts
+  begun = record {
+    moment = from;
+    saved =
+        on_channel_0 (record { entries = entries; refused = none_refused });
+  }
+
+  abbrev begun-first : Start
+  begun-first = start_on begun Zero
 
   abbrev then : Setting
   then = record { moment = n; refused = none_refused }
 
   abbrev given : List Event
-  given = events_of (lines_heard n)
+  given = events_on Zero (lines_heard n)
 
-  in-force : setting_at (first_setting begun) given 1189 ≡ then
+  in-force : setting_at (first_setting begun-first) given 1189 ≡ then
   unfolding settings
   in-force =
-      ap (λ es. slice_index_or (settings (first_setting begun) es) 1189 (first_setting begun))
+      ap (λ es. slice_index_or (settings (first_setting begun-first) es) 1189
+      (first_setting begun-first))
       (events-are n)
-      ∙ inside then (first_setting begun) bits 1189 (omega (arith, place-within, place-is))
+      ∙ inside then (first_setting begun-first) bits 1189 (omega (arith, place-within, place-is))
 
-  tagged : tagged_copies (first_setting begun) given (copy_heard ∷ []) ≡ copy_then n ∷ []
+  tagged : tagged_copies (first_setting begun-first) given (copy_heard ∷ []) ≡ copy_then n ∷ []
   unfolding tagged_copies tag
   tagged =
       ap (λ (s : Setting). tag s copy_heard ∷ []) in-force
@@ -136,40 +167,70 @@ module _ (entries : List MemoryEntry) (from n : ℕ) where
             b;
       } ∷ []) all_selected
 
-  printed : PrintsToEnd begun given (printed_copies entries (copy_then n ∷ []))
-  printed =
-      let f = found-in n in
+  printed-first : PrintsToEnd begun-first given (printed_copies entries (copy_then n ∷ []))
+  printed-first =
+      let f = found-first n in
       record {
         locks = f.locks;
         now = f.now;
         stands = f.stands;
         printed = ap (printed_copies entries) (sym tagged)
             ∙ ap (λ (cs : List FoundCopy). printed_copies entries
-            (tagged_copies (first_setting begun) given cs)) f.whole;
+            (tagged_copies (first_setting begun-first) given cs)) f.whole;
       }
 
+  printed : PrintAllToEnd begun (given_by (lines_heard n))
+      (map (marked Zero) (printed_copies entries (copy_then n ∷ [])))
+  printed =
+      printed-alone Zero begun (given_by (lines_heard n)) _ (λ other h. none-among other h n)
+      printed-first
+
   taken : from ≤ n → n ≤ last_moment → AreTaken begun (lines_heard n)
-  unfolding AreTakenAfter setting_after_all
+  unfolding AreTakenAfter
   taken low high = record {
     in_range = omega (arith, low, high);
     each = ((low, high), taken-lines begun (moment n ∷ []) bits refl);
   }
 
-  refused-none : none_refused ≡ (setting_after_all (first_setting begun) given).refused
+  refused-none : none_refused ≡ (setting_after_all (first_setting begun-first) given).refused
   unfolding setting_after_all
   refused-none =
-      sym (ap (λ es. (setting_after_all (first_setting begun) es).refused) (events-are n)
-      ∙ ap (λ (s : Setting). s.refused) (force-more (first_setting begun) (at_moment n ∷ []) bits))
+      sym (ap (λ es. (setting_after_all (first_setting begun-first) es).refused) (events-are n)
+      ∙ ap (λ (s : Setting). s.refused)
+      (force-more (first_setting begun-first) (at_moment n ∷ []) bits))
 
-  leaves : (left : SavedState)
+  leaves-first : (left : SavedState)
       → left.entries ≡ last_of most_entries (entries_after entries (copy_then n ∷ []))
-      → left.refused ≡ none_refused → Leaves begun given left
-  leaves left made saved = record {
+      → left.refused ≡ none_refused → Leaves begun-first given left
+  leaves-first left made saved = record {
     copies = copy_heard ∷ [];
-    found = found-in n;
+    found = found-first n;
     entries = made ∙ ap (λ cs. last_of most_entries (entries_after entries cs)) (sym tagged);
     refused = saved ∙ refused-none;
   }
+
+  -- nothing is left of a channel of which nothing was saved
+  leaves-none : (channel : Channel) → same_channel Zero channel ≡ false
+      → saved_of begun.saved channel ≡ nothing_saved
+      → Leaves (start_on begun channel) (events_on channel (lines_heard n)) nothing_saved
+  unfolding tagged_copies entries_made setting_after_all
+  leaves-none channel h none = record {
+    copies = [];
+    found = found-none (events_on channel (lines_heard n)) (none-among channel h n);
+    entries = ap (λ (s : SavedState). last_of most_entries (s.entries ++ [])) (sym none);
+    refused = ap (λ (s : SavedState). s.refused) (sym none)
+        ∙ ap (λ es. (setting_after_all (first_setting (start_on begun channel)) es).refused)
+        (sym (others-are channel h n));
+  }
+
+  leaves : (left : SavedState)
+      → left.entries ≡ last_of most_entries (entries_after entries (copy_then n ∷ []))
+      → left.refused ≡ none_refused → (channel : Channel)
+      → Leaves (start_on begun channel) (events_on channel (lines_heard n))
+      (saved_of (on_channel_0 left) channel)
+  leaves left made saved Zero = leaves-first left made saved
+  leaves left made saved One = leaves-none One refl refl
+  leaves left made saved Two = leaves-none Two refl refl
 
 -- ---- the two runs
 
@@ -178,51 +239,54 @@ unfolding printed_copies if_printed is_printed
 first-printed = refl
 
 first-made : last_of most_entries (entries_after [] (copy_then 1735692000 ∷ []))
-    ≡ saved_after.entries
+    ≡ saved_after.on_0.entries
 unfolding entries_made entry_made is_entered is_printed
 first-made = refl
 
-second-printed : printed_copies saved_after.entries (copy_then 1735706400 ∷ []) ≡ []
+second-printed : printed_copies saved_after.on_0.entries (copy_then 1735706400 ∷ []) ≡ []
 unfolding printed_copies if_printed is_printed
 second-printed = refl
 
-second-made : last_of most_entries (entries_after saved_after.entries (copy_then 1735706400 ∷ []))
-    ≡ saved_after.entries
+second-made : last_of most_entries
+    (entries_after saved_after.on_0.entries (copy_then 1735706400 ∷ []))
+    ≡ saved_after.on_0.entries
 unfolding entries_made entry_made is_entered is_printed
 second-made = refl
 
-pub is-chain : IsChain nothing_saved example_runs saved_after
-is-chain = (
-  saved_after,
-  record {
-    begins = refl;
-    heard = record {
-      file = file-is 1735692000 (lit< tt);
-      taken = taken [] 0 1735692000 (lit≤ tt) (lit≤ tt);
-      printed = subst (PrintsToEnd (start_from nothing_saved) (events_in first_run)) first-printed
-          (printed [] 0 1735692000);
-      spelled = log_is;
-    };
-    found = found-in 1735692000;
-    leaves = leaves [] 0 1735692000 saved_after (sym first-made) refl;
-  },
-  (
-    saved_after,
+first-goes : GoesOn none_saved first_run saved_after
+first-goes = record {
+  begins = refl;
+  heard = record {
+    file = file-is 1735692000 (lit< tt);
+    taken = taken [] 0 1735692000 (lit≤ tt) (lit≤ tt);
+    printed = subst (λ (cs : List TaggedCopy). PrintAllToEnd first_run.starts
+        (given_by first_run.lines) (map (marked Zero) cs)) first-printed
+        (printed [] 0 1735692000);
+    spelled = log_is;
+  };
+  found = found-in 1735692000;
+  leaves = leaves [] 0 1735692000 saved_after.on_0 (sym first-made) refl;
+}
+
+second-goes : GoesOn saved_after second_run saved_after
+second-goes =
+    let entries = saved_after.on_0.entries in
     record {
       begins = refl;
       heard = record {
         file = file-is 1735706400 (lit< tt);
-        taken = taken saved_after.entries 1735692000 1735706400 (lit≤ tt) (lit≤ tt);
-        printed = subst (PrintsToEnd (start_from saved_after) (events_in second_run)) second-printed
-            (printed saved_after.entries 1735692000 1735706400);
+        taken = taken entries 1735692000 1735706400 (lit≤ tt) (lit≤ tt);
+        printed = subst (λ (cs : List TaggedCopy). PrintAllToEnd second_run.starts
+            (given_by second_run.lines) (map (marked Zero) cs)) second-printed
+            (printed entries 1735692000 1735706400);
         spelled = record { entries = []; each = tt; joined = refl };
       };
       found = found-in 1735706400;
-      leaves = leaves saved_after.entries 1735692000 1735706400 saved_after (sym second-made) refl;
-    },
-    refl,
-  ),
-)
+      leaves = leaves entries 1735692000 1735706400 saved_after.on_0 (sym second-made) refl;
+    }
+
+pub is-chain : IsChain none_saved example_runs saved_after
+is-chain = (saved_after, first-goes, (saved_after, second-goes, refl))
 
 -- ---- the message in them
 
@@ -238,9 +302,9 @@ record Hears (one : CutRun) : Type 0 where
   low : 1735692000 ≤ n
   high : n ≤ 1735706400
   parts : one.parts ≡ example_parts first_bits []
-  cut : IsCut (elements_among (events_in one.run)) one.parts
-  found : one.run.found ≡ copy_heard ∷ []
-  force : in_force_in one 1189 ≡ record { moment = n; refused = none_refused }
+  cut : IsCut (elements_among (events_in Zero one.run)) one.parts
+  found : one.run.found Zero ≡ copy_heard ∷ []
+  force : in_force_in Zero one 1189 ≡ record { moment = n; refused = none_refused }
 
 hears-first : Hears (cut_of first_run)
 hears-first = record {
@@ -261,7 +325,7 @@ hears-second = record {
   parts = refl;
   cut = cut-heard 1735706400;
   found = refl;
-  force = in-force saved_after.entries 1735692000 1735706400;
+  force = in-force saved_after.on_0.entries 1735692000 1735706400;
 }
 
 hears : (one : CutRun) → Contains cuts one → Hears one
@@ -271,14 +335,14 @@ hears one c = All-contains Hears cuts one
 
 -- each sending is at the same element of its run
 sent-at : (one : CutRun) (at : ℕ) (s : IsSentIn cuts example_message one at)
-    → in_force_in one at ≡ record { moment = (hears one s.among).n; refused = none_refused }
+    → in_force_in Zero one at ≡ record { moment = (hears one s.among).n; refused = none_refused }
 sent-at one at s =
     let h = hears one s.among in
     let there : IsSentAt (example_parts first_bits []) example_message at =
     subst (λ (ps : List Part). IsSentAt ps example_message at) h.parts s.sent in
-    ap (in_force_in one) (one-sending at there ∙ place-is) ∙ h.force
+    ap (in_force_in Zero one) (one-sending at there ∙ place-is) ∙ h.force
 
-two-copies : length (all_copies example_runs) ≡ 2
+two-copies : length (all_copies Zero example_runs) ≡ 2
 unfolding tagged_copies
 two-copies = refl
 
@@ -298,7 +362,7 @@ none-between entries copies before between after first later two e =
     let more = length-append between (later ∷ after) in
     none-made entries between (omega (arith, two, whole, more))
 
-pub heard-in-time : IsHeardInTimeOver nothing_saved example_runs example_message
+pub heard-in-time : IsHeardInTimeOver Zero none_saved example_runs example_message
 heard-in-time = record {
   cuts = cuts;
   whole = refl;
@@ -320,9 +384,9 @@ heard-in-time = record {
       let m = ap (λ (f : Setting). f.moment) (sent-at one at s) in
       let n = ap (λ (f : Setting). f.moment) (sent-at other place t) in
       omega (arith, m, n, (hears one s.among).high, (hears other t.among).low);
-  unknown = none_live example_message.identity (all_copies example_runs);
+  unknown = none_live example_message.identity (all_copies Zero example_runs);
   few = λ before between after first later e none named again.
-      none-between (entries_after [] (before ++ first ∷ [])) (all_copies example_runs) before
+      none-between (entries_after [] (before ++ first ∷ [])) (all_copies Zero example_runs) before
       between after first later two-copies e;
 }
 

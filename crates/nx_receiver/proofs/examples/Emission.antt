@@ -87,6 +87,12 @@ one_in (z ∷ []) x y e c d = sym (at_zero z x c.0 c.1 c.2) ∙ at_zero z y d.0 
     at_zero z x zero lt e = e
     at_zero z x (suc k) lt e = absurd (omega arith)
 
+-- a list of one that holds an item is that item alone
+pub alone : {A : Type 0} (xs : List A) (x : A) → length xs ≡ 1 → Contains xs x → xs ≡ x ∷ []
+alone [] x one c = absurd (omega (arith, one))
+alone (y ∷ (z ∷ ys)) x one c = absurd (omega (arith, one))
+alone (y ∷ []) x one c = ap (λ w. w ∷ []) (one_in (y ∷ []) y x refl (0, omega arith, refl) c)
+
 pub sent_there : Contains found (copy_of_sending (example_sending first_bits))
 sent_there =
     sending_in_end (elements_among events) (example_parts first_bits [])

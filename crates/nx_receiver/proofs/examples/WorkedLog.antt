@@ -1,20 +1,18 @@
 -- The log of the worked emission.
-use Rattle.std.proofs.Common.{◌≡◌, ℕ, zero, suc, ◌-◌, Bool, true, false, not, ◌&&◌, List, [], ◌∷◌, map, refl, sym, ap, ◌∙◌, subst, nat_le}
+use Rattle.std.proofs.Common.{◌≡◌, ℕ, zero, suc, Bool, true, false, not, ◌&&◌, List, [], ◌∷◌, map, refl, sym, ap, ◌∙◌, subst}
 use Rattle.std.specs.Prelude.{codes}
 use Rattle.std.specs.Fmt.{digits}
 use Rattle.std.specs.FinSet as set
 use Rattle.std.specs.Ordering.{nat_cmp}
-use Rattle.std.proofs.lemmas.Bool.{leb-true}
-use Rattle.nx_envelope.specs.declared.digit.Digit.{Digit}
 use Rattle.nx_envelope.specs.declared.found.How.TheVariants.{Full}
 use Rattle.nx_envelope.specs.declared.identity.Identity.{Identity}
-use Rattle.nx_envelope.specs.declared.letter.Letter.{Letter}
 use Rattle.nx_envelope.specs.Header.{nearest_identity, read_header, identity_at_end, marker_at_end}
 use Rattle.nx_envelope.specs.Copies.{Copy, beginnings, header_at_end, headers, raw_text, ending_by_marker, ending_of, ended_copy, closed_copy, copies}
 use Rattle.nx_envelope.proofs.Examples.{slot_of_e}
 use Rattle.nx_envelope.proofs.Identities.{same_identity-true}
 use Rattle.nx_memory.specs.Selection.{admits}
 use Rattle.nx_fec.specs.Emission.{bits_of}
+use Rattle.nx_fec.specs.declared.channel.Channel.TheVariants.{Zero}
 use Rattle.nx_station.specs.ChannelExample.{ea01}
 use Rattle.nx_sync.specs.Words.{whole_words}
 use Rattle.nx_sync.specs.Locks.{locked, IsNow}
@@ -24,6 +22,7 @@ use Rattle.nx_receiver.specs.FoundCopies.{found_copy, past_copies, found_to_end,
 use Rattle.nx_receiver.specs.Printing.{printed_copies, if_printed, is_printed}
 use Rattle.nx_receiver.specs.Log.{entry_head, is_of_lines, missing_newline, entry_with, IsLog, printed_of, PrintsToEnd}
 use Rattle.nx_receiver.specs.Example.{first_copy}
+use Rattle.nx_receiver.specs.Shares.{marked}
 use Rattle.nx_receiver.specs.Worked.{at_its_slot, heard_elements, worked_log}
 use Rattle.nx_receiver.proofs.examples.Worked.{Computed, stands, text_is}
 
@@ -125,11 +124,11 @@ printed_to_end sent is =
         (ap copies (text_is sent is) ∙ copies_are)
 
 -- its bytes
-entry_is : entry_with first_copy (codes "2025-01-01 00:40:00") ≡ worked_log
+entry_is : entry_with Zero first_copy (codes "2025-01-01 00:40:00") ≡ worked_log
 unfolding entry_with entry_head missing_newline is_of_lines digits
 entry_is = refl
 
-pub log_is : IsLog (first_copy ∷ []) worked_log
+pub log_is : IsLog (marked Zero first_copy ∷ []) worked_log
 log_is = record {
   entries = worked_log ∷ [];
   each = (

@@ -6,6 +6,7 @@ use Rattle.nx_envelope.specs.Message.{MessageView}
 use Rattle.nx_fec.specs.AirFile.{Line, moment, spelling}
 use Rattle.nx_fec.specs.BitLines.{bit_lines}
 use Rattle.nx_fec.specs.Emission.{bits_of, emission}
+use Rattle.nx_fec.specs.declared.channel.Channel.TheVariants.{Zero}
 use Rattle.nx_fec.specs.Lines.{IsAirFile, file_of, line_bytes, air_limit}
 use Rattle.nx_fec.proofs.EmissionLemmas.{length-emission}
 use Rattle.nx_fec.proofs.LineLaws.{IsAirFile-unique, spelling-IsBeginning}
@@ -13,16 +14,19 @@ use Rattle.nx_fec.proofs.RoundTripLemmas.{length-bits_of}
 use Rattle.nx_station.specs.FileSending.{IsTransmission}
 use Rattle.nx_station.specs.declared.sending.Sent.{Sent}
 use Rattle.nx_station.proofs.BroadcastLemmas.{broadcast-one}
-use Rattle.nx_receiver.specs.Events.{Event, at_moment, at_zero, setting_after_all}
-use Rattle.nx_receiver.specs.Listen.{AreTaken, AreTakenAfter, IsLogOf, IsLogOfFile, events_of}
+use Rattle.nx_receiver.specs.Events.{Event, at_moment, at_zero, elements_among}
+use Rattle.nx_receiver.specs.Listen.{AreTaken, AreTakenAfter, IsLogOf, IsLogOfFile, events_on, given_by}
 use Rattle.nx_receiver.specs.Log.{PrintsToEnd}
-use Rattle.nx_receiver.specs.ListenOnce.{IsHeardInTimeIn}
+use Rattle.nx_receiver.specs.ListenOnce.{IsHeardInTimeOn}
 use Rattle.nx_receiver.specs.Once.{IsHeardInTime, IsPrintedOnce}
 use Rattle.nx_receiver.specs.Printing.{printed_copies}
 use Rattle.nx_receiver.specs.Events as fed
 use Rattle.nx_receiver.specs.FromSend.{BearsAlone, copy_as_sent, events_as_sent, parts_as_sent}
-use Rattle.nx_receiver.specs.FoundCopies.{TaggedCopy}
-use Rattle.nx_receiver.proofs.listens.ElementLines.{events-lines, good-lines, length-lines, taken-lines}
+use Rattle.nx_receiver.specs.InTurn.{PrintAllToEnd}
+use Rattle.nx_receiver.specs.Shares.{MarkedCopy, all_at_zero, copies_on, marked}
+use Rattle.nx_receiver.proofs.Shares.{to_end-on}
+use Rattle.nx_receiver.proofs.chain.Alone.{HearsAlone, all-alone}
+use Rattle.nx_receiver.proofs.listens.ElementLines.{events-lines, events-others, good-lines, length-lines, taken-lines}
 use Rattle.nx_receiver.proofs.listens.Moments.{some-closed}
 use Rattle.nx_receiver.proofs.once.Found.{printed_once}
 use Rattle.nx_receiver.proofs.from_send.Heard.{heard_in_time}
@@ -34,9 +38,15 @@ abbrev lines_as_sent : ℕ → List Bool → List Line
 lines_as_sent slot bits = moment slot ∷ bit_lines bits
 
 events-as_sent : (slot : ℕ) (bits : List Bool)
-    → events_of (lines_as_sent slot bits) ≡ at_moment slot ∷ fed.elements bits
+    → events_on Zero (lines_as_sent slot bits) ≡ at_moment slot ∷ fed.elements bits
 events-as_sent slot bits =
     ap (λ l. at_moment slot ∷ l) (events-lines bits)
+
+-- they give elements to channel 0 alone
+sent-alone : (slot : ℕ) (bits : List Bool) → HearsAlone Zero (given_by (lines_as_sent slot bits))
+unfolding elements_among
+sent-alone slot bits other h =
+    ap (λ l. elements_among (at_moment slot ∷ l)) (events-others other h bits)
 
 module _ (station from : ℕ) (file air : List ℕ) (sent : Sent)
     (h : IsTransmission station from file air sent) where
@@ -78,43 +88,49 @@ module _ (station from : ℕ) (file air : List ℕ) (sent : Sent)
     within = within;
   }
 
-  are_taken : AreTaken at_zero lines
-  unfolding AreTakenAfter setting_after_all
+  are_taken : AreTaken all_at_zero lines
+  unfolding AreTakenAfter
   are_taken =
       record {
         in_range = omega arith;
         each = (
           (omega arith, h.next.in_range),
-          taken-lines at_zero (moment sent.slot ∷ []) bits
+          taken-lines all_at_zero (moment sent.slot ∷ []) bits
               refl,
         );
       }
 
   -- it has a log
-  pub log_of_sent : (log : List ℕ) × IsLogOf at_zero air log
-  log_of_sent = some-closed at_zero air lines is_file are_taken
+  pub log_of_sent : (log : List ℕ) × IsLogOf all_at_zero air log
+  log_of_sent = some-closed all_at_zero air lines is_file are_taken
 
   abbrev combinations : List (List ℕ)
   combinations = h.broadcast.spellings
 
-  events_are : events_of lines ≡ events_as_sent sent.slot combinations
+  events_are : events_on Zero lines ≡ events_as_sent sent.slot combinations
   events_are =
       events-as_sent sent.slot bits
       ∙ ap (λ p. at_moment sent.slot ∷ fed.elements (bits_of (emission p))) h.broadcast.whole
 
   -- its lines are those that were sent
-  prints_as_sent : (read : List Line) (copies : List TaggedCopy) (log : List ℕ)
-      → IsLogOfFile at_zero air read copies log
-      → PrintsToEnd at_zero (events_as_sent sent.slot combinations) copies
-  prints_as_sent read copies log is =
-      let same : read ≡ lines = IsAirFile-unique air_limit air read lines is.file is_file in
-      subst (λ (e : List Event). PrintsToEnd at_zero e copies) (ap events_of same ∙ events_are)
-      is.printed
+  lines_are : (read : List Line) (copies : List MarkedCopy) (log : List ℕ)
+      → IsLogOfFile all_at_zero air read copies log
+      → PrintAllToEnd all_at_zero (given_by lines) copies
+  lines_are read copies log is =
+      subst (λ (all : List Line). PrintAllToEnd all_at_zero (given_by all) copies)
+      (IsAirFile-unique air_limit air read lines is.file is_file) is.printed
+
+  prints_as_sent : (copies : List MarkedCopy)
+      → PrintAllToEnd all_at_zero (given_by lines) copies
+      → PrintsToEnd at_zero (events_as_sent sent.slot combinations) (copies_on Zero copies)
+  prints_as_sent copies prints =
+      subst (λ (e : List Event). PrintsToEnd at_zero e (copies_on Zero copies)) events_are
+      (to_end-on all_at_zero (given_by lines) copies Zero prints)
 
   -- each of its messages is heard in time in it
   pub sent_in_time : (message : MessageView) → BearsAlone h.messages message
       → 0 < message.identity.number
-      → IsHeardInTimeIn at_zero air message
+      → IsHeardInTimeOn Zero all_at_zero air message
   sent_in_time message alone numbered =
       let parts = parts_as_sent h.messages combinations in
       record {
@@ -127,22 +143,26 @@ module _ (station from : ℕ) (file air : List ℕ) (sent : Sent)
             alone numbered);
       }
 
-  -- what is printed of its messages
-  pub sent_log : (read : List Line) (copies : List TaggedCopy) (log : List ℕ)
-      → IsLogOfFile at_zero air read copies log
-      → copies ≡ printed_copies [] (map (copy_as_sent sent.slot) h.messages)
+  -- what is printed of its messages, all on channel 0
+  pub sent_log : (read : List Line) (copies : List MarkedCopy) (log : List ℕ)
+      → IsLogOfFile all_at_zero air read copies log
+      → copies
+      ≡ map (marked Zero) (printed_copies [] (map (copy_as_sent sent.slot) h.messages))
   sent_log read copies log is =
-      log_as_sent h.messages combinations sent.slot copies h.sendable h.broadcast.each
-      (prints_as_sent read copies log is)
+      let prints = lines_are read copies log is in
+      all-alone Zero all_at_zero (given_by lines) copies (sent-alone sent.slot bits) prints
+      ∙ ap (map (marked Zero))
+      (log_as_sent h.messages combinations sent.slot (copies_on Zero copies) h.sendable
+      h.broadcast.each (prints_as_sent copies prints))
 
   -- each of them once
-  pub sent_once : (message : MessageView) (read : List Line) (copies : List TaggedCopy)
+  pub sent_once : (message : MessageView) (read : List Line) (copies : List MarkedCopy)
       (log : List ℕ) → BearsAlone h.messages message
-      → 0 < message.identity.number → IsLogOfFile at_zero air read copies log
-      → IsPrintedOnce message copies
+      → 0 < message.identity.number → IsLogOfFile all_at_zero air read copies log
+      → IsPrintedOnce message (copies_on Zero copies)
   sent_once message read copies log alone numbered is =
       printed_once at_zero (events_as_sent sent.slot combinations)
       (parts_as_sent h.messages combinations) message
       (heard_in_time h.messages combinations sent.slot message h.sendable h.broadcast.each alone
       numbered)
-      copies (prints_as_sent read copies log is)
+      (copies_on Zero copies) (prints_as_sent copies (lines_are read copies log is))

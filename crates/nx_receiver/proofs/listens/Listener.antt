@@ -1,61 +1,144 @@
 -- What a line does to a listener: how it stands after one more line, after some more elements, and
 -- after the end.
-use Rattle.std.proofs.Common.{◌≡◌, ◌||◌, ℕ, ◌+◌, ◌-◌, ◌<◌, ◌≤◌, Bool, true, false, IsTrue, List, [], ◌∷◌, ◌++◌, Option, Some, None, Ok, IsErr, length, take, take-append-drop, drop, refl, sym, ap, ap₂, ◌∙◌, subst, append-nil, append_assoc, arith, length-append, length-drop}
-use Rattle.std.specs.FinSet as set
+use Rattle.std.proofs.Common.{◌≡◌, ◌||◌, inl, inr, ℕ, ◌+◌, ◌-◌, ◌<◌, ◌≤◌, Bool, true, false, cond, IsTrue, List, [], ◌∷◌, ◌++◌, map, Option, Some, None, Ok, IsErr, length, take, take-append-drop, drop, refl, sym, ap, ap₂, ◌∙◌, subst, append-nil, append_assoc, arith, length-append, length-drop}
 use lib.Seq.{take-add}
-use Rattle.std.proofs.lemmas.List.{length-take-le, map-append}
+use Rattle.std.proofs.lemmas.List.{length-map, length-take-le, map-append}
 use Rattle.std.proofs.lemmas.List.Concat.{flat_map-append}
 use Rattle.std.proofs.lemmas.List.Folds.{list_any-append}
-use Rattle.nx_fec.specs.AirFile.{Line, moment, elements}
-use Rattle.nx_memory.specs.declared.entry.MemoryEntry.{MemoryEntry}
-use Rattle.nx_memory.specs.Ring.{RingMemory}
+use Rattle.nx_fec.specs.AirFile.{Line, moment, elements, refuse_station, accept_station, refuse_subject, accept_subject}
+use Rattle.nx_fec.specs.Channels.{channel_of, same_channel}
+use Rattle.nx_fec.specs.declared.channel.Channel.{Channel}
+use Rattle.nx_fec.specs.declared.channel.Channel.TheVariants.{Zero, One, Two}
 use Rattle.nx_envelope.specs.Moment.{last_moment}
-use Rattle.nx_memory.specs.Selection.{Refused}
-use Rattle.nx_receiver.specs.Events.{Event, Setting, Start, elements_among, element, none_refused, setting_after_all}
-use Rattle.nx_receiver.specs.Listen.{AreTaken, AreTakenAfter, IsTakenAfter, events_of, has_moment, in_force_after, is_moment_line, line_events}
-use Rattle.nx_receiver.specs.private.Listener.{BeginsListening, BeginsLog, HasFinished, HearsEvents, HearsLog, IsListening, Listening, count_of, start_of}
-use Rattle.nx_receiver.specs.private.ListenerBegins.{printed-so_far}
-use Rattle.nx_receiver.specs.Log.{IsEntry, IsLog}
+use Rattle.nx_memory.specs.Saved.{SavedState, SavedStates}
+use Rattle.nx_receiver.specs.Events.{Event, Setting, Start, element, first_setting, setting_after_all}
 use Rattle.nx_receiver.specs.Events as fed
+use Rattle.nx_receiver.specs.InTurn.{HavePrinted, PrintsInTurn}
+use Rattle.nx_receiver.specs.Listen.{AreTaken, AreTakenAfter, IsTakenAfter, events_on, given_by, given_of, has_moment, is_moment_line, moment_after}
+use Rattle.nx_receiver.specs.private.Listener.{BeginsListening, BeginsLog, HasFinished, HearsGiven, HearsLog, IsListening, Listening, content, count_of, elements_given, elements_in, kept_by, receiver_on, starts_of, then_elements, with_receiver}
+use Rattle.nx_receiver.specs.private.ListenerBegins.{printed-so_far}
+use Rattle.nx_receiver.specs.Log.{HasPrinted, IsEntry, IsLog}
 use Rattle.nx_receiver.specs.Receiver.{Stands, entry_list}
+use Rattle.nx_receiver.specs.Shares.{Given, MarkedCopy, Starts, copies_on, events_for, marked, saved_of, share, start_on, to_all, to_one}
 use Rattle.nx_receiver.specs.private.Awaiting.{Awaits}
 use Rattle.nx_receiver.specs.FoundCopies.{TaggedCopy}
 use Rattle.nx_receiver.specs.declared.entry.Entry.{Entry}
 use Rattle.nx_receiver.specs.declared.over.Over.{Over}
 use Rattle.nx_receiver.specs.declared.over.Over.TheVariants as overs
+use Rattle.nx_receiver.proofs.Shares.{copies_on-append, copies_on-marked, copies_on-other, in_turn-more, in_turn-none, in_turn-other, same_channel-is, same_channel-refl, share-one}
 use Rattle.nx_receiver.proofs.receiving.Feeds.{nothing_awaited}
 use Rattle.nx_receiver.proofs.receiving.Log.{logs_join}
-use Rattle.nx_receiver.proofs.receiving.Logged.{bits_of-append}
-use Rattle.nx_receiver.proofs.receiving.Events.{bits_of-more}
+use Rattle.nx_receiver.proofs.receiving.Logged.{has_printed_on, some_printed}
+use Rattle.nx_receiver.proofs.receiving.Events.{bits_of-more, force-append, force-more}
 use Rattle.nx_receiver.proofs.watching.Loops.{rest_is}
 
--- the memory's entries, as a listener's receiver has them
-abbrev pub content : RingMemory → List MemoryEntry
-content memory = memory.content
+-- what one more line gives
+pub given_by-one : (lines : List Line) (line : Line)
+    → given_by (lines ++ line ∷ []) ≡ given_by lines ++ given_of line ∷ []
+given_by-one lines line = map-append given_of lines (line ∷ [])
 
-pub events_of-one : (lines : List Line) (line : Line)
-    → events_of (lines ++ line ∷ []) ≡ events_of lines ++ line_events line
-events_of-one lines line =
-    flat_map-append line_events lines (line ∷ [])
-    ∙ ap (λ es. events_of lines ++ es) (append-nil (line_events line))
+-- the elements of one more that is given
+elements-one : (given : List Given) (one : Given)
+    → elements_given (given ++ one ∷ []) ≡ elements_given given ++ elements_in one
+elements-one given one =
+    flat_map-append elements_in given (one ∷ [])
+    ∙ ap (λ bits. elements_given given ++ bits) (append-nil (elements_in one))
 
-one-after : (start : Start) (first lines : List Line) (line : Line)
-    → AreTakenAfter start first lines → IsTakenAfter start (first ++ lines) line
-    → AreTakenAfter start first (lines ++ line ∷ [])
+elements-then : (given : List Given) (channel : Channel) (bits : List Bool)
+    → elements_given (then_elements given channel bits) ≡ elements_given given ++ bits
+unfolding fed.elements_among
+elements-then given channel bits =
+    elements-one given (to_one channel (fed.elements bits))
+    ∙ ap (λ bs. elements_given given ++ bs) (bits_of-more [] bits)
+
+-- what holds on the three channels holds on each
+pub on-all : (P : Channel → Type 0) → P Zero → P One → P Two → (channel : Channel) → P channel
+on-all P zero one two Zero = zero
+on-all P zero one two One = one
+on-all P zero one two Two = two
+
+-- what holds on a channel and on each other one holds on each
+on-each : (P : Channel → Type 0) (channel : Channel) → P channel
+    → ((other : Channel) → same_channel channel other ≡ false → P other) → (other : Channel)
+    → P other
+on-each P Zero here others Zero = here
+on-each P Zero here others One = others One refl
+on-each P Zero here others Two = others Two refl
+on-each P One here others Zero = others Zero refl
+on-each P One here others One = here
+on-each P One here others Two = others Two refl
+on-each P Two here others Zero = others Zero refl
+on-each P Two here others One = others One refl
+on-each P Two here others Two = here
+
+-- two listeners with the same receivers have the same on each channel
+pub same-receivers : (old new : Listening) → old.on_0 ≡ new.on_0 → old.on_1 ≡ new.on_1
+    → old.on_2 ≡ new.on_2 → (channel : Channel)
+    → receiver_on old channel ≡ receiver_on new channel
+same-receivers old new e f g Zero = e
+same-receivers old new e f g One = f
+same-receivers old new e f g Two = g
+
+-- another receiver on a channel leaves those of the others, and all else
+with-other : (listener : Listening) (channel other : Channel) (new : Listening)
+    → new ≡ with_receiver listener channel (receiver_on new channel)
+    → same_channel channel other ≡ false → receiver_on new other ≡ receiver_on listener other
+with-other listener Zero Zero new e h = cc
+with-other listener Zero One new e h = ap (λ (l : Listening). l.on_1) e
+with-other listener Zero Two new e h = ap (λ (l : Listening). l.on_2) e
+with-other listener One Zero new e h = ap (λ (l : Listening). l.on_0) e
+with-other listener One One new e h = cc
+with-other listener One Two new e h = ap (λ (l : Listening). l.on_2) e
+with-other listener Two Zero new e h = ap (λ (l : Listening). l.on_0) e
+with-other listener Two One new e h = ap (λ (l : Listening). l.on_1) e
+with-other listener Two Two new e h = cc
+
+-- a listener of which only the receiver of a channel is another
+pub record DiffersOn (channel : Channel) (old new : Listening) : Type 0 where
+  pub others : (other : Channel) → same_channel channel other ≡ false
+      → receiver_on new other ≡ receiver_on old other
+  pub moment : new.has_moment ≡ old.has_moment
+  pub elements : new.elements ≡ old.elements
+  pub entries : new.entries ≡ old.entries
+
+pub differs-on : (channel : Channel) (old new : Listening)
+    → new ≡ with_receiver old channel (receiver_on new channel) → DiffersOn channel old new
+differs-on Zero old new e = record {
+  others = λ other h. with-other old Zero other new e h;
+  moment = ap (λ (l : Listening). l.has_moment) e;
+  elements = ap (λ (l : Listening). l.elements) e;
+  entries = ap (λ (l : Listening). l.entries) e;
+}
+differs-on One old new e = record {
+  others = λ other h. with-other old One other new e h;
+  moment = ap (λ (l : Listening). l.has_moment) e;
+  elements = ap (λ (l : Listening). l.elements) e;
+  entries = ap (λ (l : Listening). l.entries) e;
+}
+differs-on Two old new e = record {
+  others = λ other h. with-other old Two other new e h;
+  moment = ap (λ (l : Listening). l.has_moment) e;
+  elements = ap (λ (l : Listening). l.elements) e;
+  entries = ap (λ (l : Listening). l.entries) e;
+}
+
+one-after : (starts : Starts) (first lines : List Line) (line : Line)
+    → AreTakenAfter starts first lines → IsTakenAfter starts (first ++ lines) line
+    → AreTakenAfter starts first (lines ++ line ∷ [])
 unfolding AreTakenAfter
-one-after start first [] line h k =
-    (subst (λ l. IsTakenAfter start l line) (append-nil first) k, tt)
-one-after start first (x ∷ xs) line h k = (
+one-after starts first [] line h k =
+    (subst (λ l. IsTakenAfter starts l line) (append-nil first) k, tt)
+one-after starts first (x ∷ xs) line h k = (
   h.0,
-  one-after start (first ++ x ∷ []) xs line h.1
-      (subst (λ l. IsTakenAfter start l line) (sym (append_assoc first (x ∷ []) xs)) k),
+  one-after starts (first ++ x ∷ []) xs line h.1
+      (subst (λ l. IsTakenAfter starts l line) (sym (append_assoc first (x ∷ []) xs)) k),
 )
 
 -- one more line is taken
-pub taken-one : (start : Start) (lines : List Line) (line : Line) → AreTaken start lines
-    → IsTakenAfter start lines line → AreTaken start (lines ++ line ∷ [])
-taken-one start lines line h k =
-    record { in_range = h.in_range; each = one-after start [] lines line h.each k }
+pub taken-one : (starts : Starts) (lines : List Line) (line : Line) → AreTaken starts lines
+    → IsTakenAfter starts lines line → AreTaken starts (lines ++ line ∷ [])
+taken-one starts lines line h k =
+    record { in_range = h.in_range; each = one-after starts [] lines line h.each k }
 
 or-none : (c d : Bool) → d ≡ false → (c || (d || false)) ≡ c
 or-none true d e = refl
@@ -76,71 +159,289 @@ pub moment-one : (lines : List Line) (n : ℕ) → true ≡ has_moment (lines ++
 moment-one lines n = sym (list_any-append is_moment_line lines (moment n ∷ [])
     ∙ or-true (has_moment lines))
 
--- what is in force is what the receiver has in force
-pub force-now : (start : Start) (listener : Listening) (lines : List Line) (given : List ℕ)
-    → IsListening start listener lines given
-    → listener.receiver.watch.moment ≡ (in_force_after start lines).moment
-force-now start listener lines given h = ap (λ s. s.moment) h.hears.hears.receiver.force
+-- elements or a command change no moment, whether they belong to a channel or not
+elements-keep : (b : Bool) (setting : Setting) (bits : List Bool)
+    → (setting_after_all setting (cond b (fed.elements bits) [])).moment ≡ setting.moment
+unfolding setting_after_all
+elements-keep true setting bits = ap (λ (s : Setting). s.moment) (force-more setting [] bits)
+elements-keep false setting bits = refl
 
--- a line that has no elements changes the receiver alone
-pub goes_on : (start : Start) (old new : Listening) (lines : List Line) (line : Line)
-    (given : List ℕ) → IsListening start old lines given → IsTakenAfter start lines line
-    → elements_among (line_events line) ≡ [] → new.has_moment ≡ has_moment (lines ++ line ∷ [])
+command-keeps : (b : Bool) (setting : Setting) (c : fed.Command)
+    → (setting_after_all setting (cond b (fed.command c ∷ []) [])).moment ≡ setting.moment
+unfolding setting_after_all
+command-keeps true setting c = refl
+command-keeps false setting c = refl
+
+-- on each channel the moment in force is that after the lines
+next-moment : (channel : Channel) (line : Line) (lines : List Line) (setting : Setting)
+    → ((after : Setting)
+    → (setting_after_all after (events_on channel lines)).moment
+    ≡ moment_after after.moment lines)
+    → (setting_after_all setting (events_for channel (given_of line))).moment ≡ setting.moment
+    → (setting_after_all setting (events_on channel (line ∷ lines))).moment
+    ≡ moment_after setting.moment lines
+next-moment channel line lines setting rest keeps =
+    ap (λ (s : Setting). s.moment)
+    (force-append setting (events_for channel (given_of line)) (events_on channel lines))
+    ∙ rest (setting_after_all setting (events_for channel (given_of line)))
+    ∙ ap (λ n. moment_after n lines) keeps
+
+pub moment-on : (channel : Channel) (setting : Setting) (lines : List Line)
+    → (setting_after_all setting (events_on channel lines)).moment
+    ≡ moment_after setting.moment lines
+unfolding setting_after_all
+moment-on channel setting [] = refl
+moment-on channel setting (moment n ∷ lines) =
+    moment-on channel (record setting { moment = n }) lines
+moment-on channel setting (elements mark bits ∷ lines) =
+    next-moment channel (elements mark bits) lines setting (λ after. moment-on channel after lines)
+    (elements-keep (same_channel (channel_of mark) channel) setting bits)
+moment-on channel setting (refuse_station mark letter ∷ lines) =
+    next-moment channel (refuse_station mark letter) lines setting
+    (λ after. moment-on channel after lines)
+    (command-keeps (same_channel (channel_of mark) channel) setting (fed.refuse_station letter))
+moment-on channel setting (accept_station mark letter ∷ lines) =
+    next-moment channel (accept_station mark letter) lines setting
+    (λ after. moment-on channel after lines)
+    (command-keeps (same_channel (channel_of mark) channel) setting (fed.accept_station letter))
+moment-on channel setting (refuse_subject mark letter ∷ lines) =
+    next-moment channel (refuse_subject mark letter) lines setting
+    (λ after. moment-on channel after lines)
+    (command-keeps (same_channel (channel_of mark) channel) setting (fed.refuse_subject letter))
+moment-on channel setting (accept_subject mark letter ∷ lines) =
+    next-moment channel (accept_subject mark letter) lines setting
+    (λ after. moment-on channel after lines)
+    (command-keeps (same_channel (channel_of mark) channel) setting (fed.accept_subject letter))
+
+-- the receivers of all channels have that moment in force
+pub force-now : (starts : Starts) (listener : Listening) (lines : List Line) (bytes : List ℕ)
+    → IsListening starts listener lines bytes → (channel : Channel)
+    → (receiver_on listener channel).watch.moment ≡ moment_after starts.moment lines
+force-now starts listener lines bytes h channel =
+    ap (λ (s : Setting). s.moment) (h.hears.hears.receivers channel).force
+    ∙ moment-on channel (first_setting (start_on starts channel)) lines
+
+-- what is printed of the share of each channel, by how its receiver stands
+have-printed : (starts : Starts) (listener : Listening) (given : List Given)
+    (copies : List MarkedCopy)
+    → ((channel : Channel) → Stands content (start_on starts channel)
+    (receiver_on listener channel) (share channel given) (copies_on channel copies))
+    → HavePrinted starts given copies
+have-printed starts listener given copies stands channel =
+    printed-so_far content (start_on starts channel) (receiver_on listener channel)
+    (share channel given) (copies_on channel copies) (stands channel)
+
+-- one more is given, which has no elements and brings no copies
+pub hears-next : (starts : Starts) (old new : Listening) (given : List Given) (one : Given)
+    (copies : List MarkedCopy) → HearsGiven starts old given copies → elements_in one ≡ []
     → new.elements ≡ old.elements → new.entries ≡ old.entries
-    → ((log : List TaggedCopy) → Stands content start old.receiver (events_of lines) log
-    → Stands content start new.receiver (events_of lines ++ line_events line) log)
-    → IsListening start new (lines ++ line ∷ []) given
-goes_on start old new lines line given h taken none said heard printed stands =
-    let log = h.hears.log in
-    let was = h.hears.hears in
-    let events = events_of (lines ++ line ∷ []) in
-    let same : elements_among events ≡ elements_among (events_of lines) =
-    ap elements_among (events_of-one lines line)
-    ∙ bits_of-append (events_of lines) (line_events line)
-    ∙ ap (λ bs. elements_among (events_of lines) ++ bs) none
-    ∙ append-nil (elements_among (events_of lines)) in
+    → ((channel : Channel) (log : List TaggedCopy)
+    → Stands content (start_on starts channel) (receiver_on old channel) (share channel given) log
+    → Stands content (start_on starts channel) (receiver_on new channel)
+    (share channel given ++ events_for channel one) log)
+    → HearsGiven starts new (given ++ one ∷ []) copies
+hears-next starts old new given one copies h none heard printed stands =
+    let all = given ++ one ∷ [] in
+    let each : (channel : Channel) → Stands content (start_on starts channel)
+    (receiver_on new channel) (share channel all) (copies_on channel copies) =
+    λ channel. subst (λ es. Stands content (start_on starts channel) (receiver_on new channel) es
+    (copies_on channel copies)) (sym (share-one channel given one))
+    (stands channel (copies_on channel copies) (h.receivers channel)) in
+    let same : elements_given all ≡ elements_given given =
+    elements-one given one ∙ ap (λ bits. elements_given given ++ bits) none
+    ∙ append-nil (elements_given given) in
     record {
-      taken = taken-one start lines line h.taken taken;
-      moment = said;
-      hears = record {
-        log = log;
-        hears = record {
-          receiver = subst (λ es. Stands content start new.receiver es log)
-              (sym (events_of-one lines line)) (stands log was.receiver);
-          elements = heard ∙ was.elements ∙ ap (λ bs. count_of (length bs)) (sym same);
-          entries = printed ∙ was.entries;
-          few = subst (λ bs. length log ≤ length bs) (sym same) was.few;
-        };
-        spelled = h.hears.spelled;
-      };
+      receivers = each;
+      in_turn = subst (PrintsInTurn starts all) (append-nil copies)
+          (in_turn-more starts given one copies [] h.in_turn
+          (subst (HavePrinted starts all) (sym (append-nil copies))
+          (have-printed starts new all copies each)));
+      elements = heard ∙ h.elements ∙ ap (λ bits. count_of (length bits)) (sym same);
+      entries = printed ∙ h.entries;
+      few = subst (λ bits. length copies ≤ length bits) (sym same) h.few;
     }
+
+-- a line that has no elements changes the receivers alone
+pub goes_on : (starts : Starts) (old new : Listening) (lines : List Line) (line : Line)
+    (bytes : List ℕ) → IsListening starts old lines bytes → IsTakenAfter starts lines line
+    → elements_in (given_of line) ≡ [] → new.has_moment ≡ has_moment (lines ++ line ∷ [])
+    → new.elements ≡ old.elements → new.entries ≡ old.entries
+    → ((channel : Channel) (log : List TaggedCopy)
+    → Stands content (start_on starts channel) (receiver_on old channel) (events_on channel lines)
+    log → Stands content (start_on starts channel) (receiver_on new channel)
+    (events_on channel lines ++ events_for channel (given_of line)) log)
+    → IsListening starts new (lines ++ line ∷ []) bytes
+goes_on starts old new lines line bytes h taken none said heard printed stands = record {
+  taken = taken-one starts lines line h.taken taken;
+  moment = said;
+  hears = record {
+    log = h.hears.log;
+    hears = subst (λ given. HearsGiven starts new given h.hears.log)
+        (sym (given_by-one lines line))
+        (hears-next starts old new (given_by lines) (given_of line) h.hears.log h.hears.hears none
+        heard printed stands);
+    spelled = h.hears.spelled;
+  };
+}
+
+own-events : (channel : Channel) (events : List Event)
+    → events_for channel (to_one channel events) ≡ events
+own-events channel events = ap (λ b. cond b events []) (same_channel-refl channel)
+
+others-events : (channel other : Channel) (events : List Event)
+    → same_channel channel other ≡ false → events_for other (to_one channel events) ≡ []
+others-events channel other events h = ap (λ b. cond b events []) h
+
+-- a command for a channel
+pub commanded-on : (starts : Starts) (old new : Listening) (lines : List Line) (line : Line)
+    (channel : Channel) (command : fed.Command) (bytes : List ℕ)
+    → IsListening starts old lines bytes → IsTakenAfter starts lines line
+    → given_of line ≡ to_one channel (fed.command command ∷ [])
+    → is_moment_line line ≡ false → new ≡ with_receiver old channel (receiver_on new channel)
+    → ((start : Start) (history : List Event) (log : List TaggedCopy)
+    → Stands content start (receiver_on old channel) history log
+    → Stands content start (receiver_on new channel) (history ++ fed.command command ∷ []) log)
+    → IsListening starts new (lines ++ line ∷ []) bytes
+unfolding fed.elements_among
+commanded-on starts old new lines line channel command bytes h taken gives other only stands =
+    let differs = differs-on channel old new only in
+    goes_on starts old new lines line bytes h taken (ap elements_in gives)
+    (moment-other lines line new.has_moment (differs.moment ∙ h.moment) other) differs.elements
+    differs.entries
+    (on-each (λ on. (log : List TaggedCopy)
+    → Stands content (start_on starts on) (receiver_on old on) (events_on on lines) log
+    → Stands content (start_on starts on) (receiver_on new on)
+    (events_on on lines ++ events_for on (given_of line)) log) channel
+    (λ log s. subst (λ es. Stands content (start_on starts channel) (receiver_on new channel)
+    (events_on channel lines ++ es) log)
+    (sym (ap (events_for channel) gives ∙ own-events channel (fed.command command ∷ [])))
+    (stands (start_on starts channel) (events_on channel lines) log s))
+    (λ on not log s.
+    let none : events_on on lines ++ events_for on (given_of line) ≡ events_on on lines =
+    ap (λ es. events_on on lines ++ es)
+    (ap (events_for on) gives ∙ others-events channel on (fed.command command ∷ []) not)
+    ∙ append-nil (events_on on lines) in
+    subst (λ es. Stands content (start_on starts on) (receiver_on new on) es log) (sym none)
+    (subst (λ r. Stands content (start_on starts on) r (events_on on lines) log)
+    (sym (differs.others on not)) s)))
+
+-- Share of a channel, where elements of one are given last
+share-own : (given : List Given) (channel : Channel) (bits : List Bool)
+    → share channel (then_elements given channel bits) ≡ share channel given ++ fed.elements bits
+share-own given channel bits =
+    share-one channel given (to_one channel (fed.elements bits))
+    ∙ ap (λ es. share channel given ++ es) (own-events channel (fed.elements bits))
+
+share-others : (given : List Given) (channel other : Channel) (bits : List Bool)
+    → same_channel channel other ≡ false
+    → share other (then_elements given channel bits) ≡ share other given
+share-others given channel other bits h =
+    share-one other given (to_one channel (fed.elements bits))
+    ∙ ap (λ es. share other given ++ es) (others-events channel other (fed.elements bits) h)
+    ∙ append-nil (share other given)
+
+share-grows : (given : List Given) (channel : Channel) (part more : List Bool)
+    → share channel (then_elements given channel (part ++ more))
+    ≡ share channel (then_elements given channel part) ++ fed.elements more
+share-grows given channel part more =
+    share-own given channel (part ++ more)
+    ∙ ap (λ es. share channel given ++ es) (map-append element part more)
+    ∙ sym (append_assoc (share channel given) (fed.elements part) (fed.elements more))
+    ∙ ap (λ es. es ++ fed.elements more) (sym (share-own given channel part))
+
+share-stays : (given : List Given) (channel other : Channel) (part more : List Bool)
+    → same_channel channel other ≡ false
+    → share other (then_elements given channel (part ++ more))
+    ≡ share other (then_elements given channel part)
+share-stays given channel other part more h =
+    share-others given channel other (part ++ more) h
+    ∙ sym (share-others given channel other part h)
+
+-- the copies of a channel, where those of one come last
+copies-own : (copies : List MarkedCopy) (channel : Channel) (more : List TaggedCopy)
+    → copies_on channel (copies ++ map (marked channel) more) ≡ copies_on channel copies ++ more
+copies-own copies channel more =
+    copies_on-append channel copies (map (marked channel) more)
+    ∙ ap (λ cs. copies_on channel copies ++ cs) (copies_on-marked channel more)
+
+copies-others : (copies : List MarkedCopy) (channel other : Channel) (more : List TaggedCopy)
+    → same_channel channel other ≡ false
+    → copies_on other (copies ++ map (marked channel) more) ≡ copies_on other copies
+copies-others copies channel other more h =
+    copies_on-append other copies (map (marked channel) more)
+    ∙ ap (λ cs. copies_on other copies ++ cs) (copies_on-other channel other more h)
+    ∙ append-nil (copies_on other copies)
+
+-- what holds of the shares and copies of each channel holds still, where it holds of those of the
+-- channel that was given more elements
+grows-on : (P : Channel → List Event → List TaggedCopy → Type 0) (given : List Given)
+    (channel : Channel) (part more : List Bool) (copies : List MarkedCopy)
+    (later : List TaggedCopy)
+    → P channel (share channel (then_elements given channel part) ++ fed.elements more)
+    (copies_on channel copies ++ later)
+    → ((other : Channel) → same_channel channel other ≡ false
+    → P other (share other (then_elements given channel part)) (copies_on other copies))
+    → (other : Channel) → P other (share other (then_elements given channel (part ++ more)))
+    (copies_on other (copies ++ map (marked channel) later))
+grows-on P given channel part more copies later here others =
+    on-each (λ other. P other (share other (then_elements given channel (part ++ more)))
+    (copies_on other (copies ++ map (marked channel) later))) channel
+    (subst (λ es. P channel es (copies_on channel (copies ++ map (marked channel) later)))
+    (sym (share-grows given channel part more))
+    (subst (λ cs. P channel
+    (share channel (then_elements given channel part) ++ fed.elements more) cs)
+    (sym (copies-own copies channel later)) here))
+    (λ other not. subst (λ es. P other es
+    (copies_on other (copies ++ map (marked channel) later)))
+    (sym (share-stays given channel other part more not))
+    (subst (λ cs. P other (share other (then_elements given channel part)) cs)
+    (sym (copies-others copies channel other later not)) (others other not)))
 
 pub counts-on : (old new m n all : ℕ) → old ≡ count_of m → new ≡ count_of (old + n) → all ≡ m + n
     → new ≡ count_of all
 counts-on old new m n all h k e = omega arith
 
--- more elements were heard, and an entry was handed out with the last of them, or none
-pub hears-more : (start : Start) (old new : Listening) (events : List Event) (log : List TaggedCopy)
-    (bits : List Bool) (n : ℕ) (entry : Option Entry) → HearsEvents start old events log
-    → n ≤ length bits → length (entry_list entry) ≤ n
-    → Stands content start new.receiver (events ++ fed.elements (take n bits))
-    (log ++ entry_list entry)
-    → new.elements ≡ count_of (old.elements + n)
+-- More elements of a channel were heard, and an entry was handed out with the last of them, or none.
+pub hears-more : (starts : Starts) (old new : Listening) (given : List Given) (channel : Channel)
+    (part more : List Bool) (copies : List MarkedCopy) (entry : Option Entry)
+    → HearsGiven starts old (then_elements given channel part) copies
+    → length (entry_list entry) ≤ length more
+    → ((start : Start) (events : List Event) (log : List TaggedCopy)
+    → Stands content start (receiver_on old channel) events log
+    → Stands content start (receiver_on new channel) (events ++ fed.elements more)
+    (log ++ entry_list entry))
+    → ((other : Channel) → same_channel channel other ≡ false
+    → receiver_on new other ≡ receiver_on old other)
+    → new.elements ≡ count_of (old.elements + length more)
     → new.entries ≡ count_of (old.entries + length (entry_list entry))
-    → HearsEvents start new (events ++ fed.elements (take n bits)) (log ++ entry_list entry)
-hears-more start old new events log bits n entry h within few stands heard printed =
-    let all : length (elements_among (events ++ fed.elements (take n bits)))
-    ≡ length (elements_among events) + n =
-    ap length (bits_of-more events (take n bits))
-    ∙ length-append (elements_among events) (take n bits)
-    ∙ ap (λ k. length (elements_among events) + k) (length-take-le n bits within) in
-    let longer : length (log ++ entry_list entry) ≡ length log + length (entry_list entry) =
-    length-append log (entry_list entry) in
+    → HearsGiven starts new (then_elements given channel (part ++ more))
+    (copies ++ map (marked channel) (entry_list entry))
+hears-more starts old new given channel part more copies entry h few stands others heard printed =
+    let was = then_elements given channel part in
+    let later = map (marked channel) (entry_list entry) in
+    let all : length (elements_given (then_elements given channel (part ++ more)))
+    ≡ length (elements_given was) + length more =
+    ap length (elements-then given channel (part ++ more) ∙ sym (append_assoc _ part more)
+    ∙ ap (λ bits. bits ++ more) (sym (elements-then given channel part)))
+    ∙ length-append (elements_given was) more in
+    let longer : length (copies ++ later) ≡ length copies + length (entry_list entry) =
+    length-append copies later
+    ∙ ap (λ n. length copies + n) (length-map (entry_list entry) (marked channel)) in
+    let each = grows-on
+    (λ other es log. Stands content (start_on starts other) (receiver_on new other) es log) given
+    channel part more copies (entry_list entry)
+    (stands (start_on starts channel) (share channel was) (copies_on channel copies)
+    (h.receivers channel))
+    (λ other not. subst (λ r. Stands content (start_on starts other) r (share other was)
+    (copies_on other copies)) (sym (others other not)) (h.receivers other)) in
     record {
-      receiver = stands;
-      elements = counts-on old.elements new.elements (length (elements_among events)) n _ h.elements
-          heard all;
-      entries = counts-on old.entries new.entries (length log) (length (entry_list entry)) _
+      receivers = each;
+      in_turn = in_turn-other starts given (to_one channel (fed.elements part))
+          (to_one channel (fed.elements (part ++ more))) copies later h.in_turn
+          (have-printed starts new _ (copies ++ later) each);
+      elements = counts-on old.elements new.elements (length (elements_given was)) (length more) _
+          h.elements heard all;
+      entries = counts-on old.entries new.entries (length copies) (length (entry_list entry)) _
           h.entries printed longer;
       few = omega (arith, all, longer, few, h.few);
     }
@@ -151,32 +452,8 @@ pub ok-false : {T : Type 0} (E : Type 0) (x : T) (b : Bool)
 ok-false E x false h = refl
 ok-false E x true h = let e = h refl in cc
 
--- nothing was handed out with these elements
-pub heard-none : (start : Start) (old new : Listening) (events : List Event) (given : List ℕ)
-    (bits : List Bool) (n : ℕ) (entry : Option Entry) → entry ≡ None
-    → HearsLog start old events given
-    → n ≤ length bits
-    → ((log : List TaggedCopy) → Stands content start old.receiver events log
-    → Stands content start new.receiver (events ++ fed.elements (take n bits))
-    (log ++ entry_list entry))
-    → new.elements ≡ count_of (old.elements + n) → new.entries ≡ old.entries
-    → HearsLog start new (events ++ fed.elements (take n bits)) given
-heard-none start old new events given bits n entry none h within stands heard printed =
-    let zero : length (entry_list entry) ≡ 0 = ap (λ e. length (entry_list e)) none in
-    let same : h.log ++ entry_list entry ≡ h.log =
-    ap (λ e. h.log ++ entry_list e) none ∙ append-nil h.log in
-    let more = hears-more start old new events h.log bits n entry h.hears within
-    (omega (arith, zero)) (stands h.log h.hears.receiver) heard
-    (omega (arith, zero, printed, h.hears.entries)) in
-    record {
-      log = h.log;
-      hears = subst (λ log. HearsEvents start new (events ++ fed.elements (take n bits)) log) same
-          more;
-      spelled = h.spelled;
-    }
-
 -- the log of one copy
-pub one-log : (copy : TaggedCopy) (bytes : List ℕ) → IsEntry copy bytes → IsLog (copy ∷ []) bytes
+pub one-log : (copy : MarkedCopy) (bytes : List ℕ) → IsEntry copy bytes → IsLog (copy ∷ []) bytes
 one-log copy bytes h = record
     { entries = bytes ∷ []; each = (h, tt); joined = sym (append-nil bytes) }
 
@@ -185,146 +462,217 @@ pub no-log : IsLog [] []
 no-log = record { entries = []; each = tt; joined = refl }
 
 -- an entry is one copy
-at-most-one : (entry : Option Entry) → length (entry_list entry) ≤ 1
+pub at-most-one : (entry : Option Entry) → length (entry_list entry) ≤ 1
 at-most-one None = omega arith
 at-most-one (Some entry) = omega arith
 
--- what was over with the last of these elements was finished, and these are the bytes of the entry,
--- if one was made
-pub heard-over : (start : Start) (old mid new : Listening) (events : List Event)
-    (given more : List ℕ) (bits : List Bool) (n : ℕ) (over : Over) → HasFinished mid new over more
-    → HearsLog start old events given → n ≤ length bits → 0 < n
-    → ((log : List TaggedCopy) → Stands content start old.receiver events log
-    → Awaits content start mid.receiver (events ++ fed.elements (take n bits)) log over)
+-- What was over with the last of these elements was finished, and these are the bytes of the entry,
+-- if one was made.
+pub heard-over : (starts : Starts) (old mid new : Listening) (given : List Given)
+    (channel : Channel) (part bits : List Bool) (n : ℕ) (bytes more : List ℕ) (over : Over)
+    → HasFinished mid new channel over more
+    → HearsLog starts old (then_elements given channel part) bytes → n ≤ length bits → 0 < n
+    → ((start : Start) (events : List Event) (log : List TaggedCopy)
+    → Stands content start (receiver_on old channel) events log
+    → Awaits content start (receiver_on mid channel) (events ++ fed.elements (take n bits)) log
+    over)
+    → ((other : Channel) → same_channel channel other ≡ false
+    → receiver_on mid other ≡ receiver_on old other)
     → mid.elements ≡ count_of (old.elements + n) → mid.entries ≡ old.entries
-    → HearsLog start new (events ++ fed.elements (take n bits)) (given ++ more)
-heard-over start old mid new events given more bits n over f h within least awaits heard same =
+    → HearsLog starts new (then_elements given channel (part ++ take n bits)) (bytes ++ more)
+heard-over starts old mid new given channel part bits n bytes more over f h within least awaits
+    others heard same =
     let entry = f.entry in
     let few : length (entry_list entry) ≤ 1 = at-most-one entry in
+    let many : length (take n bits) ≡ n = length-take-le n bits within in
     record {
-      log = h.log ++ entry_list entry;
-      hears = hears-more start old new events h.log bits n entry h.hears within (omega (arith, few))
-          (f.stands start _ h.log (awaits h.log h.hears.receiver)) (f.elements ∙ heard)
+      log = h.log ++ map (marked channel) (entry_list entry);
+      hears = hears-more starts old new given channel part (take n bits) h.log entry h.hears
+          (omega (arith, few, many))
+          (λ start events log s. f.stands start (events ++ fed.elements (take n bits)) log
+          (awaits start events log s))
+          (λ other not. f.others other not ∙ others other not)
+          (f.elements ∙ heard ∙ ap (λ k. count_of (old.elements + k)) (sym many))
           (f.entries (omega (arith, h.hears.entries, same))
           ∙ ap (λ k. count_of (k + length (entry_list entry))) same);
-      spelled = logs_join h.log (entry_list entry) given more h.spelled f.spelled;
+      spelled = logs_join h.log (map (marked channel) (entry_list entry)) bytes more h.spelled
+          f.spelled;
     }
 
 -- nothing was over with these elements
-pub heard-no-over : (start : Start) (old new : Listening) (events : List Event) (given : List ℕ)
-    (bits : List Bool) (n : ℕ) (over : Over) → over ≡ overs.Nothing
-    → HearsLog start old events given
-    → n ≤ length bits
-    → ((log : List TaggedCopy) → Stands content start old.receiver events log
-    → Awaits content start new.receiver (events ++ fed.elements (take n bits)) log over)
+pub heard-no-over : (starts : Starts) (old new : Listening) (given : List Given)
+    (channel : Channel) (part bits : List Bool) (n : ℕ) (bytes : List ℕ) (over : Over)
+    → over ≡ overs.Nothing
+    → HearsLog starts old (then_elements given channel part) bytes → n ≤ length bits
+    → ((start : Start) (events : List Event) (log : List TaggedCopy)
+    → Stands content start (receiver_on old channel) events log
+    → Awaits content start (receiver_on new channel) (events ++ fed.elements (take n bits)) log
+    over)
+    → ((other : Channel) → same_channel channel other ≡ false
+    → receiver_on new other ≡ receiver_on old other)
     → new.elements ≡ count_of (old.elements + n) → new.entries ≡ old.entries
-    → HearsLog start new (events ++ fed.elements (take n bits)) given
-heard-no-over start old new events given bits n over nothing h within awaits heard printed =
-    heard-none start old new events given bits n None refl h within
-    (λ log s. subst (λ l. Stands content start new.receiver (events ++ fed.elements (take n bits))
-    l) (sym (append-nil log))
-    (nothing_awaited content start new.receiver _ _ _ log over nothing (awaits log s)))
-    heard printed
+    → HearsLog starts new (then_elements given channel (part ++ take n bits)) bytes
+heard-no-over starts old new given channel part bits n bytes over nothing h within awaits others
+    heard printed =
+    let many : length (take n bits) ≡ n = length-take-le n bits within in
+    let more = hears-more starts old new given channel part (take n bits) h.log None h.hears
+    (omega arith)
+    (λ start events log s. subst (λ l. Stands content start (receiver_on new channel)
+    (events ++ fed.elements (take n bits)) l) (sym (append-nil log))
+    (nothing_awaited content start (receiver_on new channel) _ _ _ log over nothing
+    (awaits start events log s)))
+    others (heard ∙ ap (λ k. count_of (old.elements + k)) (sym many))
+    (omega (arith, printed, h.hears.entries)) in
+    record {
+      log = h.log;
+      hears = subst (λ log. HearsGiven starts new
+          (then_elements given channel (part ++ take n bits)) log) (append-nil h.log) more;
+      spelled = h.spelled;
+    }
+
+-- a log so far is that of the first copies of more
+pub begins-more : (starts : Starts) (listener : Listening) (given : List Given)
+    (channel : Channel) (part more : List Bool) (bytes : List ℕ)
+    → HearsLog starts listener (then_elements given channel part) bytes
+    → BeginsLog starts (then_elements given channel (part ++ more)) bytes
+begins-more starts listener given channel part more bytes h =
+    let start = start_on starts channel in
+    let was = share channel (then_elements given channel part) in
+    let all = some_printed start (was ++ fed.elements more) in
+    let on = has_printed_on start was (fed.elements more) (copies_on channel h.log) all.0
+    (h.hears.in_turn.each channel) all.1 in
+    record {
+      first = h.log;
+      rest = map (marked channel) on.rest;
+      printed = in_turn-other starts given (to_one channel (fed.elements part))
+          (to_one channel (fed.elements (part ++ more))) h.log (map (marked channel) on.rest)
+          h.hears.in_turn
+          (grows-on (λ other es log. HasPrinted (start_on starts other) es log) given channel part
+          more h.log on.rest
+          (subst (HasPrinted start (was ++ fed.elements more)) on.whole all.1)
+          (λ other not. h.hears.in_turn.each other));
+      spelled = h.spelled;
+    }
 
 -- the elements before and after a place are all
-parts : (events : List Event) (bits : List Bool) (n : ℕ)
-    → events ++ fed.elements bits
-    ≡ (events ++ fed.elements (take n bits)) ++ fed.elements (drop n bits)
-parts events bits n =
-    ap (λ bs. events ++ fed.elements bs) (sym (take-append-drop n bits))
-    ∙ ap (λ es. events ++ es) (map-append element (take n bits) (drop n bits))
-    ∙ sym (append_assoc events (fed.elements (take n bits)) (fed.elements (drop n bits)))
+pub whole-part : (part bits : List Bool) (n : ℕ)
+    → (part ++ take n bits) ++ drop n bits ≡ part ++ bits
+whole-part part bits n =
+    append_assoc part (take n bits) (drop n bits)
+    ∙ ap (λ bs. part ++ bs) (take-append-drop n bits)
 
--- a log so far is that of a beginning of more
-pub begins-more : (start : Start) (listener : Listening) (events : List Event) (given : List ℕ)
-    (bits : List Bool) (n : ℕ)
-    → HearsLog start listener (events ++ fed.elements (take n bits)) given
-    → BeginsLog start (events ++ fed.elements bits) given
-begins-more start listener events given bits n h = record {
-  before = events ++ fed.elements (take n bits);
-  later = fed.elements (drop n bits);
-  whole = parts events bits n;
+-- the next of these elements, and all that are left
+pub elements-next : (bits : List Bool) (at count : ℕ)
+    → take at bits ++ take count (take (length bits - at) (drop at bits))
+    ≡ take (at + count) bits
+elements-next bits at count =
+    ap (λ bs. take at bits ++ take count bs) (rest_is bits at)
+    ∙ sym (take-add at count bits)
+
+pub elements-rest : (bits : List Bool) (at : ℕ)
+    → take at bits ++ take (length bits - at) (drop at bits) ≡ bits
+elements-rest bits at =
+    ap (λ bs. take at bits ++ bs) (rest_is bits at) ∙ take-append-drop at bits
+
+-- before the first element of a line
+if-empty : (b : Bool) → cond b (fed.elements []) [] ≡ []
+if-empty true = refl
+if-empty false = refl
+
+pub none-heard : (starts : Starts) (listener : Listening) (given : List Given)
+    (channel : Channel) (bytes : List ℕ) → HearsLog starts listener given bytes
+    → HearsLog starts listener (then_elements given channel []) bytes
+unfolding fed.elements_among
+none-heard starts listener given channel bytes h = record {
   log = h.log;
-  printed = printed-so_far _ start listener.receiver _ h.log h.hears.receiver;
+  hears = hears-next starts listener listener given (to_one channel []) h.log h.hears refl refl
+      refl
+      (λ other log s. subst (λ es. Stands content (start_on starts other)
+      (receiver_on listener other) es log)
+      (sym (ap (λ es. share other given ++ es) (if-empty (same_channel channel other))
+      ∙ append-nil (share other given))) s);
   spelled = h.spelled;
 }
 
--- the next of these elements, and all that are left
-pub elements-next : (events : List Event) (bits : List Bool) (at count : ℕ)
-    → (events ++ fed.elements (take at bits))
-    ++ fed.elements (take count (take (length bits - at) (drop at bits)))
-    ≡ events ++ fed.elements (take (at + count) bits)
-elements-next events bits at count =
-    append_assoc events (fed.elements (take at bits))
-    (fed.elements (take count (take (length bits - at) (drop at bits))))
-    ∙ ap (λ es. events ++ es)
-    (sym (map-append element (take at bits)
-    (take count (take (length bits - at) (drop at bits)))))
-    ∙ ap (λ bs. events ++ fed.elements (take at bits ++ take count bs)) (rest_is bits at)
-    ∙ ap (λ bs. events ++ fed.elements bs) (sym (take-add at count bits))
+same-kept : (a b : SavedState) → a.refused ≡ b.refused → a.entries ≡ b.entries → a ≡ b
+same-kept a b e f = ap₂ (λ r es. record { refused = r; entries = es }) e f
 
-pub elements-rest : (events : List Event) (bits : List Bool) (at : ℕ)
-    → (events ++ fed.elements (take at bits))
-    ++ fed.elements (take (length bits - at) (drop at bits)) ≡ events ++ fed.elements bits
-elements-rest events bits at =
-    ap (λ bs. (events ++ fed.elements (take at bits)) ++ fed.elements bs) (rest_is bits at)
-    ∙ sym (parts events bits at)
-
--- what is refused at first, where it is nothing
-pub nothing-refused : (refused : Refused) → refused.stations ≡ set.empty
-    → refused.subjects ≡ set.empty → none_refused ≡ refused
-nothing-refused refused e f = sym (ap₂ (λ s t. record { stations = s; subjects = t }) e f)
-
--- with what a listener starts, by what its receiver has
-pub start-is : (start : Start) (listener : Listening) → Stands content start listener.receiver [] []
-    → listener.receiver.memory.content ≡ start.entries → start_of listener ≡ start
+-- with what a listener starts, by what its receivers have
+pub starts-is : (starts : Starts) (listener : Listening)
+    → ((channel : Channel) → Stands content (start_on starts channel)
+    (receiver_on listener channel) [] [])
+    → ((channel : Channel) → content (receiver_on listener channel).memory
+    ≡ (saved_of starts.saved channel).entries)
+    → starts_of listener ≡ starts
 unfolding setting_after_all
-start-is start listener stands same =
-    ap₂ (λ (es : List MemoryEntry) (s : Setting). record
-    { entries = es; moment = s.moment; refused = s.refused }) same stands.force
+starts-is starts listener stands same =
+    let kept : (channel : Channel)
+    → kept_by (receiver_on listener channel) ≡ saved_of starts.saved channel =
+    λ channel. same-kept (kept_by (receiver_on listener channel)) (saved_of starts.saved channel)
+    (ap (λ (s : Setting). s.refused) (stands channel).force) (same channel) in
+    let saved : record {
+      on_0 = kept_by listener.on_0;
+      on_1 = kept_by listener.on_1;
+      on_2 = kept_by listener.on_2;
+    } ≡ starts.saved =
+    ap₂ (λ a b. record { on_0 = a; on_1 = b; on_2 = kept_by listener.on_2 }) (kept Zero) (kept One)
+    ∙ ap (λ c. record { on_0 = starts.saved.on_0; on_1 = starts.saved.on_1; on_2 = c })
+    (kept Two) in
+    ap₂ (λ n s. record { moment = n; saved = s })
+    (ap (λ (s : Setting). s.moment) (stands Zero).force) saved
 
 -- a listener that was made has heard nothing
-pub heard-nothing : (start : Start) (listener : Listening) → start.moment ≤ last_moment
-    → Stands content start listener.receiver [] [] → listener.has_moment ≡ false
-    → listener.elements ≡ 0
-    → listener.entries ≡ 0 → IsListening start listener [] []
-unfolding AreTakenAfter elements_among
-heard-nothing start listener within stands none elements' entries' = record {
+pub heard-nothing : (starts : Starts) (listener : Listening) → starts.moment ≤ last_moment
+    → ((channel : Channel) → Stands content (start_on starts channel)
+    (receiver_on listener channel) [] [])
+    → listener.has_moment ≡ false → listener.elements ≡ 0 → listener.entries ≡ 0
+    → IsListening starts listener [] []
+unfolding AreTakenAfter
+heard-nothing starts listener within stands none elements' entries' = record {
   taken = record { in_range = within; each = tt };
   moment = none;
   hears = record {
     log = [];
     hears = record {
-      receiver = stands;
+      receivers = stands;
+      in_turn = in_turn-none starts (have-printed starts listener [] [] stands);
       elements = elements';
       entries = entries';
-      few =
-          omega arith;
+      few = omega arith;
     };
-    spelled = record { entries = []; each = tt; joined = refl };
+    spelled = no-log;
   };
 }
 
--- after the elements of a line
-pub heard-line : (start : Start) (old new : Listening) (lines : List Line) (bits : List Bool)
-    (given more : List ℕ) → IsListening start old lines given → has_moment lines ≡ true
+-- after the elements of a line, of the channel that it names
+elements-of : (lines : List Line) (mark : Option Channel) (channel : Channel) (bits : List Bool)
+    → channel ≡ channel_of mark
+    → then_elements (given_by lines) channel bits ≡ given_by (lines ++ elements mark bits ∷ [])
+elements-of lines mark channel bits e =
+    ap (λ on. then_elements (given_by lines) on bits) e ∙ sym (given_by-one lines (elements mark bits))
+
+pub heard-line : (starts : Starts) (old new : Listening) (lines : List Line)
+    (mark : Option Channel) (channel : Channel) (bits : List Bool) (bytes more : List ℕ)
+    → channel ≡ channel_of mark
+    → IsListening starts old lines bytes → has_moment lines ≡ true
     → new.has_moment ≡ old.has_moment
-    → HearsLog start new (events_of lines ++ fed.elements bits) more
-    → IsListening start new (lines ++ elements bits ∷ []) more
-heard-line start old new lines bits given more h some same heard = record {
-  taken = taken-one start lines (elements bits) h.taken some;
-  moment = moment-other lines (elements bits) _ (same ∙ h.moment) refl;
-  hears = subst (λ es. HearsLog start new es more) (sym (events_of-one lines (elements bits)))
+    → HearsLog starts new (then_elements (given_by lines) channel bits) more
+    → IsListening starts new (lines ++ elements mark bits ∷ []) more
+heard-line starts old new lines mark channel bits bytes more e h some same heard = record {
+  taken = taken-one starts lines (elements mark bits) h.taken some;
+  moment = moment-other lines (elements mark bits) _ (same ∙ h.moment) refl;
+  hears = subst (λ given. HearsLog starts new given more) (elements-of lines mark channel bits e)
       heard;
 }
 
-pub begins-line : (start : Start) (lines : List Line) (bits : List Bool) (given : List ℕ)
-    → AreTaken start lines → has_moment lines ≡ true
-    → BeginsLog start (events_of lines ++ fed.elements bits) given
-    → BeginsListening start (lines ++ elements bits ∷ []) given
-begins-line start lines bits given taken some h = record {
-  taken = taken-one start lines (elements bits) taken some;
-  begun = subst (λ es. BeginsLog start es given) (sym (events_of-one lines (elements bits))) h;
+pub begins-line : (starts : Starts) (lines : List Line) (mark : Option Channel)
+    (channel : Channel) (bits : List Bool) (bytes : List ℕ) → channel ≡ channel_of mark
+    → AreTaken starts lines → has_moment lines ≡ true
+    → BeginsLog starts (then_elements (given_by lines) channel bits) bytes
+    → BeginsListening starts (lines ++ elements mark bits ∷ []) bytes
+begins-line starts lines mark channel bits bytes e taken some h = record {
+  taken = taken-one starts lines (elements mark bits) taken some;
+  begun = subst (λ given. BeginsLog starts given bytes) (elements-of lines mark channel bits e) h;
 }
 
 pub none-left : {A : Type 0} (o : Option A) → ((x : A) → o ≡ Some x → ⊥) → o ≡ None

@@ -2,26 +2,33 @@
 -- log.
 use Rattle.std.proofs.Common.{◌≡◌, inl, inr, ℕ, ◌≤◌, Bool, true, false, cond, List, [], ◌∷◌, ◌++◌, Option, length, get_or, sym, subst, arith}
 use Rattle.std.specs.List.{All}
-use Rattle.std.specs.Prelude.{⊤}
+use Rattle.std.specs.Prelude.{⊤, if◌then◌else◌}
 use Rattle.std.proofs.lemmas.Bool.{cases_lt}
 use Rattle.std.proofs.lemmas.List.{get_or_past}
 use Rattle.std.proofs.lemmas.List.Elements.{All-nil, All-cons, All-head, All-tail, All-same, All-get_or, All-append}
 use Rattle.nx_envelope.specs.Moment.{last_moment}
 use Rattle.nx_fec.specs.AirFile.{Line, moment, elements, refuse_station, accept_station, refuse_subject, accept_subject}
+use Rattle.nx_fec.specs.Channels.{channel_of, same_channel}
 use Rattle.nx_fec.specs.Transfers.{WroteSome}
+use Rattle.nx_fec.specs.declared.channel.Channel.{Channel}
 use Rattle.nx_fec.specs.Lines.{IsAirFile, air_limit}
 use Rattle.nx_fec.proofs.LineLaws.{IsAirFile-unique}
 use Rattle.nx_fec.proofs.WritingLaws.{WroteSome-front}
 use Rattle.nx_memory.specs.declared.entry.MemoryEntry.{MemoryEntry}
 use Rattle.nx_receiver.specs.Events.{Event, Setting, Start, at_moment, element, command, first_setting, setting_after, settings}
 use Rattle.nx_receiver.specs.FoundCopies.{FoundCopy, TaggedCopy, tag, tagged_copies}
-use Rattle.nx_receiver.specs.Listen.{AreTaken, AreTakenAfter, HasLoggedSome, IsLogOf, IsLogOfLines, IsTakenAfter, events_of, line_events}
+use Rattle.nx_receiver.specs.Listen.{AreTaken, AreTakenAfter, HasLoggedSome, IsLogOf, IsLogOfLines, IsTakenAfter, events_on, given_by, given_of}
 use Rattle.nx_receiver.specs.private.Listener.{BeginsListening}
-use Rattle.nx_receiver.specs.Log.{HasPrinted, IsLog, PrintsToEnd, printed_of}
+use Rattle.nx_receiver.specs.InTurn.{HavePrinted, PrintAllToEnd}
+use Rattle.nx_receiver.specs.Log.{IsLog, printed_of}
 use Rattle.nx_receiver.specs.Printing.{entry_made, if_printed, is_printed, printed_copies}
 use Rattle.nx_receiver.specs.Events as fed
+use Rattle.nx_receiver.specs.Shares.{MarkedCopy, Starts, copies_on, events_for, start_on}
+use Rattle.nx_receiver.proofs.Shares.{to_end-on}
 use Rattle.nx_receiver.proofs.receiving.Log.{log_begins, one_log, some_log}
-use Rattle.nx_receiver.proofs.receiving.Logged.{has_printed_on, one_printed, one_to_end, some_printed, some_to_end}
+use Rattle.nx_receiver.proofs.turns.Marked.{all-on}
+use Rattle.nx_receiver.proofs.turns.One.{one-in_turn, one-to_end}
+use Rattle.nx_receiver.proofs.turns.Some.{some-in_turn, some-to_end}
 
 -- an event that is a moment is in range
 abbrev pub IsInRange : Event → Type 0
@@ -43,22 +50,33 @@ elements-in_range (bit ∷ bits) =
 one-in_range : (event : Event) → IsInRange event → All IsInRange (event ∷ [])
 one-in_range event h = All-cons IsInRange event [] h (All-nil IsInRange)
 
-line-in_range : (start : Start) (first : List Line) (line : Line) → IsTakenAfter start first line
-    → All IsInRange (line_events line)
-line-in_range start first (moment n) h = one-in_range _ h.1
-line-in_range start first (elements bits) h = elements-in_range bits
-line-in_range start first (refuse_station letter) h = one-in_range _ tt
-line-in_range start first (accept_station letter) h = one-in_range _ tt
-line-in_range start first (refuse_subject letter) h = one-in_range _ tt
-line-in_range start first (accept_subject letter) h = one-in_range _ tt
+share-in_range : (b : Bool) (events : List Event) → All IsInRange events
+    → All IsInRange (if b then events else [])
+share-in_range true events h = h
+share-in_range false events h = All-nil IsInRange
 
-lines-in_range : (start : Start) (first lines : List Line) → AreTakenAfter start first lines
-    → All IsInRange (events_of lines)
+line-in_range : (starts : Starts) (channel : Channel) (first : List Line) (line : Line)
+    → IsTakenAfter starts first line → All IsInRange (events_for channel (given_of line))
+line-in_range starts channel first (moment n) h = one-in_range _ h.1
+line-in_range starts channel first (elements mark bits) h =
+    share-in_range (same_channel (channel_of mark) channel) _ (elements-in_range bits)
+line-in_range starts channel first (refuse_station mark letter) h =
+    share-in_range (same_channel (channel_of mark) channel) _ (one-in_range _ tt)
+line-in_range starts channel first (accept_station mark letter) h =
+    share-in_range (same_channel (channel_of mark) channel) _ (one-in_range _ tt)
+line-in_range starts channel first (refuse_subject mark letter) h =
+    share-in_range (same_channel (channel_of mark) channel) _ (one-in_range _ tt)
+line-in_range starts channel first (accept_subject mark letter) h =
+    share-in_range (same_channel (channel_of mark) channel) _ (one-in_range _ tt)
+
+lines-in_range : (starts : Starts) (channel : Channel) (first lines : List Line)
+    → AreTakenAfter starts first lines → All IsInRange (events_on channel lines)
 unfolding AreTakenAfter
-lines-in_range start first [] h = All-nil IsInRange
-lines-in_range start first (line ∷ lines) h =
-    All-append IsInRange (line_events line) (events_of lines) (line-in_range start first line h.0)
-    (lines-in_range start (first ++ line ∷ []) lines h.1)
+lines-in_range starts channel first [] h = All-nil IsInRange
+lines-in_range starts channel first (line ∷ lines) h =
+    All-append IsInRange (events_for channel (given_of line)) (events_on channel lines)
+    (line-in_range starts channel first line h.0)
+    (lines-in_range starts channel (first ++ line ∷ []) lines h.1)
 
 settings-in_range : (now : Setting) (events : List Event) → IsSetInRange now → All IsInRange events
     → All IsSetInRange (settings now events)
@@ -106,68 +124,76 @@ printed-in_range entries (copy ∷ copies) h =
     (printed-in_range (entries ++ entry_made entries copy) copies
     (All-tail IsCopyInRange copy copies h))
 
--- all that lines print is in range
-printed_of-in_range : (start : Start) (lines : List Line) (copies : List FoundCopy)
-    → AreTaken start lines → All IsCopyInRange (printed_of start (events_of lines) copies)
-printed_of-in_range start lines copies taken =
+-- all that lines print on a channel is in range
+printed_of-in_range : (starts : Starts) (channel : Channel) (lines : List Line)
+    (copies : List FoundCopy) → AreTaken starts lines
+    → All IsCopyInRange (printed_of (start_on starts channel) (events_on channel lines) copies)
+printed_of-in_range starts channel lines copies taken =
+    let start = start_on starts channel in
     let first = first_setting start in
+    let events = events_on channel lines in
     printed-in_range start.entries _
-    (tagged-in_range first (events_of lines) copies taken.in_range
-    (settings-in_range first (events_of lines) taken.in_range
-    (lines-in_range start [] lines taken.each)))
+    (tagged-in_range first events copies taken.in_range
+    (settings-in_range first events taken.in_range
+    (lines-in_range starts channel [] lines taken.each)))
 
-log-in_range : (start : Start) (lines : List Line) (log : List TaggedCopy) → AreTaken start lines
-    → HasPrinted start (events_of lines) log → All IsCopyInRange log
-log-in_range start lines log taken h =
-    All-same IsCopyInRange log _ h.printed (printed_of-in_range start lines _ taken)
+open-in_range : (starts : Starts) (lines : List Line) (copies : List MarkedCopy)
+    → AreTaken starts lines → HavePrinted starts (given_by lines) copies
+    → All (λ (one : MarkedCopy). IsCopyInRange one.copy) copies
+open-in_range starts lines copies taken h =
+    all-on IsCopyInRange copies (λ channel. All-same IsCopyInRange (copies_on channel copies) _
+    (h channel).printed (printed_of-in_range starts channel lines _ taken))
+
+closed-in_range : (starts : Starts) (lines : List Line) (copies : List MarkedCopy)
+    → AreTaken starts lines → PrintAllToEnd starts (given_by lines) copies
+    → All (λ (one : MarkedCopy). IsCopyInRange one.copy) copies
+closed-in_range starts lines copies taken h =
+    all-on IsCopyInRange copies (λ channel. All-same IsCopyInRange (copies_on channel copies) _
+    (to_end-on starts (given_by lines) copies channel h).printed
+    (printed_of-in_range starts channel lines _ taken))
 
 -- so lines have a log, with the end and without it
-pub some-open : (start : Start) (lines : List Line) → AreTaken start lines
-    → (log : List ℕ) × IsLogOfLines start lines log
-some-open start lines taken =
-    let all = some_printed start (events_of lines) in
-    let log = some_log all.0 (log-in_range start lines all.0 taken all.1) in
+pub some-open : (starts : Starts) (lines : List Line) → AreTaken starts lines
+    → (log : List ℕ) × IsLogOfLines starts lines log
+some-open starts lines taken =
+    let all = some-in_turn starts (given_by lines) in
+    let log = some_log all.0 (open-in_range starts lines all.0 taken all.1.each) in
     (log.0, record { taken = taken; copies = all.0; printed = all.1; spelled = log.1 })
 
-pub some-closed : (start : Start) (bytes : List ℕ) (lines : List Line)
-    → IsAirFile air_limit bytes lines → AreTaken start lines
-    → (log : List ℕ) × IsLogOf start bytes log
-some-closed start bytes lines file taken =
-    let all = some_to_end start (events_of lines) in
-    let log = some_log all.0 (All-same IsCopyInRange all.0 _ all.1.printed
-    (printed_of-in_range start lines _ taken)) in
+pub some-closed : (starts : Starts) (bytes : List ℕ) (lines : List Line)
+    → IsAirFile air_limit bytes lines → AreTaken starts lines
+    → (log : List ℕ) × IsLogOf starts bytes log
+some-closed starts bytes lines file taken =
+    let all = some-to_end starts (given_by lines) in
+    let log = some_log all.0 (closed-in_range starts lines all.0 taken all.1) in
     (log.0, (lines, all.0, record { file = file; taken = taken; printed = all.1; spelled = log.1 }))
 
 -- and one alone
-pub one-open : (start : Start) (lines : List Line) (log other : List ℕ)
-    → IsLogOfLines start lines log → IsLogOfLines start lines other → log ≡ other
-one-open start lines log other a b =
-    let same = one_printed start (events_of lines) a.copies b.copies a.printed b.printed in
+pub one-open : (starts : Starts) (lines : List Line) (log other : List ℕ)
+    → IsLogOfLines starts lines log → IsLogOfLines starts lines other → log ≡ other
+one-open starts lines log other a b =
+    let same = one-in_turn starts (given_by lines) a.copies b.copies a.printed b.printed in
     one_log b.copies log other (subst (λ copies. IsLog copies log) same a.spelled) b.spelled
 
-pub one-closed : (start : Start) (bytes log other : List ℕ) → IsLogOf start bytes log
-    → IsLogOf start bytes other → log ≡ other
-one-closed start bytes log other a b =
+pub one-closed : (starts : Starts) (bytes log other : List ℕ) → IsLogOf starts bytes log
+    → IsLogOf starts bytes other → log ≡ other
+one-closed starts bytes log other a b =
     let lines = IsAirFile-unique air_limit bytes a.0 b.0 a.2.file b.2.file in
-    let same = one_to_end start (events_of b.0) a.1 b.1
-    (subst (λ l. PrintsToEnd start (events_of l) a.1) lines a.2.printed) b.2.printed in
+    let same = one-to_end starts (given_by b.0) a.1 b.1
+    (subst (λ l. PrintAllToEnd starts (given_by l) a.1) lines a.2.printed) b.2.printed in
     one_log b.1 log other (subst (λ copies. IsLog copies log) same a.2.spelled) b.2.spelled
 
--- what is the log of a beginning of what lines give was written in part: so was the log of the
--- lines
-pub logged-some : (start : Start) (old new : Option (List ℕ)) (written : ℕ) (lines : List Line)
-    (given : List ℕ) → BeginsListening start lines given → WroteSome old new given written
-    → HasLoggedSome (IsLogOfLines start lines) old new written
-logged-some start old new written lines given h some =
+-- what is the log of the first copies of lines was written in part: so was the log of the lines
+pub logged-some : (starts : Starts) (old new : Option (List ℕ)) (written : ℕ) (lines : List Line)
+    (bytes : List ℕ) → BeginsListening starts lines bytes → WroteSome old new bytes written
+    → HasLoggedSome (IsLogOfLines starts lines) old new written
+logged-some starts old new written lines bytes h some =
     let b = h.begun in
-    let all = some_printed start (events_of lines) in
-    let later = subst (λ es. HasPrinted start es all.0) b.whole all.1 in
-    let on = has_printed_on start b.before b.later b.log all.0 b.printed later in
-    let log = some_log all.0 (log-in_range start lines all.0 h.taken all.1) in
-    let front = log_begins b.log on.rest given log.0 b.spelled
-    (subst (λ l. IsLog l log.0) on.whole log.1) in (
+    let copies = b.first ++ b.rest in
+    let log = some_log copies (open-in_range starts lines copies h.taken b.printed.each) in
+    let front = log_begins b.first b.rest bytes log.0 b.spelled log.1 in (
       log.0,
-      record { taken = h.taken; copies = all.0; printed = all.1; spelled = log.1 },
+      record { taken = h.taken; copies = copies; printed = b.printed; spelled = log.1 },
       subst (λ l. WroteSome old new l written) (sym front.1)
-          (WroteSome-front old new given front.0 written some),
+          (WroteSome-front old new bytes front.0 written some),
     )

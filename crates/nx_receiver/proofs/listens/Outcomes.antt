@@ -11,8 +11,9 @@ use Rattle.nx_fec.specs.declared.line_run.LinesFault.{LinesFault}
 use Rattle.nx_fec.specs.declared.line_run.LinesFault.TheVariants as run
 use Rattle.nx_fec.proofs.LineLaws.{HasFault-unique, IsAirFile-good, NoFeed, first_feed, no_feed-not, reading-unique, regroup, spelling-IsBeginning, spelling-injective, split}
 use Rattle.nx_fec.proofs.LineRunLemmas.{file_of-one}
-use Rattle.nx_receiver.specs.Events.{Start, Refuses}
+use Rattle.nx_receiver.specs.Events.{Refuses}
 use Rattle.nx_receiver.specs.Listen.{AreTaken, AreTakenAfter, HasListenFault, HasLogged, IsLogOf, IsTakenAfter, RefusesAfter}
+use Rattle.nx_receiver.specs.Shares.{Starts}
 use Rattle.nx_receiver.specs.private.Listener.{RefusesLine, lines_fault, refusal_fault}
 use Rattle.nx_receiver.specs.declared.fault.MomentFault.{MomentFault}
 use Rattle.nx_receiver.specs.declared.fault.MomentFault.TheVariants.{Range, Back}
@@ -97,71 +98,71 @@ same-front (a ∷ p) x (b ∷ q) y e h =
     let tails : p ++ x ≡ q ++ y = cc in
     cc (heads, same-front p x q y tails (omega (arith, h)))
 
--- with whatever a receiver starts
-module _ (start : Start) where
+-- with whatever three receivers start
+module _ (starts : Starts) where
   -- a line that is taken isn't refused
   taken-not_refused : (lines : List Line) (line : Line) (why : LineRefusal)
-      → IsTakenAfter start lines line → RefusesLine start lines line why → ⊥
+      → IsTakenAfter starts lines line → RefusesLine starts lines line why → ⊥
   taken-not_refused lines (moment n) refusal.NoMoment h k = k
   taken-not_refused lines (moment n) (refusal.Moment (Range given)) h k = omega (arith, h.1, k.1)
   taken-not_refused lines (moment n) (refusal.Moment (Back last given)) h k =
       omega (arith, h.0, k.3)
   taken-not_refused lines (moment n) (refusal.Vital subject) h k = k
-  taken-not_refused lines (elements bits) refusal.NoMoment h k = true≢false (sym h ∙ k)
-  taken-not_refused lines (elements bits) (refusal.Moment why) h k = k
-  taken-not_refused lines (elements bits) (refusal.Vital subject) h k = k
-  taken-not_refused lines (refuse_subject letter) refusal.NoMoment h k = k
-  taken-not_refused lines (refuse_subject letter) (refusal.Moment why) h k = k
-  taken-not_refused lines (refuse_subject letter) (refusal.Vital subject) h k =
+  taken-not_refused lines (elements mark bits) refusal.NoMoment h k = true≢false (sym h ∙ k)
+  taken-not_refused lines (elements mark bits) (refusal.Moment why) h k = k
+  taken-not_refused lines (elements mark bits) (refusal.Vital subject) h k = k
+  taken-not_refused lines (refuse_subject mark letter) refusal.NoMoment h k = k
+  taken-not_refused lines (refuse_subject mark letter) (refusal.Moment why) h k = k
+  taken-not_refused lines (refuse_subject mark letter) (refusal.Vital subject) h k =
       true≢false (sym k.0 ∙ h)
-  taken-not_refused lines (refuse_station letter) refusal.NoMoment h k = k
-  taken-not_refused lines (refuse_station letter) (refusal.Moment why) h k = k
-  taken-not_refused lines (refuse_station letter) (refusal.Vital subject) h k = k
-  taken-not_refused lines (accept_station letter) refusal.NoMoment h k = k
-  taken-not_refused lines (accept_station letter) (refusal.Moment why) h k = k
-  taken-not_refused lines (accept_station letter) (refusal.Vital subject) h k = k
-  taken-not_refused lines (accept_subject letter) refusal.NoMoment h k = k
-  taken-not_refused lines (accept_subject letter) (refusal.Moment why) h k = k
-  taken-not_refused lines (accept_subject letter) (refusal.Vital subject) h k = k
+  taken-not_refused lines (refuse_station mark letter) refusal.NoMoment h k = k
+  taken-not_refused lines (refuse_station mark letter) (refusal.Moment why) h k = k
+  taken-not_refused lines (refuse_station mark letter) (refusal.Vital subject) h k = k
+  taken-not_refused lines (accept_station mark letter) refusal.NoMoment h k = k
+  taken-not_refused lines (accept_station mark letter) (refusal.Moment why) h k = k
+  taken-not_refused lines (accept_station mark letter) (refusal.Vital subject) h k = k
+  taken-not_refused lines (accept_subject mark letter) refusal.NoMoment h k = k
+  taken-not_refused lines (accept_subject mark letter) (refusal.Moment why) h k = k
+  taken-not_refused lines (accept_subject mark letter) (refusal.Vital subject) h k = k
 
   one-refusal : (lines : List Line) (line : Line) (a b : LineRefusal)
-      → RefusesLine start lines line a → RefusesLine start lines line b → a ≡ b
+      → RefusesLine starts lines line a → RefusesLine starts lines line b → a ≡ b
   one-refusal lines (moment n) (refusal.Moment x) (refusal.Moment y) h k =
       ap refusal.Moment (one-moment _ n x y h k)
   one-refusal lines (moment n) (refusal.Moment x) refusal.NoMoment h k = absurd k
   one-refusal lines (moment n) (refusal.Moment x) (refusal.Vital s) h k = absurd k
-  one-refusal lines (elements bits) refusal.NoMoment refusal.NoMoment h k = refl
-  one-refusal lines (elements bits) refusal.NoMoment (refusal.Moment y) h k = absurd k
-  one-refusal lines (elements bits) refusal.NoMoment (refusal.Vital s) h k = absurd k
-  one-refusal lines (refuse_subject letter) (refusal.Vital s) (refusal.Vital t) h k =
+  one-refusal lines (elements mark bits) refusal.NoMoment refusal.NoMoment h k = refl
+  one-refusal lines (elements mark bits) refusal.NoMoment (refusal.Moment y) h k = absurd k
+  one-refusal lines (elements mark bits) refusal.NoMoment (refusal.Vital s) h k = absurd k
+  one-refusal lines (refuse_subject mark letter) (refusal.Vital s) (refusal.Vital t) h k =
       ap refusal.Vital (same_letter s t (h.1 ∙ sym k.1))
-  one-refusal lines (refuse_subject letter) (refusal.Vital s) refusal.NoMoment h k = absurd k
-  one-refusal lines (refuse_subject letter) (refusal.Vital s) (refusal.Moment y) h k = absurd k
-  one-refusal lines (refuse_station letter) refusal.NoMoment b h k = absurd h
-  one-refusal lines (refuse_station letter) (refusal.Moment x) b h k = absurd h
-  one-refusal lines (refuse_station letter) (refusal.Vital s) b h k = absurd h
-  one-refusal lines (accept_station letter) refusal.NoMoment b h k = absurd h
-  one-refusal lines (accept_station letter) (refusal.Moment x) b h k = absurd h
-  one-refusal lines (accept_station letter) (refusal.Vital s) b h k = absurd h
-  one-refusal lines (accept_subject letter) refusal.NoMoment b h k = absurd h
-  one-refusal lines (accept_subject letter) (refusal.Moment x) b h k = absurd h
-  one-refusal lines (accept_subject letter) (refusal.Vital s) b h k = absurd h
+  one-refusal lines (refuse_subject mark letter) (refusal.Vital s) refusal.NoMoment h k = absurd k
+  one-refusal lines (refuse_subject mark letter) (refusal.Vital s) (refusal.Moment y) h k = absurd k
+  one-refusal lines (refuse_station mark letter) refusal.NoMoment b h k = absurd h
+  one-refusal lines (refuse_station mark letter) (refusal.Moment x) b h k = absurd h
+  one-refusal lines (refuse_station mark letter) (refusal.Vital s) b h k = absurd h
+  one-refusal lines (accept_station mark letter) refusal.NoMoment b h k = absurd h
+  one-refusal lines (accept_station mark letter) (refusal.Moment x) b h k = absurd h
+  one-refusal lines (accept_station mark letter) (refusal.Vital s) b h k = absurd h
+  one-refusal lines (accept_subject mark letter) refusal.NoMoment b h k = absurd h
+  one-refusal lines (accept_subject mark letter) (refusal.Moment x) b h k = absurd h
+  one-refusal lines (accept_subject mark letter) (refusal.Vital s) b h k = absurd h
   one-refusal lines (moment n) refusal.NoMoment b h k = absurd h
   one-refusal lines (moment n) (refusal.Vital s) b h k = absurd h
-  one-refusal lines (elements bits) (refusal.Moment x) b h k = absurd h
-  one-refusal lines (elements bits) (refusal.Vital s) b h k = absurd h
-  one-refusal lines (refuse_subject letter) refusal.NoMoment b h k = absurd h
-  one-refusal lines (refuse_subject letter) (refusal.Moment x) b h k = absurd h
+  one-refusal lines (elements mark bits) (refusal.Moment x) b h k = absurd h
+  one-refusal lines (elements mark bits) (refusal.Vital s) b h k = absurd h
+  one-refusal lines (refuse_subject mark letter) refusal.NoMoment b h k = absurd h
+  one-refusal lines (refuse_subject mark letter) (refusal.Moment x) b h k = absurd h
 
   -- of lines that are taken, each is taken after those before it
   taken-at : (first before : List Line) (line : Line) (after : List Line)
-      → AreTakenAfter start first (before ++ line ∷ after)
-      → IsTakenAfter start (first ++ before) line
+      → AreTakenAfter starts first (before ++ line ∷ after)
+      → IsTakenAfter starts (first ++ before) line
   unfolding AreTakenAfter
   taken-at first [] line after h =
-      subst (λ l. IsTakenAfter start l line) (sym (append-nil first)) h.0
+      subst (λ l. IsTakenAfter starts l line) (sym (append-nil first)) h.0
   taken-at first (x ∷ before) line after h =
-      subst (λ l. IsTakenAfter start l line) (append_assoc first (x ∷ []) before)
+      subst (λ l. IsTakenAfter starts l line) (append_assoc first (x ∷ []) before)
       (taken-at (first ++ x ∷ []) before line after h.1)
 
   -- ---- a refused line among others
@@ -169,22 +170,22 @@ module _ (start : Start) where
   -- lines that are taken don't go on past a line that is refused after those before it
   overlap : (before : List Line) (line : Line) (why : LineRefusal) (lines : List Line)
       (rest t : List ℕ) → AllByRecursion IsLine before → IsLine line
-      → RefusesLine start before line why
-      → AllByRecursion IsLine lines → NoFeed rest → AreTaken start lines
+      → RefusesLine starts before line why
+      → AllByRecursion IsLine lines → NoFeed rest → AreTaken starts lines
       → file_of lines ++ rest ≡ file_of (before ++ line ∷ []) ++ t → ⊥
   overlap before line why lines rest t g h refused k none taken e =
       let front = front-lines (before ++ line ∷ []) lines t rest (good-more before line g h) k none
       (sym e) in
       taken-not_refused before line why
       (taken-at [] before line front.0
-      (subst (AreTaken start) (front.1 ∙ append_assoc before (line ∷ []) front.0) taken).each)
+      (subst (AreTaken starts) (front.1 ∙ append_assoc before (line ∷ []) front.0) taken).each)
       refused
 
   -- so what stands at the end of taken lines stands before the end of the refused line
   beyond : (before : List Line) (line : Line) (why : LineRefusal) (after : List ℕ)
       (lines : List Line) (rest more : List ℕ) → AllByRecursion IsLine before → IsLine line
-      → RefusesLine start before line why
-      → AllByRecursion IsLine lines → NoFeed rest → AreTaken start lines
+      → RefusesLine starts before line why
+      → AllByRecursion IsLine lines → NoFeed rest → AreTaken starts lines
       → file_of (before ++ line ∷ []) ++ after ≡ (file_of lines ++ rest) ++ more
       → Beyond (file_of lines ++ rest) (file_of (before ++ line ∷ [])) more after
   beyond before line why after lines rest more g h refused k none taken e =
@@ -204,41 +205,41 @@ module _ (start : Start) where
   StopsWith : List ℕ → LinesFault LineRefusal → Type 0
   StopsWith bytes (run.Line why) =
       StopsAt bytes (λ lines rest more. IsCause air_limit (length (file_of lines ++ rest)) lines
-      rest more why × AreTaken start lines)
+      rest more why × AreTaken starts lines)
   StopsWith bytes (run.Refused number why) =
       StopsAt bytes (λ lines rest more. IsLineRefused
-      (λ before line. RefusesLine start before line why) air_limit lines rest more number
-      × AreTaken start lines)
+      (λ before line. RefusesLine starts before line why) air_limit lines rest more number
+      × AreTaken starts lines)
   StopsWith bytes run.Read = ⊥
   StopsWith bytes (run.Write written) = ⊥
 
   -- a line that isn't taken, as a fault says, is refused
   says : (number : ℕ) (lines : List Line) (line : Line) (why : LineRefusal)
-      → RefusesAfter start (refusal_fault number why) lines line
-      → (number ≡ length lines + 1) × RefusesLine start lines line why
+      → RefusesAfter starts (refusal_fault number why) lines line
+      → (number ≡ length lines + 1) × RefusesLine starts lines line why
   says number lines (moment n) refusal.NoMoment h = absurd h
-  says number lines (elements bits) refusal.NoMoment h = h
-  says number lines (refuse_subject letter) refusal.NoMoment h = absurd h
-  says number lines (refuse_station letter) refusal.NoMoment h = absurd h
-  says number lines (accept_station letter) refusal.NoMoment h = absurd h
-  says number lines (accept_subject letter) refusal.NoMoment h = absurd h
+  says number lines (elements mark bits) refusal.NoMoment h = h
+  says number lines (refuse_subject mark letter) refusal.NoMoment h = absurd h
+  says number lines (refuse_station mark letter) refusal.NoMoment h = absurd h
+  says number lines (accept_station mark letter) refusal.NoMoment h = absurd h
+  says number lines (accept_subject mark letter) refusal.NoMoment h = absurd h
   says number lines (moment n) (refusal.Moment why) h = h
-  says number lines (elements bits) (refusal.Moment why) h = absurd h
-  says number lines (refuse_subject letter) (refusal.Moment why) h = absurd h
-  says number lines (refuse_station letter) (refusal.Moment why) h = absurd h
-  says number lines (accept_station letter) (refusal.Moment why) h = absurd h
-  says number lines (accept_subject letter) (refusal.Moment why) h = absurd h
+  says number lines (elements mark bits) (refusal.Moment why) h = absurd h
+  says number lines (refuse_subject mark letter) (refusal.Moment why) h = absurd h
+  says number lines (refuse_station mark letter) (refusal.Moment why) h = absurd h
+  says number lines (accept_station mark letter) (refusal.Moment why) h = absurd h
+  says number lines (accept_subject mark letter) (refusal.Moment why) h = absurd h
   says number lines (moment n) (refusal.Vital subject) h = absurd h
-  says number lines (elements bits) (refusal.Vital subject) h = absurd h
-  says number lines (refuse_subject letter) (refusal.Vital subject) h = (h.0, (h.1, h.2))
-  says number lines (refuse_station letter) (refusal.Vital subject) h = absurd h
-  says number lines (accept_station letter) (refusal.Vital subject) h = absurd h
-  says number lines (accept_subject letter) (refusal.Vital subject) h = absurd h
+  says number lines (elements mark bits) (refusal.Vital subject) h = absurd h
+  says number lines (refuse_subject mark letter) (refusal.Vital subject) h = (h.0, (h.1, h.2))
+  says number lines (refuse_station mark letter) (refusal.Vital subject) h = absurd h
+  says number lines (accept_station mark letter) (refusal.Vital subject) h = absurd h
+  says number lines (accept_subject mark letter) (refusal.Vital subject) h = absurd h
 
   refused-stops : (bytes : List ℕ) (number : ℕ) (why : LineRefusal)
       → StopsAt bytes (λ lines rest more. IsLineRefused
-      (RefusesAfter start (refusal_fault number why)) air_limit lines rest more
-      (length lines + 1) × AreTaken start lines)
+      (RefusesAfter starts (refusal_fault number why)) air_limit lines rest more
+      (length lines + 1) × AreTaken starts lines)
       → StopsWith bytes (run.Refused number why)
   unfolding StopsWith
   refused-stops bytes number why h =
@@ -273,7 +274,7 @@ module _ (start : Start) where
     stops : StopsWith bytes fault
 
   has-stopped : (bytes : List ℕ) (why : ListenFault)
-      → HasListenFault start (AreTaken start) bytes why → HasStopped bytes why
+      → HasListenFault starts (AreTaken starts) bytes why → HasStopped bytes why
   unfolding StopsWith
   has-stopped bytes Read h = absurd h.here.0.refused
   has-stopped bytes (Write written) h = absurd h.here.0.refused
@@ -328,11 +329,11 @@ module _ (start : Start) where
     after : List ℕ
     each : AllByRecursion IsLine lines
     good : IsLine line
-    taken : AreTaken start lines
+    taken : AreTaken starts lines
     whole : bytes ≡ (file_of lines ++ spelling line) ++ (10 ∷ after)
     within : length (file_of lines ++ spelling line) < air_limit
     counted : number ≡ length lines + 1
-    refused : RefusesLine start lines line why
+    refused : RefusesLine starts lines line why
 
   at-line : (bytes : List ℕ) (number : ℕ) (why : LineRefusal)
       → StopsWith bytes (run.Refused number why) → AtLine bytes number why
@@ -412,8 +413,8 @@ module _ (start : Start) where
       let line = spelling-injective a.line b.line a.good b.good read.1 in (
         a.counted ∙ ap (λ l. length l + 1) read.0 ∙ sym b.counted,
         one-refusal b.lines b.line v w
-            (subst (λ x. RefusesLine start b.lines x v) line
-            (subst (λ l. RefusesLine start l a.line v) read.0 a.refused)) b.refused,
+            (subst (λ x. RefusesLine starts b.lines x v) line
+            (subst (λ l. RefusesLine starts l a.line v) read.0 a.refused)) b.refused,
       )
 
   one-stop : (bytes : List ℕ) (f g : LinesFault LineRefusal) → StopsWith bytes f → StopsWith bytes g
@@ -433,8 +434,8 @@ module _ (start : Start) where
   one-stop bytes (run.Refused n v) (run.Write written) h k = absurd k
 
   pub one-first_fault : (bytes : List ℕ) (a b : ListenFault)
-      → HasListenFault start (AreTaken start) bytes a
-      → HasListenFault start (AreTaken start) bytes b → a ≡ b
+      → HasListenFault starts (AreTaken starts) bytes a
+      → HasListenFault starts (AreTaken starts) bytes b → a ≡ b
   one-first_fault bytes a b h k =
       let s = has-stopped bytes a h in
       let t = has-stopped bytes b k in
@@ -442,7 +443,7 @@ module _ (start : Start) where
 
   -- a file that has a log has no fault
   no-stop : (bytes : List ℕ) (lines : List Line) (f : LinesFault LineRefusal)
-      → IsAirFile air_limit bytes lines → AreTaken start lines → StopsWith bytes f → ⊥
+      → IsAirFile air_limit bytes lines → AreTaken starts lines → StopsWith bytes f → ⊥
   unfolding StopsWith
   no-stop bytes lines (run.Line v) good taken h =
       IsAirFile-good air_limit bytes lines v good (as-fault bytes v h)
@@ -453,16 +454,16 @@ module _ (start : Start) where
   no-stop bytes lines run.Read good taken h = h
   no-stop bytes lines (run.Write written) good taken h = h
 
-  pub no-first_fault : (bytes log : List ℕ) (why : ListenFault) → IsLogOf start bytes log
-      → HasListenFault start (AreTaken start) bytes why → ⊥
+  pub no-first_fault : (bytes log : List ℕ) (why : ListenFault) → IsLogOf starts bytes log
+      → HasListenFault starts (AreTaken starts) bytes why → ⊥
   no-first_fault bytes log why l h =
       let s = has-stopped bytes why h in
       no-stop bytes l.0 s.fault l.2.file l.2.taken s.stops
 
   stop-taken : (bytes : List ℕ) (P : List Line → List ℕ → List ℕ → Type 0)
-      (holds : List Line → Type 0) → ((lines : List Line) → holds lines → AreTaken start lines)
+      (holds : List Line → Type 0) → ((lines : List Line) → holds lines → AreTaken starts lines)
       → StopsAt bytes (λ lines rest more. P lines rest more × holds lines)
-      → StopsAt bytes (λ lines rest more. P lines rest more × AreTaken start lines)
+      → StopsAt bytes (λ lines rest more. P lines rest more × AreTaken starts lines)
   stop-taken bytes P holds f h =
       record {
         lines = h.lines;
@@ -477,8 +478,8 @@ module _ (start : Start) where
 
   -- whatever was written, the lines before a fault were taken
   pub first_fault-taken : (old new : Option (List ℕ)) (bytes : List ℕ) (why : ListenFault)
-      → HasListenFault start (HasLogged start old new) bytes why
-      → HasListenFault start (AreTaken start) bytes why
+      → HasListenFault starts (HasLogged starts old new) bytes why
+      → HasListenFault starts (AreTaken starts) bytes why
   first_fault-taken old new bytes Read h = absurd h.here.0.refused
   first_fault-taken old new bytes (Write written) h = absurd h.here.0.refused
   first_fault-taken old new bytes (Memory error) h = absurd h.here.0.refused

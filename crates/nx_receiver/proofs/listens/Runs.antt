@@ -1,43 +1,42 @@
 -- What a run over lines says, said of the log and in the faults of `listen`.
-use Rattle.std.proofs.Common.{◌≡◌, inl, inr, ℕ, ◌+◌, ◌≤◌, List, [], ◌∷◌, length, map, Option, None, Some, IfSome, Result, Ok, Err, refl, ap, ◌∙◌, arith, length-append, codes}
+use Rattle.std.proofs.Common.{◌≡◌, inl, inr, ℕ, ◌+◌, ◌≤◌, List, [], ◌∷◌, ◌++◌, length, map, Option, None, Some, IfSome, Result, Ok, Err, refl, ap, ap₂, ◌∙◌, arith, length-append}
 use Rattle.std.specs.Prelude.{⊤}
+use Rattle.std.specs.List.{flat_map}
 use Rattle.std.specs.Io.KnownBytes.{Appends}
 use Rattle.std.specs.declared.alloc.AllocError.{AllocError}
 use Rattle.std.proofs.KnownBytes.{Consumes-nil}
 use Rattle.std.proofs.lemmas.List.{length-map}
-use Rattle.nx_fec.specs.AirFile.{Line, moment, elements, refuse_station, accept_station, refuse_subject, accept_subject, element_digit, spelling}
+use Rattle.nx_fec.specs.AirFile.{Line, moment, elements, refuse_station, accept_station, refuse_subject, accept_subject, element_digit, mark_bytes}
 use Rattle.nx_fec.specs.Transfers.{CountedDevice, HasWritten, Devices, devices}
 use Rattle.nx_fec.specs.LineRuns.{ExplainsLines, HasTaken, HasTakenAll, RunsLines}
-use Rattle.nx_fec.specs.Lines.{IsLineRefused, StopsAt, air_limit, file_of, line_bytes}
+use Rattle.nx_fec.specs.Lines.{IsLineRefused, StopsAt, air_limit, elements_of, file_of, line_bytes}
 use Rattle.nx_fec.specs.declared.fault.LineFault.TheVariants as file
 use Rattle.nx_fec.specs.declared.line_run.LinesFault.{LinesFault}
 use Rattle.nx_fec.specs.declared.line_run.LinesFault.TheVariants as run
 use Rattle.nx_fec.specs.declared.line_run.LinesRead.{LinesRead}
 use Rattle.nx_fec.proofs.TransferLaws.{Ok-not_err, Reads-on, Writes-none, read_failed-none}
-use Rattle.nx_receiver.specs.Events.{Start, elements_among}
-use Rattle.nx_receiver.specs.Listen.{AnswersListening, HasListened, HasLogged, HasLoggedSome, IsLogOf, Listens, RefusesAfter, events_of, line_events}
-use Rattle.nx_receiver.specs.private.ListenerBegins.{printed-so_far}
-use Rattle.nx_receiver.specs.private.Listener.{BeginsFrom, HasClosed, HasClosedSome, IsListening, Listening, RefusesFrom, RefusesLine, StandsFrom, lines_fault, refusal_fault, start_of}
+use Rattle.nx_receiver.specs.Events.{elements_among}
+use Rattle.nx_receiver.specs.Listen.{AnswersListening, HasListened, HasLogged, HasLoggedSome, IsLogOf, Listens, RefusesAfter, given_by, given_of}
+use Rattle.nx_receiver.specs.Shares.{Starts}
+use Rattle.nx_receiver.specs.private.Listener.{BeginsFrom, HasClosed, HasClosedSome, IsListening, Listening, RefusesFrom, RefusesLine, StandsFrom, elements_given, elements_in, lines_fault, refusal_fault, starts_of}
 use Rattle.nx_receiver.specs.declared.listen_fault.ListenFault.{ListenFault}
 use Rattle.nx_receiver.specs.declared.listen_fault.ListenFault.TheVariants.{Memory, Read, Write}
 use Rattle.nx_receiver.specs.declared.listening.LineRefusal.{LineRefusal}
 use Rattle.nx_receiver.specs.declared.listening.LineRefusal.TheVariants as refusal
 use Rattle.nx_receiver.specs.declared.listening.Report.{Report}
 use Rattle.nx_receiver.proofs.listens.Moments.{logged-some}
-use Rattle.nx_receiver.proofs.receiving.Logged.{bits_of-append}
 use Rattle.nx_receiver.proofs.receiving.Events.{bits_of-more}
 
 -- what the lines gave was written: their log
 logged : (first now : Listening) (old new : Option (List ℕ)) (lines : List Line)
     → HasTaken StandsFrom first now lines (Appends old new)
-    → HasLogged (start_of first) old new lines
+    → HasLogged (starts_of first) old new lines
 logged first now old new lines h = (
   h.given,
   record {
     taken = h.stood.taken;
     copies = h.stood.hears.log;
-    printed = printed-so_far _ (start_of first) now.receiver (events_of lines) h.stood.hears.log
-        h.stood.hears.hears.receiver;
+    printed = h.stood.hears.hears.in_turn;
     spelled = h.stood.hears.spelled;
   },
   h.here,
@@ -58,33 +57,33 @@ stops-on bytes P Q f h = record {
 }
 
 -- a line that is refused isn't taken, as its fault says
-fault-says : (start : Start) (number : ℕ) (lines : List Line) (line : Line) (why : LineRefusal)
-    → number ≡ length lines + 1 → RefusesLine start lines line why
-    → RefusesAfter start (refusal_fault number why) lines line
-fault-says start number lines (moment n) refusal.NoMoment e h = h
-fault-says start number lines (moment n) (refusal.Moment why) e h = (e, h)
-fault-says start number lines (moment n) (refusal.Vital subject) e h = h
-fault-says start number lines (elements bits) refusal.NoMoment e h = (e, h)
-fault-says start number lines (elements bits) (refusal.Moment why) e h = h
-fault-says start number lines (elements bits) (refusal.Vital subject) e h = h
-fault-says start number lines (refuse_subject letter) refusal.NoMoment e h = h
-fault-says start number lines (refuse_subject letter) (refusal.Moment why) e h = h
-fault-says start number lines (refuse_subject letter) (refusal.Vital subject) e h = (e, h.0, h.1)
-fault-says start number lines (refuse_station letter) refusal.NoMoment e h = h
-fault-says start number lines (refuse_station letter) (refusal.Moment why) e h = h
-fault-says start number lines (refuse_station letter) (refusal.Vital subject) e h = h
-fault-says start number lines (accept_station letter) refusal.NoMoment e h = h
-fault-says start number lines (accept_station letter) (refusal.Moment why) e h = h
-fault-says start number lines (accept_station letter) (refusal.Vital subject) e h = h
-fault-says start number lines (accept_subject letter) refusal.NoMoment e h = h
-fault-says start number lines (accept_subject letter) (refusal.Moment why) e h = h
-fault-says start number lines (accept_subject letter) (refusal.Vital subject) e h = h
+fault-says : (starts : Starts) (number : ℕ) (lines : List Line) (line : Line) (why : LineRefusal)
+    → number ≡ length lines + 1 → RefusesLine starts lines line why
+    → RefusesAfter starts (refusal_fault number why) lines line
+fault-says starts number lines (moment n) refusal.NoMoment e h = h
+fault-says starts number lines (moment n) (refusal.Moment why) e h = (e, h)
+fault-says starts number lines (moment n) (refusal.Vital subject) e h = h
+fault-says starts number lines (elements mark bits) refusal.NoMoment e h = (e, h)
+fault-says starts number lines (elements mark bits) (refusal.Moment why) e h = h
+fault-says starts number lines (elements mark bits) (refusal.Vital subject) e h = h
+fault-says starts number lines (refuse_subject mark letter) refusal.NoMoment e h = h
+fault-says starts number lines (refuse_subject mark letter) (refusal.Moment why) e h = h
+fault-says starts number lines (refuse_subject mark letter) (refusal.Vital subject) e h = (e, h.0, h.1)
+fault-says starts number lines (refuse_station mark letter) refusal.NoMoment e h = h
+fault-says starts number lines (refuse_station mark letter) (refusal.Moment why) e h = h
+fault-says starts number lines (refuse_station mark letter) (refusal.Vital subject) e h = h
+fault-says starts number lines (accept_station mark letter) refusal.NoMoment e h = h
+fault-says starts number lines (accept_station mark letter) (refusal.Moment why) e h = h
+fault-says starts number lines (accept_station mark letter) (refusal.Vital subject) e h = h
+fault-says starts number lines (accept_subject mark letter) refusal.NoMoment e h = h
+fault-says starts number lines (accept_subject mark letter) (refusal.Moment why) e h = h
+fault-says starts number lines (accept_subject mark letter) (refusal.Vital subject) e h = h
 
 next-refused : (first : Listening) (number : ℕ) (lines : List Line) (rest more : List ℕ)
     (why : LineRefusal)
     → IsLineRefused (λ before line. RefusesFrom first before line why) air_limit lines rest more
     number
-    → IsLineRefused (RefusesAfter (start_of first) (refusal_fault number why)) air_limit lines rest
+    → IsLineRefused (RefusesAfter (starts_of first) (refusal_fault number why)) air_limit lines rest
     more (length lines + 1)
 next-refused first number lines rest more why h = record {
   line = h.line;
@@ -94,7 +93,7 @@ next-refused first number lines rest more why h = record {
   ended = h.ended;
   within = h.within;
   counted = refl;
-  refused = fault-says (start_of first) number lines h.line why h.counted h.refused;
+  refused = fault-says (starts_of first) number lines h.line why h.counted h.refused;
 }
 
 -- what a fault of the lines explains
@@ -102,7 +101,7 @@ explains : (AtEnd : Type 0) (IsLeft : List ℕ → Type 0) (first now : Listenin
     (old new : Option (List ℕ)) (bytes : List ℕ) (fault : LinesFault LineRefusal)
     → ExplainsLines StandsFrom BeginsFrom RefusesFrom AtEnd IsLeft air_limit first now old new
     (Appends old new) bytes fault
-    → AnswersListening (start_of first) AtEnd IsLeft old new (Err (lines_fault fault)) bytes
+    → AnswersListening (starts_of first) AtEnd IsLeft old new (Err (lines_fault fault)) bytes
 explains AtEnd IsLeft first now old new bytes run.Read h =
     stops-on bytes _ _ (λ lines rest more p. (p.0, p.1, logged first now old new lines p.2)) h
 explains AtEnd IsLeft first now old new bytes (run.Line file.TooLong) h =
@@ -132,8 +131,8 @@ explains AtEnd IsLeft first now old new bytes (run.Refused line (refusal.Vital s
           new lines p.1,
     )) h
 explains AtEnd IsLeft first now old new bytes (run.Write written) h =
-    inl (stops-on bytes _ _ (λ lines rest more p. logged-some (start_of first) old new written lines
-    p.given p.begun p.some) h)
+    inl (stops-on bytes _ _ (λ lines rest more p. logged-some (starts_of first) old new written
+    lines p.given p.begun p.some) h)
 
 -- the faults of devices are those of devices
 read-back : (fault : LinesFault LineRefusal) → lines_fault fault ≡ Read → fault ≡ run.Read
@@ -173,7 +172,7 @@ as-err {N} {F} a b e = let out : F → Result N F = λ x. Err x in ap out e
 pub listens-fault : {R W : Type 0} (first now : Listening) (d : Devices R W)
     (fault : LinesFault LineRefusal)
     → RunsLines StandsFrom BeginsFrom RefusesFrom air_limit first now d (Err fault)
-    → Listens (start_of first) d (Err (lines_fault fault))
+    → Listens (starts_of first) d (Err (lines_fault fault))
 listens-fault first now d fault h = record {
   reads = Reads-on d.remaining d.reader d.reader_after run.Read Read (Err fault)
       (Err (lines_fault fault)) _ _ _ _ h.reads
@@ -192,39 +191,45 @@ listens-fault first now d fault h = record {
   unwritten = tt;
 }
 
--- lines have fewer elements than bytes
-line-fewer : (line : Line) → length (elements_among (line_events line)) ≤ length (line_bytes line)
+line-given : (line : Line) → elements_in (given_of line) ≡ elements_of line
 unfolding elements_among
+line-given (moment n) = refl
+line-given (elements mark bits) = bits_of-more [] bits
+line-given (refuse_station mark letter) = refl
+line-given (accept_station mark letter) = refl
+line-given (refuse_subject mark letter) = refl
+line-given (accept_subject mark letter) = refl
+
+-- what lines give has their elements
+given-elements : (lines : List Line)
+    → elements_given (given_by lines) ≡ flat_map elements_of lines
+given-elements [] = refl
+given-elements (line ∷ lines) =
+    ap₂ (λ bits more. bits ++ more) (line-given line) (given-elements lines)
+
+-- lines have fewer elements than bytes
+line-fewer : (line : Line) → length (elements_of line) ≤ length (line_bytes line)
 line-fewer (moment n) = omega arith
-line-fewer (elements bits) =
-    let heard : length (elements_among (line_events (elements bits))) ≡ length bits =
-    ap length (bits_of-more [] bits) in
+line-fewer (elements mark bits) =
     let digits : length (map element_digit bits) ≡ length bits = simp length-map in
+    let rest = 32 ∷ map element_digit bits in
     omega (
       arith,
-      heard,
       digits,
-      length-append (spelling (elements bits)) (10 ∷ []),
-      length-append
-          (codes "B ") (map element_digit bits),
+      length-append (mark_bytes mark) rest,
+      length-append (mark_bytes mark ++ rest) (10 ∷ []),
     )
-line-fewer (refuse_station letter) = omega arith
-line-fewer (accept_station letter) = omega arith
-line-fewer (refuse_subject letter) = omega arith
-line-fewer (accept_subject letter) = omega arith
+line-fewer (refuse_station mark letter) = omega arith
+line-fewer (accept_station mark letter) = omega arith
+line-fewer (refuse_subject mark letter) = omega arith
+line-fewer (accept_subject mark letter) = omega arith
 
-lines-fewer : (lines : List Line)
-    → length (elements_among (events_of lines)) ≤ length (file_of lines)
-unfolding elements_among
+lines-fewer : (lines : List Line) → length (flat_map elements_of lines) ≤ length (file_of lines)
 lines-fewer [] = omega arith
 lines-fewer (line ∷ lines) =
-    let heard : length (elements_among (events_of (line ∷ lines)))
-    ≡ length (elements_among (line_events line)) + length (elements_among (events_of lines)) =
-    ap length (bits_of-append (line_events line) (events_of lines))
-    ∙ length-append (elements_among (line_events line)) (elements_among (events_of lines)) in
     omega (
       arith,
-      heard,
+      length-append (elements_of line) (flat_map elements_of lines),
       line-fewer line,
       lines-fewer lines,
       length-append (line_bytes line)
@@ -235,14 +240,15 @@ lines-fewer (line ∷ lines) =
 listened : (first now : Listening) (old mid new : Option (List ℕ)) (bytes : List ℕ)
     (read : LinesRead) (report : Report)
     → HasTakenAll StandsFrom first now old mid air_limit bytes read
-    → ((lines : List Line) (given : List ℕ) → IsListening (start_of first) now lines given
+    → ((lines : List Line) (given : List ℕ) → IsListening (starts_of first) now lines given
     → HasWritten old mid given read.written
-    → HasClosed (start_of first) old new (events_of lines) report)
-    → report.lines ≡ read.lines → HasListened (start_of first) old new bytes report
+    → HasClosed (starts_of first) old new (given_by lines) report)
+    → report.lines ≡ read.lines → HasListened (starts_of first) old new bytes report
 listened first now old mid new bytes read report h closed counted =
     let t = h.taken in
     let e = closed h.lines t.given t.stood t.here in
-    let few : length (elements_among (events_of h.lines)) ≤ 268435456 =
+    let same = ap length (given-elements h.lines) in
+    let few : length (flat_map elements_of h.lines) ≤ 268435456 =
     omega (arith, lines-fewer h.lines, ap length h.file.whole, h.file.within) in
     record {
       lines = h.lines;
@@ -257,8 +263,8 @@ listened first now old mid new bytes read report h closed counted =
       };
       written = e.written;
       lines_counted = counted ∙ h.counted;
-      bits_counted = omega (arith, few, e.bits_counted);
-      printed_counted = omega (arith, few, e.few, e.printed_counted);
+      bits_counted = omega (arith, few, same, e.bits_counted);
+      printed_counted = omega (arith, few, same, e.few, e.printed_counted);
     }
 
 -- a run over lines that read its file to the end, and what the end prints, are a run of `listen`
@@ -267,12 +273,12 @@ pub listens-ok : {R W : Type 0} (remaining : R → Option (List ℕ)) (contents 
     (writer mid new : CountedDevice W) (read : LinesRead) (report : Report)
     → RunsLines StandsFrom BeginsFrom RefusesFrom air_limit first now
     (devices remaining contents reader reader_after writer mid) (Ok read)
-    → ((lines : List Line) (given : List ℕ) → IsListening (start_of first) now lines given
+    → ((lines : List Line) (given : List ℕ) → IsListening (starts_of first) now lines given
     → HasWritten (contents writer.inner) (contents mid.inner) given read.written
-    → HasClosed (start_of first) (contents writer.inner) (contents new.inner) (events_of lines)
+    → HasClosed (starts_of first) (contents writer.inner) (contents new.inner) (given_by lines)
     report)
     → report.lines ≡ read.lines → new.failures ≡ 0
-    → Listens (start_of first) (devices remaining contents reader reader_after writer new)
+    → Listens (starts_of first) (devices remaining contents reader reader_after writer new)
     (Ok report)
 listens-ok remaining contents first now reader reader_after writer mid new read report h closed
     counted none = record {
@@ -288,10 +294,10 @@ listens-ok remaining contents first now reader reader_after writer mid new read 
 -- the whole file was read, and a write of what its end prints failed
 part-listened : (first now : Listening) (old mid new : Option (List ℕ)) (bytes : List ℕ)
     (read : LinesRead) (written : ℕ) → HasTakenAll StandsFrom first now old mid air_limit bytes read
-    → ((lines : List Line) (given : List ℕ) → IsListening (start_of first) now lines given
+    → ((lines : List Line) (given : List ℕ) → IsListening (starts_of first) now lines given
     → HasWritten old mid given read.written
-    → HasClosedSome (start_of first) old new (events_of lines) written)
-    → HasLoggedSome (IsLogOf (start_of first) bytes) old new written
+    → HasClosedSome (starts_of first) old new (given_by lines) written)
+    → HasLoggedSome (IsLogOf (starts_of first) bytes) old new written
 part-listened first now old mid new bytes read written h closed =
     let t = h.taken in
     let e = closed h.lines t.given t.stood t.here in (
@@ -314,11 +320,11 @@ pub listens-part : {R W : Type 0} (remaining : R → Option (List ℕ)) (content
     (writer mid new : CountedDevice W) (read : LinesRead) (written : ℕ)
     → RunsLines StandsFrom BeginsFrom RefusesFrom air_limit first now
     (devices remaining contents reader reader_after writer mid) (Ok read)
-    → ((lines : List Line) (given : List ℕ) → IsListening (start_of first) now lines given
+    → ((lines : List Line) (given : List ℕ) → IsListening (starts_of first) now lines given
     → HasWritten (contents writer.inner) (contents mid.inner) given read.written
-    → HasClosedSome (start_of first) (contents writer.inner) (contents new.inner) (events_of lines)
+    → HasClosedSome (starts_of first) (contents writer.inner) (contents new.inner) (given_by lines)
     written)
-    → new.failures ≡ 1 → Listens (start_of first)
+    → new.failures ≡ 1 → Listens (starts_of first)
     (devices remaining contents reader reader_after writer new) (Err (Write written))
 listens-part remaining contents first now reader reader_after writer mid new read written h closed
     one = record {
@@ -346,13 +352,13 @@ whatever None = tt
 whatever (Some xs) = tt
 
 -- memory ran out before anything was read
-pub listens-memory : {R W : Type 0} (start : Start) (remaining : R → Option (List ℕ))
+pub listens-memory : {R W : Type 0} (starts : Starts) (remaining : R → Option (List ℕ))
     (contents : W → Option (List ℕ)) (reader : CountedDevice R) (writer : CountedDevice W)
     (error : AllocError)
     → reader.failures ≡ 0 → writer.failures ≡ 0
-    → Listens start (devices remaining contents reader reader writer writer)
+    → Listens starts (devices remaining contents reader reader writer writer)
     (Err (Memory error))
-listens-memory start remaining contents reader writer error read written = record {
+listens-memory starts remaining contents reader writer error read written = record {
   reads = record {
     bytes = [];
     consumed = Consumes-nil (remaining reader.inner);

@@ -5,34 +5,37 @@ use Rattle.nx_envelope.specs.Message.{MessageView}
 use Rattle.nx_fec.specs.AirFile.{Line}
 use Rattle.nx_fec.specs.Transfers.{Devices}
 use Rattle.nx_fec.proofs.LineLaws.{IsAirFile-unique}
-use Rattle.nx_receiver.specs.Events.{Start}
 use Rattle.nx_fec.specs.Lines.{air_limit}
-use Rattle.nx_receiver.specs.Listen.{HasListened, IsLogOfFile, Listens, events_of}
-use Rattle.nx_receiver.specs.ListenOnce.{HasPrintedOnce, IsHeardInTimeIn, KeepsHeadline}
-use Rattle.nx_receiver.specs.Log.{PrintsToEnd}
+use Rattle.nx_fec.specs.declared.channel.Channel.{Channel}
+use Rattle.nx_receiver.specs.InTurn.{PrintAllToEnd}
+use Rattle.nx_receiver.specs.Listen.{HasListened, IsLogOfFile, Listens, events_on, given_by}
+use Rattle.nx_receiver.specs.ListenOnce.{HasPrintedOnce, IsHeardInTimeOn, KeepsHeadline}
 use Rattle.nx_receiver.specs.Once.{IsPrintedOnce}
-use Rattle.nx_receiver.specs.FoundCopies.{TaggedCopy}
+use Rattle.nx_receiver.specs.Shares.{MarkedCopy, Starts, copies_on, start_on}
 use Rattle.nx_receiver.specs.declared.listening.Report.{Report}
+use Rattle.nx_receiver.proofs.Shares.{to_end-on}
 use Rattle.nx_receiver.proofs.once.Found.{printed_once}
 
--- it has one entry in the log of the file
-pub one-entry : (start : Start) (file log : List ℕ) (lines : List Line) (copies : List TaggedCopy)
-    (message : MessageView)
-    → IsLogOfFile start file lines copies log → IsHeardInTimeIn start file message
-    → IsPrintedOnce message copies
-one-entry start file log lines copies message l h =
+-- it has one entry of its channel in the log of the file
+pub one-entry : (starts : Starts) (file log : List ℕ) (lines : List Line) (copies : List MarkedCopy)
+    (channel : Channel) (message : MessageView)
+    → IsLogOfFile starts file lines copies log → IsHeardInTimeOn channel starts file message
+    → IsPrintedOnce message (copies_on channel copies)
+one-entry starts file log lines copies channel message l h =
     let same = IsAirFile-unique air_limit file lines h.lines l.file h.spelled in
-    let prints = subst (λ (ls : List Line). PrintsToEnd start (events_of ls) copies) same
+    let prints = subst (λ (ls : List Line). PrintAllToEnd starts (given_by ls) copies) same
     l.printed in
-    printed_once start (events_of h.lines) h.parts message h.heard copies prints
+    printed_once (start_on starts channel) (events_on channel h.lines) h.parts message h.heard
+    (copies_on channel copies) (to_end-on starts (given_by h.lines) copies channel prints)
 
 -- so the log that was written has one
-printed-once : (start : Start) (old new : Option (List ℕ)) (file : List ℕ) (report : Report)
-    → HasListened start old new file report → HasPrintedOnce start old new file
-printed-once start old new file report h = record {
+printed-once : (starts : Starts) (old new : Option (List ℕ)) (file : List ℕ) (report : Report)
+    → HasListened starts old new file report → HasPrintedOnce starts old new file
+printed-once starts old new file report h = record {
   report = report;
   listened = h;
-  once = λ message k. one-entry start file h.log h.lines h.copies message h.heard k;
+  once = λ channel message k. one-entry starts file h.log h.lines h.copies channel message h.heard
+      k;
 }
 
 pub on-some : (o : Option (List ℕ)) (P Q : List ℕ → Type 0) → ((xs : List ℕ) → P xs → Q xs)
@@ -41,12 +44,12 @@ on-some None P Q f h = tt
 on-some (Some xs) P Q f h = f xs h
 
 -- a run of `listen` that answers Ok keeps both halves of the headline
-pub keeps-headline : {R W : Type 0} (start : Start) (d : Devices R W) (report : Report)
-    → Listens start d (Ok report) → KeepsHeadline start d
-keeps-headline start d report h = record {
+pub keeps-headline : {R W : Type 0} (starts : Starts) (d : Devices R W) (report : Report)
+    → Listens starts d (Ok report) → KeepsHeadline starts d
+keeps-headline starts d report h = record {
   bytes = h.reads.bytes;
   consumed = h.reads.consumed;
-  printed = printed-once start _ _ h.reads.bytes report h.reads.answer.1;
-  file = on-some (d.remaining d.reader.inner) _ _ (λ file k. printed-once start _ _ file report k.1)
-      h.reads.file;
+  printed = printed-once starts _ _ h.reads.bytes report h.reads.answer.1;
+  file = on-some (d.remaining d.reader.inner) _ _
+      (λ file k. printed-once starts _ _ file report k.1) h.reads.file;
 }

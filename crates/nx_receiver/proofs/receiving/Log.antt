@@ -6,16 +6,18 @@ use Rattle.std.proofs.lemmas.List.Elements.{All-head, All-tail}
 use Rattle.nx_envelope.specs.Moment.{last_moment}
 use Rattle.nx_envelope.proofs.EveryMoment.{every_moment}
 use Rattle.nx_envelope.proofs.OneText.{one_text}
-use Rattle.nx_receiver.specs.FoundCopies.{TaggedCopy}
 use Rattle.nx_receiver.specs.Log.{IsEntry, IsLog, entry_with}
+use Rattle.nx_receiver.specs.Shares.{MarkedCopy}
 
 -- a copy has one entry
-pub one_entry : (copy : TaggedCopy) (xs ys : List ℕ) → IsEntry copy xs → IsEntry copy ys → xs ≡ ys
-one_entry copy xs ys e f =
-    e.spelled ∙ ap (entry_with copy) (one_text copy.moment e.civil f.civil e.shown f.shown)
+pub one_entry : (one : MarkedCopy) (xs ys : List ℕ) → IsEntry one xs → IsEntry one ys → xs ≡ ys
+one_entry one xs ys e f =
+    e.spelled
+    ∙ ap (entry_with one.channel one.copy)
+    (one_text one.copy.moment e.civil f.civil e.shown f.shown)
     ∙ sym f.spelled
 
-one_list : (copies : List TaggedCopy) (es fs : List (List ℕ)) → AllZip IsEntry copies es
+one_list : (copies : List MarkedCopy) (es fs : List (List ℕ)) → AllZip IsEntry copies es
     → AllZip IsEntry copies fs → es ≡ fs
 one_list [] [] [] h k = refl
 one_list [] [] (f ∷ fs) h k = absurd k
@@ -25,12 +27,12 @@ one_list (c ∷ cs) (e ∷ es) [] h k = absurd k
 one_list (c ∷ cs) (e ∷ es) (f ∷ fs) h k =
     ap (λ x. x ∷ es) (one_entry c e f h.0 k.0) ∙ ap (λ xs. f ∷ xs) (one_list cs es fs h.1 k.1)
 
-pub one_log : (copies : List TaggedCopy) (xs ys : List ℕ) → IsLog copies xs → IsLog copies ys
+pub one_log : (copies : List MarkedCopy) (xs ys : List ℕ) → IsLog copies xs → IsLog copies ys
     → xs ≡ ys
 one_log copies xs ys l m =
     l.joined ∙ ap concat (one_list copies l.entries m.entries l.each m.each) ∙ sym m.joined
 
-zip_join : (as' bs : List TaggedCopy) (es fs : List (List ℕ)) → AllZip IsEntry as' es
+zip_join : (as' bs : List MarkedCopy) (es fs : List (List ℕ)) → AllZip IsEntry as' es
     → AllZip IsEntry bs fs → AllZip IsEntry (as' ++ bs) (es ++ fs)
 zip_join [] bs [] fs h k = k
 zip_join [] bs (e ∷ es) fs h k = absurd h
@@ -38,7 +40,7 @@ zip_join (c ∷ cs) bs [] fs h k = absurd h
 zip_join (c ∷ cs) bs (e ∷ es) fs h k = (h.0, zip_join cs bs es fs h.1 k)
 
 -- a log and then another are the log of both
-pub logs_join : (front back : List TaggedCopy) (xs ys : List ℕ) → IsLog front xs → IsLog back ys
+pub logs_join : (front back : List MarkedCopy) (xs ys : List ℕ) → IsLog front xs → IsLog back ys
     → IsLog (front ++ back) (xs ++ ys)
 logs_join front back xs ys l m = record {
   entries = l.entries ++ m.entries;
@@ -47,14 +49,14 @@ logs_join front back xs ys l m = record {
       ∙ sym (concat-append l.entries m.entries);
 }
 
-record Cut (front back : List TaggedCopy) (es : List (List ℕ)) : Type 0 where
+record Cut (front back : List MarkedCopy) (es : List (List ℕ)) : Type 0 where
   left : List (List ℕ)
   right : List (List ℕ)
   whole : es ≡ left ++ right
   front_each : AllZip IsEntry front left
   back_each : AllZip IsEntry back right
 
-cut : (front back : List TaggedCopy) (es : List (List ℕ)) → AllZip IsEntry (front ++ back) es
+cut : (front back : List MarkedCopy) (es : List (List ℕ)) → AllZip IsEntry (front ++ back) es
     → Cut front back es
 cut [] back es h = record { left = []; right = es; whole = refl; front_each = tt; back_each = h }
 cut (c ∷ cs) back [] h = absurd h
@@ -71,7 +73,7 @@ cut (c ∷ cs) back (e ∷ es) h =
     }
 
 -- the log of a beginning is a beginning of the log
-pub log_begins : (front back : List TaggedCopy) (bytes whole : List ℕ) → IsLog front bytes
+pub log_begins : (front back : List MarkedCopy) (bytes whole : List ℕ) → IsLog front bytes
     → IsLog (front ++ back) whole → (more : List ℕ) × (whole ≡ bytes ++ more)
 log_begins front back bytes whole l m =
     let c = cut front back m.entries m.each in (
@@ -82,20 +84,22 @@ log_begins front back bytes whole l m =
     )
 
 -- copies whose moments are in range have a log
-pub some_log : (copies : List TaggedCopy)
-    → All (λ (copy : TaggedCopy). copy.moment ≤ last_moment) copies
+pub some_log : (copies : List MarkedCopy)
+    → All (λ (one : MarkedCopy). one.copy.moment ≤ last_moment) copies
     → (bytes : List ℕ) × IsLog copies bytes
 some_log [] k = ([], record { entries = []; each = tt; joined = refl })
 some_log (c ∷ cs) k =
-    let shown = every_moment c.moment
-    (All-head (λ (copy : TaggedCopy). copy.moment ≤ last_moment) c cs k) in
-    let rest = some_log cs (All-tail (λ (copy : TaggedCopy). copy.moment ≤ last_moment) c cs k) in
-    let entry : IsEntry c (entry_with c shown.text) =
+    let shown = every_moment c.copy.moment
+    (All-head (λ (one : MarkedCopy). one.copy.moment ≤ last_moment) c cs k) in
+    let rest = some_log cs
+    (All-tail (λ (one : MarkedCopy). one.copy.moment ≤ last_moment) c cs k) in
+    let here = entry_with c.channel c.copy shown.text in
+    let entry : IsEntry c here =
     record { civil = shown.text; shown = shown.is_shown; spelled = refl } in (
-      entry_with c shown.text ++ rest.0,
+      here ++ rest.0,
       record {
-        entries = entry_with c shown.text ∷ rest.1.entries;
+        entries = here ∷ rest.1.entries;
         each = (entry, rest.1.each);
-        joined = ap (λ bs. entry_with c shown.text ++ bs) rest.1.joined;
+        joined = ap (λ bs. here ++ bs) rest.1.joined;
       },
     )

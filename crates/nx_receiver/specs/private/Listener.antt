@@ -1,18 +1,27 @@
 -- How the taker of lines behind a run that listens stands after lines (this profile).
-use Rattle.std.specs.Prelude.{◌≡◌, ℕ, ◌+◌, ◌-◌, ◌^◌, ◌≤◌, Bool, false, List, ◌++◌, length, min, Option, IsTrue}
+use Rattle.std.specs.Prelude.{◌≡◌, ℕ, ◌+◌, ◌-◌, ◌^◌, ◌≤◌, Bool, false, List, [], ◌∷◌, ◌++◌, length, map, min, Option, IsTrue}
+use Rattle.std.specs.List.{flat_map}
 use Rattle.std.specs.Io.KnownBytes.{Appends}
 use Rattle.nx_envelope.specs.declared.letter.Letter.{Letter}
 use Rattle.nx_fec.specs.AirFile.{Line, moment, elements, refuse_subject}
+use Rattle.nx_fec.specs.Channels.{same_channel}
 use Rattle.nx_fec.specs.Transfers.{WroteSome}
+use Rattle.nx_fec.specs.declared.channel.Channel.{Channel}
+use Rattle.nx_fec.specs.declared.channel.Channel.TheVariants.{Zero, One, Two}
 use Rattle.nx_fec.specs.declared.fault.LineFault.TheVariants as file
 use Rattle.nx_fec.specs.declared.line_run.LinesFault.{LinesFault}
 use Rattle.nx_fec.specs.declared.line_run.LinesFault.TheVariants as run
 use Rattle.nx_memory.specs.Ring.{RingMemory}
+use Rattle.nx_memory.specs.Saved.{SavedState}
 use Rattle.nx_memory.specs.Selection.{is_vital}
+use Rattle.nx_memory.specs.declared.entry.MemoryEntry.{MemoryEntry}
+use Rattle.nx_receiver.specs.Events as events
 use Rattle.nx_receiver.specs.Events.{Event, Start, elements_among, Refuses}
-use Rattle.nx_receiver.specs.Listen.{AreTaken, events_of, has_moment, in_force_after}
-use Rattle.nx_receiver.specs.Log.{HasPrinted, IsLog, PrintsToEnd}
+use Rattle.nx_receiver.specs.InTurn.{PrintAllToEnd, PrintsInTurn}
+use Rattle.nx_receiver.specs.Listen.{AreTaken, given_by, has_moment, moment_after}
+use Rattle.nx_receiver.specs.Log.{IsLog}
 use Rattle.nx_receiver.specs.Receiver.{Receiving, Stands, entry_list}
+use Rattle.nx_receiver.specs.Shares.{Given, MarkedCopy, Starts, copies_on, marked, share, start_on, to_all, to_one}
 use Rattle.nx_receiver.specs.private.Awaiting.{Awaits}
 use Rattle.nx_receiver.specs.FoundCopies.{TaggedCopy}
 use Rattle.nx_receiver.specs.declared.entry.Entry.{Entry}
@@ -28,143 +37,188 @@ use Rattle.nx_receiver.specs.declared.over.Over.{Over}
 abbrev pub count_of : ℕ → ℕ
 count_of n = min n (2 ^ 64 - 1)
 
--- what contracts see of a listener: its receiver, whether there was a moment, and how many elements
--- and entries it counted
+-- the memory's entries, as a listener's receivers have them
+abbrev pub content : RingMemory → List MemoryEntry
+content memory = memory.content
+
+-- what contracts see of a listener: the receiver of each channel, whether there was a moment, and
+-- how many elements and entries it counted
 pub record Listening : Type 0 where
-  pub receiver : Receiving RingMemory
+  pub on_0 : Receiving RingMemory
+  pub on_1 : Receiving RingMemory
+  pub on_2 : Receiving RingMemory
   pub has_moment : Bool
   pub elements : ℕ
   pub entries : ℕ
 
--- with what a listener starts that has heard nothing yet: what its receiver has
-abbrev pub start_of : Listening → Start
-start_of listener = record {
-  entries = listener.receiver.memory.content;
-  moment = listener.receiver.watch.moment;
-  refused = listener.receiver.watch.refused;
+-- the receiver of a channel
+abbrev pub receiver_on : Listening → Channel → Receiving RingMemory
+receiver_on listener Zero = listener.on_0
+receiver_on listener One = listener.on_1
+receiver_on listener Two = listener.on_2
+
+-- the same listener with this as the receiver of a channel
+abbrev pub with_receiver : Listening → Channel → Receiving RingMemory → Listening
+with_receiver listener Zero receiver = record listener { on_0 = receiver }
+with_receiver listener One receiver = record listener { on_1 = receiver }
+with_receiver listener Two receiver = record listener { on_2 = receiver }
+
+-- the entries of a receiver, and what it refuses
+abbrev pub kept_by : Receiving RingMemory → SavedState
+kept_by receiver =
+    record { refused = receiver.watch.refused; entries = receiver.memory.content }
+
+-- with what a listener starts that has heard nothing yet: what its receivers have, of which all
+-- have one moment
+abbrev pub starts_of : Listening → Starts
+starts_of listener = record {
+  moment = listener.on_0.watch.moment;
+  saved = record {
+    on_0 = kept_by listener.on_0;
+    on_1 = kept_by listener.on_1;
+    on_2 = kept_by listener.on_2;
+  };
 }
 
--- After these events, which begin with this start, a listener printed these copies: its receiver
--- stands so, it counted the elements and the entries, and no element ended more than one copy.
-pub record HearsEvents (start : Start) (listener : Listening) (events : List Event)
-    (log : List TaggedCopy)
+-- the elements among what is given, of all channels
+abbrev pub elements_in : Given → List Bool
+elements_in (to_all n) = []
+elements_in (to_one channel events) = elements_among events
+
+abbrev pub elements_given : List Given → List Bool
+elements_given given = flat_map elements_in given
+
+-- the same, and then these elements of a channel, given at once
+abbrev pub then_elements : List Given → Channel → List Bool → List Given
+then_elements given channel bits = given ++ to_one channel (events.elements bits) ∷ []
+
+-- After it was given this, with what it started, a listener printed these copies: the receiver of
+-- each channel stands after the channel's share, with the copies of that channel; they are in the
+-- order in which they ended; it counted the elements and the entries; and no element ended more than
+-- one copy.
+pub record HearsGiven (starts : Starts) (listener : Listening) (given : List Given)
+    (copies : List MarkedCopy)
     : Type 0 where
-  pub receiver :
-      Stands (λ (memory : RingMemory). memory.content) start listener.receiver events log
-  pub elements : listener.elements ≡ count_of (length (elements_among events))
-  pub entries : listener.entries ≡ count_of (length log)
-  pub few : length log ≤ length (elements_among events)
+  pub receivers : (channel : Channel)
+      → Stands content (start_on starts channel) (receiver_on listener channel)
+      (share channel given) (copies_on channel copies)
+  pub in_turn : PrintsInTurn starts given copies
+  pub elements : listener.elements ≡ count_of (length (elements_given given))
+  pub entries : listener.entries ≡ count_of (length copies)
+  pub few : length copies ≤ length (elements_given given)
 
 -- the same, and these bytes are the log of the copies
-pub record HearsLog (start : Start) (listener : Listening) (events : List Event) (given : List ℕ)
+pub record HearsLog (starts : Starts) (listener : Listening) (given : List Given) (bytes : List ℕ)
     : Type 0 where
-  pub log : List TaggedCopy
-  pub hears : HearsEvents start listener events log
-  pub spelled : IsLog log given
+  pub log : List MarkedCopy
+  pub hears : HearsGiven starts listener given log
+  pub spelled : IsLog log bytes
 
 -- and this holds of these bytes
-pub record IsHearing (start : Start) (listener : Listening) (events : List Event)
+pub record IsHearing (starts : Starts) (listener : Listening) (given : List Given)
     (holds : List ℕ → Type 0)
     : Type 0 where
-  pub given : List ℕ
-  pub hears : HearsLog start listener events given
-  pub here : holds given
+  pub bytes : List ℕ
+  pub hears : HearsLog starts listener given bytes
+  pub here : holds bytes
 
--- the bytes are the log of a beginning of the events
-pub record BeginsLog (start : Start) (events : List Event) (given : List ℕ) : Type 0 where
-  pub before : List Event
-  pub later : List Event
-  pub whole : events ≡ before ++ later
-  pub log : List TaggedCopy
-  pub printed : HasPrinted start before log
-  pub spelled : IsLog log given
+-- the bytes are the log of the first copies of those that are printed of what is given
+pub record BeginsLog (starts : Starts) (given : List Given) (bytes : List ℕ) : Type 0 where
+  pub first : List MarkedCopy
+  pub rest : List MarkedCopy
+  pub printed : PrintsInTurn starts given (first ++ rest)
+  pub spelled : IsLog first bytes
 
--- the log of a beginning of the events was written in part
-pub record HeardSome (start : Start) (events : List Event) (old new : Option (List ℕ)) (written : ℕ)
+-- such bytes were written in part
+pub record HeardSome (starts : Starts) (given : List Given) (old new : Option (List ℕ))
+    (written : ℕ)
     : Type 0 where
-  pub given : List ℕ
-  pub begun : BeginsLog start events given
-  pub some : WroteSome old new given written
+  pub bytes : List ℕ
+  pub begun : BeginsLog starts given bytes
+  pub some : WroteSome old new bytes written
 
--- What was over was finished, whatever the start: it brought this entry, or none, which was
--- counted, and these are its bytes.
-pub record HasFinished (old new : Listening) (over : Over) (given : List ℕ) : Type 0 where
+-- What was over on a channel was finished, whatever the start: it brought this entry, or none, which
+-- was counted, and these are its bytes.
+pub record HasFinished (old new : Listening) (channel : Channel) (over : Over) (bytes : List ℕ)
+    : Type 0 where
   pub entry : Option Entry
   pub stands : (start : Start) (events : List Event) (log : List TaggedCopy)
-      → Awaits (λ (memory : RingMemory). memory.content) start old.receiver events log over
-      → Stands (λ (memory : RingMemory). memory.content) start new.receiver events
-      (log ++ entry_list entry)
-  pub spelled : IsLog (entry_list entry) given
+      → Awaits content start (receiver_on old channel) events log over
+      → Stands content start (receiver_on new channel) events (log ++ entry_list entry)
+  pub others : (other : Channel) → same_channel channel other ≡ false
+      → receiver_on new other ≡ receiver_on old other
+  pub spelled : IsLog (map (marked channel) (entry_list entry)) bytes
   pub elements : new.elements ≡ old.elements
   pub entries : old.entries ≤ 2 ^ 64 - 1
       → new.entries ≡ count_of (old.entries + length (entry_list entry))
 
--- The listener stands so after these lines, which begin with this start, each taken after those
--- before it; these bytes are their log.
-pub record IsListening (start : Start) (listener : Listening) (lines : List Line) (given : List ℕ)
+-- The listener stands so after these lines, with what it started, each taken after those before it;
+-- these bytes are their log.
+pub record IsListening (starts : Starts) (listener : Listening) (lines : List Line)
+    (bytes : List ℕ)
     : Type 0 where
-  pub taken : AreTaken start lines
+  pub taken : AreTaken starts lines
   pub moment : listener.has_moment ≡ has_moment lines
-  pub hears : HearsLog start listener (events_of lines) given
+  pub hears : HearsLog starts listener (given_by lines) bytes
 
--- the lines are taken, and the bytes are the log of a beginning of what they give
-pub record BeginsListening (start : Start) (lines : List Line) (given : List ℕ) : Type 0 where
-  pub taken : AreTaken start lines
-  pub begun : BeginsLog start (events_of lines) given
+-- the lines are taken, and the bytes are the log of the first copies of what they give
+pub record BeginsListening (starts : Starts) (lines : List Line) (bytes : List ℕ) : Type 0 where
+  pub taken : AreTaken starts lines
+  pub begun : BeginsLog starts (given_by lines) bytes
 
 -- why elements are not taken after these lines: there was no moment yet
 abbrev pub LacksMoment : List Line → Line → Type 0
-LacksMoment lines (elements bits) = has_moment lines ≡ false
+LacksMoment lines (elements mark bits) = has_moment lines ≡ false
 LacksMoment lines _ = ⊥
 
 -- why a moment is not taken after these lines
-abbrev pub RefusesMoment : Start → MomentFault → List Line → Line → Type 0
-RefusesMoment start why lines (moment n) = Refuses (in_force_after start lines).moment n why
-RefusesMoment start why lines _ = ⊥
+abbrev pub RefusesMoment : Starts → MomentFault → List Line → Line → Type 0
+RefusesMoment starts why lines (moment n) = Refuses (moment_after starts.moment lines) n why
+RefusesMoment starts why lines _ = ⊥
 
 -- why the refusal of this subject is not taken: it is vital
 abbrev pub RefusesVital : Letter → List Line → Line → Type 0
-RefusesVital subject lines (refuse_subject letter) =
+RefusesVital subject lines (refuse_subject mark letter) =
     IsTrue (is_vital letter) × (subject.byte ≡ letter)
 RefusesVital subject lines _ = ⊥
 
 -- why a line is not taken after these
-abbrev pub RefusesLine : Start → List Line → Line → LineRefusal → Type 0
-RefusesLine start lines line NoMoment = LacksMoment lines line
-RefusesLine start lines line (Moment why) = RefusesMoment start why lines line
-RefusesLine start lines line (Vital subject) = RefusesVital subject lines line
+abbrev pub RefusesLine : Starts → List Line → Line → LineRefusal → Type 0
+RefusesLine starts lines line NoMoment = LacksMoment lines line
+RefusesLine starts lines line (Moment why) = RefusesMoment starts why lines line
+RefusesLine starts lines line (Vital subject) = RefusesVital subject lines line
 
 -- the same for a taker of lines that stood so at first, which is its start
 abbrev pub StandsFrom : Listening → Listening → List Line → List ℕ → Type 0
-StandsFrom first now lines given = IsListening (start_of first) now lines given
+StandsFrom first now lines bytes = IsListening (starts_of first) now lines bytes
 
 abbrev pub BeginsFrom : Listening → List Line → List ℕ → Type 0
-BeginsFrom first lines given = BeginsListening (start_of first) lines given
+BeginsFrom first lines bytes = BeginsListening (starts_of first) lines bytes
 
 abbrev pub RefusesFrom : Listening → List Line → Line → LineRefusal → Type 0
-RefusesFrom first lines line why = RefusesLine (start_of first) lines line why
+RefusesFrom first lines line why = RefusesLine (starts_of first) lines line why
 
--- The file ended after these events: the log of all copies was written, with the one that the end
+-- The file ended after it was given this: the log of all copies was written, with those that the end
 -- closes, and the report counts the elements and the copies.
-pub record HasClosed (start : Start) (old new : Option (List ℕ)) (events : List Event)
+pub record HasClosed (starts : Starts) (old new : Option (List ℕ)) (given : List Given)
     (report : Report)
     : Type 0 where
-  pub copies : List TaggedCopy
+  pub copies : List MarkedCopy
   pub log : List ℕ
-  pub printed : PrintsToEnd start events copies
+  pub printed : PrintAllToEnd starts given copies
   pub spelled : IsLog copies log
   pub written : Appends old new log
-  pub bits_counted : report.bits ≡ count_of (length (elements_among events))
+  pub bits_counted : report.bits ≡ count_of (length (elements_given given))
   pub printed_counted : report.printed ≡ count_of (length copies)
-  pub few : length copies ≤ length (elements_among events) + 1
+  pub few : length copies ≤ length (elements_given given) + 3
 
 -- the file ended so, and this log was written in part
-pub record HasClosedSome (start : Start) (old new : Option (List ℕ)) (events : List Event)
+pub record HasClosedSome (starts : Starts) (old new : Option (List ℕ)) (given : List Given)
     (written : ℕ)
     : Type 0 where
-  pub copies : List TaggedCopy
+  pub copies : List MarkedCopy
   pub log : List ℕ
-  pub printed : PrintsToEnd start events copies
+  pub printed : PrintAllToEnd starts given copies
   pub spelled : IsLog copies log
   pub some : WroteSome old new log written
 

@@ -1,15 +1,17 @@
--- What a listener gave for lines is the log of a beginning of them: of all of them.
+-- What a listener gave for lines is the log of the first copies of them: of all of them.
 use Rattle.std.specs.Prelude.{◌≡◌, ℕ, List, [], refl}
-use Rattle.std.proofs.Common.{◌∙◌, ap, sym, append-nil}
+use Rattle.std.proofs.Common.{◌∙◌, ap, sym, subst, append-nil}
 use Rattle.nx_fec.specs.AirFile.{Line}
 use Rattle.nx_memory.specs.declared.entry.MemoryEntry.{MemoryEntry}
 use Rattle.nx_receiver.specs.Events.{Event, Setting, Start, first_setting, settings}
 use Rattle.nx_receiver.specs.FoundCopies.{FoundCopy, TaggedCopy, tagged_copies}
-use Rattle.nx_receiver.specs.Listen.{events_of}
-use Rattle.nx_receiver.specs.private.Listener.{BeginsListening, BeginsLog, HearsLog, IsListening, Listening}
+use Rattle.nx_receiver.specs.InTurn.{PrintsInTurn}
+use Rattle.nx_receiver.specs.Listen.{given_by}
 use Rattle.nx_receiver.specs.Log.{HasPrinted}
 use Rattle.nx_receiver.specs.Printing.{printed_copies}
 use Rattle.nx_receiver.specs.Receiver.{Receiving, Stands}
+use Rattle.nx_receiver.specs.Shares.{Given, Starts}
+use Rattle.nx_receiver.specs.private.Listener.{BeginsListening, BeginsLog, HearsLog, IsListening, Listening}
 use Rattle.nx_receiver.specs.private.Watch.{copies_by}
 
 tagged-by : (first : Setting) (events : List Event) (copies : List FoundCopy)
@@ -32,19 +34,17 @@ printed-so_far content start receiver events log s =
           ∙ ap (printed_copies start.entries) (r.ended ∙ tagged-by (first_setting start) events _);
     }
 
--- the log so far is that of a beginning
-pub begins-log : (start : Start) (listener : Listening) (events : List Event) (given : List ℕ)
-    → HearsLog start listener events given → BeginsLog start events given
-begins-log start listener events given h = record {
-  before = events;
-  later = [];
-  whole = sym (append-nil events);
-  log = h.log;
-  printed = printed-so_far _ _ listener.receiver events h.log h.hears.receiver;
+-- the log so far is that of the first copies, which are all
+pub begins-log : (starts : Starts) (listener : Listening) (given : List Given) (bytes : List ℕ)
+    → HearsLog starts listener given bytes → BeginsLog starts given bytes
+begins-log starts listener given bytes h = record {
+  first = h.log;
+  rest = [];
+  printed = subst (PrintsInTurn starts given) (sym (append-nil h.log)) h.hears.in_turn;
   spelled = h.spelled;
 }
 
-pub begins-listening : (start : Start) (now : Listening) (lines : List Line) (given : List ℕ)
-    → IsListening start now lines given → BeginsListening start lines given
-begins-listening start now lines given h =
-    record { taken = h.taken; begun = begins-log start now (events_of lines) given h.hears }
+pub begins-listening : (starts : Starts) (now : Listening) (lines : List Line) (bytes : List ℕ)
+    → IsListening starts now lines bytes → BeginsListening starts lines bytes
+begins-listening starts now lines bytes h =
+    record { taken = h.taken; begun = begins-log starts now (given_by lines) bytes h.hears }

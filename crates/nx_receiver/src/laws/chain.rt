@@ -5,21 +5,24 @@ ghost use Rattle.std.specs.Prelude.{◌≡◌, ℕ, ◌≤◌, All, List, ◌++�
 ghost use Rattle.nx_code.specs.Lists.{last_of};
 ghost use Rattle.nx_envelope.specs.Message.{MessageView};
 ghost use Rattle.nx_fec.specs.AirFile.{Line};
-ghost use Rattle.nx_memory.specs.Saved.{SavedState};
+ghost use Rattle.nx_fec.specs.declared.channel.Channel.{Channel};
+ghost use Rattle.nx_fec.specs.declared.channel.Channel.TheVariants.{Zero};
+ghost use Rattle.nx_memory.specs.Saved.{SavedState, SavedStates};
 ghost use Rattle.nx_memory.specs.Memory.{most_entries, newest_moment};
 ghost use Rattle.nx_memory.specs.declared.entry.MemoryEntry.{MemoryEntry};
 ghost use Rattle.nx_station.specs.ChannelExample.{example_message};
 ghost use Rattle.nx_sync.specs.Locks.{IsNow, Lock, Now};
-ghost use Rattle.nx_receiver.specs.Chain.{AgreeInLast, GoesOn, HasGoneOn, IsChain, Leaves, Run, all_copies, all_events, all_logs, all_printed, copies_in, files, nothing_saved, start_from};
+ghost use Rattle.nx_receiver.specs.Chain.{AgreeInLast, GoesOn, HasGoneOn, IsChain, Leaves, Run, all_copies, all_events, all_logs, all_printed, copies_in, files};
 ghost use Rattle.nx_receiver.specs.ChainExample.{example_runs, saved_after};
 ghost use Rattle.nx_receiver.specs.ChainOnce.{IsHeardInTimeOver};
 ghost use Rattle.nx_receiver.specs.Events.{Event, Start, elements_among, first_setting, setting_after_all};
 ghost use Rattle.nx_receiver.specs.FoundCopies.{ended_so_far, TaggedCopy, tagged_copies};
 ghost use Rattle.nx_receiver.specs.Once.{IsUnknownAtFirst, IsPrintedOnce};
-ghost use Rattle.nx_receiver.specs.Listen.{HasListened, IsLogOfFile, events_of};
+ghost use Rattle.nx_receiver.specs.Listen.{HasListened, IsLogOfFile, events_on};
 ghost use Rattle.nx_receiver.specs.Log.{IsLog};
 ghost use Rattle.nx_receiver.specs.Printing.{entries_after, entries_made, printed_copies};
 ghost use Rattle.nx_receiver.specs.Receiver.{Receiving, Stands};
+ghost use Rattle.nx_receiver.specs.Shares.{MarkedCopy, copies_on, none_saved, saved_of, start_on, starts_from};
 ghost use Rattle.nx_receiver.specs.Watching.{in_force};
 ghost use Rattle.nx_receiver.specs.Worked.{worked_log};
 ghost use Rattle.nx_receiver.specs.declared.listening.Report.{Report};
@@ -48,53 +51,64 @@ pub fn copies_are_printed_in_turn()
         → entries_after entries (front ++ back) ≡ entries_after (entries_after entries front) back }
 {}
 
-/// A chain of runs logs what one run would log that had found their copies, though each run hunts
-/// anew and begins with what the one before it left: what is printed is what the rules of printing
-/// make of all copies of the runs, in order, after the entries that the first run starts with; and
-/// the logs, one after another, are the log of it. The last run leaves the last 200 of all entries
-/// made, and what is refused after all commands.
+/// A chain of runs prints on each channel what one run would print that had found their copies,
+/// though each run hunts anew and begins with what the one before it left: it is what the rules of
+/// printing make of all copies of the runs on the channel, in order, after the entries of the
+/// channel that the first run starts with. The logs, one after another, are the log of all that is
+/// printed. The last run leaves of each channel the last 200 of all entries made, and what is
+/// refused after all commands.
 pub fn a_chain_logs_its_joined_copies()
-    ensures printed { (first last : SavedState) (runs : List Run) → IsChain first runs last
-        → all_printed runs ≡ printed_copies first.entries (all_copies runs) }
-    ensures log { (first last : SavedState) (runs : List Run) → IsChain first runs last
-        → IsLog (printed_copies first.entries (all_copies runs)) (all_logs runs) }
-    ensures entries { (first last : SavedState) (runs : List Run) → IsChain first runs last
-        → length first.entries ≤ most_entries
-        → last.entries ≡ last_of most_entries (entries_after first.entries (all_copies runs)) }
-    ensures selection { (first last : SavedState) (runs : List Run) → IsChain first runs last
-        → last.refused
-        ≡ (setting_after_all (first_setting (start_from first)) (all_events runs)).refused }
+    ensures printed { (first last : SavedStates) (runs : List Run) (channel : Channel)
+        → IsChain first runs last
+        → copies_on channel (all_printed runs)
+        ≡ printed_copies (saved_of first channel).entries (all_copies channel runs) }
+    ensures log { (first last : SavedStates) (runs : List Run) → IsChain first runs last
+        → IsLog (all_printed runs) (all_logs runs) }
+    ensures entries { (first last : SavedStates) (runs : List Run) (channel : Channel)
+        → IsChain first runs last → length (saved_of first channel).entries ≤ most_entries
+        → (saved_of last channel).entries
+        ≡ last_of most_entries
+        (entries_after (saved_of first channel).entries (all_copies channel runs)) }
+    ensures selection { (first last : SavedStates) (runs : List Run) (channel : Channel)
+        → IsChain first runs last
+        → (saved_of last channel).refused
+        ≡ (setting_after_all (first_setting (start_on (starts_from first) channel))
+        (all_events channel runs)).refused }
 {}
 
 /// A run goes on from what is saved wherever its file has a log with that start; so does each run
-/// that listened with it. What it leaves is some one thing, of at most 200 entries. No copy of it
-/// has a moment before the newest entry that was saved. And where it goes on from what a chain left,
-/// the chain and it are a chain.
+/// that listened with it. What it leaves of a channel is some one thing, of at most 200 entries. No
+/// copy of it has a moment before the newest entry that was saved of its channel. And where it goes
+/// on from what a chain left, the chain and it are a chain.
 pub fn a_run_goes_on_from_what_is_saved()
-    ensures run { (saved left : SavedState) (file : List ℕ) (lines : List Line)
-        (printed : List TaggedCopy) (log : List ℕ)
-        → IsLogOfFile (start_from saved) file lines printed log
-        → Leaves (start_from saved) (events_of lines) left
+    ensures run { (saved left : SavedStates) (file : List ℕ) (lines : List Line)
+        (printed : List MarkedCopy) (log : List ℕ)
+        → IsLogOfFile (starts_from saved) file lines printed log
+        → ((channel : Channel) → Leaves (start_on (starts_from saved) channel)
+        (events_on channel lines) (saved_of left channel))
         → (run : Run) × (run.file ≡ file) × (run.log ≡ log) × GoesOn saved run left }
-    ensures listened { (saved : SavedState) (old new : Option (List ℕ)) (file : List ℕ)
+    ensures listened { (saved : SavedStates) (old new : Option (List ℕ)) (file : List ℕ)
         (report : Report)
-        → HasListened (start_from saved) old new file report
-        → (left : SavedState) × HasGoneOn saved old new file left }
+        → HasListened (starts_from saved) old new file report
+        → (left : SavedStates) × HasGoneOn saved old new file left }
     ensures some { (start : Start) (events : List Event)
         → (left : SavedState) × Leaves start events left }
     ensures one { (start : Start) (events : List Event) (left other : SavedState)
         → Leaves start events left → Leaves start events other → left ≡ other }
     ensures few { (start : Start) (events : List Event) (left : SavedState)
         → Leaves start events left → length left.entries ≤ most_entries }
-    ensures after { (saved left : SavedState) (run : Run) → GoesOn saved run left
-        → All (λ (copy : TaggedCopy). newest_moment saved.entries ≤ copy.moment) (copies_in run) }
-    ensures join { (first saved last : SavedState) (runs more : List Run) → IsChain first runs saved
+    ensures after { (saved left : SavedStates) (run : Run) (channel : Channel)
+        → GoesOn saved run left
+        → All (λ (copy : TaggedCopy).
+        newest_moment (saved_of saved channel).entries ≤ copy.moment) (copies_in channel run) }
+    ensures join { (first saved last : SavedStates) (runs more : List Run)
+        → IsChain first runs saved
         → IsChain saved more last → IsChain first (runs ++ more) last }
 {}
 
 /// An open copy is no part of what is left: what the end closes is cut, and makes no entry. So what
-/// is left is what a receiver holds after the events, before its end: the content of its memory, and
-/// what it refuses.
+/// is left of a channel is what its receiver holds after the events, before its end: the content of
+/// its memory, and what it refuses.
 pub fn a_receiver_holds_what_it_leaves<M: Recall>()
     ensures ended { (start : Start) (events : List Event) (left : SavedState) (locks : List Lock)
         (now : Now) → IsNow (elements_among events) locks now → Leaves start events left
@@ -110,33 +124,36 @@ pub fn a_receiver_holds_what_it_leaves<M: Recall>()
 {}
 
 /// The files of a chain tell its logs, and what it leaves: two chains that begin with the same and
-/// read the same files log the same bytes and leave the same.
+/// read the same files log the same bytes, and leave the same of each channel.
 pub fn a_chain_is_told_by_its_files()
-    ensures { (first last end : SavedState) (runs others : List Run) → files runs ≡ files others
+    ensures { (first last end : SavedStates) (runs others : List Run) → files runs ≡ files others
         → IsChain first runs last → IsChain first others end
         → (all_logs runs ≡ all_logs others) × (last ≡ end) }
 {}
 
-/// The headline across power-offs. A message that is heard in time in the runs of a chain, in
-/// whichever of them it is sent, has exactly one entry in their logs, one after another. The entry
-/// is full, has 0 errors, and its text is the message's, letter for letter. A chain that begins with
-/// nothing has no entry of it that could be live at its first copy.
+/// The headline across power-offs. A message that is heard in time on a channel of the runs of a
+/// chain, in whichever of them it is sent, has exactly one entry of that channel in their logs, one
+/// after another. The entry is full, has 0 errors, and its text is the message's, letter for
+/// letter. A chain that begins with nothing has on no channel an entry of it that could be live at
+/// its first copy.
 pub fn a_message_heard_over_runs_has_one_entry()
-    ensures logged { (first last : SavedState) (runs : List Run) → IsChain first runs last
+    ensures logged { (first last : SavedStates) (runs : List Run) → IsChain first runs last
         → IsLog (all_printed runs) (all_logs runs) }
-    ensures once { (first last : SavedState) (runs : List Run) (message : MessageView)
-        → IsChain first runs last → IsHeardInTimeOver first runs message
-        → IsPrintedOnce message (all_printed runs) }
-    ensures from_nothing { (runs : List Run) (message : MessageView)
-        → IsUnknownAtFirst nothing_saved.entries message.identity (all_copies runs) }
+    ensures once { (first last : SavedStates) (runs : List Run) (channel : Channel)
+        (message : MessageView)
+        → IsChain first runs last → IsHeardInTimeOver channel first runs message
+        → IsPrintedOnce message (copies_on channel (all_printed runs)) }
+    ensures from_nothing { (runs : List Run) (channel : Channel) (message : MessageView)
+        → IsUnknownAtFirst (saved_of none_saved channel).entries message.identity
+        (all_copies channel runs) }
 {}
 
-/// There is such a chain, of two runs, which begins with nothing: EA01 with the line TEST is heard,
-/// the receiver is switched off and on again, and EA01 is heard four hours after the first. Its logs
-/// are the one entry.
+/// There is such a chain, of two runs, which begins with nothing: EA01 with the line TEST is heard
+/// on channel 0, the receiver is switched off and on again, and EA01 is heard four hours after the
+/// first. Its logs are the one entry.
 pub fn there_is_a_chain_with_a_message_heard_in_time()
-    ensures chain { IsChain nothing_saved example_runs saved_after }
-    ensures heard { IsHeardInTimeOver nothing_saved example_runs example_message }
+    ensures chain { IsChain none_saved example_runs saved_after }
+    ensures heard { IsHeardInTimeOver Zero none_saved example_runs example_message }
     ensures logs { all_logs example_runs ≡ worked_log }
 {}
 

@@ -5,56 +5,59 @@ ghost use Rattle.std.specs.Prelude.{◌≡◌, ℕ, List, Option};
 ghost use Rattle.nx_envelope.specs.Message.{MessageView};
 ghost use Rattle.nx_fec.specs.AirFile.{Line};
 ghost use Rattle.nx_fec.specs.Lines.{IsAirFile, air_limit};
+ghost use Rattle.nx_fec.specs.declared.channel.Channel.{Channel};
+ghost use Rattle.nx_fec.specs.declared.channel.Channel.TheVariants.{Zero};
 ghost use Rattle.nx_station.specs.ChannelExample.{example_message};
-ghost use Rattle.nx_receiver.specs.Events.{Start, at_zero};
 ghost use Rattle.nx_receiver.specs.Listen.{AreTaken, HasListenFault, HasLogged, IsLogOf, IsLogOfFile, IsLogOfLines};
 ghost use Rattle.nx_receiver.specs.ListenExample.{example_air_file};
-ghost use Rattle.nx_receiver.specs.ListenOnce.{IsHeardInTimeIn};
+ghost use Rattle.nx_receiver.specs.ListenOnce.{IsHeardInTimeOn};
 ghost use Rattle.nx_receiver.specs.Once.{IsPrintedOnce};
-ghost use Rattle.nx_receiver.specs.FoundCopies.{TaggedCopy};
+ghost use Rattle.nx_receiver.specs.Shares.{MarkedCopy, Starts, all_at_zero, copies_on};
 ghost use Rattle.nx_receiver.specs.Worked.{worked_log};
 ghost use Rattle.nx_receiver.specs.declared.listen_fault.ListenFault.{ListenFault};
 
-/// An air file has one log, with whatever a receiver starts: there is one, wherever each line is taken after those before it, and no
-/// other. And so have lines after which nothing is closed.
+/// An air file has one log, with whatever three receivers start: there is one, wherever each line
+/// is taken after those before it, and no other. And so have lines after which nothing is closed.
 pub fn an_air_file_has_one_log()
-    ensures some { (start : Start) (bytes : List ℕ) (lines : List Line)
-        → IsAirFile air_limit bytes lines → AreTaken start lines
-        → (log : List ℕ) × IsLogOf start bytes log }
-    ensures one { (start : Start) (bytes log other : List ℕ) → IsLogOf start bytes log
-        → IsLogOf start bytes other → log ≡ other }
-    ensures some_open { (start : Start) (lines : List Line) → AreTaken start lines
-        → (log : List ℕ) × IsLogOfLines start lines log }
-    ensures one_open { (start : Start) (lines : List Line) (log other : List ℕ)
-        → IsLogOfLines start lines log → IsLogOfLines start lines other → log ≡ other }
+    ensures some { (starts : Starts) (bytes : List ℕ) (lines : List Line)
+        → IsAirFile air_limit bytes lines → AreTaken starts lines
+        → (log : List ℕ) × IsLogOf starts bytes log }
+    ensures one { (starts : Starts) (bytes log other : List ℕ) → IsLogOf starts bytes log
+        → IsLogOf starts bytes other → log ≡ other }
+    ensures some_open { (starts : Starts) (lines : List Line) → AreTaken starts lines
+        → (log : List ℕ) × IsLogOfLines starts lines log }
+    ensures one_open { (starts : Starts) (lines : List Line) (log other : List ℕ)
+        → IsLogOfLines starts lines log → IsLogOfLines starts lines other → log ≡ other }
 {}
 
-/// An air file has one outcome, with whatever a receiver starts: its first fault, by its bytes alone, is one, whatever was written;
-/// and a file that has a log has none.
+/// An air file has one outcome, with whatever three receivers start: its first fault, by its bytes
+/// alone, is one, whatever was written; and a file that has a log has none.
 pub fn an_air_file_has_one_outcome()
-    ensures fault { (start : Start) (bytes : List ℕ) (why other : ListenFault)
-        → HasListenFault start (AreTaken start) bytes why
-        → HasListenFault start (AreTaken start) bytes other → why ≡ other }
-    ensures log { (start : Start) (bytes log : List ℕ) (why : ListenFault)
-        → IsLogOf start bytes log → HasListenFault start (AreTaken start) bytes why → ⊥ }
-    ensures written { (start : Start) (old new : Option (List ℕ)) (bytes : List ℕ)
-        (why : ListenFault) → HasListenFault start (HasLogged start old new) bytes why
-        → HasListenFault start (AreTaken start) bytes why }
+    ensures fault { (starts : Starts) (bytes : List ℕ) (why other : ListenFault)
+        → HasListenFault starts (AreTaken starts) bytes why
+        → HasListenFault starts (AreTaken starts) bytes other → why ≡ other }
+    ensures log { (starts : Starts) (bytes log : List ℕ) (why : ListenFault)
+        → IsLogOf starts bytes log → HasListenFault starts (AreTaken starts) bytes why → ⊥ }
+    ensures written { (starts : Starts) (old new : Option (List ℕ)) (bytes : List ℕ)
+        (why : ListenFault) → HasListenFault starts (HasLogged starts old new) bytes why
+        → HasListenFault starts (AreTaken starts) bytes why }
 {}
 
-/// A message that is heard in time in an air file has exactly one entry in the log of the file. The
-/// entry is full, has 0 errors, and its text is the message's, letter for letter.
+/// A message that is heard in time on a channel of an air file has exactly one entry of that
+/// channel in the log of the file. The entry is full, has 0 errors, and its text is the message's,
+/// letter for letter.
 pub fn a_message_heard_in_time_has_one_entry()
-    ensures { (start : Start) (file log : List ℕ) (lines : List Line) (copies : List TaggedCopy)
-        (message : MessageView) → IsLogOfFile start file lines copies log
-        → IsHeardInTimeIn start file message → IsPrintedOnce message copies }
+    ensures { (starts : Starts) (file log : List ℕ) (lines : List Line) (copies : List MarkedCopy)
+        (channel : Channel) (message : MessageView) → IsLogOfFile starts file lines copies log
+        → IsHeardInTimeOn channel starts file message
+        → IsPrintedOnce message (copies_on channel copies) }
 {}
 
 /// There is an air file with such a message: EA01 with the line TEST, each of whose DX words is
 /// damaged. Its log is that one entry, in 42 bytes.
 pub fn there_is_an_air_file_with_a_message_heard_in_time()
-    ensures heard { IsHeardInTimeIn at_zero example_air_file example_message }
-    ensures log { IsLogOf at_zero example_air_file worked_log }
+    ensures heard { IsHeardInTimeOn Zero all_at_zero example_air_file example_message }
+    ensures log { IsLogOf all_at_zero example_air_file worked_log }
 {}
 
 #[cfg(test)]

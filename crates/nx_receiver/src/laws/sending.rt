@@ -4,17 +4,18 @@
 ghost use Rattle.std.specs.Prelude.{◌≡◌, ℕ, ◌<◌, List, [], map};
 ghost use Rattle.nx_envelope.specs.Message.{MessageView};
 ghost use Rattle.nx_fec.specs.AirFile.{Line};
+ghost use Rattle.nx_fec.specs.declared.channel.Channel.TheVariants.{Zero};
 ghost use Rattle.nx_station.specs.Broadcast.{AreSpelled};
 ghost use Rattle.nx_station.specs.FileSending.{IsTransmission};
 ghost use Rattle.nx_station.specs.Sendable.{IsSendable};
 ghost use Rattle.nx_station.specs.declared.sending.Sent.{Sent};
 ghost use Rattle.nx_receiver.specs.Events.{at_zero};
 ghost use Rattle.nx_receiver.specs.Listen.{IsLogOf, IsLogOfFile};
-ghost use Rattle.nx_receiver.specs.ListenOnce.{IsHeardInTimeIn};
+ghost use Rattle.nx_receiver.specs.ListenOnce.{IsHeardInTimeOn};
 ghost use Rattle.nx_receiver.specs.Once.{IsHeardInTime, IsPrintedOnce};
 ghost use Rattle.nx_receiver.specs.Printing.{printed_copies};
 ghost use Rattle.nx_receiver.specs.FromSend.{AreDifferent, BearsAlone, copy_as_sent, events_as_sent, parts_as_sent};
-ghost use Rattle.nx_receiver.specs.FoundCopies.{TaggedCopy};
+ghost use Rattle.nx_receiver.specs.Shares.{MarkedCopy, all_at_zero, copies_on, marked};
 
 /// An emission that is heard as it is sent: each of its messages that isn't numbered 00, and that
 /// alone bears its identity, is heard in time, at whatever moment.
@@ -33,15 +34,15 @@ pub fn an_emission_as_sent_is_heard_in_time()
 pub fn what_was_sent_is_printed()
     ensures log { (station from : ℕ) (file air : List ℕ) (sent : Sent)
         → IsTransmission station from file air sent
-        → (log : List ℕ) × IsLogOf at_zero air log }
+        → (log : List ℕ) × IsLogOf all_at_zero air log }
     ensures printed { (station from : ℕ) (file air log : List ℕ) (sent : Sent) (lines : List Line)
-        (copies : List TaggedCopy) → (t : IsTransmission station from file air sent)
-        → IsLogOfFile at_zero air lines copies log
-        → copies ≡ printed_copies [] (map (copy_as_sent sent.slot) t.messages) }
+        (copies : List MarkedCopy) → (t : IsTransmission station from file air sent)
+        → IsLogOfFile all_at_zero air lines copies log
+        → copies ≡ map (marked Zero) (printed_copies [] (map (copy_as_sent sent.slot) t.messages)) }
     ensures different { (station from : ℕ) (file air log : List ℕ) (sent : Sent) (lines : List Line)
-        (copies : List TaggedCopy) → (t : IsTransmission station from file air sent)
-        → AreDifferent t.messages → IsLogOfFile at_zero air lines copies log
-        → copies ≡ map (copy_as_sent sent.slot) t.messages }
+        (copies : List MarkedCopy) → (t : IsTransmission station from file air sent)
+        → AreDifferent t.messages → IsLogOfFile all_at_zero air lines copies log
+        → copies ≡ map (marked Zero) (map (copy_as_sent sent.slot) t.messages) }
 {}
 
 /// What was sent is printed once: each message of an air file that `send` wrote, if it isn't
@@ -52,12 +53,13 @@ pub fn what_was_sent_is_printed_once()
     ensures heard { (station from : ℕ) (file air : List ℕ) (sent : Sent) (message : MessageView)
         → (t : IsTransmission station from file air sent)
         → BearsAlone t.messages message → 0 < message.identity.number
-        → IsHeardInTimeIn at_zero air message }
+        → IsHeardInTimeOn Zero all_at_zero air message }
     ensures once { (station from : ℕ) (file air log : List ℕ) (sent : Sent) (message : MessageView)
-        (lines : List Line) (copies : List TaggedCopy)
+        (lines : List Line) (copies : List MarkedCopy)
         → (t : IsTransmission station from file air sent)
         → BearsAlone t.messages message → 0 < message.identity.number
-        → IsLogOfFile at_zero air lines copies log → IsPrintedOnce message copies }
+        → IsLogOfFile all_at_zero air lines copies log
+        → IsPrintedOnce message (copies_on Zero copies) }
 {}
 
 #[cfg(test)]

@@ -1,8 +1,13 @@
 -- What the taker of lines that damages them holds.
-use Rattle.std.specs.Prelude.{◌≡◌, ℕ, ◌+◌, ◌-◌, ◌*◌, ◌/◌, ◌%◌, ◌^◌, ◌<◌, ◌≤◌, ◌↔◌, Bool, IsTrue, List, length, min}
+use Rattle.std.specs.Prelude.{◌≡◌, ℕ, ◌+◌, ◌-◌, ◌*◌, ◌/◌, ◌%◌, ◌^◌, ◌<◌, ◌≤◌, ◌↔◌, Bool, IsTrue, List, Option, Some, length, min}
 use Rattle.std.specs.List.{flat_map}
-use Rattle.nx_fec.specs.AirFile.{Line}
-use Rattle.nx_fec.specs.Lines.{elements_of}
+use Rattle.nx_fec.specs.AirFile.{Line, mark_bytes}
+use Rattle.nx_fec.specs.Channels.{channel_of}
+use Rattle.nx_fec.specs.Lines.{elements_on}
+use Rattle.nx_fec.specs.declared.air_file.LineKind.{LineKind}
+use Rattle.nx_fec.specs.declared.air_file.LineKind.TheVariants.{Elements}
+use Rattle.nx_fec.specs.declared.channel.Channel.{Channel}
+use Rattle.nx_fec.specs.declared.channel.Channel.TheVariants.{Zero}
 use Rattle.nx_fec.specs.declared.fault.LineFault.{LineFault}
 use Rattle.nx_fec.specs.declared.fault.LineFault.TheVariants as file
 use Rattle.nx_station.specs.Damage.{Damage, damaged_file, inverted_count, inverts}
@@ -36,6 +41,13 @@ pub record IsAt (damage : Damage) (now : Damager) (place : ℕ) : Type 0 where
   pub end : now.end ≡ 7 * (damage.from + damage.count) - place
   pub phase : now.phase ≡ place % 14
 
+-- what a line says is that it has elements on channel 0, and so many bytes stand before its digits
+pub record HasDigitsFrom (kind : Option LineKind) (start : ℕ) : Type 0 where
+  pub mark : Option Channel
+  pub elements : kind ≡ Some (Elements mark)
+  pub belongs : channel_of mark ≡ Zero
+  pub front : start ≡ 2 + length (mark_bytes mark)
+
 -- one of the elements that are named: the first, or one that stands a multiple of the stride after
 -- it, before the end
 pub record IsAmong (named : Named) (i : ℕ) : Type 0 where
@@ -52,9 +64,9 @@ AreNamed damage place named bits =
 -- number of 64 bits
 pub record HasDamaged (damage : Damage) (now : Damager) (lines : List Line) (given : List ℕ)
     : Type 0 where
-  pub at : IsAt damage now (length (flat_map elements_of lines))
+  pub at : IsAt damage now (length (flat_map (elements_on Zero) lines))
   pub counted : now.inverted
-      ≡ min (inverted_count damage 0 (flat_map elements_of lines)) (2 ^ 64 - 1)
+      ≡ min (inverted_count damage 0 (flat_map (elements_on Zero) lines)) (2 ^ 64 - 1)
   pub whole : given ≡ damaged_file damage lines
 
 -- the fault of damaging that stands for the fault of an air file

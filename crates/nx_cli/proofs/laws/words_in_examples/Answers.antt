@@ -13,6 +13,8 @@ returns c = record {
   show = λ program. record { taken = refl; arguments = []; command = refl; given = tt };
   check = λ program. record { taken = refl; arguments = []; command = refl; given = tt };
   listen = λ program. record { taken = refl; arguments = []; command = refl; given = tt };
+  resume = λ program. record { taken = refl; arguments = []; command = refl; given = tt };
+  save = λ program. record { taken = refl; arguments = []; command = refl; given = tt };
   locks = λ program. record { taken = refl; arguments = []; command = refl; given = tt };
   help = λ program. inl refl;
   short_help = λ program. inl refl;

@@ -1,8 +1,22 @@
-use Rattle.std.proofs.Common.{◌-◌, ◌++◌, [], length, take, drop, subst, sym, arith, append-nil, append_assoc, take_all}
-use Rattle.nx_receiver.specs.Events.{elements}
+use Rattle.std.proofs.Common.{◌≡◌, ℕ, ◌+◌, ◌-◌, ◌++◌, ◌∙◌, Bool, List, [], length, take, drop, subst, sym, ap, arith, append-nil, append_assoc, take_all}
+use Rattle.std.proofs.lemmas.List.{map-append}
+use Rattle.nx_receiver.specs.Events.{Event, element, elements}
 use Rattle.nx_receiver.specs.Receiver.{Stands, entry_list}
 use Rattle.nx_receiver.proofs.listens.Listener.{elements-next, rest-length}
 use Rattle.nx_example.proofs.hearing.hear.Goals as goal
+
+-- the next of these elements, behind events and the elements before them
+events-next : (events : List Event) (bits : List Bool) (at count : ℕ)
+    → (events ++ elements (take at bits))
+    ++ elements (take count (take (length bits - at) (drop at bits)))
+    ≡ events ++ elements (take (at + count) bits)
+events-next events bits at count =
+    append_assoc events (elements (take at bits))
+    (elements (take count (take (length bits - at) (drop at bits))))
+    ∙ ap (λ es. events ++ es)
+    (sym (map-append element (take at bits)
+    (take count (take (length bits - at) (drop at bits)))))
+    ∙ ap (λ bs. events ++ elements bs) (elements-next bits at count)
 
 pub loop-at-init : goal.loop-at-init
 loop-at-init g c = record {
@@ -31,7 +45,7 @@ loop-at-preserved-in-Continue-1 g c =
             before.0 ++ entries,
             subst (λ events. Stands g.M.Recall.content start new events
                 (told ++ (before.0 ++ entries)))
-                (elements-next history bits at c.feed-count.result.0)
+                (events-next history bits at c.feed-count.result.0)
                 (subst (λ log. Stands g.M.Recall.content start new
                 ((history ++ elements (take at bits))
                 ++ elements (take c.feed-count.result.0
@@ -56,7 +70,7 @@ loop-at-preserved g c =
             before.0 ++ entries,
             subst (λ events. Stands g.M.Recall.content start new events
                 (told ++ (before.0 ++ entries)))
-                (elements-next history bits at c.feed-count.result.0)
+                (events-next history bits at c.feed-count.result.0)
                 (subst (λ log. Stands g.M.Recall.content start new
                 ((history ++ elements (take at bits))
                 ++ elements (take c.feed-count.result.0

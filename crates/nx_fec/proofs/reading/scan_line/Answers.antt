@@ -1,8 +1,8 @@
-use Rattle.std.proofs.Common.{ap, sym, ◌∙◌, ◌++◌, option_to_list, take, subst}
+use Rattle.std.proofs.Common.{◌++◌, option_to_list, take, subst}
 use Rattle.std.proofs.lemmas.Result.{err_from_is_err_and}
 use Rattle.nx_fec.specs.private.Takers.{ExplainsPiece}
 use Rattle.nx_fec.proofs.PieceLemmas.{piece-whole}
-use Rattle.nx_fec.proofs.ReadingLaws.{ExplainsPiece-stop, HasRead-step, elements_kept-list}
+use Rattle.nx_fec.proofs.ReadingLaws.{ExplainsPiece-stop, HasRead-step}
 use Rattle.nx_fec.proofs.reading.scan_line.Goals as goal
 
 pub returns-in_err-count-clause-read : goal.returns-in_err-count-clause-read
@@ -15,8 +15,7 @@ returns-in_err-count-clause-read c = λ limit bytes h.
 pub returns-in-Ok-clause-read : goal.returns-in-Ok-clause-read
 returns-in-Ok-clause-read c = λ limit bytes h.
     HasRead-step limit _ _ _ _ bytes _ _ h (c.in_ok-count.ensures.bytes limit bytes h.lines h.scans)
-    (c.in-Ok.ensures ∙ ap (λ l. c.args.bits.now.items ++ l)
-    (c.elements.ensures ∙ sym (elements_kept-list c.push_line.new.self.latest)))
+    c.in-Ok.ensures
 
 pub returns-in-Err-clause-read : goal.returns-in-Err-clause-read
 returns-in-Err-clause-read c = λ limit bytes h.

@@ -1,11 +1,10 @@
 use Rattle.std.proofs.Common.{Ok, Err, [], refl, subst, sym, ◌∙◌}
 use Rattle.nx_fec.specs.Transfers.{devices}
 use Rattle.nx_fec.proofs.TransferLaws.{Ok-not_err, Writes-sound}
-use Rattle.nx_receiver.specs.Chain.{start_from}
-use Rattle.nx_receiver.specs.Events.{Start}
-use Rattle.nx_receiver.specs.Listen.{Listens, events_of}
+use Rattle.nx_receiver.specs.Listen.{Listens, given_by}
 use Rattle.nx_receiver.specs.ListenFrom.{reported}
-use Rattle.nx_receiver.specs.private.Listener.{StandsFrom, IsListening, start_of}
+use Rattle.nx_receiver.specs.Shares.{Starts, starts_from}
+use Rattle.nx_receiver.specs.private.Listener.{StandsFrom, IsListening, starts_of}
 use Rattle.nx_receiver.proofs.listens.From.{err-is, goes-on}
 use Rattle.nx_receiver.proofs.once.Listen.{keeps-headline}
 use Rattle.nx_receiver.proofs.listens.Runs.{listens-fault, listens-memory, listens-ok, listens-part}
@@ -13,11 +12,11 @@ use Rattle.nx_receiver.proofs.listening.listen_from.Goals as goal
 
 pub returns-in_err-listener-clause-listens : goal.returns-in_err-listener-clause-listens
 returns-in_err-listener-clause-listens g c =
-    subst (Listens (start_from c.args.saved.now)
+    subst (Listens (starts_from c.args.saved.now)
     (devices g.R.Read.remaining g.W.Write.contents c.args.reader.now c.args.reader.now
     c.args.writer.now c.args.writer.now))
     (sym (err-is c.from_residual.result _ c.from_residual.ensures.0 c.from_residual.ensures.1))
-    (listens-memory (start_from c.args.saved.now) g.R.Read.remaining g.W.Write.contents
+    (listens-memory (starts_from c.args.saved.now) g.R.Read.remaining g.W.Write.contents
     c.args.reader.now c.args.writer.now c.in_err-listener.field-0.0 c.requires.reader
     c.requires.writer)
 
@@ -27,18 +26,18 @@ returns-in-Err-clause-listens g c =
     let d = devices g.R.Read.remaining g.W.Write.contents c.args.reader.now c.run_lines.new.reader
     c.args.writer.now c.run_lines.new.writer in
     let begun : StandsFrom first first [] [] =
-    subst (λ (start : Start). IsListening start first [] [])
+    subst (λ (starts : Starts). IsListening starts first [] [])
     (sym c.in_ok-listener.ensures.start) c.in_ok-listener.ensures.listens in
-    subst (λ (start : Start). Listens start d (Err c.run_fault.result))
+    subst (λ (starts : Starts). Listens starts d (Err c.run_fault.result))
     c.in_ok-listener.ensures.start
-    (subst (λ fault. Listens (start_of first) d (Err fault)) (sym c.run_fault.ensures)
+    (subst (λ fault. Listens (starts_of first) d (Err fault)) (sym c.run_fault.ensures)
     (listens-fault first c.run_lines.new.taker d c.in-Err.fault (c.in-Err.ensures first begun)))
 
 pub close-requires : goal.close-requires
 close-requires g c =
     let first = c.in_ok-listener.listener in
     let begun : StandsFrom first first [] [] =
-    subst (λ (start : Start). IsListening start first [] [])
+    subst (λ (starts : Starts). IsListening starts first [] [])
     (sym c.in_ok-listener.ensures.start) c.in_ok-listener.ensures.listens in
     Writes-sound _ _ _ (λ written. Ok-not_err _ _) (c.in-Ok.ensures first begun).writes
 
@@ -49,18 +48,18 @@ returns-in_err-report-clause-listens g c =
     let d = devices g.R.Read.remaining contents c.args.reader.now c.run_lines.new.reader
     c.args.writer.now c.close.new.writer in
     let begun : StandsFrom first first [] [] =
-    subst (λ (start : Start). IsListening start first [] [])
+    subst (λ (starts : Starts). IsListening starts first [] [])
     (sym c.in_ok-listener.ensures.start) c.in_ok-listener.ensures.listens in
-    subst (λ (start : Start). Listens start d (reported c.from_residual-in_err-report.result))
+    subst (λ (starts : Starts). Listens starts d (reported c.from_residual-in_err-report.result))
     c.in_ok-listener.ensures.start
-    (subst (Listens (start_of first) d)
+    (subst (Listens (starts_of first) d)
     (sym (err-is c.from_residual-in_err-report.result _ c.from_residual-in_err-report.ensures.0
     c.from_residual-in_err-report.ensures.1))
     (listens-part g.R.Read.remaining contents first c.run_lines.new.taker c.args.reader.now
     c.run_lines.new.reader c.args.writer.now c.run_lines.new.writer c.close.new.writer
     c.in-Ok.read c.in_err-report.field-0.0.written (c.in-Ok.ensures first begun)
     (λ lines given h w. c.in_err-report.ensures.closed _ (contents c.args.writer.now.inner)
-    (events_of lines) given h.hears w) (c.in_err-report.ensures.counts.failed.0 refl)))
+    (given_by lines) given h.hears w) (c.in_err-report.ensures.counts.failed.0 refl)))
 
 pub returns-clause-listens : goal.returns-clause-listens
 returns-clause-listens g c =
@@ -69,15 +68,15 @@ returns-clause-listens g c =
     let d = devices g.R.Read.remaining contents c.args.reader.now c.run_lines.new.reader
     c.args.writer.now c.close.new.writer in
     let begun : StandsFrom first first [] [] =
-    subst (λ (start : Start). IsListening start first [] [])
+    subst (λ (starts : Starts). IsListening starts first [] [])
     (sym c.in_ok-listener.ensures.start) c.in_ok-listener.ensures.listens in
-    subst (λ (start : Start). Listens start d (Ok c.in_ok-report.report))
+    subst (λ (starts : Starts). Listens starts d (Ok c.in_ok-report.report))
     c.in_ok-listener.ensures.start
     (listens-ok g.R.Read.remaining contents first c.run_lines.new.taker c.args.reader.now
     c.run_lines.new.reader c.args.writer.now c.run_lines.new.writer c.close.new.writer
     c.in-Ok.read c.in_ok-report.report (c.in-Ok.ensures first begun)
     (λ lines given h w. c.in_ok-report.ensures.closed _ (contents c.args.writer.now.inner)
-    (events_of lines) given h.hears w) c.in_ok-report.ensures.lines
+    (given_by lines) given h.hears w) c.in_ok-report.ensures.lines
     c.in_ok-report.ensures.counts.none)
 
 pub returns-clause-left : goal.returns-clause-left
@@ -85,19 +84,19 @@ returns-clause-left g c =
     let first = c.in_ok-listener.listener in
     let contents = g.W.Write.contents in
     let begun : StandsFrom first first [] [] =
-    subst (λ (start : Start). IsListening start first [] [])
+    subst (λ (starts : Starts). IsListening starts first [] [])
     (sym c.in_ok-listener.ensures.start) c.in_ok-listener.ensures.listens in
     goes-on g.R.Read.remaining contents c.args.saved.now c.saved-left.result first
     c.run_lines.new.taker c.args.reader.now c.run_lines.new.reader c.args.writer.now
     c.run_lines.new.writer c.close.new.writer
     c.in-Ok.read c.in_ok-report.report c.in_ok-listener.ensures.start (c.in-Ok.ensures first begun)
     (λ lines given h w. c.in_ok-report.ensures.closed _ (contents c.args.writer.now.inner)
-    (events_of lines) given h.hears w)
-    (λ lines given h. c.saved-left.ensures (start_of first) lines given h)
+    (given_by lines) given h.hears w)
+    (λ lines given h. c.saved-left.ensures (starts_of first) lines given h)
 
 pub returns-clause-once : goal.returns-clause-once
 returns-clause-once g c =
-    keeps-headline (start_from c.args.saved.now)
+    keeps-headline (starts_from c.args.saved.now)
     (devices g.R.Read.remaining g.W.Write.contents c.args.reader.now c.run_lines.new.reader
     c.args.writer.now c.close.new.writer)
     c.in_ok-report.report (returns-clause-listens g c)

@@ -20,10 +20,10 @@ returns c =
     let entry = c.args.entry.now in
     let civil = c.head_of-bytes.ensures.head.0 in
     let head = c.head_of-bytes.ensures.head.2 in
-    let front = entry_head (copy_of entry) civil ++ entry.text.items in
+    let front = entry_head c.args.channel (copy_of entry) civil ++ entry.text.items in
     let body : c.append.new.bytes.items ≡ front =
     c.append.ensures.items ∙ ap (λ xs. xs ++ c.deref.result.now) head
-    ∙ ap (λ xs. entry_head (copy_of entry) civil ++ xs) c.deref.ensures.0 in
+    ∙ ap (λ xs. entry_head c.args.channel (copy_of entry) civil ++ xs) c.deref.ensures.0 in
     let tested : c.is_of_lines.result ≡ is_of_lines entry.text.items =
     c.is_of_lines.ensures ∙ ap is_of_lines c.deref-2.ensures.0 in
     let lines : c.if-not-is_of_lines.bytes.items ≡ front ++ missing_newline entry.text.items =
@@ -39,5 +39,5 @@ returns c =
     let whole : c.push-2.new.self.items ≡ front ++ missing_newline entry.text.items ++ 10 ∷ [] =
     c.push-2.ensures.items ∙ ap (λ xs. xs ++ 10 ∷ []) lines in
     let assoc : front ++ missing_newline entry.text.items ++ 10 ∷ []
-    ≡ entry_with (copy_of entry) civil = simp append_assoc in
+    ≡ entry_with c.args.channel (copy_of entry) civil = simp append_assoc in
     record { civil = civil; shown = c.head_of-bytes.ensures.head.1; spelled = whole ∙ assoc }

@@ -2,74 +2,83 @@ use Rattle.std.proofs.Common.{◌≡◌, ◌++◌, ◌∷◌, [], ℕ, List, ari
 use Rattle.std.specs.Fmt.{decimal}
 use Rattle.nx_envelope.specs.Copies.{errors_of}
 use Rattle.nx_envelope.specs.Identity.{identity_bytes}
-use Rattle.nx_receiver.specs.Log.{entry_head, how_name}
+use Rattle.nx_receiver.specs.Log.{channel_mark, entry_head, how_name}
 use Rattle.nx_receiver.proofs.writing.head_of.Goals as goal
 
 pub returns-clause-short : goal.returns-clause-short
 returns-clause-short c = omega (
   arith,
+  c.append-7.ensures.len,
   c.append-6.ensures.len,
-  c.append-5.ensures.len,
   c.push-5.ensures.len,
-  c.append-4.ensures.len,
+  c.append-5.ensures.len,
   c.push-4.ensures.len,
-  c.append-3.ensures.len,
+  c.append-4.ensures.len,
   c.push-3.ensures.len,
-  c.append-2.ensures.len,
+  c.append-3.ensures.len,
   c.push-2.ensures.len,
+  c.append-2.ensures.len,
   c.append.ensures.len,
   c.push.ensures.len,
   c.format.ensures.fits,
   c.format-2.ensures.fits,
   c.as_bytes-2.ensures.len,
   c.as_bytes-3.ensures.len,
+  c.as_bytes-4.ensures.len,
   c.as_bytes.ensures.len,
+  c.mark_of.ensures.short,
   c.how_text.ensures.short,
   ap length
       c.new-bytes.ensures,
 )
 
 -- the pieces, in order
-pieces : (name civil how errors count last : List ℕ) →
-    (((((((((91 ∷ []) ++ name) ++ 32 ∷ []) ++ civil) ++ 32 ∷ []) ++ how) ++ 32 ∷ []) ++ errors)
-    ++ 47 ∷ []) ++ count ++ last
-    ≡ 91 ∷ name ++ 32 ∷ civil ++ 32 ∷ how ++ 32 ∷ errors ++ 47 ∷ count ++ last
-pieces name civil how errors count last = simp append_assoc
+pieces : (name mark civil how errors count last : List ℕ) →
+    ((((((((((91 ∷ []) ++ name) ++ mark) ++ 32 ∷ []) ++ civil) ++ 32 ∷ []) ++ how) ++ 32 ∷ [])
+    ++ errors) ++ 47 ∷ []) ++ count ++ last
+    ≡ 91 ∷ name ++ mark ++ 32 ∷ civil ++ 32 ∷ how ++ 32 ∷ errors ++ 47 ∷ count ++ last
+pieces name mark civil how errors count last = simp append_assoc
 
 -- the same, each piece by what it is
-same_pieces : (name civil how errors count name' how' errors' count' last : List ℕ) → name ≡ name'
-    → how ≡ how' → errors ≡ errors' → count ≡ count' →
-    91 ∷ name ++ 32 ∷ civil ++ 32 ∷ how ++ 32 ∷ errors ++ 47 ∷ count ++ last
-    ≡ 91 ∷ name' ++ 32 ∷ civil ++ 32 ∷ how' ++ 32 ∷ errors' ++ 47 ∷ count' ++ last
-same_pieces name civil how errors count name' how' errors' count' last en eh ee ec = cc
+same_pieces : (name mark civil how errors count name' mark' how' errors' count' last : List ℕ)
+    → name ≡ name' → mark ≡ mark' → how ≡ how' → errors ≡ errors' → count ≡ count' →
+    91 ∷ name ++ mark ++ 32 ∷ civil ++ 32 ∷ how ++ 32 ∷ errors ++ 47 ∷ count ++ last
+    ≡ 91 ∷ name' ++ mark' ++ 32 ∷ civil ++ 32 ∷ how' ++ 32 ∷ errors' ++ 47 ∷ count' ++ last
+same_pieces name mark civil how errors count name' mark' how' errors' count' last en em eh ee ec =
+    cc
 
 pub returns-clause-head : goal.returns-clause-head
 unfolding entry_head
 returns-clause-head c =
     let entry = c.args.entry.now in
-    let start = c.append-2.ensures.items
+    let start = c.append-3.ensures.items
     ∙ ap (λ xs. xs ++ c.in-Some.time)
     (c.push-2.ensures.items ∙ ap (λ xs. xs ++ 32 ∷ [])
+    (c.append-2.ensures.items ∙ ap (λ xs. xs ++ c.as_bytes.result.now)
     (c.append.ensures.items ∙ ap (λ xs. xs ++ c.bytes-name.result)
-    (c.push.ensures.items ∙ ap (λ xs. xs ++ 91 ∷ []) c.new-bytes.ensures))) in
+    (c.push.ensures.items ∙ ap (λ xs. xs ++ 91 ∷ []) c.new-bytes.ensures)))) in
     let middle = c.push-5.ensures.items
     ∙ ap (λ xs. xs ++ 47 ∷ [])
+    (c.append-5.ensures.items
+    ∙ ap (λ xs. xs ++ c.as_bytes-3.result.now)
+    (c.push-4.ensures.items ∙ ap (λ xs. xs ++ 32 ∷ [])
     (c.append-4.ensures.items
     ∙ ap (λ xs. xs ++ c.as_bytes-2.result.now)
-    (c.push-4.ensures.items ∙ ap (λ xs. xs ++ 32 ∷ [])
-    (c.append-3.ensures.items
-    ∙ ap (λ xs. xs ++ c.as_bytes.result.now)
     (c.push-3.ensures.items ∙ ap (λ xs. xs ++ 32 ∷ []) start)))) in
-    let all = c.append-6.ensures.items
+    let all = c.append-7.ensures.items
     ∙ ap (λ xs. xs ++ 93 ∷ 10 ∷ [])
-    (c.append-5.ensures.items ∙ ap (λ xs. xs ++ c.as_bytes-3.result.now) middle) in
-    let ordered = pieces c.bytes-name.result c.in-Some.time c.as_bytes.result.now
-    c.as_bytes-2.result.now c.as_bytes-3.result.now (93 ∷ 10 ∷ []) in
-    let spelled = same_pieces c.bytes-name.result c.in-Some.time c.as_bytes.result.now
-    c.as_bytes-2.result.now c.as_bytes-3.result.now (identity_bytes entry.identity)
+    (c.append-6.ensures.items ∙ ap (λ xs. xs ++ c.as_bytes-4.result.now) middle) in
+    let ordered = pieces c.bytes-name.result c.as_bytes.result.now c.in-Some.time
+    c.as_bytes-2.result.now
+    c.as_bytes-3.result.now c.as_bytes-4.result.now (93 ∷ 10 ∷ []) in
+    let spelled = same_pieces c.bytes-name.result c.as_bytes.result.now c.in-Some.time
+    c.as_bytes-2.result.now
+    c.as_bytes-3.result.now c.as_bytes-4.result.now (identity_bytes entry.identity)
+    (channel_mark c.args.channel)
     (how_name entry.how) (decimal (errors_of entry.text.items))
     (decimal (length entry.text.items)) (93 ∷ 10 ∷ [])
-    c.bytes-name.ensures (c.as_bytes.ensures.value ∙ c.how_text.ensures.name)
-    (c.as_bytes-2.ensures.value ∙ c.format.ensures.text ∙ ap decimal entry.counted)
-    (c.as_bytes-3.ensures.value ∙ c.format-2.ensures.text ∙ ap decimal c.len.ensures.value) in
+    c.bytes-name.ensures (c.as_bytes.ensures.value ∙ c.mark_of.ensures.mark)
+    (c.as_bytes-2.ensures.value ∙ c.how_text.ensures.name)
+    (c.as_bytes-3.ensures.value ∙ c.format.ensures.text ∙ ap decimal entry.counted)
+    (c.as_bytes-4.ensures.value ∙ c.format-2.ensures.text ∙ ap decimal c.len.ensures.value) in
     (c.in-Some.time, c.in-Some.ensures.shown, all ∙ ordered ∙ spelled)

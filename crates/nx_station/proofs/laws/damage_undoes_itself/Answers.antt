@@ -1,4 +1,4 @@
-use Rattle.nx_station.proofs.DamageLemmas.{length-damaged, lines-elements, lines-twice}
+use Rattle.nx_station.proofs.DamageLemmas.{length-damaged, lines-elements, lines-kinds, lines-others, lines-twice}
 use Rattle.nx_station.proofs.DamageLaws.{files-twice}
 use Rattle.nx_station.proofs.laws.damage_undoes_itself.Goals as goal
 
@@ -7,6 +7,12 @@ returns-clause-twice c damage lines = lines-twice damage 0 lines
 
 pub returns-clause-elements : goal.returns-clause-elements
 returns-clause-elements c damage lines = lines-elements damage 0 lines
+
+pub returns-clause-others : goal.returns-clause-others
+returns-clause-others c damage lines = lines-others damage 0 lines
+
+pub returns-clause-names : goal.returns-clause-names
+returns-clause-names c damage lines = lines-kinds damage 0 lines
 
 pub returns-clause-long : goal.returns-clause-long
 returns-clause-long c = length-damaged

@@ -1,13 +1,13 @@
 use Rattle.std.proofs.Common.{◌∙◌, ◌++◌}
-use Rattle.nx_locks.specs.Run.{elements_of, ending_of, moments_of}
+use Rattle.nx_locks.specs.Run.{elements_on_0, ending_of, moments_on_0}
 use Rattle.nx_locks.proofs.Ends.{reported}
 use Rattle.nx_locks.proofs.shower.Shower.close.Goals as goal
 
 pub returns-in-Err-clause-closed : goal.returns-in-Err-clause-closed
 returns-in-Err-clause-closed g c = rw (← c.self.view_is) (λ old lines given h w.
     let i = c.self.inside in
-    let e = c.end-locks.ensures.ends (elements_of lines) (moments_of lines) given h.shows in
-    let r = reported i.watch (elements_of lines) (moments_of lines) given c.clear.new.self.items
+    let e = c.end-locks.ensures.ends (elements_on_0 lines) (moments_on_0 lines) given h.shows in
+    let r = reported i.watch (elements_on_0 lines) (moments_on_0 lines) given c.clear.new.self.items
     c.end-locks.new.shown.items c.deref.result.now c.end-locks.result (ending_of lines)
     c.clear.ensures c.deref.ensures.0 h.moment e in
     record {
@@ -20,8 +20,8 @@ returns-in-Err-clause-closed g c = rw (← c.self.view_is) (λ old lines given h
 pub returns-clause-closed : goal.returns-clause-closed
 returns-clause-closed g c = rw (← c.self.view_is) (λ old lines given h w.
     let i = c.self.inside in
-    let e = c.end-locks.ensures.ends (elements_of lines) (moments_of lines) given h.shows in
-    let r = reported i.watch (elements_of lines) (moments_of lines) given c.clear.new.self.items
+    let e = c.end-locks.ensures.ends (elements_on_0 lines) (moments_on_0 lines) given h.shows in
+    let r = reported i.watch (elements_on_0 lines) (moments_on_0 lines) given c.clear.new.self.items
     c.end-locks.new.shown.items c.deref.result.now c.end-locks.result (ending_of lines)
     c.clear.ensures c.deref.ensures.0 h.moment e in
     record {

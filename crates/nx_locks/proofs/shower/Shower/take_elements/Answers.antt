@@ -4,7 +4,7 @@ use Rattle.nx_receiver.specs.Listen.{has_moment}
 use Rattle.nx_locks.specs.private.Shower.{IsShowing, Showing}
 use Rattle.nx_locks.specs.private.ShowerBegins.{begins-report}
 use Rattle.nx_locks.specs.private.Watch.{HearsAll}
-use Rattle.nx_locks.proofs.Taking.{element_line}
+use Rattle.nx_locks.proofs.Taking.{element_line, skipped_line}
 use Rattle.nx_locks.proofs.shower.Shower.take_elements.Goals as goal
 
 pub returns-in-Err-clause-taken : goal.returns-in-Err-clause-taken
@@ -19,14 +19,14 @@ returns-in-Err-clause-taken g c = rw (← c.self.view_is) (λ first old lines h.
     subst (λ l. HearsAll i.watch c.hear.new.self c.args.bits.now l c.hear.new.shown.items)
     c.clear.ensures c.hear.ensures.hears in
     let shown : c.deref.result.now ≡ c.hear.new.shown.items = c.deref.ensures.0 in
-    let now = element_line before after lines c.args.bits.now h.given c.hear.new.shown.items h.stood
-    some refl heard (omega (arith, h.stood.shows.elements)) in
+    let now = element_line before after lines c.args.mark c.args.bits.now h.given
+    c.hear.new.shown.items (sym c.is_on_0.ensures ∙ c.if-not-is_on_0.false) h.stood some refl
+    heard (omega (arith, h.stood.shows.elements)) in
+    let all = lines ++ line.elements c.args.mark c.args.bits.now ∷ [] in
     record {
       given = h.given ++ c.deref.result.now;
-      begun = begins-report after (lines ++ line.elements c.args.bits.now ∷ [])
-          (h.given ++ c.deref.result.now)
-          (subst (λ l. IsShowing after (lines ++ line.elements c.args.bits.now ∷ []) (h.given ++ l))
-          (sym shown) now);
+      begun = begins-report after all (h.given ++ c.deref.result.now)
+          (subst (λ l. IsShowing after all (h.given ++ l)) (sym shown) now);
       some = c.in-Err.ensures.bytes old h.given h.here;
     })
 
@@ -42,11 +42,21 @@ returns-clause-taken g c = rw (← c.self.view_is) (λ first old lines h.
     subst (λ l. HearsAll i.watch c.hear.new.self c.args.bits.now l c.hear.new.shown.items)
     c.clear.ensures c.hear.ensures.hears in
     let shown : c.deref.result.now ≡ c.hear.new.shown.items = c.deref.ensures.0 in
-    let now = element_line before after lines c.args.bits.now h.given c.hear.new.shown.items h.stood
-    some refl heard (omega (arith, h.stood.shows.elements)) in
+    let now = element_line before after lines c.args.mark c.args.bits.now h.given
+    c.hear.new.shown.items (sym c.is_on_0.ensures ∙ c.if-not-is_on_0.false) h.stood some refl
+    heard (omega (arith, h.stood.shows.elements)) in
+    let all = lines ++ line.elements c.args.mark c.args.bits.now ∷ [] in
     record {
       given = h.given ++ c.deref.result.now;
-      stood = subst (λ l. IsShowing after (lines ++ line.elements c.args.bits.now ∷ [])
-          (h.given ++ l)) (sym shown) now;
+      stood = subst (λ l. IsShowing after all (h.given ++ l)) (sym shown) now;
       here = c.in_default.ensures.bytes old h.given h.here;
     })
+
+pub returns-then-not-is_on_0-clause-taken : goal.returns-then-not-is_on_0-clause-taken
+returns-then-not-is_on_0-clause-taken g c = rw (← c.self.view_is) (λ first old lines h. record {
+  given = h.given;
+  stood = skipped_line _ lines c.args.mark c.args.bits.now h.given
+      (sym c.is_on_0.ensures ∙ c.if-not-is_on_0.true) h.stood
+      (sym h.stood.has_moment ∙ c.if-not-self.false);
+  here = h.here;
+})

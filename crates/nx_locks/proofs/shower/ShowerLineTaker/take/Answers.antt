@@ -15,32 +15,33 @@ returns-in-Moment-clause-taken g c = λ first old lines line latest h.
 
 pub returns-in-RefuseSubject-clause-taken : goal.returns-in-RefuseSubject-clause-taken
 returns-in-RefuseSubject-clause-taken g c = λ first old lines line latest h.
+    let mark = c.in-RefuseSubject.field-0 in
     let byte = c.in-RefuseSubject.byte in
     let taken = c.check_subject.result in
     taken-line first c.args.self.now c.args.self.now old _ c.args.batch.now lines line
-    (refuse_subject byte) taken c.taking_of-in-RefuseSubject.result
+    (refuse_subject mark byte) taken c.taking_of-in-RefuseSubject.result
     (said _ _ _ _ line latest c.latest.ensures c.in-Some.is c.in-RefuseSubject.is) h
     c.taking_of-in-RefuseSubject.ensures
     (λ given s. match-map taken (λ _. is_vital c.letter.result.byte ≡ false)
-    (λ _. IsShowing c.args.self.now (lines ++ refuse_subject byte ∷ []) given)
-    (λ why. RefusesLine lines (refuse_subject c.letter.result.byte) why)
-    (λ why. RefusesLine lines (refuse_subject byte) why) (c.check_subject.ensures lines)
-    (λ x allowed. refuse_subject_line c.args.self.now lines byte given
+    (λ _. IsShowing c.args.self.now (lines ++ refuse_subject mark byte ∷ []) given)
+    (λ why. RefusesLine lines (refuse_subject mark c.letter.result.byte) why)
+    (λ why. RefusesLine lines (refuse_subject mark byte) why) (c.check_subject.ensures lines mark)
+    (λ x allowed. refuse_subject_line c.args.self.now lines mark byte given
     (ap is_vital (sym c.letter.ensures) ∙ allowed) s)
-    (λ why refused. subst (λ (b : ℕ). RefusesLine lines (refuse_subject b) why) c.letter.ensures
-    refused))
+    (λ why refused. subst (λ (b : ℕ). RefusesLine lines (refuse_subject mark b) why)
+    c.letter.ensures refused))
     (on-err taken (c.args.self.now ≡ c.args.self.now) refl)
 
 pub returns-in-RefuseStation-clause-taken : goal.returns-in-RefuseStation-clause-taken
 returns-in-RefuseStation-clause-taken g c = λ first old lines line latest h.
     elim c.in-RefuseStation.is [
       | inl is ↦ taken-always first c.args.self.now old _ c.args.batch.now lines line
-          (refuse_station is.0) (said _ _ _ _ line latest c.latest.ensures c.in-Some.is is.1) h
-          (λ given s. refuse_station_line c.args.self.now lines is.0 given s)
+          (refuse_station is.0 is.1) (said _ _ _ _ line latest c.latest.ensures c.in-Some.is is.2) h
+          (λ given s. refuse_station_line c.args.self.now lines is.0 is.1 given s)
       | inr (inl is) ↦ taken-always first c.args.self.now old _ c.args.batch.now lines line
-          (accept_station is.0) (said _ _ _ _ line latest c.latest.ensures c.in-Some.is is.1) h
-          (λ given s. accept_station_line c.args.self.now lines is.0 given s)
+          (accept_station is.0 is.1) (said _ _ _ _ line latest c.latest.ensures c.in-Some.is is.2) h
+          (λ given s. accept_station_line c.args.self.now lines is.0 is.1 given s)
       | inr (inr is) ↦ taken-always first c.args.self.now old _ c.args.batch.now lines line
-          (accept_subject is.0) (said _ _ _ _ line latest c.latest.ensures c.in-Some.is is.1) h
-          (λ given s. accept_subject_line c.args.self.now lines is.0 given s)
+          (accept_subject is.0 is.1) (said _ _ _ _ line latest c.latest.ensures c.in-Some.is is.2) h
+          (λ given s. accept_subject_line c.args.self.now lines is.0 is.1 given s)
     ]

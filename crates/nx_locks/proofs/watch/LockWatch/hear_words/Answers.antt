@@ -11,7 +11,8 @@ loop-word-init c = record {
   few = omega arith;
 }
 
-pub returns-then-not-is_between_words-clause-hears : goal.returns-then-not-is_between_words-clause-hears
+pub returns-then-not-is_between_words-clause-hears :
+    goal.returns-then-not-is_between_words-clause-hears
 returns-then-not-is_between_words-clause-hears c =
     let is = chunk_is c.args.bits.now c.in-Some.word.now c.loop-word.at 7 c.in-Some.ensures.cases in
     let within = chunk_within c.args.bits.now c.in-Some.word.now c.loop-word.at 7

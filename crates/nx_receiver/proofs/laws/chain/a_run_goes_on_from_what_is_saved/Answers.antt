@@ -9,6 +9,6 @@ returns c = record {
   some = some_left;
   one = one_left;
   few = few_left;
-  after = copies-from;
+  after = λ saved left run channel g. copies-from channel saved left run g;
   join = λ first saved last runs more c d. chains_join first runs more saved last c d;
 }

@@ -1,4 +1,6 @@
-use Rattle.std.proofs.Common.{◌∙◌}
+use Rattle.std.proofs.Common.{ap, map, ◌∙◌}
+use Rattle.nx_fec.specs.declared.channel.Channel.TheVariants.{Zero}
+use Rattle.nx_receiver.specs.Shares.{marked}
 use Rattle.nx_receiver.proofs.from_send.Different.{all_printed}
 use Rattle.nx_receiver.proofs.from_send.Files.{log_of_sent, sent_log}
 use Rattle.nx_receiver.proofs.laws.sending.what_was_sent_is_printed.Goals as goal
@@ -10,5 +12,5 @@ returns c = record {
       t lines copies log is;
   different = λ station from file air log sent lines copies t different is.
       sent_log station from file air sent t lines copies log is
-      ∙ all_printed sent.slot t.messages different;
+      ∙ ap (map (marked Zero)) (all_printed sent.slot t.messages different);
 }

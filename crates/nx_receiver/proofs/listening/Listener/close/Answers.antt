@@ -1,28 +1,104 @@
-use Rattle.std.proofs.Common.{refl, sym, subst}
-use Rattle.nx_receiver.specs.Log.{IsEntry}
-use Rattle.nx_receiver.specs.FoundCopies.{copy_of}
-use Rattle.nx_receiver.proofs.listens.Ends.{closed-none, closed-part, closed-some}
-use Rattle.nx_receiver.proofs.listens.Listener.{none-left}
+use Rattle.std.proofs.Common.{◌++◌, ◌∙◌, ap, refl, subst, sym}
+use Rattle.std.proofs.lemmas.Result.{err_from_is_err_and}
+use Rattle.nx_receiver.specs.private.Listener.{Listening}
+use Rattle.nx_receiver.proofs.listens.Ends.{CloseAll, Closes, Closing, closed-all, closed-part-0, closed-part-1, closed-part-2}
 use Rattle.nx_receiver.proofs.listening.Listener.close.Goals as goal
 
-pub returns-in-Err-clause-closed : goal.returns-in-Err-clause-closed
-returns-in-Err-clause-closed g c = rw (← c.self.view_is) (λ start old events given h w.
-    let is = subst (IsEntry (copy_of c.in-Some.entry)) (sym c.deref.ensures.0)
-    c.entry_bytes.ensures in
-    closed-part start _ old _ events given c.deref.result.now c.in-Some.entry _ h
-    (c.in-Some.ensures.stands start events h.log h.hears.receiver) is
-    (c.in-Err.ensures.bytes old given w))
+pub returns-in_err-at_end-clause-closed : goal.returns-in_err-at_end-clause-closed
+returns-in_err-at_end-clause-closed g c = λ starts old given bytes h w.
+    let closing : Closing = record {
+      on_0 = c.close-end_0.result;
+      on_1 = c.close-end_1.result;
+      on_2 = c.close-end_2.result;
+    } in
+    let now = c.args.self in
+    let e = c.self.view_is in
+    let all : CloseAll now closing = record {
+      on_0 = subst (λ r. Closes r closing.on_0) (ap (λ (l : Listening). l.on_0) e) (record
+          { to_end = c.close-end_0.ensures.stands; moment = c.close-end_0.ensures.moment });
+      on_1 = subst (λ r. Closes r closing.on_1) (ap (λ (l : Listening). l.on_1) e) (record
+          { to_end = c.close-end_1.ensures.stands; moment = c.close-end_1.ensures.moment });
+      on_2 = subst (λ r. Closes r closing.on_2) (ap (λ (l : Listening). l.on_2) e) (record
+          { to_end = c.close-end_2.ensures.stands; moment = c.close-end_2.ensures.moment });
+    } in
+    let p = err_from_is_err_and c.from_residual.result c.from_residual.ensures.1 in
+    let one = c.in_err-at_end.ensures.bytes in
+    rw p.1 (rw p.2 (closed-part-0 starts now closing old _ given bytes one.0 _ h all one.1
+    (one.2 old bytes w)))
 
-pub returns-in_default-write_on-clause-closed : goal.returns-in_default-write_on-clause-closed
-returns-in_default-write_on-clause-closed g c = rw (← c.self.view_is) (λ start old events given h w.
-    let is = subst (IsEntry (copy_of c.in-Some.entry)) (sym c.deref.ensures.0)
-    c.entry_bytes.ensures in
-    closed-some start _ old _ events given c.deref.result.now c.in-Some.entry _ h
-    (c.in-Some.ensures.stands start events h.log h.hears.receiver) is
-    (c.in_default-write_on.ensures.bytes old given w).appended refl
-    c.saturating_add-entries.ensures)
+pub returns-in_err-at_end-2-clause-closed : goal.returns-in_err-at_end-2-clause-closed
+returns-in_err-at_end-2-clause-closed g c = λ starts old given bytes h w.
+    let closing : Closing = record {
+      on_0 = c.close-end_0.result;
+      on_1 = c.close-end_1.result;
+      on_2 = c.close-end_2.result;
+    } in
+    let now = c.args.self in
+    let e = c.self.view_is in
+    let all : CloseAll now closing = record {
+      on_0 = subst (λ r. Closes r closing.on_0) (ap (λ (l : Listening). l.on_0) e) (record
+          { to_end = c.close-end_0.ensures.stands; moment = c.close-end_0.ensures.moment });
+      on_1 = subst (λ r. Closes r closing.on_1) (ap (λ (l : Listening). l.on_1) e) (record
+          { to_end = c.close-end_1.ensures.stands; moment = c.close-end_1.ensures.moment });
+      on_2 = subst (λ r. Closes r closing.on_2) (ap (λ (l : Listening). l.on_2) e) (record
+          { to_end = c.close-end_2.ensures.stands; moment = c.close-end_2.ensures.moment });
+    } in
+    let p = err_from_is_err_and c.from_residual-in_err-at_end-2.result
+    c.from_residual-in_err-at_end-2.ensures.1 in
+    let one = c.in_ok-at_end.ensures.bytes in
+    let two = c.in_err-at_end-2.ensures.bytes in
+    rw p.1 (rw p.2 (closed-part-1 starts now closing old _ given bytes one.0 two.0 _ h all one.1
+    two.1 (two.2 old (bytes ++ one.0) (one.2 old bytes w))))
 
-pub returns-in_default-clause-closed : goal.returns-in_default-clause-closed
-returns-in_default-clause-closed g c = rw (← c.self.view_is) (λ start old events given h w.
-    closed-none start _ old _ events given c.close.result _ h (none-left _ c.in_default.not-Some)
-    (c.close.ensures.stands start events h.log h.hears.receiver) w.appended refl refl)
+pub returns-in_err-at_end-3-clause-closed : goal.returns-in_err-at_end-3-clause-closed
+returns-in_err-at_end-3-clause-closed g c = λ starts old given bytes h w.
+    let closing : Closing = record {
+      on_0 = c.close-end_0.result;
+      on_1 = c.close-end_1.result;
+      on_2 = c.close-end_2.result;
+    } in
+    let now = c.args.self in
+    let e = c.self.view_is in
+    let all : CloseAll now closing = record {
+      on_0 = subst (λ r. Closes r closing.on_0) (ap (λ (l : Listening). l.on_0) e) (record
+          { to_end = c.close-end_0.ensures.stands; moment = c.close-end_0.ensures.moment });
+      on_1 = subst (λ r. Closes r closing.on_1) (ap (λ (l : Listening). l.on_1) e) (record
+          { to_end = c.close-end_1.ensures.stands; moment = c.close-end_1.ensures.moment });
+      on_2 = subst (λ r. Closes r closing.on_2) (ap (λ (l : Listening). l.on_2) e) (record
+          { to_end = c.close-end_2.ensures.stands; moment = c.close-end_2.ensures.moment });
+    } in
+    let p = err_from_is_err_and c.from_residual-in_err-at_end-3.result
+    c.from_residual-in_err-at_end-3.ensures.1 in
+    let one = c.in_ok-at_end.ensures.bytes in
+    let two = c.in_ok-at_end-2.ensures.bytes in
+    let three = c.in_err-at_end-3.ensures.bytes in
+    rw p.1 (rw p.2 (closed-part-2 starts now closing old _ given bytes one.0 two.0 three.0 _ h all
+    one.1 two.1 three.1
+    (three.2 old ((bytes ++ one.0) ++ two.0) (two.2 old (bytes ++ one.0) (one.2 old bytes w)))))
+
+pub returns-clause-closed : goal.returns-clause-closed
+returns-clause-closed g c = λ starts old given bytes h w.
+    let closing : Closing = record {
+      on_0 = c.close-end_0.result;
+      on_1 = c.close-end_1.result;
+      on_2 = c.close-end_2.result;
+    } in
+    let now = c.args.self in
+    let e = c.self.view_is in
+    let all : CloseAll now closing = record {
+      on_0 = subst (λ r. Closes r closing.on_0) (ap (λ (l : Listening). l.on_0) e) (record
+          { to_end = c.close-end_0.ensures.stands; moment = c.close-end_0.ensures.moment });
+      on_1 = subst (λ r. Closes r closing.on_1) (ap (λ (l : Listening). l.on_1) e) (record
+          { to_end = c.close-end_1.ensures.stands; moment = c.close-end_1.ensures.moment });
+      on_2 = subst (λ r. Closes r closing.on_2) (ap (λ (l : Listening). l.on_2) e) (record
+          { to_end = c.close-end_2.ensures.stands; moment = c.close-end_2.ensures.moment });
+    } in
+    let one = c.in_ok-at_end.ensures.bytes in
+    let two = c.in_ok-at_end-2.ensures.bytes in
+    let three = c.in_ok-at_end-3.ensures.bytes in
+    closed-all starts now closing old _ given bytes one.0 two.0 three.0 _ _ _ _ h all one.1
+    two.1 three.1
+    (three.2 old ((bytes ++ one.0) ++ two.0)
+    (two.2 old (bytes ++ one.0) (one.2 old bytes w))).appended
+    (ap (λ (l : Listening). l.elements) e) (ap (λ (l : Listening). l.entries) e)
+    c.in_ok-at_end.ensures.entries c.in_ok-at_end-2.ensures.entries c.in_ok-at_end-3.ensures.entries

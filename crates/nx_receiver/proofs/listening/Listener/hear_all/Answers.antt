@@ -1,7 +1,6 @@
-use Rattle.std.proofs.Common.{◌++◌, ◌∙◌, take, subst, arith}
+use Rattle.std.proofs.Common.{◌∙◌, take, subst, arith}
 use Rattle.nx_fec.specs.LineRuns.{HasGiven}
-use Rattle.nx_receiver.specs.private.Listener.{HeardSome, IsHearing}
-use Rattle.nx_receiver.specs.Events.{elements}
+use Rattle.nx_receiver.specs.private.Listener.{HeardSome, IsHearing, then_elements}
 use Rattle.nx_receiver.proofs.listens.Listener.{elements-next, elements-rest, rest-length}
 use Rattle.nx_receiver.proofs.listening.Listener.hear_all.Goals as goal
 
@@ -12,17 +11,19 @@ loop-at-preserved g c =
       none = c.in-Ok.ensures.counts.none;
       within = omega (arith, c.in-Ok.ensures.within.1, rest-length bits c.loop-at.at);
       moment = c.hear.ensures.moment ∙ c.loop-at.invariant.moment;
-      heard = λ start old events h.
-          subst (λ es. IsHearing start c.hear.new.self es
+      heard = λ starts old given h.
+          subst (λ bs. IsHearing starts c.hear.new.self (then_elements given c.args.channel bs)
           (HasGiven old (g.W.Write.contents c.hear.new.writer.inner) c.hear.new.batch))
-          (elements-next events bits c.loop-at.at c.in-Ok.count)
-          (c.in-Ok.ensures.heard start old (events ++ elements (take c.loop-at.at bits))
-          (c.loop-at.invariant.heard start old events h));
+          (elements-next bits c.loop-at.at c.in-Ok.count)
+          (c.in-Ok.ensures.heard starts old given (take c.loop-at.at bits)
+          (c.loop-at.invariant.heard starts old given h));
     }
 
 pub returns-in-Err-clause-heard : goal.returns-in-Err-clause-heard
-returns-in-Err-clause-heard g c = λ start old events h.
-    subst (λ es. HeardSome start es old (g.W.Write.contents c.hear.new.writer.inner)
-    c.in-Err.fault.written) (elements-rest events c.args.bits.now c.loop-at.at)
-    (c.in-Err.ensures.heard start old (events ++ elements (take c.loop-at.at c.args.bits.now))
-    (c.loop-at.invariant.heard start old events h))
+returns-in-Err-clause-heard g c = λ starts old given h.
+    let bits = c.args.bits.now in
+    subst (λ bs. HeardSome starts (then_elements given c.args.channel bs) old
+    (g.W.Write.contents c.hear.new.writer.inner) c.in-Err.fault.written)
+    (elements-rest bits c.loop-at.at)
+    (c.in-Err.ensures.heard starts old given (take c.loop-at.at bits)
+    (c.loop-at.invariant.heard starts old given h))

@@ -1,7 +1,7 @@
-use Rattle.std.proofs.Common.{◌≡◌, ◌-◌, ◌≤◌, ℕ, Option, List, ◌++◌, length, take}
+use Rattle.std.proofs.Common.{◌≡◌, ◌-◌, ◌≤◌, ℕ, Option, List, [], length, take}
 use Rattle.nx_fec.specs.LineRuns.{HasGiven}
-use Rattle.nx_receiver.specs.Events.{Event, Start, elements}
-use Rattle.nx_receiver.specs.private.Listener.{IsHearing}
+use Rattle.nx_receiver.specs.Shares.{Given, Starts}
+use Rattle.nx_receiver.specs.private.Listener.{IsHearing, then_elements}
 use Rattle.nx_receiver.proofs.listening.Listener.hear_all.Given as goal
 
 -- the first elements were heard
@@ -10,10 +10,10 @@ invariant-loop-at g l = record {
   none : l.writer.failures ≡ 0;
   within : l.at ≤ length l.bits;
   moment : l.self.has_moment ≡ l.fn.self.has_moment;
-  heard : (start : Start) (old : Option (List ℕ)) (events : List Event)
-      → IsHearing start l.fn.self events
+  heard : (starts : Starts) (old : Option (List ℕ)) (given : List Given)
+      → IsHearing starts l.fn.self (then_elements given l.channel [])
       (HasGiven old (g.W.Write.contents l.fn.writer.inner) l.fn.batch)
-      → IsHearing start l.self (events ++ elements (take l.at l.bits))
+      → IsHearing starts l.self (then_elements given l.channel (take l.at l.bits))
       (HasGiven old (g.W.Write.contents l.writer.inner) l.batch);
 }
 

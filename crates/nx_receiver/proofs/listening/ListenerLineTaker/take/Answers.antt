@@ -1,12 +1,11 @@
-use Rattle.std.proofs.Common.{◌∷◌, ◌++◌, [], refl, subst}
+use Rattle.std.proofs.Common.{[], ◌∷◌, ap, refl, sym}
 use Rattle.nx_fec.specs.AirFile.{moment, refuse_station, accept_station, refuse_subject, accept_subject}
 use Rattle.nx_receiver.specs.Events as events
-use Rattle.nx_receiver.specs.Events.{elements_among, command}
-use Rattle.nx_receiver.specs.Listen.{events_of}
-use Rattle.nx_receiver.specs.private.Listener.{start_of}
-use Rattle.nx_receiver.specs.Receiver.{Stands}
-use Rattle.nx_receiver.proofs.listens.Listener.{content, goes_on, moment-other}
-use Rattle.nx_receiver.proofs.listens.Lines.{said, taken-always, taken-line}
+use Rattle.nx_receiver.specs.Events.{command}
+use Rattle.nx_receiver.specs.Shares.{to_one}
+use Rattle.nx_receiver.specs.private.Listener.{starts_of}
+use Rattle.nx_receiver.proofs.listens.Listener.{commanded-on}
+use Rattle.nx_receiver.proofs.listens.Lines.{said, subject-taken, taken-always, taken-line}
 use Rattle.nx_receiver.proofs.listening.ListenerLineTaker.take.Goals as goal
 
 pub returns-in-Moment-clause-taken : goal.returns-in-Moment-clause-taken
@@ -14,58 +13,58 @@ returns-in-Moment-clause-taken g c = λ first old lines line latest h.
     taken-line first c.args.self.now c.take_moment.new.self old _ c.args.batch.now lines line
     (moment c.in-Moment.moment) c.take_moment.result c.taking_of.result
     (said _ _ _ _ line latest c.latest.ensures c.in-Some.is c.in-Moment.is) h c.taking_of.ensures
-    (λ given s. c.take_moment.ensures.taken (start_of first) lines given s)
-    c.take_moment.ensures.unchanged
+    (λ bytes s. c.take_moment.ensures (starts_of first) lines bytes s)
 
 pub returns-in-RefuseSubject-clause-taken : goal.returns-in-RefuseSubject-clause-taken
 returns-in-RefuseSubject-clause-taken g c = λ first old lines line latest h.
-    taken-line first c.args.self.now c.refuse_subject.new.self old _ c.args.batch.now lines line
-    (refuse_subject c.in-RefuseSubject.byte) c.refuse_subject.result
-    c.taking_of-in-RefuseSubject.result
+    let mark = c.in-RefuseSubject.mark in
+    let byte = c.in-RefuseSubject.byte in
+    let made = c.refuse_subject in
+    let on = c.of-in-RefuseSubject in
+    taken-line first c.args.self.now made.new.self old _ c.args.batch.now lines line
+    (refuse_subject mark byte) made.result c.taking_of-in-RefuseSubject.result
     (said _ _ _ _ line latest c.latest.ensures c.in-Some.is c.in-RefuseSubject.is) h
     c.taking_of-in-RefuseSubject.ensures
-    (λ given s. c.refuse_subject.ensures.taken (start_of first) lines given s)
-    c.refuse_subject.ensures.unchanged
+    (λ bytes s. subject-taken (starts_of first) c.args.self.now made.new.self lines mark on.result
+    byte bytes made.result
+    (ap (λ channel. to_one channel (command (events.refuse_subject byte) ∷ [])) (sym on.ensures))
+    made.ensures.only made.ensures.stands (made.ensures.refused (starts_of first) lines mark) s)
 
 pub returns-in-RefuseStation-clause-taken : goal.returns-in-RefuseStation-clause-taken
-unfolding elements_among
-returns-in-RefuseStation-clause-taken g c = rw (← c.self.view_is) (λ first old lines line latest h.
+returns-in-RefuseStation-clause-taken g c = λ first old lines line latest h.
     let byte = c.in-RefuseStation.byte in
-    let is = refuse_station byte in
-    taken-always first _ _ old _ c.args.batch.now lines line is
+    let is = refuse_station c.in-RefuseStation.mark byte in
+    let made = c.refuse_station in
+    let on = c.of in
+    taken-always first c.args.self.now made.new.self old _ c.args.batch.now lines line is
     (said _ _ _ _ line latest c.latest.ensures c.in-Some.is c.in-RefuseStation.is) h
-    (λ given s. goes_on (start_of first) _ _ lines is given s tt refl
-    (moment-other lines is _ s.moment refl) refl refl
-    (λ log stands. subst (λ b. Stands content (start_of first) c.refuse_station.new.self
-    (events_of lines ++ command (events.refuse_station b) ∷ []) log) c.letter.ensures
-    (c.refuse_station.ensures _ (events_of lines) log stands))))
+    (λ bytes s. commanded-on (starts_of first) c.args.self.now made.new.self lines is on.result
+    (events.refuse_station byte) bytes s tt
+    (ap (λ channel. to_one channel (command (events.refuse_station byte) ∷ [])) (sym on.ensures)) refl
+    made.ensures.only made.ensures.stands)
 
 pub returns-in-AcceptStation-clause-taken : goal.returns-in-AcceptStation-clause-taken
-unfolding elements_among
-returns-in-AcceptStation-clause-taken g c =
-    rw (← c.self-in-AcceptStation.view_is) (λ first old lines line latest h.
+returns-in-AcceptStation-clause-taken g c = λ first old lines line latest h.
     let byte = c.in-AcceptStation.byte in
-    let is = accept_station byte in
-    taken-always first _ _ old _ c.args.batch.now lines line is
+    let is = accept_station c.in-AcceptStation.mark byte in
+    let made = c.accept_station in
+    let on = c.of-in-AcceptStation in
+    taken-always first c.args.self.now made.new.self old _ c.args.batch.now lines line is
     (said _ _ _ _ line latest c.latest.ensures c.in-Some.is c.in-AcceptStation.is) h
-    (λ given s. goes_on (start_of first) _ _ lines is given s tt refl
-    (moment-other lines is _ s.moment refl) refl refl
-    (λ log stands. subst (λ b. Stands content (start_of first) c.accept_station.new.self
-    (events_of lines ++ command (events.accept_station b) ∷ []) log)
-    c.letter-in-AcceptStation.ensures
-    (c.accept_station.ensures _ (events_of lines) log stands))))
+    (λ bytes s. commanded-on (starts_of first) c.args.self.now made.new.self lines is on.result
+    (events.accept_station byte) bytes s tt
+    (ap (λ channel. to_one channel (command (events.accept_station byte) ∷ [])) (sym on.ensures)) refl
+    made.ensures.only made.ensures.stands)
 
 pub returns-in-AcceptSubject-clause-taken : goal.returns-in-AcceptSubject-clause-taken
-unfolding elements_among
-returns-in-AcceptSubject-clause-taken g c =
-    rw (← c.self-in-AcceptSubject.view_is) (λ first old lines line latest h.
+returns-in-AcceptSubject-clause-taken g c = λ first old lines line latest h.
     let byte = c.in-AcceptSubject.byte in
-    let is = accept_subject byte in
-    taken-always first _ _ old _ c.args.batch.now lines line is
+    let is = accept_subject c.in-AcceptSubject.mark byte in
+    let made = c.accept_subject in
+    let on = c.of-in-AcceptSubject in
+    taken-always first c.args.self.now made.new.self old _ c.args.batch.now lines line is
     (said _ _ _ _ line latest c.latest.ensures c.in-Some.is c.in-AcceptSubject.is) h
-    (λ given s. goes_on (start_of first) _ _ lines is given s tt refl
-    (moment-other lines is _ s.moment refl) refl refl
-    (λ log stands. subst (λ b. Stands content (start_of first) c.accept_subject.new.self
-    (events_of lines ++ command (events.accept_subject b) ∷ []) log)
-    c.letter-in-AcceptSubject.ensures
-    (c.accept_subject.ensures _ (events_of lines) log stands))))
+    (λ bytes s. commanded-on (starts_of first) c.args.self.now made.new.self lines is on.result
+    (events.accept_subject byte) bytes s tt
+    (ap (λ channel. to_one channel (command (events.accept_subject byte) ∷ [])) (sym on.ensures)) refl
+    made.ensures.only made.ensures.stands)

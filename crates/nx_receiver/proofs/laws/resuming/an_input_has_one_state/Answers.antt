@@ -1,0 +1,5 @@
+use Rattle.nx_receiver.proofs.states.Answers.{one_answer}
+use Rattle.nx_receiver.proofs.laws.resuming.an_input_has_one_state.Goals as goal
+
+pub returns : goal.returns
+returns c input answer other = one_answer input answer other

@@ -1,0 +1,16 @@
+use Rattle.std.proofs.Common.{refl, subst}
+use Rattle.nx_receiver.specs.Chain.{all_printed}
+use Rattle.nx_receiver.specs.Log.{IsLog}
+use Rattle.nx_receiver.specs.Shares.{saved_of}
+use Rattle.nx_receiver.proofs.chain.Runs.{chain_logs, chain_prints}
+use Rattle.nx_receiver.proofs.states.Chains.{texts-chain}
+use Rattle.nx_receiver.proofs.laws.resuming.texts_make_a_chain.Goals as goal
+
+pub returns : goal.returns
+returns c = record {
+  chain = texts-chain;
+  log = λ saved runs last h. subst (IsLog (all_printed h.chain)) h.same_logs
+      (chain_logs saved h.chain h.left h.is);
+  printed = λ saved runs last channel h. chain_prints channel (saved_of saved channel).entries
+      saved h.chain h.left refl h.is;
+}

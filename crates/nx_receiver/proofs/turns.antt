@@ -1,0 +1,5 @@
+pub mod Added
+pub mod Marked
+pub mod One
+pub mod Some
+pub mod Unnamed

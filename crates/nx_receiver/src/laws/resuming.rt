@@ -1,0 +1,89 @@
+//! Laws of the text of a state, by its bytes, and of runs each of which begins with the text that
+//! the one before it wrote. Each function does nothing; its contract is the law.
+
+ghost use Rattle.std.specs.Prelude.{◌≡◌, ◌≢◌, ℕ, List, [], ◌++◌, Option, Some, Result, Ok, Err};
+ghost use Rattle.std.specs.Io.KnownBytes.{Appends};
+ghost use Rattle.nx_fec.specs.declared.channel.Channel.{Channel};
+ghost use Rattle.nx_memory.specs.Saved.{AreSavedStates, SavedStates};
+ghost use Rattle.nx_memory.specs.StateText.{IsText1, IsText2};
+ghost use Rattle.nx_receiver.specs.Chain.{all_copies, all_printed};
+ghost use Rattle.nx_receiver.specs.Log.{IsLog};
+ghost use Rattle.nx_receiver.specs.Printing.{printed_copies};
+ghost use Rattle.nx_receiver.specs.Resume.{AnswersResuming, HasChain, HasLeft, IsTextChain, TextRun, WritesLog, WritesState, text_logs};
+ghost use Rattle.nx_receiver.specs.Shares.{copies_on, saved_of};
+ghost use Rattle.nx_receiver.specs.State.{AnswersState, BeginsWith, BeginsWithState, IsStateBytes, ended_lines, state_bytes};
+ghost use Rattle.nx_receiver.specs.declared.listening.Report.{Report};
+ghost use Rattle.nx_receiver.specs.declared.resume_fault.Want.TheVariants.{Log};
+ghost use Rattle.nx_receiver.specs.declared.state_fault.StateFault.{StateFault};
+ghost use Rattle.nx_receiver.specs.declared.state_fault.StateFault.TheVariants.{Read};
+
+/// The bytes of a text of a state stand for one state, and of one version a state has one text. What
+/// is written of a state is a text of it, and is read back as the same, whatever follows it. No text
+/// begins another.
+pub fn a_state_is_told_by_its_bytes()
+    ensures one_state { (text : List ℕ) (states others : SavedStates)
+        → IsStateBytes text states → IsStateBytes text others → states ≡ others }
+    ensures one_text_1 { (lines others : List (List ℕ)) (states : SavedStates)
+        → IsText1 lines states → IsText1 others states → ended_lines lines ≡ ended_lines others }
+    ensures one_text_2 { (lines others : List (List ℕ)) (states : SavedStates)
+        → IsText2 lines states → IsText2 others states → ended_lines lines ≡ ended_lines others }
+    ensures written { (states : SavedStates) → AreSavedStates states
+        → IsStateBytes (state_bytes states) states }
+    ensures read_back { (states : SavedStates) (more : List ℕ) → AreSavedStates states
+        → BeginsWithState (state_bytes states ++ more) states }
+    ensures none_begins { (text more : List ℕ) (states others : SavedStates)
+        → IsStateBytes text states → IsStateBytes (text ++ more) others → more ≡ [] }
+{}
+
+/// An input has one answer where no read fails: what the text of a state stands for with which it
+/// begins, or the first fault, with its line.
+pub fn an_input_has_one_state()
+    ensures { (input : List ℕ) (answer other : Result SavedStates StateFault)
+        → AnswersState (Unit {0}) (λ more. Unit {0}) input answer
+        → AnswersState (Unit {0}) (λ more. Unit {0}) input other
+        → answer ≢ Err Read → other ≢ Err Read → answer ≡ other }
+{}
+
+/// Runs that each begin with the text that the one before it wrote are a chain, though nothing but
+/// texts is handed on: a chain of runs reads the same files and has the same logs, where it begins
+/// with what the first text stands for; and the last text stands for what it leaves. So all that is
+/// said of the log of a chain holds of the joined logs: on each channel, they are what is printed of
+/// all copies of the runs, in order.
+pub fn texts_make_a_chain()
+    ensures chain { (first last : List ℕ) (saved : SavedStates) (runs : List TextRun)
+        → IsStateBytes first saved → IsTextChain first runs last → HasChain saved runs last }
+    ensures log { (saved : SavedStates) (runs : List TextRun) (last : List ℕ)
+        → (h : HasChain saved runs last) → IsLog (all_printed h.chain) (text_logs runs) }
+    ensures printed { (saved : SavedStates) (runs : List TextRun) (last : List ℕ)
+        (channel : Channel) → (h : HasChain saved runs last)
+        → copies_on channel (all_printed h.chain)
+        ≡ printed_copies (saved_of saved channel).entries (all_copies channel h.chain) }
+{}
+
+/// What a run that resumes writes of its whole input is such a log: where it answers a report to
+/// `Want::Log`, the input is the text of a state and an air file, and what it wrote is the log of
+/// the two. And where it wants the state, what it wrote is the text of what they leave.
+pub fn a_run_writes_its_log_or_its_state()
+    ensures log { (input old new : List ℕ) (report : Report)
+        → AnswersResuming Log (Unit {0}) (λ more. Unit {0}) (Some old) (Some new) (Ok report) input
+        → (text air log : List ℕ) × (input ≡ text ++ air) × WritesLog text air log
+        × (new ≡ old ++ log) }
+    ensures state { (input old new : List ℕ)
+        → BeginsWith input (HasLeft (Appends (Some old) (Some new)))
+        → (text air state : List ℕ) × (input ≡ text ++ air) × WritesState text air state
+        × (new ≡ old ++ state) }
+{}
+
+#[cfg(test)]
+mod tests {
+    use super::*;
+
+    /// Each law is called once.
+    #[test]
+    fn laws(_rt: HostRuntime) {
+        a_state_is_told_by_its_bytes();
+        an_input_has_one_state();
+        texts_make_a_chain();
+        a_run_writes_its_log_or_its_state();
+    }
+}
