@@ -54,8 +54,8 @@ cut or long), its errors, which are asterisks in the text, and its characters.
 A message that was printed full, with less than 4 per cent of errors, is not
 printed again within 66 hours, unless 200 others came in between; one numbered
 00 is printed each time that it is selected. What is heard on channel 1 or 2 has
-/1 or /2 behind the identity, and no channel knows of the others. Nothing is kept
-for a later run: resume and save do that.
+/1 or /2 behind the identity, and no channel knows of the others. Nothing is
+kept for a later run: resume and save do that.
 
 An empty log can mean:
   exchanged tones    each 1 should be a 0 and each 0 a 1. This exchanges them:
