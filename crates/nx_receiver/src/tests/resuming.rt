@@ -117,7 +117,7 @@ fn faults_of_states(rt: HostRuntime) -> Result<(), Fail> {
 #[test]
 fn cut_states(rt: HostRuntime) -> Result<(), Fail> {
     let text = b"STATE 2\nC0\nRS A\nRJ E\nEA01 5\nC1\nC2\nEB02 7\nEND\n".as_slice();
-    let mut line = 1;
+    let mut line = 1_u64;
     for (count, byte) in text.iter().enumerate() {
         let (cut, _) = text.split_at_checked(count).ok_or("bytes")?;
         let fault = StateFault::StateCut { line };
@@ -129,7 +129,7 @@ fn cut_states(rt: HostRuntime) -> Result<(), Fail> {
         let outcome = read_state(&mut Counting::new(failing));
         assert_eq!(rt; outcome.err(), Some(StateFault::Read));
         if *byte == b'\n' {
-            line += 1;
+            line = line.saturating_add(1);
         }
     }
     let more = joined(rt.alloc(), &[text, b"T 5\n"])?;
