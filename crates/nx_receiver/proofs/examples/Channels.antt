@@ -159,8 +159,13 @@ quiet-2 : HasPrinted at_zero (m ∷ (e 0 ++ [])) []
 quiet-2 =
     none-ended (m ∷ (e 0 ++ [])) (e 1 ++ (e 2 ++ []))
     (heard-pieces ∙ ap (λ es. m ∷ es) (sym (append_assoc (e 0) [] (e 1 ++ (e 2 ++ [])))))
-    (omega (arith, ap length (among-moment (e 0 ++ []) ∙ among-part 0 []),
-    length-append (part 0) (elements_among []), ap length none-among, part-short 0))
+    (omega (
+      arith,
+      ap length (among-moment (e 0 ++ []) ∙ among-part 0 []),
+      length-append (part 0) (elements_among []),
+      ap length none-among,
+      part-short 0,
+    ))
 
 quiet-3 : HasPrinted at_zero (m ∷ (e 0 ++ (e 1 ++ []))) []
 quiet-3 =
@@ -168,10 +173,16 @@ quiet-3 =
     (heard-pieces ∙ ap (λ es. m ∷ es)
     (ap (λ es. e 0 ++ es) (sym (append_assoc (e 1) [] (e 2 ++ [])))
     ∙ sym (append_assoc (e 0) (e 1 ++ []) (e 2 ++ []))))
-    (omega (arith,
-    ap length (among-moment (e 0 ++ (e 1 ++ [])) ∙ among-part 0 (e 1 ++ [])),
-    length-append (part 0) (elements_among (e 1 ++ [])), ap length (among-part 1 []),
-    length-append (part 1) (elements_among []), ap length none-among, part-short 0, part-short 1))
+    (omega (
+      arith,
+      ap length (among-moment (e 0 ++ (e 1 ++ [])) ∙ among-part 0 (e 1 ++ [])),
+      length-append (part 0) (elements_among (e 1 ++ [])),
+      ap length (among-part 1 []),
+      length-append (part 1) (elements_among []),
+      ap length none-among,
+      part-short 0,
+      part-short 1,
+    ))
 
 -- ---- all of it
 
@@ -320,8 +331,14 @@ two-channels = record {
 
 part-long : (i : ℕ) → i ≤ 2 → 0 < length (part i)
 part-long i h =
-    omega (arith, length-take 490 (drop (490 * i) bits), length-drop (490 * i) bits,
-    length-bits_of damaged_words, damaged_computed.long, h)
+    omega (
+      arith,
+      length-take 490 (drop (490 * i) bits),
+      length-drop (490 * i) bits,
+      length-bits_of damaged_words,
+      damaged_computed.long,
+      h,
+    )
 
 good-0 : (i : ℕ) → i ≤ 2 → IsLine (elements None (part i))
 good-0 i h = (part-long i h, omega (arith, part-short i))
@@ -349,8 +366,13 @@ file-short : (lines : List Line) → AllByRecursion IsLine lines
     → length (file_of lines) ≤ 515 * length lines
 file-short [] h = omega arith
 file-short (line ∷ lines) h =
-    omega (arith, file-short lines h.1, (spelling-IsBeginning line h.0).short,
-    length-append (spelling line) (10 ∷ []), length-append (line_bytes line) (file_of lines))
+    omega (
+      arith,
+      file-short lines h.1,
+      (spelling-IsBeginning line h.0).short,
+      length-append (spelling line) (10 ∷ []),
+      length-append (line_bytes line) (file_of lines),
+    )
 
 file-is : IsAirFile air_limit (file_of two_channels) two_channels
 file-is = record {
