@@ -1,5 +1,6 @@
 # Completion of navtex's words for fish.
 complete -c navtex -f
+complete -c navtex -l help -d 'Say what the commands are, or what a command reads and writes'
 complete -c navtex -n __fish_use_subcommand -l version -d 'Write the version, and with which logic it was proved'
 complete -c navtex -n __fish_use_subcommand -a listen -d 'Write the log of an air file'
 complete -c navtex -n __fish_use_subcommand -a resume -d 'Write the log of an air file, and go on from a state'

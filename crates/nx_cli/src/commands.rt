@@ -57,9 +57,10 @@ printed again within 66 hours, unless 200 others came in between; one numbered
 /1 or /2 behind the identity, and no channel knows of the others. Nothing is
 kept for a later run: resume and save do that.
 
-An empty log can mean:
+An empty log can mean one of these; navtex locks < x.air shows which, as
+locks --help says:
   exchanged tones    each 1 should be a 0 and each 0 a 1. This exchanges them:
-                     sed '/^B/y/01/10/' x.air | navtex listen
+                     sed '/^B /y/01/10/' x.air | navtex listen
   a refused station  or a refused subject: a line RS or RJ stands in the file
   a weak signal      more words are damaged than a lock on the signal, or the
                      first line of a message, can bear; also where elements are
@@ -232,6 +233,7 @@ Why a log of listen is empty:
 const LOCKS_EXAMPLE: &str =
     "Example: listen prints nothing of this file, since a part of the first line of
 its message was lost:
+  $ printf '#A01\\nTEST\\n;\\n' | navtex send E 1735689600 > sent.air
   $ navtex damage all 160 6 < sent.air > lost.air
   $ navtex listen < lost.air
   $ navtex locks < lost.air

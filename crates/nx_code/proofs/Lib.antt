@@ -2,6 +2,7 @@ pub mod CharacterLemmas
 mod ClassLemmas
 mod Examples
 pub mod OneSpelling
+pub mod PackedLemmas
 mod PlaceLemmas
 pub mod ReadingLemmas
 mod SilentCombinations

@@ -1,6 +1,6 @@
 -- Elements packed into numbers of 64 bits: element i of the list is bit i % 64 of number
 -- i / 64.
-use Rattle.std.specs.Prelude.{ℕ, Bool, List, [], ◌∷◌, ◌++◌}
+use Rattle.std.specs.Prelude.{ℕ, Bool, List, [], ◌∷◌, ◌++◌, take, drop}
 use Rattle.nx_code.specs.Word.{elements_from}
 
 -- how many elements a packed number has
@@ -13,3 +13,7 @@ unfoldable pub elements_of_words : List ℕ → List Bool
 elements_of_words [] = []
 elements_of_words (number ∷ numbers) =
     elements_from packed_elements number ++ elements_of_words numbers
+
+-- the elements of packed numbers from a place on, so many of them
+abbrev pub packed_part : List ℕ → ℕ → ℕ → List Bool
+packed_part numbers from count = take count (drop from (elements_of_words numbers))

@@ -78,7 +78,7 @@ pub fn byte_of_class(class: u8, shift: Shift) -> Option<u8>
 }
 
 /// The byte that a table of bytes gives.
-fn byte_given(byte: u8) -> Option<u8>
+pub(crate) fn byte_given(byte: u8) -> Option<u8>
     ensures { result ≡ byte_given byte }
 {
     if byte == 0 { None } else { Some(byte) }

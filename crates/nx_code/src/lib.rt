@@ -6,20 +6,24 @@ mod characters;
 mod classes;
 pub mod laws;
 mod names;
+mod packed;
 mod places;
 mod printing;
 mod shifts;
 mod signals;
 mod spelling;
+mod steps;
 mod table;
 mod words;
 
 pub use characters::{char_to_code, code_to_char};
 pub use classes::{CLASSES, byte_of_class, class_of, pair_classes, shift_after_class};
+pub use packed::{WORDS_AT_ONCE, elements_at, packed_word, words_of};
 pub use printing::{ASTERISK, Printer, Taken};
 pub use shifts::{Case, Shift};
 pub use signals::{Comb, Signal};
 pub use spelling::{Extent, SpellFault, extent_of, spell};
+pub use steps::FourPrinted;
 pub use table::{SIGNALS, cell_of, signal_at, signal_of, word_of};
 pub use words::{ELEMENTS, Word, check_bits};
 

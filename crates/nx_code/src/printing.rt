@@ -1,14 +1,19 @@
 //! What a receiver prints of the positions that it takes.
 
-ghost use Rattle.std.specs.Prelude.{◌≡◌, List, [], ◌∷◌, ◌++◌};
+ghost use Rattle.std.specs.Prelude.{◌≡◌, ◌<◌, ◌≤◌, List, [], ◌∷◌, ◌++◌, map, take};
+ghost use Rattle.std.specs.List.{AllByRecursion};
 ghost use Rattle.std.specs.Option.{option_to_list};
 ghost use Rattle.nx_code.specs.Reading.{Reception, combination, character_of, byte_of, shift_after, shift_after_all, text};
 ghost use Rattle.nx_code.specs.Taken.{reception_of};
+ghost use Rattle.nx_code.specs.Classes.{reception_of_class};
+ghost use Rattle.nx_code.specs.private.Rows.{byte_given};
 ghost use Rattle.nx_code.specs.declared.shifts.Shift.TheVariants.{Letters};
 
 use crate::characters::code_to_char;
+use crate::classes::byte_given;
 use crate::shifts::Shift;
 use crate::signals::{Comb, FIGURE_SHIFT, LETTER_SHIFT};
+use crate::steps::{FourPrinted, after, printed};
 use std::marker::Model;
 
 /// What was taken of a position from its two words.
@@ -70,6 +75,49 @@ impl Printer {
             Taken::Idle => None,
             Taken::Lost => Some(ASTERISK),
         }
+    }
+
+    /// Takes the next position by its class, and answers the byte that it prints, if any.
+    #[inline(always)]
+    pub fn print_class(&mut self, class: u8) -> Option<u8>
+        requires { class < 34 }
+        ensures printed { result ≡ byte_of (reception_of_class class) self.old }
+        ensures shift { self.new ≡ shift_after (reception_of_class class) self.old }
+    {
+        byte_given(self.print_byte(class))
+    }
+
+    /// Takes the next four positions by their classes, and answers the bytes that they print.
+    #[inline(always)]
+    pub fn print_four(&mut self, classes: &[u8; 4]) -> FourPrinted
+        requires { AllByRecursion (λ class. class < 34) classes.now }
+
+        ensures printed { take result.count result.bytes
+            ≡ text (map reception_of_class classes.now) self.old }
+
+        ensures count { result.count ≤ 4 }
+        ensures shift { self.new ≡ shift_after_all (map reception_of_class classes.now) self.old }
+    {
+        let mut four = FourPrinted {
+            bytes: [0; 4],
+            count: 0,
+        };
+        for place in 0..4 {
+            four.push(self.print_byte(classes[place]));
+        }
+        four
+    }
+
+    /// Takes the next position by its class, and answers the byte that it prints, or 0.
+    #[inline(always)]
+    fn print_byte(&mut self, class: u8) -> u8
+        requires { class < 34 }
+        ensures printed { byte_given result ≡ byte_of (reception_of_class class) self.old }
+        ensures shift { self.new ≡ shift_after (reception_of_class class) self.old }
+    {
+        let byte = printed(class, self.shift);
+        self.shift = after(class, self.shift);
+        byte
     }
 
     /// Takes a combination.

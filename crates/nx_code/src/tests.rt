@@ -180,3 +180,28 @@ fn laws_can_be_called() {
     laws::silent_combinations();
     laws::a_spelling_goes_on();
 }
+
+/// A and B in the 14 elements from place 60 on.
+#[test]
+fn packed_words(rt: HostRuntime) -> Result<(), Fail> {
+    let numbers = [0x7000_0000_0000_0000, 0x394];
+    let elements = elements_at(&numbers, 60, 14);
+    assert_eq!(rt; elements, 0x72 * 128 + 0x47);
+    let words = words_of(elements);
+    assert_eq!(rt; words[0].number(), 0x47);
+    assert_eq!(rt; words[1].number(), 0x72);
+    assert_eq!(rt; words[7].number(), 0);
+    assert_eq!(rt; packed_word(0x0F), word_of(Signal::Alpha));
+    Ok(())
+}
+
+/// The figure shift, a dash, the letter shift and A, and then B.
+#[test]
+fn printing_by_class(rt: HostRuntime) -> Result<(), Fail> {
+    let mut printer = Printer::new();
+    let four = printer.print_four(&[30, 1, 29, 1]);
+    assert_eq!(rt; four.count, 2);
+    assert_eq!(rt; four.bytes[..2], b"-A"[..]);
+    assert_eq!(rt; printer.print_class(2), Some(b'B'));
+    Ok(())
+}

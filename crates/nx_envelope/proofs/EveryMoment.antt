@@ -5,8 +5,7 @@ use Rattle.jiff_core.specs.Calendar.{IsCivilDate, days_from_civil, days_in_month
 use Rattle.jiff_core.proofs.CalendarLemmas.{day_count-epoch, days_from_civil-day_count, days_in_month_bounds}
 use Rattle.jiff_core.proofs.DateLemmas.{days_from_civil-day, days_from_civil-next_month, days_from_civil-next_year, days_from_civil-max}
 use Rattle.jiff_core.proofs.SignedLemmas.{signed_arith}
-use Rattle.nx_envelope.specs.declared.moment.CivilTime.{CivilTime}
-use Rattle.nx_envelope.specs.Moment.{HasText, civil_text, last_moment}
+use Rattle.nx_envelope.specs.Moment.{HasText, last_moment}
 
 -- the date with that day number
 pub record DateOf (day_number : ℕ) : Type 0 where
@@ -95,31 +94,17 @@ date_of (suc n) few =
 
 -- so is a moment, by its day and the time of that day
 shown : (moment : ℕ) → DateOf (moment / 86400) → HasText moment
-shown moment d =
-    let time : CivilTime = record {
-      year = d.year;
-      month = d.month;
-      day = d.day;
-      hour = moment % 86400 / 3600;
-      minute =
-          moment % 3600 / 60;
-      second = moment % 60;
-    } in
-    record {
-      text = civil_text time;
-      is_shown = record {
-        time = time;
-        is_civil = record {
-          date = d.is_date;
-          hour = omega arith;
-          minute = omega arith;
-          second =
-              omega arith;
-        };
-        is_moment = omega (arith, signed_arith, d.number);
-        is_text = refl;
-      };
-    }
+shown moment d = record {
+  text = _;
+  is_shown = record {
+    year = d.year;
+    month = d.month;
+    day = d.day;
+    date = d.is_date;
+    is_day = d.number;
+    is_text = refl;
+  };
+}
 
 pub every_moment : (moment : ℕ) → moment ≤ last_moment → HasText moment
 every_moment moment le = shown moment (date_of (moment / 86400) (omega (arith, le)))

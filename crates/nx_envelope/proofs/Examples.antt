@@ -87,15 +87,11 @@ two_errors = refl
 -- 20,089 days and 2,400 seconds after 1970-01-01 00:00:00
 pub slot_of_e : IsShownAs 1735692000 (codes "2025-01-01 00:40:00")
 slot_of_e = record {
-  time = record { year = 2025; month = 1; day = 1; hour = 0; minute = 40; second = 0 };
-  is_civil = record {
-    date = (search rules, search rules, search rules);
-    hour =
-        search rules;
-    minute = search rules;
-    second = search rules;
-  };
-  is_moment = omega (
+  year = 2025;
+  month = 1;
+  day = 1;
+  date = (search rules, search rules, search rules);
+  is_day = omega (
     arith,
     signed_arith,
     days_from_civil-day_count (pos 2025) 1 1,

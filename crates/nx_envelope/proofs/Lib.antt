@@ -1,6 +1,7 @@
 pub mod Anywhere
 pub mod Beginnings
 pub mod CivilTimes
+pub mod EightBytes
 pub mod Endings
 pub mod EveryMoment
 pub mod Examples
@@ -12,6 +13,7 @@ pub mod MessageLines
 pub mod OneMoreByte
 pub mod OneOpenCopy
 pub mod OneText
+pub mod PlainBytes
 pub mod RawTexts
 pub mod ReadAtTheEnd
 pub mod Rising

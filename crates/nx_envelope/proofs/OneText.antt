@@ -1,63 +1,55 @@
--- A moment has one civil text.
-use Rattle.std.proofs.Common.{◌≡◌, ℕ, ◌+◌, ◌*◌, ◌<◌, List, ℤ, pos, refl, sym, ◌∙◌, arith}
+-- A moment has one civil text, and what the calendar gives shows it.
+use Rattle.std.proofs.Common.{◌≡◌, ℕ, ◌+◌, ◌*◌, ◌/◌, ◌%◌, ◌<◌, List, ℤ, pos, refl, sym, ◌∙◌, arith}
 use Rattle.jiff_core.specs.Calendar.{days_from_civil}
 use Rattle.jiff_core.specs.declared.civil.date.Date.{Date}
 use Rattle.jiff_core.proofs.DateLemmas.{epoch_day_injective}
 use Rattle.jiff_core.proofs.SignedLemmas.{signed_arith}
 use Rattle.nx_envelope.specs.declared.moment.CivilTime.{CivilTime}
-use Rattle.nx_envelope.specs.Moment.{IsCivilTime, IsMomentOf, IsShownAs, civil_text}
+use Rattle.nx_envelope.specs.Moment.{IsShownAs}
+use Rattle.nx_envelope.specs.private.CivilTimes.{IsCivilTime, IsMomentOf, civil_text}
 
--- the seconds since midnight, and the day number of the date
-abbrev second_of_day : CivilTime → ℕ
-second_of_day t = t.hour * 3600 + t.minute * 60 + t.second
-
-abbrev day_number : CivilTime → ℤ
-day_number t = days_from_civil (pos t.year) t.month t.day
-
--- the date of a civil time
-abbrev date_of : (t : CivilTime) → IsCivilTime t → Date
-date_of t c = record {
-  year = pos t.year;
-  month = t.month;
-  day = t.day;
-  year_in =
-      c.date.0;
-  month_in = c.date.1;
-  day_in = c.date.2;
+-- the date that a text shows
+abbrev date_of : {moment : ℕ} {text : List ℕ} → IsShownAs moment text → Date
+date_of s = record {
+  year = pos s.year;
+  month = s.month;
+  day = s.day;
+  year_in = s.date.0;
+  month_in = s.date.1;
+  day_in = s.date.2;
 }
 
--- a day has 86,400 seconds
-within_a_day : (t : CivilTime) → IsCivilTime t → second_of_day t < 86400
-within_a_day t c = omega (arith, c.hour, c.minute, c.second)
-
--- civil times of one moment have one day number
-same_day : (t u : CivilTime) (moment : ℕ) → IsCivilTime t → IsCivilTime u → IsMomentOf t moment
-    → IsMomentOf u moment → day_number t ≡ day_number u
-same_day t u moment c d e f = omega (arith, signed_arith, within_a_day t c, within_a_day u d, e, f)
-
--- and one second of the day
-same_second : (t u : CivilTime) (moment : ℕ) → IsCivilTime t → IsCivilTime u → IsMomentOf t moment
-    → IsMomentOf u moment → second_of_day t ≡ second_of_day u
-same_second t u moment c d e f = omega (arith, signed_arith, same_day t u moment c d e f, e, f)
-
--- so they have one text
-same_text : (t u : CivilTime) (moment : ℕ) → IsCivilTime t → IsCivilTime u → IsMomentOf t moment
-    → IsMomentOf u moment → civil_text t ≡ civil_text u
-same_text t u moment c d e f =
-    let date = epoch_day_injective (date_of t c) (date_of u d) (same_day t u moment c d e f) in
-    let seconds = same_second t u moment c d e f in
-    let year : t.year ≡ u.year = omega (arith, signed_arith, date.0) in
-    let month : t.month ≡ u.month = date.1 in
-    let day : t.day ≡ u.day = date.2 in
-    let hour : t.hour ≡ u.hour =
-    omega (arith, seconds, c.hour, c.minute, c.second, d.hour, d.minute, d.second) in
-    let minute : t.minute ≡ u.minute =
-    omega (arith, seconds, hour, c.minute, c.second, d.minute, d.second) in
-    let second : t.second ≡ u.second = omega (arith, seconds, hour, minute) in
-    rw (year, month, day, hour, minute, second) refl
-
+-- the dates of one moment have one day number, so they are one, and the text is one
 pub one_text : (moment : ℕ) (text other : List ℕ) → IsShownAs moment text → IsShownAs moment other
     → text ≡ other
 one_text moment text other s o =
-    s.is_text ∙ same_text s.time o.time moment s.is_civil o.is_civil s.is_moment o.is_moment
-    ∙ sym o.is_text
+    let date = epoch_day_injective (date_of s) (date_of o) (s.is_day ∙ sym o.is_day) in
+    let year : s.year ≡ o.year = omega (arith, signed_arith, date.0) in
+    let month : s.month ≡ o.month = date.1 in
+    let day : s.day ≡ o.day = date.2 in
+    s.is_text ∙ rw (year, month, day) (sym o.is_text)
+
+-- the seconds since midnight
+abbrev second_of_day : CivilTime → ℕ
+second_of_day t = t.hour * 3600 + t.minute * 60 + t.second
+
+-- a civil time of a moment shows it
+pub civil_shows : (t : CivilTime) (moment : ℕ) → IsCivilTime t → IsMomentOf t moment
+    → IsShownAs moment (civil_text t)
+civil_shows t moment c m =
+    let within : second_of_day t < 86400 = omega (arith, c.hour, c.minute, c.second) in
+    let day : days_from_civil (pos t.year) t.month t.day ≡ pos (moment / 86400) =
+    omega (arith, signed_arith, within, m) in
+    let seconds : second_of_day t ≡ moment % 86400 = omega (arith, signed_arith, day, m) in
+    let hour : t.hour ≡ moment % 86400 / 3600 =
+    omega (arith, seconds, c.minute, c.second) in
+    let minute : t.minute ≡ moment % 3600 / 60 = omega (arith, seconds, c.minute, c.second) in
+    let second : t.second ≡ moment % 60 = omega (arith, seconds, c.second) in
+    record {
+      year = t.year;
+      month = t.month;
+      day = t.day;
+      date = c.date;
+      is_day = day;
+      is_text = rw (hour, minute, second) refl;
+    }

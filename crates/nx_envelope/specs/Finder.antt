@@ -1,6 +1,6 @@
 -- What one more byte does to the copies of a text, what the end of a text does, and what a finder
 -- holds after a text.
-use Rattle.std.specs.Prelude.{◌≡◌, ℕ, ◌+◌, Bool, true, false, Option, Some, None, List, [], ◌∷◌, ◌++◌, length, drop, reverse}
+use Rattle.std.specs.Prelude.{◌≡◌, ℕ, ◌+◌, ◌<◌, Bool, true, false, Option, Some, None, List, [], ◌∷◌, ◌++◌, length, take, drop, slice_index, reverse}
 use Rattle.nx_envelope.specs.private.Backward.{last_four}
 use Rattle.nx_envelope.specs.Copies.{Copy, headers, ended_copies, open_headers, raw_text, closed_copy, copies}
 use Rattle.nx_envelope.specs.Found.{IsFound}
@@ -54,6 +54,11 @@ abbrev pub Brings : List ℕ → ℕ → FinderStep → Type 0
 Brings text byte steps.Nothing = Keeps text byte
 Brings text byte (steps.Header identity) = BringsHeader text byte identity
 Brings text byte (steps.Over found) = BringsCopy text byte found
+
+-- none of these bytes, one after the other behind that text, completes a header or ends a copy
+abbrev pub BringNothing : List ℕ → List ℕ → Type 0
+BringNothing text bytes =
+    (k : ℕ) → k < length bytes → Keeps (text ++ take k bytes) (slice_index bytes k)
 
 -- the copy that the end of the text closes, which is the last one
 pub record ClosesCopy (text : List ℕ) (found : Found) : Type 0 where

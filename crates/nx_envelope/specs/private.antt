@@ -1,7 +1,9 @@
 pub mod Backward
+pub mod CivilTimes
 pub mod DigitBytes
 pub mod Finding
 pub mod Letters
 pub mod Room
 pub mod Stage
+pub mod Windows
 pub mod Within

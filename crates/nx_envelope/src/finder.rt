@@ -1,6 +1,6 @@
 //! The finder of copies, which sees a received text byte by byte.
 
-ghost use Rattle.std.specs.Prelude.{◌≡◌, ◌==◌, ◌≤◌, ◌&&◌, ◌∷◌, ℕ, List, length};
+ghost use Rattle.std.specs.Prelude.{◌≡◌, ◌+◌, ◌==◌, ◌≤◌, ◌&&◌, ◌∷◌, ◌++◌, ℕ, List, length, take};
 ghost use Rattle.nx_envelope.specs.private.Backward.{last_four, marker_back};
 ghost use Rattle.nx_envelope.specs.Copies.{errors_of};
 ghost use Rattle.nx_envelope.specs.Found.{IsFoundOf};
@@ -10,6 +10,7 @@ use crate::found::{FinderStep, Found, FoundHead, HeldCopy, How, MAX_FOUND, TextE
 use crate::identity::Identity;
 use crate::message::{END_MARKER, NEWLINE, START_MARKER};
 use crate::stage::Stage;
+use crate::windows::{eight_of, ends_marker, four_behind};
 use arrayvec::ArrayVec;
 use nx_code::ASTERISK;
 use std::marker::Model;
@@ -54,11 +55,11 @@ impl Model for Finder {
 }
 
 impl Finder {
-    ghost use Rattle.std.specs.Prelude.{◌↔◌, ◌<◌, ◌++◌, [], false, length, reverse};
+    ghost use Rattle.std.specs.Prelude.{◌↔◌, ◌<◌, [], IsTrue, false, length, reverse};
     ghost use Rattle.std.specs.Prelude.{IsNone, MatchOption};
     ghost use Rattle.nx_envelope.specs.private.Backward.{header_back};
     ghost use Rattle.nx_envelope.specs.Copies.{Copy, open_headers};
-    ghost use Rattle.nx_envelope.specs.Finder.{Brings, Closes, ClosesHeld, HasReady, Hears, HoldsOpen};
+    ghost use Rattle.nx_envelope.specs.Finder.{BringNothing, Brings, Closes, ClosesHeld, HasReady, Hears, HoldsOpen};
     ghost use Rattle.nx_envelope.specs.Finder.{StandsAfter, held_identity, is_over, is_ready};
     ghost use Rattle.nx_envelope.specs.private.Finding.{Hearing};
     ghost use Rattle.nx_envelope.specs.Found.{IsFound, IsHeadOf};
@@ -114,6 +115,32 @@ impl Finder {
             HeldCopy::Open(identity, fresh) => self.add(identity, fresh, byte),
             HeldCopy::Nothing | HeldCopy::Ready(_, _) => self.begin(header),
         }
+    }
+
+    /// Takes in the first `count` of these bytes at once, where surely none of them begins or ends
+    /// a copy: `true` where it did. Else nothing changed, and they have to be heard one by one. It is
+    /// `true` only in an open copy behind whose header something stands already.
+    // Inlined always, since it is called for each four bytes of a text.
+    #[inline(always)]
+    pub fn hear_plain(&mut self, bytes: [u8; MARKER_LEN], count: usize) -> bool
+        requires { count ≤ 4 }
+        ensures stands { IsTrue result → (text : List ℕ) → StandsAfter self.old text
+            → StandsAfter self.new (text ++ take count bytes) }
+        ensures brings { IsTrue result → (text : List ℕ) → StandsAfter self.old text
+            → BringNothing text (take count bytes) }
+        ensures ready { IsTrue result → is_ready self.new ≡ false }
+        ensures same { result ≡ false → self.new ≡ self.old }
+    {
+        let HeldCopy::Open(_, fresh) = self.copy else {
+            return false;
+        };
+        let eight = eight_of(self.recent, bytes);
+        if fresh | ends_marker(eight) | (self.text.len() >= MAX_FOUND - MARKER_LEN) {
+            return false;
+        }
+        append(&mut self.text, bytes, count);
+        self.recent = four_behind(eight, count).to_le_bytes();
+        true
     }
 
     /// The copy that the last byte ended, where it was not taken yet.
@@ -260,6 +287,19 @@ impl Finder {
         }
         TextEvent::Nothing
     }
+}
+
+/// Appends the first `count` of these bytes.
+// Inlined always, so that four bytes are one write.
+#[inline(always)]
+fn append(text: &mut ArrayVec<u8, MAX_FOUND>, bytes: [u8; MARKER_LEN], count: usize)
+    requires room { length text.old.items + 4 ≤ 4100 }
+    requires few { count ≤ 4 }
+    ensures { text.new.items ≡ text.old.items ++ take count bytes }
+{
+    let length = text.len() + count;
+    text.try_extend_from_slice(&bytes).unwrap();
+    text.truncate(length);
 }
 
 /// What is held of a copy once the text has ended.

@@ -12,6 +12,7 @@ mod moment;
 mod stage;
 #[cfg(test)]
 mod tests;
+mod windows;
 
 pub use finder::Finder;
 pub use found::{FinderStep, Found, FoundHead, How, MAX_FOUND, TextEvent};

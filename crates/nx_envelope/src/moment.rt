@@ -1,7 +1,8 @@
 //! Moments, and the civil time that they are printed as.
 
 ghost use Rattle.std.specs.Prelude.{◌≡◌, ◌↔◌, ◌<◌, IfSome, IsNone};
-ghost use Rattle.nx_envelope.specs.Moment.{IsCivilTime, IsMomentOf, IsShownAs, civil_text, last_moment};
+ghost use Rattle.nx_envelope.specs.Moment.{IsShownAs, last_moment};
+ghost use Rattle.nx_envelope.specs.private.CivilTimes.{IsCivilTime, IsMomentOf, civil_text};
 
 use crate::digit::two_digits;
 use jiff::Timestamp;

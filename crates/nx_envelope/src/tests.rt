@@ -20,6 +20,28 @@ fn lines_of(alloc: Global, full: usize, empty: usize) -> Result<Vec<&'static [u8
 }
 
 #[test]
+fn plain_bytes_are_heard_at_once(rt: HostRuntime) -> Result<(), Fail> {
+    let mut one = Finder::new();
+    let mut other = Finder::new();
+    for byte in *b"ZCZC EA01\nA" {
+        one.hear(byte);
+        other.hear(byte);
+    }
+    assert!(rt; one.hear_plain(*b"LL N", 4));
+    for byte in *b"LL N" {
+        other.hear(byte);
+    }
+    // Here NNNN would end, so nothing is taken in.
+    assert!(rt; !one.hear_plain(*b"NNN ", 4));
+    for byte in *b"NNN" {
+        assert_eq!(rt; one.hear(byte), other.hear(byte));
+    }
+    assert_eq!(rt; one.ready_head(), other.ready_head());
+    assert!(rt; one.ready_text() == b"ALL ".as_slice());
+    Ok(())
+}
+
+#[test]
 fn copies_are_told_in_place(rt: HostRuntime) -> Result<(), Fail> {
     let identity = Identity::new(b'E', b'A', 1).ok_or("identity")?;
     let mut finder = Finder::new();

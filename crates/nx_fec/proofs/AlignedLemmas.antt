@@ -1,5 +1,5 @@
 -- What is taken of the first slots of aligned words, one position more.
-use Rattle.std.proofs.Common.{◌≡◌, ℕ, ◌+◌, ◌-◌, ◌*◌, ◌/◌, ◌<◌, ◌≤◌, refl, sym, ap, ◌∙◌, Bool, List, [], ◌∷◌, ◌++◌, length, map, get_or, arith}
+use Rattle.std.proofs.Common.{◌≡◌, ℕ, zero, suc, subst, append_assoc, append-nil, ◌+◌, ◌-◌, ◌*◌, ◌/◌, ◌<◌, ◌≤◌, refl, sym, ap, ◌∙◌, Bool, List, [], ◌∷◌, ◌++◌, length, map, get_or, arith}
 use Rattle.std.specs.List.{range_with_len}
 use Rattle.std.proofs.lemmas.List.FromFn.{length-map-range_with_len, get_or-map-range_with_len, map-range_with_len_more}
 use Rattle.std.proofs.Common.{inl, inr, slice_get, slice_index, Some, None}
@@ -7,8 +7,11 @@ use Rattle.std.proofs.lemmas.List.{ext_get_or, get_or_append_left}
 use Rattle.std.proofs.lemmas.Option.{slice_get-get_or, slice_get_past}
 use Rattle.std.proofs.lemmas.Bool.{cases_lt}
 use Rattle.std.proofs.lemmas.Bool.Decides.{nat_tests}
+use Rattle.std.proofs.lemmas.Grind.{get_or_default_zero}
+use Rattle.nx_code.specs.Classes.{reception_of_class}
 use Rattle.nx_code.specs.Reading.{Reception}
-use Rattle.nx_fec.specs.Pairing.{Counted, nothing, counts_as, pairing, third_last, five_before}
+use Rattle.nx_fec.specs.Pairing.{Counted, IsLatest, nothing, counts_as, pairing, third_last, five_before}
+use Rattle.nx_fec.proofs.PairingLemmas.{third_last-early, third_last-late}
 use Rattle.nx_fec.specs.Aligned.{word_in, words_of, dx_words, taken_at, receptions}
 
 -- what is taken at the first RX slots
@@ -53,13 +56,6 @@ pub taken_first-more : (words : List ℕ) (n : ℕ) (x : Reception) → x ≡ ta
 taken_first-more words n x h =
     ap (λ y. taken_first words n ++ y ∷ []) h
     ∙ sym (map-range_with_len_more (λ i. taken_at words (2 * i + 1)) 0 n n (omega arith))
-
-third_last-early : (words : List Counted) → length words < 3 → third_last words ≡ nothing
-third_last-early words h = grind (arith, nat_tests)
-
-third_last-late : (words : List Counted) → 3 ≤ length words
-    → third_last words ≡ get_or words (length words - 3) nothing
-third_last-late words h = grind (arith, nat_tests)
 
 pub five_before-early : (words : List ℕ) (slot : ℕ) → slot < 5
     → five_before (slice_index words) slot ≡ nothing
@@ -133,3 +129,48 @@ pub slice_get-words_of_none : (bits : List Bool) (slot : ℕ) → length bits / 
 slice_get-words_of_none bits slot h =
     let n = length-words_of bits in
     slice_get_past (words_of bits) slot (omega arith)
+
+-- ---- DX and RX words by turns, after other DX words
+
+pub latest-none : (latest before : List Counted) (words : List ℕ) → IsLatest latest before
+    → IsLatest latest (before ++ dx_words words 0 0)
+unfolding dx_words
+latest-none latest before words = subst (IsLatest latest) (sym (append-nil before))
+
+pub latest-next : (latest before : List Counted) (words : List ℕ) (n fallback : ℕ) → n < 4
+    → length words ≡ 8
+    → IsLatest latest
+    ((before ++ dx_words words 0 n) ++ counts_as (get_or words (2 * n) fallback) ∷ [])
+    → IsLatest latest (before ++ dx_words words 0 (n + 1))
+latest-next latest before words n fallback few size =
+    let at : 2 * n ≡ 2 * n + 0 = omega arith in
+    let word = get_or words (2 * n) fallback in
+    let e : word ≡ get_or words (2 * n) 0 =
+    get_or_default_zero words (2 * n) fallback (omega (arith, few, size)) in
+    subst (IsLatest latest) (append_assoc before (dx_words words 0 n) (counts_as word ∷ [])
+    ∙ ap (λ l. before ++ l) (dx_words-more words 0 n (counts_as word)
+    (ap counts_as (e ∙ ap (λ k. get_or words k 0) at))))
+
+-- an RX word takes a position of this class
+abbrev pub IsTakenAt : List Counted → List ℕ → ℕ → ℕ → Type 0
+IsTakenAt before words k class = reception_of_class class
+    ≡ pairing (third_last (before ++ dx_words words 0 (k + 1)))
+    (counts_as (slice_index words (2 * k + 1)))
+
+pub taken-word : (before : List Counted) (words : List ℕ) (k fallback class : ℕ) → k < 4
+    → length words ≡ 8
+    → reception_of_class class
+    ≡ pairing (third_last (before ++ dx_words words 0 (k + 1)))
+    (counts_as (get_or words (2 * k + 1) fallback))
+    → IsTakenAt before words k class
+taken-word before words k fallback class few size h =
+    h ∙ ap (λ w. pairing (third_last (before ++ dx_words words 0 (k + 1))) (counts_as w))
+    (get_or_default_zero words (2 * k + 1) fallback (omega (arith, few, size)))
+
+pub by_four : (P : ℕ → ℕ → Type 0) (a b c d : ℕ) → P 0 a → P 1 b → P 2 c → P 3 d
+    → (k : ℕ) → k < 4 → P k (slice_index (a ∷ b ∷ c ∷ d ∷ []) k)
+by_four P a b c d pa pb pc pd zero h = pa
+by_four P a b c d pa pb pc pd (suc zero) h = pb
+by_four P a b c d pa pb pc pd (suc (suc zero)) h = pc
+by_four P a b c d pa pb pc pd (suc (suc (suc zero))) h = pd
+by_four P a b c d pa pb pc pd (suc (suc (suc (suc k)))) h = absurd (omega arith)

@@ -8,7 +8,7 @@ use Rattle.std.proofs.lemmas.Fmt.{decimal_is_IsNumeral, length-decimal-le}
 use Rattle.std.proofs.lemmas.List.{length-append, length-map, same_from_push}
 use Rattle.std.proofs.lemmas.List.Concat.{flat_map-append}
 use Rattle.nx_fec.proofs.Digits.{AreDigits, decimal-digits}
-use Rattle.nx_fec.specs.AirFile.{Line, moment, elements, refuse_station, accept_station, refuse_subject, accept_subject, element_digit, mark_bytes, marked, most_elements, spelling, IsLine}
+use Rattle.nx_fec.specs.AirFile.{Line, moment, elements, refuse_station, accept_station, refuse_subject, accept_subject, element_digit, mark_bytes, with_mark, spelling, IsLine}
 use Rattle.nx_fec.specs.Lines.{IsAtByte, line_bytes, file_of, IsBeginning, Splits, IsCause, HasFault, IsAirFile, IsBitFile, elements_on, line_end}
 use Rattle.nx_code.specs.Reading.{IsCapital}
 use Rattle.nx_fec.specs.declared.channel.Channel.{Channel}
@@ -29,7 +29,7 @@ abbrev behind : List ℕ → List ℕ
 behind bytes = if nat_eq (get_or bytes 0 0) 32 then drop 1 bytes else drop 2 bytes
 
 marked-read : (line : Option Channel → List ℕ → Line) (mark : Option Channel) (rest : List ℕ)
-    → line (mark_read (marked [] mark rest)) (behind (marked [] mark rest)) ≡ line mark rest
+    → line (mark_read (with_mark [] mark rest)) (behind (with_mark [] mark rest)) ≡ line mark rest
 marked-read line None rest = refl
 marked-read line (Some Zero) rest = refl
 marked-read line (Some One) rest = refl
@@ -92,27 +92,26 @@ elements-no_feed (true ∷ bits) = ((λ e. absurd (omega arith)), elements-no_fe
 elements-no_feed (false ∷ bits) = ((λ e. absurd (omega arith)), elements-no_feed bits)
 
 marked-no_feed : (mark : Option Channel) (rest : List ℕ) → NoFeed rest
-    → NoFeed (marked [] mark rest)
+    → NoFeed (with_mark [] mark rest)
 marked-no_feed None rest h = ((λ e. absurd (omega arith)), h)
 marked-no_feed (Some channel) rest h =
     ((λ e. absurd (omega arith)), ((λ e. absurd (omega arith)), h))
 
--- a line that names its channel has one byte more, and one element less
-mark-short : (mark : Option Channel)
-    → (length (mark_bytes mark) ≤ 1) × (length (mark_bytes mark) + most_elements mark ≡ 512)
-mark-short None = (omega arith, refl)
-mark-short (Some channel) = (omega arith, refl)
+-- a line that names its channel has one byte more
+mark-short : (mark : Option Channel) → length (mark_bytes mark) ≤ 1
+mark-short None = omega arith
+mark-short (Some channel) = omega arith
 
 marked-length : (mark : Option Channel) (rest : List ℕ)
-    → length (marked [] mark rest) ≡ length (mark_bytes mark) + suc (length rest)
+    → length (with_mark [] mark rest) ≡ length (mark_bytes mark) + suc (length rest)
 marked-length mark rest = length-append (mark_bytes mark) (32 ∷ rest)
 
 command-IsBeginning : (first second letter : ℕ) (mark : Option Channel) → first ≢ 10 → second ≢ 10
-    → IsCapital letter → IsBeginning (first ∷ second ∷ marked [] mark (letter ∷ []))
+    → IsCapital letter → IsBeginning (first ∷ second ∷ with_mark [] mark (letter ∷ []))
 command-IsBeginning first second letter mark f s h = record {
   none =
       (f, (s, marked-no_feed mark (letter ∷ []) ((λ e. absurd (omega (arith, e, h.0))), tt)));
-  short = omega (arith, marked-length mark (letter ∷ []), (mark-short mark).0);
+  short = omega (arith, marked-length mark (letter ∷ []), mark-short mark);
 }
 
 pub spelling-IsBeginning : (line : Line) → IsLine line → IsBeginning (spelling line)
@@ -134,7 +133,7 @@ spelling-IsBeginning (elements mark bits) h =
         marked-length mark digits,
         length-map bits element_digit,
         h.1,
-        (mark-short mark).1,
+        mark-short mark,
       );
     }
 spelling-IsBeginning (refuse_station mark letter) h =

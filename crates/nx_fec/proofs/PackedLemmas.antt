@@ -1,10 +1,12 @@
 -- Elements that are packed into words of 64, and the digits that they are read from.
 use Rattle.std.proofs.Common.{◌≡◌, ℕ, zero, suc, ◌+◌, ◌*◌, ◌/◌, ◌%◌, ◌<◌, ◌≤◌, ◌==◌, cond, Bool, true, false, List, [], ◌∷◌, ◌++◌, length, map, take, drop, set, replicate, ◌&&◌, ◌||◌, ◌^◌, ◌-◌, ◌≢◌, IsTrue, refl, sym, ap, ◌∙◌, subst, arith, append_assoc, length-append, take-append-drop}
+use mir.Val.{bool_byte}
 use Rattle.std.specs.Simd.Lanes.{mask_l}
 use Rattle.std.proofs.lemmas.Bool.{eq-eqb, eqb-true}
 use Rattle.std.proofs.lemmas.List.{length-drop, length-map, length-take-le, map-append, set_split, take-append-le, take_all, take_rest}
 use Rattle.std.proofs.lemmas.List.Folds.{list_all-append}
-use Rattle.std.proofs.Math.Nat.{pow-suc}
+use Rattle.std.proofs.lemmas.Simd.{mask_l-lt}
+use Rattle.std.proofs.Math.Nat.{pow-le-pow_right, pow-suc}
 use Rattle.std.proofs.Math.Seq.{take-add, take-append-add, take-append_seam}
 use Rattle.nx_code.specs.Packed.{elements_of_words}
 use Rattle.nx_code.specs.Word.{elements_from}
@@ -286,15 +288,50 @@ pub wrong-digits : (digits : List ℕ) (bits : List Bool) → are_elements digit
 wrong-digits digits bits h same =
     absurd (let both : false ≡ true = sym h ∙ ap are_elements same ∙ spelled-right bits in cc)
 
--- what was read of the digits of these elements is these elements
-pub packed-line : (digits : List ℕ) (bits packed : List Bool) (right : Bool)
-    → digits ≡ map element_digit bits → 0 < length bits → length bits ≤ 512
+-- what was read of the digits of at most 512 elements is these elements
+pub packed-bits : (digits : List ℕ) (bits packed : List Bool) (right : Bool)
+    → digits ≡ map element_digit bits → length bits ≤ 512
     → (IsTrue right → (0 < length packed) × (length packed ≤ 512)
     × (digits ≡ map element_digit packed))
     → (right ≡ false → (elements : List Bool) → 0 < length elements → length elements ≤ 512
     → digits ≢ map element_digit elements)
+    → (right ≡ false → packed ≡ [])
     → packed ≡ bits
-packed-line digits bits packed true spelled some few found none =
+packed-bits digits bits packed true spelled few found none unread =
     sym (ones-spelled packed) ∙ ap (map is_one) (sym (found refl).2 ∙ spelled) ∙ ones-spelled bits
-packed-line digits bits packed false spelled some few found none =
-    absurd (none refl bits some few spelled)
+packed-bits digits [] packed false spelled few found none unread = unread refl
+packed-bits digits (b ∷ bits) packed false spelled few found none unread =
+    absurd (none refl (b ∷ bits) (omega arith) few spelled)
+
+-- ---- a few digits, the last one first
+
+-- fewer elements of a number than there are
+pub fewer-elements : (n m number : ℕ) → n ≤ m
+    → take n (elements_from m number) ≡ elements_from n number
+unfolding elements_from
+fewer-elements zero m number h = refl
+fewer-elements (suc n) zero number h = absurd (omega (arith, h))
+fewer-elements (suc n) (suc m) number h =
+    ap (λ l. (number % 2 == 1) ∷ l) (fewer-elements n m (number / 2) (omega (arith, h)))
+
+pub few-elements : (digits : List ℕ) (ones : ℕ) → length digits ≤ 64
+    → ones ≡ mask_l (map is_one digits)
+    → take (length digits) (elements_from 64 ones) ≡ map is_one digits
+few-elements digits ones few o =
+    fewer-elements (length digits) 64 ones few
+    ∙ ap (λ n. elements_from n ones) (sym (length-map digits is_one))
+    ∙ ap (elements_from (length (map is_one digits))) o ∙ elements-mask (map is_one digits)
+
+pub few-ones-small : (digits : List ℕ) (at : ℕ) → length digits < 16
+    → mask_l (map is_one (drop at digits)) < 32768
+few-ones-small digits at few =
+    let ones = map is_one (drop at digits) in
+    let size : length ones ≤ 15 =
+    omega (arith, few, length-map (drop at digits) is_one, length-drop at digits) in
+    let most : 2 ^ length ones ≤ 2 ^ 15 =
+    pow-le-pow_right {n = 2} (omega arith) {i = length ones} {j = 15} size in
+    omega (arith, most, mask_l-lt ones)
+
+pub bit-small : (bit : Bool) → bool_byte bit ≤ 1
+bit-small true = omega arith
+bit-small false = omega arith

@@ -1,7 +1,8 @@
 -- What the words of the table count as, and the latest three of more words.
-use Rattle.std.proofs.Common.{◌≡◌, ℕ, ◌+◌, ◌-◌, ◌<◌, ◌≤◌, refl, sym, ap, ◌∙◌, subst, nat_lt, if◌then◌else◌, Bool, true, false, eqb, Option, Some, None, List, [], ◌∷◌, ◌++◌, length, get_or, drop, arith, length-append, length-drop}
-use Rattle.std.proofs.lemmas.Bool.{agree_below_at, eqb-true}
-use Rattle.std.proofs.lemmas.List.{drop-append-le, drop-drop}
+use Rattle.std.proofs.Common.{inl, inr, ◌≡◌, ℕ, ◌+◌, ◌-◌, ◌<◌, ◌≤◌, refl, sym, ap, ◌∙◌, subst, nat_lt, if◌then◌else◌, Bool, true, false, eqb, Option, Some, None, List, [], ◌∷◌, ◌++◌, length, get_or, drop, arith, length-append}
+use Rattle.std.proofs.lemmas.Bool.{agree_below_at, cases_lt, eqb-true}
+use Rattle.std.proofs.lemmas.Bool.Decides.{nat_tests}
+use Rattle.std.proofs.lemmas.List.{drop-append-le, drop-drop, get_or-drop}
 use Rattle.std.proofs.lemmas.List.Quantifiers.{position-Some}
 use Rattle.std.specs.Option.{option_map_or}
 use Rattle.nx_code.specs.declared.signals.Signal.{Signal}
@@ -10,7 +11,9 @@ use Rattle.nx_code.specs.Word.{weight, elements, elements_from}
 use Rattle.nx_code.specs.Table.{table, words, place_of}
 use Rattle.nx_code.specs.Signal.{number_of_signal}
 use Rattle.nx_fec.specs.declared.diversity.Heard.TheVariants.{Intact}
-use Rattle.nx_fec.specs.Pairing.{Counted, traffic, idle_signal, nothing, counts_as, heard_as}
+use Rattle.nx_code.specs.Classes.{class_at, class_of, paired, reception_of_class}
+use Rattle.nx_fec.specs.Pairing.{Counted, IsLatest, traffic, idle_signal, nothing, counts_as, heard_as, pairing, third_last}
+use Rattle.nx_fec.specs.private.WordClasses.{counted_by}
 
 -- whether two words count alike
 abbrev is_alike : Counted → Counted → Bool
@@ -89,18 +92,80 @@ unfolding counts_as
 counts_as-wrong word wrong = counts_at-none word (place_of word) refl wrong
 
 -- of the latest three and one more word the latest three are those of all words and this one
-pub latest-push : (latest next words : List Counted) (x : Counted)
-    → latest ≡ drop (length words - 3) words
-    → next ≡ drop (length (latest ++ x ∷ []) - 3) (latest ++ x ∷ [])
-    → next ≡ drop (length (words ++ x ∷ []) - 3) (words ++ x ∷ [])
-latest-push latest next words x old new =
-    let n : length latest ≡ length words - (length words - 3) =
-    ap length old ∙ length-drop (length words - 3) words in
-    let e : drop (length words - 3) (words ++ x ∷ []) ≡ latest ++ x ∷ [] =
-    drop-append-le (length words - 3) words (x ∷ []) (omega arith)
-    ∙ ap (λ l. l ++ x ∷ []) (sym old) in
-    let k : (length words - 3) + (length (latest ++ x ∷ []) - 3) ≡ length (words ++ x ∷ []) - 3 =
-    simp length-append (omega arith) in
-    new ∙ ap (drop (length (latest ++ x ∷ []) - 3)) (sym e)
-    ∙ drop-drop (length (latest ++ x ∷ []) - 3) (length words - 3) (words ++ x ∷ [])
-    ∙ ap (λ m. drop m (words ++ x ∷ [])) k
+pub latest-push : (latest words : List Counted) (x : Counted)
+    → latest ≡ drop (length words) (nothing ∷ nothing ∷ nothing ∷ words)
+    → drop 1 latest ++ x ∷ []
+    ≡ drop (length (words ++ x ∷ [])) (nothing ∷ nothing ∷ nothing ∷ (words ++ x ∷ []))
+latest-push latest words x old =
+    let front = nothing ∷ nothing ∷ nothing ∷ words in
+    let more : length words + 1 ≡ length (words ++ x ∷ []) = simp length-append (omega arith) in
+    ap (λ l. drop 1 l ++ x ∷ []) old
+    ∙ ap (λ l. l ++ x ∷ []) (drop-drop 1 (length words) front)
+    ∙ sym (drop-append-le (length words + 1) front (x ∷ []) (omega arith))
+    ∙ ap (λ n. drop n (front ++ x ∷ [])) more
+
+pub third_last-early : (words : List Counted) → length words < 3 → third_last words ≡ nothing
+third_last-early words h = grind (arith, nat_tests)
+
+pub third_last-late : (words : List Counted) → 3 ≤ length words
+    → third_last words ≡ get_or words (length words - 3) nothing
+third_last-late words h = grind (arith, nat_tests)
+
+front-early : (words : List Counted) → length words < 3
+    → get_or (nothing ∷ nothing ∷ nothing ∷ words) (length words) nothing ≡ nothing
+front-early [] h = refl
+front-early (a ∷ []) h = refl
+front-early (a ∷ b ∷ []) h = refl
+front-early (a ∷ b ∷ c ∷ words) h = absurd (omega arith)
+
+-- the oldest of the latest three is the third last of the words
+pub latest-first : (latest words : List Counted)
+    → latest ≡ drop (length words) (nothing ∷ nothing ∷ nothing ∷ words)
+    → get_or latest 0 nothing ≡ third_last words
+latest-first latest words h =
+    let front = nothing ∷ nothing ∷ nothing ∷ words in
+    let at : length words + 0 ≡ length words = omega arith in
+    ap (λ l. get_or l 0 nothing) h ∙ get_or-drop (length words) front 0 nothing
+    ∙ ap (λ n. get_or front n nothing) at
+    ∙ elim (cases_lt (length words) 3) [
+      | inl early ↦ front-early words early ∙ sym (third_last-early words early)
+      | inr late ↦
+          let back : length words ≡ 3 + (length words - 3) = omega arith in
+          ap (λ n. get_or front n nothing) back
+          ∙ sym (get_or-drop 3 front (length words - 3) nothing)
+          ∙ sym (third_last-late words (omega arith))
+    ]
+
+-- ---- classes
+
+class_at-counts : (found : Option ℕ)
+    → counted_by (class_at found) ≡ option_map_or counts_at found nothing
+class_at-counts None = refl
+class_at-counts (Some place) = grind (arith, nat_tests)
+
+-- a word counts as its class says
+pub class_of-counts : (word : ℕ) → counted_by (class_of word) ≡ counts_as word
+unfolding class_of counts_as
+class_of-counts word = class_at-counts (place_of word)
+
+-- what is taken of two classes is the pairing of what they count as
+pub paired-pairing : (dx rx : ℕ)
+    → reception_of_class (paired dx rx) ≡ pairing (counted_by dx) (counted_by rx)
+paired-pairing dx rx = grind (arith, nat_tests)
+
+-- a word given as its class is given as what it counts as
+pub latest-of-class : (latest words : List Counted) (word class : ℕ) → class ≡ class_of word
+    → IsLatest latest (words ++ counted_by class ∷ [])
+    → IsLatest latest (words ++ counts_as word ∷ [])
+latest-of-class latest words word class e =
+    subst (λ x. IsLatest latest (words ++ x ∷ [])) (ap counted_by e ∙ class_of-counts word)
+
+-- what is taken of the oldest of the latest three and a word
+pub paired-first : (latest words : List Counted) (dx rx result : ℕ) (word : Counted)
+    → IsLatest latest words → get_or latest 0 nothing ≡ counted_by dx → counted_by rx ≡ word
+    → result ≡ paired dx rx
+    → reception_of_class result ≡ pairing (third_last words) word
+paired-first latest words dx rx result word h first heard e =
+    ap reception_of_class e ∙ paired-pairing dx rx
+    ∙ ap (λ x. pairing x (counted_by rx)) (sym first ∙ latest-first latest words h)
+    ∙ ap (pairing (third_last words)) heard

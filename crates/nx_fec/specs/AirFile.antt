@@ -1,5 +1,5 @@
 -- The lines of an air file (this profile): what they say, and how they are spelled.
-use Rattle.std.specs.Prelude.{◌≡◌, ◌≢◌, ℕ, ◌+◌, ◌^◌, ◌<◌, ◌≤◌, Bool, true, false, List, [], ◌∷◌, ◌++◌, length, map, codes, Option, Some, None}
+use Rattle.std.specs.Prelude.{◌≡◌, ◌≢◌, ℕ, ◌+◌, ◌-◌, ◌^◌, ◌<◌, ◌≤◌, Bool, true, false, List, [], ◌∷◌, ◌++◌, length, map, codes, Option, Some, None}
 use Rattle.std.specs.Fmt.{decimal}
 use Rattle.nx_code.specs.Reading.{IsCapital}
 use Rattle.nx_fec.specs.Channels.{channel_number, channel_of}
@@ -28,27 +28,23 @@ mark_bytes None = []
 mark_bytes (Some channel) = (48 + channel_number channel) ∷ []
 
 -- a word, the channel, a space, and what follows
-abbrev pub marked : List ℕ → Option Channel → List ℕ → List ℕ
-marked word mark rest = word ++ (mark_bytes mark ++ (32 ∷ rest))
+abbrev pub with_mark : List ℕ → Option Channel → List ℕ → List ℕ
+with_mark word mark rest = word ++ (mark_bytes mark ++ (32 ∷ rest))
 
 -- the bytes of a line, without its line feed
 abbrev pub spelling : Line → List ℕ
 spelling (moment n) = codes "T " ++ decimal n
-spelling (elements mark bits) = marked (codes "B") mark (map element_digit bits)
-spelling (refuse_station mark letter) = marked (codes "RS") mark (letter ∷ [])
-spelling (accept_station mark letter) = marked (codes "AS") mark (letter ∷ [])
-spelling (refuse_subject mark letter) = marked (codes "RJ") mark (letter ∷ [])
-spelling (accept_subject mark letter) = marked (codes "AJ") mark (letter ∷ [])
+spelling (elements mark bits) = with_mark (codes "B") mark (map element_digit bits)
+spelling (refuse_station mark letter) = with_mark (codes "RS") mark (letter ∷ [])
+spelling (accept_station mark letter) = with_mark (codes "AS") mark (letter ∷ [])
+spelling (refuse_subject mark letter) = with_mark (codes "RJ") mark (letter ∷ [])
+spelling (accept_subject mark letter) = with_mark (codes "AJ") mark (letter ∷ [])
 
--- the most elements of a line: 512, or 511 where it names its channel
-abbrev pub most_elements : Option Channel → ℕ
-most_elements None = 512
-most_elements (Some channel) = 511
-
--- a moment has at most 11 digits, a line of elements has at least one, and a letter is one of A to Z
+-- a moment has at most 11 digits; a line of elements has at least one, and at most 512, one less
+-- where it names its channel; and a letter is one of A to Z
 abbrev pub IsLine : Line → Type 0
 IsLine (moment n) = n < 10 ^ 11
-IsLine (elements mark bits) = (0 < length bits) × (length bits ≤ most_elements mark)
+IsLine (elements mark bits) = (0 < length bits) × (length bits ≤ 512 - length (mark_bytes mark))
 IsLine (refuse_station mark letter) = IsCapital letter
 IsLine (accept_station mark letter) = IsCapital letter
 IsLine (refuse_subject mark letter) = IsCapital letter

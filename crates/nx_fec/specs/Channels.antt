@@ -1,5 +1,5 @@
 -- The channels of an air file: three frequencies that a receiver hears at once (this profile).
-use Rattle.std.specs.Prelude.{ℕ, Bool, true, false, List, [], ◌∷◌, Option, Some, None}
+use Rattle.std.specs.Prelude.{ℕ, ◌==◌, Bool, Option, Some, None}
 use Rattle.nx_fec.specs.declared.channel.Channel.{Channel}
 use Rattle.nx_fec.specs.declared.channel.Channel.TheVariants.{Zero, One, Two}
 
@@ -11,14 +11,7 @@ channel_number Two = 2
 
 -- whether two channels are the same
 abbrev pub same_channel : Channel → Channel → Bool
-same_channel Zero Zero = true
-same_channel One One = true
-same_channel Two Two = true
-same_channel _ _ = false
-
--- all channels, in order
-abbrev pub all_channels : List Channel
-all_channels = Zero ∷ One ∷ Two ∷ []
+same_channel one other = channel_number one == channel_number other
 
 -- the channel that a line belongs to: the one that it names, or channel 0 where it names none
 abbrev pub channel_of : Option Channel → Channel

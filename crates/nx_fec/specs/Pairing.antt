@@ -1,6 +1,6 @@
 -- Pairing (ITU-R M.625, collective mode B: each position is sent twice, as DX and, five slots
 -- later, as RX; that differing signals are lost is this profile's).
-use Rattle.std.specs.Prelude.{◌≡◌, ◌≢◌, ℕ, ◌+◌, ◌-◌, ◌==◌, nat_lt, if◌then◌else◌, List, length, drop, map, slice_index_or}
+use Rattle.std.specs.Prelude.{◌≡◌, ◌≢◌, ℕ, ◌+◌, ◌-◌, ◌==◌, nat_lt, if◌then◌else◌, List, ◌∷◌, length, drop, slice_index_or}
 use Rattle.std.specs.Option.{option_map_or}
 use Rattle.nx_code.specs.declared.signals.Signal.TheVariants.{Traffic, Alpha, Beta, Repeat}
 use Rattle.nx_code.specs.Word.{weight}
@@ -49,9 +49,10 @@ heard_as (Intact Beta) = idle_signal
 heard_as (Intact Repeat) = idle_signal
 heard_as Wrong = nothing
 
--- these are the latest three of the DX words so far, which count so
-abbrev pub IsLatest : List Heard → List Counted → Type 0
-IsLatest latest words = map heard_as latest ≡ drop (length words - 3) words
+-- these are the latest three of the DX words so far, which count so; those that weren't given count
+-- as nothing
+abbrev pub IsLatest : List Counted → List Counted → Type 0
+IsLatest latest words = latest ≡ drop (length words) (nothing ∷ nothing ∷ nothing ∷ words)
 
 -- this is what arrived of a word: the signal that it stands for, or none
 abbrev pub IsHeardOf : Heard → ℕ → Type 0

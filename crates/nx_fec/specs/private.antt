@@ -1,8 +1,8 @@
 -- What only private contracts, models and proofs cite.
 pub mod CountedCode
 pub mod LineTaking
-pub mod OneWord
 pub mod Packing
 pub mod ScannerFields
 pub mod ScannerKept
 pub mod Takers
+pub mod WordClasses

@@ -1,11 +1,14 @@
 //! The lines of an air file, which carries what a receiver hears: moments, elements and commands of selection.
-ghost use Rattle.std.specs.Prelude.{◌≡◌, ◌≢◌, ◌<◌, ◌≤◌, ◌^◌, ℕ, Bool, List, ◌++◌, length, map, IfSome, IfNone, IsTrue, MatchOption, [], ◌∷◌, false, Some};
+ghost use Rattle.std.specs.Prelude.{◌≡◌, ◌≢◌, ◌<◌, ◌≤◌, ◌^◌, ℕ, List, ◌++◌, length, map, IfSome, IfNone, MatchOption, [], ◌∷◌, Some};
 ghost use Rattle.std.specs.Fmt.{decimal};
 ghost use Rattle.nx_code.specs.Reading.{IsCapital};
-ghost use Rattle.nx_fec.specs.AirFile.{IsLine, IsNoLine, Line, Means, element_digit, mark_bytes, spelling};
+ghost use Rattle.nx_fec.specs.AirFile.{IsLine, IsNoLine, Line, Means, mark_bytes, spelling};
+ghost use Rattle.nx_fec.specs.private.Packing.{is_one};
 ghost use Rattle.nx_fec.specs.private.ScannerKept.{IsMarked, SpellsLine};
+ghost use Rattle.nx_fec.specs.declared.air_file.LineKind.{LineKind};
 
 use crate::channel::Channel;
+use crate::packed::PackedElements;
 use arrayvec::ArrayVec;
 
 /// The most elements of one line.
@@ -54,10 +57,10 @@ pub fn air_line(line: &[u8]) -> Option<AirLine>
     ensures found { IfSome result (λ found. Means line.now found) }
     ensures none { IfNone result (IsNoLine line.now) }
 {
-    let mut bits = ArrayVec::new();
-    Some(match read_line(line, &mut bits)? {
+    let mut elements = PackedElements::new();
+    Some(match read_line(line, &mut elements)? {
         LineKind::Moment(moment) => AirLine::Moment(moment),
-        LineKind::Elements(mark) => AirLine::Bits(Channel::of(mark), bits),
+        LineKind::Elements(mark) => AirLine::Bits(Channel::of(mark), bits_at_end(line, &elements)),
         LineKind::RefuseStation(mark, letter) => AirLine::RefuseStation(Channel::of(mark), letter),
         LineKind::AcceptStation(mark, letter) => AirLine::AcceptStation(Channel::of(mark), letter),
         LineKind::RefuseSubject(mark, letter) => AirLine::RefuseSubject(Channel::of(mark), letter),
@@ -65,21 +68,45 @@ pub fn air_line(line: &[u8]) -> Option<AirLine>
     })
 }
 
-/// Reads a line, given without its line feed: what it says, and into `bits` its elements. None, and no elements, where
+/// The elements of a line of elements, given without its line feed: its last bytes are their digits.
+fn bits_at_end(line: &[u8], elements: &PackedElements) -> ArrayVec<bool, MAX_ELEMENTS>
+    requires { (kind : LineKind) × SpellsLine kind elements.now line.now }
+    ensures { result.items ≡ elements.now }
+{
+    let mut bits = ArrayVec::new();
+    unpack(&line[line.len() - elements.len()..], &mut bits);
+    bits
+}
+
+/// Writes the elements that digits stand for, in place of those that were there.
+pub(crate) fn unpack(digits: &[u8], bits: &mut ArrayVec<bool, MAX_ELEMENTS>)
+    requires { length digits.now ≤ 512 }
+    ensures { bits.new.items ≡ map is_one digits.now }
+{
+    let mut elements = [false; MAX_ELEMENTS];
+    for place in 0..digits.len() {
+        elements[place] = digits[place] == b'1';
+    }
+    bits.clear();
+    bits.try_extend_from_slice(&elements[..digits.len()])
+        .unwrap();
+}
+
+/// Reads a line, given without its line feed: what it says, and its elements. None, and no elements, where
 /// it is no line of an air file.
 // Inlined always: the scanner asks it for each line, and its answer would go through memory.
 #[inline(always)]
-pub(crate) fn read_line(line: &[u8], bits: &mut ArrayVec<bool, MAX_ELEMENTS>) -> Option<LineKind>
-    requires { bits.old.items ≡ [] }
-    ensures found { IfSome result (λ kind. SpellsLine kind bits.new.items line.now) }
+pub(crate) fn read_line(line: &[u8], elements: &mut PackedElements) -> Option<LineKind>
+    requires { elements.old ≡ [] }
+    ensures found { IfSome result (λ kind. SpellsLine kind elements.new line.now) }
     ensures none { IfNone result (IsNoLine line.now) }
-    ensures unread { IfNone result (bits.new.items ≡ []) }
+    ensures unread { IfNone result (elements.new ≡ []) }
 {
     if let Some(rest) = after(line, b"T ") {
         return Some(LineKind::Moment(moment(rest)?));
     }
     if let Some(rest) = after(line, b"B ") {
-        return if read_elements(rest, bits) {
+        return if elements.read(rest) {
             Some(LineKind::Elements(None))
         } else {
             None
@@ -97,22 +124,22 @@ pub(crate) fn read_line(line: &[u8], bits: &mut ArrayVec<bool, MAX_ELEMENTS>) ->
     if let Some(rest) = after(line, b"AJ ") {
         return Some(LineKind::AcceptSubject(None, letter(rest)?));
     }
-    read_marked(line, bits)
+    read_marked(line, elements)
 }
 
 /// Reads a line that names its channel, as `read_line` does.
 // Never inlined: lines that name none pay nothing for it.
 #[inline(never)]
-fn read_marked(line: &[u8], bits: &mut ArrayVec<bool, MAX_ELEMENTS>) -> Option<LineKind>
-    requires { bits.old.items ≡ [] }
-    ensures found { IfSome result (λ kind. SpellsLine kind bits.new.items line.now) }
+fn read_marked(line: &[u8], elements: &mut PackedElements) -> Option<LineKind>
+    requires { elements.old ≡ [] }
+    ensures found { IfSome result (λ kind. SpellsLine kind elements.new line.now) }
     ensures none { IfNone result ((sent : Line) → IsMarked sent → IsLine sent
         → line.now ≢ spelling sent) }
-    ensures unread { IfNone result (bits.new.items ≡ []) }
+    ensures unread { IfNone result (elements.new ≡ []) }
 {
     if let Some(rest) = after(line, b"B") {
         let (channel, digits) = marked(rest)?;
-        return if digits.len() < MAX_ELEMENTS && read_elements(digits, bits) {
+        return if digits.len() < MAX_ELEMENTS && elements.read(digits) {
             Some(LineKind::Elements(Some(channel)))
         } else {
             None
@@ -196,33 +223,6 @@ fn moment(digits: &[u8]) -> Option<u64>
         value = 10 * value + u64::from(units);
     }
     Some(value)
-}
-
-/// Reads 1 to 512 elements, each a digit 0 or 1. False, and no elements, where the digits are none.
-fn read_elements(digits: &[u8], bits: &mut ArrayVec<bool, MAX_ELEMENTS>) -> bool
-    requires { bits.old.items ≡ [] }
-    ensures found { IsTrue result → (0 < length bits.new.items) × (length bits.new.items ≤ 512)
-        × (digits.now ≡ map element_digit bits.new.items) }
-    ensures none { result ≡ false → (elements : List Bool) → 0 < length elements
-        → length elements ≤ 512
-        → digits.now ≢ map element_digit elements }
-    ensures unread { result ≡ false → bits.new.items ≡ [] }
-{
-    if digits.is_empty() || digits.len() > MAX_ELEMENTS {
-        return false;
-    }
-    let mut elements = [false; MAX_ELEMENTS];
-    let mut wrong = false;
-    for place in 0..digits.len() {
-        elements[place] = digits[place] == b'1';
-        wrong |= digits[place] != b'0' && digits[place] != b'1';
-    }
-    if wrong {
-        return false;
-    }
-    bits.try_extend_from_slice(&elements[..digits.len()])
-        .unwrap();
-    true
 }
 
 #[cfg(test)]

@@ -1,12 +1,11 @@
 //! Bytes that are gathered for one write.
-ghost use Rattle.std.specs.Prelude.{◌≡◌, ◌+◌, ◌≤◌, length, ℕ, List, [], ◌++◌, Option, OnOk, MatchResult};
+ghost use Rattle.std.specs.Prelude.{◌≡◌, ◌+◌, ◌≤◌, length, take, ℕ, List, [], ◌++◌, Option, OnOk, MatchResult};
 ghost use Rattle.nx_fec.specs.Transfers.{FailsOnce, WroteSome};
 ghost use Rattle.nx_fec.specs.LineRuns.{HasGiven};
 
 use crate::counting::Counting;
 use crate::fault::WriteFault;
 use crate::writing::write_on;
-use arrayvec::ArrayVec;
 use std::io::Write;
 use std::marker::Model;
 use std::mem::size_of;
@@ -17,8 +16,26 @@ const BATCH_BYTES: usize = 32_768;
 /// Bytes that wait to be written, and the count of those that were written before them, at most the greatest u64.
 #[derive(Drop)]
 pub struct Batch {
-    waiting: ArrayVec<u8, BATCH_BYTES>,
+    waiting: WaitingBytes,
     sent: u64,
+}
+
+/// The bytes that wait. An `ArrayVec` would write over all of them with each write. What lies in the places behind them,
+/// bytes that were written, no contract sees and nothing reads; its size is proved, so nothing else is kept.
+#[derive(Drop)]
+struct WaitingBytes {
+    bytes: [u8; BATCH_BYTES],
+    length: usize,
+}
+
+impl Model for WaitingBytes {
+    ghost use Rattle.std.specs.Prelude.{◌≤◌, ℕ, List, take};
+
+    ghost Value = { List ℕ };
+
+    ghost view = { λ waiting. take waiting.length waiting.bytes };
+
+    ghost invariant = { λ waiting. waiting.length ≤ 32768 };
 }
 
 impl Model for Batch {
@@ -26,10 +43,10 @@ impl Model for Batch {
 
     ghost Value = { Waiting };
 
-    ghost view = { λ b. record { bytes = b.waiting.items; sent = b.sent } };
+    ghost view = { λ b. record { bytes = b.waiting; sent = b.sent } };
 
     // What contracts see gives every field back: nothing else is kept.
-    ghost inverse = { λ v. record { waiting = record { items = v.bytes }; sent = v.sent } };
+    ghost inverse = { λ v. record { waiting = v.bytes; sent = v.sent } };
 }
 
 impl Batch {
@@ -41,7 +58,7 @@ impl Batch {
         // Nothing is kept beside these fields, not even in a type whose model forgets.
         prove!(size_of::<Batch>() == 32_784);
         Batch {
-            waiting: ArrayVec::new(),
+            waiting: WaitingBytes::new(),
             sent: 0,
         }
     }
@@ -68,7 +85,7 @@ impl Batch {
             (before ++ bytes.now) fault.written) }
         ensures counts { FailsOnce writer.new result }
     {
-        if bytes.len() <= self.waiting.remaining_capacity() {
+        if bytes.len() <= BATCH_BYTES - self.waiting.len() {
             self.keep(bytes);
             return Ok(());
         }
@@ -87,7 +104,7 @@ impl Batch {
         ensures bytes { self.new.bytes ≡ self.old.bytes ++ bytes.now }
         ensures sent { self.new.sent ≡ self.old.sent }
     {
-        self.waiting.try_extend_from_slice(bytes).unwrap();
+        self.waiting.append(bytes);
     }
 
     /// Writes the bytes that wait.
@@ -100,11 +117,57 @@ impl Batch {
         ensures empty { OnOk result (self.new.bytes ≡ []) }
         ensures counts { FailsOnce writer.new result }
     {
-        if self.waiting.is_empty() {
+        if self.waiting.len() == 0 {
             return Ok(());
         }
-        self.sent = write_on(writer, self.sent, &self.waiting)?;
+        self.sent = write_on(writer, self.sent, self.waiting.as_slice())?;
         self.waiting.clear();
         Ok(())
+    }
+}
+
+impl WaitingBytes {
+    /// No byte.
+    fn new() -> Self
+        ensures { result ≡ [] }
+    {
+        // The places and the count, and nothing beside them.
+        prove!(size_of::<WaitingBytes>() == 32_776);
+        WaitingBytes {
+            bytes: [0; BATCH_BYTES],
+            length: 0,
+        }
+    }
+
+    /// How many bytes there are.
+    fn len(&self) -> usize
+        ensures count { result ≡ length self.now }
+        ensures fits { result ≤ 32768 }
+    {
+        self.length
+    }
+
+    /// The bytes.
+    fn as_slice(&self) -> &[u8]
+        ensures { result.now ≡ self.now }
+    {
+        &self.bytes[..self.length]
+    }
+
+    /// Appends bytes where there is room.
+    fn append(&mut self, bytes: &[u8])
+        requires { length self.old + length bytes.now ≤ 32768 }
+        ensures { self.new ≡ self.old ++ bytes.now }
+    {
+        let length = self.length + bytes.len();
+        self.bytes[self.length..length].copy_from_slice(bytes);
+        self.length = length;
+    }
+
+    /// Drops all bytes.
+    fn clear(&mut self)
+        ensures { self.new ≡ [] }
+    {
+        self.length = 0;
     }
 }

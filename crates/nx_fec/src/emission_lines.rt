@@ -1,20 +1,20 @@
 //! The lines of an emission, written from its positions.
 
 ghost use Rattle.std.specs.Prelude.{◌≡◌, ◌+◌, ◌*◌, ◌<◌, ◌≤◌, ◌++◌, length, map, take, IfErr, OnOk};
+ghost use Rattle.std.specs.Int.{to_le_bytes, w64};
 ghost use Rattle.std.specs.Io.KnownBytes.{Appends};
-ghost use Rattle.arrayvec.specs.ArrayVec.{array_vec_len};
 ghost use Rattle.nx_code.specs.Word.{elements};
 ghost use Rattle.nx_fec.specs.AirFile.{element_digit};
 ghost use Rattle.nx_fec.specs.BitLines.{bit_line, bit_lines};
-ghost use Rattle.nx_fec.specs.Emission.{bits_of, emission, sent_position, word_sent};
+ghost use Rattle.nx_fec.specs.Emission.{bits_of, dx_word, emission, rx_word, sent_position, word_sent};
 ghost use Rattle.nx_fec.specs.Lines.{file_of, line_bytes};
 ghost use Rattle.nx_fec.specs.Transfers.{FailsOnce, WroteSome};
 
 use crate::counting::Counting;
 use crate::fault::WriteFault;
+use crate::line_batch::LineBatch;
 use crate::positions::Position;
-use crate::writing::{BATCH_BYTES, LINE_BYTES, LINE_ELEMENTS, push_digits, write_on};
-use arrayvec::ArrayVec;
+use crate::writing::{BATCH_BYTES, LINE_BYTES, LINE_ELEMENTS, write_on};
 use nx_code::{ELEMENTS, Signal, Word, word_of};
 use std::io::Write;
 
@@ -55,35 +55,38 @@ pub(crate) fn write_emission<W: Write>(
         fault.written) }
     ensures counts { FailsOnce writer.new result }
 {
-    let mut batch = ArrayVec::new();
+    let mut batch = LineBatch::new();
     let mut sent = 0;
     for index in 0..positions.len().div_ceil(LINE_POSITIONS) {
-        if batch.remaining_capacity() < LINE_BYTES {
-            sent = write_on(writer, sent, &batch)?;
+        if !batch.has_room() {
+            sent = write_on(writer, sent, batch.as_slice())?;
             batch.clear();
         }
         push_slots(positions, index, &mut batch);
     }
-    write_on(writer, sent, &batch)?;
+    write_on(writer, sent, batch.as_slice())?;
     Ok(())
 }
 
 /// Appends a line, by its index: the elements of 70 slots, or of as many as are left.
-fn push_slots(positions: &[Position], index: usize, batch: &mut ArrayVec<u8, BATCH_BYTES>)
+fn push_slots(positions: &[Position], index: usize, batch: &mut LineBatch)
     requires some { LINE_POSITIONS * index < length positions.now }
-    requires room { array_vec_len batch.old + LINE_BYTES ≤ BATCH_BYTES }
-    ensures { batch.new.items ≡ batch.old.items
+    requires room { length batch.old + LINE_BYTES ≤ BATCH_BYTES }
+    ensures { batch.new ≡ batch.old
         ++ line_bytes (bit_line (bits_of (emission (map sent_position positions.now))) index) }
 {
     let first = LINE_POSITIONS * index;
     let count = LINE_POSITIONS.min(positions.len() - first);
     let mut digits = [b'0'; LINE_ELEMENTS + 1];
+    let mut behind = digits_of(rx_behind(positions, first));
+    let mut behind_next = digits_of(rx_behind(positions, first + 1));
     for place in 0..count {
+        let (dx, rx) = digits_sent(positions[first + place]);
         let at = POSITION_ELEMENTS * place;
-        let dx = digits_of(positions[first + place].dx());
-        digits[at..at + NUMBER_BYTES].copy_from_slice(&dx);
-        let rx = digits_of(rx_behind(positions, first + place));
-        digits[at + ELEMENTS..at + ELEMENTS + NUMBER_BYTES].copy_from_slice(&rx);
+        digits[at..at + NUMBER_BYTES].copy_from_slice(&dx.to_le_bytes());
+        digits[at + ELEMENTS..at + ELEMENTS + NUMBER_BYTES].copy_from_slice(&behind.to_le_bytes());
+        behind = behind_next;
+        behind_next = rx;
     }
     // No word comes behind the last DX word.
     let slots = if first + count < positions.len() {
@@ -91,12 +94,31 @@ fn push_slots(positions: &[Position], index: usize, batch: &mut ArrayVec<u8, BAT
     } else {
         2 * count - 1
     };
-    push_digits(&digits[..ELEMENTS * slots], batch);
+    batch.push_digits(&digits[..ELEMENTS * slots]);
+}
+
+/// The digits of the word of a position that is sent first, and of the one that is sent again.
+// Inlined always: it runs for each position.
+#[inline(always)]
+fn digits_sent(position: Position) -> (u64, u64)
+    ensures dx { take 7 (to_le_bytes w64 result.0)
+        ≡ map element_digit (elements (dx_word (sent_position position))) }
+    ensures rx { take 7 (to_le_bytes w64 result.1)
+        ≡ map element_digit (elements (rx_word (sent_position position))) }
+{
+    match position {
+        // The same word twice, which is looked up once.
+        Position::Traffic(_) => {
+            let digits = digits_of(position.dx());
+            (digits, digits)
+        }
+        _ => (digits_of(position.dx()), digits_of(position.rx())),
+    }
 }
 
 /// The word in the slot behind the DX word of a position, by the position's index.
 fn rx_behind(positions: &[Position], index: usize) -> Word
-    requires { index < length positions.now }
+    requires { index < length positions.now + 2 }
     ensures { result ≡ word_sent (map sent_position positions.now) (2 * index + 1) }
 {
     if index < 2 {
@@ -105,9 +127,10 @@ fn rx_behind(positions: &[Position], index: usize) -> Word
     positions[index - 2].rx()
 }
 
-/// The elements of a word as digits, 1 for B and 0 for Y; and one more byte.
-fn digits_of(word: Word) -> [u8; NUMBER_BYTES]
-    ensures { take 7 result ≡ map element_digit (elements word) }
+/// The elements of a word as digits, 1 for B and 0 for Y, as the bytes of a number, the first in the least place; and one
+/// more byte.
+fn digits_of(word: Word) -> u64
+    ensures { take 7 (to_le_bytes w64 result) ≡ map element_digit (elements word) }
 {
-    (u64::from(word.number()) * SPREAD & PLACES | ZEROS).to_le_bytes()
+    u64::from(word.number()) * SPREAD & PLACES | ZEROS
 }

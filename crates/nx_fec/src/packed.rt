@@ -14,6 +14,9 @@ use std::simd::prelude::*;
 /// How many elements stand in one word.
 const LANES: usize = 64;
 
+/// So many digits fill a part of a word without a copy of 64.
+const FEW: usize = 16;
+
 /// How many words the elements of one line have.
 const WORDS: usize = MAX_ELEMENTS / LANES;
 
@@ -94,18 +97,17 @@ impl PackedElements {
         true
     }
 
-    /// Reads elements as `read` does.
-    // Never inlined: it runs for the lines that name their channel, and the others pay nothing for it.
-    #[inline(never)]
-    pub(crate) fn read_apart(&mut self, digits: &[u8]) -> bool
-        ensures found { IsTrue result → (0 < length self.new) × (length self.new ≤ 512)
-            × (digits.now ≡ map element_digit self.new) }
-        ensures none { result ≡ false → (elements : List Bool) → 0 < length elements
-            → length elements ≤ 512
-            → digits.now ≢ map element_digit elements }
-        ensures unread { result ≡ false → self.new ≡ [] }
+    /// Packs at most 512 elements, in place of those that were there.
+    pub fn pack_bits(&mut self, bits: &[bool])
+        requires { length bits.now ≤ 512 }
+        ensures { self.new ≡ bits.now }
     {
-        self.read(digits)
+        let mut digits = [b'0'; MAX_ELEMENTS];
+        for place in 0..bits.len() {
+            digits[place] = b'0' + u8::from(bits[place]);
+        }
+        // True exactly where there are elements.
+        let _ = self.read(&digits[..bits.len()]);
     }
 }
 
@@ -141,9 +143,30 @@ fn pack_last(digits: &[u8]) -> (u64, bool)
     ensures word { take (length digits.now) (elements_from 64 result.0) ≡ map is_one digits.now }
     ensures right { result.1 ≡ are_elements digits.now }
 {
+    if digits.len() < FEW {
+        return pack_few(digits);
+    }
     let mut whole = [b'0'; LANES];
     whole[..digits.len()].copy_from_slice(digits);
     pack_64(&whole)
+}
+
+/// Packs a few digits, one by one.
+// Inlined always, as a part of `read`.
+#[inline(always)]
+fn pack_few(digits: &[u8]) -> (u64, bool)
+    requires { length digits.now < 16 }
+    ensures word { take (length digits.now) (elements_from 64 result.0) ≡ map is_one digits.now }
+    ensures right { result.1 ≡ are_elements digits.now }
+{
+    let mut word = 0;
+    let mut right = true;
+    for place in (0..digits.len()).rev() {
+        let digit = digits[place];
+        word = 2 * word + u64::from(digit == b'1');
+        right &= digit == b'0' || digit == b'1';
+    }
+    (word, right)
 }
 
 /// Packs the first 64 digits.
@@ -190,6 +213,18 @@ mod tests {
         assert_eq!(rt; packed.read(b"01"), true);
         assert_eq!(rt; (packed.len(), packed.words()[0]), (2, 2));
         assert_eq!(rt; packed.read(b"02"), false);
+        assert_eq!(rt; packed.len(), 0);
+    }
+
+    /// Elements that stand as bools.
+    #[test]
+    fn packed_bools(rt: HostRuntime) {
+        let mut packed = PackedElements::new();
+        packed.pack_bits(&[false, true, true]);
+        assert_eq!(rt; (packed.len(), packed.words()[0]), (3, 6));
+        packed.pack_bits(&[true; 512]);
+        assert_eq!(rt; (packed.len(), packed.words()[7]), (512, u64::MAX));
+        packed.pack_bits(&[]);
         assert_eq!(rt; packed.len(), 0);
     }
 }

@@ -3,6 +3,7 @@ ghost use Rattle.std.specs.Prelude.{◌≡◌, ◌+◌, ◌<◌, ◌≤◌, ℕ,
 ghost use Rattle.std.specs.List.{flat_map};
 ghost use Rattle.nx_fec.specs.AirFile.{Line};
 ghost use Rattle.nx_fec.specs.Lines.{IsBitFile, HasFault, Scans, elements_on};
+ghost use Rattle.nx_fec.specs.Scanner.{elements_kept};
 ghost use Rattle.nx_fec.specs.declared.channel.Channel.TheVariants.{Zero};
 ghost use Rattle.nx_fec.specs.declared.fault.LineFault.{LineFault};
 ghost use Rattle.nx_fec.specs.Runs.{IsOutside, ReadsElements, ReadsWhole, file_limit, run_fault};
@@ -14,6 +15,7 @@ use crate::counting::Counting;
 use crate::fault::{ReadFault, RunFault};
 use crate::pieces::{CHUNK, PieceTaker, read_pieces};
 use crate::scanner::Scanner;
+use arrayvec::ArrayVec;
 use std::alloc::{AllocError, Global};
 use std::io::Read;
 use std::marker::Model;
@@ -58,7 +60,7 @@ fn read_through<R: Read>(
     ensures { ReadsElements R.remaining reader.old reader.new result }
 {
     // Nothing is kept beside these fields, not even in a type whose model forgets.
-    prove!(size_of::<BitFile>() == 1112);
+    prove!(size_of::<BitFile>() == 664);
     let mut file = BitFile {
         scanner: Scanner::new(FILE_LIMIT),
         bits: Vec::new(alloc),
@@ -276,9 +278,19 @@ fn append_elements(scanner: &Scanner, bits: &mut Vec<bool>) -> Result<(), AllocE
         return Ok(());
     };
     match Channel::of(mark) {
-        Channel::Zero => bits.extend_from_slice(scanner.elements()),
+        Channel::Zero => append_bits(scanner, bits),
         Channel::One | Channel::Two => Ok(()),
     }
+}
+
+/// Appends the elements of the line that the last byte ended.
+fn append_bits(scanner: &Scanner, bits: &mut Vec<bool>) -> Result<(), AllocError>
+    ensures { OnOk result (bits.new.items ≡ bits.old.items
+        ++ elements_kept scanner.now.latest) }
+{
+    let mut elements = ArrayVec::new();
+    scanner.unpacked(&mut elements);
+    bits.extend_from_slice(&elements)
 }
 
 #[cfg(test)]

@@ -1,6 +1,7 @@
 //! Whole runs: from what is read to what is written.
-ghost use Rattle.std.specs.Prelude.{◌≡◌, map, IfOk};
+ghost use Rattle.std.specs.Prelude.{◌≡◌, length, map, IfOk};
 ghost use Rattle.nx_fec.specs.Emission.{framed_positions, sent_position};
+ghost use Rattle.nx_fec.specs.declared.positions.Position.TheVariants.{Traffic};
 ghost use Rattle.nx_fec.specs.Runs.{Decodes, Encodes, Shows};
 ghost use Rattle.nx_fec.specs.Transfers.{devices};
 
@@ -91,12 +92,20 @@ fn framed_positions(alloc: Global, combs: &[Comb]) -> Result<Vec<Position>, Allo
         ≡ framed_positions (map (λ comb. comb.number) combs.now)) }
 {
     let mut positions = Vec::with_capacity(alloc, 4 + combs.len() + 3)?;
-    positions.extend_from_slice(&[Position::Phasing; 4])?;
-    for comb in combs {
-        positions.push(Position::Traffic(*comb))?;
-    }
+    positions.resize(4 + combs.len(), Position::Phasing)?;
+    send_combs(combs, &mut positions[4..]);
     positions.extend_from_slice(&[Position::End; 3])?;
     Ok(positions)
+}
+
+/// Makes these positions those that send the combinations, one each.
+fn send_combs(combs: &[Comb], positions: &mut [Position])
+    requires { length positions.old ≡ length combs.now }
+    ensures { positions.new ≡ map (λ comb. Traffic comb) combs.now }
+{
+    for place in 0..combs.len() {
+        positions[place] = Position::Traffic(combs[place]);
+    }
 }
 
 #[cfg(test)]

@@ -7,7 +7,7 @@ ghost use Rattle.nx_fec.specs.Lines.{Scans, StopsIn, IsCause, IsAirFile, IsAtByt
 ghost use Rattle.nx_fec.specs.Scanner.{elements_kept, kind_kept};
 ghost use Rattle.nx_fec.specs.declared.fault.LineFault.TheVariants.{TooLong, LineLong};
 
-use crate::air_file::{LineKind, MAX_ELEMENTS, read_line};
+use crate::air_file::{LineKind, MAX_ELEMENTS, read_line, unpack};
 use crate::fault::LineFault;
 use crate::feeds::first_feed;
 use crate::line_bytes::{LineBytes, MAX_LINE_BYTES};
@@ -25,7 +25,7 @@ pub struct Scanner {
     kept: LineBytes,
     /// What the line that was ended says, and its elements.
     ended: Option<LineKind>,
-    elements: ArrayVec<bool, MAX_ELEMENTS>,
+    elements: PackedElements,
     lines: u64,
     room: u64,
 }
@@ -43,26 +43,26 @@ impl Model for Scanner {
       part = part_of s.ended s.kept;
       lines = s.lines;
       room = s.room;
-      latest = line_ended s.ended s.elements.items;
+      latest = line_ended s.ended s.elements;
     } };
 
     ghost invariant = { λ s. (s.lines + length (part_of s.ended s.kept) + s.room < 2 ^ 64)
-        × IsKept s.ended s.elements.items s.kept };
+        × IsKept s.ended s.elements s.kept };
 
-    // What contracts see gives every field back. The bytes of earlier lines that lie behind those of the open line in its
-    // places are seen by no contract, and nothing reads them.
+    // What contracts see gives every field back. The bytes and the elements of earlier lines that lie behind those that are
+    // kept, in their places, are seen by no contract, and nothing reads them.
     ghost inverse = { λ v. record {
       kept = bytes_kept v.latest v.part;
       ended = kind_kept v.latest;
-      elements = record { items = elements_kept v.latest };
+      elements = elements_kept v.latest;
       lines = v.lines;
       room = v.room;
     } };
 
     ghost inverse_ok = { λ s h i. record {
-      kept = (kept-back s.ended s.elements.items s.kept h.1).bytes i;
-      ended = (kept-back s.ended s.elements.items s.kept h.1).kind i;
-      elements = record { items = (kept-back s.ended s.elements.items s.kept h.1).elements i };
+      kept = (kept-back s.ended s.elements s.kept h.1).bytes i;
+      ended = (kept-back s.ended s.elements s.kept h.1).kind i;
+      elements = (kept-back s.ended s.elements s.kept h.1).elements i;
       lines = s.lines;
       room = s.room;
     } };
@@ -75,11 +75,11 @@ impl Scanner {
         ensures no_line { result.latest ≡ None }
     {
         // Nothing is kept beside these fields, not even in a type whose model forgets.
-        prove!(size_of::<Scanner>() == 1088);
+        prove!(size_of::<Scanner>() == 640);
         Scanner {
             kept: LineBytes::new(),
             ended: None,
-            elements: ArrayVec::new(),
+            elements: PackedElements::new(),
             lines: 0,
             room: limit,
         }
@@ -100,28 +100,20 @@ impl Scanner {
     }
 
     /// The elements of the line that the last byte ended; none where it ended no line of elements.
-    pub fn elements(&self) -> &[bool]
+    pub fn elements(&self) -> &PackedElements
         ensures { result.now ≡ elements_kept self.now.latest }
     {
         &self.elements
     }
 
-    /// Packs the elements of the line that the last byte ended, in place of those that were there; none where it ended no
+    /// Writes the elements of the line that the last byte ended, in place of those that were there; none where it ended no
     /// line of elements.
-    // Inlined always: it runs for each line.
-    #[inline(always)]
-    pub fn pack(&self, packed: &mut PackedElements)
-        ensures { packed.new ≡ elements_kept self.now.latest }
+    pub fn unpacked(&self, bits: &mut ArrayVec<bool, MAX_ELEMENTS>)
+        ensures { bits.new.items ≡ elements_kept self.now.latest }
     {
-        match self.ended {
-            Some(LineKind::Elements(None)) => {
-                let _ = packed.read(&self.kept.as_slice()[2..]);
-            }
-            Some(LineKind::Elements(Some(_))) => {
-                let _ = packed.read_apart(&self.kept.as_slice()[3..]);
-            }
-            _ => packed.clear(),
-        }
+        // The last bytes of the line are their digits.
+        let line = self.kept.as_slice();
+        unpack(&line[line.len() - self.elements.len()..], bits);
     }
 
     /// The bytes of the line that the last byte ended, without its line feed, if it ended one.
@@ -198,9 +190,7 @@ impl Scanner {
     {
         if self.ended.is_some() {
             self.kept.clear();
-            if !self.elements.is_empty() {
-                self.elements.clear();
-            }
+            self.elements.clear();
             self.ended = None;
         }
     }
@@ -306,6 +296,13 @@ mod tests {
         scanner.push_line(bytes).ok()
     }
 
+    /// The elements of the line that the last byte ended.
+    fn bits(scanner: &Scanner) -> ArrayVec<bool, MAX_ELEMENTS> {
+        let mut bits = ArrayVec::from([true; MAX_ELEMENTS]);
+        scanner.unpacked(&mut bits);
+        bits
+    }
+
     #[test]
     fn lines_by_pieces(rt: HostRuntime) {
         let mut scanner = Scanner::new(20);
@@ -315,7 +312,7 @@ mod tests {
         assert_eq!(rt; taken(&mut scanner, b"B 01\n"), Some(5));
         assert_eq!(rt; scanner.lines(), 2);
         assert_eq!(rt; scanner.latest(), Some(LineKind::Elements(None)));
-        assert_eq!(rt; scanner.elements(), [false, true].as_slice());
+        assert_eq!(rt; bits(&scanner).as_slice(), [false, true].as_slice());
         assert_eq!(rt; scanner.line(), Some(b"B 01".as_slice()));
         assert_eq!(rt; taken(&mut scanner, b"RS EX"), Some(5));
         assert_eq!(rt; scanner.latest(), None);
@@ -329,16 +326,17 @@ mod tests {
     #[test]
     fn lines_of_channels(rt: HostRuntime) {
         let mut scanner = Scanner::new(1000);
-        let mut packed = PackedElements::new();
         assert_eq!(rt; taken(&mut scanner, b"B0 011\n"), Some(7));
         assert_eq!(rt;
             scanner.latest(),
             Some(LineKind::Elements(Some(Channel::Zero)))
         );
-        assert_eq!(rt; scanner.elements(), [false, true, true].as_slice());
+        assert_eq!(rt; bits(&scanner).as_slice(), [false, true, true].as_slice());
         assert_eq!(rt; scanner.line(), Some(b"B0 011".as_slice()));
-        scanner.pack(&mut packed);
-        assert_eq!(rt; (packed.len(), packed.words()[0]), (3, 6));
+        assert_eq!(rt;
+            (scanner.elements().len(), scanner.elements().words()[0]),
+            (3, 6)
+        );
         assert_eq!(rt; taken(&mut scanner, b"B 011\n"), Some(6));
         assert_eq!(rt; scanner.latest(), Some(LineKind::Elements(None)));
         assert_eq!(rt; taken(&mut scanner, b"RJ2 A\n"), Some(6));

@@ -1,3 +1,4 @@
+pub mod Places
 pub mod ReaderWords
 pub mod Growing
 pub mod Bits

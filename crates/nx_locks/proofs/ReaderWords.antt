@@ -38,8 +38,8 @@ no_line : is_of_lines [] ≡ true
 unfolding is_of_lines
 no_line = refl
 
-pub fresh_reader : (d : Diversity) (p : Printer) (f : Finder) → d ≡ [] → p ≡ Letters
-    → finders.StandsAfter f []
+pub fresh_reader : (d : Diversity) (p : Printer) (f : Finder) → IsLatest d []
+    → p ≡ Letters → finders.StandsAfter f []
     → IsFresh (record {
       diversity = d;
       printer = p;
@@ -53,7 +53,7 @@ pub fresh_reader : (d : Diversity) (p : Printer) (f : Finder) → d ≡ [] → p
 unfolding dx_words positions wrong_in
 fresh_reader d p f d_is p_is f_is = record {
   fresh = λ first words. record {
-    reads = record { latest = ap (map heard_as) d_is; shift = p_is; finder = f_is };
+    reads = record { latest = d_is; shift = p_is; finder = f_is };
     words_counted = refl;
     wrong_counted = refl;
     copies_counted = sym (ap (λ l. length (headers l)) (no_text first words) ∙ no_headers);

@@ -16,6 +16,7 @@ use Rattle.nx_receiver.specs.Events.{Command, Event, Setting, command, elements_
 use Rattle.nx_receiver.specs.Listen.{AreTakenAfter, IsTakenAfter, events_on, given_by, given_of, has_moment, moment_after}
 use Rattle.nx_receiver.specs.Shares.{all_at_zero, events_for, share, start_on, to_one}
 use Rattle.nx_receiver.proofs.Shares.{share-one}
+use Rattle.nx_receiver.proofs.chain.Moments.{after-more}
 use Rattle.nx_receiver.proofs.listens.Listener.{given_by-one, moment-on, moment-one, moment-other, taken-one}
 use Rattle.nx_receiver.proofs.receiving.Logged.{bits_of-append, settings-append}
 use Rattle.nx_locks.specs.Run.{elements_on_0, ending_of, moments_on_0}
@@ -55,17 +56,6 @@ moments-one lines line =
     ∙ map-append (λ (s : Setting). s.moment) (settings first (events_on Zero lines))
     (settings (in_force lines) (gives line))
 
--- the moment after some lines and more
-after-append : (first : ℕ) (lines more : List Line)
-    → moment_after first (lines ++ more) ≡ moment_after (moment_after first lines) more
-after-append first [] more = refl
-after-append first (moment n ∷ lines) more = after-append n lines more
-after-append first (elements mark bits ∷ lines) more = after-append first lines more
-after-append first (refuse_station mark letter ∷ lines) more = after-append first lines more
-after-append first (accept_station mark letter ∷ lines) more = after-append first lines more
-after-append first (refuse_subject mark letter ∷ lines) more = after-append first lines more
-after-append first (accept_subject mark letter ∷ lines) more = after-append first lines more
-
 -- a line that has no elements of channel 0
 other_line : (old new : Showing) (lines : List Line) (line : Line) (given : List ℕ)
     → IsShowing old lines given → IsTakenAfter all_at_zero lines line
@@ -77,7 +67,7 @@ other_line : (old new : Showing) (lines : List Line) (line : Line) (given : List
 other_line old new lines line given h taken none never said now shows = record {
   taken = taken-one all_at_zero lines line h.taken taken;
   has_moment = said;
-  moment = now ∙ sym (after-append 0 lines (line ∷ []));
+  moment = now ∙ sym (after-more 0 lines (line ∷ []));
   shows = subst₂ (λ (x : List Bool) (y : List ℕ). WatchShows new.watch x y given)
       (sym (elements-one lines line ∙ ap (λ l. elements_on_0 lines ++ l) none
       ∙ append-nil (elements_on_0 lines)))
@@ -128,7 +118,7 @@ element_line old new lines mark bits given shown zero h some same heard few =
     record {
       taken = taken-one all_at_zero lines line h.taken some;
       has_moment = moment-other lines line _ (same ∙ h.has_moment) refl;
-      moment = heard.moment ∙ h.moment ∙ sym (after-append 0 lines (line ∷ []));
+      moment = heard.moment ∙ h.moment ∙ sym (after-more 0 lines (line ∷ []));
       shows = subst (λ l. WatchShows new.watch (elements_on_0 (lines ++ line ∷ []))
           (moments_on_0 (lines ++ line ∷ [])) (given ++ l)) (sym g.grown)
           (subst₂ (λ (x : List Bool) (y : List ℕ). WatchShows new.watch x y (given ++ g.more)) all

@@ -7,7 +7,7 @@ ghost use Rattle.nx_locks.specs.private.Reader.{HearsWord, IsFresh, TakesByte, c
 
 use nx_code::{Printer, Word, check_bits};
 use nx_envelope::{Finder, NEWLINE, TextEvent};
-use nx_fec::{Diversity, Heard};
+use nx_fec::Diversity;
 use nx_sync::Role;
 use std::marker::Model;
 
@@ -108,12 +108,12 @@ impl LockReader {
         self.count(word);
         match role {
             Role::Dx => {
-                self.diversity.dx(Heard::of(word));
+                self.diversity.hear_dx(word);
                 None
             }
             Role::Rx => {
-                let taken = self.diversity.rx(Heard::of(word));
-                match self.printer.step(taken) {
+                let class = self.diversity.hear_rx(word);
+                match self.printer.print_class(class) {
                     Some(byte) => {
                         self.take(byte);
                         Some(byte)

@@ -19,8 +19,8 @@ use crate::watch::LockWatch;
 use arrayvec::ArrayVec;
 use nx_envelope::{LAST_MOMENT, Letter};
 use nx_fec::{
-    Batch, Channel, Counting, LineKind, LineTaker, LinesRead, Scanner, TakeFault, WriteFault,
-    write_on,
+    Batch, Channel, Counting, LineKind, LineTaker, LinesRead, PackedElements, Scanner, TakeFault,
+    WriteFault, write_on,
 };
 use nx_memory::Selection;
 use nx_receiver::MomentFault;
@@ -108,19 +108,19 @@ impl Shower {
     fn take_elements<W: Write>(
         &mut self,
         mark: Option<Channel>,
-        bits: &[bool],
+        elements: &PackedElements,
         writer: &mut Counting<W>,
         batch: &mut Batch,
     ) -> Result<(), TakeFault<LineRefusal>>
         requires none { writer.old.failures ≡ 0 }
-        requires few { length bits.now ≤ 512 }
+        requires few { length elements.now ≤ 512 }
         ensures taken { (first : Showing) (old : Option (List ℕ)) (lines : List Line)
             → HasTaken StandsFrom first self.old lines
             (HasGiven old (W.contents writer.old.inner) batch.old) → MatchResult result
-            (λ _. HasTaken StandsFrom first self.new (lines ++ line.elements mark bits.now ∷ [])
+            (λ _. HasTaken StandsFrom first self.new (lines ++ line.elements mark elements.now ∷ [])
             (HasGiven old (W.contents writer.new.inner) batch.new))
             (λ fault. ExplainsTaking StandsFrom BeginsFrom RefusesFrom first self.new old
-            (W.contents writer.new.inner) batch.new lines (line.elements mark bits.now) fault) }
+            (W.contents writer.new.inner) batch.new lines (line.elements mark elements.now) fault) }
         ensures writes { Writes writer.new TakeFault.Write result }
     {
         if !self.has_moment {
@@ -130,11 +130,11 @@ impl Shower {
         if !is_on_0(mark) {
             return Ok(());
         }
-        if bits.len() as u64 > u64::MAX - self.watch.elements() {
+        if elements.len() as u64 > u64::MAX - self.watch.elements() {
             return Err(TakeFault::Refused(LineRefusal::TooMany));
         }
         self.shown.clear();
-        self.watch.hear(bits, &mut self.shown);
+        self.watch.hear(elements, &mut self.shown);
         if let Err(fault) = batch.give(writer, &self.shown) {
             return Err(TakeFault::Write(fault.written));
         }

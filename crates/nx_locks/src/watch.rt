@@ -1,8 +1,9 @@
 //! What shows the locks in the elements that arrive. What runs for each element or each word has a
 //! small answer.
 
-ghost use Rattle.std.specs.Prelude.{◌≡◌, ◌+◌, ◌*◌, ◌<◌, ◌≤◌, ℕ, List, Bool, [], ◌∷◌, ◌++◌, length, take, not, IfOk, IsTrue};
+ghost use Rattle.std.specs.Prelude.{◌≡◌, ◌+◌, ◌-◌, ◌*◌, ◌<◌, ◌≤◌, ℕ, List, Bool, [], ◌∷◌, ◌++◌, drop, length, take, not, IfOk, IsTrue};
 ghost use Rattle.arrayvec.specs.ArrayVec.{array_vec_len};
+ghost use Rattle.nx_code.specs.Word as words;
 ghost use Rattle.nx_envelope.specs.Moment.{IsShownAs, last_moment};
 ghost use Rattle.nx_locks.specs.private.Watch.{EndsShown, HearsAll, Opens, ReadsWord, ShowsStep, WatchShows, closing_of};
 ghost use Rattle.nx_sync.specs.Synchroniser.{is_between_words, is_hunting};
@@ -11,6 +12,7 @@ use crate::reader::LockReader;
 use crate::report_text::{Counts, Shown, close_lock, end_report, open_lock};
 use nx_code::{ELEMENTS, Word};
 use nx_envelope::NEWLINE;
+use nx_fec::PackedElements;
 use nx_sync::{Change, Role, Step, Synchroniser};
 use std::alloc::{AllocError, Global};
 use std::marker::Model;
@@ -117,89 +119,114 @@ impl LockWatch {
     }
 
     /// Hears elements, and appends what they show.
-    pub(crate) fn hear(&mut self, bits: &[bool], shown: &mut Shown)
-        requires room { array_vec_len shown.old + 113 * length bits.now ≤ 57856 }
-        ensures hears { HearsAll self.old self.new bits.now shown.old.items shown.new.items }
+    pub(crate) fn hear(&mut self, elements: &PackedElements, shown: &mut Shown)
+        requires room { array_vec_len shown.old + 113 * length elements.now ≤ 57856 }
+        ensures hears { HearsAll self.old self.new elements.now shown.old.items shown.new.items }
     {
         let mut at = 0;
-        while at < bits.len() {
-            at += self.hear_part(&bits[at..], shown);
+        while at < elements.len() {
+            at += self.hear_part(elements, at, shown);
         }
     }
 
-    /// Hears one or more elements, and appends what they show: those of a hunt, whole words, or one
-    /// element. Answers how many.
-    fn hear_part(&mut self, bits: &[bool], shown: &mut Shown) -> usize
-        requires some { 0 < length bits.now }
-        requires room { array_vec_len shown.old + 113 * length bits.now ≤ 57856 }
-        ensures within { result ≤ length bits.now }
+    /// Hears one or more elements from a place on, and appends what they show: those of a hunt,
+    /// whole words, or one element. Answers how many.
+    fn hear_part(&mut self, elements: &PackedElements, from: usize, shown: &mut Shown) -> usize
+        requires some { from < length elements.now }
+        requires room { array_vec_len shown.old + 113 * (length elements.now - from) ≤ 57856 }
+        ensures within { from + result ≤ length elements.now }
         ensures some { 0 < result }
         ensures few { array_vec_len shown.new ≤ array_vec_len shown.old + 113 * result }
-        ensures hears { HearsAll self.old self.new (take result bits.now) shown.old.items
-            shown.new.items }
+        ensures hears { HearsAll self.old self.new (take result (drop from elements.now))
+            shown.old.items shown.new.items }
     {
         if !self.synchroniser.is_locked() {
-            return self.hunt(bits, shown);
+            return self.hunt(elements, from, shown);
         }
-        if self.synchroniser.is_between_words() && bits.len() >= ELEMENTS {
-            return self.hear_words(bits, shown);
+        if self.synchroniser.is_between_words() && elements.len() - from >= ELEMENTS {
+            return self.hear_words(elements, from, shown);
         }
-        self.hear_element(bits[0], shown);
+        self.hear_element(elements.get(from), shown);
         1
     }
 
-    /// Hunts: hears elements up to and with the one that locks, all of them where none does.
-    fn hunt(&mut self, bits: &[bool], shown: &mut Shown) -> usize
+    /// Hunts from a place on: hears elements up to and with the one that locks, all of them where
+    /// none does.
+    fn hunt(&mut self, elements: &PackedElements, from: usize, shown: &mut Shown) -> usize
         requires hunting { IsTrue (is_hunting self.old.synchroniser) }
-        requires some { 0 < length bits.now }
-        requires room { array_vec_len shown.old + 113 * length bits.now ≤ 57856 }
-        ensures within { result ≤ length bits.now }
+        requires some { from < length elements.now }
+        requires room { array_vec_len shown.old + 113 * (length elements.now - from) ≤ 57856 }
+        ensures within { from + result ≤ length elements.now }
         ensures some { 0 < result }
         ensures few { array_vec_len shown.new ≤ array_vec_len shown.old + 113 * result }
-        ensures hears { HearsAll self.old self.new (take result bits.now) shown.old.items
-            shown.new.items }
+        ensures hears { HearsAll self.old self.new (take result (drop from elements.now))
+            shown.old.items shown.new.items }
     {
-        let count = self.synchroniser.hunt(bits);
+        let rest = elements.len() - from;
+        let count = self.synchroniser.hunt_packed(elements.words(), from, rest);
         self.elements = self.elements.saturating_add(count as u64);
-        if count == bits.len() {
+        if count == rest {
             return count;
         }
-        self.hear_element(bits[count], shown);
+        self.hear_element(elements.get(from + count), shown);
         count + 1
     }
 
-    /// Hears whole words, as many as there are up to the first that ends the lock.
-    fn hear_words(&mut self, bits: &[bool], shown: &mut Shown) -> usize
+    /// Hears whole words from a place on, as many as there are up to the first that ends the lock.
+    fn hear_words(&mut self, elements: &PackedElements, from: usize, shown: &mut Shown) -> usize
         requires limit { IsTrue (is_between_words self.old.synchroniser) }
-        requires some { 7 ≤ length bits.now }
-        requires room { array_vec_len shown.old + 113 * length bits.now ≤ 57856 }
-        ensures within { result ≤ length bits.now }
+        requires some { from + 7 ≤ length elements.now }
+        requires room { array_vec_len shown.old + 113 * (length elements.now - from) ≤ 57856 }
+        ensures within { from + result ≤ length elements.now }
         ensures some { 0 < result }
         ensures few { array_vec_len shown.new ≤ array_vec_len shown.old + 113 * result }
-        ensures hears { HearsAll self.old self.new (take result bits.now) shown.old.items
-            shown.new.items }
+        ensures hears { HearsAll self.old self.new (take result (drop from elements.now))
+            shown.old.items shown.new.items }
     {
-        let mut at = 0;
-        while let Some(word) = bits[at..].first_chunk::<ELEMENTS>() {
-            self.hear_word(word, shown);
-            at += ELEMENTS;
+        let mut count = 0;
+        while elements.len() - (from + count) >= ELEMENTS {
+            count += self.hear_next_words(elements, from + count, shown);
             if !self.synchroniser.is_between_words() {
-                return at;
+                return count;
             }
         }
-        at
+        count
     }
 
-    /// Hears the seven elements of the next word of the lock.
+    /// Hears the next word of the lock from a place on, or the next eight where surely none of them
+    /// ends it. Answers how many elements that were.
     // Inlined, since it is called for each word.
     #[inline(always)]
-    fn hear_word(&mut self, bits: &[bool; ELEMENTS], shown: &mut Shown)
+    fn hear_next_words(
+        &mut self,
+        elements: &PackedElements,
+        from: usize,
+        shown: &mut Shown,
+    ) -> usize
+        requires limit { IsTrue (is_between_words self.old.synchroniser) }
+        requires some { from + 7 ≤ length elements.now }
+        requires room { array_vec_len shown.old + 113 * (length elements.now - from) ≤ 57856 }
+        ensures within { from + result ≤ length elements.now }
+        ensures some { 0 < result }
+        ensures few { array_vec_len shown.new ≤ array_vec_len shown.old + 113 * result }
+        ensures hears { HearsAll self.old self.new (take result (drop from elements.now))
+            shown.old.items shown.new.items }
+    {
+        self.hear_word(elements.word_at(from), shown);
+        ELEMENTS
+    }
+
+    /// Hears the next word of the lock.
+    // Inlined, since it is called for each word.
+    #[inline(always)]
+    fn hear_word(&mut self, word: Word, shown: &mut Shown)
         requires limit { IsTrue (is_between_words self.old.synchroniser) }
         requires room { array_vec_len shown.old + 113 ≤ 57856 }
         ensures few { array_vec_len shown.new ≤ array_vec_len shown.old + 113 }
-        ensures hears { HearsAll self.old self.new bits.now shown.old.items shown.new.items }
+        ensures hears { HearsAll self.old self.new (words.elements word) shown.old.items
+            shown.new.items }
     {
-        let step = self.synchroniser.push_word(bits);
+        let step = self.synchroniser.push_whole(word);
         self.elements = self.elements.saturating_add(ELEMENTS as u64);
         self.show(step, shown);
     }

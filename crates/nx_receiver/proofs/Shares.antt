@@ -5,7 +5,7 @@ use Rattle.std.specs.List.{flat_map}
 use Rattle.std.proofs.lemmas.List.{map-append}
 use Rattle.std.proofs.lemmas.List.Concat.{flat_map-append}
 use Rattle.std.proofs.lemmas.List.Elements.{filter-append}
-use Rattle.nx_fec.specs.Channels.{all_channels, same_channel}
+use Rattle.nx_fec.specs.Channels.{same_channel}
 use Rattle.nx_fec.specs.declared.channel.Channel.{Channel}
 use Rattle.nx_fec.specs.declared.channel.Channel.TheVariants.{Zero, One, Two}
 use Rattle.nx_receiver.specs.Events.{Event, Start, at_zero}
@@ -78,6 +78,10 @@ copies_on-other other channel [] h = refl
 copies_on-other other channel (copy ∷ copies) h =
     copies_on-next channel other copy (map (marked other) copies) false h
     ∙ copies_on-other other channel copies h
+
+-- all channels, in order
+abbrev pub all_channels : List Channel
+all_channels = Zero ∷ One ∷ Two ∷ []
 
 closed-alone : (channel : Channel) (closed : Channel → List TaggedCopy)
     → copies_on channel

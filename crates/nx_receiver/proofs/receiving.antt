@@ -1,5 +1,6 @@
 pub mod Events
 pub mod Feeds
+pub mod Given
 pub mod Judging
 pub mod Log
 pub mod Logged

@@ -1,6 +1,7 @@
 pub mod Bits
 pub mod Hears
 pub mod Loops
+pub mod Packed
 pub mod Takes
 pub mod Texts
 pub mod Words

@@ -1,8 +1,8 @@
 -- What three receivers print, in the order in which the copies end (this profile).
-use Rattle.std.specs.Prelude.{◌≡◌, List, ◌++◌, map}
+use Rattle.std.specs.Prelude.{◌≡◌, List, [], ◌∷◌, ◌++◌, map}
 use Rattle.std.specs.List.{flat_map}
-use Rattle.nx_fec.specs.Channels.{all_channels}
 use Rattle.nx_fec.specs.declared.channel.Channel.{Channel}
+use Rattle.nx_fec.specs.declared.channel.Channel.TheVariants.{Zero, One, Two}
 use Rattle.nx_receiver.specs.FoundCopies.{TaggedCopy}
 use Rattle.nx_receiver.specs.Log.{HasPrinted, PrintsToEnd}
 use Rattle.nx_receiver.specs.Shares.{Given, MarkedCopy, Starts, copies_on, marked, share, start_on}
@@ -39,4 +39,4 @@ pub record PrintAllToEnd (starts : Starts) (given : List Given) (copies : List M
       → PrintsToEnd (start_on starts channel) (share channel given)
       (copies_on channel ended ++ closed channel)
   pub whole : copies
-      ≡ ended ++ flat_map (λ channel. map (marked channel) (closed channel)) all_channels
+      ≡ ended ++ flat_map (λ channel. map (marked channel) (closed channel)) (Zero ∷ One ∷ Two ∷ [])

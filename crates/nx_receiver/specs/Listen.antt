@@ -1,13 +1,13 @@
 -- What three receivers that listen make of an air file, with whatever they start: the log of its
 -- lines, and its first fault (this profile).
-use Rattle.std.specs.Prelude.{◌≡◌, ◌⊎◌, ℕ, ◌+◌, ◌<◌, ◌≤◌, Bool, true, false, List, [], ◌∷◌, ◌++◌, length, map, Option, Result, Ok, Err, IsTrue, ⊤}
+use Rattle.std.specs.Prelude.{◌≡◌, ◌⊎◌, ◌↔◌, ℕ, ◌+◌, ◌<◌, ◌≤◌, Bool, true, false, List, [], ◌∷◌, ◌++◌, length, map, Option, Result, Ok, Err, IfSome, IsErrOf, IsTrue, ⊤}
 use Rattle.std.specs.List.{flat_map, list_any}
-use Rattle.std.specs.Io.KnownBytes.{Appends}
+use Rattle.std.specs.Io.KnownBytes.{Appends, Consumes}
 use Rattle.nx_envelope.specs.Moment.{last_moment}
 use Rattle.nx_fec.specs.AirFile.{Line, moment, elements, refuse_station, accept_station, refuse_subject, accept_subject}
 use Rattle.nx_fec.specs.Channels.{channel_of}
 use Rattle.nx_fec.specs.declared.channel.Channel.{Channel}
-use Rattle.nx_fec.specs.Transfers.{WroteSome, Devices, IsReadOut, Transfers, on_the_way}
+use Rattle.nx_fec.specs.Transfers.{WroteSome, Devices, IsReadOut}
 use Rattle.nx_fec.specs.Lines.{StopsAt, air_limit, IsAirFile, IsCause, IsLineRefused, elements_of, file_of}
 use Rattle.nx_fec.specs.declared.fault.LineFault.{LineFault}
 use Rattle.nx_fec.specs.declared.fault.LineFault.TheVariants as file
@@ -81,11 +81,10 @@ pub record AreTaken (starts : Starts) (lines : List Line) : Type 0 where
 -- print these copies, where the end closes the copies that stand open, and these are the bytes of
 -- their entries.
 pub record IsLogOfFile (starts : Starts) (bytes : List ℕ) (lines : List Line)
-    (copies : List MarkedCopy) (log : List ℕ)
-    : Type 0 where
+    (copies : List MarkedCopy) (log : List ℕ) : Type 0 where
   pub file : IsAirFile air_limit bytes lines
   pub taken : AreTaken starts lines
-  pub printed : PrintAllToEnd starts (given_by lines) copies
+  pub printed : PrintAllToEnd starts (map given_of lines) copies
   pub spelled : IsLog copies log
 
 -- the first half of the headline: the air file of these bytes has this log
@@ -98,7 +97,7 @@ IsLogOf starts bytes log =
 pub record IsLogOfLines (starts : Starts) (lines : List Line) (log : List ℕ) : Type 0 where
   pub taken : AreTaken starts lines
   pub copies : List MarkedCopy
-  pub printed : PrintsInTurn starts (given_by lines) copies
+  pub printed : PrintsInTurn starts (map given_of lines) copies
   pub spelled : IsLog copies log
 
 -- the log of the whole file was written, and the report counts its lines, its elements and its
@@ -163,8 +162,7 @@ HasListenFault starts holds bytes fault =
 -- the file had ended. A want of memory says nothing of them. Each other fault is the first of the
 -- file; that of its end comes at its end.
 abbrev pub AnswersListening : Starts → Type 0 → (List ℕ → Type 0) → Option (List ℕ)
-    → Option (List ℕ) → Result Report ListenFault → List ℕ
-    → Type 0
+    → Option (List ℕ) → Result Report ListenFault → List ℕ → Type 0
 AnswersListening starts AtEnd IsLeft old new (Ok report) bytes =
     AtEnd × HasListened starts old new bytes report
 AnswersListening starts AtEnd IsLeft old new (Err (Memory error)) bytes = ⊤
@@ -181,10 +179,19 @@ AnswersListening starts AtEnd IsLeft old new (Err fault) bytes =
 
 -- A run that listens, with this start: it answers so to the bytes that it read, and to the whole
 -- file, however it came; and it writes the log of the lines that it read before each further read.
-abbrev pub Listens : {R W : Type 0} → Starts → Devices R W → Result Report ListenFault → Type 0
-Listens starts d outcome =
-    Transfers Read (λ _. ⊥) (λ written. Write written) on_the_way d outcome (λ _. ⊤)
-    (λ bytes. AnswersListening starts (IsReadOut d) (λ more. more ≡ []) (d.contents d.writer.inner)
-    (d.contents d.writer_after.inner) outcome bytes)
-    (λ bytes. AnswersListening starts (Unit {0}) (λ more. Unit {0}) (d.contents d.writer.inner)
-    (d.contents d.writer_after.inner) outcome bytes)
+-- The count of failed reads rose, by one, exactly where the outcome is `Read`, and that of failed
+-- writes where it is `Write`.
+pub record Listens {R W : Type 0} (starts : Starts) (d : Devices R W)
+    (outcome : Result Report ListenFault) : Type 0 where
+  pub bytes : List ℕ
+  pub consumed : Consumes (d.remaining d.reader.inner) (d.remaining d.reader_after.inner) bytes
+  pub answer : AnswersListening starts (IsReadOut d) (λ more. more ≡ [])
+      (d.contents d.writer.inner) (d.contents d.writer_after.inner) outcome bytes
+  pub file : IfSome (d.remaining d.reader.inner)
+      (AnswersListening starts (Unit {0}) (λ more. Unit {0}) (d.contents d.writer.inner)
+      (d.contents d.writer_after.inner) outcome)
+  pub unread : IsErrOf outcome Read ↔ (d.reader_after.failures ≡ 1)
+  pub read_once : d.reader_after.failures ≤ 1
+  pub unwritten : ((written : ℕ) × (outcome ≡ Err (Write written)))
+      ↔ (d.writer_after.failures ≡ 1)
+  pub write_once : d.writer_after.failures ≤ 1

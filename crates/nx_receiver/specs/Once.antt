@@ -1,19 +1,19 @@
 -- A message that is sent one or more times and is printed once: what has to be met, and what is
 -- printed (this profile).
-use Rattle.std.specs.Prelude.{◌≡◌, ℕ, ◌+◌, ◌<◌, List, [], ◌∷◌, ◌++◌, length, Contains, IsTrue}
+use Rattle.std.specs.Prelude.{◌≡◌, ℕ, ◌+◌, ◌<◌, List, [], ◌∷◌, ◌++◌, length, Contains, IsTrue, false}
 use Rattle.nx_sync.specs.Locks.{Lock, Now, IsNow}
 use Rattle.nx_envelope.specs.Copies.{errors_of}
 use Rattle.nx_envelope.specs.Identity.{same_identity}
 use Rattle.nx_envelope.specs.Message.{text_of, MessageView}
 use Rattle.nx_envelope.specs.declared.found.How.TheVariants.{Full}
 use Rattle.nx_envelope.specs.declared.identity.Identity.{Identity}
-use Rattle.nx_memory.specs.Memory.{seconds_known, most_entries, IsLive}
+use Rattle.nx_memory.specs.Memory.{seconds_known, most_entries}
 use Rattle.nx_memory.specs.Selection.{admits}
 use Rattle.nx_memory.specs.declared.entry.MemoryEntry.{MemoryEntry}
 use Rattle.nx_station.specs.Sendings.{Part, IsCut, IsSentAt}
 use Rattle.nx_receiver.specs.Events.{Event, Start, elements_among, first_setting, setting_at}
 use Rattle.nx_receiver.specs.FoundCopies.{FoundCopy, found_to_end, TaggedCopy, tagged_copies}
-use Rattle.nx_receiver.specs.Printing.{copies_of, entries_made, entries_after}
+use Rattle.nx_receiver.specs.Printing.{copies_of, entries_made, entries_after, is_remembered}
 
 -- after these first entries, no entry of the identity is live at the first of the copies that bear
 -- it
@@ -23,7 +23,7 @@ IsUnknownAtFirst entries identity copies =
     → copies ≡ before ++ first ∷ after
     → copies_of identity before ≡ []
     → IsTrue (same_identity first.identity identity)
-    → IsLive identity first.moment (entries_after entries before) → ⊥
+    → is_remembered (entries_after entries before) first ≡ false
 
 -- Fewer than 200 entries are made between the first of the copies that bear the identity of the
 -- message and any later one of them.

@@ -5,7 +5,7 @@ use Rattle.std.specs.List.{flat_map}
 use Rattle.nx_fec.specs.Channels.{same_channel}
 use Rattle.nx_fec.specs.declared.channel.Channel.{Channel}
 use Rattle.nx_fec.specs.declared.channel.Channel.TheVariants.{Zero, One, Two}
-use Rattle.nx_memory.specs.Saved.{SavedState, SavedStates, newest_of_all, nothing_saved, on_channel_0}
+use Rattle.nx_memory.specs.Saved.{SavedState, SavedStates, newest_of_all, nothing_saved}
 use Rattle.nx_receiver.specs.Events.{Event, Start, at_moment}
 use Rattle.nx_receiver.specs.FoundCopies.{TaggedCopy}
 
@@ -45,7 +45,7 @@ start_on starts channel = record {
 
 -- nothing is saved of any channel: there are no entries, and everything is selected
 abbrev pub none_saved : SavedStates
-none_saved = on_channel_0 nothing_saved
+none_saved = record { on_0 = nothing_saved; on_1 = nothing_saved; on_2 = nothing_saved }
 
 -- three receivers start with what is saved, at the greatest moment of a saved entry, or 0 where
 -- there is none: so no moment that they are given lies before an entry

@@ -6,10 +6,12 @@ ghost use Rattle.nx_code.specs.Lists.{last_of};
 ghost use Rattle.nx_memory.specs.Memory.{is_known, most_entries, newest_moment};
 ghost use Rattle.nx_receiver.specs.Printing as spec;
 ghost use Rattle.nx_receiver.specs.Printing.{entry_made};
+ghost use Rattle.nx_envelope.specs.Copies.{errors_of};
+ghost use Rattle.nx_receiver.specs.private.Heads.{headed_copy};
 ghost use Rattle.nx_receiver.specs.private.Watch.{is_good_text};
 ghost use Rattle.nx_receiver.specs.FoundCopies.{tagged_found};
 
-use nx_envelope::{Found, How, Identity};
+use nx_envelope::{Found, FoundHead, How, Identity};
 use nx_memory::Recall;
 
 /// A copy is good where this many times its errors is less than its characters: fewer than 4 per
@@ -33,9 +35,36 @@ pub fn judge<M: Recall>(found: &Found, moment: u64, selected: bool, memory: &mut
         (entries ++ entry_made entries (tagged_found found.now moment selected)) }
     ensures not_before { newest_moment (M.content memory.new) ≤ moment }
 {
-    let printed = is_printed(&found.identity, moment, selected, memory);
-    if is_entered(found, printed) {
-        memory.enter(found.identity, moment);
+    let head = FoundHead {
+        identity: found.identity,
+        errors: found.errors,
+        how: found.how,
+    };
+    judge_head(&head, found.text.as_slice(), moment, selected, memory)
+}
+
+/// Judges a copy as `judge` does, by its head and its text.
+pub(crate) fn judge_head<M: Recall>(
+    head: &FoundHead,
+    text: &[u8],
+    moment: u64,
+    selected: bool,
+    memory: &mut M,
+) -> bool
+    requires newest { newest_moment (M.content memory.old) ≤ moment }
+    requires errors { head.now.errors ≡ errors_of text.now }
+    ensures printed { (entries : List MemoryEntry)
+        → M.content memory.old ≡ last_of most_entries entries
+        → result ≡ spec.is_printed entries (headed_copy head.now text.now moment selected) }
+    ensures entered { (entries : List MemoryEntry)
+        → M.content memory.old ≡ last_of most_entries entries
+        → M.content memory.new ≡ last_of most_entries
+        (entries ++ entry_made entries (headed_copy head.now text.now moment selected)) }
+    ensures not_before { newest_moment (M.content memory.new) ≤ moment }
+{
+    let printed = is_printed(&head.identity, moment, selected, memory);
+    if is_entered(head, text, printed) {
+        memory.enter(head.identity, moment);
     }
     printed
 }
@@ -55,16 +84,18 @@ pub(crate) fn is_printed<M: Recall>(
 }
 
 /// Whether a copy is printed, as the caller says, and is good and not numbered 00.
-fn is_entered(found: &Found, printed: bool) -> bool
-    ensures { result ≡ (printed && is_good_text found.now.how found.now.text.items
-        && not (found.now.identity.number == 0)) }
+fn is_entered(head: &FoundHead, text: &[u8], printed: bool) -> bool
+    requires { head.now.errors ≡ errors_of text.now }
+    ensures { result ≡ (printed && is_good_text head.now.how text.now
+        && not (head.now.identity.number == 0)) }
 {
-    printed && is_good(found) && found.identity.number() != 0
+    printed && is_good(head, text) && head.identity.number() != 0
 }
 
 /// Whether a copy is full and fewer than 4 per cent of its characters are lost; an empty one is.
-fn is_good(found: &Found) -> bool
-    ensures { result ≡ is_good_text found.now.how found.now.text.items }
+fn is_good(head: &FoundHead, text: &[u8]) -> bool
+    requires { head.now.errors ≡ errors_of text.now }
+    ensures { result ≡ is_good_text head.now.how text.now }
 {
-    found.how == How::Full && GOOD_SHARE * usize::from(found.errors) < found.text.len().max(1)
+    head.how == How::Full && GOOD_SHARE * usize::from(head.errors) < text.len().max(1)
 }

@@ -9,6 +9,7 @@ mod listen_fault;
 mod listening;
 mod lock_reader;
 mod over;
+mod packed;
 mod receiver;
 mod resume_fault;
 mod resuming;

@@ -1,6 +1,6 @@
 //! Listening to an air file: the log of its lines, written while it is read.
 
-ghost use Rattle.std.specs.Prelude.{◌≡◌, ◌+◌, ◌-◌, ◌^◌, ◌<◌, ◌≤◌, ℕ, Bool, false, List, [], ◌∷◌, ◌++◌, length, map, take, Option, Some, IfErr, IfOk, IfSome, MatchResult, OnErr, OnOk};
+ghost use Rattle.std.specs.Prelude.{◌≡◌, ◌+◌, ◌-◌, ◌^◌, ◌<◌, ◌≤◌, ℕ, Bool, false, List, [], ◌∷◌, ◌++◌, length, map, take, drop, Option, Some, IfErr, IfOk, IfSome, MatchResult, OnErr, OnOk};
 ghost use Rattle.nx_code.specs.Reading.{IsCapital};
 ghost use Rattle.nx_envelope.specs.Moment.{last_moment};
 ghost use Rattle.nx_fec.specs.AirFile.{Line};
@@ -20,7 +20,7 @@ ghost use Rattle.nx_receiver.specs.ListenOnce.{KeepsHeadline};
 ghost use Rattle.nx_receiver.specs.Log.{IsLog};
 ghost use Rattle.nx_receiver.specs.Receiver.{Stands, TakesEvent, entry_list};
 ghost use Rattle.nx_receiver.specs.Shares.{Given, Starts, all_at_zero, marked, saved_of, start_on, starts_from};
-ghost use Rattle.nx_receiver.specs.private.Awaiting.{Awaits, HearsUpTo};
+ghost use Rattle.nx_receiver.specs.private.Awaiting.{HandsOut, HearsUpTo};
 ghost use Rattle.nx_receiver.specs.private.Listener.{BeginsFrom, HasClosed, HasClosedSome, HasFinished, HeardSome, HearsLog, IsHearing, IsListening, Listening, RefusesFrom, RefusesLine, StandsFrom, content, count_of, lines_fault, receiver_on, refusal_fault, starts_of, then_elements, with_receiver};
 ghost use Rattle.nx_receiver.specs.declared.listen_fault.ListenFault.TheVariants.{Memory};
 
@@ -32,8 +32,8 @@ use crate::receiver::Receiver;
 use crate::writing::entry_bytes;
 use nx_envelope::Letter;
 use nx_fec::{
-    Batch, Channel, Counting, LineFault, LineKind, LineTaker, LinesFault, LinesRead, Scanner,
-    TakeFault, WriteFault, run_lines, write_on,
+    Batch, Channel, Counting, LineFault, LineKind, LineTaker, LinesFault, LinesRead,
+    PackedElements, Scanner, TakeFault, WriteFault, run_lines, write_on,
 };
 use nx_memory::{RingRecall, Saved, SavedSet, Selection};
 use std::alloc::{AllocError, Global};
@@ -357,33 +357,47 @@ impl Listener {
 
     /// Hears elements of a channel up to and with the first one with which something is over that
     /// may bring an entry; says how many, and what is over.
-    fn hear_on(&mut self, channel: Channel, bits: &[bool]) -> (usize, Over)
-        ensures within { result.0 ≤ length bits.now }
+    fn hear_on(&mut self, channel: Channel, packed: &PackedElements, from: usize) -> (usize, Over)
+        requires { from ≤ length packed.now }
+        ensures within { from + result.0 ≤ length packed.now }
         ensures stands { HearsUpTo content (receiver_on self.old channel)
-            (receiver_on self.new channel) (take result.0 bits.now) result.1 }
-        ensures some { 0 < length bits.now → 0 < result.0 }
+            (receiver_on self.new channel) (take result.0 (drop from packed.now)) result.1 }
+        ensures some { from < length packed.now → 0 < result.0 }
         ensures only { self.new ≡ with_receiver self.old channel (receiver_on self.new channel) }
     {
         match channel {
-            Channel::Zero => self.on_0.hear(bits),
-            Channel::One => self.on_1.hear(bits),
-            Channel::Two => self.on_2.hear(bits),
+            Channel::Zero => self.on_0.hear(packed, from),
+            Channel::One => self.on_1.hear(packed, from),
+            Channel::Two => self.on_2.hear(packed, from),
         }
     }
 
-    /// The entry of the copy that is over on a channel, where one is and it is printed.
-    fn finish_on(&mut self, channel: Channel, over: Over) -> Option<Entry>
-        ensures stands { (start : Start) (events : List Event) (log : List TaggedCopy)
-            → Awaits content start (receiver_on self.old channel) events log over
-            → Stands content start (receiver_on self.new channel) events
-            (log ++ entry_list result) }
-        ensures moment { IfSome result (λ entry. entry.moment ≤ last_moment) }
+    /// Finishes what is over on a channel, and gives the entry that it brings, if it brings one: says
+    /// whether it does.
+    fn finish_on<W: Write>(
+        &mut self,
+        channel: Channel,
+        over: Over,
+        writer: &mut Counting<W>,
+        batch: &mut Batch,
+    ) -> (bool, Result<(), WriteFault>)
+        requires { writer.old.failures ≡ 0 }
+        ensures given { (bytes : List ℕ)
+            × HandsOut content (receiver_on self.old channel) (receiver_on self.new channel)
+            channel over result.0 bytes
+            × ((old : Option (List ℕ)) (before : List ℕ)
+            → HasGiven old (W.contents writer.old.inner) batch.old before
+            → MatchResult result.1
+            (λ _. HasGiven old (W.contents writer.new.inner) batch.new (before ++ bytes))
+            (λ fault. WroteSome old (W.contents writer.new.inner) (before ++ bytes)
+            fault.written)) }
         ensures only { self.new ≡ with_receiver self.old channel (receiver_on self.new channel) }
+        ensures counts { FailsOnce writer.new result.1 }
     {
         match channel {
-            Channel::Zero => self.on_0.finish(over),
-            Channel::One => self.on_1.finish(over),
-            Channel::Two => self.on_2.finish(over),
+            Channel::Zero => self.on_0.give(over, channel, writer, batch),
+            Channel::One => self.on_1.give(over, channel, writer, batch),
+            Channel::Two => self.on_2.give(over, channel, writer, batch),
         }
     }
 
@@ -392,26 +406,29 @@ impl Listener {
     fn hear<W: Write>(
         &mut self,
         channel: Channel,
-        bits: &[bool],
+        packed: &PackedElements,
+        from: usize,
         writer: &mut Counting<W>,
         batch: &mut Batch,
     ) -> Result<usize, WriteFault>
-        requires some { 0 < length bits.now }
+        requires some { from < length packed.now }
         requires none { writer.old.failures ≡ 0 }
         ensures heard { (starts : Starts) (old : Option (List ℕ)) (given : List Given)
             (part : List Bool) → IsHearing starts self.old (then_elements given channel part)
             (HasGiven old (W.contents writer.old.inner) batch.old)
             → MatchResult result
             (λ count. IsHearing starts self.new
-            (then_elements given channel (part ++ take count bits.now))
+            (then_elements given channel (part ++ take count (drop from packed.now)))
             (HasGiven old (W.contents writer.new.inner) batch.new))
-            (λ fault. HeardSome starts (then_elements given channel (part ++ bits.now)) old
+            (λ fault. HeardSome starts
+            (then_elements given channel (part ++ drop from packed.now)) old
             (W.contents writer.new.inner) fault.written) }
-        ensures within { IfOk result (λ count. (0 < count) × (count ≤ length bits.now)) }
+        ensures within { IfOk result (λ count. (0 < count)
+            × (from + count ≤ length packed.now)) }
         ensures moment { self.new.has_moment ≡ self.old.has_moment }
         ensures counts { FailsOnce writer.new result }
     {
-        let (count, over) = self.hear_on(channel, bits);
+        let (count, over) = self.hear_on(channel, packed, from);
         self.elements = self.elements.saturating_add(count as u64);
         if over == Over::Nothing {
             return Ok(count);
@@ -422,9 +439,8 @@ impl Listener {
         }
     }
 
-    /// Finishes what is over on a channel, and gives the entry that it brings, if it brings one.
-    // Not inlined, so that no loop over elements has a place for an entry.
-    #[inline(never)]
+    /// Finishes what is over on a channel, and gives and counts the entry that it brings, if it
+    /// brings one.
     fn finish<W: Write>(
         &mut self,
         channel: Channel,
@@ -443,11 +459,9 @@ impl Listener {
         ensures moment { self.new.has_moment ≡ self.old.has_moment }
         ensures counts { FailsOnce writer.new result }
     {
-        let Some(entry) = self.finish_on(channel, over) else {
-            return Ok(());
-        };
-        self.entries = self.entries.saturating_add(1);
-        batch.give(writer, &entry_bytes(&entry, channel))
+        let (is_printed, given) = self.finish_on(channel, over, writer, batch);
+        self.entries = self.entries.saturating_add(u64::from(is_printed));
+        given
     }
 
     /// Hears the elements of a line of a channel, and gives the entries of the copies that they
@@ -455,7 +469,7 @@ impl Listener {
     fn hear_all<W: Write>(
         &mut self,
         channel: Channel,
-        bits: &[bool],
+        packed: &PackedElements,
         writer: &mut Counting<W>,
         batch: &mut Batch,
     ) -> Result<(), WriteFault>
@@ -464,16 +478,16 @@ impl Listener {
             → IsHearing starts self.old (then_elements given channel [])
             (HasGiven old (W.contents writer.old.inner) batch.old)
             → MatchResult result
-            (λ _. IsHearing starts self.new (then_elements given channel bits.now)
+            (λ _. IsHearing starts self.new (then_elements given channel packed.now)
             (HasGiven old (W.contents writer.new.inner) batch.new))
-            (λ fault. HeardSome starts (then_elements given channel bits.now) old
+            (λ fault. HeardSome starts (then_elements given channel packed.now) old
             (W.contents writer.new.inner) fault.written) }
         ensures moment { self.new.has_moment ≡ self.old.has_moment }
         ensures counts { FailsOnce writer.new result }
     {
         let mut at = 0;
-        while at < bits.len() {
-            match self.hear(channel, &bits[at..], writer, batch) {
+        while at < packed.len() {
+            match self.hear(channel, packed, at, writer, batch) {
                 Ok(count) => at += count,
                 Err(fault) => return Err(fault),
             }
@@ -485,7 +499,7 @@ impl Listener {
     fn take_elements<W: Write>(
         &mut self,
         mark: Option<Channel>,
-        bits: &[bool],
+        packed: &PackedElements,
         writer: &mut Counting<W>,
         batch: &mut Batch,
     ) -> Result<(), TakeFault<LineRefusal>>
@@ -493,16 +507,16 @@ impl Listener {
         ensures taken { (first : Listening) (old : Option (List ℕ)) (lines : List Line)
             → HasTaken StandsFrom first self.old lines
             (HasGiven old (W.contents writer.old.inner) batch.old) → MatchResult result
-            (λ _. HasTaken StandsFrom first self.new (lines ++ line.elements mark bits.now ∷ [])
+            (λ _. HasTaken StandsFrom first self.new (lines ++ line.elements mark packed.now ∷ [])
             (HasGiven old (W.contents writer.new.inner) batch.new))
             (λ fault. ExplainsTaking StandsFrom BeginsFrom RefusesFrom first self.new old
-            (W.contents writer.new.inner) batch.new lines (line.elements mark bits.now) fault) }
+            (W.contents writer.new.inner) batch.new lines (line.elements mark packed.now) fault) }
         ensures writes { Writes writer.new TakeFault.Write result }
     {
         if !self.has_moment {
             return Err(TakeFault::Refused(LineRefusal::NoMoment));
         }
-        match self.hear_all(Channel::of(mark), bits, writer, batch) {
+        match self.hear_all(Channel::of(mark), packed, writer, batch) {
             Ok(()) => Ok(()),
             Err(fault) => Err(TakeFault::Write(fault.written)),
         }

@@ -1,16 +1,16 @@
 //! The text of one lock, read from its words.
 
-ghost use Rattle.std.specs.Prelude.{◌≡◌, ◌↔◌, ◌+◌, ℕ, false, None, IsNone, MatchOption};
+ghost use Rattle.std.specs.Prelude.{◌≡◌, ◌↔◌, ◌+◌, ℕ, false, IsNone, MatchOption};
 ghost use Rattle.nx_sync.specs.Words.{role_of};
 ghost use Rattle.nx_sync.specs.declared.step.Role.{Role};
 ghost use Rattle.nx_envelope.specs.Copies.{Copy};
-ghost use Rattle.nx_envelope.specs.Finder.{Closes, ClosesNone, HasReady, held_identity, is_over, is_ready};
-ghost use Rattle.nx_envelope.specs.Found.{IsFound};
-ghost use Rattle.nx_receiver.specs.private.LockReader.{HearsWord, ReadsLock, text_after};
+ghost use Rattle.nx_envelope.specs.Finder.{Closes, ClosesHeld, ClosesNone, HasReady, held_identity, is_over, is_ready};
+ghost use Rattle.nx_envelope.specs.Found.{IsFound, IsHeadOf};
+ghost use Rattle.nx_receiver.specs.private.LockReader.{HearsWord, ReadsLock, is_open, text_after};
 
 use nx_code::{Printer, Word};
-use nx_envelope::{Finder, Found, Identity, TextEvent};
-use nx_fec::{Diversity, Heard};
+use nx_envelope::{Finder, Found, FoundHead, Identity, TextEvent};
+use nx_fec::Diversity;
 use nx_sync::Role;
 use std::marker::Model;
 
@@ -54,7 +54,7 @@ impl LockReader {
         ensures { (first : Role) (words : ℕ → ℕ) → ReadsLock result first words 0 }
     {
         // No room for a field of a type whose own model forgets what it holds.
-        prove!(size_of::<LockReader>() == size_of::<Diversity>() + size_of::<Finder>() + 8);
+        prove!(size_of::<LockReader>() == size_of::<Finder>() + 8);
         LockReader {
             diversity: Diversity::new(),
             printer: Printer::new(),
@@ -78,12 +78,12 @@ impl LockReader {
     {
         match role {
             Role::Dx => {
-                self.diversity.dx(Heard::of(word));
+                self.diversity.hear_dx(word);
                 TextEvent::Nothing
             }
             Role::Rx => {
-                let taken = self.diversity.rx(Heard::of(word));
-                match self.printer.step(taken) {
+                let class = self.diversity.hear_rx(word);
+                match self.printer.print_class(class) {
                     Some(byte) => self.finder.hear(byte),
                     None => TextEvent::Nothing,
                 }
@@ -114,6 +114,37 @@ impl LockReader {
         self.finder.take_found()
     }
 
+    /// All but the text of the copy that the last word or the end ended, where it was not taken yet.
+    pub(crate) fn ready_head(&self) -> Option<FoundHead>
+        ensures head { (copy : Copy) → HasReady self.now.finder copy
+            → MatchOption result ⊥ (IsHeadOf copy) }
+        ensures none { IsNone result ↔ (is_ready self.now.finder ≡ false) }
+    {
+        self.finder.ready_head()
+    }
+
+    /// The text of the copy that can be taken.
+    pub(crate) fn ready_text(&self) -> &[u8]
+        ensures { (copy : Copy) → HasReady self.now.finder copy → result.now ≡ copy.text }
+    {
+        self.finder.ready_text()
+    }
+
+    /// Ends the text; the reader is then as new, for the next lock, but for the copy that stood
+    /// open, which can be taken then. Whether there is one.
+    #[tactic(auto, unfolding(crate::specs::private::LockReader::dx_words, crate::specs::LockText::positions))]
+    pub(crate) fn close(&mut self) -> bool
+        ensures closes { (first : Role) (words : ℕ → ℕ) (n : ℕ) → ReadsLock self.old first words n
+            → ClosesHeld (text_after first words n) self.new.finder }
+        ensures as_new { (first : Role) (words : ℕ → ℕ) → ReadsLock self.new first words 0 }
+        ensures ready { result ≡ is_ready self.new.finder }
+    {
+        self.diversity = Diversity::new();
+        self.printer = Printer::new();
+        self.finder.close();
+        self.finder.identity().is_some()
+    }
+
     /// Ends the text, as the lock or the bits end, and answers the copy that stands open; the
     /// reader is then as new, for the next lock. A copy that could be taken is gone.
     // Not inlined, as `take_found`.
@@ -133,7 +164,7 @@ impl LockReader {
     #[tactic(auto, unfolding(crate::specs::private::LockReader::dx_words, crate::specs::LockText::positions))]
     pub(crate) fn restart(&mut self)
         ensures none { (first : Role) (words : ℕ → ℕ) (n : ℕ) → ReadsLock self.old first words n
-            → held_identity self.old.finder.copy ≡ None → ClosesNone (text_after first words n) }
+            → is_open self.old.finder.copy ≡ false → ClosesNone (text_after first words n) }
         ensures as_new { (first : Role) (words : ℕ → ℕ) → ReadsLock self.new first words 0 }
     {
         self.diversity = Diversity::new();

@@ -1,6 +1,6 @@
 //! The receiver: elements, moments and commands in, entries out.
 
-ghost use Rattle.std.specs.Prelude.{◌≡◌, ◌↔◌, ◌+◌, ◌<◌, ◌≤◌, ◌==◌, ◌&&◌, ◌||◌, not, List, [], ◌∷◌, ◌++◌, length, take, IfErr, IfOk, IfSome, IsErr, IsNone, IsSome, IsTrue, OnErr, OnOk};
+ghost use Rattle.std.specs.Prelude.{◌≡◌, ◌≢◌, ◌↔◌, ℕ, Option, MatchResult, false, ◌+◌, ◌<◌, ◌≤◌, ◌==◌, ◌&&◌, ◌||◌, not, List, [], ◌∷◌, ◌++◌, length, take, drop, IfErr, IfOk, IfSome, IsErr, IsNone, IsSome, IsTrue, OnErr, OnOk};
 ghost use Rattle.nx_envelope.specs.Moment.{last_moment};
 ghost use Rattle.nx_code.specs.Lists.{last_of};
 ghost use Rattle.nx_memory.specs.Memory.{is_known, most_entries, newest_moment};
@@ -12,19 +12,30 @@ ghost use Rattle.nx_receiver.specs.Events.{Event, Start, at_moment, command, fir
 ghost use Rattle.nx_receiver.specs.Log.{PrintsToEnd};
 ghost use Rattle.nx_receiver.specs.Printing.{entries_after, printed_copies};
 ghost use Rattle.nx_receiver.specs.Receiver.{HandsOutNoneBefore, RefusesStart, Stands, TakesEvent, entry_list};
-ghost use Rattle.nx_receiver.specs.private.Awaiting.{Awaits, HearsUpTo, PassesOver};
+ghost use Rattle.nx_receiver.specs.private.Awaiting.{Awaits, HandsOut, HearsUpTo, PassesOver, behind_copy};
+ghost use Rattle.nx_receiver.specs.private.Heads.{headed_list};
+ghost use Rattle.nx_receiver.specs.private.LockReader.{is_open};
 ghost use Rattle.nx_receiver.specs.FoundCopies.{TaggedCopy};
 ghost use Rattle.nx_receiver.specs.private.Watch.{handed_out};
-ghost use Rattle.nx_receiver.specs.declared.over.Over.TheVariants.{Copy, Lock, Nothing};
+ghost use Rattle.nx_receiver.specs.declared.over.Over.TheVariants as overs;
+ghost use Rattle.nx_receiver.specs.declared.over.Over.TheVariants.{CopyAndLock, Lock, Nothing};
+ghost use Rattle.nx_envelope.specs.Copies.{Copy};
+ghost use Rattle.nx_envelope.specs.Finder.{HasReady};
+ghost use Rattle.nx_envelope.specs.Found.{IsHeadOf};
+ghost use Rattle.nx_fec.specs.LineRuns.{HasGiven};
+ghost use Rattle.nx_fec.specs.Transfers.{FailsOnce, WroteSome};
 
 use crate::entry::Entry;
 use crate::fault::{MomentFault, ReceiverFault};
-use crate::judging::{is_printed, judge};
+use crate::judging::{is_printed, judge, judge_head};
 use crate::over::{CopyTag, Over};
 use crate::watch::Watch;
-use nx_envelope::{Found, Identity, LAST_MOMENT, Letter};
+use crate::writing::give_entry;
+use nx_envelope::{Found, FoundHead, Identity, LAST_MOMENT, Letter};
+use nx_fec::{Batch, Channel, Counting, MAX_ELEMENTS, PackedElements, WriteFault};
 use nx_memory::{Listed, Recall, RingRecall, Saved, Selection, Vital};
 use std::alloc::Global;
+use std::io::Write;
 use std::marker::Model;
 
 /// A receiver of NAVTEX, which is given elements, moments and commands, and hands out an entry for
@@ -196,7 +207,7 @@ impl<M: Recall> Receiver<M> {
     {
         let mut at = 0;
         while at < bits.len() {
-            let (count, over) = self.hear(&bits[at..]);
+            let (count, over) = self.hear_bits(&bits[at..]);
             at += count;
             // Nothing is over with the last of all elements: no place for an entry is cleared.
             if over == Over::Nothing {
@@ -231,7 +242,29 @@ impl<M: Recall> Receiver<M> {
     /// before anything else is heard.
     // Not inlined, so that its loops have their registers to themselves; its answer is small.
     #[inline(never)]
-    pub(crate) fn hear(&mut self, bits: &[bool]) -> (usize, Over)
+    pub(crate) fn hear(&mut self, packed: &PackedElements, from: usize) -> (usize, Over)
+        requires { from ≤ length packed.now }
+        ensures within { from + result.0 ≤ length packed.now }
+        ensures stands { HearsUpTo M.content self.old self.new
+            (take result.0 (drop from packed.now)) result.1 }
+        ensures first { HandsOutNoneBefore M.content self.old (drop from packed.now) result.0 }
+        ensures all { result.1 ≡ Nothing → from + result.0 ≡ length packed.now }
+        ensures some { from < length packed.now → 0 < result.0 }
+    {
+        let end = packed.len();
+        let mut heard = 0;
+        while from + heard < end {
+            let (count, over) = self.hear_part(packed, from + heard);
+            heard += count;
+            if over != Over::Nothing {
+                return (heard, over);
+            }
+        }
+        (heard, Over::Nothing)
+    }
+
+    /// Hears elements that aren't packed, as `hear` does.
+    fn hear_bits(&mut self, bits: &[bool]) -> (usize, Over)
         ensures within { result.0 ≤ length bits.now }
         ensures stands { HearsUpTo M.content self.old self.new (take result.0 bits.now) result.1 }
         ensures first { HandsOutNoneBefore M.content self.old bits.now result.0 }
@@ -240,7 +273,7 @@ impl<M: Recall> Receiver<M> {
     {
         let mut at = 0;
         while at < bits.len() {
-            let (count, over) = self.hear_part(&bits[at..]);
+            let (count, over) = self.hear_first(&bits[at..]);
             at += count;
             if over != Over::Nothing {
                 return (at, over);
@@ -249,17 +282,31 @@ impl<M: Recall> Receiver<M> {
         (at, Over::Nothing)
     }
 
-    /// Hears elements up to and with the first one with which anything is over, and passes over it
-    /// where it surely brings no entry.
-    // Inlined, since `hear` alone calls it.
-    #[inline(always)]
-    fn hear_part(&mut self, bits: &[bool]) -> (usize, Over)
+    /// Hears the first of some elements, at most 512.
+    fn hear_first(&mut self, bits: &[bool]) -> (usize, Over)
         ensures within { result.0 ≤ length bits.now }
         ensures stands { HearsUpTo M.content self.old self.new (take result.0 bits.now) result.1 }
         ensures first { HandsOutNoneBefore M.content self.old bits.now result.0 }
         ensures some { 0 < length bits.now → 0 < result.0 }
     {
-        let (count, over) = self.watch.hear(bits);
+        let mut packed = PackedElements::new();
+        packed.pack_bits(&bits[..bits.len().min(MAX_ELEMENTS)]);
+        self.hear(&packed, 0)
+    }
+
+    /// Hears elements up to and with the first one with which anything is over, and passes over it
+    /// where it surely brings no entry.
+    // Inlined, since `hear` alone calls it.
+    #[inline(always)]
+    fn hear_part(&mut self, packed: &PackedElements, from: usize) -> (usize, Over)
+        requires { from ≤ length packed.now }
+        ensures within { from + result.0 ≤ length packed.now }
+        ensures stands { HearsUpTo M.content self.old self.new
+            (take result.0 (drop from packed.now)) result.1 }
+        ensures first { HandsOutNoneBefore M.content self.old (drop from packed.now) result.0 }
+        ensures some { from < length packed.now → 0 < result.0 }
+    {
+        let (count, over) = self.watch.hear(packed, from);
         (count, self.pass_over(over))
     }
 
@@ -291,7 +338,7 @@ impl<M: Recall> Receiver<M> {
 
     /// What is left where a copy is over, which can be taken: nothing where it isn't printed.
     fn judge_copy(&self) -> Over
-        ensures { PassesOver M.content self.now self.now Copy result }
+        ensures { PassesOver M.content self.now self.now overs.Copy result }
     {
         let Some(identity) = self.watch.identity() else {
             return Over::Copy;
@@ -335,6 +382,105 @@ impl<M: Recall> Receiver<M> {
         };
         let tag = self.watch.tag();
         print_copy(found, tag, &mut self.memory)
+    }
+
+    /// Finishes what is over, and gives the entry that it brings on a channel, if it brings one: says
+    /// whether it does. The text goes from the finder to the batch.
+    // Not inlined, so that no loop over elements has a place for the head of an entry.
+    #[inline(never)]
+    pub(crate) fn give<W: Write>(
+        &mut self,
+        over: Over,
+        channel: Channel,
+        writer: &mut Counting<W>,
+        batch: &mut Batch,
+    ) -> (bool, Result<(), WriteFault>)
+        requires { writer.old.failures ≡ 0 }
+        ensures given { (bytes : List ℕ)
+            × HandsOut M.content self.old self.new channel over result.0 bytes
+            × ((old : Option (List ℕ)) (before : List ℕ)
+            → HasGiven old (W.contents writer.old.inner) batch.old before
+            → MatchResult result.1
+            (λ _. HasGiven old (W.contents writer.new.inner) batch.new (before ++ bytes))
+            (λ fault. WroteSome old (W.contents writer.new.inner) (before ++ bytes)
+            fault.written)) }
+        ensures counts { FailsOnce writer.new result.1 }
+    {
+        let over = self.close_lock(over);
+        let Some(head) = self.judge_ready(over) else {
+            self.end_behind(over);
+            return (false, Ok(()));
+        };
+        let moment = self.watch.tag().moment;
+        let given = give_entry(
+            &head,
+            self.watch.ready_text(),
+            moment,
+            channel,
+            writer,
+            batch,
+        );
+        self.end_behind(over);
+        (true, given)
+    }
+
+    /// Ends the text of a lock where the lock alone is over. Answers what is over then: the copy that
+    /// stood open.
+    fn close_lock(&mut self, over: Over) -> Over
+        ensures passes { PassesOver M.content self.old self.new over result }
+        ensures closed { result ≢ Lock }
+    {
+        match over {
+            Over::Lock => self.watch.close_text(),
+            Over::Nothing | Over::Copy | Over::CopyAndLock => over,
+        }
+    }
+
+    /// Judges the copy that is over, where one is: its head where it is printed. The copy stays with
+    /// the watch.
+    fn judge_ready(&mut self, over: Over) -> Option<FoundHead>
+        ensures stands { (start : Start) (history : List Event) (log : List TaggedCopy)
+            → Awaits M.content start self.old history log over
+            → Awaits M.content start self.new history
+            (log ++ headed_list result self.old.watch.reader.finder.text self.old.watch.tag.moment)
+            (behind_copy over) }
+        ensures watch { self.new.watch ≡ self.old.watch }
+        ensures ready { IfSome result (λ head. (copy : Copy)
+            × HasReady self.old.watch.reader.finder copy × IsHeadOf copy head) }
+    {
+        if !over.is_copy() {
+            return None;
+        }
+        let Some(head) = self.watch.ready_head() else {
+            return None;
+        };
+        let CopyTag {
+            moment,
+            is_selected,
+        } = self.watch.tag();
+        if !judge_head(
+            &head,
+            self.watch.ready_text(),
+            moment,
+            is_selected,
+            &mut self.memory,
+        ) {
+            return None;
+        }
+        Some(head)
+    }
+
+    /// Ends the text behind a copy where the lock is over with it: no other stands open.
+    fn end_behind(&mut self, over: Over)
+        ensures { (start : Start) (history : List Event) (log : List TaggedCopy)
+            → Awaits M.content start self.old history log (behind_copy over)
+            → (over ≡ CopyAndLock → is_open self.old.watch.reader.finder.copy ≡ false)
+            → over ≢ Lock
+            → Stands M.content start self.new history log }
+    {
+        if over == Over::CopyAndLock {
+            self.watch.restart();
+        }
     }
 
     /// Whether a copy of this identity, the one that is held, is printed.

@@ -2,21 +2,27 @@
 //! the selection in force at its second digit. What runs for each element or each word has a small
 //! answer.
 
-ghost use Rattle.std.specs.Prelude.{◌≡◌, ◌<◌, ◌≤◌, List, Bool, [], ◌∷◌, ◌++◌, ◌↔◌, length, not, take, None, IfOk, IfErr, IsErr, IsTrue, OnErr, OnOk};
+ghost use Rattle.std.specs.Prelude.{◌≡◌, ◌≢◌, ◌+◌, ◌<◌, ◌≤◌, List, Bool, [], ◌∷◌, ◌++◌, ◌↔◌, length, not, take, drop, false, IfOk, IfErr, IsErr, IsNone, IsTrue, MatchOption, OnErr, OnOk};
+ghost use Rattle.nx_code.specs.Word.{elements};
 ghost use Rattle.nx_sync.specs.Synchroniser.{is_between_words, is_hunting};
-ghost use Rattle.nx_envelope.specs.Finder.{held_identity};
+ghost use Rattle.nx_envelope.specs.Copies.{Copy};
+ghost use Rattle.nx_envelope.specs.Finder.{HasReady, held_identity, is_ready};
+ghost use Rattle.nx_envelope.specs.Found.{IsHeadOf};
 ghost use Rattle.nx_memory.specs.Selection.{admits, is_vital};
 ghost use Rattle.nx_receiver.specs.Events as events;
 ghost use Rattle.nx_receiver.specs.Events.{Setting, Start, first_setting, refused_after};
 ghost use Rattle.nx_receiver.specs.FoundCopies.{TaggedCopy};
-ghost use Rattle.nx_receiver.specs.private.Watch.{BothAreOver, CopyIsOver, HasEndedAll, HearsAll, LockIsOver, ReadsStep, ReadsWord, TagGoesOn, WatchStands, handed_out};
+ghost use Rattle.nx_receiver.specs.private.Watch.{BothAreOver, CopyIsOver, HasEndedAll, HearsAll, IsOver, LockIsOver, ReadsStep, ReadsWord, TagGoesOn, WatchStands, handed_out};
+ghost use Rattle.nx_receiver.specs.private.LockReader.{is_open};
 ghost use Rattle.nx_receiver.specs.Watching.{in_force};
-ghost use Rattle.nx_receiver.specs.declared.over.Over.TheVariants.{Nothing};
+ghost use Rattle.nx_receiver.specs.declared.over.Over.TheVariants.{Lock, Nothing};
 
 use crate::lock_reader::LockReader;
 use crate::over::{CopyTag, Over};
+use crate::packed::{element, word};
 use nx_code::{ELEMENTS, Word};
-use nx_envelope::{Found, Identity, Letter, TextEvent};
+use nx_envelope::{Found, FoundHead, Identity, Letter, TextEvent};
+use nx_fec::PackedElements;
 use nx_memory::{Selection, Vital};
 use nx_sync::{Role, Step, Synchroniser};
 use std::alloc::{AllocError, Global};
@@ -119,79 +125,82 @@ impl Watch {
 
     /// Hears elements up to and with the first one with which anything is over, all of them where
     /// nothing is; says how many, and what is over.
-    pub(crate) fn hear(&mut self, bits: &[bool]) -> (usize, Over)
-        ensures within { result.0 ≤ length bits.now }
-        ensures hears { HearsAll self.old self.new (take result.0 bits.now) result.1 }
-        ensures all { result.1 ≡ Nothing → result.0 ≡ length bits.now }
-        ensures some { 0 < length bits.now → 0 < result.0 }
+    pub(crate) fn hear(&mut self, packed: &PackedElements, from: usize) -> (usize, Over)
+        requires { from ≤ length packed.now }
+        ensures within { from + result.0 ≤ length packed.now }
+        ensures hears { HearsAll self.old self.new (take result.0 (drop from packed.now)) result.1 }
+        ensures all { result.1 ≡ Nothing → from + result.0 ≡ length packed.now }
+        ensures some { from < length packed.now → 0 < result.0 }
         ensures force { in_force self.new ≡ in_force self.old }
         ensures tag { TagGoesOn self.old self.new }
     {
-        let mut at = 0;
-        while at < bits.len() {
-            let (count, over) = self.hear_part(&bits[at..]);
-            at += count;
+        let end = packed.len();
+        let mut heard = 0;
+        while from + heard < end {
+            let (count, over) = self.hear_part(packed, from + heard);
+            heard += count;
             if over != Over::Nothing {
-                return (at, over);
+                return (heard, over);
             }
         }
-        (at, Over::Nothing)
+        (heard, Over::Nothing)
     }
 
     /// Hears one or more elements: those of a hunt, whole words, or one element.
-    fn hear_part(&mut self, bits: &[bool]) -> (usize, Over)
-        requires { 0 < length bits.now }
-        ensures within { result.0 ≤ length bits.now }
+    fn hear_part(&mut self, packed: &PackedElements, from: usize) -> (usize, Over)
+        requires { from < length packed.now }
+        ensures within { from + result.0 ≤ length packed.now }
         ensures some { 0 < result.0 }
-        ensures hears { HearsAll self.old self.new (take result.0 bits.now) result.1 }
+        ensures hears { HearsAll self.old self.new (take result.0 (drop from packed.now)) result.1 }
         ensures force { in_force self.new ≡ in_force self.old }
         ensures tag { TagGoesOn self.old self.new }
     {
         if !self.is_locked() {
-            return self.hunt(bits);
+            return self.hunt(packed, from);
         }
-        if self.is_between_words() && bits.len() >= ELEMENTS {
-            return self.hear_words(bits);
+        if self.is_between_words() && packed.len() - from >= ELEMENTS {
+            return self.hear_words(packed, from);
         }
-        (1, self.hear_element(bits[0]))
+        (1, self.hear_element(element(packed, from)))
     }
 
     /// Hunts: hears elements up to and with the one that locks, all of them where none does.
-    fn hunt(&mut self, bits: &[bool]) -> (usize, Over)
+    fn hunt(&mut self, packed: &PackedElements, from: usize) -> (usize, Over)
         requires hunting { IsTrue (is_hunting self.old.synchroniser) }
-        requires some { 0 < length bits.now }
-        ensures within { result.0 ≤ length bits.now }
+        requires some { from < length packed.now }
+        ensures within { from + result.0 ≤ length packed.now }
         ensures some { 0 < result.0 }
-        ensures hears { HearsAll self.old self.new (take result.0 bits.now) result.1 }
+        ensures hears { HearsAll self.old self.new (take result.0 (drop from packed.now)) result.1 }
         ensures force { in_force self.new ≡ in_force self.old }
         ensures tag { TagGoesOn self.old self.new }
     {
-        let count = self.synchroniser.hunt(bits);
-        if count == bits.len() {
+        let left = packed.len() - from;
+        let count = self.synchroniser.hunt_packed(packed.words(), from, left);
+        if count == left {
             return (count, Over::Nothing);
         }
-        (count + 1, self.hear_element(bits[count]))
+        (count + 1, self.hear_element(element(packed, from + count)))
     }
 
     /// Hears whole words, as many as there are up to the first with which anything is over.
-    fn hear_words(&mut self, bits: &[bool]) -> (usize, Over)
+    fn hear_words(&mut self, packed: &PackedElements, from: usize) -> (usize, Over)
         requires limit { IsTrue (is_between_words self.old.synchroniser) }
-        requires some { 7 ≤ length bits.now }
-        ensures within { result.0 ≤ length bits.now }
+        requires some { from + 7 ≤ length packed.now }
+        ensures within { from + result.0 ≤ length packed.now }
         ensures some { 0 < result.0 }
-        ensures hears { HearsAll self.old self.new (take result.0 bits.now) result.1 }
+        ensures hears { HearsAll self.old self.new (take result.0 (drop from packed.now)) result.1 }
         ensures force { in_force self.new ≡ in_force self.old }
         ensures tag { TagGoesOn self.old self.new }
     {
-        let mut at = 0;
-        while let Some(word) = bits[at..].first_chunk::<ELEMENTS>() {
-            let over = self.hear_word(word);
-            at += ELEMENTS;
+        let mut heard = 0;
+        while packed.len() - from - heard >= ELEMENTS {
+            let over = self.hear_word(word(packed, from + heard));
+            heard += ELEMENTS;
             if over != Over::Nothing || !self.is_between_words() {
-                return (at, over);
+                return (heard, over);
             }
         }
-        (at, Over::Nothing)
+        (heard, Over::Nothing)
     }
 
     /// Whether a lock stands.
@@ -212,16 +221,16 @@ impl Watch {
         self.synchroniser.is_between_words()
     }
 
-    /// Hears the seven elements of the next word of the lock.
+    /// Hears the next word of the lock.
     // Inlined, since it is called for each word.
     #[inline(always)]
-    fn hear_word(&mut self, bits: &[bool; ELEMENTS]) -> Over
+    fn hear_word(&mut self, word: Word) -> Over
         requires { IsTrue (is_between_words self.old.synchroniser) }
-        ensures hears { HearsAll self.old self.new bits.now result }
+        ensures hears { HearsAll self.old self.new (elements word) result }
         ensures force { in_force self.new ≡ in_force self.old }
         ensures tag { TagGoesOn self.old self.new }
     {
-        let step = self.synchroniser.push_word(bits);
+        let step = self.synchroniser.push_whole(word);
         self.read(step)
     }
 
@@ -285,6 +294,36 @@ impl Watch {
         self.reader.take_found()
     }
 
+    /// All but the text of the copy that is over, which can be taken.
+    pub(crate) fn ready_head(&self) -> Option<FoundHead>
+        ensures head { (copy : Copy) → HasReady self.now.reader.finder copy
+            → MatchOption result ⊥ (IsHeadOf copy) }
+        ensures none { IsNone result ↔ (is_ready self.now.reader.finder ≡ false) }
+    {
+        self.reader.ready_head()
+    }
+
+    /// Its text.
+    pub(crate) fn ready_text(&self) -> &[u8]
+        ensures { (copy : Copy) → HasReady self.now.reader.finder copy → result.now ≡ copy.text }
+    {
+        self.reader.ready_text()
+    }
+
+    /// Ends the text of a lock that is over. The copy that stands open, if one does, is over then,
+    /// and can be taken.
+    pub(crate) fn close_text(&mut self) -> Over
+        ensures lock { (first : Setting) (h : List Bool) (s : List Setting)
+            (copies : List TaggedCopy) → LockIsOver first self.old h s copies
+            → IsOver first self.new h s copies result }
+        ensures closed { result ≢ Lock }
+        ensures force { in_force self.new ≡ in_force self.old }
+        ensures tag { self.new.tag ≡ self.old.tag }
+    {
+        let is_copy_over = self.reader.close();
+        Over::of(is_copy_over, false)
+    }
+
     /// Ends the text of the lock, and answers the copy that stands open, which is over then.
     pub(crate) fn end_text(&mut self) -> Option<Found>
         ensures lock { (first : Setting) (h : List Bool) (s : List Setting)
@@ -308,11 +347,11 @@ impl Watch {
         self.reader.identity()
     }
 
-    /// Ends the text of a lock that is over, where no copy stands open: it hands out none.
+    /// Ends the text of a lock that is over, where no copy stands open: none is over then.
     pub(crate) fn restart(&mut self)
         ensures lock { (first : Setting) (h : List Bool) (s : List Setting)
             (copies : List TaggedCopy) →
-            LockIsOver first self.old h s copies → held_identity self.old.reader.finder.copy ≡ None
+            LockIsOver first self.old h s copies → is_open self.old.reader.finder.copy ≡ false
             → WatchStands first self.new h s copies }
         ensures force { in_force self.new ≡ in_force self.old }
         ensures tag { self.new.tag ≡ self.old.tag }

@@ -1,21 +1,25 @@
 //! The text of an entry.
 
-ghost use Rattle.std.specs.Prelude.{◌≡◌, ◌+◌, ◌≤◌, ◌↔◌, ℕ, List, ◌++◌, length, MatchResult};
+ghost use Rattle.std.specs.Prelude.{◌≡◌, ◌+◌, ◌≤◌, ℕ, true, List, [], ◌∷◌, ◌++◌, length, Option, MatchResult};
 ghost use Rattle.std.specs.Io.KnownBytes.{Appends};
 ghost use Rattle.arrayvec.specs.ArrayVec.{array_vec_len};
+ghost use Rattle.nx_envelope.specs.Copies.{errors_of};
+ghost use Rattle.nx_envelope.specs.Header.{newline};
 ghost use Rattle.nx_envelope.specs.Moment.{IsShownAs, last_moment};
+ghost use Rattle.nx_fec.specs.LineRuns.{HasGiven};
 ghost use Rattle.nx_fec.specs.Transfers.{FailsOnce, WroteSome};
 ghost use Rattle.nx_receiver.specs.Log as spec;
 ghost use Rattle.nx_fec.specs.declared.channel.Channel.TheVariants.{Zero};
-ghost use Rattle.nx_receiver.specs.Log.{IsEntry, channel_mark, entry_head, how_name};
+ghost use Rattle.nx_receiver.specs.Log.{IsEntry, channel_mark, entry_head, how_name, missing_newline};
 ghost use Rattle.nx_receiver.specs.FoundCopies.{copy_of};
 ghost use Rattle.nx_receiver.specs.Shares.{marked};
+ghost use Rattle.nx_receiver.specs.private.Heads.{headed_copy};
 
 use crate::entry::Entry;
 use arrayvec::ArrayVec;
 use itoa::Buffer;
-use nx_envelope::{CIVIL_LEN, How, MAX_FOUND, NEWLINE, civil};
-use nx_fec::{Channel, Counting, WriteFault, write_out};
+use nx_envelope::{CIVIL_LEN, FoundHead, How, MAX_FOUND, NEWLINE, civil};
+use nx_fec::{Batch, Channel, Counting, WriteFault, write_out};
 use std::io::Write;
 
 /// The most bytes of the line that heads an entry: a mark of at most 2 bytes, a number of at most 5
@@ -64,31 +68,63 @@ pub fn entry_text_on<W: Write>(
     write_out(writer, &entry_bytes(entry, channel))
 }
 
+/// Gives the bytes of the entry of a copy that is printed, by its head and its text, which aren't
+/// copied on the way. The moment is at most the last one.
+pub(crate) fn give_entry<W: Write>(
+    head: &FoundHead,
+    text: &[u8],
+    moment: u64,
+    channel: Channel,
+    writer: &mut Counting<W>,
+    batch: &mut Batch,
+) -> Result<(), WriteFault>
+    requires unused { writer.old.failures ≡ 0 }
+    requires moment { moment ≤ last_moment }
+    requires errors { head.now.errors ≡ errors_of text.now }
+    ensures given { (bytes : List ℕ)
+        × IsEntry (marked channel (headed_copy head.now text.now moment true)) bytes
+        × ((old : Option (List ℕ)) (before : List ℕ)
+        → HasGiven old (W.contents writer.old.inner) batch.old before → MatchResult result
+        (λ _. HasGiven old (W.contents writer.new.inner) batch.new (before ++ bytes))
+        (λ fault. WroteSome old (W.contents writer.new.inner) (before ++ bytes) fault.written)) }
+    ensures counts { FailsOnce writer.new result }
+{
+    let line = head_line(head, text, moment, channel);
+    batch.give(writer, line.as_slice())?;
+    batch.give(writer, text)?;
+    batch.give(writer, end_of(text))
+}
+
 /// The bytes of an entry as it stands in the log. The moment is at most the last one.
 pub(crate) fn entry_bytes(entry: &Entry, channel: Channel) -> ArrayVec<u8, MAX_ENTRY>
     requires { entry.now.moment ≤ last_moment }
     ensures { IsEntry (marked channel (copy_of entry.now)) result.items }
 {
-    let mut bytes = head_of(entry, channel);
-    append(&mut bytes, &entry.text);
-    if !is_of_lines(&entry.text) {
-        bytes.push(NEWLINE);
-    }
-    bytes.push(NEWLINE);
+    let head = FoundHead {
+        identity: entry.identity,
+        errors: entry.errors,
+        how: entry.how,
+    };
+    let text = entry.text.as_slice();
+    let line = head_line(&head, text, entry.moment, channel);
+    let mut bytes = ArrayVec::new();
+    append(&mut bytes, line.as_slice());
+    append(&mut bytes, text);
+    append(&mut bytes, end_of(text));
     bytes
 }
 
 /// The line that heads an entry.
-fn head_of(entry: &Entry, channel: Channel) -> ArrayVec<u8, MAX_ENTRY>
-    requires { entry.now.moment ≤ last_moment }
-    ensures head { (civil : List ℕ) × IsShownAs entry.now.moment civil
-        × (result.items ≡ entry_head channel (copy_of entry.now) civil) }
-    ensures short { array_vec_len result ≤ MAX_HEAD }
+fn head_line(head: &FoundHead, text: &[u8], moment: u64, channel: Channel) -> ArrayVec<u8, MAX_HEAD>
+    requires moment { moment ≤ last_moment }
+    requires errors { head.now.errors ≡ errors_of text.now }
+    ensures { (civil : List ℕ) × IsShownAs moment civil
+        × (result.items ≡ entry_head channel (headed_copy head.now text.now moment true) civil) }
 {
-    let Some(time) = civil(entry.moment) else {
+    let Some(time) = civil(moment) else {
         unreachable!()
     };
-    let name = entry.identity.bytes();
+    let name = head.identity.bytes();
     let mut bytes = ArrayVec::new();
     bytes.push(b'[');
     append(&mut bytes, &name);
@@ -96,14 +132,11 @@ fn head_of(entry: &Entry, channel: Channel) -> ArrayVec<u8, MAX_ENTRY>
     bytes.push(b' ');
     append(&mut bytes, &time);
     bytes.push(b' ');
-    append(&mut bytes, how_text(entry.how).as_bytes());
+    append(&mut bytes, how_text(head.how).as_bytes());
     bytes.push(b' ');
-    append(&mut bytes, Buffer::new().format(entry.errors).as_bytes());
+    append(&mut bytes, Buffer::new().format(head.errors).as_bytes());
     bytes.push(b'/');
-    append(
-        &mut bytes,
-        Buffer::new().format(entry.text.len()).as_bytes(),
-    );
+    append(&mut bytes, Buffer::new().format(text.len()).as_bytes());
     append(&mut bytes, b"]\n");
     bytes
 }
@@ -132,6 +165,15 @@ fn how_text(how: How) -> &'static str
     }
 }
 
+/// What stands behind the text of an entry: a newline where the text isn't empty and doesn't end with
+/// one, and a newline.
+fn end_of(text: &[u8]) -> &'static [u8]
+    ensures end { result.now ≡ missing_newline text.now ++ newline ∷ [] }
+    ensures short { length result.now ≤ 2 }
+{
+    if is_of_lines(text) { b"\n" } else { b"\n\n" }
+}
+
 /// Whether a text is empty or ends with a newline.
 fn is_of_lines(text: &[u8]) -> bool
     ensures { result ≡ spec.is_of_lines text.now }
@@ -143,8 +185,8 @@ fn is_of_lines(text: &[u8]) -> bool
 }
 
 /// Appends bytes, for which there is room.
-fn append(bytes: &mut ArrayVec<u8, MAX_ENTRY>, more: &[u8])
-    requires { array_vec_len bytes.old + length more.now ≤ MAX_ENTRY }
+fn append<const N: usize>(bytes: &mut ArrayVec<u8, N>, more: &[u8])
+    requires { array_vec_len bytes.old + length more.now ≤ N }
     ensures items { bytes.new.items ≡ bytes.old.items ++ more.now }
     ensures len { array_vec_len bytes.new ≡ array_vec_len bytes.old + length more.now }
 {

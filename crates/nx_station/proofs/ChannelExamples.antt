@@ -17,6 +17,8 @@ use Rattle.nx_station.specs.Channel.{PassesChannel, IsAsSent, first_slot, heard_
 use Rattle.nx_station.specs.ChannelExample.{damaged_in, example_emission, example_parts, example_sending, example_message, example_numbers, example_words, heard_half, heard_without_75}
 use Rattle.nx_station.specs.Sendable.{IsSendable}
 use Rattle.nx_station.specs.Sendings.{IsCut, IsReceived, IsSending, gap}
+use Rattle.nx_station.proofs.ChannelPositions.{spelled-tells}
+use Rattle.nx_station.proofs.SendingsLemmas.{each_received}
 
 -- ---- whether an emission passes the channel, computed
 
@@ -201,7 +203,7 @@ positions-example : length (layout (example_numbers ∷ [])) ≡ 102
 unfolding layout example_numbers
 positions-example = refl
 
-example_sendable : IsSendable (example_message ∷ [])
+pub example_sendable : IsSendable (example_message ∷ [])
 example_sendable = record {
   station = 69;
   of_one = record { some = λ e. cc; each = (refl, tt) };
@@ -219,8 +221,8 @@ example_sendable = record {
 
 pub example_received : IsReceived example_emission
 example_received = record {
-  sendable = example_sendable;
-  spelled = (example_spelled, tt);
+  sound = example_sendable.sound;
+  told = (spelled-tells example_message example_numbers example_spelled, tt);
   passes = passes-computed (layout (example_numbers ∷ [])) heard_half
       (omega (arith, positions-example)) example_computed;
 }
@@ -261,7 +263,7 @@ pub example_cut : (before after : List Bool)
     → IsCut (before ++ (bits_of heard_half ++ after)) (example_parts before after)
 example_cut before after = record {
   whole = ap (λ l. before ++ (bits_of heard_half ++ l)) (sym (append-nil after));
-  each = (tt, (example_received, (tt, tt)));
+  each = each_received (example_parts before after) (tt, (example_received, (tt, tt)));
 }
 
 pub example_sent : (before after : List Bool)

@@ -1,7 +1,7 @@
 -- The positions of a broadcast: those of the end, and before them only phasing and combinations
 -- that are in the code.
 use Rattle.std.proofs.Common.{◌≡◌, ◌≢◌, ℕ, zero, suc, ◌+◌, ◌-◌, ◌/◌, ◌%◌, ◌<◌, ◌≤◌, List, [], ◌∷◌, ◌++◌, length, map, replicate, get_or, refl, sym, ap, ◌∙◌, subst, arith, append_assoc, lit≤}
-use Rattle.std.specs.List.{flat_map, AllByRecursion}
+use Rattle.std.specs.List.{flat_map, AllByRecursion, AllZip}
 use Rattle.std.proofs.lemmas.List.{length-append, get_or_append_left, get_or-append_right}
 use Rattle.nx_code.specs.Reading.{combination, shift_after, shift_after_all}
 use Rattle.nx_code.specs.Spelling.{EachFits}
@@ -11,6 +11,7 @@ use Rattle.nx_envelope.specs.Message.{MessageView}
 use Rattle.nx_envelope.specs.declared.identity.Identity.{Identity}
 use Rattle.nx_fec.specs.Emission.{SentPosition, phasing_position, traffic_position, end_position, position_at}
 use Rattle.nx_station.specs.Broadcast.{IsSpelled, AreSpelled, digit_combination, ending, head, layout, letter_combination, phasing_and_message, first_phasing, further_phasing, end_positions}
+use Rattle.nx_station.specs.Sendings.{Tells}
 use Rattle.nx_station.proofs.HeadLemmas.{digit_combination-range}
 
 -- the number of a combination
@@ -104,15 +105,37 @@ ending-combinations Figures = (
   ),
 )
 
+-- what is spelled is told
+pub spelled-tells : (message : MessageView) (numbers : List ℕ) → IsSpelled message numbers
+    → Tells message numbers
+spelled-tells message numbers h = record {
+  body = h.text;
+  each = fits-combinations Figures h.text h.spells.fits;
+  reads = h.spells.reads;
+  whole = h.whole;
+}
+
+pub all_tell : (messages : List MessageView) (spellings : List (List ℕ))
+    → AreSpelled messages spellings → AllZip Tells messages spellings
+all_tell [] [] h = tt
+all_tell [] (s ∷ ss) h = absurd h
+all_tell (m ∷ ms) [] h = absurd h
+all_tell (m ∷ ms) (s ∷ ss) h = (spelled-tells m s h.0, all_tell ms ss h.1)
+
+told-combinations : (message : MessageView) (numbers : List ℕ) → Tells message numbers
+    → AllByRecursion IsCombination numbers
+told-combinations message numbers h =
+    let last = ending (shift_after_all (map combination h.body) Figures) in
+    subst (AllByRecursion IsCombination) (sym h.whole)
+    (each-append IsCombination (head message.identity) (h.body ++ last)
+    (head-combinations message.identity)
+    (each-append IsCombination h.body last h.each
+    (ending-combinations (shift_after_all (map combination h.body) Figures))))
+
 pub spelled-combinations : (message : MessageView) (numbers : List ℕ) → IsSpelled message numbers
     → AllByRecursion IsCombination numbers
 spelled-combinations message numbers h =
-    let last = ending (shift_after_all (map combination h.text) Figures) in
-    subst (AllByRecursion IsCombination) (sym h.whole)
-    (each-append IsCombination (head message.identity) (h.text ++ last)
-    (head-combinations message.identity)
-    (each-append IsCombination h.text last (fits-combinations Figures h.text h.spells.fits)
-    (ending-combinations (shift_after_all (map combination h.text) Figures))))
+    told-combinations message numbers (spelled-tells message numbers h)
 
 -- ---- the positions
 
@@ -125,14 +148,14 @@ traffic-inner : (numbers : List ℕ) → AllByRecursion IsCombination numbers
 traffic-inner [] h = tt
 traffic-inner (n ∷ numbers) h = (h.0, traffic-inner numbers h.1)
 
-message-inner : (count : ℕ) (message : MessageView) (numbers : List ℕ) → IsSpelled message numbers
+message-inner : (count : ℕ) (message : MessageView) (numbers : List ℕ) → Tells message numbers
     → AllByRecursion IsInner (phasing_and_message count numbers)
 message-inner count message numbers h =
     each-append IsInner (replicate count phasing_position) (map traffic_position numbers)
-    (phasing-inner count) (traffic-inner numbers (spelled-combinations message numbers h))
+    (phasing-inner count) (traffic-inner numbers (told-combinations message numbers h))
 
 others-inner : (messages : List MessageView) (spellings : List (List ℕ))
-    → AreSpelled messages spellings
+    → AllZip Tells messages spellings
     → AllByRecursion IsInner (flat_map (phasing_and_message further_phasing) spellings)
 others-inner [] [] h = tt
 others-inner [] (s ∷ ss) h = absurd h
@@ -148,12 +171,12 @@ pub record HasInner (positions : List SentPosition) : Type 0 where
   pub each : AllByRecursion IsInner inner
   pub whole : positions ≡ inner ++ replicate end_positions end_position
 
-pub layout-inner : (messages : List MessageView) (spellings : List (List ℕ)) → spellings ≢ []
-    → AreSpelled messages spellings → HasInner (layout spellings)
+pub told-inner : (messages : List MessageView) (spellings : List (List ℕ)) → spellings ≢ []
+    → AllZip Tells messages spellings → HasInner (layout spellings)
 unfolding layout
-layout-inner messages [] some h = absurd (some refl)
-layout-inner [] (s ∷ ss) some h = absurd h
-layout-inner (m ∷ ms) (s ∷ ss) some h = record {
+told-inner messages [] some h = absurd (some refl)
+told-inner [] (s ∷ ss) some h = absurd h
+told-inner (m ∷ ms) (s ∷ ss) some h = record {
   inner = phasing_and_message first_phasing s ++ flat_map (phasing_and_message further_phasing) ss;
   each = each-append IsInner (phasing_and_message first_phasing s)
       (flat_map (phasing_and_message further_phasing) ss) (message-inner first_phasing m s h.0)
@@ -161,6 +184,11 @@ layout-inner (m ∷ ms) (s ∷ ss) some h = record {
   whole = sym (append_assoc (phasing_and_message first_phasing s)
       (flat_map (phasing_and_message further_phasing) ss) (replicate end_positions end_position));
 }
+
+pub layout-inner : (messages : List MessageView) (spellings : List (List ℕ)) → spellings ≢ []
+    → AreSpelled messages spellings → HasInner (layout spellings)
+layout-inner messages spellings some h =
+    told-inner messages spellings some (all_tell messages spellings h)
 
 inner-at : (inner : List SentPosition) (i : ℕ) → AllByRecursion IsInner inner → i < length inner
     → IsInner (get_or inner i end_position)

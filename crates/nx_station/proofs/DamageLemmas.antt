@@ -9,6 +9,7 @@ use Rattle.nx_fec.specs.Lines.{elements_on}
 use Rattle.nx_fec.specs.Scanner.{kind_of}
 use Rattle.nx_fec.specs.declared.channel.Channel.{Channel}
 use Rattle.nx_fec.specs.declared.channel.Channel.TheVariants.{Zero, One, Two}
+use Rattle.nx_station.specs.private.DamageWalk.{front, front_count}
 use Rattle.nx_station.specs.Damage.{Damage, damaged_elements, damaged_element, damaged_line, damaged_lines, damaged_on, inverted_count, inverts}
 
 -- ---- elements
@@ -190,17 +191,6 @@ lines-kinds damage place (line ∷ lines) =
     cc
 
 -- ---- elements of which the first so many are damaged, and how many of these are inverted
-
-abbrev pub front : Damage → ℕ → ℕ → List Bool → List Bool
-front damage place zero bits = bits
-front damage place (suc i) [] = []
-front damage place (suc i) (x ∷ xs) = damaged_element damage place x ∷ front damage (place + 1) i xs
-
-abbrev pub front_count : Damage → ℕ → ℕ → List Bool → ℕ
-front_count damage place zero bits = 0
-front_count damage place (suc i) [] = 0
-front_count damage place (suc i) (x ∷ xs) =
-    value_of (inverts damage place) + front_count damage (place + 1) i xs
 
 pub front-all : (damage : Damage) (place i : ℕ) (bits : List Bool) → length bits ≤ i
     → front damage place i bits ≡ damaged_elements damage place bits

@@ -1,12 +1,13 @@
 -- The elements of a line that are named for damage: where they stand, and the walk over them.
-use Rattle.std.proofs.Common.{◌≡◌, ℕ, suc, ◌+◌, ◌-◌, ◌%◌, ◌<◌, ◌≤◌, ◌⊎◌, IsTrue, Bool, true, false, not, List, length, map, get_or, set, inl, inr, refl, sym, ap, ◌∙◌, subst, arith}
+use Rattle.std.proofs.Common.{◌≡◌, ℕ, suc, ◌+◌, ◌-◌, ◌*◌, ◌%◌, ◌<◌, ◌≤◌, ◌⊎◌, IsTrue, Bool, true, false, not, List, length, map, get_or, set, inl, inr, refl, sym, ap, ◌∙◌, subst, arith}
 use lib.Bits.{bit_xor}
 use Rattle.std.proofs.lemmas.List.{length-map, map-set, get_or-map}
 use Rattle.nx_fec.specs.AirFile.{element_digit}
 use Rattle.nx_station.specs.Damage.{Damage, damaged_elements, inverted_count, inverts}
 use Rattle.nx_station.specs.private.DamageTaker.{AreNamed}
+use Rattle.nx_station.specs.private.DamageWalk.{IsOnWalk, front, front_count}
 use Rattle.nx_station.specs.declared.damaging.Named.{Named}
-use Rattle.nx_station.proofs.DamageLemmas.{front, front-all, front-inverted, front-same, front_count, front_count-all, front_count-inverted, front_count-same, length-front}
+use Rattle.nx_station.proofs.DamageLemmas.{front-all, front-inverted, front-same, front_count-all, front_count-inverted, front_count-same, length-front}
 
 -- ---- strides
 
@@ -50,11 +51,6 @@ stride-none s stride = elim stride [ inl e ↦ ap (λ s. 0 % s) e | inr e ↦ ap
 
 -- ---- the walk
 
--- the walk stands at an element, or behind the last one
-pub record IsOnWalk (named : Named) (at : ℕ) : Type 0 where
-  pub from : named.first ≤ at
-  pub by_strides : (at - named.first) % named.stride ≡ 0
-
 pub walk-starts : (named : Named) → IsStride named.stride → IsOnWalk named named.first
 walk-starts named stride = record {
   from = omega arith;
@@ -71,6 +67,11 @@ walk-next named at stride h = record {
       subst (λ x. x % named.stride ≡ 0) e
       (stride-next named.stride (at - named.first) stride h.by_strides);
 }
+
+pub walk-by : (named : Named) (at next : ℕ) → IsStride named.stride → IsOnWalk named at
+    → next ≡ at + named.stride → IsOnWalk named next
+walk-by named at next stride h e =
+    subst (λ n. IsOnWalk named n) (sym e) (walk-next named at stride h)
 
 -- before the first, and behind the last, nothing is inverted
 pub walk-begins : (damage : Damage) (place : ℕ) (named : Named) (bits : List Bool)
@@ -168,3 +169,41 @@ count-more damage place named bits at count first stride are h before end is e =
     let all : length first ≡ length bits = ap length is ∙ length-map bits element_digit in
     ap (λ n. n + 1) e ∙ sym (walk-more damage place named bits at stride are h before
     (omega (arith, before, end, all))).1
+
+-- the same where only the digits at hand are known
+pub digits-at : (damage : Damage) (place : ℕ) (named : Named) (bits : List Bool) (at next : ℕ)
+    (digits : List ℕ) → IsStride named.stride → AreNamed damage place named bits
+    → IsOnWalk named at → at < named.end → named.end ≤ length digits → next ≡ at + named.stride
+    → digits ≡ map element_digit (front damage place at bits)
+    → set digits at (bit_xor (get_or digits at 0) 1)
+    ≡ map element_digit (front damage place next bits)
+digits-at damage place named bits at next digits stride are h before end same e =
+    let all : length digits ≡ length (map element_digit bits) =
+    ap length e ∙ length-map (front damage place at bits) element_digit
+    ∙ length-front damage place at bits ∙ sym (length-map bits element_digit) in
+    digits-more damage place named bits at (map element_digit bits) digits stride are h before
+    (omega (arith, end, all)) refl e
+    ∙ ap (λ n. map element_digit (front damage place n bits)) (sym same)
+
+-- the count of four steps
+pub count-fours : (damage : Damage) (place : ℕ) (named : Named) (bits : List Bool) (at count : ℕ)
+    (first : List ℕ) → IsStride named.stride → AreNamed damage place named bits → IsOnWalk named at
+    → at + 3 * named.stride < named.end → named.end ≤ length first
+    → first ≡ map element_digit bits → count ≡ front_count damage place at bits
+    → count + 4 ≡ front_count damage place (at + 4 * named.stride) bits
+count-fours damage place named bits at count first stride are h before end is e =
+    let s = named.stride in
+    let h1 = walk-next named at stride h in
+    let h2 = walk-next named (at + s) stride h1 in
+    let h3 = walk-next named ((at + s) + s) stride h2 in
+    let n1 = count-more damage place named bits at count first stride are h
+    (omega (arith, before)) end is e in
+    let n2 = count-more damage place named bits (at + s) (count + 1) first stride are h1
+    (omega (arith, before)) end is n1 in
+    let n3 = count-more damage place named bits ((at + s) + s) ((count + 1) + 1) first stride are
+    h2 (omega (arith, before)) end is n2 in
+    let n4 = count-more damage place named bits (((at + s) + s) + s) (((count + 1) + 1) + 1) first
+    stride are h3 (omega (arith, before)) end is n3 in
+    let far : (((at + s) + s) + s) + s ≡ at + 4 * s = omega arith in
+    let four : count + 4 ≡ (((count + 1) + 1) + 1) + 1 = omega arith in
+    four ∙ n4 ∙ ap (λ k. front_count damage place k bits) far

@@ -13,6 +13,8 @@ use Rattle.nx_envelope.specs.Message.{text_of, MessageView}
 use Rattle.nx_envelope.specs.declared.identity.Identity.{Identity}
 use Rattle.nx_fec.specs.Emission.{SentPosition, phasing_position, traffic_position, end_position, reception}
 use Rattle.nx_station.specs.Broadcast.{IsSpelled, AreSpelled, IsBroadcast, head, ending, phasing_and_message, layout, header, printed_text, letter_combination, digit_combination, first_phasing, further_phasing, end_positions}
+use Rattle.nx_station.specs.Sendings.{Tells}
+use Rattle.nx_station.proofs.ChannelPositions.{spelled-tells}
 use Rattle.nx_station.proofs.HeadLemmas.{letter_combination-prints, digit_combination-prints, digit_combination-range}
 
 -- these positions print these bytes from a shift, and leave another
@@ -140,13 +142,13 @@ ending-prints Figures = Prints-shift Letters Figures _ _ Letters end-prints
 
 -- ---- a message, and a list of messages
 
-pub message-prints : (message : MessageView) (numbers : List ℕ) (first : Shift)
-    → IsSpelled message numbers
+pub told-prints : (message : MessageView) (numbers : List ℕ) (first : Shift)
+    → Tells message numbers
     → Prints first (map combination numbers) (printed_text message) Letters
-message-prints message numbers first h =
-    let last = shift_after_all (map combination h.text) Figures in
-    let body : Prints Figures (map combination h.text) (text_of message.lines) last =
-    record { reads = h.spells.reads; after = refl } in
+told-prints message numbers first h =
+    let last = shift_after_all (map combination h.body) Figures in
+    let body : Prints Figures (map combination h.body) (text_of message.lines) last =
+    record { reads = h.reads; after = refl } in
     let tail = Prints-append Figures last Letters _ _ _ _ body (ending-prints last) in
     let all = Prints-append first Figures Letters _ _ _ _ (head-prints message.identity first)
     tail in
@@ -154,15 +156,21 @@ message-prints message numbers first h =
     (text_of message.lines ++ (codes "NNNN" ++ (10 ∷ 10 ∷ []))) in
     let positions : map combination numbers
     ≡ map combination (head message.identity)
-    ++ (map combination h.text ++ map combination (ending last)) =
+    ++ (map combination h.body ++ map combination (ending last)) =
     ap (map combination) h.whole
-    ∙ map-append combination (head message.identity) (h.text ++ ending last)
+    ∙ map-append combination (head message.identity) (h.body ++ ending last)
     ∙ ap (λ l. map combination (head message.identity) ++ l)
-    (map-append combination h.text (ending last)) in
+    (map-append combination h.body (ending last)) in
     subst (λ l. Prints first l (printed_text message) Letters) (sym positions)
     (subst (λ l. Prints first
     (map combination (head message.identity)
-    ++ (map combination h.text ++ map combination (ending last))) l Letters) bytes all)
+    ++ (map combination h.body ++ map combination (ending last))) l Letters) bytes all)
+
+pub message-prints : (message : MessageView) (numbers : List ℕ) (first : Shift)
+    → IsSpelled message numbers
+    → Prints first (map combination numbers) (printed_text message) Letters
+message-prints message numbers first h =
+    told-prints message numbers first (spelled-tells message numbers h)
 
 pub traffic-receptions : (numbers : List ℕ)
     → map reception (map traffic_position numbers) ≡ map combination numbers

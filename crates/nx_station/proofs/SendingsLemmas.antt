@@ -1,6 +1,6 @@
--- Where a message stands in the positions of its broadcast.
+-- Where a message stands in the positions of its broadcast; and the emissions among parts.
 use Rattle.std.proofs.Common.{◌≡◌, ℕ, zero, suc, ◌+◌, ◌-◌, ◌≤◌, Some, None, List, [], ◌∷◌, ◌++◌, map, replicate, length, take, sym, ap, ◌∙◌, subst, arith, append_assoc, ◌%◌, get_or, ◌<◌}
-use Rattle.std.specs.List.{flat_map, slice_get}
+use Rattle.std.specs.List.{AllByRecursion, flat_map, slice_get}
 use Rattle.std.proofs.lemmas.List.{get_or-append-add, length-append, length-map, length-replicate}
 use Rattle.nx_envelope.specs.Message.{MessageView}
 use Rattle.nx_fec.specs.Emission.{SentPosition, phasing_position, traffic_position, end_position, position_at, rx_word, word_sent}
@@ -9,7 +9,23 @@ use Rattle.nx_station.specs.Channel.{slots_of}
 use Rattle.nx_station.proofs.ChannelPhasing.{length-spelled}
 use Rattle.nx_code.specs.Table.{traffic_word}
 use Rattle.nx_fec.proofs.EmissionLemmas.{word_sent-rx}
-use Rattle.nx_station.specs.Sendings.{StandsFrom, digit_slot, positions_before}
+use Rattle.nx_station.specs.Sendings.{IsReceived, Part, ReceivedEmission, StandsFrom, digit_slot, gap, positions_before, received}
+
+-- a part that is an emission is received
+abbrev IsGood : Part → Type 0
+IsGood (gap bits) = Unit {0}
+IsGood (received emission) = IsReceived emission
+
+received_at : (before : List Part) (emission : ReceivedEmission) (after : List Part)
+    → AllByRecursion IsGood (before ++ received emission ∷ after) → IsReceived emission
+received_at [] emission after h = h.0
+received_at (part ∷ before) emission after h = received_at before emission after h.1
+
+pub each_received : (parts : List Part) → AllByRecursion IsGood parts
+    → (before : List Part) (emission : ReceivedEmission) (after : List Part)
+    → parts ≡ before ++ received emission ∷ after → IsReceived emission
+each_received parts h before emission after same =
+    received_at before emission after (subst (AllByRecursion IsGood) same h)
 
 pub at_least_phasing : (spellings : List (List ℕ)) → first_phasing ≤ positions_before spellings
 at_least_phasing [] = omega arith

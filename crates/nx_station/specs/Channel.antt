@@ -10,9 +10,10 @@ use Rattle.nx_fec.specs.Emission.{SentPosition, end_position, position_at, word_
 abbrev pub phasing_received : ℕ
 phasing_received = 24
 
--- the first slot whose word is received
+-- the first slot whose word is received: of the phasing before the first message the last 24
+-- positions are
 abbrev pub first_slot : ℕ
-first_slot = 2 * (first_phasing - phasing_received)
+first_slot = 2 * (first_phasing - 24)
 
 -- the slot of the first word of the first message
 abbrev pub message_slot : ℕ
@@ -38,15 +39,15 @@ abbrev pub IsAsSent : List SentPosition → List ℕ → ℕ → Type 0
 IsAsSent positions heard slot = heard_in heard slot ≡ word_sent positions slot
 
 -- The emission of these positions passes the channel, and these are the words that are heard from
--- the first slot on, to its last slot, each by its number. The words before those of the first
--- message are as sent; each later word is as sent or has the wrong weight; and of each position
--- behind the first phasing that isn't one of the end, at least one of its two words, in the slots
--- 2i and 2i+5, is as sent.
+-- the first slot on, to its last slot, 2P-2 of P positions, each by its number. The words before
+-- those of the first message are as sent; each later word is as sent or has the wrong weight; and
+-- of each position behind the first phasing that isn't one of the end, at least one of its two
+-- words, in the slots 2i and 2i+5, is as sent.
 pub record PassesChannel (positions : List SentPosition) (heard : List ℕ) : Type 0 where
   pub words : AreWords heard
-  pub whole : first_slot + length heard ≡ slots_of positions
+  pub whole : first_slot + length heard ≡ 2 * length positions - 1
   pub phasing : (slot : ℕ) → first_slot ≤ slot → slot < message_slot → IsAsSent positions heard slot
-  pub later : (slot : ℕ) → message_slot ≤ slot → slot < slots_of positions
+  pub later : (slot : ℕ) → message_slot ≤ slot → slot < 2 * length positions - 1
       → IsAsSent positions heard slot ⊎ (weight (heard_in heard slot) ≢ 4)
   pub one_of_two : (i : ℕ) → first_phasing ≤ i → i < length positions
       → position_at positions i ≢ end_position

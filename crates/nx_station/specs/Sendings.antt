@@ -1,12 +1,22 @@
 -- Sendings: the messages of the emissions that are received in a list of bits, with any bits
 -- between them (this profile).
 use Rattle.std.specs.Prelude.{◌≡◌, ℕ, ◌+◌, ◌-◌, ◌*◌, Bool, List, [], ◌∷◌, ◌++◌, ◌≤◌, length, map, take, slice_get, Some}
-use Rattle.std.specs.List.{AllByRecursion, flat_map}
+use Rattle.std.specs.List.{AllByRecursion, AllZip, flat_map}
+use Rattle.nx_code.specs.Reading.{combination, shift_after_all, text}
+use Rattle.nx_code.specs.declared.shifts.Shift.TheVariants.{Figures}
 use Rattle.nx_fec.specs.Emission.{SentPosition, traffic_position, bits_of}
-use Rattle.nx_envelope.specs.Message.{MessageView}
-use Rattle.nx_station.specs.Broadcast.{AreSpelled, IsSpelled, end_positions, first_phasing, further_phasing, layout}
+use Rattle.nx_envelope.specs.Message.{AreLines, MessageView, text_of}
+use Rattle.nx_station.specs.Broadcast.{IsSpelled, end_positions, ending, first_phasing, further_phasing, head, layout}
 use Rattle.nx_station.specs.Channel.{PassesChannel, first_slot}
-use Rattle.nx_station.specs.Sendable.{IsSendable}
+
+-- The combinations tell the message: its head, any that print its text from the figure shift, and
+-- its end (ITU-R M.540).
+pub record Tells (message : MessageView) (numbers : List ℕ) : Type 0 where
+  pub body : List ℕ
+  pub each : AllByRecursion (λ number. (1 ≤ number) × (number ≤ 32)) body
+  pub reads : text (map combination body) Figures ≡ text_of message.lines
+  pub whole : numbers ≡ head message.identity
+      ++ (body ++ ending (shift_after_all (map combination body) Figures))
 
 -- an emission that is received: its messages, the combinations of each, and the words that are
 -- heard from the first slot on
@@ -15,11 +25,11 @@ pub record ReceivedEmission : Type 0 where
   pub spellings : List (List ℕ)
   pub heard : List ℕ
 
--- a station may send the messages, these are their combinations, and their emission passes the
--- channel as these words
+-- the messages have good lines, these combinations tell them, and their emission passes the channel
+-- as these words
 pub record IsReceived (emission : ReceivedEmission) : Type 0 where
-  pub sendable : IsSendable emission.messages
-  pub spelled : AreSpelled emission.messages emission.spellings
+  pub sound : AllByRecursion (λ (message : MessageView). AreLines message.lines) emission.messages
+  pub told : AllZip Tells emission.messages emission.spellings
   pub passes : PassesChannel (layout emission.spellings) emission.heard
 
 -- a part of a list of bits: a gap of any bits, or an emission that is received
@@ -32,18 +42,11 @@ abbrev pub part_bits : Part → List Bool
 part_bits (gap bits) = bits
 part_bits (received emission) = bits_of emission.heard
 
--- the bits of parts, in order
-abbrev pub bits_of_parts : List Part → List Bool
-bits_of_parts parts = flat_map part_bits parts
-
-abbrev pub IsSound : Part → Type 0
-IsSound (gap bits) = Unit {0}
-IsSound (received emission) = IsReceived emission
-
--- the bits are cut into gaps of any bits and received emissions of sendable lists
+-- the bits are cut into gaps of any bits and received emissions
 pub record IsCut (bits : List Bool) (parts : List Part) : Type 0 where
-  pub whole : bits ≡ bits_of_parts parts
-  pub each : AllByRecursion IsSound parts
+  pub whole : bits ≡ flat_map part_bits parts
+  pub each : (before : List Part) (emission : ReceivedEmission) (after : List Part)
+      → parts ≡ before ++ received emission ∷ after → IsReceived emission
 
 -- how many positions are sent before the message that follows messages with these combinations: the
 -- phasing before the first message, and that before each further one
@@ -65,7 +68,7 @@ pub record IsSentAt (parts : List Part) (sent : MessageView) (at : ℕ) : Type 0
   pub among : parts ≡ before ++ received emission ∷ after
   pub index : ℕ
   pub message : slice_get emission.messages index ≡ Some sent
-  pub place : at ≡ length (bits_of_parts before)
+  pub place : at ≡ length (flat_map part_bits before)
       + 7 * (digit_slot emission.spellings index - first_slot) + 6
 
 -- a message that is sent, and the place of its header

@@ -1,3 +1,4 @@
 pub mod MessageParts
 pub mod PrintedText
 pub mod DamageTaker
+pub mod DamageWalk

@@ -9,6 +9,7 @@ ghost use Rattle.nx_fec.specs.declared.channel.Channel.TheVariants.{Zero};
 ghost use Rattle.nx_fec.specs.Transfers.{devices};
 ghost use Rattle.nx_station.specs.Damage.{Damage, Damages, damaged_elements, damaged_line, inverted_count, inverts};
 ghost use Rattle.nx_station.specs.private.DamageTaker.{AreNamed, HasDigitsFrom, IsAmong, IsAt, line_fault};
+ghost use Rattle.nx_station.specs.private.DamageWalk.{IsOnWalk, front, front_count};
 
 use crate::fault::DamageFault;
 use arrayvec::ArrayVec;
@@ -271,6 +272,13 @@ impl Damaging {
     }
 }
 
+/// Where a walk over named elements stands, and how many it inverted.
+#[derive(Clone, Copy)]
+struct Walk {
+    at: usize,
+    count: u64,
+}
+
 impl Named {
     /// Inverts these elements, given by their digits, and answers how many they are.
     fn invert(self, digits: &mut [u8]) -> u64
@@ -284,13 +292,55 @@ impl Named {
             → AreNamed damage place self bits → digits.old ≡ map element_digit bits
             → result ≡ inverted_count damage place bits }
     {
-        let mut at = self.first;
-        let mut count = 0;
+        let walk = self.invert_fours(digits);
+        let mut at = walk.at;
+        let mut count = walk.count;
         while at < self.end {
-            digits[at] ^= 1;
+            self.invert_at(digits, at);
             at += self.stride;
             count += 1;
         }
         count
+    }
+
+    /// Inverts the first of these elements by fours, since a test for each costs as much as they.
+    fn invert_fours(self, digits: &mut [u8]) -> Walk
+        requires end { self.end ≤ length digits.old }
+        requires long { length digits.old ≤ 512 }
+        requires stride { (self.stride ≡ 7) ⊎ (self.stride ≡ 14) }
+        ensures walk { IsOnWalk self result.at }
+        ensures few { result.count ≤ result.at }
+        ensures digits { (damage : Damage) (place : ℕ) (bits : List Bool)
+            → AreNamed damage place self bits → digits.old ≡ map element_digit bits
+            → digits.new ≡ map element_digit (front damage place result.at bits) }
+        ensures counted { (damage : Damage) (place : ℕ) (bits : List Bool)
+            → AreNamed damage place self bits → digits.old ≡ map element_digit bits
+            → result.count ≡ front_count damage place result.at bits }
+    {
+        let fours_end = self.end.saturating_sub(3 * self.stride);
+        let mut at = self.first;
+        let mut count = 0;
+        while at < fours_end {
+            self.invert_at(digits, at);
+            self.invert_at(digits, at + self.stride);
+            self.invert_at(digits, at + 2 * self.stride);
+            self.invert_at(digits, at + 3 * self.stride);
+            at += 4 * self.stride;
+            count += 4;
+        }
+        Walk { at, count }
+    }
+
+    /// Inverts the element at a place, given by its digit.
+    fn invert_at(self, digits: &mut [u8], at: usize)
+        requires before { at < self.end }
+        requires end { self.end ≤ length digits.old }
+        requires stride { (self.stride ≡ 7) ⊎ (self.stride ≡ 14) }
+        ensures { (damage : Damage) (place next : ℕ) (bits : List Bool) → IsOnWalk self at
+            → next ≡ at + self.stride → AreNamed damage place self bits
+            → digits.old ≡ map element_digit (front damage place at bits)
+            → digits.new ≡ map element_digit (front damage place next bits) }
+    {
+        digits[at] ^= 1;
     }
 }

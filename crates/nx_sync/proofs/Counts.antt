@@ -38,7 +38,7 @@ wrong_in-none f i (suc n) all =
     let w : one_if (is_wrong (f (i + n))) ≡ 0 = ap one_if (all n (omega arith)) in
     omega (arith, wrong_in-none f i n (λ j h. all j (omega arith)), w)
 
-one_if-le : (b : Bool) → one_if b ≤ 1
+pub one_if-le : (b : Bool) → one_if b ≤ 1
 one_if-le true = omega arith
 one_if-le false = omega arith
 

@@ -22,3 +22,4 @@ pub mod Blocks
 pub mod PhasingStates
 pub mod Examples
 pub mod WordLimits
+pub mod EightWords

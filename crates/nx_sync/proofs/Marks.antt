@@ -58,7 +58,7 @@ p1_marks-next f n =
     let e5 : n + 1 + 4 - 5 ≡ n = omega arith in
     rw (e2, e3, e4, le-leb 5 (n + 1 + 4) (omega arith), e5) refl
 
-length-p1_marks : (f : ℕ → ℕ) (n : ℕ) → length (p1_marks f n) ≡ 4 + 1
+pub length-p1_marks : (f : ℕ → ℕ) (n : ℕ) → length (p1_marks f n) ≡ 4 + 1
 unfolding p1_marks
 length-p1_marks f n = refl
 

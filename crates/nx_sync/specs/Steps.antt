@@ -1,12 +1,13 @@
 -- What one element brings, by what stands after it: the contract of a push.
-use Rattle.std.specs.Prelude.{◌≡◌, ℕ, ◌+◌, ◌*◌, ◌<◌, ◌≤◌, Bool, List, ◌∷◌, ◌++◌, length, take, drop, Option, Some, None}
+use Rattle.std.specs.Prelude.{◌≡◌, ℕ, ◌+◌, ◌*◌, ◌<◌, ◌≤◌, Bool, List, ◌∷◌, ◌++◌, length, take, slice_index, Option, Some, None}
+use Rattle.std.specs.List.{flat_map}
 use Rattle.std.specs.Option.{option_to_list}
-use Rattle.nx_code.specs.Packed.{elements_of_words}
+use Rattle.nx_code.specs.Word.{elements}
 use Rattle.nx_sync.specs.declared.step.Role.{Role}
 use Rattle.nx_sync.specs.declared.step.Change.{Change}
 use Rattle.nx_sync.specs.declared.step.Change.TheVariants.{Locked}
 use Rattle.nx_sync.specs.declared.step.Step.{Step}
-use Rattle.nx_sync.specs.Words.{heard_word}
+use Rattle.nx_sync.specs.Words.{role_of, heard_word}
 use Rattle.nx_sync.specs.Locks.{Lock, Now, hunting, locked, IsLocked, IsNow}
 
 -- a lock stands after these bits
@@ -51,10 +52,6 @@ pub record IsStep (bits : List Bool) (s : Step) : Type 0 where
   pub stands : IsNow bits locks now
   pub brings : Brings bits s locks now
 
--- the elements of packed numbers from a place on, so many of them
-abbrev pub packed_part : List ℕ → ℕ → ℕ → List Bool
-packed_part numbers from count = take count (drop from (elements_of_words numbers))
-
 -- Of these bits, which come after others, n are heard by a hunt: the push of none of them answers
 -- that a lock was found, nor anything else, and the push of the next one, if there is one, answers
 -- that a lock was found.
@@ -68,6 +65,13 @@ pub record HuntsThrough (before bits : List Bool) (n : ℕ) : Type 0 where
 pub record IsWordStep (before bits : List Bool) (s : Step) : Type 0 where
   pub inside : (k : ℕ) → k < 6 → IsStep (before ++ take (k + 1) bits) (step None None)
   pub last : IsStep (before ++ bits) s
+
+-- These words come after other bits, and none of them brings a change: the pushes of the elements
+-- of each answer that word alone. The first one has the role `first`, and roles alternate.
+abbrev pub AreQuietWords : List Bool → Role → List ℕ → Type 0
+AreQuietWords before first words = (k : ℕ) → k < length words
+    → IsWordStep (before ++ flat_map elements (take k words)) (elements (slice_index words k))
+    (step (Some (slice_index words k, role_of first k)) None)
 
 -- the word that a step completed, as a list of one, or of none
 abbrev pub word_of_step : Step → List (ℕ × Role)

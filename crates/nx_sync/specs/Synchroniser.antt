@@ -1,11 +1,11 @@
 -- What a synchroniser holds, and after which bits: the layer contract. How it is held is this
 -- profile's.
-use Rattle.std.specs.Prelude.{◌≡◌, ℕ, zero, suc, ◌+◌, ◌-◌, ◌*◌, ◌<◌, ◌==◌, nat_le, min, Bool, false, not, is_some, ◌&&◌, List, [], ◌∷◌, ◌++◌, length, replicate, Option, Some, None}
+use Rattle.std.specs.Prelude.{◌≡◌, ℕ, zero, suc, ◌+◌, ◌-◌, ◌*◌, ◌/◌, ◌%◌, ◌<◌, ◌==◌, nat_le, min, Bool, false, not, is_some, ◌&&◌, ◌||◌, List, [], ◌∷◌, ◌++◌, length, replicate, count_by, slice_index, Option, Some, None}
 use Rattle.circular_buffer.specs.Buffer.{keep_last}
 use Rattle.nx_sync.specs.declared.track.Track.{Track}
 use Rattle.nx_code.specs.Table.{phasing_1}
 use Rattle.nx_code.specs.Word.{number_of, is_wrong}
-use Rattle.nx_sync.specs.Words.{marked_words, word_of_lock, first_role, role_of}
+use Rattle.nx_sync.specs.Words.{marked_words, losing_count, word_of_lock, first_role, role_of, is_dx}
 use Rattle.nx_sync.specs.Locks.{pattern_elements, Lock, Now, hunting, locked, IsNow}
 
 -- what contracts see of a synchroniser: the last 28 bits as a number, the oldest in the least
@@ -28,6 +28,29 @@ is_at_limit (Some track) = track.filled == 0
 -- whether a lock stands, and the next bit is the first of a word
 abbrev pub is_between_words : Held → Bool
 is_between_words held = is_at_limit held.track
+
+-- whether the next bit is the first of a DX word, and neither of the two DX words before it, of
+-- which the track keeps whether they were phasing signal 1, was that
+abbrev pub awaits_free_dx : Option Track → Bool
+awaits_free_dx None = false
+awaits_free_dx (Some track) =
+    (track.filled == 0) && is_dx track.role
+    && (track.was_p1 / 2 % 2 == 0) && (track.was_p1 / 8 % 2 == 0)
+
+-- whether one of the words 0, 2, 4 and 6 is phasing signal 1
+abbrev pub has_dx_phasing_1 : List ℕ → Bool
+has_dx_phasing_1 words =
+    (slice_index words 0 == phasing_1) || (slice_index words 2 == phasing_1)
+    || (slice_index words 4 == phasing_1) || (slice_index words 6 == phasing_1)
+
+-- Whether surely none of these eight words, which come next, brings a change: a lock stands between
+-- two words, and the first of the eight is a DX word; neither one of the DX words among them nor
+-- one of the two before them is phasing signal 1; and where all eight were wrong, there would still
+-- be fewer wrong words than lose the lock.
+abbrev pub keeps_lock : Held → List ℕ → Bool
+keeps_lock held words =
+    awaits_free_dx held.track && not (has_dx_phasing_1 words)
+    && nat_le (count_by (λ b. b) held.wrong + 8 + 1) losing_count
 
 -- whether each of the first n words is wrong
 unfoldable pub wrong_marks : (ℕ → ℕ) → ℕ → List Bool

@@ -1,3 +1,4 @@
 pub mod Releases
 pub mod Windows
 pub mod Calls
+pub mod Eight

@@ -2,6 +2,7 @@
 //! the words and their roles from the phasing, and says when a lock is over.
 #![tactic(auto)]
 
+mod eight;
 pub mod laws;
 mod packed;
 mod step;

@@ -3,8 +3,7 @@
 
 ghost use Rattle.std.specs.Prelude.{◌≡◌, ◌+◌, ◌*◌, ◌^◌, ◌<◌, ◌≤◌, length};
 ghost use Rattle.nx_code.specs.Word.{elements_from};
-ghost use Rattle.nx_code.specs.Packed.{packed_elements};
-ghost use Rattle.nx_sync.specs.Steps.{packed_part};
+ghost use Rattle.nx_code.specs.Packed.{packed_elements, packed_part};
 
 /// How many elements a packed number has.
 const PACKED: usize = 64;

@@ -2,18 +2,21 @@
 //! last words. Calls that run for each element, each word or each stride are inlined always, since
 //! their answers would go through memory otherwise.
 
-ghost use Rattle.std.specs.Prelude.{◌≡◌, ℕ, ◌+◌, ◌-◌, ◌*◌, ◌/◌, ◌^◌, ◌<◌, ◌≤◌, ◌↔◌, List, Bool, [], ◌∷◌, ◌++◌, length, take, min, nat_le, not, IsTrue, IfOk};
-ghost use Rattle.std.specs.List.{count_by};
+ghost use Rattle.std.specs.Prelude.{◌≡◌, ℕ, ◌+◌, ◌-◌, ◌*◌, ◌/◌, ◌^◌, ◌<◌, ◌≤◌, ◌↔◌, List, Bool, [], ◌∷◌, ◌++◌, length, take, slice_index, min, nat_le, not, IsTrue, IfOk};
+ghost use Rattle.std.specs.List.{count_by, flat_map};
+ghost use Rattle.nx_sync.specs.declared.step.Role.TheVariants.{Dx};
 ghost use Rattle.nx_sync.specs.declared.step.Change.TheVariants.{Locked};
 ghost use Rattle.nx_code.specs.Word.{elements, elements_from};
-ghost use Rattle.nx_code.specs.Packed.{packed_elements};
+ghost use Rattle.nx_code.specs.Packed.{packed_elements, packed_part};
 ghost use Rattle.nx_sync.specs.Words.{marked_words, losing_count};
 ghost use Rattle.nx_sync.specs.Locks.{pattern_elements};
-ghost use Rattle.nx_sync.specs.Steps.{step, LockStands, LimitStands, IsStep, packed_part, HuntsThrough, IsWordStep};
+ghost use Rattle.nx_sync.specs.Steps.{step, LockStands, LimitStands, IsStep, HuntsThrough, IsWordStep, AreQuietWords};
 ghost use Rattle.nx_sync.specs.private.Windows as spec;
 ghost use Rattle.nx_sync.specs.private.Calls.{heard_one, with_mark, track_from, BeginsLock, Fills, Completes, Skips, SkipsEarly};
-ghost use Rattle.nx_sync.specs.Synchroniser.{StandsAfter, is_hunting, is_between_words};
+ghost use Rattle.nx_sync.specs.private.Eight.{with_marks, after_eight};
+ghost use Rattle.nx_sync.specs.Synchroniser.{StandsAfter, is_hunting, is_between_words, keeps_lock};
 
+use crate::eight::{EIGHT, has_dx_phasing_1, has_wrong, numbers, window_after_eight};
 use crate::packed::{PACKED_STRIDE, elements_at, unpack};
 use crate::step::{Role, Step};
 use crate::track::Track;
@@ -180,6 +183,36 @@ impl Synchroniser {
         }
     }
 
+    /// Whether surely none of the next eight words, if they are these, brings a change, so that
+    /// `push_eight` may hear them. It says no to some that bring none: where a lock is in phasing
+    /// the other way round, where a DX word is phasing signal 1, and in a lock that is nearly lost.
+    #[inline(always)]
+    pub fn keeps_lock(&self, words: &[Word; EIGHT]) -> bool
+        ensures { result ≡ keeps_lock self.now words.now }
+    {
+        let Some(track) = self.track else {
+            return false;
+        };
+        let is_few = self.wrong_count + (EIGHT as u32) < LOSING_COUNT;
+        track.awaits_free_dx() & !has_dx_phasing_1(&numbers(words)) & is_few
+    }
+
+    /// Hears eight words, the first of which is a DX word: what `push_whole` does of one after the
+    /// other. None of them brings a change.
+    #[inline(always)]
+    pub fn push_eight(&mut self, words: &[Word; EIGHT])
+        requires { IsTrue (keeps_lock self.old words.now) }
+        ensures stands { (h : List Bool) → StandsAfter self.old h
+            → StandsAfter self.new (h ++ flat_map elements words.now) }
+        ensures steps { (h : List Bool) → StandsAfter self.old h → AreQuietWords h Dx words.now }
+        ensures between { IsTrue (is_between_words self.new) }
+    {
+        match self.track {
+            None => unreachable!(),
+            Some(track) => self.follow_eight(track, words),
+        }
+    }
+
     /// Hunts through these elements: hears those before the first one that locks, all of them where
     /// none does, and says how many that were.
     pub fn hunt(&mut self, bits: &[bool]) -> usize
@@ -324,6 +357,42 @@ impl Synchroniser {
             self.wrong_count -= 1;
         }
         self.wrong_count >= LOSING_COUNT
+    }
+
+    /// Follows a lock over eight words that bring no change.
+    #[inline(always)]
+    fn follow_eight(&mut self, track: Track, words: &[Word; EIGHT])
+        requires { self.old.seen ≡ pattern_elements }
+        ensures held { self.new ≡ after_eight self.old track words.now }
+        ensures small { (k : ℕ) → k < 8 → slice_index words.now k < 128 }
+        ensures between { IsTrue (is_between_words self.new) }
+    {
+        let numbers = numbers(words);
+        self.mark_eight(words);
+        self.recent = window_after_eight(&numbers);
+        self.track = Some(track.after_eight(&numbers));
+    }
+
+    /// Adds the marks of eight words. They stay as they are where there are all of them and none of
+    /// the eight nor of them is wrong.
+    #[inline(always)]
+    fn mark_eight(&mut self, words: &[Word; EIGHT])
+        ensures { self.new ≡ with_marks self.old words.now }
+    {
+        let is_quiet = !has_wrong(words) & (self.wrong_count == 0);
+        if is_quiet & (self.wrong.len() == MARKS) {
+            return;
+        }
+        self.push_marks(words);
+    }
+
+    /// Moves the marks on by eight.
+    fn push_marks(&mut self, words: &[Word; EIGHT])
+        ensures { self.new ≡ with_marks self.old words.now }
+    {
+        for word in words {
+            self.push_mark(!check_bits(*word));
+        }
     }
 
     /// Hears elements as long as none ends a pattern, and says how many.

@@ -1,14 +1,17 @@
 //! How a lock is followed. What runs for each word is inlined always, since a call would cost more
 //! than its few instructions.
 
-ghost use Rattle.std.specs.Prelude.{◌≡◌, ◌<◌};
+ghost use Rattle.std.specs.Prelude.{◌≡◌, ◌<◌, Some};
 ghost use Rattle.nx_sync.specs.private.Calls.{track_from, track_after, fills_releasing_word, change_by};
+ghost use Rattle.nx_sync.specs.private.Eight.{last_five_marks};
+ghost use Rattle.nx_sync.specs.Synchroniser as held;
 
+use crate::eight::EIGHT;
 use crate::step::{Change, Role};
 use nx_code::Word;
 
 /// The number of phasing signal 1, which is idle signal alpha (M.476, M.625).
-const PHASING_1: u8 = 0x0F;
+pub(crate) const PHASING_1: u8 = 0x0F;
 
 /// How a lock is followed. One that is copied for each word, so all of it is small.
 #[derive(Clone, Copy, Debug)]
@@ -45,6 +48,35 @@ impl Track {
             filled: 0,
             was_p1: (self.was_p1 >> 1) + (u8::from(word.number() == PHASING_1) << 4),
         }
+    }
+
+    /// The track after eight words, from the first element of one on. Eight turns of the role are
+    /// none, and of the marks those of the last five words are left.
+    #[inline(always)]
+    pub(crate) fn after_eight(self, numbers: &[u8; EIGHT]) -> Track
+        ensures { result ≡ record self { filled = 0; was_p1 = last_five_marks numbers.now } }
+    {
+        let older = u8::from(numbers[3] == PHASING_1) + (u8::from(numbers[4] == PHASING_1) << 1);
+        let newer = (u8::from(numbers[5] == PHASING_1) << 2)
+            + (u8::from(numbers[6] == PHASING_1) << 3)
+            + (u8::from(numbers[7] == PHASING_1) << 4);
+        Track {
+            role: self.role,
+            filled: 0,
+            was_p1: older + newer,
+        }
+    }
+
+    /// Whether the next element is the first of a DX word, and neither of the two DX words before
+    /// it was phasing signal 1.
+    #[inline(always)]
+    pub(crate) fn awaits_free_dx(self) -> bool
+        ensures { result ≡ held.awaits_free_dx (Some self) }
+    {
+        (self.filled == 0)
+            & (self.role == Role::Dx)
+            & (self.was_p1 / 2 % 2 == 0)
+            & (self.was_p1 / 8 % 2 == 0)
     }
 
     /// Whether the word that is being filled releases the lock as ended: the words three and five

@@ -67,7 +67,7 @@ line-from channel starts first (accept_subject mark letter) low h =
     command-from starts.moment _ (fed.accept_subject letter)
 
 -- the moment in force after more lines
-after-more : (m : ℕ) (first lines : List Line)
+pub after-more : (m : ℕ) (first lines : List Line)
     → moment_after m (first ++ lines) ≡ moment_after (moment_after m first) lines
 after-more m [] lines = refl
 after-more m (moment n ∷ first) lines = after-more n first lines

@@ -11,12 +11,13 @@ use Rattle.nx_fec.specs.Emission.{SentPosition, phasing_position, end_position, 
 use Rattle.nx_fec.specs.Pairing.{counts_as, pairing}
 use Rattle.nx_fec.proofs.EmissionLemmas.{word_sent-dx, word_sent-rx}
 use Rattle.nx_fec.proofs.RoundTripLemmas.{length-bits_of}
-use Rattle.nx_station.specs.Broadcast.{AreSpelled, layout, phasing_and_message}
+use Rattle.nx_station.specs.Broadcast.{layout, phasing_and_message}
 use Rattle.nx_station.specs.Channel.{PassesChannel, heard_in, first_slot}
 use Rattle.nx_station.specs.Sendings.{IsReceived, digit_slot}
 use Rattle.nx_station.proofs.ChannelCounts.{wrong_in-same}
 use Rattle.nx_station.proofs.ChannelLaws.{few-wrong, no-phasing_1, taken-as_sent}
-use Rattle.nx_station.proofs.ChannelPositions.{HasInner, layout-inner}
+use Rattle.nx_station.proofs.ChannelPositions.{HasInner, told-inner}
+use Rattle.nx_station.proofs.ChannelWindows.{not-empty}
 use Rattle.nx_sync.specs.Words.{word_of_lock, first_role, whole_words, losing_count}
 use Rattle.nx_sync.specs.Locks.{Lock, Now, locked, IsNow}
 use Rattle.nx_receiver.specs.FoundCopies.{FoundCopy, ended_in, past_copies, ended_so_far}
@@ -153,7 +154,7 @@ module _ (gap : List Bool) (messages : List MessageView) (numbers : List ℕ)
   all_bits = gap ++ bits_of heard
 
   has_inner : HasInner (layout (numbers ∷ spellings))
-  has_inner = layout-inner messages (numbers ∷ spellings) (λ e. cc) is.spelled
+  has_inner = told-inner messages (numbers ∷ spellings) (λ e. cc) is.told
 
   abbrev air_of : List SentPosition
   air_of = on_air 36 (numbers ∷ spellings)
@@ -164,7 +165,7 @@ module _ (gap : List Bool) (messages : List MessageView) (numbers : List ℕ)
   module _ (l : LockedThrough gap heard) (index : ℕ) (message : MessageView)
       (at : slice_get messages index ≡ Some message) where
     among : SpelledAt (numbers ∷ spellings) index message
-    among = spelled_at messages (numbers ∷ spellings) index message is.spelled at
+    among = spelled_at messages (numbers ∷ spellings) index message is.told at
 
     abbrev before : List SentPosition
     before = on_air_before 36 (take index (numbers ∷ spellings))
@@ -176,7 +177,7 @@ module _ (gap : List Bool) (messages : List MessageView) (numbers : List ℕ)
       taken = taken_of_lock numbers spellings heard has_inner is.passes (word_of_lock all_bits l.t)
           l.whole l.same;
       numbers = among.numbers;
-      spelled = among.spelled;
+      told = among.told;
       before = before;
       behind = flat_map (phasing_and_message 36) among.back;
       parts = ap (on_air 36) among.whole
@@ -213,7 +214,7 @@ module _ (gap : List Bool) (messages : List MessageView) (numbers : List ℕ)
               p;
         })) place_is
         (message_found (first_role all_bits l.t) (word_of_lock all_bits l.t) l.t l.whole air_of
-        message hears (lines_at messages index message is.sendable.sound at)))
+        message hears (lines_at messages index message is.sound at)))
 
     copy_ended : Contains (ended_so_far all_bits l.locks (locked l.p l.t))
         (emission_copy (length gap) (numbers ∷ spellings) index message)
@@ -232,18 +233,13 @@ module _ (gap : List Bool) (messages : List MessageView) (numbers : List ℕ)
         (emission_copy (length gap) (numbers ∷ spellings) index message)) (sym g.whole)
         (Contains-append_left (ended_so_far all_bits l.locks (locked l.p l.t)) g.rest _ copy_ended)
 
--- the combinations of messages, of which there are some
-some_spelled : (messages : List MessageView) → messages ≢ [] → AreSpelled messages [] → ⊥
-some_spelled [] some h = some refl
-some_spelled (m ∷ messages) some h = h
-
 -- A received emission keeps the lock that its phasing leaves.
 pub emission_locks : (gap : List Bool) (messages : List MessageView) (spellings : List (List ℕ))
     (heard : List ℕ)
     → IsReceived (record { messages = messages; spellings = spellings; heard = heard })
     → LockedThrough gap heard
 emission_locks gap messages [] heard is =
-    absurd (some_spelled messages is.sendable.of_one.some is.spelled)
+    absurd (not-empty [] heard is.passes refl)
 emission_locks gap messages (numbers ∷ spellings) heard is =
     lock_on gap messages numbers spellings heard is
 
@@ -256,7 +252,7 @@ pub message_copied : (gap more : List Bool) (messages : List MessageView)
     → Contains (ended_so_far ((gap ++ bits_of heard) ++ more) locks now)
     (emission_copy (length gap) spellings index message)
 message_copied gap more messages [] heard is index message at locks now stands =
-    absurd (some_spelled messages is.sendable.of_one.some is.spelled)
+    absurd (not-empty [] heard is.passes refl)
 message_copied gap more messages (numbers ∷ spellings) heard is index message at locks now stands =
     copy_stays gap messages numbers spellings heard is
     (lock_on gap messages numbers spellings heard is) index message at more locks now stands

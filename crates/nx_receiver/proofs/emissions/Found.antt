@@ -1,6 +1,6 @@
 -- What is found of sendings in a list of bits that is cut into gaps and received emissions.
 use Rattle.std.proofs.Common.{◌≡◌, ℕ, ◌+◌, Bool, false, eqb, cond, List, [], ◌∷◌, ◌++◌, take, drop, refl, sym, ap, ap₂, ◌∙◌, subst, arith, append_assoc}
-use Rattle.std.specs.List.{All, Contains, AllByRecursion}
+use Rattle.std.specs.List.{All, Contains, flat_map}
 use Rattle.std.proofs.lemmas.Bool.{ne_eqb, true≢false}
 use Rattle.std.proofs.lemmas.List.{length-append, take-append-drop, take-take}
 use Rattle.std.proofs.lemmas.List.Concat.{flat_map-append}
@@ -11,7 +11,7 @@ use Rattle.nx_envelope.specs.Copies.{errors_of}
 use Rattle.nx_envelope.specs.Message.{AreLines, IsMessageLine, IsLineByte, text_of}
 use Rattle.nx_envelope.specs.declared.found.How.TheVariants.{Full}
 use Rattle.nx_fec.specs.Emission.{bits_of}
-use Rattle.nx_station.specs.Sendings.{Part, received, part_bits, bits_of_parts, IsSound, IsCut, IsReceived, ReceivedEmission, Sending, IsSending}
+use Rattle.nx_station.specs.Sendings.{Part, received, part_bits, IsCut, IsReceived, ReceivedEmission, Sending, IsSending}
 use Rattle.nx_sync.specs.Laws.{phasing}
 use Rattle.nx_sync.specs.Locks.{Lock, Now, IsNow, IsLocked}
 use Rattle.nx_sync.proofs.KeptPast.{Finds-more, Past-more, IsReleased-more}
@@ -23,24 +23,18 @@ use Rattle.nx_receiver.proofs.emissions.Emissions.{message_copied, emission_lock
 use Rattle.nx_receiver.proofs.emissions.Places.{found_rise}
 use Rattle.nx_receiver.proofs.emissions.Texts.{lines_at}
 
-sound_at : (before : List Part) (emission : ReceivedEmission) (after : List Part)
-    → AllByRecursion IsSound (before ++ received emission ∷ after) → IsReceived emission
-sound_at [] emission after h = h.0
-sound_at (part ∷ before) emission after h = sound_at before emission after h.1
-
 pub is_received : (bits : List Bool) (parts : List Part) (sending : Sending) → IsCut bits parts
     → (s : IsSending parts sending) → IsReceived s.emission
-is_received bits parts sending cut s =
-    sound_at s.before s.emission s.after (subst (AllByRecursion IsSound) s.among cut.each)
+is_received bits parts sending cut s = cut.each s.before s.emission s.after s.among
 
 -- the bits up to the emission, of it, and behind it
 cut_at : (bits : List Bool) (parts : List Part) (sending : Sending) → IsCut bits parts
     → (s : IsSending parts sending)
-    → bits ≡ (bits_of_parts s.before ++ bits_of s.emission.heard) ++ bits_of_parts s.after
+    → bits ≡ (flat_map part_bits s.before ++ bits_of s.emission.heard) ++ flat_map part_bits s.after
 cut_at bits parts sending cut s =
-    cut.whole ∙ ap bits_of_parts s.among
+    cut.whole ∙ ap (flat_map part_bits) s.among
     ∙ flat_map-append part_bits s.before (received s.emission ∷ s.after)
-    ∙ sym (append_assoc (bits_of_parts s.before) (bits_of s.emission.heard) (bits_of_parts s.after))
+    ∙ sym (append_assoc (flat_map part_bits s.before) (bits_of s.emission.heard) (flat_map part_bits s.after))
 
 -- the copy of a sending is there
 pub sending_found : (bits : List Bool) (parts : List Part) (sending : Sending) (locks : List Lock)
@@ -49,8 +43,8 @@ pub sending_found : (bits : List Bool) (parts : List Part) (sending : Sending) (
     → Contains (ended_so_far bits locks now) (copy_of_sending sending)
 sending_found bits parts sending locks now cut s stands =
     let e = s.emission in
-    let before = bits_of_parts s.before in
-    let after = bits_of_parts s.after in
+    let before = flat_map part_bits s.before in
+    let after = flat_map part_bits s.after in
     let at = cut_at bits parts sending cut s in
     let there =
     message_copied before after e.messages e.spellings e.heard
@@ -149,7 +143,7 @@ pub sending_errors : (bits : List Bool) (parts : List Part) (sending : Sending) 
 sending_errors bits parts sending cut s =
     let lines : AreLines sending.message.lines =
     lines_at s.emission.messages s.index sending.message
-    (is_received bits parts sending cut s).sendable.sound s.message in
+    (is_received bits parts sending cut s).sound s.message in
     text_errors sending.message.lines lines.each
 
 -- ---- the lock holds

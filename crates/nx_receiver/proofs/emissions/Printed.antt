@@ -11,8 +11,9 @@ use Rattle.nx_envelope.specs.Copies.{ended_copies}
 use Rattle.nx_envelope.specs.Message.{AreLines, text_of, MessageView}
 use Rattle.nx_envelope.specs.declared.found.How.TheVariants.{Full}
 use Rattle.nx_fec.specs.Emission.{SentPosition, traffic_position, end_position, position_at, reception}
-use Rattle.nx_station.specs.Broadcast.{IsSpelled, ending, printed_text}
-use Rattle.nx_station.proofs.ReadingBack.{message-prints, traffic-receptions}
+use Rattle.nx_station.specs.Broadcast.{ending, printed_text}
+use Rattle.nx_station.specs.Sendings.{Tells}
+use Rattle.nx_station.proofs.ReadingBack.{told-prints, traffic-receptions}
 use Rattle.nx_sync.specs.Words.{role_of}
 use Rattle.nx_sync.specs.declared.step.Role.{Role}
 use Rattle.nx_sync.specs.declared.step.Role.TheVariants.{Dx}
@@ -33,7 +34,7 @@ pub record HearsMessage (first : Role) (words : ℕ → ℕ) (w : ℕ) (sent : L
   pub dx : role_of first w ≡ Dx
   pub taken : AreTaken words w sent
   pub numbers : List ℕ
-  pub spelled : IsSpelled message numbers
+  pub told : Tells message numbers
   pub before : List SentPosition
   pub behind : List SentPosition
   pub parts : sent ≡ before ++ (map traffic_position numbers ++ behind)
@@ -78,7 +79,7 @@ module _ (first : Role) (words : ℕ → ℕ) (t w : ℕ) (sent : List SentPosit
       ≡ front ++ (printed_text message ++ behind_bytes)
   whole_bytes =
       let shift = shift_after_all taken_before Letters in
-      let of_message = message-prints message h.numbers shift h.spelled in
+      let of_message = told-prints message h.numbers shift h.told in
       let receptions : positions first words all
       ≡ taken_before ++ (map combination h.numbers ++ map reception h.behind) =
       taken_of sent [] (sym (append-nil sent))
@@ -105,11 +106,11 @@ module _ (first : Role) (words : ℕ → ℕ) (t w : ℕ) (sent : List SentPosit
   digit_parts : (rest : List SentPosition)
       × (sent ≡ up_to_digit ++ traffic_position (second_digit message.identity) ∷ rest)
   digit_parts =
-      let shown = ending (shift_after_all (map combination h.spelled.text) Figures) in
-      let behind_head = h.spelled.text ++ shown in
+      let shown = ending (shift_after_all (map combination h.told.body) Figures) in
+      let behind_head = h.told.body ++ shown in
       let tail = second_digit message.identity ∷ (27 ∷ (28 ∷ behind_head)) in
       let spelled : h.numbers ≡ head_front message.identity ++ tail =
-      h.spelled.whole ∙ ap (λ l. l ++ behind_head) (head-parts message.identity)
+      h.told.whole ∙ ap (λ l. l ++ behind_head) (head-parts message.identity)
       ∙ append_assoc (head_front message.identity)
       (second_digit message.identity ∷ (27 ∷ (28 ∷ []))) behind_head in (
         map traffic_position (27 ∷ (28 ∷ behind_head)) ++ h.behind,

@@ -1,6 +1,6 @@
 -- What the words of an emission print of one of its messages, and where.
 use Rattle.std.proofs.Common.{◌≡◌, ℕ, zero, suc, ◌+◌, ◌/◌, ◌%◌, ◌<◌, List, [], ◌∷◌, ◌++◌, map, length, take, replicate, Some, slice_get, refl, sym, ap, ◌∙◌, subst, arith, append_assoc}
-use Rattle.std.specs.List.{flat_map, AllByRecursion}
+use Rattle.std.specs.List.{flat_map, AllByRecursion, AllZip}
 use Rattle.std.proofs.lemmas.List.{length-append, length-map, length-replicate}
 use Rattle.nx_code.specs.Reading.{combination, byte_of}
 use Rattle.nx_code.specs.declared.shifts.Shift.{Shift}
@@ -8,8 +8,8 @@ use Rattle.nx_code.specs.declared.shifts.Shift.TheVariants.{Letters, Figures}
 use Rattle.nx_envelope.specs.Message.{AreLines, MessageView}
 use Rattle.nx_envelope.specs.declared.identity.Identity.{Identity}
 use Rattle.nx_fec.specs.Emission.{SentPosition, phasing_position, traffic_position, end_position}
-use Rattle.nx_station.specs.Broadcast.{IsSpelled, AreSpelled, head, phasing_and_message, layout, letter_combination, digit_combination}
-use Rattle.nx_station.specs.Sendings.{positions_before}
+use Rattle.nx_station.specs.Broadcast.{head, phasing_and_message, layout, letter_combination, digit_combination}
+use Rattle.nx_station.specs.Sendings.{Tells, positions_before}
 use Rattle.nx_station.proofs.HeadLemmas.{letter_combination-prints, digit_combination-prints, digit_combination-range}
 use Rattle.nx_station.proofs.ReadingBack.{Prints, Prints-nil, Prints-character, Prints-shift, z-prints, c-prints, space-prints}
 
@@ -98,11 +98,11 @@ pub record SpelledAt (spellings : List (List ℕ)) (index : ℕ) (message : Mess
   pub numbers : List ℕ
   pub back : List (List ℕ)
   pub whole : spellings ≡ take index spellings ++ numbers ∷ back
-  pub spelled : IsSpelled message numbers
+  pub told : Tells message numbers
 
 pub spelled_at : (messages : List MessageView) (spellings : List (List ℕ)) (index : ℕ)
     (message : MessageView)
-    → AreSpelled messages spellings → slice_get messages index ≡ Some message
+    → AllZip Tells messages spellings → slice_get messages index ≡ Some message
     → SpelledAt spellings index message
 spelled_at [] spellings index message h e = cc
 spelled_at (m ∷ messages) [] index message h e = absurd h
@@ -112,8 +112,7 @@ spelled_at (m ∷ messages) (s ∷ spellings) zero message h e =
       numbers = s;
       back = spellings;
       whole = refl;
-      spelled =
-          subst (λ (m : MessageView). IsSpelled m s) same h.0;
+      told = subst (λ (m : MessageView). Tells m s) same h.0;
     }
 spelled_at (m ∷ messages) (s ∷ spellings) (suc index) message h e =
     let rest = spelled_at messages spellings index message h.1 e in
@@ -121,8 +120,7 @@ spelled_at (m ∷ messages) (s ∷ spellings) (suc index) message h e =
       numbers = rest.numbers;
       back = rest.back;
       whole = ap (λ l. s ∷ l) rest.whole;
-      spelled =
-          rest.spelled;
+      told = rest.told;
     }
 
 pub lines_at : (messages : List MessageView) (index : ℕ) (message : MessageView)

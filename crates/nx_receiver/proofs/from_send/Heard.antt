@@ -13,8 +13,10 @@ use Rattle.nx_memory.specs.Selection.{Refused, admits}
 use Rattle.nx_station.specs.Broadcast.{AreSpelled, layout, printed_text}
 use Rattle.nx_station.specs.Channel.{first_slot}
 use Rattle.nx_station.specs.Sendable.{IsSendable}
-use Rattle.nx_station.specs.Sendings.{IsCut, IsReceived, Part, bits_of_parts, digit_slot, gap, IsSentAt}
+use Rattle.nx_station.specs.Sendings.{IsCut, IsReceived, Part, digit_slot, part_bits, gap, IsSentAt}
+use Rattle.nx_station.proofs.ChannelPositions.{all_tell}
 use Rattle.nx_station.proofs.ChannelUndamaged.{undamaged-cut}
+use Rattle.nx_station.proofs.SendingsLemmas.{each_received}
 use Rattle.nx_sync.specs.Locks.{IsNow, locked}
 use Rattle.nx_sync.specs.Words.{whole_words}
 use Rattle.nx_receiver.specs.Events.{Event, Setting, at_zero, first_setting, settings, elements_among, elements, setting_at}
@@ -74,8 +76,8 @@ module _ (messages : List MessageView) (numbers : List ℕ) (others : List (List
           drop first_slot (words_sent spellings);
     })
     is_received = record {
-      sendable = sendable;
-      spelled = spelled;
+      sound = sendable.sound;
+      told = all_tell messages spellings spelled;
       passes =
           passes messages numbers others spelled;
     }
@@ -85,7 +87,7 @@ module _ (messages : List MessageView) (numbers : List ℕ) (others : List (List
       whole = bits_are ∙ undamaged-cut (layout spellings)
           ∙ ap (λ b. bits_of (take first_slot (words_sent spellings)) ++ b)
           (sym (append-nil (bits_of (drop first_slot (words_sent spellings)))));
-      each = (tt, (is_received, tt));
+      each = each_received parts (tt, (is_received, tt));
     }
 
     -- the lock of its first four words, and its text
@@ -121,7 +123,7 @@ module _ (messages : List MessageView) (numbers : List ℕ) (others : List (List
 
       abbrev place : ℕ
       place =
-          length (bits_of_parts (gap (bits_of (take first_slot (words_sent spellings)))
+          length (flat_map part_bits (gap (bits_of (take first_slot (words_sent spellings)))
           ∷ [])) + 7 * (digit_slot spellings at_index.index - first_slot) + 6
 
       is_sent : IsSentAt parts message place

@@ -20,7 +20,7 @@ use Rattle.nx_receiver.specs.private.Listener.{HasClosed, HasClosedSome, HearsGi
 use Rattle.nx_receiver.specs.declared.entry.Entry.{Entry}
 use Rattle.nx_receiver.specs.declared.listening.Report.{Report}
 use Rattle.nx_memory.specs.Ring.{RingMemory}
-use Rattle.nx_receiver.proofs.listens.Listener.{at-most-one, counts-on}
+use Rattle.nx_receiver.proofs.listens.Listener.{counts-on}
 use Rattle.nx_receiver.proofs.receiving.Log.{logs_join, some_log}
 
 -- the entry that the end of the elements prints on each channel, if it prints one
@@ -28,6 +28,11 @@ pub record Closing : Type 0 where
   pub on_0 : Option Entry
   pub on_1 : Option Entry
   pub on_2 : Option Entry
+
+-- an entry is one copy
+at-most-one : (entry : Option Entry) → length (entry_list entry) ≤ 1
+at-most-one None = omega arith
+at-most-one (Some entry) = omega arith
 
 abbrev pub closed_on : Closing → Channel → List TaggedCopy
 closed_on closing Zero = entry_list closing.on_0

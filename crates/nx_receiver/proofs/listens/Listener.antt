@@ -1,6 +1,6 @@
 -- What a line does to a listener: how it stands after one more line, after some more elements, and
 -- after the end.
-use Rattle.std.proofs.Common.{◌≡◌, ◌||◌, inl, inr, ℕ, ◌+◌, ◌-◌, ◌<◌, ◌≤◌, Bool, true, false, cond, IsTrue, List, [], ◌∷◌, ◌++◌, map, Option, Some, None, Ok, IsErr, length, take, take-append-drop, drop, refl, sym, ap, ap₂, ◌∙◌, subst, append-nil, append_assoc, arith, length-append, length-drop}
+use Rattle.std.proofs.Common.{◌≡◌, ◌||◌, inl, inr, ℕ, ◌+◌, ◌<◌, ◌≤◌, Bool, true, false, cond, IsTrue, List, [], ◌∷◌, ◌++◌, map, Option, Some, None, Ok, IsErr, length, take, take-append-drop, drop, refl, sym, ap, ap₂, ◌∙◌, subst, append-nil, append_assoc, arith, length-append}
 use lib.Seq.{take-add}
 use Rattle.std.proofs.lemmas.List.{length-map, length-take-le, map-append}
 use Rattle.std.proofs.lemmas.List.Concat.{flat_map-append}
@@ -17,20 +17,18 @@ use Rattle.nx_receiver.specs.InTurn.{HavePrinted, PrintsInTurn}
 use Rattle.nx_receiver.specs.Listen.{AreTaken, AreTakenAfter, IsTakenAfter, events_on, given_by, given_of, has_moment, is_moment_line, moment_after}
 use Rattle.nx_receiver.specs.private.Listener.{BeginsListening, BeginsLog, HasFinished, HearsGiven, HearsLog, IsListening, Listening, content, count_of, elements_given, elements_in, kept_by, receiver_on, starts_of, then_elements, with_receiver}
 use Rattle.nx_receiver.specs.private.ListenerBegins.{printed-so_far}
-use Rattle.nx_receiver.specs.Log.{HasPrinted, IsEntry, IsLog}
-use Rattle.nx_receiver.specs.Receiver.{Stands, entry_list}
+use Rattle.nx_receiver.specs.Log.{HasPrinted}
+use Rattle.nx_receiver.specs.Receiver.{Stands}
 use Rattle.nx_receiver.specs.Shares.{Given, MarkedCopy, Starts, copies_on, events_for, marked, saved_of, share, start_on, to_all, to_one}
 use Rattle.nx_receiver.specs.private.Awaiting.{Awaits}
 use Rattle.nx_receiver.specs.FoundCopies.{TaggedCopy}
-use Rattle.nx_receiver.specs.declared.entry.Entry.{Entry}
 use Rattle.nx_receiver.specs.declared.over.Over.{Over}
 use Rattle.nx_receiver.specs.declared.over.Over.TheVariants as overs
 use Rattle.nx_receiver.proofs.Shares.{copies_on-append, copies_on-marked, copies_on-other, in_turn-more, in_turn-none, in_turn-other, same_channel-is, same_channel-refl, share-one}
 use Rattle.nx_receiver.proofs.receiving.Feeds.{nothing_awaited}
-use Rattle.nx_receiver.proofs.receiving.Log.{logs_join}
+use Rattle.nx_receiver.proofs.receiving.Log.{logs_join, no-log}
 use Rattle.nx_receiver.proofs.receiving.Logged.{has_printed_on, some_printed}
 use Rattle.nx_receiver.proofs.receiving.Events.{bits_of-more, force-append, force-more}
-use Rattle.nx_receiver.proofs.watching.Loops.{rest_is}
 
 -- what one more line gives
 pub given_by-one : (lines : List Line) (line : Line)
@@ -401,35 +399,35 @@ pub counts-on : (old new m n all : ℕ) → old ≡ count_of m → new ≡ count
     → new ≡ count_of all
 counts-on old new m n all h k e = omega arith
 
--- More elements of a channel were heard, and an entry was handed out with the last of them, or none.
+-- More elements of a channel were heard, and these copies were handed out with the last of them.
 pub hears-more : (starts : Starts) (old new : Listening) (given : List Given) (channel : Channel)
-    (part more : List Bool) (copies : List MarkedCopy) (entry : Option Entry)
+    (part more : List Bool) (copies : List MarkedCopy) (next : List TaggedCopy)
     → HearsGiven starts old (then_elements given channel part) copies
-    → length (entry_list entry) ≤ length more
+    → length next ≤ length more
     → ((start : Start) (events : List Event) (log : List TaggedCopy)
     → Stands content start (receiver_on old channel) events log
     → Stands content start (receiver_on new channel) (events ++ fed.elements more)
-    (log ++ entry_list entry))
+    (log ++ next))
     → ((other : Channel) → same_channel channel other ≡ false
     → receiver_on new other ≡ receiver_on old other)
     → new.elements ≡ count_of (old.elements + length more)
-    → new.entries ≡ count_of (old.entries + length (entry_list entry))
+    → new.entries ≡ count_of (old.entries + length next)
     → HearsGiven starts new (then_elements given channel (part ++ more))
-    (copies ++ map (marked channel) (entry_list entry))
-hears-more starts old new given channel part more copies entry h few stands others heard printed =
+    (copies ++ map (marked channel) next)
+hears-more starts old new given channel part more copies next h few stands others heard printed =
     let was = then_elements given channel part in
-    let later = map (marked channel) (entry_list entry) in
+    let later = map (marked channel) next in
     let all : length (elements_given (then_elements given channel (part ++ more)))
     ≡ length (elements_given was) + length more =
     ap length (elements-then given channel (part ++ more) ∙ sym (append_assoc _ part more)
     ∙ ap (λ bits. bits ++ more) (sym (elements-then given channel part)))
     ∙ length-append (elements_given was) more in
-    let longer : length (copies ++ later) ≡ length copies + length (entry_list entry) =
+    let longer : length (copies ++ later) ≡ length copies + length next =
     length-append copies later
-    ∙ ap (λ n. length copies + n) (length-map (entry_list entry) (marked channel)) in
+    ∙ ap (λ n. length copies + n) (length-map next (marked channel)) in
     let each = grows-on
     (λ other es log. Stands content (start_on starts other) (receiver_on new other) es log) given
-    channel part more copies (entry_list entry)
+    channel part more copies next
     (stands (start_on starts channel) (share channel was) (copies_on channel copies)
     (h.receivers channel))
     (λ other not. subst (λ r. Stands content (start_on starts other) r (share other was)
@@ -441,7 +439,7 @@ hears-more starts old new given channel part more copies entry h few stands othe
           (have-printed starts new _ (copies ++ later) each);
       elements = counts-on old.elements new.elements (length (elements_given was)) (length more) _
           h.elements heard all;
-      entries = counts-on old.entries new.entries (length copies) (length (entry_list entry)) _
+      entries = counts-on old.entries new.entries (length copies) (length next) _
           h.entries printed longer;
       few = omega (arith, all, longer, few, h.few);
     }
@@ -451,20 +449,6 @@ pub ok-false : {T : Type 0} (E : Type 0) (x : T) (b : Bool)
     → (IsTrue b → IsErr {T = T} {E = E} (Ok x)) → b ≡ false
 ok-false E x false h = refl
 ok-false E x true h = let e = h refl in cc
-
--- the log of one copy
-pub one-log : (copy : MarkedCopy) (bytes : List ℕ) → IsEntry copy bytes → IsLog (copy ∷ []) bytes
-one-log copy bytes h = record
-    { entries = bytes ∷ []; each = (h, tt); joined = sym (append-nil bytes) }
-
--- the log of none
-pub no-log : IsLog [] []
-no-log = record { entries = []; each = tt; joined = refl }
-
--- an entry is one copy
-pub at-most-one : (entry : Option Entry) → length (entry_list entry) ≤ 1
-at-most-one None = omega arith
-at-most-one (Some entry) = omega arith
 
 -- What was over with the last of these elements was finished, and these are the bytes of the entry,
 -- if one was made.
@@ -482,20 +466,20 @@ pub heard-over : (starts : Starts) (old mid new : Listening) (given : List Given
     → HearsLog starts new (then_elements given channel (part ++ take n bits)) (bytes ++ more)
 heard-over starts old mid new given channel part bits n bytes more over f h within least awaits
     others heard same =
-    let entry = f.entry in
-    let few : length (entry_list entry) ≤ 1 = at-most-one entry in
+    let next = f.copies in
+    let few : length next ≤ 1 = f.one in
     let many : length (take n bits) ≡ n = length-take-le n bits within in
     record {
-      log = h.log ++ map (marked channel) (entry_list entry);
-      hears = hears-more starts old new given channel part (take n bits) h.log entry h.hears
+      log = h.log ++ map (marked channel) next;
+      hears = hears-more starts old new given channel part (take n bits) h.log next h.hears
           (omega (arith, few, many))
           (λ start events log s. f.stands start (events ++ fed.elements (take n bits)) log
           (awaits start events log s))
           (λ other not. f.others other not ∙ others other not)
           (f.elements ∙ heard ∙ ap (λ k. count_of (old.elements + k)) (sym many))
           (f.entries (omega (arith, h.hears.entries, same))
-          ∙ ap (λ k. count_of (k + length (entry_list entry))) same);
-      spelled = logs_join h.log (map (marked channel) (entry_list entry)) bytes more h.spelled
+          ∙ ap (λ k. count_of (k + length next)) same);
+      spelled = logs_join h.log (map (marked channel) next) bytes more h.spelled
           f.spelled;
     }
 
@@ -515,7 +499,7 @@ pub heard-no-over : (starts : Starts) (old new : Listening) (given : List Given)
 heard-no-over starts old new given channel part bits n bytes over nothing h within awaits others
     heard printed =
     let many : length (take n bits) ≡ n = length-take-le n bits within in
-    let more = hears-more starts old new given channel part (take n bits) h.log None h.hears
+    let more = hears-more starts old new given channel part (take n bits) h.log [] h.hears
     (omega arith)
     (λ start events log s. subst (λ l. Stands content start (receiver_on new channel)
     (events ++ fed.elements (take n bits)) l) (sym (append-nil log))
@@ -563,16 +547,12 @@ whole-part part bits n =
 
 -- the next of these elements, and all that are left
 pub elements-next : (bits : List Bool) (at count : ℕ)
-    → take at bits ++ take count (take (length bits - at) (drop at bits))
-    ≡ take (at + count) bits
-elements-next bits at count =
-    ap (λ bs. take at bits ++ take count bs) (rest_is bits at)
-    ∙ sym (take-add at count bits)
+    → take at bits ++ take count (drop at bits) ≡ take (at + count) bits
+elements-next bits at count = sym (take-add at count bits)
 
 pub elements-rest : (bits : List Bool) (at : ℕ)
-    → take at bits ++ take (length bits - at) (drop at bits) ≡ bits
-elements-rest bits at =
-    ap (λ bs. take at bits ++ bs) (rest_is bits at) ∙ take-append-drop at bits
+    → take at bits ++ drop at bits ≡ bits
+elements-rest bits at = take-append-drop at bits
 
 -- before the first element of a line
 if-empty : (b : Bool) → cond b (fed.elements []) [] ≡ []
@@ -678,7 +658,3 @@ begins-line starts lines mark channel bits bytes e taken some h = record {
 pub none-left : {A : Type 0} (o : Option A) → ((x : A) → o ≡ Some x → ⊥) → o ≡ None
 none-left None h = refl
 none-left (Some x) h = absurd (h x refl)
-
-pub rest-length : (bits : List Bool) (at : ℕ)
-    → length (take (length bits - at) (drop at bits)) ≡ length bits - at
-rest-length bits at = ap length (rest_is bits at) ∙ length-drop at bits

@@ -7,7 +7,7 @@ use Rattle.std.specs.declared.alloc.AllocError.{AllocError}
 use Rattle.std.proofs.KnownBytes.{Consumes-nil}
 use Rattle.std.proofs.lemmas.List.{length-map}
 use Rattle.nx_fec.specs.AirFile.{Line, moment, elements, refuse_station, accept_station, refuse_subject, accept_subject, element_digit, mark_bytes}
-use Rattle.nx_fec.specs.Transfers.{CountedDevice, HasWritten, Devices, devices}
+use Rattle.nx_fec.specs.Transfers.{CountedDevice, HasWritten, Devices, IsReadOut, Reads, Writes, devices}
 use Rattle.nx_fec.specs.LineRuns.{ExplainsLines, HasTaken, HasTakenAll, RunsLines}
 use Rattle.nx_fec.specs.Lines.{IsLineRefused, StopsAt, air_limit, elements_of, file_of, line_bytes}
 use Rattle.nx_fec.specs.declared.fault.LineFault.TheVariants as file
@@ -168,28 +168,47 @@ run-err-of a b e = cc
 as-err : {N F : Type 0} (a b : F) → a ≡ b → ◌≡◌ {A = Result N F} (Err a) (Err b)
 as-err {N} {F} a b e = let out : F → Result N F = λ x. Err x in ap out e
 
+-- what a run says of both devices is what it says as one that listens
+listens-by : {R W : Type 0} (starts : Starts) (d : Devices R W)
+    (outcome : Result Report ListenFault)
+    → Reads d.remaining d.reader d.reader_after Read (λ _. ⊥) outcome (λ _. ⊤)
+    (AnswersListening starts (IsReadOut d) (λ more. more ≡ []) (d.contents d.writer.inner)
+    (d.contents d.writer_after.inner) outcome)
+    (AnswersListening starts (Unit {0}) (λ more. Unit {0}) (d.contents d.writer.inner)
+    (d.contents d.writer_after.inner) outcome)
+    → Writes d.writer_after (λ written. Write written) outcome → Listens starts d outcome
+listens-by starts d outcome r w = record {
+  bytes = r.bytes;
+  consumed = r.consumed;
+  answer = r.answer;
+  file = r.file;
+  unread = r.failed;
+  read_once = r.once;
+  unwritten = w.failed;
+  write_once = w.once;
+}
+
 -- a run over lines that ended early is a run of `listen` that did
 pub listens-fault : {R W : Type 0} (first now : Listening) (d : Devices R W)
     (fault : LinesFault LineRefusal)
     → RunsLines StandsFrom BeginsFrom RefusesFrom air_limit first now d (Err fault)
     → Listens (starts_of first) d (Err (lines_fault fault))
-listens-fault first now d fault h = record {
-  reads = Reads-on d.remaining d.reader d.reader_after run.Read Read (Err fault)
-      (Err (lines_fault fault)) _ _ _ _ h.reads
-      (λ bytes k. explains _ _ first now _ _ bytes fault k)
-      (λ bytes k. explains _ _ first now _ _ bytes fault k)
-      (λ bytes k h outside. tt) (λ e. as-err _ _ (read-back fault (err-of _ _ e)))
-      (λ e. as-err _ _ (ap lines_fault (run-err-of _ _ e)));
-  writes = record {
-    failed = (
-      λ w. h.writes.failed.0 (w.0, as-err _ _ (write-back fault w.0 (err-of _ _ w.1))),
-      λ one. let w = h.writes.failed.1 one in
-          (w.0, as-err _ _ (ap lines_fault (run-err-of _ _ w.1))),
-    );
-    once = h.writes.once;
-  };
-  unwritten = tt;
-}
+listens-fault first now d fault h =
+    listens-by (starts_of first) d (Err (lines_fault fault))
+    (Reads-on d.remaining d.reader d.reader_after run.Read Read (Err fault)
+    (Err (lines_fault fault)) _ _ _ _ h.reads
+    (λ bytes k. explains _ _ first now _ _ bytes fault k)
+    (λ bytes k. explains _ _ first now _ _ bytes fault k)
+    (λ bytes k h outside. tt) (λ e. as-err _ _ (read-back fault (err-of _ _ e)))
+    (λ e. as-err _ _ (ap lines_fault (run-err-of _ _ e))))
+    (record {
+      failed = (
+        λ w. h.writes.failed.0 (w.0, as-err _ _ (write-back fault w.0 (err-of _ _ w.1))),
+        λ one. let w = h.writes.failed.1 one in
+            (w.0, as-err _ _ (ap lines_fault (run-err-of _ _ w.1))),
+      );
+      once = h.writes.once;
+    })
 
 line-given : (line : Line) → elements_in (given_of line) ≡ elements_of line
 unfolding elements_among
@@ -281,15 +300,14 @@ pub listens-ok : {R W : Type 0} (remaining : R → Option (List ℕ)) (contents 
     → Listens (starts_of first) (devices remaining contents reader reader_after writer new)
     (Ok report)
 listens-ok remaining contents first now reader reader_after writer mid new read report h closed
-    counted none = record {
-      reads = Reads-on remaining reader reader_after run.Read Read (Ok read) (Ok report) _ _ _ _
-          h.reads
-          (λ bytes k. (k.0, listened first now _ _ _ bytes read report k.1 closed counted))
-          (λ bytes k. (k.0, listened first now _ _ _ bytes read report k.1 closed counted))
-          (λ bytes k h. h) (λ e. absurd (Ok-not_err _ _ e)) (λ e. absurd (Ok-not_err _ _ e));
-      writes = Writes-none _ _ _ (λ written. Ok-not_err _ _) none;
-      unwritten = tt;
-    }
+    counted none =
+    listens-by (starts_of first) (devices remaining contents reader reader_after writer new)
+    (Ok report)
+    (Reads-on remaining reader reader_after run.Read Read (Ok read) (Ok report) _ _ _ _ h.reads
+    (λ bytes k. (k.0, listened first now _ _ _ bytes read report k.1 closed counted))
+    (λ bytes k. (k.0, listened first now _ _ _ bytes read report k.1 closed counted))
+    (λ bytes k h. h) (λ e. absurd (Ok-not_err _ _ e)) (λ e. absurd (Ok-not_err _ _ e)))
+    (Writes-none _ _ _ (λ written. Ok-not_err _ _) none)
 
 -- the whole file was read, and a write of what its end prints failed
 part-listened : (first now : Listening) (old mid new : Option (List ℕ)) (bytes : List ℕ)
@@ -327,17 +345,16 @@ pub listens-part : {R W : Type 0} (remaining : R → Option (List ℕ)) (content
     → new.failures ≡ 1 → Listens (starts_of first)
     (devices remaining contents reader reader_after writer new) (Err (Write written))
 listens-part remaining contents first now reader reader_after writer mid new read written h closed
-    one = record {
-      reads = Reads-on remaining reader reader_after run.Read Read (Ok read) (Err (Write written)) _
-          _ _
-          _ h.reads
-          (λ bytes k. inr (k.0, part-listened first now _ _ _ bytes read written k.1 closed))
-          (λ bytes k. inr (k.0, part-listened first now _ _ _ bytes read written k.1 closed))
-          (λ bytes k h outside. tt) (λ e. absurd (write-not_read written e))
-          (λ e. absurd (Ok-not_err _ _ e));
-      writes = record { failed = (λ w. one, λ k. (written, refl)); once = omega (arith, one) };
-      unwritten = tt;
-    }
+    one =
+    listens-by (starts_of first) (devices remaining contents reader reader_after writer new)
+    (Err (Write written))
+    (Reads-on remaining reader reader_after run.Read Read (Ok read) (Err (Write written)) _ _ _ _
+    h.reads
+    (λ bytes k. inr (k.0, part-listened first now _ _ _ bytes read written k.1 closed))
+    (λ bytes k. inr (k.0, part-listened first now _ _ _ bytes read written k.1 closed))
+    (λ bytes k h outside. tt) (λ e. absurd (write-not_read written e))
+    (λ e. absurd (Ok-not_err _ _ e)))
+    (record { failed = (λ w. one, λ k. (written, refl)); once = omega (arith, one) })
 
 memory-read : {N : Type 0} (error : AllocError)
     → ◌≡◌ {A = Result N ListenFault} (Err (Memory error)) (Err Read) → ⊥
@@ -358,16 +375,17 @@ pub listens-memory : {R W : Type 0} (starts : Starts) (remaining : R → Option 
     → reader.failures ≡ 0 → writer.failures ≡ 0
     → Listens starts (devices remaining contents reader reader writer writer)
     (Err (Memory error))
-listens-memory starts remaining contents reader writer error read written = record {
-  reads = record {
-    bytes = [];
-    consumed = Consumes-nil (remaining reader.inner);
-    answer = tt;
-    file = whatever (remaining reader.inner);
-    before = λ e. tt;
-    failed = read_failed-none _ _ _ (memory-read error) read;
-    once = omega (arith, read);
-  };
-  writes = Writes-none _ _ _ (memory-write error) written;
-  unwritten = tt;
-}
+listens-memory starts remaining contents reader writer error read written =
+    let outcome : Result Report ListenFault = Err (Memory error) in
+    let writes : Writes writer (λ written. Write written) outcome =
+    Writes-none _ _ _ (memory-write error) written in
+    record {
+      bytes = [];
+      consumed = Consumes-nil (remaining reader.inner);
+      answer = tt;
+      file = whatever (remaining reader.inner);
+      unread = read_failed-none _ _ _ (memory-read error) read;
+      read_once = omega (arith, read);
+      unwritten = writes.failed;
+      write_once = writes.once;
+    }

@@ -1,7 +1,7 @@
 -- The words of a lock: the third last of the DX words before an RX word is the word five before it;
 -- and what one word
 -- more adds to the positions.
-use Rattle.std.proofs.Common.{◌≡◌, ℕ, Option, None, zero, suc, ◌+◌, ◌-◌, ◌*◌, ◌<◌, ◌≤◌, cond, List, [], ◌∷◌, ◌++◌, length, map, get_or, inl, inr, refl, sym, ap, ◌∙◌, subst, add-one, append_assoc, append-nil, length-append, arith}
+use Rattle.std.proofs.Common.{◌≡◌, ℕ, Bool, false, is_some, Option, None, zero, suc, ◌+◌, ◌-◌, ◌*◌, ◌<◌, ◌≤◌, cond, List, [], ◌∷◌, ◌++◌, length, map, get_or, inl, inr, refl, sym, ap, ◌∙◌, subst, add-one, append_assoc, append-nil, length-append, arith}
 use Rattle.std.proofs.lemmas.Bool.{cases_lt}
 use Rattle.std.proofs.lemmas.Bool.Decides.{nat_tests}
 use Rattle.std.proofs.Math.Seq.{get_or-append_seam}
@@ -9,17 +9,18 @@ use Rattle.std.specs.Option.{option_to_list}
 use Rattle.nx_code.specs.Reading.{Reception, shift_after_all, text}
 use Rattle.nx_code.specs.declared.printing.Printer.{Printer}
 use Rattle.nx_code.specs.declared.shifts.Shift.TheVariants.{Letters}
-use Rattle.nx_envelope.specs.Finder.{ClosesNone, HoldsCopy, held_identity}
+use Rattle.nx_envelope.specs.Finder.{ClosesNone, HoldsCopy, held_identity, is_ready_copy}
 use Rattle.nx_envelope.specs.declared.found.HeldCopy.{HeldCopy}
 use Rattle.nx_envelope.specs.declared.found.HeldCopy.TheVariants as held
 use Rattle.nx_envelope.proofs.Hearing.{closes_none}
+use Rattle.nx_envelope.proofs.OneOpenCopy.{open_headers-nil}
 use Rattle.nx_fec.specs.Pairing.{Counted, IsLatest, nothing, counts_as, heard_as, pairing, third_last, five_before}
 use Rattle.nx_fec.specs.declared.diversity.Diversity.{Diversity}
 use Rattle.nx_sync.specs.Words.{role_of, other_role, is_dx}
 use Rattle.nx_sync.specs.declared.step.Role.{Role}
 use Rattle.nx_sync.specs.declared.step.Role.TheVariants.{Dx, Rx}
 use Rattle.nx_receiver.specs.LockText.{taken_at, positions}
-use Rattle.nx_receiver.specs.private.LockReader.{ReadsLock, dx_words, text_after}
+use Rattle.nx_receiver.specs.private.LockReader.{ReadsLock, dx_words, is_open, text_after}
 use Rattle.nx_receiver.specs.Watching.{LockReading}
 
 -- a word of this role, among the DX words
@@ -191,7 +192,7 @@ has_read_rx {reader} {diversity} {position = position} {first = first} {words = 
     let read = reads (positions first words n) before.shift in
     record {
       latest = subst (IsLatest diversity) (sym (dx_words-rx first words n rx))
-          (ap (map heard_as) kept ∙ before.latest);
+          (kept ∙ before.latest);
       shift = read.0 ∙ ap (λ l. shift_after_all l Letters) more;
       grows = ap (λ l. text l Letters) (sym more) ∙ read.1;
     }
@@ -203,9 +204,23 @@ pub has_read_dx : (first : Role) (words : ℕ → ℕ) (n : ℕ) (word : Counted
 has_read_dx first words n word dx counts =
     ap (λ x. dx_words first words n ++ x ∷ []) counts ∙ sym (dx_words-dx first words n dx)
 
--- where the finder holds no copy, none stands open
-pub none_held : (copy : HeldCopy) (kept text : List ℕ) → held_identity copy ≡ None
+-- where the copy that the finder holds isn't open, none stands open
+pub not_open : (copy : HeldCopy) (kept text : List ℕ) → is_open copy ≡ false
     → HoldsCopy copy kept text → ClosesNone text
-none_held held.Nothing kept text e h = closes_none text h
-none_held (held.Open identity fresh) kept text e h = cc
-none_held (held.Ready identity how) kept text e h = cc
+not_open held.Nothing kept text e h = closes_none text h
+not_open (held.Open identity fresh) kept text e h = cc
+not_open (held.Ready identity how) kept text e h = closes_none text h
+
+-- a copy that isn't there isn't open, and neither is one that can be taken
+pub none_open : (copy : HeldCopy) → held_identity copy ≡ None → is_open copy ≡ false
+none_open held.Nothing e = refl
+none_open (held.Open identity fresh) e = cc
+none_open (held.Ready identity how) e = refl
+
+-- before any text, a copy that is held can be taken
+pub held_ready : (copy : HeldCopy) (kept : List ℕ) → HoldsCopy copy kept []
+    → is_some (held_identity copy) ≡ is_ready_copy copy
+held_ready held.Nothing kept h = refl
+held_ready (held.Open identity fresh) kept h =
+    let none = sym open_headers-nil ∙ h.stands_open in cc
+held_ready (held.Ready identity how) kept h = refl

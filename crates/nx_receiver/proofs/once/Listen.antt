@@ -1,16 +1,18 @@
 -- A message that is heard in time in an air file has one entry in the log that `listen` writes of
 -- it.
-use Rattle.std.proofs.Common.{ℕ, List, Option, None, Some, IfSome, Ok, subst}
+use Rattle.std.proofs.Common.{ℕ, List, ◌++◌, Option, None, Some, IfSome, Ok, sym, ap, ◌∙◌, subst, append-nil}
+use Rattle.std.specs.Io.KnownBytes.{Consumes, IsAtEnd}
 use Rattle.nx_envelope.specs.Message.{MessageView}
 use Rattle.nx_fec.specs.AirFile.{Line}
 use Rattle.nx_fec.specs.Transfers.{Devices}
 use Rattle.nx_fec.proofs.LineLaws.{IsAirFile-unique}
 use Rattle.nx_fec.specs.Lines.{air_limit}
 use Rattle.nx_fec.specs.declared.channel.Channel.{Channel}
+use Rattle.nx_station.specs.Sendings.{Part}
 use Rattle.nx_receiver.specs.InTurn.{PrintAllToEnd}
 use Rattle.nx_receiver.specs.Listen.{HasListened, IsLogOfFile, Listens, events_on, given_by}
 use Rattle.nx_receiver.specs.ListenOnce.{HasPrintedOnce, IsHeardInTimeOn, KeepsHeadline}
-use Rattle.nx_receiver.specs.Once.{IsPrintedOnce}
+use Rattle.nx_receiver.specs.Once.{IsHeardInTime, IsPrintedOnce}
 use Rattle.nx_receiver.specs.Shares.{MarkedCopy, Starts, copies_on, start_on}
 use Rattle.nx_receiver.specs.declared.listening.Report.{Report}
 use Rattle.nx_receiver.proofs.Shares.{to_end-on}
@@ -28,8 +30,17 @@ one-entry starts file log lines copies channel message l h =
     printed_once (start_on starts channel) (events_on channel h.lines) h.parts message h.heard
     (copies_on channel copies) (to_end-on starts (given_by h.lines) copies channel prints)
 
--- so the log that was written has one
-printed-once : (starts : Starts) (old new : Option (List ℕ)) (file : List ℕ) (report : Report)
+-- so the log that was written has one, in whatever parts the message is heard
+pub entry-once : (starts : Starts) (old new : Option (List ℕ)) (file : List ℕ) (report : Report)
+    → (h : HasListened starts old new file report)
+    → (channel : Channel) (message : MessageView) (parts : List Part)
+    → IsHeardInTime (start_on starts channel) (events_on channel h.lines) parts message
+    → IsPrintedOnce message (copies_on channel h.copies)
+entry-once starts old new file report h channel message parts heard =
+    one-entry starts file h.log h.lines h.copies channel message h.heard
+    (record { lines = h.lines; spelled = h.heard.file; parts = parts; heard = heard })
+
+pub printed-once : (starts : Starts) (old new : Option (List ℕ)) (file : List ℕ) (report : Report)
     → HasListened starts old new file report → HasPrintedOnce starts old new file
 printed-once starts old new file report h = record {
   report = report;
@@ -37,6 +48,14 @@ printed-once starts old new file report h = record {
   once = λ channel message k. one-entry starts file h.log h.lines h.copies channel message h.heard
       k;
 }
+
+-- what holds of the bytes that were read, which are all, holds of the known input
+pub of-all : (a b : Option (List ℕ)) (bytes : List ℕ) (P : List ℕ → Type 0) → Consumes a b bytes
+    → IsAtEnd b → P bytes → IfSome a P
+of-all None b bytes P consumed end h = tt
+of-all (Some xs) None bytes P consumed end h = absurd consumed
+of-all (Some xs) (Some ys) bytes P consumed end h =
+    subst P (sym (consumed ∙ ap (λ l. bytes ++ l) end ∙ append-nil bytes)) h
 
 pub on-some : (o : Option (List ℕ)) (P Q : List ℕ → Type 0) → ((xs : List ℕ) → P xs → Q xs)
     → IfSome o P → IfSome o Q
@@ -47,9 +66,10 @@ on-some (Some xs) P Q f h = f xs h
 pub keeps-headline : {R W : Type 0} (starts : Starts) (d : Devices R W) (report : Report)
     → Listens starts d (Ok report) → KeepsHeadline starts d
 keeps-headline starts d report h = record {
-  bytes = h.reads.bytes;
-  consumed = h.reads.consumed;
-  printed = printed-once starts _ _ h.reads.bytes report h.reads.answer.1;
-  file = on-some (d.remaining d.reader.inner) _ _
-      (λ file k. printed-once starts _ _ file report k.1) h.reads.file;
+  bytes = h.bytes;
+  consumed = h.consumed;
+  all = h.answer.0;
+  report = report;
+  listened = h.answer.1;
+  once = entry-once starts _ _ h.bytes report h.answer.1;
 }

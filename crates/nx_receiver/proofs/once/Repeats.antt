@@ -150,10 +150,13 @@ lacks_live identity moment entries k live =
 -- so after an empty first list none is live at the first copy of the identity
 pub none_live : (identity : Identity) (copies : List TaggedCopy)
     → IsUnknownAtFirst [] identity copies
-none_live identity copies before after first whole none named live =
-    lacks_live identity first.moment (entries_after [] before)
+none_live identity copies before after first whole none named =
+    false_from_ne_true _ (λ known. lacks_live identity first.moment (entries_after [] before)
     (before_lacks identity [] before none
-    (All-nil (λ (entry : MemoryEntry). same_identity entry.identity identity ≡ false))) live
+    (All-nil (λ (entry : MemoryEntry). same_identity entry.identity identity ≡ false)))
+    (subst (λ (i : Identity). IsLive i first.moment (entries_after [] before))
+    (same_identity-true first.identity identity named)
+    (live_from_known first.identity first.moment (entries_after [] before) known)))
 
 -- the entry of the first keeps each later copy from being printed
 record IsKept (identity : Identity) (entries : List MemoryEntry) (first : TaggedCopy)
@@ -244,17 +247,20 @@ unfolding copies_of printed_copies if_printed entries_made
 once start identity copies first repeats r =
     let s = split identity copies first repeats r.heard in
     let entries = entries_after start s.before in
-    let named = same_identity-true first.identity identity s.named in
     let numbered : is_number_00 first ≡ false =
     ne_eqb first.identity.number 0
-    (λ e. absurd (omega (arith, r.numbered, ap (λ (x : Identity). x.number) named, e))) in
+    (λ e. absurd (omega (
+      arith,
+      r.numbered,
+      ap (λ (x : Identity). x.number)
+          (same_identity-true first.identity identity s.named),
+      e,
+    ))) in
     let selected = All-head (λ (copy : TaggedCopy). IsTrue copy.selected) first repeats
     r.selected in
     let good = All-head (λ (copy : TaggedCopy). IsTrue (is_good copy)) first repeats r.good in
     let new : is_remembered entries first ≡ false =
-    false_from_ne_true _ (λ known. r.unknown s.before s.after first s.whole s.none s.named
-    (subst (λ (i : Identity). IsLive i first.moment entries) named
-    (live_from_known first.identity first.moment entries known))) in
+    r.unknown s.before s.after first s.whole s.none s.named in
     let shown = unknown entries first selected new in
     let made = entered entries first shown good numbered in
     let begun : entries_after start (s.before ++ first ∷ []) ≡ entries ++ entry_of first ∷ [] =

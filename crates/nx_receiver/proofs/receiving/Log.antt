@@ -1,13 +1,34 @@
 -- The bytes of a log.
-use Rattle.std.proofs.Common.{◌≡◌, ℕ, ◌≤◌, List, [], ◌∷◌, ◌++◌, refl, sym, ap, ◌∙◌}
+use Rattle.std.proofs.Common.{◌≡◌, ℕ, true, ◌≤◌, List, [], ◌∷◌, ◌++◌, refl, sym, ap, ◌∙◌, append_assoc, append-nil}
 use Rattle.std.specs.List.{All, concat, AllZip}
 use Rattle.std.proofs.lemmas.List.Folds.{concat-append}
 use Rattle.std.proofs.lemmas.List.Elements.{All-head, All-tail}
 use Rattle.nx_envelope.specs.Moment.{last_moment}
 use Rattle.nx_envelope.proofs.EveryMoment.{every_moment}
 use Rattle.nx_envelope.proofs.OneText.{one_text}
-use Rattle.nx_receiver.specs.Log.{IsEntry, IsLog, entry_with}
-use Rattle.nx_receiver.specs.Shares.{MarkedCopy}
+use Rattle.nx_envelope.specs.Header.{newline}
+use Rattle.nx_envelope.specs.Moment.{IsShownAs}
+use Rattle.nx_envelope.specs.declared.found.FoundHead.{FoundHead}
+use Rattle.nx_fec.specs.declared.channel.Channel.{Channel}
+use Rattle.nx_receiver.specs.Log.{IsEntry, IsLog, entry_head, entry_with, missing_newline}
+use Rattle.nx_receiver.specs.Shares.{MarkedCopy, marked}
+use Rattle.nx_receiver.specs.private.Heads.{headed_copy}
+
+-- an entry by its parts
+pub entry_of_parts : (head : FoundHead) (text : List ℕ) (moment : ℕ) (channel : Channel)
+    (civil line end : List ℕ) → IsShownAs moment civil
+    → line ≡ entry_head channel (headed_copy head text moment true) civil
+    → end ≡ missing_newline text ++ newline ∷ []
+    → IsEntry (marked channel (headed_copy head text moment true)) (line ++ text ++ end)
+unfolding entry_with
+entry_of_parts head text moment channel civil line end shown first last = record {
+  civil = civil;
+  shown = shown;
+  spelled = ap (λ xs. xs ++ text ++ end) first
+      ∙ ap (λ xs. entry_head channel (headed_copy head text moment true) civil ++ text ++ xs) last
+      ∙ sym (append_assoc (entry_head channel (headed_copy head text moment true) civil ++ text)
+      (missing_newline text) (newline ∷ []));
+}
 
 -- a copy has one entry
 pub one_entry : (one : MarkedCopy) (xs ys : List ℕ) → IsEntry one xs → IsEntry one ys → xs ≡ ys
@@ -31,6 +52,15 @@ pub one_log : (copies : List MarkedCopy) (xs ys : List ℕ) → IsLog copies xs 
     → xs ≡ ys
 one_log copies xs ys l m =
     l.joined ∙ ap concat (one_list copies l.entries m.entries l.each m.each) ∙ sym m.joined
+
+-- the log of one copy
+pub one-log : (copy : MarkedCopy) (bytes : List ℕ) → IsEntry copy bytes → IsLog (copy ∷ []) bytes
+one-log copy bytes h = record
+    { entries = bytes ∷ []; each = (h, tt); joined = sym (append-nil bytes) }
+
+-- the log of none
+pub no-log : IsLog [] []
+no-log = record { entries = []; each = tt; joined = refl }
 
 zip_join : (as' bs : List MarkedCopy) (es fs : List (List ℕ)) → AllZip IsEntry as' es
     → AllZip IsEntry bs fs → AllZip IsEntry (as' ++ bs) (es ++ fs)

@@ -6,13 +6,14 @@ use Rattle.nx_memory.specs.Memory.{is_known, most_entries}
 use Rattle.nx_memory.specs.declared.entry.MemoryEntry.{MemoryEntry}
 use Rattle.nx_envelope.specs.Finder.{held_identity}
 use Rattle.nx_envelope.specs.declared.identity.Identity.{Identity}
+use Rattle.nx_receiver.specs.declared.over.Over.{Over}
 use Rattle.nx_receiver.specs.declared.over.Over.TheVariants as over
 use Rattle.nx_receiver.specs.Events.{Setting, Start, first_setting}
 use Rattle.nx_receiver.specs.Printing.{entries_after, is_printed, printed_copies}
 use Rattle.nx_receiver.specs.Receiver.{Receiving}
 use Rattle.nx_receiver.specs.private.Awaiting.{AwaitsOver}
 use Rattle.nx_receiver.specs.FoundCopies.{TaggedCopy}
-use Rattle.nx_receiver.specs.private.Watch.{LockIsOver, WatchStands, ready_copy}
+use Rattle.nx_receiver.specs.private.Watch.{IsOver, LockIsOver, ready_copy}
 use Rattle.nx_receiver.specs.Watching.{Watching, in_force}
 use Rattle.nx_receiver.proofs.receiving.Logged.{printed_copies-append, entries_after-append}
 use Rattle.nx_receiver.proofs.receiving.Printing.{not_entered, not_printed, printed_by}
@@ -51,15 +52,14 @@ copy_passed content start r h s now log identity is hidden a =
           ∙ sym (entries_after-append start.entries a.copies (copy ∷ [])));
     }
 
--- A lock is over in which no copy stands open, and its text ended: nothing is over.
+-- A lock is over, and its text ended: this is over then, nothing where no copy stood open.
 pub lock_passed : {M : Type 0} (content : M → List MemoryEntry) (start : Start) (r : Receiving M)
     (watch : Watching) (h : List Bool) (s : List Setting) (now : Setting) (log : List TaggedCopy)
-    → ((copies : List TaggedCopy) → LockIsOver (first_setting start) r.watch h s copies
-    → WatchStands (first_setting start) watch h s copies) → in_force watch ≡ in_force r.watch
+    (left : Over) → ((copies : List TaggedCopy) → LockIsOver (first_setting start) r.watch h s copies
+    → IsOver (first_setting start) watch h s copies left) → in_force watch ≡ in_force r.watch
     → AwaitsOver content start r h s now log over.Lock
-    → AwaitsOver content start (record { watch = watch; memory = r.memory }) h s now log
-    over.Nothing
-lock_passed content start r watch h s now log ends force a = record {
+    → AwaitsOver content start (record { watch = watch; memory = r.memory }) h s now log left
+lock_passed content start r watch h s now log left ends force a = record {
   copies = a.copies;
   watch = ends a.copies a.watch;
   force = force ∙ a.force;

@@ -12,6 +12,7 @@ use Rattle.nx_receiver.specs.declared.listening.Report.{Report}
 use Rattle.nx_receiver.specs.declared.resume_fault.ResumeFault.{ResumeFault}
 use Rattle.nx_receiver.specs.declared.resume_fault.ResumeFault.TheVariants as resume
 use Rattle.nx_receiver.specs.declared.resume_fault.Want.{Want}
+use Rattle.nx_receiver.proofs.once.Listen.{of-all, printed-once}
 
 abbrev Outcome : Type 0
 Outcome = Result Report ResumeFault
@@ -120,6 +121,13 @@ module _ {R W : Type 0} (remaining : R → Option (List ℕ)) (contents : W → 
       → OnOk outcome (KeepsHeadline (starts_from states) air_part)
       → OnOk outcome (HoldsBehind whole_run (HasPrintedOnceFrom whole_run))
   headline-behind states (Ok report) read h =
+      let printed = printed-once (starts_from states) (contents writer.inner)
+      (contents writer_after.inner) h.bytes h.report h.listened in
       holds-behind states (HasPrintedOnceFrom whole_run) read
-      (record { bytes = h.bytes; consumed = h.consumed; here = h.printed; file = h.file })
+      (record {
+        bytes = h.bytes;
+        consumed = h.consumed;
+        here = printed;
+        file = of-all _ _ h.bytes (HasPrintedOnceFrom whole_run states) h.consumed h.all printed;
+      })
   headline-behind states (Err fault) read h = tt

@@ -2,7 +2,6 @@
 use Rattle.std.proofs.Common.{◌≡◌, List, [], ◌∷◌, ◌++◌, map, refl, sym, ap, ap₂, ◌∙◌, subst, append-nil, append_assoc}
 use Rattle.std.specs.List.{flat_map}
 use Rattle.std.proofs.lemmas.List.{append_cancel_left}
-use Rattle.nx_fec.specs.Channels.{all_channels}
 use Rattle.nx_fec.specs.declared.channel.Channel.{Channel}
 use Rattle.nx_fec.specs.declared.channel.Channel.TheVariants.{Zero, One, Two}
 use Rattle.nx_receiver.specs.InTurn.{HavePrinted, PrintAllToEnd, PrintsFirst, PrintsInTurn}
@@ -11,6 +10,7 @@ use Rattle.nx_receiver.proofs.locks.Texts.{GoesOnAs}
 use Rattle.nx_receiver.proofs.receiving.Logged.{one_printed, one_to_end}
 use Rattle.nx_receiver.proofs.turns.Added.{adds-same, grown, nothing-given}
 use Rattle.nx_receiver.proofs.turns.Marked.{goes-on-each, one-each}
+use Rattle.nx_receiver.proofs.Shares.{all_channels}
 
 -- what is printed of each beginning is a beginning
 abbrev pub BeginsInTurn : Starts → List Given → List MarkedCopy → Type 0

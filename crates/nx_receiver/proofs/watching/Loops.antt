@@ -1,8 +1,7 @@
 -- A loop over elements: those before the place were heard, and nothing was over with any of them.
-use Rattle.std.proofs.Common.{◌≡◌, ℕ, ◌+◌, ◌-◌, ◌<◌, ◌≤◌, Bool, false, get_or, List, [], ◌∷◌, ◌++◌, length, take, drop, refl, sym, ap, ◌∙◌, subst, arith, length-drop}
+use Rattle.std.proofs.Common.{◌≡◌, ℕ, ◌+◌, ◌-◌, ◌≤◌, Bool, List, [], ◌∷◌, ◌++◌, length, take, drop, refl, sym, ap, ◌∙◌, subst, arith, length-drop}
 use lib.Seq.{take-add}
-use Rattle.std.specs.Array.{IsFirstChunk}
-use Rattle.std.proofs.lemmas.List.{drop_more, take_all}
+use Rattle.std.proofs.lemmas.List.{take_all}
 use Rattle.nx_receiver.specs.declared.over.Over.{Over}
 use Rattle.nx_receiver.specs.declared.over.Over.TheVariants as over
 use Rattle.nx_receiver.specs.private.Watch.{HearsBits, HearsAll, TagGoesOn, as_it_was}
@@ -54,20 +53,6 @@ goes_on old mid new bits piece at n g h is more force kept = record {
 pub rest_is : (bits : List Bool) (at : ℕ) → take (length bits - at) (drop at bits) ≡ drop at bits
 rest_is bits at = let long = length-drop at bits in
     take_all (length bits - at) (drop at bits) (omega arith)
-
-pub chunk_is : (bits word : List Bool) (at n : ℕ)
-    → IsFirstChunk (take (length bits - at) (drop at bits)) word n → word ≡ take n (drop at bits)
-chunk_is bits word at n h = h.same ∙ ap (take n) (rest_is bits at)
-
-pub chunk_within : (bits word : List Bool) (at n : ℕ) → at ≤ length bits
-    → IsFirstChunk (take (length bits - at) (drop at bits)) word n → at + n ≤ length bits
-chunk_within bits word at n within h = let long = length-drop at bits in
-    omega (arith, h.enough, ap length (rest_is bits at), long)
-
--- the one element at the place
-pub one_is : (bits : List Bool) (at : ℕ) → at < length bits
-    → get_or bits at false ∷ [] ≡ take 1 (drop at bits)
-one_is bits at lt = sym (ap (take 1) (drop_more bits at false lt))
 
 -- a hunt heard the first elements
 pub hunt_goes : (old : Watching) (sync : Held) (bits : List Bool) (n : ℕ) → n ≤ length bits

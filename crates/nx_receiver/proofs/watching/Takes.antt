@@ -1,24 +1,25 @@
 -- A copy that is over is taken, and a text ends.
-use Rattle.std.proofs.Common.{◌≡◌, ℕ, zero, ◌+◌, Bool, List, [], ◌∷◌, ◌++◌, map, Option, Some, None, sym, ap, ◌∙◌, subst, append-nil, append_assoc}
+use Rattle.std.proofs.Common.{◌≡◌, ◌≢◌, ℕ, zero, ◌+◌, Bool, true, false, refl, List, [], ◌∷◌, ◌++◌, map, Option, Some, None, sym, ap, ◌∙◌, subst, append-nil, append_assoc}
 use Rattle.std.specs.Prelude.{MatchOption}
 use Rattle.std.specs.List.{All}
 use Rattle.std.proofs.lemmas.List.Elements.{All-head}
 use Rattle.nx_sync.specs.Locks.{Now, hunting, locked}
 use Rattle.nx_sync.specs.Words.{word_of_lock, first_role, whole_words}
 use Rattle.nx_sync.specs.declared.step.Role.{Role}
-use Rattle.nx_envelope.specs.Copies.{Copy, closed_copy, open_headers}
-use Rattle.nx_envelope.specs.Finder.{Closes, HasReady}
+use Rattle.nx_envelope.specs.Copies.{Copy, closed_copy, errors_of, open_headers}
+use Rattle.nx_envelope.specs.Finder.{Closes, ClosesHeld, ClosesReady, HasReady, is_ready}
 use Rattle.nx_envelope.specs.Found.{IsFound}
 use Rattle.nx_envelope.specs.Header.{Header}
 use Rattle.nx_envelope.specs.declared.found.Found.{Found}
 use Rattle.nx_envelope.proofs.OneOpenCopy.{open_headers-nil}
 use Rattle.nx_receiver.specs.declared.over.CopyTag.{CopyTag}
+use Rattle.nx_receiver.specs.declared.over.Over.TheVariants as over
 use Rattle.nx_receiver.specs.Events.{Setting}
 use Rattle.nx_receiver.specs.FoundCopies.{ended_in, open_in, past_copies, past_text, standing_text, ended_so_far, open_so_far, found_copy, TaggedCopy, tag}
 use Rattle.nx_receiver.specs.private.LockReader.{ReadsLock, text_after}
 use Rattle.nx_receiver.specs.Watching.{LockReading, Watching}
 use Rattle.nx_receiver.specs.LockText.{PlacedByte, bytes_of, text_by}
-use Rattle.nx_receiver.specs.private.Watch.{BothAreOver, CopyIsOver, HasEndedAll, HasTag, IsFresh, LockIsOver, ReadsNow, WatchStands, copies_by, handed_out, ready_copy, setting_in, tag_of, place_of_header}
+use Rattle.nx_receiver.specs.private.Watch.{BothAreOver, CopyIsOver, HasEndedAll, HasTag, IsFresh, IsOver, LockIsOver, ReadsNow, WatchStands, copies_by, handed_out, over_with, ready_copy, setting_in, tag_of, place_of_header}
 use Rattle.nx_receiver.proofs.locks.Found.{all_in-parts}
 use Rattle.nx_receiver.proofs.locks.Growing.{hunted}
 use Rattle.nx_receiver.proofs.locks.Texts.{bytes_are_reading}
@@ -155,22 +156,25 @@ closes first settings text (Some found) kept k h =
     } ∷ []) (sym is)
     ∙ sym (taken copy (Some found) kept h.is_found)
 
-pub lock_ended : (first : Setting) (watch : Watching) (reader : LockReading) (found : Option Found)
+-- the text of the lock that is over, as its words print it
+abbrev pub text_over : {first : Setting} {watch : Watching} {h : List Bool} {s : List Setting}
+    {copies : List TaggedCopy} → LockIsOver first watch h s copies → List ℕ
+text_over {h = h} over =
+    text_after (first_role h over.lock.at) (word_of_lock h over.lock.at) (over.lock.last + 1)
+
+ended_at : (first : Setting) (watch : Watching) (reader : LockReading) (found : Option Found)
     (h : List Bool) (s : List Setting) (copies : List TaggedCopy)
-    → IsFresh reader → ((first : Role) (words : ℕ → ℕ) (n : ℕ)
-    → ReadsLock watch.reader first words n → Closes (text_after first words n) found)
-    → LockIsOver first watch h s copies
+    → IsFresh reader → (over : LockIsOver first watch h s copies) → Closes (text_over over) found
     → WatchStands first (record watch { reader = reader }) h s
     (copies ++ handed_out found watch.tag)
 unfolding past_copies
-lock_ended first watch reader found h s copies fresh ends over =
+ended_at first watch reader found h s copies fresh over ends =
     let lock = over.lock in
     let text = past_text h lock in
     let closed : Closes (bytes_of text) found =
     subst (λ (l : List ℕ). Closes l found)
     (sym (bytes_are_reading (first_role h lock.at) (word_of_lock h lock.at) lock.at
-    (lock.last + 1)))
-    (ends (first_role h lock.at) (word_of_lock h lock.at) (lock.last + 1) over.reads) in
+    (lock.last + 1))) ends in
     record {
       synchroniser = over.synchroniser;
       reads = record {
@@ -190,6 +194,76 @@ lock_ended first watch reader found h s copies fresh ends over =
         has_tag = tag-hunting first s watch.tag;
       };
     }
+
+pub lock_ended : (first : Setting) (watch : Watching) (reader : LockReading) (found : Option Found)
+    (h : List Bool) (s : List Setting) (copies : List TaggedCopy)
+    → IsFresh reader → ((first : Role) (words : ℕ → ℕ) (n : ℕ)
+    → ReadsLock watch.reader first words n → Closes (text_after first words n) found)
+    → LockIsOver first watch h s copies
+    → WatchStands first (record watch { reader = reader }) h s
+    (copies ++ handed_out found watch.tag)
+lock_ended first watch reader found h s copies fresh ends over =
+    ended_at first watch reader found h s copies fresh over
+    (ends (first_role h over.lock.at) (word_of_lock h over.lock.at) (over.lock.last + 1) over.reads)
+
+-- a copy as it is handed out
+found_of : Copy → Found
+found_of copy = record {
+  identity = copy.header.identity;
+  text = record { items = copy.text };
+  errors = errors_of copy.text;
+  how = copy.how;
+  counted = refl;
+}
+
+closed_ready : (first : Setting) (watch : Watching) (reader : LockReading) (h : List Bool)
+    (s : List Setting) (copies : List TaggedCopy) → IsFresh reader
+    → (over : LockIsOver first watch h s copies) → ClosesReady (text_over over) reader.finder
+    → CopyIsOver first (record watch { reader = reader }) h s copies
+unfolding found_of
+closed_ready first watch reader h s copies fresh over ends =
+    let copy = closed_copy (text_over over) ends.header in
+    record {
+      copy = copy;
+      ready = ends.ready;
+      stands = ended_at first watch reader (Some (found_of copy)) h s copies fresh over
+          (record {
+            header = ends.header;
+            was_open = ends.was_open;
+            is_found = record { identity = refl; how = refl; text = refl; errors = refl };
+            whole = ends.whole;
+          });
+    }
+
+closed_as : (first : Setting) (watch : Watching) (reader : LockReading) (h : List Bool)
+    (s : List Setting) (copies : List TaggedCopy) (ready : Bool) → IsFresh reader
+    → (over : LockIsOver first watch h s copies) → ClosesHeld (text_over over) reader.finder
+    → is_ready reader.finder ≡ ready
+    → IsOver first (record watch { reader = reader }) h s copies (over_with ready false)
+closed_as first watch reader h s copies true fresh over ends is =
+    closed_ready first watch reader h s copies fresh over (ends.some is)
+closed_as first watch reader h s copies false fresh over ends is =
+    subst (λ l. WatchStands first (record watch { reader = reader }) h s l) (append-nil copies)
+    (ended_at first watch reader None h s copies fresh over (ends.none is))
+
+-- The text of a lock that is over ended, and the copy that stood open in it, if one did, can be
+-- taken.
+pub lock_closed : (first : Setting) (watch : Watching) (reader : LockReading) (h : List Bool)
+    (s : List Setting) (copies : List TaggedCopy) (ready : Bool) → IsFresh reader
+    → ((first : Role) (words : ℕ → ℕ) (n : ℕ) → ReadsLock watch.reader first words n
+    → ClosesHeld (text_after first words n) reader.finder)
+    → is_ready reader.finder ≡ ready
+    → LockIsOver first watch h s copies
+    → IsOver first (record watch { reader = reader }) h s copies (over_with ready false)
+lock_closed first watch reader h s copies ready fresh ends is over =
+    closed_as first watch reader h s copies ready fresh over
+    (ends (first_role h over.lock.at) (word_of_lock h over.lock.at) (over.lock.last + 1) over.reads)
+    is
+
+-- what is over then is no lock
+pub closed_over : (ready : Bool) → over_with ready false ≢ over.Lock
+closed_over true e = cc
+closed_over false e = cc
 
 -- where no copy stands open in it, none is handed out
 pub lock_ended_none : (first : Setting) (watch : Watching) (reader : LockReading) (h : List Bool)

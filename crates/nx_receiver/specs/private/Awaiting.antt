@@ -1,6 +1,6 @@
 -- What a receiver holds between its calls: what is over and awaits to be finished, and in which
 -- order its moments stand (this profile).
-use Rattle.std.specs.Prelude.{◌≡◌, ℕ, ◌≤◌, Bool, List, ◌++◌}
+use Rattle.std.specs.Prelude.{◌≡◌, ℕ, ◌≤◌, Bool, if◌then◌else◌, List, ◌++◌, length, map}
 use Rattle.nx_code.specs.Lists.{last_of}
 use Rattle.nx_envelope.specs.Moment.{last_moment}
 use Rattle.nx_memory.specs.Memory.{most_entries}
@@ -10,6 +10,10 @@ use Rattle.nx_receiver.specs.FoundCopies.{TaggedCopy}
 use Rattle.nx_receiver.specs.Printing.{printed_copies, entries_after}
 use Rattle.nx_receiver.specs.Receiver.{Receiving, Stands}
 use Rattle.nx_receiver.specs.declared.over.Over.{Over}
+use Rattle.nx_receiver.specs.declared.over.Over.TheVariants as over
+use Rattle.nx_receiver.specs.Log.{IsLog}
+use Rattle.nx_receiver.specs.Shares.{marked}
+use Rattle.nx_fec.specs.declared.channel.Channel.{Channel}
 use Rattle.nx_receiver.specs.private.Watch.{IsOver}
 use Rattle.nx_receiver.specs.Watching.{in_force}
 
@@ -47,6 +51,25 @@ PassesOver content old new over left =
     (start : Start) (bits : List Bool) (settings : List Setting) (now : Setting)
     (log : List TaggedCopy) → AwaitsOver content start old bits settings now log over
     → AwaitsOver content start new bits settings now log left
+
+-- what is left of what is over, once the copy that ended was handed out
+abbrev pub behind_copy : Over → Over
+behind_copy over.Nothing = over.Nothing
+behind_copy over.Copy = over.Nothing
+behind_copy over.Lock = over.Lock
+behind_copy over.CopyAndLock = over.Lock
+
+-- Whatever a receiver of this channel was given before, what awaited to be finished was: it handed
+-- out these copies, one where it says so and else none, and these bytes are their log.
+pub record HandsOut {M : Type 0} (content : M → List MemoryEntry) (old new : Receiving M)
+    (channel : Channel) (over : Over) (is_some : Bool) (bytes : List ℕ)
+    : Type 0 where
+  pub copies : List TaggedCopy
+  pub stands : (start : Start) (events : List Event) (log : List TaggedCopy)
+      → Awaits content start old events log over
+      → Stands content start new events (log ++ copies)
+  pub spelled : IsLog (map (marked channel) copies) bytes
+  pub counted : length copies ≡ (if is_some then 1 else 0)
 
 -- the moment of the memory's newest entry, that of the header that was heard last, the one in force
 -- and the last one rise in this order

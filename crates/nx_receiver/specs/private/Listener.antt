@@ -20,11 +20,10 @@ use Rattle.nx_receiver.specs.Events.{Event, Start, elements_among, Refuses}
 use Rattle.nx_receiver.specs.InTurn.{PrintAllToEnd, PrintsInTurn}
 use Rattle.nx_receiver.specs.Listen.{AreTaken, given_by, has_moment, moment_after}
 use Rattle.nx_receiver.specs.Log.{IsLog}
-use Rattle.nx_receiver.specs.Receiver.{Receiving, Stands, entry_list}
+use Rattle.nx_receiver.specs.Receiver.{Receiving, Stands}
 use Rattle.nx_receiver.specs.Shares.{Given, MarkedCopy, Starts, copies_on, marked, share, start_on, to_all, to_one}
 use Rattle.nx_receiver.specs.private.Awaiting.{Awaits}
 use Rattle.nx_receiver.specs.FoundCopies.{TaggedCopy}
-use Rattle.nx_receiver.specs.declared.entry.Entry.{Entry}
 use Rattle.nx_receiver.specs.declared.fault.MomentFault.{MomentFault}
 use Rattle.nx_receiver.specs.declared.listening.Report.{Report}
 use Rattle.nx_receiver.specs.declared.listening.LineRefusal.{LineRefusal}
@@ -137,20 +136,21 @@ pub record HeardSome (starts : Starts) (given : List Given) (old new : Option (L
   pub begun : BeginsLog starts given bytes
   pub some : WroteSome old new bytes written
 
--- What was over on a channel was finished, whatever the start: it brought this entry, or none, which
--- was counted, and these are its bytes.
+-- What was over on a channel was finished, whatever the start: it brought these copies, at most one,
+-- which were counted, and these are their bytes.
 pub record HasFinished (old new : Listening) (channel : Channel) (over : Over) (bytes : List ℕ)
     : Type 0 where
-  pub entry : Option Entry
+  pub copies : List TaggedCopy
+  pub one : length copies ≤ 1
   pub stands : (start : Start) (events : List Event) (log : List TaggedCopy)
       → Awaits content start (receiver_on old channel) events log over
-      → Stands content start (receiver_on new channel) events (log ++ entry_list entry)
+      → Stands content start (receiver_on new channel) events (log ++ copies)
   pub others : (other : Channel) → same_channel channel other ≡ false
       → receiver_on new other ≡ receiver_on old other
-  pub spelled : IsLog (map (marked channel) (entry_list entry)) bytes
+  pub spelled : IsLog (map (marked channel) copies) bytes
   pub elements : new.elements ≡ old.elements
   pub entries : old.entries ≤ 2 ^ 64 - 1
-      → new.entries ≡ count_of (old.entries + length (entry_list entry))
+      → new.entries ≡ count_of (old.entries + length copies)
 
 -- The listener stands so after these lines, with what it started, each taken after those before it;
 -- these bytes are their log.

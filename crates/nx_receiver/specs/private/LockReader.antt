@@ -2,7 +2,7 @@
 -- stands (ITU-R M.625, mode B, and M.476 for what is printed; that each lock has a text of its own,
 -- from letters, is this profile's). `first` is the role of word 0 of the lock, and `words` gives
 -- each word's number.
-use Rattle.std.specs.Prelude.{◌≡◌, ◌⊎◌, ℕ, ◌+◌, ◌*◌, zero, suc, if◌then◌else◌, List, [], ◌∷◌, ◌++◌}
+use Rattle.std.specs.Prelude.{◌≡◌, ◌⊎◌, ℕ, Bool, true, false, ◌+◌, ◌*◌, zero, suc, if◌then◌else◌, List, [], ◌∷◌, ◌++◌}
 use Rattle.nx_code.specs.Reading.{shift_after_all, text}
 use Rattle.nx_code.specs.declared.shifts.Shift.TheVariants.{Letters}
 use Rattle.nx_fec.specs.Pairing.{Counted, IsLatest, counts_as}
@@ -10,6 +10,8 @@ use Rattle.nx_sync.specs.Words.{role_of, is_dx}
 use Rattle.nx_sync.specs.declared.step.Role.{Role}
 use Rattle.nx_envelope.specs.Finder.{Hears, StandsAfter}
 use Rattle.nx_envelope.specs.declared.finder.Finder.{Finder}
+use Rattle.nx_envelope.specs.declared.found.HeldCopy.{HeldCopy}
+use Rattle.nx_envelope.specs.declared.found.HeldCopy.TheVariants as held
 use Rattle.nx_envelope.specs.declared.found.TextEvent.{TextEvent}
 use Rattle.nx_envelope.specs.declared.found.TextEvent.TheVariants.{Nothing}
 use Rattle.nx_receiver.specs.Watching.{LockReading}
@@ -35,6 +37,12 @@ pub record ReadsLock (reader : LockReading) (first : Role) (words : ℕ → ℕ)
   pub latest : IsLatest reader.diversity (dx_words first words n)
   pub shift : reader.printer ≡ shift_after_all (positions first words n) Letters
   pub finder : StandsAfter reader.finder (text_after first words n)
+
+-- the copy that is held stands open
+abbrev pub is_open : HeldCopy → Bool
+is_open held.Nothing = false
+is_open (held.Open identity fresh) = true
+is_open (held.Ready identity how) = false
 
 -- a word adds nothing to the text, and brings nothing
 pub record PrintsNothing (before after : List ℕ) (event : TextEvent) : Type 0 where

@@ -186,6 +186,13 @@ over_with true false = over.Copy
 over_with false true = over.Lock
 over_with true true = over.CopyAndLock
 
+-- a copy is over, which can be taken
+abbrev pub is_copy : Over → Bool
+is_copy over.Nothing = false
+is_copy over.Copy = true
+is_copy over.Lock = false
+is_copy over.CopyAndLock = true
+
 -- a word was read, whichever lock it is of: what it brings to the text, what is over, and the tag
 pub record ReadsWord (old new : Watching) (word : ℕ) (role : Role) (is_changed : Bool)
     (answer : Over) : Type 0 where

@@ -8,7 +8,8 @@ ghost use Rattle.nx_fec.specs.Pairing.{counts_as, pairing};
 ghost use Rattle.nx_station.specs.Broadcast.{AreSpelled, IsBroadcast, digit_combination, end_positions, layout};
 ghost use Rattle.nx_station.specs.Channel.{PassesChannel, first_slot, heard_in, message_slot, most_wrong, phasing_received, phasing_words, slots_of, window};
 ghost use Rattle.nx_station.specs.ChannelExample.{example_emission, example_numbers, example_parts, example_sending, heard_half, heard_without_75};
-ghost use Rattle.nx_station.specs.Sendings.{IsCut, IsReceived, IsSending, StandsFrom, digit_slot, positions_before};
+ghost use Rattle.nx_station.specs.Sendable.{IsSendable};
+ghost use Rattle.nx_station.specs.Sendings.{IsCut, IsReceived, IsSending, ReceivedEmission, StandsFrom, digit_slot, positions_before};
 
 /// Under the channel any 64 successive words from the first slot on, and any fewer, have at most 35
 /// of wrong weight. So have the last 64 words of a lock, up to each word of the first message or
@@ -88,7 +89,8 @@ pub fn messages_stand_in_their_emission()
 {}
 
 /// An emission that arrives as it is sent passes the channel: the bits of its slots before the
-/// first belong to the gap before it, and those from there on are received.
+/// first belong to the gap before it, and those from there on are received. And what a station may
+/// send is received, where it passes.
 pub fn an_undamaged_emission_is_received()
     ensures passes { (messages : List MessageView) (positions : List SentPosition)
         → messages ≢ [] → IsBroadcast messages positions
@@ -96,12 +98,16 @@ pub fn an_undamaged_emission_is_received()
     ensures cut { (positions : List SentPosition) → bits_of (emission positions)
         ≡ bits_of (take first_slot (emission positions))
         ++ bits_of (drop first_slot (emission positions)) }
+    ensures received { (emission : ReceivedEmission) → IsSendable emission.messages
+        → AreSpelled emission.messages emission.spellings
+        → PassesChannel (layout emission.spellings) emission.heard → IsReceived emission }
 {}
 
 /// The definitions at a worked emission, of EA01 with the line TEST: it is received where the first
 /// 96 words of its phasing, two thirds, are damaged or lost in any way, and one word of each
 /// position of the message; where both words of one position are damaged, it isn't.
 pub fn an_example_is_received()
+    ensures sendable { IsSendable example_emission.messages }
     ensures received { IsReceived example_emission }
     ensures cut { (before after : List Bool)
         → IsCut (before ++ (bits_of heard_half ++ after)) (example_parts before after) }

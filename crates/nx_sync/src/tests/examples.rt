@@ -57,6 +57,38 @@ fn hunts_packed_elements(rt: HostRuntime) -> Result<(), AllocError> {
     Ok(())
 }
 
+/// Eight words of phasing after P2 P1 P2 P1 are heard at once. Not so after one more word, since
+/// the next one is an RX word then; nor with a DX word among them that is P1; nor after such a one,
+/// as long as it may end the lock.
+#[test]
+fn hears_eight_words(rt: HostRuntime) -> Result<(), AllocError> {
+    let mut sync = Synchroniser::new(rt.alloc())?;
+    let p1 = Word::from_elements([true, true, true, true, false, false, false]);
+    let p2 = Word::from_elements([false, true, true, false, false, true, true]);
+    let phasing = [p2, p1, p2, p1, p2, p1, p2, p1];
+    assert!(rt; !sync.keeps_lock(&phasing));
+    for bit in "0110011111100001100111111000".bytes() {
+        sync.push(bit == b'1');
+    }
+    assert!(rt; !sync.keeps_lock(&[p2, p1, p2, p1, p2, p1, p1, p1]));
+    let keeps = sync.keeps_lock(&phasing);
+    assert!(rt; keeps);
+    if keeps {
+        sync.push_eight(&phasing);
+    }
+    for (word, role, kept) in [
+        (p1, Role::Dx, false),
+        (p1, Role::Rx, false),
+        (p2, Role::Dx, false),
+    ] {
+        if sync.is_between_words() {
+            assert_eq!(rt; sync.push_whole(word).word, Some((word, role)));
+        }
+        assert_eq!(rt; sync.keeps_lock(&phasing), kept);
+    }
+    Ok(())
+}
+
 /// The least window that is a pattern, by the worked example.
 #[test]
 fn least_window(rt: HostRuntime) {

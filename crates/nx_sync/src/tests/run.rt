@@ -2,6 +2,7 @@
 
 use super::cases::Case;
 use crate::{Role, Step, Synchroniser};
+use nx_code::Word;
 use std::alloc::{AllocError, Global};
 
 /// A new synchroniser, how many elements it heard, how many changes and words it answered, and
@@ -42,7 +43,8 @@ impl Run {
         }
     }
 
-    /// Hears the elements by hunts, by whole words where as many are there, and by pushes.
+    /// Hears the elements by hunts, by eight words where they keep the lock, by whole words where as
+    /// many are there, and by pushes.
     pub(super) fn hear_all(&mut self) {
         let mut elements = [false; 1200];
         let mut count = 0_usize;
@@ -65,6 +67,13 @@ impl Run {
                 return;
             }
         }
+        if let Some(words) = eight_words(rest) {
+            if self.sync.keeps_lock(&words) {
+                self.sync.push_eight(&words);
+                self.note_eight(&words);
+                return;
+            }
+        }
         if self.sync.is_between_words() {
             if let [a, b, c, d, e, f, g, ..] = *rest {
                 let step = self.sync.push_word(&[a, b, c, d, e, f, g]);
@@ -84,6 +93,19 @@ impl Run {
         self.note(step);
     }
 
+    /// Compares eight words, the first of which is a DX word, with the next ones of the case.
+    fn note_eight(&mut self, words: &[Word; 8]) {
+        let mut role = Role::Dx;
+        for word in words {
+            self.heard = self.heard.wrapping_add(7);
+            self.note(Step {
+                word: Some((*word, role)),
+                change: None,
+            });
+            role = role.other();
+        }
+    }
+
     /// Compares what a step brought with what comes next in the case.
     fn note(&mut self, step: Step) {
         if let Some(change) = step.change {
@@ -97,6 +119,20 @@ impl Run {
             self.words = self.words.wrapping_add(1);
         }
     }
+}
+
+/// The first eight words of elements, where there are as many.
+fn eight_words(bits: &[bool]) -> Option<[Word; 8]> {
+    let mut words = [Word::from_elements([false; 7]); 8];
+    let mut rest = bits;
+    for place in 0..8 {
+        let [a, b, c, d, e, f, g, ..] = *rest else {
+            return None;
+        };
+        words[place] = Word::from_elements([a, b, c, d, e, f, g]);
+        rest = &rest[7..];
+    }
+    Some(words)
 }
 
 /// The word at this index of a case: the number of elements heard by then, its role and its number.

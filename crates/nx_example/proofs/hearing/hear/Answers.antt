@@ -1,9 +1,13 @@
-use Rattle.std.proofs.Common.{◌≡◌, ℕ, ◌+◌, ◌-◌, ◌++◌, ◌∙◌, Bool, List, [], length, take, drop, subst, sym, ap, arith, append-nil, append_assoc, take_all}
-use Rattle.std.proofs.lemmas.List.{map-append}
+use Rattle.std.proofs.Common.{◌≡◌, ℕ, ◌+◌, ◌-◌, ◌++◌, ◌∙◌, Bool, List, [], length, take, drop, subst, sym, ap, arith, append-nil, append_assoc, take_all, length-drop}
+use Rattle.std.proofs.lemmas.List.{map-append, take_rest}
 use Rattle.nx_receiver.specs.Events.{Event, element, elements}
 use Rattle.nx_receiver.specs.Receiver.{Stands, entry_list}
-use Rattle.nx_receiver.proofs.listens.Listener.{elements-next, rest-length}
+use Rattle.nx_receiver.proofs.listens.Listener.{elements-next}
 use Rattle.nx_example.proofs.hearing.hear.Goals as goal
+
+rest-length : (bits : List Bool) (at : ℕ)
+    → length (take (length bits - at) (drop at bits)) ≡ length bits - at
+rest-length bits at = ap length (take_rest bits at) ∙ length-drop at bits
 
 -- the next of these elements, behind events and the elements before them
 events-next : (events : List Event) (bits : List Bool) (at count : ℕ)
@@ -16,6 +20,7 @@ events-next events bits at count =
     ∙ ap (λ es. events ++ es)
     (sym (map-append element (take at bits)
     (take count (take (length bits - at) (drop at bits)))))
+    ∙ ap (λ bs. events ++ elements (take at bits ++ take count bs)) (take_rest bits at)
     ∙ ap (λ bs. events ++ elements bs) (elements-next bits at count)
 
 pub loop-at-init : goal.loop-at-init

@@ -1,4 +1,4 @@
-use Rattle.std.proofs.Common.{slice_index, map, ◌≡◌, ◌+◌, ◌*◌, ◌++◌, sym, ap, subst, ◌∙◌, arith}
+use Rattle.std.proofs.Common.{slice_index, ◌≡◌, ◌+◌, ◌*◌, ◌++◌, sym, ap, subst, ◌∙◌, arith}
 use Rattle.std.specs.Option.{option_to_list}
 use Rattle.std.proofs.lemmas.Grind.{common_steps}
 use Rattle.nx_code.specs.Reading.{shift_after_all, text}
@@ -13,7 +13,7 @@ use Rattle.nx_fec.proofs.aligned.decode_aligned.Goals.{in-Some+in_ok-map_err, in
 pub loop-position-init : goal.loop-position-init
 unfolding dx_words
 loop-position-init c = record {
-  given = ap (map heard_as) c.new-diversity.ensures;
+  given = c.new-diversity.ensures;
   shift = c.new-printer.ensures;
   printed =
       c.new-text.ensures.items;

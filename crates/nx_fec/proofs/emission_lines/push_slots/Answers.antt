@@ -1,15 +1,27 @@
 use Rattle.std.proofs.Common.{◌≡◌, ◌+◌, ◌-◌, ◌*◌, ◌<◌, ◌≤◌, ◌∙◌, [], ◌∷◌, ◌++◌, ap, sym, subst, arith, refl, length, map, min, take}
 use Rattle.std.proofs.lemmas.List.{length-map}
+use Rattle.nx_code.specs.Word.{elements}
 use Rattle.nx_fec.specs.AirFile.{element_digit}
-use Rattle.nx_fec.specs.Emission.{bits_of, dx_word, sent_position, word_sent}
-use Rattle.nx_fec.proofs.EmissionLemmas.{sent_position-at, word_sent-dx}
+use Rattle.nx_fec.specs.Emission.{bits_of, dx_word, rx_word, sent_position, word_sent}
+use Rattle.nx_fec.proofs.EmissionLemmas.{sent_position-at, word_sent-dx, word_sent-rx}
 use Rattle.nx_fec.proofs.EmissionLineLemmas.{line-slots, position-written, position-written-long, slot_digits, slot_digits-fewer}
 use Rattle.nx_fec.proofs.emission_lines.push_slots.Goals as goal
 use Rattle.nx_fec.proofs.emission_lines.push_slots.Goals.{then-first-count, else-first-count}
 
 pub loop-place-init : goal.loop-place-init
 unfolding bits_of
-loop-place-init c = record { size = refl; same = refl }
+loop-place-init c =
+    let f = word_sent (map sent_position c.args.positions.now) in
+    let one : 2 * (35 * c.args.index) + 1 ≡ 70 * c.args.index + 0 + 1 = omega arith in
+    let two : 2 * (35 * c.args.index + 1) + 1 ≡ 70 * c.args.index + 2 + 1 = omega arith in
+    record {
+      size = refl;
+      same = refl;
+      behind = c.digits_of-behind.ensures
+          ∙ ap (λ w. map element_digit (elements w)) (c.rx_behind.ensures ∙ ap f one);
+      behind_next = c.digits_of-behind_next.ensures
+          ∙ ap (λ w. map element_digit (elements w)) (c.rx_behind-2.ensures ∙ ap f two);
+    }
 
 pub loop-place-preserved : goal.loop-place-preserved
 loop-place-preserved c =
@@ -17,29 +29,36 @@ loop-place-preserved c =
     let index = c.args.index in
     let place = c.loop-place.place in
     let f = word_sent (map sent_position positions) in
+    let so_far = c.loop-place.invariant in
     let below : place < 35 = omega (arith, c.loop-place-test.true, c.min-count.ensures) in
     let inside : 35 * index + place < length positions =
     omega (arith, c.loop-place-test.true, c.min-count.ensures, c.requires.some) in
-    let a : length c.copy_from_slice.new.self ≡ 8 =
-    omega (arith, ap length c.copy_from_slice.ensures.after) in
-    let b : length c.copy_from_slice-in-loop-place.new.self ≡ 8 =
-    omega (arith, ap length c.copy_from_slice-in-loop-place.ensures.after) in
+    let first = c.copy_from_slice.ensures.after ∙ c.to_le_bytes.ensures in
+    let second = c.copy_from_slice-in-loop-place.ensures.after
+    ∙ c.to_le_bytes-in-loop-place.ensures in
+    let a : length c.copy_from_slice.new.self ≡ 8 = ap length first in
+    let b : length c.copy_from_slice-in-loop-place.new.self ≡ 8 = ap length second in
     let even : 2 * (35 * index + place) ≡ 70 * index + 2 * place = omega arith in
-    let odd : 2 * (35 * index + place) + 1 ≡ 70 * index + 2 * place + 1 = omega arith in
-    let dx = c.dx.ensures ∙ ap dx_word
-    (sent_position-at positions (35 * index + place) c.index-positions-first.result inside
-    c.index-positions-first.is)
+    let later : 2 * (35 * index + place) + 5 ≡ 70 * index + 2 * (place + 1 + 1) + 1 = omega arith in
+    let position = c.index-positions-first.result in
+    let here = sent_position-at positions (35 * index + place) position inside
+    c.index-positions-first.is in
+    let dx : dx_word (sent_position position) ≡ f (70 * index + 2 * place) = ap dx_word here
     ∙ sym (word_sent-dx (map sent_position positions) (35 * index + place)) ∙ ap f even in
+    let rx : rx_word (sent_position position) ≡ f (70 * index + 2 * (place + 1 + 1) + 1) =
+    ap rx_word here
+    ∙ sym (word_sent-rx (map sent_position positions) (35 * index + place)) ∙ ap f later in
     let j : 14 * place + 8 - 14 * place ≡ 8 = omega arith in
     let k : 14 * place + 7 + 8 - (14 * place + 7) ≡ 8 = omega arith in
     record {
-      size = position-written-long place _ _ c.loop-place.digits _ _ j k a b
-          c.loop-place.invariant.size below;
-      same = position-written f (70 * index) place _ _ c.dx.result c.rx_behind.result
-          c.loop-place.digits _ _ j a b c.loop-place.invariant.size below
-          (ap (take 7) c.copy_from_slice.ensures.after ∙ c.digits_of-dx.ensures)
-          (ap (take 7) c.copy_from_slice-in-loop-place.ensures.after ∙ c.digits_of-rx.ensures)
-          dx (c.rx_behind.ensures ∙ ap f odd) c.loop-place.invariant.same;
+      size = position-written-long place _ _ c.loop-place.digits _ _ j k a b so_far.size below;
+      same = position-written f (70 * index) place _ _ (dx_word (sent_position position)) (f (70 * index + 2 * place + 1))
+          c.loop-place.digits _ _ j a b so_far.size below
+          (ap (take 7) first ∙ c.digits_sent-dx.ensures.dx)
+          (ap (take 7) second ∙ so_far.behind) dx refl so_far.same;
+      behind = so_far.behind_next;
+      behind_next = c.digits_sent-dx.ensures.rx
+          ∙ ap (λ w. map element_digit (elements w)) rx;
     }
 
 pub returns : goal.returns
@@ -69,4 +88,4 @@ returns c =
     let line = slot_digits-fewer f (70 * index) slots (2 * count) digits few whole
     ∙ ap (map element_digit) (sym
     (line-slots sent index slots (omega (arith, size, c.requires.some)) is)) in
-    c.push_digits.ensures ∙ ap (λ d. c.args.batch.now.items ++ (66 ∷ 32 ∷ (d ++ 10 ∷ []))) line
+    c.push_digits.ensures ∙ ap (λ d. c.args.batch.now ++ (66 ∷ 32 ∷ (d ++ 10 ∷ []))) line

@@ -6,7 +6,7 @@ use Rattle.nx_fec.proofs.EmissionLineLemmas.{lines-of_positions}
 use Rattle.std.proofs.lemmas.Result.{err_from_is_err_and}
 use Rattle.nx_fec.proofs.WritingLaws.{Batched, Batched-more, Batched-sent, Batched-failed, Batched-all}
 use Rattle.nx_fec.proofs.emission_lines.write_emission.Goals as goal
-use Rattle.nx_fec.proofs.emission_lines.write_emission.Goals.{then-remaining_capacity-lt-LINE_BYTES+in_ok-sent, else-remaining_capacity-lt-LINE_BYTES}
+use Rattle.nx_fec.proofs.emission_lines.write_emission.Goals.{then-not-has_room+in_ok-sent, else-not-has_room}
 
 pub returns-in_err-sent-clause-err : goal.returns-in_err-sent-clause-err
 returns-in_err-sent-clause-err g c =
@@ -18,30 +18,30 @@ returns-in_err-sent-clause-err g c =
       c.div_ceil-index-end.ensures,
       length-map c.args.positions.now sent_position,
       lines-of_positions (map sent_position c.args.positions.now),
-    )) c.deref.ensures.0
+    )) c.as_slice.ensures
     (c.in_err-sent.ensures.bytes (g.W.Write.contents c.args.writer.now.inner) b.done b.written)))
 
 pub loop-index-preserved : goal.loop-index-preserved
 loop-index-preserved g c =
     let contents = g.W.Write.contents in
     let before = c.loop-index.invariant in
-    let now = c.if-remaining_capacity-lt-LINE_BYTES in
+    let now = c.if-not-has_room in
     let none : now.writer.failures ≡ 0 =
     elim now.branch [
-      | then-remaining_capacity-lt-LINE_BYTES+in_ok-sent w ↦
+      | then-not-has_room+in_ok-sent w ↦
           ap (λ x. x.failures) w.writer-is ∙ w.in_ok-sent.ensures.counts.none
-      | else-remaining_capacity-lt-LINE_BYTES w ↦ ap (λ x. x.failures) w.writer-is ∙ before.none
+      | else-not-has_room w ↦ ap (λ x. x.failures) w.writer-is ∙ before.none
     ] in
     let batched : Batched (contents c.args.writer.now.inner) (contents now.writer.inner)
     (bits_of (emission (map sent_position c.args.positions.now))) c.loop-index.index now.sent
-    now.batch.items =
+    now.batch =
     elim now.branch [
-      | then-remaining_capacity-lt-LINE_BYTES+in_ok-sent w ↦
-          let empty : now.batch.items ≡ [] = ap (λ x. x.items) w.batch-is ∙ w.clear.ensures in
+      | then-not-has_room+in_ok-sent w ↦
+          let empty : now.batch ≡ [] = w.batch-is ∙ w.clear.ensures in
           let b = before.batched in
-          rw (w.writer-is, empty, w.sent-is) (Batched-sent _ _ _ _ _ _ _ _ _ b w.deref.ensures.0
+          rw (w.writer-is, empty, w.sent-is) (Batched-sent _ _ _ _ _ _ _ _ _ b w.as_slice.ensures
           (w.in_ok-sent.ensures.bytes (contents c.args.writer.now.inner) b.done b.written))
-      | else-remaining_capacity-lt-LINE_BYTES w ↦
+      | else-not-has_room w ↦
           rw (w.writer-is, w.batch-is, w.sent-is) before.batched
     ] in
     record {
@@ -62,7 +62,7 @@ returns-in_err-write_on-clause-err g c =
       c.div_ceil-index-end.ensures,
       length-map c.args.positions.now sent_position,
       lines-of_positions (map sent_position c.args.positions.now),
-    )) c.deref-2.ensures.0
+    )) c.as_slice-2.ensures
     (c.in_err-write_on.ensures.bytes (g.W.Write.contents c.args.writer.now.inner) b.done
     b.written)))
 
@@ -75,5 +75,5 @@ returns-clause-ok g c =
       c.div_ceil-index-end.ensures,
       length-map c.args.positions.now sent_position,
       lines-of_positions (map sent_position c.args.positions.now),
-    )) c.deref-2.ensures.0
+    )) c.as_slice-2.ensures
     (c.in_ok-write_on.ensures.bytes (g.W.Write.contents c.args.writer.now.inner) b.done b.written)

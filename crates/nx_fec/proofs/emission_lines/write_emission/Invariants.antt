@@ -7,5 +7,5 @@ abbrev pub invariant-loop-index : goal.invariant-loop-index
 invariant-loop-index g l = record {
   none : l.writer.failures ≡ 0;
   batched : Batched (g.W.Write.contents l.initial.writer.inner) (g.W.Write.contents l.writer.inner)
-      (bits_of (emission (map sent_position l.positions))) l.index l.sent l.batch.items;
+      (bits_of (emission (map sent_position l.positions))) l.index l.sent l.batch;
 }

@@ -1,16 +1,27 @@
-use Rattle.std.proofs.Common.{◌++◌, [], ◌∷◌, map, ap, ◌∙◌, arith, replicate}
-use Rattle.std.proofs.lemmas.List.{take_all}
+use Rattle.std.proofs.Common.{◌≡◌, ◌+◌, ◌-◌, ◌++◌, [], ◌∷◌, length, map, take, ap, ap₂, sym, ◌∙◌, arith, replicate}
+use Rattle.std.proofs.lemmas.List.{length-map, take_all}
 use Rattle.nx_code.specs.declared.signals.Comb.{Comb}
 use Rattle.nx_fec.specs.Emission.{sent_position}
 use Rattle.nx_fec.specs.declared.positions.Position.TheVariants.{Phasing, Traffic, End}
+use Rattle.nx_fec.proofs.FramingLemmas.{behind_phasing}
 use Rattle.nx_fec.proofs.RoundTripLemmas.{sent_position-framed_positions}
 use Rattle.nx_fec.proofs.runs.framed_positions.Goals as goal
 
 pub returns : goal.returns
 returns c =
-    let whole = take_all c.loop-comb.comb-index c.args.combs.now (omega arith) in
-    ap (map sent_position) (c.in_ok-extend_from_slice-2.ensures.items
+    let combs = c.args.combs.now in
+    let sent = map (λ (comb : Comb). Traffic comb) combs in
+    let size : length c.send_combs.new.positions ≡ length combs =
+    ap length c.send_combs.ensures ∙ length-map combs (λ (comb : Comb). Traffic comb) in
+    let made : c.deref_mut.result.now ≡ replicate (4 + length c.send_combs.new.positions) Phasing =
+    c.deref_mut.ensures.value ∙ c.in_ok-resize.ensures.items
+    ∙ ap₂ (λ l n. take (4 + length combs) l ++ replicate (4 + length combs - n) Phasing)
+    c.in_ok-positions.ensures.items c.in_ok-positions.ensures.len
+    ∙ ap (λ l. l ++ replicate (4 + length combs - 0) Phasing)
+    (take_all (4 + length combs) [] (omega arith))
+    ∙ ap (λ n. replicate n Phasing) (omega (arith, size)) in
+    ap (map sent_position) (c.in_ok-extend_from_slice.ensures.items
     ∙ ap (λ l. l ++ (End ∷ End ∷ End ∷ []))
-    (c.loop-comb.invariant ∙ ap
-    (λ l. replicate 4 Phasing ++ map (λ (comb : Comb). Traffic comb) l) whole))
-    ∙ sent_position-framed_positions c.args.combs.now
+    (behind_phasing c.deref_mut.result.now c.send_combs.new.positions _ _ made (sym c.deref_mut.ensures.len)
+    ∙ ap (λ l. replicate 4 Phasing ++ l) c.send_combs.ensures))
+    ∙ sent_position-framed_positions combs

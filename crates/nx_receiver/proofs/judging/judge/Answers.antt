@@ -1,53 +1,31 @@
-use Rattle.std.proofs.Common.{◌≡◌, ◌==◌, not, ◌&&◌, sym, ap, ◌∙◌, arith}
-use Rattle.std.proofs.lemmas.Bool.{eqb-false}
-use Rattle.nx_receiver.specs.private.Watch.{is_good_text}
-use Rattle.nx_receiver.specs.FoundCopies.{tagged_found}
-use Rattle.nx_receiver.proofs.receiving.Judging.{printed_as, made_true, made_false, can_enter, content_stays, content_grows, newest_is_last}
+use Rattle.std.proofs.Common.{◌++◌, ◌∙◌, sym, ap}
+use Rattle.nx_code.specs.Lists.{last_of}
+use Rattle.nx_envelope.specs.Copies.{errors_of}
+use Rattle.nx_envelope.specs.declared.found.FoundHead.{FoundHead}
+use Rattle.nx_memory.specs.Memory.{most_entries}
+use Rattle.nx_receiver.specs.Printing.{entry_made, is_printed}
+use Rattle.nx_receiver.specs.private.Heads.{headed_copy}
 use Rattle.nx_receiver.proofs.judging.judge.Goals as goal
 
-pub enter-requires-clause-unknown : goal.enter-requires-clause-unknown
-enter-requires-clause-unknown g c =
+pub judge_head-requires-clause-errors : goal.judge_head-requires-clause-errors
+judge_head-requires-clause-errors g c =
+    c.args.found.now.counted ∙ ap errors_of (sym c.as_slice.ensures.value)
+
+pub returns-clause-printed : goal.returns-clause-printed
+returns-clause-printed g c entries h =
     let found = c.args.found.now in
-    (can_enter c.args.selected _ _ _
-    (sym (c.is_entered.ensures
-    ∙ ap (λ b. b && is_good_text found.how found.text.items && not (found.identity.number == 0))
-    c.is_printed-printed.ensures) ∙ c.if-is_entered.true)).unknown
+    let head : FoundHead =
+    record { identity = found.identity; errors = found.errors; how = found.how } in
+    c.judge_head.ensures.printed entries h
+    ∙ ap (λ t. is_printed entries (headed_copy head t c.args.moment c.args.selected))
+    c.as_slice.ensures.value
 
-pub enter-requires-clause-numbered : goal.enter-requires-clause-numbered
-enter-requires-clause-numbered g c =
+pub returns-clause-entered : goal.returns-clause-entered
+returns-clause-entered g c entries h =
     let found = c.args.found.now in
-    let numbered = (can_enter c.args.selected _ _ _
-    (sym (c.is_entered.ensures
-    ∙ ap (λ b. b && is_good_text found.how found.text.items && not (found.identity.number == 0))
-    c.is_printed-printed.ensures) ∙ c.if-is_entered.true)).numbered in
-    let above : found.identity.number ≡ 0 → ⊥ = eqb-false found.identity.number 0 numbered in
-    omega arith
-
-pub returns-then-is_entered-clause-printed : goal.returns-then-is_entered-clause-printed
-returns-then-is_entered-clause-printed g c entries h =
-    printed_as entries _ (tagged_found c.args.found.now c.args.moment c.args.selected) _ h
-    c.is_printed-printed.ensures
-
-pub returns-then-is_entered-clause-entered : goal.returns-then-is_entered-clause-entered
-returns-then-is_entered-clause-entered g c entries h =
-    let copy = tagged_found c.args.found.now c.args.moment c.args.selected in
-    content_grows entries _ _ _ _ h c.enter.ensures
-    (made_true entries copy _ _ (printed_as entries _ copy _ h c.is_printed-printed.ensures)
-    c.is_entered.ensures c.if-is_entered.true)
-
-pub returns-then-is_entered-clause-not_before : goal.returns-then-is_entered-clause-not_before
-returns-then-is_entered-clause-not_before g c =
-    newest_is_last (g.M.Recall.content c.args.memory.now) _ c.args.found.now.identity c.args.moment
-    c.enter.ensures
-
-pub returns-else-is_entered-clause-printed : goal.returns-else-is_entered-clause-printed
-returns-else-is_entered-clause-printed g c entries h =
-    printed_as entries _ (tagged_found c.args.found.now c.args.moment c.args.selected) _ h
-    c.is_printed-printed.ensures
-
-pub returns-else-is_entered-clause-entered : goal.returns-else-is_entered-clause-entered
-returns-else-is_entered-clause-entered g c entries h =
-    let copy = tagged_found c.args.found.now c.args.moment c.args.selected in
-    content_stays entries _ _ h
-    (made_false entries copy _ _ (printed_as entries _ copy _ h c.is_printed-printed.ensures)
-    c.is_entered.ensures c.if-is_entered.false)
+    let head : FoundHead =
+    record { identity = found.identity; errors = found.errors; how = found.how } in
+    c.judge_head.ensures.entered entries h
+    ∙ ap (λ t. last_of most_entries
+    (entries ++ entry_made entries (headed_copy head t c.args.moment c.args.selected)))
+    c.as_slice.ensures.value

@@ -16,9 +16,19 @@ returns-in-Ok-write_state-clause-left g c = λ read.
 
 pub returns-in-Err-write_state-clause-resumes : goal.returns-in-Err-write_state-clause-resumes
 returns-in-Err-write_state-clause-resumes g c =
+    let run = c.in-Ok.ensures.listens in
     saves-some (devices g.R.Read.remaining g.W.Write.contents c.args.reader.now
     c.listen_from.new.reader c.args.writer.now c.write_state.new.writer) c.args.saved.now
-    c.in-Ok.report c.in-Err-write_state.fault.written c.in-Ok.ensures.listens.reads
+    c.in-Ok.report c.in-Err-write_state.fault.written
+    (record {
+      bytes = run.bytes;
+      consumed = run.consumed;
+      answer = run.answer;
+      file = run.file;
+      before = tt;
+      failed = run.unread;
+      once = run.read_once;
+    })
     (c.in-Err-write_state.ensures.counts.failed.0 refl)
 
 pub returns-in-Err-write_state-clause-left : goal.returns-in-Err-write_state-clause-left

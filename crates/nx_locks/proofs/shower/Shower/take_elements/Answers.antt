@@ -15,14 +15,14 @@ returns-in-Err-clause-taken g c = rw (← c.self.view_is) (λ first old lines h.
     let after : Showing = record
     { watch = c.hear.new.self; has_moment = i.has_moment; shown = c.hear.new.shown.items } in
     let some : has_moment lines ≡ true = sym h.stood.has_moment ∙ c.if-not-self.false in
-    let heard : HearsAll i.watch c.hear.new.self c.args.bits.now [] c.hear.new.shown.items =
-    subst (λ l. HearsAll i.watch c.hear.new.self c.args.bits.now l c.hear.new.shown.items)
+    let heard : HearsAll i.watch c.hear.new.self c.args.elements.now [] c.hear.new.shown.items =
+    subst (λ l. HearsAll i.watch c.hear.new.self c.args.elements.now l c.hear.new.shown.items)
     c.clear.ensures c.hear.ensures.hears in
     let shown : c.deref.result.now ≡ c.hear.new.shown.items = c.deref.ensures.0 in
-    let now = element_line before after lines c.args.mark c.args.bits.now h.given
+    let now = element_line before after lines c.args.mark c.args.elements.now h.given
     c.hear.new.shown.items (sym c.is_on_0.ensures ∙ c.if-not-is_on_0.false) h.stood some refl
     heard (omega (arith, h.stood.shows.elements)) in
-    let all = lines ++ line.elements c.args.mark c.args.bits.now ∷ [] in
+    let all = lines ++ line.elements c.args.mark c.args.elements.now ∷ [] in
     record {
       given = h.given ++ c.deref.result.now;
       begun = begins-report after all (h.given ++ c.deref.result.now)
@@ -38,14 +38,14 @@ returns-clause-taken g c = rw (← c.self.view_is) (λ first old lines h.
     let after : Showing = record
     { watch = c.hear.new.self; has_moment = i.has_moment; shown = c.hear.new.shown.items } in
     let some : has_moment lines ≡ true = sym h.stood.has_moment ∙ c.if-not-self.false in
-    let heard : HearsAll i.watch c.hear.new.self c.args.bits.now [] c.hear.new.shown.items =
-    subst (λ l. HearsAll i.watch c.hear.new.self c.args.bits.now l c.hear.new.shown.items)
+    let heard : HearsAll i.watch c.hear.new.self c.args.elements.now [] c.hear.new.shown.items =
+    subst (λ l. HearsAll i.watch c.hear.new.self c.args.elements.now l c.hear.new.shown.items)
     c.clear.ensures c.hear.ensures.hears in
     let shown : c.deref.result.now ≡ c.hear.new.shown.items = c.deref.ensures.0 in
-    let now = element_line before after lines c.args.mark c.args.bits.now h.given
+    let now = element_line before after lines c.args.mark c.args.elements.now h.given
     c.hear.new.shown.items (sym c.is_on_0.ensures ∙ c.if-not-is_on_0.false) h.stood some refl
     heard (omega (arith, h.stood.shows.elements)) in
-    let all = lines ++ line.elements c.args.mark c.args.bits.now ∷ [] in
+    let all = lines ++ line.elements c.args.mark c.args.elements.now ∷ [] in
     record {
       given = h.given ++ c.deref.result.now;
       stood = subst (λ l. IsShowing after all (h.given ++ l)) (sym shown) now;
@@ -55,7 +55,7 @@ returns-clause-taken g c = rw (← c.self.view_is) (λ first old lines h.
 pub returns-then-not-is_on_0-clause-taken : goal.returns-then-not-is_on_0-clause-taken
 returns-then-not-is_on_0-clause-taken g c = rw (← c.self.view_is) (λ first old lines h. record {
   given = h.given;
-  stood = skipped_line _ lines c.args.mark c.args.bits.now h.given
+  stood = skipped_line _ lines c.args.mark c.args.elements.now h.given
       (sym c.is_on_0.ensures ∙ c.if-not-is_on_0.true) h.stood
       (sym h.stood.has_moment ∙ c.if-not-self.false);
   here = h.here;

@@ -5,9 +5,9 @@ use Rattle.nx_locks.proofs.watch.LockWatch.hear.Given as goal
 
 abbrev pub invariant-loop-at : goal.invariant-loop-at
 invariant-loop-at l = record {
-  goes : Goes l.fn.self l.self l.bits l.at l.fn.shown.items l.shown.items;
+  goes : Goes l.fn.self l.self l.elements l.at l.fn.shown.items l.shown.items;
   few : array_vec_len l.shown ≤ array_vec_len l.fn.shown + 113 * l.at;
 }
 
 abbrev pub decreases-loop-at : goal.decreases-loop-at
-decreases-loop-at l = length l.bits - l.at
+decreases-loop-at l = length l.elements - l.at

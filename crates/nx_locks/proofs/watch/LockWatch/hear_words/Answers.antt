@@ -1,35 +1,37 @@
-use Rattle.std.proofs.Common.{arith, rules}
-use Rattle.nx_receiver.proofs.watching.Loops.{chunk_is, chunk_within}
+use Rattle.std.proofs.Common.{◌+◌, ◌≤◌, drop, length, length-drop, arith, refl, rules}
 use Rattle.nx_locks.proofs.Hears.{goes_first, goes_on}
+use Rattle.nx_locks.proofs.Places.{part_is}
 use Rattle.nx_locks.proofs.watch.LockWatch.hear_words.Goals as goal
 
-pub loop-word-init : goal.loop-word-init
-loop-word-init c = record {
-  goes = goes_first c.args.self.now c.args.bits.now c.args.shown.now.items;
-  limit =
-      c.requires.limit;
+pub loop-count-init : goal.loop-count-init
+loop-count-init c = record {
+  goes = goes_first c.args.self.now (drop c.args.from c.args.elements.now)
+      c.args.shown.now.items;
+  limit = c.requires.limit;
   few = omega arith;
 }
 
 pub returns-then-not-is_between_words-clause-hears :
     goal.returns-then-not-is_between_words-clause-hears
 returns-then-not-is_between_words-clause-hears c =
-    let is = chunk_is c.args.bits.now c.in-Some.word.now c.loop-word.at 7 c.in-Some.ensures.cases in
-    let within = chunk_within c.args.bits.now c.in-Some.word.now c.loop-word.at 7
-    c.loop-word.invariant.goes.within c.in-Some.ensures.cases in
-    (goes_on c.args.self.now c.loop-word.self c.hear_word.new.self c.args.bits.now
-    c.in-Some.word.now c.loop-word.at 7 _ _ _ c.loop-word.invariant.goes within is
-    c.hear_word.ensures.hears).heard
+    let all = c.args.elements.now in
+    let next = c.hear_next_words-count in
+    let within : c.loop-count.count + next.result ≤ length (drop c.args.from all) =
+    omega (arith, next.ensures.within, length-drop c.args.from all) in
+    (goes_on c.args.self.now c.loop-count.self next.new.self (drop c.args.from all) _
+    c.loop-count.count next.result _ _ _ c.loop-count.invariant.goes within
+    (part_is all _ c.args.from c.loop-count.count next.result refl) next.ensures.hears).heard
 
-pub loop-word-preserved : goal.loop-word-preserved
-loop-word-preserved c =
-    let is = chunk_is c.args.bits.now c.in-Some.word.now c.loop-word.at 7 c.in-Some.ensures.cases in
-    let within = chunk_within c.args.bits.now c.in-Some.word.now c.loop-word.at 7
-    c.loop-word.invariant.goes.within c.in-Some.ensures.cases in
+pub loop-count-preserved : goal.loop-count-preserved
+loop-count-preserved c =
+    let all = c.args.elements.now in
+    let next = c.hear_next_words-count in
+    let within : c.loop-count.count + next.result ≤ length (drop c.args.from all) =
+    omega (arith, next.ensures.within, length-drop c.args.from all) in
     record {
-      goes = goes_on c.args.self.now c.loop-word.self c.hear_word.new.self c.args.bits.now
-          c.in-Some.word.now c.loop-word.at 7 _ _ _ c.loop-word.invariant.goes within is
-          c.hear_word.ensures.hears;
+      goes = goes_on c.args.self.now c.loop-count.self next.new.self (drop c.args.from all) _
+          c.loop-count.count next.result _ _ _ c.loop-count.invariant.goes within
+          (part_is all _ c.args.from c.loop-count.count next.result refl) next.ensures.hears;
       limit = search rules;
-      few = omega (arith, c.loop-word.invariant.few, c.hear_word.ensures.few);
+      few = omega (arith, c.loop-count.invariant.few, next.ensures.few);
     }

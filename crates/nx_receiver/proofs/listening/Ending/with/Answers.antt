@@ -4,7 +4,7 @@ use Rattle.nx_receiver.specs.FoundCopies.{copy_of}
 use Rattle.nx_receiver.specs.Log.{IsEntry, IsLog}
 use Rattle.nx_receiver.specs.Receiver.{entry_list}
 use Rattle.nx_receiver.specs.Shares.{marked}
-use Rattle.nx_receiver.proofs.listens.Listener.{one-log}
+use Rattle.nx_receiver.proofs.receiving.Log.{one-log}
 use Rattle.nx_receiver.proofs.listening.Ending.with.Goals as goal
 
 pub returns-in_err-written-clause-bytes : goal.returns-in_err-written-clause-bytes

@@ -1,39 +1,25 @@
-use Rattle.std.proofs.Common.{◌++◌, ◌+◌, [], ◌∙◌, None, Some, ap, refl, sym, subst, append-nil, arith, map}
-use Rattle.nx_fec.specs.LineRuns.{HasGiven}
-use Rattle.nx_receiver.specs.FoundCopies.{copy_of}
-use Rattle.nx_receiver.specs.Log.{IsEntry}
-use Rattle.nx_receiver.specs.Receiver.{Stands, entry_list}
-use Rattle.nx_receiver.specs.Shares.{marked}
+use Rattle.std.proofs.Common.{◌≡◌, ◌≤◌, ℕ, ◌+◌, ◌++◌, ◌∙◌, Bool, true, false, cond, ap, ap₂, arith, length, refl, subst, sym}
+use mir.Val.{bool_byte}
+use Rattle.nx_receiver.specs.Receiver.{Stands}
 use Rattle.nx_receiver.specs.private.Listener.{Listening, content, count_of, receiver_on}
-use Rattle.nx_receiver.proofs.listens.Listener.{differs-on, no-log, none-left, one-log, same-receivers}
+use Rattle.nx_receiver.proofs.listens.Listener.{differs-on, same-receivers}
 use Rattle.nx_receiver.proofs.listening.Listener.finish.Goals as goal
 
-pub returns-in_default-clause-finished : goal.returns-in_default-clause-finished
-returns-in_default-clause-finished g c =
-    let none = none-left _ c.in_default.not-Some in
-    let channel = c.args.channel in
-    let new = c.finish_on.new.self in
-    let differs = differs-on channel c.args.self.now new c.finish_on.ensures.only in (
-      [],
-      record {
-        entry = None;
-        stands = λ start events log awaits. subst
-            (λ e. Stands content start (receiver_on new channel) events (log ++ entry_list e)) none
-            (c.finish_on.ensures.stands start events log awaits);
-        others = differs.others;
-        spelled = no-log;
-        elements = differs.elements;
-        entries = λ fits. omega (arith, fits, differs.entries);
-      },
-      λ old before given. subst
-          (λ b. HasGiven old (g.W.Write.contents c.args.writer.now.inner) c.args.batch.now b)
-          (sym (append-nil before)) given,
-    )
+as_count : (is : Bool) → bool_byte is ≡ cond is 1 0
+as_count true = refl
+as_count false = refl
+
+at_most_one : (is : Bool) (n : ℕ) → n ≡ cond is 1 0 → n ≤ 1
+at_most_one true n e = omega (arith, e)
+at_most_one false n e = omega (arith, e)
 
 pub returns-clause-finished : goal.returns-clause-finished
 returns-clause-finished g c =
     let channel = c.args.channel in
-    let mid = c.finish_on.new.self in
+    let mid = c.finish_on-is_printed.new.self in
+    let is_printed = c.finish_on-is_printed.result.0 in
+    let given = c.finish_on-is_printed.ensures.given in
+    let hands = given.1 in
     let e = c.self.view_is in
     let new : Listening = record {
       on_0 = c.self.inside.on_0;
@@ -45,24 +31,21 @@ returns-clause-finished g c =
     } in
     let same = same-receivers mid new (sym (ap (λ (l : Listening). l.on_0) e))
     (sym (ap (λ (l : Listening). l.on_1) e)) (sym (ap (λ (l : Listening). l.on_2) e)) in
-    let differs = differs-on channel c.args.self.now mid c.finish_on.ensures.only in
-    let bytes = c.deref.result.now in
-    let is = subst (IsEntry (marked channel (copy_of c.in-Some.entry))) (sym c.deref.ensures.0)
-    c.entry_bytes.ensures in (
-      bytes,
+    let differs = differs-on channel c.args.self.now mid c.finish_on-is_printed.ensures.only in (
+      given.0,
       record {
-        entry = Some c.in-Some.entry;
+        copies = hands.copies;
+        one = at_most_one is_printed (length hands.copies) hands.counted;
         stands = λ start events log awaits. subst
-            (λ r. Stands content start r events (log ++ entry_list (Some c.in-Some.entry)))
-            (same channel)
-            (subst (λ o. Stands content start (receiver_on mid channel) events
-            (log ++ entry_list o)) c.in-Some.is
-            (c.finish_on.ensures.stands start events log awaits));
+            (λ r. Stands content start r events (log ++ hands.copies)) (same channel)
+            (hands.stands start events log awaits);
         others = λ other not. sym (same other) ∙ differs.others other not;
-        spelled = one-log (marked channel (copy_of c.in-Some.entry)) bytes is;
+        spelled = hands.spelled;
         elements = ap (λ (l : Listening). l.elements) e ∙ differs.elements;
         entries = λ fits. c.saturating_add-self-inside.ensures
-            ∙ ap (λ n. count_of (n + 1)) (ap (λ (l : Listening). l.entries) e ∙ differs.entries);
+            ∙ ap₂ (λ m n. count_of (m + n))
+            (ap (λ (l : Listening). l.entries) e ∙ differs.entries)
+            (c.from.ensures ∙ as_count is_printed ∙ sym hands.counted);
       },
-      λ old before given. c.give.ensures.bytes old before given,
+      given.2,
     )

@@ -1,4 +1,4 @@
-use Rattle.std.proofs.Common.{◌≡◌, ◌+◌, ◌++◌, ◌∙◌, ap, drop, refl, rules, subst, sym, take}
+use Rattle.std.proofs.Common.{◌≡◌, ◌+◌, ◌++◌, ◌∙◌, ap, arith, drop, length-drop, rules, subst, sym, take}
 use Rattle.nx_receiver.specs.Events.{elements}
 use Rattle.nx_receiver.specs.declared.over.Over.TheVariants.{Nothing}
 use Rattle.nx_receiver.specs.private.Awaiting.{Awaits}
@@ -22,14 +22,15 @@ returns-then-eq-clause-heard g c = λ starts old given part h.
     let same = same-receivers heard mid (sym (ap (λ (l : Listening). l.on_0) e))
     (sym (ap (λ (l : Listening). l.on_1) e)) (sym (ap (λ (l : Listening). l.on_2) e)) in
     let differs = differs-on channel c.args.self.now heard c.hear_on-count.ensures.only in
-    let bits = c.args.bits.now in
+    let bits = drop c.args.from c.args.packed.now in
+    let long = length-drop c.args.from c.args.packed.now in
     let count = c.hear_on-count.result.0 in
     let over = c.hear_on-count.result.1 in
     let nothing : over ≡ Nothing = search rules in
     record {
       bytes = h.bytes;
       hears = heard-no-over starts c.args.self.now mid given channel part bits count h.bytes over
-          nothing h.hears c.hear_on-count.ensures.within
+          nothing h.hears (omega (arith, c.hear_on-count.ensures.within, long))
           (λ start events log stands. subst
           (λ r. Awaits content start r (events ++ elements (take count bits)) log over)
           (same channel) (c.hear_on-count.ensures.stands start events log stands))
@@ -56,14 +57,16 @@ returns-in-Ok-clause-heard g c = λ starts old given part h.
     let same = same-receivers heard mid (sym (ap (λ (l : Listening). l.on_0) e))
     (sym (ap (λ (l : Listening). l.on_1) e)) (sym (ap (λ (l : Listening). l.on_2) e)) in
     let differs = differs-on channel c.args.self.now heard c.hear_on-count.ensures.only in
-    let bits = c.args.bits.now in
+    let bits = drop c.args.from c.args.packed.now in
+    let long = length-drop c.args.from c.args.packed.now in
     let count = c.hear_on-count.result.0 in
     let over = c.hear_on-count.result.1 in
     let more = c.in-Ok.ensures.finished.0 in
     record {
       bytes = h.bytes ++ more;
       hears = heard-over starts c.args.self.now mid c.finish.new.self given channel part bits count
-          h.bytes more over c.in-Ok.ensures.finished.1 h.hears c.hear_on-count.ensures.within
+          h.bytes more over c.in-Ok.ensures.finished.1 h.hears
+          (omega (arith, c.hear_on-count.ensures.within, long))
           (c.hear_on-count.ensures.some c.requires.some)
           (λ start events log stands. subst
           (λ r. Awaits content start r (events ++ elements (take count bits)) log over)
@@ -91,7 +94,8 @@ returns-in-Err-clause-heard g c = λ starts old given part h.
     let same = same-receivers heard mid (sym (ap (λ (l : Listening). l.on_0) e))
     (sym (ap (λ (l : Listening). l.on_1) e)) (sym (ap (λ (l : Listening). l.on_2) e)) in
     let differs = differs-on channel c.args.self.now heard c.hear_on-count.ensures.only in
-    let bits = c.args.bits.now in
+    let bits = drop c.args.from c.args.packed.now in
+    let long = length-drop c.args.from c.args.packed.now in
     let count = c.hear_on-count.result.0 in
     let over = c.hear_on-count.result.1 in
     let more = c.in-Err.ensures.finished.0 in
@@ -102,7 +106,8 @@ returns-in-Err-clause-heard g c = λ starts old given part h.
           (begins-more starts c.finish.new.self given channel (part ++ take count bits)
           (drop count bits) (h.bytes ++ more)
           (heard-over starts c.args.self.now mid c.finish.new.self given channel part bits count
-          h.bytes more over c.in-Err.ensures.finished.1 h.hears c.hear_on-count.ensures.within
+          h.bytes more over c.in-Err.ensures.finished.1 h.hears
+          (omega (arith, c.hear_on-count.ensures.within, long))
           (c.hear_on-count.ensures.some c.requires.some)
           (λ start events log stands. subst
           (λ r. Awaits content start r (events ++ elements (take count bits)) log over)

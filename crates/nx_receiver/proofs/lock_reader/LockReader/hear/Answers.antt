@@ -1,7 +1,9 @@
 use Rattle.std.proofs.Common.{◌≡◌, ◌+◌, [], ◌∷◌, ◌++◌, inl, inr, refl, sym, ap, ◌∙◌, subst, append-nil}
 use Rattle.std.specs.Option.{option_to_list}
+use Rattle.nx_code.specs.Classes.{reception_of_class}
 use Rattle.nx_code.specs.Reading.{shift_after_all, text}
 use Rattle.nx_code.specs.declared.shifts.Shift.TheVariants.{Letters}
+use Rattle.nx_code.proofs.ReadingLemmas.{reading_push}
 use Rattle.nx_fec.specs.Pairing.{IsLatest, counts_as}
 use Rattle.nx_envelope.specs.Finder.{StandsAfter}
 use Rattle.nx_receiver.specs.private.LockReader.{ReadsLock, dx_words, text_after}
@@ -12,11 +14,11 @@ pub returns-in-Dx-clause-stands : goal.returns-in-Dx-clause-stands
 returns-in-Dx-clause-stands c first words n reads is_word is_role =
     let before = subst (λ r. ReadsLock r first words n) (sym c.self.view_is) reads in
     let dx = sym is_role ∙ c.in-Dx.is in
-    let sent = has_read_dx first words n _ dx (c.of.ensures.counts ∙ ap counts_as (sym is_word)) in
+    let sent = has_read_dx first words n _ dx (ap counts_as (sym is_word)) in
     let same = sym (positions-dx first words n dx) in
     record {
-      latest = subst (IsLatest c.dx.new.self) sent
-          (c.dx.ensures.stands (dx_words first words n) before.latest);
+      latest = subst (IsLatest c.hear_dx.new.self) sent
+          (c.hear_dx.ensures.stands (dx_words first words n) before.latest);
       shift = before.shift ∙ ap (λ l. shift_after_all l Letters) same;
       finder = subst (λ l. StandsAfter c.self.inside.finder (text l Letters)) same before.finder;
     }
@@ -32,11 +34,13 @@ returns-in-Dx-clause-hears c first words n reads is_word is_role =
 pub returns-in-Some-clause-stands : goal.returns-in-Some-clause-stands
 returns-in-Some-clause-stands c first words n reads is_word is_role =
     let before = subst (λ r. ReadsLock r first words n) (sym c.self.view_is) reads in
-    let counts = c.of-in-Rx.ensures.counts ∙ ap counts_as (sym is_word) in
-    let rx = c.rx-taken.ensures in
+    let counts = ap counts_as (sym is_word) in
+    let rx = c.hear_rx-class.ensures in
     let so_far = text_after first words n in
-    let read = has_read_rx before (sym is_role ∙ c.in-Rx.is) counts rx.stands rx.unchanged
-    c.step.ensures.reading in
+    let read = has_read_rx before (sym is_role ∙ c.in-Rx.is) counts rx.stands refl
+    (λ positions. reading_push positions (reception_of_class c.hear_rx-class.result)
+    c.self.inside.printer c.print_class.new.self c.print_class.result
+    c.print_class.ensures.printed c.print_class.ensures.shift) in
     let grows : text_after first words (n + 1) ≡ text_after first words n ++ c.in-Some.byte ∷ [] =
     read.grows ∙ ap (λ o. so_far ++ option_to_list o) c.in-Some.is in
     let stands = c.hear.ensures.stands (text_after first words n) before.finder in
@@ -50,11 +54,13 @@ returns-in-Some-clause-stands c first words n reads is_word is_role =
 pub returns-in-Some-clause-hears : goal.returns-in-Some-clause-hears
 returns-in-Some-clause-hears c first words n reads is_word is_role =
     let before = subst (λ r. ReadsLock r first words n) (sym c.self.view_is) reads in
-    let counts = c.of-in-Rx.ensures.counts ∙ ap counts_as (sym is_word) in
-    let rx = c.rx-taken.ensures in
+    let counts = ap counts_as (sym is_word) in
+    let rx = c.hear_rx-class.ensures in
     let so_far = text_after first words n in
-    let read = has_read_rx before (sym is_role ∙ c.in-Rx.is) counts rx.stands rx.unchanged
-    c.step.ensures.reading in
+    let read = has_read_rx before (sym is_role ∙ c.in-Rx.is) counts rx.stands refl
+    (λ positions. reading_push positions (reception_of_class c.hear_rx-class.result)
+    c.self.inside.printer c.print_class.new.self c.print_class.result
+    c.print_class.ensures.printed c.print_class.ensures.shift) in
     inr (record {
       byte = c.in-Some.byte;
       grows = read.grows ∙ ap (λ o. so_far ++ option_to_list o) c.in-Some.is;
@@ -64,11 +70,13 @@ returns-in-Some-clause-hears c first words n reads is_word is_role =
 pub returns-in-None-clause-stands : goal.returns-in-None-clause-stands
 returns-in-None-clause-stands c first words n reads is_word is_role =
     let before = subst (λ r. ReadsLock r first words n) (sym c.self.view_is) reads in
-    let counts = c.of-in-Rx.ensures.counts ∙ ap counts_as (sym is_word) in
-    let rx = c.rx-taken.ensures in
+    let counts = ap counts_as (sym is_word) in
+    let rx = c.hear_rx-class.ensures in
     let so_far = text_after first words n in
-    let read = has_read_rx before (sym is_role ∙ c.in-Rx.is) counts rx.stands rx.unchanged
-    c.step.ensures.reading in
+    let read = has_read_rx before (sym is_role ∙ c.in-Rx.is) counts rx.stands refl
+    (λ positions. reading_push positions (reception_of_class c.hear_rx-class.result)
+    c.self.inside.printer c.print_class.new.self c.print_class.result
+    c.print_class.ensures.printed c.print_class.ensures.shift) in
     let same : text_after first words (n + 1) ≡ text_after first words n =
     read.grows ∙ ap (λ o. so_far ++ option_to_list o) c.in-None.is
     ∙ append-nil (text_after first words n) in
@@ -82,11 +90,13 @@ returns-in-None-clause-stands c first words n reads is_word is_role =
 pub returns-in-None-clause-hears : goal.returns-in-None-clause-hears
 returns-in-None-clause-hears c first words n reads is_word is_role =
     let before = subst (λ r. ReadsLock r first words n) (sym c.self.view_is) reads in
-    let counts = c.of-in-Rx.ensures.counts ∙ ap counts_as (sym is_word) in
-    let rx = c.rx-taken.ensures in
+    let counts = ap counts_as (sym is_word) in
+    let rx = c.hear_rx-class.ensures in
     let so_far = text_after first words n in
-    let read = has_read_rx before (sym is_role ∙ c.in-Rx.is) counts rx.stands rx.unchanged
-    c.step.ensures.reading in
+    let read = has_read_rx before (sym is_role ∙ c.in-Rx.is) counts rx.stands refl
+    (λ positions. reading_push positions (reception_of_class c.hear_rx-class.result)
+    c.self.inside.printer c.print_class.new.self c.print_class.result
+    c.print_class.ensures.printed c.print_class.ensures.shift) in
     inl (record {
       same = read.grows ∙ ap (λ o. so_far ++ option_to_list o) c.in-None.is
           ∙ append-nil (text_after first words n);

@@ -1,8 +1,8 @@
 use Rattle.nx_receiver.specs.private.LockReader.{text_after}
-use Rattle.nx_receiver.proofs.locks.ReaderWords.{none_held}
+use Rattle.nx_receiver.proofs.locks.ReaderWords.{not_open}
 use Rattle.nx_receiver.proofs.lock_reader.LockReader.restart.Goals as goal
 
 pub returns-clause-none : goal.returns-clause-none
 returns-clause-none c first words n reads none =
-    none_held c.args.self.now.finder.copy c.args.self.now.finder.text (text_after first words n)
+    not_open c.args.self.now.finder.copy c.args.self.now.finder.text (text_after first words n)
     none reads.finder.copy

@@ -8,15 +8,15 @@ returns-then-is_some-clause-stands g c start history log stands =
     let content = g.M.Recall.content in
     let bits = c.args.bits.now in
     let at = c.loop-at.at in
-    let n = c.hear-count.result.0 in
+    let n = c.hear_bits-count.result.0 in
     let rest : List Bool = take (length bits - at) (drop at bits) in
     let entry = c.finish-entry.result in
     let done : Finished content c.loop-at.self c.finish-entry.new.self (take n rest) entry =
     record {
       stands = λ start history log s. c.finish-entry.ensures.stands start _ log
-          (c.hear-count.ensures.stands start history log s);
-      before = prints_none content c.loop-at.self rest n c.hear-count.ensures.within
-          c.hear-count.ensures.first;
+          (c.hear_bits-count.ensures.stands start history log s);
+      before = prints_none content c.loop-at.self rest n c.hear_bits-count.ensures.within
+          c.hear_bits-count.ensures.first;
     } in
     fed_to content c.args.self.now c.loop-at.self c.finish-entry.new.self bits (take n rest) at n
     entry c.loop-at.invariant (piece_is bits at n) done start history log stands
@@ -26,11 +26,11 @@ returns-then-is_some-clause-first g c start history log stands k lt =
     let content = g.M.Recall.content in
     let bits = c.args.bits.now in
     let at = c.loop-at.at in
-    let n = c.hear-count.result.0 in
+    let n = c.hear_bits-count.result.0 in
     let rest : List Bool = take (length bits - at) (drop at bits) in
-    let within = piece_within bits at n c.loop-at.invariant.within c.hear-count.ensures.within in
-    let none = prints_none content c.loop-at.self rest n c.hear-count.ensures.within
-    c.hear-count.ensures.first in
+    let within = piece_within bits at n c.loop-at.invariant.within c.hear_bits-count.ensures.within in
+    let none = prints_none content c.loop-at.self rest n c.hear_bits-count.ensures.within
+    c.hear_bits-count.ensures.first in
     fed_before content c.args.self.now c.loop-at.self bits (take n rest) at n c.loop-at.invariant
     (piece_is bits at n) within none start history log stands k lt
 
@@ -39,17 +39,17 @@ loop-at-preserved g c =
     let content = g.M.Recall.content in
     let bits = c.args.bits.now in
     let at = c.loop-at.at in
-    let n = c.hear-count.result.0 in
+    let n = c.hear_bits-count.result.0 in
     let rest : List Bool = take (length bits - at) (drop at bits) in
     let entry = c.finish-entry.result in
     let done : Finished content c.loop-at.self c.finish-entry.new.self (take n rest) entry =
     record {
       stands = λ start history log s. c.finish-entry.ensures.stands start _ log
-          (c.hear-count.ensures.stands start history log s);
-      before = prints_none content c.loop-at.self rest n c.hear-count.ensures.within
-          c.hear-count.ensures.first;
+          (c.hear_bits-count.ensures.stands start history log s);
+      before = prints_none content c.loop-at.self rest n c.hear_bits-count.ensures.within
+          c.hear_bits-count.ensures.first;
     } in
-    let within = piece_within bits at n c.loop-at.invariant.within c.hear-count.ensures.within in
+    let within = piece_within bits at n c.loop-at.invariant.within c.hear_bits-count.ensures.within in
     let none = is_none entry c.is_some.result c.is_some.ensures c.if-is_some.false in
     fed_on content c.args.self.now c.loop-at.self c.finish-entry.new.self bits (take n rest) at n
     entry c.loop-at.invariant (piece_is bits at n) within done none
@@ -60,15 +60,15 @@ returns-then-eq-clause-stands g c start history log stands =
     let content = g.M.Recall.content in
     let bits = c.args.bits.now in
     let at = c.loop-at.at in
-    let n = c.hear-count.result.0 in
+    let n = c.hear_bits-count.result.0 in
     let rest : List Bool = take (length bits - at) (drop at bits) in
-    let nothing : c.hear-count.result.1 ≡ Nothing = search rules in
-    let none = prints_none content c.loop-at.self rest n c.hear-count.ensures.within
-    c.hear-count.ensures.first in
-    let done = none_finished content c.loop-at.self c.hear-count.new.self (take n rest)
-    c.hear-count.result.1 nothing
-    (λ start history log s. c.hear-count.ensures.stands start history log s) none in
-    fed_to content c.args.self.now c.loop-at.self c.hear-count.new.self bits (take n rest) at n None
+    let nothing : c.hear_bits-count.result.1 ≡ Nothing = search rules in
+    let none = prints_none content c.loop-at.self rest n c.hear_bits-count.ensures.within
+    c.hear_bits-count.ensures.first in
+    let done = none_finished content c.loop-at.self c.hear_bits-count.new.self (take n rest)
+    c.hear_bits-count.result.1 nothing
+    (λ start history log s. c.hear_bits-count.ensures.stands start history log s) none in
+    fed_to content c.args.self.now c.loop-at.self c.hear_bits-count.new.self bits (take n rest) at n None
     c.loop-at.invariant (piece_is bits at n) done start history log stands
 
 pub returns-then-eq-clause-first : goal.returns-then-eq-clause-first
@@ -76,10 +76,10 @@ returns-then-eq-clause-first g c start history log stands k lt =
     let content = g.M.Recall.content in
     let bits = c.args.bits.now in
     let at = c.loop-at.at in
-    let n = c.hear-count.result.0 in
+    let n = c.hear_bits-count.result.0 in
     let rest : List Bool = take (length bits - at) (drop at bits) in
-    let none = prints_none content c.loop-at.self rest n c.hear-count.ensures.within
-    c.hear-count.ensures.first in
-    let within = piece_within bits at n c.loop-at.invariant.within c.hear-count.ensures.within in
+    let none = prints_none content c.loop-at.self rest n c.hear_bits-count.ensures.within
+    c.hear_bits-count.ensures.first in
+    let within = piece_within bits at n c.loop-at.invariant.within c.hear_bits-count.ensures.within in
     fed_before content c.args.self.now c.loop-at.self bits (take n rest) at n c.loop-at.invariant
     (piece_is bits at n) within none start history log stands k lt

@@ -1,21 +1,28 @@
-use Rattle.std.proofs.Common.{◌∙◌, ap, subst}
+use Rattle.std.proofs.Common.{◌≡◌, ◌∙◌, ℕ, ap, length, subst}
+use Rattle.nx_code.specs.Word.{elements}
+use Rattle.nx_code.proofs.PackedLemmas.{length-elements_from}
 use Rattle.nx_receiver.specs.private.Watch.{HearsBits, WatchStands}
 use Rattle.nx_receiver.specs.Watching.{in_force}
 use Rattle.nx_receiver.proofs.watching.Hears.{word_heard, force_on}
 use Rattle.nx_receiver.proofs.watch.Watch.hear_word.Goals as goal
 
+length-word : (word : ℕ) → length (elements word) ≡ 7
+unfolding elements
+length-word word = length-elements_from 7 word
+
 pub returns-clause-hears : goal.returns-clause-hears
 returns-clause-hears c = record {
   hears = λ first h s copies.
       subst (λ w. WatchStands first w h s copies
-      → HearsBits first w c.read.new.self h s copies c.args.bits.now c.read.result)
+      → HearsBits first w c.read.new.self h s copies (elements c.args.word) c.read.result)
       c.self.view_is
-      (λ stands. word_heard first _ c.read.new.self c.push_word-step.new.self c.args.bits.now h s
-      copies c.push_word-step.result c.read.result (c.told-bits)
-      (c.push_word-step.ensures.stands h stands.synchroniser)
-      (c.push_word-step.ensures.step h stands.synchroniser) c.read.ensures.step stands);
+      (λ stands. word_heard first _ c.read.new.self c.push_whole-step.new.self
+      (elements c.args.word) h s copies c.push_whole-step.result c.read.result
+      (length-word c.args.word)
+      (c.push_whole-step.ensures.stands h stands.synchroniser)
+      (c.push_whole-step.ensures.step h stands.synchroniser) c.read.ensures.step stands);
 }
 
 pub returns-clause-force : goal.returns-clause-force
-returns-clause-force c = force_on _ c.read.new.self c.push_word-step.result c.read.result
+returns-clause-force c = force_on _ c.read.new.self c.push_whole-step.result c.read.result
     c.read.ensures.step ∙ ap in_force c.self.view_is

@@ -1,12 +1,12 @@
-use Rattle.std.proofs.Common.{◌-◌, length}
+use Rattle.std.proofs.Common.{◌-◌, drop, length}
 use Rattle.std.specs.Prelude.{IsTrue}
 use Rattle.nx_sync.specs.Synchroniser.{is_between_words}
 use Rattle.nx_receiver.proofs.watching.Loops.{Goes}
 use Rattle.nx_receiver.proofs.watch.Watch.hear_words.Given as goal
 
-abbrev pub invariant-loop-word : goal.invariant-loop-word
-invariant-loop-word l = Goes l.fn.self l.self l.bits l.at
+abbrev pub invariant-loop-heard : goal.invariant-loop-heard
+invariant-loop-heard l = Goes l.fn.self l.self (drop l.from l.packed) l.heard
     × IsTrue (is_between_words l.self.synchroniser)
 
-abbrev pub decreases-loop-word : goal.decreases-loop-word
-decreases-loop-word l = length l.bits - l.at
+abbrev pub decreases-loop-heard : goal.decreases-loop-heard
+decreases-loop-heard l = length l.packed - l.from - l.heard

@@ -1,34 +1,56 @@
-use Rattle.std.proofs.Common.{◌+◌, ◌<◌, [], ◌∷◌, false, get_or, take, length, arith, subst}
+use Rattle.std.proofs.Common.{◌≡◌, ◌+◌, ◌-◌, ◌++◌, ◌∙◌, ◌≤◌, [], ◌∷◌, List, Bool, ap, arith, drop, length, length-drop, subst, take}
+use Rattle.nx_code.specs.Packed.{packed_part}
+use Rattle.nx_sync.specs.Steps.{HuntsThrough}
+use Rattle.nx_sync.specs.Synchroniser.{StandsAfter}
 use Rattle.nx_receiver.specs.private.Watch.{HearsAll}
 use Rattle.nx_receiver.specs.Watching.{Watching}
 use Rattle.nx_receiver.specs.declared.over.Over.TheVariants.{Nothing}
-use Rattle.nx_receiver.proofs.watching.Loops.{goes_to, hunt_goes, one_is}
+use Rattle.nx_receiver.proofs.watching.Loops.{goes_to, hunt_goes}
+use Rattle.nx_receiver.proofs.watching.Packed.{all_is, behind}
 use Rattle.nx_receiver.proofs.watch.Watch.hunt.Goals as goal
 
-pub returns-then-count-bits-clause-hears : goal.returns-then-count-bits-clause-hears
-returns-then-count-bits-clause-hears c =
-    let hunt = c.hunt-count.ensures in
-    let bits = c.args.bits.now in
-    let n = c.hunt-count.result in
+pub returns-then-count-left-clause-hears : goal.returns-then-count-left-clause-hears
+returns-then-count-left-clause-hears c =
+    let hunt = c.hunt_packed-count.ensures in
+    let all = c.args.packed.now in
+    let from = c.args.from in
+    let bits : List Bool = drop from all in
+    let n = c.hunt_packed-count.result in
+    let same : packed_part c.words.result.now from (c.len.result - from) ≡ bits =
+    ap (λ m. packed_part c.words.result.now from (m - from)) c.len.ensures.count
+    ∙ all_is all c.words.result.now from c.words.ensures.elements (omega arith) in
+    let within : n ≤ length bits =
+    omega (arith, hunt.within, length-drop from all, c.len.ensures.count) in
     let new : Watching = record {
-      synchroniser = c.hunt-count.new.self;
+      synchroniser = c.hunt_packed-count.new.self;
       reader = c.self.inside.reader;
-      refused =
-          c.self.inside.selection;
+      refused = c.self.inside.selection;
       moment = c.self.inside.moment;
       tag = c.self.inside.tag;
     } in
     subst (λ w. HearsAll w new (take n bits) Nothing) c.self.view_is
-    (hunt_goes _ c.hunt-count.new.self bits n hunt.within hunt.stands hunt.pushes).heard
+    (hunt_goes _ c.hunt_packed-count.new.self bits n within
+    (λ h st. subst (λ l. StandsAfter c.hunt_packed-count.new.self (h ++ take n l)) same
+    (hunt.stands h st))
+    (λ h st. subst (λ l. HuntsThrough h l n) same (hunt.pushes h st))).heard
 
 pub returns-clause-hears : goal.returns-clause-hears
 returns-clause-hears c =
-    let hunt = c.hunt-count.ensures in
-    let bits = c.args.bits.now in
-    let n = c.hunt-count.result in
-    let short : n < length bits = omega arith in
+    let hunt = c.hunt_packed-count.ensures in
+    let all = c.args.packed.now in
+    let from = c.args.from in
+    let bits : List Bool = drop from all in
+    let n = c.hunt_packed-count.result in
+    let same : packed_part c.words.result.now from (c.len.result - from) ≡ bits =
+    ap (λ m. packed_part c.words.result.now from (m - from)) c.len.ensures.count
+    ∙ all_is all c.words.result.now from c.words.ensures.elements (omega arith) in
+    let within : n ≤ length bits =
+    omega (arith, hunt.within, length-drop from all, c.len.ensures.count) in
     subst (λ w. HearsAll w c.hear_element.new.self (take (n + 1) bits) c.hear_element.result)
     c.self.view_is
-    (goes_to _ _ c.hear_element.new.self bits (get_or bits n false ∷ []) n 1 c.hear_element.result
-    (hunt_goes _ c.hunt-count.new.self bits n hunt.within hunt.stands hunt.pushes)
-    (one_is bits n short) c.hear_element.ensures.hears)
+    (goes_to _ _ c.hear_element.new.self bits (c.element.result ∷ []) n 1 c.hear_element.result
+    (hunt_goes _ c.hunt_packed-count.new.self bits n within
+    (λ h st. subst (λ l. StandsAfter c.hunt_packed-count.new.self (h ++ take n l)) same
+    (hunt.stands h st))
+    (λ h st. subst (λ l. HuntsThrough h l n) same (hunt.pushes h st)))
+    (c.element.ensures ∙ behind all from n 1) c.hear_element.ensures.hears)

@@ -1,5 +1,5 @@
-use Rattle.std.proofs.Common.{sym, subst, ap, ◌≡◌, ◌∙◌, None}
-use Rattle.nx_envelope.specs.Finder.{held_identity}
+use Rattle.std.proofs.Common.{sym, subst, ap, ◌≡◌, ◌∙◌, false}
+use Rattle.nx_receiver.specs.private.LockReader.{is_open}
 use Rattle.nx_receiver.specs.private.Watch.{LockIsOver}
 use Rattle.nx_receiver.proofs.watching.Takes.{lock_ended_none}
 use Rattle.nx_receiver.proofs.watch.Watch.restart.Goals as goal
@@ -7,8 +7,8 @@ use Rattle.nx_receiver.proofs.watch.Watch.restart.Goals as goal
 pub returns-clause-lock : goal.returns-clause-lock
 returns-clause-lock c first h s copies over none =
     let before = subst (λ w. LockIsOver first w h s copies) (sym c.self.view_is) over in
-    let still : held_identity c.self.inside.reader.finder.copy ≡ None =
-    ap (λ w. held_identity w.reader.finder.copy) c.self.view_is ∙ none in
+    let still : is_open c.self.inside.reader.finder.copy ≡ false =
+    ap (λ w. is_open w.reader.finder.copy) c.self.view_is ∙ none in
     lock_ended_none first _ c.restart.new.self h s copies
     (record { fresh = c.restart.ensures.as_new })
     (λ role words n reads. c.restart.ensures.none role words n reads still) before

@@ -1,5 +1,8 @@
-use Rattle.nx_station.proofs.ChannelExamples.{example_cut, example_received, example_sent, not_received}
+use Rattle.nx_station.proofs.ChannelExamples.{example_cut, example_received, example_sendable, example_sent, not_received}
 use Rattle.nx_station.proofs.laws.channel.an_example_is_received.Goals as goal
+
+pub returns-clause-sendable : goal.returns-clause-sendable
+returns-clause-sendable c = example_sendable
 
 pub returns-clause-received : goal.returns-clause-received
 returns-clause-received c = example_received

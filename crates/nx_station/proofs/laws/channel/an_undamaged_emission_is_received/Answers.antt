@@ -1,3 +1,4 @@
+use Rattle.nx_station.proofs.ChannelPositions.{all_tell}
 use Rattle.nx_station.proofs.ChannelUndamaged.{undamaged-cut, undamaged-received}
 use Rattle.nx_station.proofs.laws.channel.an_undamaged_emission_is_received.Goals as goal
 
@@ -6,3 +7,10 @@ returns-clause-passes c = undamaged-received
 
 pub returns-clause-cut : goal.returns-clause-cut
 returns-clause-cut c = undamaged-cut
+
+pub returns-clause-received : goal.returns-clause-received
+returns-clause-received c emission sendable spelled passes = record {
+  sound = sendable.sound;
+  told = all_tell emission.messages emission.spellings spelled;
+  passes = passes;
+}

@@ -1,4 +1,4 @@
-use Rattle.nx_sync.specs.Steps.{packed_part}
+use Rattle.nx_code.specs.Packed.{packed_part}
 use Rattle.nx_sync.proofs.Hunting.{hunted_stands, hunted_pushes, no_track}
 use Rattle.nx_sync.proofs.synchroniser.Synchroniser.hunt_packed.Goals as goal
 

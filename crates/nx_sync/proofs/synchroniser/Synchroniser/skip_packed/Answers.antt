@@ -1,6 +1,6 @@
 use Rattle.std.proofs.Common.{◌≡◌, ℕ, ◌+◌, ◌≤◌, List, Bool, length, take, drop, sym, ap, subst, ◌∙◌, arith}
 use Rattle.nx_code.specs.Word.{elements_from}
-use Rattle.nx_sync.specs.Steps.{packed_part}
+use Rattle.nx_code.specs.Packed.{packed_part}
 use Rattle.nx_sync.specs.private.Calls.{Skips}
 use Rattle.nx_sync.proofs.Hearing.{heard_all-none}
 use Rattle.nx_sync.proofs.Hunting.{part_held, part_quiet, part_stops}

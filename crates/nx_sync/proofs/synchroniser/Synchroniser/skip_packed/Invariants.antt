@@ -1,5 +1,5 @@
 use Rattle.std.proofs.Common.{ℕ, ◌≡◌, ◌+◌, ◌-◌, ◌<◌, ◌≤◌, take}
-use Rattle.nx_sync.specs.Steps.{packed_part}
+use Rattle.nx_code.specs.Packed.{packed_part}
 use Rattle.nx_sync.specs.private.Calls.{heard_all, IsQuiet}
 use Rattle.nx_sync.proofs.synchroniser.Synchroniser.skip_packed.Given as goal
 

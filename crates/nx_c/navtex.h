@@ -1,0 +1,120 @@
+/* The calls of the NAVTEX station and receiver for C, and for what calls C: libnx_c.a has them.
+ *
+ * Each works on bytes in memory alone: no file, no clock, nothing kept between two calls, and every
+ * block of memory that it takes given back before it returns. What each answers is proved, in
+ * crates/nx_c/src; that this header says the same as the library is not, and no C compiler sees it.
+ *
+ * What a caller owes, and nothing checks:
+ *  - Behind each pointer to bytes as many lie as the length after it says, readable, and writable
+ *    where the pointer is to no const; no pointer is NULL, also where the length is 0; a length is
+ *    less than 2^63. What is written to may hold anything before the call.
+ *  - What a call writes to (bytes, lengths, the place) overlaps nothing else that it is given, and
+ *    no other thread touches it until the call returns. Calls at once in several threads are fine.
+ *  - malloc, realloc and free are those of one allocator, and align a block as C says. No call from
+ *    a signal handler, nor from the forked child of a process with threads.
+ *
+ * The library is linked with three functions that take memory from the C library, those of the
+ * toolchain (c/liblibc_c.a beside its guides) or of examples/c/heap.c.
+ *
+ * Bytes that are written go to the caller's room, `capacity` bytes: as many as there is room for, and
+ * what lies behind them stays. `written` is the length of all of them, those too for which there was
+ * no room; so a call with a capacity of 0 measures. A call that returns NX_DONE had room for all.
+ */
+#ifndef NAVTEX_H
+#define NAVTEX_H
+
+#include <stddef.h>
+#include <stdint.h>
+
+#ifdef __cplusplus
+extern "C" {
+#endif
+
+/* How a call ended. Behind each fault stands what nx_place has of it. */
+enum nx_status {
+    NX_DONE = 0,               /* all succeeded, and the room held all that was written */
+    NX_NO_ROOM = 1,            /* all succeeded, but `written` is greater than the capacity */
+    NX_READ = 2,               /* a read failed: bytes in memory never do, but no proof says so */
+    NX_WRITE = 3,              /* no memory for what is written */
+    NX_MEMORY = 4,             /* no memory for the run */
+    NX_FILE_TOO_LONG = 5,      /* more than 1,048,576 bytes */
+    NX_AIR_TOO_LONG = 6,       /* nx_listen, nx_resume: more than 268,435,456 bytes */
+    NX_LINE_LONG = 7,          /* line: it has more than 514 bytes */
+    NX_LINE_CUT = 8,           /* line: it has no end */
+    NX_BAD_LINE = 9,           /* line: it is not understood */
+    NX_NO_MOMENT = 10,         /* line: it has elements, and there was no moment yet */
+    NX_MOMENT_RANGE = 11,      /* line; at: its moment, which is past the year 2999 */
+    NX_MOMENT_BACK = 12,       /* line; at: its moment, which is before the last one */
+    NX_VITAL = 13,             /* line; at: its subject, which can't be refused */
+    NX_STATE_LINE = 14,        /* line of the state: it is not understood */
+    NX_STATE_CUT = 15,         /* line of the state: it has no end */
+    NX_STATE_NO_ROOM = 16,     /* nx_resume: all done, but for room for all of the new state */
+    NX_RAGGED = 17,            /* at: how many elements there are, which are no whole words */
+    NX_NO_SUCH_CHARACTER = 18, /* at: the place, from 0, of a character that has no signal */
+    NX_LONG_LINE = 19,         /* line of #, text_line: it has more than 69 characters */
+    NX_BAD_CHARACTER = 20,     /* line of #, text_line; at: its character that has no signal */
+    NX_RESERVED = 21,          /* line of #, text_line: it has ZCZC or NNNN */
+    NX_LONG_TEXT = 22,         /* line of #: its text has more than 4,096 characters */
+    NX_OPEN = 23,              /* line of #: the file ends inside the message */
+    NX_NO_MESSAGES = 24,       /* there is no message */
+    NX_MIXED_STATIONS = 25,    /* never of the calls below, where all messages are of one station */
+    NX_NO_SLOT = 26,           /* the station has no slot, or none any more */
+    NX_SLOT_FULL = 27,         /* at: how many positions there are, more than a slot's 4,286 */
+    NX_NO_STATION = 28,        /* the byte is no letter A to Z */
+    NX_WRONG_WORD = 29,        /* at: the slot of a word of the wrong weight */
+    NX_UNPAIRED = 30,          /* at: the position whose two words are no pair */
+    NX_BAD_ENVELOPE = 31       /* the words are no emission of this profile */
+};
+
+/* Where a fault stands. What the fault doesn't have is 0. */
+struct nx_place {
+    uint64_t line;      /* the line of the file, from 1 */
+    uint64_t text_line; /* the line of a message, from 1 behind the line of its # */
+    uint64_t at;        /* what the fault counts or names beside them */
+};
+
+/* Listens to an air file from nothing, and writes its log, as `navtex listen` does. After a fault
+ * the log of the whole lines before it is written, and `written` is its length. */
+uint32_t nx_listen(const uint8_t *air, size_t length, uint8_t *log, size_t capacity,
+                   size_t *written, struct nx_place *place);
+
+/* Listens to an air file, going on from a state, and writes its log, as `navtex resume` does, and
+ * the new state, as `navtex save` does. What lies behind the text in `state` isn't read: no air file
+ * belongs there. The new state is written only where all succeeded and the room for the log held all
+ * of it; else state_written is 0, and its room stays as it was. NX_STATE_NO_ROOM: state_written is
+ * greater than its capacity, and the log stands. The state of a beginning is "STATE 1\nEND\n". */
+uint32_t nx_resume(const uint8_t *state, size_t state_length, const uint8_t *air, size_t length,
+                   uint8_t *log, size_t capacity, size_t *written,
+                   uint8_t *new_state, size_t state_capacity, size_t *state_written,
+                   struct nx_place *place);
+
+/* Writes the air file by which a station, 'A' to 'X', sends the messages of a message file in its
+ * next slot from a moment on, in seconds since 1970-01-01 00:00:00 UTC, as `navtex send` does. After
+ * a fault but NX_WRITE nothing is written, by this call and each below. */
+uint32_t nx_send(uint8_t station, uint64_t moment, const uint8_t *messages, size_t length,
+                 uint8_t *air, size_t capacity, size_t *written, struct nx_place *place);
+
+/* Reads an air file strictly, as an emission, and writes its messages, as `navtex check` does. */
+uint32_t nx_check(const uint8_t *air, size_t length, uint8_t *text, size_t capacity,
+                  size_t *written, struct nx_place *place);
+
+/* Decodes the words of an air file, as `navtex decode` does. */
+uint32_t nx_decode(const uint8_t *air, size_t length, uint8_t *text, size_t capacity,
+                   size_t *written, struct nx_place *place);
+
+/* Writes a text as an air file, as `navtex encode` does. */
+uint32_t nx_encode(const uint8_t *text, size_t length, uint8_t *air, size_t capacity,
+                   size_t *written, struct nx_place *place);
+
+/* The signal of a word of seven elements, in which the element sent first has the least place and B
+ * is 1: 1 to 32 the combinations, 33 alpha, 34 beta, 35 repetition; 0 where it stands for none. */
+uint8_t nx_signal_of(uint8_t word);
+
+/* The moment at which the next slot of a station begins, from a moment on; UINT64_MAX: none. */
+uint64_t nx_slot(uint8_t station, uint64_t moment);
+
+#ifdef __cplusplus
+}
+#endif
+
+#endif

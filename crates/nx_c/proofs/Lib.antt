@@ -1,0 +1,2 @@
+mod SignalLemmas
+mod StateLemmas

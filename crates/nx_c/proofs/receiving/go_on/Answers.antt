@@ -1,0 +1,30 @@
+use Rattle.std.proofs.Common.{Ok, ap, sym, ◌∙◌}
+use Rattle.nx_receiver.proofs.once.Listen.{printed-once}
+use Rattle.nx_receiver.specs.Chain.{HasGoneOn}
+use Rattle.nx_receiver.specs.Listen.{AnswersListening}
+use Rattle.nx_receiver.specs.ListenOnce.{HasPrintedOnce}
+use Rattle.nx_receiver.specs.Shares.{starts_from}
+use Rattle.nx_c.proofs.StateLemmas.{moved}
+use Rattle.nx_c.proofs.receiving.go_on.Goals as goal
+
+pub returns-in-Ok-state_text : goal.returns-in-Ok-state_text
+returns-in-Ok-state_text c =
+    let old = ap (λ v. v.items) c.new-writer.ensures.inner ∙ c.new.ensures.items in
+    let new = ap (λ v. v.items) (sym c.into_inner-log.ensures) in
+    let read = ap (λ r. r.now) c.new-2.ensures.inner in
+    let starts = starts_from c.args.states.now in (
+      record {
+        answers = moved (λ a b air. AnswersListening starts (Unit {0}) (λ more. Unit {0}) a b
+            (Ok c.in-Ok.report) air) old new read c.in-Ok.ensures.listens.file;
+        memory = λ error e. cc;
+      },
+      record {
+        left = c.in-Ok.saved;
+        sound = c.state_text.ensures.sound;
+        gone = moved (λ a b air. HasGoneOn c.args.states.now a b air c.in-Ok.saved) old new read
+            c.in-Ok.ensures.left.file;
+        printed = moved (λ a b air. HasPrintedOnce starts a b air) old new read
+            (printed-once starts _ _ _ c.in-Ok.report c.in-Ok.ensures.listens.file.1);
+        spelled = c.in-Ok-state_text.ensures.text;
+      },
+    )

@@ -1,0 +1,26 @@
+use Rattle.std.proofs.Common.{Some, ap, sym, ◌∙◌, subst}
+use Rattle.nx_receiver.proofs.once.Listen.{printed-once}
+use Rattle.nx_receiver.specs.Listen.{AnswersListening}
+use Rattle.nx_receiver.specs.ListenOnce.{HasPrintedOnce}
+use Rattle.nx_receiver.specs.Shares.{all_at_zero}
+use Rattle.nx_c.proofs.StateLemmas.{moved}
+use Rattle.nx_c.proofs.receiving.nx_listen.Goals as goal
+use Rattle.nx_c.proofs.receiving.nx_listen.Goals.{in-Ok, in-Err}
+
+pub returns-clause-once : goal.returns-clause-once
+returns-clause-once c = λ zero.
+    let done = c.tell.ensures.done zero in
+    let old = ap (λ v. v.items) c.new-writer.ensures.inner ∙ c.new.ensures.items in
+    let new = ap (λ v. v.items) (sym c.into_inner.ensures)
+    ∙ sym (done.2 ∙ c.deref.ensures.value) in
+    let read = ap (λ r. r.now) c.new-2.ensures.inner in
+    elim c.match-listen.branch [
+      | in-Ok w ↦
+          let run = subst (λ o. AnswersListening all_at_zero (Unit {0}) (λ more. Unit {0})
+          (Some c.new-writer.result.inner.items) (Some c.listen.new.writer.inner.items) o
+          c.new-2.result.inner.now) w.in-Ok.is c.listen.ensures.listens.file in
+          moved (λ a b air. HasPrintedOnce all_at_zero a b air) old new read
+          (printed-once all_at_zero _ _ _ _ run.1)
+      | in-Err w ↦ absurd (w.listen_told-told.ensures.fails
+          (ap (λ t. t.status) (sym w.told-is) ∙ done.0))
+    ]

@@ -1,0 +1,4 @@
+pub mod Status
+pub mod Told
+pub mod Faults
+pub mod Calls

@@ -1,0 +1,71 @@
+-- What a call tells its caller, and what it puts into the caller's room (this profile).
+use Rattle.std.specs.Prelude.{◌≡◌, ℕ, nat_lt, if◌then◌else◌, List, ◌++◌, length, take, drop, min, Result, Ok, Err}
+use Rattle.nx_c.specs.Status.{number_of}
+use Rattle.nx_c.specs.declared.told.Place.{Place}
+use Rattle.nx_c.specs.declared.told.Status.{Status}
+use Rattle.nx_c.specs.declared.told.Status.TheVariants as status
+use Rattle.nx_c.specs.declared.told.Told.{Told}
+
+-- the caller's room for a text, before a call and after it, and what the call says of the text's
+-- length
+pub record Room : Type 0 where
+  pub old : List ℕ
+  pub new : List ℕ
+  pub written : ℕ
+
+abbrev pub room : List ℕ → List ℕ → ℕ → Room
+room old new written = record { old = old; new = new; written = written }
+
+-- The text was put into the room, as much of it as there is room for, and what stood behind it in
+-- the room stayed; its bytes are counted, those too for which there was no room.
+pub record IsPut (text : List ℕ) (r : Room) : Type 0 where
+  pub put : r.new
+      ≡ take (min (length text) (length r.old)) text
+      ++ drop (min (length text) (length r.old)) r.old
+  pub counted : r.written ≡ length text
+
+-- what a call answers beside what it puts into rooms
+pub record Answer : Type 0 where
+  pub status : ℕ
+  pub place : Place
+
+abbrev pub answer : ℕ → Place → Answer
+answer status place = record { status = status; place = place }
+
+-- this status, at this line, this line of a message and this number
+abbrev pub told_in : Status → ℕ → ℕ → ℕ → Told
+told_in status line text_line at =
+    record { status = status; place = record { line = line; text_line = text_line; at = at } }
+
+abbrev pub told_at : Status → ℕ → ℕ → Told
+told_at status line at = told_in status line 0 at
+
+abbrev pub told : Status → Told
+told status = told_at status 0 0
+
+-- a status, where a text of so many bytes is put into a room of so many: all is done, but for the
+-- room
+abbrev pub after_putting : ℕ → ℕ → Status → Status
+after_putting count capacity status.Done =
+    if nat_lt capacity count then status.NoRoom else status.Done
+after_putting count capacity other = other
+
+-- what a run tells that has a fault or none
+abbrev pub ended_told : {N F : Type 0} → (F → Told) → Result N F → Told
+ended_told told_of (Ok answer) = told status.Done
+ended_told told_of (Err fault) = told_of fault
+
+-- This was told, and this text was put into the caller's room.
+pub record IsTold (told : Told) (text : List ℕ) (r : Room) (a : Answer) : Type 0 where
+  pub put : IsPut text r
+  pub place : a.place ≡ told.place
+  pub status :
+      a.status ≡ number_of (after_putting (length text) (length r.old) told.status)
+
+-- A call over slices: a text and an outcome of which this holds were told so.
+pub record Tells {N F : Type 0} (IsRun : List ℕ → Result N F → Type 0) (told_of : F → Told)
+    (r : Room) (a : Answer) : Type 0 where
+  pub text : List ℕ
+  pub outcome : Result N F
+  pub is_run : IsRun text outcome
+  pub told : IsTold (ended_told told_of outcome) text r a

@@ -1,0 +1,71 @@
+//! Packed elements, taken out of their numbers, and their words. What runs for each number or word
+//! is inlined always, since a call would cost more than its few instructions.
+
+ghost use Rattle.std.specs.Prelude.{◌≡◌, ◌+◌, ◌*◌, ◌/◌, ◌%◌, ◌^◌, ◌<◌, ◌≤◌, length};
+ghost use Rattle.nx_code.specs.Word.{elements_from, elements_of_list};
+ghost use Rattle.nx_code.specs.Packed.{packed_elements, packed_part};
+
+use crate::words::{ELEMENTS, Word};
+
+/// How many elements a packed number has.
+const PACKED: usize = 64;
+
+/// How many words `words_of` answers (this project's own: as many whole words as a packed number has
+/// room for, less one).
+pub const WORDS_AT_ONCE: usize = 8;
+
+/// The elements from a place on, at most 56 of them, as a number with the first one in the least
+/// place.
+#[inline(always)]
+pub fn elements_at(numbers: &[u64], place: usize, count: usize) -> u64
+    requires some { 0 < count }
+    requires few { count ≤ 56 }
+    requires room { place + count ≤ packed_elements * length numbers.now }
+    ensures elements { elements_from count result ≡ packed_part numbers.now place count }
+    ensures within { result < 2 ^ count }
+{
+    let shift = place % PACKED;
+    let here = PACKED - shift;
+    let low = numbers[place / PACKED] >> shift;
+    if count <= here {
+        return low % (1 << count);
+    }
+    (low + (numbers[place / PACKED + 1] << here)) % (1 << count)
+}
+
+/// The word of seven elements, given as a number with the first one in the least place.
+#[inline(always)]
+pub fn packed_word(elements: u64) -> Word
+    requires { elements < 128 }
+    ensures { result ≡ elements }
+{
+    Word::at(elements as u8)
+}
+
+/// The eight words of 56 elements, given as a number with the first one in the least place, in the
+/// order of sending.
+#[inline(always)]
+pub fn words_of(elements: u64) -> [Word; WORDS_AT_ONCE]
+    requires { elements < 2 ^ 56 }
+    ensures { elements_of_list result ≡ elements_from 56 elements }
+{
+    [
+        word_in(elements, 0),
+        word_in(elements, 1),
+        word_in(elements, 2),
+        word_in(elements, 3),
+        word_in(elements, 4),
+        word_in(elements, 5),
+        word_in(elements, 6),
+        word_in(elements, 7),
+    ]
+}
+
+/// The word of this index among packed elements.
+#[inline(always)]
+fn word_in(elements: u64, index: usize) -> Word
+    requires { index < 8 }
+    ensures { result ≡ elements / 2 ^ (7 * index) % 128 }
+{
+    packed_word((elements >> (ELEMENTS * index)) % 128)
+}

@@ -1,0 +1,39 @@
+-- Four of eight bytes, as numbers with the oldest byte lowest.
+use Rattle.std.specs.Prelude.{◌≡◌, ℕ, ◌*◌, ◌^◌, ◌/◌, ◌%◌, ◌<◌, List, [], ◌∷◌, None}
+use Rattle.std.specs.Int.{from_le_bytes, w32}
+use Rattle.nx_envelope.specs.private.Backward.{last_four, marker_back}
+
+-- the four of eight bytes that stand behind so many of them
+abbrev pub window : ℕ → ℕ → ℕ
+window eight count = eight / 2 ^ (8 * count) % 2 ^ 32
+
+-- a text that ends with these four of the eight ends with no marker
+abbrev pub IsUnmarked : ℕ → ℕ → Type 0
+IsUnmarked eight count = (back : List ℕ) → window eight count ≡ from_le_bytes w32 (last_four back)
+    → marker_back back ≡ None
+
+-- four bytes, and each is one
+pub record Four (bytes : List ℕ) : Type 0 where
+  pub first : ℕ
+  pub second : ℕ
+  pub third : ℕ
+  pub last : ℕ
+  pub spelled : bytes ≡ first ∷ second ∷ third ∷ last ∷ []
+  pub first_fits : first < 256
+  pub second_fits : second < 256
+  pub third_fits : third < 256
+  pub last_fits : last < 256
+
+-- the number is that of the last four bytes of a text, read from its back, and of the four that
+-- come next: those that stand behind so many of the eight are the last four of the text so much later
+pub record IsEight (eight : ℕ) (back bytes : List ℕ) : Type 0 where
+  pub old : Four (last_four back)
+  pub new : Four bytes
+  pub none : window eight 0 ≡ from_le_bytes w32 (last_four back)
+  pub one : window eight 1 ≡ from_le_bytes w32 (last_four (new.first ∷ back))
+  pub two : window eight 2 ≡ from_le_bytes w32 (last_four (new.second ∷ new.first ∷ back))
+  pub three :
+      window eight 3 ≡ from_le_bytes w32 (last_four (new.third ∷ new.second ∷ new.first ∷ back))
+  pub four :
+      window eight 4
+      ≡ from_le_bytes w32 (last_four (new.last ∷ new.third ∷ new.second ∷ new.first ∷ back))

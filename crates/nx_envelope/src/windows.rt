@@ -1,0 +1,50 @@
+//! Four bytes of a text at once: whether a marker ends among them.
+
+ghost use Rattle.std.specs.Prelude.{◌≡◌, ◌+◌, ◌*◌, ◌^◌, ◌/◌, ◌%◌, ◌≤◌, ℕ, List, None, false};
+ghost use Rattle.std.specs.Int.{from_le_bytes, w32};
+ghost use Rattle.nx_envelope.specs.private.Backward.{last_four, marker_back};
+ghost use Rattle.nx_envelope.specs.private.Windows.{IsEight, IsUnmarked, window};
+
+use crate::message::{END_MARKER, START_MARKER};
+
+/// The last four bytes of a text and the four that come next, as a number with the oldest byte
+/// lowest.
+// Inlined always, as what follows: they run for each four bytes of a text.
+#[inline(always)]
+pub(crate) fn eight_of(recent: [u8; 4], bytes: [u8; 4]) -> u64
+    ensures { (back : List ℕ) → recent ≡ last_four back → IsEight result back bytes }
+{
+    u64::from(u32::from_le_bytes(recent)) + (u64::from(u32::from_le_bytes(bytes)) << 32)
+}
+
+/// The four of eight bytes that stand behind so many of them.
+#[inline(always)]
+pub(crate) fn four_behind(eight: u64, count: usize) -> u32
+    requires { count ≤ 4 }
+    ensures { result ≡ window eight count }
+{
+    ((eight >> (8 * count)) % (1 << 32)) as u32
+}
+
+/// Whether a marker ends with one of the last four of eight bytes.
+#[inline(always)]
+pub(crate) fn ends_marker(eight: u64) -> bool
+    ensures one { result ≡ false → IsUnmarked eight 1 }
+    ensures two { result ≡ false → IsUnmarked eight 2 }
+    ensures three { result ≡ false → IsUnmarked eight 3 }
+    ensures four { result ≡ false → IsUnmarked eight 4 }
+{
+    is_marker(four_behind(eight, 1))
+        | is_marker(four_behind(eight, 2))
+        | is_marker(four_behind(eight, 3))
+        | is_marker(four_behind(eight, 4))
+}
+
+/// Whether four bytes are a marker.
+#[inline(always)]
+fn is_marker(four: u32) -> bool
+    ensures { result ≡ false → (back : List ℕ) → four ≡ from_le_bytes w32 (last_four back)
+        → marker_back back ≡ None }
+{
+    (four == u32::from_le_bytes(END_MARKER)) | (four == u32::from_le_bytes(START_MARKER))
+}

@@ -1,0 +1,8 @@
+use Rattle.std.proofs.Common.{ap, ◌∙◌, is_some}
+use Rattle.nx_receiver.proofs.locks.ReaderWords.{held_ready}
+use Rattle.nx_receiver.proofs.lock_reader.LockReader.close.Goals as goal
+
+pub returns-clause-ready : goal.returns-clause-ready
+returns-clause-ready c =
+    c.is_some.ensures ∙ ap is_some c.identity.ensures
+    ∙ held_ready c.close.new.self.copy c.close.new.self.text c.close.ensures.as_new.copy

@@ -1,0 +1,26 @@
+use Rattle.std.proofs.Common.{sym, subst, ◌∙◌}
+use Rattle.nx_receiver.specs.Watching.{Watching}
+use Rattle.nx_receiver.specs.private.Watch.{IsOver, LockIsOver}
+use Rattle.nx_receiver.proofs.watching.Takes.{closed_over, lock_closed}
+use Rattle.nx_receiver.proofs.watch.Watch.close_text.Goals as goal
+
+pub returns-clause-lock : goal.returns-clause-lock
+returns-clause-lock c first h s copies over =
+    let reader = c.close-is_copy_over.new.self in
+    let watch : Watching = record {
+      synchroniser = c.self.inside.synchroniser;
+      reader = reader;
+      refused = c.self.inside.selection;
+      moment = c.self.inside.moment;
+      tag = c.self.inside.tag;
+    } in
+    subst (λ o. IsOver first watch h s copies o)
+    (sym c.of.ensures)
+    (lock_closed first _ reader h s copies c.close-is_copy_over.result
+    (record { fresh = c.close-is_copy_over.ensures.as_new }) c.close-is_copy_over.ensures.closes
+    (sym c.close-is_copy_over.ensures.ready)
+    (subst (λ w. LockIsOver first w h s copies) (sym c.self.view_is) over))
+
+pub returns-clause-closed : goal.returns-clause-closed
+returns-clause-closed c is =
+    closed_over c.close-is_copy_over.result (sym c.of.ensures ∙ is)

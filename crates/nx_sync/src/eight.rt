@@ -1,0 +1,71 @@
+//! Eight words at once: what a lock asks of them. Inlined always, since the answers would go
+//! through memory otherwise.
+
+ghost use Rattle.std.specs.Prelude.{◌≡◌, ℕ, ◌^◌, ◌<◌, slice_index};
+ghost use Rattle.nx_sync.specs.Locks.{pattern_elements};
+ghost use Rattle.nx_sync.specs.Synchroniser as held;
+ghost use Rattle.nx_sync.specs.private.Eight as spec;
+
+use crate::track::PHASING_1;
+use nx_code::{Word, check_bits};
+
+/// How many words are heard at once: an even number, so that the roles stay in step.
+pub(crate) const EIGHT: usize = 8;
+
+/// The numbers of eight words.
+#[inline(always)]
+pub(crate) fn numbers(words: &[Word; EIGHT]) -> [u8; EIGHT]
+    ensures value { result ≡ words.now }
+    ensures small { (k : ℕ) → k < 8 → slice_index result k < 128 }
+{
+    [
+        words[0].number(),
+        words[1].number(),
+        words[2].number(),
+        words[3].number(),
+        words[4].number(),
+        words[5].number(),
+        words[6].number(),
+        words[7].number(),
+    ]
+}
+
+/// Whether the first of eight words, or each second one after it, is phasing signal 1.
+#[inline(always)]
+pub(crate) fn has_dx_phasing_1(numbers: &[u8; EIGHT]) -> bool
+    ensures { result ≡ held.has_dx_phasing_1 numbers.now }
+{
+    (numbers[0] == PHASING_1)
+        | (numbers[2] == PHASING_1)
+        | (numbers[4] == PHASING_1)
+        | (numbers[6] == PHASING_1)
+}
+
+/// Whether any of eight words has the wrong weight.
+#[inline(always)]
+pub(crate) fn has_wrong(words: &[Word; EIGHT]) -> bool
+    ensures { result ≡ spec.has_wrong words.now }
+{
+    let first_half = check_bits(words[0])
+        & check_bits(words[1])
+        & check_bits(words[2])
+        & check_bits(words[3]);
+    let second_half = check_bits(words[4])
+        & check_bits(words[5])
+        & check_bits(words[6])
+        & check_bits(words[7]);
+    !(first_half & second_half)
+}
+
+/// The window after eight words, of which it has the last four.
+#[inline(always)]
+pub(crate) fn window_after_eight(numbers: &[u8; EIGHT]) -> u32
+    requires { (k : ℕ) → k < 8 → slice_index numbers.now k < 128 }
+    ensures value { result ≡ spec.last_four numbers.now }
+    ensures within { result < 2 ^ pattern_elements }
+{
+    u32::from(numbers[4])
+        + (u32::from(numbers[5]) << 7)
+        + (u32::from(numbers[6]) << 14)
+        + (u32::from(numbers[7]) << 21)
+}
