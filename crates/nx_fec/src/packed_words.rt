@@ -1,10 +1,10 @@
-//! The elements of packed ones at a place, and the words that begin there. What runs for each word is inlined always.
+//! The element of packed ones at a place, and the word that begins there. What runs for each word is inlined always.
 
 ghost use Rattle.std.specs.Prelude.{◌≡◌, ◌+◌, ◌<◌, ◌≤◌, [], ◌∷◌, drop, length, take};
-ghost use Rattle.nx_code.specs.Word.{elements, elements_of_list};
+ghost use Rattle.nx_code.specs.Word.{elements};
 
 use crate::packed::PackedElements;
-use nx_code::{ELEMENTS, WORDS_AT_ONCE, Word, elements_at, packed_word, words_of};
+use nx_code::{ELEMENTS, Word, elements_at, packed_word};
 
 impl PackedElements {
     /// The element at a place, which is there.
@@ -23,14 +23,5 @@ impl PackedElements {
         ensures { elements result ≡ take 7 (drop place self.now) }
     {
         packed_word(elements_at(self.words(), place, ELEMENTS))
-    }
-
-    /// The eight words of the 56 elements from a place on, which are there.
-    #[inline(always)]
-    pub fn eight_words_at(&self, place: usize) -> [Word; WORDS_AT_ONCE]
-        requires { place + 56 ≤ length self.now }
-        ensures { elements_of_list result ≡ take 56 (drop place self.now) }
-    {
-        words_of(elements_at(self.words(), place, WORDS_AT_ONCE * ELEMENTS))
     }
 }
