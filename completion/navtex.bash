@@ -2,7 +2,7 @@
 _navtex() {
     local word=${COMP_WORDS[COMP_CWORD]}
     case $COMP_CWORD in
-        1) COMPREPLY=($(compgen -W 'listen resume save locks send decode encode show check damage code slots --help --version' -- "$word")) ;;
+        1) COMPREPLY=($(compgen -W 'listen send resume save locks slots check damage decode encode show code --help --version' -- "$word")) ;;
         2) case ${COMP_WORDS[1]} in
                send | slots) COMPREPLY=($(compgen -W 'A B C D E F G H I J K L M N O P Q R S T U V W X --help' -- "$word")) ;;
                damage) COMPREPLY=($(compgen -W 'dx rx all --help' -- "$word")) ;;

@@ -23,9 +23,8 @@ Entry = Text × Maker
 
 abbrev pub entries : List Entry
 entries =
-    (codes "listen", plain Listen) ∷ (codes "resume", plain Resume) ∷ (codes "save", plain Save)
-    ∷ (codes "locks", plain Locks)
-    ∷ (codes "send", slot (λ s m. Send s m))
+    (codes "listen", plain Listen) ∷ (codes "send", slot (λ s m. Send s m))
+    ∷ (codes "resume", plain Resume) ∷ (codes "save", plain Save) ∷ (codes "locks", plain Locks)
     ∷ (codes "slots", slot (λ s m. Slots s m))
     ∷ (codes "check", plain Check) ∷ (codes "damage", range (λ k f c. Damage k f c))
     ∷ (codes "decode", plain Decode)

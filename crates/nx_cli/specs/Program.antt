@@ -11,7 +11,7 @@ use Rattle.nx_fec.specs.Runs.{Decodes, Encodes, Shows}
 use Rattle.nx_fec.specs.TableText.{table_text}
 use Rattle.nx_locks.specs.Run.{ShowsLocks}
 use Rattle.nx_receiver.specs.Shares.{all_at_zero}
-use Rattle.nx_receiver.specs.Listen.{Listens}
+use Rattle.nx_receiver.specs.ListenFrom.{ListensBy}
 use Rattle.nx_receiver.specs.Resume.{Resumes}
 use Rattle.nx_receiver.specs.declared.resume_fault.Want.TheVariants.{Log, State}
 use Rattle.nx_station.specs.Checking.{Checks}
@@ -99,7 +99,7 @@ Performs Code d outcome =
     (WritesText (λ text. text ≡ table_text) d.contents d.writer d.writer_after) outcome
 Performs Show d outcome = Tells (λ why. call.Run why) (Shows d) outcome
 Performs Check d outcome = Tells (λ why. call.Check why) (Checks d) outcome
-Performs Listen d outcome = Tells (λ why. call.Listen why) (Listens all_at_zero d) outcome
+Performs Listen d outcome = Tells (λ why. call.Listen why) (ListensBy all_at_zero d) outcome
 Performs Resume d outcome = Tells (λ why. call.Resume why) (Resumes Log d) outcome
 Performs Save d outcome = Tells (λ why. call.Resume why) (Resumes State d) outcome
 Performs Locks d outcome = Tells (λ why. call.Listen why) (ShowsLocks d) outcome

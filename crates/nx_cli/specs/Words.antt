@@ -74,8 +74,8 @@ bare_tree = on_top (λ s. record s {
 -- the commands of the program, in the order in which help lists them
 abbrev pub commands : List App
 commands =
-    plain_tree (codes "listen") ∷ plain_tree (codes "resume") ∷ plain_tree (codes "save")
-    ∷ plain_tree (codes "locks") ∷ slot_tree (codes "send") ∷ slot_tree (codes "slots")
+    plain_tree (codes "listen") ∷ slot_tree (codes "send") ∷ plain_tree (codes "resume")
+    ∷ plain_tree (codes "save") ∷ plain_tree (codes "locks") ∷ slot_tree (codes "slots")
     ∷ plain_tree (codes "check") ∷ damage_tree (codes "damage") ∷ plain_tree (codes "decode")
     ∷ plain_tree (codes "encode") ∷ plain_tree (codes "show") ∷ plain_tree (codes "code") ∷ []
 

@@ -590,10 +590,10 @@ pub fn navtex_command<'a>(alloc: Global) -> Result<Command<'a>, AllocError>
 {
     bare_command(alloc)?
         .subcommand(listen_command(alloc))?
+        .subcommand(send_command(alloc)?)?
         .subcommand(resume_command(alloc))?
         .subcommand(save_command(alloc))?
         .subcommand(locks_command(alloc))?
-        .subcommand(send_command(alloc)?)?
         .subcommand(slots_command(alloc)?)?
         .subcommand(check_command(alloc))?
         .subcommand(damage_command(alloc)?)?

@@ -27,7 +27,7 @@ unfolding elements_from
 length-elements_from zero x = refl
 length-elements_from (suc n) x = omega (arith, length-elements_from n (x / 2))
 
-value_of-odd : (x : ℕ) → value_of (x % 2 == 1) ≡ x % 2
+pub value_of-odd : (x : ℕ) → value_of (x % 2 == 1) ≡ x % 2
 value_of-odd x = elim (cases_eq (x % 2) 1) [
   | inl one ↦ rw one refl
   | inr other ↦ rw (ne_eqb (x % 2) 1 other) (omega arith)

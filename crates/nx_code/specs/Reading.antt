@@ -25,10 +25,8 @@ character_of_cell cell = None
 -- row
 unfoldable pub character_of : ℕ → Shift → Option ℕ
 character_of number shift =
-    if number == 28
-    then Some 10
-    else (if number == 31
-    then Some 32
+    if number == 28 then Some 10
+    else (if number == 31 then Some 32
     else option_and_then (λ row. character_of_cell (cell shift row)) (row_of number))
 
 -- the asterisk, which a lost position prints
@@ -44,9 +42,7 @@ byte_of lost shift = Some asterisk
 -- the shift that a position sets: letters for combination 29, figures for 30
 abbrev pub shift_set : Reception → Option Shift
 shift_set (combination number) =
-    if number == 29
-    then Some Letters
-    else (if number == 30 then Some Figures else None)
+    if number == 29 then Some Letters else (if number == 30 then Some Figures else None)
 shift_set position = None
 
 -- the shift in force after a position

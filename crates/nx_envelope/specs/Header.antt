@@ -80,11 +80,11 @@ nearest_identity bytes = record {
   two_digits = min-le_left 99 ((slice_index bytes 2 - 48) * 10 + (slice_index bytes 3 - 48));
 }
 
--- the identity where a text is a header: ZCZC, one or more spaces and the identity
+-- the identity where a text is a header: ZCZC, one or more spaces (32) and the identity
 unfoldable pub read_header : List ℕ → Option Identity
 read_header text =
     let identity = nearest_identity (last_of 4 text) in
-    let spaces = replicate (length text - 8) space in
+    let spaces = replicate (length text - 8) 32 in
     if bytes_eq text (start_marker ++ spaces ++ identity_bytes identity) && nat_le 9 (length text)
     then Some identity
     else None

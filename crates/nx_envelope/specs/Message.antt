@@ -20,7 +20,7 @@ HasReservedWord line = HoldsWord start_marker line ⊎ HoldsWord end_marker line
 pub record IsMessageLine (line : List ℕ) : Type 0 where
   pub fits : length line ≤ 69
   pub in_code : All IsLineByte line
-  pub unreserved : ¬ HasReservedWord line
+  pub unreserved : ¬ (HoldsWord start_marker line ⊎ HoldsWord end_marker line)
 
 -- the text of a message: its lines, each followed by a newline
 abbrev pub text_of : List (List ℕ) → List ℕ

@@ -34,10 +34,26 @@ pub(crate) fn ends_marker(eight: u64) -> bool
     ensures three { result ≡ false → IsUnmarked eight 3 }
     ensures four { result ≡ false → IsUnmarked eight 4 }
 {
+    if !may_end_marker(eight) {
+        return false;
+    }
     is_marker(four_behind(eight, 1))
         | is_marker(four_behind(eight, 2))
         | is_marker(four_behind(eight, 3))
         | is_marker(four_behind(eight, 4))
+}
+
+/// Whether the first of the last four of eight bytes is in a marker: each marker that ends with one
+/// of these four has it.
+#[inline(always)]
+fn may_end_marker(eight: u64) -> bool
+    ensures one { result ≡ false → IsUnmarked eight 1 }
+    ensures two { result ≡ false → IsUnmarked eight 2 }
+    ensures three { result ≡ false → IsUnmarked eight 3 }
+    ensures four { result ≡ false → IsUnmarked eight 4 }
+{
+    let byte = (eight >> 32) % (1 << 8);
+    (byte == u64::from(b'N')) | (byte == u64::from(b'Z')) | (byte == u64::from(b'C'))
 }
 
 /// Whether four bytes are a marker.

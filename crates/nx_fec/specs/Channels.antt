@@ -1,5 +1,5 @@
 -- The channels of an air file: three frequencies that a receiver hears at once (this profile).
-use Rattle.std.specs.Prelude.{ℕ, ◌==◌, Bool, Option, Some, None}
+use Rattle.std.specs.Prelude.{ℕ, ◌==◌, Bool, Option, unwrap_or}
 use Rattle.nx_fec.specs.declared.channel.Channel.{Channel}
 use Rattle.nx_fec.specs.declared.channel.Channel.TheVariants.{Zero, One, Two}
 
@@ -15,5 +15,4 @@ same_channel one other = channel_number one == channel_number other
 
 -- the channel that a line belongs to: the one that it names, or channel 0 where it names none
 abbrev pub channel_of : Option Channel → Channel
-channel_of None = Zero
-channel_of (Some channel) = channel
+channel_of mark = unwrap_or mark Zero

@@ -28,9 +28,8 @@ dx_word end_position = phasing_1
 
 -- the word that is sent again, in an RX slot
 abbrev pub rx_word : SentPosition → ℕ
-rx_word phasing_position = phasing_1
 rx_word (traffic_position number) = traffic_word number
-rx_word end_position = phasing_1
+rx_word _ = phasing_1
 
 -- the position of an index
 abbrev pub position_at : List SentPosition → ℕ → SentPosition

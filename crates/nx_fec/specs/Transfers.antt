@@ -99,8 +99,7 @@ pub record Devices (R W : Type 0) : Type 0 where
   pub writer_after : CountedDevice W
 
 abbrev pub devices : {R W : Type 0} → (R → Option (List ℕ)) → (W → Option (List ℕ))
-    → CountedDevice R → CountedDevice R
-    → CountedDevice W → CountedDevice W → Devices R W
+    → CountedDevice R → CountedDevice R → CountedDevice W → CountedDevice W → Devices R W
 devices remaining contents reader reader_after writer writer_after = record {
   remaining = remaining;
   contents = contents;

@@ -1,8 +1,8 @@
 //! The lines of an air file, which carries what a receiver hears: moments, elements and commands of selection.
-ghost use Rattle.std.specs.Prelude.{◌≡◌, ◌≢◌, ◌<◌, ◌≤◌, ◌^◌, ℕ, List, ◌++◌, length, map, IfSome, IfNone, MatchOption, [], ◌∷◌, Some};
+ghost use Rattle.std.specs.Prelude.{◌≡◌, ◌≢◌, ◌<◌, ◌≤◌, ◌^◌, ℕ, List, ◌++◌, codes, length, map, take, IfSome, IfNone, MatchOption, [], ◌∷◌, Some};
 ghost use Rattle.std.specs.Fmt.{decimal};
 ghost use Rattle.nx_code.specs.Reading.{IsCapital};
-ghost use Rattle.nx_fec.specs.AirFile.{IsLine, IsNoLine, Line, Means, mark_bytes, spelling};
+ghost use Rattle.nx_fec.specs.AirFile.{IsLine, IsNoLine, Line, Means, mark_bytes, spelling, with_mark};
 ghost use Rattle.nx_fec.specs.private.Packing.{is_one};
 ghost use Rattle.nx_fec.specs.private.ScannerKept.{IsMarked, SpellsLine};
 ghost use Rattle.nx_fec.specs.declared.air_file.LineKind.{LineKind};
@@ -164,6 +164,18 @@ fn read_marked(line: &[u8], elements: &mut PackedElements) -> Option<LineKind>
     None
 }
 
+/// The channel that a line of elements names, if it names one, and what follows a space behind it. None where the bytes
+/// begin no line of elements.
+pub(crate) fn digits_behind(line: &[u8]) -> Option<(Option<Channel>, &[u8])>
+    ensures { IfSome result (λ found. line.now ≡ with_mark (codes "B") found.0 found.1.now) }
+{
+    if let Some(digits) = after(line, b"B ") {
+        return Some((None, digits));
+    }
+    let (channel, digits) = marked(after(line, b"B")?)?;
+    Some((Some(channel), digits))
+}
+
 /// The channel that is named by the digit at the front, and what follows it and a space.
 fn marked(text: &[u8]) -> Option<(Channel, &[u8])>
     ensures found { IfSome result (λ found.
@@ -184,7 +196,7 @@ fn marked(text: &[u8]) -> Option<(Channel, &[u8])>
 }
 
 /// What follows the word at the front of a line, if the line begins with that word.
-fn after<'a>(line: &'a [u8], word: &[u8]) -> Option<&'a [u8]>
+pub(crate) fn after<'a>(line: &'a [u8], word: &[u8]) -> Option<&'a [u8]>
     ensures { MatchOption result
         ((rest : List ℕ) → line.now ≢ word.now ++ rest)
         (λ rest. line.now ≡ word.now ++ rest.now) }
@@ -223,6 +235,32 @@ fn moment(digits: &[u8]) -> Option<u64>
         value = 10 * value + u64::from(units);
     }
     Some(value)
+}
+
+/// The moment whose digits stand at the front of bytes, and how many these are, at most 11; 0 of them where there is none.
+/// A zero in front stands alone.
+// Inlined always: it runs for each moment.
+#[inline(always)]
+pub(crate) fn moment_front(bytes: &[u8]) -> (u64, usize)
+    requires { 12 ≤ length bytes.now }
+    ensures count { result.1 ≤ 11 }
+    ensures found { 0 < result.1
+        → (result.0 < 10 ^ 11) × (take result.1 bytes.now ≡ decimal result.0) }
+{
+    if bytes[0] == b'0' {
+        return (0, 1);
+    }
+    let mut value: u64 = 0;
+    let mut count = 0;
+    while count < MAX_DIGITS {
+        let units = match bytes[count] {
+            digit @ b'0'..=b'9' => digit - b'0',
+            _ => return (value, count),
+        };
+        value = 10 * value + u64::from(units);
+        count += 1;
+    }
+    (value, count)
 }
 
 #[cfg(test)]

@@ -8,7 +8,7 @@ use memchr::memchr;
 use std::simd::prelude::*;
 
 /// The byte that ends a line.
-const LINE_END: u8 = b'\n';
+pub(crate) const LINE_END: u8 = b'\n';
 
 /// How many bytes are compared at once.
 const LANES: usize = 32;

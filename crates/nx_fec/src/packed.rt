@@ -1,5 +1,5 @@
 //! The elements of one line, packed into words of 64.
-ghost use Rattle.std.specs.Prelude.{◌≡◌, ◌≢◌, ◌<◌, ◌≤◌, ◌==◌, Bool, List, [], false, length, map, take, IsTrue};
+ghost use Rattle.std.specs.Prelude.{◌≡◌, ◌≢◌, ◌<◌, ◌≤◌, ◌==◌, Bool, List, [], false, true, length, map, take, IsTrue};
 ghost use Rattle.std.specs.Simd.Lanes.{mask_l};
 ghost use Rattle.nx_code.specs.Packed.{elements_of_words};
 ghost use Rattle.nx_code.specs.Word.{elements_from};
@@ -97,6 +97,39 @@ impl PackedElements {
         true
     }
 
+    /// Reads the elements at the front of bytes, up to the first byte that is no digit of one, or 512, in place of those
+    /// that were there. Answers how many there are.
+    // Inlined always: it runs for each line.
+    #[inline(always)]
+    pub(crate) fn read_front(&mut self, bytes: &[u8]) -> usize
+        requires { 512 ≤ length bytes.now }
+        ensures count { result ≤ 512 }
+        ensures elements { self.new ≡ map is_one (take result bytes.now) }
+        ensures right { are_elements (take result bytes.now) ≡ true }
+    {
+        for place in 0..WORDS {
+            let (word, count) = pack_front(&bytes[LANES * place..]);
+            self.words[place] = word;
+            if count < LANES {
+                self.length = LANES * place + count;
+                return self.length;
+            }
+        }
+        self.length = MAX_ELEMENTS;
+        MAX_ELEMENTS
+    }
+
+    /// Takes the first `count` elements of a word, in place of those that were there.
+    // Inlined always: it runs for each short line.
+    #[inline(always)]
+    pub(crate) fn put(&mut self, word: u64, count: usize)
+        requires { count ≤ 64 }
+        ensures { self.new ≡ take count (elements_from 64 word) }
+    {
+        self.words[0] = word;
+        self.length = count;
+    }
+
     /// Packs at most 512 elements, in place of those that were there.
     pub fn pack_bits(&mut self, bits: &[bool])
         requires { length bits.now ≤ 512 }
@@ -169,6 +202,37 @@ fn pack_few(digits: &[u8]) -> (u64, bool)
     (word, right)
 }
 
+/// Packs the digits at the front of bytes, up to the first byte that is none, or 64: their word, and how many there are.
+// Inlined always, so that its vectors stay in registers.
+#[inline(always)]
+fn pack_front(bytes: &[u8]) -> (u64, usize)
+    requires { 64 ≤ length bytes.now }
+    ensures count { result.1 ≤ 64 }
+    ensures word { take result.1 (elements_from 64 result.0) ≡ map is_one (take result.1 bytes.now) }
+    ensures right { are_elements (take result.1 bytes.now) ≡ true }
+{
+    let ones = places_of(bytes, b'1');
+    let digits = ones | places_of(bytes, b'0');
+    if digits == u64::MAX {
+        return (ones, LANES);
+    }
+    (ones, digits.trailing_ones() as usize)
+}
+
+/// Packs the digits at the front of bytes, as `pack_front` does, but at most 32.
+// Inlined always, so that its vectors stay in registers.
+#[inline(always)]
+pub(crate) fn pack_near(bytes: &[u8]) -> (u64, usize)
+    requires { 32 ≤ length bytes.now }
+    ensures count { result.1 ≤ 32 }
+    ensures word { take result.1 (elements_from 64 result.0) ≡ map is_one (take result.1 bytes.now) }
+    ensures right { are_elements (take result.1 bytes.now) ≡ true }
+{
+    let ones = near_places_of(bytes, b'1');
+    let digits = ones | near_places_of(bytes, b'0');
+    (ones, digits.trailing_ones() as usize)
+}
+
 /// Packs the first 64 digits.
 // Inlined always, so that its vectors stay in registers.
 #[inline(always)]
@@ -191,6 +255,18 @@ fn places_of(digits: &[u8], byte: u8) -> u64
 {
     u8x64::from_slice(digits)
         .simd_eq(u8x64::splat(byte))
+        .to_bitmask()
+}
+
+/// The places of a byte among the first 32, as `places_of` has them.
+// Inlined always, so that its vectors stay in registers.
+#[inline(always)]
+fn near_places_of(digits: &[u8], byte: u8) -> u64
+    requires { 32 ≤ length digits.now }
+    ensures { result ≡ mask_l (map (λ digit. digit == byte) (take 32 digits.now)) }
+{
+    u8x32::from_slice(digits)
+        .simd_eq(u8x32::splat(byte))
         .to_bitmask()
 }
 

@@ -5,16 +5,27 @@ ghost use Rattle.std.specs.Option.{option_map};
 ghost use Rattle.nx_fec.specs.AirFile.{IsLine, Line, spelling};
 ghost use Rattle.nx_fec.specs.Lines.{Scans, StopsIn, IsCause, IsAirFile, IsAtByte, line_end};
 ghost use Rattle.nx_fec.specs.Scanner.{elements_kept, kind_kept};
+ghost use Rattle.nx_fec.specs.private.WholeLines.{TakesLine, Waits};
 ghost use Rattle.nx_fec.specs.declared.fault.LineFault.TheVariants.{TooLong, LineLong};
 
-use crate::air_file::{LineKind, MAX_ELEMENTS, read_line, unpack};
+use crate::air_file::{
+    LineKind, MAX_ELEMENTS, after, digits_behind, moment_front, read_line, unpack,
+};
 use crate::fault::LineFault;
-use crate::feeds::first_feed;
+use crate::feeds::{LINE_END, first_feed};
 use crate::line_bytes::{LineBytes, MAX_LINE_BYTES};
-use crate::packed::PackedElements;
+use crate::packed::{PackedElements, pack_near};
 use arrayvec::ArrayVec;
 use std::marker::Model;
 use std::mem::size_of;
+
+/// A line of so few elements that names no channel is looked for first, in so many bytes of a piece, with its end.
+const NEAR_ELEMENTS: usize = 30;
+
+const NEAR_BYTES: usize = 34;
+
+/// Any other line of elements is looked for in so many, the most that a line has, with its end, and one more.
+const FAR_BYTES: usize = MAX_LINE_BYTES + 2;
 
 /// Reads the lines of an air file piece by piece: it holds the line that is open, or the one that the last byte
 /// ended, how many lines were ended, and how many more bytes it may take. No field can be added whose meaning contracts
@@ -130,9 +141,33 @@ impl Scanner {
     /// The line that was ended, if one was, is then the latest. `LineLong` at the 515th byte
     /// of a line, `BadLine` at the end of one that is none of an air file's, `TooLong` at a byte past the limit. After a
     /// fault, which is the file's first whatever bytes follow, the bytes before it were taken.
-    // Inlined always, with its parts: it runs for each line, from more than one caller, and no large answer goes through memory.
+    // Inlined always: it runs for each line, from more than one caller, and no large answer goes through memory.
     #[inline(always)]
     pub fn push_line(&mut self, piece: &[u8]) -> Result<usize, LineFault>
+        requires { 0 < length piece.now }
+        ensures bytes { (limit : ℕ) (bytes : List ℕ) (lines : List Line)
+            → Scans limit self.old bytes lines →
+            MatchResult result
+            (λ count. Scans limit self.new (bytes ++ take count piece.now)
+            (lines ++ option_to_list self.new.latest))
+            (λ why. StopsIn limit self.new bytes piece.now lines why) }
+        ensures at_byte { IfErr result IsAtByte }
+        ensures some { IfOk result (λ count. (0 < count) × (count ≤ length piece.now)) }
+        ensures latest { OnOk result (IfSome self.new.latest IsLine) }
+        ensures whole { IfOk result (λ count. self.new.latest ≡ None → count ≡ length piece.now) }
+        ensures room { IfOk result (λ count. self.new.room + count ≡ self.old.room) }
+    {
+        let count = self.take_whole(piece);
+        if count > 0 {
+            return Ok(count);
+        }
+        self.push_part(piece)
+    }
+
+    /// Takes the bytes of a piece as `push_line` does, whatever line they are of.
+    // Never inlined: most lines are taken whole.
+    #[inline(never)]
+    fn push_part(&mut self, piece: &[u8]) -> Result<usize, LineFault>
         requires { 0 < length piece.now }
         ensures bytes { (limit : ℕ) (bytes : List ℕ) (lines : List Line)
             → Scans limit self.old bytes lines →
@@ -153,6 +188,110 @@ impl Scanner {
         self.go_on(piece, at)?;
         self.end_line()?;
         Ok(at + 1)
+    }
+
+    /// Takes the line that a piece begins with, where none is open and the line is one of elements or a moment, and
+    /// answers how many bytes it has with its end. 0 where it took nothing, as it may.
+    // Inlined always, as a part of `push_line`.
+    #[inline(always)]
+    fn take_whole(&mut self, piece: &[u8]) -> usize
+        ensures taken { 0 < result → TakesLine self.old self.new piece.now result }
+        ensures none { result ≡ 0 → Waits self.old self.new }
+    {
+        if self.ended.is_none() || piece.len() < NEAR_BYTES || self.room < NEAR_BYTES as u64 {
+            return 0;
+        }
+        let count = self.take_near(piece);
+        if count > 0 {
+            return count;
+        }
+        let count = self.take_moment(piece);
+        if count > 0 {
+            return count;
+        }
+        self.take_far(piece)
+    }
+
+    /// Takes the line that a piece begins with as `take_whole` does, where it has few elements and names no channel.
+    // Inlined always, as a part of `push_line`.
+    #[inline(always)]
+    fn take_near(&mut self, piece: &[u8]) -> usize
+        requires empty { self.old.part ≡ [] }
+        requires long { NEAR_BYTES ≤ length piece.now }
+        requires room { NEAR_BYTES ≤ self.old.room }
+        ensures taken { 0 < result → TakesLine self.old self.new piece.now result }
+        ensures none { result ≡ 0 → self.new ≡ self.old }
+    {
+        let Some(digits) = after(piece, b"B ") else {
+            return 0;
+        };
+        let (word, count) = pack_near(digits);
+        if count == 0 || count > NEAR_ELEMENTS || digits[count] != LINE_END {
+            return 0;
+        }
+        let end = 2 + count;
+        self.kept.clear();
+        self.kept.extend(piece, end);
+        self.elements.put(word, count);
+        self.ended = Some(LineKind::Elements(None));
+        self.lines += 1;
+        self.room -= end as u64 + 1;
+        end + 1
+    }
+
+    /// Takes the line that a piece begins with as `take_whole` does, where it is a moment.
+    // Inlined always, as a part of `push_line`.
+    #[inline(always)]
+    fn take_moment(&mut self, piece: &[u8]) -> usize
+        requires empty { self.old.part ≡ [] }
+        requires long { NEAR_BYTES ≤ length piece.now }
+        requires room { NEAR_BYTES ≤ self.old.room }
+        ensures taken { 0 < result → TakesLine self.old self.new piece.now result }
+        ensures none { result ≡ 0 → self.new ≡ self.old }
+    {
+        let Some(digits) = after(piece, b"T ") else {
+            return 0;
+        };
+        let (moment, count) = moment_front(digits);
+        if count == 0 || digits[count] != LINE_END {
+            return 0;
+        }
+        let end = 2 + count;
+        self.kept.clear();
+        self.kept.extend(piece, end);
+        self.elements.clear();
+        self.ended = Some(LineKind::Moment(moment));
+        self.lines += 1;
+        self.room -= end as u64 + 1;
+        end + 1
+    }
+
+    /// Takes the line that a piece begins with as `take_whole` does, where it has elements.
+    // Never inlined: many elements cost more than the call.
+    #[inline(never)]
+    fn take_far(&mut self, piece: &[u8]) -> usize
+        requires { self.old.part ≡ [] }
+        ensures taken { 0 < result → TakesLine self.old self.new piece.now result }
+        ensures none { result ≡ 0 → Waits self.old self.new }
+    {
+        if piece.len() < FAR_BYTES || self.room < FAR_BYTES as u64 {
+            return 0;
+        }
+        let Some((mark, digits)) = digits_behind(piece) else {
+            return 0;
+        };
+        self.open();
+        let count = self.elements.read_front(digits);
+        let end = piece.len() - digits.len() + count;
+        if count == 0 || end > MAX_LINE_BYTES || digits[count] != LINE_END {
+            self.elements.clear();
+            return 0;
+        }
+        self.kept.extend(piece, end);
+        self.ended = Some(LineKind::Elements(mark));
+        self.lines += 1;
+        self.room -= end as u64 + 1;
+        end + 1
     }
 
     /// Takes the first `count` bytes of a piece into the open line; none of them is a line feed. After a fault the bytes

@@ -1,8 +1,9 @@
-pub mod Places
 pub mod ReaderWords
 pub mod Growing
 pub mod Bits
 pub mod Hears
+pub mod EightWords
+pub mod PlainWords
 pub mod Ends
 pub mod Runs
 pub mod Taking

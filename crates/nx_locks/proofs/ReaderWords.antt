@@ -1,5 +1,5 @@
 -- What a word does to the reader of a lock.
-use Rattle.std.proofs.Common.{◌≡◌, ℕ, ◌+◌, ◌-◌, ◌^◌, ◌<◌, ◌≤◌, Bool, true, false, cond, eqb, not, List, [], ◌∷◌, ◌++◌, length, map, Option, Some, None, unwrap_or, refl, sym, ap, ◌∙◌, subst, arith, add-one, append-nil, length-append}
+use Rattle.std.proofs.Common.{◌≡◌, ℕ, ◌+◌, ◌-◌, ◌^◌, ◌<◌, ◌≤◌, Bool, true, false, cond, eqb, not, List, [], ◌∷◌, ◌++◌, length, Option, Some, None, unwrap_or, refl, sym, ap, ◌∙◌, subst, arith, add-one, append-nil, length-append}
 use Rattle.std.specs.Prelude.{slice_get}
 use Rattle.std.specs.Option.{option_map, option_to_list}
 use Rattle.nx_code.specs.Reading.{shift_after_all, text}
@@ -12,7 +12,7 @@ use Rattle.nx_envelope.specs.declared.finder.Finder.{Finder}
 use Rattle.nx_envelope.specs.declared.found.TextEvent.{TextEvent}
 use Rattle.nx_envelope.specs.declared.found.TextEvent.TheVariants as events
 use Rattle.nx_envelope.specs.declared.identity.Identity.{Identity}
-use Rattle.nx_fec.specs.Pairing.{Counted, IsLatest, counts_as, heard_as}
+use Rattle.nx_fec.specs.Pairing.{Counted, IsLatest, counts_as}
 use Rattle.nx_fec.specs.declared.diversity.Diversity.{Diversity}
 use Rattle.nx_code.specs.Word.{is_wrong, wrong_in}
 use Rattle.nx_sync.proofs.Counts.{one_if}
@@ -154,7 +154,7 @@ get_pushed [] x = refl
 get_pushed (y ∷ xs) x = get_pushed xs x
 
 -- whether the last line of a text is open, by its last byte
-line_pushed : (text : List ℕ) (byte : ℕ) → is_of_lines (text ++ byte ∷ []) ≡ eqb byte 10
+pub line_pushed : (text : List ℕ) (byte : ℕ) → is_of_lines (text ++ byte ∷ []) ≡ eqb byte 10
 unfolding is_of_lines
 line_pushed text byte =
     let place : length (text ++ byte ∷ []) - 1 ≡ length text =

@@ -13,7 +13,9 @@ use Rattle.nx_fec.specs.declared.line_run.TakeFault.TheVariants as take
 use Rattle.nx_memory.specs.Selection.{is_vital}
 use Rattle.nx_receiver.specs.Events as events
 use Rattle.nx_receiver.specs.Events.{Command, Event, Setting, command, elements_among, element, first_setting, setting_after, setting_after_all, settings}
-use Rattle.nx_receiver.specs.Listen.{AreTakenAfter, IsTakenAfter, events_on, given_by, given_of, has_moment, moment_after}
+use Rattle.nx_receiver.specs.Listen.{events_on, given_by, given_of, has_moment, moment_after}
+use Rattle.nx_receiver.specs.private.Taken.{AreTakenAfter, IsTakenAfter}
+use Rattle.nx_receiver.proofs.listens.Taken.{are-taken}
 use Rattle.nx_receiver.specs.Shares.{all_at_zero, events_for, share, start_on, to_one}
 use Rattle.nx_receiver.proofs.Shares.{share-one}
 use Rattle.nx_receiver.proofs.chain.Moments.{after-more}
@@ -130,7 +132,7 @@ pub nothing_taken : (shower : Showing) → WatchShows shower.watch [] [] [] → 
     → shower.has_moment ≡ false → IsShowing shower [] []
 unfolding AreTakenAfter elements_among settings
 nothing_taken shower shows zero has = record {
-  taken = record { in_range = omega arith; each = tt };
+  taken = are-taken all_at_zero [] (omega arith) tt;
   has_moment = has;
   moment = zero;
   shows = shows;

@@ -1,11 +1,16 @@
 //! The text of one lock, read from its words, and what is counted of it.
 
-ghost use Rattle.std.specs.Prelude.{◌≡◌, ◌+◌, ◌≤◌, ◌==◌, ℕ, List, not};
+ghost use Rattle.std.specs.Prelude.{◌≡◌, ◌+◌, ◌≤◌, ◌==◌, ◌++◌, ℕ, List, false, length, not, slice_index, take, if◌then◌else◌, IsTrue};
+ghost use Rattle.arrayvec.specs.ArrayVec.{array_vec_len};
+ghost use Rattle.nx_code.specs.Word.{is_wrong, wrong_in};
 ghost use Rattle.nx_envelope.specs.Finder.{StandsAfter};
 ghost use Rattle.nx_envelope.specs.Header.{newline};
-ghost use Rattle.nx_locks.specs.private.Reader.{HearsWord, IsFresh, TakesByte, counted};
+ghost use Rattle.nx_locks.specs.private.Reader.{HearsWord, IsFresh, ShowsWord, ShowsWords, TakesByte, counted};
+ghost use Rattle.nx_receiver.specs.Log.{is_of_lines};
+ghost use Rattle.nx_sync.specs.declared.step.Role.TheVariants.{Dx as DxRole};
 
-use nx_code::{Printer, Word, check_bits};
+use crate::report_text::{Shown, append_some};
+use nx_code::{Printer, WORDS_AT_ONCE, Word, check_bits};
 use nx_envelope::{Finder, NEWLINE, TextEvent};
 use nx_fec::Diversity;
 use nx_sync::Role;
@@ -124,6 +129,81 @@ impl LockReader {
         }
     }
 
+    /// Hears the next eight words of the lock, of which the first is a DX word, and appends the bytes
+    /// that they print.
+    // Inlined, as `hear`.
+    #[inline(always)]
+    pub(crate) fn hear_eight(&mut self, words: &[Word; WORDS_AT_ONCE], shown: &mut Shown)
+        requires room { array_vec_len shown.old + 8 ≤ 57856 }
+        ensures few { array_vec_len shown.new ≤ array_vec_len shown.old + 8 }
+        ensures shows { ShowsWords self.old self.new DxRole words.now shown.old.items
+            shown.new.items }
+    {
+        if self.hear_plain(words, shown) {
+            return;
+        }
+        self.hear_each(words, shown);
+    }
+
+    /// The same at once, where surely no header begins or ends in what they print: `true` where it
+    /// did. Else nothing changed, and they have to be heard one by one.
+    // Inlined, as `hear`.
+    #[inline(always)]
+    fn hear_plain(&mut self, words: &[Word; WORDS_AT_ONCE], shown: &mut Shown) -> bool
+        requires room { array_vec_len shown.old + 8 ≤ 57856 }
+        ensures few { array_vec_len shown.new ≤ array_vec_len shown.old + 8 }
+        ensures shows { IsTrue result → ShowsWords self.old self.new DxRole words.now
+            shown.old.items shown.new.items }
+        ensures reader { result ≡ false → self.new ≡ self.old }
+        ensures shown { result ≡ false → shown.new ≡ shown.old }
+    {
+        let (mut diversity, mut printer) = (self.diversity, self.printer);
+        let classes = diversity.eight(words);
+        let four = printer.print_four(&classes);
+        if !self.finder.hear_plain(four.bytes, four.count) {
+            return false;
+        }
+        self.diversity = diversity;
+        self.printer = printer;
+        self.words = self.words.saturating_add(WORDS_AT_ONCE as u64);
+        self.wrong = self.wrong.saturating_add(wrong_among(words));
+        self.is_line_open = is_open_after(self.is_line_open, &four.bytes, four.count);
+        append_some(shown, four.bytes, four.count);
+        true
+    }
+
+    /// The same one word after the other.
+    #[inline(never)]
+    fn hear_each(&mut self, words: &[Word; WORDS_AT_ONCE], shown: &mut Shown)
+        requires room { array_vec_len shown.old + 8 ≤ 57856 }
+        ensures few { array_vec_len shown.new ≤ array_vec_len shown.old + 8 }
+        ensures shows { ShowsWords self.old self.new DxRole words.now shown.old.items
+            shown.new.items }
+    {
+        self.show(words[0], Role::Dx, shown);
+        self.show(words[1], Role::Rx, shown);
+        self.show(words[2], Role::Dx, shown);
+        self.show(words[3], Role::Rx, shown);
+        self.show(words[4], Role::Dx, shown);
+        self.show(words[5], Role::Rx, shown);
+        self.show(words[6], Role::Dx, shown);
+        self.show(words[7], Role::Rx, shown);
+    }
+
+    /// Hears the next word of the lock, which has that role, and appends the byte that it prints, if
+    /// it prints one.
+    // Inlined, as `hear`.
+    #[inline(always)]
+    fn show(&mut self, word: Word, role: Role, shown: &mut Shown)
+        requires room { array_vec_len shown.old + 1 ≤ 57856 }
+        ensures few { array_vec_len shown.new ≤ array_vec_len shown.old + 1 }
+        ensures shows { ShowsWord self.old self.new word role shown.old.items shown.new.items }
+    {
+        if let Some(byte) = self.hear(word, role) {
+            shown.push(byte);
+        }
+    }
+
     /// Counts a word.
     #[inline(always)]
     fn count(&mut self, word: Word)
@@ -168,4 +248,43 @@ impl LockReader {
         self.copies = 0;
         self.is_line_open = false;
     }
+}
+
+/// How many of eight words have the wrong weight.
+#[inline(always)]
+fn wrong_among(words: &[Word; WORDS_AT_ONCE]) -> u64
+    ensures { result ≡ wrong_in (slice_index words.now) 0 8 }
+{
+    let first_half = one_if_wrong(words[0])
+        + one_if_wrong(words[1])
+        + one_if_wrong(words[2])
+        + one_if_wrong(words[3]);
+    let second_half = one_if_wrong(words[4])
+        + one_if_wrong(words[5])
+        + one_if_wrong(words[6])
+        + one_if_wrong(words[7]);
+    first_half + second_half
+}
+
+/// 1 for a word of the wrong weight, else 0.
+#[inline(always)]
+fn one_if_wrong(word: Word) -> u64
+    ensures value { result ≡ if is_wrong word then 1 else 0 }
+    ensures small { result ≤ 1 }
+{
+    if check_bits(word) { 0 } else { 1 }
+}
+
+/// Whether the last line of a text is open once the first `count` of these bytes follow it, by
+/// whether it was before.
+#[inline(always)]
+fn is_open_after(is_open: bool, bytes: &[u8; 4], count: usize) -> bool
+    requires { count ≤ 4 }
+    ensures { (text : List ℕ) → is_open ≡ not (is_of_lines text)
+        → result ≡ not (is_of_lines (text ++ take count bytes.now)) }
+{
+    if count == 0 {
+        return is_open;
+    }
+    bytes[count - 1] != NEWLINE
 }

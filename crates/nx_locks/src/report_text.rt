@@ -1,6 +1,6 @@
 //! The lines of a report.
 
-ghost use Rattle.std.specs.Prelude.{◌≡◌, ◌+◌, ◌*◌, ◌≤◌, ℕ, List, [], ◌++◌, length};
+ghost use Rattle.std.specs.Prelude.{◌≡◌, ◌+◌, ◌*◌, ◌≤◌, ℕ, List, [], ◌++◌, length, take};
 ghost use Rattle.arrayvec.specs.ArrayVec.{array_vec_len};
 ghost use Rattle.nx_envelope.specs.Moment.{IsShownAs, last_moment};
 ghost use Rattle.nx_locks.specs.ReportText.{closing_lines, how_name, last_line, opening_line};
@@ -114,4 +114,18 @@ fn append(shown: &mut Shown, more: &[u8])
     let Ok(()) = shown.try_extend_from_slice(more) else {
         unreachable!()
     };
+}
+
+/// Appends the first `count` of these bytes.
+// Inlined always, so that four bytes are one write.
+#[inline(always)]
+pub(crate) fn append_some(shown: &mut Shown, bytes: [u8; 4], count: usize)
+    requires room { array_vec_len shown.old + 4 ≤ 57856 }
+    requires few { count ≤ 4 }
+    ensures items { shown.new.items ≡ shown.old.items ++ take count bytes }
+    ensures len { array_vec_len shown.new ≤ array_vec_len shown.old + 4 }
+{
+    let length = shown.len() + count;
+    shown.try_extend_from_slice(&bytes).unwrap();
+    shown.truncate(length);
 }

@@ -2,20 +2,24 @@
 //! small answer.
 
 ghost use Rattle.std.specs.Prelude.{◌≡◌, ◌+◌, ◌-◌, ◌*◌, ◌<◌, ◌≤◌, ℕ, List, Bool, [], ◌∷◌, ◌++◌, drop, length, take, not, IfOk, IsTrue};
+ghost use Rattle.std.specs.List.{flat_map};
 ghost use Rattle.arrayvec.specs.ArrayVec.{array_vec_len};
 ghost use Rattle.nx_code.specs.Word as words;
 ghost use Rattle.nx_envelope.specs.Moment.{IsShownAs, last_moment};
 ghost use Rattle.nx_locks.specs.private.Watch.{EndsShown, HearsAll, Opens, ReadsWord, ShowsStep, WatchShows, closing_of};
-ghost use Rattle.nx_sync.specs.Synchroniser.{is_between_words, is_hunting};
+ghost use Rattle.nx_sync.specs.Synchroniser.{is_between_words, is_hunting, keeps_lock};
 
 use crate::reader::LockReader;
 use crate::report_text::{Counts, Shown, close_lock, end_report, open_lock};
-use nx_code::{ELEMENTS, Word};
+use nx_code::{ELEMENTS, WORDS_AT_ONCE, Word, elements_at, words_of};
 use nx_envelope::NEWLINE;
 use nx_fec::PackedElements;
 use nx_sync::{Change, Role, Step, Synchroniser};
 use std::alloc::{AllocError, Global};
 use std::marker::Model;
+
+/// How many elements are heard at once where they surely end no lock: those of eight words.
+const BLOCK: usize = WORDS_AT_ONCE * ELEMENTS;
 
 /// A watch over the elements that arrive, which shows their locks.
 ///
@@ -212,8 +216,31 @@ impl LockWatch {
         ensures hears { HearsAll self.old self.new (take result (drop from elements.now))
             shown.old.items shown.new.items }
     {
+        if elements.len() - from >= BLOCK {
+            let block = block_at(elements, from);
+            if self.synchroniser.keeps_lock(&block) {
+                self.hear_block(&block, shown);
+                return BLOCK;
+            }
+        }
         self.hear_word(elements.word_at(from), shown);
         ELEMENTS
+    }
+
+    /// Hears the next eight words of the lock, none of which ends it.
+    // Inlined, as `hear_word`.
+    #[inline(always)]
+    fn hear_block(&mut self, block: &[Word; WORDS_AT_ONCE], shown: &mut Shown)
+        requires limit { IsTrue (is_between_words self.old.synchroniser) }
+        requires keeps { IsTrue (keeps_lock self.old.synchroniser block.now) }
+        requires room { array_vec_len shown.old + 8 ≤ 57856 }
+        ensures few { array_vec_len shown.new ≤ array_vec_len shown.old + 8 }
+        ensures hears { HearsAll self.old self.new (flat_map words.elements block.now)
+            shown.old.items shown.new.items }
+    {
+        self.synchroniser.push_eight(block);
+        self.elements = self.elements.saturating_add(BLOCK as u64);
+        self.reader.hear_eight(block, shown);
     }
 
     /// Hears the next word of the lock.
@@ -329,4 +356,14 @@ impl LockWatch {
         end_report(shown, self.elements, self.locks, copies);
         (self.locks, copies)
     }
+}
+
+/// The eight words of the elements from a place on, which are there.
+#[inline(always)]
+fn block_at(elements: &PackedElements, from: usize) -> [Word; WORDS_AT_ONCE]
+    requires { from + 56 ≤ length elements.now }
+    ensures { flat_map words.elements result ≡ take 56 (drop from elements.now) }
+{
+    let _ = elements.len();
+    words_of(elements_at(elements.words(), from, BLOCK))
 }

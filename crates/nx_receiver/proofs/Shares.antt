@@ -1,18 +1,20 @@
 -- Shares of channels, copies with their channels, and what is printed in turn.
-use Rattle.std.proofs.Common.{◌≡◌, ◌⊎◌, inl, inr, Bool, true, false, IsTrue, cond, List, [], ◌∷◌, ◌++◌, refl, sym, ap, ap₂, ◌∙◌, subst, append-nil, append_assoc}
-use Rattle.std.specs.Prelude.{map, filter}
+use Rattle.std.proofs.Common.{◌≡◌, ◌⊎◌, ℕ, inl, inr, Bool, true, false, cond, List, [], ◌∷◌, ◌++◌, refl, sym, ap, ap₂, ◌∙◌, subst, append-nil, append_assoc}
+use Rattle.std.specs.Prelude.{map, filter, length, take, drop}
 use Rattle.std.specs.List.{flat_map}
-use Rattle.std.proofs.lemmas.List.{map-append}
+use Rattle.std.proofs.Math.Path.{fun_ext}
+use Rattle.std.proofs.Math.Seq.{take-append_seam}
+use Rattle.std.proofs.lemmas.List.{map-append, take-append-drop}
 use Rattle.std.proofs.lemmas.List.Concat.{flat_map-append}
 use Rattle.std.proofs.lemmas.List.Elements.{filter-append}
 use Rattle.nx_fec.specs.Channels.{same_channel}
 use Rattle.nx_fec.specs.declared.channel.Channel.{Channel}
 use Rattle.nx_fec.specs.declared.channel.Channel.TheVariants.{Zero, One, Two}
-use Rattle.nx_receiver.specs.Events.{Event, Start, at_zero}
+use Rattle.nx_receiver.specs.Events.{Event, Start, at_zero, none_refused}
 use Rattle.nx_receiver.specs.FoundCopies.{TaggedCopy}
-use Rattle.nx_receiver.specs.InTurn.{HavePrinted, PrintAllToEnd, PrintsFirst, PrintsInTurn}
+use Rattle.nx_receiver.specs.InTurn.{HavePrinted, PrintAllToEnd, PrintsInTurn}
 use Rattle.nx_receiver.specs.Log.{PrintsToEnd}
-use Rattle.nx_receiver.specs.Shares.{Given, MarkedCopy, Starts, all_at_zero, copies_on, events_for, marked, share, start_on}
+use Rattle.nx_receiver.specs.Shares.{Given, MarkedCopy, Starts, all_at_zero, copies_on, events_for, marked, none_saved, saved_of, share, start_on, starts_from}
 
 pub same_channel-refl : (channel : Channel) → same_channel channel channel ≡ true
 same_channel-refl Zero = refl
@@ -133,6 +135,22 @@ to_end-on starts given copies channel h =
     (sym (ap (copies_on channel) h.whole ∙ closed-on channel h.ended h.closed))
     (h.to_end channel)
 
+nothing-entered : (channel : Channel) → (saved_of none_saved channel).entries ≡ []
+nothing-entered Zero = refl
+nothing-entered One = refl
+nothing-entered Two = refl
+
+nothing-refused : (channel : Channel) → (saved_of none_saved channel).refused ≡ none_refused
+nothing-refused Zero = refl
+nothing-refused One = refl
+nothing-refused Two = refl
+
+-- who goes on from nothing begins with nothing
+pub from-nothing : starts_from none_saved ≡ all_at_zero
+from-nothing =
+    ap₂ (λ es refused. record { moment = 0; entries = es; refused = refused })
+    (fun_ext nothing-entered) (fun_ext nothing-refused)
+
 -- who begins with nothing begins so on each channel
 pub start_on-zero : (channel : Channel) → start_on all_at_zero channel ≡ at_zero
 start_on-zero Zero = refl
@@ -160,17 +178,47 @@ fronts (x ∷ list) one (a ∷ before) later e =
       | inr part ↦ inr (part.0, ap₂ (λ x xs. x ∷ xs) head part.1)
     ]
 
+-- The first of these copies are what is printed of this.
+pub record PrintsFirst (starts : Starts) (given : List Given) (copies : List MarkedCopy)
+    : Type 0 where
+  pub first : List MarkedCopy
+  pub rest : List MarkedCopy
+  pub whole : copies ≡ first ++ rest
+  pub printed : HavePrinted starts given first
+
+-- what is printed in turn: of each beginning the first copies
+abbrev pub BeginsInTurn : Starts → List Given → List MarkedCopy → Type 0
+BeginsInTurn starts given copies =
+    (before later : List Given) → given ≡ before ++ later → PrintsFirst starts before copies
+
+pub begins-in_turn : (starts : Starts) (given : List Given) (copies : List MarkedCopy)
+    → PrintsInTurn starts given copies → BeginsInTurn starts given copies
+begins-in_turn starts given copies h before later e =
+    let first = h.in_turn before later e in
+    record {
+      first = take first.0 copies;
+      rest = drop first.0 copies;
+      whole = sym (take-append-drop first.0 copies);
+      printed = first.1;
+    }
+
+-- so many of the copies are the first ones
+counted : (starts : Starts) (given : List Given) (copies : List MarkedCopy)
+    → PrintsFirst starts given copies → (count : ℕ) × HavePrinted starts given (take count copies)
+counted starts given copies h = (
+  length h.first,
+  subst (HavePrinted starts given)
+      (sym (ap (take (length h.first)) h.whole ∙ take-append_seam h.first h.rest)) h.printed,
+)
+
 -- nothing that is given prints nothing
 pub in_turn-none : (starts : Starts) → HavePrinted starts [] [] → PrintsInTurn starts [] []
 in_turn-none starts h = record {
   each = h;
-  in_turn = λ before later e. record {
-    first = [];
-    rest = [];
-    whole = refl;
-    printed =
-        subst (λ given. HavePrinted starts given []) (sym (front-of_none before later e)) h;
-  };
+  in_turn = λ before later e. (
+    0,
+    subst (λ given. HavePrinted starts given []) (sym (front-of_none before later e)) h,
+  );
 }
 
 longer : (starts : Starts) (before : List Given) (copies more : List MarkedCopy)
@@ -184,20 +232,20 @@ longer starts before copies more h = record {
 
 -- what is given next brings these copies, where what is given before brings the first ones in turn
 next-in_turn : (starts : Starts) (given : List Given) (one : Given) (copies more : List MarkedCopy)
-    → ((before later : List Given) → given ≡ before ++ later → PrintsFirst starts before copies)
-    → HavePrinted starts (given ++ one ∷ []) (copies ++ more)
+    → BeginsInTurn starts given copies → HavePrinted starts (given ++ one ∷ []) (copies ++ more)
     → PrintsInTurn starts (given ++ one ∷ []) (copies ++ more)
 next-in_turn starts given one copies more h k = record {
   each = k;
-  in_turn = λ before later e. elim (fronts given one before later e) [
-    | inl whole ↦ record {
-      first = copies ++ more;
-      rest = [];
-      whole = sym (append-nil (copies ++ more));
-      printed = subst (λ all. HavePrinted starts all (copies ++ more)) (sym whole) k;
-    }
-    | inr part ↦ longer starts before copies more (h before part.0 part.1)
-  ];
+  in_turn = λ before later e. counted starts before (copies ++ more)
+      (elim (fronts given one before later e) [
+        | inl whole ↦ record {
+          first = copies ++ more;
+          rest = [];
+          whole = sym (append-nil (copies ++ more));
+          printed = subst (λ all. HavePrinted starts all (copies ++ more)) (sym whole) k;
+        }
+        | inr part ↦ longer starts before copies more (h before part.0 part.1)
+      ]);
 }
 
 pub in_turn-more : (starts : Starts) (given : List Given) (one : Given)
@@ -205,7 +253,7 @@ pub in_turn-more : (starts : Starts) (given : List Given) (one : Given)
     → HavePrinted starts (given ++ one ∷ []) (copies ++ more)
     → PrintsInTurn starts (given ++ one ∷ []) (copies ++ more)
 in_turn-more starts given one copies more h k =
-    next-in_turn starts given one copies more h.in_turn k
+    next-in_turn starts given one copies more (begins-in_turn starts given copies h) k
 
 -- the same with another in place of what was given last
 pub in_turn-other : (starts : Starts) (given : List Given) (one other : Given)
@@ -214,6 +262,6 @@ pub in_turn-other : (starts : Starts) (given : List Given) (one other : Given)
     → PrintsInTurn starts (given ++ other ∷ []) (copies ++ more)
 in_turn-other starts given one other copies more h k =
     next-in_turn starts given other copies more
-    (λ before later e. h.in_turn before (later ++ one ∷ [])
+    (λ before later e. begins-in_turn starts (given ++ one ∷ []) copies h before (later ++ one ∷ [])
     (ap (λ list. list ++ one ∷ []) e ∙ append_assoc before later (one ∷ [])))
     k

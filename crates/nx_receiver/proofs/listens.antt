@@ -6,3 +6,4 @@ pub mod Listener
 pub mod Moments
 pub mod Outcomes
 pub mod Runs
+pub mod Taken

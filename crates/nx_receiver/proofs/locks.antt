@@ -1,4 +1,5 @@
 pub mod Apart
+pub mod EightWords
 pub mod Found
 pub mod Growing
 pub mod ReaderWords

@@ -5,5 +5,4 @@ pub mod Judging
 pub mod Log
 pub mod Logged
 pub mod Over
-pub mod Passed
 pub mod Printing

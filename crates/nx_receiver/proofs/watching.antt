@@ -1,4 +1,5 @@
 pub mod Bits
+pub mod EightWords
 pub mod Hears
 pub mod Loops
 pub mod Packed

@@ -30,16 +30,12 @@ pub record Setting : Type 0 where
 
 -- what is refused after a command; a vital subject can't be refused (ITU-R M.540)
 abbrev pub refused_after : Refused → Command → Refused
-refused_after refused (refuse_station letter) =
-    record refused { stations = set.insert refused.stations letter }
-refused_after refused (accept_station letter) =
-    record refused { stations = set.remove refused.stations letter }
-refused_after refused (refuse_subject letter) =
-    if is_vital letter then refused
-    else record refused { subjects = set.insert refused.subjects letter }
-refused_after refused (accept_subject letter) =
-    record refused { subjects = set.remove refused.subjects letter }
-refused_after refused (select other) = other
+refused_after old (refuse_station letter) = record old { stations = set.insert old.stations letter }
+refused_after old (accept_station letter) = record old { stations = set.remove old.stations letter }
+refused_after old (refuse_subject letter) =
+    if is_vital letter then old else record old { subjects = set.insert old.subjects letter }
+refused_after old (accept_subject letter) = record old { subjects = set.remove old.subjects letter }
+refused_after old (select other) = other
 
 -- what is in force after an event
 abbrev pub setting_after : Setting → Event → Setting

@@ -1,13 +1,13 @@
 -- What three receivers that listen make of an air file, with whatever they start: the log of its
 -- lines, and its first fault (this profile).
-use Rattle.std.specs.Prelude.{◌≡◌, ◌⊎◌, ◌↔◌, ℕ, ◌+◌, ◌<◌, ◌≤◌, Bool, true, false, List, [], ◌∷◌, ◌++◌, length, map, Option, Result, Ok, Err, IfSome, IsErrOf, IsTrue, ⊤}
+use Rattle.std.specs.Prelude.{◌≡◌, ◌⊎◌, ◌↔◌, ℕ, ◌+◌, ◌≤◌, Bool, true, false, List, [], ◌∷◌, ◌++◌, length, map, Option, Result, Ok, Err, IfSome, IsErrOf, IsTrue, ⊤}
 use Rattle.std.specs.List.{flat_map, list_any}
-use Rattle.std.specs.Io.KnownBytes.{Appends, Consumes}
+use Rattle.std.specs.Io.KnownBytes.{Appends, Consumes, IsAtEnd}
 use Rattle.nx_envelope.specs.Moment.{last_moment}
 use Rattle.nx_fec.specs.AirFile.{Line, moment, elements, refuse_station, accept_station, refuse_subject, accept_subject}
 use Rattle.nx_fec.specs.Channels.{channel_of}
 use Rattle.nx_fec.specs.declared.channel.Channel.{Channel}
-use Rattle.nx_fec.specs.Transfers.{WroteSome, Devices, IsReadOut}
+use Rattle.nx_fec.specs.Transfers.{WroteSome}
 use Rattle.nx_fec.specs.Lines.{StopsAt, air_limit, IsAirFile, IsCause, IsLineRefused, elements_of, file_of}
 use Rattle.nx_fec.specs.declared.fault.LineFault.{LineFault}
 use Rattle.nx_fec.specs.declared.fault.LineFault.TheVariants as file
@@ -57,25 +57,24 @@ is_moment_line _ = false
 abbrev pub has_moment : List Line → Bool
 has_moment lines = list_any is_moment_line lines
 
--- A line is taken after these lines: a moment in range, and not before the one in force; elements
--- once there was a moment; and no refusal of a vital subject (ITU-R M.540).
-abbrev pub IsTakenAfter : Starts → List Line → Line → Type 0
-IsTakenAfter starts lines (moment n) =
-    (moment_after starts.moment lines ≤ n) × (n ≤ last_moment)
-IsTakenAfter starts lines (elements mark bits) = IsTrue (has_moment lines)
-IsTakenAfter starts lines (refuse_subject mark letter) = is_vital letter ≡ false
-IsTakenAfter starts lines _ = ⊤
+-- Why a line is refused after these lines, as a fault says it: elements, and there was no moment yet;
+-- a moment that is out of range or goes back; the refusal of a vital subject (ITU-R M.540). Lines
+-- count from 1.
+abbrev pub RefusesAfter : Starts → ListenFault → List Line → Line → Type 0
+RefusesAfter starts (NoMoment number) lines (elements mark bits) =
+    (number ≡ length lines + 1) × (has_moment lines ≡ false)
+RefusesAfter starts (Moment number why) lines (moment n) =
+    (number ≡ length lines + 1) × Refuses (moment_after starts.moment lines) n why
+RefusesAfter starts (Vital number subject) lines (refuse_subject mark letter) =
+    (number ≡ length lines + 1) × IsTrue (is_vital letter) × (subject.byte ≡ letter)
+RefusesAfter starts _ lines _ = ⊥
 
--- each of these lines is taken after the first ones and those before it
-unfoldable pub AreTakenAfter : Starts → List Line → List Line → Type 0
-AreTakenAfter starts first [] = ⊤
-AreTakenAfter starts first (line ∷ lines) =
-    IsTakenAfter starts first line × AreTakenAfter starts (first ++ line ∷ []) lines
-
--- each of these lines is taken after those before it; and the first moment is in range too
+-- Lines are taken where none of them is refused after those before it; and the first moment is in
+-- range too.
 pub record AreTaken (starts : Starts) (lines : List Line) : Type 0 where
   pub in_range : starts.moment ≤ last_moment
-  pub each : AreTakenAfter starts [] lines
+  pub each : (before after : List Line) (line : Line) (fault : ListenFault)
+      → lines ≡ before ++ line ∷ after → ¬ RefusesAfter starts fault before line
 
 -- The log of an air file that is read to its end: its lines, each taken after those before it,
 -- print these copies, where the end closes the copies that stand open, and these are the bytes of
@@ -123,18 +122,6 @@ abbrev pub HasLoggedSome : (List ℕ → Type 0) → Option (List ℕ) → Optio
 HasLoggedSome IsLogged old new written =
     (log : List ℕ) × IsLogged log × WroteSome old new log written
 
--- Why a line is not taken after these lines, as a fault says it: elements, and there was no moment
--- yet; a moment that is out of range or goes back; the refusal of a vital subject. Lines count from
--- 1.
-abbrev pub RefusesAfter : Starts → ListenFault → List Line → Line → Type 0
-RefusesAfter starts (NoMoment number) lines (elements mark bits) =
-    (number ≡ length lines + 1) × (has_moment lines ≡ false)
-RefusesAfter starts (Moment number why) lines (moment n) =
-    (number ≡ length lines + 1) × Refuses (moment_after starts.moment lines) n why
-RefusesAfter starts (Vital number subject) lines (refuse_subject mark letter) =
-    (number ≡ length lines + 1) × IsTrue (is_vital letter) × (subject.byte ≡ letter)
-RefusesAfter starts _ lines _ = ⊥
-
 -- Good lines and the beginning of one more stand before a fault of the file, of which this is the
 -- cause; and this holds of the lines.
 abbrev pub HasFaultAfter : (List Line → Type 0) → List ℕ → LineFault → Type 0
@@ -142,8 +129,8 @@ HasFaultAfter holds bytes why =
     StopsAt bytes (λ lines rest more.
     IsCause air_limit (length (file_of lines ++ rest)) lines rest more why × holds lines)
 
--- The first fault of an air file, by its bytes alone: a fault of the file, or the next line is not
--- taken; and this holds of the whole lines before it. Those of devices and of memory are none of
+-- The first fault of an air file, by its bytes alone: a fault of the file, or the next line is
+-- refused; and this holds of the whole lines before it. Those of devices and of memory are none of
 -- bytes.
 abbrev pub HasListenFault : Starts → (List Line → Type 0) → List ℕ → ListenFault → Type 0
 HasListenFault starts holds bytes AirTooLong = HasFaultAfter holds bytes file.TooLong
@@ -170,28 +157,27 @@ AnswersListening starts AtEnd IsLeft old new (Err Read) bytes =
     StopsAt bytes (λ lines rest more.
     (length (file_of lines ++ rest) ≤ air_limit) × IsLeft more × HasLogged starts old new lines)
 AnswersListening starts AtEnd IsLeft old new (Err (Write written)) bytes =
-    StopsAt bytes (λ lines rest more. HasLoggedSome (IsLogOfLines starts lines) old new written)
-    ⊎ (AtEnd × HasLoggedSome (IsLogOf starts bytes) old new written)
+    (log : List ℕ) × WroteSome old new log written
+    × (StopsAt bytes (λ lines rest more. IsLogOfLines starts lines log)
+    ⊎ (AtEnd × (lines : List Line) × (copies : List MarkedCopy)
+    × IsLogOfFile starts bytes lines copies log))
 AnswersListening starts AtEnd IsLeft old new (Err (LineCut line)) bytes =
     AtEnd × HasListenFault starts (HasLogged starts old new) bytes (LineCut line)
 AnswersListening starts AtEnd IsLeft old new (Err fault) bytes =
     HasListenFault starts (HasLogged starts old new) bytes fault
 
--- A run that listens, with this start: it answers so to the bytes that it read, and to the whole
--- file, however it came; and it writes the log of the lines that it read before each further read.
--- The count of failed reads rose, by one, exactly where the outcome is `Read`, and that of failed
--- writes where it is `Write`.
-pub record Listens {R W : Type 0} (starts : Starts) (d : Devices R W)
-    (outcome : Result Report ListenFault) : Type 0 where
+-- A run that listens, with this start. The reader had `left` to read and then `left_after`, and the
+-- writer the contents `old` and then `new`, where they tell of their bytes. The run answers so to the
+-- bytes that it read, and to the whole file, however it came; and it writes the log of the lines that
+-- it read before each further read. A read failed, at most one, exactly where the outcome is `Read`,
+-- and a write where it is `Write`.
+pub record Listens (starts : Starts) (left left_after old new : Option (List ℕ))
+    (failed_reads failed_writes : ℕ) (outcome : Result Report ListenFault) : Type 0 where
   pub bytes : List ℕ
-  pub consumed : Consumes (d.remaining d.reader.inner) (d.remaining d.reader_after.inner) bytes
-  pub answer : AnswersListening starts (IsReadOut d) (λ more. more ≡ [])
-      (d.contents d.writer.inner) (d.contents d.writer_after.inner) outcome bytes
-  pub file : IfSome (d.remaining d.reader.inner)
-      (AnswersListening starts (Unit {0}) (λ more. Unit {0}) (d.contents d.writer.inner)
-      (d.contents d.writer_after.inner) outcome)
-  pub unread : IsErrOf outcome Read ↔ (d.reader_after.failures ≡ 1)
-  pub read_once : d.reader_after.failures ≤ 1
-  pub unwritten : ((written : ℕ) × (outcome ≡ Err (Write written)))
-      ↔ (d.writer_after.failures ≡ 1)
-  pub write_once : d.writer_after.failures ≤ 1
+  pub consumed : Consumes left left_after bytes
+  pub answer : AnswersListening starts (IsAtEnd left_after) (λ more. more ≡ []) old new outcome bytes
+  pub file : IfSome left (AnswersListening starts (Unit {0}) (λ more. Unit {0}) old new outcome)
+  pub unread : IsErrOf outcome Read ↔ (failed_reads ≡ 1)
+  pub read_once : failed_reads ≤ 1
+  pub unwritten : ((written : ℕ) × (outcome ≡ Err (Write written))) ↔ (failed_writes ≡ 1)
+  pub write_once : failed_writes ≤ 1

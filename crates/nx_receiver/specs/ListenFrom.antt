@@ -5,8 +5,17 @@ use Rattle.std.specs.Io.KnownBytes.{Consumes}
 use Rattle.nx_fec.specs.Transfers.{Devices}
 use Rattle.nx_memory.specs.Saved.{SavedStates}
 use Rattle.nx_receiver.specs.Chain.{HasGoneOn}
+use Rattle.nx_receiver.specs.Listen.{Listens}
+use Rattle.nx_receiver.specs.Shares.{Starts}
 use Rattle.nx_receiver.specs.declared.listen_fault.ListenFault.{ListenFault}
 use Rattle.nx_receiver.specs.declared.listening.Report.{Report}
+
+-- a run that listens, with this start, of its devices
+abbrev pub ListensBy : {R W : Type 0} → Starts → Devices R W → Result Report ListenFault → Type 0
+ListensBy starts d outcome =
+    Listens starts (d.remaining d.reader.inner) (d.remaining d.reader_after.inner)
+    (d.contents d.writer.inner) (d.contents d.writer_after.inner) d.reader_after.failures
+    d.writer_after.failures outcome
 
 -- what a run answers, but for what it leaves
 abbrev pub reported : Result (Report × SavedStates) ListenFault → Result Report ListenFault

@@ -1,11 +1,10 @@
 -- The second half of the headline, over bytes: what has to be met in an air file, so that a message
 -- is printed once; and that it is (this profile).
 use Rattle.std.specs.Prelude.{ℕ, List, Option, map}
-use Rattle.std.specs.Io.KnownBytes.{Consumes}
+use Rattle.std.specs.Io.KnownBytes.{Consumes, IsAtEnd}
 use Rattle.nx_envelope.specs.Message.{MessageView}
 use Rattle.nx_fec.specs.AirFile.{Line}
 use Rattle.nx_fec.specs.Lines.{air_limit, IsAirFile}
-use Rattle.nx_fec.specs.Transfers.{Devices, IsReadOut}
 use Rattle.nx_fec.specs.declared.channel.Channel.{Channel}
 use Rattle.nx_station.specs.Sendings.{Part}
 use Rattle.nx_receiver.specs.Listen.{HasListened, events_on, given_of}
@@ -35,17 +34,16 @@ pub record HasPrintedOnce (starts : Starts) (old new : Option (List ℕ)) (file 
       → IsHeardInTimeOn channel starts file message
       → IsPrintedOnce message (copies_on channel listened.copies)
 
--- Both halves of the headline hold of the bytes that a run read, which are all that was left, and of
--- those that it wrote: the log of the file was written, and of its entries on a channel exactly one
--- bears the identity of each message that is heard in time, in whatever parts, in the channel's share
--- of what the lines give.
-pub record KeepsHeadline {R W : Type 0} (starts : Starts) (d : Devices R W) : Type 0 where
+-- Both halves of the headline hold of the bytes that a run read of `left`, which are all, and of
+-- those that it wrote after `old`: the log of the file was written, and of its entries on a channel
+-- exactly one bears the identity of each message that is heard in time, in whatever parts, in the
+-- channel's share of what the lines give.
+pub record KeepsHeadline (starts : Starts) (left left_after old new : Option (List ℕ)) : Type 0 where
   pub bytes : List ℕ
-  pub consumed : Consumes (d.remaining d.reader.inner) (d.remaining d.reader_after.inner) bytes
-  pub all : IsReadOut d
+  pub consumed : Consumes left left_after bytes
+  pub all : IsAtEnd left_after
   pub report : Report
-  pub listened : HasListened starts (d.contents d.writer.inner)
-      (d.contents d.writer_after.inner) bytes report
+  pub listened : HasListened starts old new bytes report
   pub once : (channel : Channel) (message : MessageView) (parts : List Part)
       → IsHeardInTime (start_on starts channel) (share channel (map given_of listened.lines)) parts
       message

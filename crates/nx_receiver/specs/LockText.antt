@@ -3,8 +3,7 @@
 -- is this profile's). `first` is the role of word 0 of the lock, and `words` gives each word's
 -- number.
 use Rattle.std.specs.Prelude.{ℕ, zero, suc, ◌+◌, ◌*◌, if◌then◌else◌, Bool, List, [], ◌∷◌, ◌++◌, map}
-use Rattle.std.specs.Option.{option_to_list}
-use Rattle.nx_code.specs.Reading.{Reception, byte_of, shift_after_all}
+use Rattle.nx_code.specs.Reading.{Reception, shift_after_all, text}
 use Rattle.nx_code.specs.declared.shifts.Shift.TheVariants.{Letters}
 use Rattle.nx_fec.specs.Pairing.{five_before, counts_as, pairing}
 use Rattle.nx_sync.specs.Words.{word_of_lock, first_role, role_of, is_dx}
@@ -27,17 +26,12 @@ pub record PlacedByte : Type 0 where
   pub byte : ℕ
   pub place : ℕ
 
--- the bytes that positions print after others, from letters
-abbrev pub printed_after : List Reception → List Reception → List ℕ
-printed_after before [] = []
-printed_after before (position ∷ more) =
-    option_to_list (byte_of position (shift_after_all before Letters))
-
--- what word k of the lock at t prints, with its place: the index of the last bit of the word
+-- what word k of the lock at t prints, in the shift that the positions before it leave, from letters;
+-- with its place: the index of the last bit of the word
 unfoldable pub printed_by : Role → (ℕ → ℕ) → ℕ → ℕ → List PlacedByte
 printed_by first words t k =
     map (λ b. record { byte = b; place = t + 7 * k + 6 })
-    (printed_after (positions first words k) (taken_at first words k))
+    (text (taken_at first words k) (shift_after_all (positions first words k) Letters))
 
 -- the text that the first n words of the lock at t print, each byte with its place
 unfoldable pub text_by : Role → (ℕ → ℕ) → ℕ → ℕ → List PlacedByte

@@ -46,17 +46,13 @@ is_of_lines text =
 unfoldable pub missing_newline : List ℕ → List ℕ
 missing_newline text = if is_of_lines text then [] else newline ∷ []
 
--- an entry: its head, the text, a newline where the text isn't empty and doesn't end with one, and
--- a newline
-unfoldable pub entry_with : Channel → TaggedCopy → List ℕ → List ℕ
-entry_with channel copy civil =
-    entry_head channel copy civil ++ copy.text ++ missing_newline copy.text ++ newline ∷ []
-
--- the bytes are the entry of a copy, with the civil time of its moment
+-- The bytes are the entry of a copy, with the civil time of its moment: its head, the text, a newline
+-- where the text isn't empty and doesn't end with one, and a newline.
 pub record IsEntry (one : MarkedCopy) (bytes : List ℕ) : Type 0 where
   pub civil : List ℕ
   pub shown : IsShownAs one.copy.moment civil
-  pub spelled : bytes ≡ entry_with one.channel one.copy civil
+  pub spelled : bytes ≡ entry_head one.channel one.copy civil
+      ++ one.copy.text ++ missing_newline one.copy.text ++ newline ∷ []
 
 -- the bytes are the log of these copies: their entries in order, and nothing between
 pub record IsLog (copies : List MarkedCopy) (bytes : List ℕ) : Type 0 where
@@ -69,16 +65,19 @@ abbrev pub printed_of : Start → List Event → List FoundCopy → List TaggedC
 printed_of start events copies =
     printed_copies start.entries (tagged_copies (first_setting start) events copies)
 
--- What is printed of the copies that have ended after these events.
-pub record HasPrinted (start : Start) (events : List Event) (log : List TaggedCopy) : Type 0 where
+-- What is printed after these events of the copies that are `found` in their elements, by the locks
+-- there: of those that have ended so far, or of all that are found to the end.
+pub record Prints (found : List Bool → List Lock → Now → List FoundCopy) (start : Start)
+    (events : List Event) (log : List TaggedCopy) : Type 0 where
   pub locks : List Lock
   pub now : Now
   pub stands : IsNow (elements_among events) locks now
-  pub printed : log ≡ printed_of start events (ended_so_far (elements_among events) locks now)
+  pub printed : log ≡ printed_of start events (found (elements_among events) locks now)
+
+-- What is printed of the copies that have ended after these events.
+abbrev pub HasPrinted : Start → List Event → List TaggedCopy → Type 0
+HasPrinted start events log = Prints ended_so_far start events log
 
 -- What is printed where these events are all: the end closes the copy that stands open.
-pub record PrintsToEnd (start : Start) (events : List Event) (log : List TaggedCopy) : Type 0 where
-  pub locks : List Lock
-  pub now : Now
-  pub stands : IsNow (elements_among events) locks now
-  pub printed : log ≡ printed_of start events (found_to_end (elements_among events) locks now)
+abbrev pub PrintsToEnd : Start → List Event → List TaggedCopy → Type 0
+PrintsToEnd start events log = Prints found_to_end start events log

@@ -58,15 +58,23 @@ pub record IsHeardInTime (start : Start) (events : List Event) (parts : List Par
   pub close : (one other : ℕ) → IsSentAt parts message one → IsSentAt parts message other
       → (setting_at (first_setting start) events one).moment
       < (setting_at (first_setting start) events other).moment + seconds_known
-  -- at its first copy no entry of its identity is live: an entry that the first list has of it is
-  -- 66 hours old by then, or 200 came after it
-  pub unknown : IsUnknownAtFirst start.entries message.identity
-      (tagged_copies (first_setting start) events (found_to_end (elements_among events) locks now))
-  -- 200 identities suffice: fewer than 200 entries are made between its first copy and any later
-  -- one
-  pub few : FewBetween
-      (tagged_copies (first_setting start) events (found_to_end (elements_among events) locks now))
-      start message
+  -- the first of the copies that bear its identity, those before it and those after it
+  pub before : List TaggedCopy
+  pub first : TaggedCopy
+  pub after : List TaggedCopy
+  pub whole : before ++ first ∷ after
+      ≡ tagged_copies (first_setting start) events (found_to_end (elements_among events) locks now)
+  pub none_before : copies_of message.identity before ≡ []
+  pub named : IsTrue (same_identity first.identity message.identity)
+  -- there no entry of its identity is live: an entry that the first list has of it is 66 hours old by
+  -- then, or 200 came after it
+  pub unknown : is_remembered (entries_after start.entries before) first ≡ false
+  -- 200 identities suffice: fewer than 200 entries are made between it and any later copy of its
+  -- identity
+  pub few : (between more : List TaggedCopy) (later : TaggedCopy)
+      → after ≡ between ++ later ∷ more → IsTrue (same_identity later.identity message.identity)
+      → length (entries_made (entries_after start.entries (before ++ first ∷ [])) between)
+      < most_entries
 
 -- Exactly one of the printed copies bears the identity of the message: it is full, has 0 errors,
 -- and its text is the message's, letter for letter.

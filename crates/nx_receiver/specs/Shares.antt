@@ -6,7 +6,9 @@ use Rattle.nx_fec.specs.Channels.{same_channel}
 use Rattle.nx_fec.specs.declared.channel.Channel.{Channel}
 use Rattle.nx_fec.specs.declared.channel.Channel.TheVariants.{Zero, One, Two}
 use Rattle.nx_memory.specs.Saved.{SavedState, SavedStates, newest_of_all, nothing_saved}
-use Rattle.nx_receiver.specs.Events.{Event, Start, at_moment}
+use Rattle.nx_memory.specs.Selection.{Refused}
+use Rattle.nx_memory.specs.declared.entry.MemoryEntry.{MemoryEntry}
+use Rattle.nx_receiver.specs.Events.{Event, Start, at_moment, none_refused}
 use Rattle.nx_receiver.specs.FoundCopies.{TaggedCopy}
 
 -- What is given at once: a moment, which belongs to all channels; or elements or a command, which
@@ -30,17 +32,19 @@ saved_of saved Zero = saved.on_0
 saved_of saved One = saved.on_1
 saved_of saved Two = saved.on_2
 
--- with what three receivers start: one first moment for all, and what is saved of each channel
+-- with what three receivers start: one first moment for all, and for each channel the entries of
+-- the memory, oldest first, and what is refused at first
 pub record Starts : Type 0 where
   pub moment : ℕ
-  pub saved : SavedStates
+  pub entries : Channel → List MemoryEntry
+  pub refused : Channel → Refused
 
 -- with what the receiver of a channel starts
 abbrev pub start_on : Starts → Channel → Start
 start_on starts channel = record {
-  entries = (saved_of starts.saved channel).entries;
+  entries = starts.entries channel;
   moment = starts.moment;
-  refused = (saved_of starts.saved channel).refused;
+  refused = starts.refused channel;
 }
 
 -- nothing is saved of any channel: there are no entries, and everything is selected
@@ -50,11 +54,15 @@ none_saved = record { on_0 = nothing_saved; on_1 = nothing_saved; on_2 = nothing
 -- three receivers start with what is saved, at the greatest moment of a saved entry, or 0 where
 -- there is none: so no moment that they are given lies before an entry
 abbrev pub starts_from : SavedStates → Starts
-starts_from saved = record { moment = unwrap_or (newest_of_all saved) 0; saved = saved }
+starts_from saved = record {
+  moment = unwrap_or (newest_of_all saved) 0;
+  entries = λ channel. (saved_of saved channel).entries;
+  refused = λ channel. (saved_of saved channel).refused;
+}
 
 -- the start of three receivers that begin with nothing, at moment 0
 abbrev pub all_at_zero : Starts
-all_at_zero = record { moment = 0; saved = none_saved }
+all_at_zero = record { moment = 0; entries = λ channel. []; refused = λ channel. none_refused }
 
 -- a copy that is printed, and the channel on which it was heard
 pub record MarkedCopy : Type 0 where

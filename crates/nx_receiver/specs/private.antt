@@ -1,7 +1,9 @@
 pub mod Awaiting
 pub mod Heads
+pub mod Heard
 pub mod Listener
 pub mod ListenerBegins
 pub mod LockReader
 pub mod StateParts
+pub mod Taken
 pub mod Watch

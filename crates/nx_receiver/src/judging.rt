@@ -70,12 +70,7 @@ pub(crate) fn judge_head<M: Recall>(
 }
 
 /// Whether a copy of this identity is selected, and is numbered 00 or unknown to the memory.
-pub(crate) fn is_printed<M: Recall>(
-    identity: &Identity,
-    moment: u64,
-    selected: bool,
-    memory: &M,
-) -> bool
+fn is_printed<M: Recall>(identity: &Identity, moment: u64, selected: bool, memory: &M) -> bool
     requires { newest_moment (M.content memory.now) ≤ moment }
     ensures { result ≡ (selected && ((identity.now.number == 0)
         || not (is_known identity.now moment (M.content memory.now)))) }

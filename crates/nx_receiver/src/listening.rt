@@ -75,10 +75,11 @@ pub fn listen<R: Read, W: Write>(
 ) -> Result<Report, ListenFault>
     requires reader { reader.old.failures ≡ 0 }
     requires writer { writer.old.failures ≡ 0 }
-    ensures listens { Listens all_at_zero
-        (devices R.remaining W.contents reader.old reader.new writer.old writer.new) result }
-    ensures once { OnOk result (KeepsHeadline all_at_zero
-        (devices R.remaining W.contents reader.old reader.new writer.old writer.new)) }
+    ensures listens { Listens all_at_zero (R.remaining reader.old.inner)
+        (R.remaining reader.new.inner) (W.contents writer.old.inner) (W.contents writer.new.inner)
+        reader.new.failures writer.new.failures result }
+    ensures once { OnOk result (KeepsHeadline all_at_zero (R.remaining reader.old.inner)
+        (R.remaining reader.new.inner) (W.contents writer.old.inner) (W.contents writer.new.inner)) }
     ensures memory { (error : AllocError) → result ≡ Err (Memory error)
         → (reader.new ≡ reader.old) × (writer.new ≡ writer.old) }
 {
@@ -106,13 +107,13 @@ pub fn listen_from<R: Read, W: Write>(
 ) -> Result<(Report, SavedSet), ListenFault>
     requires reader { reader.old.failures ≡ 0 }
     requires writer { writer.old.failures ≡ 0 }
-    ensures listens { Listens (starts_from saved.now)
-        (devices R.remaining W.contents reader.old reader.new writer.old writer.new)
-        (reported result) }
+    ensures listens { Listens (starts_from saved.now) (R.remaining reader.old.inner)
+        (R.remaining reader.new.inner) (W.contents writer.old.inner) (W.contents writer.new.inner)
+        reader.new.failures writer.new.failures (reported result) }
     ensures left { IfOk result (λ answer. GoesOnBy saved.now
         (devices R.remaining W.contents reader.old reader.new writer.old writer.new) answer.1) }
-    ensures once { OnOk result (KeepsHeadline (starts_from saved.now)
-        (devices R.remaining W.contents reader.old reader.new writer.old writer.new)) }
+    ensures once { OnOk result (KeepsHeadline (starts_from saved.now) (R.remaining reader.old.inner)
+        (R.remaining reader.new.inner) (W.contents writer.old.inner) (W.contents writer.new.inner)) }
     ensures memory { (error : AllocError) → result ≡ Err (Memory error)
         → (reader.new ≡ reader.old) × (writer.new ≡ writer.old) }
 {

@@ -1,14 +1,14 @@
 //! The text of one lock, read from its words.
 
-ghost use Rattle.std.specs.Prelude.{◌≡◌, ◌↔◌, ◌+◌, ℕ, false, IsNone, MatchOption};
+ghost use Rattle.std.specs.Prelude.{◌≡◌, ◌↔◌, ◌+◌, ℕ, false, IsNone, IsTrue, MatchOption};
 ghost use Rattle.nx_sync.specs.Words.{role_of};
 ghost use Rattle.nx_sync.specs.declared.step.Role.{Role};
 ghost use Rattle.nx_envelope.specs.Copies.{Copy};
 ghost use Rattle.nx_envelope.specs.Finder.{Closes, ClosesHeld, ClosesNone, HasReady, held_identity, is_over, is_ready};
 ghost use Rattle.nx_envelope.specs.Found.{IsFound, IsHeadOf};
-ghost use Rattle.nx_receiver.specs.private.LockReader.{HearsWord, ReadsLock, is_open, text_after};
+ghost use Rattle.nx_receiver.specs.private.LockReader.{AreNext, HearsWord, PrintsPlain, ReadsLock, is_open, text_after};
 
-use nx_code::{Printer, Word};
+use nx_code::{Printer, WORDS_AT_ONCE, Word};
 use nx_envelope::{Finder, Found, FoundHead, Identity, TextEvent};
 use nx_fec::Diversity;
 use nx_sync::Role;
@@ -89,6 +89,31 @@ impl LockReader {
                 }
             }
         }
+    }
+
+    /// Hears the next eight words of the lock at once, of which the first is a DX word, where surely
+    /// none of them begins or ends a copy: `true` where it did. Else nothing changed, and they have
+    /// to be heard one by one.
+    // Inlined, as `hear`.
+    #[inline(always)]
+    pub(crate) fn hear_eight(&mut self, words: &[Word; WORDS_AT_ONCE]) -> bool
+        ensures stands { IsTrue result → (first : Role) (before : ℕ → ℕ) (n : ℕ)
+            → ReadsLock self.old first before n → AreNext first before n words.now
+            → ReadsLock self.new first before (n + 8) }
+        ensures brings { IsTrue result → (first : Role) (before : ℕ → ℕ) (n : ℕ)
+            → ReadsLock self.old first before n → AreNext first before n words.now
+            → PrintsPlain (text_after first before n) (text_after first before (n + 8)) }
+        ensures same { result ≡ false → self.new ≡ self.old }
+    {
+        let (mut diversity, mut printer) = (self.diversity, self.printer);
+        let classes = diversity.eight(words);
+        let four = printer.print_four(&classes);
+        if !self.finder.hear_plain(four.bytes, four.count) {
+            return false;
+        }
+        self.diversity = diversity;
+        self.printer = printer;
+        true
     }
 
     /// The identity of the copy that stands open, or that can be taken.

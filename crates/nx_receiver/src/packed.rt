@@ -1,40 +1,22 @@
-//! Elements of a line that are packed, taken out one by one or word by word. What runs for each word
-//! is inlined always, since a call would cost more than its few instructions.
+//! Eight words of a line's elements that are packed, taken out at once.
 
-ghost use Rattle.std.specs.Prelude.{◌≡◌, ◌+◌, ◌<◌, ◌≤◌, ◌^◌, [], ◌∷◌, length, take, drop};
-ghost use Rattle.nx_code.specs.Word.{elements, elements_from};
+ghost use Rattle.std.specs.Prelude.{◌≡◌, ◌+◌, ◌≤◌, length, take, drop};
+ghost use Rattle.std.specs.List.{flat_map};
+ghost use Rattle.nx_code.specs.Word.{elements};
 
-use nx_code::{ELEMENTS, Word, elements_at, packed_word};
+use nx_code::{ELEMENTS, WORDS_AT_ONCE, Word, elements_at, words_of};
 use nx_fec::PackedElements;
 
-/// The element at this place.
-#[inline(always)]
-pub(crate) fn element(packed: &PackedElements, place: usize) -> bool
-    requires { place < length packed.now }
-    ensures { result ∷ [] ≡ take 1 (drop place packed.now) }
-{
-    part(packed, place, 1) % 2 == 1
-}
+/// How many elements eight words have.
+pub(crate) const EIGHT_WORDS: usize = WORDS_AT_ONCE * ELEMENTS;
 
-/// The word of the seven elements from this place on.
+/// The eight words of the 56 elements from this place on.
+// Inlined always, since a call would cost more than its few instructions.
 #[inline(always)]
-pub(crate) fn word(packed: &PackedElements, place: usize) -> Word
-    requires { place + 7 ≤ length packed.now }
-    ensures { elements result ≡ take 7 (drop place packed.now) }
-{
-    packed_word(part(packed, place, ELEMENTS))
-}
-
-/// The elements from this place on, so many of them, as a number with the first one in the least
-/// place.
-#[inline(always)]
-pub(crate) fn part(packed: &PackedElements, place: usize, count: usize) -> u64
-    requires some { 0 < count }
-    requires few { count ≤ 56 }
-    requires room { place + count ≤ length packed.now }
-    ensures elements { elements_from count result ≡ take count (drop place packed.now) }
-    ensures within { result < 2 ^ count }
+pub(crate) fn eight_words(packed: &PackedElements, place: usize) -> [Word; WORDS_AT_ONCE]
+    requires { place + 56 ≤ length packed.now }
+    ensures { flat_map elements result ≡ take 56 (drop place packed.now) }
 {
     let _ = packed.len();
-    elements_at(packed.words(), place, count)
+    words_of(elements_at(packed.words(), place, EIGHT_WORDS))
 }

@@ -1,9 +1,9 @@
 //! The receiver: elements, moments and commands in, entries out.
 
-ghost use Rattle.std.specs.Prelude.{◌≡◌, ◌≢◌, ◌↔◌, ℕ, Option, MatchResult, false, ◌+◌, ◌<◌, ◌≤◌, ◌==◌, ◌&&◌, ◌||◌, not, List, [], ◌∷◌, ◌++◌, length, take, drop, IfErr, IfOk, IfSome, IsErr, IsNone, IsSome, IsTrue, OnErr, OnOk};
+ghost use Rattle.std.specs.Prelude.{◌≡◌, ◌≢◌, ◌↔◌, ℕ, Option, MatchResult, false, ◌+◌, ◌<◌, ◌≤◌, ◌==◌, ◌||◌, not, List, [], ◌++◌, length, take, drop, IfErr, IfOk, IfSome, IsErr, IsNone, IsSome, IsTrue, OnErr, OnOk};
 ghost use Rattle.nx_envelope.specs.Moment.{last_moment};
 ghost use Rattle.nx_code.specs.Lists.{last_of};
-ghost use Rattle.nx_memory.specs.Memory.{is_known, most_entries, newest_moment};
+ghost use Rattle.nx_memory.specs.Memory.{most_entries, newest_moment};
 ghost use Rattle.nx_memory.specs.declared.entry.MemoryEntry.{MemoryEntry};
 ghost use Rattle.nx_memory.specs.Selection.{admits, is_vital};
 ghost use Rattle.nx_receiver.specs.Chain.{Leaves};
@@ -17,7 +17,6 @@ ghost use Rattle.nx_receiver.specs.private.Heads.{headed_list};
 ghost use Rattle.nx_receiver.specs.private.LockReader.{is_open};
 ghost use Rattle.nx_receiver.specs.FoundCopies.{TaggedCopy};
 ghost use Rattle.nx_receiver.specs.private.Watch.{handed_out};
-ghost use Rattle.nx_receiver.specs.declared.over.Over.TheVariants as overs;
 ghost use Rattle.nx_receiver.specs.declared.over.Over.TheVariants.{CopyAndLock, Lock, Nothing};
 ghost use Rattle.nx_envelope.specs.Copies.{Copy};
 ghost use Rattle.nx_envelope.specs.Finder.{HasReady};
@@ -27,7 +26,7 @@ ghost use Rattle.nx_fec.specs.Transfers.{FailsOnce, WroteSome};
 
 use crate::entry::Entry;
 use crate::fault::{MomentFault, ReceiverFault};
-use crate::judging::{is_printed, judge, judge_head};
+use crate::judging::{judge, judge_head};
 use crate::over::{CopyTag, Over};
 use crate::watch::Watch;
 use crate::writing::give_entry;
@@ -237,9 +236,9 @@ impl<M: Recall> Receiver<M> {
         print_copy(found, watch.tag(), &mut memory)
     }
 
-    /// Hears elements up to and with the first one with which something is over that may bring an
-    /// entry, all of them where nothing is; says how many, and what is over: `finish` is due then,
-    /// before anything else is heard.
+    /// Hears elements up to and with the first one with which something is over, all of them where
+    /// nothing is; says how many, and what is over: `finish` or `give` is due then, before anything
+    /// else is heard.
     // Not inlined, so that its loops have their registers to themselves; its answer is small.
     #[inline(never)]
     pub(crate) fn hear(&mut self, packed: &PackedElements, from: usize) -> (usize, Over)
@@ -251,16 +250,7 @@ impl<M: Recall> Receiver<M> {
         ensures all { result.1 ≡ Nothing → from + result.0 ≡ length packed.now }
         ensures some { from < length packed.now → 0 < result.0 }
     {
-        let end = packed.len();
-        let mut heard = 0;
-        while from + heard < end {
-            let (count, over) = self.hear_part(packed, from + heard);
-            heard += count;
-            if over != Over::Nothing {
-                return (heard, over);
-            }
-        }
-        (heard, Over::Nothing)
+        self.watch.hear(packed, from)
     }
 
     /// Hears elements that aren't packed, as `hear` does.
@@ -292,72 +282,6 @@ impl<M: Recall> Receiver<M> {
         let mut packed = PackedElements::new();
         packed.pack_bits(&bits[..bits.len().min(MAX_ELEMENTS)]);
         self.hear(&packed, 0)
-    }
-
-    /// Hears elements up to and with the first one with which anything is over, and passes over it
-    /// where it surely brings no entry.
-    // Inlined, since `hear` alone calls it.
-    #[inline(always)]
-    fn hear_part(&mut self, packed: &PackedElements, from: usize) -> (usize, Over)
-        requires { from ≤ length packed.now }
-        ensures within { from + result.0 ≤ length packed.now }
-        ensures stands { HearsUpTo M.content self.old self.new
-            (take result.0 (drop from packed.now)) result.1 }
-        ensures first { HandsOutNoneBefore M.content self.old (drop from packed.now) result.0 }
-        ensures some { from < length packed.now → 0 < result.0 }
-    {
-        let (count, over) = self.watch.hear(packed, from);
-        (count, self.pass_over(over))
-    }
-
-    /// Passes over what is over where it surely brings no entry: a copy that can be taken and isn't
-    /// printed, and a lock in which no copy stands open. Answers what is over then.
-    // Inlined, so that nothing over costs a comparison and no call.
-    #[inline(always)]
-    fn pass_over(&mut self, over: Over) -> Over
-        ensures { PassesOver M.content self.old self.new over result }
-    {
-        if over == Over::Nothing {
-            return over;
-        }
-        self.judge_over(over)
-    }
-
-    /// What is left of what is over, something, by the copy that is held.
-    // Not inlined, since it is rarely called.
-    #[inline(never)]
-    fn judge_over(&mut self, over: Over) -> Over
-        ensures { PassesOver M.content self.old self.new over result }
-    {
-        match over {
-            Over::Copy => self.judge_copy(),
-            Over::Lock => self.judge_lock(),
-            Over::Nothing | Over::CopyAndLock => over,
-        }
-    }
-
-    /// What is left where a copy is over, which can be taken: nothing where it isn't printed.
-    fn judge_copy(&self) -> Over
-        ensures { PassesOver M.content self.now self.now overs.Copy result }
-    {
-        let Some(identity) = self.watch.identity() else {
-            return Over::Copy;
-        };
-        if self.prints(&identity) {
-            return Over::Copy;
-        }
-        Over::Nothing
-    }
-
-    /// What is left where a lock is over: nothing where no copy stands open in it.
-    fn judge_lock(&mut self) -> Over
-        ensures { PassesOver M.content self.old self.new Lock result }
-    {
-        if self.watch.identity().is_some() {
-            return Over::Lock;
-        }
-        self.watch.restart();
-        Over::Nothing
     }
 
     /// The entry of the copy that is over, where one is and it is printed.
@@ -481,18 +405,6 @@ impl<M: Recall> Receiver<M> {
         if over == Over::CopyAndLock {
             self.watch.restart();
         }
-    }
-
-    /// Whether a copy of this identity, the one that is held, is printed.
-    fn prints(&self, identity: &Identity) -> bool
-        ensures { result ≡ (self.now.watch.tag.is_selected && ((identity.now.number == 0)
-            || not (is_known identity.now self.now.watch.tag.moment (M.content self.now.memory)))) }
-    {
-        let CopyTag {
-            moment,
-            is_selected,
-        } = self.watch.tag();
-        is_printed(identity, moment, is_selected, &self.memory)
     }
 }
 

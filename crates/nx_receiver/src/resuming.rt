@@ -67,8 +67,8 @@ fn log_from<R: Read, W: Write>(
     requires writer { writer.old.failures ≡ 0 }
     ensures resumes { ResumesBy (AnswersAir wants.Log saved.now) wants.Log
         (devices R.remaining W.contents reader.old reader.new writer.old writer.new) result }
-    ensures once { OnOk result (KeepsHeadline (starts_from saved.now)
-        (devices R.remaining W.contents reader.old reader.new writer.old writer.new)) }
+    ensures once { OnOk result (KeepsHeadline (starts_from saved.now) (R.remaining reader.old.inner)
+        (R.remaining reader.new.inner) (W.contents writer.old.inner) (W.contents writer.new.inner)) }
     ensures memory { (error : AllocError) → result ≡ Err (Listen (Memory error))
         → (reader.new ≡ reader.old) × (writer.new ≡ writer.old) }
 {

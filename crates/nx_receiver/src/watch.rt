@@ -3,6 +3,7 @@
 //! answer.
 
 ghost use Rattle.std.specs.Prelude.{◌≡◌, ◌≢◌, ◌+◌, ◌<◌, ◌≤◌, List, Bool, [], ◌∷◌, ◌++◌, ◌↔◌, length, not, take, drop, false, IfOk, IfErr, IsErr, IsNone, IsTrue, MatchOption, OnErr, OnOk};
+ghost use Rattle.std.specs.List.{flat_map};
 ghost use Rattle.nx_code.specs.Word.{elements};
 ghost use Rattle.nx_sync.specs.Synchroniser.{is_between_words, is_hunting};
 ghost use Rattle.nx_envelope.specs.Copies.{Copy};
@@ -19,8 +20,8 @@ ghost use Rattle.nx_receiver.specs.declared.over.Over.TheVariants.{Lock, Nothing
 
 use crate::lock_reader::LockReader;
 use crate::over::{CopyTag, Over};
-use crate::packed::{element, word};
-use nx_code::{ELEMENTS, Word};
+use crate::packed::{EIGHT_WORDS, eight_words};
+use nx_code::{ELEMENTS, WORDS_AT_ONCE, Word};
 use nx_envelope::{Found, FoundHead, Identity, Letter, TextEvent};
 use nx_fec::PackedElements;
 use nx_memory::{Selection, Vital};
@@ -161,7 +162,7 @@ impl Watch {
         if self.is_between_words() && packed.len() - from >= ELEMENTS {
             return self.hear_words(packed, from);
         }
-        (1, self.hear_element(element(packed, from)))
+        (1, self.hear_element(packed.get(from)))
     }
 
     /// Hunts: hears elements up to and with the one that locks, all of them where none does.
@@ -179,7 +180,7 @@ impl Watch {
         if count == left {
             return (count, Over::Nothing);
         }
-        (count + 1, self.hear_element(element(packed, from + count)))
+        (count + 1, self.hear_element(packed.get(from + count)))
     }
 
     /// Hears whole words, as many as there are up to the first with which anything is over.
@@ -194,13 +195,35 @@ impl Watch {
     {
         let mut heard = 0;
         while packed.len() - from - heard >= ELEMENTS {
-            let over = self.hear_word(word(packed, from + heard));
-            heard += ELEMENTS;
+            let (count, over) = self.hear_some_words(packed, from + heard);
+            heard += count;
             if over != Over::Nothing || !self.is_between_words() {
                 return (heard, over);
             }
         }
         (heard, Over::Nothing)
+    }
+
+    /// Hears eight whole words at once where they are there and nothing can be over with them, else
+    /// one word. Eight are tried only where there is a copy, since without one they are never
+    /// heard.
+    // Inlined, as `hear_word`.
+    #[inline(always)]
+    fn hear_some_words(&mut self, packed: &PackedElements, from: usize) -> (usize, Over)
+        requires limit { IsTrue (is_between_words self.old.synchroniser) }
+        requires some { from + 7 ≤ length packed.now }
+        ensures within { from + result.0 ≤ length packed.now }
+        ensures some { 0 < result.0 }
+        ensures hears { HearsAll self.old self.new (take result.0 (drop from packed.now)) result.1 }
+        ensures force { in_force self.new ≡ in_force self.old }
+        ensures tag { TagGoesOn self.old self.new }
+    {
+        if (packed.len() - from >= EIGHT_WORDS) & self.identity().is_some() {
+            if self.hear_eight(&eight_words(packed, from)) {
+                return (EIGHT_WORDS, Over::Nothing);
+            }
+        }
+        (ELEMENTS, self.hear_word(packed.word_at(from)))
     }
 
     /// Whether a lock stands.
@@ -219,6 +242,30 @@ impl Watch {
         ensures { result ≡ is_between_words self.now.synchroniser }
     {
         self.synchroniser.is_between_words()
+    }
+
+    /// Hears the next eight words of the lock at once, where surely nothing is over with any of
+    /// them and no copy begins: `true` where it did. Else nothing changed, and they have to be heard
+    /// one by one.
+    // Inlined, as `hear_word`.
+    #[inline(always)]
+    fn hear_eight(&mut self, words: &[Word; WORDS_AT_ONCE]) -> bool
+        requires { IsTrue (is_between_words self.old.synchroniser) }
+        ensures hears { IsTrue result → HearsAll self.old self.new (flat_map elements words.now)
+            Nothing }
+        ensures limit { IsTrue (is_between_words self.new.synchroniser) }
+        ensures same { result ≡ false → self.new ≡ self.old }
+        ensures force { in_force self.new ≡ in_force self.old }
+        ensures tag { TagGoesOn self.old self.new }
+    {
+        if !self.synchroniser.keeps_lock(words) {
+            return false;
+        }
+        if !self.reader.hear_eight(words) {
+            return false;
+        }
+        self.synchroniser.push_eight(words);
+        true
     }
 
     /// Hears the next word of the lock.
@@ -341,7 +388,7 @@ impl Watch {
     /// The identity of the copy that stands open, or that can be taken.
     // Inlined, as that of the reader.
     #[inline(always)]
-    pub(crate) fn identity(&self) -> Option<Identity>
+    fn identity(&self) -> Option<Identity>
         ensures { result ≡ held_identity self.now.reader.finder.copy }
     {
         self.reader.identity()

@@ -10,7 +10,8 @@ use Rattle.nx_code.specs.declared.shifts.Shift.TheVariants.{Letters, Figures}
 use Rattle.nx_envelope.specs.Message.{MessageView}
 use Rattle.nx_envelope.specs.declared.identity.Identity.{Identity}
 use Rattle.nx_fec.specs.Emission.{SentPosition, phasing_position, traffic_position, end_position, position_at}
-use Rattle.nx_station.specs.Broadcast.{IsSpelled, AreSpelled, digit_combination, ending, head, layout, letter_combination, phasing_and_message, first_phasing, further_phasing, end_positions}
+use Rattle.nx_station.specs.Broadcast.{IsSpelled, AreSpelled, digit_combination, ending, head, layout, phasing_and_message, first_phasing, further_phasing, end_positions}
+use Rattle.nx_station.specs.private.Heads.{letter_combination}
 use Rattle.nx_station.specs.Sendings.{Tells}
 use Rattle.nx_station.proofs.HeadLemmas.{digit_combination-range}
 

@@ -12,7 +12,8 @@ use Rattle.nx_code.proofs.SpellingLemmas.{number_of_shift, after_character, afte
 use Rattle.nx_envelope.specs.Message.{text_of, MessageView}
 use Rattle.nx_envelope.specs.declared.identity.Identity.{Identity}
 use Rattle.nx_fec.specs.Emission.{SentPosition, phasing_position, traffic_position, end_position, reception}
-use Rattle.nx_station.specs.Broadcast.{IsSpelled, AreSpelled, IsBroadcast, head, ending, phasing_and_message, layout, header, printed_text, letter_combination, digit_combination, first_phasing, further_phasing, end_positions}
+use Rattle.nx_station.specs.Broadcast.{IsSpelled, AreSpelled, IsBroadcast, head, ending, phasing_and_message, layout, header, printed_text, digit_combination, first_phasing, further_phasing, end_positions}
+use Rattle.nx_station.specs.private.Heads.{letter_combination}
 use Rattle.nx_station.specs.Sendings.{Tells}
 use Rattle.nx_station.proofs.ChannelPositions.{spelled-tells}
 use Rattle.nx_station.proofs.HeadLemmas.{letter_combination-prints, digit_combination-prints, digit_combination-range}

@@ -13,20 +13,17 @@ use Rattle.nx_envelope.specs.Message.{text_of, MessageView}
 use Rattle.nx_envelope.specs.declared.identity.Identity.{Identity}
 use Rattle.nx_fec.specs.Emission.{SentPosition, phasing_position, traffic_position, end_position}
 
--- the combination of a letter by its byte: that of A (65) is 1, that of Z (90) is 26
-abbrev pub letter_combination : ℕ → ℕ
-letter_combination byte = byte - 64
-
 -- the combinations whose figures are the digits 0 to 9
 abbrev pub digit_combination : ℕ → ℕ
 digit_combination digit = slice_index (16 ∷ 17 ∷ 23 ∷ 5 ∷ 18 ∷ 20 ∷ 25 ∷ 21 ∷ 9 ∷ 15 ∷ []) digit
 
 -- The head of a message: letter shift (29), Z, C, Z, C, space (31), station, subject, figure shift
--- (30), the two digits of the number, carriage return (27) and line feed (28).
+-- (30), the two digits of the number, carriage return (27) and line feed (28). The combination of a
+-- letter is 1 for A, whose byte is 65, to 26 for Z.
 unfoldable pub head : Identity → List ℕ
 head identity =
     29 ∷ 26 ∷ 3 ∷ 26 ∷ 3 ∷ 31
-    ∷ letter_combination identity.b1.byte ∷ letter_combination identity.b2.byte
+    ∷ (identity.b1.byte - 64) ∷ (identity.b2.byte - 64)
     ∷ 30 ∷ digit_combination (identity.number / 10) ∷ digit_combination (identity.number % 10)
     ∷ 27 ∷ 28 ∷ []
 
@@ -69,7 +66,7 @@ layout [] = []
 layout (numbers ∷ spellings) =
     phasing_and_message first_phasing numbers
     ++ (flat_map (phasing_and_message further_phasing) spellings
-    ++ replicate end_positions end_position)
+    ++ replicate 3 end_position)
 
 -- the positions of a list of messages
 pub record IsBroadcast (messages : List MessageView) (positions : List SentPosition) : Type 0 where

@@ -1,10 +1,10 @@
 -- The channel: in which words an emission may be received (this profile). Words are those of slots;
 -- what arrives of the slots before the first slot belongs to the gap before the emission.
-use Rattle.std.specs.Prelude.{◌≡◌, ◌≢◌, ℕ, zero, suc, ◌+◌, ◌-◌, ◌*◌, ◌<◌, ◌≤◌, ◌⊎◌, List, [], ◌∷◌, length, slice_index}
+use Rattle.std.specs.Prelude.{◌≡◌, ◌≢◌, ℕ, zero, suc, ◌+◌, ◌-◌, ◌*◌, ◌<◌, ◌≤◌, ◌⊎◌, List, [], ◌∷◌, length, slice_index, EachIndex}
 use Rattle.nx_code.specs.Table.{phasing_1, phasing_2}
 use Rattle.nx_code.specs.Word.{weight}
 use Rattle.nx_station.specs.Broadcast.{first_phasing}
-use Rattle.nx_fec.specs.Emission.{SentPosition, end_position, position_at, word_sent, AreWords}
+use Rattle.nx_fec.specs.Emission.{SentPosition, end_position, position_at, word_sent}
 
 -- how many positions of the phasing before the first message are received, the last ones
 abbrev pub phasing_received : ℕ
@@ -34,9 +34,9 @@ slots_of positions = 2 * length positions - 1
 abbrev pub heard_in : List ℕ → ℕ → ℕ
 heard_in heard slot = slice_index heard (slot - first_slot)
 
--- the word of the slot is heard as it was sent
+-- the word of the slot is heard as it was sent, where these are heard from the first slot on
 abbrev pub IsAsSent : List SentPosition → List ℕ → ℕ → Type 0
-IsAsSent positions heard slot = heard_in heard slot ≡ word_sent positions slot
+IsAsSent positions heard slot = slice_index heard (slot - first_slot) ≡ word_sent positions slot
 
 -- The emission of these positions passes the channel, and these are the words that are heard from
 -- the first slot on, to its last slot, 2P-2 of P positions, each by its number. The words before
@@ -44,11 +44,12 @@ IsAsSent positions heard slot = heard_in heard slot ≡ word_sent positions slot
 -- of each position behind the first phasing that isn't one of the end, at least one of its two
 -- words, in the slots 2i and 2i+5, is as sent.
 pub record PassesChannel (positions : List SentPosition) (heard : List ℕ) : Type 0 where
-  pub words : AreWords heard
+  pub words : EachIndex heard (λ slot. slice_index heard slot < 128)
   pub whole : first_slot + length heard ≡ 2 * length positions - 1
-  pub phasing : (slot : ℕ) → first_slot ≤ slot → slot < message_slot → IsAsSent positions heard slot
-  pub later : (slot : ℕ) → message_slot ≤ slot → slot < 2 * length positions - 1
-      → IsAsSent positions heard slot ⊎ (weight (heard_in heard slot) ≢ 4)
+  pub phasing : (slot : ℕ) → first_slot ≤ slot → slot < 2 * first_phasing
+      → IsAsSent positions heard slot
+  pub later : (slot : ℕ) → 2 * first_phasing ≤ slot → slot < 2 * length positions - 1
+      → IsAsSent positions heard slot ⊎ (weight (slice_index heard (slot - first_slot)) ≢ 4)
   pub one_of_two : (i : ℕ) → first_phasing ≤ i → i < length positions
       → position_at positions i ≢ end_position
       → IsAsSent positions heard (2 * i) ⊎ IsAsSent positions heard (2 * i + 5)

@@ -1,4 +1,5 @@
-pub mod MessageParts
-pub mod PrintedText
 pub mod DamageTaker
 pub mod DamageWalk
+pub mod Heads
+pub mod MessageParts
+pub mod PrintedText

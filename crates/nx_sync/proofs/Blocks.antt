@@ -1,179 +1,200 @@
--- At most 19 packed elements heard at once: what is held after them, and that none of them ends a
--- pattern where the first of them
--- and the nine elements before it do not stand in one.
-use Rattle.std.proofs.Common.{◌≡◌, ℕ, ◌+◌, ◌-◌, ◌*◌, ◌/◌, ◌%◌, ◌^◌, ◌<◌, ◌≤◌, ◌==◌, zero, suc, min, List, [], ◌∷◌, ◌++◌, length, take, drop, get_or, Bool, true, false, refl, sym, ap, subst, ◌∙◌, inl, inr, arith, length-append, length-drop, length-take, drop-drop}
-use Rattle.std.proofs.Math.Nat.{mul_comm}
-use Rattle.std.proofs.Math.Pow.{shl_lt}
-use Rattle.std.proofs.Math.Seq.{take-add}
-use Rattle.std.proofs.lemmas.Bool.{cases_eq, cases_Bool, both_ways, agree_below_at, ne_eqb}
-use Rattle.std.proofs.lemmas.List.{drop-append-le, take_at, take_all}
-use Rattle.nx_code.specs.Word.{number_of, elements_from, elements}
-use Rattle.nx_sync.specs.Locks.{before_dx, before_rx}
+-- Tens of elements, one of which each window after one of 64 elements has: where none of the four
+-- tens stands in a pattern, no window is one.
+use Rattle.std.proofs.Common.{◌≡◌, ℕ, ◌+◌, ◌-◌, ◌/◌, ◌%◌, ◌^◌, ◌<◌, ◌≤◌, ◌==◌, zero, suc, min, List, length, take, get_or, Bool, true, false, not, ◌&&◌, ◌||◌, refl, sym, ap, ◌∙◌, inl, inr, arith, length-take}
+use Rattle.std.proofs.lemmas.Bool.{cases_eq, cases_lt, cases_Bool, both_ways, or_parts, agree_below_at, ne_eqb}
+use Rattle.std.proofs.lemmas.Nat.{shr-shr, field_of}
+use Rattle.std.proofs.Math.Pow.{mod-mod-pow}
+use Rattle.nx_code.specs.Word.{elements_from}
+use Rattle.nx_code.proofs.PackedLemmas.{length-elements_from, elements_from-take, value_of-odd}
+use Rattle.nx_sync.specs.declared.packed.TheConstants.{BLOCKS}
 use Rattle.nx_sync.specs.Windows.{window_before_dx, window_before_rx, is_lock_window}
-use Rattle.nx_sync.specs.private.Windows.{blocks, is_one_of, is_block, next_window, window_after}
+use Rattle.nx_sync.specs.private.Windows.{blocks, is_one_of, is_block, joined, window_in, block_in, may_lock_in_blocks, may_lock_in_both, IsBeforeLockIn, next_window, window_after}
 use Rattle.nx_sync.specs.Synchroniser.{Held}
 use Rattle.nx_sync.specs.private.Calls.{Skips}
-use Rattle.nx_sync.proofs.Numbers.{length-elements_from, number_of-elements_from, number_of-append, number_of-drop}
-use Rattle.nx_sync.proofs.Patterns.{is_dx_window, is_rx_window}
-use Rattle.nx_sync.proofs.Hearing.{window_after-append, window_after-one, same_parts}
-use Rattle.nx_sync.proofs.Hunting.{quiet_window}
-use Rattle.nx_sync.proofs.Strides.{window_after-list}
-
--- the ten elements before the others, in a pattern that these complete
-last_ten : (xs bits : List Bool) → length xs ≡ 28 → length bits ≤ 18 → (pattern : List Bool)
-    → drop (length bits) xs ++ bits ≡ pattern
-    → drop 18 xs ≡ take 10 (drop (18 - length bits) pattern)
-last_ten xs bits l few pattern e =
-    let i : length bits + (18 - length bits) ≡ 18 = omega arith in
-    let m : length (drop 18 xs) ≡ 10 = simp length-drop (omega arith) in
-    let n : 18 - length bits ≤ length (drop (length bits) xs) = simp length-drop (omega arith) in
-    sym (take_at (drop 18 xs) bits 10 m)
-    ∙ ap (take 10) (
-    ap (λ zs. zs ++ bits) (ap (λ j. drop j xs) (sym i)
-    ∙ sym (drop-drop (18 - length bits) (length bits) xs))
-    ∙ (sym (drop-append-le (18 - length bits) (drop (length bits) xs) bits n)
-    ∙ ap (drop (18 - length bits)) e))
-
--- ten elements in a row of the patterns
-in_before_dx : (i : ℕ) → i < 19 → is_block (number_of (take 10 (drop i before_dx))) ≡ true
-unfolding number_of before_dx blocks is_one_of elements elements_from
-in_before_dx i h = agree_below_at (λ i. is_block (number_of (take 10 (drop i before_dx))))
-    (λ _. true) 19 i refl h
-
-in_before_rx : (i : ℕ) → i < 19 → is_block (number_of (take 10 (drop i before_rx))) ≡ true
-unfolding number_of before_rx blocks is_one_of elements elements_from
-in_before_rx i h = agree_below_at (λ i. is_block (number_of (take 10 (drop i before_rx))))
-    (λ _. true) 19 i refl h
-
-locks_in_block : (xs bits : List Bool) → length xs ≡ 28 → length bits ≤ 18
-    → is_lock_window (number_of (drop (length bits) xs ++ bits)) ≡ true
-    → is_block (number_of xs / 2 ^ 18) ≡ true
-locks_in_block xs bits l few h =
-    let m : length (drop (length bits) xs ++ bits) ≡ 28 =
-    simp (length-append, length-drop) (omega arith) in
-    let w : ℕ = number_of (drop (length bits) xs ++ bits) in
-    let last = ap is_block (sym (number_of-drop 18 xs)) in
-    elim (cases_eq w window_before_dx) [
-      | inl d ↦ last ∙ (ap (λ zs. is_block (number_of zs))
-          (last_ten xs bits l few before_dx (is_dx_window (drop (length bits) xs ++ bits) m d))
-          ∙ in_before_dx (18 - length bits) (omega arith))
-      | inr nd ↦ elim (cases_eq w window_before_rx) [
-        | inl r ↦ last ∙ (ap (λ zs. is_block (number_of zs))
-            (last_ten xs bits l few before_rx (is_rx_window (drop (length bits) xs ++ bits) m r))
-            ∙ in_before_rx (18 - length bits) (omega arith))
-        | inr nr ↦ absurd (both_ways _
-            (rw (ne_eqb w window_before_dx nd, ne_eqb w window_before_rx nr) refl) h)
-      ]
-    ]
+use Rattle.nx_sync.proofs.Hearing.{next_window-lt, same_parts}
+use Rattle.nx_sync.proofs.Hunting.{quiet_window, lock_role}
 
 -- the table of the code
-abbrev table : List ℕ
-table =
-    0x8000000000000000 ∷ 0x4000000000000000 ∷ 0 ∷ 0x1000000000000008
-    ∷ 0 ∷ 0 ∷ 0x80 ∷ 0x200000000000000
-    ∷ 0x80000000 ∷ 0x200000000 ∷ 0 ∷ 0
-    ∷ 0x1000000008000 ∷ 0 ∷ 0x1000000 ∷ 0x8004000001000 ∷ []
-
-pub in_table : (block : ℕ) → block < 1024
-    → (get_or table (block / 64) 0 / 2 ^ (block % 64) % 2 == 1) ≡ is_block block
+pub in_table : (elements : ℕ) → elements < 1024
+    → not (get_or BLOCKS elements 0 == 0) ≡ is_block elements
 unfolding blocks is_one_of
-in_table block h = agree_below_at (λ b. get_or table (b / 64) 0 / 2 ^ (b % 64) % 2 == 1) is_block
-    1024 block refl h
+in_table elements h =
+    agree_below_at (λ n. not (get_or BLOCKS n 0 == 0)) is_block 1024 elements refl h
 
--- so no window ends in a pattern from one whose ten last elements are none, until these have gone
--- to its front
-block_clear : (window : ℕ) (bits : List Bool) → window < 2 ^ 28 → is_block (window / 2 ^ 18) ≡ false
-    → length bits ≤ 18 → is_lock_window (window_after window bits) ≡ false
-block_clear window bits h out few =
-    let l = length-elements_from 28 window in
-    let e = number_of-elements_from 28 window h in
-    let f = ap (λ w. window_after w bits) (sym e)
-    ∙ window_after-list bits (elements_from 28 window) l (omega arith) in
-    elim (cases_Bool (is_lock_window (window_after window bits))) [
+-- ten elements in a row of the patterns
+in_before_dx : (i : ℕ) → i < 19 → is_block (window_before_dx / 2 ^ i % 2 ^ 10) ≡ true
+unfolding blocks is_one_of
+in_before_dx i h = agree_below_at (λ i. is_block (window_before_dx / 2 ^ i % 2 ^ 10)) (λ _. true) 19
+    i refl h
+
+in_before_rx : (i : ℕ) → i < 19 → is_block (window_before_rx / 2 ^ i % 2 ^ 10) ≡ true
+unfolding blocks is_one_of
+in_before_rx i h = agree_below_at (λ i. is_block (window_before_rx / 2 ^ i % 2 ^ 10)) (λ _. true) 19
+    i refl h
+
+block_of_pattern : (window i : ℕ) → i < 19 → is_lock_window window ≡ true
+    → is_block (window / 2 ^ i % 2 ^ 10) ≡ true
+block_of_pattern window i h lock = elim (cases_eq window window_before_dx) [
+  | inl d ↦ ap (λ w. is_block (w / 2 ^ i % 2 ^ 10)) d ∙ in_before_dx i h
+  | inr nd ↦ elim (cases_eq window window_before_rx) [
+    | inl r ↦ ap (λ w. is_block (w / 2 ^ i % 2 ^ 10)) r ∙ in_before_rx i h
+    | inr nr ↦ absurd (both_ways _
+        (rw (ne_eqb window window_before_dx nd, ne_eqb window window_before_rx nr) refl) lock)
+  ]
+]
+
+-- some places of a number that has lost its highest ones
+part_of_part : (x n k m : ℕ) → k + m ≤ n → x % 2 ^ n / 2 ^ k % 2 ^ m ≡ x / 2 ^ k % 2 ^ m
+part_of_part x n k m h =
+    let all : n - k + k ≡ n = omega arith in
+    let rest : n - k - m + m ≡ n - k = omega arith in
+    ap (λ i. x % 2 ^ i / 2 ^ k % 2 ^ m) (sym all)
+    ∙ (ap (λ v. v % 2 ^ m) (field_of x (n - k) k)
+    ∙ (ap (λ i. x / 2 ^ k % 2 ^ i % 2 ^ m) (sym rest) ∙ mod-mod-pow (x / 2 ^ k) (n - k - m) m))
+
+-- so no window that has such ten elements is a pattern
+clear_round : (joined place k : ℕ) → k ≤ place → place ≤ k + 18
+    → is_block (block_in joined place) ≡ false → is_lock_window (window_in joined k) ≡ false
+clear_round joined place k low high out =
+    let i : k + (place - k) ≡ place = omega arith in
+    let e : window_in joined k / 2 ^ (place - k) % 2 ^ 10 ≡ block_in joined place =
+    part_of_part (joined / 2 ^ k) 28 (place - k) 10 (omega arith)
+    ∙ (ap (λ v. v % 2 ^ 10) (shr-shr joined k (place - k)) ∙ ap (block_in joined) i) in
+    elim (cases_Bool (is_lock_window (window_in joined k))) [
       | inr none ↦ none
-      | inl here ↦ absurd (both_ways _ out
-          (ap (λ w. is_block (w / 2 ^ 18)) (sym e)
-          ∙ locks_in_block (elements_from 28 window) bits l few (ap is_lock_window (sym f) ∙ here)))
+      | inl here ↦ absurd (both_ways _ out (ap is_block (sym e)
+          ∙ block_of_pattern (window_in joined k) (place - k) (omega arith) here))
     ]
 
+module _ (joined : ℕ) where
+  here : ℕ → Bool
+  here place = is_block (block_in joined place)
+
+  quiet_windows : (k : ℕ) → may_lock_in_blocks joined ≡ false → 0 < k → k ≤ 64
+      → is_lock_window (window_in joined k) ≡ false
+  unfolding here
+  quiet_windows k out some few =
+      let last = or_parts (here 18 || here 37 || here 56) (here 75) out in
+      let third = or_parts (here 18 || here 37) (here 56) last.0 in
+      let two = or_parts (here 18) (here 37) third.0 in
+      elim (cases_lt 18 k) [
+        | inr one ↦ clear_round joined 18 k one (omega arith) two.0
+        | inl later ↦ elim (cases_lt 37 k) [
+          | inr one ↦ clear_round joined 37 k one (omega arith) two.1
+          | inl later ↦ elim (cases_lt 56 k) [
+            | inr one ↦ clear_round joined 56 k one (omega arith) third.1
+            | inl later ↦ clear_round joined 75 k (omega arith) (omega arith) last.1
+          ]
+        ]
+      ]
+
+  -- by two tens
+  clear_by_two : (place k : ℕ) → 9 ≤ place → k ≤ place → place ≤ k + 18
+      → (here place && (here (place - 9) || here (place + 10))) ≡ false
+      → is_lock_window (window_in joined k) ≡ false
+  unfolding here
+  clear_by_two place k nine low high out = elim (cases_Bool (here place)) [
+    | inr none ↦ clear_round joined place k low high none
+    | inl this ↦
+        let others = or_parts (here (place - 9)) (here (place + 10))
+        (sym (ap (λ b. b && (here (place - 9) || here (place + 10))) this) ∙ out) in
+        elim (cases_lt (place - 9) k) [
+          | inr before ↦ clear_round joined (place - 9) k before (omega arith) others.0
+          | inl behind ↦ clear_round joined (place + 10) k (omega arith) (omega arith) others.1
+        ]
+  ]
+
+  quiet_by_two : (k : ℕ) → may_lock_in_both joined ≡ false → 0 < k → k ≤ 64
+      → is_lock_window (window_in joined k) ≡ false
+  unfolding here
+  quiet_by_two k out some few =
+      let one : Bool = here 18 && (here 9 || here 28) in
+      let next : Bool = here 37 && (here 28 || here 47) in
+      let other : Bool = here 56 && (here 47 || here 66) in
+      let last = or_parts (one || next || other) (here 75 && here 66) out in
+      let third = or_parts (one || next) other last.0 in
+      let two = or_parts one next third.0 in
+      elim (cases_lt 18 k) [
+        | inr low ↦ clear_by_two 18 k (omega arith) low (omega arith) two.0
+        | inl later ↦ elim (cases_lt 37 k) [
+          | inr low ↦ clear_by_two 37 k (omega arith) low (omega arith) two.1
+          | inl later ↦ elim (cases_lt 56 k) [
+            | inr low ↦ clear_by_two 56 k (omega arith) low (omega arith) third.1
+            | inl later ↦ elim (cases_Bool (here 75)) [
+              | inr none ↦ clear_round joined 75 k (omega arith) (omega arith) none
+              | inl this ↦ clear_round joined 66 k (omega arith) (omega arith)
+                  (sym (ap (λ b. b && here 66) this) ∙ last.1)
+            ]
+          ]
+        ]
+      ]
+
+  pub all_quiet : may_lock_in_blocks joined ≡ false → (count : ℕ) → count ≤ 64
+      → IsBeforeLockIn joined count count
+  all_quiet out count few = record {
+    within = omega arith;
+    clear = λ k h. quiet_windows (k + 1) out (omega arith) (omega arith);
+    here = λ h. absurd (omega arith);
+  }
+
+  pub all_quiet_by_two : may_lock_in_both joined ≡ false → (count : ℕ) → count ≤ 64
+      → IsBeforeLockIn joined count count
+  all_quiet_by_two out count few = record {
+    within = omega arith;
+    clear = λ k h. quiet_by_two (k + 1) out (omega arith) (omega arith);
+    here = λ h. absurd (omega arith);
+  }
+
 -- the window after so many elements of a number
-window_after-packed : (window number n : ℕ) → window < 2 ^ 28 → number < 2 ^ n → n ≤ 19
-    → window_after window (elements_from n number) ≡ window / 2 ^ n + 2 ^ (28 - n) * number
-window_after-packed window number n h small few =
-    let m : length (elements_from n number) ≡ n = length-elements_from n number in
-    let l = length-elements_from 28 window in
-    let e = number_of-elements_from 28 window h in
-    let d : length (drop n (elements_from 28 window)) ≡ 28 - n =
-    simp length-drop (omega (arith, l)) in
-    let make : ℕ → ℕ → ℕ → ℕ = λ a k x. a + 2 ^ k * x in
-    ap (λ w. window_after w (elements_from n number)) (sym e)
-    ∙ (window_after-list (elements_from n number) (elements_from 28 window) l (omega arith)
-    ∙ (ap (λ k. number_of (drop k (elements_from 28 window) ++ elements_from n number)) m
-    ∙ (number_of-append (drop n (elements_from 28 window)) (elements_from n number)
-    ∙ (ap (λ k. make (number_of (drop n (elements_from 28 window))) k
-    (number_of (elements_from n number))) d
-    ∙ (ap (λ a. make a (28 - n) (number_of (elements_from n number)))
-    (number_of-drop n (elements_from 28 window) ∙ ap (λ w. w / 2 ^ n) e)
-    ∙ ap (make (window / 2 ^ n) (28 - n)) (number_of-elements_from n number small))))))
+pub window_after-joined : (k window number : ℕ) → window < 2 ^ 28
+    → window_after window (elements_from k number) ≡ window_in (joined window number) k
+unfolding window_after elements_from
+window_after-joined zero window number h = omega arith
+window_after-joined (suc k) window number h =
+    let next : ℕ = next_window window (number % 2 == 1) in
+    let e : joined (next_window window (number % 2 == 1)) (number / 2)
+    ≡ joined window number / 2 ^ 1 = omega (arith, value_of-odd number) in
+    let s : 1 + k ≡ suc k = omega arith in
+    window_after-joined k next (number / 2) (next_window-lt window (number % 2 == 1) h)
+    ∙ (ap (λ j. window_in j k) e
+    ∙ ap (λ v. v % 2 ^ 28)
+    (shr-shr (joined window number) 1 k ∙ ap (λ n. joined window number / 2 ^ n) s))
 
--- they go into the window's highest places
-packed-lt : (number n : ℕ) → number < 2 ^ n → n ≤ 19 → number * 2 ^ (28 - n) < 2 ^ 28
-packed-lt number n small few =
-    let sum : n + (28 - n) ≡ 28 = omega arith in
-    subst (λ k. number * 2 ^ (28 - n) < 2 ^ k) sum (shl_lt n (28 - n) small)
+pub window_after-all : (window number : ℕ) → window < 2 ^ 28 → number < 2 ^ 64
+    → window_after window (elements_from 64 number) ≡ number / 2 ^ 36
+window_after-all window number h fits = window_after-joined 64 window number h ∙ omega arith
 
--- so the sum of the code is that window
-pub packed_sum : (window number n : ℕ) → window < 2 ^ 28 → number < 2 ^ n → n ≤ 19
-    → window / 2 ^ n + number * 2 ^ (28 - n) % 2 ^ 32 ≡ window_after window (elements_from n number)
-packed_sum window number n h small few =
-    let turned : number * 2 ^ (28 - n) ≡ 2 ^ (28 - n) * number = mul_comm number (2 ^ (28 - n)) in
-    omega (
-      arith,
-      turned,
-      packed-lt number n small few,
-      window_after-packed window number n h small
-          few,
-    )
-
--- the first of them
-first_packed : (n number : ℕ) → 0 < n → take 1 (elements_from n number) ≡ (number % 2 == 1) ∷ []
-unfolding elements_from
-first_packed zero number h = absurd (omega arith)
-first_packed (suc n) number h = refl
-
--- what a stride of so many elements is to a hunt
-pub packed_skips : (held : Held) (number n : ℕ) → 0 < n → n ≤ 19 → 27 ≤ held.seen
-    → held.recent < 2 ^ 28 → next_window held.recent (number % 2 == 1) < 2 ^ 28
-    → is_block (next_window held.recent (number % 2 == 1) / 2 ^ 18) ≡ false
-    → Skips held (elements_from n number) n
-    (record held { recent = window_after held.recent (elements_from n number); seen = 28 })
-packed_skips held number n some most late h first out =
-    let m : length (elements_from n number) ≡ n = length-elements_from n number in
+-- what the elements of a number are to a hunt
+pub skips_number : (held : Held) (number count heard : ℕ) → 27 ≤ held.seen → held.recent < 2 ^ 28
+    → IsBeforeLockIn (joined held.recent number) count heard
+    → Skips held (elements_from count number) heard (record held {
+      recent = window_after held.recent (elements_from heard number);
+      seen = min (held.seen + heard) 28;
+    })
+skips_number held number count heard late h b =
+    let bits : List Bool = elements_from count number in
+    let m : length (elements_from count number) ≡ count = length-elements_from count number in
+    let within = b.within in
+    let window : (n : ℕ) → n ≤ count
+    → window_after held.recent (take n (elements_from count number))
+    ≡ window_in (joined held.recent number) n =
+    λ n few. ap (window_after held.recent) (elements_from-take n count number few)
+    ∙ window_after-joined n held.recent number h in
     record {
       within = omega (arith, m);
       held =
-          let e : take n (elements_from n number) ≡ elements_from n number =
-          take_all n (elements_from n number) (omega (arith, m)) in
-          same_parts held (window_after held.recent (elements_from n number))
-          (window_after held.recent (take n (elements_from n number))) 28
-          (min (held.seen + length (take n (elements_from n number))) 28)
-          (ap (window_after held.recent) (sym e)) (omega (arith, ap length e, m));
-      quiet = λ k short.
-          let i : k + 1 ≡ 1 + k = omega arith in
-          let few : length (take k (drop 1 (elements_from n number))) ≤ 18 =
-          simp (length-take, length-drop) (omega (arith, m)) in
-          let cut : window_after held.recent (take (k + 1) (elements_from n number))
-          ≡ window_after (next_window held.recent (number % 2 == 1))
-          (take k (drop 1 (elements_from n number))) =
-          ap (λ j. window_after held.recent (take j (elements_from n number))) i
-          ∙ (ap (window_after held.recent) (take-add 1 k (elements_from n number))
-          ∙ (window_after-append (take 1 (elements_from n number))
-          (take k (drop 1 (elements_from n number))) held.recent
-          ∙ ap (λ w. window_after w (take k (drop 1 (elements_from n number))))
-          (ap (window_after held.recent) (first_packed n number some)
-          ∙ window_after-one held.recent (number % 2 == 1)))) in
-          inr (quiet_window (window_after held.recent (take (k + 1) (elements_from n number)))
-          (ap is_lock_window cut ∙ block_clear (next_window held.recent (number % 2 == 1))
-          (take k (drop 1 (elements_from n number))) first out few));
-      stops = λ short. absurd (omega (arith, m));
+          let e = elements_from-take heard count number within in
+          let l = length-elements_from heard number in
+          same_parts held (window_after held.recent (elements_from heard number))
+          (window_after held.recent (take heard bits)) (min (held.seen + heard) 28)
+          (min (held.seen + length (take heard bits)) 28)
+          (ap (window_after held.recent) (sym e)) (omega (arith, ap length e, l));
+      quiet = λ k short. inr (quiet_window (window_after held.recent (take (k + 1) bits))
+          (ap is_lock_window (window (k + 1) (omega arith)) ∙ b.clear k short));
+      stops = λ short.
+          let l : length (take (heard + 1) (elements_from count number)) ≡ heard + 1 =
+          simp length-take (omega (arith, m)) in
+          let role = lock_role (window_after held.recent (take (heard + 1) bits))
+          (ap is_lock_window (window (heard + 1) (omega (arith, m))) ∙ b.here (omega (arith, m))) in
+          record { enough = omega (arith, l); role = role.0; here = role.1 };
     }

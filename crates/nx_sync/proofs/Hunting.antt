@@ -12,7 +12,7 @@ use Rattle.nx_sync.specs.Windows.{window_before_dx, window_before_rx, is_lock_wi
 use Rattle.nx_sync.specs.private.Windows.{IsBeforeLock, role_after, window_after}
 use Rattle.nx_sync.specs.Steps.{step, IsStep, HuntsThrough}
 use Rattle.nx_sync.specs.Synchroniser.{Held, is_hunting, StandsAfter}
-use Rattle.nx_sync.specs.private.Calls.{track_from, heard_one, heard_all, IsQuiet, EndsPattern, Skips}
+use Rattle.nx_sync.specs.private.Calls.{track_from, heard_one, heard_all, IsQuiet, EndsPattern, Passes, Skips, SkipsSome, SkipsEarly}
 use Rattle.nx_sync.proofs.Patterns.{role_after-dx, role_after-rx, role_after-none}
 use Rattle.nx_sync.proofs.Hearing.{window_after-one, same_parts, heard_all-none, heard_all-append, heard_all-add, heard_all-more}
 use Rattle.nx_sync.proofs.Pushes.{IsGood, push_hunting}
@@ -87,29 +87,27 @@ module _ (old : Held) (bits : List Bool) (at n : ℕ) where
       ∙ heard_all-add old bits at j
 
   -- a part that follows on elements that were heard
-  pub part_held : (m : ℕ) (mid new : Held) → mid ≡ heard_all old (take at bits)
-      → Skips mid (take n (drop at bits)) m new → at + n ≤ length bits
-      → new ≡ heard_all old (take (at + m) bits)
-  part_held m mid new e s room =
+  pub passes_on : (m : ℕ) (mid new : Held) → Passes old bits at mid
+      → Passes mid (take n (drop at bits)) m new → at + n ≤ length bits
+      → Passes old bits (at + m) new
+  passes_on m mid new before s room =
       let l : length (take n (drop at bits)) ≡ n = simp (length-take, length-drop) (omega arith) in
-      s.held ∙ (ap (λ h. heard_all h (take m (take n (drop at bits)))) e
-      ∙ later m (omega (arith, s.within)))
-
-  pub part_quiet : (m : ℕ) (mid new : Held) → mid ≡ heard_all old (take at bits)
-      → Skips mid (take n (drop at bits)) m new → at + n ≤ length bits
-      → ((k : ℕ) → k < at → IsQuiet (heard_all old (take (k + 1) bits)))
-      → (k : ℕ) → k < at + m → IsQuiet (heard_all old (take (k + 1) bits))
-  part_quiet m mid new e s room before k h = elim (cases_lt k at) [
-    | inl early ↦ before k early
-    | inr late ↦
-        let l : length (take n (drop at bits)) ≡ n =
-        simp (length-take, length-drop) (omega arith) in
-        let j : ℕ = k - at in
-        let i : at + (j + 1) ≡ k + 1 = omega arith in
-        let f = ap (λ h. heard_all h (take (j + 1) (take n (drop at bits)))) e
-        ∙ (later (j + 1) (omega (arith, s.within)) ∙ ap (λ i. heard_all old (take i bits)) i) in
-        subst IsQuiet f (s.quiet j (omega arith))
-  ]
+      let within = s.within in
+      let moved : (j : ℕ) → j ≤ n → heard_all mid (take j (take n (drop at bits)))
+      ≡ heard_all old (take (at + j) bits) =
+      λ j h. ap (λ held. heard_all held (take j (take n (drop at bits)))) before.held
+      ∙ later j h in
+      record {
+        within = omega (arith, l);
+        held = s.held ∙ moved m (omega (arith, l));
+        quiet = λ k h. elim (cases_lt k at) [
+          | inl early ↦ before.quiet k early
+          | inr late ↦
+              let i : at + (k - at + 1) ≡ k + 1 = omega arith in
+              subst IsQuiet (moved (k - at + 1) (omega (arith, l))
+              ∙ ap (λ i. heard_all old (take i bits)) i) (s.quiet (k - at) (omega arith))
+        ];
+      }
 
   pub part_stops : (m : ℕ) (mid new : Held) → mid ≡ heard_all old (take at bits)
       → Skips mid (take n (drop at bits)) m new → m < n → at + n ≤ length bits
@@ -121,13 +119,101 @@ module _ (old : Held) (bits : List Bool) (at n : ℕ) where
       ∙ (later (m + 1) (omega arith) ∙ ap (λ i. heard_all old (take i bits)) i) in
       subst EndsPattern f (s.stops (omega arith))
 
+  pub stops_on : (m : ℕ) (mid new : Held) → Passes old bits at mid
+      → SkipsSome mid (take n (drop at bits)) m new → m ≡ 0 → 0 < n → at + n ≤ length bits
+      → Skips old bits at new
+  stops_on m mid new before s none some room =
+      let here : at + m ≡ at = omega arith in
+      let p : Passes old bits at new = subst (λ k. Passes old bits k new) here
+      (passes_on m mid new before s.passes room) in
+      record {
+        within = p.within;
+        held = p.held;
+        quiet = p.quiet;
+        stops = λ h. subst EndsPattern
+            (ap (λ held. heard_all held (take 1 (take n (drop at bits)))) before.held
+            ∙ later 1 (omega arith)) (s.stops none);
+      }
+
+-- nothing heard
+pub passes_none : (old : Held) (bits : List Bool) → old.seen ≤ 28 → Passes old bits 0 old
+passes_none old bits seen = record {
+  within = omega arith;
+  held = sym (heard_all-none old seen);
+  quiet = λ k h. absurd (omega arith);
+}
+
+pub passes_of : (old : Held) (bits : List Bool) (n : ℕ) (new : Held) → Skips old bits n new
+    → Passes old bits n new
+passes_of old bits n new s = record { within = s.within; held = s.held; quiet = s.quiet }
+
+pub skips_of : (old : Held) (bits : List Bool) (n : ℕ) (new : Held) → Passes old bits n new
+    → (n < length bits → EndsPattern (heard_all old (take (n + 1) bits))) → Skips old bits n new
+skips_of old bits n new s stops = record {
+  within = s.within;
+  held = s.held;
+  quiet = s.quiet;
+  stops = stops;
+}
+
+-- elements that come too early to be the last of 28
+pub passes_early : (old : Held) (bits : List Bool) (n : ℕ) (new : Held) → SkipsEarly old bits n new
+    → Passes old bits n new
+passes_early old bits n new s = record {
+  within = s.within;
+  held = s.held;
+  quiet = λ k h.
+      let l : length (take (k + 1) bits) ≤ k + 1 = simp length-take (omega arith) in
+      inl (omega (arith, s.early (omega arith), l));
+}
+
+-- where the next one is not too early
+pub late_after : (old : Held) (bits : List Bool) (n : ℕ) (new : Held) → Passes old bits n new
+    → 27 ≤ old.seen + n → 27 ≤ new.seen
+late_after old bits n new s late =
+    let l : length (take n bits) ≡ n = simp length-take (omega (arith, s.within)) in
+    omega (arith, ap (λ h. h.seen) s.held, l)
+
+-- the first elements of more
+passes_first : (old : Held) (bits : List Bool) (few n : ℕ) (new : Held) → few ≤ length bits
+    → Passes old (take few bits) n new → Passes old bits n new
+passes_first old bits few n new room s =
+    let l : length (take few bits) ≡ few = simp length-take (omega arith) in
+    let within = s.within in
+    record {
+      within = omega (arith, l);
+      held = s.held ∙ ap (heard_all old) (take-take n few bits (omega (arith, l)));
+      quiet = λ k h. subst (λ xs. IsQuiet (heard_all old xs))
+          (take-take (k + 1) few bits (omega (arith, l))) (s.quiet k h);
+    }
+
+pub some_of_passes : (old : Held) (bits : List Bool) (few n : ℕ) (new : Held) → 0 < n
+    → few ≤ length bits → Passes old (take few bits) n new → SkipsSome old bits n new
+some_of_passes old bits few n new some room s = record {
+  passes = passes_first old bits few n new room s;
+  stops = λ none. absurd (omega arith);
+}
+
+pub some_of_first : (old : Held) (bits : List Bool) (few n : ℕ) (new : Held) → 0 < few
+    → few ≤ length bits → Skips old (take few bits) n new → SkipsSome old bits n new
+some_of_first old bits few n new some room s =
+    let l : length (take few bits) ≡ few = simp length-take (omega arith) in
+    record {
+      passes = passes_first old bits few n new room (passes_of old (take few bits) n new s);
+      stops = λ none.
+          let i : n + 1 ≡ 1 = omega arith in
+          subst (λ xs. EndsPattern (heard_all old xs))
+          (ap (λ i. take i (take few bits)) i ∙ take-take 1 few bits (omega arith))
+          (s.stops (omega (arith, l)));
+    }
+
 -- what is held where hunting goes on, and what was brought, for these elements that come after
 -- others
 record RunsOn (held : Held) (before bits : List Bool) : Type 0 where
   pub stands : StandsAfter (heard_all held bits) (before ++ bits)
   pub quiet : (k : ℕ) → k < length bits → IsStep (before ++ take (k + 1) bits) (step None None)
 
-heard_all-one : (held : Held) (b : Bool) → heard_all held (b ∷ []) ≡ heard_one held b
+pub heard_all-one : (held : Held) (b : Bool) → heard_all held (b ∷ []) ≡ heard_one held b
 heard_all-one held b = ap (λ w. record held { recent = w; seen = min (held.seen + 1) 28 })
     (window_after-one held.recent b)
 

@@ -1,20 +1,10 @@
 -- Lists of bits and the numbers that have these bits, the first one in the least place.
-use Rattle.std.proofs.Common.{◌≡◌, ℕ, zero, suc, ◌+◌, ◌*◌, ◌/◌, ◌%◌, ◌^◌, ◌<◌, List, [], ◌∷◌, ◌++◌, length, drop, Bool, true, false, refl, sym, ap, ap₂, ◌∙◌, inl, inr, arith, drop-drop, length-drop, ◌==◌, eq-eqb}
-use Rattle.std.proofs.lemmas.Bool.{cases_eq, ne_eqb}
-use Rattle.std.proofs.Math.Nat.{pow-succ', mul_assoc}
+use Rattle.std.proofs.Common.{◌≡◌, ℕ, zero, suc, ◌+◌, ◌*◌, ◌/◌, ◌%◌, ◌^◌, List, [], ◌∷◌, ◌++◌, length, drop, Bool, true, false, refl, sym, ap, ap₂, ◌∙◌, arith, drop-drop, length-drop, ◌==◌, eq-eqb}
+use Rattle.std.proofs.lemmas.Bool.{ne_eqb}
 use Rattle.std.proofs.lemmas.Nat.{shr-shr}
-use Rattle.nx_code.specs.Word.{elements, elements_from, number_of, value_of}
+use Rattle.nx_code.specs.Word.{elements, number_of, value_of}
+use Rattle.nx_code.proofs.PackedLemmas.{number_of-append, length-elements_from}
 use Rattle.nx_code.proofs.WordLemmas.{value_of-le}
-
--- bits of which others come after
-pub number_of-append : (xs ys : List Bool)
-    → number_of (xs ++ ys) ≡ number_of xs + 2 ^ length xs * number_of ys
-unfolding number_of
-number_of-append [] ys = omega arith
-number_of-append (x ∷ xs) ys =
-    let e : 2 ^ suc (length xs) * number_of ys ≡ 2 * (2 ^ length xs * number_of ys) =
-    rw pow-succ' (mul_assoc 2 (2 ^ length xs) (number_of ys)) in
-    omega (arith, number_of-append xs ys, e)
 
 -- without the first bit
 pub number_of-drop_one : (xs : List Bool) → number_of (drop 1 xs) ≡ number_of xs / 2
@@ -74,32 +64,13 @@ pub third_on : (a b : Bool) (rest : ℕ) → (value_of a + 2 * (value_of b + 2 *
 third_on a b rest = omega (arith, value_of-le a, value_of-le b)
 
 -- 28 bits moved up by seven
-
 pub number_of-next_word : (xs ys : List Bool) → length xs ≡ 28 → length ys ≡ 7
     → number_of (drop 7 xs ++ ys) ≡ number_of xs / 2 ^ 7 + 2 ^ 21 * number_of ys
 number_of-next_word xs ys l m =
     let e : length (drop 7 xs) ≡ 21 = simp length-drop (omega arith) in
     number_of-append (drop 7 xs) ys ∙ ap₂ (λ a n. a + 2 ^ n * number_of ys) (number_of-drop 7 xs) e
 
--- a number has the elements of itself
-pub length-elements_from : (n x : ℕ) → length (elements_from n x) ≡ n
-unfolding elements_from
-length-elements_from zero x = refl
-length-elements_from (suc n) x = omega (arith, length-elements_from n (x / 2))
-
-value_of-odd : (x : ℕ) → value_of (x % 2 == 1) ≡ x % 2
-value_of-odd x = elim (cases_eq (x % 2) 1) [
-  | inl one ↦ rw one refl
-  | inr other ↦ rw (ne_eqb (x % 2) 1 other) (omega arith)
-]
-
-pub number_of-elements_from : (n x : ℕ) → x < 2 ^ n → number_of (elements_from n x) ≡ x
-unfolding number_of elements_from
-number_of-elements_from zero x h = omega arith
-number_of-elements_from (suc n) x h =
-    let e : 2 ^ suc n ≡ 2 * 2 ^ n = pow-succ' 2 n in
-    omega (arith, e, number_of-elements_from n (x / 2) (omega (arith, e)), value_of-odd x)
-
+-- a word has seven elements
 pub length-elements : (word : ℕ) → length (elements word) ≡ 7
 unfolding elements
 length-elements word = length-elements_from 7 word

@@ -12,7 +12,8 @@ use Rattle.nx_sync.specs.Windows.{window_before_dx, window_before_rx, is_lock_wi
 use Rattle.nx_sync.specs.private.Windows.{is_in_phasing, window_after}
 use Rattle.nx_sync.specs.Synchroniser.{Held}
 use Rattle.nx_sync.specs.private.Calls.{Skips}
-use Rattle.nx_sync.proofs.Numbers.{length-elements_from, number_of-elements_from, number_of-append, number_of-drop, number_of-next}
+use Rattle.nx_code.proofs.PackedLemmas.{length-elements_from, number_of-elements_from, number_of-append}
+use Rattle.nx_sync.proofs.Numbers.{number_of-drop, number_of-next}
 use Rattle.nx_sync.proofs.Patterns.{is_dx_window, is_rx_window}
 use Rattle.nx_sync.proofs.Hearing.{same_parts}
 use Rattle.nx_sync.proofs.Hunting.{quiet_window}

@@ -24,11 +24,11 @@ before_rx = flat_map elements (phasing_1 ∷ phasing_2 ∷ phasing_1 ∷ phasing
 
 -- the 28 bits before the bit count t
 abbrev pub last_28 : List Bool → ℕ → List Bool
-last_28 bits t = take pattern_elements (drop (t - pattern_elements) bits)
+last_28 bits t = take 28 (drop (t - 28) bits)
 
 -- the 28 bits before the bit count t are there, and are one of the two patterns (this profile)
 pub record IsPattern (bits : List Bool) (t : ℕ) : Type 0 where
-  pub enough : pattern_elements ≤ t
+  pub enough : 28 ≤ t
   pub heard : t ≤ length bits
   pub pattern : (last_28 bits t ≡ before_dx) ⊎ (last_28 bits t ≡ before_rx)
 

@@ -1,45 +1,184 @@
-//! Packed elements, taken out of their numbers. What runs for each stride is inlined always, since a
-//! call would cost more than its few instructions.
+//! Hunting in packed elements: the windows after those of a number. What runs for each number is
+//! inlined always, since a call would cost more than its few instructions.
 
-ghost use Rattle.std.specs.Prelude.{◌≡◌, ◌+◌, ◌*◌, ◌^◌, ◌<◌, ◌≤◌, length};
+ghost use Rattle.std.specs.Prelude.{◌≡◌, ℕ, ◌*◌, ◌^◌, ◌<◌, ◌≤◌, length, [], ◌∷◌, IsTrue};
 ghost use Rattle.nx_code.specs.Word.{elements_from};
 ghost use Rattle.nx_code.specs.Packed.{packed_elements, packed_part};
+ghost use Rattle.nx_sync.specs.Locks.{pattern_elements};
+ghost use Rattle.nx_sync.specs.private.Windows as spec;
+ghost use Rattle.nx_sync.specs.private.Windows.{IsBeforeLockIn};
+
+use crate::windows::{PATTERN, is_lock_window};
+use nx_code::elements_at;
 
 /// How many elements a packed number has.
-const PACKED: usize = 64;
+pub(crate) const PACKED: usize = 64;
 
-/// How many packed elements are hunted through at once. A pattern that ends at one of them has the
-/// first of them and the nine elements before it in it.
-pub(crate) const PACKED_STRIDE: usize = 19;
+/// 1 for each number that is ten elements in a row of phasing, at any place.
+#[rattlefmt::skip]
+static BLOCKS: [u8; 1024] = [
+    0, 0, 0, 0, 0, 0, 0, 0, 0, 0, 0, 0, 0, 0, 0, 0, 0, 0, 0, 0, 0, 0, 0, 0, 0, 0, 0, 0, 0, 0, 0, 0,
+    0, 0, 0, 0, 0, 0, 0, 0, 0, 0, 0, 0, 0, 0, 0, 0, 0, 0, 0, 0, 0, 0, 0, 0, 0, 0, 0, 0, 0, 0, 0, 1,
+    0, 0, 0, 0, 0, 0, 0, 0, 0, 0, 0, 0, 0, 0, 0, 0, 0, 0, 0, 0, 0, 0, 0, 0, 0, 0, 0, 0, 0, 0, 0, 0,
+    0, 0, 0, 0, 0, 0, 0, 0, 0, 0, 0, 0, 0, 0, 0, 0, 0, 0, 0, 0, 0, 0, 0, 0, 0, 0, 0, 0, 0, 0, 1, 0,
+    0, 0, 0, 0, 0, 0, 0, 0, 0, 0, 0, 0, 0, 0, 0, 0, 0, 0, 0, 0, 0, 0, 0, 0, 0, 0, 0, 0, 0, 0, 0, 0,
+    0, 0, 0, 0, 0, 0, 0, 0, 0, 0, 0, 0, 0, 0, 0, 0, 0, 0, 0, 0, 0, 0, 0, 0, 0, 0, 0, 0, 0, 0, 0, 0,
+    0, 0, 0, 1, 0, 0, 0, 0, 0, 0, 0, 0, 0, 0, 0, 0, 0, 0, 0, 0, 0, 0, 0, 0, 0, 0, 0, 0, 0, 0, 0, 0,
+    0, 0, 0, 0, 0, 0, 0, 0, 0, 0, 0, 0, 0, 0, 0, 0, 0, 0, 0, 0, 0, 0, 0, 0, 0, 0, 0, 0, 1, 0, 0, 0,
+    0, 0, 0, 0, 0, 0, 0, 0, 0, 0, 0, 0, 0, 0, 0, 0, 0, 0, 0, 0, 0, 0, 0, 0, 0, 0, 0, 0, 0, 0, 0, 0,
+    0, 0, 0, 0, 0, 0, 0, 0, 0, 0, 0, 0, 0, 0, 0, 0, 0, 0, 0, 0, 0, 0, 0, 0, 0, 0, 0, 0, 0, 0, 0, 0,
+    0, 0, 0, 0, 0, 0, 0, 0, 0, 0, 0, 0, 0, 0, 0, 0, 0, 0, 0, 0, 0, 0, 0, 0, 0, 0, 0, 0, 0, 0, 0, 0,
+    0, 0, 0, 0, 0, 0, 0, 0, 0, 0, 0, 0, 0, 0, 0, 0, 0, 0, 0, 0, 0, 0, 0, 0, 0, 0, 0, 0, 0, 0, 0, 0,
+    0, 0, 0, 0, 0, 0, 0, 1, 0, 0, 0, 0, 0, 0, 0, 0, 0, 0, 0, 0, 0, 0, 0, 0, 0, 0, 0, 0, 0, 0, 0, 0,
+    0, 0, 0, 0, 0, 0, 0, 0, 0, 0, 0, 0, 0, 0, 0, 0, 0, 0, 0, 0, 0, 0, 0, 0, 0, 0, 0, 0, 0, 0, 0, 0,
+    0, 0, 0, 0, 0, 0, 0, 0, 0, 0, 0, 0, 0, 0, 0, 0, 0, 0, 0, 0, 0, 0, 0, 0, 0, 0, 0, 0, 0, 0, 0, 0,
+    0, 0, 0, 0, 0, 0, 0, 0, 0, 0, 0, 0, 0, 0, 0, 0, 0, 0, 0, 0, 0, 0, 0, 0, 0, 1, 0, 0, 0, 0, 0, 0,
+    0, 0, 0, 0, 0, 0, 0, 0, 0, 0, 0, 0, 0, 0, 0, 0, 0, 0, 0, 0, 0, 0, 0, 0, 0, 0, 0, 0, 0, 0, 0, 1,
+    0, 0, 0, 0, 0, 0, 0, 0, 0, 0, 0, 0, 0, 0, 0, 0, 0, 0, 0, 0, 0, 0, 0, 0, 0, 0, 0, 0, 0, 0, 0, 0,
+    0, 0, 0, 0, 0, 0, 0, 0, 0, 0, 0, 0, 0, 0, 0, 0, 0, 0, 0, 0, 0, 0, 0, 0, 0, 0, 0, 0, 0, 0, 0, 0,
+    0, 1, 0, 0, 0, 0, 0, 0, 0, 0, 0, 0, 0, 0, 0, 0, 0, 0, 0, 0, 0, 0, 0, 0, 0, 0, 0, 0, 0, 0, 0, 0,
+    0, 0, 0, 0, 0, 0, 0, 0, 0, 0, 0, 0, 0, 0, 0, 0, 0, 0, 0, 0, 0, 0, 0, 0, 0, 0, 0, 0, 0, 0, 0, 0,
+    0, 0, 0, 0, 0, 0, 0, 0, 0, 0, 0, 0, 0, 0, 0, 0, 0, 0, 0, 0, 0, 0, 0, 0, 0, 0, 0, 0, 0, 0, 0, 0,
+    0, 0, 0, 0, 0, 0, 0, 0, 0, 0, 0, 0, 0, 0, 0, 0, 0, 0, 0, 0, 0, 0, 0, 0, 0, 0, 0, 0, 0, 0, 0, 0,
+    0, 0, 0, 0, 0, 0, 0, 0, 0, 0, 0, 0, 0, 0, 0, 0, 0, 0, 0, 0, 0, 0, 0, 0, 0, 0, 0, 0, 0, 0, 0, 0,
+    0, 0, 0, 0, 0, 0, 0, 0, 0, 0, 0, 0, 0, 0, 0, 1, 0, 0, 0, 0, 0, 0, 0, 0, 0, 0, 0, 0, 0, 0, 0, 0,
+    0, 0, 0, 0, 0, 0, 0, 0, 0, 0, 0, 0, 0, 0, 0, 0, 1, 0, 0, 0, 0, 0, 0, 0, 0, 0, 0, 0, 0, 0, 0, 0,
+    0, 0, 0, 0, 0, 0, 0, 0, 0, 0, 0, 0, 0, 0, 0, 0, 0, 0, 0, 0, 0, 0, 0, 0, 0, 0, 0, 0, 0, 0, 0, 0,
+    0, 0, 0, 0, 0, 0, 0, 0, 0, 0, 0, 0, 0, 0, 0, 0, 0, 0, 0, 0, 0, 0, 0, 0, 0, 0, 0, 0, 0, 0, 0, 0,
+    0, 0, 0, 0, 0, 0, 0, 0, 0, 0, 0, 0, 0, 0, 0, 0, 0, 0, 0, 0, 0, 0, 0, 0, 1, 0, 0, 0, 0, 0, 0, 0,
+    0, 0, 0, 0, 0, 0, 0, 0, 0, 0, 0, 0, 0, 0, 0, 0, 0, 0, 0, 0, 0, 0, 0, 0, 0, 0, 0, 0, 0, 0, 0, 0,
+    0, 0, 0, 0, 0, 0, 0, 0, 0, 0, 0, 0, 1, 0, 0, 0, 0, 0, 0, 0, 0, 0, 0, 0, 0, 0, 0, 0, 0, 0, 0, 0,
+    0, 0, 0, 0, 0, 0, 1, 0, 0, 0, 0, 0, 0, 0, 0, 0, 0, 0, 0, 1, 0, 0, 0, 0, 0, 0, 0, 0, 0, 0, 0, 0,
+];
 
-/// The elements from a place on, at most 19 of them, as a number with the first one in the least
-/// place.
+/// The element at a place.
 #[inline(always)]
-pub(crate) fn elements_at(words: &[u64], place: usize, count: usize) -> u64
-    requires some { 0 < count }
-    requires few { count ≤ 19 }
-    requires room { place + count ≤ packed_elements * length words.now }
-    ensures elements { elements_from count result ≡ packed_part words.now place count }
-    ensures within { result < 2 ^ count }
+pub(crate) fn element(numbers: &[u64], place: usize) -> bool
+    requires { place < packed_elements * length numbers.now }
+    ensures { result ∷ [] ≡ packed_part numbers.now place 1 }
 {
-    let shift = place % PACKED;
-    let low = words[place / PACKED] >> shift;
-    let here = PACKED - shift;
-    if count <= here {
-        return low % (1 << count);
-    }
-    low + ((words[place / PACKED + 1] % (1 << (count - here))) << here)
+    elements_at(numbers, place, 1) % 2 == 1
 }
 
-/// The 19 lowest elements of a number.
-pub(crate) fn unpack(number: u64) -> [bool; PACKED_STRIDE]
-    ensures { result ≡ elements_from 19 number }
+/// Whether ten elements, as a number, stand in a pattern at any place.
+#[inline(always)]
+fn is_block(elements: u64) -> bool
+    requires { elements < 1024 }
+    ensures { result ≡ spec.is_block elements }
 {
-    let mut bits = [false; PACKED_STRIDE];
-    let mut rest = number;
-    for place in 0..PACKED_STRIDE {
-        bits[place] = rest % 2 == 1;
-        rest /= 2;
+    BLOCKS[elements as usize] != 0
+}
+
+/// Whether one of the windows after each of the 64 elements of a number may be a pattern. The first
+/// 18 of these have the last ten elements of the window before, the next 19 have ten others, and so
+/// on: where none of the four tens stands in a pattern, none of the windows is one.
+#[inline(always)]
+fn may_lock_in_blocks(window: u32, number: u64) -> bool
+    requires { window < 2 ^ pattern_elements }
+    ensures { result ≡ spec.may_lock_in_blocks (spec.joined window number) }
+{
+    is_block(u64::from(window >> 18))
+        | is_block((number >> 9) % 1024)
+        | is_block((number >> 28) % 1024)
+        | is_block((number >> 47) % 1024)
+}
+
+/// The same by two tens of elements for each window: where one of the four stands in a pattern, the
+/// earlier ones of its windows also have the ten from nine places before it on, and the later ones
+/// those from ten places behind it on.
+#[inline(never)]
+fn may_lock_in_both(window: u32, number: u64) -> bool
+    requires { window < 2 ^ pattern_elements }
+    ensures { result ≡ spec.may_lock_in_both (spec.joined window number) }
+{
+    let joined = joined(window, number);
+    let [first, second] = [block_at(joined, 9), block_at(joined, 28)];
+    let [third, fourth] = [block_at(joined, 47), block_at(joined, 66)];
+    (block_at(joined, 18) & (first | second))
+        | (block_at(joined, 37) & (second | third))
+        | (block_at(joined, 56) & (third | fourth))
+        | (block_at(joined, 75) & fourth)
+}
+
+/// Whether the ten elements from a place on stand in a pattern.
+#[inline(always)]
+fn block_at(joined: u128, place: u32) -> bool
+    requires { place < 128 }
+    ensures { result ≡ spec.is_block (spec.block_in joined place) }
+{
+    is_block(((joined >> place) % 1024) as u64)
+}
+
+/// Whether surely none of the windows after each of the 64 elements of a number is a pattern.
+#[inline(always)]
+pub(crate) fn has_no_lock(window: u32, number: u64) -> bool
+    requires { window < 2 ^ pattern_elements }
+    ensures { IsTrue result → (count : ℕ) → count ≤ 64
+        → IsBeforeLockIn (spec.joined window number) count count }
+{
+    if !may_lock_in_blocks(window, number) {
+        return true;
     }
-    bits
+    !may_lock_in_both(window, number)
+}
+
+/// A window, and above it the elements of the number that comes after it.
+#[inline(always)]
+fn joined(window: u32, number: u64) -> u128
+    requires { window < 2 ^ pattern_elements }
+    ensures { result ≡ spec.joined window number }
+{
+    u128::from(window) + (u128::from(number) << PATTERN)
+}
+
+/// The window after all elements of a number, whichever was before.
+#[inline(always)]
+pub(crate) fn last_window(number: u64) -> u32
+    ensures value { (window : ℕ) → window < 2 ^ pattern_elements
+        → result ≡ spec.window_after window (elements_from 64 number) }
+    ensures within { result < 2 ^ pattern_elements }
+{
+    (number >> 36) as u32
+}
+
+/// The window after so many elements of a number.
+#[inline(always)]
+pub(crate) fn window_after_number(window: u32, number: u64, count: usize) -> u32
+    requires window { window < 2 ^ pattern_elements }
+    requires few { count ≤ 64 }
+    ensures value { result ≡ spec.window_after window (elements_from count number) }
+    ensures within { result < 2 ^ pattern_elements }
+{
+    ((joined(window, number) >> count) % (1 << PATTERN)) as u32
+}
+
+/// How many of the first elements of a number come before the one that ends the first pattern, all
+/// of them where none does.
+#[inline(always)]
+pub(crate) fn count_before_lock_in(window: u32, number: u64, count: usize) -> usize
+    requires window { window < 2 ^ pattern_elements }
+    requires few { count ≤ 64 }
+    ensures { IsBeforeLockIn (spec.joined window number) count result }
+{
+    if has_no_lock(window, number) {
+        return count;
+    }
+    count_by_windows(window, number, count)
+}
+
+/// The same, window by window.
+#[inline(never)]
+fn count_by_windows(window: u32, number: u64, count: usize) -> usize
+    requires window { window < 2 ^ pattern_elements }
+    requires few { count ≤ 64 }
+    ensures { IsBeforeLockIn (spec.joined window number) count result }
+{
+    let mut at = 0;
+    while at < count {
+        if is_lock_window(window_after_number(window, number, at + 1)) {
+            return at;
+        }
+        at += 1;
+    }
+    at
 }

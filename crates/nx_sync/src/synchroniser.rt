@@ -2,7 +2,7 @@
 //! last words. Calls that run for each element, each word or each stride are inlined always, since
 //! their answers would go through memory otherwise.
 
-ghost use Rattle.std.specs.Prelude.{◌≡◌, ℕ, ◌+◌, ◌-◌, ◌*◌, ◌/◌, ◌^◌, ◌<◌, ◌≤◌, ◌↔◌, List, Bool, [], ◌∷◌, ◌++◌, length, take, slice_index, min, nat_le, not, IsTrue, IfOk};
+ghost use Rattle.std.specs.Prelude.{◌≡◌, ℕ, ◌+◌, ◌-◌, ◌*◌, ◌/◌, ◌^◌, ◌<◌, ◌≤◌, ◌↔◌, List, Bool, false, [], ◌∷◌, ◌++◌, length, take, slice_index, min, nat_le, not, IsTrue, IfOk};
 ghost use Rattle.std.specs.List.{count_by, flat_map};
 ghost use Rattle.nx_sync.specs.declared.step.Role.TheVariants.{Dx};
 ghost use Rattle.nx_sync.specs.declared.step.Change.TheVariants.{Locked};
@@ -12,17 +12,19 @@ ghost use Rattle.nx_sync.specs.Words.{marked_words, losing_count};
 ghost use Rattle.nx_sync.specs.Locks.{pattern_elements};
 ghost use Rattle.nx_sync.specs.Steps.{step, LockStands, LimitStands, IsStep, HuntsThrough, IsWordStep, AreQuietWords};
 ghost use Rattle.nx_sync.specs.private.Windows as spec;
-ghost use Rattle.nx_sync.specs.private.Calls.{heard_one, with_mark, track_from, BeginsLock, Fills, Completes, Skips, SkipsEarly};
+ghost use Rattle.nx_sync.specs.private.Calls.{heard_one, with_mark, track_from, BeginsLock, Fills, Completes, Passes, Skips, SkipsSome, SkipsEarly};
 ghost use Rattle.nx_sync.specs.private.Eight.{with_marks, after_eight};
 ghost use Rattle.nx_sync.specs.Synchroniser.{StandsAfter, is_hunting, is_between_words, keeps_lock};
 
 use crate::eight::{EIGHT, has_dx_phasing_1, has_wrong, numbers, window_after_eight};
-use crate::packed::{PACKED_STRIDE, elements_at, unpack};
+use crate::packed::{
+    PACKED, count_before_lock_in, element, has_no_lock, last_window, window_after_number,
+};
 use crate::step::{Role, Step};
 use crate::track::Track;
 use crate::windows::{
-    PATTERN, STRIDE, count_before_lock, last_word, may_lock, may_lock_in_block, next_window,
-    next_word_window, packed_window, role_after, stride_window, windows_after,
+    PATTERN, STRIDE, count_before_lock, last_word, may_lock, next_window, next_word_window,
+    role_after, stride_window, windows_after,
 };
 use circular_buffer::HeapCircularBuffer;
 use nx_code::{ELEMENTS, Word, check_bits};
@@ -417,45 +419,96 @@ impl Synchroniser {
         requires counted { from + count < 2 ^ 64 }
         ensures { Skips self.old (packed_part numbers.now from count) result self.new }
     {
-        let _seen = self.seen;
-        let mut at = 0;
+        let mut at = self.skip_packed_early(numbers, from, count);
         while at < count {
-            let few = (count - at).min(PACKED_STRIDE);
-            let number = elements_at(numbers, from + at, few);
-            let heard = self.skip_number(number, few);
-            at += heard;
-            if heard < few {
+            let heard = self.skip_some(numbers, from + at, count - at);
+            if heard == 0 {
                 return at;
             }
+            at += heard;
         }
         at
     }
 
-    /// Hears the elements of a number, at most 19 of them, as long as none ends a pattern.
-    #[inline(always)]
-    fn skip_number(&mut self, number: u64, count: usize) -> usize
-        requires some { 0 < count }
-        requires few { count ≤ 19 }
-        requires within { number < 2 ^ count }
-        ensures { Skips self.old (elements_from count number) result self.new }
+    /// Hears the packed elements that come too early to be the last of 28, and says how many.
+    fn skip_packed_early(&mut self, numbers: &[u64], from: usize, count: usize) -> usize
+        requires room { from + count ≤ packed_elements * length numbers.now }
+        requires counted { from + count < 2 ^ 64 }
+        ensures { SkipsEarly self.old (packed_part numbers.now from count) result self.new }
     {
-        let is_early = self.seen < PATTERN - 1;
-        if is_early | may_lock_in_block(next_window(self.recent, number % 2 == 1)) {
-            return self.skip_unpacked(number, count);
+        let early = ((PATTERN - 1).saturating_sub(self.seen) as usize).min(count);
+        for at in 0..early {
+            self.hear(element(numbers, from + at));
         }
-        self.recent = packed_window(self.recent, number, count as u32);
-        self.seen = PATTERN;
-        count
+        early
     }
 
-    /// The same, by its elements one after the other.
-    #[inline(never)]
-    fn skip_unpacked(&mut self, number: u64, count: usize) -> usize
-        requires few { count ≤ 19 }
+    /// Hears some of these packed elements, none of which ends a pattern, and says how many: none
+    /// of them only where the first one ends one.
+    #[inline(always)]
+    fn skip_some(&mut self, numbers: &[u64], place: usize, count: usize) -> usize
+        requires seen { pattern_elements ≤ self.old.seen + 1 }
+        requires some { 0 < count }
+        requires room { place + count ≤ packed_elements * length numbers.now }
+        ensures { SkipsSome self.old (packed_part numbers.now place count) result self.new }
+    {
+        if place % PACKED == 0 {
+            let whole = self.skip_clear(numbers, place / PACKED, count / PACKED);
+            if whole > 0 {
+                return PACKED * whole;
+            }
+        }
+        let few = count.min(PACKED - place % PACKED);
+        self.skip_number(numbers[place / PACKED] >> (place % PACKED), few)
+    }
+
+    /// Hears whole numbers, so many of them from an index on, as long as surely none of their
+    /// elements ends a pattern, and says how many.
+    #[inline(always)]
+    fn skip_clear(&mut self, numbers: &[u64], first: usize, count: usize) -> usize
+        requires seen { pattern_elements ≤ self.old.seen + 1 }
+        requires room { first + count ≤ length numbers.now }
+        ensures passes { Passes self.old (packed_part numbers.now (64 * first) (64 * count))
+            (64 * result) self.new }
+        ensures none { result ≡ 0 → self.new ≡ self.old }
+    {
+        let _seen = self.seen;
+        let mut at = 0;
+        while at < count {
+            if !self.hear_clear(numbers[first + at]) {
+                return at;
+            }
+            at += 1;
+        }
+        at
+    }
+
+    /// Hears the elements of a number where surely none of them ends a pattern, and says whether.
+    #[inline(always)]
+    fn hear_clear(&mut self, number: u64) -> bool
+        requires { pattern_elements ≤ self.old.seen + 1 }
+        ensures heard { IsTrue result → Passes self.old (elements_from 64 number) 64 self.new }
+        ensures none { result ≡ false → self.new ≡ self.old }
+    {
+        if !has_no_lock(self.recent, number) {
+            return false;
+        }
+        self.recent = last_window(number);
+        self.seen = PATTERN;
+        true
+    }
+
+    /// Hears the first elements of a number as long as none ends a pattern, and says how many.
+    #[inline(always)]
+    fn skip_number(&mut self, number: u64, count: usize) -> usize
+        requires seen { pattern_elements ≤ self.old.seen + 1 }
+        requires few { count ≤ 64 }
         ensures { Skips self.old (elements_from count number) result self.new }
     {
-        let part = unpack(number);
-        self.skip(&part[..count])
+        let heard = count_before_lock_in(self.recent, number, count);
+        self.recent = window_after_number(self.recent, number, heard);
+        self.seen = (self.seen + heard as u32).min(PATTERN);
+        heard
     }
 
     /// Hears the elements that come too early to be the last of 28, and says how many.

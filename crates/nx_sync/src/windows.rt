@@ -34,27 +34,6 @@ pub(crate) const STRIDE: usize = 21;
 /// any place.
 static IN_PHASING: [u32; 4] = [0x8100_8080, 0x8001_0000, 0x0000_1008, 0x5208_0042];
 
-/// Bit `n % 64` of item `n / 64` is set where the number n is ten elements in a row of phasing, at
-/// any place.
-static BLOCKS: [u64; 16] = [
-    0x8000_0000_0000_0000,
-    0x4000_0000_0000_0000,
-    0x0000_0000_0000_0000,
-    0x1000_0000_0000_0008,
-    0x0000_0000_0000_0000,
-    0x0000_0000_0000_0000,
-    0x0000_0000_0000_0080,
-    0x0200_0000_0000_0000,
-    0x0000_0000_8000_0000,
-    0x0000_0002_0000_0000,
-    0x0000_0000_0000_0000,
-    0x0000_0000_0000_0000,
-    0x0001_0000_0000_8000,
-    0x0000_0000_0000_0000,
-    0x0000_0000_0100_0000,
-    0x0008_0040_0000_1000,
-];
-
 /// The window after one more element: the oldest one goes, and each other one moves a place down.
 #[inline(always)]
 pub(crate) fn next_window(window: u32, bit: bool) -> u32
@@ -86,7 +65,7 @@ pub(crate) fn last_word(window: u32) -> Word
 
 /// Whether a window is one of the patterns.
 #[inline(always)]
-fn is_lock_window(window: u32) -> bool
+pub(crate) fn is_lock_window(window: u32) -> bool
     ensures { result ≡ locking.is_lock_window window }
 {
     window == BEFORE_DX || window == BEFORE_RX
@@ -114,28 +93,6 @@ pub(crate) fn may_lock(window: u32) -> bool
 {
     let word = window >> 21;
     (IN_PHASING[(word / 32) as usize] >> (word % 32)) % 2 == 1
-}
-
-/// Whether the last ten elements can stand in a pattern.
-#[inline(always)]
-pub(crate) fn may_lock_in_block(window: u32) -> bool
-    requires { window < 2 ^ pattern_elements }
-    ensures { result ≡ spec.is_block (window / 2 ^ 18) }
-{
-    let block = window >> 18;
-    (BLOCKS[(block / 64) as usize] >> (block % 64)) % 2 == 1
-}
-
-/// The window after so many elements, at most 19 of them, which are those of a number.
-#[inline(always)]
-pub(crate) fn packed_window(window: u32, number: u64, count: u32) -> u32
-    requires window { window < 2 ^ pattern_elements }
-    requires few { count ≤ 19 }
-    requires number { number < 2 ^ count }
-    ensures value { result ≡ spec.window_after window (elements_from count number) }
-    ensures within { result < 2 ^ pattern_elements }
-{
-    (window >> count) + ((number as u32) << (PATTERN - count))
 }
 
 /// The window after 21 elements.

@@ -1,6 +1,6 @@
 -- A reader of the text of a lock, and after which of its words it stands. `first` is the role of
 -- word 0 of the lock, and `words` gives each word's number.
-use Rattle.std.specs.Prelude.{◌≡◌, ℕ, ◌+◌, ◌-◌, ◌^◌, ◌<◌, ◌≤◌, Bool, if◌then◌else◌, not, List, [], ◌∷◌, ◌++◌, length, min, Option}
+use Rattle.std.specs.Prelude.{◌≡◌, ℕ, ◌+◌, ◌-◌, ◌^◌, ◌<◌, ◌≤◌, Bool, if◌then◌else◌, not, List, [], ◌∷◌, ◌++◌, length, min, slice_index, Option}
 use Rattle.std.specs.Option.{option_to_list}
 use Rattle.nx_code.specs.declared.printing.Printer.{Printer}
 use Rattle.nx_envelope.specs.Copies.{headers}
@@ -68,11 +68,16 @@ pub record TakesByte (old new : Reading) (text : List ℕ) (byte : ℕ) : Type 0
   pub headers : length (headers (text ++ byte ∷ [])) ≡ length (headers text) + more
   pub copies : old.copies + more < 2 ^ 64 → new.copies ≡ old.copies + more
 
--- a reader that stands after some words of a lock hears the next one: this is printed
-pub record HasHeard (new : Reading) (first : Role) (words : ℕ → ℕ) (n : ℕ) (printed : Option ℕ)
-    : Type 0 where
-  pub reads : ReadsLock new first words (n + 1)
-  pub grows : text_after first words (n + 1) ≡ text_after first words n ++ option_to_list printed
+-- a reader that stands after some words of a lock hears so many more: these bytes are printed
+pub record HasHeardWords (new : Reading) (first : Role) (words : ℕ → ℕ) (n count : ℕ)
+    (printed : List ℕ) : Type 0 where
+  pub reads : ReadsLock new first words (n + count)
+  pub grows : text_after first words (n + count) ≡ text_after first words n ++ printed
+
+-- the same of the next one
+abbrev pub HasHeard : Reading → Role → (ℕ → ℕ) → ℕ → Option ℕ → Type 0
+HasHeard new first words n printed =
+    HasHeardWords new first words n 1 (option_to_list printed)
 
 -- The next word of a lock was heard, whichever lock it is of, and this was printed.
 pub record HearsWord (old new : Reading) (word : ℕ) (role : Role) (printed : Option ℕ)
@@ -81,3 +86,26 @@ pub record HearsWord (old new : Reading) (word : ℕ) (role : Role) (printed : O
       → words n ≡ word → role ≡ role_of first n → n + 1 < 2 ^ 64
       → HasHeard new first words n printed
   pub few : new.copies ≤ old.copies + 1
+
+-- The next words of a lock were heard, the first of them with that role, whichever lock they are
+-- of, and these bytes were printed.
+pub record HearsWords (old new : Reading) (role : Role) (heard printed : List ℕ) : Type 0 where
+  pub hears : (first : Role) (words : ℕ → ℕ) (n : ℕ) → ReadsLock old first words n
+      → ((k : ℕ) → k < length heard → words (n + k) ≡ slice_index heard k)
+      → role ≡ role_of first n → n + length heard < 2 ^ 64
+      → HasHeardWords new first words n (length heard) printed
+  pub few : new.copies ≤ old.copies + length heard
+
+-- A word was heard, and what it printed was appended.
+pub record ShowsWord (old new : Reading) (word : ℕ) (role : Role) (before after : List ℕ) : Type 0
+  where
+    pub printed : Option ℕ
+    pub hears : HearsWord old new word role printed
+    pub spelled : after ≡ before ++ option_to_list printed
+
+-- the same of more words
+pub record ShowsWords (old new : Reading) (role : Role) (heard before after : List ℕ) : Type 0
+  where
+    pub printed : List ℕ
+    pub hears : HearsWords old new role heard printed
+    pub spelled : after ≡ before ++ printed

@@ -14,7 +14,9 @@ use Rattle.nx_fec.specs.AirFile.{Line, accept_station, accept_subject, elements,
 use Rattle.nx_receiver.specs.Chain.{GoesOn, Run, copies_in, events_in, start_in}
 use Rattle.nx_receiver.specs.Events.{Command, Event, Setting, at_moment, command, element, first_setting, setting_after, settings}
 use Rattle.nx_receiver.specs.FoundCopies.{FoundCopy, TaggedCopy, tag, tagged_copies}
-use Rattle.nx_receiver.specs.Listen.{AreTakenAfter, IsTakenAfter, events_on, given_of, moment_after}
+use Rattle.nx_receiver.specs.Listen.{events_on, given_of, moment_after}
+use Rattle.nx_receiver.specs.private.Taken.{AreTakenAfter, IsTakenAfter}
+use Rattle.nx_receiver.proofs.listens.Taken.{taken-each}
 use Rattle.nx_receiver.specs.Events as fed
 use Rattle.nx_receiver.specs.Shares.{Starts, events_for, saved_of, starts_from}
 
@@ -177,7 +179,8 @@ copies-from channel saved left run g =
     let events = events_in channel run in
     let from = newest_moment (saved_of saved channel).entries in
     let itself : start.moment ≤ start.moment = omega arith in
-    let given = lines-from channel run.starts [] run.lines itself g.heard.taken.each in
+    let given = lines-from channel run.starts [] run.lines itself
+    (taken-each run.starts run.lines g.heard.taken) in
     let all = tagged-from start.moment first events (run.found channel) itself
     (settings-from start.moment first events itself given) in
     let before : from ≤ start.moment =

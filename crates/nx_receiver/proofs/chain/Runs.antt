@@ -56,8 +56,7 @@ run_prints channel saved run left g =
     p.printed
     ∙ ap (printed_of (start_in channel run) events)
     (found_same events all (run.found channel) found (g.found channel))
-    ∙ ap (λ (s : Starts). printed_copies (saved_of s.saved channel).entries (copies_in channel run))
-    g.begins
+    ∙ ap (λ (s : Starts). printed_copies (s.entries channel) (copies_in channel run)) g.begins
 
 -- and leaves the last 200 of all entries made of them
 run_leaves : (channel : Channel) (saved : SavedStates) (run : Run) (left : SavedStates)
@@ -74,7 +73,7 @@ run_leaves channel saved run left g =
     (entries_after start.entries (tagged_copies (first_setting start) events cs)))
     (found_same events l.copies (run.found channel) l.found (g.found channel))
     ∙ ap (λ (s : Starts). last_of most_entries
-    (entries_after (saved_of s.saved channel).entries (copies_in channel run))) g.begins
+    (entries_after (s.entries channel) (copies_in channel run))) g.begins
 
 -- ---- what is printed
 
@@ -179,7 +178,7 @@ chain_refuses_from channel now first (run ∷ runs) last same chain =
     let start = start_in channel run in
     let events = events_in channel run in
     let begun : now.refused ≡ (first_setting start).refused =
-    same ∙ ap (λ (s : Starts). (saved_of s.saved channel).refused) (sym goes.begins) in
+    same ∙ ap (λ (s : Starts). s.refused channel) (sym goes.begins) in
     let next : (setting_after_all now events).refused ≡ (saved_of left channel).refused =
     refused_all now (first_setting start) events begun ∙ sym (goes.leaves channel).refused in
     chain_refuses_from channel (setting_after_all now events) left runs last next chain.2

@@ -1,17 +1,20 @@
 -- The places of the bytes of a lock's text, and of the copies in it, rise.
-use Rattle.std.proofs.Common.{ℕ, zero, suc, ◌+◌, ◌-◌, ◌*◌, ◌<◌, ◌≤◌, Bool, List, [], ◌∷◌, map, length, get_or, Option, Some, None, arith}
+use Rattle.std.proofs.Common.{ℕ, zero, suc, ◌+◌, ◌-◌, ◌*◌, ◌<◌, ◌≤◌, Bool, List, [], ◌∷◌, ◌++◌, map, length, get_or, Option, Some, None, arith}
 use Rattle.std.specs.List.{All}
 use Rattle.std.specs.Option.{option_to_list}
 use Rattle.std.proofs.lemmas.List.Elements.{All-weaker, All-nil, All-cons, All-append}
-use Rattle.nx_code.specs.Reading.{Reception}
+use Rattle.nx_code.specs.Reading.{Reception, shift_after_all, text}
+use Rattle.nx_code.specs.declared.shifts.Shift.{Shift}
+use Rattle.nx_code.specs.declared.shifts.Shift.TheVariants.{Letters}
 use Rattle.nx_envelope.specs.Copies.{Copy, copies}
 use Rattle.nx_sync.specs.declared.step.Role.{Role}
 use Rattle.nx_sync.specs.Locks.{Lock, Past, Now, hunting, locked, IsNow}
 use Rattle.nx_sync.specs.Words.{word_of_lock, first_role, whole_words}
 use Rattle.nx_receiver.specs.private.LockReader.{word_place}
-use Rattle.nx_receiver.specs.LockText.{PlacedByte, printed_after, positions, taken_at, printed_by, text_by, lock_text, bytes_of}
+use Rattle.nx_receiver.specs.LockText.{PlacedByte, positions, taken_at, printed_by, text_by, lock_text, bytes_of}
 use Rattle.nx_receiver.specs.FoundCopies.{FoundCopy, place_in, found_copy, all_in, past_text, past_copies, found_to_end}
 use Rattle.nx_receiver.proofs.locks.Found.{text_placed, place_in-get_or, all_in_placed, length-bytes_of}
+use Rattle.nx_receiver.proofs.locks.Texts.{one_taken}
 use Rattle.nx_receiver.proofs.once.Rising.{Above, Rises, rises_append, rises_map}
 use Rattle.nx_receiver.proofs.emissions.Copies.{copies_rise, copies_within}
 
@@ -28,13 +31,15 @@ placed_at place [] = All-nil (λ (b : PlacedByte). place ≤ b.place)
 placed_at place (b ∷ bs) =
     All-cons (λ (b : PlacedByte). place ≤ b.place) _ _ (omega arith) (placed_at place bs)
 
-one_byte : (o : Option ℕ) → length (option_to_list o) ≤ 1
+one_byte : (o : Option ℕ) → length (option_to_list o ++ []) ≤ 1
 one_byte None = omega arith
 one_byte (Some b) = omega arith
 
-one_printed : (before taken : List Reception) → length (printed_after before taken) ≤ 1
-one_printed before [] = omega arith
-one_printed before (p ∷ more) = one_byte _
+one_printed : (taken : List Reception) (shift : Shift) → length taken ≤ 1
+    → length (text taken shift) ≤ 1
+one_printed [] shift h = omega arith
+one_printed (p ∷ []) shift h = one_byte _
+one_printed (p ∷ q ∷ more) shift h = absurd (omega arith)
 
 pub text_rises : (first : Role) (f : ℕ → ℕ) (t n : ℕ)
     → Rises (λ (b : PlacedByte). b.place) (text_by first f t n)
@@ -43,14 +48,16 @@ text_rises first f t zero = tt
 text_rises first f t (suc n) =
     rises_append (λ (b : PlacedByte). b.place) (t + 7 * n) (text_by first f t n)
     (printed_by first f t n) (text_rises first f t n)
-    (one_placed (word_place t n) (printed_after (positions first f n) (taken_at first f n))
-    (one_printed (positions first f n) (taken_at first f n)))
+    (one_placed (word_place t n)
+    (text (taken_at first f n) (shift_after_all (positions first f n) Letters))
+    (one_printed (taken_at first f n) _ (one_taken first f n)))
     (All-weaker (λ (b : PlacedByte). (t ≤ b.place) × (b.place < t + 7 * n))
     (λ (b : PlacedByte). b.place < t + 7 * n) (λ b h. h.1) (text_by first f t n)
     (text_placed first f t n))
     (All-weaker (λ (b : PlacedByte). word_place t n ≤ b.place)
     (λ (b : PlacedByte). t + 7 * n ≤ b.place) (λ b h. omega arith) (printed_by first f t n)
-    (placed_at (word_place t n) (printed_after (positions first f n) (taken_at first f n))))
+    (placed_at (word_place t n)
+    (text (taken_at first f n) (shift_after_all (positions first f n) Letters))))
 
 -- in such a list a later item has a greater key
 pub above_later : {A : Type 0} (key : A → ℕ) (n : ℕ) (xs : List A) (j : ℕ) (d : A) → Above key n xs

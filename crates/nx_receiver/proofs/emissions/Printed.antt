@@ -19,7 +19,7 @@ use Rattle.nx_sync.specs.declared.step.Role.{Role}
 use Rattle.nx_sync.specs.declared.step.Role.TheVariants.{Dx}
 use Rattle.nx_receiver.specs.FoundCopies.{place_in, found_copy, ended_in}
 use Rattle.nx_receiver.specs.private.LockReader.{word_place}
-use Rattle.nx_receiver.specs.LockText.{PlacedByte, printed_after, positions, taken_at, printed_by, text_by, bytes_of}
+use Rattle.nx_receiver.specs.LockText.{PlacedByte, positions, taken_at, printed_by, text_by, bytes_of}
 use Rattle.nx_receiver.proofs.locks.Found.{place_in-get_or, length-bytes_of}
 use Rattle.nx_receiver.proofs.locks.Texts.{text_by-grows, bytes_are_reading}
 use Rattle.nx_receiver.proofs.once.Rising.{contains_map}
@@ -186,10 +186,10 @@ module _ (first : Role) (words : ℕ → ℕ) (t w : ℕ) (sent : List SentPosit
   unfolding printed_by
   printed_here =
       ap (λ l. map (λ b. record { byte = b; place = word_place t here })
-      (printed_after (positions first words here) l)) taken_here
+      (text l (shift_after_all (positions first words here) Letters))) taken_here
       ∙ ap (λ s. map (λ b. record { byte = b; place = word_place t here })
-      (option_to_list (byte_of (combination (second_digit message.identity)) s))) shift_is
-      ∙ ap (λ o. map (λ b. record { byte = b; place = word_place t here }) (option_to_list o))
+      (option_to_list (byte_of (combination (second_digit message.identity)) s) ++ [])) shift_is
+      ∙ ap (λ o. map (λ b. record { byte = b; place = word_place t here }) (option_to_list o ++ []))
       (digit-prints message.identity)
 
   long_here : length (text_by first words t here) ≡ length front + 8

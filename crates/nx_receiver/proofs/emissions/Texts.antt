@@ -8,7 +8,8 @@ use Rattle.nx_code.specs.declared.shifts.Shift.TheVariants.{Letters, Figures}
 use Rattle.nx_envelope.specs.Message.{AreLines, MessageView}
 use Rattle.nx_envelope.specs.declared.identity.Identity.{Identity}
 use Rattle.nx_fec.specs.Emission.{SentPosition, phasing_position, traffic_position, end_position}
-use Rattle.nx_station.specs.Broadcast.{head, phasing_and_message, layout, letter_combination, digit_combination}
+use Rattle.nx_station.specs.Broadcast.{head, phasing_and_message, layout, digit_combination}
+use Rattle.nx_station.specs.private.Heads.{letter_combination}
 use Rattle.nx_station.specs.Sendings.{Tells, positions_before}
 use Rattle.nx_station.proofs.HeadLemmas.{letter_combination-prints, digit_combination-prints, digit_combination-range}
 use Rattle.nx_station.proofs.ReadingBack.{Prints, Prints-nil, Prints-character, Prints-shift, z-prints, c-prints, space-prints}

@@ -20,11 +20,15 @@ use Rattle.nx_sync.specs.Locks.{locked, IsNow}
 use Rattle.nx_receiver.specs.Events.{Event, Setting, at_moment, at_zero, element, first_setting, settings, elements_among, setting_at}
 use Rattle.nx_receiver.specs.Example.{first_copy}
 use Rattle.nx_receiver.specs.FoundCopies.{FoundCopy, found_to_end, tag, tagged_copies}
-use Rattle.nx_receiver.specs.Listen.{AreTaken, AreTakenAfter, IsLogOf, events_on, given_by}
+use Rattle.nx_receiver.specs.Listen.{AreTaken, IsLogOf, events_on, given_by}
+use Rattle.nx_receiver.specs.private.Taken.{AreTakenAfter}
+use Rattle.nx_receiver.proofs.listens.Taken.{are-taken}
 use Rattle.nx_receiver.specs.ListenExample.{example_air_file, example_lines}
 use Rattle.nx_receiver.specs.ListenOnce.{IsHeardInTimeOn}
 use Rattle.nx_receiver.specs.Log.{PrintsToEnd}
 use Rattle.nx_receiver.specs.Once.{IsHeardInTime}
+use Rattle.nx_receiver.specs.private.Heard.{HeardTerms}
+use Rattle.nx_receiver.proofs.once.Found.{heard_at_first}
 use Rattle.nx_receiver.specs.Printing.{printed_copies}
 use Rattle.nx_receiver.specs.Emissions.{copy_of_sending}
 use Rattle.nx_receiver.specs.Shares.{all_at_zero, marked}
@@ -137,8 +141,8 @@ one-tagged : length (tagged_copies (first_setting at_zero) heard all-found) ≡ 
 unfolding tagged_copies
 one-tagged = length-map all-found _ ∙ ap length (sym found-same) ∙ one_found
 
-heard-there : IsHeardInTime at_zero heard (example_parts first_bits []) example_message
-heard-there = record {
+terms : HeardTerms at_zero heard (example_parts first_bits []) example_message
+terms = record {
   cut = cut;
   place = place;
   sent = example_sent first_bits [];
@@ -167,6 +171,9 @@ heard-there = record {
       first later one-tagged e);
 }
 
+heard-there : IsHeardInTime at_zero heard (example_parts first_bits []) example_message
+heard-there = heard_at_first at_zero heard (example_parts first_bits []) example_message terms
+
 pub heard-in-time : IsHeardInTimeOn Zero all_at_zero example_air_file example_message
 heard-in-time = record {
   lines = example_lines;
@@ -180,11 +187,9 @@ heard-in-time = record {
 
 taken : AreTaken all_at_zero example_lines
 unfolding AreTakenAfter
-taken = record {
-  in_range = lit≤ tt;
-  each =
-      ((lit≤ tt, lit≤ tt), taken-lines all_at_zero (moment 1735692000 ∷ []) bits refl);
-}
+taken =
+    are-taken all_at_zero example_lines (lit≤ tt)
+    ((lit≤ tt, lit≤ tt), taken-lines all_at_zero (moment 1735692000 ∷ []) bits refl)
 
 tagged-same : tagged_copies (first_setting at_zero) heard found
     ≡ tagged_copies (first_setting at_its_slot) events found

@@ -9,7 +9,7 @@ use Rattle.nx_code.specs.Lists.{last_of}
 use Rattle.nx_envelope.specs.Copies.{copies}
 use Rattle.nx_envelope.specs.Moment.{last_moment}
 use Rattle.nx_envelope.specs.declared.found.How.TheVariants.{Full}
-use Rattle.nx_memory.specs.Saved.{SavedState, nothing_saved, on_channel_0}
+use Rattle.nx_memory.specs.Saved.{SavedState, SavedStates, nothing_saved, on_channel_0}
 use Rattle.nx_memory.specs.Memory.{most_entries}
 use Rattle.nx_memory.specs.Selection.{admits}
 use Rattle.nx_memory.specs.declared.entry.MemoryEntry.{MemoryEntry}
@@ -32,7 +32,9 @@ use Rattle.nx_receiver.specs.Events.{Event, Setting, Start, at_moment, elements_
 use Rattle.nx_receiver.specs.Example.{first_copy, heard_at}
 use Rattle.nx_receiver.specs.FoundCopies.{FoundCopy, found_to_end, TaggedCopy, tag, tagged_copies}
 use Rattle.nx_receiver.specs.InTurn.{PrintAllToEnd}
-use Rattle.nx_receiver.specs.Listen.{AreTaken, AreTakenAfter, events_on, given_by}
+use Rattle.nx_receiver.specs.Listen.{AreTaken, events_on, given_by}
+use Rattle.nx_receiver.specs.private.Taken.{AreTakenAfter}
+use Rattle.nx_receiver.proofs.listens.Taken.{are-taken}
 use Rattle.nx_receiver.specs.Log.{PrintsToEnd}
 use Rattle.nx_receiver.specs.Printing.{entries_after, entries_made, entry_made, if_printed, is_entered, is_printed, printed_copies}
 use Rattle.nx_receiver.specs.Emissions.{copy_of_sending}
@@ -130,11 +132,14 @@ copy_then n = heard_at n ea01 Full (codes "TEST\n")
 -- ---- a run that hears it, where nothing is refused and nothing is saved of the other channels
 
 module _ (entries : List MemoryEntry) (from n : ℕ) where
+  abbrev kept : SavedStates
+  kept = on_channel_0 (record { entries = entries; refused = none_refused })
+
   abbrev begun : Starts
   begun = record {
     moment = from;
-    saved =
-        on_channel_0 (record { entries = entries; refused = none_refused });
+    entries = λ channel. (saved_of kept channel).entries;
+    refused = λ channel. (saved_of kept channel).refused;
   }
 
   abbrev begun-first : Start
@@ -187,10 +192,9 @@ module _ (entries : List MemoryEntry) (from n : ℕ) where
 
   taken : from ≤ n → n ≤ last_moment → AreTaken begun (lines_heard n)
   unfolding AreTakenAfter
-  taken low high = record {
-    in_range = omega (arith, low, high);
-    each = ((low, high), taken-lines begun (moment n ∷ []) bits refl);
-  }
+  taken low high =
+      are-taken begun (lines_heard n) (omega (arith, low, high))
+      ((low, high), taken-lines begun (moment n ∷ []) bits refl)
 
   refused-none : none_refused ≡ (setting_after_all (first_setting begun-first) given).refused
   unfolding setting_after_all
@@ -211,7 +215,7 @@ module _ (entries : List MemoryEntry) (from n : ℕ) where
 
   -- nothing is left of a channel of which nothing was saved
   leaves-none : (channel : Channel) → same_channel Zero channel ≡ false
-      → saved_of begun.saved channel ≡ nothing_saved
+      → saved_of kept channel ≡ nothing_saved
       → Leaves (start_on begun channel) (events_on channel (lines_heard n)) nothing_saved
   unfolding tagged_copies entries_made setting_after_all
   leaves-none channel h none = record {

@@ -22,16 +22,18 @@ use Rattle.nx_receiver.specs.Emissions.{copy_of_sending}
 use Rattle.nx_receiver.specs.Events.{Event, at_moment, at_zero, element, elements_among}
 use Rattle.nx_receiver.specs.Example.{first_copy}
 use Rattle.nx_receiver.specs.FoundCopies.{FoundCopy, ended_so_far, found_to_end, open_so_far, tagged_copies}
-use Rattle.nx_receiver.specs.Listen.{AreTaken, AreTakenAfter, IsLogOf}
+use Rattle.nx_receiver.specs.Listen.{AreTaken, IsLogOf}
+use Rattle.nx_receiver.specs.private.Taken.{AreTakenAfter}
+use Rattle.nx_receiver.proofs.listens.Taken.{are-taken}
 use Rattle.nx_receiver.specs.InTurn.{HavePrinted, PrintAllToEnd, PrintsInTurn}
-use Rattle.nx_receiver.specs.Log.{HasPrinted, IsLog, PrintsToEnd, entry_head, entry_with, is_of_lines, missing_newline, printed_of}
+use Rattle.nx_receiver.specs.Log.{HasPrinted, IsLog, PrintsToEnd, entry_head, is_of_lines, missing_newline, printed_of}
 use Rattle.nx_receiver.specs.Printing.{printed_copies}
 use Rattle.nx_receiver.specs.Shares.{Given, MarkedCopy, all_at_zero, copies_on, marked, share, start_on, to_all, to_one}
 use Rattle.nx_receiver.specs.Worked.{damaged_words}
 use Rattle.nx_receiver.proofs.Shares.{in_turn-more, in_turn-none}
 use Rattle.nx_receiver.proofs.locks.Found.{IsCopyIn}
 use Rattle.nx_receiver.proofs.locks.Growing.{ended_go_on}
-use Rattle.nx_receiver.proofs.receiving.Log.{logs_join}
+use Rattle.nx_receiver.proofs.receiving.Log.{entry_with, logs_join}
 use Rattle.nx_receiver.proofs.receiving.Logged.{bits_of-append, end_adds, ended_placed, one_to_end}
 use Rattle.nx_receiver.proofs.examples.Emission.{alone, cut_is, events, first_bits, found, one_found, sent_there, stands_is}
 use Rattle.nx_receiver.proofs.emissions.Found.{sending_found}
@@ -383,14 +385,13 @@ file-is = record {
 
 taken : AreTaken all_at_zero two_channels
 unfolding AreTakenAfter
-taken = record {
-  in_range = lit≤ tt;
-  each = ((lit≤ tt, lit≤ tt), (refl, (refl, (refl, (refl, (refl, (refl, tt)))))));
-}
+taken =
+    are-taken all_at_zero two_channels (lit≤ tt)
+    ((lit≤ tt, lit≤ tt), (refl, (refl, (refl, (refl, (refl, (refl, tt)))))))
 
 entry-is : entry_with One first_copy (codes "2025-01-01 00:40:00")
     ≡ codes "[EA01/1 2025-01-01 00:40:00 full 0/5]\nTEST\n\n"
-unfolding entry_with entry_head missing_newline is_of_lines digits
+unfolding entry_head missing_newline is_of_lines digits
 entry-is = refl
 
 second-log : IsLog (second ∷ []) (codes "[EA01/1 2025-01-01 00:40:00 full 0/5]\nTEST\n\n")

@@ -20,10 +20,11 @@ use Rattle.nx_receiver.specs.Events.{element, Setting, settings, setting_at, fir
 use Rattle.nx_receiver.specs.LockText.{PlacedByte, lock_text}
 use Rattle.nx_receiver.specs.FoundCopies.{found_copy, past_copies, found_to_end, tag, tagged_copies}
 use Rattle.nx_receiver.specs.Printing.{printed_copies, if_printed, is_printed}
-use Rattle.nx_receiver.specs.Log.{entry_head, is_of_lines, missing_newline, entry_with, IsLog, printed_of, PrintsToEnd}
+use Rattle.nx_receiver.specs.Log.{entry_head, is_of_lines, missing_newline, IsLog, printed_of, PrintsToEnd}
 use Rattle.nx_receiver.specs.Example.{first_copy}
 use Rattle.nx_receiver.specs.Shares.{marked}
 use Rattle.nx_receiver.specs.Worked.{at_its_slot, heard_elements, worked_log}
+use Rattle.nx_receiver.proofs.receiving.Log.{entry_with}
 use Rattle.nx_receiver.proofs.examples.Worked.{Computed, stands, text_is}
 
 -- the elements are those of the events
@@ -125,7 +126,7 @@ printed_to_end sent is =
 
 -- its bytes
 entry_is : entry_with Zero first_copy (codes "2025-01-01 00:40:00") ≡ worked_log
-unfolding entry_with entry_head missing_newline is_of_lines digits
+unfolding entry_head missing_newline is_of_lines digits
 entry_is = refl
 
 pub log_is : IsLog (marked Zero first_copy ∷ []) worked_log

@@ -15,7 +15,9 @@ use Rattle.nx_station.specs.FileSending.{IsTransmission}
 use Rattle.nx_station.specs.declared.sending.Sent.{Sent}
 use Rattle.nx_station.proofs.BroadcastLemmas.{broadcast-one}
 use Rattle.nx_receiver.specs.Events.{Event, at_moment, at_zero, elements_among}
-use Rattle.nx_receiver.specs.Listen.{AreTaken, AreTakenAfter, IsLogOf, IsLogOfFile, events_on, given_by}
+use Rattle.nx_receiver.specs.Listen.{AreTaken, IsLogOf, IsLogOfFile, events_on, given_by}
+use Rattle.nx_receiver.specs.private.Taken.{AreTakenAfter}
+use Rattle.nx_receiver.proofs.listens.Taken.{are-taken}
 use Rattle.nx_receiver.specs.Log.{PrintsToEnd}
 use Rattle.nx_receiver.specs.ListenOnce.{IsHeardInTimeOn}
 use Rattle.nx_receiver.specs.Once.{IsHeardInTime, IsPrintedOnce}
@@ -91,14 +93,8 @@ module _ (station from : ℕ) (file air : List ℕ) (sent : Sent)
   are_taken : AreTaken all_at_zero lines
   unfolding AreTakenAfter
   are_taken =
-      record {
-        in_range = omega arith;
-        each = (
-          (omega arith, h.next.in_range),
-          taken-lines all_at_zero (moment sent.slot ∷ []) bits
-              refl,
-        );
-      }
+      are-taken all_at_zero lines (omega arith)
+      ((omega arith, h.next.in_range), taken-lines all_at_zero (moment sent.slot ∷ []) bits refl)
 
   -- it has a log
   pub log_of_sent : (log : List ℕ) × IsLogOf all_at_zero air log

@@ -14,7 +14,8 @@ use Rattle.nx_fec.specs.declared.channel.Channel.TheVariants.{Zero}
 use Rattle.nx_fec.specs.Lines.{elements_of, elements_on, file_of, line_bytes}
 use Rattle.nx_fec.proofs.EncodingLaws.{first_lines-each, first_lines-elements}
 use Rattle.nx_receiver.specs.Events.{element}
-use Rattle.nx_receiver.specs.Listen.{AreTakenAfter, events_on, has_moment}
+use Rattle.nx_receiver.specs.Listen.{events_on, has_moment}
+use Rattle.nx_receiver.specs.private.Taken.{AreTakenAfter}
 use Rattle.nx_receiver.specs.Shares.{Starts}
 use Rattle.nx_receiver.specs.Events as fed
 use Rattle.nx_receiver.proofs.listens.Listener.{moment-other}

@@ -2,6 +2,7 @@
 -- after the end.
 use Rattle.std.proofs.Common.{◌≡◌, ◌||◌, inl, inr, ℕ, ◌+◌, ◌<◌, ◌≤◌, Bool, true, false, cond, IsTrue, List, [], ◌∷◌, ◌++◌, map, Option, Some, None, Ok, IsErr, length, take, take-append-drop, drop, refl, sym, ap, ap₂, ◌∙◌, subst, append-nil, append_assoc, arith, length-append}
 use lib.Seq.{take-add}
+use Rattle.std.proofs.Math.Path.{fun_ext}
 use Rattle.std.proofs.lemmas.List.{length-map, length-take-le, map-append}
 use Rattle.std.proofs.lemmas.List.Concat.{flat_map-append}
 use Rattle.std.proofs.lemmas.List.Folds.{list_any-append}
@@ -10,16 +11,17 @@ use Rattle.nx_fec.specs.Channels.{channel_of, same_channel}
 use Rattle.nx_fec.specs.declared.channel.Channel.{Channel}
 use Rattle.nx_fec.specs.declared.channel.Channel.TheVariants.{Zero, One, Two}
 use Rattle.nx_envelope.specs.Moment.{last_moment}
-use Rattle.nx_memory.specs.Saved.{SavedState, SavedStates}
 use Rattle.nx_receiver.specs.Events.{Event, Setting, Start, element, first_setting, setting_after_all}
 use Rattle.nx_receiver.specs.Events as fed
 use Rattle.nx_receiver.specs.InTurn.{HavePrinted, PrintsInTurn}
-use Rattle.nx_receiver.specs.Listen.{AreTaken, AreTakenAfter, IsTakenAfter, events_on, given_by, given_of, has_moment, is_moment_line, moment_after}
-use Rattle.nx_receiver.specs.private.Listener.{BeginsListening, BeginsLog, HasFinished, HearsGiven, HearsLog, IsListening, Listening, content, count_of, elements_given, elements_in, kept_by, receiver_on, starts_of, then_elements, with_receiver}
+use Rattle.nx_receiver.specs.Listen.{AreTaken, events_on, given_by, given_of, has_moment, is_moment_line, moment_after}
+use Rattle.nx_receiver.specs.private.Taken.{AreTakenAfter, IsTakenAfter}
+use Rattle.nx_receiver.proofs.listens.Taken.{are-taken, taken-each}
+use Rattle.nx_receiver.specs.private.Listener.{BeginsListening, BeginsLog, HasFinished, HearsGiven, HearsLog, IsListening, Listening, content, count_of, elements_given, elements_in, receiver_on, starts_of, then_elements, with_receiver}
 use Rattle.nx_receiver.specs.private.ListenerBegins.{printed-so_far}
 use Rattle.nx_receiver.specs.Log.{HasPrinted}
 use Rattle.nx_receiver.specs.Receiver.{Stands}
-use Rattle.nx_receiver.specs.Shares.{Given, MarkedCopy, Starts, copies_on, events_for, marked, saved_of, share, start_on, to_all, to_one}
+use Rattle.nx_receiver.specs.Shares.{Given, MarkedCopy, Starts, copies_on, events_for, marked, share, start_on, to_all, to_one}
 use Rattle.nx_receiver.specs.private.Awaiting.{Awaits}
 use Rattle.nx_receiver.specs.FoundCopies.{TaggedCopy}
 use Rattle.nx_receiver.specs.declared.over.Over.{Over}
@@ -136,7 +138,8 @@ one-after starts first (x ∷ xs) line h k = (
 pub taken-one : (starts : Starts) (lines : List Line) (line : Line) → AreTaken starts lines
     → IsTakenAfter starts lines line → AreTaken starts (lines ++ line ∷ [])
 taken-one starts lines line h k =
-    record { in_range = h.in_range; each = one-after starts [] lines line h.each k }
+    are-taken starts (lines ++ line ∷ []) h.in_range
+    (one-after starts [] lines line (taken-each starts lines h) k)
 
 or-none : (c d : Bool) → d ≡ false → (c || (d || false)) ≡ c
 or-none true d e = refl
@@ -574,32 +577,19 @@ none-heard starts listener given channel bytes h = record {
   spelled = h.spelled;
 }
 
-same-kept : (a b : SavedState) → a.refused ≡ b.refused → a.entries ≡ b.entries → a ≡ b
-same-kept a b e f = ap₂ (λ r es. record { refused = r; entries = es }) e f
-
 -- with what a listener starts, by what its receivers have
 pub starts-is : (starts : Starts) (listener : Listening)
     → ((channel : Channel) → Stands content (start_on starts channel)
     (receiver_on listener channel) [] [])
     → ((channel : Channel) → content (receiver_on listener channel).memory
-    ≡ (saved_of starts.saved channel).entries)
+    ≡ starts.entries channel)
     → starts_of listener ≡ starts
 unfolding setting_after_all
 starts-is starts listener stands same =
-    let kept : (channel : Channel)
-    → kept_by (receiver_on listener channel) ≡ saved_of starts.saved channel =
-    λ channel. same-kept (kept_by (receiver_on listener channel)) (saved_of starts.saved channel)
-    (ap (λ (s : Setting). s.refused) (stands channel).force) (same channel) in
-    let saved : record {
-      on_0 = kept_by listener.on_0;
-      on_1 = kept_by listener.on_1;
-      on_2 = kept_by listener.on_2;
-    } ≡ starts.saved =
-    ap₂ (λ a b. record { on_0 = a; on_1 = b; on_2 = kept_by listener.on_2 }) (kept Zero) (kept One)
-    ∙ ap (λ c. record { on_0 = starts.saved.on_0; on_1 = starts.saved.on_1; on_2 = c })
-    (kept Two) in
-    ap₂ (λ n s. record { moment = n; saved = s })
-    (ap (λ (s : Setting). s.moment) (stands Zero).force) saved
+    ap₂ (λ n es. record { moment = n; entries = es; refused = (starts_of listener).refused })
+    (ap (λ (s : Setting). s.moment) (stands Zero).force) (fun_ext same)
+    ∙ ap (λ r. record { moment = starts.moment; entries = starts.entries; refused = r })
+    (fun_ext (λ channel. ap (λ (s : Setting). s.refused) (stands channel).force))
 
 -- a listener that was made has heard nothing
 pub heard-nothing : (starts : Starts) (listener : Listening) → starts.moment ≤ last_moment
@@ -609,7 +599,7 @@ pub heard-nothing : (starts : Starts) (listener : Listening) → starts.moment �
     → IsListening starts listener [] []
 unfolding AreTakenAfter
 heard-nothing starts listener within stands none elements' entries' = record {
-  taken = record { in_range = within; each = tt };
+  taken = are-taken starts [] within tt;
   moment = none;
   hears = record {
     log = [];

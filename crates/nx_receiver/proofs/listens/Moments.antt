@@ -17,7 +17,9 @@ use Rattle.nx_fec.proofs.WritingLaws.{WroteSome-front}
 use Rattle.nx_memory.specs.declared.entry.MemoryEntry.{MemoryEntry}
 use Rattle.nx_receiver.specs.Events.{Event, Setting, Start, at_moment, element, command, first_setting, setting_after, settings}
 use Rattle.nx_receiver.specs.FoundCopies.{FoundCopy, TaggedCopy, tag, tagged_copies}
-use Rattle.nx_receiver.specs.Listen.{AreTaken, AreTakenAfter, HasLoggedSome, IsLogOf, IsLogOfLines, IsTakenAfter, events_on, given_by, given_of}
+use Rattle.nx_receiver.specs.Listen.{AreTaken, HasLoggedSome, IsLogOf, IsLogOfLines, events_on, given_by, given_of}
+use Rattle.nx_receiver.specs.private.Taken.{AreTakenAfter, IsTakenAfter}
+use Rattle.nx_receiver.proofs.listens.Taken.{taken-each}
 use Rattle.nx_receiver.specs.private.Listener.{BeginsListening}
 use Rattle.nx_receiver.specs.InTurn.{HavePrinted, PrintAllToEnd}
 use Rattle.nx_receiver.specs.Log.{IsLog, printed_of}
@@ -135,7 +137,7 @@ printed_of-in_range starts channel lines copies taken =
     printed-in_range start.entries _
     (tagged-in_range first events copies taken.in_range
     (settings-in_range first events taken.in_range
-    (lines-in_range starts channel [] lines taken.each)))
+    (lines-in_range starts channel [] lines (taken-each starts lines taken))))
 
 open-in_range : (starts : Starts) (lines : List Line) (copies : List MarkedCopy)
     → AreTaken starts lines → HavePrinted starts (given_by lines) copies

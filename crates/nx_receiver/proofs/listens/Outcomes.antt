@@ -12,7 +12,9 @@ use Rattle.nx_fec.specs.declared.line_run.LinesFault.TheVariants as run
 use Rattle.nx_fec.proofs.LineLaws.{HasFault-unique, IsAirFile-good, NoFeed, first_feed, no_feed-not, reading-unique, regroup, spelling-IsBeginning, spelling-injective, split}
 use Rattle.nx_fec.proofs.LineRunLemmas.{file_of-one}
 use Rattle.nx_receiver.specs.Events.{Refuses}
-use Rattle.nx_receiver.specs.Listen.{AreTaken, AreTakenAfter, HasListenFault, HasLogged, IsLogOf, IsTakenAfter, RefusesAfter}
+use Rattle.nx_receiver.specs.Listen.{AreTaken, HasListenFault, HasLogged, IsLogOf, RefusesAfter}
+use Rattle.nx_receiver.specs.private.Taken.{IsTakenAfter}
+use Rattle.nx_receiver.proofs.listens.Taken.{taken-at, taken-each}
 use Rattle.nx_receiver.specs.Shares.{Starts}
 use Rattle.nx_receiver.specs.private.Listener.{RefusesLine, lines_fault, refusal_fault}
 use Rattle.nx_receiver.specs.declared.fault.MomentFault.{MomentFault}
@@ -154,17 +156,6 @@ module _ (starts : Starts) where
   one-refusal lines (refuse_subject mark letter) refusal.NoMoment b h k = absurd h
   one-refusal lines (refuse_subject mark letter) (refusal.Moment x) b h k = absurd h
 
-  -- of lines that are taken, each is taken after those before it
-  taken-at : (first before : List Line) (line : Line) (after : List Line)
-      → AreTakenAfter starts first (before ++ line ∷ after)
-      → IsTakenAfter starts (first ++ before) line
-  unfolding AreTakenAfter
-  taken-at first [] line after h =
-      subst (λ l. IsTakenAfter starts l line) (sym (append-nil first)) h.0
-  taken-at first (x ∷ before) line after h =
-      subst (λ l. IsTakenAfter starts l line) (append_assoc first (x ∷ []) before)
-      (taken-at (first ++ x ∷ []) before line after h.1)
-
   -- ---- a refused line among others
 
   -- lines that are taken don't go on past a line that is refused after those before it
@@ -177,8 +168,9 @@ module _ (starts : Starts) where
       let front = front-lines (before ++ line ∷ []) lines t rest (good-more before line g h) k none
       (sym e) in
       taken-not_refused before line why
-      (taken-at [] before line front.0
-      (subst (AreTaken starts) (front.1 ∙ append_assoc before (line ∷ []) front.0) taken).each)
+      (taken-at starts [] before line front.0
+      (taken-each starts (before ++ line ∷ front.0)
+      (subst (AreTaken starts) (front.1 ∙ append_assoc before (line ∷ []) front.0) taken)))
       refused
 
   -- so what stands at the end of taken lines stands before the end of the refused line

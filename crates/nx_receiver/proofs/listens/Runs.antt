@@ -16,8 +16,9 @@ use Rattle.nx_fec.specs.declared.line_run.LinesFault.TheVariants as run
 use Rattle.nx_fec.specs.declared.line_run.LinesRead.{LinesRead}
 use Rattle.nx_fec.proofs.TransferLaws.{Ok-not_err, Reads-on, Writes-none, read_failed-none}
 use Rattle.nx_receiver.specs.Events.{elements_among}
-use Rattle.nx_receiver.specs.Listen.{AnswersListening, HasListened, HasLogged, HasLoggedSome, IsLogOf, Listens, RefusesAfter, given_by, given_of}
+use Rattle.nx_receiver.specs.Listen.{AnswersListening, HasListened, HasLogged, HasLoggedSome, IsLogOf, RefusesAfter, given_by, given_of}
 use Rattle.nx_receiver.specs.Shares.{Starts}
+use Rattle.nx_receiver.specs.ListenFrom.{ListensBy}
 use Rattle.nx_receiver.specs.private.Listener.{BeginsFrom, HasClosed, HasClosedSome, IsListening, Listening, RefusesFrom, RefusesLine, StandsFrom, elements_given, elements_in, lines_fault, refusal_fault, starts_of}
 use Rattle.nx_receiver.specs.declared.listen_fault.ListenFault.{ListenFault}
 use Rattle.nx_receiver.specs.declared.listen_fault.ListenFault.TheVariants.{Memory, Read, Write}
@@ -131,8 +132,20 @@ explains AtEnd IsLeft first now old new bytes (run.Refused line (refusal.Vital s
           new lines p.1,
     )) h
 explains AtEnd IsLeft first now old new bytes (run.Write written) h =
-    inl (stops-on bytes _ _ (λ lines rest more p. logged-some (starts_of first) old new written
-    lines p.given p.begun p.some) h)
+    let l = logged-some (starts_of first) old new written h.lines h.here.given h.here.begun
+    h.here.some in (
+      l.0,
+      l.2,
+      inl (record {
+        lines = h.lines;
+        rest = h.rest;
+        more = h.more;
+        whole = h.whole;
+        each = h.each;
+        part = h.part;
+        here = l.1;
+      }),
+    )
 
 -- the faults of devices are those of devices
 read-back : (fault : LinesFault LineRefusal) → lines_fault fault ≡ Read → fault ≡ run.Read
@@ -176,7 +189,7 @@ listens-by : {R W : Type 0} (starts : Starts) (d : Devices R W)
     (d.contents d.writer_after.inner) outcome)
     (AnswersListening starts (Unit {0}) (λ more. Unit {0}) (d.contents d.writer.inner)
     (d.contents d.writer_after.inner) outcome)
-    → Writes d.writer_after (λ written. Write written) outcome → Listens starts d outcome
+    → Writes d.writer_after (λ written. Write written) outcome → ListensBy starts d outcome
 listens-by starts d outcome r w = record {
   bytes = r.bytes;
   consumed = r.consumed;
@@ -192,7 +205,7 @@ listens-by starts d outcome r w = record {
 pub listens-fault : {R W : Type 0} (first now : Listening) (d : Devices R W)
     (fault : LinesFault LineRefusal)
     → RunsLines StandsFrom BeginsFrom RefusesFrom air_limit first now d (Err fault)
-    → Listens (starts_of first) d (Err (lines_fault fault))
+    → ListensBy (starts_of first) d (Err (lines_fault fault))
 listens-fault first now d fault h =
     listens-by (starts_of first) d (Err (lines_fault fault))
     (Reads-on d.remaining d.reader d.reader_after run.Read Read (Err fault)
@@ -297,7 +310,7 @@ pub listens-ok : {R W : Type 0} (remaining : R → Option (List ℕ)) (contents 
     → HasClosed (starts_of first) (contents writer.inner) (contents new.inner) (given_by lines)
     report)
     → report.lines ≡ read.lines → new.failures ≡ 0
-    → Listens (starts_of first) (devices remaining contents reader reader_after writer new)
+    → ListensBy (starts_of first) (devices remaining contents reader reader_after writer new)
     (Ok report)
 listens-ok remaining contents first now reader reader_after writer mid new read report h closed
     counted none =
@@ -342,7 +355,7 @@ pub listens-part : {R W : Type 0} (remaining : R → Option (List ℕ)) (content
     → HasWritten (contents writer.inner) (contents mid.inner) given read.written
     → HasClosedSome (starts_of first) (contents writer.inner) (contents new.inner) (given_by lines)
     written)
-    → new.failures ≡ 1 → Listens (starts_of first)
+    → new.failures ≡ 1 → ListensBy (starts_of first)
     (devices remaining contents reader reader_after writer new) (Err (Write written))
 listens-part remaining contents first now reader reader_after writer mid new read written h closed
     one =
@@ -350,8 +363,10 @@ listens-part remaining contents first now reader reader_after writer mid new rea
     (Err (Write written))
     (Reads-on remaining reader reader_after run.Read Read (Ok read) (Err (Write written)) _ _ _ _
     h.reads
-    (λ bytes k. inr (k.0, part-listened first now _ _ _ bytes read written k.1 closed))
-    (λ bytes k. inr (k.0, part-listened first now _ _ _ bytes read written k.1 closed))
+    (λ bytes k. let p = part-listened first now _ _ _ bytes read written k.1 closed in
+    (p.0, p.2, inr (k.0, p.1.0, p.1.1, p.1.2)))
+    (λ bytes k. let p = part-listened first now _ _ _ bytes read written k.1 closed in
+    (p.0, p.2, inr (k.0, p.1.0, p.1.1, p.1.2)))
     (λ bytes k h outside. tt) (λ e. absurd (write-not_read written e))
     (λ e. absurd (Ok-not_err _ _ e)))
     (record { failed = (λ w. one, λ k. (written, refl)); once = omega (arith, one) })
@@ -373,7 +388,7 @@ pub listens-memory : {R W : Type 0} (starts : Starts) (remaining : R → Option 
     (contents : W → Option (List ℕ)) (reader : CountedDevice R) (writer : CountedDevice W)
     (error : AllocError)
     → reader.failures ≡ 0 → writer.failures ≡ 0
-    → Listens starts (devices remaining contents reader reader writer writer)
+    → ListensBy starts (devices remaining contents reader reader writer writer)
     (Err (Memory error))
 listens-memory starts remaining contents reader writer error read written =
     let outcome : Result Report ListenFault = Err (Memory error) in

@@ -1,7 +1,7 @@
 -- The words of a lock: the third last of the DX words before an RX word is the word five before it;
 -- and what one word
 -- more adds to the positions.
-use Rattle.std.proofs.Common.{◌≡◌, ℕ, Bool, false, is_some, Option, None, zero, suc, ◌+◌, ◌-◌, ◌*◌, ◌<◌, ◌≤◌, cond, List, [], ◌∷◌, ◌++◌, length, map, get_or, inl, inr, refl, sym, ap, ◌∙◌, subst, add-one, append_assoc, append-nil, length-append, arith}
+use Rattle.std.proofs.Common.{◌≡◌, ℕ, false, is_some, Option, None, zero, suc, ◌+◌, ◌-◌, ◌*◌, ◌<◌, ◌≤◌, cond, List, [], ◌∷◌, ◌++◌, length, get_or, inl, inr, refl, sym, ap, ◌∙◌, subst, add-one, append_assoc, append-nil, length-append, arith}
 use Rattle.std.proofs.lemmas.Bool.{cases_lt}
 use Rattle.std.proofs.lemmas.Bool.Decides.{nat_tests}
 use Rattle.std.proofs.Math.Seq.{get_or-append_seam}
@@ -14,7 +14,7 @@ use Rattle.nx_envelope.specs.declared.found.HeldCopy.{HeldCopy}
 use Rattle.nx_envelope.specs.declared.found.HeldCopy.TheVariants as held
 use Rattle.nx_envelope.proofs.Hearing.{closes_none}
 use Rattle.nx_envelope.proofs.OneOpenCopy.{open_headers-nil}
-use Rattle.nx_fec.specs.Pairing.{Counted, IsLatest, nothing, counts_as, heard_as, pairing, third_last, five_before}
+use Rattle.nx_fec.specs.Pairing.{Counted, IsLatest, nothing, counts_as, pairing, third_last, five_before}
 use Rattle.nx_fec.specs.declared.diversity.Diversity.{Diversity}
 use Rattle.nx_sync.specs.Words.{role_of, other_role, is_dx}
 use Rattle.nx_sync.specs.declared.step.Role.{Role}
@@ -121,14 +121,14 @@ third_last-dx_words first words n h =
     ]
 
 -- what one word more adds to the DX words, and to the positions
-dx_words-dx : (first : Role) (words : ℕ → ℕ) (n : ℕ) → role_of first n ≡ Dx
+pub dx_words-dx : (first : Role) (words : ℕ → ℕ) (n : ℕ) → role_of first n ≡ Dx
     → dx_words first words (n + 1) ≡ dx_words first words n ++ counts_as (words n) ∷ []
 unfolding dx_words
 dx_words-dx first words n h =
     ap (dx_words first words) (add-one n)
     ∙ ap (λ role. dx_words first words n ++ if_dx role (counts_as (words n))) h
 
-dx_words-rx : (first : Role) (words : ℕ → ℕ) (n : ℕ) → role_of first n ≡ Rx
+pub dx_words-rx : (first : Role) (words : ℕ → ℕ) (n : ℕ) → role_of first n ≡ Rx
     → dx_words first words (n + 1) ≡ dx_words first words n
 unfolding dx_words
 dx_words-rx first words n h =
@@ -149,7 +149,7 @@ positions-dx first words n h =
     ∙ ap (λ role. positions first words n ++ if_rx role position) h
     ∙ append-nil (positions first words n)
 
-positions-rx : (first : Role) (words : ℕ → ℕ) (n : ℕ) → role_of first n ≡ Rx
+pub positions-rx : (first : Role) (words : ℕ → ℕ) (n : ℕ) → role_of first n ≡ Rx
     → positions first words (n + 1)
     ≡ positions first words n
     ++ pairing (third_last (dx_words first words n)) (counts_as (words n)) ∷ []
@@ -210,12 +210,6 @@ pub not_open : (copy : HeldCopy) (kept text : List ℕ) → is_open copy ≡ fal
 not_open held.Nothing kept text e h = closes_none text h
 not_open (held.Open identity fresh) kept text e h = cc
 not_open (held.Ready identity how) kept text e h = closes_none text h
-
--- a copy that isn't there isn't open, and neither is one that can be taken
-pub none_open : (copy : HeldCopy) → held_identity copy ≡ None → is_open copy ≡ false
-none_open held.Nothing e = refl
-none_open (held.Open identity fresh) e = cc
-none_open (held.Ready identity how) e = refl
 
 -- before any text, a copy that is held can be taken
 pub held_ready : (copy : HeldCopy) (kept : List ℕ) → HoldsCopy copy kept []

@@ -2,7 +2,7 @@
 use Rattle.std.proofs.Common.{◌≡◌, ℕ, zero, suc, ◌+◌, ◌-◌, ◌*◌, ◌<◌, ◌≤◌, Bool, true, false, cond, ltb, List, [], ◌∷◌, ◌++◌, map, length, lt-ltb, add-suc, refl, sym, ap, ◌∙◌, subst, arith, inl, inr, append_assoc, append-nil, add-zero}
 use Rattle.std.proofs.lemmas.List.{map-append}
 use Rattle.std.proofs.lemmas.Bool.{cases_lt}
-use Rattle.nx_code.specs.Reading.{Reception, text, shift_after_all}
+use Rattle.nx_code.specs.Reading.{text, shift_after_all}
 use Rattle.nx_code.specs.declared.shifts.Shift.TheVariants.{Letters}
 use Rattle.nx_code.proofs.ReadingLemmas.{text-append}
 use Rattle.nx_fec.specs.Pairing.{counts_as, pairing, nothing, five_before}
@@ -11,7 +11,7 @@ use Rattle.nx_sync.specs.Locks.{IsPattern}
 use Rattle.nx_sync.specs.declared.step.Role.{Role}
 use Rattle.nx_sync.proofs.KeptPast.{word_at-more, first_role-more}
 use Rattle.nx_receiver.specs.private.LockReader.{word_place}
-use Rattle.nx_receiver.specs.LockText.{taken_at, positions, PlacedByte, printed_after, printed_by, text_by, lock_text, bytes_of}
+use Rattle.nx_receiver.specs.LockText.{taken_at, positions, PlacedByte, printed_by, text_by, lock_text, bytes_of}
 
 -- words that are the same up to a word give the same text up to there
 five_before-same : (f g : ℕ → ℕ) (k : ℕ) → ((j : ℕ) → j < k → f j ≡ g j)
@@ -45,9 +45,10 @@ printed_by-same : (first : Role) (f g : ℕ → ℕ) (t k : ℕ) → ((j : ℕ) 
 unfolding printed_by
 printed_by-same first f g t k same =
     ap (map (λ b. record { byte = b; place = word_place t k }))
-    (ap (λ ps. printed_after ps (taken_at first f k))
+    (ap (λ ps. text (taken_at first f k) (shift_after_all ps Letters))
     (positions-same first f g k (λ j h. same j (omega arith)))
-    ∙ ap (printed_after (positions first g k)) (taken_at-same first f g k same))
+    ∙ ap (λ taken. text taken (shift_after_all (positions first g k) Letters))
+    (taken_at-same first f g k same))
 
 pub text_by-same : (first : Role) (f g : ℕ → ℕ) (t n : ℕ) → ((j : ℕ) → j < n → f j ≡ g j)
     → text_by first f t n ≡ text_by first g t n
@@ -116,13 +117,7 @@ pub bytes-placed : (place : ℕ) (bs : List ℕ)
 bytes-placed place [] = refl
 bytes-placed place (b ∷ bs) = ap (λ xs. b ∷ xs) (bytes-placed place bs)
 
-printed-is_text : (before more : List Reception) → length more ≤ 1
-    → printed_after before more ≡ text more (shift_after_all before Letters)
-printed-is_text before [] h = refl
-printed-is_text before (p ∷ []) h = sym (append-nil _)
-printed-is_text before (p ∷ q ∷ more) h = absurd (omega arith)
-
-one_taken : (first : Role) (f : ℕ → ℕ) (k : ℕ) → length (taken_at first f k) ≤ 1
+pub one_taken : (first : Role) (f : ℕ → ℕ) (k : ℕ) → length (taken_at first f k) ≤ 1
 unfolding taken_at
 one_taken first f k = elim (is_dx (role_of first k)) as (λ b. length
     (cond b [] (pairing (five_before f k) (counts_as (f k)) ∷ [])) ≤ 1) [
@@ -139,8 +134,7 @@ bytes_are_reading first f t (suc n) =
     bytes_of-append (text_by first f t n) (printed_by first f t n)
     ∙ ap (λ xs. xs ++ bytes_of (printed_by first f t n)) (bytes_are_reading first f t n)
     ∙ ap (λ ys. text (positions first f n) Letters ++ ys)
-    (bytes-placed (word_place t n) _
-    ∙ printed-is_text (positions first f n) (taken_at first f n) (one_taken first f n))
+    (bytes-placed (word_place t n) _)
     ∙ sym (text-append (positions first f n) (taken_at first f n) Letters)
 
 -- each byte stands at the end of a word of the lock

@@ -10,7 +10,8 @@ use Rattle.nx_fec.specs.Lines.{air_limit}
 use Rattle.nx_fec.specs.declared.channel.Channel.{Channel}
 use Rattle.nx_station.specs.Sendings.{Part}
 use Rattle.nx_receiver.specs.InTurn.{PrintAllToEnd}
-use Rattle.nx_receiver.specs.Listen.{HasListened, IsLogOfFile, Listens, events_on, given_by}
+use Rattle.nx_receiver.specs.Listen.{HasListened, IsLogOfFile, events_on, given_by}
+use Rattle.nx_receiver.specs.ListenFrom.{ListensBy}
 use Rattle.nx_receiver.specs.ListenOnce.{HasPrintedOnce, IsHeardInTimeOn, KeepsHeadline}
 use Rattle.nx_receiver.specs.Once.{IsHeardInTime, IsPrintedOnce}
 use Rattle.nx_receiver.specs.Shares.{MarkedCopy, Starts, copies_on, start_on}
@@ -64,7 +65,9 @@ on-some (Some xs) P Q f h = f xs h
 
 -- a run of `listen` that answers Ok keeps both halves of the headline
 pub keeps-headline : {R W : Type 0} (starts : Starts) (d : Devices R W) (report : Report)
-    → Listens starts d (Ok report) → KeepsHeadline starts d
+    → ListensBy starts d (Ok report)
+    → KeepsHeadline starts (d.remaining d.reader.inner) (d.remaining d.reader_after.inner)
+    (d.contents d.writer.inner) (d.contents d.writer_after.inner)
 keeps-headline starts d report h = record {
   bytes = h.bytes;
   consumed = h.consumed;

@@ -1,5 +1,5 @@
 -- The law of printing once.
-use Rattle.std.proofs.Common.{◌≡◌, ℕ, ◌+◌, ◌<◌, Bool, true, false, cond, List, [], ◌∷◌, ◌++◌, length, filter, refl, sym, ap, ◌∙◌, subst, arith, append_assoc, append-nil, IsTrue}
+use Rattle.std.proofs.Common.{◌≡◌, ℕ, ◌+◌, ◌<◌, Bool, true, false, cond, List, [], ◌∷◌, ◌++◌, length, filter, refl, sym, ap, ap₂, ◌∙◌, subst, arith, append_assoc, append-nil, IsTrue}
 use Rattle.std.specs.List.{All, Contains}
 use Rattle.std.proofs.lemmas.Bool.{false_from_ne_true, true≢false, ne_eqb}
 use Rattle.std.proofs.lemmas.List.Elements.{All-head, All-nil, All-cons, All-append, All-contains, filter-append, Contains-append_right}
@@ -35,16 +35,16 @@ Lacks identity entries = All
     (λ (entry : MemoryEntry). same_identity entry.identity identity ≡ false) entries
 
 -- the list up to its first copy of the identity
-record Split (identity : Identity) (copies : List TaggedCopy) (first : TaggedCopy)
+pub record Split (identity : Identity) (copies : List TaggedCopy) (first : TaggedCopy)
     (repeats : List TaggedCopy) : Type 0 where
-  before : List TaggedCopy
-  after : List TaggedCopy
-  whole : copies ≡ before ++ first ∷ after
-  none : copies_of identity before ≡ []
-  named : same_identity first.identity identity ≡ true
-  rest : copies_of identity after ≡ repeats
+  pub before : List TaggedCopy
+  pub after : List TaggedCopy
+  pub whole : copies ≡ before ++ first ∷ after
+  pub none : copies_of identity before ≡ []
+  pub named : same_identity first.identity identity ≡ true
+  pub rest : copies_of identity after ≡ repeats
 
-split : (identity : Identity) (copies : List TaggedCopy) (first : TaggedCopy)
+pub split : (identity : Identity) (copies : List TaggedCopy) (first : TaggedCopy)
     (repeats : List TaggedCopy) → copies_of identity copies ≡ first ∷ repeats
     → Split identity copies first repeats
 unfolding copies_of
@@ -157,6 +157,38 @@ none_live identity copies before after first whole none named =
     (subst (λ (i : Identity). IsLive i first.moment (entries_after [] before))
     (same_identity-true first.identity identity named)
     (live_from_known first.identity first.moment (entries_after [] before) known)))
+
+-- two parts of a list at its first copy of the identity are one
+pub record SameSplit (before other : List TaggedCopy) (first second : TaggedCopy)
+    (after rest : List TaggedCopy) : Type 0 where
+  pub front : before ≡ other
+  pub here : first ≡ second
+  pub back : after ≡ rest
+
+pub one_split : (identity : Identity) (before other : List TaggedCopy)
+    (first second : TaggedCopy) (after rest : List TaggedCopy)
+    → before ++ first ∷ after ≡ other ++ second ∷ rest
+    → copies_of identity before ≡ [] → copies_of identity other ≡ []
+    → bears identity first ≡ true → bears identity second ≡ true
+    → SameSplit before other first second after rest
+one_split identity [] [] first second after rest e none lacks named again = record {
+  front = refl;
+  here = cc;
+  back = cc;
+}
+one_split identity [] (x ∷ other) first second after rest e none lacks named again =
+    let same : first ≡ x = cc in
+    absurd (true≢false (sym named ∙ ap (bears identity) same ∙ (none_first identity x other lacks).0))
+one_split identity (x ∷ before) [] first second after rest e none lacks named again =
+    let same : x ≡ second = cc in
+    absurd (true≢false (sym again ∙ ap (bears identity) (sym same)
+    ∙ (none_first identity x before none).0))
+one_split identity (x ∷ before) (y ∷ other) first second after rest e none lacks named again =
+    let heads : x ≡ y = cc in
+    let tails : before ++ first ∷ after ≡ other ++ second ∷ rest = cc in
+    let more = one_split identity before other first second after rest tails
+    (none_first identity x before none).1 (none_first identity y other lacks).1 named again in
+    record { front = ap₂ (λ z zs. z ∷ zs) heads more.front; here = more.here; back = more.back }
 
 -- the entry of the first keeps each later copy from being printed
 record IsKept (identity : Identity) (entries : List MemoryEntry) (first : TaggedCopy)

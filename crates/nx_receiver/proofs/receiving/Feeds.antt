@@ -10,7 +10,7 @@ use Rattle.nx_receiver.specs.declared.entry.Entry.{Entry}
 use Rattle.nx_receiver.specs.Events.{Event, Setting, Start, elements_among, element, first_setting, setting_after_all, settings, elements}
 use Rattle.nx_receiver.specs.Log.{HasPrinted}
 use Rattle.nx_receiver.specs.Receiver.{Receiving, Stands, StandsOver, entry_list}
-use Rattle.nx_receiver.specs.private.Awaiting.{Awaits, AwaitsOver, PassesOver}
+use Rattle.nx_receiver.specs.private.Awaiting.{Awaits, AwaitsOver}
 use Rattle.nx_receiver.specs.FoundCopies.{TaggedCopy}
 use Rattle.nx_receiver.specs.private.Watch.{HasEnded, HearsAll, IsOver, all_in_force}
 use Rattle.nx_receiver.specs.Watching.{Watching, in_force}
@@ -38,50 +38,48 @@ fed_none content old bits = record {
   before = λ start history log s k lt. absurd (omega arith);
 }
 
--- A watch heard these elements, and what was over was passed over where it brings no entry.
-pub record Passed {M : Type 0} (content : M → List MemoryEntry) (old new : Receiving M)
-    (watch : Watching) (bits : List Bool) (left : Over) : Type 0 where
-  pub answer : Over
-  pub hears : HearsAll old.watch watch bits answer
-  pub passes : PassesOver content (record { watch = watch; memory = old.memory }) new answer left
-  pub force : in_force watch ≡ in_force old.watch
-
-pub awaits_on : {M : Type 0} (content : M → List MemoryEntry) (old new : Receiving M)
-    (watch : Watching) (bits : List Bool) (left : Over) → Passed content old new watch bits left
+-- a watch heard these elements, and what is over with the last of them is awaited
+pub awaits_on : {M : Type 0} (content : M → List MemoryEntry) (old : Receiving M) (watch : Watching)
+    (bits : List Bool) (answer : Over) → HearsAll old.watch watch bits answer
+    → in_force watch ≡ in_force old.watch
     → (start : Start) (events : List Event) (log : List TaggedCopy)
     → Stands content start old events log
-    → Awaits content start new (events ++ elements bits) log left
-awaits_on content old new watch bits left f start events log s =
+    → Awaits content start (record { watch = watch; memory = old.memory })
+    (events ++ elements bits) log answer
+awaits_on content old watch bits answer hears force start events log s =
     let first = first_setting start in
-    let heard = f.hears.hears first (elements_among events) (settings first events) s.copies
+    let new : Receiving _ = record { watch = watch; memory = old.memory } in
+    let heard = hears.hears first (elements_among events) (settings first events) s.copies
     s.watch in
-    let over = f.passes start _ _ (setting_after_all first events) log
-    (record {
+    let over : AwaitsOver content start new (elements_among events ++ bits)
+    (settings first events ++ all_in_force old.watch bits) (setting_after_all first events) log
+    answer = record {
       copies = s.copies;
       watch = heard.brings;
-      force = f.force ∙ s.force;
+      force = force ∙ s.force;
       printed =
           s.printed;
       memory = s.memory;
-    }) in
+    } in
     let all = events ++ elements bits in
     let h = subst (λ h. AwaitsOver content start new h
     (settings first events ++ all_in_force old.watch bits) (setting_after_all first events) log
-    left) (sym (bits_of-more events bits)) over in
+    answer) (sym (bits_of-more events bits)) over in
     let t = subst (λ t. AwaitsOver content start new (elements_among all) t
-    (setting_after_all first events) log left)
+    (setting_after_all first events) log answer)
     (sym (settings-more first old.watch events bits s.force)) h in
     subst (λ now. AwaitsOver content start new (elements_among all) (settings first all) now log
-    left) (sym (force-more first events bits)) t
+    answer) (sym (force-more first events bits)) t
 
-pub printed_before : {M : Type 0} (content : M → List MemoryEntry) (old new : Receiving M)
-    (watch : Watching) (bits : List Bool) (left : Over) → Passed content old new watch bits left
+-- and nothing was printed before the last of them
+pub printed_before : {M : Type 0} (content : M → List MemoryEntry) (old : Receiving M)
+    (watch : Watching) (bits : List Bool) (answer : Over) → HearsAll old.watch watch bits answer
     → (start : Start) (events : List Event) (log : List TaggedCopy)
     → Stands content start old events log → (k : ℕ) → k < length bits
     → HasPrinted start (events ++ elements (take k bits)) log
-printed_before content old new watch bits left f start events log s k lt =
+printed_before content old watch bits answer hears start events log s k lt =
     let first = first_setting start in
-    let heard = f.hears.hears first (elements_among events) (settings first events) s.copies
+    let heard = hears.hears first (elements_among events) (settings first events) s.copies
     s.watch in
     let ended = heard.none_before k (omega arith) in
     let some = take k bits in

@@ -10,9 +10,15 @@ use Rattle.nx_envelope.specs.Header.{newline}
 use Rattle.nx_envelope.specs.Moment.{IsShownAs}
 use Rattle.nx_envelope.specs.declared.found.FoundHead.{FoundHead}
 use Rattle.nx_fec.specs.declared.channel.Channel.{Channel}
-use Rattle.nx_receiver.specs.Log.{IsEntry, IsLog, entry_head, entry_with, missing_newline}
+use Rattle.nx_receiver.specs.FoundCopies.{TaggedCopy}
+use Rattle.nx_receiver.specs.Log.{IsEntry, IsLog, entry_head, missing_newline}
 use Rattle.nx_receiver.specs.Shares.{MarkedCopy, marked}
 use Rattle.nx_receiver.specs.private.Heads.{headed_copy}
+
+-- the entry of a copy with this civil time
+abbrev pub entry_with : Channel → TaggedCopy → List ℕ → List ℕ
+entry_with channel copy civil =
+    entry_head channel copy civil ++ copy.text ++ missing_newline copy.text ++ newline ∷ []
 
 -- an entry by its parts
 pub entry_of_parts : (head : FoundHead) (text : List ℕ) (moment : ℕ) (channel : Channel)
@@ -20,7 +26,6 @@ pub entry_of_parts : (head : FoundHead) (text : List ℕ) (moment : ℕ) (channe
     → line ≡ entry_head channel (headed_copy head text moment true) civil
     → end ≡ missing_newline text ++ newline ∷ []
     → IsEntry (marked channel (headed_copy head text moment true)) (line ++ text ++ end)
-unfolding entry_with
 entry_of_parts head text moment channel civil line end shown first last = record {
   civil = civil;
   shown = shown;

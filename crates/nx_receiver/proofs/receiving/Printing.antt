@@ -53,33 +53,6 @@ enter_some entries found tag copy e =
     ap (λ f. entries_after entries (handed_out f tag)) e
     ∙ ap (λ es. entries ++ es) (append-nil (entry_made entries (with_tag copy tag)))
 
--- a copy that isn't printed adds nothing
-pub not_printed : (entries : List MemoryEntry) (copy : TaggedCopy) → is_printed entries copy ≡ false
-    → printed_copies entries (copy ∷ []) ≡ []
-unfolding printed_copies if_printed
-not_printed entries copy e =
-    append-nil (if_printed entries copy) ∙ ap (λ b. cond b (copy ∷ []) []) e
-
-pub not_entered : (entries : List MemoryEntry) (copy : TaggedCopy) → is_printed entries copy ≡ false
-    → entries_after entries (copy ∷ []) ≡ entries
-unfolding entries_made entry_made is_entered
-not_entered entries copy e =
-    ap (λ es. entries ++ es) (append-nil (entry_made entries copy)
-    ∙ ap (λ b. cond (b && is_good copy && not (is_number_00 copy)) (entry_of copy ∷ []) []) e)
-    ∙ append-nil entries
-
--- whether the copy of an identity is printed, by what is remembered
-pub printed_by : (entries : List MemoryEntry) (copy : TaggedCopy) (identity : Identity)
-    (content : List MemoryEntry) → identity ≡ copy.identity → content ≡ last_of most_entries entries
-    → (copy.selected && ((identity.number == 0) || not (is_known identity copy.moment content)))
-    ≡ is_printed entries copy
-unfolding is_printed
-printed_by entries copy identity content named holds =
-    ap (λ (i : Identity). copy.selected
-    && ((i.number == 0) || not (is_known i copy.moment content))) named
-    ∙ ap (λ es. copy.selected
-    && ((copy.identity.number == 0) || not (is_known copy.identity copy.moment es))) holds
-
 -- what is printed was selected
 pub selected : (entries : List MemoryEntry) (found : Found) (tag : CopyTag)
     → is_printed entries (with_tag found tag) ≡ true

@@ -118,7 +118,8 @@ module _ {R W : Type 0} (remaining : R → Option (List ℕ)) (contents : W → 
   -- both halves of the headline hold of the air file
   pub headline-behind : (states : SavedStates) (outcome : Outcome)
       → ReadStateAlone remaining old mid states
-      → OnOk outcome (KeepsHeadline (starts_from states) air_part)
+      → OnOk outcome (KeepsHeadline (starts_from states) (remaining mid.inner)
+      (remaining new.inner) (contents writer.inner) (contents writer_after.inner))
       → OnOk outcome (HoldsBehind whole_run (HasPrintedOnceFrom whole_run))
   headline-behind states (Ok report) read h =
       let printed = printed-once (starts_from states) (contents writer.inner)

@@ -4,18 +4,13 @@ use Rattle.std.specs.List.{flat_map}
 use Rattle.std.proofs.lemmas.List.{append_cancel_left}
 use Rattle.nx_fec.specs.declared.channel.Channel.{Channel}
 use Rattle.nx_fec.specs.declared.channel.Channel.TheVariants.{Zero, One, Two}
-use Rattle.nx_receiver.specs.InTurn.{HavePrinted, PrintAllToEnd, PrintsFirst, PrintsInTurn}
+use Rattle.nx_receiver.specs.InTurn.{HavePrinted, PrintAllToEnd, PrintsInTurn}
 use Rattle.nx_receiver.specs.Shares.{Given, MarkedCopy, Starts, copies_on, marked, share, start_on}
 use Rattle.nx_receiver.proofs.locks.Texts.{GoesOnAs}
 use Rattle.nx_receiver.proofs.receiving.Logged.{one_printed, one_to_end}
 use Rattle.nx_receiver.proofs.turns.Added.{adds-same, grown, nothing-given}
 use Rattle.nx_receiver.proofs.turns.Marked.{goes-on-each, one-each}
-use Rattle.nx_receiver.proofs.Shares.{all_channels}
-
--- what is printed of each beginning is a beginning
-abbrev pub BeginsInTurn : Starts → List Given → List MarkedCopy → Type 0
-BeginsInTurn starts given copies =
-    (before later : List Given) → given ≡ before ++ later → PrintsFirst starts before copies
+use Rattle.nx_receiver.proofs.Shares.{BeginsInTurn, PrintsFirst, all_channels, begins-in_turn}
 
 -- of two beginnings that are printed of the same, one is the other
 one-first : (starts : Starts) (given same : List Given) (front more other rest : List MarkedCopy)
@@ -96,16 +91,18 @@ all-first starts given copies h =
 pub one-in_turn : (starts : Starts) (given : List Given) (xs ys : List MarkedCopy)
     → PrintsInTurn starts given xs → PrintsInTurn starts given ys → xs ≡ ys
 one-in_turn starts given xs ys h k =
-    one-beginning starts given xs ys h.in_turn k.in_turn (all-first starts given xs h.each)
+    one-beginning starts given xs ys (begins-in_turn starts given xs h)
+    (begins-in_turn starts given ys k) (all-first starts given xs h.each)
     (all-first starts given ys k.each)
 
 -- the log in turn of a beginning is a beginning of the log in turn
 pub in_turn-on : (starts : Starts) (before later : List Given) (xs ys : List MarkedCopy)
     → PrintsInTurn starts before xs → PrintsInTurn starts (before ++ later) ys → GoesOnAs xs ys
 in_turn-on starts before later xs ys h k =
-    let first = k.in_turn before later refl in
-    let same = one-beginning starts before xs ys h.in_turn
-    (λ front back e. k.in_turn front (back ++ later)
+    let begins = begins-in_turn starts (before ++ later) ys k in
+    let first = begins before later refl in
+    let same = one-beginning starts before xs ys (begins-in_turn starts before xs h)
+    (λ front back e. begins front (back ++ later)
     (ap (λ l. l ++ later) e ∙ append_assoc front back later))
     (all-first starts before xs h.each) first in
     record {

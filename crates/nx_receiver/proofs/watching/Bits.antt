@@ -84,6 +84,10 @@ past_is : (bits : List Bool) (locks : List Lock) (now : Now) → IsNow bits lock
 past_is bits locks (hunting p) is = (p, is.past)
 past_is bits locks (locked p t) is = (p, is.past)
 
+-- a step without a word completes none
+pub no_word : (r : Step) (w : ℕ × Role) → r.word ≡ None → r.word ≡ Some w → ⊥
+no_word r w e f = let both : None ≡ Some w = sym e ∙ f in cc
+
 module _ (first : Setting) (bits : List Bool) (b : Bool) (settings : List Setting) (s : Setting)
     (many : length settings ≡ length bits) where
   abbrev bits' : List Bool
@@ -131,9 +135,6 @@ module _ (first : Setting) (bits : List Bool) (b : Bool) (settings : List Settin
             (tag-later first settings (s ∷ []) (standing_text bits now) kept 0 (length bits)
             (standing_heard bits locks now is) (omega (arith, many)) k);
       }
-
-  no_word : (r : Step) (w : ℕ × Role) → r.word ≡ None → r.word ≡ Some w → ⊥
-  no_word r w e f = let both : None ≡ Some w = sym e ∙ f in cc
 
   -- an element with which no word is complete
   quiet_case : (reader : LockReading) (kept : CopyTag) (locks : List Lock) (now : Now)

@@ -1,6 +1,8 @@
 -- The elements of a line that are packed: a part of them, and one place behind another.
-use Rattle.std.proofs.Common.{◌≡◌, ℕ, ◌+◌, ◌-◌, ◌≤◌, Bool, List, length, take, drop, sym, ap, ◌∙◌, arith}
+use Rattle.std.proofs.Common.{◌≡◌, ℕ, ◌+◌, ◌-◌, ◌≤◌, Bool, List, [], ◌∷◌, ◌++◌, length, refl, take, drop, sym, ap, ◌∙◌, arith}
 use Rattle.std.proofs.lemmas.List.{drop-drop, drop-take, take-take}
+use Rattle.std.specs.List.{flat_map}
+use Rattle.nx_code.specs.Word.{elements, elements_of_list}
 use Rattle.nx_code.specs.Packed.{elements_of_words, packed_part}
 
 -- the elements behind a place among the first so many
@@ -31,3 +33,9 @@ all_is bits numbers place is room =
 pub behind : {A : Type 0} (xs : List A) (place at n : ℕ)
     → take n (drop (place + at) xs) ≡ take n (drop at (drop place xs))
 behind xs place at n = ap (take n) (sym (drop-drop at place xs))
+
+-- the elements of words, one word after the other
+pub elements_of_list-flat : (words : List ℕ) → elements_of_list words ≡ flat_map elements words
+unfolding elements_of_list
+elements_of_list-flat [] = refl
+elements_of_list-flat (word ∷ words) = ap (λ l. elements word ++ l) (elements_of_list-flat words)

@@ -78,11 +78,11 @@ copies_by-append first settings xs ys =
     map-append (λ copy. tag (setting_in first settings copy.place) copy) xs ys
 
 -- the tag of headers stays where more elements come, and more text
-abbrev IsTagOf : Setting → List Setting → List PlacedByte → CopyTag → Header → Type 0
+abbrev pub IsTagOf : Setting → List Setting → List PlacedByte → CopyTag → Header → Type 0
 IsTagOf first settings text kept header =
     kept ≡ tag_of (setting_in first settings (place_of_header text header)) header.identity
 
-tags-same : (first : Setting) (settings later : List Setting) (text more : List PlacedByte)
+pub tags-same : (first : Setting) (settings later : List Setting) (text more : List PlacedByte)
     (kept : CopyTag) (low high : ℕ) → All (IsByteIn low high) text → high ≤ length settings
     → (headers : List Header) → All (IsHeaderIn (bytes_of text)) headers
     → All (IsTagOf first settings text kept) headers

@@ -12,7 +12,6 @@ use Rattle.nx_fec.specs.declared.fault.LineFault.TheVariants as file
 use Rattle.nx_fec.specs.declared.line_run.LinesFault.{LinesFault}
 use Rattle.nx_fec.specs.declared.line_run.LinesFault.TheVariants as run
 use Rattle.nx_memory.specs.Ring.{RingMemory}
-use Rattle.nx_memory.specs.Saved.{SavedState}
 use Rattle.nx_memory.specs.Selection.{is_vital}
 use Rattle.nx_memory.specs.declared.entry.MemoryEntry.{MemoryEntry}
 use Rattle.nx_receiver.specs.Events as events
@@ -62,21 +61,13 @@ with_receiver listener Zero receiver = record listener { on_0 = receiver }
 with_receiver listener One receiver = record listener { on_1 = receiver }
 with_receiver listener Two receiver = record listener { on_2 = receiver }
 
--- the entries of a receiver, and what it refuses
-abbrev pub kept_by : Receiving RingMemory → SavedState
-kept_by receiver =
-    record { refused = receiver.watch.refused; entries = receiver.memory.content }
-
 -- with what a listener starts that has heard nothing yet: what its receivers have, of which all
 -- have one moment
 abbrev pub starts_of : Listening → Starts
 starts_of listener = record {
   moment = listener.on_0.watch.moment;
-  saved = record {
-    on_0 = kept_by listener.on_0;
-    on_1 = kept_by listener.on_1;
-    on_2 = kept_by listener.on_2;
-  };
+  entries = λ channel. content (receiver_on listener channel).memory;
+  refused = λ channel. (receiver_on listener channel).watch.refused;
 }
 
 -- the elements among what is given, of all channels

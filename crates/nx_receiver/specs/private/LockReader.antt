@@ -2,13 +2,14 @@
 -- stands (ITU-R M.625, mode B, and M.476 for what is printed; that each lock has a text of its own,
 -- from letters, is this profile's). `first` is the role of word 0 of the lock, and `words` gives
 -- each word's number.
-use Rattle.std.specs.Prelude.{◌≡◌, ◌⊎◌, ℕ, Bool, true, false, ◌+◌, ◌*◌, zero, suc, if◌then◌else◌, List, [], ◌∷◌, ◌++◌}
+use Rattle.std.specs.Prelude.{◌≡◌, ◌⊎◌, ◌<◌, ℕ, Bool, true, false, ◌+◌, ◌*◌, zero, suc, if◌then◌else◌, List, [], ◌∷◌, ◌++◌, length, slice_index}
 use Rattle.nx_code.specs.Reading.{shift_after_all, text}
 use Rattle.nx_code.specs.declared.shifts.Shift.TheVariants.{Letters}
 use Rattle.nx_fec.specs.Pairing.{Counted, IsLatest, counts_as}
 use Rattle.nx_sync.specs.Words.{role_of, is_dx}
 use Rattle.nx_sync.specs.declared.step.Role.{Role}
-use Rattle.nx_envelope.specs.Finder.{Hears, StandsAfter}
+use Rattle.nx_sync.specs.declared.step.Role.TheVariants.{Dx}
+use Rattle.nx_envelope.specs.Finder.{BringNothing, Hears, StandsAfter}
 use Rattle.nx_envelope.specs.declared.finder.Finder.{Finder}
 use Rattle.nx_envelope.specs.declared.found.HeldCopy.{HeldCopy}
 use Rattle.nx_envelope.specs.declared.found.HeldCopy.TheVariants as held
@@ -60,3 +61,14 @@ pub record PrintsByte (before after : List ℕ) (finder : Finder) (event : TextE
 abbrev pub HearsWord : List ℕ → List ℕ → Finder → TextEvent → Type 0
 HearsWord before after finder event =
     PrintsNothing before after event ⊎ PrintsByte before after finder event
+
+-- these words come next in a lock, behind its first n words, and the first of them is a DX word
+pub record AreNext (first : Role) (words : ℕ → ℕ) (n : ℕ) (next : List ℕ) : Type 0 where
+  pub dx : role_of first n ≡ Dx
+  pub are : (k : ℕ) → k < length next → words (n + k) ≡ slice_index next k
+
+-- words add bytes to the text, none of which begins or ends a copy
+pub record PrintsPlain (before after : List ℕ) : Type 0 where
+  pub bytes : List ℕ
+  pub grows : after ≡ before ++ bytes
+  pub nothing : BringNothing before bytes

@@ -96,6 +96,17 @@ pub record EndsPattern (held : Held) : Type 0 where
   pub role : Role
   pub here : role_after held.recent ≡ Some role
 
+-- The first n of these elements were heard, none of which ends a pattern.
+pub record Passes (old : Held) (bits : List Bool) (n : ℕ) (new : Held) : Type 0 where
+  pub within : n ≤ length bits
+  pub held : new ≡ heard_all old (take n bits)
+  pub quiet : (k : ℕ) → k < n → IsQuiet (heard_all old (take (k + 1) bits))
+
+-- The same, and there are some of them, unless the first one of all ends a pattern.
+pub record SkipsSome (old : Held) (bits : List Bool) (n : ℕ) (new : Held) : Type 0 where
+  pub passes : Passes old bits n new
+  pub stops : n ≡ 0 → EndsPattern (heard_all old (take 1 bits))
+
 -- The first n of these elements were heard, none of which ends a pattern; the next one does, if
 -- there is one.
 pub record Skips (old : Held) (bits : List Bool) (n : ℕ) (new : Held) : Type 0 where

@@ -1,5 +1,5 @@
 -- Windows, one after the other: what the private functions of the hunt answer.
-use Rattle.std.specs.Prelude.{◌≡◌, ℕ, ◌+◌, ◌*◌, ◌/◌, ◌%◌, ◌^◌, ◌<◌, ◌≤◌, ◌==◌, Bool, true, false, ◌||◌, List, [], ◌∷◌, length, slice_index, Option, Some, None, if◌then◌else◌}
+use Rattle.std.specs.Prelude.{◌≡◌, ℕ, ◌+◌, ◌*◌, ◌/◌, ◌%◌, ◌^◌, ◌<◌, ◌≤◌, ◌==◌, Bool, true, false, ◌&&◌, ◌||◌, List, [], ◌∷◌, length, slice_index, Option, Some, None, if◌then◌else◌}
 use Rattle.nx_code.specs.Word.{value_of}
 use Rattle.nx_sync.specs.declared.step.Role.{Role}
 use Rattle.nx_sync.specs.declared.step.Role.TheVariants.{Dx, Rx}
@@ -45,6 +45,43 @@ is_one_of (one ∷ more) number = number == one || is_one_of more number
 
 abbrev pub is_block : ℕ → Bool
 is_block block = is_one_of blocks block
+
+-- a window, and above it the elements of the number that comes after it
+abbrev pub joined : ℕ → ℕ → ℕ
+joined window number = window + 2 ^ 28 * number
+
+-- the window from a place on
+abbrev pub window_in : ℕ → ℕ → ℕ
+window_in joined place = joined / 2 ^ place % 2 ^ 28
+
+-- the ten elements from a place on
+abbrev pub block_in : ℕ → ℕ → ℕ
+block_in joined place = joined / 2 ^ place % 2 ^ 10
+
+-- whether one of the four tens of elements stands in a pattern, one of which each window after one
+-- of 64 elements has
+abbrev pub may_lock_in_blocks : ℕ → Bool
+may_lock_in_blocks joined =
+    is_block (block_in joined 18) || is_block (block_in joined 37)
+    || is_block (block_in joined 56) || is_block (block_in joined 75)
+
+-- the same, and with it the ten before or the ten behind it, one of which each of these windows has
+abbrev pub may_lock_in_both : ℕ → Bool
+may_lock_in_both joined =
+    (is_block (block_in joined 18)
+    && (is_block (block_in joined 9) || is_block (block_in joined 28)))
+    || (is_block (block_in joined 37)
+    && (is_block (block_in joined 28) || is_block (block_in joined 47)))
+    || (is_block (block_in joined 56)
+    && (is_block (block_in joined 47) || is_block (block_in joined 66)))
+    || (is_block (block_in joined 75) && is_block (block_in joined 66))
+
+-- so many elements come before the first one, among the first `count`, after which the window is a
+-- pattern, all where there is none
+pub record IsBeforeLockIn (joined count heard : ℕ) : Type 0 where
+  pub within : heard ≤ count
+  pub clear : (k : ℕ) → k < heard → is_lock_window (window_in joined (k + 1)) ≡ false
+  pub here : heard < count → is_lock_window (window_in joined (heard + 1)) ≡ true
 
 -- the window after these elements
 unfoldable pub window_after : ℕ → List Bool → ℕ

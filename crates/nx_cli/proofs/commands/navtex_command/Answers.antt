@@ -6,15 +6,15 @@ pub returns : goal.returns
 returns c =
     let listen = with_one_more _ _ _ _ _ c.in_ok-bare_command.ensures c.listen_command.ensures
     c.in_ok-subcommand.ensures in
-    let resume = with_one_more _ _ _ _ _ listen c.resume_command.ensures
+    let send = with_one_more _ _ _ _ _ listen c.in_ok-send_command.ensures
     c.in_ok-subcommand-2.ensures in
-    let save = with_one_more _ _ _ _ _ resume c.save_command.ensures
+    let resume = with_one_more _ _ _ _ _ send c.resume_command.ensures
     c.in_ok-subcommand-3.ensures in
-    let locks = with_one_more _ _ _ _ _ save c.locks_command.ensures
+    let save = with_one_more _ _ _ _ _ resume c.save_command.ensures
     c.in_ok-subcommand-4.ensures in
-    let send = with_one_more _ _ _ _ _ locks c.in_ok-send_command.ensures
+    let locks = with_one_more _ _ _ _ _ save c.locks_command.ensures
     c.in_ok-subcommand-5.ensures in
-    let slots = with_one_more _ _ _ _ _ send c.in_ok-slots_command.ensures
+    let slots = with_one_more _ _ _ _ _ locks c.in_ok-slots_command.ensures
     c.in_ok-subcommand-6.ensures in
     let check = with_one_more _ _ _ _ _ slots c.check_command.ensures
     c.in_ok-subcommand-7.ensures in

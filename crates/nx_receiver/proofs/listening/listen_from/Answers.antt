@@ -1,8 +1,8 @@
 use Rattle.std.proofs.Common.{Ok, Err, [], refl, subst, sym, ◌∙◌}
 use Rattle.nx_fec.specs.Transfers.{devices}
 use Rattle.nx_fec.proofs.TransferLaws.{Ok-not_err, Writes-sound}
-use Rattle.nx_receiver.specs.Listen.{Listens, given_by}
-use Rattle.nx_receiver.specs.ListenFrom.{reported}
+use Rattle.nx_receiver.specs.Listen.{given_by}
+use Rattle.nx_receiver.specs.ListenFrom.{ListensBy, reported}
 use Rattle.nx_receiver.specs.Shares.{Starts, starts_from}
 use Rattle.nx_receiver.specs.private.Listener.{StandsFrom, IsListening, starts_of}
 use Rattle.nx_receiver.proofs.listens.From.{err-is, goes-on}
@@ -12,7 +12,7 @@ use Rattle.nx_receiver.proofs.listening.listen_from.Goals as goal
 
 pub returns-in_err-listener-clause-listens : goal.returns-in_err-listener-clause-listens
 returns-in_err-listener-clause-listens g c =
-    subst (Listens (starts_from c.args.saved.now)
+    subst (ListensBy (starts_from c.args.saved.now)
     (devices g.R.Read.remaining g.W.Write.contents c.args.reader.now c.args.reader.now
     c.args.writer.now c.args.writer.now))
     (sym (err-is c.from_residual.result _ c.from_residual.ensures.0 c.from_residual.ensures.1))
@@ -28,9 +28,9 @@ returns-in-Err-clause-listens g c =
     let begun : StandsFrom first first [] [] =
     subst (λ (starts : Starts). IsListening starts first [] [])
     (sym c.in_ok-listener.ensures.start) c.in_ok-listener.ensures.listens in
-    subst (λ (starts : Starts). Listens starts d (Err c.run_fault.result))
+    subst (λ (starts : Starts). ListensBy starts d (Err c.run_fault.result))
     c.in_ok-listener.ensures.start
-    (subst (λ fault. Listens (starts_of first) d (Err fault)) (sym c.run_fault.ensures)
+    (subst (λ fault. ListensBy (starts_of first) d (Err fault)) (sym c.run_fault.ensures)
     (listens-fault first c.run_lines.new.taker d c.in-Err.fault (c.in-Err.ensures first begun)))
 
 pub close-requires : goal.close-requires
@@ -50,9 +50,9 @@ returns-in_err-report-clause-listens g c =
     let begun : StandsFrom first first [] [] =
     subst (λ (starts : Starts). IsListening starts first [] [])
     (sym c.in_ok-listener.ensures.start) c.in_ok-listener.ensures.listens in
-    subst (λ (starts : Starts). Listens starts d (reported c.from_residual-in_err-report.result))
+    subst (λ (starts : Starts). ListensBy starts d (reported c.from_residual-in_err-report.result))
     c.in_ok-listener.ensures.start
-    (subst (Listens (starts_of first) d)
+    (subst (ListensBy (starts_of first) d)
     (sym (err-is c.from_residual-in_err-report.result _ c.from_residual-in_err-report.ensures.0
     c.from_residual-in_err-report.ensures.1))
     (listens-part g.R.Read.remaining contents first c.run_lines.new.taker c.args.reader.now
@@ -70,7 +70,7 @@ returns-clause-listens g c =
     let begun : StandsFrom first first [] [] =
     subst (λ (starts : Starts). IsListening starts first [] [])
     (sym c.in_ok-listener.ensures.start) c.in_ok-listener.ensures.listens in
-    subst (λ (starts : Starts). Listens starts d (Ok c.in_ok-report.report))
+    subst (λ (starts : Starts). ListensBy starts d (Ok c.in_ok-report.report))
     c.in_ok-listener.ensures.start
     (listens-ok g.R.Read.remaining contents first c.run_lines.new.taker c.args.reader.now
     c.run_lines.new.reader c.args.writer.now c.run_lines.new.writer c.close.new.writer

@@ -1,6 +1,6 @@
-use Rattle.std.proofs.Common.{◌+◌, ◌≤◌, drop, length, length-drop, arith, refl, rules}
+use Rattle.std.proofs.Common.{◌+◌, ◌≤◌, drop, length, length-drop, arith, rules}
+use Rattle.nx_receiver.proofs.watching.Packed.{behind}
 use Rattle.nx_locks.proofs.Hears.{goes_first, goes_on}
-use Rattle.nx_locks.proofs.Places.{part_is}
 use Rattle.nx_locks.proofs.watch.LockWatch.hear_words.Goals as goal
 
 pub loop-count-init : goal.loop-count-init
@@ -20,7 +20,7 @@ returns-then-not-is_between_words-clause-hears c =
     omega (arith, next.ensures.within, length-drop c.args.from all) in
     (goes_on c.args.self.now c.loop-count.self next.new.self (drop c.args.from all) _
     c.loop-count.count next.result _ _ _ c.loop-count.invariant.goes within
-    (part_is all _ c.args.from c.loop-count.count next.result refl) next.ensures.hears).heard
+    (behind all c.args.from c.loop-count.count next.result) next.ensures.hears).heard
 
 pub loop-count-preserved : goal.loop-count-preserved
 loop-count-preserved c =
@@ -31,7 +31,7 @@ loop-count-preserved c =
     record {
       goes = goes_on c.args.self.now c.loop-count.self next.new.self (drop c.args.from all) _
           c.loop-count.count next.result _ _ _ c.loop-count.invariant.goes within
-          (part_is all _ c.args.from c.loop-count.count next.result refl) next.ensures.hears;
+          (behind all c.args.from c.loop-count.count next.result) next.ensures.hears;
       limit = search rules;
       few = omega (arith, c.loop-count.invariant.few, next.ensures.few);
     }

@@ -1,11 +1,11 @@
-use Rattle.std.proofs.Common.{◌≡◌, ◌+◌, ◌<◌, ◌≤◌, ◌++◌, [], ◌∷◌, Bool, List, ℕ, take, drop, length, length-drop, arith, ap, ◌∙◌, refl, subst}
+use Rattle.std.proofs.Common.{◌≡◌, ◌+◌, ◌<◌, ◌≤◌, ◌++◌, [], ◌∷◌, Bool, List, ℕ, take, drop, length, length-drop, arith, ap, ◌∙◌, subst}
 use Rattle.std.specs.Prelude.{min, ◌-◌, ◌^◌}
 use Rattle.nx_code.specs.Packed.{packed_part}
 use Rattle.nx_sync.specs.Steps.{HuntsThrough}
 use Rattle.nx_sync.specs.Synchroniser.{Held, StandsAfter}
+use Rattle.nx_receiver.proofs.watching.Packed.{all_is, behind}
 use Rattle.nx_locks.specs.private.Watch.{HearsAll, Watching}
 use Rattle.nx_locks.proofs.Hears.{Goes, goes_on, hunt_heard}
-use Rattle.nx_locks.proofs.Places.{part_is, rest_of_packed}
 use Rattle.nx_locks.proofs.watch.LockWatch.hunt.Goals as goal
 
 -- a hunt through packed elements is one through the elements that they are
@@ -25,9 +25,10 @@ returns-then-count-rest-clause-hears c =
     let hunt = c.hunt_packed-count.ensures in
     let i = c.self.inside in
     let all = c.args.elements.now in
-    let rest = rest_of_packed all c.words.result.now c.args.from (c.len.result - c.args.from)
-    c.words.ensures.elements (omega arith)
-    (ap (λ n. n - c.args.from) c.len.ensures.count) in
+    let rest : packed_part c.words.result.now c.args.from (c.len.result - c.args.from)
+    ≡ drop c.args.from all =
+    ap (λ n. packed_part c.words.result.now c.args.from (n - c.args.from)) c.len.ensures.count
+    ∙ all_is all c.words.result.now c.args.from c.words.ensures.elements (omega arith) in
     let old : Watching = record {
       synchroniser = i.synchroniser;
       reader = i.reader;
@@ -58,9 +59,10 @@ returns-clause-hears c =
     let all = c.args.elements.now in
     let bits : List Bool = drop c.args.from all in
     let n = c.hunt_packed-count.result in
-    let rest = rest_of_packed all c.words.result.now c.args.from (c.len.result - c.args.from)
-    c.words.ensures.elements (omega arith)
-    (ap (λ n. n - c.args.from) c.len.ensures.count) in
+    let rest : packed_part c.words.result.now c.args.from (c.len.result - c.args.from)
+    ≡ drop c.args.from all =
+    ap (λ n. packed_part c.words.result.now c.args.from (n - c.args.from)) c.len.ensures.count
+    ∙ all_is all c.words.result.now c.args.from c.words.ensures.elements (omega arith) in
     let size = length-drop c.args.from all in
     let short : n < length bits = omega arith in
     let shown = c.args.shown.now.items in
@@ -90,5 +92,5 @@ returns-clause-hears c =
     c.hear_element.new.shown.items) c.self.view_is
     (goes_on old mid c.hear_element.new.self bits (c.get.result ∷ []) n 1 shown shown
     c.hear_element.new.shown.items heard (omega (arith, short))
-    (part_is all (c.get.result ∷ []) c.args.from n 1 c.get.ensures)
+    (c.get.ensures ∙ behind all c.args.from n 1)
     c.hear_element.ensures.hears).heard

@@ -5,4 +5,4 @@ use Rattle.nx_receiver.proofs.watch.Watch.hear_part.Goals as goal
 pub returns-clause-hears : goal.returns-clause-hears
 returns-clause-hears c =
     subst (λ xs. HearsAll c.args.self.now c.hear_element.new.self xs c.hear_element.result)
-    c.element.ensures c.hear_element.ensures.hears
+    c.get.ensures c.hear_element.ensures.hears

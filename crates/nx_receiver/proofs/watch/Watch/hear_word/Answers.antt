@@ -1,14 +1,10 @@
-use Rattle.std.proofs.Common.{◌≡◌, ◌∙◌, ℕ, ap, length, subst}
+use Rattle.std.proofs.Common.{◌∙◌, ap, subst}
 use Rattle.nx_code.specs.Word.{elements}
-use Rattle.nx_code.proofs.PackedLemmas.{length-elements_from}
+use Rattle.nx_sync.proofs.Numbers.{length-elements}
 use Rattle.nx_receiver.specs.private.Watch.{HearsBits, WatchStands}
 use Rattle.nx_receiver.specs.Watching.{in_force}
 use Rattle.nx_receiver.proofs.watching.Hears.{word_heard, force_on}
 use Rattle.nx_receiver.proofs.watch.Watch.hear_word.Goals as goal
-
-length-word : (word : ℕ) → length (elements word) ≡ 7
-unfolding elements
-length-word word = length-elements_from 7 word
 
 pub returns-clause-hears : goal.returns-clause-hears
 returns-clause-hears c = record {
@@ -18,7 +14,7 @@ returns-clause-hears c = record {
       c.self.view_is
       (λ stands. word_heard first _ c.read.new.self c.push_whole-step.new.self
       (elements c.args.word) h s copies c.push_whole-step.result c.read.result
-      (length-word c.args.word)
+      (length-elements c.args.word)
       (c.push_whole-step.ensures.stands h stands.synchroniser)
       (c.push_whole-step.ensures.step h stands.synchroniser) c.read.ensures.step stands);
 }

@@ -1,5 +1,4 @@
-use Rattle.std.proofs.Common.{◌≡◌, ◌+◌, ◌∙◌, ◌≤◌, drop, length, length-drop, arith, rules, subst}
-use Rattle.nx_code.specs.Word.{elements}
+use Rattle.std.proofs.Common.{◌≡◌, ◌+◌, ◌≤◌, Bool, List, drop, take, length, length-drop, arith, rules, subst}
 use Rattle.nx_receiver.specs.private.Watch.{HearsAll}
 use Rattle.nx_receiver.specs.declared.over.Over.TheVariants.{Nothing}
 use Rattle.nx_receiver.proofs.watching.Loops.{goes_first, goes_on, goes_to}
@@ -12,24 +11,26 @@ loop-heard-init c =
 
 pub returns-then-ne-clause-hears : goal.returns-then-ne-clause-hears
 returns-then-ne-clause-hears c =
+    let some = c.hear_some_words-count in
     let all = c.args.packed.now in
     let at = c.loop-heard.heard in
-    goes_to c.args.self.now c.loop-heard.self c.hear_word-over.new.self (drop c.args.from all)
-    (elements c.word.result) at 7 c.hear_word-over.result c.loop-heard.invariant.0
-    (c.word.ensures ∙ behind all c.args.from at 7) c.hear_word-over.ensures.hears
+    goes_to c.args.self.now c.loop-heard.self some.new.self (drop c.args.from all)
+    (take some.result.0 (drop (c.args.from + at) all)) at some.result.0 some.result.1
+    c.loop-heard.invariant.0 (behind all c.args.from at some.result.0) some.ensures.hears
 
 pub loop-heard-preserved : goal.loop-heard-preserved
 loop-heard-preserved c =
+    let some = c.hear_some_words-count in
     let all = c.args.packed.now in
     let at = c.loop-heard.heard in
-    let within : at + 7 ≤ length (drop c.args.from all) =
-    omega (arith, length-drop c.args.from all) in
-    let nothing : c.hear_word-over.result ≡ Nothing = search rules in
-    let heard = subst (HearsAll c.loop-heard.self c.hear_word-over.new.self (elements c.word.result))
-    nothing c.hear_word-over.ensures.hears in (
-      goes_on c.args.self.now c.loop-heard.self c.hear_word-over.new.self (drop c.args.from all)
-          (elements c.word.result) at 7 c.loop-heard.invariant.0 within
-          (c.word.ensures ∙ behind all c.args.from at 7) heard
-          c.hear_word-over.ensures.force c.hear_word-over.ensures.tag,
+    let piece : List Bool = take some.result.0 (drop (c.args.from + at) all) in
+    let within : at + some.result.0 ≤ length (drop c.args.from all) =
+    omega (arith, some.ensures.within, length-drop c.args.from all) in
+    let nothing : some.result.1 ≡ Nothing = search rules in
+    let heard = subst (HearsAll c.loop-heard.self some.new.self piece) nothing some.ensures.hears
+    in (
+      goes_on c.args.self.now c.loop-heard.self some.new.self (drop c.args.from all) piece at
+          some.result.0 c.loop-heard.invariant.0 within (behind all c.args.from at some.result.0)
+          heard some.ensures.force some.ensures.tag,
       search rules,
     )

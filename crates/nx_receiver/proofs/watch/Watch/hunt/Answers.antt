@@ -48,9 +48,9 @@ returns-clause-hears c =
     omega (arith, hunt.within, length-drop from all, c.len.ensures.count) in
     subst (λ w. HearsAll w c.hear_element.new.self (take (n + 1) bits) c.hear_element.result)
     c.self.view_is
-    (goes_to _ _ c.hear_element.new.self bits (c.element.result ∷ []) n 1 c.hear_element.result
+    (goes_to _ _ c.hear_element.new.self bits (c.get.result ∷ []) n 1 c.hear_element.result
     (hunt_goes _ c.hunt_packed-count.new.self bits n within
     (λ h st. subst (λ l. StandsAfter c.hunt_packed-count.new.self (h ++ take n l)) same
     (hunt.stands h st))
     (λ h st. subst (λ l. HuntsThrough h l n) same (hunt.pushes h st)))
-    (c.element.ensures ∙ behind all from n 1) c.hear_element.ensures.hears)
+    (c.get.ensures ∙ behind all from n 1) c.hear_element.ensures.hears)

@@ -1,77 +1,67 @@
-use Rattle.std.proofs.Common.{◌≡◌, ℕ, ◌+◌, ◌≤◌, List, Bool, length, take, drop, sym, ap, subst, ◌∙◌, arith}
-use Rattle.nx_code.specs.Word.{elements_from}
+use Rattle.std.proofs.Common.{ℕ, ◌-◌, List, Bool, take, drop, sym, subst, arith}
 use Rattle.nx_code.specs.Packed.{packed_part}
-use Rattle.nx_sync.specs.private.Calls.{Skips}
-use Rattle.nx_sync.proofs.Hearing.{heard_all-none}
-use Rattle.nx_sync.proofs.Hunting.{part_held, part_quiet, part_stops}
-use Rattle.nx_sync.proofs.PackedParts.{part_of_part, length-part, length-taken}
+use Rattle.nx_sync.specs.private.Calls.{SkipsSome}
+use Rattle.nx_sync.proofs.Hunting.{passes_on, passes_early, late_after, stops_on, skips_of}
+use Rattle.nx_sync.proofs.PackedParts.{part_of_part, length-part}
 use Rattle.nx_sync.proofs.synchroniser.Synchroniser.skip_packed.Goals as goal
 
 pub loop-at-init : goal.loop-at-init
 loop-at-init c =
-    let seen : c.args.self.now.seen ≤ 28 =
-    omega (arith, c.self.invariant.1, ap (λ h. h.seen) c.self.view_is) in
-    (omega arith, sym (heard_all-none c.args.self.now seen), λ k h. absurd (omega arith))
+    let bits : List Bool = packed_part c.args.numbers.now c.args.from c.args.count in
+    let all = length-part c.args.numbers.now c.args.from c.args.count c.requires.room in
+    let e = c.skip_packed_early-at.ensures in (
+      passes_early c.args.self.now bits c.skip_packed_early-at.result
+          c.skip_packed_early-at.new.self e,
+      omega (arith, all, e.within),
+      λ h. omega (arith, e.late (omega (arith, all, h))),
+    )
 
-pub returns-then-heard-few : goal.returns-then-heard-few
-returns-then-heard-few c =
+pub skip_some-heard-requires-clause-seen : goal.skip_some-heard-requires-clause-seen
+skip_some-heard-requires-clause-seen c =
+    omega (
+      arith,
+      late_after c.args.self.now (packed_part c.args.numbers.now c.args.from c.args.count)
+          c.loop-at.at c.loop-at.self c.loop-at.invariant.0
+          (c.loop-at.invariant.2 c.loop-at-test.true),
+    )
+
+pub returns-then-heard-eq0 : goal.returns-then-heard-eq0
+returns-then-heard-eq0 c =
     let bits : List Bool = packed_part c.args.numbers.now c.args.from c.args.count in
     let at : ℕ = c.loop-at.at in
-    let n : ℕ = c.min-few.result in
-    let m : ℕ = c.skip_number-heard.result in
+    let n : ℕ = c.args.count - at in
     let i = c.loop-at.invariant in
-    let fits : at + n ≤ c.args.count = omega (arith, c.min-few.ensures, i.0) in
-    let all : length bits ≡ c.args.count =
-    length-part c.args.numbers.now c.args.from c.args.count c.requires.room in
-    let room : at + n ≤ length bits = omega (arith, fits, all) in
-    let part : elements_from n c.elements_at-number.result ≡ take n (drop at bits) =
-    c.elements_at-number.ensures.elements
-    ∙ sym (part_of_part c.args.numbers.now c.args.from c.args.count at n fits) in
-    let s : Skips c.loop-at.self (take n (drop at bits)) m c.skip_number-heard.new.self =
-    subst (λ (xs : List Bool). Skips c.loop-at.self xs m c.skip_number-heard.new.self) part
-    c.skip_number-heard.ensures in
-    record {
-      within = omega (arith, c.if-heard-few.true, room);
-      held = part_held c.args.self.now bits at n m c.loop-at.self c.skip_number-heard.new.self i.1 s
-          room;
-      quiet = part_quiet c.args.self.now bits at n m c.loop-at.self c.skip_number-heard.new.self i.1
-          s room i.2;
-      stops = λ h. part_stops c.args.self.now bits at n m c.loop-at.self
-          c.skip_number-heard.new.self i.1 s c.if-heard-few.true room;
-    }
+    let all = length-part c.args.numbers.now c.args.from c.args.count c.requires.room in
+    let part = part_of_part c.args.numbers.now c.args.from c.args.count at n (omega (arith, i.1)) in
+    let s : SkipsSome c.loop-at.self (take n (drop at bits)) c.skip_some-heard.result
+    c.skip_some-heard.new.self =
+    subst (λ xs. SkipsSome c.loop-at.self xs c.skip_some-heard.result c.skip_some-heard.new.self)
+    (sym part) c.skip_some-heard.ensures in
+    stops_on c.args.self.now bits at n c.skip_some-heard.result c.loop-at.self
+    c.skip_some-heard.new.self i.0 s c.if-heard-eq0.true (omega (arith, c.loop-at-test.true))
+    (omega (arith, all, i.1))
 
 pub loop-at-preserved : goal.loop-at-preserved
 loop-at-preserved c =
     let bits : List Bool = packed_part c.args.numbers.now c.args.from c.args.count in
     let at : ℕ = c.loop-at.at in
-    let n : ℕ = c.min-few.result in
-    let m : ℕ = c.skip_number-heard.result in
+    let n : ℕ = c.args.count - at in
     let i = c.loop-at.invariant in
-    let fits : at + n ≤ c.args.count = omega (arith, c.min-few.ensures, i.0) in
-    let all : length bits ≡ c.args.count =
-    length-part c.args.numbers.now c.args.from c.args.count c.requires.room in
-    let room : at + n ≤ length bits = omega (arith, fits, all) in
-    let part : elements_from n c.elements_at-number.result ≡ take n (drop at bits) =
-    c.elements_at-number.ensures.elements
-    ∙ sym (part_of_part c.args.numbers.now c.args.from c.args.count at n fits) in
-    let s : Skips c.loop-at.self (take n (drop at bits)) m c.skip_number-heard.new.self =
-    subst (λ (xs : List Bool). Skips c.loop-at.self xs m c.skip_number-heard.new.self) part
-    c.skip_number-heard.ensures in
-    let few : m ≤ n = omega (arith, s.within, length-taken bits at n room) in (
-      omega (arith, few, fits),
-      part_held c.args.self.now bits at n m c.loop-at.self c.skip_number-heard.new.self i.1 s room,
-      part_quiet c.args.self.now bits at n m c.loop-at.self c.skip_number-heard.new.self i.1 s room
-          i.2,
+    let all = length-part c.args.numbers.now c.args.from c.args.count c.requires.room in
+    let part = part_of_part c.args.numbers.now c.args.from c.args.count at n (omega (arith, i.1)) in
+    let s : SkipsSome c.loop-at.self (take n (drop at bits)) c.skip_some-heard.result
+    c.skip_some-heard.new.self =
+    subst (λ xs. SkipsSome c.loop-at.self xs c.skip_some-heard.result c.skip_some-heard.new.self)
+    (sym part) c.skip_some-heard.ensures in
+    let p = passes_on c.args.self.now bits at n c.skip_some-heard.result c.loop-at.self
+    c.skip_some-heard.new.self i.0 s.passes (omega (arith, all, i.1)) in (
+      p,
+      omega (arith, all, p.within),
+      λ h. omega (arith, i.2 c.loop-at-test.true),
     )
 
 pub returns : goal.returns
 returns c =
-    let i = c.loop-at.invariant in
-    let all : length (packed_part c.args.numbers.now c.args.from c.args.count) ≡ c.args.count =
-    length-part c.args.numbers.now c.args.from c.args.count c.requires.room in
-    record {
-      within = omega (arith, i.0, all);
-      held = i.1;
-      quiet = i.2;
-      stops = λ h. absurd (omega (arith, h, all, c.loop-at-test.false));
-    }
+    let all = length-part c.args.numbers.now c.args.from c.args.count c.requires.room in
+    skips_of c.args.self.now (packed_part c.args.numbers.now c.args.from c.args.count) c.loop-at.at
+    c.loop-at.self c.loop-at.invariant.0 (λ h. absurd (omega (arith, h, all, c.loop-at-test.false)))

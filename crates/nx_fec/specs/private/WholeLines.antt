@@ -1,0 +1,22 @@
+-- A scanner that takes a line whole, or none.
+use Rattle.std.specs.Prelude.{◌≡◌, ℕ, ◌+◌, ◌≤◌, List, [], length, take, Some}
+use Rattle.nx_fec.specs.AirFile.{IsLine, Line}
+use Rattle.nx_fec.specs.Lines.{Scanning, line_bytes}
+
+-- no line was open, and it took the one that a piece begins with, of so many bytes with its end
+pub record TakesLine (old new : Scanning) (piece : List ℕ) (count : ℕ) : Type 0 where
+  pub line : Line
+  pub good : IsLine line
+  pub front : take count piece ≡ line_bytes line
+  pub within : count ≤ length piece
+  pub empty : old.part ≡ []
+  pub latest : new.latest ≡ Some line
+  pub part : new.part ≡ []
+  pub lines : new.lines ≡ old.lines + 1
+  pub room : new.room + count ≡ old.room
+
+-- it took nothing, but may have opened the next line
+pub record Waits (old new : Scanning) : Type 0 where
+  pub part : new.part ≡ old.part
+  pub lines : new.lines ≡ old.lines
+  pub room : new.room ≡ old.room

@@ -1,0 +1,5 @@
+use Rattle.nx_sync.proofs.Blocks.{in_table}
+use Rattle.nx_sync.proofs.packed.is_block.Goals as goal
+
+pub returns : goal.returns
+returns c = in_table c.args.elements c.requires

@@ -1,0 +1,7 @@
+use Rattle.std.proofs.Common.{sym, arith}
+use Rattle.nx_sync.proofs.Blocks.{window_after-all}
+use Rattle.nx_sync.proofs.packed.last_window.Goals as goal
+
+pub returns-clause-value : goal.returns-clause-value
+returns-clause-value c window h =
+    sym (window_after-all window c.args.number h (omega (arith, c.ranges.number)))
