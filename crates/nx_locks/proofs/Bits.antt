@@ -1,5 +1,5 @@
 -- What one more element does to what is shown.
-use Rattle.std.proofs.Common.{◌≡◌, ℕ, not, ◌+◌, ◌-◌, ◌*◌, ◌^◌, ◌<◌, ◌≤◌, Bool, List, [], ◌∷◌, ◌++◌, length, Option, Some, None, get_or, refl, sym, ap, ◌∙◌, subst, arith, append_assoc, append-nil, length-append}
+use Rattle.std.proofs.Common.{◌≡◌, ℕ, not, ◌+◌, ◌-◌, ◌*◌, ◌^◌, ◌<◌, ◌≤◌, Bool, List, [], ◌∷◌, ◌++◌, length, Option, get_or, refl, sym, ap, ◌∙◌, subst, arith, append_assoc, append-nil, length-append}
 use Rattle.std.specs.Prelude.{min}
 use Rattle.std.specs.Option.{option_to_list}
 use Rattle.std.proofs.lemmas.List.{length_push}
@@ -8,7 +8,7 @@ use Rattle.nx_envelope.specs.Moment.{IsShownAs}
 use Rattle.nx_sync.specs.Locks.{Lock, Now, hunting, locked, IsNow, Past, IsPattern}
 use Rattle.nx_sync.specs.Words.{word_of_lock, first_role, whole_words, heard_word}
 use Rattle.nx_sync.specs.declared.step.Role.{Role}
-use Rattle.nx_sync.specs.declared.step.Step.{Step}
+use Rattle.nx_sync.proofs.UniqueStates.{IsNow-past}
 use Rattle.nx_receiver.specs.Log.{is_of_lines, missing_newline}
 use Rattle.nx_receiver.specs.private.LockReader.{word_place}
 use Rattle.nx_receiver.proofs.locks.Growing.{whole_heard}
@@ -19,20 +19,12 @@ use Rattle.nx_locks.specs.private.Reader.{HasHeardWords, HearsWord, IsFresh, Rea
 use Rattle.nx_locks.specs.private.Watch.{ReadsNow, Shows, closing_of}
 use Rattle.nx_locks.proofs.Growing.{headers-more, missing_is, no_headers, none_shown, opened-more, past-more, past_headers-more, reads-on, shown_is}
 
-pub past_is : (bits : List Bool) (locks : List Lock) (now : Now) → IsNow bits locks now
-    → (p : ℕ) × Past bits locks p
-past_is bits locks (hunting p) is = (p, is.past)
-past_is bits locks (locked p t) is = (p, is.past)
-
 get_or-pushed : (xs : List ℕ) (x d : ℕ) → get_or (xs ++ x ∷ []) (length xs) d ≡ x
 get_or-pushed [] x d = refl
 get_or-pushed (y ∷ xs) x d = get_or-pushed xs x d
 
 joined : (a b c d e : List ℕ) → (a ++ b) ++ (c ++ (d ++ e)) ≡ a ++ (((b ++ c) ++ d) ++ e)
 joined a b c d e = simp append_assoc
-
-no_word : (r : Step) (w : ℕ × Role) → r.word ≡ None → r.word ≡ Some w → ⊥
-no_word r w e f = let both : None ≡ Some w = sym e ∙ f in cc
 
 -- so many elements more, each with the moment in force at it
 module _ (bits xs : List Bool) (moments later : List ℕ) (as_many : length later ≡ length xs) where
@@ -48,7 +40,7 @@ module _ (bits xs : List Bool) (moments later : List ℕ) (as_many : length late
       → Shows reader' began' copies (bits ++ xs) (moments ++ later) (given ++ more)
   goes_more reader reader' began began' copies given more rest' next s on standing e reads counted
       few headers' =
-      let past = past_is bits s.locks s.now s.stands in
+      let past = IsNow-past bits s.locks s.now s.stands in
       let same = past_headers-more bits xs s.locks past.0 past.1 in
       let longer : length (bits ++ xs) ≡ length bits + length xs = length-append bits xs in
       record {
@@ -163,7 +155,8 @@ module _ (bits : List Bool) (b : Bool) (moments : List ℕ) (m : ℕ) where
         → s.now ≡ hunting p → IsNow bits' s.locks (hunting p)
         → Shows reader began copies bits' moments' (given ++ [])
     still_hunting p s e on =
-        goes_more bits (b ∷ []) moments (m ∷ []) refl reader reader began began copies given [] [] (hunting p) s on refl
+        goes_more bits (b ∷ []) moments (m ∷ []) refl reader reader began began copies given [] []
+        (hunting p) s on refl
         (sym (append-nil s.rest ∙ subst (λ n. IsNowShown bits moments n s.rest) e s.standing))
         (subst (ReadsNow reader bits) e s.reads)
         (s.locks_counted ∙ ap (λ n. length s.locks + now_locks n) e) (omega arith) (omega arith)
@@ -181,7 +174,8 @@ module _ (bits : List Bool) (b : Bool) (moments : List ℕ) (m : ℕ) where
         subst (ReadsNow reader bits) e s.reads in
         let headers' : headers_shown bits' t n ≡ headers_shown bits t n =
         headers-more bits (b ∷ []) t n here heard in
-        goes_more bits (b ∷ []) moments (m ∷ []) refl reader reader began began copies given [] s.rest (locked p t) s on
+        goes_more bits (b ∷ []) moments (m ∷ []) refl reader reader began began copies given [] s.rest
+        (locked p t) s on
         (subst (λ k. IsOpened bits' moments' t k s.rest) (sym same)
         (opened-more bits (b ∷ []) t n here heard moments (m ∷ []) s.many s.rest was))
         (sym (append-nil s.rest))
@@ -212,7 +206,8 @@ module _ (bits : List Bool) (b : Bool) (moments : List ℕ) (m : ℕ) where
           };
           spelled = sym (ap (λ l. opening ++ l) (none_shown bits' t) ∙ append-nil opening);
         } in
-        goes_more bits (b ∷ []) moments (m ∷ []) refl reader reader began (began + 1) copies given opening opening (locked p t) s on
+        goes_more bits (b ∷ []) moments (m ∷ []) refl reader reader began (began + 1) copies given
+        opening opening (locked p t) s on
         (subst (λ k. IsOpened bits' moments' t k opening) (sym whole) opened)
         (ap (λ l. l ++ opening) (sym empty))
         (subst (ReadsLock reader (first_role bits' t) (word_of_lock bits' t)) (sym whole)
@@ -276,7 +271,7 @@ module _ (bits : List Bool) (b : Bool) (moments : List ℕ) (m : ℕ) where
         let missing = missing_is reader'.is_line_open text
         (w'.reads.line ∙ ap (λ l. not (is_of_lines l)) (sym (shown_is bits' t (n + 1)))) in
         let this = front ++ missing_newline text ++ lines in
-        let past = past_is bits s.locks s.now s.stands in
+        let past = IsNow-past bits s.locks s.now s.stands in
         let same = past_headers-more bits (b ∷ []) s.locks past.0 past.1 in
         let block : IsPastShown bits' moments' lock this = record {
           opened = front;

@@ -1,37 +1,29 @@
 -- Words of a lock that are heard at once, where none of them brings a change.
-use Rattle.std.proofs.Common.{◌≡◌, ℕ, zero, suc, ◌+◌, ◌-◌, ◌*◌, ◌^◌, ◌<◌, ◌≤◌, Bool, false, List, [], ◌∷◌, ◌++◌, length, take, Option, Some, None, get_or, refl, sym, ap, ◌∙◌, subst, arith, append_assoc, append-nil, add-one, length-append}
+use Rattle.std.proofs.Common.{◌≡◌, ℕ, suc, ◌+◌, ◌-◌, ◌*◌, ◌^◌, ◌<◌, Bool, List, [], ◌∷◌, ◌++◌, length, Option, get_or, refl, sym, ap, ◌∙◌, subst, arith, append_assoc, append-nil, length-append}
 use Rattle.std.specs.Prelude.{min, slice_index, IsTrue}
 use Rattle.std.specs.List.{flat_map}
 use Rattle.std.specs.Option.{option_to_list}
 use Rattle.std.proofs.lemmas.Grind.{get_or_default_zero}
-use Rattle.std.proofs.lemmas.List.{length-map, take_all, take_more}
-use Rattle.nx_code.specs.Word.{elements, elements_of_list}
-use Rattle.nx_sync.specs.Laws.{OneMore, still_stands, now_over}
-use Rattle.nx_sync.specs.Locks.{Lock, Now, hunting, locked, IsNow, IsPattern}
-use Rattle.nx_sync.specs.Steps.{AreQuietWords, Brings, found, word, inside, over, hunts, IsStep, IsWordStep, step}
+use Rattle.std.proofs.lemmas.List.{length-map}
+use Rattle.nx_code.specs.Word.{elements}
+use Rattle.nx_sync.specs.Locks.{locked, IsNow}
+use Rattle.nx_sync.specs.Steps.{AreQuietWords}
 use Rattle.nx_sync.specs.Synchroniser.{Held, StandsAfter, is_between_words}
-use Rattle.nx_sync.specs.Words.{heard_word, first_role, other_role, role_of, word_of_lock}
-use Rattle.nx_sync.specs.declared.step.Change.{Change}
+use Rattle.nx_sync.specs.Words.{first_role, other_role, word_of_lock}
 use Rattle.nx_sync.specs.declared.step.Role.{Role}
 use Rattle.nx_sync.specs.declared.step.Role.TheVariants.{Dx, Rx}
-use Rattle.nx_sync.specs.declared.step.Step.{Step}
-use Rattle.nx_sync.proofs.EightWords.{eight_items, quiet_first, quiet_rest}
-use Rattle.nx_sync.proofs.KeptPast.{first_role-more, word_at-more}
+use Rattle.nx_sync.proofs.EightWords.{eight_items}
 use Rattle.nx_sync.proofs.Numbers.{length-elements}
-use Rattle.nx_sync.proofs.StateChanges.{one_more}
 use Rattle.nx_sync.proofs.UniqueStates.{locks-unique, now-unique}
 use Rattle.nx_sync.proofs.WordLimits.{limit_by}
 use Rattle.nx_locks.specs.private.Reader.{HearsWord, HearsWords, Reading, ReadsLock, ShowsWord, ShowsWords}
 use Rattle.nx_receiver.specs.private.LockReader.{text_after}
+use Rattle.nx_receiver.proofs.emissions.Locks.{role_of-next}
+use Rattle.nx_receiver.proofs.watching.EightWords.{still_words}
 use Rattle.nx_locks.specs.private.Watch.{HearsAll, Watching, all_at}
 use Rattle.nx_locks.proofs.Bits.{words_on}
 
--- the elements of words
-pub elements_are : (words : List ℕ) → elements_of_list words ≡ flat_map elements words
-unfolding elements_of_list
-elements_are [] = refl
-elements_are (w ∷ words) = ap (λ l. elements w ++ l) (elements_are words)
-
+-- a word has seven elements
 length-of_words : (words : List ℕ) → length (flat_map elements words) ≡ 7 * length words
 length-of_words [] = refl
 length-of_words (w ∷ words) =
@@ -45,150 +37,6 @@ length-of_words (w ∷ words) =
 length-all_at : (moment : ℕ) (bits : List Bool) → length (all_at moment bits) ≡ length bits
 unfolding all_at
 length-all_at moment bits = length-map bits (λ bit. moment)
-
-some_none : (x : ℕ × Role) → None ≡ Some x → ⊥
-some_none x e = cc
-
-no_change : (how : Change) → None ≡ Some how → ⊥
-no_change how e = cc
-
--- an element inside a word leaves the lock
-kept_inside : (bits : List Bool) (b : Bool) (locks : List Lock) (p t : ℕ)
-    → IsNow bits locks (locked p t) → (r : Step) → r ≡ step None None
-    → (newer : List Lock) (next : Now) → IsNow (bits ++ b ∷ []) newer next
-    → Brings (bits ++ b ∷ []) r newer next → OneMore (bits ++ b ∷ []) locks (locked p t) newer next
-    → IsNow (bits ++ b ∷ []) locks (locked p t)
-kept_inside bits b locks p t is r none newer (locked q u) on brings still_stands = on
-kept_inside bits b locks p t is r none newer (hunting q) on (hunts h g) (now_over lock x y z) =
-    absurd (omega (arith, h, z))
-kept_inside bits b locks p t is r none newer (hunting q) on (over h g) (now_over lock x y z) =
-    absurd (no_change lock.how (sym (ap (λ s. s.change) none) ∙ ap (λ s. s.change) g))
-
-kept_bits : (bits xs : List Bool) (locks : List Lock) (p t n : ℕ) → n ≤ length xs
-    → ((k : ℕ) → k < n → IsStep (bits ++ take (k + 1) xs) (step None None))
-    → IsNow bits locks (locked p t) → IsNow (bits ++ take n xs) locks (locked p t)
-kept_bits bits xs locks p t zero le quiet is =
-    subst (λ l. IsNow l locks (locked p t)) (sym (append-nil bits)) is
-kept_bits bits xs locks p t (suc n) le quiet is =
-    let before = kept_bits bits xs locks p t n (omega arith) (λ k h. quiet k (omega arith)) is in
-    let x = get_or xs n false in
-    let next : take (n + 1) xs ≡ take n xs ++ x ∷ [] = take_more xs n false (omega arith) in
-    let whole : bits ++ take (n + 1) xs ≡ (bits ++ take n xs) ++ x ∷ [] =
-    ap (λ l. bits ++ l) next ∙ sym (append_assoc bits (take n xs) (x ∷ [])) in
-    let here : IsStep ((bits ++ take n xs) ++ x ∷ []) (step None None) =
-    subst (λ (l : List Bool). IsStep l (step None None)) whole (quiet n (omega arith)) in
-    let after = kept_inside (bits ++ take n xs) x locks p t before (step None None) refl here.locks
-    here.now here.stands here.brings
-    (one_more (bits ++ take n xs) x locks here.locks (locked p t) here.now before here.stands) in
-    subst (λ (k : ℕ). IsNow (bits ++ take k xs) locks (locked p t)) (add-one n)
-    (subst (λ (l : List Bool). IsNow l locks (locked p t)) (sym whole) after)
-
--- a word that brings no change is the next word of the lock, which stands on
-record KeepsWord (bits : List Bool) (locks : List Lock) (p t n w : ℕ) (role : Role) : Type 0 where
-  stands : IsNow bits locks (locked p t)
-  heard : heard_word bits t n ≡ (w, role)
-
-kept_last : (bits : List Bool) (b : Bool) (locks : List Lock) (p t n w : ℕ) (role : Role)
-    → IsNow bits locks (locked p t) → length (bits ++ b ∷ []) ≡ t + 7 * (n + 1)
-    → (r : Step) → r ≡ step (Some (w, role)) None
-    → (newer : List Lock) (next : Now) → IsNow (bits ++ b ∷ []) newer next
-    → Brings (bits ++ b ∷ []) r newer next → OneMore (bits ++ b ∷ []) locks (locked p t) newer next
-    → KeepsWord (bits ++ b ∷ []) locks p t n w role
-kept_last bits b locks p t n w role is at r one newer (locked q u) on (found h g) still_stands =
-    absurd (some_none (w, role) (sym (ap (λ s. s.word) g) ∙ ap (λ s. s.word) one))
-kept_last bits b locks p t n w role is at r one newer (locked q u) on (inside k i h pos lt g)
-    still_stands =
-    absurd (some_none (w, role) (sym (ap (λ s. s.word) g) ∙ ap (λ s. s.word) one))
-kept_last bits b locks p t n w role is at r one newer (locked q u) on (word k h g) still_stands =
-    let same : k ≡ n = omega (arith, h, at) in
-    let both : Some (heard_word (bits ++ b ∷ []) t k) ≡ Some (w, role) =
-    sym (ap (λ s. s.word) g) ∙ ap (λ s. s.word) one in
-    let pair : heard_word (bits ++ b ∷ []) t k ≡ (w, role) = cc in
-    record {
-      stands = on;
-      heard = subst (λ j. heard_word (bits ++ b ∷ []) t j ≡ (w, role)) same pair;
-    }
-kept_last bits b locks p t n w role is at r one newer (hunting q) on (hunts h g)
-    (now_over lock x y z) = absurd (omega (arith, h, z))
-kept_last bits b locks p t n w role is at r one newer (hunting q) on (over h g)
-    (now_over lock x y z) =
-    absurd (no_change lock.how (sym (ap (λ s. s.change) one) ∙ ap (λ s. s.change) g))
-
-kept_word : (bits xs : List Bool) (locks : List Lock) (p t n w : ℕ) (role : Role)
-    → IsNow bits locks (locked p t) → length bits ≡ t + 7 * n → length xs ≡ 7
-    → IsWordStep bits xs (step (Some (w, role)) None)
-    → KeepsWord (bits ++ xs) locks p t n w role
-kept_word bits xs locks p t n w role is at long steps =
-    let x = get_or xs 6 false in
-    let six = take 6 xs in
-    let cut : xs ≡ six ++ x ∷ [] =
-    sym (take_all 7 xs (omega (arith, long))) ∙ take_more xs 6 false (omega (arith, long)) in
-    let whole : bits ++ xs ≡ (bits ++ six) ++ x ∷ [] =
-    ap (λ l. bits ++ l) cut ∙ sym (append_assoc bits six (x ∷ [])) in
-    let size : length ((bits ++ six) ++ x ∷ []) ≡ t + 7 * (n + 1) =
-    sym (ap length whole) ∙ length-append bits xs ∙ omega (arith, at, long) in
-    let before = kept_bits bits xs locks p t 6 (omega (arith, long)) steps.inside is in
-    let last : IsStep ((bits ++ six) ++ x ∷ []) (step (Some (w, role)) None) =
-    subst (λ (l : List Bool). IsStep l (step (Some (w, role)) None)) whole steps.last in
-    subst (λ (l : List Bool). KeepsWord l locks p t n w role) (sym whole)
-    (kept_last (bits ++ six) x locks p t n w role before size (step (Some (w, role)) None) refl
-    last.locks last.now last.stands last.brings
-    (one_more (bits ++ six) x locks last.locks (locked p t) last.now before last.stands))
-
--- after words that bring no change the lock still stands, and these are its words from word n on
-record StillWords (bits : List Bool) (role_of_first : Role) (locks : List Lock) (p t n : ℕ)
-    (words : List ℕ) : Type 0 where
-  stands : IsNow (bits ++ flat_map elements words) locks (locked p t)
-  are : (k : ℕ) → k < length words
-      → word_of_lock (bits ++ flat_map elements words) t (n + k) ≡ slice_index words k
-  role : 0 < length words
-      → role_of (first_role (bits ++ flat_map elements words) t) n ≡ role_of_first
-
--- the first of them, and the others
-still_each : (bits : List Bool) (locks : List Lock) (p t n : ℕ) (role other : Role) (w : ℕ)
-    (words : List ℕ) → KeepsWord bits locks p t n w role → t + 7 * (n + 1) ≤ length bits
-    → StillWords bits other locks p t (n + 1) words
-    → (k : ℕ) → k < length (w ∷ words)
-    → word_of_lock (bits ++ flat_map elements words) t (n + k) ≡ slice_index (w ∷ words) k
-still_each bits locks p t n role other w words one size rest zero h =
-    let here : n + 0 ≡ n = omega arith in
-    let more = flat_map elements words in
-    ap (word_of_lock (bits ++ more) t) here ∙ word_at-more bits more t n size
-    ∙ ap (λ x. x.0) one.heard
-still_each bits locks p t n role other w words one size rest (suc k) h =
-    let there : n + suc k ≡ (n + 1) + k = omega arith in
-    ap (word_of_lock (bits ++ flat_map elements words) t) there ∙ rest.are k (omega arith)
-
-still_words : (words : List ℕ) (bits : List Bool) (role : Role) (locks : List Lock) (p t n : ℕ)
-    → IsNow bits locks (locked p t) → length bits ≡ t + 7 * n → AreQuietWords bits role words
-    → StillWords bits role locks p t n words
-still_words [] bits role locks p t n is at quiet = record {
-  stands = subst (λ l. IsNow l locks (locked p t)) (sym (append-nil bits)) is;
-  are = λ k h. absurd (omega arith);
-  role = λ h. absurd (omega arith);
-}
-still_words (w ∷ words) bits role locks p t n is at quiet =
-    let this = bits ++ elements w in
-    let more = flat_map elements words in
-    let one = kept_word bits (elements w) locks p t n w role is at (length-elements w)
-    (quiet_first bits role w words quiet) in
-    let size : length this ≡ t + 7 * (n + 1) =
-    omega (arith, length-append bits (elements w), length-elements w, at) in
-    let rest = still_words words this (other_role role) locks p t (n + 1) one.stands size
-    (quiet_rest bits role w words quiet) in
-    let here : IsPattern this t = one.stands.found.here in
-    let whole : this ++ more ≡ bits ++ (elements w ++ more) =
-    append_assoc bits (elements w) more in
-    record {
-      stands = subst (λ (l : List Bool). IsNow l locks (locked p t)) whole rest.stands;
-      are = λ k h. subst (λ (l : List Bool). word_of_lock l t (n + k)
-          ≡ slice_index (w ∷ words) k) whole
-          (still_each this locks p t n role (other_role role) w words one (omega (arith, size)) rest
-          k h);
-      role = λ h. ap (λ l. role_of (first_role l t) n) (sym whole)
-          ∙ ap (λ first. role_of first n) (first_role-more this more t here.enough here.heard)
-          ∙ ap (λ x. x.1) one.heard;
-    }
 
 -- the words of a lock were heard, and what they print was shown
 pub words_heard : (old : Watching) (sync : Held) (count : ℕ) (reader : Reading) (role : Role)
@@ -257,10 +105,6 @@ none_heard reader role = record {
   few = omega arith;
 }
 
-role-next : (first : Role) (n : ℕ) → role_of first (n + 1) ≡ other_role (role_of first n)
-unfolding role_of
-role-next first n = ap (role_of first) (add-one n)
-
 word_then : (old mid new : Reading) (role : Role) (w : ℕ) (heard more : List ℕ)
     (printed : Option ℕ) → HearsWord old mid w role printed
     → HearsWords mid new (other_role role) heard more
@@ -273,7 +117,7 @@ word_then old mid new role w heard more printed one rest = record {
       let then = rest.hears first words (n + 1) now.reads
       (λ k h. let there : (n + 1) + k ≡ n + suc k = omega arith in
       ap words there ∙ is_word (suc k) (omega arith))
-      (ap other_role is_role ∙ sym (role-next first n)) (omega arith) in
+      (ap other_role is_role ∙ sym (role_of-next first n)) (omega arith) in
       let size : (n + 1) + length heard ≡ n + suc (length heard) = omega arith in
       record {
         reads = subst (ReadsLock new first words) size then.reads;

@@ -15,13 +15,11 @@ use Rattle.nx_sync.specs.declared.step.Role.{Role}
 use Rattle.nx_sync.specs.declared.step.Step.{Step}
 use Rattle.nx_sync.proofs.KeptPast.{Past-within}
 use Rattle.nx_sync.proofs.StateChanges.{one_more}
+use Rattle.nx_receiver.proofs.watching.Bits.{no_word}
 use Rattle.nx_locks.specs.private.Reader.{Reading}
 use Rattle.nx_locks.specs.private.Watch.{GoesTo, HearsAll, ReadsLast, ReadsOn, ReadsTo, Shows, ShowsStep, Watching, WatchShows, all_at, closing_of}
 use Rattle.nx_locks.specs.ReportText.{opening_line}
 use Rattle.nx_locks.proofs.Bits.{now_found, still_hunting, still_inside, word_on, word_over}
-
-no_word : (r : Step) (w : ℕ × Role) → r ≡ step None None → r.word ≡ Some w → ⊥
-no_word r w e f = let both : None ≡ Some w = sym (ap (λ x. x.word) e) ∙ f in cc
 
 abbrev heard_by : Watching → Held → ℕ → Watching
 heard_by old sync count = record old { synchroniser = sync; elements = count }
@@ -201,7 +199,7 @@ module _ (reader : Reading) (began copies : ℕ) (bits : List Bool) (b : Bool) (
   more = length_push bits b
 
   wrong_word : (w : ℕ × Role) → r.word ≡ Some w → ⊥
-  wrong_word w e = no_word r w f e
+  wrong_word w e = no_word r w (ap (λ x. x.word) f) e
 
   wrong_change : r.change ≡ Some Locked → ⊥
   wrong_change e = let both : None ≡ Some Locked = sym (ap (λ x. x.change) f) ∙ e in cc

@@ -1,6 +1,6 @@
 -- Eight words of a lock that a reader reads at once, where none of the bytes that they print begins
 -- or ends a copy.
-use Rattle.std.proofs.Common.{◌≡◌, ℕ, zero, suc, ◌+◌, ◌-◌, ◌*◌, ◌^◌, ◌<◌, ◌≤◌, eqb, not, List, [], ◌∷◌, ◌++◌, length, map, take, get_or, refl, sym, ap, ◌∙◌, subst, add-one, append_assoc, append-nil, arith, slice_index}
+use Rattle.std.proofs.Common.{◌≡◌, ℕ, suc, ◌+◌, ◌-◌, ◌^◌, ◌<◌, ◌≤◌, eqb, not, List, [], ◌∷◌, ◌++◌, length, map, take, get_or, sym, ap, ◌∙◌, subst, append_assoc, append-nil, arith, slice_index}
 use Rattle.std.specs.Prelude.{min}
 use Rattle.std.proofs.lemmas.Grind.{get_or_default_zero}
 use Rattle.std.proofs.lemmas.List.{get_or-map, length-map, take_all, take_more}
@@ -12,101 +12,16 @@ use Rattle.nx_code.proofs.ReadingLemmas.{shift_after_all-append, text-append}
 use Rattle.nx_envelope.specs.Copies.{headers}
 use Rattle.nx_envelope.specs.Finder.{BringNothing, Keeps, StandsAfter}
 use Rattle.nx_fec.specs.Aligned as aligned
-use Rattle.nx_fec.specs.Pairing.{Counted, IsLatest, counts_as, pairing, third_last}
-use Rattle.nx_fec.proofs.AlignedLemmas.{dx_words-more}
-use Rattle.nx_sync.specs.Words.{role_of, other_role}
-use Rattle.nx_sync.specs.declared.step.Role.{Role}
-use Rattle.nx_sync.specs.declared.step.Role.TheVariants.{Dx, Rx}
+use Rattle.nx_fec.specs.Pairing.{Counted, IsLatest}
+use Rattle.nx_sync.specs.declared.step.Role.TheVariants.{Dx}
 use Rattle.nx_sync.proofs.Counts.{one_if, wrong_in-add, wrong_in-le}
 use Rattle.nx_receiver.specs.Log.{is_of_lines}
 use Rattle.nx_receiver.specs.LockText.{positions}
 use Rattle.nx_receiver.specs.private.LockReader.{AreNext, dx_words, text_after}
-use Rattle.nx_receiver.proofs.locks.ReaderWords.{dx_words-dx, dx_words-rx, positions-dx, positions-rx}
+use Rattle.nx_receiver.proofs.emissions.Locks.{wrong_in-shift}
+use Rattle.nx_receiver.proofs.locks.EightWords.{dx_words-pairs, pair_of, positions-pairs}
 use Rattle.nx_locks.specs.private.Reader.{HasHeardWords, Reading, ShowsWords}
 use Rattle.nx_locks.proofs.ReaderWords.{line_pushed}
-
--- a DX word after as many pairs, and the RX word of the next one
-dx_of_pair : (first : Role) (n i : ℕ) → role_of first n ≡ Dx → role_of first (n + 2 * i) ≡ Dx
-unfolding role_of
-dx_of_pair first n zero dx = let e : n + 2 * 0 ≡ n = omega arith in ap (role_of first) e ∙ dx
-dx_of_pair first n (suc i) dx =
-    let e : n + 2 * suc i ≡ suc (suc (n + 2 * i)) = omega arith in
-    ap (role_of first) e
-    ∙ ap (λ role. other_role (other_role role)) (dx_of_pair first n i dx)
-
-rx_of_pair : (first : Role) (n i : ℕ) → role_of first n ≡ Dx → role_of first (n + 2 * i + 1) ≡ Rx
-unfolding role_of
-rx_of_pair first n i dx =
-    ap (role_of first) (add-one (n + 2 * i)) ∙ ap other_role (dx_of_pair first n i dx)
-
--- the position that pair i completes, by the words that come next behind these DX words
-abbrev pub pair_of : List Counted → List ℕ → ℕ → Reception
-pair_of before next i =
-    pairing (third_last (before ++ aligned.dx_words next 0 (i + 1)))
-    (counts_as (slice_index next (2 * i + 1)))
-
-module _ (first : Role) (words : ℕ → ℕ) (n : ℕ) (next : List ℕ) (all : AreNext first words n next)
-  where
-    abbrev before : List Counted
-    before = dx_words first words n
-
-    -- the DX words with that of one pair more
-    dx_words-half : (i : ℕ) → 2 * i < length next
-        → dx_words first words (n + 2 * i) ≡ before ++ aligned.dx_words next 0 i
-        → dx_words first words (n + 2 * i + 1) ≡ before ++ aligned.dx_words next 0 (i + 1)
-    dx_words-half i h same =
-        let here : 2 * i ≡ 2 * i + 0 = omega arith in
-        let word = counts_as (words (n + 2 * i)) in
-        dx_words-dx first words (n + 2 * i) (dx_of_pair first n i all.dx)
-        ∙ ap (λ l. l ++ word ∷ []) same
-        ∙ append_assoc before (aligned.dx_words next 0 i) (word ∷ [])
-        ∙ ap (λ l. before ++ l) (dx_words-more next 0 i word
-        (ap counts_as (all.are (2 * i) h ∙ ap (slice_index next) here)))
-
-    dx_words-pairs : (i : ℕ) → 2 * i ≤ length next
-        → dx_words first words (n + 2 * i) ≡ before ++ aligned.dx_words next 0 i
-    unfolding aligned.dx_words
-    dx_words-pairs zero h =
-        let e : n + 2 * 0 ≡ n = omega arith in
-        ap (dx_words first words) e ∙ sym (append-nil before)
-    dx_words-pairs (suc i) h =
-        let e : n + 2 * suc i ≡ n + 2 * i + 1 + 1 = omega arith in
-        ap (dx_words first words) e
-        ∙ dx_words-rx first words (n + 2 * i + 1) (rx_of_pair first n i all.dx)
-        ∙ dx_words-half i (omega arith) (dx_words-pairs i (omega arith))
-        ∙ ap (λ j. before ++ aligned.dx_words next 0 j) (add-one i)
-
-    -- the positions of the first pairs, by what was taken
-    positions-pairs : (taken : List Reception) → ((k : ℕ) (d : Reception) → k < length taken
-        → get_or taken k d ≡ pair_of before next k)
-        → (i : ℕ) → i ≤ length taken → 2 * i ≤ length next
-        → positions first words (n + 2 * i) ≡ positions first words n ++ take i taken
-    positions-pairs taken is zero h g =
-        let e : n + 2 * 0 ≡ n = omega arith in
-        ap (positions first words) e ∙ sym (append-nil (positions first words n))
-    positions-pairs taken is (suc i) h g =
-        let e : n + 2 * suc i ≡ n + 2 * i + 1 + 1 = omega arith in
-        let odd : n + 2 * i + 1 ≡ n + (2 * i + 1) = omega arith in
-        let so_far : List Reception = positions first words n in
-        let d : Reception = pair_of before next i in
-        let sent : dx_words first words (n + 2 * i + 1) ≡ before ++ aligned.dx_words next 0 (i + 1) =
-        dx_words-half i (omega arith) (dx_words-pairs i (omega arith)) in
-        let word : words (n + 2 * i + 1) ≡ slice_index next (2 * i + 1) =
-        ap words odd ∙ all.are (2 * i + 1) (omega arith) in
-        let one : pairing (third_last (dx_words first words (n + 2 * i + 1)))
-        (counts_as (words (n + 2 * i + 1))) ≡ get_or taken i d =
-        ap (λ l. pairing (third_last l) (counts_as (words (n + 2 * i + 1)))) sent
-        ∙ ap (λ w. pairing (third_last (before ++ aligned.dx_words next 0 (i + 1))) (counts_as w)) word
-        ∙ sym (is i d (omega arith)) in
-        ap (positions first words) e
-        ∙ positions-rx first words (n + 2 * i + 1) (rx_of_pair first n i all.dx)
-        ∙ ap (λ p. positions first words (n + 2 * i + 1) ++ p ∷ []) one
-        ∙ ap (λ l. l ++ get_or taken i d ∷ [])
-        (positions-dx first words (n + 2 * i) (dx_of_pair first n i all.dx)
-        ∙ positions-pairs taken is i (omega arith) (omega arith))
-        ∙ append_assoc so_far (take i taken) (get_or taken i d ∷ [])
-        ∙ ap (λ l. so_far ++ l) (sym (take_more taken i d (omega arith)))
-        ∙ ap (λ j. so_far ++ take j taken) (add-one i)
 
 -- whether a word of a list is wrong, by its place
 pub wrong_at : (words : List ℕ) (k x : ℕ) → k < length words
@@ -123,16 +38,6 @@ pub sum_of_wrong : (words : List ℕ) (a b c d e f g h : ℕ)
 unfolding wrong_in
 sum_of_wrong words a b c d e f g h ea eb ec ed ee ef eg eh =
     omega (arith, ea, eb, ec, ed, ee, ef, eg, eh)
-
-wrong_in-moved : (f g : ℕ → ℕ) (i j n : ℕ) → ((k : ℕ) → k < n → f (i + k) ≡ g (j + k))
-    → wrong_in f i n ≡ wrong_in g j n
-unfolding wrong_in
-wrong_in-moved f g i j zero same = refl
-wrong_in-moved f g i j (suc n) same =
-    let rest = wrong_in-moved f g i j n (λ k h. same k (omega arith)) in
-    let one : one_if (is_wrong (f (i + n))) ≡ one_if (is_wrong (g (j + n))) =
-    ap (λ w. one_if (is_wrong w)) (same n (omega arith)) in
-    omega (arith, rest, one)
 
 headers_plain : (text bytes : List ℕ) → BringNothing text bytes
     → headers (text ++ bytes) ≡ headers text
@@ -201,9 +106,10 @@ plain_shown old new classes bytes next given after eight four hears takes shifts
             let was : List ℕ = text_after first words n in
             let grows : text_after first words (n + 8) ≡ was ++ bytes =
             ap (λ l. text l Letters) whole ∙ text-append so_far taken Letters
-            ∙ ap (λ l. text so_far Letters ++ l) (ap (text taken) (sym r.reads.shift) ∙ sym prints) in
+            ∙ ap (λ l. text so_far Letters ++ l)
+            (ap (text taken) (sym r.reads.shift) ∙ sym prints) in
             let wrong : wrong_in words n 8 ≡ wrong_in (slice_index next) 0 8 =
-            wrong_in-moved words (slice_index next) n 0 8
+            wrong_in-shift words (slice_index next) n 0 8
             (λ k lt. let same : k ≡ 0 + k = omega arith in
             is_word k (omega (arith, lt, eight)) ∙ ap (slice_index next) same) in
             let start : wrong_in words (0 + n) 8 ≡ wrong_in words n 8 =

@@ -1,6 +1,5 @@
 -- What a run over lines says, said of the report and in the faults of `listen`.
-use Rattle.std.proofs.Common.{◌≡◌, inl, inr, ℕ, ◌+◌, ◌<◌, ◌≤◌, Bool, List, [], ◌∷◌, ◌++◌, length, map, Option, None, Some, IfSome, Result, Ok, Err, IsErr, IsErrAnd, refl, ap, ◌∙◌, arith, length-append, codes}
-use Rattle.std.specs.Prelude.{⊤}
+use Rattle.std.proofs.Common.{◌≡◌, inl, inr, ℕ, ◌+◌, ◌<◌, ◌≤◌, Bool, List, [], ◌∷◌, ◌++◌, length, map, Option, Result, Ok, Err, IsErr, IsErrAnd, refl, ap, ◌∙◌, arith, length-append, codes}
 use Rattle.std.specs.Io.KnownBytes.{Appends}
 use Rattle.std.specs.declared.alloc.AllocError.{AllocError}
 use Rattle.std.proofs.KnownBytes.{Consumes-nil}
@@ -11,7 +10,7 @@ use Rattle.nx_fec.specs.declared.channel.Channel.{Channel}
 use Rattle.nx_fec.specs.declared.channel.Channel.TheVariants.{Zero, One, Two}
 use Rattle.nx_fec.specs.Transfers.{CountedDevice, HasWritten}
 use Rattle.nx_fec.specs.LineRuns.{ExplainsLines, HasTaken, HasTakenAll, RunsLines}
-use Rattle.nx_fec.specs.Lines.{IsLineRefused, StopsAt, air_limit}
+use Rattle.nx_fec.specs.Lines.{IsLineRefused, air_limit}
 use Rattle.nx_fec.specs.Lines.{file_of, line_bytes}
 use Rattle.nx_fec.specs.Transfers.{Devices, devices}
 use Rattle.nx_fec.specs.declared.fault.LineFault.TheVariants as file
@@ -31,6 +30,7 @@ use Rattle.nx_receiver.specs.declared.listen_fault.ListenFault.TheVariants.{Memo
 use Rattle.nx_locks.specs.declared.shower.LineRefusal.{LineRefusal}
 use Rattle.nx_locks.specs.declared.shower.LineRefusal.TheVariants as refusal
 use Rattle.nx_locks.specs.declared.run.LocksReport.{LocksReport}
+use Rattle.nx_receiver.proofs.listens.Runs.{as-err, err-of, memory-read, memory-write, stops-on, whatever, write-not_read}
 use Rattle.nx_receiver.proofs.receiving.Logged.{bits_of-append}
 use Rattle.nx_receiver.proofs.receiving.Events.{bits_of-more}
 
@@ -39,20 +39,6 @@ shown : (first now : Showing) (old new : Option (List ℕ)) (lines : List Line)
     → HasTaken StandsFrom first now lines (Appends old new) → HasShown old new lines
 shown first now old new lines h =
     record { bytes = h.given; report = begins-report now lines h.given h.stood; written = h.here }
-
-stops-on : (bytes : List ℕ) (P Q : List Line → List ℕ → List ℕ → Type 0)
-    → ((lines : List Line) (rest more : List ℕ) → P lines rest more → Q lines rest more)
-    → StopsAt bytes P → StopsAt bytes Q
-stops-on bytes P Q f h = record {
-  lines = h.lines;
-  rest = h.rest;
-  more = h.more;
-  whole = h.whole;
-  each = h.each;
-  part =
-      h.part;
-  here = f h.lines h.rest h.more h.here;
-}
 
 -- a line that is refused isn't taken, as its fault says
 fault-says : (number : ℕ) (lines : List Line) (line : Line) (why : LineRefusal)
@@ -256,15 +242,9 @@ write-back (run.Refused line (refusal.Moment why)) written e = cc
 write-back (run.Refused line (refusal.Vital subject)) written e = cc
 write-back (run.Refused line refusal.TooMany) written e = cc
 
-err-of : {N : Type 0} (a b : ListenFault) → ◌≡◌ {A = Result N ListenFault} (Err a) (Err b) → a ≡ b
-err-of a b e = cc
-
 run-err-of : {N : Type 0} (a b : LinesFault LineRefusal)
     → ◌≡◌ {A = Result N (LinesFault LineRefusal)} (Err a) (Err b) → a ≡ b
 run-err-of a b e = cc
-
-as-err : {N F : Type 0} (a b : F) → a ≡ b → ◌≡◌ {A = Result N F} (Err a) (Err b)
-as-err {N} {F} a b e = let out : F → Result N F = λ x. Err x in ap out e
 
 -- a run over lines that ended early is a run that shows locks that did
 pub shows-fault : {R W : Type 0} (first now : Showing) (d : Devices R W)
@@ -344,10 +324,6 @@ part-shown first now old mid new bytes read written h closed =
     let e = closed h.lines t.given t.stood t.here in
     (e.bytes, (h.lines, record { file = h.file; taken = t.stood.taken; report = e.report }), e.some)
 
-write-not_read : {N : Type 0} (written : ℕ)
-    → ◌≡◌ {A = Result N ListenFault} (Err (Write written)) (Err Read) → ⊥
-write-not_read written e = cc
-
 pub shows-part : {R W : Type 0} (remaining : R → Option (List ℕ)) (contents : W → Option (List ℕ))
     (first now : Showing) (reader reader_after : CountedDevice R) (writer mid new : CountedDevice W)
     (read : LinesRead) (written : ℕ)
@@ -370,18 +346,6 @@ shows-part remaining contents first now reader reader_after writer mid new read 
       writes = record { failed = (λ w. one, λ k. (written, refl)); once = omega (arith, one) };
       unwritten = tt;
     }
-
-memory-read : {N : Type 0} (error : AllocError)
-    → ◌≡◌ {A = Result N ListenFault} (Err (Memory error)) (Err Read) → ⊥
-memory-read error e = cc
-
-memory-write : {N : Type 0} (error : AllocError) (written : ℕ)
-    → ◌≡◌ {A = Result N ListenFault} (Err (Memory error)) (Err (Write written)) → ⊥
-memory-write error written e = cc
-
-whatever : (o : Option (List ℕ)) → IfSome o (λ _. ⊤)
-whatever None = tt
-whatever (Some xs) = tt
 
 -- memory ran out before anything was read
 pub shows-memory : {R W : Type 0} (remaining : R → Option (List ℕ)) (contents : W → Option (List ℕ))

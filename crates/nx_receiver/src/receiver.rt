@@ -239,8 +239,8 @@ impl<M: Recall> Receiver<M> {
     /// Hears elements up to and with the first one with which something is over, all of them where
     /// nothing is; says how many, and what is over: `finish` or `give` is due then, before anything
     /// else is heard.
-    // Not inlined, so that its loops have their registers to themselves; its answer is small.
-    #[inline(never)]
+    // Inlined, as that of the watch.
+    #[inline(always)]
     pub(crate) fn hear(&mut self, packed: &PackedElements, from: usize) -> (usize, Over)
         requires { from ≤ length packed.now }
         ensures within { from + result.0 ≤ length packed.now }

@@ -125,8 +125,29 @@ impl Watch {
     }
 
     /// Hears elements up to and with the first one with which anything is over, all of them where
-    /// nothing is; says how many, and what is over.
+    /// nothing is; says how many, and what is over. The only element of a line is heard without the
+    /// loop over parts.
+    // Inlined, so that such a line has one call.
+    #[inline(always)]
     pub(crate) fn hear(&mut self, packed: &PackedElements, from: usize) -> (usize, Over)
+        requires { from ≤ length packed.now }
+        ensures within { from + result.0 ≤ length packed.now }
+        ensures hears { HearsAll self.old self.new (take result.0 (drop from packed.now)) result.1 }
+        ensures all { result.1 ≡ Nothing → from + result.0 ≡ length packed.now }
+        ensures some { from < length packed.now → 0 < result.0 }
+        ensures force { in_force self.new ≡ in_force self.old }
+        ensures tag { TagGoesOn self.old self.new }
+    {
+        if packed.len() - from == 1 {
+            return (1, self.hear_one(packed.get(from)));
+        }
+        self.hear_parts(packed, from)
+    }
+
+    /// Hears elements part by part, as `hear` does.
+    // Not inlined, so that its loops have their registers to themselves; its answer is small.
+    #[inline(never)]
+    fn hear_parts(&mut self, packed: &PackedElements, from: usize) -> (usize, Over)
         requires { from ≤ length packed.now }
         ensures within { from + result.0 ≤ length packed.now }
         ensures hears { HearsAll self.old self.new (take result.0 (drop from packed.now)) result.1 }
@@ -293,6 +314,21 @@ impl Watch {
         self.read(step)
     }
 
+    /// Hears one element, which is all that there is to hear.
+    // Not inlined. Mostly it ends no word, and needs none of the registers that reading one does.
+    #[inline(never)]
+    fn hear_one(&mut self, bit: bool) -> Over
+        ensures hears { HearsAll self.old self.new (bit ∷ []) result }
+        ensures force { in_force self.new ≡ in_force self.old }
+        ensures tag { TagGoesOn self.old self.new }
+    {
+        let step = self.synchroniser.push(bit);
+        if step.word.is_none() {
+            return Over::Nothing;
+        }
+        self.read_apart(step)
+    }
+
     /// Reads the word that a step of the synchroniser completes, if it completes one.
     // Inlined, so that the step is read where it is made.
     #[inline(always)]
@@ -305,6 +341,16 @@ impl Watch {
             return Over::Nothing;
         };
         self.read_word(heard.0, heard.1, change.is_some())
+    }
+
+    /// Reads a step as `read` does.
+    // Not inlined, so that its registers are saved only where there is a word.
+    #[inline(never)]
+    fn read_apart(&mut self, step: Step) -> Over
+        ensures step { ReadsStep self.old self.new step result }
+        ensures tag { TagGoesOn self.old self.new }
+    {
+        self.read(step)
     }
 
     /// Reads a word of the lock, which may bring a change.

@@ -1,12 +1,13 @@
 -- Eight words heard at once: what is held after them, and what was brought, is what one word after
 -- the other makes of it.
-use Rattle.std.proofs.Common.{◌≡◌, ℕ, zero, suc, ◌+◌, ◌-◌, ◌*◌, ◌/◌, ◌%◌, ◌^◌, ◌<◌, ◌≤◌, ◌==◌, nat_le, List, [], ◌∷◌, ◌++◌, length, take, drop, get_or, Bool, true, false, not, ◌&&◌, ◌||◌, cond, count_by, refl, sym, ap, ap₂, subst, subst₂, ◌∙◌, arith, Option, Some, None, append_assoc, append-nil}
+use Rattle.std.proofs.Common.{◌≡◌, ℕ, zero, suc, ◌+◌, ◌-◌, ◌*◌, ◌/◌, ◌%◌, ◌^◌, ◌<◌, ◌≤◌, ◌==◌, nat_le, List, [], ◌∷◌, ◌++◌, length, take, drop, get_or, Bool, true, false, not, ◌&&◌, ◌||◌, cond, count_by, refl, sym, ap, ap₂, subst, subst₂, ◌∙◌, arith, Option, Some, None, append_assoc, append-nil, length-append, length-drop, drop-drop}
 use Rattle.std.specs.Prelude.{slice_index}
 use Rattle.std.specs.List.{flat_map}
 use Rattle.std.proofs.lemmas.Bool.{eqb-true, ne_eqb, eq-eqb, lt-leb, leb-true, or_parts}
-use Rattle.std.proofs.lemmas.List.{drop_more, drop_all}
+use Rattle.std.proofs.lemmas.List.{drop_more, drop_all, drop-append-le}
+use Rattle.std.proofs.Math.Seq.{take-append-add}
 use Rattle.std.proofs.lemmas.Grind.{get_or_default_zero}
-use Rattle.std.proofs.lemmas.List.Sums.{sum_by_push, sum_by-take-drop}
+use Rattle.std.proofs.lemmas.List.Sums.{sum_by_push, sum_by-append, sum_by-take-drop}
 use Rattle.circular_buffer.specs.Buffer.{keep_last}
 use Rattle.nx_code.specs.Table.{phasing_1}
 use Rattle.nx_code.specs.Word.{elements, number_of, value_of, weight, is_wrong}
@@ -17,7 +18,7 @@ use Rattle.nx_sync.specs.declared.track.Track.{Track}
 use Rattle.nx_sync.specs.Words.{marked_words, losing_count, other_role, is_dx, word_of_lock, role_of}
 use Rattle.nx_sync.specs.private.Windows.{next_word_window}
 use Rattle.nx_sync.specs.private.Calls.{track_after, fills_releasing_word, Completes}
-use Rattle.nx_sync.specs.private.Eight.{has_wrong, last_four, last_five_marks, marks_after_words, after_eight}
+use Rattle.nx_sync.specs.private.Eight.{has_wrong, wrong_ones, last_four, last_five_marks, marks_after_words, after_eight}
 use Rattle.nx_sync.specs.Steps.{step, IsWordStep, AreQuietWords}
 use Rattle.nx_sync.specs.Locks.{Now, hunting, locked}
 use Rattle.nx_sync.specs.Synchroniser.{Held, p1_marks, Tracks, StandsAfter, awaits_free_dx, has_dx_phasing_1, keeps_lock}
@@ -82,6 +83,64 @@ has_wrong-halves xs a b c d e f g h l ja jb jc jd je jf jg jh =
     let r : ℕ → Bool = λ k. weight (slice_index xs k) == 4 in
     rw (ja.is, jb.is, jc.is, jd.is, je.is, jf.is, jg.is, jh.is)
     (halves (r 0) (r 1) (r 2) (r 3) (r 4) (r 5) (r 6) (r 7) ∙ sym (ap has_wrong (eight_items xs l)))
+
+-- the marks of eight words
+pub wrong_ones-eight : (xs : List ℕ) (a b c d e f g h : Bool) → length xs ≡ 8
+    → Judged xs 0 a → Judged xs 1 b → Judged xs 2 c → Judged xs 3 d
+    → Judged xs 4 e → Judged xs 5 f → Judged xs 6 g → Judged xs 7 h
+    → not a ∷ not b ∷ not c ∷ not d ∷ not e ∷ not f ∷ not g ∷ not h ∷ [] ≡ wrong_ones xs
+wrong_ones-eight xs a b c d e f g h l ja jb jc jd je jf jg jh =
+    rw (ja.is, jb.is, jc.is, jd.is, je.is, jf.is, jg.is, jh.is)
+    (sym (ap wrong_ones (eight_items xs l)))
+
+-- where there are 64 marks, as many of the oldest go as words come
+pub marks_replaced : (words : List ℕ) (marks : List Bool) → length marks ≡ marked_words
+    → length words ≤ marked_words
+    → marks_after_words marks words ≡ drop (length words) marks ++ wrong_ones words
+unfolding marks_after_words
+marks_replaced [] marks l few = sym (append-nil marks)
+marks_replaced (word ∷ words) marks l few =
+    let one : List Bool = is_wrong word ∷ [] in
+    let k : ℕ = length words in
+    let e : length (marks ++ one) - marked_words ≡ 1 = simp length-append (omega arith) in
+    let moved : keep_last marked_words (marks ++ one) ≡ drop 1 marks ++ one =
+    ap (λ i. drop i (marks ++ one)) e ∙ drop-append-le 1 marks one (omega arith) in
+    let rest = marks_replaced words (drop 1 marks ++ one)
+    (simp (length-append, length-drop) (omega arith)) (omega arith) in
+    let more : 1 + k ≡ suc k = omega arith in
+    let gone : drop k (drop 1 marks ++ one) ≡ drop (suc k) marks ++ one =
+    drop-append-le k (drop 1 marks) one (simp length-drop (omega arith))
+    ∙ ap (λ xs. xs ++ one) (drop-drop k 1 marks ∙ ap (λ i. drop i marks) more) in
+    ap (λ xs. marks_after_words xs words) moved
+    ∙ (rest
+    ∙ (ap (λ xs. xs ++ wrong_ones words) gone
+    ∙ append_assoc (drop (suc k) marks) one (wrong_ones words)))
+
+-- how many of the oldest marks are set, which lie in two parts
+pub count_parts : (older newer marks : List Bool) (n : ℕ) → older ++ newer ≡ marks
+    → length older ≤ n
+    → count_by (λ b. b) older + count_by (λ b. b) (take (n - length older) newer)
+    ≡ count_by (λ b. b) (take n marks)
+count_parts older newer marks n e few =
+    let at : length older + (n - length older) ≡ n = omega arith in
+    let part : take n (older ++ newer) ≡ older ++ take (n - length older) newer =
+    ap (λ i. take i (older ++ newer)) (sym at)
+    ∙ take-append-add older newer (n - length older) in
+    sym (ap (λ xs. count_by (λ b. b) (take n xs)) (sym e)
+    ∙ (ap (count_by (λ b. b)) part
+    ∙ sum_by-append (λ b. cond b 1 0) older (take (n - length older) newer)))
+
+-- how many of the marks are set after eight that come, where the eight oldest go
+pub count_replaced : (old more : List Bool) → length old ≡ marked_words → length more ≡ 8
+    → count_by (λ b. b) old - count_by (λ b. b) (take 8 old) + count_by (λ b. b) more
+    ≡ count_by (λ b. b) (keep_last marked_words (old ++ more))
+count_replaced old more l eight =
+    let parts = sum_by-take-drop (λ b. cond b 1 0) old 8 in
+    let both = sum_by-append (λ b. cond b 1 0) (drop 8 old) more in
+    let e : length (old ++ more) - marked_words ≡ 8 = simp length-append (omega arith) in
+    let kept : keep_last marked_words (old ++ more) ≡ drop 8 old ++ more =
+    ap (λ i. drop i (old ++ more)) e ∙ drop-append-le 8 old more (omega arith) in
+    sym (ap (count_by (λ b. b)) kept ∙ omega (arith, parts, both))
 
 -- the marks of the next word, and of those after it
 pub marks-more : (marks : List Bool) (words : List ℕ) (i : ℕ) → i < length words

@@ -1,7 +1,8 @@
 //! Eight words at once: what a lock asks of them. Inlined always, since the answers would go
 //! through memory otherwise.
 
-ghost use Rattle.std.specs.Prelude.{◌≡◌, ℕ, ◌^◌, ◌<◌, slice_index};
+ghost use Rattle.std.specs.Prelude.{◌≡◌, ℕ, ◌^◌, ◌<◌, ◌≤◌, length, slice_index};
+ghost use Rattle.std.specs.List.{count_by};
 ghost use Rattle.nx_sync.specs.Locks.{pattern_elements};
 ghost use Rattle.nx_sync.specs.Synchroniser as held;
 ghost use Rattle.nx_sync.specs.private.Eight as spec;
@@ -55,6 +56,37 @@ pub(crate) fn has_wrong(words: &[Word; EIGHT]) -> bool
         & check_bits(words[6])
         & check_bits(words[7]);
     !(first_half & second_half)
+}
+
+/// The marks of eight words, whether each has the wrong weight.
+#[inline(always)]
+pub(crate) fn wrong_ones(words: &[Word; EIGHT]) -> [bool; EIGHT]
+    ensures { result ≡ spec.wrong_ones words.now }
+{
+    [
+        !check_bits(words[0]),
+        !check_bits(words[1]),
+        !check_bits(words[2]),
+        !check_bits(words[3]),
+        !check_bits(words[4]),
+        !check_bits(words[5]),
+        !check_bits(words[6]),
+        !check_bits(words[7]),
+    ]
+}
+
+/// How many of at most eight marks are set.
+#[inline(always)]
+pub(crate) fn count_set(marks: &[bool]) -> u32
+    requires { length marks.now ≤ 8 }
+    ensures count { result ≡ count_by (λ b. b) marks.now }
+    ensures few { result ≤ 8 }
+{
+    let mut count = 0;
+    for mark in marks {
+        count += u32::from(*mark);
+    }
+    count
 }
 
 /// The window after eight words, of which it has the last four.

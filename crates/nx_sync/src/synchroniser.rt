@@ -2,7 +2,7 @@
 //! last words. Calls that run for each element, each word or each stride are inlined always, since
 //! their answers would go through memory otherwise.
 
-ghost use Rattle.std.specs.Prelude.{◌≡◌, ℕ, ◌+◌, ◌-◌, ◌*◌, ◌/◌, ◌^◌, ◌<◌, ◌≤◌, ◌↔◌, List, Bool, false, [], ◌∷◌, ◌++◌, length, take, slice_index, min, nat_le, not, IsTrue, IfOk};
+ghost use Rattle.std.specs.Prelude.{◌≡◌, ℕ, ◌+◌, ◌-◌, ◌*◌, ◌/◌, ◌^◌, ◌<◌, ◌≤◌, ◌↔◌, List, Bool, false, [], ◌∷◌, ◌++◌, length, take, drop, slice_index, min, nat_le, not, IsTrue, IfOk};
 ghost use Rattle.std.specs.List.{count_by, flat_map};
 ghost use Rattle.nx_sync.specs.declared.step.Role.TheVariants.{Dx};
 ghost use Rattle.nx_sync.specs.declared.step.Change.TheVariants.{Locked};
@@ -16,7 +16,9 @@ ghost use Rattle.nx_sync.specs.private.Calls.{heard_one, with_mark, track_from, 
 ghost use Rattle.nx_sync.specs.private.Eight.{with_marks, after_eight};
 ghost use Rattle.nx_sync.specs.Synchroniser.{StandsAfter, is_hunting, is_between_words, keeps_lock};
 
-use crate::eight::{EIGHT, has_dx_phasing_1, has_wrong, numbers, window_after_eight};
+use crate::eight::{
+    EIGHT, count_set, has_dx_phasing_1, has_wrong, numbers, window_after_eight, wrong_ones,
+};
 use crate::packed::{
     PACKED, count_before_lock_in, element, has_no_lock, last_window, window_after_number,
 };
@@ -390,6 +392,41 @@ impl Synchroniser {
 
     /// Moves the marks on by eight.
     fn push_marks(&mut self, words: &[Word; EIGHT])
+        ensures { self.new ≡ with_marks self.old words.now }
+    {
+        if self.wrong.len() == MARKS {
+            self.replace_marks(&wrong_ones(words));
+        } else {
+            self.push_each_mark(words);
+        }
+    }
+
+    /// Takes eight marks in where there are all of them, so that the eight oldest go.
+    #[inline(always)]
+    fn replace_marks(&mut self, marks: &[bool; EIGHT])
+        requires { length self.old.wrong ≡ marked_words }
+        ensures { self.new ≡ record self.old { wrong = drop 8 self.old.wrong ++ marks.now } }
+    {
+        let gone = self.count_oldest();
+        self.wrong.extend_from_slice(marks);
+        self.wrong_count = self.wrong_count - gone + count_set(marks);
+    }
+
+    /// How many of the eight oldest marks are of wrong words.
+    #[inline(always)]
+    fn count_oldest(&self) -> u32
+        requires { length self.now.wrong ≡ marked_words }
+        ensures { result ≡ count_by (λ b. b) (take 8 self.now.wrong) }
+    {
+        let (older, newer) = self.wrong.as_slices();
+        if EIGHT <= older.len() {
+            return count_set(&older[..EIGHT]);
+        }
+        count_set(older) + count_set(&newer[..EIGHT - older.len()])
+    }
+
+    /// Moves the marks on by one after the other.
+    fn push_each_mark(&mut self, words: &[Word; EIGHT])
         ensures { self.new ≡ with_marks self.old words.now }
     {
         for word in words {

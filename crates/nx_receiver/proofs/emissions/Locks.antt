@@ -75,7 +75,7 @@ word_from-bits_of gap heard i words lt =
     ∙ ap (λ ws. get_or ws i 0) (words_of-bits_of heard words)
 
 -- runs of the same words have as many wrong
-wrong_in-shift : (f g : ℕ → ℕ) (i a n : ℕ) → ((j : ℕ) → j < n → f (i + j) ≡ g (a + j))
+pub wrong_in-shift : (f g : ℕ → ℕ) (i a n : ℕ) → ((j : ℕ) → j < n → f (i + j) ≡ g (a + j))
     → wrong_in f i n ≡ wrong_in g a n
 unfolding wrong_in
 wrong_in-shift f g i a zero same = refl
@@ -103,7 +103,7 @@ phasing_right heard k j lt =
           ∙ ap is_wrong (k.first (j / 2) (omega arith)) ∙ right_1
     ]
 
-role_of-next : (first : Role) (k : ℕ) → role_of first (k + 1) ≡ other_role (role_of first k)
+pub role_of-next : (first : Role) (k : ℕ) → role_of first (k + 1) ≡ other_role (role_of first k)
 unfolding role_of
 role_of-next first k = let e : k + 1 ≡ suc k = omega arith in ap (role_of first) e
 

@@ -43,7 +43,7 @@ logged first now old new lines h = (
   h.here,
 )
 
-stops-on : (bytes : List ℕ) (P Q : List Line → List ℕ → List ℕ → Type 0)
+pub stops-on : (bytes : List ℕ) (P Q : List Line → List ℕ → List ℕ → Type 0)
     → ((lines : List Line) (rest more : List ℕ) → P lines rest more → Q lines rest more)
     → StopsAt bytes P → StopsAt bytes Q
 stops-on bytes P Q f h = record {
@@ -171,14 +171,15 @@ write-back (run.Refused line refusal.NoMoment) written e = cc
 write-back (run.Refused line (refusal.Moment why)) written e = cc
 write-back (run.Refused line (refusal.Vital subject)) written e = cc
 
-err-of : {N : Type 0} (a b : ListenFault) → ◌≡◌ {A = Result N ListenFault} (Err a) (Err b) → a ≡ b
+pub err-of : {N : Type 0} (a b : ListenFault)
+    → ◌≡◌ {A = Result N ListenFault} (Err a) (Err b) → a ≡ b
 err-of a b e = cc
 
 run-err-of : {N : Type 0} (a b : LinesFault LineRefusal)
     → ◌≡◌ {A = Result N (LinesFault LineRefusal)} (Err a) (Err b) → a ≡ b
 run-err-of a b e = cc
 
-as-err : {N F : Type 0} (a b : F) → a ≡ b → ◌≡◌ {A = Result N F} (Err a) (Err b)
+pub as-err : {N F : Type 0} (a b : F) → a ≡ b → ◌≡◌ {A = Result N F} (Err a) (Err b)
 as-err {N} {F} a b e = let out : F → Result N F = λ x. Err x in ap out e
 
 -- what a run says of both devices is what it says as one that listens
@@ -342,7 +343,7 @@ part-listened first now old mid new bytes read written h closed =
       e.some,
     )
 
-write-not_read : {N : Type 0} (written : ℕ)
+pub write-not_read : {N : Type 0} (written : ℕ)
     → ◌≡◌ {A = Result N ListenFault} (Err (Write written)) (Err Read) → ⊥
 write-not_read written e = cc
 
@@ -371,15 +372,15 @@ listens-part remaining contents first now reader reader_after writer mid new rea
     (λ e. absurd (Ok-not_err _ _ e)))
     (record { failed = (λ w. one, λ k. (written, refl)); once = omega (arith, one) })
 
-memory-read : {N : Type 0} (error : AllocError)
+pub memory-read : {N : Type 0} (error : AllocError)
     → ◌≡◌ {A = Result N ListenFault} (Err (Memory error)) (Err Read) → ⊥
 memory-read error e = cc
 
-memory-write : {N : Type 0} (error : AllocError) (written : ℕ)
+pub memory-write : {N : Type 0} (error : AllocError) (written : ℕ)
     → ◌≡◌ {A = Result N ListenFault} (Err (Memory error)) (Err (Write written)) → ⊥
 memory-write error written e = cc
 
-whatever : (o : Option (List ℕ)) → IfSome o (λ _. ⊤)
+pub whatever : (o : Option (List ℕ)) → IfSome o (λ _. ⊤)
 whatever None = tt
 whatever (Some xs) = tt
 

@@ -56,7 +56,7 @@ module _ (first : Role) (words : ℕ → ℕ) (n : ℕ) (next : List ℕ) (all :
         ∙ ap (λ l. before ++ l) (dx_words-more next 0 i word
         (ap counts_as (all.are (2 * i) h ∙ ap (slice_index next) here)))
 
-    dx_words-pairs : (i : ℕ) → 2 * i ≤ length next
+    pub dx_words-pairs : (i : ℕ) → 2 * i ≤ length next
         → dx_words first words (n + 2 * i) ≡ before ++ aligned.dx_words next 0 i
     unfolding aligned.dx_words
     dx_words-pairs zero h =
@@ -70,7 +70,7 @@ module _ (first : Role) (words : ℕ → ℕ) (n : ℕ) (next : List ℕ) (all :
         ∙ ap (λ j. before ++ aligned.dx_words next 0 j) (add-one i)
 
     -- the positions of the first pairs, by what was taken
-    positions-pairs : (taken : List Reception) → ((k : ℕ) (d : Reception) → k < length taken
+    pub positions-pairs : (taken : List Reception) → ((k : ℕ) (d : Reception) → k < length taken
         → get_or taken k d ≡ pair_of before next k)
         → (i : ℕ) → i ≤ length taken → 2 * i ≤ length next
         → positions first words (n + 2 * i) ≡ positions first words n ++ take i taken

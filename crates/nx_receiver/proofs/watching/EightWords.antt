@@ -99,15 +99,15 @@ still_word h bits locks p t r long is same now =
     (subst (λ (l : List Bool). IsStep l r) whole is.last) same)
 
 -- after words that bring no change the lock still stands, and these are its words
-record StillWords (bits : List Bool) (role_of_first : Role) (locks : List Lock) (p t m : ℕ)
+pub record StillWords (bits : List Bool) (role_of_first : Role) (locks : List Lock) (p t m : ℕ)
     (words : List ℕ) : Type 0 where
-  stands : IsNow (bits ++ flat_map elements words) locks (locked p t)
-  are : (k : ℕ) → k < length words
+  pub stands : IsNow (bits ++ flat_map elements words) locks (locked p t)
+  pub are : (k : ℕ) → k < length words
       → word_of_lock (bits ++ flat_map elements words) t (m + k) ≡ slice_index words k
-  role : 0 < length words
+  pub role : 0 < length words
       → role_of (first_role (bits ++ flat_map elements words) t) m ≡ role_of_first
 
-still_words : (words : List ℕ) (bits : List Bool) (role : Role) (locks : List Lock) (p t m : ℕ)
+pub still_words : (words : List ℕ) (bits : List Bool) (role : Role) (locks : List Lock) (p t m : ℕ)
     → IsNow bits locks (locked p t) → length bits ≡ t + 7 * m → AreQuietWords bits role words
     → StillWords bits role locks p t m words
 still_words [] bits role locks p t m now limit quiet = record {

@@ -1,6 +1,6 @@
 -- What a watch hears: one element, one word, the elements that a hunt passes over, and some after
 -- others.
-use Rattle.std.proofs.Common.{◌≡◌, ℕ, zero, suc, ◌+◌, ◌-◌, ◌<◌, ◌≤◌, Bool, false, List, [], ◌∷◌, ◌++◌, map, length, take, get_or, Option, Some, None, refl, sym, ap, ◌∙◌, subst, arith, inl, inr, append_assoc, append-nil, take-take, length-take, length-append, add-one, subst₂}
+use Rattle.std.proofs.Common.{◌≡◌, ℕ, zero, suc, ◌+◌, ◌-◌, ◌<◌, ◌≤◌, Bool, false, List, [], ◌∷◌, ◌++◌, map, length, take, get_or, Option, Some, None, is_some, true≢false, refl, sym, ap, ◌∙◌, subst, arith, inl, inr, append_assoc, append-nil, take-take, length-take, length-append, add-one, subst₂}
 use Rattle.std.proofs.lemmas.List.{map-append, take_more, take_all, take-append-le}
 use Rattle.std.proofs.lemmas.Bool.{cases_lt}
 use Rattle.nx_sync.specs.Locks.{Past, hunting}
@@ -239,6 +239,14 @@ force_on mid new r answer read =
       | None ↦ λ none. ap in_force (read.none none).0
       | Some w ↦ λ one. (read.some w.0 w.1 one).force
     ] refl
+
+-- a step that completes no word leaves the watch as it is
+pub unread : (watch : Watching) (r : Step) → is_some r.word ≡ false
+    → ReadsStep watch watch r over.Nothing
+unread watch r none = record {
+  none = λ e. (refl, refl);
+  some = λ word role e. absurd (true≢false (sym (ap is_some e) ∙ none));
+}
 
 -- a watch that has heard nothing
 pub nothing_heard : (first : Setting) (watch : Watching) → StandsAfter watch.synchroniser []

@@ -1,6 +1,6 @@
 -- What is held after several words, for the contracts of the private functions that hear eight of
 -- them at once.
-use Rattle.std.specs.Prelude.{ℕ, ◌+◌, ◌*◌, ◌^◌, ◌==◌, Bool, false, ◌||◌, List, [], ◌∷◌, ◌++◌, slice_index, Some}
+use Rattle.std.specs.Prelude.{ℕ, ◌+◌, ◌*◌, ◌^◌, ◌==◌, Bool, false, ◌||◌, List, [], ◌∷◌, ◌++◌, map, slice_index, Some}
 use Rattle.circular_buffer.specs.Buffer.{keep_last}
 use Rattle.nx_code.specs.Table.{phasing_1}
 use Rattle.nx_code.specs.Word.{value_of, is_wrong}
@@ -12,6 +12,10 @@ use Rattle.nx_sync.specs.Synchroniser.{Held}
 unfoldable pub has_wrong : List ℕ → Bool
 has_wrong [] = false
 has_wrong (word ∷ words) = is_wrong word || has_wrong words
+
+-- whether each of these words has the wrong weight
+abbrev pub wrong_ones : List ℕ → List Bool
+wrong_ones = map is_wrong
 
 -- the window that has the words 4 to 7
 abbrev pub last_four : List ℕ → ℕ

@@ -86,7 +86,8 @@ returns-in-None c =
           (λ positions. reading_push positions (reception_of_class c.hear_rx-class.result)
           i.printer c.print_class.new.self c.print_class.result c.print_class.ensures.printed
           c.print_class.ensures.shift) in
-          heard_none mid i.diversity c.print_class.new.self c.print_class.result first words n counted'
+          heard_none mid i.diversity c.print_class.new.self c.print_class.result first words n
+          counted'
           read c.in-None.is;
       few = omega (arith, ap (λ (r : Reading). r.copies) mid_is);
     }

@@ -1,14 +1,11 @@
-use Rattle.std.proofs.Common.{◌≡◌, ◌+◌, ◌-◌, ◌^◌, ◌++◌, None, Some, Option, ℕ, refl, sym, ap, ◌∙◌, subst, append-nil}
+use Rattle.std.proofs.Common.{◌≡◌, ◌+◌, ◌-◌, ◌^◌, ◌++◌, Option, ℕ, refl, sym, ap, ◌∙◌, subst, append-nil}
 use Rattle.std.specs.Prelude.{min}
 use Rattle.std.specs.Option.{option_to_list}
 use Rattle.nx_sync.specs.declared.step.Change.{Change}
+use Rattle.nx_receiver.proofs.listens.Listener.{none-left}
 use Rattle.nx_locks.specs.private.Watch.{ReadsTo, Watching, closing_of}
 use Rattle.nx_locks.proofs.watch.LockWatch.read.Goals as goal
 use Rattle.nx_locks.proofs.watch.LockWatch.read.Goals.{in-Some, in_default}
-
-none-left : {A : Type 0} (o : Option A) → ((x : A) → o ≡ Some x → ⊥) → o ≡ None
-none-left None h = refl
-none-left (Some x) h = absurd (h x refl)
 
 pub returns-in-Some-change-clause-reads : goal.returns-in-Some-change-clause-reads
 returns-in-Some-change-clause-reads c = rw (← c.self.view_is) (

@@ -3,7 +3,7 @@ use Rattle.nx_receiver.specs.private.Watch.{HearsAll}
 use Rattle.nx_receiver.specs.declared.over.Over.TheVariants.{Nothing}
 use Rattle.nx_receiver.proofs.watching.Loops.{goes_first, goes_on, goes_to}
 use Rattle.nx_receiver.proofs.watching.Packed.{behind}
-use Rattle.nx_receiver.proofs.watch.Watch.hear.Goals as goal
+use Rattle.nx_receiver.proofs.watch.Watch.hear_parts.Goals as goal
 
 pub loop-heard-init : goal.loop-heard-init
 loop-heard-init c = goes_first c.args.self.now (drop c.args.from c.args.packed.now)

@@ -1,6 +1,6 @@
 use Rattle.std.proofs.Common.{◌-◌, drop, length}
 use Rattle.nx_receiver.proofs.watching.Loops.{Goes}
-use Rattle.nx_receiver.proofs.watch.Watch.hear.Given as goal
+use Rattle.nx_receiver.proofs.watch.Watch.hear_parts.Given as goal
 
 abbrev pub invariant-loop-heard : goal.invariant-loop-heard
 invariant-loop-heard l = Goes l.fn.self l.self (drop l.from l.packed) l.heard
