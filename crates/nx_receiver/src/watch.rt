@@ -434,7 +434,7 @@ impl Watch {
     /// The identity of the copy that stands open, or that can be taken.
     // Inlined, as that of the reader.
     #[inline(always)]
-    fn identity(&self) -> Option<Identity>
+    pub(crate) fn identity(&self) -> Option<Identity>
         ensures { result ≡ held_identity self.now.reader.finder.copy }
     {
         self.reader.identity()
