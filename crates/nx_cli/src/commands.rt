@@ -57,10 +57,12 @@ printed again within 66 hours, unless 200 others came in between; one numbered
 /1 or /2 behind the identity, and no channel knows of the others. Nothing is
 kept for a later run: resume and save do that.
 
-An empty log can mean one of these; navtex locks < x.air shows which, as
+An empty log can mean one of these; navtex locks < x.air tells some apart, as
 locks --help says:
   exchanged tones    each 1 should be a 0 and each 0 a 1. This exchanges them:
                      sed '/^B /y/01/10/' x.air | navtex listen
+  another pitch      the demodulator that made the elements listens beside the
+                     two tones
   a refused station  or a refused subject: a line RS or RJ stands in the file
   a weak signal      more words are damaged than a lock on the signal, or the
                      first line of a message, can bear; also where elements are
@@ -225,7 +227,8 @@ come, whether a message stands in it or not:
 and at the end one line with the counts of elements, locks and copies.
 
 Why a log of listen is empty:
-  locks 0        the tones are exchanged, or the signal is too weak for a lock
+  locks 0        the tones are exchanged, or of another pitch, or the signal is
+                 too weak for a lock; try the first two
   lost locks     the signal is weak, or elements are lost or doubled
   copies 0       a text was heard, but no first line of a message in it
   copies 1 ...   the station or the subject of each copy is refused";
