@@ -1,16 +1,17 @@
-# Completion of navtex's words for bash.
+# Completion of navtex's words for bash. Which commands there are, and what each takes, is read from navtex's own help.
 _navtex() {
-    local word=${COMP_WORDS[COMP_CWORD]}
-    case $COMP_CWORD in
-        1) COMPREPLY=($(compgen -W 'listen send resume save locks slots check damage decode encode show code --help --version' -- "$word")) ;;
-        2) case ${COMP_WORDS[1]} in
-               send | slots) COMPREPLY=($(compgen -W 'A B C D E F G H I J K L M N O P Q R S T U V W X --help' -- "$word")) ;;
-               damage) COMPREPLY=($(compgen -W 'dx rx all --help' -- "$word")) ;;
-               *) COMPREPLY=($(compgen -W '--help' -- "$word")) ;;
-           esac ;;
-        3) case ${COMP_WORDS[1]} in
-               send | slots) COMPREPLY=($(compgen -W "$(date +%s)" -- "$word")) ;;
-           esac ;;
-    esac
+    local word=${COMP_WORDS[COMP_CWORD]} program=${COMP_WORDS[0]} choices=
+    if ((COMP_CWORD == 1)); then
+        choices="$("$program" --help 2>/dev/null | sed -n 's/^  \([a-z][a-z]*\)   *[A-Z].*/\1/p') --help --version"
+    else
+        # the usage of `navtex send` is `navtex send <STATION> <MOMENT>`
+        case $("$program" "${COMP_WORDS[1]}" -h 2>/dev/null | awk -v at=$((COMP_CWORD + 2)) '$1 == "Usage:" { print $at }') in
+            '<STATION>') choices='A B C D E F G H I J K L M N O P Q R S T U V W X' ;;
+            '<MOMENT>') choices=$(date +%s) ;;
+            '<KIND>') choices='dx rx all' ;;
+        esac
+        ((COMP_CWORD > 2)) || choices+=' --help'
+    fi
+    COMPREPLY=($(compgen -W "$choices" -- "$word"))
 }
 complete -F _navtex navtex

@@ -1,18 +1,22 @@
-# Completion of navtex's words for fish.
+# Completion of navtex's words for fish. Which commands there are, and what each takes, is read from navtex's own help.
+
+# Each command and, behind a tab, what it does.
+function __navtex_commands
+    navtex --help 2>/dev/null | string replace --regex --filter '^  ([a-z]+)  +([A-Z].*)' '$1\t$2'
+end
+
+# Whether the word at hand is to be this argument: the usage of `navtex send` is `navtex send <STATION> <MOMENT>`.
+function __navtex_takes
+    set --local given (commandline --tokenize --cut-at-cursor --current-process)
+    test (count $given) -ge 2
+    and set --local usage (navtex $given[2] -h 2>/dev/null | string match 'Usage:*' | string split ' ')
+    and test (count $usage) -gt (math (count $given) + 1)
+    and test $usage[(math (count $given) + 2)] = "<$argv[1]>"
+end
+
 complete -c navtex -f
 complete -c navtex -l help -d 'Say what the commands are, or what a command reads and writes'
 complete -c navtex -n __fish_use_subcommand -l version -d 'Write the version, and with which logic it was proved'
-complete -c navtex -n __fish_use_subcommand -a listen -d 'Write the log of an air file'
-complete -c navtex -n __fish_use_subcommand -a send -d 'Write the air file of an emission'
-complete -c navtex -n __fish_use_subcommand -a resume -d 'Write the log of an air file, and go on from a state'
-complete -c navtex -n __fish_use_subcommand -a save -d 'Write the state that an air file leaves behind a state'
-complete -c navtex -n __fish_use_subcommand -a locks -d 'Write the locks of an air file and their running text'
-complete -c navtex -n __fish_use_subcommand -a slots -d 'Write when the next slot of a station begins'
-complete -c navtex -n __fish_use_subcommand -a check -d 'Write the messages of an air file that is exactly an emission'
-complete -c navtex -n __fish_use_subcommand -a damage -d 'Invert the first element of some words of an air file'
-complete -c navtex -n __fish_use_subcommand -a decode -d 'Write the text of an air file'
-complete -c navtex -n __fish_use_subcommand -a encode -d 'Write a text as an air file'
-complete -c navtex -n __fish_use_subcommand -a show -d 'Write the words of an air file'
-complete -c navtex -n __fish_use_subcommand -a code -d 'Write the table of the code'
-complete -c navtex -n '__fish_seen_subcommand_from send slots; and test (count (commandline -opc)) -eq 2' -a 'A B C D E F G H I J K L M N O P Q R S T U V W X'
-complete -c navtex -n '__fish_seen_subcommand_from damage; and test (count (commandline -opc)) -eq 2' -a 'dx rx all'
+complete -c navtex -n __fish_use_subcommand -a '(__navtex_commands)'
+complete -c navtex -n '__navtex_takes STATION' -a 'A B C D E F G H I J K L M N O P Q R S T U V W X'
+complete -c navtex -n '__navtex_takes KIND' -a 'dx rx all'

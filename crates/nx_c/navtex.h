@@ -2,7 +2,7 @@
  *
  * Each works on bytes in memory alone: no file, no clock, nothing kept between two calls, and every
  * block of memory that it takes given back before it returns. What each answers is proved, in
- * crates/nx_c/src; that this header says the same as the library is not, and no C compiler sees it.
+ * crates/nx_c/src; that this header says the same as the library is not: no compiler compares the two.
  *
  * What a caller owes, and nothing checks:
  *  - Behind each pointer to bytes as many lie as the length after it says, readable, and writable

@@ -1,15 +1,15 @@
 -- Packed elements and parts of them: those of one number of 64 bits, and those that go on in the next
 -- one; and the words of a number.
-use Rattle.std.proofs.Common.{◌≡◌, ℕ, zero, suc, ◌+◌, ◌-◌, ◌*◌, ◌/◌, ◌%◌, ◌^◌, ◌<◌, ◌≤◌, ◌==◌, List, [], ◌∷◌, ◌++◌, length, take, drop, get_or, set, Bool, refl, sym, ap, ap₂, subst, ◌∙◌, inl, inr, arith, append_assoc, append-nil, add-one, length-append, length-drop, length-take, drop-drop, take-take, eq-eqb}
+use Rattle.std.proofs.Common.{◌≡◌, ℕ, zero, suc, ◌+◌, ◌-◌, ◌*◌, ◌/◌, ◌%◌, ◌^◌, ◌<◌, ◌≤◌, ◌==◌, List, [], ◌∷◌, ◌++◌, length, take, drop, get_or, Bool, refl, sym, ap, ap₂, subst, ◌∙◌, inl, inr, arith, length-append, length-drop, drop-drop, take-take}
 use Rattle.std.proofs.Math.Nat.{pow-succ', pow-le-pow_right, mod-lt, mul_assoc, mul-mod_left}
 use Rattle.std.proofs.Math.Pow.{shr_lt}
-use Rattle.std.proofs.Math.Seq.{drop-cons, drop-append-add, take-append-add, take-suc-set}
+use Rattle.std.proofs.Math.Seq.{drop-cons, drop-append-add, take-append-add}
 use Rattle.std.proofs.lemmas.Bool.{cases_eq, ne_eqb}
 use Rattle.std.proofs.lemmas.Nat.{shr-shr, shl-shr, mod-pow-add, pow_pos}
 use Rattle.std.proofs.lemmas.List.{drop-append-le, take-append-le, take-append-drop}
 use Rattle.nx_code.specs.Word.{elements, elements_from, elements_of_list, number_of, value_of}
 use Rattle.nx_code.specs.Packed.{elements_of_words, packed_part}
-use Rattle.nx_code.proofs.WordLemmas.{number_of-lt, value_of-le}
+use Rattle.nx_code.proofs.WordLemmas.{number_of-lt}
 
 -- bits of which others come after
 pub number_of-append : (xs ys : List Bool)

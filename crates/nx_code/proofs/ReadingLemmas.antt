@@ -90,11 +90,6 @@ shift_after_all-nearest xs first shift h =
       | inr none ↦ shift_after_all-none xs first none.0 ∙ sym none.1
     ]
 
-SetsNone-push : (xs : List Reception) (x : Reception) → SetsNone xs → shift_set x ≡ None
-    → SetsNone (xs ++ x ∷ [])
-SetsNone-push [] x h e = (e, tt)
-SetsNone-push (y ∷ ys) x h e = (h.0, SetsNone-push ys x h.1 e)
-
 -- there is a nearest shift: either none of them sets one, or a last one does
 pub nearest : (xs : List Reception) (first : Shift) → (shift : Shift) × IsShiftAfter xs first shift
 nearest [] first = (first, inr (tt, refl))

@@ -356,9 +356,6 @@ pub record Extends (bytes : List ℕ) (from : Shift) (count : ℕ) (shift : Shif
   pub long : count ≡ length numbers
   pub after : shift ≡ shift_after_all (map combination numbers) from
 
-pub Extends-nil : (from : Shift) → Extends [] from 0 from
-Extends-nil from = record { numbers = []; spells = Spells-nil from; long = refl; after = refl }
-
 -- one more character
 pub Extends-push : (bytes : List ℕ) (c : ℕ) (from shift after : Shift) (count : ℕ) (ys : List ℕ)
     → Extends bytes from count shift → Spells (c ∷ []) shift ys

@@ -4,7 +4,6 @@ use Rattle.std.specs.Option.{is_some}
 use Rattle.std.proofs.lemmas.Bool.{agree_below_at, eqb-true, ltb-true, ne_eqb}
 use Rattle.std.proofs.lemmas.List.{get_or-map}
 use Rattle.std.proofs.lemmas.List.Quantifiers.{position-Some}
-use lib.Count.{ones, ones_in}
 use native.Mathlib.Bridge.{le_prop}
 use Rattle.nx_code.specs.declared.table.Row.{Row}
 use Rattle.nx_code.specs.declared.table.TheConstants.{TABLE}
@@ -26,11 +25,6 @@ pub weight-place_of : (word : ℕ) → word < 128 → eqb (weight word) 4 ≡ is
 unfolding weight elements elements_from table words place_of
 weight-place_of word h =
     agree_below_at (λ n. eqb (weight n) 4) (λ n. is_some (place_of n)) 128 word refl h
-
--- the weight is how many places hold a one
-pub weight-ones : (word : ℕ) → word < 128 → eqb (ones word) 4 ≡ eqb (weight word) 4
-unfolding weight elements elements_from ones ones_in
-weight-ones word h = agree_below_at (λ n. eqb (ones n) 4) (λ n. eqb (weight n) 4) 128 word refl h
 
 -- the words of the code's table are those of the table
 words-TABLE : map (λ (row : Row). row.word) TABLE ≡ words

@@ -1,7 +1,7 @@
 //! A printer's step by tables: what a position of each class prints, and the shift after it, each
 //! found by the class and the shift with no branch.
 
-ghost use Rattle.std.specs.Prelude.{◌≡◌, ◌+◌, ◌<◌, ◌≤◌, ◌++◌, take};
+ghost use Rattle.std.specs.Prelude.{◌≡◌, ◌+◌, ◌*◌, ◌<◌, ◌≤◌, ◌++◌, take};
 ghost use Rattle.std.specs.Option.{option_to_list};
 ghost use Rattle.nx_code.specs.Classes.{reception_of_class};
 ghost use Rattle.nx_code.specs.Reading.{byte_of, shift_after};
@@ -11,26 +11,29 @@ use crate::classes::CLASSES;
 use crate::shifts::Shift;
 use crate::shifts::Shift::{Figures as F, Letters as L};
 
-/// The bytes that each class prints, in letters and in figures; 0 where it prints nothing.
+/// How many rows the tables have: each class in each shift.
+const ROWS: usize = 2 * CLASSES;
+
+/// The bytes that each class prints, in letters and in figures by turns; 0 where it prints nothing.
 #[rattlefmt::skip]
-static PRINTED: [[u8; 2]; CLASSES] = [
-    [42, 42],
-    [65, 45], [66, 63], [67, 58], [68,  0], [69, 51], [70,  0], [71,  0], [72,  0],
-    [73, 56], [74,  0], [75, 40], [76, 41], [77, 46], [78, 44], [79, 57], [80, 48],
-    [81, 49], [82, 52], [83, 39], [84, 53], [85, 55], [86, 61], [87, 50], [88, 47],
-    [89, 54], [90, 43], [ 0,  0], [10, 10], [ 0,  0], [ 0,  0], [32, 32], [ 0,  0],
-    [ 0,  0],
+static PRINTED: [u8; ROWS] = [
+    42, 42,
+    65, 45, 66, 63, 67, 58, 68,  0, 69, 51, 70,  0, 71,  0, 72,  0,
+    73, 56, 74,  0, 75, 40, 76, 41, 77, 46, 78, 44, 79, 57, 80, 48,
+    81, 49, 82, 52, 83, 39, 84, 53, 85, 55, 86, 61, 87, 50, 88, 47,
+    89, 54, 90, 43,  0,  0, 10, 10,  0,  0,  0,  0, 32, 32,  0,  0,
+     0,  0,
 ];
 
-/// The shifts after each class, in letters and in figures.
+/// The shifts after each class, in letters and in figures by turns.
 #[rattlefmt::skip]
-static AFTER: [[Shift; 2]; CLASSES] = [
-    [L, F],
-    [L, F], [L, F], [L, F], [L, F], [L, F], [L, F], [L, F], [L, F],
-    [L, F], [L, F], [L, F], [L, F], [L, F], [L, F], [L, F], [L, F],
-    [L, F], [L, F], [L, F], [L, F], [L, F], [L, F], [L, F], [L, F],
-    [L, F], [L, F], [L, F], [L, F], [L, L], [F, F], [L, F], [L, F],
-    [L, F],
+static AFTER: [Shift; ROWS] = [
+    L, F,
+    L, F, L, F, L, F, L, F, L, F, L, F, L, F, L, F,
+    L, F, L, F, L, F, L, F, L, F, L, F, L, F, L, F,
+    L, F, L, F, L, F, L, F, L, F, L, F, L, F, L, F,
+    L, F, L, F, L, F, L, F, L, L, F, F, L, F, L, F,
+    L, F,
 ];
 
 /// The byte that a position of this class prints in a shift; 0 where it prints nothing.
@@ -39,7 +42,7 @@ pub(crate) fn printed(class: u8, shift: Shift) -> u8
     requires { class < 34 }
     ensures { byte_given result ≡ byte_of (reception_of_class class) shift }
 {
-    PRINTED[usize::from(class)][column(shift)]
+    PRINTED[row(class, shift)]
 }
 
 /// The shift in force after a position of this class.
@@ -48,18 +51,16 @@ pub(crate) fn after(class: u8, shift: Shift) -> Shift
     requires { class < 34 }
     ensures { result ≡ shift_after (reception_of_class class) shift }
 {
-    AFTER[usize::from(class)][column(shift)]
+    AFTER[row(class, shift)]
 }
 
-/// The column of a shift in the tables.
+/// The row of a class in a shift in the tables.
 #[inline(always)]
-fn column(shift: Shift) -> usize
-    ensures { result ≡ column shift }
+fn row(class: u8, shift: Shift) -> usize
+    requires { class < 34 }
+    ensures { result ≡ 2 * class + column shift }
 {
-    match shift {
-        Shift::Letters => 0,
-        Shift::Figures => 1,
-    }
+    2 * usize::from(class) + shift as usize
 }
 
 /// What four positions print: the first `count` of these bytes.

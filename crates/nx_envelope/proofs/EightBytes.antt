@@ -24,14 +24,6 @@ four_of (a ∷ b ∷ c ∷ d ∷ []) e small = record {
 }
 four_of (a ∷ b ∷ c ∷ d ∷ x ∷ xs) e small = absurd (omega arith)
 
-four_number : (a b c d : ℕ)
-    → from_le_bytes w32 (a ∷ b ∷ c ∷ d ∷ []) ≡ a + b * 256 + c * 65536 + d * 16777216
-four_number a b c d = refl
-
--- behind the lowest byte of a number stands the rest of it
-behind_one : (b rest : ℕ) → b < 256 → (b + rest * 256) / 256 ≡ rest
-behind_one b rest fits = omega arith
-
 div-one : (n : ℕ) → n / 1 ≡ n
 div-one n = omega arith
 

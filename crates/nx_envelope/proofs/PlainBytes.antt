@@ -1,9 +1,11 @@
--- Bytes that an open copy takes in one after the other, where none of them ends it.
+-- Bytes that an open copy takes in one after the other, where none of them ends it, and bytes behind
+-- which no header begins where no copy is open.
 use Rattle.std.proofs.Common.{◌≡◌, ℕ, ◌+◌, ◌<◌, ◌≤◌, zero, suc, ◌||◌, nat_le, Bool, false, None, List, [], ◌∷◌, ◌++◌, length, take, reverse, refl, sym, ◌∙◌, subst, arith, length-append, append_assoc}
 use Rattle.std.specs.Prelude.{slice_index}
 use Rattle.std.proofs.lemmas.Bool.{leb-false, or_parts}
 use Rattle.std.proofs.lemmas.List.{append-nil, length-take}
 use Rattle.nx_envelope.specs.private.Backward.{marker_back}
+use Rattle.nx_envelope.specs.Copies.{open_headers}
 use Rattle.nx_envelope.specs.Finder.{BringNothing, HoldsOpen, Keeps}
 use Rattle.nx_envelope.specs.private.Stage.{IsStageOf}
 use Rattle.nx_envelope.specs.private.Windows.{IsEight, IsUnmarked}
@@ -11,7 +13,10 @@ use Rattle.nx_envelope.specs.declared.identity.Identity.{Identity}
 use Rattle.nx_envelope.specs.declared.stage.Stage.{Stage}
 use Rattle.nx_envelope.specs.declared.stage.Stage.TheVariants.{Nowhere}
 use Rattle.nx_envelope.proofs.Beginnings.{reverse-push}
-use Rattle.nx_envelope.proofs.Hearing.{goes_on}
+use Rattle.nx_envelope.proofs.Hearing.{goes_on, held}
+use Rattle.nx_envelope.proofs.OneMoreByte.{still_none}
+use Rattle.nx_envelope.proofs.RawTexts.{no_start}
+use Rattle.nx_envelope.proofs.Stages.{Stands, no_header, quiet_more}
 
 -- no marker ends with one of these bytes behind that text
 abbrev pub NoMarkers : List ℕ → List ℕ → Type 0
@@ -45,6 +50,34 @@ plain_heard kept text (b ∷ bytes) identity h none short =
     record {
       holds = rw (← append_assoc kept (b ∷ []) bytes, ← append_assoc text (b ∷ []) bytes) p.holds;
       brings = first_more text bytes b g.keeps p.brings;
+    }
+
+-- they go by where no copy is open
+pub record PlainPassed (text bytes : List ℕ) : Type 0 where
+  pub none : open_headers (text ++ bytes) ≡ []
+  pub stage : IsStageOf Nowhere (reverse (text ++ bytes))
+  pub brings : BringNothing text bytes
+
+pub plain_passed : (text bytes : List ℕ) → open_headers text ≡ []
+    → Stands Nowhere false (reverse text) → NoMarkers (reverse text) bytes → PlainPassed text bytes
+plain_passed text [] shut quiet none = record {
+  none = rw (append-nil text) shut;
+  stage = rw (append-nil text) quiet.is;
+  brings = λ k lt. absurd (omega arith);
+}
+plain_passed text (b ∷ bytes) shut quiet none =
+    let keeps = still_none text b shut (no_header b (reverse text) quiet.is) in
+    let back = reverse-push text b in
+    let stands : Stands Nowhere false (b ∷ reverse text) = record {
+      is = quiet_more b (reverse text) quiet;
+      flag = sym (no_start (b ∷ reverse text) none.0);
+    } in
+    let p = plain_passed (text ++ b ∷ []) bytes (keeps.still_open ∙ shut) (rw back stands)
+    (rw back none.1) in
+    record {
+      none = rw (← append_assoc text (b ∷ []) bytes) p.none;
+      stage = rw (← append_assoc text (b ∷ []) bytes) p.stage;
+      brings = first_more text bytes b keeps p.brings;
     }
 
 no_markers : (a b c d : ℕ) (back : List ℕ) → marker_back (a ∷ back) ≡ None
@@ -85,17 +118,29 @@ unmarked result eight none m1 m2 m3 m4 =
     record { one = m1 none; two = m2 none; three = m3 none; four = m4 none }
 
 -- some of four bytes, that come next
-pub plain_four : (eight count : ℕ) (kept text bytes : List ℕ) (identity : Identity)
-    → HoldsOpen false kept text identity → IsEight eight (reverse text) bytes → AllUnmarked eight
-    → count ≤ 4 → length kept < 4096 → PlainHeard kept text (take count bytes) identity
-plain_four eight count kept text bytes identity h w m few short =
-    let back = reverse text in
+four_unmarked : (eight count : ℕ) (back bytes : List ℕ) → IsEight eight back bytes
+    → AllUnmarked eight → count ≤ 4 → NoMarkers back (take count bytes)
+four_unmarked eight count back bytes w m few =
     let none = no_markers w.new.first w.new.second w.new.third w.new.last back
     (m.one (w.new.first ∷ back) w.one) (m.two (w.new.second ∷ w.new.first ∷ back) w.two)
     (m.three (w.new.third ∷ w.new.second ∷ w.new.first ∷ back) w.three)
     (m.four (w.new.last ∷ w.new.third ∷ w.new.second ∷ w.new.first ∷ back) w.four) count few in
-    plain_heard kept text (take count bytes) identity h (rw w.new.spelled none)
+    rw w.new.spelled none
+
+pub plain_four : (eight count : ℕ) (kept text bytes : List ℕ) (identity : Identity)
+    → HoldsOpen false kept text identity → IsEight eight (reverse text) bytes → AllUnmarked eight
+    → count ≤ 4 → length kept < 4096 → PlainHeard kept text (take count bytes) identity
+plain_four eight count kept text bytes identity h w m few short =
+    plain_heard kept text (take count bytes) identity h
+    (four_unmarked eight count (reverse text) bytes w m few)
     (omega (arith, length-take count bytes))
+
+pub four_passed : (eight count : ℕ) (text bytes : List ℕ) → open_headers text ≡ []
+    → Stands Nowhere false (reverse text) → IsEight eight (reverse text) bytes → AllUnmarked eight
+    → count ≤ 4 → PlainPassed text (take count bytes)
+four_passed eight count text bytes shut quiet w m few =
+    plain_passed text (take count bytes) shut quiet
+    (four_unmarked eight count (reverse text) bytes w m few)
 
 -- where a copy stands open, before and after, no header has come anywhere
 pub stage_stays : (stage : Stage) (back more : List ℕ) → IsStageOf stage back
@@ -106,3 +151,13 @@ stage_stays stage back more is before after = record {
   subject = after.subject ∙ sym before.subject ∙ is.subject;
   tens = after.tens ∙ sym before.tens ∙ is.tens;
 }
+
+-- nor does one begin with the next byte
+pub stage_open : (stage : Stage) (fresh : Bool) (kept text : List ℕ) (identity : Identity) (b : ℕ)
+    → HoldsOpen fresh kept text identity → IsStageOf stage (reverse text)
+    → IsStageOf stage (reverse (text ++ b ∷ []))
+stage_open stage fresh kept text identity b h is =
+    let one = (held fresh kept text identity h).one in
+    let back = reverse-push text b in
+    let next = quiet_more b (reverse text) (record { is = one.stage; flag = sym one.no_start }) in
+    rw back (stage_stays stage (reverse text) (b ∷ reverse text) is one.stage next)

@@ -1,7 +1,7 @@
 -- ITU-R M.540: a message begins with the letters ZCZC, a space, the station, the subject and a
 -- number of two digits, and ends with the letters NNNN; that more than one space may stand in a
 -- header is this profile's.
-use Rattle.std.specs.Prelude.{◌≡◌, ℕ, ◌+◌, ◌-◌, ◌*◌, ◌≤◌, ◌&&◌, nat_le, min, max, List, [], ◌∷◌, ◌++◌, length, take, drop, replicate, slice_index, codes, Bool, if◌then◌else◌, Option, Some, None}
+use Rattle.std.specs.Prelude.{◌≡◌, ℕ, ◌+◌, ◌-◌, ◌*◌, ◌≤◌, ◌&&◌, nat_le, min, max, List, [], ◌∷◌, ◌++◌, length, take, replicate, slice_index, codes, Bool, if◌then◌else◌, Option, Some, None}
 use Rattle.std.specs.Option.{option_or}
 use Rattle.std.specs.Str.{bytes_eq}
 use Rattle.std.proofs.Common.{lit≤}

@@ -1,6 +1,6 @@
 -- This profile: a moment is a count of whole seconds since 1970-01-01 00:00:00 UTC, and is printed
 -- as the civil date and time of the Gregorian calendar.
-use Rattle.std.specs.Prelude.{◌≡◌, ℕ, ◌/◌, ◌%◌, List, ◌∷◌, ◌++◌, ℤ, pos}
+use Rattle.std.specs.Prelude.{◌≡◌, ℕ, ◌/◌, ◌%◌, List, ◌∷◌, ◌++◌, pos}
 use Rattle.jiff_core.specs.Calendar.{IsCivilDate, days_from_civil}
 use Rattle.nx_envelope.specs.Identity.{two_digits}
 

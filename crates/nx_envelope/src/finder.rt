@@ -108,18 +108,23 @@ impl Finder {
             → Hears text byte self.new result }
         ensures ready { is_ready self.new ≡ is_over result }
     {
-        let header = self.stage.header(byte);
-        self.stage = self.stage.next(self.recent == START_MARKER, byte);
+        let after_start = self.recent == START_MARKER;
         self.recent = one_later(self.recent, byte);
         match self.copy {
+            // No header begins in an open copy, so the stage stays.
             HeldCopy::Open(identity, fresh) => self.add(identity, fresh, byte),
-            HeldCopy::Nothing | HeldCopy::Ready(_, _) => self.begin(header),
+            HeldCopy::Nothing | HeldCopy::Ready(_, _) => {
+                let header = self.stage.header(byte);
+                self.stage = self.stage.next(after_start, byte);
+                self.begin(header)
+            }
         }
     }
 
     /// Takes in the first `count` of these bytes at once, where surely none of them begins or ends
     /// a copy: `true` where it did. Else nothing changed, and they have to be heard one by one. It is
-    /// `true` only in an open copy behind whose header something stands already.
+    /// `true` only in an open copy behind whose header something stands already, and where no copy
+    /// is open or can be taken and no header has begun.
     // Inlined always, since it is called for each four bytes of a text.
     #[inline(always)]
     pub fn hear_plain(&mut self, bytes: [u8; MARKER_LEN], count: usize) -> bool
@@ -132,13 +137,37 @@ impl Finder {
         ensures same { result ≡ false → self.new ≡ self.old }
     {
         let HeldCopy::Open(_, fresh) = self.copy else {
-            return false;
+            return self.pass_plain(bytes, count);
         };
         let eight = eight_of(self.recent, bytes);
         if fresh | ends_marker(eight) | (self.text.len() >= MAX_FOUND - MARKER_LEN) {
             return false;
         }
         append(&mut self.text, bytes, count);
+        self.recent = four_behind(eight, count).to_le_bytes();
+        true
+    }
+
+    /// Takes in bytes as `hear_plain` does, where no copy is open or can be taken and no header has
+    /// begun.
+    // Inlined always, as `hear_plain`.
+    #[inline(always)]
+    fn pass_plain(&mut self, bytes: [u8; MARKER_LEN], count: usize) -> bool
+        requires { count ≤ 4 }
+        ensures stands { IsTrue result → (text : List ℕ) → StandsAfter self.old text
+            → StandsAfter self.new (text ++ take count bytes) }
+        ensures brings { IsTrue result → (text : List ℕ) → StandsAfter self.old text
+            → BringNothing text (take count bytes) }
+        ensures ready { IsTrue result → is_ready self.new ≡ false }
+        ensures same { result ≡ false → self.new ≡ self.old }
+    {
+        let (HeldCopy::Nothing, Stage::Nowhere) = (self.copy, self.stage) else {
+            return false;
+        };
+        let eight = eight_of(self.recent, bytes);
+        if (self.recent == START_MARKER) | ends_marker(eight) {
+            return false;
+        }
         self.recent = four_behind(eight, count).to_le_bytes();
         true
     }
@@ -313,11 +342,16 @@ fn closed(copy: HeldCopy) -> HeldCopy
 }
 
 /// The errors of a found text.
+// Added up without a branch, so that many bytes are compared at once.
 fn errors_in(text: &[u8]) -> u16
     requires { length text.now ≤ 4100 }
     ensures { result ≡ errors_of text.now }
 {
-    text.iter().filter(|byte| **byte == ASTERISK).count() as u16
+    let mut errors = 0;
+    for byte in text {
+        errors += u16::from(*byte == ASTERISK);
+    }
+    errors
 }
 
 /// The copy of that identity, end and text, with its errors.

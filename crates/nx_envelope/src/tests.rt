@@ -42,6 +42,27 @@ fn plain_bytes_are_heard_at_once(rt: HostRuntime) -> Result<(), Fail> {
 }
 
 #[test]
+fn plain_bytes_between_copies_are_passed_at_once(rt: HostRuntime) -> Result<(), Fail> {
+    let mut finder = Finder::new();
+    assert!(rt; finder.hear_plain(*b"ALL ", 4));
+    // Here ZCZC may begin a header, which is heard byte by byte up to its end.
+    assert!(rt; finder.hear_plain(*b"ZZCZ", 3));
+    assert!(rt; !finder.hear_plain(*b"ZC E", 4));
+    for byte in *b"ZC " {
+        finder.hear(byte);
+    }
+    assert!(rt; !finder.hear_plain(*b"EA01", 4));
+    for byte in *b"EA01\nNNNN" {
+        finder.hear(byte);
+    }
+    // A copy that can be taken stays.
+    assert!(rt; !finder.hear_plain(*b"ALL ", 4));
+    assert!(rt; finder.take_found().is_some());
+    assert!(rt; finder.hear_plain(*b"ALL ", 4));
+    Ok(())
+}
+
+#[test]
 fn copies_are_told_in_place(rt: HostRuntime) -> Result<(), Fail> {
     let identity = Identity::new(b'E', b'A', 1).ok_or("identity")?;
     let mut finder = Finder::new();

@@ -41,22 +41,6 @@ decimal-more n d some small fits =
     ∙ ap (λ m. decimal m ++ ((48 + (10 * n + d) % 10) ∷ [])) front
     ∙ ap (λ m. decimal n ++ ((48 + m) ∷ [])) last
 
--- the digit of an element is 0 or 1
-pub element_digit-cases : (b : Bool) → (element_digit b ≢ 48) → (element_digit b ≢ 49) → ⊥
-element_digit-cases true no_zero no_one = no_one refl
-element_digit-cases false no_zero no_one = no_zero refl
-
--- a byte that is neither digit stands in no list of elements
-pub element_digits-none : (ds : List ℕ) (bits : List Bool) (i : ℕ) → i < length ds
-    → get_or ds i 0 ≢ 48 → get_or ds i 0 ≢ 49 → ds ≢ map element_digit bits
-element_digits-none ds [] i h no_zero no_one e = absurd (omega (arith, ap length e))
-element_digits-none [] (b ∷ bits) i h no_zero no_one e = absurd (omega arith)
-element_digits-none (d ∷ ds) (b ∷ bits) zero h no_zero no_one e =
-    let same : d ≡ element_digit b = cc in
-    element_digit-cases b (λ x. no_zero (same ∙ x)) (λ x. no_one (same ∙ x))
-element_digits-none (d ∷ ds) (b ∷ bits) (suc i) h no_zero no_one e =
-    element_digits-none ds bits i (omega arith) no_zero no_one (cc)
-
 -- the step of a loop that reads a number from its digits
 pub decimal-step : (digits : List ℕ) (at value d : ℕ) → at < length digits → at < 11
     → value < 10 ^ at → d < 10 → get_or digits at 0 ≡ 48 + d

@@ -1,5 +1,5 @@
 -- The digits of elements at the front of bytes.
-use Rattle.std.proofs.Common.{◌≡◌, ℕ, zero, suc, ◌+◌, ◌-◌, ◌*◌, ◌^◌, ◌<◌, ◌≤◌, ◌==◌, set, cond, Bool, true, false, List, [], ◌∷◌, length, map, take, get_or, min, max, ◌||◌, ◌&&◌, refl, sym, ap, ◌∙◌, subst, arith, bit_or, w64}
+use Rattle.std.proofs.Common.{◌≡◌, ℕ, zero, suc, ◌+◌, ◌-◌, ◌*◌, ◌^◌, ◌<◌, ◌≤◌, ◌==◌, set, cond, Bool, true, false, List, [], ◌∷◌, length, map, take, get_or, max, ◌||◌, ◌&&◌, refl, sym, ap, ◌∙◌, arith, bit_or, w64}
 use Rattle.std.specs.Int.{bit_at, trailing_ones}
 use Rattle.std.specs.Simd.Lanes.{mask_l}
 use Rattle.std.proofs.lemmas.Bool.{cases_lt}
@@ -30,12 +30,6 @@ bit-tells true true h = refl
 bit-tells true false h = refl
 bit-tells false true h = refl
 bit-tells false false h = absurd (omega (arith, h))
-
-or-other : (a b : Bool) → (a || b) ≡ true → (b || a) ≡ true
-or-other true true h = refl
-or-other true false h = refl
-or-other false true h = refl
-or-other false false h = cc
 
 pub digits-front : (bytes : List ℕ) (size ones noughts count : ℕ) → size ≤ length bytes
     → ones ≡ mask_l (map is_one (take size bytes))

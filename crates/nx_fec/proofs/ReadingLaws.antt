@@ -20,29 +20,6 @@ pub Scans-faultless : (limit : ℕ) (scanner : Scanning) (bytes : List ℕ) (lin
 Scans-faultless limit scanner bytes lines h =
     record { lines = lines; rest = scanner.part; splits = h.splits; within = omega (arith, h.room) }
 
--- nor in those of a file that was read to its end, nor where no byte was read
-pub IsBitFile-faultless : (limit : ℕ) (bytes : List ℕ) (bits : List Bool)
-    → IsBitFile limit bytes bits → IsFaultless limit bytes
-IsBitFile-faultless limit bytes bits h = record {
-  lines = h.lines;
-  rest = [];
-  splits = record {
-    whole = h.file.whole ∙ sym (append-nil (file_of h.lines));
-    each =
-        h.file.each;
-    part = record { none = tt; short = omega arith };
-  };
-  within = h.file.within;
-}
-
-pub none-faultless : (limit : ℕ) → IsFaultless limit []
-none-faultless limit = record {
-  lines = [];
-  rest = [];
-  splits = record { whole = refl; each = tt; part = record { none = tt; short = omega arith } };
-  within = omega arith;
-}
-
 -- a cause after good lines and the beginning of one more is a fault of the file
 pub HasFault-cause : (limit : ℕ) (bytes : List ℕ) (lines : List Line) (rest more : List ℕ)
     (why : LineFault) → Splits bytes lines rest
@@ -143,12 +120,6 @@ ExplainsPiece-stop limit s bytes piece lines why at stops = (
       (HasFault-cause limit (bytes ++ take stops.count piece) lines s.part
       (drop stops.count piece ++ more) why stops.scans.splits (stops.cause more))),
 )
-
--- or goes over all of it, where memory ran out before
-pub ExplainsPiece-memory : (limit : ℕ) (s : Scanning) (bytes : List ℕ) (lines : List Line)
-    (error : AllocError) → Scans limit s bytes lines → ExplainsPiece limit bytes (Memory error)
-ExplainsPiece-memory limit s bytes lines error scans =
-    (λ h. Scans-faultless limit s bytes lines scans, λ more. tt)
 
 pub IfErr-always : {N F : Type 0} (o : Result N F) (P : F → Type 0) → ((fault : F) → P fault)
     → IfErr o P

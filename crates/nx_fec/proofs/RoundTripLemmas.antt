@@ -203,13 +203,6 @@ length-framed_positions : (numbers : List ℕ)
 unfolding framed_positions
 length-framed_positions numbers = simp (length-append, length-map) (omega arith)
 
-code-traffic : (numbers : List ℕ) → AreCombinations numbers → (i : ℕ) → i < length numbers
-    → IsInCode (position_at (map traffic_position numbers ++ replicate 3 end_position) i)
-code-traffic [] h i lt = absurd (omega arith)
-code-traffic (number ∷ numbers) h zero lt = h 0 (omega arith)
-code-traffic (number ∷ numbers) h (suc i) lt =
-    code-traffic numbers (λ j k. h (suc j) (omega arith)) i (omega arith)
-
 code-rest : (numbers : List ℕ) → AreCombinations numbers → (i : ℕ)
     → IsInCode (position_at (map traffic_position numbers ++ replicate 3 end_position) i)
 code-rest [] h zero = tt
@@ -258,13 +251,6 @@ aligned_text-framed_positions numbers h =
     ∙ ap (λ l. text l Letters) taken
     ∙ ap (λ l. text (idle ∷ idle ∷ map reception l) Letters) (take-framed_positions numbers)
     ∙ ap (λ l. text l Letters) (map-reception numbers)
-
--- combinations of the code are combinations
-pub AreCombinations-numbers : (combs : List Comb)
-    → AreCombinations (map (λ (comb : Comb). comb.number) combs)
-AreCombinations-numbers [] i lt = absurd (omega arith)
-AreCombinations-numbers (comb ∷ combs) zero lt = (comb.from_one, comb.to_thirty_two)
-AreCombinations-numbers (comb ∷ combs) (suc i) lt = AreCombinations-numbers combs i (omega arith)
 
 sent_position-traffic : (combs : List Comb)
     → map sent_position (map (λ (comb : Comb). Traffic comb) combs)

@@ -497,4 +497,52 @@ mod tests {
         assert_eq!(rt; taken(&mut scanner, b"\n"), Some(1));
         assert_eq!(rt; scanner.elements().len(), 511);
     }
+
+    /// What is told of the line that the last byte ended: what it says, its bytes, and how many elements it has.
+    fn told(scanner: &Scanner) -> (Option<LineKind>, Option<&[u8]>, usize) {
+        (scanner.latest(), scanner.line(), scanner.elements().len())
+    }
+
+    /// Lines that stand whole in a piece, which has many bytes behind them, and the same lines cut in two.
+    #[test]
+    fn whole_lines(rt: HostRuntime) {
+        let mut file = [b'1'; 600];
+        file[..24].copy_from_slice(b"T 5\nB 0110\nT 1234\nB1 01\n");
+        let (mut whole, mut cut) = (Scanner::new(1000), Scanner::new(1000));
+        assert_eq!(rt; taken(&mut whole, &file), Some(4));
+        assert_eq!(rt; taken(&mut cut, &file[..4]), Some(4));
+
+        assert_eq!(rt; taken(&mut whole, &file[4..]), Some(7));
+        assert_eq!(rt; taken(&mut cut, &file[4..8]), Some(4));
+        assert_eq!(rt; told(&cut), (None, None, 0));
+        assert_eq!(rt; taken(&mut cut, &file[8..]), Some(3));
+        let elements = (
+            Some(LineKind::Elements(None)),
+            Some(b"B 0110".as_slice()),
+            4,
+        );
+        assert_eq!(rt; told(&whole), elements);
+        assert_eq!(rt; told(&cut), elements);
+        assert_eq!(rt; whole.elements().words()[0] % 16, 6);
+        assert_eq!(rt; cut.elements().words()[0] % 16, 6);
+
+        assert_eq!(rt; taken(&mut whole, &file[11..]), Some(7));
+        assert_eq!(rt; taken(&mut cut, &file[11..14]), Some(3));
+        assert_eq!(rt; taken(&mut cut, &file[14..]), Some(4));
+        let moment = (Some(LineKind::Moment(1234)), Some(b"T 1234".as_slice()), 0);
+        assert_eq!(rt; told(&whole), moment);
+        assert_eq!(rt; told(&cut), moment);
+
+        assert_eq!(rt; taken(&mut whole, &file[18..]), Some(6));
+        assert_eq!(rt; taken(&mut cut, &file[18..23]), Some(5));
+        assert_eq!(rt; taken(&mut cut, &file[23..24]), Some(1));
+        let marked = (
+            Some(LineKind::Elements(Some(Channel::One))),
+            Some(b"B1 01".as_slice()),
+            2,
+        );
+        assert_eq!(rt; told(&whole), marked);
+        assert_eq!(rt; told(&cut), marked);
+        assert_eq!(rt; (whole.lines(), cut.lines()), (4, 4));
+    }
 }

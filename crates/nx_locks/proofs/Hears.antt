@@ -21,9 +21,6 @@ use Rattle.nx_locks.specs.private.Watch.{GoesTo, HearsAll, ReadsLast, ReadsOn, R
 use Rattle.nx_locks.specs.ReportText.{opening_line}
 use Rattle.nx_locks.proofs.Bits.{now_found, still_hunting, still_inside, word_on, word_over}
 
-abbrev heard_by : Watching → Held → ℕ → Watching
-heard_by old sync count = record old { synchroniser = sync; elements = count }
-
 module _ (old new : Watching) (sync : Held) (count : ℕ) (bits : List Bool) (b : Bool)
     (moments given before after : List ℕ) (r : Step)
     (s : Shows old.reader old.locks old.copies bits moments given)

@@ -108,20 +108,6 @@ impl LockWatch {
         self.elements
     }
 
-    /// How many locks began.
-    pub(crate) fn locks(&self) -> u64
-        ensures { result ≡ self.now.locks }
-    {
-        self.locks
-    }
-
-    /// How many headers stand in the texts of the locks that are over.
-    pub(crate) fn copies(&self) -> u64
-        ensures { result ≡ self.now.copies }
-    {
-        self.copies
-    }
-
     /// Hears elements, and appends what they show.
     pub(crate) fn hear(&mut self, elements: &PackedElements, shown: &mut Shown)
         requires room { array_vec_len shown.old + 113 * length elements.now ≤ 57856 }

@@ -10,7 +10,7 @@ use Rattle.std.proofs.lemmas.List.Elements.{filter-append}
 use Rattle.nx_fec.specs.Channels.{same_channel}
 use Rattle.nx_fec.specs.declared.channel.Channel.{Channel}
 use Rattle.nx_fec.specs.declared.channel.Channel.TheVariants.{Zero, One, Two}
-use Rattle.nx_receiver.specs.Events.{Event, Start, at_zero, none_refused}
+use Rattle.nx_receiver.specs.Events.{at_zero, none_refused}
 use Rattle.nx_receiver.specs.FoundCopies.{TaggedCopy}
 use Rattle.nx_receiver.specs.InTurn.{HavePrinted, PrintAllToEnd, PrintsInTurn}
 use Rattle.nx_receiver.specs.Log.{PrintsToEnd}
@@ -150,12 +150,6 @@ pub from-nothing : starts_from none_saved ≡ all_at_zero
 from-nothing =
     ap₂ (λ es refused. record { moment = 0; entries = es; refused = refused })
     (fun_ext nothing-entered) (fun_ext nothing-refused)
-
--- who begins with nothing begins so on each channel
-pub start_on-zero : (channel : Channel) → start_on all_at_zero channel ≡ at_zero
-start_on-zero Zero = refl
-start_on-zero One = refl
-start_on-zero Two = refl
 
 front-of_none : {A : Type 0} (before later : List A) → [] ≡ before ++ later → before ≡ []
 front-of_none [] later e = refl

@@ -1,6 +1,6 @@
 -- A run that resumes: it reads the text of a state, and goes on from it over the air file behind
 -- (this profile).
-use Rattle.std.specs.Prelude.{◌≡◌, ◌⊎◌, ◌↔◌, ℕ, ◌≤◌, List, [], ◌∷◌, ◌++◌, map, Option, None, Result, Ok, Err, IfSome, ⊤}
+use Rattle.std.specs.Prelude.{◌≡◌, ◌⊎◌, ◌↔◌, ℕ, ◌≤◌, List, [], ◌∷◌, map, Option, None, Result, Ok, Err, IfSome, ⊤}
 use Rattle.std.specs.List.{flat_map}
 use Rattle.std.specs.Io.KnownBytes.{Appends, Consumes}
 use Rattle.nx_fec.specs.Transfers.{CountedDevice, Devices, IsReadOut, Writes, WroteSome}
@@ -10,7 +10,6 @@ use Rattle.nx_receiver.specs.Listen.{AnswersListening, IsLogOf}
 use Rattle.nx_receiver.specs.ListenOnce.{HasPrintedOnce}
 use Rattle.nx_receiver.specs.Shares.{starts_from}
 use Rattle.nx_receiver.specs.State.{BeginsWith, ExplainsState, IsStateBytes, state_bytes}
-use Rattle.nx_receiver.specs.declared.listen_fault.ListenFault.{ListenFault}
 use Rattle.nx_receiver.specs.declared.listen_fault.ListenFault.TheVariants as listen
 use Rattle.nx_receiver.specs.declared.listening.Report.{Report}
 use Rattle.nx_receiver.specs.declared.resume_fault.ResumeFault.{ResumeFault}

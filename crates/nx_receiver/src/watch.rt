@@ -226,8 +226,7 @@ impl Watch {
     }
 
     /// Hears eight whole words at once where they are there and nothing can be over with them, else
-    /// one word. Eight are tried only where there is a copy, since without one they are never
-    /// heard.
+    /// one word.
     // Inlined, as `hear_word`.
     #[inline(always)]
     fn hear_some_words(&mut self, packed: &PackedElements, from: usize) -> (usize, Over)
@@ -239,7 +238,7 @@ impl Watch {
         ensures force { in_force self.new ≡ in_force self.old }
         ensures tag { TagGoesOn self.old self.new }
     {
-        if (packed.len() - from >= EIGHT_WORDS) & self.identity().is_some() {
+        if packed.len() - from >= EIGHT_WORDS {
             if self.hear_eight(&eight_words(packed, from)) {
                 return (EIGHT_WORDS, Over::Nothing);
             }

@@ -33,9 +33,6 @@ as_read outcome = outcome
 ok-read : {N : Type 0} (bits : N) → ◌≡◌ {A = Result N RunFault} (Ok bits) (Err run.Read) → ⊥
 ok-read bits e = cc
 
-ok-err : (count : ℕ) (fault : CheckFault) → ◌≡◌ {A = Result ℕ CheckFault} (Ok count) (Err fault) → ⊥
-ok-err count fault e = cc
-
 emission-run : (fault : EmissionFault) (other : RunFault)
     → ◌≡◌ {A = Result ℕ CheckFault} (Err (Emission fault)) (Err (Run other)) → ⊥
 emission-run fault other e = cc

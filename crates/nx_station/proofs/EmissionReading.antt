@@ -152,10 +152,6 @@ emission-one one other bits h k =
 
 -- ---- the words of an emission
 
--- the word of each slot is one of a position, or P1
-record IsSlotWord (positions : List SentPosition) (slot : ℕ) : Type 0 where
-  right : weight (get_or (emission positions) slot 0) ≡ 4
-
 slot-even : (positions : List SentPosition) (slot : ℕ) → AreInCode positions
     → slot < 2 * length positions - 1 → slot % 2 ≡ 0
     → weight (get_or (emission positions) slot 0) ≡ 4

@@ -11,9 +11,6 @@ use Rattle.nx_station.proofs.LineLemmas.{spelling-line}
 
 -- ---- the lines of a text
 
-entry_with : ℕ → ℕ → List (List ℕ) → FileMessage
-entry_with subject number lines = record { subject = subject; number = number; lines = lines }
-
 -- the file ends inside a message
 pub body-open : (subject number before line : ℕ) (bytes rest : List ℕ) (lines : List (List ℕ))
     → IsNamed subject number → bytes ≡ text_of lines ++ rest → rest ≡ []

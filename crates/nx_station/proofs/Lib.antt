@@ -5,6 +5,7 @@ pub mod HeadLemmas
 mod WordWeights
 pub mod BroadcastLemmas
 pub mod StationLemmas
+pub mod TransmissionLength
 pub mod ReadingBack
 pub mod FileReading
 pub mod SendingLaws

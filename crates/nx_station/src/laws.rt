@@ -10,6 +10,7 @@ ghost use Rattle.nx_station.specs.Broadcast.{IsBroadcast, IsSpelled, printed_tex
 ghost use Rattle.nx_station.specs.MessageFile.{FileMessage, FileFault, IsMessageFile, HasFirstFault};
 ghost use Rattle.nx_fec.specs.AirFile.{Line};
 ghost use Rattle.nx_fec.specs.Lines.{IsAirFile, elements_on};
+ghost use Rattle.nx_fec.specs.Runs.{file_limit};
 ghost use Rattle.nx_fec.specs.Scanner.{kind_of};
 ghost use Rattle.nx_fec.specs.declared.channel.Channel.{Channel};
 ghost use Rattle.nx_fec.specs.declared.channel.Channel.TheVariants.{Zero};
@@ -77,10 +78,12 @@ pub fn an_emission_has_one_reading()
         → IsMemory one ⊎ (IsMemory other ⊎ (one ≡ other)) }
 {}
 
-/// Checking gives back what was sent: an air file that sending wrote of a message file is checked,
-/// where it keeps to the limit, and the report is the line of the station and then the very bytes
-/// that were sent. An air file has one report.
+/// Checking gives back what was sent: an air file that sending wrote of a message file keeps to the
+/// limit of files that are checked, and is checked wherever it keeps to the limit; the report is the
+/// line of the station and then the very bytes that were sent. An air file has one report.
 pub fn checking_gives_back_what_was_sent()
+    ensures within { (station from : ℕ) (file air : List ℕ) (sent : Sent)
+        → IsTransmission station from file air sent → length air ≤ file_limit }
     ensures checked { (limit station from : ℕ) (file air : List ℕ) (sent : Sent)
         → IsTransmission station from file air sent
         → length air ≤ limit → IsChecked limit air (station_line station ++ file) sent.messages }

@@ -7,7 +7,11 @@ use super::{output_of, run_on};
 use nx_code::Comb;
 use nx_fec::{Position, to_bits};
 use std::alloc::{AllocError, Global};
+use std::ops::Range;
 use std::test::Fail;
+
+/// The moment of the emission of EA01.
+pub const MOMENT_OF_EA01: &[u8] = b"T 1735692000\n";
 
 /// The log of EA01 with the one line TEST, sent at 2025-01-01 00:40:00.
 pub const LOG_OF_EA01: &[u8] = b"[EA01 2025-01-01 00:40:00 full 0/5]\nTEST\n\n";
@@ -28,17 +32,8 @@ pub fn join(alloc: Global, pieces: &[&[u8]]) -> Result<Vec<u8>, AllocError> {
     Ok(whole)
 }
 
-/// The lines of elements of the emission of EA01, without its moment.
-pub fn lines_of_ea01() -> Result<&'static [u8], Fail> {
-    Ok(
-        AIR_FILE_OF_EA01
-            .strip_prefix(b"T 1735692000\n")
-            .ok_or("a moment")?,
-    )
-}
-
 /// The elements of a file, a digit for each.
-pub fn elements_of(alloc: Global, air_file: &[u8]) -> Result<Vec<u8>, AllocError> {
+fn elements_of(alloc: Global, air_file: &[u8]) -> Result<Vec<u8>, AllocError> {
     let mut elements = Vec::new(alloc);
     for line in air_file.split(|byte| *byte == b'\n') {
         if let Some(digits) = line.strip_prefix(b"B ") {
@@ -48,21 +43,8 @@ pub fn elements_of(alloc: Global, air_file: &[u8]) -> Result<Vec<u8>, AllocError
     Ok(elements)
 }
 
-/// The moment of the emission of EA01.
-pub const MOMENT_OF_EA01: &[u8] = b"T 1735692000\n";
-
-/// The elements of the emission of EA01 from one on to before another, of its 1,421, in lines of so
-/// many elements.
-pub fn part_of_ea01(alloc: Global, from: usize, to: usize, length: usize) -> Result<Vec<u8>, Fail>
-    requires { 0 < length }
-{
-    let elements = elements_of(alloc, AIR_FILE_OF_EA01)?;
-    let part = elements.get(from..to).ok_or("elements")?;
-    Ok(lines_of(alloc, part, length)?)
-}
-
 /// Lines of so many elements each.
-pub fn lines_of(alloc: Global, elements: &[u8], length: usize) -> Result<Vec<u8>, AllocError>
+fn lines_of(alloc: Global, elements: &[u8], length: usize) -> Result<Vec<u8>, AllocError>
     requires { 0 < length }
 {
     let mut lines = Vec::new(alloc);
@@ -75,7 +57,7 @@ pub fn lines_of(alloc: Global, elements: &[u8], length: usize) -> Result<Vec<u8>
 }
 
 /// The elements of 72 phasing positions, these combinations and three end positions.
-pub fn elements_sent(alloc: Global, combinations: &[u8]) -> Result<Vec<u8>, Fail> {
+fn elements_sent(alloc: Global, combinations: &[u8]) -> Result<Vec<u8>, Fail> {
     let mut positions = vec![in alloc; Position::Phasing; 72]?;
     for number in combinations {
         let combination = Comb::new(*number).ok_or("a combination")?;
@@ -90,7 +72,7 @@ pub fn elements_sent(alloc: Global, combinations: &[u8]) -> Result<Vec<u8>, Fail
 }
 
 /// What `send` writes of a message file of station E from this moment on.
-pub fn send_from(alloc: Global, moment: &str, message_file: &[u8]) -> Vec<u8> {
+fn send_from(alloc: Global, moment: &str, message_file: &[u8]) -> Vec<u8> {
     output_of(alloc, &["navtex", "send", "E", moment], message_file)
 }
 
@@ -99,8 +81,159 @@ pub fn damage_in(alloc: Global, kind: &str, from: &str, count: &str, air_file: &
     output_of(alloc, &["navtex", "damage", kind, from, count], air_file)
 }
 
+/// What `damage` is told: the kind, the first word, and how many there are.
+pub type Damage<'a> = [&'a str; 3];
+
+/// A piece of a file, told by how it is made.
+#[derive(Clone, Copy)]
+pub enum Piece<'a> {
+    /// A text as it stands.
+    Text(&'a [u8]),
+    /// The emission of EA01, damaged so in turn.
+    Damaged(&'a [Damage<'a>]),
+    /// What `send` writes of a message file of station E from this moment on, damaged so in turn.
+    Sent(&'a str, &'a [u8], &'a [Damage<'a>]),
+    /// The elements of EA01 from one on to before another, of its 1,421, in lines of so many.
+    Part(usize, usize, usize),
+    /// The same in lines of 490, each named as one of a channel by this digit.
+    Named(u8, usize, usize),
+    /// Each of the lines of EA01 on channel 0 and, behind it, on channel 1, at its moment; or the other
+    /// way round, where so told.
+    InTurn(bool),
+    /// The elements that these combinations in a row are sent as, to before this one, in lines of 490.
+    Combinations(&'a [&'a [u8]], usize),
+}
+
+/// The lines of elements of EA01, without its moment.
+pub const LINES: Piece<'static> = Piece::Part(0, 1_421, 490);
+
+impl Piece<'_> {
+    /// The piece itself.
+    fn made(&self, alloc: Global) -> Result<Vec<u8>, Fail> {
+        match *self {
+            Piece::Text(text) => Ok(text.to_vec(alloc)?),
+            Piece::Damaged(damages) => Ok(damaged(alloc, AIR_FILE_OF_EA01, damages)?),
+            Piece::Sent(moment, message_file, damages) => {
+                Ok(damaged(alloc, &send_from(alloc, moment, message_file), damages)?)
+            }
+            Piece::Part(from, to, length) => {
+                part_of(
+                    alloc,
+                    &elements_of(alloc, AIR_FILE_OF_EA01)?,
+                    from..to,
+                    length,
+                )
+            }
+            Piece::Named(digit, from, to) => {
+                let elements = elements_of(alloc, AIR_FILE_OF_EA01)?;
+                Ok(named(alloc, digit, &part_of(alloc, &elements, from..to, 490)?)?)
+            }
+            Piece::InTurn(is_1_first) => {
+                let lines = lines_of_ea01()?;
+                Ok(alternating(alloc, lines, lines, is_1_first)?)
+            }
+            Piece::Combinations(pieces, to) => {
+                part_of(
+                    alloc,
+                    &elements_sent(alloc, &join(alloc, pieces)?)?,
+                    0..to,
+                    490,
+                )
+            }
+        }
+    }
+}
+
+/// The pieces in a row.
+pub fn made_of(alloc: Global, pieces: &[Piece]) -> Result<Vec<u8>, Fail> {
+    let mut whole = Vec::new(alloc);
+    for piece in pieces {
+        whole.extend_from_slice(&piece.made(alloc)?)?;
+    }
+    Ok(whole)
+}
+
+/// The lines of elements of the emission of EA01, without its moment.
+pub fn lines_of_ea01() -> Result<&'static [u8], Fail> {
+    Ok(
+        AIR_FILE_OF_EA01
+            .strip_prefix(MOMENT_OF_EA01)
+            .ok_or("a moment")?,
+    )
+}
+
+/// What is left of a file behind each damage in turn.
+fn damaged(alloc: Global, air_file: &[u8], damages: &[Damage]) -> Result<Vec<u8>, AllocError> {
+    let mut left = air_file.to_vec(alloc)?;
+    for [kind, from, count] in damages {
+        left = damage_in(alloc, kind, from, count, &left);
+    }
+    Ok(left)
+}
+
+/// These lines of elements, each named as one of a channel by this digit.
+fn named(alloc: Global, digit: u8, lines: &[u8]) -> Result<Vec<u8>, AllocError> {
+    let mut named = Vec::new(alloc);
+    for line in lines.split(|byte| *byte == b'\n') {
+        if let Some(rest) = line.strip_prefix(b"B") {
+            named.extend_from_slice(&[b'B', digit])?;
+            named.extend_from_slice(rest)?;
+            named.push(b'\n')?;
+        }
+    }
+    Ok(named)
+}
+
+/// The moment of EA01, and each of these lines of channel 0 with one of those that are named as lines of
+/// channel 1: behind it, or before it where these come first.
+pub fn alternating(
+    alloc: Global,
+    on_0: &[u8],
+    on_1: &[u8],
+    is_1_first: bool,
+) -> Result<Vec<u8>, AllocError> {
+    let mut air_file = MOMENT_OF_EA01.to_vec(alloc)?;
+    let named = named(alloc, b'1', on_1)?;
+    let others = named.split_inclusive(|byte| *byte == b'\n');
+    for (line, other) in on_0.split_inclusive(|byte| *byte == b'\n').zip(others) {
+        let (first, second) = if is_1_first {
+            (other, line)
+        } else {
+            (line, other)
+        };
+        air_file.extend_from_slice(first)?;
+        air_file.extend_from_slice(second)?;
+    }
+    Ok(air_file)
+}
+
+/// Some of the elements, or those that there are of them, in lines of so many.
+fn part_of(
+    alloc: Global,
+    elements: &[u8],
+    part: Range<usize>,
+    length: usize,
+) -> Result<Vec<u8>, Fail> {
+    let end = part.end.min(elements.len());
+    let part = elements.get(part.start..end).ok_or("elements")?;
+    Ok(lines_of(alloc, part, length.max(1))?)
+}
+
 /// Whether `listen` succeeds on a file that these pieces make in a row, and writes this log.
-pub fn hears(alloc: Global, pieces: &[&[u8]], log: &[u8]) -> Result<bool, AllocError> {
-    let air_file = join(alloc, pieces)?;
+pub fn hears(alloc: Global, pieces: &[Piece], log: &[u8]) -> Result<bool, Fail> {
+    let air_file = made_of(alloc, pieces)?;
     Ok(run_on(alloc, &["navtex", "listen"], &air_file).is(0, log, b""))
+}
+
+/// What `listen` hears: the pieces of a file, and the log.
+pub type Heard<'a> = (&'a [Piece<'a>], &'a [u8]);
+
+/// Whether `listen` hears each file so.
+pub fn hears_each(alloc: Global, cases: &[Heard]) -> Result<bool, Fail> {
+    for (pieces, log) in cases {
+        if !hears(alloc, pieces, log)? {
+            return Ok(false);
+        }
+    }
+    Ok(true)
 }

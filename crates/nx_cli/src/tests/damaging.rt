@@ -5,7 +5,6 @@ use super::{AIR_FILE_OF_A, output_of, refuses, run_on, writes};
 use crate::program::run;
 use crate::tests::devices::{Sink, Source};
 use std::alloc::Global;
-use std::test::Fail;
 
 // 59 words from slot 144 on are those of slots 144 to 202, of which 30 are even.
 const DAMAGE_EA01: [&str; 5] = ["navtex", "damage", "dx", "144", "59"];
@@ -35,56 +34,37 @@ fn inverts_elements(rt: HostRuntime) {
     assert!(rt; writes(alloc, &DAMAGE_EA01, &damaged, AIR_FILE_OF_EA01));
 }
 
-// What is damaged, and what is written of the lines below.
-#[derive(Drop)]
-struct RangeRow<'a> {
-    kind: &'a str,
-    from: &'a str,
-    count: &'a str,
-    output: &'a [u8],
-}
-
 // Words, of which the last may be cut, over lines of all kinds.
 const LINES_OF_ALL_KINDS: &[u8] = b"T 5\nB 00000\nRS E\nB 000000000000\nAJ C\n";
 
 #[test]
 fn copies_all_else(rt: HostRuntime) {
-    let alloc = rt.alloc();
-    let rows = [
-        RangeRow {
-            kind: "dx",
-            from: "0",
-            count: "4294967295",
-            output: b"T 5\nB 10000\nRS E\nB 000000000100\nAJ C\n",
-        },
-        RangeRow {
-            kind: "rx",
-            from: "0",
-            count: "4294967295",
-            output: b"T 5\nB 00000\nRS E\nB 001000000000\nAJ C\n",
-        },
-        RangeRow {
-            kind: "all",
-            from: "1",
-            count: "1",
-            output: b"T 5\nB 00000\nRS E\nB 001000000000\nAJ C\n",
-        },
-        RangeRow {
-            kind: "all",
-            from: "2",
-            count: "1",
-            output: b"T 5\nB 00000\nRS E\nB 000000000100\nAJ C\n",
-        },
-        RangeRow {
-            kind: "all",
-            from: "0",
-            count: "0",
-            output: LINES_OF_ALL_KINDS,
-        },
+    // What is damaged, and what is written of these lines.
+    let rows: [([&str; 3], &[u8]); 5] = [
+        (
+            ["dx", "0", "4294967295"],
+            b"T 5\nB 10000\nRS E\nB 000000000100\nAJ C\n",
+        ),
+        (
+            ["rx", "0", "4294967295"],
+            b"T 5\nB 00000\nRS E\nB 001000000000\nAJ C\n",
+        ),
+        (
+            ["all", "1", "1"],
+            b"T 5\nB 00000\nRS E\nB 001000000000\nAJ C\n",
+        ),
+        (
+            ["all", "2", "1"],
+            b"T 5\nB 00000\nRS E\nB 000000000100\nAJ C\n",
+        ),
+        (["all", "0", "0"], LINES_OF_ALL_KINDS),
     ];
-    for row in rows.iter() {
-        let words = ["navtex", "damage", row.kind, row.from, row.count];
-        assert!(rt; writes(alloc, &words, LINES_OF_ALL_KINDS, row.output));
+    for ([kind, from, count], output) in rows {
+        let words = ["navtex", "damage", kind, from, count];
+        assert!(rt;
+            writes(rt.alloc(), &words, LINES_OF_ALL_KINDS, output),
+            "{kind} {from}"
+        );
     }
 }
 
@@ -97,17 +77,25 @@ fn stops_behind(alloc: Global, input: &[u8], output: &[u8], line: &str) -> bool 
 }
 
 #[test]
-fn writes_whole_lines_before_a_fault(rt: HostRuntime) -> Result<(), Fail> {
-    let alloc = rt.alloc();
-    let bad = "navtex: line 3 is not understood\n";
-    assert!(rt; stops_behind(alloc, b"T 0\nB 0\nB 2\nB 0\n", b"T 0\nB 1\n", bad));
-    let cut = "navtex: line 2 has no end\n";
-    assert!(rt; stops_behind(alloc, b"B 0\nT 5", b"B 1\n", cut));
-    let mut file = vec![in alloc; b'0'; 519]?;
-    file.as_mut_slice()[..4].copy_from_slice(b"B 0\n");
-    let long = "navtex: line 2 is longer than 514 bytes\n";
-    assert!(rt; stops_behind(alloc, &file, b"B 1\n", long));
-    Ok(())
+fn writes_whole_lines_before_a_fault(rt: HostRuntime) {
+    let mut long_line = [b'0'; 519];
+    long_line[..4].copy_from_slice(b"B 0\n");
+    let cases: [(&[u8], &[u8], &str); 3] = [
+        (
+            b"T 0\nB 0\nB 2\nB 0\n",
+            b"T 0\nB 1\n",
+            "navtex: line 3 is not understood\n",
+        ),
+        (b"B 0\nT 5", b"B 1\n", "navtex: line 2 has no end\n"),
+        (
+            &long_line,
+            b"B 1\n",
+            "navtex: line 2 is longer than 514 bytes\n",
+        ),
+    ];
+    for (input, output, line) in cases {
+        assert!(rt; stops_behind(rt.alloc(), input, output, line));
+    }
 }
 
 // Whether a reader that gives a byte at each call, and fails at its seventh, behind one whole line,

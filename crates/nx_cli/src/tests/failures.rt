@@ -8,21 +8,23 @@ use std::alloc::{AllocError, Global};
 use std::io::Write;
 use std::test::Fail;
 
-#[test]
-fn passes_calls_on_until_one_fails(rt: HostRuntime) {
-    let mut sink = Sink::new(Vec::new(rt.alloc()));
+// Whether three calls on a counted writer, of which the third fails, reach what it wraps, and two more
+// do not: each of these fails, and counts as a failure.
+fn passes_calls_on_until_one_fails(alloc: Global) -> bool {
+    let mut sink = Sink::new(Vec::new(alloc));
     sink.fails_at = Some(3);
     let mut writer = Counting::new(sink);
-    assert!(rt; writer.write(b"A").is_ok());
-    assert!(rt; writer.flush().is_ok());
-    assert!(rt; writer.flush().is_err());
-    assert_eq!(rt; writer.failures(), 1);
-    assert!(rt; writer.flush().is_err());
-    assert!(rt; writer.write(b"B").is_err());
-    assert_eq!(rt; writer.failures(), 3);
+    let passed = writer.write(b"A").is_ok() & writer.flush().is_ok() & writer.flush().is_err();
+    let failures = writer.failures();
+    let refused = writer.flush().is_err() & writer.write(b"B").is_err();
+    let all_failures = writer.failures();
     let sink = writer.into_inner();
-    assert_eq!(rt; sink.calls, 3);
-    assert_eq!(rt; sink.taken.as_slice(), b"A".as_slice());
+    passed & refused & (failures == 1) & (all_failures == 3) & (sink.calls == 3) & sink.took(b"A")
+}
+
+#[test]
+fn counts_failures(rt: HostRuntime) {
+    assert!(rt; passes_calls_on_until_one_fails(rt.alloc()));
 }
 
 // Whether a reader that gives a byte at each call, and fails at this one, ends the run.
@@ -86,64 +88,40 @@ fn stops_at_a_failed_write(rt: HostRuntime) -> Result<(), Fail> {
     Ok(())
 }
 
-// The words and the input of a run, the most bytes that the output takes at once, whether it forgets
+// A word of the program, the input, the most bytes that the output takes at once, whether it forgets
 // them, and the status.
-#[derive(Drop)]
-struct OddRow<'a> {
-    words: [&'a str; 2],
-    input: &'a [u8],
-    piece: usize,
-    discards: bool,
-    status: u8,
-}
+type OddRow<'a> = (&'a str, &'a [u8], usize, bool, u8);
 
-impl OddRow<'_> {
-    // Whether the run ends with the status, where standard error fails at its first call.
-    fn holds(&self, alloc: Global) -> bool {
-        let mut source = Source::of(self.input);
-        source.piece = 1;
-        let mut output = Sink::new(Vec::new(alloc));
-        output.piece = self.piece;
-        output.discards = self.discards;
-        let mut faults = Sink::new(Vec::new(alloc));
-        faults.fails_at = Some(1);
-        let status = run(alloc, &self.words, &mut source, &mut output, &mut faults);
-        let calls = if self.status == 0 { 0 } else { 1 };
-        status == self.status && faults.calls == calls && faults.taken.is_empty()
-    }
-}
-
-fn row<'a>(word: &'a str, input: &'a [u8], piece: usize, status: u8) -> OddRow<'a> {
-    OddRow {
-        words: ["navtex", word],
-        input,
-        piece,
-        discards: false,
-        status,
-    }
+// Whether the run ends with the status, where standard error fails at its first call.
+fn keeps_its_status(alloc: Global, row: OddRow) -> bool {
+    let (word, input, piece, discards, wanted) = row;
+    let mut source = Source::of(input);
+    source.piece = 1;
+    let mut output = Sink::new(Vec::new(alloc));
+    output.piece = piece;
+    output.discards = discards;
+    let mut faults = Sink::new(Vec::new(alloc));
+    faults.fails_at = Some(1);
+    let words = ["navtex", word];
+    let status = run(alloc, &words, &mut source, &mut output, &mut faults);
+    let calls = if wanted == 0 { 0 } else { 1 };
+    status == wanted && faults.calls == calls && faults.taken.is_empty()
 }
 
 #[test]
 fn keeps_its_status_on_odd_devices(rt: HostRuntime) {
-    let forgetful = OddRow {
-        words: ["navtex", "encode"],
-        input: b"A",
-        piece: usize::MAX,
-        discards: true,
-        status: 0,
-    };
-    let rows = [
-        forgetful,
-        row("decode", AIR_FILE_OF_A, 1, 0),
-        row("decode", AIR_FILE_OF_A, 0, 1),
-        row("--help", b"", 0, 1),
-        row("--help", b"", 1, 0),
-        row("--version", b"", 0, 1),
-        row("--version", b"", 1, 0),
-        row("frob", b"", 1, 64),
-        row("encode", b"a", 1, 2),
+    let rows: [OddRow; 9] = [
+        ("encode", b"A", usize::MAX, true, 0),
+        ("decode", AIR_FILE_OF_A, 1, false, 0),
+        ("decode", AIR_FILE_OF_A, 0, false, 1),
+        ("--help", b"", 0, false, 1),
+        ("--help", b"", 1, false, 0),
+        ("--version", b"", 0, false, 1),
+        ("--version", b"", 1, false, 0),
+        ("frob", b"", 1, false, 64),
+        ("encode", b"a", 1, false, 2),
     ];
-    for one in rows.iter() {
-        assert!(rt; one.holds(rt.alloc()));
+    for row in rows {
+        assert!(rt; keeps_its_status(rt.alloc(), row));
     }
 }

@@ -11,64 +11,37 @@ use std::test::Fail;
 const AIR_FILE_OF_NOTHING: &[u8] =
     b"B 0110011111100001100111111000011001111110000110011111100011110001111000111100011110001111000\n";
 
-// A call, what it reads, and this profile's line for its fault.
-#[derive(Drop)]
-struct FaultRow<'a> {
-    call: &'a str,
-    input: &'a [u8],
-    faults: &'a str,
-}
-
 #[test]
-fn names_each_fault(rt: HostRuntime) -> Result<(), Fail> {
-    let alloc = rt.alloc();
-    let long_line = vec![in alloc; b'0'; 515]?;
-    let rows = [
-        FaultRow {
-            call: "decode",
-            input: b"B 01100111\n",
-            faults: "navtex: 8 elements are no whole words\n",
-        },
-        FaultRow {
-            call: "decode",
-            input: b"B 012\n",
-            faults: "navtex: line 1 is not understood\n",
-        },
-        FaultRow {
-            call: "decode",
-            input: b"T 0\nB 0",
-            faults: "navtex: line 2 has no end\n",
-        },
-        FaultRow {
-            call: "decode",
-            input: &long_line,
-            faults: "navtex: line 1 is longer than 514 bytes\n",
-        },
-        FaultRow {
-            call: "show",
-            input: b"B 0\n",
-            faults: "navtex: 1 elements are no whole words\n",
-        },
-        FaultRow {
-            call: "show",
-            input: b"B 0",
-            faults: "navtex: line 1 has no end\n",
-        },
-        FaultRow {
-            call: "encode",
-            input: b"a",
-            faults: "navtex: no signal for the character at 0\n",
-        },
-        FaultRow {
-            call: "encode",
-            input: b"B\na",
-            faults: "navtex: no signal for the character at 2\n",
-        },
+fn names_each_fault(rt: HostRuntime) {
+    // A call, what it reads, and this profile's line for its fault.
+    let rows: [(&str, &[u8], &str); 8] = [
+        (
+            "decode",
+            b"B 01100111\n",
+            "navtex: 8 elements are no whole words\n",
+        ),
+        ("decode", b"B 012\n", "navtex: line 1 is not understood\n"),
+        ("decode", b"T 0\nB 0", "navtex: line 2 has no end\n"),
+        (
+            "decode",
+            &[b'0'; 515],
+            "navtex: line 1 is longer than 514 bytes\n",
+        ),
+        ("show", b"B 0\n", "navtex: 1 elements are no whole words\n"),
+        ("show", b"B 0", "navtex: line 1 has no end\n"),
+        ("encode", b"a", "navtex: no signal for the character at 0\n"),
+        (
+            "encode",
+            b"B\na",
+            "navtex: no signal for the character at 2\n",
+        ),
     ];
-    for row in rows.iter() {
-        assert!(rt; refuses(alloc, &["navtex", row.call], row.input, 2, row.faults));
+    for (call, input, line) in rows {
+        assert!(rt;
+            refuses(rt.alloc(), &["navtex", call], input, 2, line),
+            "{line}"
+        );
     }
-    Ok(())
 }
 
 // Whether a run over a file that never ends is refused, and writes nothing.
@@ -98,17 +71,17 @@ fn is_given_back(alloc: Global, text: &[u8]) -> bool {
 
 #[test]
 fn encodes_and_decodes(rt: HostRuntime) {
-    let alloc = rt.alloc();
-    assert!(rt; writes(alloc, &["navtex", "encode"], b"A", AIR_FILE_OF_A));
-    assert!(rt; writes(alloc, &["navtex", "encode"], b"", AIR_FILE_OF_NOTHING));
+    for (text, air_file) in [(b"A".as_slice(), AIR_FILE_OF_A), (b"", AIR_FILE_OF_NOTHING)] {
+        assert!(rt; writes(rt.alloc(), &["navtex", "encode"], text, air_file));
+    }
     for text in [
         b"A".as_slice(),
-        b"".as_slice(),
-        b"ABCDEFGHIJKLM NOPQRSTUVWXYZ\n0123 456789\n-?:().,'=+/".as_slice(),
+        b"",
+        b"ABCDEFGHIJKLM NOPQRSTUVWXYZ\n0123 456789\n-?:().,'=+/",
     ] {
-        assert!(rt; is_given_back(alloc, text));
+        assert!(rt; is_given_back(rt.alloc(), text));
     }
-    assert!(rt; writes(alloc, &["navtex", "decode"], b"", b""));
+    assert!(rt; decodes(rt.alloc(), b"", b""));
 }
 
 // The place of word 13 in `AIR_FILE_OF_A`, the second sending of A. The last file has B there.
@@ -127,10 +100,10 @@ fn decodes(alloc: Global, air_file: &[u8], text: &[u8]) -> bool {
 fn decodes_damaged_words(rt: HostRuntime) -> Result<(), Fail> {
     let alloc = rt.alloc();
     let first = damaged(alloc, "dx", "8", AIR_FILE_OF_A);
-    assert!(rt; decodes(alloc, &first, b"A"));
     let both = damaged(alloc, "all", "13", &first);
-    assert!(rt; decodes(alloc, &both, b"*"));
     let other = with_word(alloc, AIR_FILE_OF_A, WORD_13, b"0100111")?;
-    assert!(rt; decodes(alloc, &other, b"*"));
+    for (air_file, text) in [(&first, b"A"), (&both, b"*"), (&other, b"*")] {
+        assert!(rt; decodes(alloc, air_file, text));
+    }
     Ok(())
 }

@@ -1,171 +1,128 @@
 //! `listen` on a whole file, on a part of one, on faulty ones and on devices that fail.
 
-use super::air::{LOG_OF_EA01, MOMENT_OF_EA01, hears, join, part_of_ea01};
+use super::air::Piece::{Part, Sent, Text};
+use super::air::{Heard, LOG_OF_EA01, MOMENT_OF_EA01, Piece, hears_each, made_of};
 use super::devices::{Sink, Source};
-use super::station::{AIR_FILE_OF_EA01, MESSAGE_FILE, SEND};
-use super::{output_of, refuses, run_in_pieces, run_on};
+use super::station::{AIR_FILE_OF_EA01, MESSAGE_FILE};
+use super::{refuses, run_in_pieces, run_on, writes};
 use crate::program::run;
-use std::alloc::{AllocError, Global};
+use std::alloc::Global;
 use std::test::Fail;
 
 const LISTEN: [&str; 2] = ["navtex", "listen"];
 
 #[test]
 fn listens_to_what_was_sent(rt: HostRuntime) -> Result<(), Fail> {
-    let alloc = rt.alloc();
-    let sent = output_of(alloc, &SEND, MESSAGE_FILE);
-    assert!(rt; hears(alloc, &[&sent], LOG_OF_EA01)?);
-    // The same with one element in each line.
-    let lines = part_of_ea01(alloc, 0, 1_421, 1)?;
-    assert!(rt; lines.len() == 4 * 1_421);
-    assert!(rt; hears(alloc, &[MOMENT_OF_EA01, &lines], LOG_OF_EA01)?);
+    let cases: [Heard; 3] = [
+        (&[Sent("1735689600", MESSAGE_FILE, &[])], LOG_OF_EA01),
+        // The same with one element in each line.
+        (&[Text(MOMENT_OF_EA01), Part(0, 1_421, 1)], LOG_OF_EA01),
+        (&[], b""),
+    ];
+    assert!(rt; made_of(rt.alloc(), &[Part(0, 1_421, 1)])?.len() == 4 * 1_421);
+    assert!(rt; hears_each(rt.alloc(), &cases)?);
     Ok(())
-}
-
-// Whether EA01 is heard from a reader that gives one byte at a time, by a writer that takes one.
-fn hears_in_bytes(alloc: Global) -> bool {
-    run_in_pieces(alloc, &LISTEN, AIR_FILE_OF_EA01, 1).is(0, LOG_OF_EA01, b"")
 }
 
 #[test]
 fn listens_byte_by_byte(rt: HostRuntime) {
-    assert!(rt; hears_in_bytes(rt.alloc()));
+    let ended = run_in_pieces(rt.alloc(), &LISTEN, AIR_FILE_OF_EA01, 1);
+    assert!(rt; ended.is(0, LOG_OF_EA01, b""));
 }
 
-// What is read, in two pieces, and this profile's line for its first fault.
-#[derive(Drop)]
-struct LineRow<'a> {
-    first: &'a [u8],
-    second: &'a [u8],
-    line: &'a str,
-}
-
-fn row<'a>(first: &'a [u8], second: &'a [u8], line: &'a str) -> LineRow<'a> {
-    LineRow {
-        first,
-        second,
-        line,
-    }
-}
-
-impl LineRow<'_> {
-    fn is_refused(&self, alloc: Global) -> Result<bool, AllocError> {
-        let air_file = join(alloc, &[self.first, self.second])?;
-        Ok(refuses(alloc, &LISTEN, &air_file, 2, self.line))
-    }
-}
+/// Elements of which no line has so many.
+static ZEROS: [u8; 513] = [b'0'; 513];
 
 #[test]
 fn stops_at_a_fault_of_a_line(rt: HostRuntime) -> Result<(), Fail> {
-    let alloc = rt.alloc();
-    let zeros = [b'0'; 513];
-    let rows = [
-        row(b"T 5\n", b"T 4\n", "navtex: line 2: moment 4 is before 5\n"),
-        row(
-            b"T 32503680000\n",
-            b"",
+    let long_line = Text(&ZEROS);
+    let cases: [(&[Piece], &str); 9] = [
+        (
+            &[Text(b"T 5\nT 4\n")],
+            "navtex: line 2: moment 4 is before 5\n",
+        ),
+        (
+            &[Text(b"T 32503680000\n")],
             "navtex: line 1: moment 32503680000 is out of range\n",
         ),
-        row(
-            b"B 0\n",
-            b"",
+        (
+            &[Text(b"B 0\n")],
             "navtex: line 1 has elements before any moment\n",
         ),
-        row(b"T 05\n", b"", "navtex: line 1 is not understood\n"),
-        row(b"T 5", b"", "navtex: line 1 has no end\n"),
-        row(b"B ", &zeros, "navtex: line 1 is longer than 514 bytes\n"),
-        row(
-            b"T 0\nB ",
-            &zeros,
+        (&[Text(b"T 05\n")], "navtex: line 1 is not understood\n"),
+        (&[Text(b"T 5")], "navtex: line 1 has no end\n"),
+        (
+            &[Text(b"B "), long_line],
+            "navtex: line 1 is longer than 514 bytes\n",
+        ),
+        (
+            &[Text(b"T 0\nB "), long_line],
             "navtex: line 2 is longer than 514 bytes\n",
         ),
-        row(
-            b"T 0\nRJ L\n",
-            b"",
+        (
+            &[Text(b"T 0\nRJ L\n")],
             "navtex: line 2: subject L can't be refused\n",
         ),
-        row(b"T 0\nRJ C\n\n", b"", "navtex: line 3 is not understood\n"),
+        (
+            &[Text(b"T 0\nRJ C\n\n")],
+            "navtex: line 3 is not understood\n",
+        ),
     ];
-    for one in rows.iter() {
-        assert!(rt; one.is_refused(alloc)?);
+    for (pieces, line) in cases {
+        let air_file = made_of(rt.alloc(), pieces)?;
+        assert!(rt; refuses(rt.alloc(), &LISTEN, &air_file, 2, line), "{line}");
     }
-    assert!(rt; hears(alloc, &[], b"")?);
     Ok(())
 }
 
 #[test]
 fn writes_the_log_before_a_fault(rt: HostRuntime) -> Result<(), Fail> {
-    let alloc = rt.alloc();
-    let air_file = join(alloc, &[AIR_FILE_OF_EA01, b"T 1735692000\nT 0\n"])?;
-    let ended = run_on(alloc, &LISTEN, &air_file);
+    let pieces = [Text(AIR_FILE_OF_EA01), Text(b"T 1735692000\nT 0\n")];
+    let ended = run_on(rt.alloc(), &LISTEN, &made_of(rt.alloc(), &pieces)?);
     let line = b"navtex: line 6: moment 0 is before 1735692000\n";
     assert!(rt; ended.is(2, LOG_OF_EA01, line));
     Ok(())
 }
 
-// Whether the first bytes of the air file of EA01, as many as said, are refused by this line.
+// Whether the first bytes of the air file of EA01, as many as said, have an empty log.
+fn is_taken(alloc: Global, length: usize) -> bool {
+    let part = AIR_FILE_OF_EA01.get(..length);
+    part.is_some_and(|part| writes(alloc, &LISTEN, part, b""))
+}
+
+// Whether they are refused by this line.
 fn is_cut(alloc: Global, length: usize, line: &str) -> bool {
-    match AIR_FILE_OF_EA01.get(..length) {
-        Some(part) => refuses(alloc, &LISTEN, part, 2, line),
-        None => false,
-    }
-}
-
-// Where a line begins, some lengths that end inside it, the first and the last of them among these,
-// and what is said of them.
-#[derive(Drop)]
-struct CutRow<'a> {
-    begin: usize,
-    lengths: [usize; 6],
-    line: &'a str,
-}
-
-impl CutRow<'_> {
-    // Whether the file that ends where the line begins is taken, and each that ends in it refused.
-    fn holds(&self, alloc: Global) -> bool {
-        let Some(whole) = AIR_FILE_OF_EA01.get(..self.begin) else {
-            return false;
-        };
-        if !run_on(alloc, &LISTEN, whole).is(0, b"", b"") {
-            return false;
-        }
-        for length in self.lengths.iter() {
-            if !is_cut(alloc, *length, self.line) {
-                return false;
-            }
-        }
-        true
-    }
+    let part = AIR_FILE_OF_EA01.get(..length);
+    part.is_some_and(|part| refuses(alloc, &LISTEN, part, 2, line))
 }
 
 #[test]
 fn names_the_line_in_which_a_file_is_cut(rt: HostRuntime) {
-    let alloc = rt.alloc();
-    assert_eq!(rt; AIR_FILE_OF_EA01.len(), 1_443);
+    // Where a line begins, lengths that end inside it, the first and the last of them among these, and
+    // what is said of them. The file that ends where the line begins is taken.
     let rows = [
-        CutRow {
-            begin: 0,
-            lengths: [1, 2, 3, 7, 11, 12],
-            line: "navtex: line 1 has no end\n",
-        },
-        CutRow {
-            begin: 13,
-            lengths: [14, 15, 16, 260, 504, 505],
-            line: "navtex: line 2 has no end\n",
-        },
-        CutRow {
-            begin: 506,
-            lengths: [507, 508, 509, 750, 997, 998],
-            line: "navtex: line 3 has no end\n",
-        },
-        CutRow {
-            begin: 999,
-            lengths: [1_000, 1_001, 1_002, 1_220, 1_441, 1_442],
-            line: "navtex: line 4 has no end\n",
-        },
+        (0, [1, 2, 3, 7, 11, 12], "navtex: line 1 has no end\n"),
+        (
+            13,
+            [14, 15, 16, 260, 504, 505],
+            "navtex: line 2 has no end\n",
+        ),
+        (
+            506,
+            [507, 508, 509, 750, 997, 998],
+            "navtex: line 3 has no end\n",
+        ),
+        (
+            999,
+            [1_000, 1_001, 1_002, 1_220, 1_441, 1_442],
+            "navtex: line 4 has no end\n",
+        ),
     ];
-    for row in rows.iter() {
-        assert!(rt; row.holds(alloc), "{}", row.line);
+    for (begin, lengths, line) in rows {
+        assert!(rt; is_taken(rt.alloc(), begin), "{begin}");
+        for length in lengths {
+            assert!(rt; is_cut(rt.alloc(), length, line), "{length}");
+        }
     }
 }
 
@@ -196,13 +153,17 @@ fn stops_at_read(alloc: Global, given: &[u8], log: &[u8]) -> bool {
 #[test]
 fn listens_on_devices_that_fail(rt: HostRuntime) -> Result<(), Fail> {
     let alloc = rt.alloc();
-    assert!(rt; stops_at_write(alloc));
     // Readers that fail behind the first line, behind a line with the end of a copy and behind one
     // within a copy: the log of the lines that came is written, and an open copy is not closed.
-    assert!(rt; stops_at_read(alloc, MOMENT_OF_EA01, b""));
-    assert!(rt; stops_at_read(alloc, AIR_FILE_OF_EA01, LOG_OF_EA01));
-    let lines = part_of_ea01(alloc, 0, 1_323, 490)?;
-    let open = join(alloc, &[MOMENT_OF_EA01, &lines])?;
-    assert!(rt; stops_at_read(alloc, &open, b""));
+    let open = made_of(alloc, &[Text(MOMENT_OF_EA01), Part(0, 1_323, 490)])?;
+    let cases: [(&[u8], &[u8]); 3] = [
+        (MOMENT_OF_EA01, b""),
+        (AIR_FILE_OF_EA01, LOG_OF_EA01),
+        (&open, b""),
+    ];
+    for (given, log) in cases {
+        assert!(rt; stops_at_read(alloc, given, log));
+    }
+    assert!(rt; stops_at_write(alloc));
     Ok(())
 }

@@ -1,8 +1,8 @@
 //! `show` and `check`.
 
+use super::air::join;
 use super::station::{AIR_FILE_OF_EA01, MESSAGE_FILE, SEND};
 use super::{AIR_FILE_OF_A, output_of, refuses, with_word, writes};
-use std::alloc::Global;
 use std::test::Fail;
 
 // The words of an emission of A in their slots (M.625, mode B), with their numbers and names by the
@@ -13,16 +13,13 @@ const WORDS_OF_A: &[u8] = b"0 DX 66 P2\n1 RX 0F P1\n2 DX 66 P2\n3 RX 0F P1\n4 DX
 
 #[test]
 fn shows_words(rt: HostRuntime) {
-    let alloc = rt.alloc();
-    assert!(rt; writes(alloc, &["navtex", "show"], AIR_FILE_OF_A, WORDS_OF_A));
-    assert!(rt;
-        writes(
-            alloc,
-            &["navtex", "show"],
-            b"B 0110001\n",
-            b"0 DX 46 wrong\n"
-        )
-    );
+    let cases: [(&[u8], &[u8]); 2] = [
+        (AIR_FILE_OF_A, WORDS_OF_A),
+        (b"B 0110001\n", b"0 DX 46 wrong\n"),
+    ];
+    for (air_file, lines) in cases {
+        assert!(rt; writes(rt.alloc(), &["navtex", "show"], air_file, lines));
+    }
 }
 
 #[test]
@@ -37,29 +34,28 @@ fn checks_what_was_sent(rt: HostRuntime) {
 // 490 elements, the elements 70 to 76 of the third. One row puts A there.
 const WORD_150: usize = 1_071;
 
-// Whether `check` refuses the file by this line.
-fn finds_fault(alloc: Global, air_file: &[u8], line: &str) -> bool {
-    refuses(alloc, &["navtex", "check"], air_file, 2, line)
-}
-
 #[test]
 fn refuses_what_is_not_sent(rt: HostRuntime) -> Result<(), Fail> {
     let alloc = rt.alloc();
-    // The first of the faults of strict reading, in this profile's order, and its line.
-    let wrong = output_of(
-        alloc,
-        &["navtex", "damage", "all", "150", "1"],
-        AIR_FILE_OF_EA01,
-    );
-    assert!(rt; finds_fault(alloc, &wrong, "navtex: word 150 has the wrong weight\n"));
+    let words = ["navtex", "damage", "all", "150", "1"];
+    let wrong = output_of(alloc, &words, AIR_FILE_OF_EA01);
     let unpaired = with_word(alloc, AIR_FILE_OF_EA01, WORD_150, b"1110001")?;
-    assert!(rt; finds_fault(alloc, &unpaired, "navtex: position 75 is unpaired\n"));
+    let longer = join(alloc, &[AIR_FILE_OF_EA01, b"B 1111000\n"])?;
+    // The first of the faults of strict reading, in this profile's order, and its line.
     let other = "navtex: not an emission of this profile\n";
-    let mut longer = AIR_FILE_OF_EA01.to_vec(alloc)?;
-    longer.extend_from_slice(b"B 1111000\n")?;
-    assert!(rt; finds_fault(alloc, &longer, other));
-    assert!(rt; finds_fault(alloc, b"", other));
-    assert!(rt; finds_fault(alloc, b"B 0\n", "navtex: 1 elements are no whole words\n"));
-    assert!(rt; finds_fault(alloc, b"B 2\n", "navtex: line 1 is not understood\n"));
+    let cases: [(&[u8], &str); 6] = [
+        (&wrong, "navtex: word 150 has the wrong weight\n"),
+        (&unpaired, "navtex: position 75 is unpaired\n"),
+        (&longer, other),
+        (b"", other),
+        (b"B 0\n", "navtex: 1 elements are no whole words\n"),
+        (b"B 2\n", "navtex: line 1 is not understood\n"),
+    ];
+    for (air_file, line) in cases {
+        assert!(rt;
+            refuses(alloc, &["navtex", "check"], air_file, 2, line),
+            "{line}"
+        );
+    }
     Ok(())
 }

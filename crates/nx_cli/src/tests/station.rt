@@ -29,10 +29,9 @@ pub const AIR_FILE_OF_EA01: &[u8] = b"\
 
 #[test]
 fn sends_a_message(rt: HostRuntime) {
-    let alloc = rt.alloc();
-    assert!(rt; writes(alloc, &SEND, MESSAGE_FILE, AIR_FILE_OF_EA01));
     let text = b"ZCZC EA01\nTEST\nNNNN\n\n";
-    assert!(rt; writes(alloc, &["navtex", "decode"], AIR_FILE_OF_EA01, text));
+    assert!(rt; writes(rt.alloc(), &SEND, MESSAGE_FILE, AIR_FILE_OF_EA01));
+    assert!(rt; writes(rt.alloc(), &["navtex", "decode"], AIR_FILE_OF_EA01, text));
 }
 
 // Whether `slots` writes this line.
@@ -43,87 +42,77 @@ fn tells(alloc: Global, station: &str, moment: &str, line: &str) -> bool {
 
 #[test]
 fn tells_the_next_slot(rt: HostRuntime) {
-    let alloc = rt.alloc();
     // The slots of a station begin at 14,400k + 600i, of E (i is 4) 40 minutes past each fourth hour
     // and of X (i is 23) 3 hours and 50 minutes (this profile).
     let first = "1735692000 2025-01-01 00:40:00\n";
-    assert!(rt; tells(alloc, "E", "1735689600", first));
-    assert!(rt; tells(alloc, "E", "1735692000", first));
-    assert!(rt; tells(alloc, "E", "1735692001", "1735706400 2025-01-01 04:40:00\n"));
-    assert!(rt; tells(alloc, "X", "1735689600", "1735703400 2025-01-01 03:50:00\n"));
-    assert!(rt;
-        tells(
-            alloc,
-            "X",
-            "32503679400",
-            "32503679400 2999-12-31 23:50:00\n"
-        )
-    );
+    for (station, moment, line) in [
+        ("E", "1735689600", first),
+        ("E", "1735692000", first),
+        ("E", "1735692001", "1735706400 2025-01-01 04:40:00\n"),
+        ("X", "1735689600", "1735703400 2025-01-01 03:50:00\n"),
+        ("X", "32503679400", "32503679400 2999-12-31 23:50:00\n"),
+    ] {
+        assert!(rt; tells(rt.alloc(), station, moment, line));
+    }
 }
 
 pub const SEND: [&str; 4] = ["navtex", "send", "E", "1735689600"];
 
-// Whether `send` refuses the message file by this line.
-fn refuses_to_send(alloc: Global, message_file: &[u8], line: &str) -> bool {
-    refuses(alloc, &SEND, message_file, 2, line)
-}
-
 #[test]
 fn names_each_fault_of_a_message_file(rt: HostRuntime) {
-    let alloc = rt.alloc();
     // The lines are those of this profile for each fault.
-    assert!(rt; refuses_to_send(alloc, b"", "navtex: no messages\n"));
-    assert!(rt; refuses_to_send(alloc, b"TEST\n", "navtex: line 1 is not understood\n"));
-    let open = "navtex: message at line 1 is not ended\n";
-    assert!(rt; refuses_to_send(alloc, b"#A01\nTEST\n", open));
-    assert!(rt; refuses_to_send(alloc, b"#A01\nTEST\n;", "navtex: line 3 has no end\n"));
-    let no_signal = "navtex: message at line 1: line 1 has no signal at 0\n";
-    assert!(rt; refuses_to_send(alloc, b"#A01\na\n;\n", no_signal));
-    let reserved = "navtex: message at line 3: line 1 has a reserved word\n";
-    assert!(rt; refuses_to_send(alloc, b"#A01\n;\n#A02\nAB NNNN\n;\n", reserved));
-}
-
-// Whether the command refuses this station and moment with this status and line.
-fn refuses_station(alloc: Global, words: &[&str; 4], status: u8, line: &str) -> bool {
-    refuses(alloc, words, MESSAGE_FILE, status, line)
+    let rows: [(&[u8], &str); 6] = [
+        (b"", "navtex: no messages\n"),
+        (b"TEST\n", "navtex: line 1 is not understood\n"),
+        (b"#A01\nTEST\n", "navtex: message at line 1 is not ended\n"),
+        (b"#A01\nTEST\n;", "navtex: line 3 has no end\n"),
+        (
+            b"#A01\na\n;\n",
+            "navtex: message at line 1: line 1 has no signal at 0\n",
+        ),
+        (
+            b"#A01\n;\n#A02\nAB NNNN\n;\n",
+            "navtex: message at line 3: line 1 has a reserved word\n",
+        ),
+    ];
+    for (message_file, line) in rows {
+        assert!(rt; refuses(rt.alloc(), &SEND, message_file, 2, line), "{line}");
+    }
 }
 
 #[test]
 fn names_each_fault_of_a_station(rt: HostRuntime) {
-    let alloc = rt.alloc();
     // The lines and statuses are those of this profile for each fault.
     let no_slot = "navtex: no slot\n";
-    assert!(rt; refuses_station(alloc, &["navtex", "send", "Y", "1735689600"], 2, no_slot));
-    assert!(rt; refuses_station(alloc, &["navtex", "send", "X", "32503679401"], 2, no_slot));
-    assert!(rt; refuses_station(alloc, &["navtex", "slots", "Y", "0"], 2, no_slot));
-    assert!(rt; refuses_station(alloc, &["navtex", "slots", "X", "32503679401"], 2, no_slot));
     let no_letter = "navtex: station must be one letter A to Z\n";
-    assert!(rt; refuses_station(alloc, &["navtex", "send", "e", "0"], 64, no_letter));
-    assert!(rt; refuses_station(alloc, &["navtex", "slots", "EA", "0"], 64, no_letter));
-    assert!(rt; refuses_station(alloc, &["navtex", "slots", "", "0"], 64, no_letter));
+    for (command, station, moment, status, line) in [
+        ("send", "Y", "1735689600", 2, no_slot),
+        ("send", "X", "32503679401", 2, no_slot),
+        ("slots", "Y", "0", 2, no_slot),
+        ("slots", "X", "32503679401", 2, no_slot),
+        ("send", "e", "0", 64, no_letter),
+        ("slots", "EA", "0", 64, no_letter),
+        ("slots", "", "0", 64, no_letter),
+    ] {
+        let words = ["navtex", command, station, moment];
+        assert!(rt; refuses(rt.alloc(), &words, MESSAGE_FILE, status, line));
+    }
 }
 
-// A message file of one message: so many lines of 69 letters A, one line of so many letters A and
-// this end, and so many empty lines.
+// A message file of one message: so many lines of 69 letters A, this line, and so many empty lines.
 fn long_file(
     alloc: Global,
     full_lines: usize,
-    letters: usize,
-    end: &[u8],
+    line: &[u8],
     empty_lines: usize,
 ) -> Result<Vec<u8>, AllocError> {
-    let full = vec![in alloc; b'A'; 69]?;
-    let other = vec![in alloc; b'A'; letters]?;
-    let mut file = Vec::new(alloc);
-    file.extend_from_slice(b"#A01\n")?;
+    let mut file = b"#A01\n".to_vec(alloc)?;
     for _ in 0..full_lines {
-        file.extend_from_slice(&full)?;
+        file.extend_from_slice(&[b'A'; 69])?;
         file.push(b'\n')?;
     }
-    file.extend_from_slice(&other)?;
-    file.extend_from_slice(end)?;
-    file.push(b'\n')?;
-    for _ in 0..empty_lines {
+    file.extend_from_slice(line)?;
+    for _ in 0..=empty_lines {
         file.push(b'\n')?;
     }
     file.extend_from_slice(b";\n")?;
@@ -134,35 +123,50 @@ fn long_file(
 fn sends_long(
     alloc: Global,
     full_lines: usize,
-    letters: usize,
-    end: &[u8],
+    line: &[u8],
     empty_lines: usize,
-    line: &str,
+    fault: &str,
 ) -> Result<bool, AllocError> {
-    let file = long_file(alloc, full_lines, letters, end, empty_lines)?;
+    let file = long_file(alloc, full_lines, line, empty_lines)?;
     let ended = run_on(alloc, &SEND, &file);
-    let status = if line.is_empty() { 0 } else { 2 };
+    let status = if fault.is_empty() { 0 } else { 2 };
     Ok(
         ended.status == status
-            && ended.output.is_empty() != line.is_empty()
-            && ended.faults.as_slice() == line.as_bytes(),
+            && ended.output.is_empty() != fault.is_empty()
+            && ended.faults.as_slice() == fault.as_bytes(),
     )
 }
 
 #[test]
 fn fills_a_slot(rt: HostRuntime) -> Result<(), Fail> {
-    let alloc = rt.alloc();
     // A message alone costs 72 positions of phasing, 13 of its head, 7 of its end and three of the end
     // of the emission, one for the letter shift before the first A, 71 for a line of 69 A and 2 for an
     // empty line: with 58 and 36 of these 4,286, the most that a slot takes. The second has a 1 with
     // its figure shift in place of two A, and so a letter shift before its end.
-    assert!(rt; sends_long(alloc, 58, 0, b"", 35, "")?);
-    let many = "navtex: 4287 positions are too many for a slot\n";
-    assert!(rt; sends_long(alloc, 57, 67, b"1", 36, many)?);
-    let long_text = "navtex: message at line 1: text is too long\n";
-    assert!(rt; sends_long(alloc, 58, 0, b"", 36, long_text)?);
-    let long_line = "navtex: message at line 1: line 1 is too long\n";
-    assert!(rt; sends_long(alloc, 0, 70, b"", 0, long_line)?);
+    let mut with_1 = [b'A'; 68];
+    with_1[67] = b'1';
+    let rows: [(usize, &[u8], usize, &str); 4] = [
+        (58, b"", 35, ""),
+        (
+            57,
+            &with_1,
+            36,
+            "navtex: 4287 positions are too many for a slot\n",
+        ),
+        (58, b"", 36, "navtex: message at line 1: text is too long\n"),
+        (
+            0,
+            &[b'A'; 70],
+            0,
+            "navtex: message at line 1: line 1 is too long\n",
+        ),
+    ];
+    for (full_lines, line, empty_lines, fault) in rows {
+        assert!(rt;
+            sends_long(rt.alloc(), full_lines, line, empty_lines, fault)?,
+            "{fault}"
+        );
+    }
     Ok(())
 }
 
@@ -176,8 +180,13 @@ fn has_line(table: &[u8], index: usize, line: &[u8]) -> bool {
 fn prints_the_table(rt: HostRuntime) {
     let table = output_of(rt.alloc(), &["navtex", "code"], b"");
     // By the code table of M.476, with the numbers and names of this profile.
-    assert!(rt; has_line(&table, 0, b"47 BBBYYYB A -"));
-    assert!(rt; has_line(&table, 3, b"53 BBYYBYB D none"));
-    assert!(rt; has_line(&table, 34, b"66 YBBYYBB P2 P2"));
-    assert!(rt; has_line(&table, 35, b""));
+    let lines: [(usize, &[u8]); 4] = [
+        (0, b"47 BBBYYYB A -"),
+        (3, b"53 BBYYBYB D none"),
+        (34, b"66 YBBYYBB P2 P2"),
+        (35, b""),
+    ];
+    for (index, line) in lines {
+        assert!(rt; has_line(&table, index, line));
+    }
 }

@@ -11,97 +11,78 @@ use nx_fec::Counting;
 use std::alloc::Global;
 use std::io::{Error, ErrorKind};
 
-// The words, the status, and how the answer begins, in clap's words: help on standard output, a
-// refusal on standard error.
-#[derive(Drop)]
-struct WordsRow<'a> {
-    words: &'a [&'a str],
-    status: u8,
-    answer: &'a str,
-}
-
-impl WordsRow<'_> {
-    fn holds(&self, alloc: Global) -> bool {
-        let ended = run_on(alloc, self.words, AIR_FILE_OF_A);
-        let answer = self.answer.as_bytes();
-        let is_answered = if self.status == 0 {
-            ended.output.starts_with(answer) && ended.faults.is_empty()
-        } else {
-            ended.faults.starts_with(answer) && ended.output.is_empty()
-        };
-        ended.status == self.status && is_answered
-    }
+// Whether the words are answered with this status and, from its beginning on, this text in clap's
+// words: help on standard output, a refusal on standard error.
+fn is_answered(alloc: Global, words: &[&str], status: u8, text: &str) -> bool {
+    let ended = run_on(alloc, words, AIR_FILE_OF_A);
+    let (answer, other) = if status == 0 {
+        (&ended.output, &ended.faults)
+    } else {
+        (&ended.faults, &ended.output)
+    };
+    ended.status == status && answer.starts_with(text.as_bytes()) && other.is_empty()
 }
 
 const MISSING: &str = "error: 'navtex' requires a subcommand but one was not provided\n";
 
 #[test]
 fn reads_its_words(rt: HostRuntime) {
-    let alloc = rt.alloc();
-    let rows = [
-        WordsRow {
-            words: &["navtex", "frob"],
-            status: 64,
-            answer: "error: unrecognized subcommand 'frob'\n\nUsage: navtex <COMMAND>\n",
-        },
-        WordsRow {
-            words: &["navtex"],
-            status: 64,
-            answer: MISSING,
-        },
-        WordsRow {
-            words: &[],
-            status: 64,
-            answer: MISSING,
-        },
-        WordsRow {
-            words: &["navtex", "decode", "frob"],
-            status: 64,
-            answer: "error: unexpected argument 'frob' found\n\nUsage: navtex decode\n",
-        },
-        WordsRow {
-            words: &["navtex", "help"],
-            status: 64,
-            answer: "error: unrecognized subcommand 'help'\n",
-        },
-        WordsRow {
-            words: &["navtex", "--help"],
-            status: 0,
-            answer: "A NAVTEX broadcast station and receiver, for the elements of a signal",
-        },
-        WordsRow {
-            words: &["navtex", "--version"],
-            status: 0,
-            answer: "navtex 1.0.0, proved with rattle-kit-13b logic dac8208d650f15bf\n",
-        },
-        WordsRow {
-            words: &["navtex", "listen", "--version"],
-            status: 64,
-            answer: "error: unexpected argument '--version' found\n",
-        },
-        WordsRow {
-            words: &["navtex", "encode", "-h"],
-            status: 0,
-            answer: "Write a text as an air file\n\nUsage: navtex encode\n",
-        },
-        WordsRow {
-            words: &["navtex", "decode", "--help"],
-            status: 0,
-            answer: "Print the text of an air file.\n\nAn air file is a text of what is on the air.",
-        },
-        WordsRow {
-            words: &["navtex", "damage", "-h"],
-            status: 0,
-            answer: "Copy an air file with some of its words damaged\n\nUsage: navtex damage <KIND> <FROM> <COUNT>\n",
-        },
-        WordsRow {
-            words: &["navtex", "damage", "tx", "0", "4294967296"],
-            status: 64,
-            answer: "error: invalid value '4294967296' for '<COUNT>'",
-        },
+    let rows: [(&[&str], u8, &str); 12] = [
+        (
+            &["navtex", "frob"],
+            64,
+            "error: unrecognized subcommand 'frob'\n\nUsage: navtex <COMMAND>\n",
+        ),
+        (&["navtex"], 64, MISSING),
+        (&[], 64, MISSING),
+        (
+            &["navtex", "decode", "frob"],
+            64,
+            "error: unexpected argument 'frob' found\n\nUsage: navtex decode\n",
+        ),
+        (
+            &["navtex", "help"],
+            64,
+            "error: unrecognized subcommand 'help'\n",
+        ),
+        (
+            &["navtex", "--help"],
+            0,
+            "A NAVTEX broadcast station and receiver, for the elements of a signal",
+        ),
+        (
+            &["navtex", "--version"],
+            0,
+            "navtex 1.0.0, proved with rattle-kit-13b logic dac8208d650f15bf\n",
+        ),
+        (
+            &["navtex", "listen", "--version"],
+            64,
+            "error: unexpected argument '--version' found\n",
+        ),
+        (
+            &["navtex", "encode", "-h"],
+            0,
+            "Write a text as an air file\n\nUsage: navtex encode\n",
+        ),
+        (
+            &["navtex", "decode", "--help"],
+            0,
+            "Print the text of an air file.\n\nAn air file is a text of what is on the air.",
+        ),
+        (
+            &["navtex", "damage", "-h"],
+            0,
+            "Copy an air file with some of its words damaged\n\nUsage: navtex damage <KIND> <FROM> <COUNT>\n",
+        ),
+        (
+            &["navtex", "damage", "tx", "0", "4294967296"],
+            64,
+            "error: invalid value '4294967296' for '<COUNT>'",
+        ),
     ];
-    for row in rows.iter() {
-        assert!(rt; row.holds(alloc));
+    for (words, status, text) in rows {
+        assert!(rt; is_answered(rt.alloc(), words, status, text), "{text}");
     }
 }
 
@@ -121,11 +102,14 @@ fn ends_without_words(alloc: Global, kind: ErrorKind, status: u8, line: &str) ->
 
 #[test]
 fn answers_for_words_that_cannot_be_had(rt: HostRuntime) {
-    let alloc = rt.alloc();
     let no_text = "navtex: a word of the command line is not UTF-8\n";
-    assert!(rt; ends_without_words(alloc, ErrorKind::InvalidData, 64, no_text));
     let no_memory = "navtex: out of memory\n";
-    assert!(rt; ends_without_words(alloc, ErrorKind::OutOfMemory, 1, no_memory));
+    for (kind, status, line) in [
+        (ErrorKind::InvalidData, 64, no_text),
+        (ErrorKind::OutOfMemory, 1, no_memory),
+    ] {
+        assert!(rt; ends_without_words(rt.alloc(), kind, status, line));
+    }
 }
 
 #[test]

@@ -17,6 +17,7 @@ use Rattle.nx_station.specs.ChannelExample.{example_message, example_parts, exam
 use Rattle.nx_station.specs.Sendings.{IsCut, Sending, IsSentAt}
 use Rattle.nx_station.proofs.ChannelExamples.{example_sent}
 use Rattle.nx_sync.specs.Locks.{locked, IsNow}
+use Rattle.nx_station.proofs.TransmissionLength.{length-bit_lines}
 use Rattle.nx_receiver.specs.Events.{Event, Setting, at_moment, at_zero, element, first_setting, settings, elements_among, setting_at}
 use Rattle.nx_receiver.specs.Example.{first_copy}
 use Rattle.nx_receiver.specs.FoundCopies.{FoundCopy, found_to_end, tag, tagged_copies}
@@ -33,7 +34,7 @@ use Rattle.nx_receiver.specs.Printing.{printed_copies}
 use Rattle.nx_receiver.specs.Emissions.{copy_of_sending}
 use Rattle.nx_receiver.specs.Shares.{all_at_zero, marked}
 use Rattle.nx_receiver.specs.Worked.{at_its_slot, damaged_words, worked_log}
-use Rattle.nx_receiver.proofs.listens.ElementLines.{events-lines, events-others, good-lines, length-lines, taken-lines}
+use Rattle.nx_receiver.proofs.listens.ElementLines.{events-lines, events-others, good-lines, taken-lines}
 use Rattle.nx_receiver.proofs.chain.Alone.{HearsAlone, printed-alone}
 use Rattle.nx_receiver.proofs.receiving.Logged.{one_to_end}
 use Rattle.nx_receiver.proofs.once.Repeats.{none_live}
@@ -53,7 +54,7 @@ long = length-bits_of damaged_words ∙ omega (arith, damaged_computed.long)
 pub lines-short : length (file_of (bit_lines bits)) ≤ 1479
 lines-short =
     let size : 493 * div_ceil (length bits) 490 ≡ 1479 = ap (λ n. 493 * div_ceil n 490) long in
-    omega (arith, length-lines bits, size)
+    omega (arith, length-bit_lines bits, size)
 
 moment-good : IsLine (moment 1735692000)
 moment-good = lit< tt

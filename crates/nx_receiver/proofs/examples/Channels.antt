@@ -1,5 +1,5 @@
 -- What is printed of the worked emission where it comes line by line on two channels.
-use Rattle.std.proofs.Common.{◌≡◌, ℕ, ◌+◌, ◌*◌, ◌<◌, ◌≤◌, Bool, List, [], ◌∷◌, ◌++◌, length, map, take, drop, take_all, length-append, length-drop, refl, sym, ap, ◌∙◌, subst, arith, append-nil, append_assoc, lit<, lit≤, Some, None, take-append-drop}
+use Rattle.std.proofs.Common.{◌≡◌, ℕ, ◌*◌, ◌<◌, ◌≤◌, Bool, List, [], ◌∷◌, ◌++◌, length, map, take, drop, take_all, length-append, length-drop, refl, sym, ap, ◌∙◌, subst, arith, append-nil, append_assoc, lit<, lit≤, Some, None, take-append-drop}
 use Rattle.std.specs.Prelude.{codes}
 use Rattle.std.specs.Fmt.{digits}
 use Rattle.std.specs.List.{All, AllByRecursion}

@@ -13,7 +13,7 @@ use Rattle.nx_fec.proofs.LineLaws.{IsAirFile-unique, spelling-IsBeginning}
 use Rattle.nx_fec.proofs.RoundTripLemmas.{length-bits_of}
 use Rattle.nx_station.specs.FileSending.{IsTransmission}
 use Rattle.nx_station.specs.declared.sending.Sent.{Sent}
-use Rattle.nx_station.proofs.BroadcastLemmas.{broadcast-one}
+use Rattle.nx_station.proofs.TransmissionLength.{length-transmission}
 use Rattle.nx_receiver.specs.Events.{Event, at_moment, at_zero, elements_among}
 use Rattle.nx_receiver.specs.Listen.{AreTaken, IsLogOf, IsLogOfFile, events_on, given_by}
 use Rattle.nx_receiver.specs.private.Taken.{AreTakenAfter}
@@ -28,7 +28,7 @@ use Rattle.nx_receiver.specs.InTurn.{PrintAllToEnd}
 use Rattle.nx_receiver.specs.Shares.{MarkedCopy, all_at_zero, copies_on, marked}
 use Rattle.nx_receiver.proofs.Shares.{to_end-on}
 use Rattle.nx_receiver.proofs.chain.Alone.{HearsAlone, all-alone}
-use Rattle.nx_receiver.proofs.listens.ElementLines.{events-lines, events-others, good-lines, length-lines, taken-lines}
+use Rattle.nx_receiver.proofs.listens.ElementLines.{events-lines, events-others, good-lines, taken-lines}
 use Rattle.nx_receiver.proofs.listens.Moments.{some-closed}
 use Rattle.nx_receiver.proofs.once.Found.{printed_once}
 use Rattle.nx_receiver.proofs.from_send.Heard.{heard_in_time}
@@ -58,29 +58,8 @@ module _ (station from : ℕ) (file air : List ℕ) (sent : Sent)
   abbrev lines : List Line
   lines = lines_as_sent sent.slot bits
 
-  few_positions : length h.positions ≤ 4286
-  few_positions =
-      let same = broadcast-one h.messages h.positions h.sendable.positions h.broadcast
-      h.sendable.broadcast in
-      omega (arith, ap length same, h.sendable.fits)
-
   within : length air ≤ air_limit
-  within =
-      let size : length bits ≤ 59997 =
-      omega (
-        arith,
-        length-bits_of (emission h.positions),
-        length-emission h.positions,
-        few_positions,
-      ) in
-      let count : div_ceil (length bits) 490 ≤ 123 = omega arith in
-      let all = length-lines bits in
-      let good : sent.slot < 10 ^ 11 = omega (arith, h.next.in_range) in
-      let first = (spelling-IsBeginning (moment sent.slot) good).short in
-      let line = length-append (spelling (moment sent.slot)) (10 ∷ []) in
-      let whole = ap length h.whole
-      ∙ length-append (line_bytes (moment sent.slot)) (file_of (bit_lines bits)) in
-      omega arith
+  within = omega (arith, length-transmission station from file air sent h)
 
   is_file : IsAirFile air_limit air lines
   is_file = record {

@@ -1,5 +1,5 @@
--- Lines of elements: they are lines of an air file and hold these elements, how many bytes they
--- have, that they are taken, and what they give to the receiver of each channel.
+-- Lines of elements: they are lines of an air file and hold these elements, they are taken, and what
+-- they give to the receiver of each channel.
 use Rattle.std.proofs.Common.{◌≡◌, ℕ, ◌*◌, ◌≤◌, Bool, true, false, List, [], ◌∷◌, ◌++◌, None, map, length, take, drop, sym, ap, ◌∙◌, arith, refl, take_all}
 use Rattle.std.specs.Int.{div_ceil}
 use Rattle.std.specs.Prelude.{if◌then◌else◌}
@@ -40,28 +40,6 @@ joined-lines bits =
     let n = div_ceil (length bits) 490 in
     elements-alone (λ i. take 490 (drop (490 * i) bits)) (range_with_len 0 n)
     ∙ first_lines-elements bits n ∙ take_all (490 * n) bits (omega arith)
-
--- how many bytes they have
-length-some : (bits : ℕ → List Bool) (indices : List ℕ) → ((i : ℕ) → length (bits i) ≤ 490)
-    → length (file_of (lines_of bits indices)) ≤ 493 * length indices
-length-some bits [] short = omega arith
-length-some bits (i ∷ indices) short =
-    let rest = length-some bits indices short in
-    let one = length-append (line_bytes (elements None (bits i))) (file_of (lines_of bits indices)) in
-    let line = length-append (spelling (elements None (bits i))) (10 ∷ []) in
-    let digits = length-map (bits i) element_digit in
-    omega (arith, short i)
-
-pub length-lines : (bits : List Bool)
-    → length (file_of (bit_lines bits)) ≤ 493 * div_ceil (length bits) 490
-length-lines bits =
-    let many = div_ceil (length bits) 490 in
-    let all : length (file_of (bit_lines bits)) ≤ 493 * length (range_with_len 0 many) =
-    length-some (λ i. take 490 (drop (490 * i) bits)) (range_with_len 0 many)
-    (λ i. omega (arith, length-take 490 (drop (490 * i) bits))) in
-    let indices = sym (length-map (range_with_len 0 many) (λ (i : ℕ). i))
-    ∙ length-map-range_with_len (λ (i : ℕ). i) 0 many in
-    omega (arith, all, indices)
 
 -- they are taken once there was a moment
 taken-some : (starts : Starts) (first : List Line) (bits : ℕ → List Bool) (indices : List ℕ)

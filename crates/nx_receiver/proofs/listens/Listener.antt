@@ -1,6 +1,6 @@
 -- What a line does to a listener: how it stands after one more line, after some more elements, and
 -- after the end.
-use Rattle.std.proofs.Common.{◌≡◌, ◌||◌, inl, inr, ℕ, ◌+◌, ◌<◌, ◌≤◌, Bool, true, false, cond, IsTrue, List, [], ◌∷◌, ◌++◌, map, Option, Some, None, Ok, IsErr, length, take, take-append-drop, drop, refl, sym, ap, ap₂, ◌∙◌, subst, append-nil, append_assoc, arith, length-append}
+use Rattle.std.proofs.Common.{◌≡◌, ◌||◌, ℕ, ◌+◌, ◌<◌, ◌≤◌, Bool, true, false, cond, IsTrue, List, [], ◌∷◌, ◌++◌, map, Option, Some, None, Ok, IsErr, length, take, take-append-drop, drop, refl, sym, ap, ap₂, ◌∙◌, subst, append-nil, append_assoc, arith, length-append}
 use lib.Seq.{take-add}
 use Rattle.std.proofs.Math.Path.{fun_ext}
 use Rattle.std.proofs.lemmas.List.{length-map, length-take-le, map-append}
@@ -21,12 +21,12 @@ use Rattle.nx_receiver.specs.private.Listener.{BeginsListening, BeginsLog, HasFi
 use Rattle.nx_receiver.specs.private.ListenerBegins.{printed-so_far}
 use Rattle.nx_receiver.specs.Log.{HasPrinted}
 use Rattle.nx_receiver.specs.Receiver.{Stands}
-use Rattle.nx_receiver.specs.Shares.{Given, MarkedCopy, Starts, copies_on, events_for, marked, share, start_on, to_all, to_one}
+use Rattle.nx_receiver.specs.Shares.{Given, MarkedCopy, Starts, copies_on, events_for, marked, share, start_on, to_one}
 use Rattle.nx_receiver.specs.private.Awaiting.{Awaits}
 use Rattle.nx_receiver.specs.FoundCopies.{TaggedCopy}
 use Rattle.nx_receiver.specs.declared.over.Over.{Over}
 use Rattle.nx_receiver.specs.declared.over.Over.TheVariants as overs
-use Rattle.nx_receiver.proofs.Shares.{copies_on-append, copies_on-marked, copies_on-other, in_turn-more, in_turn-none, in_turn-other, same_channel-is, same_channel-refl, share-one}
+use Rattle.nx_receiver.proofs.Shares.{copies_on-append, copies_on-marked, copies_on-other, in_turn-more, in_turn-none, in_turn-other, same_channel-refl, share-one}
 use Rattle.nx_receiver.proofs.receiving.Feeds.{nothing_awaited}
 use Rattle.nx_receiver.proofs.receiving.Log.{logs_join, no-log}
 use Rattle.nx_receiver.proofs.receiving.Logged.{has_printed_on, some_printed}
@@ -446,12 +446,6 @@ hears-more starts old new given channel part more copies next h few stands other
           h.entries printed longer;
       few = omega (arith, all, longer, few, h.few);
     }
-
--- what fails exactly where this test is true has not failed, so the test is false
-pub ok-false : {T : Type 0} (E : Type 0) (x : T) (b : Bool)
-    → (IsTrue b → IsErr {T = T} {E = E} (Ok x)) → b ≡ false
-ok-false E x false h = refl
-ok-false E x true h = let e = h refl in cc
 
 -- What was over with the last of these elements was finished, and these are the bytes of the entry,
 -- if one was made.

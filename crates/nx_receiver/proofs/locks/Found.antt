@@ -19,10 +19,6 @@ use Rattle.nx_receiver.specs.private.Watch.{place_of_header}
 use Rattle.nx_receiver.specs.FoundCopies.{FoundCopy, place_in, found_copy, ended_in, open_in, all_in}
 use Rattle.nx_receiver.proofs.locks.Texts.{GoesOnAs, bytes_of-append}
 
--- a place from low on and below high
-pub IsBetween : ℕ → ℕ → ℕ → Type 0
-IsBetween low high place = (low ≤ place) × (place < high)
-
 abbrev pub IsByteIn : ℕ → ℕ → PlacedByte → Type 0
 IsByteIn low high b = (low ≤ b.place) × (b.place < high)
 

@@ -1,5 +1,5 @@
 -- More bits and more events: what was found stays, and so does what was printed.
-use Rattle.std.proofs.Common.{◌≡◌, ℕ, ◌+◌, ◌*◌, ◌≤◌, Bool, List, [], ◌∷◌, ◌++◌, length, refl, sym, ap, ◌∙◌, subst, arith, Some, None, inl, inr, append-nil}
+use Rattle.std.proofs.Common.{◌≡◌, ℕ, ◌+◌, ◌*◌, ◌≤◌, Bool, List, [], ◌∷◌, ◌++◌, length, refl, sym, ap, ◌∙◌, subst, arith, inl, inr, append-nil}
 use Rattle.std.proofs.lemmas.List.{length-append}
 use Rattle.std.proofs.lemmas.Bool.{cases_lt}
 use Rattle.nx_sync.specs.Words.{whole_words, first_role, word_of_lock}
@@ -75,10 +75,6 @@ not_past_yet bits more locks p lock q now past =
 pub ended_in-nil : ended_in [] ≡ []
 unfolding bytes_of ended_copies headers beginnings header_at_end identity_at_end
 ended_in-nil = refl
-
-pub open_in-nil : open_in [] ≡ []
-unfolding bytes_of open_headers headers beginnings header_at_end identity_at_end
-open_in-nil = refl
 
 past_of : (bits : List Bool) (ls ks : List Lock) (p : ℕ) → Extends ls ks → Past bits ls p
     → (q : ℕ) × Past bits ks q

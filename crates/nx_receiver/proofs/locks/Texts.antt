@@ -137,11 +137,6 @@ bytes_are_reading first f t (suc n) =
     (bytes-placed (word_place t n) _)
     ∙ sym (text-append (positions first f n) (taken_at first f n) Letters)
 
--- each byte stands at the end of a word of the lock
-pub AllPlaced : (ℕ → Type 0) → List PlacedByte → Type 0
-AllPlaced P [] = Unit {0}
-AllPlaced P (b ∷ text) = P b.place × AllPlaced P text
-
 pub goes_on_then : {A : Type 0} (xs ys zs : List A) → GoesOnAs xs ys → GoesOnAs xs (ys ++ zs)
 goes_on_then xs ys zs g =
     record { rest = g.rest ++ zs; whole = ap (λ l. l ++ zs) g.whole ∙ append_assoc xs g.rest zs }

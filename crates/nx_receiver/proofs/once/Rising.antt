@@ -14,11 +14,6 @@ abbrev pub Rises : {A : Type 0} → (A → ℕ) → List A → Type 0
 Rises key [] = Unit {0}
 Rises key (x ∷ xs) = Above key (key x) xs × Rises key xs
 
-pub above_less : {A : Type 0} (key : A → ℕ) (m n : ℕ) (xs : List A) → m ≤ n → Above key n xs
-    → Above key m xs
-above_less key m n [] le h = tt
-above_less key m n (x ∷ xs) le h = (omega (arith, h.0), above_less key m n xs le h.1)
-
 pub above_append : {A : Type 0} (key : A → ℕ) (n : ℕ) (xs ys : List A) → Above key n xs
     → Above key n ys
     → Above key n (xs ++ ys)

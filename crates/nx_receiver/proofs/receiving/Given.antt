@@ -1,5 +1,5 @@
 -- A copy that is over is judged where it lies, and handed out.
-use Rattle.std.proofs.Common.{◌≡◌, ◌≢◌, ℕ, Bool, true, false, cond, List, [], ◌∷◌, ◌++◌, Option, Some, None, IsNone, refl, sym, ap, ◌∙◌, subst, append-nil}
+use Rattle.std.proofs.Common.{◌≡◌, ◌≢◌, ℕ, Bool, true, false, cond, List, [], ◌∷◌, ◌++◌, Option, Some, IsNone, refl, sym, ap, ◌∙◌, subst, append-nil}
 use Rattle.std.specs.Prelude.{MatchOption, ◌↔◌}
 use Rattle.std.proofs.lemmas.Bool.{and_parts}
 use Rattle.nx_code.specs.Lists.{last_of}
@@ -215,18 +215,3 @@ pub over_not_open : {M : Type 0} (content : M → List MemoryEntry) (start : Sta
     → is_over ≡ over.CopyAndLock → is_open r.watch.reader.finder.copy ≡ false
 over_not_open content start r h s now log is_over a is =
     ap is_open (over_ready content start r h s now log is_over (ap is_copy is) a).1.held
-
--- where no copy is over, nothing is left of it
-pub none_behind : (is_over : Over) → is_copy is_over ≡ false → is_over ≡ behind_copy is_over
-none_behind over.Nothing none = refl
-none_behind over.Copy none = cc
-none_behind over.Lock none = refl
-none_behind over.CopyAndLock none = cc
-
--- where the lock isn't over, nothing is behind a copy
-pub nothing_behind : (is_over : Over) → is_over ≢ over.Lock → is_over ≢ over.CopyAndLock
-    → behind_copy is_over ≡ over.Nothing
-nothing_behind over.Nothing lock both = refl
-nothing_behind over.Copy lock both = refl
-nothing_behind over.Lock lock both = absurd (lock refl)
-nothing_behind over.CopyAndLock lock both = absurd (both refl)

@@ -1,16 +1,16 @@
 -- An input has one answer: reading a state can end in one way alone, unless a read fails.
-use Rattle.std.proofs.Common.{◌≡◌, ◌≢◌, ◌⊎◌, ℕ, ◌+◌, ◌<◌, ◌≤◌, List, [], ◌∷◌, ◌++◌, length, Option, None, Some, IfSome, Result, Ok, Err, MatchResult, inl, inr, refl, sym, ap, ◌∙◌, subst, append_assoc, append-nil, arith}
+use Rattle.std.proofs.Common.{◌≡◌, ◌≢◌, ◌⊎◌, ℕ, ◌+◌, ◌<◌, List, [], ◌∷◌, ◌++◌, length, Option, None, Some, IfSome, Result, Ok, Err, MatchResult, inl, inr, refl, sym, ap, ◌∙◌, subst, append_assoc, append-nil, arith}
 use Rattle.std.specs.List.{AllByRecursion}
 use Rattle.std.proofs.lemmas.List.{length-append}
 use Rattle.nx_memory.specs.Saved.{SavedStates, AreSavedStates}
 use Rattle.nx_memory.specs.StateText.{BeginsNoText, BeginsText, IsShortLine, IsStateText, text_2}
 use Rattle.nx_memory.proofs.StateLaws.{none_begins, one_state, text_short}
 use Rattle.nx_memory.proofs.StateLines.{each_left, each_right}
-use Rattle.nx_receiver.specs.State.{AnswersState, BeginsWith, BeginsWithState, IsNotUnderstood, IsStateBytes, StopsInText, ended_lines, state_bytes}
+use Rattle.nx_receiver.specs.State.{AnswersState, BeginsWithState, IsNotUnderstood, IsStateBytes, ended_lines, state_bytes}
 use Rattle.nx_receiver.specs.declared.state_fault.StateFault.{StateFault}
 use Rattle.nx_receiver.specs.declared.state_fault.StateFault.TheVariants.{Read, StateLine, StateCut}
 use Rattle.nx_receiver.proofs.states.Bounds.{some_lines}
-use Rattle.nx_receiver.proofs.states.Splits.{Compared, same, longer, shorter, compare, ended-one, none_ends, none_so_long, same_line}
+use Rattle.nx_receiver.proofs.states.Splits.{same, longer, shorter, compare, ended-one, none_ends, none_so_long, same_line}
 
 abbrev Answer : Type 0
 Answer = Result SavedStates StateFault
@@ -21,22 +21,6 @@ pub lines_short : (lines : List (List ℕ)) → BeginsText lines → AllByRecurs
 lines_short lines begins =
     each_left IsShortLine lines (begins.next ∷ begins.more)
     (text_short _ begins.states begins.is)
-
--- a text of a state is no beginning of one
-whole_begins_none : (lines : List (List ℕ)) (states : SavedStates) → IsStateText lines states
-    → BeginsText lines → ⊥
-whole_begins_none lines states is begins =
-    let none = none_begins lines (begins.next ∷ begins.more) states begins.states is begins.is in
-    omega (arith, ap length none)
-
--- nor does one that goes on begin with it
-whole_goes_on : (lines more : List (List ℕ)) (line : List ℕ) (states : SavedStates)
-    → IsStateText lines states → BeginsText (lines ++ line ∷ more) → ⊥
-whole_goes_on lines more line states is begins =
-    let all = subst (λ (l : List (List ℕ)). IsStateText l begins.states)
-    (append_assoc lines (line ∷ more) (begins.next ∷ begins.more)) begins.is in
-    let none = none_begins lines (line ∷ more ++ begins.next ∷ begins.more) states begins.states is
-    all in omega (arith, ap length none)
 
 -- no text begins another, in bytes; and the bytes stand for one state
 pub no_text_begins : (text more : List ℕ) (states others : SavedStates) → IsStateBytes text states

@@ -1,9 +1,9 @@
 -- Runs that hand on texts of states are a chain.
 use Rattle.std.proofs.Common.{◌≡◌, ℕ, List, [], ◌∷◌, ◌++◌, refl, sym, ap, ◌∙◌, subst}
 use Rattle.nx_memory.specs.Saved.{SavedStates}
-use Rattle.nx_receiver.specs.Chain.{GoesOn, IsChain, Run, all_logs, files}
+use Rattle.nx_receiver.specs.Chain.{GoesOn, Run, all_logs, files}
 use Rattle.nx_receiver.specs.Listen.{IsLogOf}
-use Rattle.nx_receiver.specs.Resume.{HasChain, IsTextChain, TextRun, text_files, text_logs}
+use Rattle.nx_receiver.specs.Resume.{HasChain, IsTextChain, TextRun}
 use Rattle.nx_receiver.specs.Shares.{Starts, starts_from}
 use Rattle.nx_receiver.specs.State.{IsStateBytes}
 use Rattle.nx_receiver.proofs.listens.Moments.{one-closed}

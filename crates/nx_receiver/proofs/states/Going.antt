@@ -1,7 +1,7 @@
 -- A run that goes on from a state over an air file, where its log is thrown away.
-use Rattle.std.proofs.Common.{◌≡◌, ℕ, List, [], Option, None, Some, IfSome, Result, Ok, Err, inl, inr, refl, arith}
+use Rattle.std.proofs.Common.{◌≡◌, ℕ, List, [], Option, None, Some, IfSome, Ok, Err, inl, inr, refl, arith}
 use Rattle.std.specs.Io.KnownBytes.{Consumes, IsAtEnd}
-use Rattle.nx_fec.specs.Transfers.{CountedDevice, Devices, Reads}
+use Rattle.nx_fec.specs.Transfers.{Devices, Reads}
 use Rattle.nx_fec.proofs.TransferLaws.{Ok-not_err}
 use Rattle.nx_memory.specs.Saved.{AreSavedStates, SavedStates}
 use Rattle.nx_receiver.specs.Chain.{HasGoneOn}
@@ -9,7 +9,6 @@ use Rattle.nx_receiver.specs.Listen.{AnswersListening}
 use Rattle.nx_receiver.specs.Resume.{AnswersAir, HasLeft, HoldsOfInput, IsUnread, ResumesBy}
 use Rattle.nx_receiver.specs.Shares.{starts_from}
 use Rattle.nx_receiver.specs.State.{state_bytes}
-use Rattle.nx_receiver.specs.declared.listen_fault.ListenFault.{ListenFault}
 use Rattle.nx_receiver.specs.declared.listen_fault.ListenFault.TheVariants as listen
 use Rattle.nx_receiver.specs.declared.listening.Report.{Report}
 use Rattle.nx_receiver.specs.declared.resume_fault.ResumeFault.TheVariants as resume

@@ -1,16 +1,15 @@
 -- What reading a state says of its reader, at each of its ends.
-use Rattle.std.proofs.Common.{◌≡◌, ◌≢◌, ℕ, ◌+◌, List, [], ◌∷◌, ◌++◌, length, Option, IfSome, IfErr, Result, Ok, Err, inl, inr, refl, sym, ap, ◌∙◌, subst, append_assoc, append-nil, arith}
-use Rattle.std.specs.Io.KnownBytes.{Consumes, IsAtEnd}
+use Rattle.std.proofs.Common.{◌≡◌, ℕ, ◌+◌, List, [], ◌∷◌, ◌++◌, length, Option, Result, Ok, Err, inl, inr, refl, sym, ap, ◌∙◌, subst, append_assoc, append-nil, arith}
+use Rattle.std.specs.Io.KnownBytes.{Consumes}
 use Rattle.std.proofs.KnownBytes.{Consumes-trans}
 use Rattle.nx_fec.specs.Lines.{line_end}
-use Rattle.nx_fec.specs.Transfers.{CountedDevice, Reads}
+use Rattle.nx_fec.specs.Transfers.{CountedDevice}
 use Rattle.nx_fec.proofs.TransferLaws.{IfSome-end, IfSome-front, Ok-not_err, read_failed-none}
 use Rattle.nx_memory.specs.Saved.{SavedStates}
 use Rattle.nx_memory.specs.StateText.{BeginsNoText, BeginsText, IsShortLine, IsStateText}
-use Rattle.nx_receiver.specs.State.{AnswersState, BeginsWith, IsStateBytes, ReadsState, StopsInText, ended_lines}
-use Rattle.nx_receiver.specs.private.StateParts.{HasReadPart, IsNextLine}
-use Rattle.nx_receiver.specs.declared.state.LineRead.{LineRead}
-use Rattle.nx_receiver.specs.declared.state.LineRead.TheVariants.{Whole, Long, Cut, Failed}
+use Rattle.nx_receiver.specs.State.{AnswersState, IsStateBytes, ReadsState, StopsInText, ended_lines}
+use Rattle.nx_receiver.specs.private.StateParts.{IsNextLine}
+use Rattle.nx_receiver.specs.declared.state.LineRead.TheVariants.{Long, Cut, Failed}
 use Rattle.nx_receiver.specs.declared.state_fault.StateFault.{StateFault}
 use Rattle.nx_receiver.specs.declared.state_fault.StateFault.TheVariants.{Read, StateLine, StateCut}
 use Rattle.nx_receiver.proofs.states.Splits.{ended-one}

@@ -1,5 +1,5 @@
 -- Lines that are given one after the other are the bytes of a text.
-use Rattle.std.proofs.Common.{◌≡◌, ℕ, ◌+◌, ◌<◌, ◌≤◌, zero, suc, Some, None, List, [], ◌∷◌, ◌++◌, length, take, drop, slice_get, Option, OnOk, IfErr, Result, Ok, Err, MatchResult, refl, sym, ap, ◌∙◌, subst, append_assoc, append-nil, take-append-drop, arith}
+use Rattle.std.proofs.Common.{◌≡◌, ℕ, ◌+◌, zero, suc, Some, None, List, [], ◌∷◌, ◌++◌, take, drop, slice_get, Option, OnOk, IfErr, Result, Ok, Err, MatchResult, refl, sym, ap, ◌∙◌, subst, take-append-drop, arith}
 use Rattle.std.proofs.KnownBytes.{Appends-nil}
 use Rattle.std.specs.Io.KnownBytes.{Appends}
 use Rattle.nx_fec.specs.Lines.{line_end}
@@ -60,11 +60,6 @@ take-all [] (suc place) e = refl
 take-all (first ∷ lines) zero e = cc
 take-all (first ∷ lines) (suc place) e =
     ap (λ (l : List (List ℕ)). first ∷ l) (take-all lines place e)
-
--- what a line says, read off the option that gave it
-pub line-at : (lines : List (List ℕ)) (place : ℕ) (o : Option (List ℕ)) (line : List ℕ)
-    → o ≡ slice_get lines place → o ≡ Some line → slice_get lines place ≡ Some line
-line-at lines place o line e f = sym e ∙ f
 
 -- what was given is written once nothing waits
 pub sent-all : (result : Result (Unit {0}) WriteFault) (old new : Option (List ℕ))

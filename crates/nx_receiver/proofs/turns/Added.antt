@@ -151,19 +151,6 @@ pub one-given : (starts : Starts) (given : List Given) (channel : Channel) (even
 one-given starts given channel events copies more h k =
     others-given starts given channel events copies more (λ other e. h other) k
 
--- and what is given to it at once may be more
-pub more-given : (starts : Starts) (given : List Given) (channel : Channel)
-    (events more : List Event) (copies : List MarkedCopy) (rest : List TaggedCopy)
-    → HavePrinted starts (given ++ to_one channel events ∷ []) copies
-    → HasPrinted (start_on starts channel) (share channel given ++ (events ++ more))
-    (copies_on channel copies ++ rest)
-    → HavePrinted starts (given ++ to_one channel (events ++ more) ∷ [])
-    (copies ++ map (marked channel) rest)
-more-given starts given channel events more copies rest h k =
-    others-given starts given channel (events ++ more) copies rest
-    (λ other e. subst (λ all. HasPrinted (start_on starts other) all (copies_on other copies))
-    (share-other other channel given events e) (h other)) k
-
 none-added : (start : Start) (events : List Event) (channel : Channel)
     (copies more : List MarkedCopy) → HasPrinted start events (copies_on channel copies)
     → HasPrinted start events (copies_on channel (copies ++ more)) → copies_on channel more ≡ []

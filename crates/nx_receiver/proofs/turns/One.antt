@@ -95,22 +95,6 @@ one-in_turn starts given xs ys h k =
     (begins-in_turn starts given ys k) (all-first starts given xs h.each)
     (all-first starts given ys k.each)
 
--- the log in turn of a beginning is a beginning of the log in turn
-pub in_turn-on : (starts : Starts) (before later : List Given) (xs ys : List MarkedCopy)
-    → PrintsInTurn starts before xs → PrintsInTurn starts (before ++ later) ys → GoesOnAs xs ys
-in_turn-on starts before later xs ys h k =
-    let begins = begins-in_turn starts (before ++ later) ys k in
-    let first = begins before later refl in
-    let same = one-beginning starts before xs ys (begins-in_turn starts before xs h)
-    (λ front back e. begins front (back ++ later)
-    (ap (λ l. l ++ later) e ∙ append_assoc front back later))
-    (all-first starts before xs h.each) first in
-    record {
-      rest = first.rest;
-      whole =
-          first.whole ∙ ap (λ l. l ++ first.rest) (sym same);
-    }
-
 -- there is one log to the end
 pub one-to_end : (starts : Starts) (given : List Given) (xs ys : List MarkedCopy)
     → PrintAllToEnd starts given xs → PrintAllToEnd starts given ys → xs ≡ ys

@@ -10,8 +10,7 @@ use Rattle.nx_receiver.specs.Shares.{Given, MarkedCopy, Starts, copies_on, marke
 use Rattle.nx_receiver.proofs.Shares.{all_channels, in_turn-more, in_turn-other}
 use Rattle.nx_receiver.proofs.locks.Texts.{GoesOnAs, goes_on_twice}
 use Rattle.nx_receiver.proofs.receiving.Logged.{has_printed_on, prints_to_end_on, some_printed, some_to_end}
-use Rattle.nx_receiver.proofs.turns.Added.{moment-given, more-given, nothing-given, one-given, share-own}
-use Rattle.nx_receiver.proofs.turns.One.{in_turn-on}
+use Rattle.nx_receiver.proofs.turns.Added.{moment-given, nothing-given, one-given, share-own}
 
 -- what some are printed after, and how they go on
 pub record GoesOnPrinted (starts : Starts) (given : List Given) (copies : List MarkedCopy)
@@ -111,38 +110,3 @@ pub some-to_end : (starts : Starts) (given : List Given)
     → (copies : List MarkedCopy) × PrintAllToEnd starts given copies
 some-to_end starts given =
     let ended = some-in_turn starts given in some-ended starts given ended.0 ended.1
-
--- Where the last that is given is a part of what is given at once to a channel, its log in turn is
--- a beginning of that of all.
-pub part-on : (starts : Starts) (given later : List Given) (channel : Channel)
-    (events more : List Event) (xs ys : List MarkedCopy)
-    → PrintsInTurn starts (given ++ to_one channel events ∷ []) xs
-    → PrintsInTurn starts (given ++ to_one channel (events ++ more) ∷ later) ys → GoesOnAs xs ys
-part-on starts given later channel events more xs ys h k =
-    let start = start_on starts channel in
-    let front = share channel given ++ events in
-    let whole : front ++ more ≡ share channel given ++ (events ++ more) =
-    append_assoc (share channel given) events more in
-    let all = some_printed start (front ++ more) in
-    let on = has_printed_on start front more (copies_on channel xs) all.0
-    (subst (λ es. HasPrinted start es (copies_on channel xs)) (share-own channel given events)
-    (h.each channel)) all.1 in
-    let next = in_turn-other starts given (to_one channel events) (to_one channel (events ++ more))
-    xs (map (marked channel) on.rest) h
-    (more-given starts given channel events more xs on.rest h.each
-    (subst (λ es. HasPrinted start es (copies_on channel xs ++ on.rest)) whole
-    (subst (HasPrinted start (front ++ more)) on.whole all.1))) in
-    let last = in_turn-on starts (given ++ to_one channel (events ++ more) ∷ []) later
-    (xs ++ map (marked channel) on.rest) ys next
-    (subst (λ all. PrintsInTurn starts all ys)
-    (sym (append_assoc given (to_one channel (events ++ more) ∷ []) later)) k) in
-    goes_on_twice xs (xs ++ map (marked channel) on.rest) ys
-    (record { rest = map (marked channel) on.rest; whole = refl }) last
-
--- what is printed to the end begins with what has ended
-pub ended-first : (starts : Starts) (given : List Given) (copies : List MarkedCopy)
-    → (h : PrintAllToEnd starts given copies) → GoesOnAs h.ended copies
-ended-first starts given copies h = record {
-  rest = flat_map (λ channel. map (marked channel) (h.closed channel)) all_channels;
-  whole = h.whole;
-}

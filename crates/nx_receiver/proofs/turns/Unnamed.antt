@@ -1,5 +1,5 @@
 -- Lines that name no channel: what they give belongs to channel 0, so one receiver makes their log.
-use Rattle.std.proofs.Common.{◌≡◌, ℕ, Bool, false, true, cond, List, [], ◌∷◌, ◌++◌, Option, None, map, refl, sym, ap, ◌∙◌, subst}
+use Rattle.std.proofs.Common.{◌≡◌, ℕ, Bool, false, true, cond, List, [], ◌∷◌, ◌++◌, Option, None, map, refl, ap, ◌∙◌, subst}
 use Rattle.std.specs.List.{AllByRecursion, flat_map}
 use Rattle.nx_fec.specs.AirFile.{Line, moment, elements, refuse_station, accept_station, refuse_subject, accept_subject}
 use Rattle.nx_fec.specs.Channels.{channel_of, same_channel}
@@ -11,7 +11,7 @@ use Rattle.nx_receiver.specs.FoundCopies.{TaggedCopy}
 use Rattle.nx_receiver.specs.LawTerms.{events_said, named_by}
 use Rattle.nx_receiver.specs.Listen.{IsLogOfFile, events_on, given_by, given_of}
 use Rattle.nx_receiver.specs.Log.{PrintsToEnd}
-use Rattle.nx_receiver.specs.Shares.{MarkedCopy, Starts, copies_on, events_for, marked, share, start_on}
+use Rattle.nx_receiver.specs.Shares.{MarkedCopy, Starts, copies_on, events_for, marked, start_on}
 use Rattle.nx_receiver.proofs.Shares.{to_end-on}
 use Rattle.nx_receiver.proofs.chain.Alone.{HearsAlone, all-alone}
 use Rattle.nx_receiver.proofs.receiving.Logged.{bits_of-append}

@@ -1,4 +1,4 @@
-use Rattle.std.proofs.Common.{Ok, Err, [], refl, subst, sym, ◌∙◌}
+use Rattle.std.proofs.Common.{Ok, Err, [], refl, subst, sym}
 use Rattle.nx_fec.specs.Transfers.{devices}
 use Rattle.nx_fec.proofs.TransferLaws.{Ok-not_err, Writes-sound}
 use Rattle.nx_receiver.specs.Listen.{given_by}

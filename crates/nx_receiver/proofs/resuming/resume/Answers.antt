@@ -1,4 +1,4 @@
-use Rattle.std.proofs.Common.{◌≡◌, sym, subst}
+use Rattle.std.proofs.Common.{sym, subst}
 use Rattle.nx_fec.specs.Transfers.{devices}
 use Rattle.nx_receiver.specs.Resume.{AnswersResuming, ReadStateAlone, ResumesBy, WritesLeft}
 use Rattle.nx_receiver.specs.declared.resume_fault.Want.TheVariants.{Log, State}

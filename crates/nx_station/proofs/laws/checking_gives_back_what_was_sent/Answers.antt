@@ -1,5 +1,9 @@
 use Rattle.nx_station.proofs.CheckingLaws.{checked-one, sent-checked}
+use Rattle.nx_station.proofs.TransmissionLength.{length-transmission}
 use Rattle.nx_station.proofs.laws.checking_gives_back_what_was_sent.Goals as goal
+
+pub returns-clause-within : goal.returns-clause-within
+returns-clause-within c = length-transmission
 
 pub returns-clause-checked : goal.returns-clause-checked
 returns-clause-checked c = sent-checked

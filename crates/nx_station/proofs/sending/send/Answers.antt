@@ -15,11 +15,6 @@ use Rattle.nx_station.specs.declared.fault.SendRunFault.TheVariants.{Send}
 use Rattle.nx_station.proofs.SendingLaws.{unsent, unwritten, sent-all, refusal-explains, refusal-inside, transmission-of}
 use Rattle.nx_station.proofs.sending.send.Goals as goal
 
--- the file has messages, all of the station
-abbrev AreThese : ℕ → List MessageView → List ℕ → Type 0
-AreThese station messages file =
-    IsMessageFile file (map file_message_of messages) × AreOf station messages
-
 pub returns-in_default : goal.returns-in_default
 returns-in_default g c =
     let messages = c.in_ok-messages.messages in

@@ -1,4 +1,4 @@
-use Rattle.std.proofs.Common.{◌<◌, ◌+◌, ◌*◌, length, set, take, ap, sym, ◌∙◌, arith}
+use Rattle.std.proofs.Common.{arith}
 use Rattle.nx_fec.proofs.PackedFronts.{word-put}
 use Rattle.nx_fec.proofs.packed.PackedElements.put.Goals as goal
 

@@ -1,7 +1,6 @@
-use Rattle.std.proofs.Common.{◌≡◌, ◌+◌, ◌*◌, ◌<◌, ◌∙◌, ◌&&◌, ap, sym, length, map, set, take, true, arith, subst}
-use Rattle.std.proofs.lemmas.List.{length-set, take_all, take_rest}
+use Rattle.std.proofs.Common.{◌≡◌, ◌+◌, ◌*◌, ◌∙◌, sym, map, set, take, true, arith, subst}
+use Rattle.std.proofs.lemmas.List.{length-set}
 use Rattle.nx_code.specs.Packed.{elements_of_words}
-use Rattle.nx_code.specs.Word.{elements_from}
 use Rattle.nx_fec.specs.private.Packing.{are_elements, is_one}
 use Rattle.nx_fec.proofs.PackedLemmas.{packed-more, right-more}
 use Rattle.nx_fec.proofs.packed.PackedElements.read_front.Goals as goal

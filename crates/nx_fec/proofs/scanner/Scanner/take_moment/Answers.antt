@@ -1,4 +1,4 @@
-use Rattle.std.proofs.Common.{◌≡◌, ◌∙◌, ◌++◌, ◌+◌, None, ap, arith, length, refl, subst, sym, take}
+use Rattle.std.proofs.Common.{◌≡◌, ◌∙◌, ◌++◌, ◌+◌, ap, arith, length, refl, subst, sym, take}
 use Rattle.nx_fec.specs.private.ScannerKept.{SpellsLine}
 use Rattle.nx_fec.specs.declared.air_file.LineKind.TheVariants.{Moment}
 use Rattle.nx_fec.proofs.WholeLineLemmas.{moment-spells, takes-moment}

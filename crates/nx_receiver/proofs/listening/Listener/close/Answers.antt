@@ -1,4 +1,4 @@
-use Rattle.std.proofs.Common.{◌++◌, ◌∙◌, ap, refl, subst, sym}
+use Rattle.std.proofs.Common.{◌++◌, ap, subst}
 use Rattle.std.proofs.lemmas.Result.{err_from_is_err_and}
 use Rattle.nx_receiver.specs.private.Listener.{Listening}
 use Rattle.nx_receiver.proofs.listens.Ends.{CloseAll, Closes, Closing, closed-all, closed-part-0, closed-part-1, closed-part-2}

@@ -1,7 +1,7 @@
 use Rattle.std.proofs.Common.{◌≡◌, ◌≤◌, ℕ, ◌+◌, ◌++◌, ◌∙◌, Bool, true, false, cond, ap, ap₂, arith, length, refl, subst, sym}
 use mir.Val.{bool_byte}
 use Rattle.nx_receiver.specs.Receiver.{Stands}
-use Rattle.nx_receiver.specs.private.Listener.{Listening, content, count_of, receiver_on}
+use Rattle.nx_receiver.specs.private.Listener.{Listening, content, count_of}
 use Rattle.nx_receiver.proofs.listens.Listener.{differs-on, same-receivers}
 use Rattle.nx_receiver.proofs.listening.Listener.finish.Goals as goal
 

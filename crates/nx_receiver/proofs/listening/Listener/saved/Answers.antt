@@ -1,10 +1,8 @@
-use Rattle.std.proofs.Common.{ap, subst, sym, ◌∙◌}
-use Rattle.nx_fec.specs.declared.channel.Channel.{Channel}
+use Rattle.std.proofs.Common.{subst, sym}
 use Rattle.nx_fec.specs.declared.channel.Channel.TheVariants.{Zero, One, Two}
 use Rattle.nx_receiver.specs.Chain.{Leaves}
 use Rattle.nx_receiver.specs.Listen.{events_on}
-use Rattle.nx_receiver.specs.Shares.{Starts, start_on}
-use Rattle.nx_receiver.specs.private.Listener.{IsListening}
+use Rattle.nx_receiver.specs.Shares.{start_on}
 use Rattle.nx_receiver.proofs.listens.Listener.{on-all}
 use Rattle.nx_receiver.proofs.listening.Listener.saved.Goals as goal
 

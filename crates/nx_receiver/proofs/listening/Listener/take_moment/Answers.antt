@@ -1,4 +1,4 @@
-use Rattle.std.proofs.Common.{◌≡◌, ◌≤◌, ℕ, true, refl, subst, sym, ap, ◌∙◌}
+use Rattle.std.proofs.Common.{◌≤◌, true, refl, subst, sym, ap, ◌∙◌}
 use Rattle.nx_fec.specs.AirFile.{moment}
 use Rattle.nx_fec.specs.declared.channel.Channel.TheVariants.{Zero, One, Two}
 use Rattle.nx_receiver.specs.Events.{at_moment, Refuses}

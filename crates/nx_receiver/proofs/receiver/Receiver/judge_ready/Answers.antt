@@ -1,4 +1,4 @@
-use Rattle.std.proofs.Common.{◌≡◌, ◌++◌, ◌∷◌, [], ap, ap₂, cond, subst, sym, true, ◌∙◌}
+use Rattle.std.proofs.Common.{◌++◌, ◌∷◌, [], ap, ap₂, cond, subst, sym, true, ◌∙◌}
 use Rattle.nx_code.specs.Lists.{last_of}
 use Rattle.nx_envelope.specs.Copies.{errors_of}
 use Rattle.nx_envelope.specs.Finder.{HasReady}

@@ -1,6 +1,5 @@
-use Rattle.std.proofs.Common.{◌+◌, ◌*◌, ◌≡◌, map, sym, ap, ◌∙◌, arith}
+use Rattle.std.proofs.Common.{◌+◌, ◌*◌, map, sym, ap, ◌∙◌, arith}
 use Rattle.nx_fec.specs.AirFile.{element_digit}
-use Rattle.nx_station.specs.private.DamageWalk.{IsOnWalk}
 use Rattle.nx_station.proofs.NamedLemmas.{count-fours, stride-few, walk-begins, walk-by, walk-starts}
 use Rattle.nx_station.proofs.damaging.Named.invert_fours.Goals as goal
 
