@@ -18,7 +18,7 @@ use Rattle.nx_sync.specs.declared.track.Track.{Track}
 use Rattle.nx_sync.specs.Words.{marked_words, losing_count, other_role, is_dx, word_of_lock, role_of}
 use Rattle.nx_sync.specs.private.Windows.{next_word_window}
 use Rattle.nx_sync.specs.private.Calls.{track_after, fills_releasing_word, Completes}
-use Rattle.nx_sync.specs.private.Eight.{has_wrong, wrong_ones, last_four, last_five_marks, marks_after_words, after_eight}
+use Rattle.nx_sync.specs.private.Eight.{wrong_ones, last_four, last_five_marks, marks_after_words, after_eight}
 use Rattle.nx_sync.specs.Steps.{step, IsWordStep, AreQuietWords}
 use Rattle.nx_sync.specs.Locks.{Now, hunting, locked}
 use Rattle.nx_sync.specs.Synchroniser.{Held, p1_marks, Tracks, StandsAfter, awaits_free_dx, has_dx_phasing_1, keeps_lock}
@@ -42,20 +42,6 @@ eight_items (a ∷ b ∷ c ∷ d ∷ e ∷ f ∷ g ∷ []) l = absurd (omega ari
 eight_items (a ∷ b ∷ c ∷ d ∷ e ∷ f ∷ g ∷ h ∷ []) l = refl
 eight_items (a ∷ b ∷ c ∷ d ∷ e ∷ f ∷ g ∷ h ∷ i ∷ xs) l = absurd (omega arith)
 
--- the wrong ones among eight words, by halves
-halves : (a b c d e f g h : Bool)
-    → not ((((a && b) && c) && d) && (((e && f) && g) && h))
-    ≡ (not a || (not b || (not c || (not d || (not e || (not f || (not g || (not h || false))))))))
-halves false b c d e f g h = refl
-halves true false c d e f g h = refl
-halves true true false d e f g h = refl
-halves true true true false e f g h = refl
-halves true true true true false f g h = refl
-halves true true true true true false g h = refl
-halves true true true true true true false h = refl
-halves true true true true true true true false = refl
-halves true true true true true true true true = refl
-
 -- whether a word of a list is right
 right_at : (xs : List ℕ) (k x : ℕ) (right : Bool) → k < length xs
     → (right ≡ true → weight (get_or xs k x) ≡ 4) × (weight (get_or xs k x) ≡ 4 → right ≡ true)
@@ -74,16 +60,6 @@ pub judged : (xs : List ℕ) (k x : ℕ) (right : Bool) → length xs ≡ 8 → 
     → Judged xs k right
 judged xs k x right l h both = record { is = right_at xs k x right (omega arith) both }
 
-pub has_wrong-halves : (xs : List ℕ) (a b c d e f g h : Bool) → length xs ≡ 8
-    → Judged xs 0 a → Judged xs 1 b → Judged xs 2 c → Judged xs 3 d
-    → Judged xs 4 e → Judged xs 5 f → Judged xs 6 g → Judged xs 7 h
-    → not ((((a && b) && c) && d) && (((e && f) && g) && h)) ≡ has_wrong xs
-unfolding has_wrong
-has_wrong-halves xs a b c d e f g h l ja jb jc jd je jf jg jh =
-    let r : ℕ → Bool = λ k. weight (slice_index xs k) == 4 in
-    rw (ja.is, jb.is, jc.is, jd.is, je.is, jf.is, jg.is, jh.is)
-    (halves (r 0) (r 1) (r 2) (r 3) (r 4) (r 5) (r 6) (r 7) ∙ sym (ap has_wrong (eight_items xs l)))
-
 -- the marks of eight words
 pub wrong_ones-eight : (xs : List ℕ) (a b c d e f g h : Bool) → length xs ≡ 8
     → Judged xs 0 a → Judged xs 1 b → Judged xs 2 c → Judged xs 3 d
@@ -92,78 +68,6 @@ pub wrong_ones-eight : (xs : List ℕ) (a b c d e f g h : Bool) → length xs �
 wrong_ones-eight xs a b c d e f g h l ja jb jc jd je jf jg jh =
     rw (ja.is, jb.is, jc.is, jd.is, je.is, jf.is, jg.is, jh.is)
     (sym (ap wrong_ones (eight_items xs l)))
-
--- where there are 64 marks, as many of the oldest go as words come
-pub marks_replaced : (words : List ℕ) (marks : List Bool) → length marks ≡ marked_words
-    → length words ≤ marked_words
-    → marks_after_words marks words ≡ drop (length words) marks ++ wrong_ones words
-unfolding marks_after_words
-marks_replaced [] marks l few = sym (append-nil marks)
-marks_replaced (word ∷ words) marks l few =
-    let one : List Bool = is_wrong word ∷ [] in
-    let k : ℕ = length words in
-    let e : length (marks ++ one) - marked_words ≡ 1 = simp length-append (omega arith) in
-    let moved : keep_last marked_words (marks ++ one) ≡ drop 1 marks ++ one =
-    ap (λ i. drop i (marks ++ one)) e ∙ drop-append-le 1 marks one (omega arith) in
-    let rest = marks_replaced words (drop 1 marks ++ one)
-    (simp (length-append, length-drop) (omega arith)) (omega arith) in
-    let more : 1 + k ≡ suc k = omega arith in
-    let gone : drop k (drop 1 marks ++ one) ≡ drop (suc k) marks ++ one =
-    drop-append-le k (drop 1 marks) one (simp length-drop (omega arith))
-    ∙ ap (λ xs. xs ++ one) (drop-drop k 1 marks ∙ ap (λ i. drop i marks) more) in
-    ap (λ xs. marks_after_words xs words) moved
-    ∙ (rest
-    ∙ (ap (λ xs. xs ++ wrong_ones words) gone
-    ∙ append_assoc (drop (suc k) marks) one (wrong_ones words)))
-
--- how many of the oldest marks are set, which lie in two parts
-pub count_parts : (older newer marks : List Bool) (n : ℕ) → older ++ newer ≡ marks
-    → length older ≤ n
-    → count_by (λ b. b) older + count_by (λ b. b) (take (n - length older) newer)
-    ≡ count_by (λ b. b) (take n marks)
-count_parts older newer marks n e few =
-    let at : length older + (n - length older) ≡ n = omega arith in
-    let part : take n (older ++ newer) ≡ older ++ take (n - length older) newer =
-    ap (λ i. take i (older ++ newer)) (sym at)
-    ∙ take-append-add older newer (n - length older) in
-    sym (ap (λ xs. count_by (λ b. b) (take n xs)) (sym e)
-    ∙ (ap (count_by (λ b. b)) part
-    ∙ sum_by-append (λ b. cond b 1 0) older (take (n - length older) newer)))
-
--- how many of the marks are set after eight that come, where the eight oldest go
-pub count_replaced : (old more : List Bool) → length old ≡ marked_words → length more ≡ 8
-    → count_by (λ b. b) old - count_by (λ b. b) (take 8 old) + count_by (λ b. b) more
-    ≡ count_by (λ b. b) (keep_last marked_words (old ++ more))
-count_replaced old more l eight =
-    let parts = sum_by-take-drop (λ b. cond b 1 0) old 8 in
-    let both = sum_by-append (λ b. cond b 1 0) (drop 8 old) more in
-    let e : length (old ++ more) - marked_words ≡ 8 = simp length-append (omega arith) in
-    let kept : keep_last marked_words (old ++ more) ≡ drop 8 old ++ more =
-    ap (λ i. drop i (old ++ more)) e ∙ drop-append-le 8 old more (omega arith) in
-    sym (ap (count_by (λ b. b)) kept ∙ omega (arith, parts, both))
-
--- the marks of the next word, and of those after it
-pub marks-more : (marks : List Bool) (words : List ℕ) (i : ℕ) → i < length words
-    → marks_after_words (keep_last marked_words (marks ++ is_wrong (get_or words i 0) ∷ []))
-    (drop (i + 1) words) ≡ marks_after_words marks (drop i words)
-unfolding marks_after_words
-marks-more marks words i h = sym (ap (marks_after_words marks) (drop_more words i 0 h))
-
-pub marks-none : (marks : List Bool) (words : List ℕ) (i : ℕ) → length words ≤ i
-    → marks_after_words marks (drop i words) ≡ marks
-unfolding marks_after_words
-marks-none marks words i h = ap (marks_after_words marks) (drop_all i words h)
-
--- where none of 64 marks is set, and none of these words is wrong, the marks stay
-pub all_marks_stay : (words : List ℕ) (marks : List Bool) → length marks ≡ marked_words
-    → count_by (λ b. b) marks ≡ 0 → has_wrong words ≡ false → marks ≡ marks_after_words marks words
-unfolding has_wrong marks_after_words
-all_marks_stay [] marks l none right = refl
-all_marks_stay (word ∷ words) marks l none right =
-    let each = or_parts (is_wrong word) (has_wrong words) right in
-    let stay = marks_stay marks (is_wrong word) l none each.0 in
-    subst (λ xs. marks ≡ marks_after_words xs words) stay
-    (all_marks_stay words marks l none each.1)
 
 -- what is held after words of a lock, where none of them brings a change
 unfoldable window_after_words : ℕ → List ℕ → ℕ
@@ -541,11 +445,3 @@ eight_heard held track words before new a is full within keeps l small e =
       stands = subst (λ s. StandsAfter s (before ++ flat_map elements words)) after runs.stands;
       steps = runs.steps;
     }
-
--- the parts of the test whether no mark changes
-pub quiet_test : (a b c : Bool) → ((not a && b) && c) ≡ true
-    → (a ≡ false) × (b ≡ true) × (c ≡ true)
-quiet_test false true true h = (refl, refl, refl)
-quiet_test false true false h = absurd (cc)
-quiet_test false false c h = absurd (cc)
-quiet_test true b c h = absurd (cc)

@@ -22,4 +22,5 @@ pub mod Blocks
 pub mod PhasingStates
 pub mod Examples
 pub mod WordLimits
+pub mod MarkBits
 pub mod EightWords

@@ -187,6 +187,13 @@ none_marked (true ∷ xs) h = absurd (omega (arith, sum_by-cons (λ b. cond b 1 
 none_marked (false ∷ xs) h =
     ap (λ ys. false ∷ ys) (none_marked xs (omega (arith, sum_by-cons (λ b. cond b 1 0) false xs)))
 
+-- marks of which none is set are the same, where there are 64
+pub same_marks : (xs ys : List Bool) → length xs ≡ marked_words → count_by (λ b. b) xs ≡ 0
+    → length ys ≡ marked_words → count_by (λ b. b) ys ≡ 0 → xs ≡ ys
+same_marks xs ys l none m unset =
+    none_marked xs none
+    ∙ (ap (λ n. replicate n false) (l ∙ sym m) ∙ sym (none_marked ys unset))
+
 -- where none of 64 words is wrong, and one more isn't either, their marks stay
 pub marks_stay : (xs : List Bool) (is_wrong : Bool) → length xs ≡ marked_words
     → count_by (λ b. b) xs ≡ 0 → is_wrong ≡ false

@@ -1,8 +1,8 @@
 //! Eight words at once: what a lock asks of them. Inlined always, since the answers would go
 //! through memory otherwise.
 
-ghost use Rattle.std.specs.Prelude.{◌≡◌, ℕ, ◌^◌, ◌<◌, ◌≤◌, length, slice_index};
-ghost use Rattle.std.specs.List.{count_by};
+ghost use Rattle.std.specs.Prelude.{◌≡◌, ℕ, ◌^◌, ◌<◌, slice_index};
+ghost use Rattle.nx_code.specs.Word.{number_of};
 ghost use Rattle.nx_sync.specs.Locks.{pattern_elements};
 ghost use Rattle.nx_sync.specs.Synchroniser as held;
 ghost use Rattle.nx_sync.specs.private.Eight as spec;
@@ -42,22 +42,6 @@ pub(crate) fn has_dx_phasing_1(numbers: &[u8; EIGHT]) -> bool
         | (numbers[6] == PHASING_1)
 }
 
-/// Whether any of eight words has the wrong weight.
-#[inline(always)]
-pub(crate) fn has_wrong(words: &[Word; EIGHT]) -> bool
-    ensures { result ≡ spec.has_wrong words.now }
-{
-    let first_half = check_bits(words[0])
-        & check_bits(words[1])
-        & check_bits(words[2])
-        & check_bits(words[3]);
-    let second_half = check_bits(words[4])
-        & check_bits(words[5])
-        & check_bits(words[6])
-        & check_bits(words[7]);
-    !(first_half & second_half)
-}
-
 /// The marks of eight words, whether each has the wrong weight.
 #[inline(always)]
 pub(crate) fn wrong_ones(words: &[Word; EIGHT]) -> [bool; EIGHT]
@@ -75,18 +59,18 @@ pub(crate) fn wrong_ones(words: &[Word; EIGHT]) -> [bool; EIGHT]
     ]
 }
 
-/// How many of at most eight marks are set.
+/// The marks of eight words as bits of a number, the first word's in the least place.
 #[inline(always)]
-pub(crate) fn count_set(marks: &[bool]) -> u32
-    requires { length marks.now ≤ 8 }
-    ensures count { result ≡ count_by (λ b. b) marks.now }
-    ensures few { result ≤ 8 }
+pub(crate) fn wrong_bits(words: &[Word; EIGHT]) -> u64
+    ensures number { result ≡ number_of (spec.wrong_ones words.now) }
+    ensures within { result < 2 ^ 8 }
 {
-    let mut count = 0;
-    for mark in marks {
-        count += u32::from(*mark);
+    let marks = wrong_ones(words);
+    let mut bits = 0;
+    for place in (0..EIGHT).rev() {
+        bits = 2 * bits + u64::from(marks[place]);
     }
-    count
+    bits
 }
 
 /// The window after eight words, of which it has the last four.

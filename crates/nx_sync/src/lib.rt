@@ -4,6 +4,7 @@
 
 mod eight;
 pub mod laws;
+mod mark_bits;
 mod packed;
 mod step;
 mod synchroniser;
@@ -11,7 +12,9 @@ mod synchroniser;
 mod tests;
 mod track;
 mod windows;
+mod word_synchroniser;
 
 pub use step::{Change, Role, Step};
 pub use synchroniser::Synchroniser;
 pub use windows::first_lock;
+pub use word_synchroniser::WordSynchroniser;

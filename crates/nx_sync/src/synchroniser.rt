@@ -3,44 +3,38 @@
 //! their answers would go through memory otherwise.
 
 ghost use Rattle.std.specs.Prelude.{◌≡◌, ℕ, ◌+◌, ◌-◌, ◌*◌, ◌/◌, ◌^◌, ◌<◌, ◌≤◌, ◌↔◌, List, Bool, false, [], ◌∷◌, ◌++◌, length, take, drop, slice_index, min, nat_le, not, IsTrue, IfOk};
-ghost use Rattle.std.specs.List.{count_by, flat_map};
-ghost use Rattle.nx_sync.specs.declared.step.Role.TheVariants.{Dx};
+ghost use Rattle.std.specs.List.{count_by};
 ghost use Rattle.nx_sync.specs.declared.step.Change.TheVariants.{Locked};
-ghost use Rattle.nx_code.specs.Word.{elements, elements_from};
+ghost use Rattle.nx_code.specs.Word.{elements_from};
 ghost use Rattle.nx_code.specs.Packed.{packed_elements, packed_part};
 ghost use Rattle.nx_sync.specs.Words.{marked_words, losing_count};
 ghost use Rattle.nx_sync.specs.Locks.{pattern_elements};
-ghost use Rattle.nx_sync.specs.Steps.{step, LockStands, LimitStands, IsStep, HuntsThrough, IsWordStep, AreQuietWords};
+ghost use Rattle.nx_sync.specs.Steps.{step, LockStands, LimitStands, IsStep, HuntsThrough, IsWordStep};
 ghost use Rattle.nx_sync.specs.private.Windows as spec;
 ghost use Rattle.nx_sync.specs.private.Calls.{heard_one, with_mark, track_from, BeginsLock, Fills, Completes, Passes, Skips, SkipsSome, SkipsEarly};
-ghost use Rattle.nx_sync.specs.private.Eight.{with_marks, after_eight};
-ghost use Rattle.nx_sync.specs.Synchroniser.{StandsAfter, is_hunting, is_between_words, keeps_lock};
+ghost use Rattle.nx_sync.specs.Synchroniser.{StandsAfter, is_hunting, is_between_words};
 
-use crate::eight::{
-    EIGHT, count_set, has_dx_phasing_1, has_wrong, numbers, window_after_eight, wrong_ones,
-};
+use crate::mark_bits::{MARKS, Marks};
 use crate::packed::{
     PACKED, count_before_lock_in, element, has_no_lock, last_window, window_after_number,
 };
 use crate::step::{Role, Step};
 use crate::track::Track;
+use crate::word_synchroniser::WordSynchroniser;
 use crate::windows::{
-    PATTERN, STRIDE, count_before_lock, last_word, may_lock, next_window, next_word_window,
-    role_after, stride_window, windows_after,
+    PATTERN, STRIDE, count_before_lock, last_word, may_lock, next_window, role_after,
+    stride_window, windows_after,
 };
 use circular_buffer::HeapCircularBuffer;
 use nx_code::{ELEMENTS, Word, check_bits};
 use std::alloc::{AllocError, Global};
 use std::marker::Model;
 
-/// How many marks of its last words a lock keeps, whether each was wrong (this profile).
-const MARKS: usize = 64;
-
 /// How many wrong words among the marked ones lose the lock (this profile).
-const LOSING_COUNT: u32 = 40;
+pub(crate) const LOSING_COUNT: u32 = 40;
 
 /// How many bytes the fields of a synchroniser take (on the target of this toolchain).
-const BYTES: usize = 56;
+const BYTES: usize = 64;
 
 /// The synchroniser of a receiver. It keeps no history but the last 28 elements, and whether each
 /// of the last 64 words of a lock was wrong. That it has no other field, the model's `inverse`
@@ -55,8 +49,8 @@ pub struct Synchroniser {
     track: Option<Track>,
     /// Whether each of the last words of the lock was wrong.
     wrong: HeapCircularBuffer<bool>,
-    /// How many of these were.
-    wrong_count: u32,
+    /// The same marks in one number.
+    marks: Marks,
 }
 
 impl Model for Synchroniser {
@@ -82,7 +76,7 @@ impl Model for Synchroniser {
         × (s.seen ≤ pattern_elements)
         × (s.wrong.capacity ≡ marked_words)
         × (length s.wrong.items ≤ marked_words)
-        × (s.wrong_count ≡ count_by (λ b. b) s.wrong.items)
+        × (s.marks ≡ s.wrong.items)
         × ForSome s.track (λ t. (t.filled < 7) × (s.seen ≡ pattern_elements)) };
 
     // Each field is given back by what contracts see of it, so that none can be added whose meaning
@@ -92,11 +86,11 @@ impl Model for Synchroniser {
       seen = h.seen;
       track = h.track;
       wrong = buffer h.wrong marked_words;
-      wrong_count = count_by (λ b. b) h.wrong;
+      marks = h.wrong;
     } };
 
     ghost inverse_ok = { λ s h.
-        ap₂ (λ n m. record s { wrong = buffer s.wrong.items n; wrong_count = m })
+        ap₂ (λ n m. record s { wrong = buffer s.wrong.items n; marks = m })
         (sym h.2) (sym h.4) };
 }
 
@@ -114,7 +108,7 @@ impl Synchroniser {
             seen: 0,
             track: None,
             wrong,
-            wrong_count: 0,
+            marks: Marks::none(),
         })
     }
 
@@ -167,54 +161,32 @@ impl Synchroniser {
         ensures step { (h : List Bool) → StandsAfter self.old h → IsWordStep h bits.now result }
         ensures limit { result.change ≡ None → IsTrue (is_between_words self.new) }
     {
-        self.push_whole(Word::from_elements(*bits))
+        let mut words = self.at_words();
+        let step = words.push(Word::from_elements(*bits));
+        self.go_on_from(&words);
+        step
     }
 
-    /// The same of a word by its number.
+    /// The same synchroniser at work on whole words, between two of which a lock stands. Once it has
+    /// heard them, `go_on_from` takes back what it holds.
     #[inline(always)]
-    pub fn push_whole(&mut self, word: Word) -> Step
-        requires { IsTrue (is_between_words self.old) }
-        ensures stands { (h : List Bool) → StandsAfter self.old h
-            → StandsAfter self.new (h ++ elements word) }
-        ensures step { (h : List Bool) → StandsAfter self.old h
-            → IsWordStep h (elements word) result }
-        ensures limit { result.change ≡ None → IsTrue (is_between_words self.new) }
+    pub fn at_words(&self) -> WordSynchroniser
+        requires { IsTrue (is_between_words self.now) }
+        ensures { result ≡ self.now }
     {
-        self.hear_word(word);
-        match self.track {
-            None => unreachable!(),
-            Some(track) => self.complete(track, word),
-        }
+        let _seen = self.seen;
+        WordSynchroniser::new(self.recent, self.track, self.marks)
     }
 
-    /// Whether surely none of the next eight words, if they are these, brings a change, so that
-    /// `push_eight` may hear them. It says no to some that bring none: where a lock is in phasing
-    /// the other way round, where a DX word is phasing signal 1, and in a lock that is nearly lost.
+    /// Goes on from what a synchroniser at work on whole words holds.
     #[inline(always)]
-    pub fn keeps_lock(&self, words: &[Word; EIGHT]) -> bool
-        ensures { result ≡ keeps_lock self.now words.now }
+    pub fn go_on_from(&mut self, words: &WordSynchroniser)
+        ensures { self.new ≡ words.now }
     {
-        let Some(track) = self.track else {
-            return false;
-        };
-        let is_few = self.wrong_count + (EIGHT as u32) < LOSING_COUNT;
-        track.awaits_free_dx() & !has_dx_phasing_1(&numbers(words)) & is_few
-    }
-
-    /// Hears eight words, the first of which is a DX word: what `push_whole` does of one after the
-    /// other. None of them brings a change.
-    #[inline(always)]
-    pub fn push_eight(&mut self, words: &[Word; EIGHT])
-        requires { IsTrue (keeps_lock self.old words.now) }
-        ensures stands { (h : List Bool) → StandsAfter self.old h
-            → StandsAfter self.new (h ++ flat_map elements words.now) }
-        ensures steps { (h : List Bool) → StandsAfter self.old h → AreQuietWords h Dx words.now }
-        ensures between { IsTrue (is_between_words self.new) }
-    {
-        match self.track {
-            None => unreachable!(),
-            Some(track) => self.follow_eight(track, words),
-        }
+        self.recent = words.recent();
+        self.seen = PATTERN;
+        self.track = words.track();
+        self.set_marks(words.marks());
     }
 
     /// Hunts through these elements: hears those before the first one that locks, all of them where
@@ -255,16 +227,6 @@ impl Synchroniser {
         self.seen = (self.seen + 1).min(PATTERN);
     }
 
-    /// Takes a word of a lock into the last 28 elements.
-    #[inline(always)]
-    fn hear_word(&mut self, word: Word)
-        ensures held { self.new
-            ≡ record self.old { recent = spec.next_word_window self.old.recent word } }
-        ensures last { self.new.recent / 2 ^ 21 ≡ word }
-    {
-        self.recent = next_word_window(self.recent, word);
-    }
-
     /// Locks where the last 28 elements are one of the patterns.
     #[inline(always)]
     fn hunt_on(&mut self) -> Step
@@ -294,7 +256,7 @@ impl Synchroniser {
         ensures { self.new ≡ record self.old { track = Some (track_from role); wrong = [] } }
     {
         self.wrong.clear();
-        self.wrong_count = 0;
+        self.marks = Marks::none();
         self.track = Some(Track::begin(role));
     }
 
@@ -323,15 +285,9 @@ impl Synchroniser {
         ensures { Completes self.old track self.new result }
     {
         let is_lost = self.mark(!check_bits(word));
-        let change = track.change(is_lost);
-        match change {
-            None => self.track = Some(track.after(word)),
-            Some(_) => self.track = None,
-        }
-        Step {
-            word: Some((word, track.role)),
-            change,
-        }
+        let (next, step) = track.complete(word, is_lost);
+        self.track = next;
+        step
     }
 
     /// Adds the mark of a word, whether it is wrong, to those of the last words, and says whether
@@ -342,96 +298,34 @@ impl Synchroniser {
         ensures marks { self.new ≡ with_mark self.old is_wrong }
         ensures lost { result ≡ nat_le losing_count (count_by (λ b. b) self.new.wrong) }
     {
-        if !is_wrong && self.wrong_count == 0 && self.wrong.len() == MARKS {
+        if !is_wrong && self.marks.is_clear() {
             return false;
         }
-        self.push_mark(is_wrong)
+        self.wrong.push_back(is_wrong);
+        self.marks.push(is_wrong);
+        self.marks.wrong_count() >= LOSING_COUNT
     }
 
-    /// Moves the marks on by one, where the new one comes in and of all of them the oldest goes,
-    /// and says whether as many of them are wrong now as lose the lock.
+    /// Puts these marks in place of those that there were.
     #[inline(always)]
-    fn push_mark(&mut self, is_wrong: bool) -> bool
-        ensures marks { self.new ≡ with_mark self.old is_wrong }
-        ensures lost { result ≡ nat_le losing_count (count_by (λ b. b) self.new.wrong) }
+    fn set_marks(&mut self, marks: Marks)
+        ensures { self.new ≡ record self.old { wrong = marks } }
     {
-        let gone = self.wrong.push_back(is_wrong);
-        self.wrong_count += u32::from(is_wrong);
-        if gone == Some(true) {
-            self.wrong_count -= 1;
-        }
-        self.wrong_count >= LOSING_COUNT
-    }
-
-    /// Follows a lock over eight words that bring no change.
-    #[inline(always)]
-    fn follow_eight(&mut self, track: Track, words: &[Word; EIGHT])
-        requires { self.old.seen ≡ pattern_elements }
-        ensures held { self.new ≡ after_eight self.old track words.now }
-        ensures small { (k : ℕ) → k < 8 → slice_index words.now k < 128 }
-        ensures between { IsTrue (is_between_words self.new) }
-    {
-        let numbers = numbers(words);
-        self.mark_eight(words);
-        self.recent = window_after_eight(&numbers);
-        self.track = Some(track.after_eight(&numbers));
-    }
-
-    /// Adds the marks of eight words. They stay as they are where there are all of them and none of
-    /// the eight nor of them is wrong.
-    #[inline(always)]
-    fn mark_eight(&mut self, words: &[Word; EIGHT])
-        ensures { self.new ≡ with_marks self.old words.now }
-    {
-        let is_quiet = !has_wrong(words) & (self.wrong_count == 0);
-        if is_quiet & (self.wrong.len() == MARKS) {
+        if marks.is_clear() && self.marks.is_clear() {
             return;
         }
-        self.push_marks(words);
+        self.replace_marks(marks);
     }
 
-    /// Moves the marks on by eight.
-    fn push_marks(&mut self, words: &[Word; EIGHT])
-        ensures { self.new ≡ with_marks self.old words.now }
+    /// Puts these marks in place of those that there were, one and all.
+    #[inline(never)]
+    fn replace_marks(&mut self, marks: Marks)
+        ensures { self.new ≡ record self.old { wrong = marks } }
     {
-        if self.wrong.len() == MARKS {
-            self.replace_marks(&wrong_ones(words));
-        } else {
-            self.push_each_mark(words);
-        }
-    }
-
-    /// Takes eight marks in where there are all of them, so that the eight oldest go.
-    #[inline(always)]
-    fn replace_marks(&mut self, marks: &[bool; EIGHT])
-        requires { length self.old.wrong ≡ marked_words }
-        ensures { self.new ≡ record self.old { wrong = drop 8 self.old.wrong ++ marks.now } }
-    {
-        let gone = self.count_oldest();
-        self.wrong.extend_from_slice(marks);
-        self.wrong_count = self.wrong_count - gone + count_set(marks);
-    }
-
-    /// How many of the eight oldest marks are of wrong words.
-    #[inline(always)]
-    fn count_oldest(&self) -> u32
-        requires { length self.now.wrong ≡ marked_words }
-        ensures { result ≡ count_by (λ b. b) (take 8 self.now.wrong) }
-    {
-        let (older, newer) = self.wrong.as_slices();
-        if EIGHT <= older.len() {
-            return count_set(&older[..EIGHT]);
-        }
-        count_set(older) + count_set(&newer[..EIGHT - older.len()])
-    }
-
-    /// Moves the marks on by one after the other.
-    fn push_each_mark(&mut self, words: &[Word; EIGHT])
-        ensures { self.new ≡ with_marks self.old words.now }
-    {
-        for word in words {
-            self.push_mark(!check_bits(*word));
-        }
+        let padded = marks.padded();
+        self.wrong.clear();
+        self.wrong.extend_from_slice(&padded[MARKS - marks.len()..]);
+        self.marks = marks;
     }
 
     /// Hears elements as long as none ends a pattern, and says how many.

@@ -1,13 +1,14 @@
 //! How a lock is followed. What runs for each word is inlined always, since a call would cost more
 //! than its few instructions.
 
-ghost use Rattle.std.specs.Prelude.{◌≡◌, ◌<◌, Some};
+ghost use Rattle.std.specs.Prelude.{◌≡◌, Some, None};
+ghost use Rattle.nx_sync.specs.declared.step.Change.{Change};
 ghost use Rattle.nx_sync.specs.private.Calls.{track_from, track_after, fills_releasing_word, change_by};
 ghost use Rattle.nx_sync.specs.private.Eight.{last_five_marks};
 ghost use Rattle.nx_sync.specs.Synchroniser as held;
 
 use crate::eight::EIGHT;
-use crate::step::{Change, Role};
+use crate::step::{Change, Role, Step};
 use nx_code::Word;
 
 /// The number of phasing signal 1, which is idle signal alpha (M.476, M.625).
@@ -40,7 +41,7 @@ impl Track {
 
     /// The track after the word that it filled.
     #[inline(always)]
-    pub(crate) fn after(self, word: Word) -> Track
+    fn after(self, word: Word) -> Track
         ensures { result ≡ track_after self word }
     {
         Track {
@@ -91,7 +92,7 @@ impl Track {
     /// Which change the word that is being filled brings, by whether it loses the lock. Asked first
     /// whether there is one, since mostly there is none.
     #[inline(always)]
-    pub(crate) fn change(self, is_lost: bool) -> Option<Change>
+    fn change(self, is_lost: bool) -> Option<Change>
         ensures { result ≡ change_by self is_lost }
     {
         let is_ended = self.fills_releasing_word();
@@ -103,5 +104,26 @@ impl Track {
         } else {
             Change::LostLock
         })
+    }
+
+    /// What the word that was being filled brings, now that it is complete, by whether it loses the
+    /// lock; and the track after it, None where it brings a change.
+    #[inline(always)]
+    pub(crate) fn complete(self, word: Word, is_lost: bool) -> (Option<Track>, Step)
+        ensures change { result.1.change ≡ change_by self is_lost }
+        ensures word { result.1.word ≡ Some (word, self.role) }
+        ensures goes_on { result.1.change ≡ None → result.0 ≡ Some (track_after self word) }
+        ensures over { (how : Change) → result.1.change ≡ Some how → result.0 ≡ None }
+    {
+        let change = self.change(is_lost);
+        let next = match change {
+            None => Some(self.after(word)),
+            Some(_) => None,
+        };
+        let step = Step {
+            word: Some((word, self.role)),
+            change,
+        };
+        (next, step)
     }
 }

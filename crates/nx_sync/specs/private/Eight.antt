@@ -1,17 +1,12 @@
 -- What is held after several words, for the contracts of the private functions that hear eight of
 -- them at once.
-use Rattle.std.specs.Prelude.{ℕ, ◌+◌, ◌*◌, ◌^◌, ◌==◌, Bool, false, ◌||◌, List, [], ◌∷◌, ◌++◌, map, slice_index, Some}
+use Rattle.std.specs.Prelude.{ℕ, ◌+◌, ◌*◌, ◌^◌, ◌==◌, Bool, List, [], ◌∷◌, ◌++◌, map, slice_index, Some}
 use Rattle.circular_buffer.specs.Buffer.{keep_last}
 use Rattle.nx_code.specs.Table.{phasing_1}
 use Rattle.nx_code.specs.Word.{value_of, is_wrong}
 use Rattle.nx_sync.specs.declared.track.Track.{Track}
 use Rattle.nx_sync.specs.Words.{marked_words}
 use Rattle.nx_sync.specs.Synchroniser.{Held}
-
--- whether any of these words has the wrong weight
-unfoldable pub has_wrong : List ℕ → Bool
-has_wrong [] = false
-has_wrong (word ∷ words) = is_wrong word || has_wrong words
 
 -- whether each of these words has the wrong weight
 abbrev pub wrong_ones : List ℕ → List Bool
@@ -36,10 +31,6 @@ unfoldable pub marks_after_words : List Bool → List ℕ → List Bool
 marks_after_words marks [] = marks
 marks_after_words marks (word ∷ words) =
     marks_after_words (keep_last marked_words (marks ++ is_wrong word ∷ [])) words
-
--- what is held with the marks of these words
-abbrev pub with_marks : Held → List ℕ → Held
-with_marks held words = record held { wrong = marks_after_words held.wrong words }
 
 -- what is held after eight words of the lock that is followed, where none of them brings a change
 abbrev pub after_eight : Held → Track → List ℕ → Held

@@ -67,14 +67,16 @@ impl Run {
                 return;
             }
         }
-        if let Some(words) = eight_words(rest) {
-            if self.sync.keeps_lock(&words) {
-                self.sync.push_eight(&words);
-                self.note_eight(&words);
-                return;
-            }
-        }
         if self.sync.is_between_words() {
+            if let Some(words) = eight_words(rest) {
+                let mut at_words = self.sync.at_words();
+                if at_words.keeps_lock(&words) {
+                    at_words.push_eight(&words);
+                    self.sync.go_on_from(&at_words);
+                    self.note_eight(&words);
+                    return;
+                }
+            }
             if let [a, b, c, d, e, f, g, ..] = *rest {
                 let step = self.sync.push_word(&[a, b, c, d, e, f, g]);
                 self.heard = self.heard.wrapping_add(7);

@@ -7,7 +7,7 @@ use Rattle.nx_sync.specs.Synchroniser.{Held}
 use Rattle.nx_sync.specs.private.Calls.{Completes}
 use Rattle.nx_sync.proofs.Numbers.{length-elements}
 use Rattle.nx_sync.proofs.WholeWords.{word_stands, word_step, between}
-use Rattle.nx_sync.proofs.synchroniser.Synchroniser.push_whole.Goals as goal
+use Rattle.nx_sync.proofs.word_synchroniser.WordSynchroniser.push.Goals as goal
 
 -- the seven elements are in the window, and the word is complete
 pub returns-clause-stands : goal.returns-clause-stands
@@ -19,8 +19,7 @@ returns-clause-stands c h a =
     sym (ap (λ s. s.track) c.hear_word.ensures.held)
     ∙ (sym (ap (λ s. s.track) c.self.view_is) ∙ c.in-Some.is) in
     let full : old.seen ≡ 28 =
-    sym (ap (λ s. s.seen) c.hear_word.ensures.held)
-    ∙ (sym (ap (λ s. s.seen) c.self.view_is) ∙ (c.self.invariant.5 track c.in-Some.is).1) in
+    sym (ap (λ s. s.seen) c.hear_word.ensures.held) ∙ sym (ap (λ s. s.seen) c.self.view_is) in
     let small : c.args.word < 128 =
     omega (
       arith,
@@ -44,8 +43,7 @@ returns-clause-step c h a =
     sym (ap (λ s. s.track) c.hear_word.ensures.held)
     ∙ (sym (ap (λ s. s.track) c.self.view_is) ∙ c.in-Some.is) in
     let full : old.seen ≡ 28 =
-    sym (ap (λ s. s.seen) c.hear_word.ensures.held)
-    ∙ (sym (ap (λ s. s.seen) c.self.view_is) ∙ (c.self.invariant.5 track c.in-Some.is).1) in
+    sym (ap (λ s. s.seen) c.hear_word.ensures.held) ∙ sym (ap (λ s. s.seen) c.self.view_is) in
     let small : c.args.word < 128 =
     omega (
       arith,

@@ -1,0 +1,12 @@
+use Rattle.std.proofs.Common.{◌≡◌, sym, ap, ap₂, ◌∙◌}
+use Rattle.nx_sync.specs.Synchroniser.{Held, held_at_words}
+use Rattle.nx_sync.proofs.synchroniser.Synchroniser.go_on_from.Goals as goal
+
+pub returns : goal.returns
+returns c =
+    let words : Held = c.args.words.now in
+    c.set_marks.ensures
+    ∙ (ap₂ (λ r t. held_at_words r t c.marks.result) c.recent-self-inside.ensures.value
+    c.track-self-inside.ensures.value
+    ∙ (ap (held_at_words words.recent words.track) c.marks.ensures
+    ∙ ap (λ n. record words { seen = n }) (sym c.recent-self-inside.ensures.all)))

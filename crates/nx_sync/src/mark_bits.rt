@@ -1,0 +1,110 @@
+//! The marks of the last words of a lock in one number, for a line of words at once. What runs for
+//! each word is inlined always, since its answers would go through memory otherwise.
+
+ghost use Rattle.std.specs.Prelude.{◌≡◌, ◌∷◌, ◌++◌, ◌≤◌, ◌<◌, ◌^◌, ◌-◌, [], Bool, length, drop, false, replicate, IsTrue};
+ghost use Rattle.std.specs.List.{count_by};
+ghost use Rattle.circular_buffer.specs.Buffer.{keep_last};
+ghost use Rattle.nx_code.specs.Word.{elements_from, number_of};
+ghost use Rattle.nx_sync.specs.Words.{marked_words};
+ghost use Rattle.nx_sync.specs.private.Eight.{marks_after_words};
+
+use crate::eight::{EIGHT, wrong_bits};
+use nx_code::Word;
+use std::marker::Model;
+
+/// How many marks of its last words a lock keeps, whether each was wrong (this profile).
+pub(crate) const MARKS: usize = 64;
+
+/// The marks of the last words of a lock, at most 64, whether each was wrong.
+#[derive(Clone, Copy)]
+pub(crate) struct Marks {
+    /// The newest mark is the highest bit. A mark that isn't there is not set.
+    bits: u64,
+    /// How many marks there are.
+    count: u32,
+}
+
+impl Model for Marks {
+    ghost use Rattle.std.specs.Prelude.{◌≡◌, ◌≤◌, List, Bool, length};
+    ghost use Rattle.nx_code.specs.Word.{number_of};
+    ghost use Rattle.nx_sync.specs.private.MarkBits.{marks_in, padded};
+
+    ghost Value = { List Bool };
+
+    ghost view = { λ m. marks_in m.count m.bits };
+
+    ghost invariant = { λ m. (m.count ≤ 64)
+        × (length (marks_in m.count m.bits) ≡ m.count)
+        × (number_of (padded (marks_in m.count m.bits)) ≡ m.bits) };
+
+    ghost inverse = { λ xs. record { bits = number_of (padded xs); count = length xs } };
+
+    ghost inverse_ok = { λ m told i. record { bits = told.2 i; count = told.1 i } };
+}
+
+impl Marks {
+    /// No marks.
+    #[inline(always)]
+    pub(crate) fn none() -> Marks
+        ensures { result ≡ [] }
+    {
+        Marks { bits: 0, count: 0 }
+    }
+
+    /// Adds a mark; of 64 the oldest goes.
+    #[inline(always)]
+    pub(crate) fn push(&mut self, is_wrong: bool)
+        ensures { self.new ≡ keep_last marked_words (self.old ++ is_wrong ∷ []) }
+    {
+        self.bits = (self.bits >> 1) + (u64::from(is_wrong) << 63);
+        self.count = (self.count + 1).min(MARKS as u32);
+    }
+
+    /// Adds the marks of eight words; of more than 64 the oldest go.
+    #[inline(always)]
+    pub(crate) fn push_eight(&mut self, words: &[Word; EIGHT])
+        ensures { self.new ≡ marks_after_words self.old words.now }
+    {
+        self.bits = (self.bits >> 8) + (wrong_bits(words) << 56);
+        self.count = (self.count + 8).min(MARKS as u32);
+    }
+
+    /// How many of the marks are set.
+    #[inline(always)]
+    pub(crate) fn wrong_count(&self) -> u32
+        ensures count { result ≡ count_by (λ b. b) self.now }
+        ensures within { result ≤ 64 }
+    {
+        self.bits.count_ones()
+    }
+
+    /// Whether there are 64 marks, and none of them is set.
+    #[inline(always)]
+    pub(crate) fn is_clear(&self) -> bool
+        ensures all { IsTrue result → length self.now ≡ marked_words }
+        ensures none { IsTrue result → count_by (λ b. b) self.now ≡ 0 }
+    {
+        (self.bits == 0) & (self.count == MARKS as u32)
+    }
+
+    /// How many marks there are.
+    #[inline(always)]
+    pub(crate) fn len(&self) -> usize
+        ensures count { result ≡ length self.now }
+        ensures within { result ≤ 64 }
+    {
+        self.count as usize
+    }
+
+    /// The marks, behind as many that aren't set as are missing to 64.
+    pub(crate) fn padded(&self) -> [bool; MARKS]
+        ensures { drop (64 - length self.now) result ≡ self.now }
+    {
+        let bits = self.bits;
+        let mut marks = [false; MARKS];
+        for place in 0..MARKS {
+            marks[place] = (bits >> place) % 2 == 1;
+        }
+        marks
+    }
+}

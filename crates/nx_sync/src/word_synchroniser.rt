@@ -1,0 +1,197 @@
+//! A synchroniser at work on whole words of a lock. All of it runs for each word or for eight of
+//! them, and is inlined always, since its answers would go through memory otherwise.
+
+ghost use Rattle.std.specs.Prelude.{◌≡◌, ℕ, ◌+◌, ◌*◌, ◌/◌, ◌^◌, ◌<◌, List, Bool, ◌++◌, slice_index, nat_le, IsTrue};
+ghost use Rattle.std.specs.List.{count_by, flat_map};
+ghost use Rattle.std.specs.Option.{ForSome};
+ghost use Rattle.nx_sync.specs.declared.step.Role.TheVariants.{Dx};
+ghost use Rattle.nx_code.specs.Word.{elements};
+ghost use Rattle.nx_sync.specs.Locks.{pattern_elements};
+ghost use Rattle.nx_sync.specs.Steps.{IsWordStep, AreQuietWords};
+ghost use Rattle.nx_sync.specs.private.Windows as spec;
+ghost use Rattle.nx_sync.specs.private.Calls.{Completes};
+ghost use Rattle.nx_sync.specs.private.Eight.{after_eight};
+ghost use Rattle.nx_sync.specs.Synchroniser.{StandsAfter, is_between_words, keeps_lock, held_at_words};
+
+use crate::eight::{EIGHT, has_dx_phasing_1, numbers, window_after_eight};
+use crate::mark_bits::Marks;
+use crate::step::Step;
+use crate::synchroniser::LOSING_COUNT;
+use crate::track::Track;
+use crate::windows::next_word_window;
+use nx_code::{Word, check_bits};
+use std::marker::Model;
+
+/// A synchroniser at work on whole words of a lock: what `Synchroniser` holds then, but for the
+/// buffer of the marks, which it keeps as bits of one number.
+#[derive(Drop)]
+pub struct WordSynchroniser {
+    /// The last 28 elements, the oldest in the least place.
+    recent: u32,
+    track: Option<Track>,
+    /// Whether each of the last words of the lock was wrong.
+    marks: Marks,
+}
+
+impl Model for WordSynchroniser {
+    ghost use Rattle.std.specs.Prelude.{◌<◌, ◌^◌};
+    ghost use Rattle.std.specs.Option.{ForSome};
+    ghost use Rattle.nx_sync.specs.Locks.{pattern_elements};
+    ghost use Rattle.nx_sync.specs.Synchroniser.{Held};
+
+    ghost Value = { Held };
+
+    // whole words come in a lock alone, before which 28 elements were heard
+    ghost view = { λ s. record {
+      recent = s.recent;
+      seen = pattern_elements;
+      track = s.track;
+      wrong = s.marks;
+    } };
+
+    ghost invariant = { λ s. (s.recent < 2 ^ pattern_elements)
+        × ForSome s.track (λ t. t.filled < 7) };
+
+    // Each field is given back by what contracts see of it.
+    ghost inverse = { λ h. record { recent = h.recent; track = h.track; marks = h.wrong } };
+}
+
+impl WordSynchroniser {
+    /// One that holds this.
+    #[inline(always)]
+    pub(crate) fn new(recent: u32, track: Option<Track>, marks: Marks) -> WordSynchroniser
+        requires recent { recent < 2 ^ pattern_elements }
+        requires filled { ForSome track (λ t. t.filled < 7) }
+        ensures { result ≡ held_at_words recent track marks }
+    {
+        // Nothing is kept beside these fields, not even in a type whose model forgets.
+        prove!(size_of::<WordSynchroniser>() == 24);
+        WordSynchroniser {
+            recent,
+            track,
+            marks,
+        }
+    }
+
+    /// The last 28 elements, the oldest in the least place.
+    #[inline(always)]
+    pub(crate) fn recent(&self) -> u32
+        ensures value { result ≡ self.now.recent }
+        ensures within { result < 2 ^ pattern_elements }
+        ensures all { self.now.seen ≡ pattern_elements }
+    {
+        self.recent
+    }
+
+    /// How a lock is followed, if one is.
+    #[inline(always)]
+    pub(crate) fn track(&self) -> Option<Track>
+        ensures value { result ≡ self.now.track }
+        ensures filled { ForSome result (λ t. t.filled < 7) }
+    {
+        self.track
+    }
+
+    /// Whether each of the last words of the lock was wrong.
+    #[inline(always)]
+    pub(crate) fn marks(&self) -> Marks
+        ensures { result ≡ self.now.wrong }
+    {
+        self.marks
+    }
+
+    /// Whether a lock stands, and the next element is the first of a word.
+    #[inline(always)]
+    pub fn is_between_words(&self) -> bool
+        ensures { result ≡ is_between_words self.now }
+    {
+        match self.track {
+            None => false,
+            Some(track) => track.filled == 0,
+        }
+    }
+
+    /// Hears the next word of the lock: what seven pushes of its elements do. The first six bring
+    /// nothing; says what the last one brings.
+    #[inline(always)]
+    pub fn push(&mut self, word: Word) -> Step
+        requires { IsTrue (is_between_words self.old) }
+        ensures stands { (h : List Bool) → StandsAfter self.old h
+            → StandsAfter self.new (h ++ elements word) }
+        ensures step { (h : List Bool) → StandsAfter self.old h
+            → IsWordStep h (elements word) result }
+        ensures limit { result.change ≡ None → IsTrue (is_between_words self.new) }
+    {
+        self.hear_word(word);
+        match self.track {
+            None => unreachable!(),
+            Some(track) => self.complete(track, word),
+        }
+    }
+
+    /// Whether surely none of the next eight words, if they are these, brings a change, so that
+    /// `push_eight` may hear them. It says no to some that bring none: where a lock is in phasing
+    /// the other way round, where a DX word is phasing signal 1, and in a lock that is nearly lost.
+    #[inline(always)]
+    pub fn keeps_lock(&self, words: &[Word; EIGHT]) -> bool
+        ensures { result ≡ keeps_lock self.now words.now }
+    {
+        let Some(track) = self.track else {
+            return false;
+        };
+        let is_few = self.marks.wrong_count() + (EIGHT as u32) < LOSING_COUNT;
+        track.awaits_free_dx() & !has_dx_phasing_1(&numbers(words)) & is_few
+    }
+
+    /// Hears eight words, the first of which is a DX word: what `push` does of one after the other.
+    /// None of them brings a change.
+    #[inline(always)]
+    pub fn push_eight(&mut self, words: &[Word; EIGHT])
+        requires { IsTrue (keeps_lock self.old words.now) }
+        ensures stands { (h : List Bool) → StandsAfter self.old h
+            → StandsAfter self.new (h ++ flat_map elements words.now) }
+        ensures steps { (h : List Bool) → StandsAfter self.old h → AreQuietWords h Dx words.now }
+        ensures between { IsTrue (is_between_words self.new) }
+    {
+        match self.track {
+            None => unreachable!(),
+            Some(track) => self.follow_eight(track, words),
+        }
+    }
+
+    /// Takes a word of a lock into the last 28 elements.
+    #[inline(always)]
+    fn hear_word(&mut self, word: Word)
+        ensures held { self.new
+            ≡ record self.old { recent = spec.next_word_window self.old.recent word } }
+        ensures last { self.new.recent / 2 ^ 21 ≡ word }
+    {
+        self.recent = next_word_window(self.recent, word);
+    }
+
+    /// Takes the last seven elements as a word of the lock, and gives the lock up where the word
+    /// brings a change.
+    #[inline(always)]
+    fn complete(&mut self, track: Track, word: Word) -> Step
+        requires word { word ≡ self.old.recent / 2 ^ 21 }
+        ensures { Completes self.old track self.new result }
+    {
+        self.marks.push(!check_bits(word));
+        let (next, step) = track.complete(word, self.marks.wrong_count() >= LOSING_COUNT);
+        self.track = next;
+        step
+    }
+
+    /// Follows a lock over eight words that bring no change.
+    #[inline(always)]
+    fn follow_eight(&mut self, track: Track, words: &[Word; EIGHT])
+        ensures held { self.new ≡ after_eight self.old track words.now }
+        ensures small { (k : ℕ) → k < 8 → slice_index words.now k < 128 }
+        ensures between { IsTrue (is_between_words self.new) }
+    {
+        let numbers = numbers(words);
+        self.marks.push_eight(words);
+        self.recent = window_after_eight(&numbers);
+        self.track = Some(track.after_eight(&numbers));
+    }
+}
