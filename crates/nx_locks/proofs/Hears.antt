@@ -1,5 +1,5 @@
 -- What the elements that are heard show.
-use Rattle.std.proofs.Common.{◌≡◌, ℕ, zero, suc, ◌+◌, ◌-◌, ◌^◌, ◌<◌, ◌≤◌, Bool, false, List, [], ◌∷◌, ◌++◌, length, take, drop, Some, None, get_or, refl, sym, ap, ◌∙◌, subst, subst₂, arith, append_assoc, append-nil, add-one, length-append}
+use Rattle.std.proofs.Common.{◌≡◌, ℕ, zero, suc, ◌+◌, ◌-◌, ◌^◌, ◌<◌, ◌≤◌, Bool, false, List, [], ◌∷◌, ◌++◌, length, take, drop, Option, Some, None, get_or, refl, sym, ap, ◌∙◌, subst, subst₂, arith, append_assoc, append-nil, add-one, length-append}
 use Rattle.std.specs.Prelude.{min}
 use Rattle.std.specs.Option.{option_to_list}
 use lib.Seq.{take-add}
@@ -10,6 +10,7 @@ use Rattle.nx_sync.specs.Locks.{Lock, Now, hunting, locked, IsNow, Past}
 use Rattle.nx_sync.specs.Steps.{Brings, found, word, inside, over, hunts, HuntsThrough, IsStep, IsWordStep, step}
 use Rattle.nx_sync.specs.Synchroniser.{Held, StandsAfter}
 use Rattle.nx_sync.specs.Words.{heard_word, whole_words}
+use Rattle.nx_sync.specs.declared.step.Change.{Change}
 use Rattle.nx_sync.specs.declared.step.Change.TheVariants.{Locked}
 use Rattle.nx_sync.specs.declared.step.Role.{Role}
 use Rattle.nx_sync.specs.declared.step.Step.{Step}
@@ -17,7 +18,7 @@ use Rattle.nx_sync.proofs.KeptPast.{Past-within}
 use Rattle.nx_sync.proofs.StateChanges.{one_more}
 use Rattle.nx_receiver.proofs.watching.Bits.{no_word}
 use Rattle.nx_locks.specs.private.Reader.{Reading}
-use Rattle.nx_locks.specs.private.Watch.{GoesTo, HearsAll, ReadsLast, ReadsOn, ReadsTo, Shows, ShowsStep, Watching, WatchShows, all_at, closing_of}
+use Rattle.nx_locks.specs.private.Watch.{GoesTo, HearsAll, ReadsLast, ReadsOn, ReadsTo, Shows, ShowsStep, Watching, WatchShows, all_at, at_words, closing_of}
 use Rattle.nx_locks.specs.ReportText.{opening_line}
 use Rattle.nx_locks.proofs.Bits.{now_found, still_hunting, still_inside, word_on, word_over}
 
@@ -412,4 +413,43 @@ goes_on old mid new bits piece at n before between after g h is more = record {
   heard = subst (λ l. HearsAll old new l before after)
       (ap (λ l. take at bits ++ l) is ∙ sym (take-add at n bits))
       (hears_on old mid new (take at bits) piece before between after g.heard more);
+}
+
+-- what a step brings is shown as by a watch with a synchroniser of its own
+reads_to_by : (old new : Watching) (sync : Held) (reader : Reading) (printed : Option ℕ)
+    (change : Option Change) (before after : List ℕ)
+    → ReadsTo old new reader printed change before after
+    → ReadsTo (at_words old sync) (at_words new sync) reader printed change before after
+reads_to_by old new sync reader printed None before after to =
+    record { kept = ap (λ w. at_words w sync) to.kept; spelled = to.spelled }
+reads_to_by old new sync reader printed (Some how) before after to = record {
+  civil = to.civil;
+  shown = to.shown;
+  spelled = to.spelled;
+  fresh = to.fresh;
+  kept = ap (λ w. at_words w sync) to.kept;
+}
+
+pub shows_by : (old new : Watching) (sync : Held) (r : Step) (before after : List ℕ)
+    → ShowsStep old new r before after
+    → ShowsStep (at_words old sync) (at_words new sync) r before after
+shows_by old new sync r before after ss = record {
+  nothing = λ no_word no_change.
+      let same = ss.nothing no_word no_change in (ap (λ w. at_words w sync) same.0, same.1);
+  opens = λ how no_word is.
+      let o = ss.opens how no_word is in
+      record {
+        civil = o.civil;
+        shown = o.shown;
+        spelled = o.spelled;
+        kept = ap (λ w. at_words w sync) o.kept;
+      };
+  word = λ word role is.
+      let w = ss.word word role is in
+      record {
+        reader = w.reader;
+        printed = w.printed;
+        hears = w.hears;
+        to = reads_to_by old new sync w.reader w.printed r.change before after w.to;
+      };
 }

@@ -6,7 +6,7 @@ ghost use Rattle.std.specs.List.{flat_map};
 ghost use Rattle.arrayvec.specs.ArrayVec.{array_vec_len};
 ghost use Rattle.nx_code.specs.Word as words;
 ghost use Rattle.nx_envelope.specs.Moment.{IsShownAs, last_moment};
-ghost use Rattle.nx_locks.specs.private.Watch.{EndsShown, HearsAll, Opens, ReadsWord, ShowsStep, WatchShows, closing_of};
+ghost use Rattle.nx_locks.specs.private.Watch.{EndsShown, HearsAll, Opens, ReadsWord, ShowsStep, WatchShows, at_words, closing_of};
 ghost use Rattle.nx_sync.specs.Synchroniser.{is_between_words, is_hunting, keeps_lock};
 
 use crate::reader::LockReader;
@@ -14,7 +14,7 @@ use crate::report_text::{Counts, Shown, close_lock, end_report, open_lock};
 use nx_code::{ELEMENTS, WORDS_AT_ONCE, Word, elements_at, words_of};
 use nx_envelope::NEWLINE;
 use nx_fec::PackedElements;
-use nx_sync::{Change, Role, Step, Synchroniser};
+use nx_sync::{Change, Role, Step, Synchroniser, WordSynchroniser};
 use std::alloc::{AllocError, Global};
 use std::marker::Model;
 
@@ -173,10 +173,37 @@ impl LockWatch {
         ensures hears { HearsAll self.old self.new (take result (drop from elements.now))
             shown.old.items shown.new.items }
     {
+        let mut synchroniser = self.synchroniser.at_words();
+        let count = self.follow_words(&mut synchroniser, elements, from, shown);
+        self.synchroniser.go_on_from(&synchroniser);
+        count
+    }
+
+    /// Hears whole words from a place on by a synchroniser that is at work on these, in place of the
+    /// one that the watch has; as many as there are up to the first that ends the lock.
+    // Inlined, so that what the synchroniser holds stays in registers.
+    #[inline(always)]
+    fn follow_words(
+        &mut self,
+        synchroniser: &mut WordSynchroniser,
+        elements: &PackedElements,
+        from: usize,
+        shown: &mut Shown,
+    ) -> usize
+        requires limit { IsTrue (is_between_words synchroniser.old) }
+        requires some { from + 7 ≤ length elements.now }
+        requires room { array_vec_len shown.old + 113 * (length elements.now - from) ≤ 57856 }
+        ensures within { from + result ≤ length elements.now }
+        ensures some { 0 < result }
+        ensures few { array_vec_len shown.new ≤ array_vec_len shown.old + 113 * result }
+        ensures hears { HearsAll (at_words self.old synchroniser.old)
+            (at_words self.new synchroniser.new) (take result (drop from elements.now))
+            shown.old.items shown.new.items }
+    {
         let mut count = 0;
         while elements.len() - (from + count) >= ELEMENTS {
-            count += self.hear_next_words(elements, from + count, shown);
-            if !self.synchroniser.is_between_words() {
+            count += self.hear_next_words(synchroniser, elements, from + count, shown);
+            if !synchroniser.is_between_words() {
                 return count;
             }
         }
@@ -189,42 +216,50 @@ impl LockWatch {
     #[inline(always)]
     fn hear_next_words(
         &mut self,
+        synchroniser: &mut WordSynchroniser,
         elements: &PackedElements,
         from: usize,
         shown: &mut Shown,
     ) -> usize
-        requires limit { IsTrue (is_between_words self.old.synchroniser) }
+        requires limit { IsTrue (is_between_words synchroniser.old) }
         requires some { from + 7 ≤ length elements.now }
         requires room { array_vec_len shown.old + 113 * (length elements.now - from) ≤ 57856 }
         ensures within { from + result ≤ length elements.now }
         ensures some { 0 < result }
         ensures few { array_vec_len shown.new ≤ array_vec_len shown.old + 113 * result }
-        ensures hears { HearsAll self.old self.new (take result (drop from elements.now))
+        ensures hears { HearsAll (at_words self.old synchroniser.old)
+            (at_words self.new synchroniser.new) (take result (drop from elements.now))
             shown.old.items shown.new.items }
     {
         if elements.len() - from >= BLOCK {
             let block = block_at(elements, from);
-            if self.synchroniser.keeps_lock(&block) {
-                self.hear_block(&block, shown);
+            if synchroniser.keeps_lock(&block) {
+                self.hear_block(synchroniser, &block, shown);
                 return BLOCK;
             }
         }
-        self.hear_word(elements.word_at(from), shown);
+        self.hear_word(synchroniser, elements.word_at(from), shown);
         ELEMENTS
     }
 
     /// Hears the next eight words of the lock, none of which ends it.
     // Inlined, as `hear_word`.
     #[inline(always)]
-    fn hear_block(&mut self, block: &[Word; WORDS_AT_ONCE], shown: &mut Shown)
-        requires limit { IsTrue (is_between_words self.old.synchroniser) }
-        requires keeps { IsTrue (keeps_lock self.old.synchroniser block.now) }
+    fn hear_block(
+        &mut self,
+        synchroniser: &mut WordSynchroniser,
+        block: &[Word; WORDS_AT_ONCE],
+        shown: &mut Shown,
+    )
+        requires limit { IsTrue (is_between_words synchroniser.old) }
+        requires keeps { IsTrue (keeps_lock synchroniser.old block.now) }
         requires room { array_vec_len shown.old + 8 ≤ 57856 }
         ensures few { array_vec_len shown.new ≤ array_vec_len shown.old + 8 }
-        ensures hears { HearsAll self.old self.new (flat_map words.elements block.now)
+        ensures hears { HearsAll (at_words self.old synchroniser.old)
+            (at_words self.new synchroniser.new) (flat_map words.elements block.now)
             shown.old.items shown.new.items }
     {
-        self.synchroniser.push_eight(block);
+        synchroniser.push_eight(block);
         self.elements = self.elements.saturating_add(BLOCK as u64);
         self.reader.hear_eight(block, shown);
     }
@@ -232,14 +267,15 @@ impl LockWatch {
     /// Hears the next word of the lock.
     // Inlined, since it is called for each word.
     #[inline(always)]
-    fn hear_word(&mut self, word: Word, shown: &mut Shown)
-        requires limit { IsTrue (is_between_words self.old.synchroniser) }
+    fn hear_word(&mut self, synchroniser: &mut WordSynchroniser, word: Word, shown: &mut Shown)
+        requires limit { IsTrue (is_between_words synchroniser.old) }
         requires room { array_vec_len shown.old + 113 ≤ 57856 }
         ensures few { array_vec_len shown.new ≤ array_vec_len shown.old + 113 }
-        ensures hears { HearsAll self.old self.new (words.elements word) shown.old.items
+        ensures hears { HearsAll (at_words self.old synchroniser.old)
+            (at_words self.new synchroniser.new) (words.elements word) shown.old.items
             shown.new.items }
     {
-        let step = self.synchroniser.push_whole(word);
+        let step = synchroniser.push(word);
         self.elements = self.elements.saturating_add(ELEMENTS as u64);
         self.show(step, shown);
     }

@@ -13,7 +13,7 @@ ghost use Rattle.nx_memory.specs.Selection.{admits, is_vital};
 ghost use Rattle.nx_receiver.specs.Events as events;
 ghost use Rattle.nx_receiver.specs.Events.{Setting, Start, first_setting, refused_after};
 ghost use Rattle.nx_receiver.specs.FoundCopies.{TaggedCopy};
-ghost use Rattle.nx_receiver.specs.private.Watch.{BothAreOver, CopyIsOver, HasEndedAll, HearsAll, IsOver, LockIsOver, ReadsStep, ReadsWord, TagGoesOn, WatchStands, handed_out};
+ghost use Rattle.nx_receiver.specs.private.Watch.{BothAreOver, CopyIsOver, HasEndedAll, HearsAll, IsOver, LockIsOver, ReadsStep, ReadsWord, TagGoesOn, WatchStands, at_words, handed_out};
 ghost use Rattle.nx_receiver.specs.private.LockReader.{is_open};
 ghost use Rattle.nx_receiver.specs.Watching.{in_force};
 ghost use Rattle.nx_receiver.specs.declared.over.Over.TheVariants.{Lock, Nothing};
@@ -25,7 +25,7 @@ use nx_code::{ELEMENTS, WORDS_AT_ONCE, Word};
 use nx_envelope::{Found, FoundHead, Identity, Letter, TextEvent};
 use nx_fec::PackedElements;
 use nx_memory::{Selection, Vital};
-use nx_sync::{Role, Step, Synchroniser};
+use nx_sync::{Role, Step, Synchroniser, WordSynchroniser};
 use std::alloc::{AllocError, Global};
 use std::marker::Model;
 
@@ -214,11 +214,36 @@ impl Watch {
         ensures force { in_force self.new ≡ in_force self.old }
         ensures tag { TagGoesOn self.old self.new }
     {
+        let mut synchroniser = self.synchroniser.at_words();
+        let (heard, over) = self.follow_words(&mut synchroniser, packed, from);
+        self.synchroniser.go_on_from(&synchroniser);
+        (heard, over)
+    }
+
+    /// Hears whole words by a synchroniser that is at work on these, in place of the one that the
+    /// watch has; as many as there are up to the first with which anything is over.
+    // Inlined, so that what the synchroniser holds stays in registers.
+    #[inline(always)]
+    fn follow_words(
+        &mut self,
+        synchroniser: &mut WordSynchroniser,
+        packed: &PackedElements,
+        from: usize,
+    ) -> (usize, Over)
+        requires limit { IsTrue (is_between_words synchroniser.old) }
+        requires some { from + 7 ≤ length packed.now }
+        ensures within { from + result.0 ≤ length packed.now }
+        ensures some { 0 < result.0 }
+        ensures hears { HearsAll (at_words self.old synchroniser.old)
+            (at_words self.new synchroniser.new) (take result.0 (drop from packed.now)) result.1 }
+        ensures force { in_force self.new ≡ in_force self.old }
+        ensures tag { TagGoesOn self.old self.new }
+    {
         let mut heard = 0;
         while packed.len() - from - heard >= ELEMENTS {
-            let (count, over) = self.hear_some_words(packed, from + heard);
+            let (count, over) = self.hear_some_words(synchroniser, packed, from + heard);
             heard += count;
-            if over != Over::Nothing || !self.is_between_words() {
+            if over != Over::Nothing || !synchroniser.is_between_words() {
                 return (heard, over);
             }
         }
@@ -229,21 +254,30 @@ impl Watch {
     /// one word.
     // Inlined, as `hear_word`.
     #[inline(always)]
-    fn hear_some_words(&mut self, packed: &PackedElements, from: usize) -> (usize, Over)
-        requires limit { IsTrue (is_between_words self.old.synchroniser) }
+    fn hear_some_words(
+        &mut self,
+        synchroniser: &mut WordSynchroniser,
+        packed: &PackedElements,
+        from: usize,
+    ) -> (usize, Over)
+        requires limit { IsTrue (is_between_words synchroniser.old) }
         requires some { from + 7 ≤ length packed.now }
         ensures within { from + result.0 ≤ length packed.now }
         ensures some { 0 < result.0 }
-        ensures hears { HearsAll self.old self.new (take result.0 (drop from packed.now)) result.1 }
+        ensures hears { HearsAll (at_words self.old synchroniser.old)
+            (at_words self.new synchroniser.new) (take result.0 (drop from packed.now)) result.1 }
         ensures force { in_force self.new ≡ in_force self.old }
         ensures tag { TagGoesOn self.old self.new }
     {
         if packed.len() - from >= EIGHT_WORDS {
-            if self.hear_eight(&eight_words(packed, from)) {
+            if self.hear_eight(synchroniser, &eight_words(packed, from)) {
                 return (EIGHT_WORDS, Over::Nothing);
             }
         }
-        (ELEMENTS, self.hear_word(packed.word_at(from)))
+        (
+            ELEMENTS,
+            self.hear_word(synchroniser, packed.word_at(from)),
+        )
     }
 
     /// Whether a lock stands.
@@ -269,35 +303,41 @@ impl Watch {
     /// one by one.
     // Inlined, as `hear_word`.
     #[inline(always)]
-    fn hear_eight(&mut self, words: &[Word; WORDS_AT_ONCE]) -> bool
-        requires { IsTrue (is_between_words self.old.synchroniser) }
-        ensures hears { IsTrue result → HearsAll self.old self.new (flat_map elements words.now)
-            Nothing }
-        ensures limit { IsTrue (is_between_words self.new.synchroniser) }
-        ensures same { result ≡ false → self.new ≡ self.old }
+    fn hear_eight(
+        &mut self,
+        synchroniser: &mut WordSynchroniser,
+        words: &[Word; WORDS_AT_ONCE],
+    ) -> bool
+        requires { IsTrue (is_between_words synchroniser.old) }
+        ensures hears { IsTrue result → HearsAll (at_words self.old synchroniser.old)
+            (at_words self.new synchroniser.new) (flat_map elements words.now) Nothing }
+        ensures limit { IsTrue (is_between_words synchroniser.new) }
+        ensures same { result ≡ false
+            → (self.new ≡ self.old) × (synchroniser.new ≡ synchroniser.old) }
         ensures force { in_force self.new ≡ in_force self.old }
         ensures tag { TagGoesOn self.old self.new }
     {
-        if !self.synchroniser.keeps_lock(words) {
+        if !synchroniser.keeps_lock(words) {
             return false;
         }
         if !self.reader.hear_eight(words) {
             return false;
         }
-        self.synchroniser.push_eight(words);
+        synchroniser.push_eight(words);
         true
     }
 
     /// Hears the next word of the lock.
     // Inlined, since it is called for each word.
     #[inline(always)]
-    fn hear_word(&mut self, word: Word) -> Over
-        requires { IsTrue (is_between_words self.old.synchroniser) }
-        ensures hears { HearsAll self.old self.new (elements word) result }
+    fn hear_word(&mut self, synchroniser: &mut WordSynchroniser, word: Word) -> Over
+        requires { IsTrue (is_between_words synchroniser.old) }
+        ensures hears { HearsAll (at_words self.old synchroniser.old)
+            (at_words self.new synchroniser.new) (elements word) result }
         ensures force { in_force self.new ≡ in_force self.old }
         ensures tag { TagGoesOn self.old self.new }
     {
-        let step = self.synchroniser.push_whole(word);
+        let step = synchroniser.push(word);
         self.read(step)
     }
 

@@ -24,6 +24,10 @@ pub record Watching : Type 0 where
   pub locks : ℕ
   pub copies : ℕ
 
+-- what a watch holds whose synchroniser is at work on whole words: this one stands for its own
+abbrev pub at_words : Watching → Held → Watching
+at_words watch synchroniser = record watch { synchroniser = synchroniser }
+
 -- the reader stands after the words that were heard whole of the lock that stands, if one does
 abbrev pub ReadsNow : Reading → List Bool → Now → Type 0
 ReadsNow reader bits (hunting p) = IsFresh reader

@@ -14,7 +14,9 @@ use Rattle.nx_receiver.specs.declared.over.Over.TheVariants as over
 use Rattle.nx_receiver.specs.Events.{Setting}
 use Rattle.nx_receiver.specs.Watching.{LockReading, Watching, in_force}
 use Rattle.nx_receiver.specs.FoundCopies.{TaggedCopy, past_copies}
-use Rattle.nx_receiver.specs.private.Watch.{HasEnded, HearsBits, IsOver, ReadsOver, ReadsStep, TagGoesOn, as_it_was, now_in_force, IsFresh, WatchStands, all_in_force, copies_by}
+use Rattle.nx_envelope.specs.declared.found.TextEvent.{TextEvent}
+use Rattle.nx_envelope.specs.declared.found.TextEvent.TheVariants as events
+use Rattle.nx_receiver.specs.private.Watch.{at_words, tag_after, HasEnded, HearsBits, IsOver, ReadsOver, ReadsStep, TagGoesOn, as_it_was, now_in_force, IsFresh, WatchStands, all_in_force, copies_by}
 use Rattle.nx_receiver.proofs.locks.Growing.{hunted}
 use Rattle.nx_receiver.proofs.watching.Takes.{tag-hunting}
 use Rattle.nx_receiver.proofs.watching.Bits.{quiet_bit}
@@ -264,3 +266,43 @@ nothing_heard first watch stands fresh = record {
     has_tag = tag-hunting first [] watch.tag;
   };
 }
+
+-- ---- a watch whose synchroniser is at work on whole words
+
+tag_by : (watch : Watching) (sync : Held) (event : TextEvent)
+    → tag_after (at_words watch sync) event ≡ tag_after watch event
+tag_by watch sync events.Nothing = refl
+tag_by watch sync (events.Header identity) = refl
+tag_by watch sync events.CopyOver = refl
+
+-- the word that it completes is read as by a watch with a synchroniser of its own
+pub reads_by : (old new : Watching) (sync : Held) (r : Step) (answer : Over)
+    → ReadsStep old new r answer → ReadsStep (at_words old sync) (at_words new sync) r answer
+reads_by old new sync r answer read = record {
+  none = λ none. let same = read.none none in (ap (λ w. at_words w sync) same.0, same.1);
+  some = λ word role one.
+      let w = read.some word role one in
+      record {
+        event = w.event;
+        stands = w.stands;
+        hears = w.hears;
+        kept = w.kept ∙ sym (tag_by old sync w.event);
+        synchroniser = refl;
+        force = w.force;
+        is = w.is;
+      };
+}
+
+pub word_heard_by : (first : Setting) (old new : Watching) (sync after : Held) (bits : List Bool)
+    (h : List Bool) (s : List Setting) (copies : List TaggedCopy) (r : Step) (answer : Over)
+    → length bits ≡ 7 → StandsAfter after (h ++ bits) → IsWordStep h bits r
+    → ReadsStep old new r answer → WatchStands first (at_words old sync) h s copies
+    → HearsBits first (at_words old sync) (at_words new after) h s copies bits answer
+word_heard_by first old new sync after bits h s copies r answer long stands is read w =
+    word_heard first (at_words old sync) (at_words new after) after bits h s copies r answer long
+    stands is (reads_by old new after r answer read) w
+
+pub tag_by_words : {old new : Watching} {before after : Held} → TagGoesOn old new
+    → TagGoesOn (at_words old before) (at_words new after)
+tag_by_words (as_it_was is) = as_it_was is
+tag_by_words (now_in_force is) = now_in_force is

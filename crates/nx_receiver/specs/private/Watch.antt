@@ -3,7 +3,7 @@
 -- digit (this profile).
 use Rattle.std.specs.Prelude.{◌≡◌, ℕ, ◌+◌, ◌-◌, ◌*◌, ◌≤◌, ◌&&◌, nat_lt, max, Bool, true, false, is_some, List, [], ◌∷◌, ◌++◌, length, map, take, Option, Some, None, slice_index_or}
 use Rattle.std.specs.List.{All}
-use Rattle.nx_sync.specs.Synchroniser.{StandsAfter}
+use Rattle.nx_sync.specs.Synchroniser.{Held, StandsAfter}
 use Rattle.nx_sync.specs.Locks.{Lock, Now, hunting, locked, IsNow}
 use Rattle.nx_sync.specs.Words.{word_of_lock, first_role, role_of, whole_words}
 use Rattle.nx_sync.specs.declared.step.Step.{Step}
@@ -163,6 +163,10 @@ pub record HearsAll (old new : Watching) (heard : List Bool) (answer : Over) : T
   pub hears : (first : Setting) (bits : List Bool) (settings : List Setting)
       (copies : List TaggedCopy) → WatchStands first old bits settings copies
       → HearsBits first old new bits settings copies heard answer
+
+-- what a watch holds whose synchroniser is at work on whole words: this one stands for its own
+abbrev pub at_words : Watching → Held → Watching
+at_words watch synchroniser = record watch { synchroniser = synchroniser }
 
 -- the copy that was handed out, with its tag
 abbrev pub handed_out : Option Found → CopyTag → List TaggedCopy

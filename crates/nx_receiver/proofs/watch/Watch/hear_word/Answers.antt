@@ -1,24 +1,22 @@
-use Rattle.std.proofs.Common.{◌∙◌, ap, subst}
 use Rattle.nx_code.specs.Word.{elements}
 use Rattle.nx_sync.proofs.Numbers.{length-elements}
-use Rattle.nx_receiver.specs.private.Watch.{HearsBits, WatchStands}
-use Rattle.nx_receiver.specs.Watching.{in_force}
-use Rattle.nx_receiver.proofs.watching.Hears.{word_heard, force_on}
+use Rattle.nx_receiver.specs.private.Watch.{at_words}
+use Rattle.nx_receiver.proofs.watching.Hears.{word_heard_by, force_on, reads_by}
 use Rattle.nx_receiver.proofs.watch.Watch.hear_word.Goals as goal
 
 pub returns-clause-hears : goal.returns-clause-hears
 returns-clause-hears c = record {
-  hears = λ first h s copies.
-      subst (λ w. WatchStands first w h s copies
-      → HearsBits first w c.read.new.self h s copies (elements c.args.word) c.read.result)
-      c.self.view_is
-      (λ stands. word_heard first _ c.read.new.self c.push_whole-step.new.self
-      (elements c.args.word) h s copies c.push_whole-step.result c.read.result
-      (length-elements c.args.word)
-      (c.push_whole-step.ensures.stands h stands.synchroniser)
-      (c.push_whole-step.ensures.step h stands.synchroniser) c.read.ensures.step stands);
+  hears = λ first h s copies stands.
+      word_heard_by first c.args.self.now c.read.new.self c.args.synchroniser.now
+      c.push-step.new.self (elements c.args.word) h s copies c.push-step.result
+      c.read.result (length-elements c.args.word)
+      (c.push-step.ensures.stands h stands.synchroniser)
+      (c.push-step.ensures.step h stands.synchroniser) c.read.ensures.step stands;
 }
 
 pub returns-clause-force : goal.returns-clause-force
-returns-clause-force c = force_on _ c.read.new.self c.push_whole-step.result c.read.result
-    c.read.ensures.step ∙ ap in_force c.self.view_is
+returns-clause-force c =
+    force_on (at_words c.args.self.now c.push-step.new.self)
+    (at_words c.read.new.self c.push-step.new.self) c.push-step.result c.read.result
+    (reads_by c.args.self.now c.read.new.self c.push-step.new.self c.push-step.result c.read.result
+    c.read.ensures.step)

@@ -1,20 +1,23 @@
 use Rattle.std.proofs.Common.{◌≡◌, ◌+◌, ◌≤◌, Bool, List, drop, take, length, length-drop, arith, rules, subst}
-use Rattle.nx_receiver.specs.private.Watch.{HearsAll}
+use Rattle.nx_receiver.specs.private.Watch.{HearsAll, at_words}
 use Rattle.nx_receiver.specs.declared.over.Over.TheVariants.{Nothing}
+use Rattle.nx_receiver.proofs.watching.Hears.{tag_by_words}
 use Rattle.nx_receiver.proofs.watching.Loops.{goes_first, goes_on, goes_to}
 use Rattle.nx_receiver.proofs.watching.Packed.{behind}
-use Rattle.nx_receiver.proofs.watch.Watch.hear_words.Goals as goal
+use Rattle.nx_receiver.proofs.watch.Watch.follow_words.Goals as goal
 
 pub loop-heard-init : goal.loop-heard-init
 loop-heard-init c =
-    (goes_first c.args.self.now (drop c.args.from c.args.packed.now), c.requires.limit)
+    (goes_first (at_words c.args.self.now c.args.synchroniser.now) (drop c.args.from c.args.packed.now), c.requires.limit)
 
 pub returns-then-ne-clause-hears : goal.returns-then-ne-clause-hears
 returns-then-ne-clause-hears c =
     let some = c.hear_some_words-count in
     let all = c.args.packed.now in
     let at = c.loop-heard.heard in
-    goes_to c.args.self.now c.loop-heard.self some.new.self (drop c.args.from all)
+    goes_to (at_words c.args.self.now c.args.synchroniser.now)
+    (at_words c.loop-heard.self c.loop-heard.synchroniser)
+    (at_words some.new.self some.new.synchroniser) (drop c.args.from all)
     (take some.result.0 (drop (c.args.from + at) all)) at some.result.0 some.result.1
     c.loop-heard.invariant.0 (behind all c.args.from at some.result.0) some.ensures.hears
 
@@ -27,10 +30,11 @@ loop-heard-preserved c =
     let within : at + some.result.0 ≤ length (drop c.args.from all) =
     omega (arith, some.ensures.within, length-drop c.args.from all) in
     let nothing : some.result.1 ≡ Nothing = search rules in
-    let heard = subst (HearsAll c.loop-heard.self some.new.self piece) nothing some.ensures.hears
-    in (
-      goes_on c.args.self.now c.loop-heard.self some.new.self (drop c.args.from all) piece at
-          some.result.0 c.loop-heard.invariant.0 within (behind all c.args.from at some.result.0)
-          heard some.ensures.force some.ensures.tag,
+    let old = at_words c.args.self.now c.args.synchroniser.now in
+    let mid = at_words c.loop-heard.self c.loop-heard.synchroniser in
+    let new = at_words some.new.self some.new.synchroniser in
+    let heard = subst (HearsAll mid new piece) nothing some.ensures.hears in (
+      goes_on old mid new (drop c.args.from all) piece at some.result.0 c.loop-heard.invariant.0 within (behind all c.args.from at some.result.0)
+          heard some.ensures.force (tag_by_words some.ensures.tag),
       search rules,
     )
