@@ -255,8 +255,7 @@ impl Synchroniser {
         requires { self.old.seen ≡ pattern_elements }
         ensures { self.new ≡ record self.old { track = Some (track_from role); wrong = [] } }
     {
-        self.wrong.clear();
-        self.marks = Marks::none();
+        self.replace_marks(Marks::none());
         self.track = Some(Track::begin(role));
     }
 
