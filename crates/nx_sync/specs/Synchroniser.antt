@@ -17,11 +17,6 @@ pub record Held : Type 0 where
   pub track : Option Track
   pub wrong : List Bool
 
--- what is held where a lock is followed by this track, since 28 bits were heard then
-abbrev pub held_at_words : ℕ → Option Track → List Bool → Held
-held_at_words recent track wrong =
-    record { recent = recent; seen = pattern_elements; track = track; wrong = wrong }
-
 -- whether no lock stands
 abbrev pub is_hunting : Held → Bool
 is_hunting held = not (is_some held.track)

@@ -9,9 +9,9 @@ ghost use Rattle.nx_code.specs.Word.{elements};
 ghost use Rattle.nx_sync.specs.Locks.{pattern_elements};
 ghost use Rattle.nx_sync.specs.Steps.{IsWordStep, AreQuietWords};
 ghost use Rattle.nx_sync.specs.private.Windows as spec;
-ghost use Rattle.nx_sync.specs.private.Calls.{Completes};
+ghost use Rattle.nx_sync.specs.private.Calls.{Completes, held_at_words};
 ghost use Rattle.nx_sync.specs.private.Eight.{after_eight};
-ghost use Rattle.nx_sync.specs.Synchroniser.{StandsAfter, is_between_words, keeps_lock, held_at_words};
+ghost use Rattle.nx_sync.specs.Synchroniser.{StandsAfter, is_between_words, keeps_lock};
 
 use crate::eight::{EIGHT, has_dx_phasing_1, numbers, window_after_eight};
 use crate::mark_bits::Marks;
