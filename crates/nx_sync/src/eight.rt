@@ -75,13 +75,11 @@ pub(crate) fn wrong_bits(words: &[Word; EIGHT]) -> u64
 
 /// The window after eight words, of which it has the last four.
 #[inline(always)]
-pub(crate) fn window_after_eight(numbers: &[u8; EIGHT]) -> u32
-    requires { (k : ℕ) → k < 8 → slice_index numbers.now k < 128 }
-    ensures value { result ≡ spec.last_four numbers.now }
+pub(crate) fn window_after_eight(words: &[Word; EIGHT]) -> u32
+    ensures value { result ≡ spec.last_four words.now }
     ensures within { result < 2 ^ pattern_elements }
 {
-    u32::from(numbers[4])
-        + (u32::from(numbers[5]) << 7)
-        + (u32::from(numbers[6]) << 14)
-        + (u32::from(numbers[7]) << 21)
+    let older = u32::from(words[4].number()) + (u32::from(words[5].number()) << 7);
+    let newer = (u32::from(words[6].number()) << 14) + (u32::from(words[7].number()) << 21);
+    older + newer
 }

@@ -54,13 +54,14 @@ impl Track {
     /// The track after eight words, from the first element of one on. Eight turns of the role are
     /// none, and of the marks those of the last five words are left.
     #[inline(always)]
-    pub(crate) fn after_eight(self, numbers: &[u8; EIGHT]) -> Track
-        ensures { result ≡ record self { filled = 0; was_p1 = last_five_marks numbers.now } }
+    pub(crate) fn after_eight(self, words: &[Word; EIGHT]) -> Track
+        ensures { result ≡ record self { filled = 0; was_p1 = last_five_marks words.now } }
     {
-        let older = u8::from(numbers[3] == PHASING_1) + (u8::from(numbers[4] == PHASING_1) << 1);
-        let newer = (u8::from(numbers[5] == PHASING_1) << 2)
-            + (u8::from(numbers[6] == PHASING_1) << 3)
-            + (u8::from(numbers[7] == PHASING_1) << 4);
+        let older = u8::from(words[3].number() == PHASING_1)
+            + (u8::from(words[4].number() == PHASING_1) << 1);
+        let newer = (u8::from(words[5].number() == PHASING_1) << 2)
+            + (u8::from(words[6].number() == PHASING_1) << 3)
+            + (u8::from(words[7].number() == PHASING_1) << 4);
         Track {
             role: self.role,
             filled: 0,
