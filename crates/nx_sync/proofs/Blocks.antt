@@ -1,14 +1,19 @@
 -- Tens of elements, one of which each window after one of 64 elements has: where none of the four
 -- tens stands in a pattern, no window is one.
-use Rattle.std.proofs.Common.{◌≡◌, ℕ, ◌+◌, ◌-◌, ◌/◌, ◌%◌, ◌^◌, ◌<◌, ◌≤◌, ◌==◌, zero, suc, min, List, length, take, get_or, Bool, true, false, not, ◌&&◌, ◌||◌, refl, sym, ap, ◌∙◌, inl, inr, arith, length-take}
-use Rattle.std.proofs.lemmas.Bool.{cases_eq, cases_lt, cases_Bool, both_ways, or_parts, agree_below_at, ne_eqb}
+use Rattle.std.proofs.Common.{◌≡◌, ℕ, ◌+◌, ◌-◌, ◌/◌, ◌%◌, ◌^◌, ◌<◌, ◌≤◌, ◌==◌, zero, suc, min, List}
+use Rattle.std.proofs.Common.{length, take, get_or, Bool, true, false, not, ◌&&◌, ◌||◌, refl, sym}
+use Rattle.std.proofs.Common.{ap, ◌∙◌, inl, inr, arith, length-take}
+use Rattle.std.proofs.lemmas.Bool.{cases_eq, cases_lt, cases_Bool, both_ways, or_parts}
+use Rattle.std.proofs.lemmas.Bool.{agree_below_at, ne_eqb}
 use Rattle.std.proofs.lemmas.Nat.{shr-shr, field_of}
 use Rattle.std.proofs.Math.Pow.{mod-mod-pow}
 use Rattle.nx_code.specs.Word.{elements_from}
 use Rattle.nx_code.proofs.PackedLemmas.{length-elements_from, elements_from-take, value_of-odd}
 use Rattle.nx_sync.specs.declared.packed.TheConstants.{BLOCKS}
 use Rattle.nx_sync.specs.Windows.{window_before_dx, window_before_rx, is_lock_window}
-use Rattle.nx_sync.specs.private.Windows.{blocks, is_one_of, is_block, joined, window_in, block_in, may_lock_in_blocks, may_lock_in_both, IsBeforeLockIn, next_window, window_after}
+use Rattle.nx_sync.specs.private.Windows.{blocks, is_one_of, is_block, joined, window_in, block_in}
+use Rattle.nx_sync.specs.private.Windows.{may_lock_in_blocks, may_lock_in_both, IsBeforeLockIn}
+use Rattle.nx_sync.specs.private.Windows.{next_window, window_after}
 use Rattle.nx_sync.specs.Synchroniser.{Held}
 use Rattle.nx_sync.specs.private.Calls.{Skips}
 use Rattle.nx_sync.proofs.Hearing.{next_window-lt, same_parts}

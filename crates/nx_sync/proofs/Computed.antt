@@ -1,7 +1,11 @@
 -- What a word of a lock would bring, by computation, and the rule of its release: they are the
 -- same, both ways.
-use Rattle.std.proofs.Common.{◌≡◌, ℕ, zero, suc, ◌+◌, ◌-◌, ◌*◌, ◌<◌, ◌≤◌, nat_le, List, length, Bool, true, false, is_some, refl, sym, ap, subst, ◌∙◌, inl, inr, arith, Some, None, Option, eqb-true, eq-eqb}
-use Rattle.std.proofs.lemmas.Bool.{cases_lt, cases_order, cases_Bool, both_ways, and_parts, and_from, le-leb, lt-leb, leb-true, leb-false, false_from_ne_true}
+use Rattle.std.proofs.Common.{◌≡◌, ℕ, zero, suc, ◌+◌, ◌-◌, ◌*◌, ◌<◌, ◌≤◌, nat_le, List, length}
+use Rattle.std.proofs.Common.{Bool, true, false, is_some, refl, sym, ap, subst, ◌∙◌, inl, inr}
+use Rattle.std.proofs.Common.{arith, Some, None, Option, eqb-true, eq-eqb}
+use Rattle.std.proofs.lemmas.Bool.{cases_lt, cases_order, cases_Bool, both_ways, and_parts}
+use Rattle.std.proofs.lemmas.Bool.{and_from, le-leb, lt-leb, leb-true, leb-false}
+use Rattle.std.proofs.lemmas.Bool.{false_from_ne_true}
 use Rattle.nx_sync.specs.declared.step.Role.{Role}
 use Rattle.nx_sync.specs.declared.step.Role.TheVariants.{Dx, Rx}
 use Rattle.nx_sync.specs.declared.step.Change.{Change}
@@ -9,7 +13,8 @@ use Rattle.nx_sync.specs.declared.step.Change.TheVariants.{Locked, Ended, LostLo
 use Rattle.nx_code.specs.Table.{phasing_1}
 use Rattle.nx_sync.specs.Words.{losing_count, is_dx, role_of, wrong_until, word_of_lock, first_role}
 use Rattle.nx_sync.specs.private.Releases.{releases_as_ended, change_at, release}
-use Rattle.nx_sync.specs.Locks.{IsSecondPhasing1, EndedAt, LostAt, IsEarlier, ended, lost, IsReleased}
+use Rattle.nx_sync.specs.Locks.{IsSecondPhasing1, EndedAt, LostAt, IsEarlier, ended, lost}
+use Rattle.nx_sync.specs.Locks.{IsReleased}
 use Rattle.nx_sync.specs.Laws.{Holds}
 
 -- the least number that passes a test, if one below n does

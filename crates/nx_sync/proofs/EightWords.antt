@@ -1,13 +1,14 @@
 -- Eight words heard at once: what is held after them, and what was brought, is what one word after
 -- the other makes of it.
-use Rattle.std.proofs.Common.{◌≡◌, ℕ, zero, suc, ◌+◌, ◌-◌, ◌*◌, ◌/◌, ◌%◌, ◌^◌, ◌<◌, ◌≤◌, ◌==◌, nat_le, List, [], ◌∷◌, ◌++◌, length, take, drop, get_or, Bool, true, false, not, ◌&&◌, ◌||◌, cond, count_by, refl, sym, ap, ap₂, subst, subst₂, ◌∙◌, arith, Option, Some, None, append_assoc, append-nil, length-append, length-drop, drop-drop}
+use Rattle.std.proofs.Common.{◌≡◌, ℕ, zero, suc, ◌+◌, ◌-◌, ◌*◌, ◌/◌, ◌%◌, ◌^◌, ◌<◌, ◌≤◌, ◌==◌}
+use Rattle.std.proofs.Common.{nat_le, List, [], ◌∷◌, ◌++◌, length, take, get_or, Bool, true}
+use Rattle.std.proofs.Common.{false, not, ◌&&◌, ◌||◌, cond, count_by, refl, sym, ap, ap₂, subst}
+use Rattle.std.proofs.Common.{subst₂, ◌∙◌, arith, Option, Some, None, append_assoc, append-nil}
 use Rattle.std.specs.Prelude.{slice_index}
 use Rattle.std.specs.List.{flat_map}
-use Rattle.std.proofs.lemmas.Bool.{eqb-true, ne_eqb, eq-eqb, lt-leb, leb-true, or_parts}
-use Rattle.std.proofs.lemmas.List.{drop_more, drop_all, drop-append-le}
-use Rattle.std.proofs.Math.Seq.{take-append-add}
+use Rattle.std.proofs.lemmas.Bool.{eqb-true, ne_eqb, eq-eqb, lt-leb, leb-true}
 use Rattle.std.proofs.lemmas.Grind.{get_or_default_zero}
-use Rattle.std.proofs.lemmas.List.Sums.{sum_by_push, sum_by-append, sum_by-take-drop}
+use Rattle.std.proofs.lemmas.List.Sums.{sum_by_push, sum_by-take-drop}
 use Rattle.circular_buffer.specs.Buffer.{keep_last}
 use Rattle.nx_code.specs.Table.{phasing_1}
 use Rattle.nx_code.specs.Word.{elements, number_of, value_of, weight, is_wrong}
@@ -15,15 +16,18 @@ use Rattle.nx_code.proofs.WordLemmas.{value_of-le, number_of-elements, number_of
 use Rattle.nx_sync.specs.declared.step.Role.{Role}
 use Rattle.nx_sync.specs.declared.step.Role.TheVariants.{Dx, Rx}
 use Rattle.nx_sync.specs.declared.track.Track.{Track}
-use Rattle.nx_sync.specs.Words.{marked_words, losing_count, other_role, is_dx, word_of_lock, role_of}
+use Rattle.nx_sync.specs.Words.{marked_words, losing_count, other_role, is_dx, word_of_lock}
+use Rattle.nx_sync.specs.Words.{role_of}
 use Rattle.nx_sync.specs.private.Windows.{next_word_window}
 use Rattle.nx_sync.specs.private.Calls.{track_after, fills_releasing_word, Completes}
-use Rattle.nx_sync.specs.private.Eight.{wrong_ones, last_four, last_five_marks, marks_after_words, after_eight}
+use Rattle.nx_sync.specs.private.Eight.{wrong_ones, last_four, last_five_marks, marks_after_words}
+use Rattle.nx_sync.specs.private.Eight.{after_eight}
 use Rattle.nx_sync.specs.Steps.{step, IsWordStep, AreQuietWords}
 use Rattle.nx_sync.specs.Locks.{Now, hunting, locked}
-use Rattle.nx_sync.specs.Synchroniser.{Held, p1_marks, Tracks, StandsAfter, awaits_free_dx, has_dx_phasing_1, keeps_lock}
+use Rattle.nx_sync.specs.Synchroniser.{Held, p1_marks, Tracks, StandsAfter, awaits_free_dx}
+use Rattle.nx_sync.specs.Synchroniser.{has_dx_phasing_1, keeps_lock}
 use Rattle.nx_sync.proofs.Counts.{one_if-le}
-use Rattle.nx_sync.proofs.Marks.{marks_stay, length-p1_marks}
+use Rattle.nx_sync.proofs.Marks.{length-p1_marks}
 use Rattle.nx_sync.proofs.Numbers.{length-elements}
 use Rattle.nx_sync.proofs.WholeWords.{word_stands, word_step}
 

@@ -1,5 +1,6 @@
 -- The definitions of the locks, evaluated on worked examples.
-use Rattle.std.proofs.Common.{◌≡◌, ◌==◌, ◌||◌, [], ◌∷◌, ◌++◌, ℕ, Bool, is_some, true, false, refl, inl, arith, Some, if◌then◌else◌}
+use Rattle.std.proofs.Common.{◌≡◌, ◌==◌, ◌||◌, [], ◌∷◌, ◌++◌, ℕ, Bool, is_some, true, false, refl}
+use Rattle.std.proofs.Common.{inl, arith, Some, if◌then◌else◌}
 use Rattle.std.proofs.lemmas.Bool.{agree_below, agree_below_at}
 use Rattle.nx_code.specs.Table.{phasing_1, phasing_2, elements_of_phasing_1, elements_of_phasing_2}
 use Rattle.nx_code.specs.Word.{number_of, weight, elements, elements_from, is_wrong, wrong_in}
@@ -67,13 +68,13 @@ by_computing first words w how here quiet =
 abbrev pub all_wrong : ℕ → ℕ
 all_wrong k = 0
 
-pub thirty_nine : wrong_until all_wrong 38 ≡ 39
+pub one_too_few : wrong_until all_wrong 38 ≡ 39
 unfolding wrong_in weight elements elements_from
-thirty_nine = refl
+one_too_few = refl
 
-pub lost_at_forty : IsEarlier Dx all_wrong 39 LostLock
+pub lost_where_all_are_wrong : IsEarlier Dx all_wrong 39 LostLock
 unfolding change_at releases_as_ended role_of wrong_in weight elements elements_from
-lost_at_forty = by_computing Dx all_wrong 39 LostLock refl refl
+lost_where_all_are_wrong = by_computing Dx all_wrong 39 LostLock refl refl
 
 pub sixty_four : wrong_until all_wrong 100 ≡ 64
 unfolding wrong_in weight elements elements_from

@@ -1,7 +1,10 @@
 -- Hunting: what the windows of a block say of its elements, how blocks follow on each other, and
 -- that the elements which
 -- a hunt hears are those whose pushes bring nothing.
-use Rattle.std.proofs.Common.{◌≡◌, ℕ, suc, ◌+◌, ◌-◌, ◌<◌, ◌≤◌, min, List, [], ◌∷◌, ◌++◌, length, take, drop, get_or, Bool, true, false, not, is_some, refl, sym, ap, subst, subst₂, ◌∙◌, inl, inr, arith, Some, None, Option, append_assoc, append-nil, length-take, length-drop, get_or-take, take-take}
+use Rattle.std.proofs.Common.{◌≡◌, ℕ, suc, ◌+◌, ◌-◌, ◌<◌, ◌≤◌, min, List, [], ◌∷◌, ◌++◌, length}
+use Rattle.std.proofs.Common.{take, drop, get_or, Bool, true, false, not, is_some, refl, sym, ap}
+use Rattle.std.proofs.Common.{subst, subst₂, ◌∙◌, inl, inr, arith, Some, None, Option, append_assoc}
+use Rattle.std.proofs.Common.{append-nil, length-take, length-drop, get_or-take, take-take}
 use Rattle.std.proofs.lemmas.Bool.{cases_lt, cases_eq, both_ways, ne_eqb, eq-eqb}
 use Rattle.std.proofs.lemmas.List.{take_more}
 use Rattle.nx_sync.specs.declared.step.Role.{Role}
@@ -12,9 +15,11 @@ use Rattle.nx_sync.specs.Windows.{window_before_dx, window_before_rx, is_lock_wi
 use Rattle.nx_sync.specs.private.Windows.{IsBeforeLock, role_after, window_after}
 use Rattle.nx_sync.specs.Steps.{step, IsStep, HuntsThrough}
 use Rattle.nx_sync.specs.Synchroniser.{Held, is_hunting, StandsAfter}
-use Rattle.nx_sync.specs.private.Calls.{track_from, heard_one, heard_all, IsQuiet, EndsPattern, Passes, Skips, SkipsSome, SkipsEarly}
+use Rattle.nx_sync.specs.private.Calls.{track_from, heard_one, heard_all, IsQuiet, EndsPattern}
+use Rattle.nx_sync.specs.private.Calls.{Passes, Skips, SkipsSome, SkipsEarly}
 use Rattle.nx_sync.proofs.Patterns.{role_after-dx, role_after-rx, role_after-none}
-use Rattle.nx_sync.proofs.Hearing.{window_after-one, same_parts, heard_all-none, heard_all-append, heard_all-add, heard_all-more}
+use Rattle.nx_sync.proofs.Hearing.{window_after-one, same_parts, heard_all-none, heard_all-append}
+use Rattle.nx_sync.proofs.Hearing.{heard_all-add, heard_all-more}
 use Rattle.nx_sync.proofs.Pushes.{IsGood, push_hunting}
 
 -- the role after a window, by whether it is a pattern

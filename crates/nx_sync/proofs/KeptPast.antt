@@ -1,10 +1,12 @@
 -- What lies before the end of the bits is the same when more bits come.
-use Rattle.std.proofs.Common.{◌≡◌, ℕ, zero, suc, ◌+◌, ◌-◌, ◌*◌, ◌<◌, ◌≤◌, List, [], ◌∷◌, ◌++◌, length, Bool, refl, sym, ap, ap₂, ◌∙◌, inl, inr, arith, length-append}
+use Rattle.std.proofs.Common.{◌≡◌, ℕ, zero, suc, ◌+◌, ◌-◌, ◌*◌, ◌<◌, ◌≤◌, List, [], ◌∷◌, ◌++◌}
+use Rattle.std.proofs.Common.{length, Bool, refl, sym, ap, ap₂, ◌∙◌, inl, inr, arith, length-append}
 use Rattle.nx_code.specs.Word.{number_of, is_wrong, wrong_in}
 use Rattle.nx_sync.specs.declared.step.Role.{Role}
 use Rattle.nx_sync.specs.Words.{marked_words, word_of_lock, first_role, role_of, wrong_until}
 use Rattle.nx_sync.proofs.Counts.{one_if}
-use Rattle.nx_sync.specs.Locks.{last_28, IsPattern, Finds, IsSecondPhasing1, IsReleased, Lock, IsPast, Past}
+use Rattle.nx_sync.specs.Locks.{last_28, IsPattern, Finds, IsSecondPhasing1, IsReleased, Lock}
+use Rattle.nx_sync.specs.Locks.{IsPast, Past}
 use Rattle.nx_sync.specs.private.Releases.{releases_as_ended, change_at, release}
 use Rattle.nx_sync.proofs.Lists.{part-append}
 use Rattle.nx_sync.proofs.Computed.{released-from, released-to}

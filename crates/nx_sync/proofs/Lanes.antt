@@ -1,5 +1,6 @@
 -- From the masks of eight lanes to the windows under them.
-use Rattle.std.proofs.Common.{◌≡◌, ℕ, ◌+◌, ◌%◌, ◌^◌, ◌<◌, ◌≤◌, ◌==◌, false, cond, List, length, get_or, map, replicate, w32, refl, sym, ◌∙◌, arith}
+use Rattle.std.proofs.Common.{◌≡◌, ℕ, ◌+◌, ◌%◌, ◌^◌, ◌<◌, ◌≤◌, ◌==◌, false, cond, List, length}
+use Rattle.std.proofs.Common.{get_or, map, replicate, w32, refl, sym, ◌∙◌, arith}
 use Rattle.std.proofs.lemmas.Simd.{length-chunk, bitmask_splat, none_from_empty_mask}
 use lib.Lanes.{chunk, mask_l, zip2, top}
 use Rattle.nx_sync.specs.Windows.{is_lock_window, window_before_dx, window_before_rx}

@@ -1,12 +1,14 @@
 -- What stands after one more bit.
-use Rattle.std.proofs.Common.{◌≡◌, ℕ, ◌+◌, ◌*◌, List, [], ◌∷◌, ◌++◌, length, Bool, subst, ◌∙◌, inl, inr, arith, Some, None}
+use Rattle.std.proofs.Common.{◌≡◌, ℕ, ◌+◌, ◌*◌, List, [], ◌∷◌, ◌++◌, length, Bool, subst, ◌∙◌, inl}
+use Rattle.std.proofs.Common.{inr, arith, Some, None}
 use Rattle.std.proofs.lemmas.List.{length_push}
 use Rattle.std.proofs.lemmas.Bool.{cases_lt}
 use Rattle.nx_sync.specs.declared.step.Change.{Change}
 use Rattle.nx_sync.specs.Locks.{IsPattern, Lock, Past, IsHunting, IsLocked}
 use Rattle.nx_sync.specs.private.Releases.{release}
 use Rattle.nx_sync.proofs.Computed.{released-to, holds-from, holds-to}
-use Rattle.nx_sync.proofs.KeptPast.{release-more, IsPattern-less, Finds-more, Past-more, Past-within}
+use Rattle.nx_sync.proofs.KeptPast.{release-more, IsPattern-less, Finds-more, Past-more}
+use Rattle.nx_sync.proofs.KeptPast.{Past-within}
 
 module _ (bits : List Bool) (b : Bool) where
   -- hunting goes on where no pattern ends with the bit

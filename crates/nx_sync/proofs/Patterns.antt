@@ -1,5 +1,7 @@
 -- The two patterns: which one stands, and what role the first word has after it.
-use Rattle.std.proofs.Common.{◌≡◌, ℕ, ◌+◌, ◌-◌, ◌/◌, ◌^◌, ◌≤◌, List, ◌++◌, length, take, drop, replicate, Bool, false, refl, sym, ap, ◌∙◌, inl, inr, arith, Some, None, length-drop, length-take, take_all, drop-drop}
+use Rattle.std.proofs.Common.{◌≡◌, ℕ, ◌+◌, ◌-◌, ◌/◌, ◌^◌, ◌≤◌, List, ◌++◌, length, take, drop}
+use Rattle.std.proofs.Common.{replicate, Bool, false, refl, sym, ap, ◌∙◌, inl, inr, arith, Some}
+use Rattle.std.proofs.Common.{None, length-drop, length-take, take_all, drop-drop}
 use Rattle.std.proofs.lemmas.Bool.{cases_eq, ne_eqb}
 use Rattle.std.proofs.lemmas.List.{drop-take}
 use Rattle.circular_buffer.specs.Buffer.{keep_last}

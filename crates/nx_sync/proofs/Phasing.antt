@@ -1,5 +1,8 @@
 -- 48 phasing words as sent leave a lock on their word limits and roles, whatever came before.
-use Rattle.std.proofs.Common.{◌≡◌, ℕ, zero, suc, ◌+◌, ◌-◌, ◌*◌, ◌/◌, ◌%◌, ◌<◌, ◌≤◌, ◌⊎◌, List, [], ◌∷◌, ◌++◌, length, take, drop, Bool, true, false, not, ◌||◌, eqb, refl, sym, ap, ap₂, subst, ◌∙◌, inl, inr, arith, Some, None, drop-drop, length-append}
+use Rattle.std.proofs.Common.{◌≡◌, ℕ, zero, suc, ◌+◌, ◌-◌, ◌*◌, ◌/◌, ◌%◌, ◌<◌, ◌≤◌, ◌⊎◌, List, []}
+use Rattle.std.proofs.Common.{◌∷◌, ◌++◌, length, take, drop, Bool, true, false, not, ◌||◌, eqb}
+use Rattle.std.proofs.Common.{refl, sym, ap, ap₂, subst, ◌∙◌, inl, inr, arith, Some, None}
+use Rattle.std.proofs.Common.{drop-drop, length-append}
 use Rattle.std.proofs.Math.Seq.{drop-append-add}
 use Rattle.std.proofs.lemmas.Bool.{cases_lt, cases_eq, both_ways, agree_below_at, ne_eqb}
 use Rattle.nx_code.specs.Word.{number_of, weight, elements, elements_from, is_wrong, wrong_in}
@@ -8,13 +11,17 @@ use Rattle.nx_sync.specs.declared.step.Role.TheVariants.{Dx, Rx}
 use Rattle.nx_sync.specs.declared.step.Change.{Change}
 use Rattle.nx_sync.specs.declared.step.Change.TheVariants.{Locked, Ended, LostLock}
 use Rattle.nx_code.specs.Table.{phasing_1, phasing_2}
-use Rattle.nx_sync.specs.Words.{marked_words, losing_count, other_role, word_of_lock, first_role, role_of, wrong_until}
+use Rattle.nx_sync.specs.Words.{marked_words, losing_count, other_role, word_of_lock, first_role}
+use Rattle.nx_sync.specs.Words.{role_of, wrong_until}
 use Rattle.nx_sync.specs.private.Releases.{releases_as_ended, release}
-use Rattle.nx_sync.specs.Locks.{pattern_elements, before_dx, before_rx, IsPattern, IsSecondPhasing1, Lock, Past, Now, hunting, locked, IsLocked, IsNow}
+use Rattle.nx_sync.specs.Locks.{pattern_elements, before_dx, before_rx, IsPattern, IsSecondPhasing1}
+use Rattle.nx_sync.specs.Locks.{Lock, Past, Now, hunting, locked, IsLocked, IsNow}
 use Rattle.nx_sync.specs.Laws.{phasing, LockedBeforeDx}
-use Rattle.nx_sync.proofs.Counts.{wrong_in-add, wrong_in-all, wrong_in-none, wrong_in-le, role_of-even}
+use Rattle.nx_sync.proofs.Counts.{wrong_in-add, wrong_in-all, wrong_in-none, wrong_in-le}
+use Rattle.nx_sync.proofs.Counts.{role_of-even}
 use Rattle.nx_sync.proofs.Patterns.{last_word-window}
-use Rattle.nx_sync.proofs.Computed.{IsSecondPhasing1-from, IsSecondPhasing1-to, at_none, ByTests, by_end, by_loss, by_tests, released-from, holds-from}
+use Rattle.nx_sync.proofs.Computed.{IsSecondPhasing1-from, IsSecondPhasing1-to, at_none, ByTests}
+use Rattle.nx_sync.proofs.Computed.{by_end, by_loss, by_tests, released-from, holds-from}
 use Rattle.nx_sync.proofs.StateChanges.{standing_after}
 
 -- the word that begins at place i of n phasing pairs

@@ -1,6 +1,9 @@
 -- What each kind of state becomes in 48 phasing words: a hunt, a lock on other limits, one with
 -- swapped roles, a right one.
-use Rattle.std.proofs.Common.{◌≡◌, ℕ, zero, suc, ◌+◌, ◌-◌, ◌*◌, ◌/◌, ◌%◌, ◌<◌, ◌≤◌, List, ◌++◌, length, take, drop, Bool, true, false, refl, sym, ap, subst, ◌∙◌, inl, inr, arith, Some, None, Option, append_assoc, drop-drop, length-append, length-take}
+use Rattle.std.proofs.Common.{◌≡◌, ℕ, zero, suc, ◌+◌, ◌-◌, ◌*◌, ◌/◌, ◌%◌, ◌<◌, ◌≤◌, List, ◌++◌}
+use Rattle.std.proofs.Common.{length, take, drop, Bool, true, false, refl, sym, ap, subst, ◌∙◌, inl}
+use Rattle.std.proofs.Common.{inr, arith, Some, None, Option, append_assoc, drop-drop}
+use Rattle.std.proofs.Common.{length-append, length-take}
 use Rattle.std.proofs.Math.Seq.{drop-append-add}
 use Rattle.std.proofs.lemmas.Bool.{cases_lt, cases_eq, both_ways}
 use Rattle.std.proofs.lemmas.List.{take-append-drop}
@@ -8,16 +11,19 @@ use Rattle.nx_code.specs.Table.{phasing_1, phasing_2}
 use Rattle.nx_sync.specs.declared.step.Role.{Role}
 use Rattle.nx_sync.specs.declared.step.Role.TheVariants.{Dx, Rx}
 use Rattle.nx_sync.specs.declared.step.Change.{Change}
-use Rattle.nx_sync.specs.Words.{marked_words, losing_count, other_role, word_of_lock, first_role, role_of, wrong_until}
+use Rattle.nx_sync.specs.Words.{marked_words, losing_count, other_role, word_of_lock, first_role}
+use Rattle.nx_sync.specs.Words.{role_of, wrong_until}
 use Rattle.nx_code.specs.Word.{is_wrong, wrong_in, elements, elements_from}
-use Rattle.nx_sync.specs.Locks.{pattern_elements, before_dx, before_rx, IsPattern, Finds, IsSecondPhasing1, Lock, IsHunting, IsLocked}
+use Rattle.nx_sync.specs.Locks.{pattern_elements, before_dx, before_rx, IsPattern, Finds}
+use Rattle.nx_sync.specs.Locks.{IsSecondPhasing1, Lock, IsHunting, IsLocked}
 use Rattle.nx_sync.specs.private.Releases.{release}
 use Rattle.nx_sync.specs.Laws.{phasing, IsOnPhasing, IsBetweenLimits, IsReleasedBy}
 use Rattle.nx_sync.proofs.Counts.{wrong_in-add, wrong_in-all, wrong_in-none, role_of-even}
 use Rattle.nx_sync.proofs.KeptPast.{wrong_in-same, IsPattern-less, word_at-more, Past-within}
 use Rattle.nx_sync.proofs.Computed.{IsSecondPhasing1-to, at_none, holds-from, least_released}
 use Rattle.nx_sync.proofs.Releases.{stands_longer}
-use Rattle.nx_sync.proofs.Phasing.{phase_at, length-phasing, limit-true, limit-zero, role_of-three_on, word_in, phasing_heard, inside_aligned}
+use Rattle.nx_sync.proofs.Phasing.{phase_at, length-phasing, limit-true, limit-zero}
+use Rattle.nx_sync.proofs.Phasing.{role_of-three_on, word_in, phasing_heard, inside_aligned}
 
 -- phasing without its first pairs
 drop-pairs : (q n : ℕ) → drop (14 * q) (phasing (q + n)) ≡ phasing n

@@ -1,6 +1,9 @@
 -- What a synchroniser holds after one more bit is what stands then.
 use Rattle.std.specs.Prelude.{◌↔◌, IsTrue}
-use Rattle.std.proofs.Common.{◌≡◌, ℕ, suc, ◌+◌, ◌-◌, ◌*◌, ◌/◌, ◌^◌, ◌<◌, ◌≤◌, ◌==◌, min, ◌⊎◌, List, [], ◌∷◌, ◌++◌, length, take, drop, replicate, Bool, true, false, is_some, refl, sym, ap, ap₂, subst, subst₂, ◌∙◌, inl, inr, arith, Some, None, Option}
+use Rattle.std.proofs.Common.{◌≡◌, ℕ, suc, ◌+◌, ◌-◌, ◌*◌, ◌/◌, ◌^◌, ◌<◌, ◌≤◌, ◌==◌, min, ◌⊎◌, List}
+use Rattle.std.proofs.Common.{[], ◌∷◌, ◌++◌, length, take, drop, replicate, Bool, true, false}
+use Rattle.std.proofs.Common.{is_some, refl, sym, ap, ap₂, subst, subst₂, ◌∙◌, inl, inr, arith}
+use Rattle.std.proofs.Common.{Some, None, Option}
 use Rattle.std.proofs.lemmas.List.{length_push}
 use Rattle.std.proofs.lemmas.Bool.{cases_lt}
 use Rattle.circular_buffer.specs.Buffer.{keep_last}
@@ -14,17 +17,21 @@ use Rattle.nx_sync.specs.declared.track.Track.{Track}
 use Rattle.nx_code.specs.Table.{phasing_1}
 use Rattle.nx_sync.specs.Words.{marked_words, other_role, word_of_lock, first_role, role_of}
 use Rattle.nx_sync.specs.private.Releases.{release}
-use Rattle.nx_sync.specs.Locks.{before_dx, before_rx, last_28, IsPattern, Lock, Now, hunting, locked, IsHunting, IsLocked, IsNow}
+use Rattle.nx_sync.specs.Locks.{before_dx, before_rx, last_28, IsPattern, Lock, Now, hunting}
+use Rattle.nx_sync.specs.Locks.{locked, IsHunting, IsLocked, IsNow}
 use Rattle.nx_sync.specs.Steps.{LockStands, step, found, word, inside, over, hunts, IsStep}
 use Rattle.nx_sync.specs.Synchroniser.{Held, wrong_marks, p1_marks, Follows, Tracks, StandsAfter}
 use Rattle.nx_sync.specs.private.Windows.{next_window, role_after}
-use Rattle.nx_sync.specs.private.Calls.{heard_one, track_from, track_after, BeginsLock, Fills, Completes}
+use Rattle.nx_sync.specs.private.Calls.{heard_one, track_from, track_after, BeginsLock, Fills}
+use Rattle.nx_sync.specs.private.Calls.{Completes}
 use Rattle.nx_sync.proofs.Lists.{padded-push, length-padded}
 use Rattle.nx_sync.proofs.Numbers.{number_of-next}
 use Rattle.nx_sync.proofs.KeptPast.{word_at-more, first_role-more, Past-within}
 use Rattle.nx_sync.proofs.OneBit.{hunts_on, locks_now, stands_on, ends_now}
-use Rattle.nx_sync.proofs.Patterns.{length-last_28, IsNeither, Which, dx, rx, neither, which, first_role-dx, first_role-rx, window-heard, newest_word}
-use Rattle.nx_sync.proofs.Marks.{wrong_marks-same, p1_marks-same, p1_number-next, p1_number-none, wrong_marks-next, change_of-change_at}
+use Rattle.nx_sync.proofs.Patterns.{length-last_28, IsNeither, Which, dx, rx, neither, which}
+use Rattle.nx_sync.proofs.Patterns.{first_role-dx, first_role-rx, window-heard, newest_word}
+use Rattle.nx_sync.proofs.Marks.{wrong_marks-same, p1_marks-same, p1_number-next, p1_number-none}
+use Rattle.nx_sync.proofs.Marks.{wrong_marks-next, change_of-change_at}
 use Rattle.nx_sync.proofs.UniqueStates.{now-unique}
 
 -- whether a track is there says whether a lock stands

@@ -1,10 +1,12 @@
 -- What keeps a lock.
-use Rattle.std.proofs.Common.{◌≡◌, ℕ, suc, ◌+◌, ◌-◌, ◌*◌, ◌<◌, ◌≤◌, List, ◌++◌, length, Bool, refl, sym, ap, ◌∙◌, inl, inr, arith}
+use Rattle.std.proofs.Common.{◌≡◌, ℕ, suc, ◌+◌, ◌-◌, ◌*◌, ◌<◌, ◌≤◌, List, ◌++◌, length, Bool, refl}
+use Rattle.std.proofs.Common.{sym, ap, ◌∙◌, inl, inr, arith}
 use Rattle.std.proofs.lemmas.Bool.{cases_lt, false_from_ne_true}
 use Rattle.nx_sync.specs.declared.step.Role.{Role}
 use Rattle.nx_sync.specs.declared.step.Role.TheVariants.{Dx, Rx}
 use Rattle.nx_code.specs.Table.{phasing_1}
-use Rattle.nx_sync.specs.Words.{marked_words, losing_count, other_role, role_of, wrong_until, word_of_lock, first_role}
+use Rattle.nx_sync.specs.Words.{marked_words, losing_count, other_role, role_of, wrong_until}
+use Rattle.nx_sync.specs.Words.{word_of_lock, first_role}
 use Rattle.nx_code.specs.Word.{wrong_in}
 use Rattle.nx_sync.specs.Locks.{IsSecondPhasing1, Finds, Lock, Past, IsLocked}
 use Rattle.nx_sync.proofs.Computed.{IsSecondPhasing1-from, change-none, holds-from, holds-to}

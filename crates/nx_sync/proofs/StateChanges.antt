@@ -1,11 +1,16 @@
 -- Something stands after every list of bits, and how it goes on when more bits come.
-use Rattle.std.proofs.Common.{◌≡◌, ℕ, ◌+◌, ◌-◌, ◌*◌, ◌/◌, ◌⊎◌, List, [], ◌∷◌, ◌++◌, length, Bool, refl, sym, ap, subst, subst₂, ◌∙◌, inl, inr, arith, Some, None, Option, append_assoc, append-nil}
+use Rattle.std.proofs.Common.{◌≡◌, ℕ, ◌+◌, ◌-◌, ◌*◌, ◌/◌, ◌⊎◌, List, [], ◌∷◌, ◌++◌, length, Bool}
+use Rattle.std.proofs.Common.{refl, sym, ap, subst, subst₂, ◌∙◌, inl, inr, arith, Some, None}
+use Rattle.std.proofs.Common.{Option, append_assoc, append-nil}
 use Rattle.std.proofs.lemmas.List.{length_push}
 use Rattle.std.proofs.lemmas.Bool.{cases_lt, cases_eq}
 use Rattle.nx_sync.specs.declared.step.Change.{Change}
 use Rattle.nx_sync.specs.private.Releases.{release}
-use Rattle.nx_sync.specs.Locks.{last_28, IsPattern, Lock, Past, Now, hunting, locked, IsLocked, IsNow}
-use Rattle.nx_sync.specs.Laws.{WhatStands, Extends, same, newer, GoesOn, hunts_on, finds_one, stands_still, found_and_past, is_past, Stood, OneMore, still_hunts, now_finds, still_stands, now_over}
+use Rattle.nx_sync.specs.Locks.{last_28, IsPattern, Lock, Past, Now, hunting, locked, IsLocked}
+use Rattle.nx_sync.specs.Locks.{IsNow}
+use Rattle.nx_sync.specs.Laws.{WhatStands, Extends, same, newer, GoesOn, hunts_on, finds_one}
+use Rattle.nx_sync.specs.Laws.{stands_still, found_and_past, is_past, Stood, OneMore, still_hunts}
+use Rattle.nx_sync.specs.Laws.{now_finds, still_stands, now_over}
 use Rattle.nx_sync.proofs.Patterns.{dx, rx, neither, which, length-last_28}
 use Rattle.nx_sync.proofs.UniqueStates.{locks-unique, now-unique}
 use Rattle.nx_sync.proofs.OneBit as one

@@ -1,7 +1,10 @@
 -- 21 elements heard at once: what is held after them, and that none of them ends a pattern where
 -- the seven elements before
 -- them do not stand in one.
-use Rattle.std.proofs.Common.{◌≡◌, ℕ, suc, ◌+◌, ◌-◌, ◌*◌, ◌/◌, ◌%◌, ◌^◌, ◌<◌, ◌≤◌, ◌==◌, min, List, [], ◌∷◌, ◌++◌, length, take, drop, get_or, Bool, true, false, refl, sym, ap, subst, ◌∙◌, inl, inr, arith, append_assoc, append-nil, length-append, length-drop, length-take, drop-drop}
+use Rattle.std.proofs.Common.{◌≡◌, ℕ, suc, ◌+◌, ◌-◌, ◌*◌, ◌/◌, ◌%◌, ◌^◌, ◌<◌, ◌≤◌, ◌==◌, min, List}
+use Rattle.std.proofs.Common.{[], ◌∷◌, ◌++◌, length, take, drop, get_or, Bool, true, false, refl}
+use Rattle.std.proofs.Common.{sym, ap, subst, ◌∙◌, inl, inr, arith, append_assoc, append-nil}
+use Rattle.std.proofs.Common.{length-append, length-drop, length-take, drop-drop}
 use Rattle.std.proofs.Math.Nat.{pow-succ'}
 use Rattle.std.proofs.Math.Seq.{drop-cons}
 use Rattle.std.proofs.lemmas.Bool.{cases_eq, cases_Bool, both_ways, agree_below_at, ne_eqb}
@@ -12,7 +15,8 @@ use Rattle.nx_sync.specs.Windows.{window_before_dx, window_before_rx, is_lock_wi
 use Rattle.nx_sync.specs.private.Windows.{is_in_phasing, window_after}
 use Rattle.nx_sync.specs.Synchroniser.{Held}
 use Rattle.nx_sync.specs.private.Calls.{Skips}
-use Rattle.nx_code.proofs.PackedLemmas.{length-elements_from, number_of-elements_from, number_of-append}
+use Rattle.nx_code.proofs.PackedLemmas.{length-elements_from, number_of-elements_from}
+use Rattle.nx_code.proofs.PackedLemmas.{number_of-append}
 use Rattle.nx_sync.proofs.Numbers.{number_of-drop, number_of-next}
 use Rattle.nx_sync.proofs.Patterns.{is_dx_window, is_rx_window}
 use Rattle.nx_sync.proofs.Hearing.{same_parts}

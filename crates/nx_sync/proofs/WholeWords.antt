@@ -1,7 +1,10 @@
 -- Seven elements from the end of a word on, heard at once: what is held after them, and what was
 -- brought, is what seven
 -- pushes make of it.
-use Rattle.std.proofs.Common.{◌≡◌, ℕ, suc, ◌+◌, ◌-◌, ◌/◌, ◌^◌, ◌<◌, ◌≤◌, min, List, [], ◌∷◌, ◌++◌, length, take, drop, replicate, get_or, Bool, true, false, refl, sym, ap, subst, subst₂, ◌∙◌, inl, inr, arith, Some, None, Option, append_assoc, append-nil, length-take, take-take}
+use Rattle.std.proofs.Common.{◌≡◌, ℕ, suc, ◌+◌, ◌-◌, ◌/◌, ◌^◌, ◌<◌, ◌≤◌, min, List, [], ◌∷◌, ◌++◌}
+use Rattle.std.proofs.Common.{length, take, drop, replicate, get_or, Bool, true, false, refl, sym}
+use Rattle.std.proofs.Common.{ap, subst, subst₂, ◌∙◌, inl, inr, arith, Some, None, Option}
+use Rattle.std.proofs.Common.{append_assoc, append-nil, length-take, take-take}
 use Rattle.std.proofs.lemmas.Bool.{cases_lt, eqb-true}
 use Rattle.std.proofs.lemmas.List.{take_more, take_all}
 use Rattle.circular_buffer.specs.Buffer.{keep_last}

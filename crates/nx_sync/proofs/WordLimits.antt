@@ -1,6 +1,7 @@
 -- Whether the next bit is the first of a word, by what is held.
 use Rattle.std.specs.Prelude.{◌↔◌, IsTrue}
-use Rattle.std.proofs.Common.{◌≡◌, ◌==◌, List, Bool, true, false, sym, ap, ◌∙◌, arith, Option, eqb-true, eq-eqb}
+use Rattle.std.proofs.Common.{◌≡◌, ◌==◌, List, Bool, true, false, sym, ap, ◌∙◌, arith, Option}
+use Rattle.std.proofs.Common.{eqb-true, eq-eqb}
 use Rattle.nx_sync.specs.declared.track.Track.{Track}
 use Rattle.nx_sync.specs.Locks.{Lock, Now, hunting, locked, IsNow}
 use Rattle.nx_sync.specs.Steps.{LimitStands}

@@ -1,13 +1,16 @@
 -- The words of a lock that were heard whole, as a list: what one more bit, and what more bits, make
 -- of it.
-use Rattle.std.proofs.Common.{◌≡◌, ℕ, zero, suc, ◌+◌, ◌*◌, ◌≤◌, List, [], ◌∷◌, ◌++◌, length, Bool, refl, sym, ap, ap₂, subst₂, ◌∙◌, arith, append-nil, Some, None}
+use Rattle.std.proofs.Common.{◌≡◌, ℕ, zero, suc, ◌+◌, ◌*◌, ◌≤◌, List, [], ◌∷◌, ◌++◌, length, Bool}
+use Rattle.std.proofs.Common.{refl, sym, ap, ap₂, subst₂, ◌∙◌, arith, append-nil, Some, None}
 use Rattle.std.proofs.lemmas.List.{length_push}
 use Rattle.nx_sync.specs.declared.step.Role.{Role}
 use Rattle.nx_sync.specs.declared.step.Step.{Step}
 use Rattle.nx_sync.specs.Words.{role_of, heard_word, lock_words, whole_words, words_heard}
 use Rattle.nx_sync.specs.private.Releases.{release}
-use Rattle.nx_sync.specs.Locks.{Finds, Lock, Past, Now, hunting, locked, IsHunting, IsLocked, words_of_past}
-use Rattle.nx_sync.specs.Steps.{step, Brings, found, word, inside, over, hunts, IsStep, word_of_step}
+use Rattle.nx_sync.specs.Locks.{Finds, Lock, Past, Now, hunting, locked, IsHunting, IsLocked}
+use Rattle.nx_sync.specs.Locks.{words_of_past}
+use Rattle.nx_sync.specs.Steps.{step, Brings, found, word, inside, over, hunts, IsStep}
+use Rattle.nx_sync.specs.Steps.{word_of_step}
 use Rattle.nx_sync.proofs.Computed.{released-from, holds-from}
 use Rattle.nx_sync.proofs.KeptPast.{word_at-more, first_role-more, release-more}
 use Rattle.nx_sync.proofs.UniqueStates.{locks-unique, now-unique}

@@ -1,6 +1,7 @@
 -- The locks of a receiver, over the whole list of bits that it has heard. When a lock begins, which
 -- role its words have, what releases it and where the next search begins is this profile's.
-use Rattle.std.specs.Prelude.{◌≡◌, ℕ, ◌+◌, ◌-◌, ◌*◌, ◌<◌, ◌≤◌, Bool, ◌⊎◌, List, [], ◌∷◌, length, take, drop}
+use Rattle.std.specs.Prelude.{◌≡◌, ℕ, ◌+◌, ◌-◌, ◌*◌, ◌<◌, ◌≤◌, Bool, ◌⊎◌, List, [], ◌∷◌, length}
+use Rattle.std.specs.Prelude.{take, drop}
 use Rattle.std.specs.List.{flat_map}
 use Rattle.nx_sync.specs.declared.step.Role.{Role}
 use Rattle.nx_sync.specs.declared.step.Role.TheVariants.{Dx}
@@ -8,7 +9,8 @@ use Rattle.nx_sync.specs.declared.step.Change.{Change}
 use Rattle.nx_sync.specs.declared.step.Change.TheVariants.{Ended, LostLock}
 use Rattle.nx_code.specs.Table.{phasing_1, phasing_2}
 use Rattle.nx_code.specs.Word.{elements}
-use Rattle.nx_sync.specs.Words.{losing_count, word_of_lock, first_role, role_of, wrong_until, lock_words}
+use Rattle.nx_sync.specs.Words.{losing_count, word_of_lock, first_role, role_of, wrong_until}
+use Rattle.nx_sync.specs.Words.{lock_words}
 
 -- How many elements the patterns have that give a lock: four words (this profile).
 abbrev pub pattern_elements : ℕ
@@ -54,8 +56,8 @@ pub record EndedAt (first : Role) (words : ℕ → ℕ) (w : ℕ) : Type 0 where
   pub here : IsSecondPhasing1 first words (w - 3)
   pub least : (k : ℕ) → k < w - 3 → IsSecondPhasing1 first words k → ⊥
 
--- Lost at word w: the least word with at least 40 wrong ones among the last 64 words up to it, or
--- among all of them where they are fewer (this profile).
+-- Lost at word w: the least word with as many wrong ones as lose a lock (`losing_count`) among the
+-- last 64 words up to it, or among all of them where they are fewer (this profile).
 pub record LostAt (words : ℕ → ℕ) (w : ℕ) : Type 0 where
   pub here : losing_count ≤ wrong_until words w
   pub least : (k : ℕ) → k < w → wrong_until words k < losing_count

@@ -1,11 +1,14 @@
 -- What a synchroniser holds, and after which bits: the layer contract. How it is held is this
 -- profile's.
-use Rattle.std.specs.Prelude.{◌≡◌, ℕ, zero, suc, ◌+◌, ◌-◌, ◌*◌, ◌/◌, ◌%◌, ◌<◌, ◌==◌, nat_le, min, Bool, false, not, is_some, ◌&&◌, ◌||◌, List, [], ◌∷◌, ◌++◌, length, replicate, count_by, slice_index, Option, Some, None}
+use Rattle.std.specs.Prelude.{◌≡◌, ℕ, zero, suc, ◌+◌, ◌-◌, ◌*◌, ◌/◌, ◌%◌, ◌<◌, ◌==◌, nat_le, min}
+use Rattle.std.specs.Prelude.{Bool, false, not, is_some, ◌&&◌, ◌||◌, List, [], ◌∷◌, ◌++◌, length}
+use Rattle.std.specs.Prelude.{replicate, count_by, slice_index, Option, Some, None}
 use Rattle.circular_buffer.specs.Buffer.{keep_last}
 use Rattle.nx_sync.specs.declared.track.Track.{Track}
 use Rattle.nx_code.specs.Table.{phasing_1}
 use Rattle.nx_code.specs.Word.{number_of, is_wrong}
-use Rattle.nx_sync.specs.Words.{marked_words, losing_count, word_of_lock, first_role, role_of, is_dx}
+use Rattle.nx_sync.specs.Words.{marked_words, losing_count, word_of_lock, first_role, role_of}
+use Rattle.nx_sync.specs.Words.{is_dx}
 use Rattle.nx_sync.specs.Locks.{pattern_elements, Lock, Now, hunting, locked, IsNow}
 
 -- what contracts see of a synchroniser: the last 28 bits as a number, the oldest in the least

@@ -1,6 +1,7 @@
 -- The words of a lock: where they stand, their roles, and how many of them have the wrong weight. A
 -- bit is an element, B is true; words have seven elements (ITU-R M.476 and M.625).
-use Rattle.std.specs.Prelude.{ℕ, zero, suc, ◌+◌, ◌-◌, ◌*◌, ◌/◌, ◌==◌, Bool, true, false, List, [], ◌∷◌, ◌++◌, length, if◌then◌else◌}
+use Rattle.std.specs.Prelude.{ℕ, zero, suc, ◌+◌, ◌-◌, ◌*◌, ◌/◌, ◌==◌, Bool, true, false, List, []}
+use Rattle.std.specs.Prelude.{◌∷◌, ◌++◌, length, if◌then◌else◌}
 use Rattle.nx_code.specs.Table.{phasing_1}
 use Rattle.nx_code.specs.Word.{word_from, wrong_in}
 use Rattle.nx_sync.specs.declared.step.Role.{Role}

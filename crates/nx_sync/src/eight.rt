@@ -33,13 +33,13 @@ pub(crate) fn numbers(words: &[Word; EIGHT]) -> [u8; EIGHT]
 
 /// Whether the first of eight words, or each second one after it, is phasing signal 1.
 #[inline(always)]
-pub(crate) fn has_dx_phasing_1(numbers: &[u8; EIGHT]) -> bool
-    ensures { result ≡ held.has_dx_phasing_1 numbers.now }
+pub(crate) fn has_dx_phasing_1(words: &[Word; EIGHT]) -> bool
+    ensures { result ≡ held.has_dx_phasing_1 words.now }
 {
-    (numbers[0] == PHASING_1)
-        | (numbers[2] == PHASING_1)
-        | (numbers[4] == PHASING_1)
-        | (numbers[6] == PHASING_1)
+    (words[0].number() == PHASING_1)
+        | (words[2].number() == PHASING_1)
+        | (words[4].number() == PHASING_1)
+        | (words[6].number() == PHASING_1)
 }
 
 /// The marks of eight words, whether each has the wrong weight.

@@ -20,11 +20,11 @@ use crate::packed::{
 };
 use crate::step::{Role, Step};
 use crate::track::Track;
-use crate::word_synchroniser::WordSynchroniser;
 use crate::windows::{
     PATTERN, STRIDE, count_before_lock, last_word, may_lock, next_window, role_after,
     stride_window, windows_after,
 };
+use crate::word_synchroniser::WordSynchroniser;
 use circular_buffer::HeapCircularBuffer;
 use nx_code::{ELEMENTS, Word, check_bits};
 use std::alloc::{AllocError, Global};
@@ -255,7 +255,9 @@ impl Synchroniser {
         requires { self.old.seen ≡ pattern_elements }
         ensures { self.new ≡ record self.old { track = Some (track_from role); wrong = [] } }
     {
-        self.replace_marks(Marks::none());
+        // No word of this lock was heard yet.
+        self.wrong.clear();
+        self.marks = Marks::none();
         self.track = Some(Track::begin(role));
     }
 

@@ -140,7 +140,7 @@ impl WordSynchroniser {
             return false;
         };
         let is_few = self.marks.wrong_count() + (EIGHT as u32) < LOSING_COUNT;
-        track.awaits_free_dx() & !has_dx_phasing_1(&numbers(words)) & is_few
+        track.awaits_free_dx() & !has_dx_phasing_1(words) & is_few
     }
 
     /// Hears eight words, the first of which is a DX word: what `push` does of one after the other.

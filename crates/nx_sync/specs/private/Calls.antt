@@ -1,6 +1,8 @@
 -- What the parts of a push, a word and a hunt answer, for the contracts of the synchroniser's
 -- private functions. The contracts of the public ones speak of the locks over all bits.
-use Rattle.std.specs.Prelude.{◌≡◌, ℕ, ◌+◌, ◌*◌, ◌/◌, ◌%◌, ◌^◌, ◌<◌, ◌≤◌, ◌==◌, nat_le, min, Bool, not, ◌&&◌, ◌⊎◌, List, [], ◌∷◌, ◌++◌, length, take, count_by, Option, Some, None, if◌then◌else◌}
+use Rattle.std.specs.Prelude.{◌≡◌, ℕ, ◌+◌, ◌*◌, ◌/◌, ◌%◌, ◌^◌, ◌<◌, ◌≤◌, ◌==◌, nat_le, min, Bool}
+use Rattle.std.specs.Prelude.{not, ◌&&◌, ◌⊎◌, List, [], ◌∷◌, ◌++◌, length, take, count_by, Option}
+use Rattle.std.specs.Prelude.{Some, None, if◌then◌else◌}
 use Rattle.circular_buffer.specs.Buffer.{keep_last}
 use Rattle.nx_code.specs.Table.{phasing_1}
 use Rattle.nx_code.specs.Word.{value_of, is_wrong}

@@ -1,6 +1,7 @@
 -- What is held after several words, for the contracts of the private functions that hear eight of
 -- them at once.
-use Rattle.std.specs.Prelude.{ℕ, ◌+◌, ◌*◌, ◌^◌, ◌==◌, Bool, List, [], ◌∷◌, ◌++◌, map, slice_index, Some}
+use Rattle.std.specs.Prelude.{ℕ, ◌+◌, ◌*◌, ◌^◌, ◌==◌, Bool, List, [], ◌∷◌, ◌++◌, map, slice_index}
+use Rattle.std.specs.Prelude.{Some}
 use Rattle.circular_buffer.specs.Buffer.{keep_last}
 use Rattle.nx_code.specs.Table.{phasing_1}
 use Rattle.nx_code.specs.Word.{value_of, is_wrong}

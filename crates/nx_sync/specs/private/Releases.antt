@@ -1,6 +1,8 @@
--- What word k of a lock would bring, as it is computed word by word. `Locks.antt` has the rule; that
--- the least word that brings a change is the word of the rule is proved in `proofs/Computed.antt`.
-use Rattle.std.specs.Prelude.{ℕ, ◌-◌, ◌==◌, nat_le, Bool, ◌&&◌, List, Option, Some, None, if◌then◌else◌}
+-- What word k of a lock would bring, as it is computed word by word. `Locks.antt` has the rule;
+-- that the least word that brings a change is the word of the rule is proved in
+-- `proofs/Computed.antt`.
+use Rattle.std.specs.Prelude.{ℕ, ◌-◌, ◌==◌, nat_le, Bool, ◌&&◌, List, Option, Some, None}
+use Rattle.std.specs.Prelude.{if◌then◌else◌}
 use Rattle.nx_sync.specs.declared.step.Role.{Role}
 use Rattle.nx_sync.specs.declared.step.Change.{Change}
 use Rattle.nx_sync.specs.declared.step.Change.TheVariants.{Ended, LostLock}

@@ -1,5 +1,5 @@
-use Rattle.std.proofs.Common.{◌≡◌, ◌≤◌, ◌<◌, ◌+◌, ◌-◌, ◌*◌, ◌^◌, ◌∙◌, ℕ, List, Bool, false, length, drop, get_or, ap, sym, arith, rules}
-use Rattle.nx_code.specs.Word.{number_of, value_of}
+use Rattle.std.proofs.Common.{◌<◌, ◌+◌, ◌-◌, ◌*◌, ◌^◌, ℕ, List, Bool, false}
+use Rattle.std.proofs.Common.{get_or, arith, rules}
 use Rattle.nx_code.proofs.WordLemmas.{value_of-bool_byte, value_of-le}
 use Rattle.nx_sync.proofs.MarkBits.{bits_before, few_bits, no_bits}
 use Rattle.nx_sync.proofs.eight.wrong_bits.Goals as goal
@@ -19,7 +19,14 @@ overflow_add-bits c =
     let few = few_bits marks c.loop-place.place (omega arith) in
     let bit : Bool = get_or marks (c.loop-place.place - 1) false in
     let fits : 2 * c.loop-place.bits + c.from.result < 2 ^ 64 =
-    omega (arith, few, c.loop-place.invariant.0, c.from.ensures, value_of-bool_byte bit, value_of-le bit) in
+    omega (
+      arith,
+      few,
+      c.loop-place.invariant.0,
+      c.from.ensures,
+      value_of-bool_byte bit,
+      value_of-le bit,
+    ) in
     search rules
 
 pub loop-place-preserved : goal.loop-place-preserved

@@ -1,4 +1,5 @@
-use Rattle.std.proofs.Common.{◌≡◌, ◌-◌, ◌∙◌, ℕ, Bool, List, sym, ap, ap₂, drop, take, length, arith, length-set}
+use Rattle.std.proofs.Common.{◌≡◌, ◌-◌, ◌∙◌, Bool, List, sym, ap, ap₂, drop, take, length, arith}
+use Rattle.std.proofs.Common.{length-set}
 use Rattle.std.proofs.lemmas.List.{take_all}
 use Rattle.nx_code.specs.Word.{elements_from}
 use Rattle.nx_code.proofs.PackedLemmas.{length-elements_from}

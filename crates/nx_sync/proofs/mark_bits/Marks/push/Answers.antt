@@ -1,4 +1,5 @@
-use Rattle.std.proofs.Common.{◌≡◌, ◌≤◌, ◌+◌, ◌*◌, ◌/◌, ◌%◌, ◌^◌, ◌<◌, ℕ, [], ◌∷◌, ◌++◌, min, ap, subst, sym, ◌∙◌, arith}
+use Rattle.std.proofs.Common.{◌≡◌, ◌≤◌, ◌+◌, ◌*◌, ◌/◌, ◌%◌, ℕ, [], ◌∷◌, ◌++◌, min, ap}
+use Rattle.std.proofs.Common.{subst, sym, ◌∙◌, arith}
 use Rattle.circular_buffer.specs.Buffer.{keep_last}
 use Rattle.nx_code.specs.Word.{value_of}
 use Rattle.nx_code.proofs.WordLemmas.{value_of-bool_byte, value_of-le}

@@ -1,5 +1,5 @@
-use Rattle.std.proofs.Common.{◌≡◌, ◌≤◌, ◌+◌, ◌*◌, ◌/◌, ◌%◌, ◌^◌, ◌<◌, ◌++◌, ℕ, List, length, min, ap, subst, sym, ◌∙◌, arith}
-use Rattle.circular_buffer.specs.Buffer.{keep_last}
+use Rattle.std.proofs.Common.{◌≡◌, ◌≤◌, ◌+◌, ◌*◌, ◌/◌, ◌%◌, ◌<◌, ℕ, List, length, min}
+use Rattle.std.proofs.Common.{ap, subst, sym, ◌∙◌, arith}
 use Rattle.nx_sync.specs.private.Eight.{wrong_ones, marks_after_words}
 use Rattle.nx_sync.specs.private.MarkBits.{marks_in}
 use Rattle.nx_sync.proofs.MarkBits.{Moved, moved_by_eight, marks_after, length-marks_in}
@@ -36,7 +36,8 @@ returns c =
     (omega (arith, low)) in
     let many : min (count + 8) 64 ≡ c.min-self-inside.result = sym c.min-self-inside.ensures in
     let after = subst (λ n. Moved n next (marks_in count bits) (wrong_ones words)) many m in
-    let few : length (marks_in count bits) ≤ 64 = omega (arith, c.self.invariant.0, c.self.invariant.1) in
+    let few : length (marks_in count bits) ≤ 64 =
+    omega (arith, c.self.invariant.0, c.self.invariant.1) in
     after.marks
     ∙ (sym (marks_after words (marks_in count bits) few)
     ∙ ap (λ xs. marks_after_words xs words) c.self.view_is)

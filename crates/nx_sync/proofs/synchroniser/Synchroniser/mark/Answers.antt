@@ -1,4 +1,4 @@
-use Rattle.std.proofs.Common.{◌≡◌, ◌++◌, ◌∷◌, [], List, Bool, sym, ap, subst, ◌∙◌}
+use Rattle.std.proofs.Common.{◌≡◌, ◌++◌, ◌∷◌, [], List, Bool, ap, subst, ◌∙◌}
 use Rattle.circular_buffer.specs.Buffer.{keep_last}
 use Rattle.nx_sync.specs.Synchroniser.{Held}
 use Rattle.nx_sync.specs.Words.{marked_words}

@@ -1,4 +1,4 @@
-use Rattle.std.proofs.Common.{◌≡◌, List, Bool, sym, ap, ◌∙◌}
+use Rattle.std.proofs.Common.{◌≡◌, sym, ap, ◌∙◌}
 use Rattle.nx_sync.specs.Synchroniser.{Held}
 use Rattle.nx_sync.proofs.Marks.{same_marks}
 use Rattle.nx_sync.proofs.synchroniser.Synchroniser.set_marks.Goals as goal

@@ -1,4 +1,5 @@
-use Rattle.std.proofs.Common.{◌≡◌, ℕ, ◌+◌, ◌-◌, ◌≤◌, List, Bool, length, take, drop, arith, length-take, length-drop}
+use Rattle.std.proofs.Common.{◌≡◌, ℕ, ◌+◌, ◌-◌, ◌≤◌, List, Bool, length, take, drop, arith}
+use Rattle.std.proofs.Common.{length-take, length-drop}
 use Rattle.nx_sync.proofs.Hunting.{passes_on, passes_of, passes_early, skips_of, part_stops}
 use Rattle.nx_sync.proofs.synchroniser.Synchroniser.skip.Goals as goal
 

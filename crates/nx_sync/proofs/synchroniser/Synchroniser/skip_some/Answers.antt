@@ -3,7 +3,8 @@ use Rattle.nx_code.specs.Packed.{packed_part}
 use Rattle.nx_sync.specs.private.Calls.{Passes, Skips}
 use Rattle.nx_sync.proofs.Hunting.{some_of_passes, some_of_first}
 use Rattle.nx_sync.proofs.PackedParts.{first_part, rest_of_number, length-part}
-use Rattle.nx_sync.proofs.synchroniser.Synchroniser.skip_some.Goals.{then-place-eq0+else-whole-gt0, else-place-eq0}
+use Rattle.nx_sync.proofs.synchroniser.Synchroniser.skip_some.Goals.{then-place-eq0+else-whole-gt0}
+use Rattle.nx_sync.proofs.synchroniser.Synchroniser.skip_some.Goals.{else-place-eq0}
 use Rattle.nx_sync.proofs.synchroniser.Synchroniser.skip_some.Goals as goal
 
 pub returns : goal.returns
