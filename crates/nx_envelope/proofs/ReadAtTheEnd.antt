@@ -1,6 +1,8 @@
 -- The header and the marker with which a text ends: looked for by their spelling, and read from the
 -- back of the text.
-use Rattle.std.proofs.Common.{◌≡◌, ℕ, ◌+◌, ◌-◌, ◌≤◌, Bool, true, false, ◌&&◌, nat_le, inl, inr, if◌then◌else◌, Option, Some, None, List, [], ◌∷◌, ◌++◌, length, take, drop, reverse, refl, sym, ap, ◌∙◌, ◌⊎◌, arith, length-append, subst}
+use Rattle.std.proofs.Common.{◌≡◌, ℕ, ◌+◌, ◌-◌, ◌≤◌, Bool, true, false, ◌&&◌, nat_le, inl, inr}
+use Rattle.std.proofs.Common.{if◌then◌else◌, Option, Some, None, List, [], ◌∷◌, ◌++◌, length, take}
+use Rattle.std.proofs.Common.{drop, reverse, refl, sym, ap, ◌∙◌, ◌⊎◌, arith, length-append, subst}
 use Rattle.std.specs.Option.{option_or}
 use Rattle.std.specs.Prelude.{replicate}
 use Rattle.std.specs.Str.{bytes_eq}
@@ -9,7 +11,9 @@ use Rattle.std.proofs.lemmas.List.{take-append-drop, append_assoc, length-replic
 use Rattle.std.proofs.lemmas.Bool.{and_parts, leb-true, le-leb}
 use Rattle.std.proofs.lemmas.Slice.Eq.{bytes_eq-Decides}
 use Rattle.nx_code.specs.Lists.{last_of}
-use Rattle.nx_envelope.specs.Header.{nearest_identity, read_header, identity_at_end, ends_with, marker_at_end, EndsWithHeader, EndsWith, start_marker, end_marker}
+use Rattle.nx_envelope.specs.Header.{nearest_identity, read_header, identity_at_end, ends_with}
+use Rattle.nx_envelope.specs.Header.{marker_at_end, EndsWithHeader, EndsWith, start_marker}
+use Rattle.nx_envelope.specs.Header.{end_marker}
 use Rattle.nx_envelope.specs.private.Backward.{ends_in, header_back, marker_back}
 use Rattle.nx_envelope.specs.Identity.{identity_bytes}
 use Rattle.nx_envelope.specs.declared.found.How.{How}

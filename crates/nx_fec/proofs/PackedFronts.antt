@@ -1,9 +1,12 @@
 -- The digits of elements at the front of bytes.
-use Rattle.std.proofs.Common.{◌≡◌, ℕ, zero, suc, ◌+◌, ◌-◌, ◌*◌, ◌^◌, ◌<◌, ◌≤◌, ◌==◌, set, cond, Bool, true, false, List, [], ◌∷◌, length, map, take, get_or, max, ◌||◌, ◌&&◌, refl, sym, ap, ◌∙◌, arith, bit_or, w64}
+use Rattle.std.proofs.Common.{◌≡◌, ℕ, zero, suc, ◌+◌, ◌-◌, ◌*◌, ◌^◌, ◌<◌, ◌≤◌, ◌==◌, set, cond}
+use Rattle.std.proofs.Common.{Bool, true, false, List, [], ◌∷◌, length, map, take, get_or, max}
+use Rattle.std.proofs.Common.{◌||◌, ◌&&◌, refl, sym, ap, ◌∙◌, arith, bit_or, w64}
 use Rattle.std.specs.Int.{bit_at, trailing_ones}
 use Rattle.std.specs.Simd.Lanes.{mask_l}
 use Rattle.std.proofs.lemmas.Bool.{cases_lt}
-use Rattle.std.proofs.lemmas.List.{get_or-take, get_or_past, length-map, length-take-le, take-map, take-take}
+use Rattle.std.proofs.lemmas.List.{get_or-take, get_or_past, length-map, length-take-le, take-map}
+use Rattle.std.proofs.lemmas.List.{take-take}
 use Rattle.std.proofs.lemmas.Nat.Bits.{bit_at-trailing_ones, bit_at_ones, bit_at_or}
 use Rattle.std.proofs.lemmas.Simd.{bit_mask_l}
 use Rattle.std.proofs.Math.ListN.{get_or-map}

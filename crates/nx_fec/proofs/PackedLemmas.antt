@@ -1,9 +1,13 @@
 -- Elements that are packed into words of 64, and the digits that they are read from.
-use Rattle.std.proofs.Common.{◌≡◌, ℕ, zero, suc, ◌+◌, ◌*◌, ◌/◌, ◌%◌, ◌<◌, ◌≤◌, ◌==◌, cond, Bool, true, false, List, [], ◌∷◌, ◌++◌, length, map, take, drop, set, replicate, ◌&&◌, ◌||◌, ◌^◌, ◌-◌, ◌≢◌, IsTrue, refl, sym, ap, ◌∙◌, subst, arith, append_assoc, length-append, take-append-drop}
+use Rattle.std.proofs.Common.{◌≡◌, ℕ, zero, suc, ◌+◌, ◌*◌, ◌/◌, ◌%◌, ◌<◌, ◌≤◌, ◌==◌, cond, Bool}
+use Rattle.std.proofs.Common.{true, false, List, [], ◌∷◌, ◌++◌, length, map, take, drop, set}
+use Rattle.std.proofs.Common.{replicate, ◌&&◌, ◌||◌, ◌^◌, ◌-◌, ◌≢◌, IsTrue, refl, sym, ap, ◌∙◌}
+use Rattle.std.proofs.Common.{subst, arith, append_assoc, length-append, take-append-drop}
 use mir.Val.{bool_byte}
 use Rattle.std.specs.Simd.Lanes.{mask_l}
 use Rattle.std.proofs.lemmas.Bool.{eq-eqb, eqb-true}
-use Rattle.std.proofs.lemmas.List.{length-drop, length-map, length-take-le, map-append, set_split, take-append-le, take_all, take_rest}
+use Rattle.std.proofs.lemmas.List.{length-drop, length-map, length-take-le, map-append, set_split}
+use Rattle.std.proofs.lemmas.List.{take-append-le, take_all, take_rest}
 use Rattle.std.proofs.lemmas.List.Folds.{list_all-append}
 use Rattle.std.proofs.lemmas.Simd.{mask_l-lt}
 use Rattle.std.proofs.Math.Nat.{pow-le-pow_right, pow-suc}

@@ -1,5 +1,6 @@
 -- The elements of packed ones at a place.
-use Rattle.std.proofs.Common.{◌≡◌, ℕ, ◌+◌, ◌-◌, ◌*◌, ◌==◌, ◌%◌, ◌≤◌, ◌<◌, Bool, List, [], ◌∷◌, length, take, drop, sym, ap, ◌∙◌, arith}
+use Rattle.std.proofs.Common.{◌≡◌, ℕ, ◌+◌, ◌-◌, ◌*◌, ◌==◌, ◌%◌, ◌≤◌, ◌<◌, Bool, List, [], ◌∷◌}
+use Rattle.std.proofs.Common.{length, take, drop, sym, ap, ◌∙◌, arith}
 use Rattle.std.proofs.lemmas.List.{drop-take, length-take, take-take}
 use Rattle.nx_code.specs.Packed.{elements_of_words}
 use Rattle.nx_code.specs.Word.{elements_from}

@@ -1,5 +1,7 @@
 -- What the words of the table count as, and the latest three of more words.
-use Rattle.std.proofs.Common.{inl, inr, ◌≡◌, ℕ, ◌+◌, ◌-◌, ◌<◌, ◌≤◌, refl, sym, ap, ◌∙◌, subst, nat_lt, if◌then◌else◌, Bool, true, false, eqb, Option, Some, None, List, [], ◌∷◌, ◌++◌, length, get_or, drop, arith, length-append}
+use Rattle.std.proofs.Common.{inl, inr, ◌≡◌, ℕ, ◌+◌, ◌-◌, ◌<◌, ◌≤◌, refl, sym, ap, ◌∙◌, subst}
+use Rattle.std.proofs.Common.{nat_lt, if◌then◌else◌, Bool, true, false, eqb, Option, Some, None}
+use Rattle.std.proofs.Common.{List, [], ◌∷◌, ◌++◌, length, get_or, drop, arith, length-append}
 use Rattle.std.proofs.lemmas.Bool.{agree_below_at, cases_lt, eqb-true}
 use Rattle.std.proofs.lemmas.Bool.Decides.{nat_tests}
 use Rattle.std.proofs.lemmas.List.{drop-append-le, drop-drop, get_or-drop}
@@ -12,7 +14,8 @@ use Rattle.nx_code.specs.Table.{table, words, place_of}
 use Rattle.nx_code.specs.Signal.{number_of_signal}
 use Rattle.nx_fec.specs.declared.diversity.Heard.TheVariants.{Intact}
 use Rattle.nx_code.specs.Classes.{class_at, class_of, paired, reception_of_class}
-use Rattle.nx_fec.specs.Pairing.{Counted, IsLatest, traffic, idle_signal, nothing, counts_as, heard_as, pairing, third_last}
+use Rattle.nx_fec.specs.Pairing.{Counted, IsLatest, traffic, idle_signal, nothing, counts_as}
+use Rattle.nx_fec.specs.Pairing.{heard_as, pairing, third_last}
 use Rattle.nx_fec.specs.private.WordClasses.{counted_by}
 
 -- whether two words count alike

@@ -1,15 +1,21 @@
 -- What damaging answers follows from what its run over the lines said.
-use Rattle.std.proofs.Common.{Bool, drop, map, take, ◌≡◌, ℕ, ◌+◌, ◌-◌, ◌*◌, ◌/◌, ◌^◌, ◌≤◌, List, [], ◌∷◌, ◌++◌, length, min, Option, Some, None, Result, Ok, Err, if◌then◌else◌, refl, sym, ap, ◌∙◌, subst, arith, append-nil, length-append}
+use Rattle.std.proofs.Common.{Bool, drop, map, take, ◌≡◌, ℕ, ◌+◌, ◌-◌, ◌*◌, ◌/◌, ◌^◌, ◌≤◌, List, []}
+use Rattle.std.proofs.Common.{◌∷◌, ◌++◌, length, min, Option, Some, None, Result, Ok, Err}
+use Rattle.std.proofs.Common.{if◌then◌else◌, refl, sym, ap, ◌∙◌, subst, arith, append-nil}
+use Rattle.std.proofs.Common.{length-append}
 use Rattle.std.specs.List.{flat_map, refill, AllByRecursion}
 use Rattle.std.proofs.Math.Seq.{drop-append_seam, take-append_seam}
 use Rattle.std.specs.Option.{option_map, IsSomeAnd}
 use Rattle.std.specs.Io.KnownBytes.{Appends}
 use Rattle.std.proofs.lemmas.List.{length-map}
 use Rattle.std.proofs.lemmas.List.Concat.{flat_map-append}
-use Rattle.nx_fec.specs.AirFile.{Line, IsLine, element_digit, mark_bytes, moment, elements, refuse_station, accept_station, refuse_subject, accept_subject, spelling}
+use Rattle.nx_fec.specs.AirFile.{Line, IsLine, element_digit, mark_bytes, moment, elements}
+use Rattle.nx_fec.specs.AirFile.{refuse_station, accept_station, refuse_subject, accept_subject}
+use Rattle.nx_fec.specs.AirFile.{spelling}
 use Rattle.nx_fec.specs.Channels.{channel_of, same_channel}
 use Rattle.nx_fec.specs.Transfers.{WroteSome, Devices}
-use Rattle.nx_fec.specs.LineRuns.{Beginning, HasTaken, HasTakenAll, HasTakenSome, IsPlaced, Refusing, RunsLines, Standing}
+use Rattle.nx_fec.specs.LineRuns.{Beginning, HasTaken, HasTakenAll, HasTakenSome, IsPlaced}
+use Rattle.nx_fec.specs.LineRuns.{Refusing, RunsLines, Standing}
 use Rattle.nx_fec.specs.Lines.{StopsAt, IsCause, elements_on, file_of, line_bytes}
 use Rattle.nx_fec.specs.Scanner.{kind_kept, kind_of}
 use Rattle.nx_fec.specs.declared.air_file.LineKind.TheVariants.{Elements}
@@ -22,11 +28,15 @@ use Rattle.nx_fec.specs.declared.line_run.LinesFault.TheVariants as run
 use Rattle.nx_fec.specs.declared.line_run.LinesRead.{LinesRead}
 use Rattle.nx_fec.proofs.LineLaws.{IsAirFile-unique, spelling-IsBeginning}
 use Rattle.nx_fec.proofs.TransferLaws.{Reads-on}
-use Rattle.nx_station.specs.Damage.{Damage, Damages, ExplainsDamaging, IsDamaged, damaged_elements, damaged_file, damaged_line, damaged_lines, damaged_on, inverted_count}
-use Rattle.nx_station.specs.private.DamageTaker.{Damager, HasDamaged, HasDigitsFrom, IsAt, damage_of, line_fault}
+use Rattle.nx_station.specs.Damage.{Damage, Damages, ExplainsDamaging, IsDamaged, damaged_elements}
+use Rattle.nx_station.specs.Damage.{damaged_file, damaged_line, damaged_lines, damaged_on}
+use Rattle.nx_station.specs.Damage.{inverted_count}
+use Rattle.nx_station.specs.private.DamageTaker.{Damager, HasDamaged, HasDigitsFrom, IsAt}
+use Rattle.nx_station.specs.private.DamageTaker.{damage_of, line_fault}
 use Rattle.nx_station.specs.declared.fault.DamageFault.{DamageFault}
 use Rattle.nx_station.specs.declared.fault.DamageFault.TheVariants.{Read, Write}
-use Rattle.nx_station.proofs.DamageLemmas.{inverted-append, inverted-le, length-damaged, length-on, lines-append, lines-twice}
+use Rattle.nx_station.proofs.DamageLemmas.{inverted-append, inverted-le, length-damaged, length-on}
+use Rattle.nx_station.proofs.DamageLemmas.{lines-append, lines-twice}
 
 abbrev pub stands : Standing Damager
 stands first now lines given = HasDamaged (damage_of first) now lines given

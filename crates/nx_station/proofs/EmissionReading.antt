@@ -1,6 +1,8 @@
 -- What is read of the emission of messages: right words, pairs, and their text; so the emission is
 -- of one list.
-use Rattle.std.proofs.Common.{◌≡◌, ◌≢◌, ℕ, ◌+◌, ◌-◌, ◌*◌, ◌/◌, ◌%◌, ◌<◌, ◌≤◌, zero, suc, Bool, List, [], ◌∷◌, ◌++◌, length, get_or, take, map, replicate, inl, inr, refl, sym, ap, ◌∙◌, subst, append_assoc, arith, append-nil, length-append}
+use Rattle.std.proofs.Common.{◌≡◌, ◌≢◌, ℕ, ◌+◌, ◌-◌, ◌*◌, ◌/◌, ◌%◌, ◌<◌, ◌≤◌, zero, suc, Bool, List}
+use Rattle.std.proofs.Common.{[], ◌∷◌, ◌++◌, length, get_or, take, map, replicate, inl, inr, refl}
+use Rattle.std.proofs.Common.{sym, ap, ◌∙◌, subst, append_assoc, arith, append-nil, length-append}
 use Rattle.std.specs.List.{flat_map, AllByRecursion}
 use Rattle.std.proofs.lemmas.Bool.{cases_lt, cases_eq}
 use Rattle.std.proofs.lemmas.List.{map-append, take_at}
@@ -11,10 +13,15 @@ use Rattle.nx_code.specs.declared.shifts.Shift.TheVariants.{Letters}
 use Rattle.nx_code.proofs.ReadingLemmas.{text-append}
 use Rattle.nx_envelope.specs.Message.{MessageView}
 use Rattle.nx_fec.specs.Aligned.{aligned_text, words_of}
-use Rattle.nx_fec.specs.Emission.{SentPosition, AreInCode, IsInCode, bits_of, emission, end_position, phasing_position, position_at, reception, traffic_position, word_sent}
-use Rattle.nx_fec.proofs.EmissionLemmas.{AreWords-emission, IsEmission-emission, get_or-emission, length-emission, word_sent-dx, word_sent-rx}
+use Rattle.nx_fec.specs.Emission.{SentPosition, AreInCode, IsInCode, bits_of, emission}
+use Rattle.nx_fec.specs.Emission.{end_position, phasing_position, position_at, reception}
+use Rattle.nx_fec.specs.Emission.{traffic_position, word_sent}
+use Rattle.nx_fec.proofs.EmissionLemmas.{AreWords-emission, IsEmission-emission, get_or-emission}
+use Rattle.nx_fec.proofs.EmissionLemmas.{length-emission, word_sent-dx, word_sent-rx}
 use Rattle.nx_fec.proofs.RoundTripLemmas.{length-bits_of, receptions-IsEmission, words_of-bits_of}
-use Rattle.nx_station.specs.Broadcast.{AreSpelled, IsBroadcast, IsSpelled, layout, phasing_and_message, printed_text, first_phasing, further_phasing, end_positions}
+use Rattle.nx_station.specs.Broadcast.{AreSpelled, IsBroadcast, IsSpelled, layout}
+use Rattle.nx_station.specs.Broadcast.{phasing_and_message, printed_text, first_phasing}
+use Rattle.nx_station.specs.Broadcast.{further_phasing, end_positions}
 use Rattle.nx_station.specs.StrictReading.{IsEmissionOf, AreRight, ArePaired, AreWhole, IsPair}
 use Rattle.nx_station.proofs.ChannelPositions.{spelled-combinations}
 use Rattle.nx_station.proofs.PrintedText.{printed-one}

@@ -1,10 +1,18 @@
 -- Laws of message files: one list of messages for each file, or one fault.
-use Rattle.std.proofs.Common.{◌≡◌, ◌≢◌, ℕ, ◌+◌, List, [], ◌∷◌, ◌++◌, length, Option, Some, None, refl, sym, ap, ◌∙◌, subst, append_assoc, append-nil, arith}
+use Rattle.std.proofs.Common.{◌≡◌, ◌≢◌, ℕ, ◌+◌, List, [], ◌∷◌, ◌++◌, length, Option, Some, None}
+use Rattle.std.proofs.Common.{refl, sym, ap, ◌∙◌, subst, append_assoc, append-nil, arith}
 use Rattle.std.specs.List.{AllByRecursion}
 use Rattle.nx_envelope.specs.Message.{IsMessageFault, text_of}
 use Rattle.nx_envelope.specs.declared.message.MessageFault.{MessageFault}
-use Rattle.nx_station.specs.MessageFile.{FileMessage, FileFault, bad_line, bad_text, line_cut, not_ended, IsOneLine, IsNamed, IsFileMessage, IsBegun, EndsInLine, IsOfLines, IsFirstFault, IsMessageFile, HasFirstFault, IsBegunIf, bytes_begun, lines_begun, message_file_bytes, heading, opening, file_message_bytes, lines_of}
-use Rattle.nx_station.proofs.LineLemmas.{ended-not_one, first_line, heading-one_line, heading-same, ended-same, ended-open, open-same, IsFileMessage-IsBegun, spelling-line}
+use Rattle.nx_station.specs.MessageFile.{FileMessage, FileFault, bad_line, bad_text, line_cut}
+use Rattle.nx_station.specs.MessageFile.{not_ended, IsOneLine, IsNamed, IsFileMessage, IsBegun}
+use Rattle.nx_station.specs.MessageFile.{EndsInLine, IsOfLines, IsFirstFault, IsMessageFile}
+use Rattle.nx_station.specs.MessageFile.{HasFirstFault, IsBegunIf, bytes_begun, lines_begun}
+use Rattle.nx_station.specs.MessageFile.{message_file_bytes, heading, opening, file_message_bytes}
+use Rattle.nx_station.specs.MessageFile.{lines_of}
+use Rattle.nx_station.proofs.LineLemmas.{ended-not_one, first_line, heading-one_line, heading-same}
+use Rattle.nx_station.proofs.LineLemmas.{ended-same, ended-open, open-same, IsFileMessage-IsBegun}
+use Rattle.nx_station.proofs.LineLemmas.{spelling-line}
 use Rattle.nx_station.proofs.MessageFaultLemmas.{one_of_lines, none_of_message}
 
 -- ---- the shape of a front of a file: what its first message is, or why it has none

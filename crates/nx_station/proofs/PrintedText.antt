@@ -1,11 +1,13 @@
 -- A printed text is of one list of messages.
-use Rattle.std.proofs.Common.{◌≡◌, ◌≢◌, ℕ, List, [], ◌∷◌, ◌++◌, refl, sym, ap, ◌∙◌, subst, append_assoc, arith, inr}
+use Rattle.std.proofs.Common.{◌≡◌, ◌≢◌, ℕ, List, [], ◌∷◌, ◌++◌, refl, sym, ap, ◌∙◌, subst}
+use Rattle.std.proofs.Common.{append_assoc, arith, inr}
 use Rattle.std.specs.List.{flat_map, AllByRecursion}
 use Rattle.std.proofs.lemmas.Bool.{and_from, eq-eqb}
 use Rattle.std.proofs.lemmas.List.Elements.{recursion_from_All}
 use Rattle.nx_envelope.specs.Identity.{two_digits}
 use Rattle.nx_envelope.specs.Header.{end_marker}
-use Rattle.nx_envelope.specs.Message.{AreLines, IsMessageLine, IsLineByte, IsMessageFault, text_of, MessageView}
+use Rattle.nx_envelope.specs.Message.{AreLines, IsMessageLine, IsLineByte, IsMessageFault, text_of}
+use Rattle.nx_envelope.specs.Message.{MessageView}
 use Rattle.nx_envelope.specs.declared.identity.Identity.{Identity}
 use Rattle.nx_envelope.specs.declared.message.MessageFault.{MessageFault}
 use Rattle.nx_envelope.specs.declared.message.MessageFault.TheVariants as message
@@ -13,10 +15,14 @@ use Rattle.nx_envelope.proofs.Identities.{same_identity-true}
 use Rattle.nx_station.specs.Broadcast.{header, printed_text}
 use Rattle.nx_station.specs.Faults.{unmade_fault}
 use Rattle.nx_station.specs.MessageFile.{IsOneLine}
-use Rattle.nx_station.specs.private.PrintedText.{AreSound, ExplainsFirstPrinted, ExplainsPrintedLines, ExplainsPrinted, IsTextLine, ended_lines}
+use Rattle.nx_station.specs.private.PrintedText.{AreSound, ExplainsFirstPrinted}
+use Rattle.nx_station.specs.private.PrintedText.{ExplainsPrintedLines, ExplainsPrinted, IsTextLine}
+use Rattle.nx_station.specs.private.PrintedText.{ended_lines}
 use Rattle.nx_station.specs.declared.fault.EmissionFault.{EmissionFault}
-use Rattle.nx_station.specs.declared.fault.EmissionFault.TheVariants.{Ragged, WrongWord, Unpaired, BadEnvelope, Memory}
-use Rattle.nx_station.proofs.LineLemmas.{digits-same, ended-not_one, first_line, line_bytes, text-cons}
+use Rattle.nx_station.specs.declared.fault.EmissionFault.TheVariants.{Ragged, WrongWord, Unpaired}
+use Rattle.nx_station.specs.declared.fault.EmissionFault.TheVariants.{BadEnvelope, Memory}
+use Rattle.nx_station.proofs.LineLemmas.{digits-same, ended-not_one, first_line, line_bytes}
+use Rattle.nx_station.proofs.LineLemmas.{text-cons}
 use Rattle.nx_station.proofs.MessageFaultLemmas.{none_of_message}
 
 -- ---- lines that are ended by NNNN

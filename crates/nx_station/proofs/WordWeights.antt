@@ -4,7 +4,8 @@ use Rattle.std.proofs.lemmas.Bool.{agree_below_at, eqb-true}
 use Rattle.nx_code.specs.Table.{phasing_1, phasing_2, words, table}
 use Rattle.nx_code.specs.Word.{weight, elements, elements_from}
 use Rattle.nx_code.proofs.TableLemmas.{traffic_word-is}
-use Rattle.nx_fec.specs.Emission.{SentPosition, IsInCode, dx_word, rx_word, phasing_position, traffic_position, end_position}
+use Rattle.nx_fec.specs.Emission.{SentPosition, IsInCode, dx_word, rx_word, phasing_position}
+use Rattle.nx_fec.specs.Emission.{traffic_position, end_position}
 
 word-weight : (place : ℕ) → place < 35 → weight (get_or words place 0) ≡ 4
 unfolding words table weight elements elements_from
