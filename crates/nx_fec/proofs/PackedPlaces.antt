@@ -4,7 +4,7 @@ use Rattle.std.proofs.Common.{length, take, drop, sym, ap, ◌∙◌, arith}
 use Rattle.std.proofs.lemmas.List.{drop-take, length-take, take-take}
 use Rattle.nx_code.specs.Packed.{elements_of_words}
 use Rattle.nx_code.specs.Word.{elements_from}
-use Rattle.nx_fec.proofs.PackedLemmas.{length-words}
+use Rattle.nx_code.proofs.PackedLemmas.{length-words}
 
 -- there are at most as many elements as the words hold
 pub few_packed : (bits : List Bool) (words : List ℕ)

@@ -72,13 +72,14 @@ counts_as-number_of_signal Alpha = counts_as-words 32 (omega arith)
 counts_as-number_of_signal Beta = counts_as-words 33 (omega arith)
 counts_as-number_of_signal Repeat = counts_as-words 34 (omega arith)
 
-weight-words : (at : ℕ) → at < 35 → weight (get_or words at 0) ≡ 4
+-- the words of the table have weight four
+pub weight-words : (at : ℕ) → at < 35 → weight (get_or words at 0) ≡ 4
 unfolding table words weight elements elements_from
 weight-words at h = eqb-true (weight (get_or words at 0)) 4
     (agree_below_at (λ k. eqb (weight (get_or words k 0)) 4) (λ _. true) 35 at refl h)
 
 -- a word that is found in the table has weight four
-weight-found : (word at : ℕ) → place_of word ≡ Some at → weight word ≡ 4
+pub weight-found : (word at : ℕ) → place_of word ≡ Some at → weight word ≡ 4
 unfolding table words place_of
 weight-found word at h =
     let found = position-Some (λ n. eqb n word) words at 0 h in

@@ -6,7 +6,7 @@ use Rattle.std.specs.List.{AllByRecursion, filter, list_any, range_with_len}
 use Rattle.std.specs.Fmt.{decimal}
 use Rattle.std.specs.FinSet as set
 use Rattle.std.specs.Ordering.{nat_cmp}
-use Rattle.std.specs.Cmp.{nat_cmp_total}
+use Rattle.std.specs.Cmp.{both_ways, nat_cmp_total}
 use Rattle.std.specs.Str.Parse.{AllDigits}
 use Rattle.std.proofs.lemmas.Bool.{true≢false, cases_eq, eq-eqb, ne_eqb}
 use Rattle.std.proofs.lemmas.Fmt.{decimal_is_IsNumeral, length-decimal-le}
@@ -126,16 +126,11 @@ listed_in s t letters same q there =
     (subst (λ (l : List ℕ). among q l ≡ true) same
     (among_picked (set.contains s) q 65 26 capital.0 (omega (arith, capital.1)) there))
 
-same_bool : (b c : Bool) → (b ≡ true → c ≡ true) → (c ≡ true → b ≡ true) → b ≡ c
-same_bool true c there back = sym (there refl)
-same_bool false true there back = back refl
-same_bool false false there back = refl
-
 same_letters : (s t : set.FinSet nat_cmp) → HasLettersOnly s → HasLettersOnly t
     → rising s ≡ rising t → s ≡ t
 same_letters s t letters_s letters_t same =
     set.same_set nat_cmp_total set.nat_cmp-IsAntisymmetric s t
-    (λ q. same_bool (set.contains s q) (set.contains t q) (listed_in s t letters_s same q)
+    (λ q. both_ways (set.contains s q) (set.contains t q) (listed_in s t letters_s same q)
     (listed_in t s letters_t (sym same) q))
 
 -- the lines of a channel stand for one thing

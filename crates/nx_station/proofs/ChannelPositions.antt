@@ -30,7 +30,8 @@ IsInner phasing_position = Unit {0}
 IsInner (traffic_position number) = IsCombination number
 IsInner end_position = ⊥
 
-each-append : {A : Type 0} (P : A → Type 0) (xs ys : List A) → AllByRecursion P xs
+-- what holds of each of two lists holds of each of both
+pub each-append : {A : Type 0} (P : A → Type 0) (xs ys : List A) → AllByRecursion P xs
     → AllByRecursion P ys → AllByRecursion P (xs ++ ys)
 each-append P [] ys h k = k
 each-append P (x ∷ xs) ys h k = (h.0, each-append P xs ys h.1 k)
