@@ -121,10 +121,10 @@ AreWords-words_of bits slot h =
     (omega (arith, length-take 7 (drop (7 * slot) bits))))
 
 -- the words of a position count as what is taken of it
-counts_as-phasing_1 : counts_as phasing_1 ≡ idle_signal
+pub counts_as-phasing_1 : counts_as phasing_1 ≡ idle_signal
 counts_as-phasing_1 = ap counts_as (sym phasing_1-words) ∙ counts_as-words 32 (omega arith)
 
-counts_as-phasing_2 : counts_as phasing_2 ≡ idle_signal
+pub counts_as-phasing_2 : counts_as phasing_2 ≡ idle_signal
 counts_as-phasing_2 = ap counts_as (sym phasing_2-words) ∙ counts_as-words 34 (omega arith)
 
 eqb-refl : (n : ℕ) → eqb n n ≡ true

@@ -1,17 +1,16 @@
 -- The names and the lines of words.
-use Rattle.std.proofs.Common.{◌≡◌, ℕ, ◌+◌, ◌/◌, ◌<◌, true, eqb, eqb-true, List, [], ◌∷◌, ◌++◌}
-use Rattle.std.proofs.Common.{length, map, codes, get_or, Option, None, Some, refl, sym, ap, ◌∙◌}
-use Rattle.std.proofs.Common.{arith, append-nil, append_assoc, subst, ◌%◌, Bool}
+use Rattle.std.proofs.Common.{◌≡◌, ℕ, ◌+◌, ◌/◌, List, [], ◌∷◌, ◌++◌, length, map, codes, get_or}
+use Rattle.std.proofs.Common.{Option, None, Some, refl, sym, ap, ◌∙◌, arith, append-nil, subst, ◌%◌}
+use Rattle.std.proofs.Common.{Bool}
 use Rattle.std.specs.Option.{option_map_or}
 use Rattle.std.specs.List.{flat_map, range_with_len}
 use Rattle.std.proofs.lemmas.List.Concat.{flat_map-append}
 use Rattle.std.proofs.lemmas.List.FromFn.{map-range_with_len_more}
-use Rattle.std.proofs.lemmas.Bool.{agree_below_at}
 use Rattle.nx_code.specs.Table.{row, table, words, place_of}
 use Rattle.nx_code.specs.Signal.{place, number_of_signal}
 use Rattle.nx_code.specs.declared.signals.Signal.{Signal}
-use Rattle.nx_code.specs.Word.{weight, elements, elements_from}
-use Rattle.nx_code.proofs.TableLemmas.{place-lt, place_of-words, place_of-Some}
+use Rattle.nx_code.specs.Word.{weight}
+use Rattle.nx_code.proofs.TableLemmas.{place-lt, place_of-words}
 use Rattle.nx_fec.specs.WordLines.{first_word_lines, word_line, word_lines, word_name}
 use Rattle.nx_fec.specs.Aligned.{words_of}
 use Rattle.nx_fec.specs.Lines.{IsBitFile}

@@ -1,7 +1,6 @@
 -- The words of a position that is in the code have the right weight.
-use Rattle.std.proofs.Common.{◌≡◌, ℕ, ◌-◌, ◌<◌, ◌≤◌, true, get_or, eqb, refl, ap, ◌∙◌, arith}
-use Rattle.std.proofs.lemmas.Bool.{agree_below_at, eqb-true}
-use Rattle.nx_code.specs.Table.{phasing_1, phasing_2, words, table}
+use Rattle.std.proofs.Common.{◌≡◌, ℕ, ◌-◌, ◌≤◌, refl, ap, ◌∙◌, arith}
+use Rattle.nx_code.specs.Table.{phasing_1, phasing_2}
 use Rattle.nx_code.specs.Word.{weight, elements, elements_from}
 use Rattle.nx_code.proofs.TableLemmas.{traffic_word-is}
 use Rattle.nx_fec.specs.Emission.{SentPosition, IsInCode, dx_word, rx_word, phasing_position}
