@@ -1,9 +1,12 @@
 -- What holds of the characters of the table, by one computation each.
-use Rattle.std.proofs.Common.{◌≡◌, ℕ, ◌+◌, ◌-◌, ◌<◌, ◌≤◌, refl, sym, ap, ◌∙◌, subst, Bool, true, false, ◌||◌, ◌↔◌, not, eqb, ltb, Option, Some, None, List, [], ◌∷◌, inl, inr, get_or, arith}
+use Rattle.std.proofs.Common.{◌≡◌, ℕ, ◌+◌, ◌-◌, ◌<◌, ◌≤◌, refl, sym, ap, ◌∙◌, subst, Bool, true}
+use Rattle.std.proofs.Common.{false, ◌||◌, ◌↔◌, not, eqb, ltb, Option, Some, None, List, [], ◌∷◌}
+use Rattle.std.proofs.Common.{inl, inr, get_or, arith}
 use Rattle.std.specs.Option.{is_some}
 use Rattle.std.specs.List.{position, list_any, list_all}
 use Rattle.std.proofs.Math.Bool.{beq}
-use Rattle.std.proofs.lemmas.Bool.{agree_below_at, eq-eqb, eqb-true, and_parts, or_cases, ne_eqb, false≢true, ltb-true}
+use Rattle.std.proofs.lemmas.Bool.{agree_below_at, eq-eqb, eqb-true, and_parts, or_cases, ne_eqb}
+use Rattle.std.proofs.lemmas.Bool.{false≢true, ltb-true}
 use Rattle.std.proofs.lemmas.List.Quantifiers.{position-Some}
 use Rattle.nx_code.specs.declared.table.Row.{Row}
 use Rattle.nx_code.specs.declared.table.TheConstants.{TABLE}

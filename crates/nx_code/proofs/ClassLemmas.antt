@@ -1,10 +1,11 @@
 -- The tables by class answer as the definitions do, by one computation each.
-use Rattle.std.proofs.Common.{◌≡◌, ℕ, ◌+◌, ◌*◌, ◌/◌, ◌%◌, ◌<◌, refl, sym, ap, ap₂, ◌∙◌, not, true, Option, None, [], map, get_or, eqb, ltb, zero, suc, inl, inr, arith}
+use Rattle.std.proofs.Common.{◌≡◌, ℕ, ◌+◌, ◌*◌, ◌/◌, ◌%◌, ◌<◌, refl, sym, ap, ap₂, ◌∙◌, not, true}
+use Rattle.std.proofs.Common.{Option, None, [], map, get_or, eqb, ltb, zero, suc, inl, inr, arith}
 use Rattle.std.specs.List.{range_with_len}
 use Rattle.std.proofs.lemmas.Bool.{agree_below_at, cases_eq, eq-eqb, ltb-true, ne_eqb}
 use Rattle.std.proofs.lemmas.List.{get_or-map}
 use Rattle.std.proofs.lemmas.List.FromFn.{get_or-map-range_with_len}
-use Rattle.nx_code.specs.declared.classes.TheConstants.{BY_WORD, IN_LETTERS, IN_FIGURES, PAIRED}
+use Rattle.nx_code.specs.declared.classes.TheConstants.{BY_WORD, PAIRED}
 use Rattle.nx_code.specs.declared.steps.TheConstants.{PRINTED, AFTER}
 use Rattle.nx_code.specs.declared.shifts.Shift.{Shift}
 use Rattle.nx_code.specs.declared.shifts.Shift.TheVariants.{Letters, Figures}
@@ -28,32 +29,6 @@ pub class_of-low : (word : ℕ) → word < 128 → class_of word < 34
 unfolding class_of place_of words table
 class_of-low word h = ltb-true (class_of word) 34
     (agree_below_at (λ k. ltb (class_of k) 34) (λ _. true) 128 word refl h)
-
-all_letters : map byte_given IN_LETTERS
-    ≡ map (λ k. byte_of (reception_of_class k) Letters) (range_with_len 0 34)
-unfolding character_of row_of table
-all_letters = refl
-
-all_figures : map byte_given IN_FIGURES
-    ≡ map (λ k. byte_of (reception_of_class k) Figures) (range_with_len 0 34)
-unfolding character_of row_of table
-all_figures = refl
-
-pub byte_of-IN_LETTERS : (class fallback : ℕ) → class < 34
-    → byte_given (get_or IN_LETTERS class fallback) ≡ byte_of (reception_of_class class) Letters
-byte_of-IN_LETTERS class fallback h =
-    sym (get_or-map byte_given IN_LETTERS class fallback None h)
-    ∙ ap (λ l. get_or l class None) all_letters
-    ∙ get_or-map-range_with_len (λ k. byte_of (reception_of_class k) Letters) 0 34 class class
-    None h (omega arith)
-
-pub byte_of-IN_FIGURES : (class fallback : ℕ) → class < 34
-    → byte_given (get_or IN_FIGURES class fallback) ≡ byte_of (reception_of_class class) Figures
-byte_of-IN_FIGURES class fallback h =
-    sym (get_or-map byte_given IN_FIGURES class fallback None h)
-    ∙ ap (λ l. get_or l class None) all_figures
-    ∙ get_or-map-range_with_len (λ k. byte_of (reception_of_class k) Figures) 0 34 class class
-    None h (omega arith)
 
 -- the shift of a column
 abbrev shift_in : ℕ → Shift
@@ -101,7 +76,8 @@ byte_of-PRINTED class fallback shift h =
     ∙ ap₂ (λ k s. byte_of (reception_of_class k) s) (row-class class shift) (row-shift class shift)
 
 pub shift_after-AFTER : (class : ℕ) (fallback shift : Shift) → class < 34
-    → get_or AFTER (2 * class + column shift) fallback ≡ shift_after (reception_of_class class) shift
+    → get_or AFTER (2 * class + column shift) fallback
+    ≡ shift_after (reception_of_class class) shift
 unfolding after_in
 shift_after-AFTER class fallback shift h =
     let row : ℕ = 2 * class + column shift in

@@ -1,11 +1,13 @@
 -- The definitions of the code, evaluated on worked examples.
-use Rattle.std.proofs.Common.{◌≡◌, ℕ, true, false, List, [], ◌∷◌, ◌++◌, Some, None, map, take, replicate, refl, codes, arith}
+use Rattle.std.proofs.Common.{◌≡◌, ℕ, true, false, List, [], ◌∷◌, ◌++◌, Some, None, map, take}
+use Rattle.std.proofs.Common.{replicate, refl, codes, arith}
 use Rattle.nx_code.specs.declared.shifts.Shift.TheVariants.{Letters, Figures}
 use Rattle.nx_code.specs.Lists.{last_of}
 use Rattle.nx_code.specs.Word.{elements, elements_from, number_of, weight, word_from}
 use Rattle.nx_code.specs.Packed.{elements_of_words}
 use Rattle.nx_code.specs.Table.{row, table, words, place_of, row_of, traffic_word}
-use Rattle.nx_code.specs.Reading.{combination, idle, lost, character_of, shift_after_all, text, characters, is_in_code}
+use Rattle.nx_code.specs.Reading.{combination, idle, lost, character_of, shift_after_all, text}
+use Rattle.nx_code.specs.Reading.{characters, is_in_code}
 use Rattle.nx_code.specs.Spelling.{Spells}
 use Rattle.nx_code.proofs.SpellingLemmas.{Spells-push, spells_newline, spells_here, spells_there}
 

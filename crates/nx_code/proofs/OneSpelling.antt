@@ -1,14 +1,23 @@
 -- A text of characters of the code has one spelling, and no other text has any.
-use Rattle.std.proofs.Common.{◌≡◌, ◌≢◌, ℕ, ◌+◌, ◌-◌, ◌<◌, ◌≤◌, zero, suc, true, cond, ◌||◌, not, eqb, List, [], ◌∷◌, ◌++◌, length, map, Option, Some, None, inl, inr, refl, sym, ap, ◌∙◌, subst, arith}
+use Rattle.std.proofs.Common.{◌≡◌, ◌≢◌, ℕ, ◌+◌, ◌-◌, ◌<◌, ◌≤◌, zero, suc, true, cond, ◌||◌, not}
+use Rattle.std.proofs.Common.{eqb, List, [], ◌∷◌, ◌++◌, length, map, Option, Some, None, inl, inr}
+use Rattle.std.proofs.Common.{refl, sym, ap, ◌∙◌, subst, arith}
 use Rattle.std.specs.Option.{is_some, option_to_list}
 use Rattle.std.specs.List.{list_all}
-use Rattle.std.proofs.lemmas.Bool.{and_parts, and_from, or_cases, eqb-true, eq-eqb, ne_eqb, cases_eq, false≢true, both_ways, not-true}
-use Rattle.nx_code.specs.Reading.{combination, character_of, shift_set, shift_after, shift_after_all, text, is_in_code}
+use Rattle.std.proofs.lemmas.Bool.{and_parts, and_from, or_cases, eqb-true, eq-eqb, ne_eqb}
+use Rattle.std.proofs.lemmas.Bool.{cases_eq, false≢true, both_ways, not-true}
+use Rattle.nx_code.specs.Reading.{combination, character_of, shift_set, shift_after}
+use Rattle.nx_code.specs.Reading.{shift_after_all, text, is_in_code}
 use Rattle.nx_code.specs.Spelling.{other, IsOnlyIn, Fits, EachFits, Spells}
 use Rattle.nx_code.specs.declared.shifts.Shift.{Shift}
 use Rattle.nx_code.specs.declared.shifts.Shift.TheVariants.{Letters, Figures}
-use Rattle.nx_code.proofs.CharacterLemmas.{in_code-prints, in_code-printed, if_some-at, place_for, place_for-Some, place_for-printed, both-printed}
-use Rattle.nx_code.proofs.SpellingLemmas.{first_of, Spells-nil, Spells-append, spells_newline, spells_here, spells_there, differs-other, other-other, number_of_shift, shift_set-number, after_shift, printed-line_feed, printed-return, printed-shift, printed-newline, shift_set-None}
+use Rattle.nx_code.proofs.CharacterLemmas.{in_code-prints, in_code-printed, if_some-at, place_for}
+use Rattle.nx_code.proofs.CharacterLemmas.{place_for-Some, place_for-printed, both-printed}
+use Rattle.nx_code.proofs.SpellingLemmas.{first_of, Spells-nil, Spells-append, spells_newline}
+use Rattle.nx_code.proofs.SpellingLemmas.{spells_here, spells_there, differs-other, other-other}
+use Rattle.nx_code.proofs.SpellingLemmas.{number_of_shift, shift_set-number, after_shift}
+use Rattle.nx_code.proofs.SpellingLemmas.{printed-line_feed, printed-return, printed-shift}
+use Rattle.nx_code.proofs.SpellingLemmas.{printed-newline, shift_set-None}
 
 -- ---- each text of the code has a spelling
 

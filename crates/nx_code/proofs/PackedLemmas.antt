@@ -1,6 +1,9 @@
--- Packed elements and parts of them: those of one number of 64 bits, and those that go on in the next
--- one; and the words of a number.
-use Rattle.std.proofs.Common.{◌≡◌, ℕ, zero, suc, ◌+◌, ◌-◌, ◌*◌, ◌/◌, ◌%◌, ◌^◌, ◌<◌, ◌≤◌, ◌==◌, List, [], ◌∷◌, ◌++◌, length, take, drop, get_or, Bool, refl, sym, ap, ap₂, subst, ◌∙◌, inl, inr, arith, length-append, length-drop, drop-drop, take-take}
+-- Packed elements and parts of them: those of one number of 64 bits, and those that go on in the
+-- next one; and the words of a number.
+use Rattle.std.proofs.Common.{◌≡◌, ℕ, zero, suc, ◌+◌, ◌-◌, ◌*◌, ◌/◌, ◌%◌, ◌^◌, ◌<◌, ◌≤◌, ◌==◌, List}
+use Rattle.std.proofs.Common.{[], ◌∷◌, ◌++◌, length, take, drop, get_or, Bool, refl, sym, ap, ap₂}
+use Rattle.std.proofs.Common.{subst, ◌∙◌, inl, inr, arith, length-append, length-drop, drop-drop}
+use Rattle.std.proofs.Common.{take-take}
 use Rattle.std.proofs.Math.Nat.{pow-succ', pow-le-pow_right, mod-lt, mul_assoc, mul-mod_left}
 use Rattle.std.proofs.Math.Pow.{shr_lt}
 use Rattle.std.proofs.Math.Seq.{drop-cons, drop-append-add, take-append-add}
@@ -243,7 +246,8 @@ read_across ws place count few room over fits =
     )
 
 -- The word of the lowest elements, and those that come after them.
-pub first_word : (n x : ℕ) → elements_from (7 + n) x ≡ elements (x % 128) ++ elements_from n (x / 128)
+pub first_word : (n x : ℕ)
+    → elements_from (7 + n) x ≡ elements (x % 128) ++ elements_from n (x / 128)
 unfolding elements
 first_word n x =
     let low : take 7 (elements_from (7 + n) x) ≡ elements_from 7 (x % 128) =

@@ -1,5 +1,6 @@
 -- The indexes answer as a search of the table does, by one computation each.
-use Rattle.std.proofs.Common.{◌≡◌, ℕ, ◌+◌, ◌-◌, ◌<◌, ◌≤◌, refl, sym, ap, ◌∙◌, Option, Some, None, map, get_or, arith}
+use Rattle.std.proofs.Common.{◌≡◌, ℕ, ◌+◌, ◌-◌, ◌<◌, ◌≤◌, refl, sym, ap, ◌∙◌, Option, Some, None}
+use Rattle.std.proofs.Common.{map, get_or, arith}
 use Rattle.std.specs.List.{range_with_len}
 use Rattle.std.proofs.lemmas.List.{get_or-map}
 use Rattle.std.proofs.lemmas.List.FromFn.{get_or-map-range_with_len}
@@ -9,7 +10,8 @@ use Rattle.nx_code.specs.declared.shifts.Shift.TheVariants.{Letters, Figures}
 use Rattle.nx_code.specs.Table.{table, words, place_of}
 use Rattle.nx_code.specs.private.Rows.{place_given}
 use Rattle.nx_code.specs.Reading.{character_of}
-use Rattle.nx_code.proofs.CharacterLemmas.{place_for, place_for-Some, place_for-printed, same_place_for}
+use Rattle.nx_code.proofs.CharacterLemmas.{place_for, place_for-Some, place_for-printed}
+use Rattle.nx_code.proofs.CharacterLemmas.{same_place_for}
 
 all_words : map place_given BY_WORD ≡ map place_of (range_with_len 0 128)
 unfolding place_of words table

@@ -1,12 +1,16 @@
 -- Spellings of more characters, and that a text has one spelling.
-use Rattle.std.proofs.Common.{◌≡◌, ◌≢◌, ◌⊎◌, ℕ, ◌+◌, ◌<◌, ◌≤◌, Bool, true, false, cond, ◌&&◌, ◌||◌, not, eqb, List, [], ◌∷◌, ◌++◌, length, get_or, map, Option, Some, None, inl, inr, refl, sym, ap, ◌∙◌, subst, arith, length-append}
+use Rattle.std.proofs.Common.{◌≡◌, ◌≢◌, ◌⊎◌, ℕ, ◌+◌, ◌<◌, ◌≤◌, Bool, true, false, cond, ◌&&◌, ◌||◌}
+use Rattle.std.proofs.Common.{not, eqb, List, [], ◌∷◌, ◌++◌, length, get_or, map, Option, Some}
+use Rattle.std.proofs.Common.{None, inl, inr, refl, sym, ap, ◌∙◌, subst, arith, length-append}
 use Rattle.std.specs.List.{position, position_or_len, slice_get}
 use Rattle.std.proofs.lemmas.List.Sums.{fails_before_first}
 use Rattle.std.proofs.lemmas.List.{map-append}
 use Rattle.std.specs.Option.{is_some}
-use Rattle.std.proofs.lemmas.Bool.{agree_below_at, and_parts, eqb-true, ne_eqb, false≢true, not-true, both_ways, eq-eqb, cases_lt, lt-ltb, cond-true}
+use Rattle.std.proofs.lemmas.Bool.{agree_below_at, and_parts, eqb-true, ne_eqb, false≢true}
+use Rattle.std.proofs.lemmas.Bool.{not-true, both_ways, eq-eqb, cases_lt, lt-ltb, cond-true}
 use Rattle.nx_code.specs.Table.{table, row_of}
-use Rattle.nx_code.specs.Reading.{combination, character_of, shift_set, shift_after, shift_after_all, text, holds_in}
+use Rattle.nx_code.specs.Reading.{combination, character_of, shift_set, shift_after}
+use Rattle.nx_code.specs.Reading.{shift_after_all, text, holds_in}
 use Rattle.nx_code.specs.declared.shifts.Case.{Case}
 use Rattle.nx_code.specs.declared.shifts.Case.TheVariants as cases
 use Rattle.nx_code.specs.Spelling.{other, IsOnlyIn, Fits, EachFits, Spells}

@@ -1,5 +1,6 @@
 -- What holds over the whole table, by one computation each.
-use Rattle.std.proofs.Common.{◌≡◌, ℕ, ◌+◌, ◌-◌, ◌<◌, ◌≤◌, refl, sym, ap, ◌∙◌, subst, Bool, true, false, ◌||◌, eqb, ltb, Option, Some, None, [], map, get_or, arith}
+use Rattle.std.proofs.Common.{◌≡◌, ℕ, ◌+◌, ◌-◌, ◌<◌, ◌≤◌, refl, sym, ap, ◌∙◌, subst, Bool, true}
+use Rattle.std.proofs.Common.{false, ◌||◌, eqb, ltb, Option, Some, None, [], map, get_or, arith}
 use Rattle.std.specs.Option.{is_some}
 use Rattle.std.proofs.lemmas.Bool.{agree_below_at, eqb-true, ltb-true, ne_eqb}
 use Rattle.std.proofs.lemmas.List.{get_or-map}
@@ -11,7 +12,8 @@ use Rattle.nx_code.specs.declared.signals.Comb.{Comb}
 use Rattle.nx_code.specs.declared.signals.Signal.{Signal}
 use Rattle.nx_code.specs.declared.signals.Signal.TheVariants.{Traffic, Alpha, Beta, Repeat}
 use Rattle.nx_code.specs.Word.{weight, elements, elements_from}
-use Rattle.nx_code.specs.Table.{Row as Entry, row, table, cell, words, place_of, row_of, traffic_word}
+use Rattle.nx_code.specs.Table.{Row as Entry, row, table, cell, words, place_of, row_of}
+use Rattle.nx_code.specs.Table.{traffic_word}
 use Rattle.nx_code.specs.Signal.{place, number_of_signal}
 use Rattle.nx_code.specs.Reading.{character_of}
 use Rattle.nx_code.specs.private.Rows.{cell_in, character_in}

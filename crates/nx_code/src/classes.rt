@@ -2,12 +2,9 @@
 //! receiver finds by an index what `signal_of` and `Printer::step` answer.
 
 ghost use Rattle.std.specs.Prelude.{◌≡◌, ◌<◌};
-ghost use Rattle.nx_code.specs.Classes.{class_of, paired, reception_of_class};
-ghost use Rattle.nx_code.specs.Reading.{byte_of, shift_after};
+ghost use Rattle.nx_code.specs.Classes.{class_of, paired};
 ghost use Rattle.nx_code.specs.private.Rows.{byte_given};
 
-use crate::shifts::Shift;
-use crate::signals::{FIGURE_SHIFT, LETTER_SHIFT};
 use crate::words::Word;
 
 /// How many classes there are: 0 for a word of the wrong weight and for a lost position, 1 to 32 for
@@ -29,20 +26,6 @@ static BY_WORD: [u8; 128] = [
      0,  0,  0,  4,  0, 18,  5,  0,  0, 14, 29,  0, 31,  0,  0,  0,
      0,  0,  0, 26,  0, 12, 33,  0,  0,  8, 32,  0, 28,  0,  0,  0,
      0, 15,  2,  0, 20,  0,  0,  0, 27,  0,  0,  0,  0,  0,  0,  0,
-];
-
-/// The byte that each class prints in letters; 0 where it prints nothing.
-#[rattlefmt::skip]
-static IN_LETTERS: [u8; CLASSES] = [
-    42, 65, 66, 67, 68, 69, 70, 71, 72, 73, 74, 75, 76, 77, 78, 79, 80,
-    81, 82, 83, 84, 85, 86, 87, 88, 89, 90,  0, 10,  0,  0, 32,  0,  0,
-];
-
-/// The byte that each class prints in figures; 0 where it prints nothing.
-#[rattlefmt::skip]
-static IN_FIGURES: [u8; CLASSES] = [
-    42, 45, 63, 58,  0, 51,  0,  0,  0, 56,  0, 40, 41, 46, 44, 57, 48,
-    49, 52, 39, 53, 55, 61, 50, 47, 54, 43,  0, 10,  0,  0, 32,  0,  0,
 ];
 
 /// The class of a position, by those of its DX word and of its RX word.
@@ -104,34 +87,9 @@ pub fn pair_classes(dx: u8, rx: u8) -> u8
     PAIRED[usize::from(dx)][usize::from(rx)]
 }
 
-/// The byte that a position of this class prints in a shift, if any (M.476 and M.625, conversion
-/// tables; that a lost position prints `*` is this profile's).
-pub fn byte_of_class(class: u8, shift: Shift) -> Option<u8>
-    requires { class < 34 }
-    ensures { result ≡ byte_of (reception_of_class class) shift }
-{
-    match shift {
-        Shift::Letters => byte_given(IN_LETTERS[usize::from(class)]),
-        Shift::Figures => byte_given(IN_FIGURES[usize::from(class)]),
-    }
-}
-
 /// The byte that a table of bytes gives.
 pub(crate) fn byte_given(byte: u8) -> Option<u8>
     ensures { result ≡ byte_given byte }
 {
     if byte == 0 { None } else { Some(byte) }
-}
-
-/// The shift in force after a position of this class: combination 29 sets letters, and 30 figures
-/// (M.476).
-pub fn shift_after_class(class: u8, shift: Shift) -> Shift
-    requires { class < 34 }
-    ensures { result ≡ shift_after (reception_of_class class) shift }
-{
-    match class {
-        LETTER_SHIFT => Shift::Letters,
-        FIGURE_SHIFT => Shift::Figures,
-        _ => shift,
-    }
 }

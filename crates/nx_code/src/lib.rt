@@ -17,7 +17,7 @@ mod table;
 mod words;
 
 pub use characters::{char_to_code, code_to_char};
-pub use classes::{CLASSES, byte_of_class, class_of, pair_classes, shift_after_class};
+pub use classes::{CLASSES, class_of, pair_classes};
 pub use packed::{WORDS_AT_ONCE, elements_at, packed_word, words_of};
 pub use printing::{ASTERISK, Printer, Taken};
 pub use shifts::{Case, Shift};

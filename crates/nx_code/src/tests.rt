@@ -149,8 +149,6 @@ fn classes(rt: HostRuntime) -> Result<(), Fail> {
     assert_eq!(rt; class_of(Word::new(0x66).ok_or("a word")?), 33);
     assert_eq!(rt; class_of(Word::new(0x7F).ok_or("a word")?), 0);
     assert_eq!(rt; pair_classes(0, 1), 1);
-    assert_eq!(rt; byte_of_class(1, Shift::Figures), Some(b'-'));
-    assert_eq!(rt; shift_after_class(30, Shift::Letters), Shift::Figures);
     Ok(())
 }
 

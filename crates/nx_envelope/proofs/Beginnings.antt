@@ -1,5 +1,7 @@
 -- The beginnings of a text, its headers and the end of a raw text, when one more byte comes.
-use Rattle.std.proofs.Common.{◌≡◌, ◌≢◌, ℕ, ◌+◌, ◌<◌, ◌≤◌, nat_le, if◌then◌else◌, false, inl, inr, Option, Some, None, List, [], ◌∷◌, ◌++◌, length, take, map, reverse, refl, sym, ap, ◌∙◌, arith, length-append}
+use Rattle.std.proofs.Common.{◌≡◌, ◌≢◌, ℕ, ◌+◌, ◌<◌, ◌≤◌, nat_le, if◌then◌else◌, false, inl, inr}
+use Rattle.std.proofs.Common.{Option, Some, None, List, [], ◌∷◌, ◌++◌, length, take, map, reverse}
+use Rattle.std.proofs.Common.{refl, sym, ap, ◌∙◌, arith, length-append}
 use Rattle.std.specs.List.{filter_map, slice_get}
 use Rattle.std.specs.Option.{option_map, option_or, option_to_list}
 use Rattle.std.proofs.lemmas.Bool.{le-leb}
@@ -8,7 +10,8 @@ use Rattle.std.proofs.lemmas.List.{map_push, reverse-append, take_all, take-appe
 use Rattle.std.proofs.lemmas.List.Elements.{filter_map-append}
 use Rattle.nx_envelope.specs.Header.{identity_at_end, Header}
 use Rattle.nx_envelope.specs.private.Backward.{header_back}
-use Rattle.nx_envelope.specs.Copies.{Ending, beginnings, header_at_end, headers, ending_by_marker, ending_of, most_found}
+use Rattle.nx_envelope.specs.Copies.{Ending, beginnings, header_at_end, headers, ending_by_marker}
+use Rattle.nx_envelope.specs.Copies.{ending_of, most_found}
 use Rattle.nx_envelope.specs.private.Within.{first_value, long_within, ending_within}
 use Rattle.nx_envelope.specs.declared.found.How.TheVariants.{Long}
 use Rattle.nx_envelope.proofs.ReadAtTheEnd.{identity_at_end-back}

@@ -1,5 +1,6 @@
 -- Eight bytes as one number, of which four are a number too.
-use Rattle.std.proofs.Common.{◌≡◌, ℕ, ◌+◌, ◌*◌, ◌^◌, ◌/◌, ◌%◌, ◌<◌, ◌≤◌, zero, suc, List, [], ◌∷◌, ◌++◌, length, take, reverse, refl, sym, ap, ◌∙◌, arith, get_or}
+use Rattle.std.proofs.Common.{◌≡◌, ℕ, ◌+◌, ◌*◌, ◌^◌, ◌/◌, ◌%◌, ◌<◌, ◌≤◌, zero, suc, List, [], ◌∷◌}
+use Rattle.std.proofs.Common.{◌++◌, length, take, reverse, refl, sym, ap, ◌∙◌, arith, get_or}
 use Rattle.std.specs.Prelude.{slice_index}
 use Rattle.std.specs.Int.{from_le_bytes, to_le_bytes, w32}
 use Rattle.std.proofs.lemmas.Nat.{le_bytes_4}
@@ -118,8 +119,8 @@ later_by eight back bytes w (suc (suc (suc zero))) few r3 r2 r1 r0 =
     w.three r0 w.new.first_fits w.new.second_fits w.new.third_fits
 later_by eight back bytes w (suc (suc (suc (suc zero)))) few r3 r2 r1 r0 =
     bytes_of (window eight 4)
-    (w.new.last ∷ w.new.third ∷ w.new.second ∷ w.new.first ∷ back) w.four w.new.first_fits w.new.second_fits w.new.third_fits
-    w.new.last_fits
+    (w.new.last ∷ w.new.third ∷ w.new.second ∷ w.new.first ∷ back) w.four w.new.first_fits
+    w.new.second_fits w.new.third_fits w.new.last_fits
 later_by eight back bytes w (suc (suc (suc (suc (suc count))))) few r3 r2 r1 r0 =
     absurd (omega arith)
 

@@ -1,18 +1,24 @@
 -- Where the copy with a raw text ends.
-use Rattle.std.proofs.Common.{◌≡◌, ℕ, ◌+◌, ◌-◌, ◌<◌, ◌≤◌, Bool, true, false, inl, inr, if◌then◌else◌, Option, Some, None, List, [], ◌∷◌, ◌++◌, length, take, drop, reverse, refl, sym, ap, subst, ◌∙◌, arith, min, length-append}
+use Rattle.std.proofs.Common.{◌≡◌, ℕ, ◌+◌, ◌-◌, ◌<◌, ◌≤◌, Bool, true, false, inl, inr}
+use Rattle.std.proofs.Common.{if◌then◌else◌, Option, Some, None, List, [], ◌∷◌, ◌++◌, length, take}
+use Rattle.std.proofs.Common.{drop, reverse, refl, sym, ap, subst, ◌∙◌, arith, min, length-append}
 use Rattle.std.specs.Option.{option_map, option_or}
 use Rattle.std.proofs.lemmas.Bool.Decides.{leb_tells}
-use Rattle.std.proofs.lemmas.List.{reverse-append, reverse-reverse, take-append-le, take-take, take_all, length-take}
+use Rattle.std.proofs.lemmas.List.{reverse-append, reverse-reverse, take-append-le, take-take}
+use Rattle.std.proofs.lemmas.List.{take_all, length-take}
 use Rattle.nx_envelope.specs.Header.{marker_at_end, start_marker, end_marker}
 use Rattle.nx_envelope.specs.private.Backward.{ends_in, marker_back}
 use Rattle.nx_envelope.specs.Copies.{Ending, beginnings, ending_by_marker, ending_of, most_found}
 use Rattle.nx_envelope.specs.private.Within.{first_value, long_within, ending_within}
-use Rattle.nx_envelope.specs.Ending.{EndsWithMarker, MarkerEndsAt, EndsAtMarker, HasNoMarker, IsEnding, IsUnended}
+use Rattle.nx_envelope.specs.Ending.{EndsWithMarker, MarkerEndsAt, EndsAtMarker, HasNoMarker}
+use Rattle.nx_envelope.specs.Ending.{IsEnding, IsUnended}
 use Rattle.nx_envelope.specs.declared.found.How.{How}
 use Rattle.nx_envelope.specs.declared.found.How.TheVariants.{Full, Cut, Long}
-use Rattle.nx_envelope.proofs.Beginnings.{beginnings-push, ending_of-within, first_value-push, long_at, not_long}
+use Rattle.nx_envelope.proofs.Beginnings.{beginnings-push, ending_of-within, first_value-push}
+use Rattle.nx_envelope.proofs.Beginnings.{long_at, not_long}
 use Rattle.nx_envelope.proofs.ReadAtTheEnd.{marker_at_end-back}
-use Rattle.nx_envelope.proofs.SpelledHeaders.{ends_in-true, nnnn_word, starts_both, ends_both, zczc_word}
+use Rattle.nx_envelope.proofs.SpelledHeaders.{ends_in-true, nnnn_word, starts_both, ends_both}
+use Rattle.nx_envelope.proofs.SpelledHeaders.{zczc_word}
 
 -- A marker at the end of a text, computed and spelled.
 

@@ -5,7 +5,9 @@ use Rattle.jiff_core.proofs.CalendarLemmas.{days_from_civil-day_count}
 use Rattle.jiff_core.proofs.MarchLemmas.{day_count-early}
 use Rattle.jiff_core.proofs.SignedLemmas.{signed_arith}
 use Rattle.nx_envelope.specs.Header.{read_header, identity_at_end, marker_at_end, Header}
-use Rattle.nx_envelope.specs.Copies.{Copy, beginnings, closed_copy, copies, ended_copy, ending_of, header_at_end, headers, is_open, ending_by_marker, open_headers, raw_text, errors_of}
+use Rattle.nx_envelope.specs.Copies.{Copy, beginnings, closed_copy, copies, ended_copy, ending_of}
+use Rattle.nx_envelope.specs.Copies.{header_at_end, headers, is_open, ending_by_marker}
+use Rattle.nx_envelope.specs.Copies.{open_headers, raw_text, errors_of}
 use Rattle.nx_envelope.specs.private.Within.{ending_within, long_within}
 use Rattle.nx_envelope.specs.Identity.{identity_bytes}
 use Rattle.nx_envelope.specs.Moment.{IsShownAs}

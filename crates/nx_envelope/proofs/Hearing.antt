@@ -1,10 +1,15 @@
 -- What the finder holds, and what it notes of a byte.
-use Rattle.std.proofs.Common.{◌≡◌, ◌≢◌, ℕ, ◌+◌, ◌-◌, ◌<◌, ◌==◌, ◌&&◌, Bool, true, false, inl, inr, Some, None, List, [], ◌∷◌, ◌++◌, length, take, drop, reverse, refl, sym, ap, ◌∙◌, arith}
+use Rattle.std.proofs.Common.{◌≡◌, ◌≢◌, ℕ, ◌+◌, ◌-◌, ◌<◌, ◌==◌, ◌&&◌, Bool, true, false, inl, inr}
+use Rattle.std.proofs.Common.{Some, None, List, [], ◌∷◌, ◌++◌, length, take, drop, reverse, refl}
+use Rattle.std.proofs.Common.{sym, ap, ◌∙◌, arith}
 use Rattle.std.proofs.lemmas.Bool.{and_parts}
 use Rattle.std.proofs.lemmas.List.{drop-append-le}
-use Rattle.nx_envelope.specs.private.Backward.{marker_back, header_back, spaces_back, station_back, subject_back, tens_back}
+use Rattle.nx_envelope.specs.private.Backward.{marker_back, header_back, spaces_back, station_back}
+use Rattle.nx_envelope.specs.private.Backward.{subject_back, tens_back}
 use Rattle.nx_envelope.specs.Copies.{Copy, raw_text, open_headers, closed_copy}
-use Rattle.nx_envelope.specs.Finder.{BringsCopy, ClosesCopy, ClosesHeld, ClosesNone, ClosesReady, Ends, HoldsCopy, HoldsOpen, Keeps, is_empty, is_ready, is_ready_copy}
+use Rattle.nx_envelope.specs.Finder.{BringsCopy, ClosesCopy, ClosesHeld, ClosesNone, ClosesReady}
+use Rattle.nx_envelope.specs.Finder.{Ends, HoldsCopy, HoldsOpen, Keeps, is_empty, is_ready}
+use Rattle.nx_envelope.specs.Finder.{is_ready_copy}
 use Rattle.nx_envelope.specs.private.Room.{HasRoom, closed_held}
 use Rattle.nx_envelope.specs.private.Finding.{Hearing, found_text}
 use Rattle.nx_envelope.specs.Found.{IsFound, IsFoundOf}
@@ -19,7 +24,8 @@ use Rattle.nx_envelope.specs.declared.found.How.{How}
 use Rattle.nx_envelope.specs.declared.found.How.TheVariants.{Cut, Long}
 use Rattle.nx_envelope.specs.declared.identity.Identity.{Identity}
 use Rattle.nx_envelope.specs.declared.stage.Stage.TheVariants.{Nowhere}
-use Rattle.nx_envelope.proofs.OneMoreByte.{OneOpen, open_headers-one, still_none, opens, drops_newline, adds, ends_marked, ends_long}
+use Rattle.nx_envelope.proofs.OneMoreByte.{OneOpen, open_headers-one, still_none, opens}
+use Rattle.nx_envelope.proofs.OneMoreByte.{drops_newline, adds, ends_marked, ends_long}
 use Rattle.nx_envelope.proofs.OneOpenCopy.{open_headers-nil, parts, copies_none, copies_one, is_ten}
 use Rattle.nx_envelope.proofs.RawTexts.{empty_is, found_is, raw-push, raw-newline, raw-none}
 

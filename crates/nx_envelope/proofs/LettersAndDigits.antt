@@ -1,13 +1,17 @@
 -- Letters, digits and the header that they spell, read from the back of a text.
-use Rattle.std.proofs.Common.{◌≡◌, ℕ, ◌/◌, ◌%◌, min, ◌↔◌, ◌∙◌, ◌-◌, ◌≤◌, ◌==◌, ◌&&◌, ◌||◌, if◌then◌else◌, List, ◌∷◌, nat_le, ◌+◌, ◌*◌, inl, inr, Bool, true, false, Option, Some, None, refl, sym, subst, ap, arith}
+use Rattle.std.proofs.Common.{◌≡◌, ℕ, ◌/◌, ◌%◌, min, ◌↔◌, ◌∙◌, ◌-◌, ◌≤◌, ◌==◌, ◌&&◌, ◌||◌}
+use Rattle.std.proofs.Common.{if◌then◌else◌, List, ◌∷◌, nat_le, ◌+◌, ◌*◌, inl, inr, Bool, true}
+use Rattle.std.proofs.Common.{false, Option, Some, None, refl, sym, subst, ap, arith}
 use Rattle.std.specs.Option.{IsSome, IfSome}
 use Rattle.std.proofs.Math.Nat.{min-le_left}
 use Rattle.std.proofs.lemmas.Bool.Decides.{leb_tells, nat_tests}
 use Rattle.std.proofs.Props.{props}
 use Rattle.nx_envelope.specs.Header.{nearest_identity, nearest_letter, start_marker}
 use Rattle.nx_envelope.specs.Identity.{identity_bytes}
-use Rattle.nx_envelope.specs.private.Letters.{letter_from, letter_of, digit_from, digit_of, both, identity_of, identity_with}
-use Rattle.nx_envelope.specs.private.Backward.{ends_in, spaces_back, station_back, subject_back, tens_back, header_back}
+use Rattle.nx_envelope.specs.private.Letters.{letter_from, letter_of, digit_from, digit_of, both}
+use Rattle.nx_envelope.specs.private.Letters.{identity_of, identity_with}
+use Rattle.nx_envelope.specs.private.Backward.{ends_in, spaces_back, station_back, subject_back}
+use Rattle.nx_envelope.specs.private.Backward.{tens_back, header_back}
 use Rattle.nx_envelope.specs.private.DigitBytes.{IsDigit}
 use Rattle.nx_code.specs.Reading.{IsCapital}
 use Rattle.nx_envelope.specs.private.Stage.{IsStageOf, is_spaces, station_in, subject_in, tens_in}

@@ -1,10 +1,12 @@
 -- The lines of a message, one after another.
-use Rattle.std.proofs.Common.{◌≡◌, ℕ, ◌+◌, ◌<◌, List, [], ◌∷◌, ◌++◌, map, get_or, length, take, arith, length-append}
+use Rattle.std.proofs.Common.{◌≡◌, ℕ, ◌+◌, ◌<◌, List, [], ◌∷◌, ◌++◌, map, get_or, length, take}
+use Rattle.std.proofs.Common.{arith, length-append}
 use Rattle.std.specs.Prelude.{All}
 use Rattle.std.proofs.lemmas.List.{map_push, map_more, take-map, take_more, flat_map_more}
 use Rattle.nx_envelope.specs.Message.{IsMessageLine, IsLineFault, IsMessageFault, text_of}
 use Rattle.nx_envelope.specs.declared.message.MessageFault.{MessageFault}
-use Rattle.nx_envelope.specs.declared.message.MessageFault.TheVariants.{LongLine, BadCharacter, Reserved, LongText, Memory}
+use Rattle.nx_envelope.specs.declared.message.MessageFault.TheVariants.{LongLine, BadCharacter}
+use Rattle.nx_envelope.specs.declared.message.MessageFault.TheVariants.{Reserved, LongText, Memory}
 
 -- one more item of two lists that are alike under what they show
 pub map_more_alike : {V W : Type 0} (f : V → List ℕ) (g : W → List ℕ) (kept : List V)

@@ -1,12 +1,15 @@
 -- What one more byte does to a text of which no copy is open, or one, which is its last: the cases
 -- that a byte can be.
-use Rattle.std.proofs.Common.{◌≡◌, ◌≢◌, ℕ, ◌+◌, ◌<◌, ◌≤◌, true, false, if◌then◌else◌, Option, Some, None, List, [], ◌∷◌, ◌++◌, length, drop, reverse, refl, sym, ap, ◌∙◌, arith, length-append, append_assoc}
+use Rattle.std.proofs.Common.{◌≡◌, ◌≢◌, ℕ, ◌+◌, ◌<◌, ◌≤◌, true, false, if◌then◌else◌, Option, Some}
+use Rattle.std.proofs.Common.{None, List, [], ◌∷◌, ◌++◌, length, drop, reverse, refl, sym, ap, ◌∙◌}
+use Rattle.std.proofs.Common.{arith, length-append, append_assoc}
 use Rattle.std.specs.List.{filter, filter_map}
 use Rattle.std.specs.Option.{option_map, option_to_list, is_none}
 use Rattle.std.proofs.lemmas.List.{append-nil, drop_all}
 use Rattle.std.proofs.lemmas.List.Elements.{filter_map-append, filter-append}
 use Rattle.nx_envelope.specs.private.Backward.{marker_back, ends_in, header_back}
-use Rattle.nx_envelope.specs.Copies.{Ending, Copy, headers, raw_text, ending_of, copy_with, ended_copy, ended_copies, is_open, open_headers}
+use Rattle.nx_envelope.specs.Copies.{Ending, Copy, headers, raw_text, ending_of, copy_with}
+use Rattle.nx_envelope.specs.Copies.{ended_copy, ended_copies, is_open, open_headers}
 use Rattle.nx_envelope.specs.Finder.{Keeps, Begins, Ends, is_empty}
 use Rattle.nx_envelope.specs.private.Finding.{found_text}
 use Rattle.nx_envelope.specs.Header.{Header, start_marker}
@@ -16,7 +19,9 @@ use Rattle.nx_envelope.specs.declared.found.How.TheVariants.{Long}
 use Rattle.nx_envelope.specs.declared.identity.Identity.{Identity}
 use Rattle.nx_envelope.specs.declared.stage.Stage.TheVariants.{Nowhere}
 use Rattle.nx_envelope.proofs.Beginnings.{reverse-push, headers-push, header_at_end-push}
-use Rattle.nx_envelope.proofs.RawTexts.{IsPlain, raw-push, raw-newline, raw-none, ending_of-nil, ended_stays, marker_apart, no_start, ending-marker, ending-long, ending-open}
+use Rattle.nx_envelope.proofs.RawTexts.{IsPlain, raw-push, raw-newline, raw-none, ending_of-nil}
+use Rattle.nx_envelope.proofs.RawTexts.{ended_stays, marker_apart, no_start, ending-marker}
+use Rattle.nx_envelope.proofs.RawTexts.{ending-long, ending-open}
 use Rattle.nx_envelope.proofs.Stages.{quiet_more, no_header, after_header}
 
 -- Copies that have ended.

@@ -1,19 +1,25 @@
 -- A text has at most one open copy, which is its last; what has ended stays; and the copies of a
 -- text where it ends.
-use Rattle.std.proofs.Common.{◌≡◌, ◌≢◌, ℕ, ◌+◌, ◌<◌, ◌≤◌, ◌==◌, Bool, true, false, ◌⊎◌, inl, inr, Option, Some, None, List, [], ◌∷◌, ◌++◌, length, drop, map, reverse, refl, sym, ap, ◌∙◌, arith, append_assoc}
+use Rattle.std.proofs.Common.{◌≡◌, ◌≢◌, ℕ, ◌+◌, ◌<◌, ◌≤◌, ◌==◌, Bool, true, false, ◌⊎◌, inl, inr}
+use Rattle.std.proofs.Common.{Option, Some, None, List, [], ◌∷◌, ◌++◌, length, drop, map, reverse}
+use Rattle.std.proofs.Common.{refl, sym, ap, ◌∙◌, arith, append_assoc}
 use Rattle.std.specs.List.{filter, filter_map}
 use Rattle.std.specs.Option.{option_to_list, unwrap_or}
 use Rattle.std.proofs.lemmas.Bool.Decides.{leb_tells, nat_tests}
 use Rattle.std.proofs.lemmas.List.{append-nil, map-append, reverse-append, reverse-reverse}
 use Rattle.nx_envelope.specs.Header.{identity_at_end, Header}
 use Rattle.nx_envelope.specs.private.Backward.{marker_back, header_back}
-use Rattle.nx_envelope.specs.Copies.{Ending, Copy, beginnings, header_at_end, headers, raw_text, ending_of, ended_copy, ended_copies, is_open, open_headers, closed_copy, copies}
+use Rattle.nx_envelope.specs.Copies.{Ending, Copy, beginnings, header_at_end, headers, raw_text}
+use Rattle.nx_envelope.specs.Copies.{ending_of, ended_copy, ended_copies, is_open, open_headers}
+use Rattle.nx_envelope.specs.Copies.{closed_copy, copies}
 use Rattle.nx_envelope.specs.Finder.{Ends, is_empty}
 use Rattle.nx_envelope.specs.Laws.{Grows}
 use Rattle.nx_envelope.specs.declared.found.How.{How}
 use Rattle.nx_envelope.specs.declared.identity.Identity.{Identity}
 use Rattle.nx_envelope.proofs.Beginnings.{ending_of-within, headers-push, open_is_short}
-use Rattle.nx_envelope.proofs.OneMoreByte.{OneOpen, adds, drops_newline, ended_before, ended_with, ends_long, ends_marked, open_headers-one, open_with, opens, still_none}
+use Rattle.nx_envelope.proofs.OneMoreByte.{OneOpen, adds, drops_newline, ended_before, ended_with}
+use Rattle.nx_envelope.proofs.OneMoreByte.{ends_long, ends_marked, open_headers-one, open_with}
+use Rattle.nx_envelope.proofs.OneMoreByte.{opens, still_none}
 
 -- Every text is one or the other.
 

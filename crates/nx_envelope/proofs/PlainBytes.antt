@@ -1,6 +1,8 @@
--- Bytes that an open copy takes in one after the other, where none of them ends it, and bytes behind
--- which no header begins where no copy is open.
-use Rattle.std.proofs.Common.{◌≡◌, ℕ, ◌+◌, ◌<◌, ◌≤◌, zero, suc, ◌||◌, nat_le, Bool, false, None, List, [], ◌∷◌, ◌++◌, length, take, reverse, refl, sym, ◌∙◌, subst, arith, length-append, append_assoc}
+-- Bytes that an open copy takes in one after the other, where none of them ends it, and bytes
+-- behind which no header begins where no copy is open.
+use Rattle.std.proofs.Common.{◌≡◌, ℕ, ◌+◌, ◌<◌, ◌≤◌, zero, suc, ◌||◌, nat_le, Bool, false, None}
+use Rattle.std.proofs.Common.{List, [], ◌∷◌, ◌++◌, length, take, reverse, refl, sym, ◌∙◌, subst}
+use Rattle.std.proofs.Common.{arith, length-append, append_assoc}
 use Rattle.std.specs.Prelude.{slice_index}
 use Rattle.std.proofs.lemmas.Bool.{leb-false, or_parts}
 use Rattle.std.proofs.lemmas.List.{append-nil, length-take}

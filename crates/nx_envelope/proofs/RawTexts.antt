@@ -1,18 +1,23 @@
 -- What stands behind a header when one more byte comes, and the markers in it.
-use Rattle.std.proofs.Common.{◌≡◌, ◌≢◌, ℕ, ◌+◌, ◌-◌, ◌<◌, ◌≤◌, ◌==◌, ◌&&◌, Bool, true, false, inl, inr, if◌then◌else◌, Some, None, List, [], ◌∷◌, ◌++◌, length, take, drop, reverse, refl, sym, ap, ◌∙◌, arith, length-append, append_assoc}
+use Rattle.std.proofs.Common.{◌≡◌, ◌≢◌, ℕ, ◌+◌, ◌-◌, ◌<◌, ◌≤◌, ◌==◌, ◌&&◌, Bool, true, false, inl}
+use Rattle.std.proofs.Common.{inr, if◌then◌else◌, Some, None, List, [], ◌∷◌, ◌++◌, length, take}
+use Rattle.std.proofs.Common.{drop, reverse, refl, sym, ap, ◌∙◌, arith, length-append, append_assoc}
 use Rattle.std.specs.Prelude.{slice_index}
 use Rattle.std.proofs.lemmas.Bool.Decides.{leb_tells, nat_tests}
-use Rattle.std.proofs.lemmas.List.{reverse-append, take-append-le, take_all, drop-append-le, drop_all}
+use Rattle.std.proofs.lemmas.List.{reverse-append, take-append-le, take_all, drop-append-le}
+use Rattle.std.proofs.lemmas.List.{drop_all}
 use Rattle.nx_envelope.specs.Header.{marker_at_end, Header, start_marker, end_marker}
 use Rattle.nx_envelope.specs.private.Backward.{marker_back, ends_in}
-use Rattle.nx_envelope.specs.Copies.{Ending, less_newline, raw_text, ending_by_marker, beginnings, ending_of}
+use Rattle.nx_envelope.specs.Copies.{Ending, less_newline, raw_text, ending_by_marker, beginnings}
+use Rattle.nx_envelope.specs.Copies.{ending_of}
 use Rattle.nx_envelope.specs.private.Within.{ending_within}
 use Rattle.nx_envelope.specs.Finder.{is_empty}
 use Rattle.nx_envelope.specs.private.Finding.{found_text}
 use Rattle.nx_envelope.specs.declared.found.How.{How}
 use Rattle.nx_envelope.specs.declared.found.How.TheVariants.{Full, Cut, Long}
 use Rattle.nx_envelope.proofs.ReadAtTheEnd.{marker_at_end-back}
-use Rattle.nx_envelope.proofs.Beginnings.{ending_of-within, long_at, not_long, ending-push, ending_stays, ending-short, open_is_short}
+use Rattle.nx_envelope.proofs.Beginnings.{ending_of-within, long_at, not_long, ending-push}
+use Rattle.nx_envelope.proofs.Beginnings.{ending_stays, ending-short, open_is_short}
 
 pub empty_is : (xs : List ℕ) → is_empty xs ≡ true → xs ≡ []
 empty_is [] e = refl

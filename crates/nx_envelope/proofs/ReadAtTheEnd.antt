@@ -1,6 +1,8 @@
 -- The header and the marker with which a text ends: looked for by their spelling, and read from the
 -- back of the text.
-use Rattle.std.proofs.Common.{◌≡◌, ℕ, ◌+◌, ◌-◌, ◌≤◌, Bool, true, false, ◌&&◌, nat_le, inl, inr, if◌then◌else◌, Option, Some, None, List, [], ◌∷◌, ◌++◌, length, take, drop, reverse, refl, sym, ap, ◌∙◌, ◌⊎◌, arith, length-append, subst}
+use Rattle.std.proofs.Common.{◌≡◌, ℕ, ◌+◌, ◌-◌, ◌≤◌, Bool, true, ◌&&◌, nat_le, inl, inr}
+use Rattle.std.proofs.Common.{if◌then◌else◌, Option, Some, None, List, [], ◌∷◌, ◌++◌, length, take}
+use Rattle.std.proofs.Common.{drop, reverse, refl, sym, ap, ◌∙◌, ◌⊎◌, arith, length-append, subst}
 use Rattle.std.specs.Option.{option_or}
 use Rattle.std.specs.Prelude.{replicate}
 use Rattle.std.specs.Str.{bytes_eq}
@@ -8,8 +10,11 @@ use Rattle.std.proofs.Math.Seq.{drop-append_seam}
 use Rattle.std.proofs.lemmas.List.{take-append-drop, append_assoc, length-replicate}
 use Rattle.std.proofs.lemmas.Bool.{and_parts, leb-true, le-leb}
 use Rattle.std.proofs.lemmas.Slice.Eq.{bytes_eq-Decides}
+use Rattle.std.specs.Cmp.{both_ways}
 use Rattle.nx_code.specs.Lists.{last_of}
-use Rattle.nx_envelope.specs.Header.{nearest_identity, read_header, identity_at_end, ends_with, marker_at_end, EndsWithHeader, EndsWith, start_marker, end_marker}
+use Rattle.nx_envelope.specs.Header.{nearest_identity, read_header, identity_at_end, ends_with}
+use Rattle.nx_envelope.specs.Header.{marker_at_end, EndsWithHeader, EndsWith, start_marker}
+use Rattle.nx_envelope.specs.Header.{end_marker}
 use Rattle.nx_envelope.specs.private.Backward.{ends_in, header_back, marker_back}
 use Rattle.nx_envelope.specs.Identity.{identity_bytes}
 use Rattle.nx_envelope.specs.declared.found.How.{How}
@@ -19,11 +24,6 @@ use Rattle.nx_envelope.proofs.LettersAndDigits.{nearest_identity-is}
 use Rattle.nx_envelope.proofs.SpelledHeaders.{if_some, starts_both, ends_both, header_both}
 
 -- Two that are there, or true, for the same.
-
-same_bools : (a b : Bool) → (a ≡ true → b ≡ true) → (b ≡ true → a ≡ true) → a ≡ b
-same_bools true b forth back = sym (forth refl)
-same_bools false true forth back = back refl
-same_bools false false forth back = refl
 
 same_options : {A : Type 0} (o p : Option A) → ((x : A) → o ≡ Some x → p ≡ Some x)
     → ((x : A) → p ≡ Some x → o ≡ Some x) → o ≡ p
@@ -54,13 +54,13 @@ word_back word text four h =
 
 starts_same : (text : List ℕ) → ends_with start_marker text ≡ ends_in start_marker (reverse text)
 starts_same text =
-    same_bools (ends_with start_marker text) (ends_in start_marker (reverse text))
+    both_ways (ends_with start_marker text) (ends_in start_marker (reverse text))
     (λ e. (starts_both text).1 (word_forth start_marker text e))
     (λ e. word_back start_marker text refl ((starts_both text).0 e))
 
 ends_same : (text : List ℕ) → ends_with end_marker text ≡ ends_in end_marker (reverse text)
 ends_same text =
-    same_bools (ends_with end_marker text) (ends_in end_marker (reverse text))
+    both_ways (ends_with end_marker text) (ends_in end_marker (reverse text))
     (λ e. (ends_both text).1 (word_forth end_marker text e))
     (λ e. word_back end_marker text refl ((ends_both text).0 e))
 

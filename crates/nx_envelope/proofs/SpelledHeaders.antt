@@ -1,17 +1,23 @@
 -- A header and a marker at the back of a text, and as they are spelled.
-use Rattle.std.proofs.Common.{◌≡◌, ◌≢◌, ℕ, zero, suc, ◌+◌, ◌-◌, ◌*◌, ◌/◌, ◌%◌, ◌≤◌, ◌==◌, ◌&&◌, ◌||◌, Bool, true, false, inl, inr, if◌then◌else◌, Option, Some, None, List, [], ◌∷◌, ◌++◌, drop, reverse, refl, sym, ap, subst, ◌∙◌, arith, add-one}
+use Rattle.std.proofs.Common.{◌≡◌, ◌≢◌, ℕ, zero, suc, ◌+◌, ◌-◌, ◌*◌, ◌/◌, ◌%◌, ◌≤◌, ◌==◌, ◌&&◌}
+use Rattle.std.proofs.Common.{◌||◌, Bool, true, false, inl, inr, if◌then◌else◌, Option, Some, None}
+use Rattle.std.proofs.Common.{List, [], ◌∷◌, ◌++◌, drop, reverse, refl, sym, ap, subst, ◌∙◌, arith}
+use Rattle.std.proofs.Common.{add-one}
 use Rattle.std.proofs.lemmas.Bool.{and_parts, or_right}
 use Rattle.std.specs.Prelude.{replicate}
 use Rattle.std.proofs.lemmas.Bool.Decides.{leb_tells, nat_tests}
 use Rattle.std.proofs.lemmas.List.{reverse-append, reverse-reverse, replicate_more}
 use Rattle.nx_envelope.specs.Header.{EndsWithHeader, EndsWith, start_marker, end_marker}
 use Rattle.nx_envelope.specs.private.Letters.{letter_of, digit_of, both, identity_of, identity_with}
-use Rattle.nx_envelope.specs.private.Backward.{ends_in, spaces_back, station_back, subject_back, tens_back, header_back}
+use Rattle.nx_envelope.specs.private.Backward.{ends_in, spaces_back, station_back, subject_back}
+use Rattle.nx_envelope.specs.private.Backward.{tens_back, header_back}
 use Rattle.nx_envelope.specs.Identity.{identity_bytes}
 use Rattle.nx_envelope.specs.declared.digit.Digit.{Digit}
 use Rattle.nx_envelope.specs.declared.identity.Identity.{Identity}
 use Rattle.nx_envelope.specs.declared.letter.Letter.{Letter}
-use Rattle.nx_envelope.proofs.LettersAndDigits.{letter_at, digit_at, letter_of-byte, letter_of-none, digit_of-value, same_identity_at, both_first, both_second, identity_some, digit_of-some}
+use Rattle.nx_envelope.proofs.LettersAndDigits.{letter_at, digit_at, letter_of-byte, letter_of-none}
+use Rattle.nx_envelope.proofs.LettersAndDigits.{digit_of-value, same_identity_at, both_first}
+use Rattle.nx_envelope.proofs.LettersAndDigits.{both_second, identity_some, digit_of-some}
 
 -- Words of four letters.
 

@@ -1,17 +1,22 @@
 -- The stage of a header one byte later.
-use Rattle.std.proofs.Common.{◌≡◌, ◌≢◌, ℕ, ◌==◌, ◌&&◌, ◌||◌, if◌then◌else◌, Bool, true, false, Option, Some, None, List, [], ◌∷◌, refl, sym, ◌∙◌, arith}
+use Rattle.std.proofs.Common.{◌≡◌, ◌≢◌, ℕ, ◌==◌, ◌&&◌, ◌||◌, if◌then◌else◌, Bool, true, false}
+use Rattle.std.proofs.Common.{Option, Some, None, List, [], ◌∷◌, refl, sym, ◌∙◌, arith}
 use Rattle.std.proofs.lemmas.Bool.Decides.{nat_tests}
 use Rattle.nx_envelope.specs.Header.{start_marker}
 use Rattle.nx_envelope.specs.private.Letters.{letter_of, digit_of, both, identity_with}
-use Rattle.nx_envelope.specs.private.Backward.{ends_in, spaces_back, station_back, subject_back, tens_back, header_back}
+use Rattle.nx_envelope.specs.private.Backward.{ends_in, spaces_back, station_back, subject_back}
+use Rattle.nx_envelope.specs.private.Backward.{tens_back, header_back}
 use Rattle.nx_envelope.specs.private.DigitBytes.{IsDigit}
 use Rattle.nx_envelope.specs.private.Stage.{IsStageOf, is_spaces, station_in, subject_in, tens_in}
 use Rattle.nx_envelope.specs.declared.digit.Digit.{Digit}
 use Rattle.nx_envelope.specs.declared.identity.Identity.{Identity}
 use Rattle.nx_envelope.specs.declared.letter.Letter.{Letter}
 use Rattle.nx_envelope.specs.declared.stage.Stage.{Stage}
-use Rattle.nx_envelope.specs.declared.stage.Stage.TheVariants.{Nowhere, Spaces, Station, Subject, Tens}
-use Rattle.nx_envelope.proofs.LettersAndDigits.{stage_parts, both-none, letter_of-none, letter_of-space, digit_of-space, both_first, both_second, identity_some, digit_of-some}
+use Rattle.nx_envelope.specs.declared.stage.Stage.TheVariants.{Nowhere, Spaces, Station, Subject}
+use Rattle.nx_envelope.specs.declared.stage.Stage.TheVariants.{Tens}
+use Rattle.nx_envelope.proofs.LettersAndDigits.{stage_parts, both-none, letter_of-none}
+use Rattle.nx_envelope.proofs.LettersAndDigits.{letter_of-space, digit_of-space, both_first}
+use Rattle.nx_envelope.proofs.LettersAndDigits.{both_second, identity_some, digit_of-some}
 use Rattle.nx_envelope.proofs.RawTexts.{IsPlain}
 
 -- a stage stands at the back and a flag tells whether it ends with ZCZC

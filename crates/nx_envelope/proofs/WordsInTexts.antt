@@ -1,6 +1,7 @@
 -- A word that stands somewhere in a text, by the places at which the rest of the text begins with
 -- it.
-use Rattle.std.proofs.Common.{◌≡◌, ℕ, ◌+◌, ◌<◌, refl, true, false, List, ◌++◌, length, take, drop, eqb, sym, ap, ◌∙◌, arith, append_assoc, length-append}
+use Rattle.std.proofs.Common.{◌≡◌, ℕ, ◌+◌, ◌<◌, refl, true, false, List, ◌++◌, length, take, drop}
+use Rattle.std.proofs.Common.{eqb, sym, ap, ◌∙◌, arith, append_assoc, length-append}
 use Rattle.std.specs.List.{starts_with}
 use Rattle.std.proofs.lemmas.Bool.Decides.{Decides-eqb}
 use Rattle.std.proofs.lemmas.List.{take-append-drop, drop_at}

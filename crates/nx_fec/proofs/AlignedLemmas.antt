@@ -1,7 +1,10 @@
 -- What is taken of the first slots of aligned words, one position more.
-use Rattle.std.proofs.Common.{◌≡◌, ℕ, zero, suc, subst, append_assoc, append-nil, ◌+◌, ◌-◌, ◌*◌, ◌/◌, ◌<◌, ◌≤◌, refl, sym, ap, ◌∙◌, Bool, List, [], ◌∷◌, ◌++◌, length, map, get_or, arith}
+use Rattle.std.proofs.Common.{◌≡◌, ℕ, zero, suc, subst, append_assoc, append-nil, ◌+◌, ◌-◌, ◌*◌}
+use Rattle.std.proofs.Common.{◌/◌, ◌<◌, ◌≤◌, refl, sym, ap, ◌∙◌, Bool, List, [], ◌∷◌, ◌++◌, length}
+use Rattle.std.proofs.Common.{map, get_or, arith}
 use Rattle.std.specs.List.{range_with_len}
-use Rattle.std.proofs.lemmas.List.FromFn.{length-map-range_with_len, get_or-map-range_with_len, map-range_with_len_more}
+use Rattle.std.proofs.lemmas.List.FromFn.{length-map-range_with_len, get_or-map-range_with_len}
+use Rattle.std.proofs.lemmas.List.FromFn.{map-range_with_len_more}
 use Rattle.std.proofs.Common.{inl, inr, slice_get, slice_index, Some, None}
 use Rattle.std.proofs.lemmas.List.{ext_get_or, get_or_append_left}
 use Rattle.std.proofs.lemmas.Option.{slice_get-get_or, slice_get_past}
@@ -10,7 +13,8 @@ use Rattle.std.proofs.lemmas.Bool.Decides.{nat_tests}
 use Rattle.std.proofs.lemmas.Grind.{get_or_default_zero}
 use Rattle.nx_code.specs.Classes.{reception_of_class}
 use Rattle.nx_code.specs.Reading.{Reception}
-use Rattle.nx_fec.specs.Pairing.{Counted, IsLatest, nothing, counts_as, pairing, third_last, five_before}
+use Rattle.nx_fec.specs.Pairing.{Counted, IsLatest, nothing, counts_as, pairing, third_last}
+use Rattle.nx_fec.specs.Pairing.{five_before}
 use Rattle.nx_fec.proofs.PairingLemmas.{third_last-early, third_last-late}
 use Rattle.nx_fec.specs.Aligned.{word_in, words_of, dx_words, taken_at, receptions}
 

@@ -1,16 +1,21 @@
 -- Emissions slot by slot, and their elements.
-use Rattle.std.proofs.Common.{◌≡◌, ℕ, ◌+◌, ◌-◌, ◌*◌, ◌/◌, ◌%◌, ◌<◌, ◌≤◌, refl, sym, ap, ◌∙◌, subst, Some, None, List, [], ◌∷◌, ◌++◌, length, map, get_or, take, arith, inl, inr, lit<}
+use Rattle.std.proofs.Common.{◌≡◌, ℕ, ◌+◌, ◌-◌, ◌*◌, ◌/◌, ◌%◌, ◌<◌, ◌≤◌, refl, sym, ap, ◌∙◌, subst}
+use Rattle.std.proofs.Common.{Some, None, List, [], ◌∷◌, ◌++◌, length, map, get_or, take, arith}
+use Rattle.std.proofs.Common.{inl, inr, lit<}
 use Rattle.std.specs.List.{flat_map, slice_get}
 use Rattle.std.proofs.lemmas.List.{ext_get_or, get_or_past, get_or-map, take_more, flat_map_more}
 use Rattle.nx_fec.specs.declared.positions.Position.{Position}
 use Rattle.std.proofs.lemmas.List.FromFn.{length-map-range_with_len, get_or-map-range_with_len}
-use Rattle.std.proofs.lemmas.Option.{slice_get-get_or, slice_get_past, slice_get_within, get_or_from_slice_get}
+use Rattle.std.proofs.lemmas.Option.{slice_get-get_or, slice_get_past, slice_get_within}
+use Rattle.std.proofs.lemmas.Option.{get_or_from_slice_get}
 use Rattle.nx_code.specs.Word.{elements}
 use Rattle.std.proofs.lemmas.Bool.{cases_lt, cases_eq}
 use Rattle.std.proofs.lemmas.Bool.Decides.{nat_tests}
 use Rattle.nx_code.specs.Table.{table, words, phasing_1, phasing_2}
 use Rattle.nx_code.proofs.TableLemmas.{traffic_word-is, words-lt}
-use Rattle.nx_fec.specs.Emission.{SentPosition, sent_position, phasing_position, traffic_position, end_position, dx_word, rx_word, position_at, word_sent, emission, bits_of, IsEmission, AreWords, IsInCode, AreInCode}
+use Rattle.nx_fec.specs.Emission.{SentPosition, sent_position, phasing_position, traffic_position}
+use Rattle.nx_fec.specs.Emission.{end_position, dx_word, rx_word, position_at, word_sent, emission}
+use Rattle.nx_fec.specs.Emission.{bits_of, IsEmission, AreWords, IsInCode, AreInCode}
 
 -- the service signals' words stand in the table
 pub phasing_1-words : get_or words 32 0 ≡ phasing_1

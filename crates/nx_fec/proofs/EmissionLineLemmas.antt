@@ -1,12 +1,16 @@
 -- The lines of an emission, position by position, and the digits of its words.
-use Rattle.std.proofs.Common.{◌≡◌, ℕ, ◌+◌, ◌-◌, ◌*◌, ◌<◌, ◌≤◌, min, true, List, [], ◌∷◌, ◌++◌, length, map, take, drop, bit_and, bit_or, bytes_eq, refl, sym, ap, ◌∙◌, append-nil, arith, inl, inr, take-append-drop}
+use Rattle.std.proofs.Common.{◌≡◌, ℕ, ◌+◌, ◌-◌, ◌*◌, ◌<◌, ◌≤◌, min, true, List, [], ◌∷◌, ◌++◌}
+use Rattle.std.proofs.Common.{length, map, take, drop, bit_and, bit_or, bytes_eq, refl, sym, ap}
+use Rattle.std.proofs.Common.{◌∙◌, append-nil, arith, inl, inr, take-append-drop}
 use Rattle.std.specs.List.{flat_map, range_with_len, take-map}
 use Rattle.std.specs.Int.{div_ceil, to_le_bytes, w64}
 use Rattle.std.proofs.Math.Seq.{take-append-add}
 use Rattle.std.proofs.lemmas.Bool.{agree_below_at, cases_lt}
-use Rattle.std.proofs.lemmas.List.{drop_at, ext_get_or, get_or-drop, length-drop, length-take-le, map-append, take_all, take_at, take_min, take-take}
+use Rattle.std.proofs.lemmas.List.{drop_at, ext_get_or, get_or-drop, length-drop, length-take-le}
+use Rattle.std.proofs.lemmas.List.{map-append, take_all, take_at, take_min, take-take}
 use Rattle.std.proofs.lemmas.List.Concat.{flat_map-append}
-use Rattle.std.proofs.lemmas.List.FromFn.{get_or-map-range_with_len, length-map-range_with_len, map-range_with_len_more, take-map-range_with_len}
+use Rattle.std.proofs.lemmas.List.FromFn.{get_or-map-range_with_len, length-map-range_with_len}
+use Rattle.std.proofs.lemmas.List.FromFn.{map-range_with_len_more, take-map-range_with_len}
 use Rattle.std.proofs.lemmas.Slice.{take-put_mid}
 use Rattle.std.proofs.lemmas.Slice.Eq.{bytes_eq-Decides}
 use borrow.Rule.Slice.PartMut.{put_mid, same_len_mid}

@@ -1,5 +1,7 @@
 -- Lemmas on what encoding answers, and that decoding gives back what was encoded.
-use Rattle.std.proofs.Common.{◌≡◌, ℕ, zero, suc, ◌+◌, ◌*◌, ◌<◌, ◌≤◌, Bool, not, List, [], ◌∷◌, ◌++◌, length, map, take, drop, position, Option, Some, Result, Err, refl, sym, ap, ◌∙◌, subst, append-nil, arith, add-one}
+use Rattle.std.proofs.Common.{◌≡◌, ℕ, zero, suc, ◌+◌, ◌*◌, ◌<◌, ◌≤◌, Bool, not, List, [], ◌∷◌, ◌++◌}
+use Rattle.std.proofs.Common.{length, map, take, drop, position, Option, Some, Result, Err, refl}
+use Rattle.std.proofs.Common.{sym, ap, ◌∙◌, subst, append-nil, arith, add-one}
 use Rattle.std.specs.List.{flat_map, AllByRecursion}
 use Rattle.std.specs.Int.{div_ceil}
 use Rattle.std.proofs.Math.Seq.{take-add}
@@ -18,7 +20,8 @@ use Rattle.nx_fec.specs.declared.channel.Channel.TheVariants.{Zero}
 use Rattle.nx_fec.specs.Lines.{file_of, elements_on, IsBitFile}
 use Rattle.nx_fec.specs.BitLines.{bit_line, bit_lines}
 use Rattle.nx_fec.specs.Aligned.{aligned_text, words_of}
-use Rattle.nx_fec.specs.Emission.{bits_of, emission, framed_positions, sent_position, AreCombinations}
+use Rattle.nx_fec.specs.Emission.{bits_of, emission, framed_positions, sent_position}
+use Rattle.nx_fec.specs.Emission.{AreCombinations}
 use Rattle.nx_fec.specs.Runs.{IsEncoded, IsDecoded, ExplainsEncoding, spell_fault}
 use Rattle.nx_fec.specs.declared.fault.RunFault.{RunFault}
 use Rattle.nx_fec.specs.declared.fault.RunFault.TheVariants.{Read, Write}

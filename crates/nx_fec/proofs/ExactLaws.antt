@@ -1,11 +1,14 @@
 -- An answer that tells the outcome of a whole file is the only one that may be given to it.
-use Rattle.std.proofs.Common.{◌≡◌, ℕ, Bool, List, Option, None, Some, IfSome, Result, Ok, Err, MatchResult, IsErrAnd, ◌⊎◌, inl, inr, ap, ◌∙◌, refl}
+use Rattle.std.proofs.Common.{◌≡◌, ℕ, Bool, List, Option, None, Some, IfSome, Result, Ok, Err}
+use Rattle.std.proofs.Common.{MatchResult, IsErrAnd, ◌⊎◌, inl, inr, ap, ◌∙◌, refl}
 use Rattle.nx_fec.specs.Lines.{HasFault, IsBitFile}
 use Rattle.nx_fec.specs.Runs.{run_fault, ExplainsReading, IsOutside}
 use Rattle.nx_fec.specs.declared.fault.LineFault.{LineFault}
 use Rattle.nx_fec.specs.declared.fault.LineFault.TheVariants as file
 use Rattle.nx_fec.specs.declared.fault.RunFault.{RunFault}
-use Rattle.nx_fec.specs.declared.fault.RunFault.TheVariants.{Read, FileTooLong, LineLong, LineCut, BadLine, Ragged, NoSuchCharacter, Write, Memory}
+use Rattle.nx_fec.specs.declared.fault.RunFault.TheVariants.{Read, FileTooLong, LineLong, LineCut}
+use Rattle.nx_fec.specs.declared.fault.RunFault.TheVariants.{BadLine, Ragged, NoSuchCharacter}
+use Rattle.nx_fec.specs.declared.fault.RunFault.TheVariants.{Write, Memory}
 use Rattle.nx_fec.proofs.LineLaws.{HasFault-unique, IsAirFile-good, IsBitFile-unique}
 
 -- the fault of an answer is that of the file, or from outside

@@ -1,12 +1,16 @@
 -- The digits of a line of elements are its last bytes.
-use Rattle.std.proofs.Common.{◌≡◌, ℕ, ◌+◌, ◌-◌, ◌≤◌, Bool, List, [], ◌∷◌, ◌++◌, Option, Some, None, length, map, drop, sym, ap, ◌∙◌, subst, arith, append-nil, length-append}
+use Rattle.std.proofs.Common.{◌≡◌, ℕ, ◌+◌, ◌-◌, ◌≤◌, Bool, List, [], ◌∷◌, ◌++◌, Option, Some, None}
+use Rattle.std.proofs.Common.{length, map, drop, sym, ap, ◌∙◌, subst, arith, append-nil}
+use Rattle.std.proofs.Common.{length-append}
 use Rattle.std.proofs.lemmas.List.{length-map}
 use Rattle.std.proofs.Math.Seq.{drop-append_seam}
 use Rattle.nx_fec.specs.AirFile.{element_digit, mark_bytes}
 use Rattle.nx_fec.specs.private.Packing.{is_one}
 use Rattle.nx_fec.specs.private.ScannerKept.{IsKept, SpellsLine}
 use Rattle.nx_fec.specs.declared.air_file.LineKind.{LineKind}
-use Rattle.nx_fec.specs.declared.air_file.LineKind.TheVariants.{Moment, Elements, RefuseStation, AcceptStation, RefuseSubject, AcceptSubject}
+use Rattle.nx_fec.specs.declared.air_file.LineKind.TheVariants.{Moment, Elements, RefuseStation}
+use Rattle.nx_fec.specs.declared.air_file.LineKind.TheVariants.{AcceptStation, RefuseSubject}
+use Rattle.nx_fec.specs.declared.air_file.LineKind.TheVariants.{AcceptSubject}
 use Rattle.nx_fec.proofs.PackedLemmas.{ones-spelled}
 
 -- these are the elements of the last bytes

@@ -1,6 +1,9 @@
 -- Laws of lines and of files of lines: one spelling for each line, one reading of each file, one
 -- outcome.
-use Rattle.std.proofs.Common.{◌≡◌, ◌≢◌, ℕ, suc, ◌<◌, ◌≤◌, Bool, true, false, List, [], ◌∷◌, ◌++◌, length, map, drop, get_or, if◌then◌else◌, nat_eq, refl, sym, ap, ◌∙◌, subst, inl, inr, append_assoc, append-nil, arith, ◌⊎◌, ◌+◌, Option, Some, None}
+use Rattle.std.proofs.Common.{◌≡◌, ◌≢◌, ℕ, suc, ◌<◌, ◌≤◌, Bool, true, false, List, [], ◌∷◌, ◌++◌}
+use Rattle.std.proofs.Common.{length, map, drop, get_or, if◌then◌else◌, nat_eq, refl, sym, ap, ◌∙◌}
+use Rattle.std.proofs.Common.{subst, inl, inr, append_assoc, append-nil, arith, ◌⊎◌, ◌+◌, Option}
+use Rattle.std.proofs.Common.{Some, None}
 use Rattle.std.specs.List.{flat_map, AllByRecursion}
 use Rattle.std.specs.Fmt.{decimal}
 use Rattle.std.specs.Str.Parse.{digits_value}
@@ -8,8 +11,11 @@ use Rattle.std.proofs.lemmas.Fmt.{decimal_is_IsNumeral, length-decimal-le}
 use Rattle.std.proofs.lemmas.List.{length-append, length-map, same_from_push}
 use Rattle.std.proofs.lemmas.List.Concat.{flat_map-append}
 use Rattle.nx_fec.proofs.Digits.{AreDigits, decimal-digits}
-use Rattle.nx_fec.specs.AirFile.{Line, moment, elements, refuse_station, accept_station, refuse_subject, accept_subject, element_digit, mark_bytes, with_mark, spelling, IsLine}
-use Rattle.nx_fec.specs.Lines.{IsAtByte, line_bytes, file_of, IsBeginning, Splits, IsCause, HasFault, IsAirFile, IsBitFile, elements_on, line_end}
+use Rattle.nx_fec.specs.AirFile.{Line, moment, elements, refuse_station, accept_station}
+use Rattle.nx_fec.specs.AirFile.{refuse_subject, accept_subject, element_digit, mark_bytes}
+use Rattle.nx_fec.specs.AirFile.{with_mark, spelling, IsLine}
+use Rattle.nx_fec.specs.Lines.{IsAtByte, line_bytes, file_of, IsBeginning, Splits, IsCause}
+use Rattle.nx_fec.specs.Lines.{HasFault, IsAirFile, IsBitFile, elements_on, line_end}
 use Rattle.nx_code.specs.Reading.{IsCapital}
 use Rattle.nx_fec.specs.declared.channel.Channel.{Channel}
 use Rattle.nx_fec.specs.declared.channel.Channel.TheVariants.{Zero, One, Two}

@@ -1,5 +1,8 @@
 -- A run over lines, step by step.
-use Rattle.std.proofs.Common.{◌≡◌, ◌↔◌, IsErrOf, ℕ, ◌<◌, ◌≤◌, length, take, drop, option_to_list, true, false, ◌⊎◌, inl, inr, Option, None, Some, IfSome, Result, Ok, Err, List, [], ◌∷◌, ◌++◌, refl, sym, ap, ◌∙◌, subst, append_assoc, append-nil, arith}
+use Rattle.std.proofs.Common.{◌≡◌, ◌↔◌, IsErrOf, ℕ, ◌<◌, ◌≤◌, length, take, drop, option_to_list}
+use Rattle.std.proofs.Common.{true, false, ◌⊎◌, inl, inr, Option, None, Some, IfSome, Result, Ok}
+use Rattle.std.proofs.Common.{Err, List, [], ◌∷◌, ◌++◌, refl, sym, ap, ◌∙◌, subst, append_assoc}
+use Rattle.std.proofs.Common.{append-nil, arith}
 use Rattle.std.specs.List.{AllByRecursion}
 use Rattle.std.specs.Option.{is_some}
 use Rattle.std.specs.Io.KnownBytes.{Appends, Consumes, IsAtEnd}
@@ -7,8 +10,11 @@ use Rattle.std.proofs.lemmas.List.{length-append}
 use Rattle.std.proofs.lemmas.List.Concat.{flat_map-append}
 use Rattle.nx_fec.specs.AirFile.{Line, IsLine, spelling}
 use Rattle.nx_fec.specs.Transfers.{HasWritten, WroteSome, Devices, IsReadOut, Writes}
-use Rattle.nx_fec.specs.Lines.{IsAtByte, IsCause, IsLineRefused, Scanning, Scans, StopsIn, file_of, line_bytes, StopsAt}
-use Rattle.nx_fec.specs.LineRuns.{AnswersLines, Beginning, ExplainsLines, HasGiven, HasTaken, HasTakenAll, HasTakenSome, IsPlaced, Refusing, RunsLines, Standing, Waiting}
+use Rattle.nx_fec.specs.Lines.{IsAtByte, IsCause, IsLineRefused, Scanning, Scans, StopsIn, file_of}
+use Rattle.nx_fec.specs.Lines.{line_bytes, StopsAt}
+use Rattle.nx_fec.specs.LineRuns.{AnswersLines, Beginning, ExplainsLines, HasGiven, HasTaken}
+use Rattle.nx_fec.specs.LineRuns.{HasTakenAll, HasTakenSome, IsPlaced, Refusing, RunsLines}
+use Rattle.nx_fec.specs.LineRuns.{Standing, Waiting}
 use Rattle.nx_fec.specs.private.LineTaking.{IsTaking}
 use Rattle.nx_fec.specs.Scanner.{kind_kept}
 use Rattle.nx_fec.specs.declared.air_file.LineKind.{LineKind}
@@ -159,7 +165,8 @@ last-within limit s bytes lines line scans =
       length-append (file_of lines) (spelling line),
     )
 
-StopsAt-map : (bytes : List ℕ) (P Q : List Line → List ℕ → List ℕ → Type 0)
+-- what a run stops at, where what is said there says more
+pub StopsAt-map : (bytes : List ℕ) (P Q : List Line → List ℕ → List ℕ → Type 0)
     → ((lines : List Line) (rest more : List ℕ) → P lines rest more → Q lines rest more)
     → StopsAt bytes P → StopsAt bytes Q
 StopsAt-map bytes P Q f h = record {

@@ -1,17 +1,21 @@
 -- The digits of elements at the front of bytes.
-use Rattle.std.proofs.Common.{◌≡◌, ℕ, zero, suc, ◌+◌, ◌-◌, ◌*◌, ◌^◌, ◌<◌, ◌≤◌, ◌==◌, set, cond, Bool, true, false, List, [], ◌∷◌, length, map, take, get_or, max, ◌||◌, ◌&&◌, refl, sym, ap, ◌∙◌, arith, bit_or, w64}
+use Rattle.std.proofs.Common.{◌≡◌, ℕ, zero, suc, ◌+◌, ◌-◌, ◌*◌, ◌^◌, ◌<◌, ◌≤◌, ◌==◌, set, cond}
+use Rattle.std.proofs.Common.{Bool, true, false, List, [], ◌∷◌, length, map, take, get_or, max}
+use Rattle.std.proofs.Common.{◌||◌, ◌&&◌, refl, sym, ap, ◌∙◌, arith, bit_or, w64}
 use Rattle.std.specs.Int.{bit_at, trailing_ones}
 use Rattle.std.specs.Simd.Lanes.{mask_l}
 use Rattle.std.proofs.lemmas.Bool.{cases_lt}
-use Rattle.std.proofs.lemmas.List.{get_or-take, get_or_past, length-map, length-take-le, take-map, take-take}
+use Rattle.std.proofs.lemmas.List.{get_or-take, get_or_past, length-map, length-take-le, take-map}
+use Rattle.std.proofs.lemmas.List.{take-take}
 use Rattle.std.proofs.lemmas.Nat.Bits.{bit_at-trailing_ones, bit_at_ones, bit_at_or}
 use Rattle.std.proofs.lemmas.Simd.{bit_mask_l}
 use Rattle.std.proofs.Math.ListN.{get_or-map}
 use Rattle.std.proofs.Math.Logic.{⊎_elim}
 use Rattle.nx_code.specs.Packed.{elements_of_words}
 use Rattle.nx_code.specs.Word.{elements_from}
+use Rattle.nx_code.proofs.PackedLemmas.{elements_from-take}
 use Rattle.nx_fec.specs.private.Packing.{are_elements, is_element, is_one}
-use Rattle.nx_fec.proofs.PackedLemmas.{elements-mask, fewer-elements, words-set}
+use Rattle.nx_fec.proofs.PackedLemmas.{elements-mask, words-set}
 
 -- bytes of which each is a digit
 elements-to : (bytes : List ℕ) (n : ℕ)
@@ -64,8 +68,8 @@ ones-front bytes size ones count long few o within =
     let whole : elements_from size ones ≡ bits =
     ap (elements_from size) o ∙ ap (λ n. elements_from n (mask_l bits)) (sym wide)
     ∙ elements-mask bits in
-    fewer-elements count 64 ones (omega (arith, within, few))
-    ∙ sym (fewer-elements count size ones within)
+    elements_from-take count 64 ones (omega (arith, within, few))
+    ∙ sym (elements_from-take count size ones within)
     ∙ ap (take count) whole
     ∙ take-map is_one count (take size bytes)
     ∙ ap (map is_one) (take-take count size bytes within)

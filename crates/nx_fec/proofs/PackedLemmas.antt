@@ -1,22 +1,23 @@
 -- Elements that are packed into words of 64, and the digits that they are read from.
-use Rattle.std.proofs.Common.{◌≡◌, ℕ, zero, suc, ◌+◌, ◌*◌, ◌/◌, ◌%◌, ◌<◌, ◌≤◌, ◌==◌, cond, Bool, true, false, List, [], ◌∷◌, ◌++◌, length, map, take, drop, set, replicate, ◌&&◌, ◌||◌, ◌^◌, ◌-◌, ◌≢◌, IsTrue, refl, sym, ap, ◌∙◌, subst, arith, append_assoc, length-append, take-append-drop}
+use Rattle.std.proofs.Common.{◌≡◌, ℕ, zero, suc, ◌+◌, ◌*◌, ◌/◌, ◌%◌, ◌<◌, ◌≤◌, ◌==◌, cond, Bool}
+use Rattle.std.proofs.Common.{true, false, List, [], ◌∷◌, ◌++◌, length, map, take, drop, set}
+use Rattle.std.proofs.Common.{replicate, ◌&&◌, ◌||◌, ◌^◌, ◌-◌, ◌≢◌, IsTrue, refl, sym, ap, ◌∙◌}
+use Rattle.std.proofs.Common.{subst, arith, append_assoc, length-append, take-append-drop}
 use mir.Val.{bool_byte}
 use Rattle.std.specs.Simd.Lanes.{mask_l}
+use Rattle.std.specs.Cmp.{both_ways}
 use Rattle.std.proofs.lemmas.Bool.{eq-eqb, eqb-true}
-use Rattle.std.proofs.lemmas.List.{length-drop, length-map, length-take-le, map-append, set_split, take-append-le, take_all, take_rest}
+use Rattle.std.proofs.lemmas.List.{length-drop, length-map, length-take-le, map-append, set_split}
+use Rattle.std.proofs.lemmas.List.{take-append-le, take_all, take_rest}
 use Rattle.std.proofs.lemmas.List.Folds.{list_all-append}
 use Rattle.std.proofs.lemmas.Simd.{mask_l-lt}
 use Rattle.std.proofs.Math.Nat.{pow-le-pow_right, pow-suc}
 use Rattle.std.proofs.Math.Seq.{take-add, take-append-add, take-append_seam}
 use Rattle.nx_code.specs.Packed.{elements_of_words}
 use Rattle.nx_code.specs.Word.{elements_from}
+use Rattle.nx_code.proofs.PackedLemmas.{elements_from-take, length-elements_from, length-words}
 use Rattle.nx_fec.specs.AirFile.{element_digit}
 use Rattle.nx_fec.specs.private.Packing.{are_elements, is_element, is_one}
-
-pub length-elements_from : (count number : ℕ) → length (elements_from count number) ≡ count
-unfolding elements_from
-length-elements_from zero number = refl
-length-elements_from (suc count) number = ap (λ n. suc n) (length-elements_from count (number / 2))
 
 -- the elements of a mask are its list
 pub elements-mask : (bits : List Bool) → elements_from (length bits) (mask_l bits) ≡ bits
@@ -41,18 +42,6 @@ unfolding elements_of_words
 words-append [] b = refl
 words-append (w ∷ a) b = ap (λ l. elements_from 64 w ++ l) (words-append a b)
     ∙ sym (append_assoc (elements_from 64 w) (elements_of_words a) (elements_of_words b))
-
-pub length-words : (words : List ℕ) → length (elements_of_words words) ≡ 64 * length words
-unfolding elements_of_words
-length-words [] = refl
-length-words (w ∷ words) =
-    omega (
-      arith,
-      length-append (elements_from 64 w) (elements_of_words words),
-      length-elements_from
-          64 w,
-      length-words words,
-    )
 
 -- one word first
 words-first : (w : ℕ) (words : List ℕ) (n : ℕ) → n ≤ 64
@@ -87,11 +76,6 @@ words-set words at w n below few =
     ∙ ap (λ l. l ++ take n (elements_from 64 w)) (sym before)
 
 -- ---- the masks of the digits 0 and 1
-
-bool-same : (a b : Bool) → (a ≡ true → b ≡ true) → (b ≡ true → a ≡ true) → a ≡ b
-bool-same true b there here = sym (there refl)
-bool-same false true there here = here refl
-bool-same false false there here = refl
 
 -- so far two masks have no place in common, and all places exactly where each test is met
 abbrev Fill : Bool → ℕ → ℕ → ℕ → Type 0
@@ -131,7 +115,7 @@ pub masks-full : (digits : List ℕ) (noughts marks : ℕ) → length digits ≡
 masks-full digits noughts marks size z o =
     let h = digits-Fill digits in
     let places : 2 ^ length digits ≡ 18446744073709551616 = ap (λ n. 2 ^ n) size in
-    bool-same (noughts == 18446744073709551615 - marks) (are_elements digits)
+    both_ways (noughts == 18446744073709551615 - marks) (are_elements digits)
     (λ e. h.2 (omega (arith, eqb-true noughts (18446744073709551615 - marks) e, z, o, places, h.0)))
     (λ e. eq-eqb noughts (18446744073709551615 - marks) (omega (arith, h.1 e, z, o, places)))
 
@@ -305,20 +289,11 @@ packed-bits digits (b ∷ bits) packed false spelled few found none unread =
 
 -- ---- a few digits, the last one first
 
--- fewer elements of a number than there are
-pub fewer-elements : (n m number : ℕ) → n ≤ m
-    → take n (elements_from m number) ≡ elements_from n number
-unfolding elements_from
-fewer-elements zero m number h = refl
-fewer-elements (suc n) zero number h = absurd (omega (arith, h))
-fewer-elements (suc n) (suc m) number h =
-    ap (λ l. (number % 2 == 1) ∷ l) (fewer-elements n m (number / 2) (omega (arith, h)))
-
 pub few-elements : (digits : List ℕ) (ones : ℕ) → length digits ≤ 64
     → ones ≡ mask_l (map is_one digits)
     → take (length digits) (elements_from 64 ones) ≡ map is_one digits
 few-elements digits ones few o =
-    fewer-elements (length digits) 64 ones few
+    elements_from-take (length digits) 64 ones few
     ∙ ap (λ n. elements_from n ones) (sym (length-map digits is_one))
     ∙ ap (elements_from (length (map is_one digits))) o ∙ elements-mask (map is_one digits)
 

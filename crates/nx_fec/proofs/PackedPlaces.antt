@@ -1,9 +1,10 @@
 -- The elements of packed ones at a place.
-use Rattle.std.proofs.Common.{◌≡◌, ℕ, ◌+◌, ◌-◌, ◌*◌, ◌==◌, ◌%◌, ◌≤◌, ◌<◌, Bool, List, [], ◌∷◌, length, take, drop, sym, ap, ◌∙◌, arith}
+use Rattle.std.proofs.Common.{◌≡◌, ℕ, ◌+◌, ◌-◌, ◌*◌, ◌==◌, ◌%◌, ◌≤◌, ◌<◌, Bool, List, [], ◌∷◌}
+use Rattle.std.proofs.Common.{length, take, drop, sym, ap, ◌∙◌, arith}
 use Rattle.std.proofs.lemmas.List.{drop-take, length-take, take-take}
 use Rattle.nx_code.specs.Packed.{elements_of_words}
 use Rattle.nx_code.specs.Word.{elements_from}
-use Rattle.nx_fec.proofs.PackedLemmas.{length-words}
+use Rattle.nx_code.proofs.PackedLemmas.{length-words}
 
 -- there are at most as many elements as the words hold
 pub few_packed : (bits : List Bool) (words : List ℕ)

@@ -1,5 +1,7 @@
 -- What the words of the table count as, and the latest three of more words.
-use Rattle.std.proofs.Common.{inl, inr, ◌≡◌, ℕ, ◌+◌, ◌-◌, ◌<◌, ◌≤◌, refl, sym, ap, ◌∙◌, subst, nat_lt, if◌then◌else◌, Bool, true, false, eqb, Option, Some, None, List, [], ◌∷◌, ◌++◌, length, get_or, drop, arith, length-append}
+use Rattle.std.proofs.Common.{inl, inr, ◌≡◌, ℕ, ◌+◌, ◌-◌, ◌<◌, ◌≤◌, refl, sym, ap, ◌∙◌, subst}
+use Rattle.std.proofs.Common.{nat_lt, if◌then◌else◌, Bool, true, false, eqb, Option, Some, None}
+use Rattle.std.proofs.Common.{List, [], ◌∷◌, ◌++◌, length, get_or, drop, arith, length-append}
 use Rattle.std.proofs.lemmas.Bool.{agree_below_at, cases_lt, eqb-true}
 use Rattle.std.proofs.lemmas.Bool.Decides.{nat_tests}
 use Rattle.std.proofs.lemmas.List.{drop-append-le, drop-drop, get_or-drop}
@@ -12,7 +14,8 @@ use Rattle.nx_code.specs.Table.{table, words, place_of}
 use Rattle.nx_code.specs.Signal.{number_of_signal}
 use Rattle.nx_fec.specs.declared.diversity.Heard.TheVariants.{Intact}
 use Rattle.nx_code.specs.Classes.{class_at, class_of, paired, reception_of_class}
-use Rattle.nx_fec.specs.Pairing.{Counted, IsLatest, traffic, idle_signal, nothing, counts_as, heard_as, pairing, third_last}
+use Rattle.nx_fec.specs.Pairing.{Counted, IsLatest, traffic, idle_signal, nothing, counts_as}
+use Rattle.nx_fec.specs.Pairing.{heard_as, pairing, third_last}
 use Rattle.nx_fec.specs.private.WordClasses.{counted_by}
 
 -- whether two words count alike
@@ -69,13 +72,14 @@ counts_as-number_of_signal Alpha = counts_as-words 32 (omega arith)
 counts_as-number_of_signal Beta = counts_as-words 33 (omega arith)
 counts_as-number_of_signal Repeat = counts_as-words 34 (omega arith)
 
-weight-words : (at : ℕ) → at < 35 → weight (get_or words at 0) ≡ 4
+-- the words of the table have weight four
+pub weight-words : (at : ℕ) → at < 35 → weight (get_or words at 0) ≡ 4
 unfolding table words weight elements elements_from
 weight-words at h = eqb-true (weight (get_or words at 0)) 4
     (agree_below_at (λ k. eqb (weight (get_or words k 0)) 4) (λ _. true) 35 at refl h)
 
 -- a word that is found in the table has weight four
-weight-found : (word at : ℕ) → place_of word ≡ Some at → weight word ≡ 4
+pub weight-found : (word at : ℕ) → place_of word ≡ Some at → weight word ≡ 4
 unfolding table words place_of
 weight-found word at h =
     let found = position-Some (λ n. eqb n word) words at 0 h in

@@ -1,7 +1,11 @@
 -- What is decoded of the elements of an emission.
-use Rattle.std.proofs.Common.{◌≡◌, ℕ, suc, zero, ◌+◌, ◌-◌, ◌*◌, ◌/◌, ◌%◌, ◌^◌, ◌<◌, ◌≤◌, refl, sym, ap, subst, ◌∙◌, Bool, true, eqb, cond, List, [], ◌∷◌, ◌++◌, length, map, replicate, get_or, take, drop, arith, eq-eqb, length-append, length-take, length-drop}
+use Rattle.std.proofs.Common.{◌≡◌, ℕ, suc, zero, ◌+◌, ◌-◌, ◌*◌, ◌/◌, ◌%◌, ◌^◌, ◌<◌, ◌≤◌, refl, sym}
+use Rattle.std.proofs.Common.{ap, subst, ◌∙◌, Bool, true, eqb, cond, List, [], ◌∷◌, ◌++◌, length}
+use Rattle.std.proofs.Common.{map, replicate, get_or, take, drop, arith, eq-eqb, length-append}
+use Rattle.std.proofs.Common.{length-take, length-drop}
 use Rattle.std.specs.List.{flat_map, range_with_len}
-use Rattle.std.proofs.lemmas.List.{drop-drop, flat_map_more, get_or-take, get_or-map, length-map, length-take-le, map-append, take_all, take_at}
+use Rattle.std.proofs.lemmas.List.{drop-drop, flat_map_more, get_or-take, get_or-map, length-map}
+use Rattle.std.proofs.lemmas.List.{length-take-le, map-append, take_all, take_at}
 use Rattle.std.proofs.lemmas.List.FromFn.{fill_by_all, map-range_with_len_more}
 use Rattle.std.proofs.lemmas.Nat.{pow_pos}
 use Rattle.std.proofs.Math.Nat.{pow-succ'}
@@ -16,10 +20,15 @@ use Rattle.nx_fec.specs.Pairing.{traffic, idle_signal, nothing, counts_as, pairi
 use Rattle.nx_fec.specs.Aligned.{word_in, words_of, taken_at, receptions, aligned_text}
 use Rattle.nx_code.specs.Table.{phasing_1, phasing_2}
 use Rattle.nx_code.proofs.TableLemmas.{traffic_word-is}
-use Rattle.nx_fec.specs.Emission.{SentPosition, sent_position, phasing_position, traffic_position, end_position, dx_word, rx_word, position_at, emission, IsEmission, bits_of, AreWords, AreCombinations, IsInCode, AreInCode, reception, framed_positions}
+use Rattle.nx_fec.specs.Emission.{SentPosition, sent_position, phasing_position, traffic_position}
+use Rattle.nx_fec.specs.Emission.{end_position, dx_word, rx_word, position_at, emission, IsEmission}
+use Rattle.nx_fec.specs.Emission.{bits_of, AreWords, AreCombinations, IsInCode, AreInCode}
+use Rattle.nx_fec.specs.Emission.{reception, framed_positions}
 use Rattle.nx_fec.proofs.PairingLemmas.{counts_as-words, counts_as-combination}
-use Rattle.nx_fec.proofs.AlignedLemmas.{length-words_of, get_or-words_of, five_before-early, five_before-late, taken_at-pairing}
-use Rattle.nx_fec.proofs.EmissionLemmas.{phasing_1-words, phasing_2-words, IsEmission-emission, AreWords-emission}
+use Rattle.nx_fec.proofs.AlignedLemmas.{length-words_of, get_or-words_of, five_before-early}
+use Rattle.nx_fec.proofs.AlignedLemmas.{five_before-late, taken_at-pairing}
+use Rattle.nx_fec.proofs.EmissionLemmas.{phasing_1-words, phasing_2-words, IsEmission-emission}
+use Rattle.nx_fec.proofs.EmissionLemmas.{AreWords-emission}
 
 -- a word has seven elements
 take-elements : (word : ℕ) (rest : List Bool) → take 7 (elements word ++ rest) ≡ elements word
@@ -112,10 +121,10 @@ AreWords-words_of bits slot h =
     (omega (arith, length-take 7 (drop (7 * slot) bits))))
 
 -- the words of a position count as what is taken of it
-counts_as-phasing_1 : counts_as phasing_1 ≡ idle_signal
+pub counts_as-phasing_1 : counts_as phasing_1 ≡ idle_signal
 counts_as-phasing_1 = ap counts_as (sym phasing_1-words) ∙ counts_as-words 32 (omega arith)
 
-counts_as-phasing_2 : counts_as phasing_2 ≡ idle_signal
+pub counts_as-phasing_2 : counts_as phasing_2 ≡ idle_signal
 counts_as-phasing_2 = ap counts_as (sym phasing_2-words) ∙ counts_as-words 34 (omega arith)
 
 eqb-refl : (n : ℕ) → eqb n n ≡ true

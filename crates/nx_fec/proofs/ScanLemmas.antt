@@ -1,7 +1,10 @@
 -- A scanner over the bytes of a piece.
-use Rattle.std.proofs.Common.{◌≡◌, ◌≢◌, ℕ, zero, suc, ◌+◌, ◌<◌, ◌≤◌, length, take, drop, get_or, option_to_list, Option, None, List, [], ◌∷◌, ◌++◌, sym, ap, ◌∙◌, subst, append_assoc, append-nil, arith}
+use Rattle.std.proofs.Common.{◌≡◌, ◌≢◌, ℕ, zero, suc, ◌+◌, ◌<◌, ◌≤◌, length, take, drop, get_or}
+use Rattle.std.proofs.Common.{option_to_list, Option, None, List, [], ◌∷◌, ◌++◌, sym, ap, ◌∙◌}
+use Rattle.std.proofs.Common.{subst, append_assoc, append-nil, arith}
 use Rattle.std.proofs.lemmas.Bool.{cases_eq}
-use Rattle.std.proofs.lemmas.List.{drop-append-le, drop_more, length-append, length-drop, length-take-le, take-append-drop, take-append-le, take_more}
+use Rattle.std.proofs.lemmas.List.{drop-append-le, drop_more, length-append, length-drop}
+use Rattle.std.proofs.lemmas.List.{length-take-le, take-append-drop, take-append-le, take_more}
 use Rattle.std.proofs.Math.Logic.{⊎_elim}
 use Rattle.nx_fec.specs.AirFile.{Line}
 use Rattle.nx_fec.specs.Lines.{IsCause, Scanning, Scans, StopsIn, file_of}

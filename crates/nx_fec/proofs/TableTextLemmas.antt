@@ -1,5 +1,6 @@
 -- The cells of the table are short, and its lines join to its text.
-use Rattle.std.proofs.Common.{◌≡◌, ℕ, ◌+◌, ◌<◌, ◌≤◌, true, leb, List, [], ◌∷◌, ◌++◌, length, take, get_or, refl, ap, ◌∙◌, append-nil, append_assoc}
+use Rattle.std.proofs.Common.{◌≡◌, ℕ, ◌+◌, ◌<◌, ◌≤◌, true, leb, List, [], ◌∷◌, ◌++◌, length, take}
+use Rattle.std.proofs.Common.{get_or, refl, ap, ◌∙◌, append-nil, append_assoc}
 use Rattle.std.specs.List.{flat_map}
 use Rattle.std.proofs.lemmas.Bool.{agree_below_at, leb-true}
 use Rattle.std.proofs.lemmas.List.{take_more, get_or-map}
@@ -51,7 +52,7 @@ number-row signal =
     get_or-map (λ (r : Row). r.word) table (place signal) (row 0x00 [] []) 0
     (rw length-table (place-lt signal))
 
--- a line, piece by piece
+-- a line of four parts, piece by piece
 pub line_parts : (t0 t1 t2 t3 t4 t5 t6 t7 t8 digits letters a b : List ℕ) → t1 ≡ t0 ++ digits
     → t2 ≡ t1 ++ 32 ∷ [] → t3 ≡ t2 ++ letters → t4 ≡ t3 ++ 32 ∷ [] → t5 ≡ t4 ++ a
     → t6 ≡ t5 ++ 32 ∷ []

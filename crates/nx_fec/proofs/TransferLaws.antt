@@ -1,5 +1,7 @@
 -- What a run says of its reader follows from what its reading said of it.
-use Rattle.std.proofs.Common.{◌≡◌, ◌≢◌, ◌↔◌, ◌∙◌, ℕ, arith, List, [], ◌++◌, append-nil, ap, refl, subst, sym, Option, None, Some, IfSome, Result, Ok, Err, IfErr, IsErrOf}
+use Rattle.std.proofs.Common.{◌≡◌, ◌≢◌, ◌↔◌, ◌∙◌, ℕ, arith, List, [], ◌++◌, append-nil, ap, refl}
+use Rattle.std.proofs.Common.{subst, sym, Option, None, Some, IfSome, Result, Ok, Err, IfErr}
+use Rattle.std.proofs.Common.{IsErrOf}
 use Rattle.std.specs.Io.KnownBytes.{Consumes, IsAtEnd}
 use Rattle.nx_fec.proofs.ReadingLaws.{Err-same, IfSome-always}
 use Rattle.nx_fec.specs.Transfers.{CountedDevice, Reads, ReadsToEnd, Writes}

@@ -1,20 +1,22 @@
 -- The names and the lines of words.
-use Rattle.std.proofs.Common.{◌≡◌, ℕ, ◌+◌, ◌/◌, ◌<◌, true, eqb, eqb-true, List, [], ◌∷◌, ◌++◌, length, map, codes, get_or, Option, None, Some, refl, sym, ap, ◌∙◌, arith, append-nil, append_assoc, subst, ◌%◌, Bool}
+use Rattle.std.proofs.Common.{◌≡◌, ℕ, ◌+◌, ◌/◌, List, [], ◌∷◌, ◌++◌, length, map, codes, get_or}
+use Rattle.std.proofs.Common.{Option, None, Some, refl, sym, ap, ◌∙◌, arith, append-nil, subst, ◌%◌}
+use Rattle.std.proofs.Common.{Bool}
 use Rattle.std.specs.Option.{option_map_or}
 use Rattle.std.specs.List.{flat_map, range_with_len}
 use Rattle.std.proofs.lemmas.List.Concat.{flat_map-append}
 use Rattle.std.proofs.lemmas.List.FromFn.{map-range_with_len_more}
-use Rattle.std.proofs.lemmas.Bool.{agree_below_at}
 use Rattle.nx_code.specs.Table.{row, table, words, place_of}
 use Rattle.nx_code.specs.Signal.{place, number_of_signal}
 use Rattle.nx_code.specs.declared.signals.Signal.{Signal}
-use Rattle.nx_code.specs.Word.{weight, elements, elements_from}
-use Rattle.nx_code.proofs.TableLemmas.{place-lt, place_of-words, place_of-Some}
+use Rattle.nx_code.specs.Word.{weight}
+use Rattle.nx_code.proofs.TableLemmas.{place-lt, place_of-words}
 use Rattle.nx_fec.specs.WordLines.{first_word_lines, word_line, word_lines, word_name}
 use Rattle.nx_fec.specs.Aligned.{words_of}
 use Rattle.nx_fec.specs.Lines.{IsBitFile}
 use Rattle.nx_fec.specs.Runs.{IsShown}
 use Rattle.nx_fec.proofs.AlignedLemmas.{length-words_of}
+use Rattle.nx_fec.proofs.PairingLemmas.{weight-found}
 
 -- the name of the word of a signal
 pub name-signal : (signal : Signal) (word : ℕ) → number_of_signal signal ≡ word
@@ -25,16 +27,9 @@ name-signal signal word h =
     ap place_of (sym h) ∙ place_of-words (place signal) (place-lt signal) in
     ap (λ o. option_map_or (λ at. (get_or table at (row 0x00 [] [])).letter) o (codes "wrong")) at
 
-weights : (at : ℕ) → at < 35 → eqb (weight (get_or words at 0)) 4 ≡ true
-unfolding weight elements elements_from table words
-weights at h = agree_below_at (λ k. eqb (weight (get_or words k 0)) 4) (λ _. true) 35 at refl h
-
 nowhere : (word : ℕ) (o : Option ℕ) → place_of word ≡ o → (weight word ≡ 4 → ⊥) → o ≡ None
 nowhere word None e h = refl
-nowhere word (Some at) e h =
-    let p = place_of-Some word at e in
-    absurd (h (subst (λ w. weight w ≡ 4) p.1
-    (eqb-true (weight (get_or words at 0)) 4 (weights at p.0))))
+nowhere word (Some at) e h = absurd (h (weight-found word at e))
 
 -- and that of another word
 pub name-wrong : (word : ℕ) → (weight word ≡ 4 → ⊥) → word_name word ≡ codes "wrong"
@@ -42,14 +37,6 @@ unfolding word_name
 name-wrong word h =
     ap (λ o. option_map_or (λ at. (get_or table at (row 0x00 [] [])).letter) o (codes "wrong"))
     (nowhere word (place_of word) refl h)
-
--- a line, piece by piece
-pub word_line-parts : (t0 t1 t2 t3 t4 t5 t6 t7 t8 slot role digits name : List ℕ) → t1 ≡ t0 ++ slot
-    → t2 ≡ t1 ++ 32 ∷ [] → t3 ≡ t2 ++ role → t4 ≡ t3 ++ 32 ∷ []
-    → t5 ≡ t4 ++ digits → t6 ≡ t5 ++ 32 ∷ [] → t7 ≡ t6 ++ name → t8 ≡ t7 ++ 10 ∷ []
-    → t8 ≡ t0 ++ (slot ++ 32 ∷ role ++ 32 ∷ digits ++ 32 ∷ name ++ 10 ∷ [])
-word_line-parts t0 t1 t2 t3 t4 t5 t6 t7 t8 slot role digits name i1 i2 i3 i4 i5 i6 i7 i8 =
-    rw (i8, i7, i6, i5, i4, i3, i2, i1) (simp append_assoc refl)
 
 -- one line more
 pub first_word_lines-more : (words : List ℕ) (count word : ℕ) → word ≡ get_or words count 0

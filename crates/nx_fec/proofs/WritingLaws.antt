@@ -1,17 +1,21 @@
 -- Lemmas on what a writer holds while lines of elements are written to it in batches.
-use Rattle.std.proofs.Common.{◌≡◌, ℕ, ◌+◌, ◌-◌, ◌*◌, ◌^◌, ◌<◌, ◌≤◌, min, Bool, List, [], ◌∷◌, ◌++◌, length, map, take, drop, set, get_or, false, sym, ap, ◌∙◌, subst, append_assoc, append-nil, arith, Option, None}
+use Rattle.std.proofs.Common.{◌≡◌, ℕ, ◌+◌, ◌-◌, ◌*◌, ◌^◌, ◌<◌, ◌≤◌, min, Bool, List, [], ◌∷◌, ◌++◌}
+use Rattle.std.proofs.Common.{length, map, take, drop, set, get_or, false, sym, ap, ◌∙◌, subst}
+use Rattle.std.proofs.Common.{append_assoc, append-nil, arith, Option, None}
 use Rattle.std.specs.List.{range_with_len}
 use Rattle.std.specs.Int.{div_ceil}
 use Rattle.std.specs.Io.KnownBytes.{Appends}
 use Rattle.std.proofs.KnownBytes.{Appends-trans}
 use Rattle.std.proofs.Math.Seq.{take-add, take-append-add}
-use Rattle.std.proofs.lemmas.List.{take_rest, length-append, take-append-drop, take-append-le, take_min, take_more, take_more_set, map-append}
+use Rattle.std.proofs.lemmas.List.{take_rest, length-append, take-append-drop, take-append-le}
+use Rattle.std.proofs.lemmas.List.{take_min, take_more, take_more_set, map-append}
 use Rattle.std.proofs.lemmas.List.Concat.{flat_map-append}
 use Rattle.std.proofs.lemmas.List.FromFn.{map-range_with_len_more, take-map-range_with_len}
 use Rattle.nx_fec.specs.AirFile.{Line, element_digit, elements}
 use Rattle.nx_fec.specs.Lines.{line_bytes, file_of}
 use Rattle.nx_fec.specs.BitLines.{bit_line, bit_lines}
 use Rattle.nx_fec.specs.Transfers.{HasWritten, WroteSome}
+use Rattle.nx_fec.proofs.LineRunLemmas.{file_of-one}
 
 -- the next bytes of a list, after those up to an index
 pub Appends-next : (a b c : Option (List ℕ)) (bytes : List ℕ) (at count : ℕ)
@@ -35,12 +39,6 @@ pub record Batched (old now : Option (List ℕ)) (bits : List Bool) (index sent 
   pub written : HasWritten old now done sent
   pub bytes : done ++ batch ≡ file_of (first_lines bits index)
 
-file_of-push : (lines : List Line) (line : Line)
-    → file_of (lines ++ line ∷ []) ≡ file_of lines ++ line_bytes line
-file_of-push lines line =
-    flat_map-append line_bytes lines (line ∷ [])
-    ∙ ap (λ l. file_of lines ++ l) (append-nil (line_bytes line))
-
 -- the elements of a line, as the code takes them
 pub line-is : (bits : List Bool) (i : ℕ) → let rest =
     take (length bits - 490 * i) (drop (490 * i) bits) in
@@ -60,7 +58,7 @@ Batched-more old now bits index sent batch more line h added same = record {
   bytes = ap (λ l. h.done ++ l) added ∙ sym (append_assoc h.done batch (line_bytes line))
       ∙ ap (λ l. l ++ line_bytes line) h.bytes
       ∙ ap (λ x. file_of (first_lines bits index) ++ line_bytes x) same
-      ∙ sym (file_of-push (first_lines bits index) (bit_line bits index))
+      ∙ sym (file_of-one (first_lines bits index) (bit_line bits index))
       ∙ sym (ap file_of (map-range_with_len_more (bit_line bits) 0 index index (omega arith)));
 }
 

@@ -1,5 +1,7 @@
 -- What the conditions of entering keep of the entries.
-use Rattle.std.proofs.Common.{◌≡◌, ℕ, ◌+◌, ◌-◌, ◌<◌, ◌≤◌, zero, suc, true, false, List, [], ◌∷◌, ◌++◌, length, drop, slice_get, unwrap_or, ltb, inl, inr, sym, ap, ◌∙◌, subst, arith}
+use Rattle.std.proofs.Common.{◌≡◌, ℕ, ◌+◌, ◌-◌, ◌<◌, ◌≤◌, zero, suc, true, false, List, [], ◌∷◌}
+use Rattle.std.proofs.Common.{◌++◌, length, drop, slice_get, unwrap_or, ltb, inl, inr, sym, ap, ◌∙◌}
+use Rattle.std.proofs.Common.{subst, arith}
 use Rattle.std.specs.List.{All}
 use Rattle.std.specs.Option.{option_map}
 use Rattle.std.proofs.lemmas.Bool.{and_cases, or_parts, ltb-false, true≢false}
@@ -9,7 +11,8 @@ use Rattle.nx_envelope.specs.declared.identity.Identity.{Identity}
 use Rattle.nx_envelope.specs.Identity.{same_identity}
 use Rattle.nx_memory.specs.declared.entry.MemoryEntry.{MemoryEntry}
 use Rattle.nx_memory.specs.Content.{IsLater, AreInTurn, IsContent}
-use Rattle.nx_memory.specs.Memory.{most_entries, seconds_known, newest_moment, content_after, is_recent, is_known}
+use Rattle.nx_memory.specs.Memory.{most_entries, seconds_known, newest_moment, content_after}
+use Rattle.nx_memory.specs.Memory.{is_recent, is_known}
 
 -- what holds of each of a list and of one more
 All-one : {X : Type 0} (P : X → Type 0) (x : X) → P x → All P (x ∷ [])

@@ -1,5 +1,6 @@
 -- The definitions of the memory, evaluated on worked examples.
-use Rattle.std.specs.Prelude.{◌≡◌, ℕ, true, false, List, [], ◌∷◌, ◌++◌, map, codes, Some, None, refl}
+use Rattle.std.specs.Prelude.{◌≡◌, ℕ, true, false, List, [], ◌∷◌, ◌++◌, map, codes, Some, None}
+use Rattle.std.specs.Prelude.{refl}
 use Rattle.std.specs.Fmt.{digits}
 use Rattle.std.specs.FinSet as set
 use Rattle.std.proofs.Common.{lit≤, ap}

@@ -1,8 +1,10 @@
 -- Which entries make an identity known.
-use Rattle.std.proofs.Common.{◌≡◌, ℕ, ◌+◌, ◌-◌, ◌<◌, Bool, true, false, ◌||◌, List, [], ◌∷◌, ◌++◌, length, take, drop, ltb, refl, sym, ap, ◌∙◌, subst, arith}
+use Rattle.std.proofs.Common.{◌≡◌, ℕ, ◌+◌, ◌-◌, ◌<◌, Bool, true, false, ◌||◌, List, [], ◌∷◌, ◌++◌}
+use Rattle.std.proofs.Common.{length, take, drop, ltb, refl, sym, ap, ◌∙◌, subst, arith}
 use Rattle.std.specs.List.{list_any}
 use Rattle.std.proofs.lemmas.Bool.{and_parts, and_from, or_left, or_right, ltb-true, lt-ltb}
-use Rattle.std.proofs.lemmas.List.{take-append-drop, drop-append-le, length-drop, length-append, append_assoc}
+use Rattle.std.proofs.lemmas.List.{take-append-drop, drop-append-le, length-drop, length-append}
+use Rattle.std.proofs.lemmas.List.{append_assoc}
 use Rattle.std.proofs.lemmas.List.Folds.{list_any-append}
 use Rattle.nx_code.specs.Lists.{last_of}
 use Rattle.nx_envelope.specs.declared.identity.Identity.{Identity}

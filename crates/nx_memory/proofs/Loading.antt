@@ -1,5 +1,7 @@
 -- What of a list that stands in turn was entered before one of its entries.
-use Rattle.std.proofs.Common.{◌≡◌, ℕ, ◌+◌, ◌-◌, ◌<◌, ◌≤◌, zero, suc, true, false, ◌&&◌, ◌||◌, List, [], ◌∷◌, ◌++◌, length, take, drop, get_or, ltb, Option, Some, None, refl, sym, ap, ◌∙◌, subst, arith}
+use Rattle.std.proofs.Common.{◌≡◌, ℕ, ◌+◌, ◌-◌, ◌<◌, ◌≤◌, zero, suc, true, false, ◌&&◌, ◌||◌, List}
+use Rattle.std.proofs.Common.{[], ◌∷◌, ◌++◌, length, take, drop, get_or, ltb, Option, Some, None}
+use Rattle.std.proofs.Common.{refl, sym, ap, ◌∙◌, subst, arith}
 use Rattle.std.specs.List.{All}
 use Rattle.std.proofs.lemmas.Bool.{le-ltb}
 use Rattle.std.proofs.lemmas.List.{take_more, length-take}
@@ -9,7 +11,8 @@ use Rattle.nx_envelope.specs.declared.identity.Identity.{Identity}
 use Rattle.nx_envelope.specs.Identity.{same_identity}
 use Rattle.nx_memory.specs.declared.entry.MemoryEntry.{MemoryEntry}
 use Rattle.nx_memory.specs.Content.{IsLater, AreInTurn, IsContent}
-use Rattle.nx_memory.specs.Memory.{most_entries, seconds_known, newest_moment, content_after, is_recent, is_known, entry_at}
+use Rattle.nx_memory.specs.Memory.{most_entries, seconds_known, newest_moment, content_after}
+use Rattle.nx_memory.specs.Memory.{is_recent, is_known, entry_at}
 use Rattle.nx_memory.proofs.Content.{All-tail, newest_behind}
 
 -- each entry is later than all that stand before it

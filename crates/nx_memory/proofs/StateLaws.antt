@@ -1,10 +1,12 @@
 -- A text of a state stands for one state, and no text begins another.
-use Rattle.std.proofs.Common.{◌≡◌, ◌≢◌, ℕ, ◌+◌, ◌<◌, ◌≤◌, zero, suc, Bool, true, false, ◌||◌, cond, List, [], ◌∷◌, ◌++◌, length, map, codes, eqb, inl, inr, refl, sym, ap, ◌∙◌, subst, append_assoc, arith}
+use Rattle.std.proofs.Common.{◌≡◌, ◌≢◌, ℕ, ◌+◌, ◌<◌, ◌≤◌, zero, suc, Bool, true, false, ◌||◌, cond}
+use Rattle.std.proofs.Common.{List, [], ◌∷◌, ◌++◌, length, map, codes, eqb, inl, inr, refl, sym, ap}
+use Rattle.std.proofs.Common.{◌∙◌, subst, append_assoc, arith}
 use Rattle.std.specs.List.{AllByRecursion, filter, list_any, range_with_len}
 use Rattle.std.specs.Fmt.{decimal}
 use Rattle.std.specs.FinSet as set
 use Rattle.std.specs.Ordering.{nat_cmp}
-use Rattle.std.specs.Cmp.{nat_cmp_total}
+use Rattle.std.specs.Cmp.{both_ways, nat_cmp_total}
 use Rattle.std.specs.Str.Parse.{AllDigits}
 use Rattle.std.proofs.lemmas.Bool.{true≢false, cases_eq, eq-eqb, ne_eqb}
 use Rattle.std.proofs.lemmas.Fmt.{decimal_is_IsNumeral, length-decimal-le}
@@ -15,11 +17,14 @@ use Rattle.nx_memory.specs.declared.entry.MemoryEntry.{MemoryEntry}
 use Rattle.nx_memory.specs.declared.saved_line.SavedLine.{SavedLine}
 use Rattle.nx_memory.specs.declared.saved_line.SavedLine.TheVariants.{Station, Subject, Entry}
 use Rattle.nx_memory.specs.Letters.{HasLettersOnly}
-use Rattle.nx_memory.specs.Saved.{SavedState, SavedStates, IsSavedState, AreSavedStates, on_channel_0}
-use Rattle.nx_memory.specs.StateText.{spelling, rising, said, section, last_line, text_1, text_2, IsText1, IsText2, IsStateText, IsShortLine}
+use Rattle.nx_memory.specs.Saved.{SavedState, SavedStates, IsSavedState, AreSavedStates}
+use Rattle.nx_memory.specs.Saved.{on_channel_0}
+use Rattle.nx_memory.specs.StateText.{spelling, rising, said, section, last_line, text_1, text_2}
+use Rattle.nx_memory.specs.StateText.{IsText1, IsText2, IsStateText, IsShortLine}
 use Rattle.nx_memory.specs.private.StateReading.{IsSpelled}
 use Rattle.nx_memory.proofs.Rising.{rising-contains}
-use Rattle.nx_memory.proofs.StateLines.{IsGood, same_line, said_good, said_spelled, each_append, each_map, each_weaker}
+use Rattle.nx_memory.proofs.StateLines.{IsGood, same_line, said_good, said_spelled, each_append}
+use Rattle.nx_memory.proofs.StateLines.{each_map, each_weaker}
 use Rattle.nx_memory.proofs.StateTexts.{section_long, split, versions_differ}
 
 -- lines that are spelled alike are the same
@@ -121,16 +126,11 @@ listed_in s t letters same q there =
     (subst (λ (l : List ℕ). among q l ≡ true) same
     (among_picked (set.contains s) q 65 26 capital.0 (omega (arith, capital.1)) there))
 
-same_bool : (b c : Bool) → (b ≡ true → c ≡ true) → (c ≡ true → b ≡ true) → b ≡ c
-same_bool true c there back = sym (there refl)
-same_bool false true there back = back refl
-same_bool false false there back = refl
-
 same_letters : (s t : set.FinSet nat_cmp) → HasLettersOnly s → HasLettersOnly t
     → rising s ≡ rising t → s ≡ t
 same_letters s t letters_s letters_t same =
     set.same_set nat_cmp_total set.nat_cmp-IsAntisymmetric s t
-    (λ q. same_bool (set.contains s q) (set.contains t q) (listed_in s t letters_s same q)
+    (λ q. both_ways (set.contains s q) (set.contains t q) (listed_in s t letters_s same q)
     (listed_in t s letters_t (sym same) q))
 
 -- the lines of a channel stand for one thing
@@ -383,7 +383,8 @@ short_2 states are = (
         (section_short states.on_0 are.on_0) (
           words_short.3,
           each_append IsShortLine (section states.on_1)
-              (codes "C2" ∷ (section states.on_2 ++ last_line)) (section_short states.on_1 are.on_1) (
+              (codes "C2" ∷ (section states.on_2 ++ last_line))
+              (section_short states.on_1 are.on_1) (
                 words_short.4,
                 each_append IsShortLine (section states.on_2) last_line
                     (section_short states.on_2 are.on_2) (words_short.5, tt),

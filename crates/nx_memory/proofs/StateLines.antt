@@ -1,9 +1,12 @@
 -- The lines of a channel: what a further line has to be.
-use Rattle.std.proofs.Common.{◌≡◌, ◌≢◌, ℕ, ◌+◌, ◌-◌, ◌/◌, ◌%◌, ◌<◌, ◌≤◌, Bool, true, false, not, ◌&&◌, List, [], ◌∷◌, ◌++◌, length, map, get_or, drop, eqb, leb, refl, sym, ap, ◌∙◌, subst, append_assoc, arith}
+use Rattle.std.proofs.Common.{◌≡◌, ◌≢◌, ℕ, ◌+◌, ◌-◌, ◌/◌, ◌%◌, ◌<◌, ◌≤◌, Bool, true, false, not}
+use Rattle.std.proofs.Common.{◌&&◌, List, [], ◌∷◌, ◌++◌, length, map, get_or, drop, eqb, leb, refl}
+use Rattle.std.proofs.Common.{sym, ap, ◌∙◌, subst, append_assoc, arith}
 use Rattle.std.specs.List.{AllByRecursion}
 use Rattle.std.specs.Fmt.{decimal}
 use Rattle.std.specs.FinSet as set
-use Rattle.std.proofs.lemmas.Bool.{and_parts, and_from, eq-eqb, ltb-true, lt-ltb, leb-true, le-leb, true≢false}
+use Rattle.std.proofs.lemmas.Bool.{and_parts, and_from, eq-eqb, ltb-true, lt-ltb, leb-true, le-leb}
+use Rattle.std.proofs.lemmas.Bool.{true≢false}
 use Rattle.std.proofs.lemmas.Bool.Decides.{Decides-eqb}
 use Rattle.std.proofs.lemmas.Fmt.{decimal_injective}
 use Rattle.std.proofs.lemmas.List.{append-nil, length-append, map_push, nil_from_length}
@@ -25,7 +28,8 @@ use Rattle.nx_memory.specs.private.StateReading.{IsSpelled, IsRefused, is_behind
 use Rattle.nx_memory.proofs.Content.{none_later, newest_behind, content_after-IsContent}
 use Rattle.nx_memory.proofs.Letters.{letters_only-insert, without_vital-insert}
 use Rattle.nx_memory.proofs.Loading.{newest_within, unknown_within}
-use Rattle.nx_memory.proofs.Rising.{IsRising, rising-rises, rising-from_a, rising-to_z, rising-contains, rising-push}
+use Rattle.nx_memory.proofs.Rising.{IsRising, rising-rises, rising-from_a, rising-to_z}
+use Rattle.nx_memory.proofs.Rising.{rising-contains, rising-push}
 
 -- what holds of each of a list, by cases on it
 pub each_append : {X : Type 0} (P : X → Type 0) (xs ys : List X) → AllByRecursion P xs

@@ -1,5 +1,7 @@
 -- The text of a state: how far it was read, and what stands next.
-use Rattle.std.proofs.Common.{◌≡◌, ◌≢◌, ◌⊎◌, ℕ, ◌<◌, ◌≤◌, Bool, true, false, cond, List, [], ◌∷◌, ◌++◌, length, map, get_or, codes, Some, None, inl, inr, refl, sym, ap, ◌∙◌, subst, append_assoc, arith}
+use Rattle.std.proofs.Common.{◌≡◌, ◌≢◌, ◌⊎◌, ℕ, ◌<◌, ◌≤◌, Bool, true, false, cond, List, [], ◌∷◌}
+use Rattle.std.proofs.Common.{◌++◌, length, map, get_or, codes, Some, None, inl, inr, refl, sym, ap}
+use Rattle.std.proofs.Common.{◌∙◌, subst, append_assoc, arith}
 use Rattle.std.specs.List.{AllByRecursion}
 use Rattle.std.specs.Str.{bytes_eq}
 use Rattle.std.specs.FinSet as set
@@ -10,10 +12,14 @@ use Rattle.std.proofs.lemmas.Slice.Eq.{bytes_eq-Decides}
 use Rattle.nx_memory.specs.declared.saved_line.SavedLine.{SavedLine}
 use Rattle.nx_memory.specs.declared.saved_line.SavedLine.TheVariants.{Station, Subject, Entry}
 use Rattle.nx_memory.specs.declared.state_reader.Stage.{Stage}
-use Rattle.nx_memory.specs.declared.state_reader.Stage.TheVariants.{Start, Version1, Version2, Channel0, Channel1, Channel2}
-use Rattle.nx_memory.specs.Saved.{SavedState, SavedStates, IsSavedState, AreSavedStates, nothing_saved, on_channel_0}
-use Rattle.nx_memory.specs.StateText.{spelling, said, section, last_line, text_1, text_2, IsStateText, BeginsText, BeginsNoText}
-use Rattle.nx_memory.specs.private.StateReading.{IsRefusedAt, IsReading, IsAhead, lines_read, opened, may_end}
+use Rattle.nx_memory.specs.declared.state_reader.Stage.TheVariants.{Start, Version1, Version2}
+use Rattle.nx_memory.specs.declared.state_reader.Stage.TheVariants.{Channel0, Channel1, Channel2}
+use Rattle.nx_memory.specs.Saved.{SavedState, SavedStates, IsSavedState, AreSavedStates}
+use Rattle.nx_memory.specs.Saved.{nothing_saved, on_channel_0}
+use Rattle.nx_memory.specs.StateText.{spelling, said, section, last_line, text_1, text_2}
+use Rattle.nx_memory.specs.StateText.{IsStateText, BeginsText, BeginsNoText}
+use Rattle.nx_memory.specs.private.StateReading.{IsRefusedAt, IsReading, IsAhead, lines_read}
+use Rattle.nx_memory.specs.private.StateReading.{opened, may_end}
 use Rattle.nx_memory.proofs.Content.{content-nil}
 use Rattle.nx_memory.proofs.Rising.{rising-empty}
 use Rattle.nx_memory.proofs.StateLines.{each, each_map, each_right}

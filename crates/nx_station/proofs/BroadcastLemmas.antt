@@ -1,5 +1,7 @@
 -- The positions of messages: there is one list of them, and how it is built and counted.
-use Rattle.std.proofs.Common.{◌≡◌, ◌≢◌, ℕ, ◌+◌, ◌-◌, ◌<◌, ◌≤◌, true, List, [], ◌∷◌, ◌++◌, length, map, replicate, take, drop, get_or, not, Some, refl, sym, ap, ◌∙◌, subst, arith, append_assoc, append-nil}
+use Rattle.std.proofs.Common.{◌≡◌, ◌≢◌, ℕ, ◌+◌, ◌-◌, ◌<◌, ◌≤◌, true, List, [], ◌∷◌, ◌++◌, length}
+use Rattle.std.proofs.Common.{map, replicate, take, drop, get_or, not, Some, refl, sym, ap, ◌∙◌}
+use Rattle.std.proofs.Common.{subst, arith, append_assoc, append-nil}
 use Rattle.std.specs.List.{flat_map, AllByRecursion, list_all, position}
 use Rattle.std.proofs.lemmas.List.{length-append, length-map, length-replicate}
 use Rattle.std.proofs.lemmas.List.Concat.{flat_map-append}
@@ -20,7 +22,9 @@ use Rattle.nx_envelope.specs.Message.{AreLines, IsMessageLine, IsLineByte, text_
 use Rattle.nx_fec.specs.Emission.{SentPosition, phasing_position, traffic_position, end_position}
 use Rattle.nx_station.specs.Sendable.{HavePositions}
 use Rattle.nx_station.specs.private.MessageParts.{IsExtent}
-use Rattle.nx_station.specs.Broadcast.{IsSpelled, AreSpelled, IsBroadcast, head, ending, phasing_and_message, layout, first_phasing, further_phasing, end_positions}
+use Rattle.nx_station.specs.Broadcast.{IsSpelled, AreSpelled, IsBroadcast, head, ending}
+use Rattle.nx_station.specs.Broadcast.{phasing_and_message, layout, first_phasing, further_phasing}
+use Rattle.nx_station.specs.Broadcast.{end_positions}
 
 -- ---- the text of a message is in the code
 

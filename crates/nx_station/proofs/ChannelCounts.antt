@@ -1,5 +1,7 @@
 -- How many words have the wrong weight.
-use Rattle.std.proofs.Common.{◌≡◌, ℕ, zero, suc, ◌+◌, ◌<◌, ◌≤◌, ◌==◌, not, Bool, true, false, cond, List, length, get_or, take, drop, refl, sym, ap, ◌∙◌, arith, eqb, length-drop}
+use Rattle.std.proofs.Common.{◌≡◌, ℕ, zero, suc, ◌+◌, ◌<◌, ◌≤◌, ◌==◌, not, Bool, true, false, cond}
+use Rattle.std.proofs.Common.{List, length, get_or, take, drop, refl, sym, ap, ◌∙◌, arith, eqb}
+use Rattle.std.proofs.Common.{length-drop}
 use Rattle.std.specs.List.{count_by}
 use Rattle.std.proofs.lemmas.List.{get_or-drop}
 use Rattle.std.proofs.lemmas.List.Sums.{count_by_more_yes, count_by_more_no}

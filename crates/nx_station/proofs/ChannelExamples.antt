@@ -1,7 +1,10 @@
 -- The worked emission is received under the channel; without both words of a position it isn't.
-use Rattle.std.proofs.Common.{◌≡◌, ◌≢◌, ℕ, ◌+◌, ◌-◌, ◌*◌, ◌<◌, ◌≤◌, ◌⊎◌, Bool, true, false, not, ◌||◌, eqb, ltb, List, [], ◌∷◌, ◌++◌, codes, length, get_or, drop, append-nil, refl, sym, ap, ◌∙◌, subst, arith, inl, inr, lit≤, lit<}
+use Rattle.std.proofs.Common.{◌≡◌, ◌≢◌, ℕ, ◌+◌, ◌-◌, ◌*◌, ◌<◌, ◌≤◌, ◌⊎◌, Bool, true, false, not}
+use Rattle.std.proofs.Common.{◌||◌, eqb, ltb, List, [], ◌∷◌, ◌++◌, codes, length, get_or, drop}
+use Rattle.std.proofs.Common.{append-nil, refl, sym, ap, ◌∙◌, subst, arith, inl, inr, lit≤, lit<}
 use Rattle.std.specs.List.{AllByRecursion, starts_with}
-use Rattle.std.proofs.lemmas.Bool.{agree_below, agree_below_at, eq-eqb, eqb-true, ltb-true, false≢true, not-true}
+use Rattle.std.proofs.lemmas.Bool.{agree_below, agree_below_at, eq-eqb, eqb-true, ltb-true}
+use Rattle.std.proofs.lemmas.Bool.{false≢true, not-true}
 use Rattle.std.proofs.lemmas.List.Elements.{All-from_recursion}
 use Rattle.nx_code.specs.Reading.{characters, is_in_code, character_of}
 use Rattle.nx_code.specs.Spelling.{Spells}
@@ -11,10 +14,14 @@ use Rattle.nx_code.specs.declared.shifts.Shift.TheVariants.{Letters, Figures}
 use Rattle.nx_code.proofs.SpellingLemmas.{Spells-push, spells_here, spells_newline, spells_there}
 use Rattle.nx_envelope.specs.Message.{AreLines, IsMessageLine, IsLineByte}
 use Rattle.nx_envelope.proofs.WordsInTexts.{holds_none}
-use Rattle.nx_fec.specs.Emission.{SentPosition, phasing_position, traffic_position, end_position, bits_of, position_at, word_sent}
+use Rattle.nx_fec.specs.Emission.{SentPosition, phasing_position, traffic_position, end_position}
+use Rattle.nx_fec.specs.Emission.{bits_of, position_at, word_sent}
 use Rattle.nx_station.specs.Broadcast.{IsSpelled, ending, first_phasing, head, layout}
-use Rattle.nx_station.specs.Channel.{PassesChannel, IsAsSent, first_slot, heard_in, message_slot, phasing_received, phasing_words, slots_of}
-use Rattle.nx_station.specs.ChannelExample.{damaged_in, example_emission, example_parts, example_sending, example_message, example_numbers, example_words, heard_half, heard_without_75}
+use Rattle.nx_station.specs.Channel.{PassesChannel, IsAsSent, first_slot, heard_in, message_slot}
+use Rattle.nx_station.specs.Channel.{phasing_received, phasing_words, slots_of}
+use Rattle.nx_station.specs.ChannelExample.{damaged_in, example_emission, example_parts}
+use Rattle.nx_station.specs.ChannelExample.{example_sending, example_message, example_numbers}
+use Rattle.nx_station.specs.ChannelExample.{example_words, heard_half, heard_without_75}
 use Rattle.nx_station.specs.Sendable.{IsSendable}
 use Rattle.nx_station.specs.Sendings.{IsCut, IsReceived, IsSending, gap}
 use Rattle.nx_station.proofs.ChannelPositions.{spelled-tells}

@@ -1,30 +1,29 @@
 -- Under the channel: few words are wrong, no DX word before the end is phasing signal 1, and each
 -- position is taken as it
 -- was sent.
-use Rattle.std.proofs.Common.{◌≡◌, ◌≢◌, ℕ, zero, suc, ◌+◌, ◌-◌, ◌*◌, ◌/◌, ◌%◌, ◌<◌, ◌≤◌, ◌⊎◌, cond, List, length, refl, sym, ap, ◌∙◌, subst, arith, inl, inr, lit<}
+use Rattle.std.proofs.Common.{◌≡◌, ◌≢◌, ℕ, zero, suc, ◌+◌, ◌-◌, ◌*◌, ◌/◌, ◌%◌, ◌<◌, ◌≤◌, ◌⊎◌, cond}
+use Rattle.std.proofs.Common.{List, length, refl, sym, ap, ◌∙◌, subst, arith, inl, inr}
 use Rattle.std.proofs.lemmas.Bool.{cases_lt, cases_eq, eq-eqb}
 use Rattle.nx_code.specs.Table.{phasing_1, phasing_2, traffic_word}
 use Rattle.nx_code.specs.Word.{weight, wrong_in}
 use Rattle.nx_code.specs.Reading.{combination, lost}
 use Rattle.nx_code.proofs.TableLemmas.{traffic_word-is}
-use Rattle.nx_fec.specs.Emission.{SentPosition, phasing_position, traffic_position, end_position, dx_word, rx_word, position_at, word_sent, reception, IsInCode}
+use Rattle.nx_fec.specs.Emission.{SentPosition, phasing_position, traffic_position, end_position}
+use Rattle.nx_fec.specs.Emission.{dx_word, rx_word, position_at, word_sent, reception, IsInCode}
 use Rattle.nx_fec.specs.Pairing.{Counted, traffic, idle_signal, nothing, counts_as, pairing}
-use Rattle.nx_fec.proofs.EmissionLemmas.{phasing_1-words, phasing_2-words, word_sent-dx, word_sent-rx}
-use Rattle.nx_fec.proofs.PairingLemmas.{counts_as-words, counts_as-combination, counts_as-wrong}
-use Rattle.nx_station.specs.Channel.{PassesChannel, IsAsSent, heard_in, first_slot, message_slot, slots_of, window, most_wrong}
-use Rattle.nx_station.proofs.ChannelCounts.{one_if_wrong, right-counts_none, one_if_wrong-le, wrong_in-add, wrong_in-le, wrong_in-none, wrong_in-one}
-use Rattle.nx_station.proofs.ChannelPositions.{HasInner, IsInner, inner-no_end, position-end, position-inner}
+use Rattle.nx_fec.proofs.EmissionLemmas.{word_sent-dx, word_sent-rx}
+use Rattle.nx_fec.proofs.PairingLemmas.{counts_as-combination, counts_as-wrong}
+use Rattle.nx_fec.proofs.RoundTripLemmas.{counts_as-phasing_1, counts_as-phasing_2}
+use Rattle.nx_station.specs.Channel.{PassesChannel, IsAsSent, heard_in, first_slot, message_slot}
+use Rattle.nx_station.specs.Channel.{slots_of, window, most_wrong}
+use Rattle.nx_station.proofs.ChannelCounts.{one_if_wrong, right-counts_none, one_if_wrong-le}
+use Rattle.nx_station.proofs.ChannelCounts.{wrong_in-add, wrong_in-le, wrong_in-none, wrong_in-one}
+use Rattle.nx_station.proofs.ChannelPositions.{HasInner, IsInner, inner-no_end, position-end}
+use Rattle.nx_station.proofs.ChannelPositions.{position-inner}
 use Rattle.nx_station.proofs.WordWeights.{phasing_1-weight, dx-weight, rx-weight}
 use Rattle.nx_station.specs.Broadcast.{first_phasing, end_positions}
 
 -- ---- the words that are sent
-
--- the words of a position count as it does
-phasing_1-counts : counts_as phasing_1 ≡ idle_signal
-phasing_1-counts = ap counts_as (sym phasing_1-words) ∙ counts_as-words 32 (lit< tt)
-
-phasing_2-counts : counts_as phasing_2 ≡ idle_signal
-phasing_2-counts = ap counts_as (sym phasing_2-words) ∙ counts_as-words 34 (lit< tt)
 
 traffic-counts : (number : ℕ) → 1 ≤ number → number ≤ 32
     → counts_as (traffic_word number) ≡ traffic number
@@ -35,7 +34,7 @@ traffic-counts number low high =
 traffic-no_phasing_1 : (number : ℕ) → 1 ≤ number → number ≤ 32 → traffic_word number ≢ phasing_1
 traffic-no_phasing_1 number low high h =
     let clash : traffic number ≡ idle_signal =
-    sym (traffic-counts number low high) ∙ ap counts_as h ∙ phasing_1-counts in
+    sym (traffic-counts number low high) ∙ ap counts_as h ∙ counts_as-phasing_1 in
     cc
 
 phasing_2-no_phasing_1 : phasing_2 ≢ phasing_1
@@ -59,13 +58,13 @@ counted end_position = idle_signal
 
 dx-counts : (position : SentPosition) → IsInner position
     → counts_as (dx_word position) ≡ counted position
-dx-counts phasing_position h = phasing_2-counts
+dx-counts phasing_position h = counts_as-phasing_2
 dx-counts (traffic_position number) h = traffic-counts number h.0 h.1
 dx-counts end_position h = absurd h
 
 rx-counts : (position : SentPosition) → IsInner position
     → counts_as (rx_word position) ≡ counted position
-rx-counts phasing_position h = phasing_1-counts
+rx-counts phasing_position h = counts_as-phasing_1
 rx-counts (traffic_position number) h = traffic-counts number h.0 h.1
 rx-counts end_position h = absurd h
 

@@ -1,13 +1,20 @@
 -- What is heard begins with phasing.
-use Rattle.std.proofs.Common.{◌≡◌, ◌≢◌, ℕ, zero, suc, ◌+◌, ◌-◌, ◌*◌, ◌/◌, ◌%◌, ◌<◌, ◌≤◌, ◌==◌, cond, true, List, [], ◌∷◌, ◌++◌, length, map, replicate, get_or, take, refl, sym, ap, ◌∙◌, subst, arith, inl, inr, eqb}
+use Rattle.std.proofs.Common.{◌≡◌, ◌≢◌, ℕ, zero, suc, ◌+◌, ◌-◌, ◌*◌, ◌/◌, ◌%◌, ◌<◌, ◌≤◌, ◌==◌, cond}
+use Rattle.std.proofs.Common.{true, List, [], ◌∷◌, ◌++◌, length, map, replicate, get_or, take, refl}
+use Rattle.std.proofs.Common.{sym, ap, ◌∙◌, subst, arith, inl, inr, eqb}
 use Rattle.std.specs.List.{flat_map}
-use Rattle.std.proofs.lemmas.Bool.{agree_below_at, cases_eq, cond-true, cond-false, eq-eqb, eqb-true, ne_eqb}
-use Rattle.std.proofs.lemmas.List.{ext_get_or, get_or-take, get_or_append_left, length-append, length-replicate, length-take-le}
+use Rattle.std.proofs.lemmas.Bool.{agree_below_at, cases_eq, cond-true, cond-false, eq-eqb}
+use Rattle.std.proofs.lemmas.Bool.{eqb-true, ne_eqb}
+use Rattle.std.proofs.lemmas.List.{ext_get_or, get_or-take, get_or_append_left, length-append}
+use Rattle.std.proofs.lemmas.List.{length-replicate, length-take-le}
 use Rattle.nx_code.specs.Table.{phasing_1, phasing_2}
-use Rattle.nx_fec.specs.Emission.{SentPosition, phasing_position, traffic_position, end_position, dx_word, rx_word, position_at, word_sent}
+use Rattle.nx_fec.specs.Emission.{SentPosition, phasing_position, traffic_position, end_position}
+use Rattle.nx_fec.specs.Emission.{dx_word, rx_word, position_at, word_sent}
 use Rattle.nx_fec.proofs.EmissionLemmas.{word_sent-dx, word_sent-rx}
 use Rattle.nx_envelope.specs.Message.{MessageView}
-use Rattle.nx_station.specs.Broadcast.{AreSpelled, IsBroadcast, IsSpelled, ending, head, layout, phasing_and_message, first_phasing, further_phasing, end_positions}
+use Rattle.nx_station.specs.Broadcast.{AreSpelled, IsBroadcast, IsSpelled, ending, head, layout}
+use Rattle.nx_station.specs.Broadcast.{phasing_and_message, first_phasing, further_phasing}
+use Rattle.nx_station.specs.Broadcast.{end_positions}
 use Rattle.nx_code.specs.Reading.{combination, shift_after_all}
 use Rattle.nx_code.specs.declared.shifts.Shift.{Shift}
 use Rattle.nx_code.specs.declared.shifts.Shift.TheVariants.{Letters, Figures}

@@ -1,6 +1,8 @@
 -- The positions of a broadcast: those of the end, and before them only phasing and combinations
 -- that are in the code.
-use Rattle.std.proofs.Common.{◌≡◌, ◌≢◌, ℕ, zero, suc, ◌+◌, ◌-◌, ◌/◌, ◌%◌, ◌<◌, ◌≤◌, List, [], ◌∷◌, ◌++◌, length, map, replicate, get_or, refl, sym, ap, ◌∙◌, subst, arith, append_assoc, lit≤}
+use Rattle.std.proofs.Common.{◌≡◌, ◌≢◌, ℕ, zero, suc, ◌+◌, ◌-◌, ◌/◌, ◌%◌, ◌<◌, ◌≤◌, List, [], ◌∷◌}
+use Rattle.std.proofs.Common.{◌++◌, length, map, replicate, get_or, refl, sym, ap, ◌∙◌, subst}
+use Rattle.std.proofs.Common.{arith, append_assoc, lit≤}
 use Rattle.std.specs.List.{flat_map, AllByRecursion, AllZip}
 use Rattle.std.proofs.lemmas.List.{length-append, get_or_append_left, get_or-append_right}
 use Rattle.nx_code.specs.Reading.{combination, shift_after, shift_after_all}
@@ -9,8 +11,11 @@ use Rattle.nx_code.specs.declared.shifts.Shift.{Shift}
 use Rattle.nx_code.specs.declared.shifts.Shift.TheVariants.{Letters, Figures}
 use Rattle.nx_envelope.specs.Message.{MessageView}
 use Rattle.nx_envelope.specs.declared.identity.Identity.{Identity}
-use Rattle.nx_fec.specs.Emission.{SentPosition, phasing_position, traffic_position, end_position, position_at}
-use Rattle.nx_station.specs.Broadcast.{IsSpelled, AreSpelled, digit_combination, ending, head, layout, phasing_and_message, first_phasing, further_phasing, end_positions}
+use Rattle.nx_fec.specs.Emission.{SentPosition, phasing_position, traffic_position, end_position}
+use Rattle.nx_fec.specs.Emission.{position_at}
+use Rattle.nx_station.specs.Broadcast.{IsSpelled, AreSpelled, digit_combination, ending, head}
+use Rattle.nx_station.specs.Broadcast.{layout, phasing_and_message, first_phasing, further_phasing}
+use Rattle.nx_station.specs.Broadcast.{end_positions}
 use Rattle.nx_station.specs.private.Heads.{letter_combination}
 use Rattle.nx_station.specs.Sendings.{Tells}
 use Rattle.nx_station.proofs.HeadLemmas.{digit_combination-range}
@@ -25,7 +30,8 @@ IsInner phasing_position = Unit {0}
 IsInner (traffic_position number) = IsCombination number
 IsInner end_position = ⊥
 
-each-append : {A : Type 0} (P : A → Type 0) (xs ys : List A) → AllByRecursion P xs
+-- what holds of each of two lists holds of each of both
+pub each-append : {A : Type 0} (P : A → Type 0) (xs ys : List A) → AllByRecursion P xs
     → AllByRecursion P ys → AllByRecursion P (xs ++ ys)
 each-append P [] ys h k = k
 each-append P (x ∷ xs) ys h k = (h.0, each-append P xs ys h.1 k)

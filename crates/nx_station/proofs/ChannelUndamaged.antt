@@ -1,12 +1,14 @@
 -- An emission that arrives as it is sent passes the channel.
-use Rattle.std.proofs.Common.{◌≡◌, ◌≢◌, ℕ, ◌+◌, ◌-◌, ◌*◌, ◌<◌, ◌≤◌, List, [], ◌++◌, length, get_or, take, drop, sym, ap, ◌∙◌, subst, arith, inl, inr, length-drop}
+use Rattle.std.proofs.Common.{◌≡◌, ◌≢◌, ℕ, ◌+◌, ◌-◌, ◌*◌, ◌<◌, ◌≤◌, List, [], ◌++◌, length, get_or}
+use Rattle.std.proofs.Common.{take, drop, sym, ap, ◌∙◌, subst, arith, inl, inr, length-drop}
 use Rattle.std.specs.List.{flat_map}
 use Rattle.std.proofs.lemmas.Bool.{cases_lt}
 use Rattle.std.proofs.lemmas.List.{get_or-drop, take-append-drop}
 use Rattle.std.proofs.lemmas.List.Concat.{flat_map-append}
 use Rattle.nx_code.specs.Word.{elements}
 use Rattle.nx_envelope.specs.Message.{MessageView}
-use Rattle.nx_fec.specs.Emission.{SentPosition, AreInCode, AreWords, IsInCode, bits_of, emission, position_at}
+use Rattle.nx_fec.specs.Emission.{SentPosition, AreInCode, AreWords, IsInCode, bits_of, emission}
+use Rattle.nx_fec.specs.Emission.{position_at}
 use Rattle.nx_fec.proofs.EmissionLemmas.{AreWords-emission, get_or-emission, length-emission}
 use Rattle.nx_station.specs.Broadcast.{IsBroadcast, end_positions, layout}
 use Rattle.nx_station.specs.Channel.{PassesChannel, IsAsSent, first_slot, slots_of}

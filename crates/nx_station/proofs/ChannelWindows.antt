@@ -1,6 +1,7 @@
 -- The wrong words of a lock that goes on from the phasing into the emission; the list of them; the
 -- phasing that is heard.
-use Rattle.std.proofs.Common.{◌≡◌, ◌≢◌, ℕ, ◌+◌, ◌-◌, ◌*◌, ◌<◌, ◌≤◌, Bool, List, [], ◌++◌, length, get_or, take, drop, sym, ap, ◌∙◌, subst, arith, inl, inr, length-drop}
+use Rattle.std.proofs.Common.{◌≡◌, ◌≢◌, ℕ, ◌+◌, ◌-◌, ◌*◌, ◌<◌, ◌≤◌, Bool, List, [], ◌++◌, length}
+use Rattle.std.proofs.Common.{get_or, take, drop, sym, ap, ◌∙◌, subst, arith, inl, inr, length-drop}
 use Rattle.std.specs.List.{count_by}
 use Rattle.std.proofs.lemmas.Bool.{cases_lt}
 use Rattle.std.proofs.lemmas.List.{take_all, drop-append-le, take-append-le}
@@ -12,8 +13,10 @@ use Rattle.nx_fec.proofs.RoundTripLemmas.{length-bits_of, words_of-bits_of}
 use Rattle.nx_fec.proofs.AlignedLemmas.{get_or-words_of}
 use Rattle.nx_station.specs.Broadcast.{IsBroadcast, layout}
 use Rattle.nx_envelope.specs.Message.{MessageView}
-use Rattle.nx_station.specs.Channel.{PassesChannel, heard_in, first_slot, message_slot, phasing_received, slots_of, window, most_wrong}
-use Rattle.nx_station.proofs.ChannelCounts.{wrong_in-add, wrong_in-count, wrong_in-le, wrong_in-none, wrong_in-same}
+use Rattle.nx_station.specs.Channel.{PassesChannel, heard_in, first_slot, message_slot}
+use Rattle.nx_station.specs.Channel.{phasing_received, slots_of, window, most_wrong}
+use Rattle.nx_station.proofs.ChannelCounts.{wrong_in-add, wrong_in-count, wrong_in-le}
+use Rattle.nx_station.proofs.ChannelCounts.{wrong_in-none, wrong_in-same}
 use Rattle.nx_station.proofs.ChannelLaws.{few-wrong, sent-weight}
 use Rattle.nx_station.proofs.ChannelPositions.{HasInner, layout-inner}
 

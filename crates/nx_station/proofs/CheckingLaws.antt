@@ -1,5 +1,6 @@
 -- What checking answers follows from what its steps said; and it gives back what was sent.
-use Rattle.std.proofs.Common.{◌≡◌, ℕ, ◌<◌, ◌≤◌, ◌^◌, Bool, List, [], ◌∷◌, ◌++◌, length, get_or, Result, Ok, Err, refl, sym, ap, ◌∙◌, subst, arith, length-append}
+use Rattle.std.proofs.Common.{◌≡◌, ℕ, ◌<◌, ◌≤◌, ◌^◌, Bool, List, [], ◌∷◌, ◌++◌, length, get_or}
+use Rattle.std.proofs.Common.{Result, Ok, Err, refl, sym, ap, ◌∙◌, subst, arith, length-append}
 use Rattle.nx_envelope.specs.Message.{MessageView}
 use Rattle.std.specs.List.{flat_map}
 use Rattle.nx_fec.specs.AirFile.{Line, moment}
@@ -14,7 +15,7 @@ use Rattle.nx_fec.specs.declared.fault.RunFault.{RunFault}
 use Rattle.nx_fec.specs.declared.fault.RunFault.TheVariants as run
 use Rattle.nx_fec.proofs.EncodingLaws.{bit_lines-IsBitFile}
 use Rattle.nx_fec.proofs.LineLaws.{IsBitFile-unique}
-use Rattle.nx_fec.proofs.TransferLaws.{Reads-on}
+use Rattle.nx_fec.proofs.TransferLaws.{Ok-not_err, Reads-on}
 use Rattle.nx_station.specs.Checking.{Checks, IsChecked, report, station_line}
 use Rattle.nx_station.specs.FileSending.{IsTransmission}
 use Rattle.nx_station.specs.Sendable.{AreOf}
@@ -29,9 +30,6 @@ use Rattle.nx_station.proofs.SendingLaws.{same-station}
 -- an outcome of reading elements
 abbrev pub as_read : {N : Type 0} → Result N RunFault → Result N RunFault
 as_read outcome = outcome
-
-ok-read : {N : Type 0} (bits : N) → ◌≡◌ {A = Result N RunFault} (Ok bits) (Err run.Read) → ⊥
-ok-read bits e = cc
 
 emission-run : (fault : EmissionFault) (other : RunFault)
     → ◌≡◌ {A = Result ℕ CheckFault} (Err (Emission fault)) (Err (Run other)) → ⊥
@@ -53,7 +51,7 @@ unread d bits items given fault reads same none is explains =
     let h = subst (λ l. ExplainsEmission l fault) is explains in record {
       reads = Reads-on _ _ _ _ _ _ _ _ _ _ _ reads (λ bytes k. (k.0, items, k.1, h))
           (λ bytes k. (tt, items, k, h)) (λ bytes k h outside. absurd outside)
-          (λ e. absurd (emission-run fault run.Read e)) (λ e. absurd (ok-read bits e));
+          (λ e. absurd (emission-run fault run.Read e)) (λ e. absurd (Ok-not_err bits run.Read e));
       writes = record {
         failed = (
           λ w. absurd (emission-run fault (run.Write w.0) w.1),
@@ -103,7 +101,7 @@ unwritten d bits items text count written reads one is wrote = record {
       (λ bytes k. (k.0, text, count, checked-of bytes items text count k.1 is, wrote))
       (λ bytes k. (tt, text, count, checked-of bytes items text count k is, wrote))
       (λ bytes k h outside. absurd outside) (λ e. absurd (write-read written e))
-      (λ e. absurd (ok-read bits e));
+      (λ e. absurd (Ok-not_err bits run.Read e));
   writes = record { failed = (λ w. one, λ h. (written, refl)); once = omega (arith, one) };
   unwritten = λ other. absurd (other written refl);
 }

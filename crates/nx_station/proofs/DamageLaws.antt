@@ -1,15 +1,21 @@
 -- What damaging answers follows from what its run over the lines said.
-use Rattle.std.proofs.Common.{Bool, drop, map, take, ◌≡◌, ℕ, ◌+◌, ◌-◌, ◌*◌, ◌/◌, ◌^◌, ◌≤◌, List, [], ◌∷◌, ◌++◌, length, min, Option, Some, None, Result, Ok, Err, if◌then◌else◌, refl, sym, ap, ◌∙◌, subst, arith, append-nil, length-append}
+use Rattle.std.proofs.Common.{Bool, drop, map, take, ◌≡◌, ℕ, ◌+◌, ◌-◌, ◌*◌, ◌/◌, ◌^◌, ◌≤◌, List, []}
+use Rattle.std.proofs.Common.{◌∷◌, ◌++◌, length, min, Option, Some, None, Result, Ok, Err}
+use Rattle.std.proofs.Common.{if◌then◌else◌, refl, sym, ap, ◌∙◌, subst, arith, append-nil}
+use Rattle.std.proofs.Common.{length-append}
 use Rattle.std.specs.List.{flat_map, refill, AllByRecursion}
 use Rattle.std.proofs.Math.Seq.{drop-append_seam, take-append_seam}
 use Rattle.std.specs.Option.{option_map, IsSomeAnd}
 use Rattle.std.specs.Io.KnownBytes.{Appends}
 use Rattle.std.proofs.lemmas.List.{length-map}
 use Rattle.std.proofs.lemmas.List.Concat.{flat_map-append}
-use Rattle.nx_fec.specs.AirFile.{Line, IsLine, element_digit, mark_bytes, moment, elements, refuse_station, accept_station, refuse_subject, accept_subject, spelling}
+use Rattle.nx_fec.specs.AirFile.{Line, IsLine, element_digit, mark_bytes, moment, elements}
+use Rattle.nx_fec.specs.AirFile.{refuse_station, accept_station, refuse_subject, accept_subject}
+use Rattle.nx_fec.specs.AirFile.{spelling}
 use Rattle.nx_fec.specs.Channels.{channel_of, same_channel}
 use Rattle.nx_fec.specs.Transfers.{WroteSome, Devices}
-use Rattle.nx_fec.specs.LineRuns.{Beginning, HasTaken, HasTakenAll, HasTakenSome, IsPlaced, Refusing, RunsLines, Standing}
+use Rattle.nx_fec.specs.LineRuns.{Beginning, HasTaken, HasTakenAll, HasTakenSome, IsPlaced}
+use Rattle.nx_fec.specs.LineRuns.{Refusing, RunsLines, Standing}
 use Rattle.nx_fec.specs.Lines.{StopsAt, IsCause, elements_on, file_of, line_bytes}
 use Rattle.nx_fec.specs.Scanner.{kind_kept, kind_of}
 use Rattle.nx_fec.specs.declared.air_file.LineKind.TheVariants.{Elements}
@@ -21,12 +27,17 @@ use Rattle.nx_fec.specs.declared.line_run.LinesFault.{LinesFault}
 use Rattle.nx_fec.specs.declared.line_run.LinesFault.TheVariants as run
 use Rattle.nx_fec.specs.declared.line_run.LinesRead.{LinesRead}
 use Rattle.nx_fec.proofs.LineLaws.{IsAirFile-unique, spelling-IsBeginning}
-use Rattle.nx_fec.proofs.TransferLaws.{Reads-on}
-use Rattle.nx_station.specs.Damage.{Damage, Damages, ExplainsDamaging, IsDamaged, damaged_elements, damaged_file, damaged_line, damaged_lines, damaged_on, inverted_count}
-use Rattle.nx_station.specs.private.DamageTaker.{Damager, HasDamaged, HasDigitsFrom, IsAt, damage_of, line_fault}
+use Rattle.nx_fec.proofs.LineRunLemmas.{StopsAt-map}
+use Rattle.nx_fec.proofs.TransferLaws.{Ok-not_err, Reads-on}
+use Rattle.nx_station.specs.Damage.{Damage, Damages, ExplainsDamaging, IsDamaged, damaged_elements}
+use Rattle.nx_station.specs.Damage.{damaged_file, damaged_line, damaged_lines, damaged_on}
+use Rattle.nx_station.specs.Damage.{inverted_count}
+use Rattle.nx_station.specs.private.DamageTaker.{Damager, HasDamaged, HasDigitsFrom, IsAt}
+use Rattle.nx_station.specs.private.DamageTaker.{damage_of, line_fault}
 use Rattle.nx_station.specs.declared.fault.DamageFault.{DamageFault}
 use Rattle.nx_station.specs.declared.fault.DamageFault.TheVariants.{Read, Write}
-use Rattle.nx_station.proofs.DamageLemmas.{inverted-append, inverted-le, length-damaged, length-on, lines-append, lines-twice}
+use Rattle.nx_station.proofs.DamageLemmas.{inverted-append, inverted-le, length-damaged, length-on}
+use Rattle.nx_station.proofs.DamageLemmas.{lines-append, lines-twice}
 
 abbrev pub stands : Standing Damager
 stands first now lines given = HasDamaged (damage_of first) now lines given
@@ -308,29 +319,11 @@ some-damaged : (first : Damager) (lines : List Line) (old new : Option (List ℕ
     → WroteSome old new (damaged_file (damage_of first) lines) written
 some-damaged first lines old new written h = subst (λ l. WroteSome old new l written) h.begun h.some
 
-stops-map : (bytes : List ℕ) (P Q : List Line → List ℕ → List ℕ → Type 0)
-    → ((lines : List Line) (rest more : List ℕ) → P lines rest more → Q lines rest more)
-    → StopsAt bytes P → StopsAt bytes Q
-stops-map bytes P Q f h =
-    record {
-      lines = h.lines;
-      rest = h.rest;
-      more = h.more;
-      whole = h.whole;
-      each = h.each;
-      part =
-          h.part;
-      here = f h.lines h.rest h.more h.here;
-    }
-
 -- ---- the outcomes
 
 abbrev pub Ran : {R W : Type 0} → Damager → Damager → Devices R W
     → Result LinesRead (LinesFault (Unit {0})) → Type 0
 Ran first now d outcome = RunsLines stands begins refuses 268435456 first now d outcome
-
-ok-err : {N E : Type 0} (x : N) (e : E) → ◌≡◌ {A = Result N E} (Ok x) (Err e) → ⊥
-ok-err x e h = cc
 
 pub refused-none : {R W : Type 0} (d : Devices R W) (first now : Damager) (line : ℕ)
     (why : Unit {0}) (fault : LinesFault (Unit {0})) → fault ≡ run.Refused line why
@@ -407,13 +400,13 @@ damaged-ok d first now read h = record {
   reads = Reads-on _ _ _ _ _ _ _ _ _ _ _ h.reads
       (λ bytes k. let w = whole-damaged first now _ _ bytes read k.1 in (k.0, w.0, w.1, w.2))
       (λ bytes k. let w = whole-damaged first now _ _ bytes read k.1 in (tt, w.0, w.1, w.2))
-      (λ bytes k h. h) (λ e. absurd (ok-err now.inverted Read e))
-      (λ e. absurd (ok-err read run.Read e));
+      (λ bytes k h. h) (λ e. absurd (Ok-not_err now.inverted Read e))
+      (λ e. absurd (Ok-not_err read run.Read e));
   writes = record {
     failed = (
-      λ w. absurd (ok-err now.inverted (Write w.0) w.1),
+      λ w. absurd (Ok-not_err now.inverted (Write w.0) w.1),
       λ one. let w = h.writes.failed.1 one in
-          absurd (ok-err read (run.Write w.0) w.1),
+          absurd (Ok-not_err read (run.Write w.0) w.1),
     );
     once = h.writes.once;
   };
@@ -424,9 +417,9 @@ damaged-read : {R W : Type 0} (d : Devices R W) (first now : Damager)
     → Ran first now d (Err run.Read) → Damages (damage_of first) d (Err Read)
 damaged-read d first now h = record {
   reads = Reads-on _ _ _ _ _ _ _ _ _ _ _ h.reads
-      (λ bytes k. stops-map bytes _ _
+      (λ bytes k. StopsAt-map bytes _ _
       (λ lines rest more p. (p.0, p.1, taken-appends first now lines _ _ p.2)) k)
-      (λ bytes k. stops-map bytes _ _
+      (λ bytes k. StopsAt-map bytes _ _
       (λ lines rest more p. (p.0, p.1, taken-appends first now lines _ _ p.2)) k)
       (λ bytes k h outside. tt) (λ e. refl) (λ e. refl);
   writes = record {
@@ -444,9 +437,11 @@ damaged-write : {R W : Type 0} (d : Devices R W) (first now : Damager) (written 
     → Ran first now d (Err (run.Write written)) → Damages (damage_of first) d (Err (Write written))
 damaged-write d first now written h = record {
   reads = Reads-on _ _ _ _ _ _ _ _ _ _ _ h.reads
-      (λ bytes k. stops-map bytes _ _ (λ lines rest more p. some-damaged first lines _ _ written p)
+      (λ bytes k. StopsAt-map bytes _ _
+      (λ lines rest more p. some-damaged first lines _ _ written p)
       k)
-      (λ bytes k. stops-map bytes _ _ (λ lines rest more p. some-damaged first lines _ _ written p)
+      (λ bytes k. StopsAt-map bytes _ _
+      (λ lines rest more p. some-damaged first lines _ _ written p)
       k) (λ bytes k h outside. tt) (λ e. absurd (write-read written e))
       (λ e. absurd (run-write-read written e));
   writes = record {
@@ -465,22 +460,22 @@ stopped : (AtEnd : Type 0) (first now : Damager) (old new : Option (List ℕ)) (
     → ExplainsDamaging AtEnd IsLeft 268435456 (damage_of first) old new bytes (line_fault why)
 stopped AtEnd first now old new bytes file.TooLong left k = (
   k.0,
-  stops-map bytes _ _
+  StopsAt-map bytes _ _
       (λ lines rest more p. (p.0, taken-appends first now lines old new p.1)) k.1,
 )
 stopped AtEnd first now old new bytes (file.LineLong line) left k = (
   k.0,
-  stops-map bytes _ _
+  StopsAt-map bytes _ _
       (λ lines rest more p. (p.0, taken-appends first now lines old new p.1)) k.1,
 )
 stopped AtEnd first now old new bytes (file.LineCut line) left k = (
   k.0,
-  stops-map bytes _ _
+  StopsAt-map bytes _ _
       (λ lines rest more p. (p.0, taken-appends first now lines old new p.1)) k.1,
 )
 stopped AtEnd first now old new bytes (file.BadLine line) left k = (
   k.0,
-  stops-map bytes _ _
+  StopsAt-map bytes _ _
       (λ lines rest more p. (p.0, taken-appends first now lines old new p.1)) k.1,
 )
 

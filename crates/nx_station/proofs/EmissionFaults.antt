@@ -1,5 +1,6 @@
 -- Elements have one outcome of strict reading; and what its steps say of the elements.
-use Rattle.std.proofs.Common.{◌≡◌, ◌≢◌, ◌⊎◌, ℕ, Bool, List, length, inl, inr, refl, sym, ap, ◌∙◌, subst, arith}
+use Rattle.std.proofs.Common.{◌≡◌, ◌≢◌, ◌⊎◌, ℕ, Bool, List, length, inl, inr, refl, sym, ap, ◌∙◌}
+use Rattle.std.proofs.Common.{subst, arith}
 use Rattle.std.specs.List.{flat_map}
 use Rattle.std.proofs.lemmas.Bool.{cases_lt}
 use Rattle.nx_envelope.specs.Message.{MessageView}
@@ -8,14 +9,17 @@ use Rattle.nx_fec.specs.Emission.{SentPosition, bits_of, emission}
 use Rattle.nx_station.specs.Broadcast.{IsBroadcast, printed_text}
 use Rattle.nx_station.specs.Faults.{unread_fault}
 use Rattle.nx_station.specs.Sendable.{IsRefusal, IsSendable, HasSlots}
-use Rattle.nx_station.specs.StrictReading.{ArePaired, AreRight, AreWhole, ExplainsEmission, IsEmissionOf, IsLeast, IsMemory}
+use Rattle.nx_station.specs.StrictReading.{ArePaired, AreRight, AreWhole, ExplainsEmission}
+use Rattle.nx_station.specs.StrictReading.{IsEmissionOf, IsLeast, IsMemory}
 use Rattle.nx_station.specs.private.PrintedText.{AreSound, ExplainsPrinted}
 use Rattle.nx_station.specs.declared.fault.EmissionFault.{EmissionFault}
-use Rattle.nx_station.specs.declared.fault.EmissionFault.TheVariants.{Ragged, WrongWord, Unpaired, BadEnvelope, Memory}
+use Rattle.nx_station.specs.declared.fault.EmissionFault.TheVariants.{Ragged, WrongWord, Unpaired}
+use Rattle.nx_station.specs.declared.fault.EmissionFault.TheVariants.{BadEnvelope, Memory}
 use Rattle.nx_station.specs.declared.fault.SendFault.{SendFault}
 use Rattle.nx_station.specs.declared.fault.SendFault.TheVariants as refusal
 use Rattle.nx_station.proofs.BroadcastLemmas.{broadcast-one}
-use Rattle.nx_station.proofs.EmissionReading.{emission-paired, emission-right, emission-text, emission-whole}
+use Rattle.nx_station.proofs.EmissionReading.{emission-paired, emission-right, emission-text}
+use Rattle.nx_station.proofs.EmissionReading.{emission-whole}
 use Rattle.nx_station.proofs.PrintedText.{printed-one}
 use Rattle.nx_station.proofs.SendingLaws.{of_one-None, same-station}
 

@@ -1,6 +1,8 @@
 -- What is read of the emission of messages: right words, pairs, and their text; so the emission is
 -- of one list.
-use Rattle.std.proofs.Common.{◌≡◌, ◌≢◌, ℕ, ◌+◌, ◌-◌, ◌*◌, ◌/◌, ◌%◌, ◌<◌, ◌≤◌, zero, suc, Bool, List, [], ◌∷◌, ◌++◌, length, get_or, take, map, replicate, inl, inr, refl, sym, ap, ◌∙◌, subst, append_assoc, arith, append-nil, length-append}
+use Rattle.std.proofs.Common.{◌≡◌, ◌≢◌, ℕ, ◌+◌, ◌-◌, ◌*◌, ◌/◌, ◌%◌, ◌<◌, ◌≤◌, zero, suc, Bool, List}
+use Rattle.std.proofs.Common.{[], ◌∷◌, ◌++◌, length, get_or, take, map, replicate, inl, inr, refl}
+use Rattle.std.proofs.Common.{sym, ap, ◌∙◌, subst, append_assoc, arith, append-nil, length-append}
 use Rattle.std.specs.List.{flat_map, AllByRecursion}
 use Rattle.std.proofs.lemmas.Bool.{cases_lt, cases_eq}
 use Rattle.std.proofs.lemmas.List.{map-append, take_at}
@@ -11,25 +13,22 @@ use Rattle.nx_code.specs.declared.shifts.Shift.TheVariants.{Letters}
 use Rattle.nx_code.proofs.ReadingLemmas.{text-append}
 use Rattle.nx_envelope.specs.Message.{MessageView}
 use Rattle.nx_fec.specs.Aligned.{aligned_text, words_of}
-use Rattle.nx_fec.specs.Emission.{SentPosition, AreInCode, IsInCode, bits_of, emission, end_position, phasing_position, position_at, reception, traffic_position, word_sent}
-use Rattle.nx_fec.proofs.EmissionLemmas.{AreWords-emission, IsEmission-emission, get_or-emission, length-emission, word_sent-dx, word_sent-rx}
+use Rattle.nx_fec.specs.Emission.{SentPosition, AreInCode, IsInCode, bits_of, emission}
+use Rattle.nx_fec.specs.Emission.{end_position, phasing_position, position_at, reception}
+use Rattle.nx_fec.specs.Emission.{traffic_position, word_sent}
+use Rattle.nx_fec.proofs.EmissionLemmas.{AreWords-emission, IsEmission-emission, get_or-emission}
+use Rattle.nx_fec.proofs.EmissionLemmas.{length-emission, word_sent-dx, word_sent-rx}
 use Rattle.nx_fec.proofs.RoundTripLemmas.{length-bits_of, receptions-IsEmission, words_of-bits_of}
-use Rattle.nx_station.specs.Broadcast.{AreSpelled, IsBroadcast, IsSpelled, layout, phasing_and_message, printed_text, first_phasing, further_phasing, end_positions}
+use Rattle.nx_station.specs.Broadcast.{AreSpelled, IsBroadcast, IsSpelled, layout}
+use Rattle.nx_station.specs.Broadcast.{phasing_and_message, printed_text, first_phasing}
+use Rattle.nx_station.specs.Broadcast.{further_phasing, end_positions}
 use Rattle.nx_station.specs.StrictReading.{IsEmissionOf, AreRight, ArePaired, AreWhole, IsPair}
-use Rattle.nx_station.proofs.ChannelPositions.{spelled-combinations}
+use Rattle.nx_station.proofs.ChannelPositions.{IsCombination, each-append, spelled-combinations}
 use Rattle.nx_station.proofs.PrintedText.{printed-one}
 use Rattle.nx_station.proofs.ReadingBack.{broadcast-prints}
 use Rattle.nx_station.proofs.WordWeights.{phasing_1-weight, dx-weight, rx-weight}
 
 -- ---- the positions of messages are in the code
-
-abbrev IsCombination : ℕ → Type 0
-IsCombination n = (1 ≤ n) × (n ≤ 32)
-
-every-append : {X : Type 0} (P : X → Type 0) (xs ys : List X) → AllByRecursion P xs
-    → AllByRecursion P ys → AllByRecursion P (xs ++ ys)
-every-append P [] ys h k = k
-every-append P (x ∷ xs) ys h k = (h.0, every-append P xs ys h.1 k)
 
 traffic-code : (numbers : List ℕ) → AllByRecursion IsCombination numbers
     → AllByRecursion IsInCode (map traffic_position numbers)
@@ -43,7 +42,7 @@ phasing-code (suc count) = (tt, phasing-code count)
 one-code : (count : ℕ) (message : MessageView) (numbers : List ℕ) → IsSpelled message numbers
     → AllByRecursion IsInCode (phasing_and_message count numbers)
 one-code count message numbers h =
-    every-append IsInCode (replicate count phasing_position) (map traffic_position numbers)
+    each-append IsInCode (replicate count phasing_position) (map traffic_position numbers)
     (phasing-code count) (traffic-code numbers (spelled-combinations message numbers h))
 
 others-code : (messages : List MessageView) (spellings : List (List ℕ))
@@ -53,7 +52,7 @@ others-code [] [] h = tt
 others-code [] (s ∷ ss) h = absurd h
 others-code (m ∷ ms) [] h = absurd h
 others-code (m ∷ ms) (s ∷ ss) h =
-    every-append IsInCode (phasing_and_message further_phasing s)
+    each-append IsInCode (phasing_and_message further_phasing s)
     (flat_map (phasing_and_message further_phasing) ss) (one-code further_phasing m s h.0)
     (others-code ms ss h.1)
 
@@ -65,9 +64,9 @@ layout-code [] (s ∷ ss) h = absurd h
 layout-code (m ∷ ms) [] h = absurd h
 layout-code (m ∷ ms) (s ∷ ss) h =
     let others = flat_map (phasing_and_message further_phasing) ss in
-    every-append IsInCode (phasing_and_message first_phasing s)
+    each-append IsInCode (phasing_and_message first_phasing s)
     (others ++ replicate end_positions end_position) (one-code first_phasing m s h.0)
-    (every-append IsInCode others (replicate end_positions end_position) (others-code ms ss h.1)
+    (each-append IsInCode others (replicate end_positions end_position) (others-code ms ss h.1)
     (tt, (tt, (tt, tt))))
 
 pub broadcast-code : (messages : List MessageView) (positions : List SentPosition)

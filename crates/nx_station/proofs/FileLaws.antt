@@ -1,10 +1,19 @@
 -- Laws of message files: one list of messages for each file, or one fault.
-use Rattle.std.proofs.Common.{◌≡◌, ◌≢◌, ℕ, ◌+◌, List, [], ◌∷◌, ◌++◌, length, Option, Some, None, refl, sym, ap, ◌∙◌, subst, append_assoc, append-nil, arith}
+use Rattle.std.proofs.Common.{◌≡◌, ◌≢◌, ℕ, ◌+◌, List, [], ◌∷◌, ◌++◌, length, Option, Some, None}
+use Rattle.std.proofs.Common.{refl, sym, ap, ◌∙◌, subst, append_assoc, append-nil, arith}
 use Rattle.std.specs.List.{AllByRecursion}
 use Rattle.nx_envelope.specs.Message.{IsMessageFault, text_of}
 use Rattle.nx_envelope.specs.declared.message.MessageFault.{MessageFault}
-use Rattle.nx_station.specs.MessageFile.{FileMessage, FileFault, bad_line, bad_text, line_cut, not_ended, IsOneLine, IsNamed, IsFileMessage, IsBegun, EndsInLine, IsOfLines, IsFirstFault, IsMessageFile, HasFirstFault, IsBegunIf, bytes_begun, lines_begun, message_file_bytes, heading, opening, file_message_bytes, lines_of}
-use Rattle.nx_station.proofs.LineLemmas.{ended-not_one, first_line, heading-one_line, heading-same, ended-same, ended-open, open-same, IsFileMessage-IsBegun, spelling-line}
+use Rattle.nx_fec.proofs.LineLaws.{first_feed, no_feed-not}
+use Rattle.nx_station.specs.MessageFile.{FileMessage, FileFault, bad_line, bad_text, line_cut}
+use Rattle.nx_station.specs.MessageFile.{not_ended, IsOneLine, IsNamed, IsFileMessage, IsBegun}
+use Rattle.nx_station.specs.MessageFile.{EndsInLine, IsOfLines, IsFirstFault, IsMessageFile}
+use Rattle.nx_station.specs.MessageFile.{HasFirstFault, IsBegunIf, bytes_begun, lines_begun}
+use Rattle.nx_station.specs.MessageFile.{message_file_bytes, heading, opening, file_message_bytes}
+use Rattle.nx_station.specs.MessageFile.{lines_of}
+use Rattle.nx_station.proofs.LineLemmas.{heading-one_line, heading-same}
+use Rattle.nx_station.proofs.LineLemmas.{ended-same, ended-open, open-same, IsFileMessage-IsBegun}
+use Rattle.nx_station.proofs.LineLemmas.{spelling-line}
 use Rattle.nx_station.proofs.MessageFaultLemmas.{one_of_lines, none_of_message}
 
 -- ---- the shape of a front of a file: what its first message is, or why it has none
@@ -39,7 +48,7 @@ entry-same a b p q r = ap (λ s. entry_with s a.number a.lines) p
 ended-is : (a b : FileMessage) (x y : List ℕ) → IsBegun a → IsBegun b
     → file_message_bytes a ++ x ≡ file_message_bytes b ++ y → (a ≡ b) × (x ≡ y)
 ended-is a b x y h k e =
-    let p = first_line (heading a.subject a.number) (heading b.subject b.number)
+    let p = first_feed (heading a.subject a.number) (heading b.subject b.number)
     (text_of a.lines ++ (59 ∷ (10 ∷ x))) (text_of b.lines ++ (59 ∷ (10 ∷ y)))
     (heading-one_line a.subject a.number h.named) (heading-one_line b.subject b.number k.named)
     (sym (spelling-line a x) ∙ e ∙ spelling-line b y) in
@@ -51,7 +60,7 @@ ended-is a b x y h k e =
 broken-is : (a b : FileMessage) (x y : List ℕ) → IsBegun a → IsBegun b → IsOneLine x → IsOneLine y
     → opening a ++ x ≡ opening b ++ y → (a ≡ b) × (x ≡ y)
 broken-is a b x y h k one other e =
-    let p = first_line (heading a.subject a.number) (heading b.subject b.number)
+    let p = first_feed (heading a.subject a.number) (heading b.subject b.number)
     (text_of a.lines ++ x) (text_of b.lines ++ y)
     (heading-one_line a.subject a.number h.named) (heading-one_line b.subject b.number k.named) e in
     let q = heading-same a.subject a.number b.subject b.number h.named.two_digits k.named.two_digits
@@ -62,7 +71,7 @@ broken-is a b x y h k one other e =
 ended-broken : (a b : FileMessage) (x y : List ℕ) → IsBegun a → IsBegun b → IsOneLine y
     → file_message_bytes a ++ x ≡ opening b ++ y → ⊥
 ended-broken a b x y h k other e =
-    let p = first_line (heading a.subject a.number) (heading b.subject b.number)
+    let p = first_feed (heading a.subject a.number) (heading b.subject b.number)
     (text_of a.lines ++ (59 ∷ (10 ∷ x))) (text_of b.lines ++ y)
     (heading-one_line a.subject a.number h.named) (heading-one_line b.subject b.number k.named)
     (sym (spelling-line a x) ∙ e) in
@@ -71,15 +80,15 @@ ended-broken a b x y h k other e =
 strange-heading : (line more tail : List ℕ) (subject number : ℕ) → IsShape (strange line more)
     → IsNamed subject number → line ++ (10 ∷ more) ≡ heading subject number ++ (10 ∷ tail) → ⊥
 strange-heading line more tail subject number h named e =
-    h.1 subject number named (first_line line (heading subject number) more tail h.0
+    h.1 subject number named (first_feed line (heading subject number) more tail h.0
     (heading-one_line subject number named) e).0
 
 cut-ended : (line p q : List ℕ) → IsOneLine line → line ≡ p ++ (10 ∷ q) → ⊥
-cut-ended line p q h e = ended-not_one p q (subst IsOneLine e h)
+cut-ended line p q h e = no_feed-not p q (subst IsOneLine e h)
 
 -- bytes have one shape
 one_shape : (a b : Shape) → IsShape a → IsShape b → bytes_of a ≡ bytes_of b → a ≡ b
-one_shape (strange l x) (strange m y) h k e = let p = first_line l m x y h.0 k.0 e in let q = p.0 in
+one_shape (strange l x) (strange m y) h k e = let p = first_feed l m x y h.0 k.0 e in let q = p.0 in
     let r = p.1 in cc
 one_shape (strange l x) (cut m) h k e = absurd (cut-ended m l x k (sym e))
 one_shape (strange l x) (ended b y) h k e =

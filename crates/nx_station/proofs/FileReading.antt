@@ -1,10 +1,14 @@
 -- How a message file is read, line by line and message by message.
-use Rattle.std.proofs.Common.{◌≡◌, ◌≢◌, ℕ, ◌+◌, ◌<◌, ◌≤◌, List, [], ◌∷◌, ◌++◌, length, Some, refl, sym, ap, ◌∙◌, append_assoc, append-nil, arith, length-append}
+use Rattle.std.proofs.Common.{◌≡◌, ◌≢◌, ℕ, ◌+◌, ◌<◌, ◌≤◌, List, [], ◌∷◌, ◌++◌, length, Some, refl}
+use Rattle.std.proofs.Common.{sym, ap, ◌∙◌, append_assoc, append-nil, arith, length-append}
 use Rattle.std.specs.List.{AllByRecursion}
 use Rattle.std.proofs.lemmas.List.Concat.{flat_map-append}
 use Rattle.nx_envelope.specs.Message.{IsMessageFault, text_of, MessageView}
 use Rattle.nx_envelope.specs.declared.message.MessageFault.{MessageFault}
-use Rattle.nx_station.specs.MessageFile.{FileMessage, IsOneLine, IsInside, IsNamed, IsFileMessage, IsOfLines, IsFirstFault, bad_text, line_cut, not_ended, heading, opening, file_message_bytes, message_file_bytes, lines_of}
+use Rattle.nx_station.specs.MessageFile.{FileMessage, IsOneLine, IsInside, IsNamed, IsFileMessage}
+use Rattle.nx_station.specs.MessageFile.{IsOfLines, IsFirstFault, bad_text, line_cut, not_ended}
+use Rattle.nx_station.specs.MessageFile.{heading, opening, file_message_bytes, message_file_bytes}
+use Rattle.nx_station.specs.MessageFile.{lines_of}
 use Rattle.nx_envelope.specs.declared.message.MessageFault.TheVariants as message
 use Rattle.nx_station.specs.private.MessageParts.{ExplainsFirst, text_fault}
 use Rattle.nx_station.proofs.LineLemmas.{spelling-line}

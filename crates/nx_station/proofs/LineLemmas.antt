@@ -1,5 +1,6 @@
 -- The lines of a message file, one after the other.
-use Rattle.std.proofs.Common.{◌≡◌, ℕ, ◌+◌, ◌/◌, ◌%◌, ◌≤◌, false, List, [], ◌∷◌, ◌++◌, refl, sym, ◌∙◌, subst, append_assoc, arith}
+use Rattle.std.proofs.Common.{◌≡◌, ℕ, ◌+◌, ◌/◌, ◌%◌, ◌≤◌, false, List, [], ◌∷◌, ◌++◌, refl, sym}
+use Rattle.std.proofs.Common.{◌∙◌, subst, append_assoc, arith}
 use Rattle.std.specs.List.{AllByRecursion}
 use Rattle.std.specs.Prelude.{All}
 use Rattle.std.proofs.lemmas.Bool.{false≢true}
@@ -7,25 +8,9 @@ use Rattle.std.proofs.lemmas.List.Elements.{recursion_from_All}
 use Rattle.nx_code.specs.Reading.{is_in_code, characters}
 use Rattle.nx_envelope.specs.Identity.{two_digits}
 use Rattle.nx_envelope.specs.Message.{IsMessageLine, IsLineByte, text_of}
-use Rattle.nx_station.specs.MessageFile.{FileMessage, IsOneLine, IsInside, IsNamed, IsFileMessage, IsBegun, heading, closing, opening, file_message_bytes}
-
--- ---- lines that are ended by a line feed
-
-pub ended-not_one : (p q : List ℕ) → IsOneLine (p ++ (10 ∷ q)) → ⊥
-ended-not_one [] q h = h.0 refl
-ended-not_one (x ∷ p) q h = ended-not_one p q h.1
-
--- the first line of bytes is one
-pub first_line : (p q x y : List ℕ) → IsOneLine p → IsOneLine q → p ++ (10 ∷ x) ≡ q ++ (10 ∷ y)
-    → (p ≡ q) × (x ≡ y)
-first_line [] [] x y h k e = (refl, cc)
-first_line [] (b ∷ q) x y h k e = let same : b ≡ 10 = cc in absurd (k.0 same)
-first_line (a ∷ p) [] x y h k e = let same : a ≡ 10 = cc in absurd (h.0 same)
-first_line (a ∷ p) (b ∷ q) x y h k e =
-    let tails : p ++ (10 ∷ x) ≡ q ++ (10 ∷ y) = cc in
-    let heads : a ≡ b = cc in
-    let r = first_line p q x y h.1 k.1 tails in
-    (cc (r.0, heads), r.1)
+use Rattle.nx_fec.proofs.LineLaws.{first_feed, no_feed-not}
+use Rattle.nx_station.specs.MessageFile.{FileMessage, IsOneLine, IsInside, IsNamed, IsFileMessage}
+use Rattle.nx_station.specs.MessageFile.{IsBegun, heading, closing, opening, file_message_bytes}
 
 -- ---- headings
 
@@ -68,13 +53,13 @@ pub ended-same : (ls ms : List (List ℕ)) (x y : List ℕ) → AllByRecursion I
     → text_of ls ++ (59 ∷ (10 ∷ x)) ≡ text_of ms ++ (59 ∷ (10 ∷ y)) → (ls ≡ ms) × (x ≡ y)
 ended-same [] [] x y h k e = (refl, cc)
 ended-same [] (m ∷ ms) x y h k e =
-    absurd (k.0.goes_on (sym (first_line closing m x (text_of ms ++ (59 ∷ (10 ∷ y)))
+    absurd (k.0.goes_on (sym (first_feed closing m x (text_of ms ++ (59 ∷ (10 ∷ y)))
     closing-one_line k.0.one_line (e ∙ text-cons m ms (59 ∷ (10 ∷ y)))).0))
 ended-same (l ∷ ls) [] x y h k e =
-    absurd (h.0.goes_on (first_line l closing (text_of ls ++ (59 ∷ (10 ∷ x))) y h.0.one_line
+    absurd (h.0.goes_on (first_feed l closing (text_of ls ++ (59 ∷ (10 ∷ x))) y h.0.one_line
     closing-one_line (sym (text-cons l ls (59 ∷ (10 ∷ x))) ∙ e)).0)
 ended-same (l ∷ ls) (m ∷ ms) x y h k e =
-    let p = first_line l m (text_of ls ++ (59 ∷ (10 ∷ x))) (text_of ms ++ (59 ∷ (10 ∷ y)))
+    let p = first_feed l m (text_of ls ++ (59 ∷ (10 ∷ x))) (text_of ms ++ (59 ∷ (10 ∷ y)))
     h.0.one_line k.0.one_line
     (sym (text-cons l ls (59 ∷ (10 ∷ x))) ∙ e ∙ text-cons m ms (59 ∷ (10 ∷ y))) in
     let r = ended-same ls ms x y h.1 k.1 p.1 in
@@ -85,15 +70,15 @@ ended-same (l ∷ ls) (m ∷ ms) x y h k e =
 pub ended-open : (ls ms : List (List ℕ)) (x r : List ℕ) → AllByRecursion IsInside ls
     → AllByRecursion IsInside ms → IsOneLine r
     → text_of ls ++ (59 ∷ (10 ∷ x)) ≡ text_of ms ++ r → ⊥
-ended-open [] [] x r h k one e = ended-not_one closing x (subst IsOneLine (sym e) one)
+ended-open [] [] x r h k one e = no_feed-not closing x (subst IsOneLine (sym e) one)
 ended-open [] (m ∷ ms) x r h k one e =
-    absurd (k.0.goes_on (sym (first_line closing m x (text_of ms ++ r) closing-one_line k.0.one_line
+    absurd (k.0.goes_on (sym (first_feed closing m x (text_of ms ++ r) closing-one_line k.0.one_line
     (e ∙ text-cons m ms r)).0))
 ended-open (l ∷ ls) [] x r h k one e =
-    ended-not_one l (text_of ls ++ (59 ∷ (10 ∷ x)))
+    no_feed-not l (text_of ls ++ (59 ∷ (10 ∷ x)))
     (subst IsOneLine (sym e ∙ text-cons l ls (59 ∷ (10 ∷ x))) one)
 ended-open (l ∷ ls) (m ∷ ms) x r h k one e =
-    let p = first_line l m (text_of ls ++ (59 ∷ (10 ∷ x))) (text_of ms ++ r) h.0.one_line
+    let p = first_feed l m (text_of ls ++ (59 ∷ (10 ∷ x))) (text_of ms ++ r) h.0.one_line
     k.0.one_line
     (sym (text-cons l ls (59 ∷ (10 ∷ x))) ∙ e ∙ text-cons m ms r) in
     ended-open ls ms x r h.1 k.1 one p.1
@@ -104,11 +89,11 @@ pub open-same : (ls ms : List (List ℕ)) (r s : List ℕ) → AllByRecursion Is
     → text_of ls ++ r ≡ text_of ms ++ s → (ls ≡ ms) × (r ≡ s)
 open-same [] [] r s h k one other e = (refl, e)
 open-same [] (m ∷ ms) r s h k one other e =
-    absurd (ended-not_one m (text_of ms ++ s) (subst IsOneLine (e ∙ text-cons m ms s) one))
+    absurd (no_feed-not m (text_of ms ++ s) (subst IsOneLine (e ∙ text-cons m ms s) one))
 open-same (l ∷ ls) [] r s h k one other e =
-    absurd (ended-not_one l (text_of ls ++ r) (subst IsOneLine (sym e ∙ text-cons l ls r) other))
+    absurd (no_feed-not l (text_of ls ++ r) (subst IsOneLine (sym e ∙ text-cons l ls r) other))
 open-same (l ∷ ls) (m ∷ ms) r s h k one other e =
-    let p = first_line l m (text_of ls ++ r) (text_of ms ++ s) h.0.one_line k.0.one_line
+    let p = first_feed l m (text_of ls ++ r) (text_of ms ++ s) h.0.one_line k.0.one_line
     (sym (text-cons l ls r) ∙ e ∙ text-cons m ms s) in
     let t = open-same ls ms r s h.1 k.1 one other p.1 in
     let heads = p.0 in

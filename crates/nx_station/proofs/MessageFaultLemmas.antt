@@ -1,11 +1,14 @@
 -- The lines of a message have one fault, or none.
-use Rattle.std.proofs.Common.{◌≡◌, ℕ, ◌+◌, ◌<◌, ◌≤◌, List, [], length, take, get_or, inl, inr, ap, sym, ◌∙◌, subst, refl, arith}
+use Rattle.std.proofs.Common.{◌≡◌, ℕ, ◌+◌, ◌<◌, ◌≤◌, List, [], length, take, get_or, inl, inr, ap}
+use Rattle.std.proofs.Common.{sym, ◌∙◌, subst, refl, arith}
 use Rattle.std.specs.Prelude.{All}
 use Rattle.std.proofs.lemmas.List.{get_or-take, length-take}
 use Rattle.std.proofs.lemmas.Bool.{cases_lt}
-use Rattle.nx_envelope.specs.Message.{IsMessageLine, IsLineByte, IsFirstBadByte, IsLineFault, IsFirstLineFault, IsMessageFault, AreLines}
+use Rattle.nx_envelope.specs.Message.{IsMessageLine, IsLineByte, IsFirstBadByte, IsLineFault}
+use Rattle.nx_envelope.specs.Message.{IsFirstLineFault, IsMessageFault, AreLines}
 use Rattle.nx_envelope.specs.declared.message.MessageFault.{MessageFault}
-use Rattle.nx_envelope.specs.declared.message.MessageFault.TheVariants.{LongLine, BadCharacter, Reserved, LongText, Memory}
+use Rattle.nx_envelope.specs.declared.message.MessageFault.TheVariants.{LongLine, BadCharacter}
+use Rattle.nx_envelope.specs.declared.message.MessageFault.TheVariants.{Reserved, LongText, Memory}
 use Rattle.nx_station.specs.MessageFile.{IsOfLines}
 
 -- what holds of all before one place holds at a place before it

@@ -1,5 +1,7 @@
 -- The elements of a line that are named for damage: where they stand, and the walk over them.
-use Rattle.std.proofs.Common.{◌≡◌, ℕ, suc, ◌+◌, ◌-◌, ◌*◌, ◌%◌, ◌<◌, ◌≤◌, ◌⊎◌, IsTrue, Bool, true, false, not, List, length, map, get_or, set, inl, inr, refl, sym, ap, ◌∙◌, subst, arith}
+use Rattle.std.proofs.Common.{◌≡◌, ℕ, suc, ◌+◌, ◌-◌, ◌*◌, ◌%◌, ◌<◌, ◌≤◌, ◌⊎◌, IsTrue, Bool, true}
+use Rattle.std.proofs.Common.{false, not, List, length, map, get_or, set, inl, inr, refl, sym, ap}
+use Rattle.std.proofs.Common.{◌∙◌, subst, arith}
 use lib.Bits.{bit_xor}
 use Rattle.std.proofs.lemmas.List.{length-map, map-set, get_or-map}
 use Rattle.nx_fec.specs.AirFile.{element_digit}
@@ -7,7 +9,8 @@ use Rattle.nx_station.specs.Damage.{Damage, damaged_elements, inverted_count, in
 use Rattle.nx_station.specs.private.DamageTaker.{AreNamed}
 use Rattle.nx_station.specs.private.DamageWalk.{IsOnWalk, front, front_count}
 use Rattle.nx_station.specs.declared.damaging.Named.{Named}
-use Rattle.nx_station.proofs.DamageLemmas.{front-all, front-inverted, front-same, front_count-all, front_count-inverted, front_count-same, length-front}
+use Rattle.nx_station.proofs.DamageLemmas.{front-all, front-inverted, front-same, front_count-all}
+use Rattle.nx_station.proofs.DamageLemmas.{front_count-inverted, front_count-same, length-front}
 
 -- ---- strides
 

@@ -6,7 +6,8 @@ use Rattle.nx_code.specs.declared.signals.Comb.{Comb}
 use Rattle.nx_code.specs.declared.signals.Signal.{Signal}
 use Rattle.nx_code.specs.declared.signals.Signal.TheVariants.{Traffic, Alpha, Beta, Repeat}
 use Rattle.nx_code.proofs.TableLemmas.{traffic_word-is}
-use Rattle.nx_fec.specs.Emission.{SentPosition, IsInCode, phasing_position, traffic_position, end_position, dx_word, rx_word}
+use Rattle.nx_fec.specs.Emission.{SentPosition, IsInCode, phasing_position, traffic_position}
+use Rattle.nx_fec.specs.Emission.{end_position, dx_word, rx_word}
 use Rattle.nx_fec.proofs.EmissionLemmas.{phasing_1-words, phasing_2-words}
 use Rattle.nx_station.specs.StrictReading.{IsPair}
 

@@ -1,22 +1,29 @@
 -- A printed text is of one list of messages.
-use Rattle.std.proofs.Common.{◌≡◌, ◌≢◌, ℕ, List, [], ◌∷◌, ◌++◌, refl, sym, ap, ◌∙◌, subst, append_assoc, arith, inr}
+use Rattle.std.proofs.Common.{◌≡◌, ◌≢◌, ℕ, List, [], ◌∷◌, ◌++◌, refl, sym, ap, ◌∙◌, subst}
+use Rattle.std.proofs.Common.{append_assoc, arith, inr}
 use Rattle.std.specs.List.{flat_map, AllByRecursion}
 use Rattle.std.proofs.lemmas.Bool.{and_from, eq-eqb}
 use Rattle.std.proofs.lemmas.List.Elements.{recursion_from_All}
 use Rattle.nx_envelope.specs.Identity.{two_digits}
 use Rattle.nx_envelope.specs.Header.{end_marker}
-use Rattle.nx_envelope.specs.Message.{AreLines, IsMessageLine, IsLineByte, IsMessageFault, text_of, MessageView}
+use Rattle.nx_envelope.specs.Message.{AreLines, IsMessageLine, IsLineByte, IsMessageFault, text_of}
+use Rattle.nx_envelope.specs.Message.{MessageView}
 use Rattle.nx_envelope.specs.declared.identity.Identity.{Identity}
 use Rattle.nx_envelope.specs.declared.message.MessageFault.{MessageFault}
 use Rattle.nx_envelope.specs.declared.message.MessageFault.TheVariants as message
 use Rattle.nx_envelope.proofs.Identities.{same_identity-true}
+use Rattle.nx_fec.proofs.LineLaws.{first_feed, no_feed-not}
 use Rattle.nx_station.specs.Broadcast.{header, printed_text}
 use Rattle.nx_station.specs.Faults.{unmade_fault}
 use Rattle.nx_station.specs.MessageFile.{IsOneLine}
-use Rattle.nx_station.specs.private.PrintedText.{AreSound, ExplainsFirstPrinted, ExplainsPrintedLines, ExplainsPrinted, IsTextLine, ended_lines}
+use Rattle.nx_station.specs.private.PrintedText.{AreSound, ExplainsFirstPrinted}
+use Rattle.nx_station.specs.private.PrintedText.{ExplainsPrintedLines, ExplainsPrinted, IsTextLine}
+use Rattle.nx_station.specs.private.PrintedText.{ended_lines}
 use Rattle.nx_station.specs.declared.fault.EmissionFault.{EmissionFault}
-use Rattle.nx_station.specs.declared.fault.EmissionFault.TheVariants.{Ragged, WrongWord, Unpaired, BadEnvelope, Memory}
-use Rattle.nx_station.proofs.LineLemmas.{digits-same, ended-not_one, first_line, line_bytes, text-cons}
+use Rattle.nx_station.specs.declared.fault.EmissionFault.TheVariants.{Ragged, WrongWord, Unpaired}
+use Rattle.nx_station.specs.declared.fault.EmissionFault.TheVariants.{BadEnvelope, Memory}
+use Rattle.nx_station.proofs.LineLemmas.{digits-same, line_bytes}
+use Rattle.nx_station.proofs.LineLemmas.{text-cons}
 use Rattle.nx_station.proofs.MessageFaultLemmas.{none_of_message}
 
 -- ---- lines that are ended by NNNN
@@ -35,13 +42,13 @@ pub marked-same : (ls ms : List (List ℕ)) (x y : List ℕ) → AllByRecursion 
     → AllByRecursion IsTextLine ms → ended_lines ls x ≡ ended_lines ms y → (ls ≡ ms) × (x ≡ y)
 marked-same [] [] x y h k e = (refl, cc)
 marked-same [] (m ∷ ms) x y h k e =
-    absurd (k.0.goes_on (sym (first_line end_marker m x (ended_lines ms y) end_marker-one_line
+    absurd (k.0.goes_on (sym (first_feed end_marker m x (ended_lines ms y) end_marker-one_line
     k.0.one_line (e ∙ text-cons m ms (end_marker ++ (10 ∷ y)))).0))
 marked-same (l ∷ ls) [] x y h k e =
-    absurd (h.0.goes_on (first_line l end_marker (ended_lines ls x) y h.0.one_line
+    absurd (h.0.goes_on (first_feed l end_marker (ended_lines ls x) y h.0.one_line
     end_marker-one_line (sym (text-cons l ls (end_marker ++ (10 ∷ x))) ∙ e)).0)
 marked-same (l ∷ ls) (m ∷ ms) x y h k e =
-    let p = first_line l m (ended_lines ls x) (ended_lines ms y) h.0.one_line k.0.one_line
+    let p = first_feed l m (ended_lines ls x) (ended_lines ms y) h.0.one_line k.0.one_line
     (sym (text-cons l ls (end_marker ++ (10 ∷ x))) ∙ e ∙ text-cons m ms (end_marker ++ (10 ∷ y))) in
     let r = marked-same ls ms x y h.1 k.1 p.1 in
     let heads = p.0 in
@@ -50,15 +57,15 @@ marked-same (l ∷ ls) (m ∷ ms) x y h k e =
 -- an ended text and one that isn't
 pub marked-open : (ls ms : List (List ℕ)) (x r : List ℕ) → AllByRecursion IsTextLine ls
     → AllByRecursion IsTextLine ms → IsOneLine r → ended_lines ls x ≡ text_of ms ++ r → ⊥
-marked-open [] [] x r h k one e = ended-not_one end_marker x (subst IsOneLine (sym e) one)
+marked-open [] [] x r h k one e = no_feed-not end_marker x (subst IsOneLine (sym e) one)
 marked-open [] (m ∷ ms) x r h k one e =
-    absurd (k.0.goes_on (sym (first_line end_marker m x (text_of ms ++ r) end_marker-one_line
+    absurd (k.0.goes_on (sym (first_feed end_marker m x (text_of ms ++ r) end_marker-one_line
     k.0.one_line (e ∙ text-cons m ms r)).0))
 marked-open (l ∷ ls) [] x r h k one e =
-    ended-not_one l (ended_lines ls x)
+    no_feed-not l (ended_lines ls x)
     (subst IsOneLine (sym e ∙ text-cons l ls (end_marker ++ (10 ∷ x))) one)
 marked-open (l ∷ ls) (m ∷ ms) x r h k one e =
-    let p = first_line l m (ended_lines ls x) (text_of ms ++ r) h.0.one_line k.0.one_line
+    let p = first_feed l m (ended_lines ls x) (text_of ms ++ r) h.0.one_line k.0.one_line
     (sym (text-cons l ls (end_marker ++ (10 ∷ x))) ∙ e ∙ text-cons m ms r) in
     marked-open ls ms x r h.1 k.1 one p.1
 
@@ -134,13 +141,13 @@ pub printed-header : (text line rest more : List ℕ) (message : MessageView)
     → text ≡ line ++ (10 ∷ rest) → IsOneLine line → text ≡ printed_text message ++ more
     → (line ≡ header message.identity) × (rest ≡ ended_lines message.lines (10 ∷ more))
 printed-header text line rest more message h one e =
-    first_line line (header message.identity) rest (ended_lines message.lines (10 ∷ more)) one
+    first_feed line (header message.identity) rest (ended_lines message.lines (10 ∷ more)) one
     (header-one_line message.identity) (sym h ∙ e ∙ printed-line message more)
 
 pub printed-same : (a b : MessageView) (x y : List ℕ) → AreLines a.lines → AreLines b.lines
     → printed_text a ++ x ≡ printed_text b ++ y → (a ≡ b) × (x ≡ y)
 printed-same a b x y h k e =
-    let p = first_line (header a.identity) (header b.identity) (ended_lines a.lines (10 ∷ x))
+    let p = first_feed (header a.identity) (header b.identity) (ended_lines a.lines (10 ∷ x))
     (ended_lines b.lines (10 ∷ y)) (header-one_line a.identity) (header-one_line b.identity)
     (sym (printed-line a x) ∙ e ∙ printed-line b y) in
     let r = marked-same a.lines b.lines (10 ∷ x) (10 ∷ y) (AreLines-unended a.lines h)

@@ -1,5 +1,7 @@
 -- What sending answers follows from what its steps said.
-use Rattle.std.proofs.Common.{◌≡◌, ℕ, ◌≤◌, ◌==◌, Bool, List, [], ◌∷◌, ◌++◌, length, map, not, get_or, Option, Some, Result, Ok, Err, refl, sym, ap, ◌∙◌, subst, arith}
+use Rattle.std.proofs.Common.{◌≡◌, ℕ, ◌≤◌, ◌==◌, Bool, List, [], ◌∷◌, ◌++◌, length, map, not}
+use Rattle.std.proofs.Common.{get_or, Option, Some, Result, Ok, Err, refl, sym, ap, ◌∙◌, subst}
+use Rattle.std.proofs.Common.{arith}
 use Rattle.std.proofs.lemmas.Bool.{false≢true, eq-eqb, not-true}
 use Rattle.std.proofs.lemmas.List.Elements.{All-from_recursion}
 use Rattle.std.proofs.lemmas.List.Quantifiers.{position-Some}
@@ -13,7 +15,7 @@ use Rattle.nx_fec.specs.AirFile.{moment}
 use Rattle.nx_fec.specs.Runs.{ExplainsWhole, IsOutsideWhole, IsWithin, file_limit}
 use Rattle.nx_fec.specs.declared.fault.ReadFault.{ReadFault}
 use Rattle.nx_fec.specs.declared.fault.ReadFault.TheVariants as read
-use Rattle.nx_fec.proofs.TransferLaws.{Reads-on}
+use Rattle.nx_fec.proofs.TransferLaws.{Ok-not_err, Reads-on}
 use Rattle.nx_station.specs.Broadcast.{IsBroadcast}
 use Rattle.nx_station.specs.Faults.{read_fault, send_fault}
 use Rattle.nx_station.specs.MessageFile.{IsMessageFile, file_message_of}
@@ -43,13 +45,6 @@ inside-read {T} fault h e = let same : fault ≡ Read = cc in subst IsInside sam
 inside-write : {T : Type 0} (fault : SendRunFault) (written : ℕ) → IsInside fault
     → ◌≡◌ {A = Result T SendRunFault} (Err fault) (Err (Write written)) → ⊥
 inside-write {T} fault written h e = let same : fault ≡ Write written = cc in subst IsInside same h
-
-ok-read : {N : Type 0} (text : N) → ◌≡◌ {A = Result N ReadFault} (Ok text) (Err read.Read) → ⊥
-ok-read text e = cc
-
-ok-err : (sent : Sent) (fault : SendRunFault)
-    → ◌≡◌ {A = Result Sent SendRunFault} (Ok sent) (Err fault) → ⊥
-ok-err sent fault e = cc
 
 write-read : (written : ℕ) → ◌≡◌ {A = Result Sent SendRunFault} (Err (Write written)) (Err Read) → ⊥
 write-read written e = cc
@@ -130,7 +125,7 @@ unsent d station from text items fault reads same none inside explains = record 
       (d.contents d.writer.inner) (d.contents d.writer_after.inner) fault) k.1
       (explains (Unit {0}) tt (subst (λ l. length l ≤ file_limit) (sym k.1) k.0)))
       (λ bytes k h outside. k.1) (λ e. absurd (inside-read fault inside e))
-      (λ e. absurd (ok-read text e));
+      (λ e. absurd (Ok-not_err text read.Read e));
   writes = record {
     failed = (
       λ w. absurd (inside-write fault w.0 inside w.1),
@@ -171,7 +166,7 @@ unwritten d station from text items air sent written reads one is wrote = record
         wrote,
       ))
       (λ bytes k h outside. k.1) (λ e. absurd (write-read written e))
-      (λ e. absurd (ok-read text e));
+      (λ e. absurd (Ok-not_err text read.Read e));
   writes = record { failed = (λ w. one, λ h. (written, refl)); once = omega (arith, one) };
   unwritten = λ other. absurd (other written refl);
 }
@@ -194,10 +189,11 @@ sent-all d station from text items air sent reads none is wrote = record {
         wrote,
       ))
       (λ bytes k. (tt, k.0, air, subst (λ l. IsTransmission station from l air sent) k.1 is, wrote))
-      (λ bytes k h. h) (λ e. absurd (ok-err sent Read e)) (λ e. absurd (ok-read text e));
+      (λ bytes k h. h) (λ e. absurd (Ok-not_err sent Read e))
+      (λ e. absurd (Ok-not_err text read.Read e));
   writes = record {
     failed =
-        (λ w. absurd (ok-err sent (Write w.0) w.1), λ one. absurd (omega (arith, none, one)));
+        (λ w. absurd (Ok-not_err sent (Write w.0) w.1), λ one. absurd (omega (arith, none, one)));
     once =
         omega (arith, none);
   };

@@ -1,15 +1,21 @@
 -- Where a message stands in the positions of its broadcast; and the emissions among parts.
-use Rattle.std.proofs.Common.{◌≡◌, ℕ, zero, suc, ◌+◌, ◌-◌, ◌≤◌, Some, None, List, [], ◌∷◌, ◌++◌, map, replicate, length, take, sym, ap, ◌∙◌, subst, arith, append_assoc, ◌%◌, get_or, ◌<◌}
+use Rattle.std.proofs.Common.{◌≡◌, ℕ, zero, suc, ◌+◌, ◌-◌, ◌≤◌, Some, None, List, [], ◌∷◌, ◌++◌}
+use Rattle.std.proofs.Common.{map, replicate, length, take, sym, ap, ◌∙◌, subst, arith}
+use Rattle.std.proofs.Common.{append_assoc, ◌%◌, get_or, ◌<◌}
 use Rattle.std.specs.List.{AllByRecursion, flat_map, slice_get}
 use Rattle.std.proofs.lemmas.List.{get_or-append-add, length-append, length-map, length-replicate}
 use Rattle.nx_envelope.specs.Message.{MessageView}
-use Rattle.nx_fec.specs.Emission.{SentPosition, phasing_position, traffic_position, end_position, position_at, rx_word, word_sent}
-use Rattle.nx_station.specs.Broadcast.{IsSpelled, AreSpelled, digit_combination, head, layout, phasing_and_message, first_phasing, further_phasing, end_positions}
+use Rattle.nx_fec.specs.Emission.{SentPosition, phasing_position, traffic_position, end_position}
+use Rattle.nx_fec.specs.Emission.{position_at, rx_word, word_sent}
+use Rattle.nx_station.specs.Broadcast.{IsSpelled, AreSpelled, digit_combination, head, layout}
+use Rattle.nx_station.specs.Broadcast.{phasing_and_message, first_phasing, further_phasing}
+use Rattle.nx_station.specs.Broadcast.{end_positions}
 use Rattle.nx_station.specs.Channel.{slots_of}
 use Rattle.nx_station.proofs.ChannelPhasing.{length-spelled}
 use Rattle.nx_code.specs.Table.{traffic_word}
 use Rattle.nx_fec.proofs.EmissionLemmas.{word_sent-rx}
-use Rattle.nx_station.specs.Sendings.{IsReceived, Part, ReceivedEmission, StandsFrom, digit_slot, gap, positions_before, received}
+use Rattle.nx_station.specs.Sendings.{IsReceived, Part, ReceivedEmission, StandsFrom, digit_slot}
+use Rattle.nx_station.specs.Sendings.{gap, positions_before, received}
 
 -- a part that is an emission is received
 abbrev IsGood : Part → Type 0

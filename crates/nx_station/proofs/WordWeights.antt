@@ -1,15 +1,11 @@
 -- The words of a position that is in the code have the right weight.
-use Rattle.std.proofs.Common.{◌≡◌, ℕ, ◌-◌, ◌<◌, ◌≤◌, true, get_or, eqb, refl, ap, ◌∙◌, arith}
-use Rattle.std.proofs.lemmas.Bool.{agree_below_at, eqb-true}
-use Rattle.nx_code.specs.Table.{phasing_1, phasing_2, words, table}
+use Rattle.std.proofs.Common.{◌≡◌, ℕ, ◌-◌, ◌≤◌, refl, ap, ◌∙◌, arith}
+use Rattle.nx_code.specs.Table.{phasing_1, phasing_2}
 use Rattle.nx_code.specs.Word.{weight, elements, elements_from}
 use Rattle.nx_code.proofs.TableLemmas.{traffic_word-is}
-use Rattle.nx_fec.specs.Emission.{SentPosition, IsInCode, dx_word, rx_word, phasing_position, traffic_position, end_position}
-
-word-weight : (place : ℕ) → place < 35 → weight (get_or words place 0) ≡ 4
-unfolding words table weight elements elements_from
-word-weight place h = eqb-true (weight (get_or words place 0)) 4
-    (agree_below_at (λ i. eqb (weight (get_or words i 0)) 4) (λ _. true) 35 place refl h)
+use Rattle.nx_fec.specs.Emission.{SentPosition, IsInCode, dx_word, rx_word, phasing_position}
+use Rattle.nx_fec.specs.Emission.{traffic_position, end_position}
+use Rattle.nx_fec.proofs.PairingLemmas.{weight-words}
 
 pub phasing_1-weight : weight phasing_1 ≡ 4
 unfolding weight elements elements_from
@@ -23,7 +19,7 @@ traffic-weight : (number : ℕ) → 1 ≤ number → number ≤ 32
     → weight (dx_word (traffic_position number)) ≡ 4
 traffic-weight number low high =
     ap weight (traffic_word-is number low high)
-    ∙ word-weight (number - 1) (omega (arith, low, high))
+    ∙ weight-words (number - 1) (omega (arith, low, high))
 
 pub dx-weight : (position : SentPosition) → IsInCode position → weight (dx_word position) ≡ 4
 dx-weight phasing_position h = phasing_2-weight

@@ -1,4 +1,6 @@
-use Rattle.std.proofs.Common.{◌≡◌, ◌≤◌, ◌+◌, List, [], ◌∷◌, ◌++◌, ℕ, Option, Some, None, true, false, get_or, length, map, not, refl, sym, subst, ap, ◌∙◌, take, arith}
+use Rattle.std.proofs.Common.{◌≡◌, ◌≤◌, ◌+◌, List, [], ◌∷◌, ◌++◌, ℕ, Option, Some, None, true}
+use Rattle.std.proofs.Common.{false, get_or, length, map, not, refl, sym, subst, ap, ◌∙◌, take}
+use Rattle.std.proofs.Common.{arith}
 use Rattle.std.specs.Option.{is_some}
 use Rattle.std.specs.List.{list_all, position}
 use Rattle.std.proofs.lemmas.Bool.{not-false, not-true, false≢true}

@@ -1,9 +1,17 @@
 use Rattle.std.proofs.Common.{◌≡◌, ◌+◌, ◌^◌, ◌≤◌, ◌<◌, get_or, arith, rules, length, sym, ◌∙◌}
 use Rattle.std.proofs.lemmas.List.{take_all}
 use Rattle.std.proofs.Math.Nat.{pow-le-pow_right}
-use Rattle.nx_fec.proofs.Digits.{decimal-nonempty, decimal-short, decimal-leading, decimal-no_other, decimal-step, below-ten-step, positive-step}
+use Rattle.nx_fec.proofs.Digits.{decimal-nonempty, decimal-short, decimal-leading, decimal-no_other}
+use Rattle.nx_fec.proofs.Digits.{decimal-step, below-ten-step, positive-step}
 use Rattle.nx_fec.proofs.air_file.moment.Goals as goal
-use Rattle.nx_fec.proofs.air_file.moment.Goals.{then-is_empty-via-then-is_empty, then-is_empty-via-else-is_empty+then-digits-gt-MAX_DIGITS, else-digits-gt1-via-then-digits-gt1+else-digits-eq48, else-digits-gt1-via-else-digits-gt1}
+use Rattle.nx_fec.proofs.air_file.moment.Goals.{then-is_empty-via-then-is_empty}
+use Rattle.nx_fec.proofs.air_file.moment.Goals.{
+  then-is_empty-via-else-is_empty+then-digits-gt-MAX_DIGITS,
+}
+use Rattle.nx_fec.proofs.air_file.moment.Goals.{
+  else-digits-gt1-via-then-digits-gt1+else-digits-eq48,
+}
+use Rattle.nx_fec.proofs.air_file.moment.Goals.{else-digits-gt1-via-else-digits-gt1}
 
 pub returns-then-is_empty-clause-none : goal.returns-then-is_empty-clause-none
 returns-then-is_empty-clause-none c = λ n fits.

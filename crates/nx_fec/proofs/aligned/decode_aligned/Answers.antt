@@ -6,7 +6,9 @@ use Rattle.nx_code.specs.Taken.{reception_of}
 use Rattle.nx_code.specs.declared.shifts.Shift.TheVariants.{Letters}
 use Rattle.nx_fec.specs.Pairing.{IsLatest, counts_as, pairing, heard_as, five_before}
 use Rattle.nx_fec.specs.Aligned.{dx_words, words_of, taken_at}
-use Rattle.nx_fec.proofs.AlignedLemmas.{taken_first, get_or-words_of, dx_words-more, taken_first-more, third_last-pairs, taken_first-all, taken_at-pairing}
+use Rattle.nx_fec.proofs.AlignedLemmas.{taken_first, get_or-words_of, dx_words-more}
+use Rattle.nx_fec.proofs.AlignedLemmas.{taken_first-more, third_last-pairs, taken_first-all}
+use Rattle.nx_fec.proofs.AlignedLemmas.{taken_at-pairing}
 use Rattle.nx_fec.proofs.aligned.decode_aligned.Goals as goal
 use Rattle.nx_fec.proofs.aligned.decode_aligned.Goals.{in-Some+in_ok-map_err, in_default}
 

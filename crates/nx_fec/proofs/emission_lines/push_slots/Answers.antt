@@ -1,10 +1,12 @@
-use Rattle.std.proofs.Common.{◌≡◌, ◌+◌, ◌-◌, ◌*◌, ◌<◌, ◌≤◌, ◌∙◌, [], ◌∷◌, ◌++◌, ap, sym, subst, arith, refl, length, map, min, take}
+use Rattle.std.proofs.Common.{◌≡◌, ◌+◌, ◌-◌, ◌*◌, ◌<◌, ◌≤◌, ◌∙◌, [], ◌∷◌, ◌++◌, ap, sym, subst}
+use Rattle.std.proofs.Common.{arith, refl, length, map, min, take}
 use Rattle.std.proofs.lemmas.List.{length-map}
 use Rattle.nx_code.specs.Word.{elements}
 use Rattle.nx_fec.specs.AirFile.{element_digit}
 use Rattle.nx_fec.specs.Emission.{bits_of, dx_word, rx_word, sent_position, word_sent}
 use Rattle.nx_fec.proofs.EmissionLemmas.{sent_position-at, word_sent-dx, word_sent-rx}
-use Rattle.nx_fec.proofs.EmissionLineLemmas.{line-slots, position-written, position-written-long, slot_digits, slot_digits-fewer}
+use Rattle.nx_fec.proofs.EmissionLineLemmas.{line-slots, position-written, position-written-long}
+use Rattle.nx_fec.proofs.EmissionLineLemmas.{slot_digits, slot_digits-fewer}
 use Rattle.nx_fec.proofs.emission_lines.push_slots.Goals as goal
 use Rattle.nx_fec.proofs.emission_lines.push_slots.Goals.{then-first-count, else-first-count}
 
@@ -52,8 +54,8 @@ loop-place-preserved c =
     let k : 14 * place + 7 + 8 - (14 * place + 7) ≡ 8 = omega arith in
     record {
       size = position-written-long place _ _ c.loop-place.digits _ _ j k a b so_far.size below;
-      same = position-written f (70 * index) place _ _ (dx_word (sent_position position)) (f (70 * index + 2 * place + 1))
-          c.loop-place.digits _ _ j a b so_far.size below
+      same = position-written f (70 * index) place _ _ (dx_word (sent_position position))
+          (f (70 * index + 2 * place + 1)) c.loop-place.digits _ _ j a b so_far.size below
           (ap (take 7) first ∙ c.digits_sent-dx.ensures.dx)
           (ap (take 7) second ∙ so_far.behind) dx refl so_far.same;
       behind = so_far.behind_next;

@@ -1,6 +1,7 @@
 use Rattle.std.proofs.Common.{◌≡◌, ◌+◌, ◌-◌, ◌*◌, ◌∙◌, ap, sym, arith, map}
 use Rattle.nx_fec.specs.Emission.{rx_word, sent_position, word_sent}
-use Rattle.nx_fec.proofs.EmissionLemmas.{phasing_1-words, sent_position-at, word_sent-early, word_sent-rx}
+use Rattle.nx_fec.proofs.EmissionLemmas.{phasing_1-words, sent_position-at, word_sent-early}
+use Rattle.nx_fec.proofs.EmissionLemmas.{word_sent-rx}
 use Rattle.nx_fec.proofs.emission_lines.rx_behind.Goals as goal
 
 pub returns-then-index-lt2 : goal.returns-then-index-lt2

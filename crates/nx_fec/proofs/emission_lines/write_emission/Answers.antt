@@ -4,9 +4,11 @@ use Rattle.nx_fec.specs.BitLines.{bit_line}
 use Rattle.nx_fec.specs.Emission.{bits_of, emission, sent_position}
 use Rattle.nx_fec.proofs.EmissionLineLemmas.{lines-of_positions}
 use Rattle.std.proofs.lemmas.Result.{err_from_is_err_and}
-use Rattle.nx_fec.proofs.WritingLaws.{Batched, Batched-more, Batched-sent, Batched-failed, Batched-all}
+use Rattle.nx_fec.proofs.WritingLaws.{Batched, Batched-more, Batched-sent, Batched-failed}
+use Rattle.nx_fec.proofs.WritingLaws.{Batched-all}
 use Rattle.nx_fec.proofs.emission_lines.write_emission.Goals as goal
-use Rattle.nx_fec.proofs.emission_lines.write_emission.Goals.{then-not-has_room+in_ok-sent, else-not-has_room}
+use Rattle.nx_fec.proofs.emission_lines.write_emission.Goals.{then-not-has_room+in_ok-sent}
+use Rattle.nx_fec.proofs.emission_lines.write_emission.Goals.{else-not-has_room}
 
 pub returns-in_err-sent-clause-err : goal.returns-in_err-sent-clause-err
 returns-in_err-sent-clause-err g c =

@@ -3,8 +3,12 @@ use Rattle.std.specs.Io.KnownBytes.{Appends}
 use Rattle.std.proofs.KnownBytes.{Consumes-trans, Consumes-kept}
 use Rattle.nx_fec.specs.Lines.{IsCause}
 use Rattle.nx_fec.specs.LineRuns.{ExplainsLines, HasGiven, HasTakenSome}
-use Rattle.nx_fec.proofs.LineRunLemmas.{ExplainsLines-not_read, ExplainsLines-piece, HasGiven-empty, HasGiven-written, HasTaken-map, IsPlaced-end, IsTaking-sent, Line-read, Line-write, Read-other, RunsLines-of, StopsAt-end, Write-other, scanned-within, taken-some}
-use Rattle.nx_fec.proofs.TransferLaws.{Ok-not_err, Writes-fault, Writes-none, Writes-sound, read_failed-none}
+use Rattle.nx_fec.proofs.LineRunLemmas.{ExplainsLines-not_read, ExplainsLines-piece, HasGiven-empty}
+use Rattle.nx_fec.proofs.LineRunLemmas.{HasGiven-written, HasTaken-map, IsPlaced-end, IsTaking-sent}
+use Rattle.nx_fec.proofs.LineRunLemmas.{Line-read, Line-write, Read-other, RunsLines-of}
+use Rattle.nx_fec.proofs.LineRunLemmas.{StopsAt-end, Write-other, scanned-within, taken-some}
+use Rattle.nx_fec.proofs.TransferLaws.{Ok-not_err, Writes-fault, Writes-none, Writes-sound}
+use Rattle.nx_fec.proofs.TransferLaws.{read_failed-none}
 use Rattle.nx_fec.proofs.line_run.run_lines.Goals as goal
 
 pub returns-in-Err : goal.returns-in-Err

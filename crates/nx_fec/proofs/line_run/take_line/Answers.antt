@@ -1,5 +1,7 @@
 use Rattle.nx_fec.specs.LineRuns.{HasTaken, HasGiven}
-use Rattle.nx_fec.proofs.LineRunLemmas.{IsPlaced-at_byte, StopsAt-cause, explains-refused, explains-write, no-kind, some-kind, taking-ended, taking-open}
+use Rattle.nx_fec.proofs.LineRunLemmas.{IsPlaced-at_byte, StopsAt-cause, explains-refused}
+use Rattle.nx_fec.proofs.LineRunLemmas.{explains-write, no-kind, some-kind, taking-ended}
+use Rattle.nx_fec.proofs.LineRunLemmas.{taking-open}
 use Rattle.nx_fec.proofs.line_run.take_line.Goals as goal
 
 pub returns-in-Err-clause-taken : goal.returns-in-Err-clause-taken

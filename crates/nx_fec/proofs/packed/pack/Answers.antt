@@ -1,9 +1,12 @@
-use Rattle.std.proofs.Common.{◌≡◌, ◌+◌, ◌*◌, ◌/◌, ◌<◌, ◌∙◌, ◌&&◌, length, map, set, take, arith, subst}
+use Rattle.std.proofs.Common.{◌≡◌, ◌+◌, ◌*◌, ◌/◌, ◌<◌, ◌∙◌, ◌&&◌, length, map, set, take, arith}
+use Rattle.std.proofs.Common.{subst}
 use Rattle.std.proofs.lemmas.List.{length-set, take_all}
 use Rattle.nx_code.specs.Packed.{elements_of_words}
 use Rattle.nx_code.specs.Word.{elements_from}
 use Rattle.nx_fec.specs.private.Packing.{are_elements, is_one}
-use Rattle.nx_fec.proofs.PackedLemmas.{length-elements_from, packed-last, packed-more, right-last, right-more}
+use Rattle.nx_code.proofs.PackedLemmas.{length-elements_from}
+use Rattle.nx_fec.proofs.PackedLemmas.{packed-last, packed-more, right-last}
+use Rattle.nx_fec.proofs.PackedLemmas.{right-more}
 use Rattle.nx_fec.proofs.packed.pack.Goals as goal
 
 pub loop-place-preserved : goal.loop-place-preserved

@@ -1,7 +1,9 @@
 use Rattle.std.proofs.Common.{◌-◌, ◌/◌, sym, ap, ◌∙◌, map, Some, arith}
 use Rattle.std.proofs.lemmas.List.{length-map}
 use Rattle.nx_fec.specs.Emission.{dx_word, sent_position, rx_word}
-use Rattle.nx_fec.proofs.EmissionLemmas.{phasing_1-words, sent_position-at, slice_get-emission_even, slice_get-emission_early, slice_get-emission_late, slice_get-emission_none}
+use Rattle.nx_fec.proofs.EmissionLemmas.{phasing_1-words, sent_position-at, slice_get-emission_even}
+use Rattle.nx_fec.proofs.EmissionLemmas.{slice_get-emission_early, slice_get-emission_late}
+use Rattle.nx_fec.proofs.EmissionLemmas.{slice_get-emission_none}
 use Rattle.nx_fec.proofs.positions.word_at.Goals as goal
 
 pub returns-in_err-get : goal.returns-in_err-get

@@ -2,7 +2,8 @@ use Rattle.std.proofs.Common.{ℕ, List, subst, sym}
 use Rattle.std.proofs.lemmas.Result.{err_from_is_err_and}
 use Rattle.nx_fec.specs.private.Takers.{HasRead}
 use Rattle.nx_fec.specs.private.Takers.{TakenElements}
-use Rattle.nx_fec.proofs.ReadingLaws.{ExplainsReading-fault, ExplainsReading-weaker, Err-same, HasRead-first, run_fault-inside, run_fault-not_read}
+use Rattle.nx_fec.proofs.ReadingLaws.{ExplainsReading-fault, ExplainsReading-weaker, Err-same}
+use Rattle.nx_fec.proofs.ReadingLaws.{HasRead-first, run_fault-inside, run_fault-not_read}
 use Rattle.nx_fec.proofs.TransferLaws.{Ok-not_err, Reads-on}
 use Rattle.nx_fec.proofs.reading.read_through.Goals as goal
 

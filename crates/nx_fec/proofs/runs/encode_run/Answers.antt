@@ -6,7 +6,8 @@ use Rattle.nx_fec.specs.Lines.{file_of}
 use Rattle.nx_fec.specs.BitLines.{bit_lines}
 use Rattle.nx_fec.specs.Runs.{IsEncoded}
 use Rattle.nx_fec.proofs.TransferLaws.{Reads-on, Ok-not_err, Write-not_read}
-use Rattle.nx_fec.proofs.EncodingLaws.{spelling-explains, spell_fault-not_read, spell_fault-not_write, IsEncoded-of}
+use Rattle.nx_fec.proofs.EncodingLaws.{spelling-explains, spell_fault-not_read}
+use Rattle.nx_fec.proofs.EncodingLaws.{spell_fault-not_write, IsEncoded-of}
 use Rattle.nx_fec.proofs.runs.encode_run.Goals as goal
 
 pub returns-in_err-combs : goal.returns-in_err-combs

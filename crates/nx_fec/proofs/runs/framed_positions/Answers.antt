@@ -1,4 +1,5 @@
-use Rattle.std.proofs.Common.{◌≡◌, ◌+◌, ◌-◌, ◌++◌, [], ◌∷◌, length, map, take, ap, ap₂, sym, ◌∙◌, arith, replicate}
+use Rattle.std.proofs.Common.{◌≡◌, ◌+◌, ◌-◌, ◌++◌, [], ◌∷◌, length, map, take, ap, ap₂, sym, ◌∙◌}
+use Rattle.std.proofs.Common.{arith, replicate}
 use Rattle.std.proofs.lemmas.List.{length-map, take_all}
 use Rattle.nx_code.specs.declared.signals.Comb.{Comb}
 use Rattle.nx_fec.specs.Emission.{sent_position}
@@ -22,6 +23,7 @@ returns c =
     ∙ ap (λ n. replicate n Phasing) (omega (arith, size)) in
     ap (map sent_position) (c.in_ok-extend_from_slice.ensures.items
     ∙ ap (λ l. l ++ (End ∷ End ∷ End ∷ []))
-    (behind_phasing c.deref_mut.result.now c.send_combs.new.positions _ _ made (sym c.deref_mut.ensures.len)
+    (behind_phasing c.deref_mut.result.now c.send_combs.new.positions _ _ made
+    (sym c.deref_mut.ensures.len)
     ∙ ap (λ l. replicate 4 Phasing ++ l) c.send_combs.ensures))
     ∙ sent_position-framed_positions combs

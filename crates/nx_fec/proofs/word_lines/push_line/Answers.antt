@@ -1,13 +1,13 @@
 use Rattle.std.proofs.Common.{◌∙◌, ◌++◌, ap}
 use Rattle.nx_fec.specs.Hexadecimal.{two_hex_digits}
 use Rattle.nx_fec.specs.WordLines.{word_line}
-use Rattle.nx_fec.proofs.WordLineLemmas.{word_line-parts}
+use Rattle.nx_fec.proofs.TableTextLemmas.{line_parts}
 use Rattle.nx_fec.proofs.word_lines.push_line.Goals as goal
 
 pub returns : goal.returns
 unfolding word_line
 returns c =
-    word_line-parts c.args.text.now.items _ _ _ _ _ _ _ _ _ _ _ _
+    line_parts c.args.text.now.items _ _ _ _ _ _ _ _ _ _ _ _
     (c.in_ok-extend_from_slice.ensures.items
     ∙ ap (λ l. c.args.text.now.items ++ l) (c.as_bytes.ensures.value ∙ c.format.ensures.text))
     c.in_ok-push.ensures.items

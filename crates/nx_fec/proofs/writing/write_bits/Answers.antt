@@ -1,8 +1,10 @@
 use Rattle.std.proofs.Common.{◌≡◌, [], ◌∙◌, ap, arith}
 use Rattle.std.proofs.lemmas.Result.{err_from_is_err_and}
-use Rattle.nx_fec.proofs.WritingLaws.{Batched, Batched-line, Batched-sent, Batched-failed, Batched-all}
+use Rattle.nx_fec.proofs.WritingLaws.{Batched, Batched-line, Batched-sent, Batched-failed}
+use Rattle.nx_fec.proofs.WritingLaws.{Batched-all}
 use Rattle.nx_fec.proofs.writing.write_bits.Goals as goal
-use Rattle.nx_fec.proofs.writing.write_bits.Goals.{then-remaining_capacity-lt-LINE_BYTES+in_ok-sent, else-remaining_capacity-lt-LINE_BYTES}
+use Rattle.nx_fec.proofs.writing.write_bits.Goals.{then-remaining_capacity-lt-LINE_BYTES+in_ok-sent}
+use Rattle.nx_fec.proofs.writing.write_bits.Goals.{else-remaining_capacity-lt-LINE_BYTES}
 
 pub returns-in_err-sent-clause-err : goal.returns-in_err-sent-clause-err
 returns-in_err-sent-clause-err g c =

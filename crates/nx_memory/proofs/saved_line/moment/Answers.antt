@@ -7,7 +7,12 @@ use Rattle.std.proofs.lemmas.Slice.Eq.{slice_eq-Decides}
 use Rattle.std.proofs.lemmas.Str.{IsUtf8-from_ascii}
 use Rattle.std.proofs.lemmas.Fmt.{IsAscii-decimal, parse-decimal}
 use Rattle.nx_memory.proofs.saved_line.moment.Goals as goal
-use Rattle.nx_memory.proofs.saved_line.moment.Goals.{else-moment-le-LAST_MOMENT-via-then-moment-le-LAST_MOMENT+else-eq, else-moment-le-LAST_MOMENT-via-else-moment-le-LAST_MOMENT}
+use Rattle.nx_memory.proofs.saved_line.moment.Goals.{
+  else-moment-le-LAST_MOMENT-via-then-moment-le-LAST_MOMENT+else-eq,
+}
+use Rattle.nx_memory.proofs.saved_line.moment.Goals.{
+  else-moment-le-LAST_MOMENT-via-else-moment-le-LAST_MOMENT,
+}
 
 same_ok : {E : Type 0} (m n : ℕ) → ◌≡◌ {A = Result ℕ E} (Ok m) (Ok n) → m ≡ n
 same_ok m n e = cc
@@ -25,7 +30,8 @@ returns-in_default-parse-clause-none c = λ moment small e.
     (omega arith) (omega arith) text c.in_default-parse.ensures.value.0 in
     cc
 
-pub returns-else-moment-le-LAST_MOMENT-clause-none : goal.returns-else-moment-le-LAST_MOMENT-clause-none
+pub returns-else-moment-le-LAST_MOMENT-clause-none :
+    goal.returns-else-moment-le-LAST_MOMENT-clause-none
 returns-else-moment-le-LAST_MOMENT-clause-none c = λ moment small e.
     let text = c.in-Ok.ensures.cases.0 ∙ e in
     let same : c.in-Ok-parse.moment ≡ moment =

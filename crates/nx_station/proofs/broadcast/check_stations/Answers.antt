@@ -3,7 +3,8 @@ use Rattle.std.proofs.lemmas.Bool.{false≢true}
 use Rattle.nx_station.proofs.StationLemmas.{another-found, all-same, none_of}
 use Rattle.nx_station.proofs.broadcast.check_stations.Goals as goal
 
-pub returns-in-Some-first_of_another-clause-refused : goal.returns-in-Some-first_of_another-clause-refused
+pub returns-in-Some-first_of_another-clause-refused :
+    goal.returns-in-Some-first_of_another-clause-refused
 returns-in-Some-first_of_another-clause-refused c =
     let first = rw c.in-Some.is at c.first.ensures.value in
     let station = ap (λ l. l.byte) c.b1-station.ensures ∙ ap (λ i. i.b1.byte) c.identity.ensures in

@@ -1,4 +1,5 @@
-use Rattle.nx_station.proofs.DamageLemmas.{length-damaged, lines-elements, lines-kinds, lines-others, lines-twice}
+use Rattle.nx_station.proofs.DamageLemmas.{length-damaged, lines-elements, lines-kinds}
+use Rattle.nx_station.proofs.DamageLemmas.{lines-others, lines-twice}
 use Rattle.nx_station.proofs.DamageLaws.{files-twice}
 use Rattle.nx_station.proofs.laws.damage_undoes_itself.Goals as goal
 

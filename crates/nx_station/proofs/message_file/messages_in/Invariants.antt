@@ -1,7 +1,8 @@
 use Rattle.std.proofs.Common.{◌≡◌, ◌≤◌, ◌+◌, ◌++◌, length, map}
 use Rattle.std.specs.List.{AllByRecursion}
 use Rattle.nx_envelope.specs.Message.{MessageView}
-use Rattle.nx_station.specs.MessageFile.{IsFileMessage, file_message_of, message_file_bytes, lines_of}
+use Rattle.nx_station.specs.MessageFile.{IsFileMessage, file_message_of, message_file_bytes}
+use Rattle.nx_station.specs.MessageFile.{lines_of}
 use Rattle.nx_station.proofs.message_file.messages_in.Given as goal
 
 abbrev pub invariant-loop-rest : goal.invariant-loop-rest

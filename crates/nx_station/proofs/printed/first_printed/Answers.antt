@@ -4,7 +4,8 @@ use Rattle.nx_envelope.specs.Message.{IsMessageFault}
 use Rattle.nx_station.proofs.PrintedText.{lines-fault, lines-read, printed-header, unmade-fault}
 use Rattle.nx_station.proofs.printed.first_printed.Goals as goal
 
-pub returns-in_default-identity_of_header-clause-fault : goal.returns-in_default-identity_of_header-clause-fault
+pub returns-in_default-identity_of_header-clause-fault :
+    goal.returns-in_default-identity_of_header-clause-fault
 returns-in_default-identity_of_header-clause-fault c message more sound e =
     let none = rw c.in_default-identity_of_header.is at c.identity_of_header.ensures.none refl in
     none message.identity (printed-header c.args.text.now c.in-Some.line.now c.in-Some.rest.now more

@@ -12,7 +12,8 @@ use Rattle.nx_station.specs.MessageFile.{IsMessageFile, file_message_of}
 use Rattle.nx_station.specs.Sendable.{AreOf, IsRefusal}
 use Rattle.nx_station.specs.declared.fault.SendFault.TheVariants as refusal
 use Rattle.nx_station.specs.declared.fault.SendRunFault.TheVariants.{Send}
-use Rattle.nx_station.proofs.SendingLaws.{unsent, unwritten, sent-all, refusal-explains, refusal-inside, transmission-of}
+use Rattle.nx_station.proofs.SendingLaws.{unsent, unwritten, sent-all, refusal-explains}
+use Rattle.nx_station.proofs.SendingLaws.{refusal-inside, transmission-of}
 use Rattle.nx_station.proofs.sending.send.Goals as goal
 
 pub returns-in_default : goal.returns-in_default

@@ -1,9 +1,11 @@
 -- Each way through the body: a newline directly behind a header; a marker; the 4,100th byte; any
 -- other.
-use Rattle.std.proofs.Common.{◌≡◌, ℕ, ◌+◌, ◌-◌, ◌<◌, ◌∷◌, length, take, reverse, refl, sym, ap, ◌∙◌, arith}
+use Rattle.std.proofs.Common.{◌≡◌, ℕ, ◌+◌, ◌-◌, ◌<◌, ◌∷◌, length, take, reverse, refl, sym, ap, ◌∙◌}
+use Rattle.std.proofs.Common.{arith}
 use Rattle.std.proofs.lemmas.Bool.Decides.{nat_tests}
 use Rattle.nx_envelope.specs.FinderView.{FinderView}
-use Rattle.nx_envelope.proofs.Hearing.{goes_newline, goes_on, ends_by, ends_full, stays, becomes_ready}
+use Rattle.nx_envelope.proofs.Hearing.{goes_newline, goes_on, ends_by, ends_full, stays}
+use Rattle.nx_envelope.proofs.Hearing.{becomes_ready}
 use Rattle.nx_envelope.proofs.finder.Finder.add.Goals as goal
 
 pub returns-then-is_dropped-clause-hearing : goal.returns-then-is_dropped-clause-hearing

@@ -9,7 +9,8 @@ returns-clause-stands c before h =
     let size = c.type_inv.words in
     let one = latest-next c.hear_dx.new.self before words 0 c.index-words-0.result
     (omega arith) size
-    (c.hear_dx.ensures.stands (before ++ dx_words words 0 0) (latest-none c.args.self.now before words h)) in
+    (c.hear_dx.ensures.stands (before ++ dx_words words 0 0)
+    (latest-none c.args.self.now before words h)) in
     let two = latest-next c.hear_dx-2.new.self before words 1 c.index-words-2.result
     (omega arith) size
     (c.hear_dx-2.ensures.stands (before ++ dx_words words 0 1) one) in
@@ -26,7 +27,8 @@ returns-clause-taken c before h =
     let size = c.type_inv.words in
     let one = latest-next c.hear_dx.new.self before words 0 c.index-words-0.result
     (omega arith) size
-    (c.hear_dx.ensures.stands (before ++ dx_words words 0 0) (latest-none c.args.self.now before words h)) in
+    (c.hear_dx.ensures.stands (before ++ dx_words words 0 0)
+    (latest-none c.args.self.now before words h)) in
     let two = latest-next c.hear_dx-2.new.self before words 1 c.index-words-2.result
     (omega arith) size
     (c.hear_dx-2.ensures.stands (before ++ dx_words words 0 1) one) in

@@ -1,7 +1,7 @@
 use Rattle.std.proofs.Common.{ap, sym, ◌∙◌, arith, length}
 use Rattle.std.proofs.lemmas.List.{length-take-le}
 use Rattle.nx_code.specs.Packed.{elements_of_words}
-use Rattle.nx_fec.proofs.PackedLemmas.{length-words}
+use Rattle.nx_code.proofs.PackedLemmas.{length-words}
 use Rattle.nx_fec.proofs.packed.PackedElements.len.Goals as goal
 
 pub returns-clause-count : goal.returns-clause-count

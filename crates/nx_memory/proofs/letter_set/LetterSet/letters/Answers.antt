@@ -1,4 +1,5 @@
-use Rattle.std.proofs.Common.{rules, ◌≡◌, ◌<◌, Bool, ℕ, true, false, cond, List, [], ◌++◌, ◌∷◌, ◌+◌, length, get_or, take, take_all, ap, sym, ◌∙◌, arith}
+use Rattle.std.proofs.Common.{rules, ◌≡◌, ◌<◌, Bool, ℕ, true, false, cond, List, [], ◌++◌, ◌∷◌, ◌+◌}
+use Rattle.std.proofs.Common.{length, get_or, take, take_all, ap, sym, ◌∙◌, arith}
 use Rattle.std.specs.List.{filter, range_with_len}
 use Rattle.std.specs.FinSet as set
 use Rattle.std.proofs.lemmas.List.{append-nil, length_push}

@@ -1,4 +1,5 @@
-use Rattle.nx_memory.proofs.StateLines.{is_taken, section_more, sound_after, refused_untaken, refused_unsaid}
+use Rattle.nx_memory.proofs.StateLines.{is_taken, section_more, sound_after, refused_untaken}
+use Rattle.nx_memory.proofs.StateLines.{refused_unsaid}
 use Rattle.std.proofs.Common.{sym, ◌∙◌}
 use Rattle.nx_memory.proofs.saved.Saved.take_line.Goals as goal
 

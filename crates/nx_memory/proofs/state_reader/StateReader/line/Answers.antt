@@ -7,7 +7,10 @@ use Rattle.nx_memory.specs.StateText.{IsStateText, BeginsNoText}
 use Rattle.nx_memory.specs.private.StateReading.{may_end}
 use Rattle.nx_memory.proofs.StateTexts.{opens, begins, new_begins, whole, no_text}
 use Rattle.nx_memory.proofs.state_reader.StateReader.line.Goals as goal
-use Rattle.nx_memory.proofs.state_reader.StateReader.line.Goals.{else-may_end-via-then-may_end+else-eq, else-may_end-via-else-may_end}
+use Rattle.nx_memory.proofs.state_reader.StateReader.line.Goals.{
+  else-may_end-via-then-may_end+else-eq,
+}
+use Rattle.nx_memory.proofs.state_reader.StateReader.line.Goals.{else-may_end-via-else-may_end}
 
 pub returns-in-Some-clause-more : goal.returns-in-Some-clause-more
 returns-in-Some-clause-more c =
