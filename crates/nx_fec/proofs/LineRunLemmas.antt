@@ -159,7 +159,8 @@ last-within limit s bytes lines line scans =
       length-append (file_of lines) (spelling line),
     )
 
-StopsAt-map : (bytes : List ℕ) (P Q : List Line → List ℕ → List ℕ → Type 0)
+-- what a run stops at, where what is said there says more
+pub StopsAt-map : (bytes : List ℕ) (P Q : List Line → List ℕ → List ℕ → Type 0)
     → ((lines : List Line) (rest more : List ℕ) → P lines rest more → Q lines rest more)
     → StopsAt bytes P → StopsAt bytes Q
 StopsAt-map bytes P Q f h = record {
