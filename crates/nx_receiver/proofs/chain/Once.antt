@@ -22,7 +22,7 @@ use Rattle.nx_receiver.specs.Once.{IsUnknownAtFirst, IsPrintedOnce}
 use Rattle.nx_receiver.specs.Emissions.{copies_at, copy_of_sending}
 use Rattle.nx_receiver.specs.Shares.{copies_on, none_saved, saved_of}
 use Rattle.nx_receiver.proofs.chain.Runs.{chain_prints}
-use Rattle.nx_receiver.proofs.once.Found.{contains_filter, filter_all, first_passes, has_first, no_errors-good}
+use Rattle.nx_receiver.proofs.once.Found.{contains_filter, filter_all, has_first, named_first, no_errors-good}
 use Rattle.nx_receiver.proofs.once.Repeats.{none_live, once}
 use Rattle.nx_receiver.proofs.once.Rising.{contains_map, one_of_key}
 use Rattle.nx_receiver.proofs.emissions.Found.{one_found, sending_errors, sending_in_end}
@@ -194,14 +194,6 @@ module _ (channel : Channel) (first last : SavedStates) (runs : List Run) (messa
       ap (λ (c : TaggedCopy). c.moment) p.is in
       omega arith
 
-  named_first : (first : TaggedCopy) (rest : List TaggedCopy)
-      → copies_of message.identity heard ≡ first ∷ rest
-      → same_identity first.identity message.identity ≡ true
-  unfolding copies_of
-  named_first first rest e =
-      first_passes (λ (c : TaggedCopy). same_identity c.identity message.identity) heard first rest
-      e
-
   repeats : (one : TaggedCopy) (rest : List TaggedCopy)
       → copies_of message.identity heard ≡ one ∷ rest
       → AreRepeats begun message.identity heard one rest
@@ -218,7 +210,8 @@ module _ (channel : Channel) (first last : SavedStates) (runs : List Run) (messa
         close = λ a b c d. close_of a b (All-contains IsOfSending (one ∷ rest) a each c)
             (All-contains IsOfSending (one ∷ rest) b each d);
         few = λ before between after later whole none named.
-            h.few before between after one later (heard_is ∙ whole) none (named_first one rest e)
+            h.few before between after one later (heard_is ∙ whole) none
+            (named_first message.identity heard one rest e)
             named;
       }
 

@@ -100,7 +100,20 @@ module _ (front back : List ℕ) (message : MessageView) (good : AreLines messag
       contains_filter_map (ended_copy all) (headers all) here (sent_copy (length front) message)
       header_there ended_here
 
--- the copies of a text come in rising order
+-- the headers of a text come in rising order
+pub headers_rise : (text : List ℕ) → Rises (λ (h : Header). h.behind) (headers text)
+headers_rise text =
+    rises_from (λ (h : Header). h.behind) (headers text)
+    (λ front between back earlier later e. headers_rise_in text earlier later
+    (record {
+      front = front;
+      between = between;
+      back = back;
+      listed =
+          e ∙ sym (append_assoc front (earlier ∷ between) (later ∷ back));
+    }))
+
+-- and so do its copies
 pub copies_rise : (text : List ℕ) → Rises (λ (copy : Copy). copy.header.behind) (copies text)
 unfolding copies
 copies_rise text =
@@ -112,15 +125,7 @@ copies_rise text =
       ap
           (λ (h : Header). h.behind) (header_of text y),
     ))
-    (rises_from (λ (h : Header). h.behind) (headers text)
-    (λ front between back earlier later e. headers_rise_in text earlier later
-    (record {
-      front = front;
-      between = between;
-      back = back;
-      listed =
-          e ∙ sym (append_assoc front (earlier ∷ between) (later ∷ back));
-    })))
+    (headers_rise text)
 
 -- and stand behind the letters of their headers, in the text
 pub copies_within : (text : List ℕ) (copy : Copy) → Contains (copies text) copy

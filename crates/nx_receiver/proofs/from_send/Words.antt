@@ -33,7 +33,7 @@ use Rattle.nx_sync.proofs.PhasingStates.{right_stays}
 use Rattle.nx_receiver.specs.LockText.{bytes_of, lock_text, positions, taken_at}
 use Rattle.nx_receiver.proofs.locks.Texts.{bytes_are_reading}
 use Rattle.nx_receiver.proofs.emissions.Emissions.{long_heard, phasing_at}
-use Rattle.nx_receiver.proofs.emissions.Locks.{KeepsLock, dx_through, same_through, stands_through, word_of}
+use Rattle.nx_receiver.proofs.emissions.Locks.{KeepsLock, dx_through, right_1, right_2, same_through, stands_through, word_of}
 use Rattle.nx_receiver.proofs.emissions.Positions.{AreTaken, positions-taken}
 use Rattle.nx_receiver.proofs.emissions.Texts.{layout-parts, on_air}
 
@@ -83,14 +83,6 @@ first_lock = record {
   limit = length-phasing 24;
   dx = role_of-even (first_role (phasing 24) 28) 0 22 ∙ first_dx;
 }
-
-right_2 : is_wrong phasing_2 ≡ false
-unfolding weight elements elements_from
-right_2 = refl
-
-right_1 : is_wrong phasing_1 ≡ false
-unfolding weight elements elements_from
-right_1 = refl
 
 counts_1 : counts_as phasing_1 ≡ idle_signal
 counts_1 = ap counts_as (sym phasing_1-words) ∙ counts_as-words 32 (lit< tt)

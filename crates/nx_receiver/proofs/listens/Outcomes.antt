@@ -10,7 +10,7 @@ use Rattle.nx_fec.specs.declared.fault.LineFault.TheVariants as file
 use Rattle.nx_fec.specs.declared.line_run.LinesFault.{LinesFault}
 use Rattle.nx_fec.specs.declared.line_run.LinesFault.TheVariants as run
 use Rattle.nx_fec.proofs.LineLaws.{HasFault-unique, IsAirFile-good, NoFeed, first_feed, no_feed-not, reading-unique, regroup, spelling-IsBeginning, spelling-injective, split}
-use Rattle.nx_fec.proofs.LineRunLemmas.{file_of-one}
+use Rattle.nx_fec.proofs.LineRunLemmas.{StopsAt-map, file_of-one}
 use Rattle.nx_receiver.specs.Events.{Refuses}
 use Rattle.nx_receiver.specs.Listen.{AreTaken, HasListenFault, HasLogged, IsLogOf, RefusesAfter}
 use Rattle.nx_receiver.specs.private.Taken.{IsTakenAfter}
@@ -303,16 +303,7 @@ module _ (starts : Starts) where
   as-fault : (bytes : List ℕ) (why : LineFault) → StopsWith bytes (run.Line why)
       → HasFault air_limit bytes why
   unfolding StopsWith
-  as-fault bytes why h = record {
-    lines = h.lines;
-    rest = h.rest;
-    more = h.more;
-    whole = h.whole;
-    each = h.each;
-    part =
-        h.part;
-    here = h.here.0;
-  }
+  as-fault bytes why h = StopsAt-map bytes _ _ (λ lines rest more here. here.0) h
 
   -- a stop at a line that is refused
   record AtLine (bytes : List ℕ) (number : ℕ) (why : LineRefusal) : Type 0 where
@@ -457,16 +448,7 @@ module _ (starts : Starts) where
       → StopsAt bytes (λ lines rest more. P lines rest more × holds lines)
       → StopsAt bytes (λ lines rest more. P lines rest more × AreTaken starts lines)
   stop-taken bytes P holds f h =
-      record {
-        lines = h.lines;
-        rest = h.rest;
-        more = h.more;
-        whole = h.whole;
-        each = h.each;
-        part =
-            h.part;
-        here = (h.here.0, f h.lines h.here.1);
-      }
+      StopsAt-map bytes _ _ (λ lines rest more here. (here.0, f lines here.1)) h
 
   -- whatever was written, the lines before a fault were taken
   pub first_fault-taken : (old new : Option (List ℕ)) (bytes : List ℕ) (why : ListenFault)

@@ -14,6 +14,7 @@ use Rattle.nx_fec.specs.declared.fault.LineFault.TheVariants as file
 use Rattle.nx_fec.specs.declared.line_run.LinesFault.{LinesFault}
 use Rattle.nx_fec.specs.declared.line_run.LinesFault.TheVariants as run
 use Rattle.nx_fec.specs.declared.line_run.LinesRead.{LinesRead}
+use Rattle.nx_fec.proofs.LineRunLemmas.{StopsAt-map}
 use Rattle.nx_fec.proofs.TransferLaws.{Ok-not_err, Reads-on, Writes-none, read_failed-none}
 use Rattle.nx_receiver.specs.Events.{elements_among}
 use Rattle.nx_receiver.specs.Listen.{AnswersListening, HasListened, HasLogged, HasLoggedSome, IsLogOf, RefusesAfter, given_by, given_of}
@@ -42,20 +43,6 @@ logged first now old new lines h = (
   },
   h.here,
 )
-
-pub stops-on : (bytes : List ℕ) (P Q : List Line → List ℕ → List ℕ → Type 0)
-    → ((lines : List Line) (rest more : List ℕ) → P lines rest more → Q lines rest more)
-    → StopsAt bytes P → StopsAt bytes Q
-stops-on bytes P Q f h = record {
-  lines = h.lines;
-  rest = h.rest;
-  more = h.more;
-  whole = h.whole;
-  each = h.each;
-  part =
-      h.part;
-  here = f h.lines h.rest h.more h.here;
-}
 
 -- a line that is refused isn't taken, as its fault says
 fault-says : (starts : Starts) (number : ℕ) (lines : List Line) (line : Line) (why : LineRefusal)
@@ -104,29 +91,29 @@ explains : (AtEnd : Type 0) (IsLeft : List ℕ → Type 0) (first now : Listenin
     (Appends old new) bytes fault
     → AnswersListening (starts_of first) AtEnd IsLeft old new (Err (lines_fault fault)) bytes
 explains AtEnd IsLeft first now old new bytes run.Read h =
-    stops-on bytes _ _ (λ lines rest more p. (p.0, p.1, logged first now old new lines p.2)) h
+    StopsAt-map bytes _ _ (λ lines rest more p. (p.0, p.1, logged first now old new lines p.2)) h
 explains AtEnd IsLeft first now old new bytes (run.Line file.TooLong) h =
-    stops-on bytes _ _ (λ lines rest more p. (p.0, logged first now old new lines p.1)) h.1
+    StopsAt-map bytes _ _ (λ lines rest more p. (p.0, logged first now old new lines p.1)) h.1
 explains AtEnd IsLeft first now old new bytes (run.Line (file.LineLong line)) h =
-    stops-on bytes _ _ (λ lines rest more p. (p.0, logged first now old new lines p.1)) h.1
+    StopsAt-map bytes _ _ (λ lines rest more p. (p.0, logged first now old new lines p.1)) h.1
 explains AtEnd IsLeft first now old new bytes (run.Line (file.LineCut line)) h =
-    (h.0, stops-on bytes _ _ (λ lines rest more p. (p.0, logged first now old new lines p.1)) h.1)
+    (h.0, StopsAt-map bytes _ _ (λ lines rest more p. (p.0, logged first now old new lines p.1)) h.1)
 explains AtEnd IsLeft first now old new bytes (run.Line (file.BadLine line)) h =
-    stops-on bytes _ _ (λ lines rest more p. (p.0, logged first now old new lines p.1)) h.1
+    StopsAt-map bytes _ _ (λ lines rest more p. (p.0, logged first now old new lines p.1)) h.1
 explains AtEnd IsLeft first now old new bytes (run.Refused line refusal.NoMoment) h =
-    stops-on bytes _ _ (λ lines rest more p. (
+    StopsAt-map bytes _ _ (λ lines rest more p. (
       next-refused first line lines rest more refusal.NoMoment p.0,
       logged first now old new
           lines p.1,
     )) h
 explains AtEnd IsLeft first now old new bytes (run.Refused line (refusal.Moment why)) h =
-    stops-on bytes _ _ (λ lines rest more p. (
+    StopsAt-map bytes _ _ (λ lines rest more p. (
       next-refused first line lines rest more (refusal.Moment why) p.0,
       logged first now old new
           lines p.1,
     )) h
 explains AtEnd IsLeft first now old new bytes (run.Refused line (refusal.Vital subject)) h =
-    stops-on bytes _ _ (λ lines rest more p. (
+    StopsAt-map bytes _ _ (λ lines rest more p. (
       next-refused first line lines rest more (refusal.Vital subject) p.0,
       logged first now old
           new lines p.1,
