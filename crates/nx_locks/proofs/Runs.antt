@@ -1,10 +1,14 @@
 -- What a run over lines says, said of the report and in the faults of `listen`.
-use Rattle.std.proofs.Common.{◌≡◌, inl, inr, ℕ, ◌+◌, ◌<◌, ◌≤◌, Bool, List, [], ◌∷◌, ◌++◌, length, map, Option, Result, Ok, Err, IsErr, IsErrAnd, refl, ap, ◌∙◌, arith, length-append, codes}
+use Rattle.std.proofs.Common.{◌≡◌, inl, inr, ℕ, ◌+◌, ◌<◌, ◌≤◌, Bool, List, [], ◌∷◌, ◌++◌, length}
+use Rattle.std.proofs.Common.{map, Option, Result, Ok, Err, IsErr, IsErrAnd, refl, ap, ◌∙◌, arith}
+use Rattle.std.proofs.Common.{length-append, codes}
 use Rattle.std.specs.Io.KnownBytes.{Appends}
 use Rattle.std.specs.declared.alloc.AllocError.{AllocError}
 use Rattle.std.proofs.KnownBytes.{Consumes-nil}
 use Rattle.std.proofs.lemmas.List.{length-map}
-use Rattle.nx_fec.specs.AirFile.{Line, moment, elements, refuse_station, accept_station, refuse_subject, accept_subject, element_digit, mark_bytes, spelling}
+use Rattle.nx_fec.specs.AirFile.{Line, moment, elements, refuse_station, accept_station}
+use Rattle.nx_fec.specs.AirFile.{refuse_subject, accept_subject, element_digit, mark_bytes}
+use Rattle.nx_fec.specs.AirFile.{spelling}
 use Rattle.nx_fec.specs.Channels.{channel_of}
 use Rattle.nx_fec.specs.declared.channel.Channel.{Channel}
 use Rattle.nx_fec.specs.declared.channel.Channel.TheVariants.{Zero, One, Two}
@@ -24,14 +28,17 @@ use Rattle.nx_receiver.specs.Listen.{HasLoggedSome, RefusesAfter, events_on, giv
 use Rattle.nx_receiver.specs.Shares.{all_at_zero, events_for, to_one}
 use Rattle.nx_locks.specs.Run.{ExplainsShowing, HasShown, HasShownAll, IsReportOf, ShowsLocks}
 use Rattle.nx_locks.specs.private.ShowerBegins.{begins-report}
-use Rattle.nx_locks.specs.private.Shower.{BeginsFrom, HasClosed, HasClosedSome, HasTooMany, IsShowing, RefusesFrom, RefusesLine, Showing, StandsFrom, lines_fault, refusal_fault}
+use Rattle.nx_locks.specs.private.Shower.{BeginsFrom, HasClosed, HasClosedSome, HasTooMany}
+use Rattle.nx_locks.specs.private.Shower.{IsShowing, RefusesFrom, RefusesLine, Showing, StandsFrom}
+use Rattle.nx_locks.specs.private.Shower.{lines_fault, refusal_fault}
 use Rattle.nx_receiver.specs.declared.listen_fault.ListenFault.{ListenFault}
 use Rattle.nx_receiver.specs.declared.listen_fault.ListenFault.TheVariants.{Memory, Read, Write}
 use Rattle.nx_locks.specs.declared.shower.LineRefusal.{LineRefusal}
 use Rattle.nx_locks.specs.declared.shower.LineRefusal.TheVariants as refusal
 use Rattle.nx_locks.specs.declared.run.LocksReport.{LocksReport}
 use Rattle.nx_fec.proofs.LineRunLemmas.{StopsAt-map}
-use Rattle.nx_receiver.proofs.listens.Runs.{as-err, err-of, memory-read, memory-write, whatever, write-not_read}
+use Rattle.nx_receiver.proofs.listens.Runs.{as-err, err-of, memory-read, memory-write, whatever}
+use Rattle.nx_receiver.proofs.listens.Runs.{write-not_read}
 use Rattle.nx_receiver.proofs.receiving.Logged.{bits_of-append}
 use Rattle.nx_receiver.proofs.receiving.Events.{bits_of-more}
 

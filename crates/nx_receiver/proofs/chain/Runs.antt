@@ -1,5 +1,6 @@
 -- What a chain of runs prints, and what it leaves.
-use Rattle.std.proofs.Common.{◌≡◌, ℕ, ◌≤◌, List, [], ◌∷◌, ◌++◌, length, Option, refl, sym, ap, ◌∙◌, subst, append-nil}
+use Rattle.std.proofs.Common.{◌≡◌, ℕ, ◌≤◌, List, [], ◌∷◌, ◌++◌, length, Option, refl, sym, ap, ◌∙◌}
+use Rattle.std.proofs.Common.{subst, append-nil}
 use Rattle.std.specs.Io.KnownBytes.{Appends}
 use Rattle.nx_code.specs.Lists.{last_of}
 use Rattle.nx_memory.specs.Saved.{SavedState, SavedStates}
@@ -12,8 +13,12 @@ use Rattle.nx_fec.specs.declared.channel.Channel.{Channel}
 use Rattle.nx_fec.specs.declared.channel.Channel.TheVariants.{Zero, One, Two}
 use Rattle.nx_fec.proofs.LineLaws.{IsAirFile-unique}
 use Rattle.nx_sync.proofs.StateChanges.{standing_after}
-use Rattle.nx_receiver.specs.Chain.{AgreeInLast, AreFoundIn, GoesOn, HasGoneOn, IsChain, Leaves, Run, all_copies, all_events, all_logs, all_printed, copies_in, events_in, files, start_in}
-use Rattle.nx_receiver.specs.Events.{Event, Setting, Start, at_moment, command, element, elements_among, first_setting, refused_after, setting_after, setting_after_all}
+use Rattle.nx_receiver.specs.Chain.{AgreeInLast, AreFoundIn, GoesOn, HasGoneOn, IsChain, Leaves}
+use Rattle.nx_receiver.specs.Chain.{Run, all_copies, all_events, all_logs, all_printed, copies_in}
+use Rattle.nx_receiver.specs.Chain.{events_in, files, start_in}
+use Rattle.nx_receiver.specs.Events.{Event, Setting, Start, at_moment, command, element}
+use Rattle.nx_receiver.specs.Events.{elements_among, first_setting, refused_after, setting_after}
+use Rattle.nx_receiver.specs.Events.{setting_after_all}
 use Rattle.nx_receiver.specs.FoundCopies.{FoundCopy, found_to_end, tagged_copies}
 use Rattle.nx_receiver.specs.InTurn.{PrintAllToEnd}
 use Rattle.nx_receiver.specs.Listen.{HasListened, IsLogOfFile, events_on, given_by}
@@ -22,7 +27,8 @@ use Rattle.nx_receiver.specs.Printing.{entries_after, entries_made, printed_copi
 use Rattle.nx_receiver.specs.Shares.{MarkedCopy, Starts, copies_on, saved_of, start_on, starts_from}
 use Rattle.nx_receiver.specs.declared.listening.Report.{Report}
 use Rattle.nx_receiver.proofs.Shares.{copies_on-append, to_end-on}
-use Rattle.nx_receiver.proofs.chain.Printing.{all_of_few, few_of_last, last_agrees, same_end, same_log}
+use Rattle.nx_receiver.proofs.chain.Printing.{all_of_few, few_of_last, last_agrees, same_end}
+use Rattle.nx_receiver.proofs.chain.Printing.{same_log}
 use Rattle.nx_receiver.proofs.receiving.Logged.{entries_after-append, printed_copies-append}
 use Rattle.nx_receiver.proofs.locks.Found.{one_told}
 use Rattle.nx_receiver.proofs.receiving.Log.{logs_join, one_log}

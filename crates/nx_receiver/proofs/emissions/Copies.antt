@@ -1,11 +1,14 @@
 -- The copy of a message in a text that holds all that is printed of it, whatever stands before and
 -- behind it.
-use Rattle.std.proofs.Common.{◌≡◌, ℕ, ◌+◌, ◌≤◌, List, [], ◌∷◌, ◌++◌, map, length, take, drop, Option, Some, None, unwrap_or, refl, sym, ap, ◌∙◌, arith, append_assoc}
+use Rattle.std.proofs.Common.{◌≡◌, ℕ, ◌+◌, ◌≤◌, List, [], ◌∷◌, ◌++◌, map, length, take, drop}
+use Rattle.std.proofs.Common.{Option, Some, None, unwrap_or, refl, sym, ap, ◌∙◌, arith}
+use Rattle.std.proofs.Common.{append_assoc}
 use Rattle.std.specs.List.{Contains}
 use Rattle.std.specs.Option.{option_map}
 use Rattle.std.proofs.lemmas.List.{length-append, take_at, drop_at}
 use Rattle.std.proofs.lemmas.List.Elements.{All-contains, All-map, All-weaker}
-use Rattle.nx_envelope.specs.Copies.{Copy, Ending, headers, raw_text, ended_copies, less_newline, ending_of, ended_copy, closed_copy, copies, copy_with}
+use Rattle.nx_envelope.specs.Copies.{Copy, Ending, headers, raw_text, ended_copies, less_newline}
+use Rattle.nx_envelope.specs.Copies.{ending_of, ended_copy, closed_copy, copies, copy_with}
 use Rattle.nx_envelope.specs.Header.{Header, StandsIn, start_marker, end_marker}
 use Rattle.nx_envelope.specs.Identity.{identity_bytes}
 use Rattle.nx_envelope.specs.Message.{AreLines, text_of, MessageView}

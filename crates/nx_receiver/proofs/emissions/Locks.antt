@@ -1,17 +1,21 @@
 -- The lock that 48 phasing words leave holds through the words behind them.
-use Rattle.std.proofs.Common.{◌≡◌, ℕ, zero, suc, ◌+◌, ◌-◌, ◌*◌, ◌/◌, ◌<◌, ◌≤◌, Bool, false, List, [], ◌∷◌, ◌++◌, length, take, drop, get_or, refl, sym, ap, ap₂, ◌∙◌, subst, arith, inl, inr, append_assoc}
+use Rattle.std.proofs.Common.{◌≡◌, ℕ, zero, suc, ◌+◌, ◌-◌, ◌*◌, ◌/◌, ◌<◌, ◌≤◌, Bool, false, List}
+use Rattle.std.proofs.Common.{[], ◌∷◌, ◌++◌, length, take, drop, get_or, refl, sym, ap, ap₂, ◌∙◌}
+use Rattle.std.proofs.Common.{subst, arith, inl, inr, append_assoc}
 use Rattle.std.proofs.lemmas.Bool.{cases_lt}
 use Rattle.std.proofs.lemmas.List.{length-append, take-append-drop, take_at, length-take-le}
 use Rattle.std.proofs.lemmas.List.Concat.{flat_map-append}
 use Rattle.std.proofs.Math.Seq.{drop-append-add}
 use Rattle.nx_code.specs.Table.{phasing_1, phasing_2}
-use Rattle.nx_code.specs.Word.{elements, elements_from, weight, number_of, word_from, is_wrong, wrong_in}
+use Rattle.nx_code.specs.Word.{elements, elements_from, weight, number_of, word_from, is_wrong}
+use Rattle.nx_code.specs.Word.{wrong_in}
 use Rattle.nx_fec.specs.Aligned.{word_in}
 use Rattle.nx_fec.specs.Emission.{bits_of, AreWords}
 use Rattle.nx_fec.proofs.AlignedLemmas.{get_or-words_of}
 use Rattle.nx_fec.proofs.RoundTripLemmas.{length-bits_of, words_of-bits_of}
 use Rattle.nx_station.proofs.ChannelCounts.{wrong_in-same}
-use Rattle.nx_sync.specs.Words.{word_of_lock, first_role, role_of, other_role, wrong_until, losing_count}
+use Rattle.nx_sync.specs.Words.{word_of_lock, first_role, role_of, other_role, wrong_until}
+use Rattle.nx_sync.specs.Words.{losing_count}
 use Rattle.nx_sync.specs.Locks.{IsSecondPhasing1, Lock, IsLocked}
 use Rattle.nx_sync.specs.Laws.{LockedBeforeDx, phasing}
 use Rattle.nx_sync.specs.declared.step.Role.{Role}

@@ -1,13 +1,17 @@
 -- What a run over lines says, said of the log and in the faults of `listen`.
-use Rattle.std.proofs.Common.{◌≡◌, inl, inr, ℕ, ◌+◌, ◌≤◌, List, [], ◌∷◌, ◌++◌, length, map, Option, None, Some, IfSome, Result, Ok, Err, refl, ap, ap₂, ◌∙◌, arith, length-append}
+use Rattle.std.proofs.Common.{◌≡◌, inl, inr, ℕ, ◌+◌, ◌≤◌, List, [], ◌∷◌, ◌++◌, length, map, Option}
+use Rattle.std.proofs.Common.{None, Some, IfSome, Result, Ok, Err, refl, ap, ap₂, ◌∙◌, arith}
+use Rattle.std.proofs.Common.{length-append}
 use Rattle.std.specs.Prelude.{⊤}
 use Rattle.std.specs.List.{flat_map}
 use Rattle.std.specs.Io.KnownBytes.{Appends}
 use Rattle.std.specs.declared.alloc.AllocError.{AllocError}
 use Rattle.std.proofs.KnownBytes.{Consumes-nil}
 use Rattle.std.proofs.lemmas.List.{length-map}
-use Rattle.nx_fec.specs.AirFile.{Line, moment, elements, refuse_station, accept_station, refuse_subject, accept_subject, element_digit, mark_bytes}
-use Rattle.nx_fec.specs.Transfers.{CountedDevice, HasWritten, Devices, IsReadOut, Reads, Writes, devices}
+use Rattle.nx_fec.specs.AirFile.{Line, moment, elements, refuse_station, accept_station}
+use Rattle.nx_fec.specs.AirFile.{refuse_subject, accept_subject, element_digit, mark_bytes}
+use Rattle.nx_fec.specs.Transfers.{CountedDevice, HasWritten, Devices, IsReadOut, Reads, Writes}
+use Rattle.nx_fec.specs.Transfers.{devices}
 use Rattle.nx_fec.specs.LineRuns.{ExplainsLines, HasTaken, HasTakenAll, RunsLines}
 use Rattle.nx_fec.specs.Lines.{IsLineRefused, StopsAt, air_limit, elements_of, file_of, line_bytes}
 use Rattle.nx_fec.specs.declared.fault.LineFault.TheVariants as file
@@ -17,10 +21,14 @@ use Rattle.nx_fec.specs.declared.line_run.LinesRead.{LinesRead}
 use Rattle.nx_fec.proofs.LineRunLemmas.{StopsAt-map}
 use Rattle.nx_fec.proofs.TransferLaws.{Ok-not_err, Reads-on, Writes-none, read_failed-none}
 use Rattle.nx_receiver.specs.Events.{elements_among}
-use Rattle.nx_receiver.specs.Listen.{AnswersListening, HasListened, HasLogged, HasLoggedSome, IsLogOf, RefusesAfter, given_by, given_of}
+use Rattle.nx_receiver.specs.Listen.{AnswersListening, HasListened, HasLogged, HasLoggedSome}
+use Rattle.nx_receiver.specs.Listen.{IsLogOf, RefusesAfter, given_by, given_of}
 use Rattle.nx_receiver.specs.Shares.{Starts}
 use Rattle.nx_receiver.specs.ListenFrom.{ListensBy}
-use Rattle.nx_receiver.specs.private.Listener.{BeginsFrom, HasClosed, HasClosedSome, IsListening, Listening, RefusesFrom, RefusesLine, StandsFrom, elements_given, elements_in, lines_fault, refusal_fault, starts_of}
+use Rattle.nx_receiver.specs.private.Listener.{BeginsFrom, HasClosed, HasClosedSome, IsListening}
+use Rattle.nx_receiver.specs.private.Listener.{Listening, RefusesFrom, RefusesLine, StandsFrom}
+use Rattle.nx_receiver.specs.private.Listener.{elements_given, elements_in, lines_fault}
+use Rattle.nx_receiver.specs.private.Listener.{refusal_fault, starts_of}
 use Rattle.nx_receiver.specs.declared.listen_fault.ListenFault.{ListenFault}
 use Rattle.nx_receiver.specs.declared.listen_fault.ListenFault.TheVariants.{Memory, Read, Write}
 use Rattle.nx_receiver.specs.declared.listening.LineRefusal.{LineRefusal}
@@ -56,7 +64,8 @@ fault-says starts number lines (elements mark bits) (refusal.Moment why) e h = h
 fault-says starts number lines (elements mark bits) (refusal.Vital subject) e h = h
 fault-says starts number lines (refuse_subject mark letter) refusal.NoMoment e h = h
 fault-says starts number lines (refuse_subject mark letter) (refusal.Moment why) e h = h
-fault-says starts number lines (refuse_subject mark letter) (refusal.Vital subject) e h = (e, h.0, h.1)
+fault-says starts number lines (refuse_subject mark letter) (refusal.Vital subject) e h =
+    (e, h.0, h.1)
 fault-says starts number lines (refuse_station mark letter) refusal.NoMoment e h = h
 fault-says starts number lines (refuse_station mark letter) (refusal.Moment why) e h = h
 fault-says starts number lines (refuse_station mark letter) (refusal.Vital subject) e h = h
@@ -96,8 +105,11 @@ explains AtEnd IsLeft first now old new bytes (run.Line file.TooLong) h =
     StopsAt-map bytes _ _ (λ lines rest more p. (p.0, logged first now old new lines p.1)) h.1
 explains AtEnd IsLeft first now old new bytes (run.Line (file.LineLong line)) h =
     StopsAt-map bytes _ _ (λ lines rest more p. (p.0, logged first now old new lines p.1)) h.1
-explains AtEnd IsLeft first now old new bytes (run.Line (file.LineCut line)) h =
-    (h.0, StopsAt-map bytes _ _ (λ lines rest more p. (p.0, logged first now old new lines p.1)) h.1)
+explains AtEnd IsLeft first now old new bytes (run.Line (file.LineCut line)) h = (
+  h.0,
+  StopsAt-map bytes _ _
+      (λ lines rest more p. (p.0, logged first now old new lines p.1)) h.1,
+)
 explains AtEnd IsLeft first now old new bytes (run.Line (file.BadLine line)) h =
     StopsAt-map bytes _ _ (λ lines rest more p. (p.0, logged first now old new lines p.1)) h.1
 explains AtEnd IsLeft first now old new bytes (run.Refused line refusal.NoMoment) h =

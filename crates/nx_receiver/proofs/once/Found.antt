@@ -1,7 +1,11 @@
 -- Over gaps and received emissions a message is printed once.
-use Rattle.std.proofs.Common.{◌≡◌, ℕ, zero, suc, ◌+◌, ◌*◌, ◌<◌, Bool, true, false, ltb, cond, max, List, [], ◌∷◌, ◌++◌, length, filter, get_or, refl, sym, ap, ap₂, ◌∙◌, subst, arith, IsTrue, lt-ltb}
+use Rattle.std.proofs.Common.{◌≡◌, ℕ, zero, suc, ◌+◌, ◌*◌, ◌<◌, Bool, true, false, ltb, cond, max}
+use Rattle.std.proofs.Common.{List, [], ◌∷◌, ◌++◌, length, filter, get_or, refl, sym, ap, ap₂, ◌∙◌}
+use Rattle.std.proofs.Common.{subst, arith, IsTrue, lt-ltb}
 use Rattle.std.specs.List.{All, Contains}
-use Rattle.std.proofs.lemmas.List.Elements.{All-head, All-tail, All-cons, All-nil, All-map, All-weaker, All-contains, All-contains_itself, filter_passes}
+use Rattle.std.proofs.lemmas.List.Elements.{All-head, All-tail, All-cons, All-nil, All-map}
+use Rattle.std.proofs.lemmas.List.Elements.{All-weaker, All-contains, All-contains_itself}
+use Rattle.std.proofs.lemmas.List.Elements.{filter_passes}
 use Rattle.nx_envelope.specs.Copies.{errors_of}
 use Rattle.nx_envelope.specs.Identity.{same_identity}
 use Rattle.nx_envelope.specs.Message.{text_of, MessageView}
@@ -13,7 +17,8 @@ use Rattle.nx_station.specs.Sendings.{Part, Sending, IsSentAt}
 use Rattle.nx_receiver.specs.Events.{Event, Start, elements_among, first_setting, setting_at}
 use Rattle.nx_receiver.specs.FoundCopies.{FoundCopy, found_to_end, TaggedCopy, tag, tagged_copies}
 use Rattle.nx_receiver.specs.LawTerms.{AreRepeats}
-use Rattle.nx_receiver.specs.Printing.{copies_of, entries_after, entries_made, is_good, is_remembered, printed_copies}
+use Rattle.nx_receiver.specs.Printing.{copies_of, entries_after, entries_made, is_good}
+use Rattle.nx_receiver.specs.Printing.{is_remembered, printed_copies}
 use Rattle.nx_receiver.specs.Log.{PrintsToEnd, printed_of}
 use Rattle.nx_receiver.specs.Once.{IsHeardInTime, IsPrintedOnce}
 use Rattle.nx_receiver.specs.private.Heard.{HeardTerms}

@@ -1,5 +1,6 @@
 -- What is over with some elements, and is then taken and ended: what the watch stands after.
-use Rattle.std.proofs.Common.{◌≡◌, ℕ, ◌+◌, Bool, List, [], ◌∷◌, ◌++◌, map, Option, None, sym, ap, ◌∙◌, subst, append-nil}
+use Rattle.std.proofs.Common.{◌≡◌, ℕ, ◌+◌, Bool, List, [], ◌∷◌, ◌++◌, map, Option, None, sym, ap}
+use Rattle.std.proofs.Common.{◌∙◌, subst, append-nil}
 use Rattle.nx_sync.specs.Locks.{Lock, hunting}
 use Rattle.nx_sync.specs.Words.{first_role, word_of_lock}
 use Rattle.nx_sync.proofs.UniqueStates.{locks-unique}
@@ -10,9 +11,11 @@ use Rattle.nx_envelope.specs.declared.found.Found.{Found}
 use Rattle.nx_receiver.specs.declared.over.CopyTag.{CopyTag}
 use Rattle.nx_receiver.specs.declared.over.Over.TheVariants as over
 use Rattle.nx_receiver.specs.Events.{Setting}
-use Rattle.nx_receiver.specs.FoundCopies.{ended_in, ended_so_far, found_copy, past_copies, past_text, TaggedCopy}
+use Rattle.nx_receiver.specs.FoundCopies.{ended_in, ended_so_far, found_copy, past_copies}
+use Rattle.nx_receiver.specs.FoundCopies.{past_text, TaggedCopy}
 use Rattle.nx_receiver.specs.LockText.{bytes_of}
-use Rattle.nx_receiver.specs.private.Watch.{BothAreOver, LockIsOver, WatchStands, copies_by, handed_out}
+use Rattle.nx_receiver.specs.private.Watch.{BothAreOver, LockIsOver, WatchStands, copies_by}
+use Rattle.nx_receiver.specs.private.Watch.{handed_out}
 use Rattle.nx_receiver.specs.Watching.{Watching, in_force}
 use Rattle.nx_receiver.proofs.locks.Found.{all_in-parts, one_told}
 use Rattle.nx_receiver.proofs.locks.Growing.{hunted}
