@@ -11,7 +11,7 @@ use Rattle.std.proofs.lemmas.List.{length-append, length-replicate, map-append, 
 use Rattle.std.proofs.lemmas.List.{get_or_append_left}
 use Rattle.nx_code.specs.Table.{phasing_1, phasing_2}
 use Rattle.nx_code.specs.Reading.{idle, text}
-use Rattle.nx_code.specs.Word.{weight, elements, elements_from, is_wrong, wrong_in}
+use Rattle.nx_code.specs.Word.{elements, elements_from, is_wrong, wrong_in}
 use Rattle.nx_code.specs.declared.shifts.Shift.TheVariants.{Letters}
 use Rattle.nx_code.proofs.ReadingLemmas.{text-append}
 use Rattle.nx_envelope.specs.Message.{MessageView}

@@ -13,7 +13,7 @@ use Rattle.nx_fec.specs.AirFile.{refuse_subject, accept_subject, element_digit, 
 use Rattle.nx_fec.specs.Transfers.{CountedDevice, HasWritten, Devices, IsReadOut, Reads, Writes}
 use Rattle.nx_fec.specs.Transfers.{devices}
 use Rattle.nx_fec.specs.LineRuns.{ExplainsLines, HasTaken, HasTakenAll, RunsLines}
-use Rattle.nx_fec.specs.Lines.{IsLineRefused, StopsAt, air_limit, elements_of, file_of, line_bytes}
+use Rattle.nx_fec.specs.Lines.{IsLineRefused, air_limit, elements_of, file_of, line_bytes}
 use Rattle.nx_fec.specs.declared.fault.LineFault.TheVariants as file
 use Rattle.nx_fec.specs.declared.line_run.LinesFault.{LinesFault}
 use Rattle.nx_fec.specs.declared.line_run.LinesFault.TheVariants as run
