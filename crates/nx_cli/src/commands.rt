@@ -209,7 +209,7 @@ const LOCKS_HELP: &str = "Print the locks of an air file and their running text.
 
 An air file is a text of what is on the air. A lock is a stretch of it in which
 a receiver reads words. It begins with phasing, and is over with the emission or
-where 40 of its last 64 words are wrong.
+where most of its last 64 words are wrong.
 
 Reads an air file of at most 268435456 bytes from standard input, to its end.
 Its lines are those that listen --help lists; the locks are those of channel 0.

@@ -1,5 +1,7 @@
 -- What one more element does to what is shown.
-use Rattle.std.proofs.Common.{◌≡◌, ℕ, not, ◌+◌, ◌-◌, ◌*◌, ◌^◌, ◌<◌, ◌≤◌, Bool, List, [], ◌∷◌, ◌++◌, length, Option, get_or, refl, sym, ap, ◌∙◌, subst, arith, append_assoc, append-nil, length-append}
+use Rattle.std.proofs.Common.{◌≡◌, ℕ, not, ◌+◌, ◌-◌, ◌*◌, ◌^◌, ◌<◌, ◌≤◌, Bool, List, [], ◌∷◌, ◌++◌}
+use Rattle.std.proofs.Common.{length, Option, get_or, refl, sym, ap, ◌∙◌, subst, arith}
+use Rattle.std.proofs.Common.{append_assoc, append-nil, length-append}
 use Rattle.std.specs.Prelude.{min}
 use Rattle.std.specs.Option.{option_to_list}
 use Rattle.std.proofs.lemmas.List.{length_push}
@@ -13,11 +15,13 @@ use Rattle.nx_receiver.specs.Log.{is_of_lines, missing_newline}
 use Rattle.nx_receiver.specs.private.LockReader.{word_place}
 use Rattle.nx_receiver.proofs.locks.Growing.{whole_heard}
 use Rattle.nx_locks.specs.LockText.{headers_shown, shown_text, wrong_words}
-use Rattle.nx_locks.specs.Report.{AreShown, IsNowShown, IsOpened, IsPastShown, moment_at, now_headers, now_locks, past_headers}
+use Rattle.nx_locks.specs.Report.{AreShown, IsNowShown, IsOpened, IsPastShown, moment_at}
+use Rattle.nx_locks.specs.Report.{now_headers, now_locks, past_headers}
 use Rattle.nx_locks.specs.ReportText.{closing_lines, opening_line}
 use Rattle.nx_locks.specs.private.Reader.{HasHeardWords, HearsWord, IsFresh, Reading, ReadsLock}
 use Rattle.nx_locks.specs.private.Watch.{ReadsNow, Shows, closing_of}
-use Rattle.nx_locks.proofs.Growing.{headers-more, missing_is, no_headers, none_shown, opened-more, past-more, past_headers-more, reads-on, shown_is}
+use Rattle.nx_locks.proofs.Growing.{headers-more, missing_is, no_headers, none_shown, opened-more}
+use Rattle.nx_locks.proofs.Growing.{past-more, past_headers-more, reads-on, shown_is}
 
 get_or-pushed : (xs : List ℕ) (x d : ℕ) → get_or (xs ++ x ∷ []) (length xs) d ≡ x
 get_or-pushed [] x d = refl
@@ -174,7 +178,8 @@ module _ (bits : List Bool) (b : Bool) (moments : List ℕ) (m : ℕ) where
         subst (ReadsNow reader bits) e s.reads in
         let headers' : headers_shown bits' t n ≡ headers_shown bits t n =
         headers-more bits (b ∷ []) t n here heard in
-        goes_more bits (b ∷ []) moments (m ∷ []) refl reader reader began began copies given [] s.rest
+        goes_more bits (b ∷ []) moments (m ∷ []) refl reader reader began began copies given []
+        s.rest
         (locked p t) s on
         (subst (λ k. IsOpened bits' moments' t k s.rest) (sym same)
         (opened-more bits (b ∷ []) t n here heard moments (m ∷ []) s.many s.rest was))

@@ -1,5 +1,7 @@
 -- Words of a lock that are heard at once, where none of them brings a change.
-use Rattle.std.proofs.Common.{◌≡◌, ℕ, suc, ◌+◌, ◌-◌, ◌*◌, ◌^◌, ◌<◌, Bool, List, [], ◌∷◌, ◌++◌, length, Option, get_or, refl, sym, ap, ◌∙◌, subst, arith, append_assoc, append-nil, length-append}
+use Rattle.std.proofs.Common.{◌≡◌, ℕ, suc, ◌+◌, ◌-◌, ◌*◌, ◌^◌, ◌<◌, Bool, List, [], ◌∷◌, ◌++◌}
+use Rattle.std.proofs.Common.{length, Option, get_or, refl, sym, ap, ◌∙◌, subst, arith}
+use Rattle.std.proofs.Common.{append_assoc, append-nil, length-append}
 use Rattle.std.specs.Prelude.{min, slice_index, IsTrue}
 use Rattle.std.specs.List.{flat_map}
 use Rattle.std.specs.Option.{option_to_list}
@@ -16,7 +18,8 @@ use Rattle.nx_sync.proofs.EightWords.{eight_items}
 use Rattle.nx_sync.proofs.Numbers.{length-elements}
 use Rattle.nx_sync.proofs.UniqueStates.{locks-unique, now-unique}
 use Rattle.nx_sync.proofs.WordLimits.{limit_by}
-use Rattle.nx_locks.specs.private.Reader.{HearsWord, HearsWords, Reading, ReadsLock, ShowsWord, ShowsWords}
+use Rattle.nx_locks.specs.private.Reader.{HearsWord, HearsWords, Reading, ReadsLock, ShowsWord}
+use Rattle.nx_locks.specs.private.Reader.{ShowsWords}
 use Rattle.nx_receiver.specs.private.LockReader.{text_after}
 use Rattle.nx_receiver.proofs.emissions.Locks.{role_of-next}
 use Rattle.nx_receiver.proofs.watching.EightWords.{still_words}

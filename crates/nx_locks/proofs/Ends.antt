@@ -1,5 +1,6 @@
 -- What the end of the elements shows, and what a watch shows that has heard nothing.
-use Rattle.std.proofs.Common.{◌≡◌, ℕ, not, ◌+◌, ◌-◌, ◌^◌, Bool, List, [], ◌++◌, length, refl, sym, ap, ◌∙◌, subst, arith, append_assoc}
+use Rattle.std.proofs.Common.{◌≡◌, ℕ, not, ◌+◌, ◌-◌, ◌^◌, Bool, List, [], ◌++◌, length, refl, sym}
+use Rattle.std.proofs.Common.{ap, ◌∙◌, subst, arith, append_assoc}
 use Rattle.std.specs.Prelude.{min}
 use Rattle.nx_envelope.specs.Copies.{headers}
 use Rattle.nx_envelope.specs.Moment.{IsShownAs}
@@ -11,7 +12,8 @@ use Rattle.nx_sync.specs.declared.step.Change.TheVariants.{Locked}
 use Rattle.nx_sync.proofs.UniqueStates.{now-unique}
 use Rattle.nx_receiver.specs.Log.{is_of_lines, missing_newline}
 use Rattle.nx_locks.specs.LockText.{headers_shown, shown_text, wrong_words}
-use Rattle.nx_locks.specs.Report.{AreShown, IsNowShown, IsOpened, IsReport, IsShown, now_headers, now_locks, past_headers}
+use Rattle.nx_locks.specs.Report.{AreShown, IsNowShown, IsOpened, IsReport, IsShown, now_headers}
+use Rattle.nx_locks.specs.Report.{now_locks, past_headers}
 use Rattle.nx_locks.specs.ReportText.{closing_lines, last_line}
 use Rattle.nx_locks.specs.private.Reader.{IsFresh, ReadsLock}
 use Rattle.nx_locks.specs.private.Watch.{HasEnded, ReadsNow, Watching, WatchShows, closing_of}

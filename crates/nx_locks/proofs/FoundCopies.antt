@@ -1,6 +1,12 @@
 -- The copies of a log are copies of the texts that a report shows, and these stand in it.
-use Rattle.std.proofs.Common.{◌≡◌, ℕ, ◌+◌, Bool, true, false, List, [], ◌∷◌, ◌++◌, All, Contains, if◌then◌else◌, inl, inr, refl, sym, ap, ap₂, ◌∙◌, subst, arith, append_assoc, append-nil}
-use Rattle.std.proofs.lemmas.List.Elements.{All-append, All-cons, All-contains, All-contains_itself, All-map, All-nil, All-tail, All-weaker, Contains-append_cases, Contains-append_left, Contains-append_right, Contains-push, Contains-push_cases}
+use Rattle.std.proofs.Common.{◌≡◌, ℕ, ◌+◌, Bool, true, false, List, [], ◌∷◌, ◌++◌, All, Contains}
+use Rattle.std.proofs.Common.{if◌then◌else◌, inl, inr, refl, sym, ap, ap₂, ◌∙◌, subst, arith}
+use Rattle.std.proofs.Common.{append_assoc, append-nil}
+use Rattle.std.proofs.lemmas.List.Elements.{All-append, All-cons, All-contains, All-contains_itself}
+use Rattle.std.proofs.lemmas.List.Elements.{All-map, All-nil, All-tail, All-weaker}
+use Rattle.std.proofs.lemmas.List.Elements.{Contains-append_cases, Contains-append_left}
+use Rattle.std.proofs.lemmas.List.Elements.{Contains-append_right, Contains-push}
+use Rattle.std.proofs.lemmas.List.Elements.{Contains-push_cases}
 use Rattle.nx_envelope.specs.Copies.{Copy, beginnings, copies, header_at_end, headers}
 use Rattle.nx_envelope.specs.Header.{identity_at_end}
 use Rattle.nx_fec.specs.AirFile.{Line}
@@ -14,7 +20,8 @@ use Rattle.nx_sync.specs.declared.step.Change.{Change}
 use Rattle.nx_sync.specs.declared.step.Change.TheVariants.{Locked}
 use Rattle.nx_sync.proofs.UniqueStates.{locks-unique, now-unique}
 use Rattle.nx_receiver.specs.Events.{Event, Setting, elements_among, first_setting, setting_at}
-use Rattle.nx_receiver.specs.FoundCopies.{FoundCopy, TaggedCopy, all_in, found_copy, found_to_end, past_copies, past_text, standing_text, tag, tagged_copies}
+use Rattle.nx_receiver.specs.FoundCopies.{FoundCopy, TaggedCopy, all_in, found_copy, found_to_end}
+use Rattle.nx_receiver.specs.FoundCopies.{past_copies, past_text, standing_text, tag, tagged_copies}
 use Rattle.nx_receiver.specs.Listen.{IsLogOfFile, events_on, given_by}
 use Rattle.nx_receiver.specs.Log.{missing_newline}
 use Rattle.nx_receiver.specs.LockText.{PlacedByte, bytes_of, lock_text}

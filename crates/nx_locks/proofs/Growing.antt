@@ -1,5 +1,6 @@
 -- More elements leave what is shown of the locks before them.
-use Rattle.std.proofs.Common.{◌≡◌, ℕ, ◌+◌, ◌-◌, ◌*◌, ◌<◌, ◌≤◌, Bool, true, false, cond, not, List, [], ◌∷◌, ◌++◌, length, refl, sym, ap, ap₂, ◌∙◌, subst, arith}
+use Rattle.std.proofs.Common.{◌≡◌, ℕ, ◌+◌, ◌-◌, ◌*◌, ◌<◌, ◌≤◌, Bool, true, false, cond, not, List}
+use Rattle.std.proofs.Common.{[], ◌∷◌, ◌++◌, length, refl, sym, ap, ap₂, ◌∙◌, subst, arith}
 use Rattle.std.proofs.lemmas.List.{get_or_append_left}
 use Rattle.nx_envelope.specs.Copies.{headers, beginnings, header_at_end}
 use Rattle.nx_envelope.specs.Header.{identity_at_end}
@@ -15,7 +16,8 @@ use Rattle.nx_receiver.specs.private.LockReader.{text_after}
 use Rattle.nx_receiver.proofs.locks.Texts.{bytes_are_reading, lock_text-more}
 use Rattle.nx_receiver.proofs.watching.Bits as watching
 use Rattle.nx_locks.specs.LockText.{headers_shown, shown_text, wrong_words}
-use Rattle.nx_locks.specs.Report.{AreShown, IsClosing, IsOpened, IsOpening, IsShown, moment_at, past_headers}
+use Rattle.nx_locks.specs.Report.{AreShown, IsClosing, IsOpened, IsOpening, IsShown, moment_at}
+use Rattle.nx_locks.specs.Report.{past_headers}
 use Rattle.nx_locks.specs.ReportText.{closing_lines}
 use Rattle.nx_locks.specs.private.Reader.{Reading, ReadsLock, reading_of}
 

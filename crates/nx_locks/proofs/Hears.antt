@@ -1,5 +1,9 @@
 -- What the elements that are heard show.
-use Rattle.std.proofs.Common.{◌≡◌, ℕ, zero, suc, ◌+◌, ◌-◌, ◌^◌, ◌<◌, ◌≤◌, Bool, false, List, [], ◌∷◌, ◌++◌, length, take, drop, Option, Some, None, get_or, refl, sym, ap, ◌∙◌, subst, subst₂, arith, append_assoc, append-nil, add-one, length-append}
+use Rattle.std.proofs.Common.{◌≡◌, ℕ, zero, suc, ◌+◌, ◌-◌, ◌^◌, ◌<◌, ◌≤◌, Bool, false, List, []}
+use Rattle.std.proofs.Common.{◌∷◌, ◌++◌, length, take, drop, Option, Some, None, get_or, refl, sym}
+use Rattle.std.proofs.Common.{ap, ◌∙◌}
+use Rattle.std.proofs.Common.{subst, subst₂, arith, append_assoc, append-nil, add-one}
+use Rattle.std.proofs.Common.{length-append}
 use Rattle.std.specs.Prelude.{min}
 use Rattle.std.specs.Option.{option_to_list}
 use lib.Seq.{take-add}
@@ -7,7 +11,8 @@ use Rattle.std.proofs.lemmas.List.{length_push, length-take-le, map-append, take
 use Rattle.nx_envelope.specs.Moment.{IsShownAs}
 use Rattle.nx_sync.specs.Laws.{OneMore, still_hunts, now_finds, still_stands, now_over}
 use Rattle.nx_sync.specs.Locks.{Lock, Now, hunting, locked, IsNow, Past}
-use Rattle.nx_sync.specs.Steps.{Brings, found, word, inside, over, hunts, HuntsThrough, IsStep, IsWordStep, step}
+use Rattle.nx_sync.specs.Steps.{Brings, found, word, inside, over, hunts, HuntsThrough, IsStep}
+use Rattle.nx_sync.specs.Steps.{IsWordStep, step}
 use Rattle.nx_sync.specs.Synchroniser.{Held, StandsAfter}
 use Rattle.nx_sync.specs.Words.{heard_word, whole_words}
 use Rattle.nx_sync.specs.declared.step.Change.{Change}
@@ -18,7 +23,9 @@ use Rattle.nx_sync.proofs.KeptPast.{Past-within}
 use Rattle.nx_sync.proofs.StateChanges.{one_more}
 use Rattle.nx_receiver.proofs.watching.Bits.{no_word}
 use Rattle.nx_locks.specs.private.Reader.{Reading}
-use Rattle.nx_locks.specs.private.Watch.{GoesTo, HearsAll, ReadsLast, ReadsOn, ReadsTo, Shows, ShowsStep, Watching, WatchShows, all_at, at_words, closing_of}
+use Rattle.nx_locks.specs.private.Watch.{GoesTo, HearsAll, ReadsLast, ReadsOn, ReadsTo, Shows}
+use Rattle.nx_locks.specs.private.Watch.{ShowsStep, Watching, WatchShows, all_at, at_words}
+use Rattle.nx_locks.specs.private.Watch.{closing_of}
 use Rattle.nx_locks.specs.ReportText.{opening_line}
 use Rattle.nx_locks.proofs.Bits.{now_found, still_hunting, still_inside, word_on, word_over}
 

@@ -1,5 +1,6 @@
 -- There is one report of what was heard.
-use Rattle.std.proofs.Common.{◌≡◌, ℕ, ◌+◌, ◌-◌, Bool, List, [], ◌∷◌, ◌++◌, length, sym, ap, ap₂, ◌∙◌, subst}
+use Rattle.std.proofs.Common.{◌≡◌, ℕ, ◌+◌, ◌-◌, Bool, List, [], ◌∷◌, ◌++◌, length, sym, ap, ap₂}
+use Rattle.std.proofs.Common.{◌∙◌, subst}
 use Rattle.nx_envelope.proofs.OneText.{one_text}
 use Rattle.nx_sync.specs.Locks.{Lock, Now, hunting, locked}
 use Rattle.nx_sync.specs.Words.{whole_words}
@@ -12,7 +13,9 @@ use Rattle.nx_fec.proofs.LineLaws.{IsAirFile-unique}
 use Rattle.nx_receiver.specs.Log.{missing_newline}
 use Rattle.nx_receiver.specs.private.LockReader.{word_place}
 use Rattle.nx_locks.specs.LockText.{headers_shown, shown_text, wrong_words}
-use Rattle.nx_locks.specs.Report.{AreShown, IsClosing, IsEndShown, IsNowShown, IsOpened, IsOpening, IsReport, IsReportSoFar, IsShown, moment_at, now_headers, now_locks, past_headers}
+use Rattle.nx_locks.specs.Report.{AreShown, IsClosing, IsEndShown, IsNowShown, IsOpened, IsOpening}
+use Rattle.nx_locks.specs.Report.{IsReport, IsReportSoFar, IsShown, moment_at, now_headers}
+use Rattle.nx_locks.specs.Report.{now_locks, past_headers}
 use Rattle.nx_locks.specs.ReportText.{closing_lines, last_line, opening_line}
 use Rattle.nx_locks.specs.Run.{IsReportOf, IsReportOfLines, elements_on_0, ending_of, moments_on_0}
 

@@ -1,6 +1,8 @@
 -- Eight words of a lock that a reader reads at once, where none of the bytes that they print begins
 -- or ends a copy.
-use Rattle.std.proofs.Common.{◌≡◌, ℕ, suc, ◌+◌, ◌-◌, ◌^◌, ◌<◌, ◌≤◌, eqb, not, List, [], ◌∷◌, ◌++◌, length, map, take, get_or, sym, ap, ◌∙◌, subst, append_assoc, append-nil, arith, slice_index}
+use Rattle.std.proofs.Common.{◌≡◌, ℕ, suc, ◌+◌, ◌-◌, ◌^◌, ◌<◌, ◌≤◌, eqb, not, List, [], ◌∷◌, ◌++◌}
+use Rattle.std.proofs.Common.{length, map, take, get_or, sym, ap, ◌∙◌, subst, append_assoc}
+use Rattle.std.proofs.Common.{append-nil, arith, slice_index}
 use Rattle.std.specs.Prelude.{min}
 use Rattle.std.proofs.lemmas.Grind.{get_or_default_zero}
 use Rattle.std.proofs.lemmas.List.{get_or-map, length-map, take_all, take_more}
@@ -18,7 +20,7 @@ use Rattle.nx_sync.proofs.Counts.{one_if, wrong_in-add, wrong_in-le}
 use Rattle.nx_receiver.specs.Log.{is_of_lines}
 use Rattle.nx_receiver.specs.LockText.{positions}
 use Rattle.nx_receiver.specs.private.LockReader.{AreNext, dx_words, text_after}
-use Rattle.nx_receiver.proofs.emissions.Locks.{wrong_in-shift}
+use Rattle.nx_station.proofs.ChannelCounts.{wrong_in-same}
 use Rattle.nx_receiver.proofs.locks.EightWords.{dx_words-pairs, pair_of, positions-pairs}
 use Rattle.nx_locks.specs.private.Reader.{HasHeardWords, Reading, ShowsWords}
 use Rattle.nx_locks.proofs.ReaderWords.{line_pushed}
@@ -109,7 +111,7 @@ plain_shown old new classes bytes next given after eight four hears takes shifts
             ∙ ap (λ l. text so_far Letters ++ l)
             (ap (text taken) (sym r.reads.shift) ∙ sym prints) in
             let wrong : wrong_in words n 8 ≡ wrong_in (slice_index next) 0 8 =
-            wrong_in-shift words (slice_index next) n 0 8
+            wrong_in-same words (slice_index next) n 0 8
             (λ k lt. let same : k ≡ 0 + k = omega arith in
             is_word k (omega (arith, lt, eight)) ∙ ap (slice_index next) same) in
             let start : wrong_in words (0 + n) 8 ≡ wrong_in words n 8 =

@@ -1,5 +1,7 @@
 -- What a word does to the reader of a lock.
-use Rattle.std.proofs.Common.{◌≡◌, ℕ, ◌+◌, ◌-◌, ◌^◌, ◌<◌, ◌≤◌, Bool, true, false, cond, eqb, not, List, [], ◌∷◌, ◌++◌, length, Option, Some, None, unwrap_or, refl, sym, ap, ◌∙◌, subst, arith, add-one, append-nil, length-append}
+use Rattle.std.proofs.Common.{◌≡◌, ℕ, ◌+◌, ◌-◌, ◌^◌, ◌<◌, ◌≤◌, Bool, true, false, cond, eqb, not}
+use Rattle.std.proofs.Common.{List, [], ◌∷◌, ◌++◌, length, Option, Some, None, unwrap_or, refl, sym}
+use Rattle.std.proofs.Common.{ap, ◌∙◌, subst, arith, add-one, append-nil, length-append}
 use Rattle.std.specs.Prelude.{slice_get}
 use Rattle.std.specs.Option.{option_map, option_to_list}
 use Rattle.nx_code.specs.Reading.{shift_after_all, text}
@@ -24,7 +26,8 @@ use Rattle.nx_receiver.specs.LockText.{positions}
 use Rattle.nx_receiver.specs.private.LockReader as receiver
 use Rattle.nx_receiver.specs.private.LockReader.{dx_words, text_after}
 use Rattle.nx_receiver.proofs.locks.ReaderWords.{HasReadRx, has_read_dx, positions-dx}
-use Rattle.nx_locks.specs.private.Reader.{HasHeard, IsFresh, Reading, ReadsLock, TakesByte, counted, one_more, reading_of}
+use Rattle.nx_locks.specs.private.Reader.{HasHeard, IsFresh, Reading, ReadsLock, TakesByte, counted}
+use Rattle.nx_locks.specs.private.Reader.{one_more, reading_of}
 
 no_text : (first : Role) (words : ℕ → ℕ) → text_after first words 0 ≡ []
 unfolding positions

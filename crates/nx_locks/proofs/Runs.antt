@@ -1,10 +1,14 @@
 -- What a run over lines says, said of the report and in the faults of `listen`.
-use Rattle.std.proofs.Common.{◌≡◌, inl, inr, ℕ, ◌+◌, ◌<◌, ◌≤◌, Bool, List, [], ◌∷◌, ◌++◌, length, map, Option, Result, Ok, Err, IsErr, IsErrAnd, refl, ap, ◌∙◌, arith, length-append, codes}
+use Rattle.std.proofs.Common.{◌≡◌, inl, inr, ℕ, ◌+◌, ◌<◌, ◌≤◌, Bool, List, [], ◌∷◌, ◌++◌, length}
+use Rattle.std.proofs.Common.{map, Option, Result, Ok, Err, IsErr, IsErrAnd, refl, ap, ◌∙◌, arith}
+use Rattle.std.proofs.Common.{length-append, codes}
 use Rattle.std.specs.Io.KnownBytes.{Appends}
 use Rattle.std.specs.declared.alloc.AllocError.{AllocError}
 use Rattle.std.proofs.KnownBytes.{Consumes-nil}
 use Rattle.std.proofs.lemmas.List.{length-map}
-use Rattle.nx_fec.specs.AirFile.{Line, moment, elements, refuse_station, accept_station, refuse_subject, accept_subject, element_digit, mark_bytes, spelling}
+use Rattle.nx_fec.specs.AirFile.{Line, moment, elements, refuse_station, accept_station}
+use Rattle.nx_fec.specs.AirFile.{refuse_subject, accept_subject, element_digit, mark_bytes}
+use Rattle.nx_fec.specs.AirFile.{spelling}
 use Rattle.nx_fec.specs.Channels.{channel_of}
 use Rattle.nx_fec.specs.declared.channel.Channel.{Channel}
 use Rattle.nx_fec.specs.declared.channel.Channel.TheVariants.{Zero, One, Two}
@@ -24,13 +28,17 @@ use Rattle.nx_receiver.specs.Listen.{HasLoggedSome, RefusesAfter, events_on, giv
 use Rattle.nx_receiver.specs.Shares.{all_at_zero, events_for, to_one}
 use Rattle.nx_locks.specs.Run.{ExplainsShowing, HasShown, HasShownAll, IsReportOf, ShowsLocks}
 use Rattle.nx_locks.specs.private.ShowerBegins.{begins-report}
-use Rattle.nx_locks.specs.private.Shower.{BeginsFrom, HasClosed, HasClosedSome, HasTooMany, IsShowing, RefusesFrom, RefusesLine, Showing, StandsFrom, lines_fault, refusal_fault}
+use Rattle.nx_locks.specs.private.Shower.{BeginsFrom, HasClosed, HasClosedSome, HasTooMany}
+use Rattle.nx_locks.specs.private.Shower.{IsShowing, RefusesFrom, RefusesLine, Showing, StandsFrom}
+use Rattle.nx_locks.specs.private.Shower.{lines_fault, refusal_fault}
 use Rattle.nx_receiver.specs.declared.listen_fault.ListenFault.{ListenFault}
 use Rattle.nx_receiver.specs.declared.listen_fault.ListenFault.TheVariants.{Memory, Read, Write}
 use Rattle.nx_locks.specs.declared.shower.LineRefusal.{LineRefusal}
 use Rattle.nx_locks.specs.declared.shower.LineRefusal.TheVariants as refusal
 use Rattle.nx_locks.specs.declared.run.LocksReport.{LocksReport}
-use Rattle.nx_receiver.proofs.listens.Runs.{as-err, err-of, memory-read, memory-write, stops-on, whatever, write-not_read}
+use Rattle.nx_fec.proofs.LineRunLemmas.{StopsAt-map}
+use Rattle.nx_receiver.proofs.listens.Runs.{as-err, err-of, memory-read, memory-write, whatever}
+use Rattle.nx_receiver.proofs.listens.Runs.{write-not_read}
 use Rattle.nx_receiver.proofs.receiving.Logged.{bits_of-append}
 use Rattle.nx_receiver.proofs.receiving.Events.{bits_of-more}
 
@@ -184,29 +192,29 @@ explains : (AtEnd : Type 0) (IsLeft : List ℕ → Type 0) (first now : Showing)
     (Appends old new) bytes fault
     → ExplainsShowing AtEnd IsLeft old new bytes (lines_fault fault)
 explains AtEnd IsLeft first now old new bytes run.Read h =
-    stops-on bytes _ _ (λ lines rest more p. (p.0, p.1, shown first now old new lines p.2)) h
+    StopsAt-map bytes _ _ (λ lines rest more p. (p.0, p.1, shown first now old new lines p.2)) h
 explains AtEnd IsLeft first now old new bytes (run.Line file.TooLong) h =
-    stops-on bytes _ _ (λ lines rest more p. (p.0, shown first now old new lines p.1)) h.1
+    StopsAt-map bytes _ _ (λ lines rest more p. (p.0, shown first now old new lines p.1)) h.1
 explains AtEnd IsLeft first now old new bytes (run.Line (file.LineLong line)) h =
-    stops-on bytes _ _ (λ lines rest more p. (p.0, shown first now old new lines p.1)) h.1
+    StopsAt-map bytes _ _ (λ lines rest more p. (p.0, shown first now old new lines p.1)) h.1
 explains AtEnd IsLeft first now old new bytes (run.Line (file.LineCut line)) h =
-    (h.0, stops-on bytes _ _ (λ lines rest more p. (p.0, shown first now old new lines p.1)) h.1)
+    (h.0, StopsAt-map bytes _ _ (λ lines rest more p. (p.0, shown first now old new lines p.1)) h.1)
 explains AtEnd IsLeft first now old new bytes (run.Line (file.BadLine line)) h =
-    stops-on bytes _ _ (λ lines rest more p. (p.0, shown first now old new lines p.1)) h.1
+    StopsAt-map bytes _ _ (λ lines rest more p. (p.0, shown first now old new lines p.1)) h.1
 explains AtEnd IsLeft first now old new bytes (run.Refused line refusal.NoMoment) h =
-    stops-on bytes _ _ (λ lines rest more p. (
+    StopsAt-map bytes _ _ (λ lines rest more p. (
       next-refused first line lines rest more refusal.NoMoment (λ e. cc) p.0,
       shown first now old
           new lines p.1,
     )) h
 explains AtEnd IsLeft first now old new bytes (run.Refused line (refusal.Moment why)) h =
-    stops-on bytes _ _ (λ lines rest more p. (
+    StopsAt-map bytes _ _ (λ lines rest more p. (
       next-refused first line lines rest more (refusal.Moment why) (λ e. cc) p.0,
       shown first now
           old new lines p.1,
     )) h
 explains AtEnd IsLeft first now old new bytes (run.Refused line (refusal.Vital subject)) h =
-    stops-on bytes _ _ (λ lines rest more p. (
+    StopsAt-map bytes _ _ (λ lines rest more p. (
       next-refused first line lines rest more (refusal.Vital subject) (λ e. cc) p.0,
       shown first
           now old new lines p.1,
@@ -214,7 +222,7 @@ explains AtEnd IsLeft first now old new bytes (run.Refused line (refusal.Vital s
 explains AtEnd IsLeft first now old new bytes (run.Refused line refusal.TooMany) h =
     absurd (not-too_many h.lines h.rest h.more line h.here.0)
 explains AtEnd IsLeft first now old new bytes (run.Write written) h =
-    inl (stops-on bytes _ _ (λ lines rest more p. (p.given, p.begun, p.some)) h)
+    inl (StopsAt-map bytes _ _ (λ lines rest more p. (p.given, p.begun, p.some)) h)
 
 -- the faults of devices are those of devices
 read-back : (fault : LinesFault LineRefusal) → lines_fault fault ≡ Read → fault ≡ run.Read

@@ -1,9 +1,12 @@
 -- What a line does to a taker of lines.
-use Rattle.std.proofs.Common.{◌≡◌, ℕ, ◌+◌, ◌^◌, ◌<◌, ◌≤◌, Option, Result, Ok, Err, MatchResult, OnErr, Bool, true, false, arith, List, [], ◌∷◌, ◌++◌, map, length, refl, sym, ap, ◌∙◌, subst, subst₂, append-nil}
+use Rattle.std.proofs.Common.{◌≡◌, ℕ, ◌+◌, ◌^◌, ◌<◌, ◌≤◌, Option, Result, Ok, Err, MatchResult}
+use Rattle.std.proofs.Common.{OnErr, Bool, true, false, arith, List, [], ◌∷◌, ◌++◌, map, length}
+use Rattle.std.proofs.Common.{refl, sym, ap, ◌∙◌, subst, subst₂, append-nil}
 use Rattle.std.specs.Prelude.{if◌then◌else◌}
 use Rattle.std.proofs.lemmas.List.{map-append}
 use Rattle.nx_envelope.specs.Moment.{last_moment}
-use Rattle.nx_fec.specs.AirFile.{Line, moment, elements, refuse_station, accept_station, refuse_subject, accept_subject}
+use Rattle.nx_fec.specs.AirFile.{Line, moment, elements, refuse_station, accept_station}
+use Rattle.nx_fec.specs.AirFile.{refuse_subject, accept_subject}
 use Rattle.nx_fec.specs.Channels.{channel_of, same_channel}
 use Rattle.nx_fec.specs.LineRuns.{ExplainsTaking, HasGiven, HasTaken, Waiting}
 use Rattle.nx_fec.specs.declared.channel.Channel.{Channel}
@@ -12,17 +15,20 @@ use Rattle.nx_fec.specs.declared.line_run.TakeFault.{TakeFault}
 use Rattle.nx_fec.specs.declared.line_run.TakeFault.TheVariants as take
 use Rattle.nx_memory.specs.Selection.{is_vital}
 use Rattle.nx_receiver.specs.Events as events
-use Rattle.nx_receiver.specs.Events.{Command, Event, Setting, command, elements_among, element, first_setting, setting_after, setting_after_all, settings}
+use Rattle.nx_receiver.specs.Events.{Command, Event, Setting, command, elements_among, element}
+use Rattle.nx_receiver.specs.Events.{first_setting, setting_after, setting_after_all, settings}
 use Rattle.nx_receiver.specs.Listen.{events_on, given_by, given_of, has_moment, moment_after}
 use Rattle.nx_receiver.specs.private.Taken.{AreTakenAfter, IsTakenAfter}
 use Rattle.nx_receiver.proofs.listens.Taken.{are-taken}
 use Rattle.nx_receiver.specs.Shares.{all_at_zero, events_for, share, start_on, to_one}
 use Rattle.nx_receiver.proofs.Shares.{share-one}
 use Rattle.nx_receiver.proofs.chain.Moments.{after-more}
-use Rattle.nx_receiver.proofs.listens.Listener.{given_by-one, moment-on, moment-one, moment-other, taken-one}
+use Rattle.nx_receiver.proofs.listens.Listener.{given_by-one, moment-on, moment-one, moment-other}
+use Rattle.nx_receiver.proofs.listens.Listener.{taken-one}
 use Rattle.nx_receiver.proofs.receiving.Logged.{bits_of-append, settings-append}
 use Rattle.nx_locks.specs.Run.{elements_on_0, ending_of, moments_on_0}
-use Rattle.nx_locks.specs.private.Shower.{BeginsFrom, IsShowing, RefusesFrom, RefusesLine, Showing, StandsFrom}
+use Rattle.nx_locks.specs.private.Shower.{BeginsFrom, IsShowing, RefusesFrom, RefusesLine, Showing}
+use Rattle.nx_locks.specs.private.Shower.{StandsFrom}
 use Rattle.nx_locks.specs.declared.shower.LineRefusal.{LineRefusal}
 use Rattle.nx_locks.specs.private.Watch.{HearsAll, Watching, WatchShows, all_at}
 

@@ -1,7 +1,8 @@
 -- A run that shows the locks of an air file on channel 0: the report of its lines, and its first
 -- fault (this profile). It reads the file as a run that listens does, with the same faults, which
 -- are those of all channels.
-use Rattle.std.specs.Prelude.{◌≡◌, ◌⊎◌, ℕ, ◌+◌, ◌≤◌, Bool, List, [], ◌++◌, length, map, Option, Result, Ok, Err, ⊤}
+use Rattle.std.specs.Prelude.{◌≡◌, ◌⊎◌, ℕ, ◌+◌, ◌≤◌, Bool, List, [], ◌++◌, length, map, Option}
+use Rattle.std.specs.Prelude.{Result, Ok, Err, ⊤}
 use Rattle.std.specs.Io.KnownBytes.{Appends}
 use Rattle.nx_fec.specs.AirFile.{Line}
 use Rattle.nx_fec.specs.Lines.{StopsAt, air_limit}
@@ -9,10 +10,12 @@ use Rattle.nx_fec.specs.Lines.{IsAirFile, file_of}
 use Rattle.nx_fec.specs.declared.channel.Channel.TheVariants.{Zero}
 use Rattle.nx_fec.specs.Transfers.{Devices, IsReadOut, Transfers, on_the_way}
 use Rattle.nx_receiver.specs.Events.{elements_among, first_setting, settings}
-use Rattle.nx_receiver.specs.Listen.{AreTaken, HasListenFault, HasLoggedSome, events_on, moment_after}
+use Rattle.nx_receiver.specs.Listen.{AreTaken, HasListenFault, HasLoggedSome, events_on}
+use Rattle.nx_receiver.specs.Listen.{moment_after}
 use Rattle.nx_receiver.specs.Shares.{all_at_zero, start_on}
 use Rattle.nx_receiver.specs.declared.listen_fault.ListenFault.{ListenFault}
-use Rattle.nx_receiver.specs.declared.listen_fault.ListenFault.TheVariants.{Memory, Read, Write, LineCut}
+use Rattle.nx_receiver.specs.declared.listen_fault.ListenFault.TheVariants.{Memory, Read, Write}
+use Rattle.nx_receiver.specs.declared.listen_fault.ListenFault.TheVariants.{LineCut}
 use Rattle.nx_locks.specs.Report.{IsReport, IsReportSoFar, now_headers, now_locks, past_headers}
 use Rattle.nx_locks.specs.declared.run.LocksReport.{LocksReport}
 

@@ -1,5 +1,6 @@
 -- Shares of channels, copies with their channels, and what is printed in turn.
-use Rattle.std.proofs.Common.{◌≡◌, ◌⊎◌, ℕ, inl, inr, Bool, true, false, cond, List, [], ◌∷◌, ◌++◌, refl, sym, ap, ap₂, ◌∙◌, subst, append-nil, append_assoc}
+use Rattle.std.proofs.Common.{◌≡◌, ◌⊎◌, ℕ, inl, inr, Bool, true, false, cond, List, [], ◌∷◌, ◌++◌}
+use Rattle.std.proofs.Common.{refl, sym, ap, ap₂, ◌∙◌, subst, append-nil, append_assoc}
 use Rattle.std.specs.Prelude.{map, filter, length, take, drop}
 use Rattle.std.specs.List.{flat_map}
 use Rattle.std.proofs.Math.Path.{fun_ext}
@@ -14,7 +15,8 @@ use Rattle.nx_receiver.specs.Events.{at_zero, none_refused}
 use Rattle.nx_receiver.specs.FoundCopies.{TaggedCopy}
 use Rattle.nx_receiver.specs.InTurn.{HavePrinted, PrintAllToEnd, PrintsInTurn}
 use Rattle.nx_receiver.specs.Log.{PrintsToEnd}
-use Rattle.nx_receiver.specs.Shares.{Given, MarkedCopy, Starts, all_at_zero, copies_on, events_for, marked, none_saved, saved_of, share, start_on, starts_from}
+use Rattle.nx_receiver.specs.Shares.{Given, MarkedCopy, Starts, all_at_zero, copies_on, events_for}
+use Rattle.nx_receiver.specs.Shares.{marked, none_saved, saved_of, share, start_on, starts_from}
 
 pub same_channel-refl : (channel : Channel) → same_channel channel channel ≡ true
 same_channel-refl Zero = refl

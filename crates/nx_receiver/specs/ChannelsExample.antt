@@ -1,6 +1,6 @@
--- A worked air file of two channels: what arrives of the message EA01 with the one line TEST, sent in
--- the slot of station E, where each DX word of the message is damaged, is heard on two frequencies at
--- once, line by line.
+-- A worked air file of two channels: what arrives of the message EA01 with the one line TEST, sent
+-- in the slot of station E, where each DX word of the message is damaged, is heard on two
+-- frequencies at once, line by line.
 use Rattle.std.specs.Prelude.{ℕ, ◌*◌, Bool, List, [], ◌∷◌, ◌++◌, drop, take, codes, Some, None}
 use Rattle.nx_fec.specs.AirFile.{Line, moment, elements}
 use Rattle.nx_fec.specs.Emission.{bits_of}

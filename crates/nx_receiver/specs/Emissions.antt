@@ -1,5 +1,6 @@
 -- What sendings give a receiver: a lock that holds, and copies (this profile).
-use Rattle.std.specs.Prelude.{◌≡◌, ℕ, ◌+◌, ◌*◌, ◌≤◌, ◌==◌, Bool, List, ◌∷◌, ◌++◌, length, take, filter}
+use Rattle.std.specs.Prelude.{◌≡◌, ℕ, ◌+◌, ◌*◌, ◌≤◌, ◌==◌, Bool, List, ◌∷◌, ◌++◌, length, take}
+use Rattle.std.specs.Prelude.{filter}
 use Rattle.std.specs.List.{flat_map}
 use Rattle.nx_fec.specs.Emission.{bits_of}
 use Rattle.nx_sync.specs.Laws.{phasing}

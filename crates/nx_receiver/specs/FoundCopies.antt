@@ -2,7 +2,8 @@
 -- (the form of a message is that of ITU-R M.540). No copy reaches from one lock into another, since
 -- each lock has a text of its own (this profile). Then tagged: a copy bears the moment and the
 -- selection that are in force at the place of its second digit.
-use Rattle.std.specs.Prelude.{ℕ, ◌+◌, ◌-◌, ◌/◌, Bool, true, List, [], ◌∷◌, ◌++◌, map, length, slice_get, unwrap_or}
+use Rattle.std.specs.Prelude.{ℕ, ◌+◌, ◌-◌, ◌/◌, Bool, true, List, [], ◌∷◌, ◌++◌, map, length}
+use Rattle.std.specs.Prelude.{slice_get, unwrap_or}
 use Rattle.std.specs.Option.{option_map}
 use Rattle.nx_envelope.specs.Copies.{Copy, ended_copies, open_headers, closed_copy, copies}
 use Rattle.nx_envelope.specs.declared.found.Found.{Found}

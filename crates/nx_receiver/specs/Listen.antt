@@ -1,14 +1,17 @@
 -- What three receivers that listen make of an air file, with whatever they start: the log of its
 -- lines, and its first fault (this profile).
-use Rattle.std.specs.Prelude.{◌≡◌, ◌⊎◌, ◌↔◌, ℕ, ◌+◌, ◌≤◌, Bool, true, false, List, [], ◌∷◌, ◌++◌, length, map, Option, Result, Ok, Err, IfSome, IsErrOf, IsTrue, ⊤}
+use Rattle.std.specs.Prelude.{◌≡◌, ◌⊎◌, ◌↔◌, ℕ, ◌+◌, ◌≤◌, Bool, true, false, List, [], ◌∷◌, ◌++◌}
+use Rattle.std.specs.Prelude.{length, map, Option, Result, Ok, Err, IfSome, IsErrOf, IsTrue, ⊤}
 use Rattle.std.specs.List.{flat_map, list_any}
 use Rattle.std.specs.Io.KnownBytes.{Appends, Consumes, IsAtEnd}
 use Rattle.nx_envelope.specs.Moment.{last_moment}
-use Rattle.nx_fec.specs.AirFile.{Line, moment, elements, refuse_station, accept_station, refuse_subject, accept_subject}
+use Rattle.nx_fec.specs.AirFile.{Line, moment, elements, refuse_station, accept_station}
+use Rattle.nx_fec.specs.AirFile.{refuse_subject, accept_subject}
 use Rattle.nx_fec.specs.Channels.{channel_of}
 use Rattle.nx_fec.specs.declared.channel.Channel.{Channel}
 use Rattle.nx_fec.specs.Transfers.{WroteSome}
-use Rattle.nx_fec.specs.Lines.{StopsAt, air_limit, IsAirFile, IsCause, IsLineRefused, elements_of, file_of}
+use Rattle.nx_fec.specs.Lines.{StopsAt, air_limit, IsAirFile, IsCause, IsLineRefused, elements_of}
+use Rattle.nx_fec.specs.Lines.{file_of}
 use Rattle.nx_fec.specs.declared.fault.LineFault.{LineFault}
 use Rattle.nx_fec.specs.declared.fault.LineFault.TheVariants as file
 use Rattle.nx_memory.specs.Selection.{is_vital}
@@ -18,7 +21,10 @@ use Rattle.nx_receiver.specs.InTurn.{PrintAllToEnd, PrintsInTurn}
 use Rattle.nx_receiver.specs.Log.{IsLog}
 use Rattle.nx_receiver.specs.Shares.{Given, MarkedCopy, Starts, share, to_all, to_one}
 use Rattle.nx_receiver.specs.declared.listen_fault.ListenFault.{ListenFault}
-use Rattle.nx_receiver.specs.declared.listen_fault.ListenFault.TheVariants.{Memory, Read, Write, AirTooLong, LineLong, LineCut, BadLine, NoMoment, Moment, Vital}
+use Rattle.nx_receiver.specs.declared.listen_fault.ListenFault.TheVariants.{Memory, Read, Write}
+use Rattle.nx_receiver.specs.declared.listen_fault.ListenFault.TheVariants.{AirTooLong, LineLong}
+use Rattle.nx_receiver.specs.declared.listen_fault.ListenFault.TheVariants.{LineCut, BadLine}
+use Rattle.nx_receiver.specs.declared.listen_fault.ListenFault.TheVariants.{NoMoment, Moment, Vital}
 use Rattle.nx_receiver.specs.declared.listening.Report.{Report}
 
 -- a command, for the channel that its line names
@@ -57,9 +63,9 @@ is_moment_line _ = false
 abbrev pub has_moment : List Line → Bool
 has_moment lines = list_any is_moment_line lines
 
--- Why a line is refused after these lines, as a fault says it: elements, and there was no moment yet;
--- a moment that is out of range or goes back; the refusal of a vital subject (ITU-R M.540). Lines
--- count from 1.
+-- Why a line is refused after these lines, as a fault says it: elements, and there was no moment
+-- yet; a moment that is out of range or goes back; the refusal of a vital subject (ITU-R M.540).
+-- Lines count from 1.
 abbrev pub RefusesAfter : Starts → ListenFault → List Line → Line → Type 0
 RefusesAfter starts (NoMoment number) lines (elements mark bits) =
     (number ≡ length lines + 1) × (has_moment lines ≡ false)
@@ -114,7 +120,8 @@ pub record HasListened (starts : Starts) (old new : Option (List ℕ)) (bytes : 
 
 -- the log of these lines was written
 abbrev pub HasLogged : Starts → Option (List ℕ) → Option (List ℕ) → List Line → Type 0
-HasLogged starts old new lines = (log : List ℕ) × IsLogOfLines starts lines log × Appends old new log
+HasLogged starts old new lines =
+    (log : List ℕ) × IsLogOfLines starts lines log × Appends old new log
 
 -- a write failed, before which the writer took the first `written` bytes of the log, of which this
 -- holds
@@ -167,15 +174,16 @@ AnswersListening starts AtEnd IsLeft old new (Err fault) bytes =
     HasListenFault starts (HasLogged starts old new) bytes fault
 
 -- A run that listens, with this start. The reader had `left` to read and then `left_after`, and the
--- writer the contents `old` and then `new`, where they tell of their bytes. The run answers so to the
--- bytes that it read, and to the whole file, however it came; and it writes the log of the lines that
--- it read before each further read. A read failed, at most one, exactly where the outcome is `Read`,
--- and a write where it is `Write`.
+-- writer the contents `old` and then `new`, where they tell of their bytes. The run answers so to
+-- the bytes that it read, and to the whole file, however it came; and it writes the log of the
+-- lines that it read before each further read. A read failed, at most one, exactly where the
+-- outcome is `Read`, and a write where it is `Write`.
 pub record Listens (starts : Starts) (left left_after old new : Option (List ℕ))
     (failed_reads failed_writes : ℕ) (outcome : Result Report ListenFault) : Type 0 where
   pub bytes : List ℕ
   pub consumed : Consumes left left_after bytes
-  pub answer : AnswersListening starts (IsAtEnd left_after) (λ more. more ≡ []) old new outcome bytes
+  pub answer : AnswersListening starts (IsAtEnd left_after)
+      (λ more. more ≡ []) old new outcome bytes
   pub file : IfSome left (AnswersListening starts (Unit {0}) (λ more. Unit {0}) old new outcome)
   pub unread : IsErrOf outcome Read ↔ (failed_reads ≡ 1)
   pub read_once : failed_reads ≤ 1

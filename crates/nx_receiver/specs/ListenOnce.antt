@@ -13,8 +13,8 @@ use Rattle.nx_receiver.specs.Shares.{Starts, copies_on, share, start_on}
 use Rattle.nx_receiver.specs.declared.listening.Report.{Report}
 
 -- What has to be met on a channel of an air file, so that a message is printed once: the file has
--- these lines, and in the channel's share of what they give to receivers that begin with this start,
--- the message is heard in time, in these parts.
+-- these lines, and in the channel's share of what they give to receivers that begin with this
+-- start, the message is heard in time, in these parts.
 pub record IsHeardInTimeOn (channel : Channel) (starts : Starts) (file : List ℕ)
     (message : MessageView)
     : Type 0 where
@@ -23,9 +23,9 @@ pub record IsHeardInTimeOn (channel : Channel) (starts : Starts) (file : List �
   pub parts : List Part
   pub heard : IsHeardInTime (start_on starts channel) (events_on channel lines) parts message
 
--- Both halves of the headline: the log of the file of these bytes was written, and of its entries on
--- a channel exactly one bears the identity of each message that is heard in time on that channel: it
--- is full, has 0 errors, and its text is the message's, letter for letter.
+-- Both halves of the headline: the log of the file of these bytes was written, and of its entries
+-- on a channel exactly one bears the identity of each message that is heard in time on that
+-- channel: it is full, has 0 errors, and its text is the message's, letter for letter.
 pub record HasPrintedOnce (starts : Starts) (old new : Option (List ℕ)) (file : List ℕ)
     : Type 0 where
   pub report : Report
@@ -38,7 +38,8 @@ pub record HasPrintedOnce (starts : Starts) (old new : Option (List ℕ)) (file 
 -- those that it wrote after `old`: the log of the file was written, and of its entries on a channel
 -- exactly one bears the identity of each message that is heard in time, in whatever parts, in the
 -- channel's share of what the lines give.
-pub record KeepsHeadline (starts : Starts) (left left_after old new : Option (List ℕ)) : Type 0 where
+pub record KeepsHeadline (starts : Starts)
+    (left left_after old new : Option (List ℕ)) : Type 0 where
   pub bytes : List ℕ
   pub consumed : Consumes left left_after bytes
   pub all : IsAtEnd left_after

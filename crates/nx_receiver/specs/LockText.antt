@@ -26,8 +26,8 @@ pub record PlacedByte : Type 0 where
   pub byte : ℕ
   pub place : ℕ
 
--- what word k of the lock at t prints, in the shift that the positions before it leave, from letters;
--- with its place: the index of the last bit of the word
+-- what word k of the lock at t prints, in the shift that the positions before it leave, from
+-- letters; with its place: the index of the last bit of the word
 unfoldable pub printed_by : Role → (ℕ → ℕ) → ℕ → ℕ → List PlacedByte
 printed_by first words t k =
     map (λ b. record { byte = b; place = t + 7 * k + 6 })

@@ -1,5 +1,6 @@
 -- The log: what is printed of all that a receiver was given, and its bytes (this profile).
-use Rattle.std.specs.Prelude.{◌≡◌, ℕ, ◌-◌, ◌==◌, Bool, true, if◌then◌else◌, List, [], ◌∷◌, ◌++◌, length, codes, decimal, slice_get, unwrap_or}
+use Rattle.std.specs.Prelude.{◌≡◌, ℕ, ◌-◌, ◌==◌, Bool, true, if◌then◌else◌, List, [], ◌∷◌, ◌++◌}
+use Rattle.std.specs.Prelude.{length, codes, decimal, slice_get, unwrap_or}
 use Rattle.std.specs.List.{concat, AllZip}
 use Rattle.std.specs.Option.{option_map}
 use Rattle.nx_envelope.specs.Copies.{errors_of}
@@ -12,7 +13,8 @@ use Rattle.nx_fec.specs.declared.channel.Channel.{Channel}
 use Rattle.nx_fec.specs.declared.channel.Channel.TheVariants.{Zero, One, Two}
 use Rattle.nx_sync.specs.Locks.{Lock, Now, IsNow}
 use Rattle.nx_receiver.specs.Events.{Event, Start, elements_among, first_setting}
-use Rattle.nx_receiver.specs.FoundCopies.{FoundCopy, ended_so_far, found_to_end, TaggedCopy, tagged_copies}
+use Rattle.nx_receiver.specs.FoundCopies.{FoundCopy, ended_so_far, found_to_end, TaggedCopy}
+use Rattle.nx_receiver.specs.FoundCopies.{tagged_copies}
 use Rattle.nx_receiver.specs.Printing.{printed_copies}
 use Rattle.nx_receiver.specs.Shares.{MarkedCopy}
 
@@ -46,8 +48,8 @@ is_of_lines text =
 unfoldable pub missing_newline : List ℕ → List ℕ
 missing_newline text = if is_of_lines text then [] else newline ∷ []
 
--- The bytes are the entry of a copy, with the civil time of its moment: its head, the text, a newline
--- where the text isn't empty and doesn't end with one, and a newline.
+-- The bytes are the entry of a copy, with the civil time of its moment: its head, the text, a
+-- newline where the text isn't empty and doesn't end with one, and a newline.
 pub record IsEntry (one : MarkedCopy) (bytes : List ℕ) : Type 0 where
   pub civil : List ℕ
   pub shown : IsShownAs one.copy.moment civil

@@ -1,6 +1,7 @@
 -- A message that is sent one or more times and is printed once: what has to be met, and what is
 -- printed (this profile).
-use Rattle.std.specs.Prelude.{◌≡◌, ℕ, ◌+◌, ◌<◌, List, [], ◌∷◌, ◌++◌, length, Contains, IsTrue, false}
+use Rattle.std.specs.Prelude.{◌≡◌, ℕ, ◌+◌, ◌<◌, List, [], ◌∷◌, ◌++◌, length, Contains, IsTrue}
+use Rattle.std.specs.Prelude.{false}
 use Rattle.nx_sync.specs.Locks.{Lock, Now, IsNow}
 use Rattle.nx_envelope.specs.Copies.{errors_of}
 use Rattle.nx_envelope.specs.Identity.{same_identity}
@@ -66,8 +67,8 @@ pub record IsHeardInTime (start : Start) (events : List Event) (parts : List Par
       ≡ tagged_copies (first_setting start) events (found_to_end (elements_among events) locks now)
   pub none_before : copies_of message.identity before ≡ []
   pub named : IsTrue (same_identity first.identity message.identity)
-  -- there no entry of its identity is live: an entry that the first list has of it is 66 hours old by
-  -- then, or 200 came after it
+  -- there no entry of its identity is live: an entry that the first list has of it is 66 hours old
+  -- by then, or 200 came after it
   pub unknown : is_remembered (entries_after start.entries before) first ≡ false
   -- 200 identities suffice: fewer than 200 entries are made between it and any later copy of its
   -- identity

@@ -1,6 +1,7 @@
 -- Good, printed and entered: which copies are printed, and which of them the memory keeps (ITU-R
 -- M.540 for the number 00, which is printed each time; all else is this profile's).
-use Rattle.std.specs.Prelude.{◌*◌, ◌==◌, nat_lt, max, Bool, true, false, not, ◌&&◌, ◌||◌, if◌then◌else◌, List, [], ◌∷◌, ◌++◌, length, filter}
+use Rattle.std.specs.Prelude.{◌*◌, ◌==◌, nat_lt, max, Bool, true, false, not, ◌&&◌, ◌||◌}
+use Rattle.std.specs.Prelude.{if◌then◌else◌, List, [], ◌∷◌, ◌++◌, length, filter}
 use Rattle.nx_code.specs.Lists.{last_of}
 use Rattle.nx_envelope.specs.Copies.{errors_of}
 use Rattle.nx_envelope.specs.declared.found.How.{How}

@@ -1,5 +1,6 @@
 -- What a receiver holds, and after which events: the layer contract (this profile).
-use Rattle.std.specs.Prelude.{◌≡◌, ◌⊎◌, ℕ, ◌<◌, ◌≤◌, Bool, List, [], ◌∷◌, ◌++◌, take, Option, Some, None}
+use Rattle.std.specs.Prelude.{◌≡◌, ◌⊎◌, ℕ, ◌<◌, ◌≤◌, Bool, List, [], ◌∷◌, ◌++◌, take, Option, Some}
+use Rattle.std.specs.Prelude.{None}
 use Rattle.nx_code.specs.Lists.{last_of}
 use Rattle.nx_envelope.specs.Moment.{last_moment}
 use Rattle.nx_memory.specs.Memory.{most_entries}
@@ -7,7 +8,8 @@ use Rattle.nx_memory.specs.declared.entry.MemoryEntry.{MemoryEntry}
 use Rattle.nx_receiver.specs.declared.entry.Entry.{Entry}
 use Rattle.nx_receiver.specs.declared.fault.ReceiverFault.{ReceiverFault}
 use Rattle.nx_receiver.specs.declared.fault.ReceiverFault.TheVariants.{MomentRange, Memory}
-use Rattle.nx_receiver.specs.Events.{Event, Start, Setting, elements_among, first_setting, settings, setting_after_all, elements}
+use Rattle.nx_receiver.specs.Events.{Event, Start, Setting, elements_among, first_setting, settings}
+use Rattle.nx_receiver.specs.Events.{setting_after_all, elements}
 use Rattle.nx_receiver.specs.Log.{HasPrinted}
 use Rattle.nx_receiver.specs.Printing.{printed_copies, entries_after}
 use Rattle.nx_receiver.specs.FoundCopies.{TaggedCopy, copy_of}

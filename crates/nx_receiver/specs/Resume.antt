@@ -1,6 +1,7 @@
 -- A run that resumes: it reads the text of a state, and goes on from it over the air file behind
 -- (this profile).
-use Rattle.std.specs.Prelude.{◌≡◌, ◌⊎◌, ◌↔◌, ℕ, ◌≤◌, List, [], ◌∷◌, map, Option, None, Result, Ok, Err, IfSome, ⊤}
+use Rattle.std.specs.Prelude.{◌≡◌, ◌⊎◌, ◌↔◌, ℕ, ◌≤◌, List, [], ◌∷◌, map, Option, None, Result, Ok}
+use Rattle.std.specs.Prelude.{Err, IfSome, ⊤}
 use Rattle.std.specs.List.{flat_map}
 use Rattle.std.specs.Io.KnownBytes.{Appends, Consumes}
 use Rattle.nx_fec.specs.Transfers.{CountedDevice, Devices, IsReadOut, Writes, WroteSome}
@@ -66,9 +67,9 @@ WhereUnwritten want (Err (resume.State fault)) P = P
 WhereUnwritten State (Err (resume.Listen fault)) P = P
 WhereUnwritten want outcome P = ⊤
 
--- A run from a reader to a writer that answers so, to the bytes that it read, and to the whole input
--- where it is known, however it came. A read fails exactly where the outcome says so, and so does a
--- write; and then no more is called.
+-- A run from a reader to a writer that answers so, to the bytes that it read, and to the whole
+-- input where it is known, however it came. A read fails exactly where the outcome says so, and so
+-- does a write; and then no more is called.
 pub record ResumesBy {R W : Type 0}
     (answers : Type 0 → (List ℕ → Type 0) → Option (List ℕ) → Option (List ℕ)
     → Result Report ResumeFault → List ℕ → Type 0)
@@ -88,7 +89,8 @@ pub record ResumesBy {R W : Type 0}
 abbrev pub Resumes : {R W : Type 0} → Want → Devices R W → Result Report ResumeFault → Type 0
 Resumes want d outcome = ResumesBy (AnswersResuming want) want d outcome
 
--- this holds of the bytes that a run read; and of the whole input, where it is known, however it came
+-- this holds of the bytes that a run read; and of the whole input, where it is known, however it
+-- came
 pub record HoldsOfInput {R W : Type 0} (d : Devices R W) (holds : List ℕ → Type 0) : Type 0 where
   pub bytes : List ℕ
   pub consumed : Consumes (d.remaining d.reader.inner) (d.remaining d.reader_after.inner) bytes
@@ -113,7 +115,8 @@ HasPrintedOnceFrom d states air =
     HasPrintedOnce (starts_from states) (d.contents d.writer.inner)
     (d.contents d.writer_after.inner) air
 
--- a run that went on from these states over an air file leaves something, and this holds of its text
+-- a run that went on from these states over an air file leaves something, and this holds of its
+-- text
 pub record HasLeft (holds : List ℕ → Type 0) (states : SavedStates) (air : List ℕ) : Type 0 where
   pub left : SavedStates
   pub sound : AreSavedStates left

@@ -1,5 +1,5 @@
--- What the receivers of three channels are given, each its own share of it, and the copies that they
--- print (this profile).
+-- What the receivers of three channels are given, each its own share of it, and the copies that
+-- they print (this profile).
 use Rattle.std.specs.Prelude.{ℕ, if◌then◌else◌, List, [], ◌∷◌, filter, map, unwrap_or}
 use Rattle.std.specs.List.{flat_map}
 use Rattle.nx_fec.specs.Channels.{same_channel}

@@ -1,5 +1,6 @@
 -- The text of a state by its bytes, and what reading it answers (this profile).
-use Rattle.std.specs.Prelude.{◌≡◌, ◌≢◌, ◌⊎◌, ℕ, ◌+◌, List, [], ◌∷◌, ◌++◌, length, Option, Result, Ok, Err, ⊤}
+use Rattle.std.specs.Prelude.{◌≡◌, ◌≢◌, ◌⊎◌, ℕ, ◌+◌, List, [], ◌∷◌, ◌++◌, length, Option, Result}
+use Rattle.std.specs.Prelude.{Ok, Err, ⊤}
 use Rattle.std.specs.List.{flat_map}
 use Rattle.std.specs.Io.KnownBytes.{IsAtEnd}
 use Rattle.nx_fec.specs.Lines.{line_end}
@@ -50,17 +51,17 @@ pub record StopsInText (input : List ℕ) (holds : List (List ℕ) → List ℕ 
   pub here : holds lines rest more
 
 -- After the lines and the beginning of one more comes a byte that is no part of any text of a
--- state: the line feed of a line with which none goes on, or the 17th byte of a line. `IsLeft` holds
--- of what follows.
+-- state: the line feed of a line with which none goes on, or the 17th byte of a line. `IsLeft`
+-- holds of what follows.
 abbrev pub IsNotUnderstood : (List ℕ → Type 0) → List (List ℕ) → List ℕ → List ℕ → Type 0
 IsNotUnderstood IsLeft lines rest [] = ⊥
 IsNotUnderstood IsLeft lines rest (byte ∷ more) =
     IsLeft more × (((byte ≡ line_end) × BeginsNoText (lines ++ rest ∷ []))
     ⊎ ((byte ≢ line_end) × (length rest ≡ 16)))
 
--- What a fault of reading a state says of the input: its line, from 1, is the one in which the fault
--- stands. After it, or after a failed read, `IsLeft` holds of what was left; that of the end comes
--- at the end.
+-- What a fault of reading a state says of the input: its line, from 1, is the one in which the
+-- fault stands. After it, or after a failed read, `IsLeft` holds of what was left; that of the end
+-- comes at the end.
 abbrev pub ExplainsState : Type 0 → (List ℕ → Type 0) → List ℕ → StateFault → Type 0
 ExplainsState AtEnd IsLeft input Read = StopsInText input (λ lines rest more. IsLeft more)
 ExplainsState AtEnd IsLeft input (StateLine line) =

@@ -1,6 +1,7 @@
 -- A reader of the text of a lock, and after which of its words it stands. `first` is the role of
 -- word 0 of the lock, and `words` gives each word's number.
-use Rattle.std.specs.Prelude.{◌≡◌, ℕ, ◌+◌, ◌-◌, ◌^◌, ◌<◌, ◌≤◌, Bool, if◌then◌else◌, not, List, [], ◌∷◌, ◌++◌, length, min, slice_index, Option}
+use Rattle.std.specs.Prelude.{◌≡◌, ℕ, ◌+◌, ◌-◌, ◌^◌, ◌<◌, ◌≤◌, Bool, if◌then◌else◌, not, List, []}
+use Rattle.std.specs.Prelude.{◌∷◌, ◌++◌, length, min, slice_index, Option}
 use Rattle.std.specs.Option.{option_to_list}
 use Rattle.nx_code.specs.declared.printing.Printer.{Printer}
 use Rattle.nx_envelope.specs.Copies.{headers}

@@ -105,8 +105,8 @@ pub(super) fn two_channels(alloc: Global, moment: &[u8], bits: &[bool]) -> Resul
     Ok(file)
 }
 
-/// P2 P1 P2 P1 and then so many elements that aren't B, before other elements.
-pub(super) fn after_pattern(alloc: Global, gap: usize, bits: &[bool]) -> Result<Vec<bool>, Fail> {
+/// P2 P1 P2 P1 before other elements.
+pub(super) fn after_pattern(alloc: Global, bits: &[bool]) -> Result<Vec<bool>, Fail> {
     let mut positions = Vec::new(alloc);
     add_phasing(&mut positions, 4)?;
     // The slots 0 to 3 are P2 P1 P2 P1.
@@ -116,9 +116,6 @@ pub(super) fn after_pattern(alloc: Global, gap: usize, bits: &[bool]) -> Result<
         return Err("pattern".into());
     };
     all.extend_from_slice(words)?;
-    for _ in 0..gap {
-        all.push(false)?;
-    }
     all.extend_from_slice(bits)?;
     Ok(all)
 }

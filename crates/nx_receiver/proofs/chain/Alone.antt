@@ -7,7 +7,8 @@ use Rattle.nx_fec.specs.declared.channel.Channel.{Channel}
 use Rattle.nx_sync.specs.Locks.{IsNow, Past, hunting}
 use Rattle.nx_receiver.specs.Chain.{AreFoundIn}
 use Rattle.nx_receiver.specs.Events.{Event, Start, elements_among}
-use Rattle.nx_receiver.specs.FoundCopies.{FoundCopy, TaggedCopy, found_to_end, past_copies, tagged_copies}
+use Rattle.nx_receiver.specs.FoundCopies.{FoundCopy, TaggedCopy, found_to_end, past_copies}
+use Rattle.nx_receiver.specs.FoundCopies.{tagged_copies}
 use Rattle.nx_receiver.specs.InTurn.{PrintAllToEnd}
 use Rattle.nx_receiver.specs.LockText.{bytes_of}
 use Rattle.nx_receiver.specs.Log.{PrintsToEnd, printed_of}

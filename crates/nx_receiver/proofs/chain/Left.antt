@@ -1,6 +1,7 @@
 -- The copy that the end closes makes no entry; so what a receiver holds after all events is what is
 -- left.
-use Rattle.std.proofs.Common.{◌≡◌, false, not, ◌&&◌, cond, List, [], ◌∷◌, ◌++◌, map, refl, sym, ap, ◌∙◌, append-nil}
+use Rattle.std.proofs.Common.{◌≡◌, false, not, ◌&&◌, cond, List, [], ◌∷◌, ◌++◌, map, refl, sym, ap}
+use Rattle.std.proofs.Common.{◌∙◌, append-nil}
 use Rattle.std.proofs.lemmas.Bool.{and_right}
 use Rattle.nx_code.specs.Lists.{last_of}
 use Rattle.nx_envelope.specs.Copies.{closed_copy, open_headers}
@@ -13,15 +14,19 @@ use Rattle.nx_memory.specs.declared.entry.MemoryEntry.{MemoryEntry}
 use Rattle.nx_sync.specs.Locks.{IsNow, Lock, Now}
 use Rattle.nx_receiver.specs.Chain.{AreFoundIn, Leaves}
 use Rattle.nx_receiver.specs.Events.{Event, Setting, Start, elements_among, first_setting, settings}
-use Rattle.nx_receiver.specs.FoundCopies.{FoundCopy, ended_so_far, found_copy, found_to_end, open_so_far, standing_text, TaggedCopy, tag, tagged_copies}
+use Rattle.nx_receiver.specs.FoundCopies.{FoundCopy, ended_so_far, found_copy, found_to_end}
+use Rattle.nx_receiver.specs.FoundCopies.{open_so_far, standing_text, TaggedCopy, tag}
+use Rattle.nx_receiver.specs.FoundCopies.{tagged_copies}
 use Rattle.nx_receiver.specs.LockText.{PlacedByte, bytes_of}
 use Rattle.nx_receiver.specs.private.Watch.{is_good_text}
-use Rattle.nx_receiver.specs.Printing.{entries_after, entries_made, entry_made, entry_of, is_entered, is_good, is_number_00, is_printed}
+use Rattle.nx_receiver.specs.Printing.{entries_after, entries_made, entry_made, entry_of}
+use Rattle.nx_receiver.specs.Printing.{is_entered, is_good, is_number_00, is_printed}
 use Rattle.nx_receiver.specs.Receiver.{Receiving, Stands}
 use Rattle.nx_receiver.specs.private.Watch.{copies_by}
 use Rattle.nx_receiver.specs.Watching.{in_force}
 use Rattle.nx_receiver.proofs.chain.Runs.{found_same}
-use Rattle.nx_receiver.proofs.receiving.Logged.{end_adds, entries_after-append, tagged_copies-append}
+use Rattle.nx_receiver.proofs.receiving.Logged.{end_adds, entries_after-append}
+use Rattle.nx_receiver.proofs.receiving.Logged.{tagged_copies-append}
 
 -- a copy that is cut makes no entry
 cut-made : (entries : List MemoryEntry) (copy : TaggedCopy) → copy.how ≡ Cut

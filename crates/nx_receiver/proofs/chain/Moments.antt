@@ -1,18 +1,22 @@
 -- On no channel a moment of a run lies before the newest entry that was saved of it.
-use Rattle.std.proofs.Common.{◌≡◌, inl, inr, ℕ, ◌≤◌, Bool, true, false, cond, List, [], ◌∷◌, ◌++◌, length, get_or, Option, Some, None, refl, sym, subst, arith}
+use Rattle.std.proofs.Common.{◌≡◌, inl, inr, ℕ, ◌≤◌, Bool, true, false, cond, List, [], ◌∷◌, ◌++◌}
+use Rattle.std.proofs.Common.{length, get_or, Option, Some, None, refl, sym, subst, arith}
 use Rattle.std.specs.List.{All}
 use Rattle.std.specs.Prelude.{⊤, unwrap_or}
 use Rattle.std.proofs.lemmas.Bool.{cases_lt}
 use Rattle.std.proofs.lemmas.List.{get_or_past}
 use Rattle.std.proofs.Math.Nat.{le-max_left, le-max_right}
-use Rattle.std.proofs.lemmas.List.Elements.{All-append, All-cons, All-get_or, All-head, All-nil, All-tail, All-weaker}
+use Rattle.std.proofs.lemmas.List.Elements.{All-append, All-cons, All-get_or, All-head, All-nil}
+use Rattle.std.proofs.lemmas.List.Elements.{All-tail, All-weaker}
 use Rattle.nx_memory.specs.Saved.{SavedStates, later_of}
 use Rattle.nx_memory.specs.Memory.{newest_moment, newest_of}
 use Rattle.nx_fec.specs.declared.channel.Channel.{Channel}
 use Rattle.nx_fec.specs.declared.channel.Channel.TheVariants.{Zero, One, Two}
-use Rattle.nx_fec.specs.AirFile.{Line, accept_station, accept_subject, elements, moment, refuse_station, refuse_subject}
+use Rattle.nx_fec.specs.AirFile.{Line, accept_station, accept_subject, elements, moment}
+use Rattle.nx_fec.specs.AirFile.{refuse_station, refuse_subject}
 use Rattle.nx_receiver.specs.Chain.{GoesOn, Run, copies_in, events_in, start_in}
-use Rattle.nx_receiver.specs.Events.{Command, Event, Setting, at_moment, command, element, first_setting, setting_after, settings}
+use Rattle.nx_receiver.specs.Events.{Command, Event, Setting, at_moment, command, element}
+use Rattle.nx_receiver.specs.Events.{first_setting, setting_after, settings}
 use Rattle.nx_receiver.specs.FoundCopies.{FoundCopy, TaggedCopy, tag, tagged_copies}
 use Rattle.nx_receiver.specs.Listen.{events_on, given_of, moment_after}
 use Rattle.nx_receiver.specs.private.Taken.{AreTakenAfter, IsTakenAfter}

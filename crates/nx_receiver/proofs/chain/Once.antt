@@ -1,7 +1,10 @@
 -- Over a chain of runs a message that is heard in time on a channel is printed once there.
-use Rattle.std.proofs.Common.{◌≡◌, ℕ, zero, suc, ◌+◌, ◌<◌, true, List, [], ◌∷◌, length, map, get_or, refl, sym, ap, ◌∙◌, subst, arith, IsTrue}
+use Rattle.std.proofs.Common.{◌≡◌, ℕ, zero, suc, ◌+◌, ◌<◌, true, List, [], ◌∷◌, length, map, get_or}
+use Rattle.std.proofs.Common.{refl, sym, ap, ◌∙◌, subst, arith, IsTrue}
 use Rattle.std.specs.List.{All, Contains}
-use Rattle.std.proofs.lemmas.List.Elements.{All-append, All-contains, All-contains_itself, All-cons, All-head, All-map, All-nil, All-tail, All-weaker, Contains-append_left, Contains-append_right}
+use Rattle.std.proofs.lemmas.List.Elements.{All-append, All-contains, All-contains_itself, All-cons}
+use Rattle.std.proofs.lemmas.List.Elements.{All-head, All-map, All-nil, All-tail, All-weaker}
+use Rattle.std.proofs.lemmas.List.Elements.{Contains-append_left, Contains-append_right}
 use Rattle.nx_envelope.specs.Copies.{errors_of}
 use Rattle.nx_envelope.specs.Identity.{same_identity}
 use Rattle.nx_envelope.specs.Message.{text_of, MessageView}
@@ -12,7 +15,8 @@ use Rattle.nx_memory.specs.declared.entry.MemoryEntry.{MemoryEntry}
 use Rattle.nx_fec.specs.declared.channel.Channel.{Channel}
 use Rattle.nx_fec.specs.declared.channel.Channel.TheVariants.{Zero, One, Two}
 use Rattle.nx_station.specs.Sendings.{Sending}
-use Rattle.nx_receiver.specs.Chain.{AreFoundIn, IsChain, Run, all_copies, all_printed, copies_in, events_in}
+use Rattle.nx_receiver.specs.Chain.{AreFoundIn, IsChain, Run, all_copies, all_printed, copies_in}
+use Rattle.nx_receiver.specs.Chain.{events_in}
 use Rattle.nx_receiver.specs.ChainOnce.{CutRun, IsHeardInTimeOver, IsSentIn, in_force_in}
 use Rattle.nx_receiver.specs.Events.{elements_among}
 use Rattle.nx_receiver.specs.FoundCopies.{FoundCopy, found_to_end, TaggedCopy, tag, tagged_copies}
@@ -22,7 +26,8 @@ use Rattle.nx_receiver.specs.Once.{IsUnknownAtFirst, IsPrintedOnce}
 use Rattle.nx_receiver.specs.Emissions.{copies_at, copy_of_sending}
 use Rattle.nx_receiver.specs.Shares.{copies_on, none_saved, saved_of}
 use Rattle.nx_receiver.proofs.chain.Runs.{chain_prints}
-use Rattle.nx_receiver.proofs.once.Found.{contains_filter, filter_all, first_passes, has_first, no_errors-good}
+use Rattle.nx_receiver.proofs.once.Found.{contains_filter, filter_all, has_first, named_first}
+use Rattle.nx_receiver.proofs.once.Found.{no_errors-good}
 use Rattle.nx_receiver.proofs.once.Repeats.{none_live, once}
 use Rattle.nx_receiver.proofs.once.Rising.{contains_map, one_of_key}
 use Rattle.nx_receiver.proofs.emissions.Found.{one_found, sending_errors, sending_in_end}
@@ -194,14 +199,6 @@ module _ (channel : Channel) (first last : SavedStates) (runs : List Run) (messa
       ap (λ (c : TaggedCopy). c.moment) p.is in
       omega arith
 
-  named_first : (first : TaggedCopy) (rest : List TaggedCopy)
-      → copies_of message.identity heard ≡ first ∷ rest
-      → same_identity first.identity message.identity ≡ true
-  unfolding copies_of
-  named_first first rest e =
-      first_passes (λ (c : TaggedCopy). same_identity c.identity message.identity) heard first rest
-      e
-
   repeats : (one : TaggedCopy) (rest : List TaggedCopy)
       → copies_of message.identity heard ≡ one ∷ rest
       → AreRepeats begun message.identity heard one rest
@@ -218,7 +215,8 @@ module _ (channel : Channel) (first last : SavedStates) (runs : List Run) (messa
         close = λ a b c d. close_of a b (All-contains IsOfSending (one ∷ rest) a each c)
             (All-contains IsOfSending (one ∷ rest) b each d);
         few = λ before between after later whole none named.
-            h.few before between after one later (heard_is ∙ whole) none (named_first one rest e)
+            h.few before between after one later (heard_is ∙ whole) none
+            (named_first message.identity heard one rest e)
             named;
       }
 

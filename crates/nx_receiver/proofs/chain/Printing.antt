@@ -1,11 +1,14 @@
 -- Lists of entries that agree in their last 200 print, enter and end alike.
-use Rattle.std.proofs.Common.{◌≡◌, ◌-◌, ◌≤◌, not, ◌&&◌, ◌||◌, cond, List, [], ◌∷◌, ◌++◌, length, drop, refl, sym, ap, ◌∙◌, arith, append_assoc, append-nil}
+use Rattle.std.proofs.Common.{◌≡◌, ◌-◌, ◌≤◌, not, ◌&&◌, ◌||◌, cond, List, [], ◌∷◌, ◌++◌, length}
+use Rattle.std.proofs.Common.{drop, refl, sym, ap, ◌∙◌, arith, append_assoc, append-nil}
 use Rattle.std.proofs.lemmas.List.{length-drop}
 use Rattle.nx_code.specs.Lists.{last_of}
 use Rattle.nx_memory.specs.Memory.{content_after, is_known, most_entries}
 use Rattle.nx_memory.specs.declared.entry.MemoryEntry.{MemoryEntry}
 use Rattle.nx_receiver.specs.Chain.{AgreeInLast}
-use Rattle.nx_receiver.specs.Printing.{entries_after, entries_made, entry_made, entry_of, if_printed, is_entered, is_good, is_number_00, is_printed, printed_copies}
+use Rattle.nx_receiver.specs.Printing.{entries_after, entries_made, entry_made, entry_of}
+use Rattle.nx_receiver.specs.Printing.{if_printed, is_entered, is_good, is_number_00, is_printed}
+use Rattle.nx_receiver.specs.Printing.{printed_copies}
 use Rattle.nx_receiver.specs.FoundCopies.{TaggedCopy}
 use Rattle.nx_receiver.proofs.receiving.Judging.{content_grows}
 

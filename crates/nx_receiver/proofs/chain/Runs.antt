@@ -1,5 +1,6 @@
 -- What a chain of runs prints, and what it leaves.
-use Rattle.std.proofs.Common.{◌≡◌, ℕ, ◌≤◌, List, [], ◌∷◌, ◌++◌, length, Option, refl, sym, ap, ◌∙◌, subst, append-nil}
+use Rattle.std.proofs.Common.{◌≡◌, ℕ, ◌≤◌, List, [], ◌∷◌, ◌++◌, length, Option, refl, sym, ap, ◌∙◌}
+use Rattle.std.proofs.Common.{subst, append-nil}
 use Rattle.std.specs.Io.KnownBytes.{Appends}
 use Rattle.nx_code.specs.Lists.{last_of}
 use Rattle.nx_memory.specs.Saved.{SavedState, SavedStates}
@@ -12,9 +13,12 @@ use Rattle.nx_fec.specs.declared.channel.Channel.{Channel}
 use Rattle.nx_fec.specs.declared.channel.Channel.TheVariants.{Zero, One, Two}
 use Rattle.nx_fec.proofs.LineLaws.{IsAirFile-unique}
 use Rattle.nx_sync.proofs.StateChanges.{standing_after}
-use Rattle.nx_sync.proofs.UniqueStates.{locks-unique, now-unique}
-use Rattle.nx_receiver.specs.Chain.{AgreeInLast, AreFoundIn, GoesOn, HasGoneOn, IsChain, Leaves, Run, all_copies, all_events, all_logs, all_printed, copies_in, events_in, files, start_in}
-use Rattle.nx_receiver.specs.Events.{Event, Setting, Start, at_moment, command, element, elements_among, first_setting, refused_after, setting_after, setting_after_all}
+use Rattle.nx_receiver.specs.Chain.{AgreeInLast, AreFoundIn, GoesOn, HasGoneOn, IsChain, Leaves}
+use Rattle.nx_receiver.specs.Chain.{Run, all_copies, all_events, all_logs, all_printed, copies_in}
+use Rattle.nx_receiver.specs.Chain.{events_in, files, start_in}
+use Rattle.nx_receiver.specs.Events.{Event, Setting, Start, at_moment, command, element}
+use Rattle.nx_receiver.specs.Events.{elements_among, first_setting, refused_after, setting_after}
+use Rattle.nx_receiver.specs.Events.{setting_after_all}
 use Rattle.nx_receiver.specs.FoundCopies.{FoundCopy, found_to_end, tagged_copies}
 use Rattle.nx_receiver.specs.InTurn.{PrintAllToEnd}
 use Rattle.nx_receiver.specs.Listen.{HasListened, IsLogOfFile, events_on, given_by}
@@ -23,8 +27,10 @@ use Rattle.nx_receiver.specs.Printing.{entries_after, entries_made, printed_copi
 use Rattle.nx_receiver.specs.Shares.{MarkedCopy, Starts, copies_on, saved_of, start_on, starts_from}
 use Rattle.nx_receiver.specs.declared.listening.Report.{Report}
 use Rattle.nx_receiver.proofs.Shares.{copies_on-append, to_end-on}
-use Rattle.nx_receiver.proofs.chain.Printing.{all_of_few, few_of_last, last_agrees, same_end, same_log}
+use Rattle.nx_receiver.proofs.chain.Printing.{all_of_few, few_of_last, last_agrees, same_end}
+use Rattle.nx_receiver.proofs.chain.Printing.{same_log}
 use Rattle.nx_receiver.proofs.receiving.Logged.{entries_after-append, printed_copies-append}
+use Rattle.nx_receiver.proofs.locks.Found.{one_told}
 use Rattle.nx_receiver.proofs.receiving.Log.{logs_join, one_log}
 use Rattle.nx_receiver.proofs.receiving.Events.{force-append}
 use Rattle.nx_receiver.proofs.turns.One.{one-to_end}
@@ -37,9 +43,7 @@ pub found_same : (events : List Event) (copies others : List FoundCopy) → AreF
 found_same events copies others f g =
     let bits = elements_among events in
     f.whole
-    ∙ ap (λ ls. found_to_end bits ls f.now)
-    (locks-unique bits f.locks g.locks f.now g.now f.stands g.stands)
-    ∙ ap (found_to_end bits g.locks) (now-unique bits f.locks g.locks f.now g.now f.stands g.stands)
+    ∙ one_told (found_to_end bits) bits f.locks g.locks f.now g.now f.stands g.stands
     ∙ sym g.whole
 
 -- on each channel a run prints what is printed of its copies, after the entries that it starts with
@@ -77,6 +81,17 @@ run_leaves channel saved run left g =
 
 -- ---- what is printed
 
+-- entries that agree in the last before a run agree in the last after it
+agree_after : (channel : Channel) (entries : List MemoryEntry) (first : SavedStates) (run : Run)
+    (left : SavedStates) → AgreeInLast entries (saved_of first channel).entries
+    → GoesOn first run left
+    → AgreeInLast (entries_after entries (copies_in channel run)) (saved_of left channel).entries
+agree_after channel entries first run left agree goes =
+    let begun = (saved_of first channel).entries in
+    same_end entries begun (copies_in channel run) agree
+    ∙ last_agrees (entries_after begun (copies_in channel run))
+    ∙ ap (last_of most_entries) (sym (run_leaves channel first run left goes))
+
 pub chain_prints : (channel : Channel) (entries : List MemoryEntry) (first : SavedStates)
     (runs : List Run) (last : SavedStates) → AgreeInLast entries (saved_of first channel).entries
     → IsChain first runs last
@@ -88,10 +103,7 @@ chain_prints channel entries first (run ∷ runs) last agree chain =
     let goes = chain.1 in
     let copies = copies_in channel run in
     let begun = (saved_of first channel).entries in
-    let next : AgreeInLast (entries_after entries copies) (saved_of left channel).entries =
-    same_end entries begun copies agree
-    ∙ last_agrees (entries_after begun copies)
-    ∙ ap (last_of most_entries) (sym (run_leaves channel first run left goes)) in
+    let next = agree_after channel entries first run left agree goes in
     copies_on-append channel run.printed (all_printed runs)
     ∙ ap (λ ps. ps ++ copies_on channel (all_printed runs))
     (run_prints channel first run left goes ∙ sym (same_log entries begun copies agree))
@@ -121,11 +133,7 @@ chain_agrees channel entries first (run ∷ runs) last agree chain =
     let left = chain.0 in
     let goes = chain.1 in
     let copies = copies_in channel run in
-    let begun = (saved_of first channel).entries in
-    let next : AgreeInLast (entries_after entries copies) (saved_of left channel).entries =
-    same_end entries begun copies agree
-    ∙ last_agrees (entries_after begun copies)
-    ∙ ap (last_of most_entries) (sym (run_leaves channel first run left goes)) in
+    let next = agree_after channel entries first run left agree goes in
     ap (last_of most_entries) (entries_after-append entries copies (all_copies channel runs))
     ∙ chain_agrees channel (entries_after entries copies) left runs last next chain.2
 

@@ -1,11 +1,14 @@
 -- The copy of a message in a text that holds all that is printed of it, whatever stands before and
 -- behind it.
-use Rattle.std.proofs.Common.{◌≡◌, ℕ, ◌+◌, ◌≤◌, List, [], ◌∷◌, ◌++◌, map, length, take, drop, Option, Some, None, unwrap_or, refl, sym, ap, ◌∙◌, arith, append_assoc}
+use Rattle.std.proofs.Common.{◌≡◌, ℕ, ◌+◌, ◌≤◌, List, [], ◌∷◌, ◌++◌, map, length, take, drop}
+use Rattle.std.proofs.Common.{Option, Some, None, unwrap_or, refl, sym, ap, ◌∙◌, arith}
+use Rattle.std.proofs.Common.{append_assoc}
 use Rattle.std.specs.List.{Contains}
 use Rattle.std.specs.Option.{option_map}
 use Rattle.std.proofs.lemmas.List.{length-append, take_at, drop_at}
 use Rattle.std.proofs.lemmas.List.Elements.{All-contains, All-map, All-weaker}
-use Rattle.nx_envelope.specs.Copies.{Copy, Ending, headers, raw_text, ended_copies, less_newline, ending_of, ended_copy, closed_copy, copies, copy_with}
+use Rattle.nx_envelope.specs.Copies.{Copy, Ending, headers, raw_text, ended_copies, less_newline}
+use Rattle.nx_envelope.specs.Copies.{ending_of, ended_copy, closed_copy, copies, copy_with}
 use Rattle.nx_envelope.specs.Header.{Header, StandsIn, start_marker, end_marker}
 use Rattle.nx_envelope.specs.Identity.{identity_bytes}
 use Rattle.nx_envelope.specs.Message.{AreLines, text_of, MessageView}
@@ -100,7 +103,20 @@ module _ (front back : List ℕ) (message : MessageView) (good : AreLines messag
       contains_filter_map (ended_copy all) (headers all) here (sent_copy (length front) message)
       header_there ended_here
 
--- the copies of a text come in rising order
+-- the headers of a text come in rising order
+pub headers_rise : (text : List ℕ) → Rises (λ (h : Header). h.behind) (headers text)
+headers_rise text =
+    rises_from (λ (h : Header). h.behind) (headers text)
+    (λ front between back earlier later e. headers_rise_in text earlier later
+    (record {
+      front = front;
+      between = between;
+      back = back;
+      listed =
+          e ∙ sym (append_assoc front (earlier ∷ between) (later ∷ back));
+    }))
+
+-- and so do its copies
 pub copies_rise : (text : List ℕ) → Rises (λ (copy : Copy). copy.header.behind) (copies text)
 unfolding copies
 copies_rise text =
@@ -112,15 +128,7 @@ copies_rise text =
       ap
           (λ (h : Header). h.behind) (header_of text y),
     ))
-    (rises_from (λ (h : Header). h.behind) (headers text)
-    (λ front between back earlier later e. headers_rise_in text earlier later
-    (record {
-      front = front;
-      between = between;
-      back = back;
-      listed =
-          e ∙ sym (append_assoc front (earlier ∷ between) (later ∷ back));
-    })))
+    (headers_rise text)
 
 -- and stand behind the letters of their headers, in the text
 pub copies_within : (text : List ℕ) (copy : Copy) → Contains (copies text) copy

@@ -1,13 +1,17 @@
 -- A received emission: its words keep a lock, and each of its messages gives a copy.
-use Rattle.std.proofs.Common.{◌≡◌, ℕ, ◌+◌, ◌-◌, ◌*◌, ◌<◌, ◌≤◌, Bool, List, [], ◌∷◌, ◌++◌, length, take, replicate, get_or, Some, slice_get, refl, sym, ap, ap₂, ◌∙◌, subst, arith}
+use Rattle.std.proofs.Common.{◌≡◌, ℕ, ◌+◌, ◌-◌, ◌*◌, ◌<◌, ◌≤◌, Bool, List, [], ◌∷◌, ◌++◌, length}
+use Rattle.std.proofs.Common.{take, replicate, get_or, Some, slice_get, refl, sym, ap, ap₂, ◌∙◌}
+use Rattle.std.proofs.Common.{subst, arith}
 use Rattle.std.specs.List.{Contains, flat_map}
-use Rattle.std.proofs.lemmas.List.{length-append, length-replicate, get_or-replicate, get_or_append_left, get_or-append_right}
+use Rattle.std.proofs.lemmas.List.{length-append, length-replicate, get_or-replicate}
+use Rattle.std.proofs.lemmas.List.{get_or_append_left, get_or-append_right}
 use Rattle.std.proofs.lemmas.List.Elements.{Contains-append_left, Contains-append_right}
 use Rattle.nx_code.specs.Table.{phasing_1, phasing_2}
 use Rattle.nx_code.specs.Word.{wrong_in}
 use Rattle.nx_envelope.specs.Message.{text_of, MessageView}
 use Rattle.nx_envelope.specs.declared.found.How.TheVariants.{Full}
-use Rattle.nx_fec.specs.Emission.{SentPosition, phasing_position, end_position, dx_word, rx_word, position_at, bits_of, reception}
+use Rattle.nx_fec.specs.Emission.{SentPosition, phasing_position, end_position, dx_word, rx_word}
+use Rattle.nx_fec.specs.Emission.{position_at, bits_of, reception}
 use Rattle.nx_fec.specs.Pairing.{counts_as, pairing}
 use Rattle.nx_fec.proofs.EmissionLemmas.{word_sent-dx, word_sent-rx}
 use Rattle.nx_fec.proofs.RoundTripLemmas.{length-bits_of}
@@ -27,7 +31,8 @@ use Rattle.nx_receiver.proofs.locks.Growing.{ended_go_on}
 use Rattle.nx_receiver.proofs.emissions.Locks.{KeepsLock, LockedThrough, word_of, locked_through}
 use Rattle.nx_receiver.proofs.emissions.Positions.{AreTaken}
 use Rattle.nx_receiver.proofs.emissions.Printed.{HearsMessage, digit_word, message_found}
-use Rattle.nx_receiver.proofs.emissions.Texts.{on_air, on_air_before, on_air-parts, layout-parts, positions-before, SpelledAt, spelled_at, lines_at}
+use Rattle.nx_receiver.proofs.emissions.Texts.{on_air, on_air_before, on_air-parts, layout-parts}
+use Rattle.nx_receiver.proofs.emissions.Texts.{positions-before, SpelledAt, spelled_at, lines_at}
 
 -- the word of a slot
 word_of-heard_in : (heard : List ℕ) (i : ℕ) → word_of heard i ≡ heard_in heard (96 + i)

@@ -1,5 +1,6 @@
 -- What is found of sendings in a list of bits that is cut into gaps and received emissions.
-use Rattle.std.proofs.Common.{◌≡◌, ℕ, ◌+◌, Bool, false, eqb, cond, List, [], ◌∷◌, ◌++◌, take, drop, refl, sym, ap, ap₂, ◌∙◌, subst, append_assoc}
+use Rattle.std.proofs.Common.{◌≡◌, ℕ, ◌+◌, Bool, false, eqb, cond, List, [], ◌∷◌, ◌++◌, take, drop}
+use Rattle.std.proofs.Common.{refl, sym, ap, ap₂, ◌∙◌, subst, append_assoc}
 use Rattle.std.specs.List.{All, Contains, flat_map}
 use Rattle.std.proofs.lemmas.Bool.{ne_eqb, true≢false}
 use Rattle.std.proofs.lemmas.List.{take-append-drop, take-take}
@@ -11,7 +12,8 @@ use Rattle.nx_envelope.specs.Copies.{errors_of}
 use Rattle.nx_envelope.specs.Message.{AreLines, IsMessageLine, IsLineByte, text_of}
 use Rattle.nx_envelope.specs.declared.found.How.TheVariants.{Full}
 use Rattle.nx_fec.specs.Emission.{bits_of}
-use Rattle.nx_station.specs.Sendings.{Part, received, part_bits, IsCut, IsReceived, ReceivedEmission, Sending, IsSending}
+use Rattle.nx_station.specs.Sendings.{Part, received, part_bits, IsCut, IsReceived}
+use Rattle.nx_station.specs.Sendings.{ReceivedEmission, Sending, IsSending}
 use Rattle.nx_sync.specs.Laws.{phasing}
 use Rattle.nx_sync.specs.Locks.{Lock, Now, IsNow, IsLocked}
 use Rattle.nx_sync.proofs.KeptPast.{Finds-more, Past-more, IsReleased-more}
@@ -34,7 +36,8 @@ cut_at : (bits : List Bool) (parts : List Part) (sending : Sending) → IsCut bi
 cut_at bits parts sending cut s =
     cut.whole ∙ ap (flat_map part_bits) s.among
     ∙ flat_map-append part_bits s.before (received s.emission ∷ s.after)
-    ∙ sym (append_assoc (flat_map part_bits s.before) (bits_of s.emission.heard) (flat_map part_bits s.after))
+    ∙ sym (append_assoc (flat_map part_bits s.before) (bits_of s.emission.heard)
+    (flat_map part_bits s.after))
 
 -- the copy of a sending is there
 pub sending_found : (bits : List Bool) (parts : List Part) (sending : Sending) (locks : List Lock)

@@ -1,8 +1,11 @@
 -- In what is printed of messages the headers are those of the messages, and no other.
-use Rattle.std.proofs.Common.{◌≡◌, ◌≢◌, ℕ, true, eqb, eq-eqb, zero, suc, ◌+◌, ◌-◌, ◌<◌, List, [], ◌∷◌, ◌++◌, length, take, drop, replicate, refl, sym, ap, ◌∙◌, subst, arith, inl, inr, append_assoc}
+use Rattle.std.proofs.Common.{◌≡◌, ◌≢◌, ℕ, true, eqb, eq-eqb, zero, suc, ◌+◌, ◌-◌, ◌<◌, List, []}
+use Rattle.std.proofs.Common.{◌∷◌, ◌++◌, length, take, drop, replicate, refl, sym, ap, ◌∙◌, subst}
+use Rattle.std.proofs.Common.{arith, inl, inr, append_assoc}
 use Rattle.std.specs.List.{Contains, AllByRecursion, flat_map}
 use Rattle.std.proofs.lemmas.Bool.{cases_lt}
-use Rattle.std.proofs.lemmas.List.{length-append, length-drop, length-take-le, drop_at, drop-append-le, drop-drop, take-append-drop}
+use Rattle.std.proofs.lemmas.List.{length-append, length-drop, length-take-le, drop_at}
+use Rattle.std.proofs.lemmas.List.{drop-append-le, drop-drop, take-append-drop}
 use Rattle.std.proofs.lemmas.List.Concat.{flat_map-append}
 use Rattle.std.proofs.lemmas.List.Elements.{All-append, All-cons, All-nil}
 use Rattle.nx_envelope.specs.Copies.{headers}
@@ -15,7 +18,8 @@ use Rattle.nx_envelope.proofs.Identities.{same_identity-true}
 use Rattle.nx_station.specs.Broadcast.{header, printed_text}
 use Rattle.nx_receiver.specs.Emissions.{IsHeaderOf}
 use Rattle.nx_receiver.proofs.emissions.Copies.{sent_header, header_there}
-use Rattle.nx_receiver.proofs.emissions.Markers.{LackWord, Begins, start_word, begins_word, begins_nowhere, lack_start}
+use Rattle.nx_receiver.proofs.emissions.Markers.{LackWord, Begins, start_word, begins_word}
+use Rattle.nx_receiver.proofs.emissions.Markers.{begins_nowhere, lack_start}
 
 first_is : {x y : ℕ} {xs ys : List ℕ} → x ∷ xs ≡ y ∷ ys → x ≡ y
 first_is e = cc

@@ -1,21 +1,26 @@
 -- The lock that 48 phasing words leave holds through the words behind them.
-use Rattle.std.proofs.Common.{◌≡◌, ℕ, zero, suc, ◌+◌, ◌-◌, ◌*◌, ◌/◌, ◌<◌, ◌≤◌, Bool, false, List, [], ◌∷◌, ◌++◌, length, take, drop, get_or, refl, sym, ap, ap₂, ◌∙◌, subst, arith, inl, inr, append_assoc}
+use Rattle.std.proofs.Common.{◌≡◌, ℕ, zero, suc, ◌+◌, ◌-◌, ◌*◌, ◌/◌, ◌<◌, ◌≤◌, Bool, false, List}
+use Rattle.std.proofs.Common.{[], ◌∷◌, ◌++◌, length, take, drop, get_or, refl, sym, ap, ◌∙◌}
+use Rattle.std.proofs.Common.{subst, arith, inl, inr, append_assoc}
 use Rattle.std.proofs.lemmas.Bool.{cases_lt}
 use Rattle.std.proofs.lemmas.List.{length-append, take-append-drop, take_at, length-take-le}
 use Rattle.std.proofs.lemmas.List.Concat.{flat_map-append}
 use Rattle.std.proofs.Math.Seq.{drop-append-add}
 use Rattle.nx_code.specs.Table.{phasing_1, phasing_2}
-use Rattle.nx_code.specs.Word.{elements, elements_from, weight, number_of, word_from, is_wrong, wrong_in}
+use Rattle.nx_code.specs.Word.{elements, elements_from, weight, number_of, word_from, is_wrong}
+use Rattle.nx_code.specs.Word.{wrong_in}
 use Rattle.nx_fec.specs.Aligned.{word_in}
 use Rattle.nx_fec.specs.Emission.{bits_of, AreWords}
 use Rattle.nx_fec.proofs.AlignedLemmas.{get_or-words_of}
 use Rattle.nx_fec.proofs.RoundTripLemmas.{length-bits_of, words_of-bits_of}
-use Rattle.nx_sync.specs.Words.{word_of_lock, first_role, role_of, other_role, wrong_until, losing_count}
+use Rattle.nx_station.proofs.ChannelCounts.{wrong_in-same}
+use Rattle.nx_sync.specs.Words.{word_of_lock, first_role, role_of, other_role, wrong_until}
+use Rattle.nx_sync.specs.Words.{losing_count}
 use Rattle.nx_sync.specs.Locks.{IsSecondPhasing1, Lock, IsLocked}
 use Rattle.nx_sync.specs.Laws.{LockedBeforeDx, phasing}
 use Rattle.nx_sync.specs.declared.step.Role.{Role}
 use Rattle.nx_sync.specs.declared.step.Role.TheVariants.{Dx, Rx}
-use Rattle.nx_sync.proofs.Counts.{wrong_in-add, wrong_in-le, wrong_in-none, role_of-even, one_if}
+use Rattle.nx_sync.proofs.Counts.{wrong_in-add, wrong_in-le, wrong_in-none, role_of-even}
 use Rattle.nx_sync.proofs.KeptPast.{first_role-more}
 use Rattle.nx_sync.proofs.Phasing.{phasing_locks, phasing_heard}
 use Rattle.nx_sync.proofs.Releases.{stands_longer}
@@ -74,20 +79,12 @@ word_from-bits_of gap heard i words lt =
     ∙ sym (get_or-words_of (bits_of heard) i (omega arith))
     ∙ ap (λ ws. get_or ws i 0) (words_of-bits_of heard words)
 
--- runs of the same words have as many wrong
-pub wrong_in-shift : (f g : ℕ → ℕ) (i a n : ℕ) → ((j : ℕ) → j < n → f (i + j) ≡ g (a + j))
-    → wrong_in f i n ≡ wrong_in g a n
-unfolding wrong_in
-wrong_in-shift f g i a zero same = refl
-wrong_in-shift f g i a (suc n) same =
-    ap₂ ◌+◌ (wrong_in-shift f g i a n (λ j lt. same j (omega arith)))
-    (ap (λ w. one_if (is_wrong w)) (same n (omega arith)))
-
-right_2 : is_wrong phasing_2 ≡ false
+-- the phasing signals have the right weight
+pub right_2 : is_wrong phasing_2 ≡ false
 unfolding weight elements elements_from
 right_2 = refl
 
-right_1 : is_wrong phasing_1 ≡ false
+pub right_1 : is_wrong phasing_1 ≡ false
 unfolding weight elements elements_from
 right_1 = refl
 
@@ -219,7 +216,7 @@ module _ (gap : List Bool) (heard : List ℕ) (k : KeepsLock heard)
         | inr within ↦
             let a : ℕ = i + 48 - l.whole in
             let same : wrong_in lock_word i n ≡ wrong_in (word_of heard) a n =
-            wrong_in-shift lock_word (word_of heard) i a n
+            wrong_in-same lock_word (word_of heard) i a n
             (λ h lt. lock_word_is (i + h) (a + h) (omega arith) (omega arith)) in
             subst (λ x. x < losing_count) (sym same) (k.few a n (omega arith) (omega arith))
       ]

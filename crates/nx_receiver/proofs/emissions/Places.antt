@@ -1,5 +1,6 @@
 -- The places of the bytes of a lock's text, and of the copies in it, rise.
-use Rattle.std.proofs.Common.{ℕ, zero, suc, ◌+◌, ◌-◌, ◌*◌, ◌<◌, ◌≤◌, Bool, List, [], ◌∷◌, ◌++◌, map, length, get_or, Option, Some, None, arith}
+use Rattle.std.proofs.Common.{ℕ, zero, suc, ◌+◌, ◌-◌, ◌*◌, ◌<◌, ◌≤◌, Bool, List, [], ◌∷◌, ◌++◌, map}
+use Rattle.std.proofs.Common.{length, get_or, Option, Some, None, arith}
 use Rattle.std.specs.List.{All}
 use Rattle.std.specs.Option.{option_to_list}
 use Rattle.std.proofs.lemmas.List.Elements.{All-weaker, All-nil, All-cons, All-append}
@@ -11,9 +12,12 @@ use Rattle.nx_sync.specs.declared.step.Role.{Role}
 use Rattle.nx_sync.specs.Locks.{Lock, Past, Now, hunting, locked, IsNow}
 use Rattle.nx_sync.specs.Words.{word_of_lock, first_role, whole_words}
 use Rattle.nx_receiver.specs.private.LockReader.{word_place}
-use Rattle.nx_receiver.specs.LockText.{PlacedByte, positions, taken_at, printed_by, text_by, lock_text, bytes_of}
-use Rattle.nx_receiver.specs.FoundCopies.{FoundCopy, place_in, found_copy, all_in, past_text, past_copies, found_to_end}
-use Rattle.nx_receiver.proofs.locks.Found.{text_placed, place_in-get_or, all_in_placed, length-bytes_of}
+use Rattle.nx_receiver.specs.LockText.{PlacedByte, positions, taken_at, printed_by, text_by}
+use Rattle.nx_receiver.specs.LockText.{lock_text, bytes_of}
+use Rattle.nx_receiver.specs.FoundCopies.{FoundCopy, place_in, found_copy, all_in, past_text}
+use Rattle.nx_receiver.specs.FoundCopies.{past_copies, found_to_end}
+use Rattle.nx_receiver.proofs.locks.Found.{text_placed, place_in-get_or, all_in_placed}
+use Rattle.nx_receiver.proofs.locks.Found.{length-bytes_of}
 use Rattle.nx_receiver.proofs.locks.Texts.{one_taken}
 use Rattle.nx_receiver.proofs.once.Rising.{Above, Rises, rises_append, rises_map}
 use Rattle.nx_receiver.proofs.emissions.Copies.{copies_rise, copies_within}

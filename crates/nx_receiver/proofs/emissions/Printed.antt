@@ -1,6 +1,8 @@
 -- The text of a lock that hears the words of an emission, and the copy of one of its messages in
 -- it.
-use Rattle.std.proofs.Common.{◌≡◌, ℕ, suc, ◌+◌, ◌-◌, ◌*◌, ◌/◌, ◌%◌, ◌<◌, List, [], ◌∷◌, ◌++◌, map, length, take, get_or, refl, sym, ap, ◌∙◌, subst, arith, append_assoc, append-nil}
+use Rattle.std.proofs.Common.{◌≡◌, ℕ, suc, ◌+◌, ◌-◌, ◌*◌, ◌/◌, ◌%◌, ◌<◌, List, [], ◌∷◌, ◌++◌, map}
+use Rattle.std.proofs.Common.{length, take, get_or, refl, sym, ap, ◌∙◌, subst, arith, append_assoc}
+use Rattle.std.proofs.Common.{append-nil}
 use Rattle.std.specs.List.{Contains}
 use Rattle.std.specs.Option.{option_to_list}
 use Rattle.std.proofs.lemmas.List.{length-append, map-append, take_at, get_or_at}
@@ -10,7 +12,8 @@ use Rattle.nx_code.proofs.ReadingLemmas.{text-append, shift_after_all-append}
 use Rattle.nx_envelope.specs.Copies.{ended_copies}
 use Rattle.nx_envelope.specs.Message.{AreLines, text_of, MessageView}
 use Rattle.nx_envelope.specs.declared.found.How.TheVariants.{Full}
-use Rattle.nx_fec.specs.Emission.{SentPosition, traffic_position, end_position, position_at, reception}
+use Rattle.nx_fec.specs.Emission.{SentPosition, traffic_position, end_position, position_at}
+use Rattle.nx_fec.specs.Emission.{reception}
 use Rattle.nx_station.specs.Broadcast.{ending, printed_text}
 use Rattle.nx_station.specs.Sendings.{Tells}
 use Rattle.nx_station.proofs.ReadingBack.{told-prints, traffic-receptions}
@@ -19,13 +22,15 @@ use Rattle.nx_sync.specs.declared.step.Role.{Role}
 use Rattle.nx_sync.specs.declared.step.Role.TheVariants.{Dx}
 use Rattle.nx_receiver.specs.FoundCopies.{place_in, found_copy, ended_in}
 use Rattle.nx_receiver.specs.private.LockReader.{word_place}
-use Rattle.nx_receiver.specs.LockText.{PlacedByte, positions, taken_at, printed_by, text_by, bytes_of}
+use Rattle.nx_receiver.specs.LockText.{PlacedByte, positions, taken_at, printed_by, text_by}
+use Rattle.nx_receiver.specs.LockText.{bytes_of}
 use Rattle.nx_receiver.proofs.locks.Found.{place_in-get_or, length-bytes_of}
 use Rattle.nx_receiver.proofs.locks.Texts.{text_by-grows, bytes_are_reading}
 use Rattle.nx_receiver.proofs.once.Rising.{contains_map}
 use Rattle.nx_receiver.proofs.emissions.Copies.{sent_copy, ended_there}
 use Rattle.nx_receiver.proofs.emissions.Positions.{AreTaken, positions-taken, taken_at-sent}
-use Rattle.nx_receiver.proofs.emissions.Texts.{head_front, second_digit, head-parts, head_front-prints, digit-prints}
+use Rattle.nx_receiver.proofs.emissions.Texts.{head_front, second_digit, head-parts}
+use Rattle.nx_receiver.proofs.emissions.Texts.{head_front-prints, digit-prints}
 
 -- A lock hears positions from its DX word w on, and among them those of a message: so many stand
 -- before it.

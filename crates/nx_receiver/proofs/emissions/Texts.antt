@@ -1,5 +1,7 @@
 -- What the words of an emission print of one of its messages, and where.
-use Rattle.std.proofs.Common.{◌≡◌, ℕ, zero, suc, ◌+◌, ◌/◌, ◌%◌, ◌<◌, List, [], ◌∷◌, ◌++◌, map, length, take, replicate, Some, slice_get, refl, sym, ap, ◌∙◌, subst, arith, append_assoc}
+use Rattle.std.proofs.Common.{◌≡◌, ℕ, zero, suc, ◌+◌, ◌/◌, ◌%◌, ◌<◌, List, [], ◌∷◌, ◌++◌, map}
+use Rattle.std.proofs.Common.{length, take, replicate, Some, slice_get, refl, sym, ap, ◌∙◌, subst}
+use Rattle.std.proofs.Common.{arith, append_assoc}
 use Rattle.std.specs.List.{flat_map, AllByRecursion, AllZip}
 use Rattle.std.proofs.lemmas.List.{length-append, length-map, length-replicate}
 use Rattle.nx_code.specs.Reading.{combination, byte_of}
@@ -11,8 +13,10 @@ use Rattle.nx_fec.specs.Emission.{SentPosition, phasing_position, traffic_positi
 use Rattle.nx_station.specs.Broadcast.{head, phasing_and_message, layout, digit_combination}
 use Rattle.nx_station.specs.private.Heads.{letter_combination}
 use Rattle.nx_station.specs.Sendings.{Tells, positions_before}
-use Rattle.nx_station.proofs.HeadLemmas.{letter_combination-prints, digit_combination-prints, digit_combination-range}
-use Rattle.nx_station.proofs.ReadingBack.{Prints, Prints-nil, Prints-character, Prints-shift, z-prints, c-prints, space-prints}
+use Rattle.nx_station.proofs.HeadLemmas.{letter_combination-prints, digit_combination-prints}
+use Rattle.nx_station.proofs.HeadLemmas.{digit_combination-range}
+use Rattle.nx_station.proofs.ReadingBack.{Prints, Prints-nil, Prints-character, Prints-shift}
+use Rattle.nx_station.proofs.ReadingBack.{z-prints, c-prints, space-prints}
 
 -- ---- the positions behind the phasing before the first message, without those of the end
 

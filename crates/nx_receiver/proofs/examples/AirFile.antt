@@ -1,6 +1,8 @@
 -- The worked air file: it meets what is asked of a message that is printed once, and it has its
 -- log.
-use Rattle.std.proofs.Common.{◌≡◌, ℕ, zero, suc, ◌+◌, ◌*◌, ◌<◌, ◌≤◌, Bool, List, [], ◌∷◌, length, map, take, refl, sym, ap, ◌∙◌, subst, arith, length-append, lit<, lit≤}
+use Rattle.std.proofs.Common.{◌≡◌, ℕ, zero, suc, ◌+◌, ◌*◌, ◌<◌, ◌≤◌, Bool, List, [], ◌∷◌, length}
+use Rattle.std.proofs.Common.{map, take, refl, sym, ap, ◌∙◌, subst, arith, length-append, lit<}
+use Rattle.std.proofs.Common.{lit≤}
 use Rattle.std.specs.Prelude.{slice_index_or}
 use Rattle.std.specs.List.{Contains}
 use Rattle.std.specs.Int.{div_ceil}
@@ -18,7 +20,8 @@ use Rattle.nx_station.specs.Sendings.{IsCut, Sending, IsSentAt}
 use Rattle.nx_station.proofs.ChannelExamples.{example_sent}
 use Rattle.nx_sync.specs.Locks.{locked, IsNow}
 use Rattle.nx_station.proofs.TransmissionLength.{length-bit_lines}
-use Rattle.nx_receiver.specs.Events.{Event, Setting, at_moment, at_zero, element, first_setting, settings, elements_among, setting_at}
+use Rattle.nx_receiver.specs.Events.{Event, Setting, at_moment, at_zero, element, first_setting}
+use Rattle.nx_receiver.specs.Events.{settings, elements_among, setting_at}
 use Rattle.nx_receiver.specs.Example.{first_copy}
 use Rattle.nx_receiver.specs.FoundCopies.{FoundCopy, found_to_end, tag, tagged_copies}
 use Rattle.nx_receiver.specs.Listen.{AreTaken, IsLogOf, events_on, given_by}
@@ -34,11 +37,13 @@ use Rattle.nx_receiver.specs.Printing.{printed_copies}
 use Rattle.nx_receiver.specs.Emissions.{copy_of_sending}
 use Rattle.nx_receiver.specs.Shares.{all_at_zero, marked}
 use Rattle.nx_receiver.specs.Worked.{at_its_slot, damaged_words, worked_log}
-use Rattle.nx_receiver.proofs.listens.ElementLines.{events-lines, events-others, good-lines, taken-lines}
+use Rattle.nx_receiver.proofs.listens.ElementLines.{events-lines, events-others, good-lines}
+use Rattle.nx_receiver.proofs.listens.ElementLines.{taken-lines}
 use Rattle.nx_receiver.proofs.chain.Alone.{HearsAlone, printed-alone}
 use Rattle.nx_receiver.proofs.receiving.Logged.{one_to_end}
 use Rattle.nx_receiver.proofs.once.Repeats.{none_live}
-use Rattle.nx_receiver.proofs.examples.Emission.{alone, cut_is, events, first_bits, found, not_two, one_found, one_in, sent_there, stands_is}
+use Rattle.nx_receiver.proofs.examples.Emission.{alone, cut_is, events, first_bits, found, not_two}
+use Rattle.nx_receiver.proofs.examples.Emission.{one_found, one_in, sent_there, stands_is}
 use Rattle.nx_receiver.proofs.emissions.Found.{sending_in_end}
 use Rattle.nx_receiver.proofs.examples.Worked.{damaged_computed}
 use Rattle.nx_receiver.proofs.examples.WorkedLog.{all_selected, at_first, log_is, printed_to_end}

@@ -1,6 +1,8 @@
 -- The worked chain of two runs: it is one, and it meets what is asked of a message that is printed
 -- once.
-use Rattle.std.proofs.Common.{◌≡◌, ℕ, ◌+◌, ◌<◌, ◌≤◌, Bool, false, List, [], ◌∷◌, ◌++◌, length, map, take, refl, sym, ap, ◌∙◌, subst, arith, append-nil, length-append, lit<, lit≤}
+use Rattle.std.proofs.Common.{◌≡◌, ℕ, ◌+◌, ◌<◌, ◌≤◌, Bool, false, List, [], ◌∷◌, ◌++◌, length, map}
+use Rattle.std.proofs.Common.{take, refl, sym, ap, ◌∙◌, subst, arith, append-nil, length-append}
+use Rattle.std.proofs.Common.{lit<, lit≤}
 use Rattle.std.specs.Prelude.{codes, slice_index_or}
 use Rattle.std.specs.List.{Contains}
 use Rattle.std.proofs.lemmas.List.{length-take}
@@ -25,10 +27,14 @@ use Rattle.nx_station.specs.ChannelExample.{ea01, example_message, example_parts
 use Rattle.nx_station.specs.Sendings.{IsCut, Part, IsSentAt}
 use Rattle.nx_station.proofs.ChannelExamples.{example_sent}
 use Rattle.nx_sync.specs.Locks.{IsNow, locked}
-use Rattle.nx_receiver.specs.Chain.{AreFoundIn, GoesOn, IsChain, Leaves, Run, all_copies, all_logs, events_in}
-use Rattle.nx_receiver.specs.ChainExample.{copy_heard, example_runs, first_run, found_on, saved_after, second_run}
+use Rattle.nx_receiver.specs.Chain.{AreFoundIn, GoesOn, IsChain, Leaves, Run, all_copies, all_logs}
+use Rattle.nx_receiver.specs.Chain.{events_in}
+use Rattle.nx_receiver.specs.ChainExample.{copy_heard, example_runs, first_run, found_on}
+use Rattle.nx_receiver.specs.ChainExample.{saved_after, second_run}
 use Rattle.nx_receiver.specs.ChainOnce.{CutRun, IsHeardInTimeOver, IsSentIn, in_force_in}
-use Rattle.nx_receiver.specs.Events.{Event, Setting, Start, at_moment, elements_among, first_setting, none_refused, setting_after_all, settings, setting_at}
+use Rattle.nx_receiver.specs.Events.{Event, Setting, Start, at_moment, elements_among}
+use Rattle.nx_receiver.specs.Events.{first_setting, none_refused, setting_after_all, settings}
+use Rattle.nx_receiver.specs.Events.{setting_at}
 use Rattle.nx_receiver.specs.Example.{first_copy, heard_at}
 use Rattle.nx_receiver.specs.FoundCopies.{FoundCopy, found_to_end, TaggedCopy, tag, tagged_copies}
 use Rattle.nx_receiver.specs.InTurn.{PrintAllToEnd}
@@ -36,14 +42,18 @@ use Rattle.nx_receiver.specs.Listen.{AreTaken, events_on, given_by}
 use Rattle.nx_receiver.specs.private.Taken.{AreTakenAfter}
 use Rattle.nx_receiver.proofs.listens.Taken.{are-taken}
 use Rattle.nx_receiver.specs.Log.{PrintsToEnd}
-use Rattle.nx_receiver.specs.Printing.{entries_after, entries_made, entry_made, if_printed, is_entered, is_printed, printed_copies}
+use Rattle.nx_receiver.specs.Printing.{entries_after, entries_made, entry_made, if_printed}
+use Rattle.nx_receiver.specs.Printing.{is_entered, is_printed, printed_copies}
 use Rattle.nx_receiver.specs.Emissions.{copy_of_sending}
 use Rattle.nx_receiver.specs.Shares.{Starts, marked, none_saved, saved_of, start_on}
 use Rattle.nx_receiver.specs.Worked.{damaged_words, worked_log}
 use Rattle.nx_receiver.proofs.chain.Alone.{found-none, printed-alone}
-use Rattle.nx_receiver.proofs.listens.ElementLines.{events-lines, events-others, good-lines, taken-lines}
-use Rattle.nx_receiver.proofs.examples.AirFile.{bits, inside, lines-short, one-sending, place-within}
-use Rattle.nx_receiver.proofs.examples.Emission.{alone, cut_is, events, first_bits, found, one_found, one_in, sent_there, stands_is}
+use Rattle.nx_receiver.proofs.listens.ElementLines.{events-lines, events-others, good-lines}
+use Rattle.nx_receiver.proofs.listens.ElementLines.{taken-lines}
+use Rattle.nx_receiver.proofs.examples.AirFile.{bits, inside, lines-short, one-sending}
+use Rattle.nx_receiver.proofs.examples.AirFile.{place-within}
+use Rattle.nx_receiver.proofs.examples.Emission.{alone, cut_is, events, first_bits, found}
+use Rattle.nx_receiver.proofs.examples.Emission.{one_found, one_in, sent_there, stands_is}
 use Rattle.nx_receiver.proofs.once.Repeats.{none_live}
 use Rattle.nx_receiver.proofs.receiving.Events.{force-more}
 use Rattle.nx_receiver.proofs.examples.Worked.{damaged_computed}

@@ -1,5 +1,8 @@
 -- What is printed of the worked emission where it comes line by line on two channels.
-use Rattle.std.proofs.Common.{◌≡◌, ℕ, ◌*◌, ◌<◌, ◌≤◌, Bool, List, [], ◌∷◌, ◌++◌, length, map, take, drop, take_all, length-append, length-drop, refl, sym, ap, ◌∙◌, subst, arith, append-nil, append_assoc, lit<, lit≤, Some, None, take-append-drop}
+use Rattle.std.proofs.Common.{◌≡◌, ℕ, ◌*◌, ◌<◌, ◌≤◌, Bool, List, [], ◌∷◌, ◌++◌, length, map, take}
+use Rattle.std.proofs.Common.{drop, take_all, length-append, length-drop, refl, sym, ap, ◌∙◌, subst}
+use Rattle.std.proofs.Common.{arith, append-nil, append_assoc, lit<, lit≤, Some, None}
+use Rattle.std.proofs.Common.{take-append-drop}
 use Rattle.std.specs.Prelude.{codes}
 use Rattle.std.specs.Fmt.{digits}
 use Rattle.std.specs.List.{All, AllByRecursion}
@@ -21,21 +24,25 @@ use Rattle.nx_receiver.specs.ChannelsExample.{part, two_channels, two_channels_l
 use Rattle.nx_receiver.specs.Emissions.{copy_of_sending}
 use Rattle.nx_receiver.specs.Events.{Event, at_moment, at_zero, element, elements_among}
 use Rattle.nx_receiver.specs.Example.{first_copy}
-use Rattle.nx_receiver.specs.FoundCopies.{FoundCopy, ended_so_far, found_to_end, open_so_far, tagged_copies}
+use Rattle.nx_receiver.specs.FoundCopies.{FoundCopy, ended_so_far, found_to_end, open_so_far}
+use Rattle.nx_receiver.specs.FoundCopies.{tagged_copies}
 use Rattle.nx_receiver.specs.Listen.{AreTaken, IsLogOf}
 use Rattle.nx_receiver.specs.private.Taken.{AreTakenAfter}
 use Rattle.nx_receiver.proofs.listens.Taken.{are-taken}
 use Rattle.nx_receiver.specs.InTurn.{HavePrinted, PrintAllToEnd, PrintsInTurn}
-use Rattle.nx_receiver.specs.Log.{HasPrinted, IsLog, PrintsToEnd, entry_head, is_of_lines, missing_newline, printed_of}
+use Rattle.nx_receiver.specs.Log.{HasPrinted, IsLog, PrintsToEnd, entry_head, is_of_lines}
+use Rattle.nx_receiver.specs.Log.{missing_newline, printed_of}
 use Rattle.nx_receiver.specs.Printing.{printed_copies}
-use Rattle.nx_receiver.specs.Shares.{Given, MarkedCopy, all_at_zero, copies_on, marked, share, start_on, to_all, to_one}
+use Rattle.nx_receiver.specs.Shares.{Given, MarkedCopy, all_at_zero, copies_on, marked, share}
+use Rattle.nx_receiver.specs.Shares.{start_on, to_all, to_one}
 use Rattle.nx_receiver.specs.Worked.{damaged_words}
 use Rattle.nx_receiver.proofs.Shares.{in_turn-more, in_turn-none}
 use Rattle.nx_receiver.proofs.locks.Found.{IsCopyIn}
 use Rattle.nx_receiver.proofs.locks.Growing.{ended_go_on}
 use Rattle.nx_receiver.proofs.receiving.Log.{entry_with, logs_join}
 use Rattle.nx_receiver.proofs.receiving.Logged.{bits_of-append, end_adds, ended_placed, one_to_end}
-use Rattle.nx_receiver.proofs.examples.Emission.{alone, cut_is, events, first_bits, found, one_found, sent_there, stands_is}
+use Rattle.nx_receiver.proofs.examples.Emission.{alone, cut_is, events, first_bits, found}
+use Rattle.nx_receiver.proofs.examples.Emission.{one_found, sent_there, stands_is}
 use Rattle.nx_receiver.proofs.emissions.Found.{sending_found}
 use Rattle.nx_receiver.proofs.examples.AirFile.{events-are, printed}
 use Rattle.nx_receiver.proofs.chain.Alone.{printed-none}

@@ -1,7 +1,8 @@
 -- The worked emission, of which each DX word of the message is damaged, meets what is asked of a
 -- message that is printed
 -- once.
-use Rattle.std.proofs.Common.{◌≡◌, ℕ, zero, suc, ◌+◌, ◌<◌, Bool, List, [], ◌∷◌, ◌++◌, length, take, drop, get_or, refl, sym, ap, ◌∙◌, subst, arith, append-nil, lit<}
+use Rattle.std.proofs.Common.{◌≡◌, ℕ, zero, suc, ◌+◌, ◌<◌, Bool, List, [], ◌∷◌, ◌++◌, length, take}
+use Rattle.std.proofs.Common.{drop, get_or, refl, sym, ap, ◌∙◌, subst, arith, append-nil, lit<}
 use Rattle.std.specs.Prelude.{codes}
 use Rattle.std.specs.List.{Contains}
 use Rattle.std.proofs.lemmas.List.{length-append, length-map, take-append-drop}
@@ -11,14 +12,16 @@ use Rattle.nx_envelope.specs.Header.{read_header, identity_at_end}
 use Rattle.nx_envelope.specs.Copies.{beginnings, header_at_end, headers, copies}
 use Rattle.nx_fec.specs.Emission.{bits_of}
 use Rattle.nx_station.specs.Channel.{phasing_words}
-use Rattle.nx_station.specs.ChannelExample.{example_message, example_parts, example_sending, heard_half}
+use Rattle.nx_station.specs.ChannelExample.{example_message, example_parts, example_sending}
+use Rattle.nx_station.specs.ChannelExample.{heard_half}
 use Rattle.nx_station.specs.Sendings.{IsCut, IsSentAt}
 use Rattle.nx_station.proofs.ChannelExamples.{example_cut, example_sent}
 use Rattle.nx_sync.specs.Locks.{locked, IsNow}
 use Rattle.nx_sync.specs.Words.{whole_words}
 use Rattle.nx_memory.specs.Selection.{admits}
 use Rattle.nx_receiver.specs.Events.{Event, Setting, first_setting, elements_among}
-use Rattle.nx_receiver.specs.FoundCopies.{FoundCopy, found_copy, past_copies, found_to_end, TaggedCopy, tagged_copies}
+use Rattle.nx_receiver.specs.FoundCopies.{FoundCopy, found_copy, past_copies, found_to_end}
+use Rattle.nx_receiver.specs.FoundCopies.{TaggedCopy, tagged_copies}
 use Rattle.nx_receiver.specs.LockText.{lock_text, bytes_of}
 use Rattle.nx_receiver.specs.Once.{IsHeardInTime}
 use Rattle.nx_receiver.specs.private.Heard.{HeardTerms}
@@ -145,4 +148,5 @@ terms = record {
 }
 
 pub heard_in_time : IsHeardInTime at_its_slot events (example_parts first_bits []) example_message
-heard_in_time = heard_at_first at_its_slot events (example_parts first_bits []) example_message terms
+heard_in_time =
+    heard_at_first at_its_slot events (example_parts first_bits []) example_message terms

@@ -1,12 +1,14 @@
 -- The example of repeats meets the premises of the law of printing once.
-use Rattle.std.proofs.Common.{◌≡◌, suc, ◌+◌, ◌≤◌, Bool, true, false, cond, List, [], ◌∷◌, ◌++◌, length, refl, ap, ◌∙◌, arith, IsTrue, lit≤}
+use Rattle.std.proofs.Common.{◌≡◌, suc, ◌+◌, ◌≤◌, Bool, true, false, cond, List, [], ◌∷◌, ◌++◌}
+use Rattle.std.proofs.Common.{length, refl, ap, ◌∙◌, arith, IsTrue, lit≤}
 use Rattle.std.proofs.lemmas.List.{length-append}
 use Rattle.std.proofs.lemmas.List.Elements.{All-nil, All-cons, All-contains}
 use Rattle.nx_memory.specs.declared.entry.MemoryEntry.{MemoryEntry}
 use Rattle.nx_station.specs.ChannelExample.{ea01}
 use Rattle.nx_receiver.specs.Example.{first_copy, repeated_copy, example_copies}
 use Rattle.nx_receiver.specs.LawTerms.{AreRepeats}
-use Rattle.nx_receiver.specs.Printing.{copies_of, is_good, is_entered, entry_of, entry_made, entries_made, entries_after}
+use Rattle.nx_receiver.specs.Printing.{copies_of, is_good, is_entered, entry_of, entry_made}
+use Rattle.nx_receiver.specs.Printing.{entries_made, entries_after}
 use Rattle.nx_receiver.specs.FoundCopies.{TaggedCopy}
 use Rattle.nx_receiver.proofs.once.Repeats.{none_live}
 

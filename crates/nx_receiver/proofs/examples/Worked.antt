@@ -1,5 +1,7 @@
 -- The worked emission through the definitions, from its elements to the log.
-use Rattle.std.proofs.Common.{◌≡◌, ℕ, ◌+◌, ◌-◌, ◌*◌, ◌/◌, ◌<◌, ◌≤◌, true, false, cond, List, [], length, get_or, refl, sym, ap, ◌∙◌, arith, inl, lit≤, lit<, zero-add, nat_le, Some, None, ltb}
+use Rattle.std.proofs.Common.{◌≡◌, ℕ, ◌+◌, ◌-◌, ◌*◌, ◌/◌, ◌<◌, ◌≤◌, true, false, cond, List, []}
+use Rattle.std.proofs.Common.{length, get_or, refl, sym, ap, ◌∙◌, arith, inl, lit≤, lit<, zero-add}
+use Rattle.std.proofs.Common.{nat_le, Some, None, ltb}
 use Rattle.std.specs.Prelude.{codes, ◌==◌}
 use Rattle.std.proofs.lemmas.Bool.{agree_below, agree_below_at, ltb-true, lt-leb}
 use Rattle.nx_code.specs.Table.{phasing_1, table, words, place_of, row_of}
@@ -13,7 +15,8 @@ use Rattle.nx_fec.proofs.AlignedLemmas.{get_or-words_of}
 use Rattle.nx_fec.proofs.RoundTripLemmas.{length-bits_of, words_of-bits_of}
 use Rattle.nx_station.specs.Channel.{phasing_words}
 use Rattle.nx_station.specs.ChannelExample.{damaged_in, example_words, heard_half}
-use Rattle.nx_sync.specs.Words.{word_of_lock, first_role, role_of, wrong_until, losing_count, whole_words}
+use Rattle.nx_sync.specs.Words.{word_of_lock, first_role, role_of, wrong_until, losing_count}
+use Rattle.nx_sync.specs.Words.{whole_words}
 use Rattle.nx_sync.specs.Locks.{before_dx, last_28, Past, IsLocked}
 use Rattle.nx_sync.specs.private.Releases.{releases_as_ended, change_at}
 use Rattle.nx_sync.proofs.Computed.{holds-to}

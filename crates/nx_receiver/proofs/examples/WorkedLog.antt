@@ -1,5 +1,6 @@
 -- The log of the worked emission.
-use Rattle.std.proofs.Common.{◌≡◌, ℕ, zero, suc, Bool, true, false, not, ◌&&◌, List, [], ◌∷◌, map, refl, sym, ap, ◌∙◌, subst}
+use Rattle.std.proofs.Common.{◌≡◌, ℕ, zero, suc, Bool, true, false, not, ◌&&◌, List, [], ◌∷◌, map}
+use Rattle.std.proofs.Common.{refl, sym, ap, ◌∙◌, subst}
 use Rattle.std.specs.Prelude.{codes}
 use Rattle.std.specs.Fmt.{digits}
 use Rattle.std.specs.FinSet as set
@@ -7,7 +8,8 @@ use Rattle.std.specs.Ordering.{nat_cmp}
 use Rattle.nx_envelope.specs.declared.found.How.TheVariants.{Full}
 use Rattle.nx_envelope.specs.declared.identity.Identity.{Identity}
 use Rattle.nx_envelope.specs.Header.{nearest_identity, read_header, identity_at_end, marker_at_end}
-use Rattle.nx_envelope.specs.Copies.{Copy, beginnings, header_at_end, headers, raw_text, ending_by_marker, ending_of, ended_copy, closed_copy, copies}
+use Rattle.nx_envelope.specs.Copies.{Copy, beginnings, header_at_end, headers, raw_text}
+use Rattle.nx_envelope.specs.Copies.{ending_by_marker, ending_of, ended_copy, closed_copy, copies}
 use Rattle.nx_envelope.proofs.Examples.{slot_of_e}
 use Rattle.nx_envelope.proofs.Identities.{same_identity-true}
 use Rattle.nx_memory.specs.Selection.{admits}
@@ -16,11 +18,13 @@ use Rattle.nx_fec.specs.declared.channel.Channel.TheVariants.{Zero}
 use Rattle.nx_station.specs.ChannelExample.{ea01}
 use Rattle.nx_sync.specs.Words.{whole_words}
 use Rattle.nx_sync.specs.Locks.{locked, IsNow}
-use Rattle.nx_receiver.specs.Events.{element, Setting, settings, setting_at, first_setting, elements_among}
+use Rattle.nx_receiver.specs.Events.{element, Setting, settings, setting_at, first_setting}
+use Rattle.nx_receiver.specs.Events.{elements_among}
 use Rattle.nx_receiver.specs.LockText.{PlacedByte, lock_text}
 use Rattle.nx_receiver.specs.FoundCopies.{found_copy, past_copies, found_to_end, tag, tagged_copies}
 use Rattle.nx_receiver.specs.Printing.{printed_copies, if_printed, is_printed}
-use Rattle.nx_receiver.specs.Log.{entry_head, is_of_lines, missing_newline, IsLog, printed_of, PrintsToEnd}
+use Rattle.nx_receiver.specs.Log.{entry_head, is_of_lines, missing_newline, IsLog, printed_of}
+use Rattle.nx_receiver.specs.Log.{PrintsToEnd}
 use Rattle.nx_receiver.specs.Example.{first_copy}
 use Rattle.nx_receiver.specs.Shares.{marked}
 use Rattle.nx_receiver.specs.Worked.{at_its_slot, heard_elements, worked_log}

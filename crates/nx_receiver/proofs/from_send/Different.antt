@@ -1,5 +1,6 @@
 -- Of messages no two of which bear one identity all are printed, in order.
-use Rattle.std.proofs.Common.{◌≡◌, ℕ, ◌-◌, Bool, true, false, not, ◌&&◌, ◌||◌, cond, ltb, List, [], ◌∷◌, ◌++◌, map, length, refl, ap, ◌∙◌}
+use Rattle.std.proofs.Common.{◌≡◌, ℕ, ◌-◌, Bool, true, false, not, ◌&&◌, ◌||◌, cond, ltb, List, []}
+use Rattle.std.proofs.Common.{◌∷◌, ◌++◌, map, length, refl, ap, ◌∙◌}
 use Rattle.std.specs.List.{AllByRecursion}
 use Rattle.std.proofs.lemmas.List.Elements.{All-append, All-drop, All-nil, All-weaker}
 use Rattle.std.proofs.lemmas.List.Folds.{list_any_none}
@@ -8,7 +9,8 @@ use Rattle.nx_envelope.specs.Message.{MessageView}
 use Rattle.nx_envelope.specs.declared.identity.Identity.{Identity}
 use Rattle.nx_memory.specs.Memory.{is_recent, most_entries, seconds_known}
 use Rattle.nx_memory.specs.declared.entry.MemoryEntry.{MemoryEntry}
-use Rattle.nx_receiver.specs.Printing.{entry_made, if_printed, is_number_00, is_printed, is_remembered, printed_copies}
+use Rattle.nx_receiver.specs.Printing.{entry_made, if_printed, is_number_00, is_printed}
+use Rattle.nx_receiver.specs.Printing.{is_remembered, printed_copies}
 use Rattle.nx_receiver.specs.FromSend.{AreDifferent, copy_as_sent}
 use Rattle.nx_receiver.specs.FoundCopies.{TaggedCopy}
 use Rattle.nx_receiver.proofs.once.Repeats.{Lacks, made_lacks}

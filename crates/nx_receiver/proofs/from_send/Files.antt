@@ -1,5 +1,6 @@
 -- What `send` writes of messages, as an air file that is listened to.
-use Rattle.std.proofs.Common.{◌≡◌, ℕ, ◌^◌, ◌<◌, ◌≤◌, Bool, List, [], ◌∷◌, map, length, refl, sym, ap, ◌∙◌, subst, arith}
+use Rattle.std.proofs.Common.{◌≡◌, ℕ, ◌^◌, ◌<◌, ◌≤◌, Bool, List, [], ◌∷◌, map, length, refl, sym}
+use Rattle.std.proofs.Common.{ap, ◌∙◌, subst, arith}
 use Rattle.std.specs.Int.{div_ceil}
 use Rattle.std.proofs.lemmas.List.{length-append}
 use Rattle.nx_envelope.specs.Message.{MessageView}
@@ -28,7 +29,8 @@ use Rattle.nx_receiver.specs.InTurn.{PrintAllToEnd}
 use Rattle.nx_receiver.specs.Shares.{MarkedCopy, all_at_zero, copies_on, marked}
 use Rattle.nx_receiver.proofs.Shares.{to_end-on}
 use Rattle.nx_receiver.proofs.chain.Alone.{HearsAlone, all-alone}
-use Rattle.nx_receiver.proofs.listens.ElementLines.{events-lines, events-others, good-lines, taken-lines}
+use Rattle.nx_receiver.proofs.listens.ElementLines.{events-lines, events-others, good-lines}
+use Rattle.nx_receiver.proofs.listens.ElementLines.{taken-lines}
 use Rattle.nx_receiver.proofs.listens.Moments.{some-closed}
 use Rattle.nx_receiver.proofs.once.Found.{printed_once}
 use Rattle.nx_receiver.proofs.from_send.Heard.{heard_in_time}

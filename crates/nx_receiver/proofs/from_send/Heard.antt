@@ -1,5 +1,7 @@
 -- A message of an emission that is heard as it is sent is heard in time.
-use Rattle.std.proofs.Common.{◌≡◌, ◌≢◌, ℕ, zero, suc, ◌+◌, ◌-◌, ◌*◌, ◌<◌, Bool, false, not, ◌&&◌, List, [], ◌∷◌, ◌++◌, length, get_or, drop, take, refl, sym, ap, ◌∙◌, subst, arith, append-nil, IsTrue}
+use Rattle.std.proofs.Common.{◌≡◌, ◌≢◌, ℕ, zero, suc, ◌+◌, ◌-◌, ◌*◌, ◌<◌, Bool, false, not, ◌&&◌}
+use Rattle.std.proofs.Common.{List, [], ◌∷◌, ◌++◌, length, get_or, drop, take, refl, sym, ap, ◌∙◌}
+use Rattle.std.proofs.Common.{subst, arith, append-nil, IsTrue}
 use Rattle.std.specs.FinSet as set
 use Rattle.std.specs.List.{Contains, flat_map}
 use Rattle.std.specs.Ordering.{nat_cmp}
@@ -19,8 +21,10 @@ use Rattle.nx_station.proofs.ChannelUndamaged.{undamaged-cut}
 use Rattle.nx_station.proofs.SendingsLemmas.{each_received}
 use Rattle.nx_sync.specs.Locks.{IsNow, locked}
 use Rattle.nx_sync.specs.Words.{whole_words}
-use Rattle.nx_receiver.specs.Events.{Event, Setting, at_zero, first_setting, settings, elements_among, elements, setting_at}
-use Rattle.nx_receiver.specs.FoundCopies.{FoundCopy, found_to_end, past_copies, TaggedCopy, tag, tagged_copies}
+use Rattle.nx_receiver.specs.Events.{Event, Setting, at_zero, first_setting, settings}
+use Rattle.nx_receiver.specs.Events.{elements_among, elements, setting_at}
+use Rattle.nx_receiver.specs.FoundCopies.{FoundCopy, found_to_end, past_copies, TaggedCopy, tag}
+use Rattle.nx_receiver.specs.FoundCopies.{tagged_copies}
 use Rattle.nx_receiver.specs.LockText.{PlacedByte, bytes_of, lock_text}
 use Rattle.nx_receiver.specs.Once.{FewBetween, IsHeardInTime}
 use Rattle.nx_receiver.specs.private.Heard.{HeardTerms}

@@ -1,6 +1,8 @@
 -- What is printed of an emission that is heard as it is sent: what the rules of printing make of
 -- its messages, in order.
-use Rattle.std.proofs.Common.{◌≡◌, ℕ, zero, suc, ◌+◌, ◌*◌, ◌<◌, ◌≤◌, ◌⊎◌, Bool, true, List, [], ◌∷◌, ◌++◌, map, length, get_or, unwrap_or, refl, sym, ap, ap₂, ◌∙◌, subst, arith, inl, inr, append_assoc}
+use Rattle.std.proofs.Common.{◌≡◌, ℕ, zero, suc, ◌+◌, ◌*◌, ◌<◌, ◌≤◌, ◌⊎◌, Bool, true, List, [], ◌∷◌}
+use Rattle.std.proofs.Common.{◌++◌, map, length, get_or, unwrap_or, refl, sym, ap, ap₂, ◌∙◌, subst}
+use Rattle.std.proofs.Common.{arith, inl, inr, append_assoc}
 use Rattle.std.specs.List.{All, AllByRecursion, Contains, flat_map}
 use Rattle.std.proofs.lemmas.List.{length-append}
 use Rattle.std.proofs.lemmas.List.Elements.{All-head, All-tail, All-weaker}
@@ -9,27 +11,29 @@ use Rattle.nx_envelope.specs.Header.{Header, end_marker}
 use Rattle.nx_envelope.specs.Message.{AreLines, text_of, MessageView}
 use Rattle.nx_envelope.specs.declared.found.How.TheVariants.{Full}
 use Rattle.nx_envelope.specs.declared.identity.Identity.{Identity}
-use Rattle.nx_envelope.proofs.Rising.{headers_rise_in}
 use Rattle.nx_fec.specs.Emission.{bits_of}
 use Rattle.nx_memory.specs.Selection.{admits}
 use Rattle.nx_station.specs.Broadcast.{AreSpelled, header, printed_text}
 use Rattle.nx_station.specs.Sendable.{IsSendable}
 use Rattle.nx_sync.specs.Locks.{IsNow, locked}
 use Rattle.nx_sync.specs.Words.{first_role, whole_words, word_of_lock}
-use Rattle.nx_sync.proofs.UniqueStates.{locks-unique, now-unique}
-use Rattle.nx_receiver.specs.Events.{Event, Setting, at_zero, first_setting, settings, elements_among, elements, setting_at}
-use Rattle.nx_receiver.specs.FoundCopies.{FoundCopy, all_in, found_copy, found_to_end, past_copies, TaggedCopy, tag, tagged_copies}
+use Rattle.nx_receiver.specs.Events.{Event, Setting, at_zero, first_setting, settings}
+use Rattle.nx_receiver.specs.Events.{elements_among, elements, setting_at}
+use Rattle.nx_receiver.specs.FoundCopies.{FoundCopy, all_in, found_copy, found_to_end, past_copies}
+use Rattle.nx_receiver.specs.FoundCopies.{TaggedCopy, tag, tagged_copies}
 use Rattle.nx_receiver.specs.LockText.{PlacedByte}
 use Rattle.nx_receiver.specs.Log.{PrintsToEnd, printed_of}
 use Rattle.nx_receiver.specs.Printing.{printed_copies}
 use Rattle.nx_receiver.specs.Emissions.{IsHeaderOf}
 use Rattle.nx_receiver.specs.FromSend.{copy_as_sent, events_as_sent, words_sent}
-use Rattle.nx_receiver.proofs.locks.Found.{all_in_placed, text_placed}
-use Rattle.nx_receiver.proofs.once.Rising.{Above, Rises, rises_from}
-use Rattle.nx_receiver.proofs.emissions.Copies.{copy_at, ended_here, sent_copy, sent_header}
+use Rattle.nx_receiver.proofs.locks.Found.{all_in_placed, one_told, text_placed}
+use Rattle.nx_receiver.proofs.once.Rising.{Above, Rises}
+use Rattle.nx_receiver.proofs.emissions.Copies.{copy_at, ended_here, headers_rise, sent_copy}
+use Rattle.nx_receiver.proofs.emissions.Copies.{sent_header}
 use Rattle.nx_receiver.proofs.emissions.Headers.{headers_of_messages, messages_have_headers}
 use Rattle.nx_receiver.proofs.emissions.Places.{above_later}
-use Rattle.nx_receiver.proofs.from_send.Heard.{all_selected, bits_are, events, found, none_spelled, reads, stands, text}
+use Rattle.nx_receiver.proofs.from_send.Heard.{all_selected, bits_are, events, found, none_spelled}
+use Rattle.nx_receiver.proofs.from_send.Heard.{reads, stands, text}
 
 -- ---- lists with rising keys that hold the same items are the same
 
@@ -107,18 +111,6 @@ rises_on at (m ∷ messages) = (
   above_from (at + 9) (at + length (printed_text m)) messages (omega (arith, long_printed m)),
   rises_on (at + length (printed_text m)) messages,
 )
-
-headers_rise : (text : List ℕ) → Rises behind (headers text)
-headers_rise text =
-    rises_from behind (headers text)
-    (λ front between back earlier later e. headers_rise_in text earlier later
-    (record {
-      front = front;
-      between = between;
-      back = back;
-      listed =
-          e ∙ sym (append_assoc front (earlier ∷ between) (later ∷ back));
-    }))
 
 -- each of them is the header of a message
 of_message : (messages : List MessageView) (at : ℕ) (front : List MessageView) (h : Header)
@@ -316,10 +308,9 @@ module _ (messages : List MessageView) (numbers : List ℕ) (others : List (List
         → log ≡ printed_copies [] (map (copy_as_sent slot) messages)
     printed_as_sent log prints =
         prints.printed
-        ∙ ap (λ ls. printed_of at_zero events_of (found_to_end all_bits ls prints.now))
-        (locks-unique all_bits prints.locks [] prints.now (locked 0 28) prints.stands now_is)
-        ∙ ap (λ n. printed_of at_zero events_of (found_to_end all_bits [] n))
-        (now-unique all_bits prints.locks [] prints.now (locked 0 28) prints.stands now_is)
+        ∙ ap (printed_of at_zero events_of)
+        (one_told (found_to_end all_bits) all_bits prints.locks [] prints.now (locked 0 28)
+        prints.stands now_is)
         ∙ ap (printed_copies []) all_tagged
 
 -- whatever the combinations are

@@ -1,19 +1,25 @@
 -- The words of an emission that arrives as it is sent: they keep the lock that its first four words
 -- give, and the text of
 -- that lock is what its messages print.
-use Rattle.std.proofs.Common.{◌≡◌, ℕ, zero, suc, ◌+◌, ◌-◌, ◌*◌, ◌/◌, ◌<◌, ◌≤◌, Bool, false, not, eqb, List, [], ◌∷◌, ◌++◌, map, length, take, drop, replicate, get_or, refl, sym, ap, ap₂, ◌∙◌, subst, arith, inl, inr, lit≤, lit<, append_assoc, append-nil, take_all}
+use Rattle.std.proofs.Common.{◌≡◌, ℕ, zero, suc, ◌+◌, ◌-◌, ◌*◌, ◌/◌, ◌<◌, ◌≤◌, Bool, false, not}
+use Rattle.std.proofs.Common.{eqb, List, [], ◌∷◌, ◌++◌, map, length, take, drop, replicate, get_or}
+use Rattle.std.proofs.Common.{refl, sym, ap, ap₂, ◌∙◌, subst, arith, inl, inr, lit≤, lit<}
+use Rattle.std.proofs.Common.{append_assoc, append-nil, take_all}
 use Rattle.std.specs.List.{flat_map}
 use Rattle.std.proofs.lemmas.Bool.{cases_lt}
-use Rattle.std.proofs.lemmas.List.{length-append, length-replicate, map-append, get_or-drop, get_or_append_left}
+use Rattle.std.proofs.lemmas.List.{length-append, length-replicate, map-append, get_or-drop}
+use Rattle.std.proofs.lemmas.List.{get_or_append_left}
 use Rattle.nx_code.specs.Table.{phasing_1, phasing_2}
 use Rattle.nx_code.specs.Reading.{idle, text}
-use Rattle.nx_code.specs.Word.{weight, elements, elements_from, is_wrong, wrong_in}
+use Rattle.nx_code.specs.Word.{elements, elements_from, is_wrong, wrong_in}
 use Rattle.nx_code.specs.declared.shifts.Shift.TheVariants.{Letters}
 use Rattle.nx_code.proofs.ReadingLemmas.{text-append}
 use Rattle.nx_envelope.specs.Message.{MessageView}
-use Rattle.nx_fec.specs.Emission.{SentPosition, phasing_position, end_position, AreInCode, IsInCode, bits_of, dx_word, emission, position_at, reception, rx_word}
+use Rattle.nx_fec.specs.Emission.{SentPosition, phasing_position, end_position, AreInCode, IsInCode}
+use Rattle.nx_fec.specs.Emission.{bits_of, dx_word, emission, position_at, reception, rx_word}
 use Rattle.nx_fec.specs.Pairing.{idle_signal, nothing, counts_as, pairing}
-use Rattle.nx_fec.proofs.EmissionLemmas.{AreWords-emission, IsEmission-emission, get_or-emission, length-emission, phasing_1-words, phasing_2-words}
+use Rattle.nx_fec.proofs.EmissionLemmas.{AreWords-emission, IsEmission-emission, get_or-emission}
+use Rattle.nx_fec.proofs.EmissionLemmas.{length-emission, phasing_1-words, phasing_2-words}
 use Rattle.nx_fec.proofs.PairingLemmas.{counts_as-words}
 use Rattle.nx_fec.proofs.RoundTripLemmas.{length-bits_of}
 use Rattle.nx_station.specs.Broadcast.{AreSpelled, IsBroadcast, layout, printed_text}
@@ -33,7 +39,8 @@ use Rattle.nx_sync.proofs.PhasingStates.{right_stays}
 use Rattle.nx_receiver.specs.LockText.{bytes_of, lock_text, positions, taken_at}
 use Rattle.nx_receiver.proofs.locks.Texts.{bytes_are_reading}
 use Rattle.nx_receiver.proofs.emissions.Emissions.{long_heard, phasing_at}
-use Rattle.nx_receiver.proofs.emissions.Locks.{KeepsLock, dx_through, same_through, stands_through, word_of}
+use Rattle.nx_receiver.proofs.emissions.Locks.{KeepsLock, dx_through, right_1, right_2}
+use Rattle.nx_receiver.proofs.emissions.Locks.{same_through, stands_through, word_of}
 use Rattle.nx_receiver.proofs.emissions.Positions.{AreTaken, positions-taken}
 use Rattle.nx_receiver.proofs.emissions.Texts.{layout-parts, on_air}
 
@@ -83,14 +90,6 @@ first_lock = record {
   limit = length-phasing 24;
   dx = role_of-even (first_role (phasing 24) 28) 0 22 ∙ first_dx;
 }
-
-right_2 : is_wrong phasing_2 ≡ false
-unfolding weight elements elements_from
-right_2 = refl
-
-right_1 : is_wrong phasing_1 ≡ false
-unfolding weight elements elements_from
-right_1 = refl
 
 counts_1 : counts_as phasing_1 ≡ idle_signal
 counts_1 = ap counts_as (sym phasing_1-words) ∙ counts_as-words 32 (lit< tt)

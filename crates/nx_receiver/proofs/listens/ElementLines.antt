@@ -1,6 +1,7 @@
--- Lines of elements: they are lines of an air file and hold these elements, they are taken, and what
--- they give to the receiver of each channel.
-use Rattle.std.proofs.Common.{◌≡◌, ℕ, ◌*◌, ◌≤◌, Bool, true, false, List, [], ◌∷◌, ◌++◌, None, map, length, take, drop, sym, ap, ◌∙◌, arith, refl, take_all}
+-- Lines of elements: they are lines of an air file and hold these elements, they are taken, and
+-- what they give to the receiver of each channel.
+use Rattle.std.proofs.Common.{◌≡◌, ℕ, ◌*◌, ◌≤◌, Bool, true, false, List, [], ◌∷◌, ◌++◌, None, map}
+use Rattle.std.proofs.Common.{length, take, drop, sym, ap, ◌∙◌, arith, refl, take_all}
 use Rattle.std.specs.Int.{div_ceil}
 use Rattle.std.specs.Prelude.{if◌then◌else◌}
 use Rattle.std.specs.List.{AllByRecursion, flat_map, range_with_len}

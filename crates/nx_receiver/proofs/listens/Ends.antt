@@ -1,5 +1,7 @@
 -- What the end of an air file makes of what a listener heard.
-use Rattle.std.proofs.Common.{◌≡◌, ℕ, ◌+◌, ◌-◌, ◌^◌, ◌≤◌, List, [], ◌++◌, map, Option, None, Some, length, ap, ◌∙◌, subst, sym, append-nil, append_assoc, arith, length-append}
+use Rattle.std.proofs.Common.{◌≡◌, ℕ, ◌+◌, ◌-◌, ◌^◌, ◌≤◌, List, [], ◌++◌, map, Option, None, Some}
+use Rattle.std.proofs.Common.{length, ap, ◌∙◌, subst, sym, append-nil, append_assoc, arith}
+use Rattle.std.proofs.Common.{length-append}
 use Rattle.std.specs.Prelude.{IfSome}
 use Rattle.std.specs.List.{All}
 use Rattle.std.specs.Io.KnownBytes.{Appends}
@@ -16,7 +18,8 @@ use Rattle.nx_receiver.specs.InTurn.{PrintAllToEnd}
 use Rattle.nx_receiver.specs.Log.{IsLog, PrintsToEnd}
 use Rattle.nx_receiver.specs.Receiver.{Receiving, Stands, entry_list}
 use Rattle.nx_receiver.specs.Shares.{Given, MarkedCopy, Starts, copies_on, marked, share, start_on}
-use Rattle.nx_receiver.specs.private.Listener.{HasClosed, HasClosedSome, HearsGiven, HearsLog, Listening, content, count_of}
+use Rattle.nx_receiver.specs.private.Listener.{HasClosed, HasClosedSome, HearsGiven, HearsLog}
+use Rattle.nx_receiver.specs.private.Listener.{Listening, content, count_of}
 use Rattle.nx_receiver.specs.declared.entry.Entry.{Entry}
 use Rattle.nx_receiver.specs.declared.listening.Report.{Report}
 use Rattle.nx_memory.specs.Ring.{RingMemory}

@@ -1,6 +1,8 @@
 -- What the taking of a line by a listener answers, by what the line says.
-use Rattle.std.proofs.Common.{◌≡◌, ℕ, List, [], ◌∷◌, ◌++◌, Option, Some, Result, Ok, Err, MatchResult, OnOk, false, refl, sym, ap, ◌∙◌, subst}
-use Rattle.nx_fec.specs.AirFile.{Line, moment, elements, refuse_station, accept_station, refuse_subject, accept_subject}
+use Rattle.std.proofs.Common.{◌≡◌, ℕ, List, [], ◌∷◌, ◌++◌, Option, Some, Result, Ok, Err}
+use Rattle.std.proofs.Common.{MatchResult, OnOk, false, refl, sym, ap, ◌∙◌, subst}
+use Rattle.nx_fec.specs.AirFile.{Line, moment, elements, refuse_station, accept_station}
+use Rattle.nx_fec.specs.AirFile.{refuse_subject, accept_subject}
 use Rattle.nx_fec.specs.LineRuns.{ExplainsTaking, HasGiven, HasTaken, Waiting}
 use Rattle.nx_fec.specs.Lines.{elements_of}
 use Rattle.nx_fec.specs.Scanner.{kind_kept, kind_of, line_with}
@@ -14,7 +16,9 @@ use Rattle.nx_receiver.specs.Events as fed
 use Rattle.nx_receiver.specs.Listen.{given_of}
 use Rattle.nx_receiver.specs.Receiver.{TakesEvent}
 use Rattle.nx_receiver.specs.Shares.{Starts, to_one}
-use Rattle.nx_receiver.specs.private.Listener.{BeginsFrom, IsListening, Listening, RefusesFrom, RefusesLine, StandsFrom, content, receiver_on, starts_of, with_receiver}
+use Rattle.nx_receiver.specs.private.Listener.{BeginsFrom, IsListening, Listening, RefusesFrom}
+use Rattle.nx_receiver.specs.private.Listener.{RefusesLine, StandsFrom, content, receiver_on}
+use Rattle.nx_receiver.specs.private.Listener.{starts_of, with_receiver}
 use Rattle.nx_receiver.specs.declared.listening.LineRefusal.{LineRefusal}
 use Rattle.nx_receiver.proofs.listens.Listener.{commanded-on}
 
@@ -89,7 +93,8 @@ taken-always first before after old new batch lines line is same h takes = recor
 
 -- a command to refuse a subject on a channel
 pub subject-taken : (starts : Starts) (old new : Listening) (lines : List Line)
-    (mark : Option Channel) (channel : Channel) (byte : ℕ) (bytes : List ℕ) (result : Result (Unit {0}) LineRefusal)
+    (mark : Option Channel) (channel : Channel) (byte : ℕ) (bytes : List ℕ)
+    (result : Result (Unit {0}) LineRefusal)
     → given_of (refuse_subject mark byte) ≡ to_one channel (command (fed.refuse_subject byte) ∷ [])
     → new ≡ with_receiver old channel (receiver_on new channel)
     → OnOk result (TakesEvent content (receiver_on old channel) (receiver_on new channel)
@@ -97,10 +102,12 @@ pub subject-taken : (starts : Starts) (old new : Listening) (lines : List Line)
     → MatchResult result (λ _. is_vital byte ≡ false)
     (λ why. RefusesLine starts lines (refuse_subject mark byte) why × (new ≡ old))
     → IsListening starts old lines bytes
-    → MatchResult result (λ _. IsListening starts new (lines ++ refuse_subject mark byte ∷ []) bytes)
+    → MatchResult result
+    (λ _. IsListening starts new (lines ++ refuse_subject mark byte ∷ []) bytes)
     (λ why. RefusesLine starts lines (refuse_subject mark byte) why × (new ≡ old))
 subject-taken starts old new lines mark channel byte bytes (Ok x) gives only stands refused h =
-    commanded-on starts old new lines (refuse_subject mark byte) channel (fed.refuse_subject byte) bytes
+    commanded-on starts old new lines (refuse_subject mark byte) channel
+    (fed.refuse_subject byte) bytes
     h refused gives refl only stands
 subject-taken starts old new lines mark channel byte bytes (Err why) gives only stands refused h =
     refused

@@ -1,32 +1,44 @@
 -- What a line does to a listener: how it stands after one more line, after some more elements, and
 -- after the end.
-use Rattle.std.proofs.Common.{◌≡◌, ◌||◌, ℕ, ◌+◌, ◌<◌, ◌≤◌, Bool, true, false, cond, IsTrue, List, [], ◌∷◌, ◌++◌, map, Option, Some, None, Ok, IsErr, length, take, take-append-drop, drop, refl, sym, ap, ap₂, ◌∙◌, subst, append-nil, append_assoc, arith, length-append}
+use Rattle.std.proofs.Common.{◌≡◌, ◌||◌, ℕ, ◌+◌, ◌<◌, ◌≤◌, Bool, true, false, cond, IsTrue, List}
+use Rattle.std.proofs.Common.{[], ◌∷◌, ◌++◌, map, Option, Some, None, Ok, IsErr, length, take}
+use Rattle.std.proofs.Common.{take-append-drop, drop, refl, sym, ap, ap₂, ◌∙◌, subst, append-nil}
+use Rattle.std.proofs.Common.{append_assoc, arith, length-append}
 use lib.Seq.{take-add}
 use Rattle.std.proofs.Math.Path.{fun_ext}
 use Rattle.std.proofs.lemmas.List.{length-map, length-take-le, map-append}
 use Rattle.std.proofs.lemmas.List.Concat.{flat_map-append}
 use Rattle.std.proofs.lemmas.List.Folds.{list_any-append}
-use Rattle.nx_fec.specs.AirFile.{Line, moment, elements, refuse_station, accept_station, refuse_subject, accept_subject}
+use Rattle.nx_fec.specs.AirFile.{Line, moment, elements, refuse_station, accept_station}
+use Rattle.nx_fec.specs.AirFile.{refuse_subject, accept_subject}
 use Rattle.nx_fec.specs.Channels.{channel_of, same_channel}
 use Rattle.nx_fec.specs.declared.channel.Channel.{Channel}
 use Rattle.nx_fec.specs.declared.channel.Channel.TheVariants.{Zero, One, Two}
 use Rattle.nx_envelope.specs.Moment.{last_moment}
-use Rattle.nx_receiver.specs.Events.{Event, Setting, Start, element, first_setting, setting_after_all}
+use Rattle.nx_receiver.specs.Events.{Event, Setting, Start, element, first_setting}
+use Rattle.nx_receiver.specs.Events.{setting_after_all}
 use Rattle.nx_receiver.specs.Events as fed
 use Rattle.nx_receiver.specs.InTurn.{HavePrinted, PrintsInTurn}
-use Rattle.nx_receiver.specs.Listen.{AreTaken, events_on, given_by, given_of, has_moment, is_moment_line, moment_after}
+use Rattle.nx_receiver.specs.Listen.{AreTaken, events_on, given_by, given_of, has_moment}
+use Rattle.nx_receiver.specs.Listen.{is_moment_line, moment_after}
 use Rattle.nx_receiver.specs.private.Taken.{AreTakenAfter, IsTakenAfter}
 use Rattle.nx_receiver.proofs.listens.Taken.{are-taken, taken-each}
-use Rattle.nx_receiver.specs.private.Listener.{BeginsListening, BeginsLog, HasFinished, HearsGiven, HearsLog, IsListening, Listening, content, count_of, elements_given, elements_in, receiver_on, starts_of, then_elements, with_receiver}
+use Rattle.nx_receiver.specs.private.Listener.{BeginsListening, BeginsLog, HasFinished, HearsGiven}
+use Rattle.nx_receiver.specs.private.Listener.{HearsLog, IsListening, Listening, content, count_of}
+use Rattle.nx_receiver.specs.private.Listener.{elements_given, elements_in, receiver_on, starts_of}
+use Rattle.nx_receiver.specs.private.Listener.{then_elements, with_receiver}
 use Rattle.nx_receiver.specs.private.ListenerBegins.{printed-so_far}
 use Rattle.nx_receiver.specs.Log.{HasPrinted}
 use Rattle.nx_receiver.specs.Receiver.{Stands}
-use Rattle.nx_receiver.specs.Shares.{Given, MarkedCopy, Starts, copies_on, events_for, marked, share, start_on, to_one}
+use Rattle.nx_receiver.specs.Shares.{Given, MarkedCopy, Starts, copies_on, events_for, marked}
+use Rattle.nx_receiver.specs.Shares.{share, start_on, to_one}
 use Rattle.nx_receiver.specs.private.Awaiting.{Awaits}
 use Rattle.nx_receiver.specs.FoundCopies.{TaggedCopy}
 use Rattle.nx_receiver.specs.declared.over.Over.{Over}
 use Rattle.nx_receiver.specs.declared.over.Over.TheVariants as overs
-use Rattle.nx_receiver.proofs.Shares.{copies_on-append, copies_on-marked, copies_on-other, in_turn-more, in_turn-none, in_turn-other, same_channel-refl, share-one}
+use Rattle.nx_receiver.proofs.Shares.{copies_on-append, copies_on-marked, copies_on-other}
+use Rattle.nx_receiver.proofs.Shares.{in_turn-more, in_turn-none, in_turn-other, same_channel-refl}
+use Rattle.nx_receiver.proofs.Shares.{share-one}
 use Rattle.nx_receiver.proofs.receiving.Feeds.{nothing_awaited}
 use Rattle.nx_receiver.proofs.receiving.Log.{logs_join, no-log}
 use Rattle.nx_receiver.proofs.receiving.Logged.{has_printed_on, some_printed}
@@ -613,7 +625,8 @@ elements-of : (lines : List Line) (mark : Option Channel) (channel : Channel) (b
     → channel ≡ channel_of mark
     → then_elements (given_by lines) channel bits ≡ given_by (lines ++ elements mark bits ∷ [])
 elements-of lines mark channel bits e =
-    ap (λ on. then_elements (given_by lines) on bits) e ∙ sym (given_by-one lines (elements mark bits))
+    ap (λ on. then_elements (given_by lines) on bits) e
+    ∙ sym (given_by-one lines (elements mark bits))
 
 pub heard-line : (starts : Starts) (old new : Listening) (lines : List Line)
     (mark : Option Channel) (channel : Channel) (bits : List Bool) (bytes more : List ℕ)

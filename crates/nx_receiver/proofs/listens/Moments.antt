@@ -1,13 +1,16 @@
 -- Where the lines of an air file are taken, all that is printed has a moment in range, and so has a
 -- log.
-use Rattle.std.proofs.Common.{◌≡◌, inl, inr, ℕ, ◌≤◌, Bool, true, false, cond, List, [], ◌∷◌, ◌++◌, Option, length, get_or, sym, subst, arith}
+use Rattle.std.proofs.Common.{◌≡◌, inl, inr, ℕ, ◌≤◌, Bool, true, false, cond, List, [], ◌∷◌, ◌++◌}
+use Rattle.std.proofs.Common.{Option, length, get_or, sym, subst, arith}
 use Rattle.std.specs.List.{All}
 use Rattle.std.specs.Prelude.{⊤, if◌then◌else◌}
 use Rattle.std.proofs.lemmas.Bool.{cases_lt}
 use Rattle.std.proofs.lemmas.List.{get_or_past}
-use Rattle.std.proofs.lemmas.List.Elements.{All-nil, All-cons, All-head, All-tail, All-same, All-get_or, All-append}
+use Rattle.std.proofs.lemmas.List.Elements.{All-nil, All-cons, All-head, All-tail, All-same}
+use Rattle.std.proofs.lemmas.List.Elements.{All-get_or, All-append}
 use Rattle.nx_envelope.specs.Moment.{last_moment}
-use Rattle.nx_fec.specs.AirFile.{Line, moment, elements, refuse_station, accept_station, refuse_subject, accept_subject}
+use Rattle.nx_fec.specs.AirFile.{Line, moment, elements, refuse_station, accept_station}
+use Rattle.nx_fec.specs.AirFile.{refuse_subject, accept_subject}
 use Rattle.nx_fec.specs.Channels.{channel_of, same_channel}
 use Rattle.nx_fec.specs.Transfers.{WroteSome}
 use Rattle.nx_fec.specs.declared.channel.Channel.{Channel}
@@ -15,9 +18,11 @@ use Rattle.nx_fec.specs.Lines.{IsAirFile, air_limit}
 use Rattle.nx_fec.proofs.LineLaws.{IsAirFile-unique}
 use Rattle.nx_fec.proofs.WritingLaws.{WroteSome-front}
 use Rattle.nx_memory.specs.declared.entry.MemoryEntry.{MemoryEntry}
-use Rattle.nx_receiver.specs.Events.{Event, Setting, Start, at_moment, element, command, first_setting, setting_after, settings}
+use Rattle.nx_receiver.specs.Events.{Event, Setting, Start, at_moment, element, command}
+use Rattle.nx_receiver.specs.Events.{first_setting, setting_after, settings}
 use Rattle.nx_receiver.specs.FoundCopies.{FoundCopy, TaggedCopy, tag, tagged_copies}
-use Rattle.nx_receiver.specs.Listen.{AreTaken, HasLoggedSome, IsLogOf, IsLogOfLines, events_on, given_by, given_of}
+use Rattle.nx_receiver.specs.Listen.{AreTaken, HasLoggedSome, IsLogOf, IsLogOfLines, events_on}
+use Rattle.nx_receiver.specs.Listen.{given_by, given_of}
 use Rattle.nx_receiver.specs.private.Taken.{AreTakenAfter, IsTakenAfter}
 use Rattle.nx_receiver.proofs.listens.Taken.{taken-each}
 use Rattle.nx_receiver.specs.private.Listener.{BeginsListening}

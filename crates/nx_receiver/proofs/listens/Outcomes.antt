@@ -1,16 +1,22 @@
 -- An air file has one outcome: one first fault, or a log.
-use Rattle.std.proofs.Common.{◌≡◌, inl, inr, ℕ, ◌+◌, ◌<◌, ◌≤◌, List, [], ◌∷◌, ◌++◌, Option, length, refl, sym, ap, ◌∙◌, subst, append-nil, append_assoc, arith, length-append}
+use Rattle.std.proofs.Common.{◌≡◌, inl, inr, ℕ, ◌+◌, ◌<◌, ◌≤◌, List, [], ◌∷◌, ◌++◌, Option, length}
+use Rattle.std.proofs.Common.{refl, sym, ap, ◌∙◌, subst, append-nil, append_assoc, arith}
+use Rattle.std.proofs.Common.{length-append}
 use Rattle.std.specs.List.{AllByRecursion}
 use Rattle.std.proofs.lemmas.Bool.{true≢false}
 use Rattle.nx_envelope.proofs.LettersAndDigits.{same_letter}
-use Rattle.nx_fec.specs.AirFile.{Line, IsLine, spelling, moment, elements, refuse_station, accept_station, refuse_subject, accept_subject}
-use Rattle.nx_fec.specs.Lines.{IsLineRefused, StopsAt, air_limit, HasFault, IsAirFile, IsCause, file_of, line_bytes}
+use Rattle.nx_fec.specs.AirFile.{Line, IsLine, spelling, moment, elements, refuse_station}
+use Rattle.nx_fec.specs.AirFile.{accept_station, refuse_subject, accept_subject}
+use Rattle.nx_fec.specs.Lines.{IsLineRefused, StopsAt, air_limit, HasFault, IsAirFile, IsCause}
+use Rattle.nx_fec.specs.Lines.{file_of, line_bytes}
 use Rattle.nx_fec.specs.declared.fault.LineFault.{LineFault}
 use Rattle.nx_fec.specs.declared.fault.LineFault.TheVariants as file
 use Rattle.nx_fec.specs.declared.line_run.LinesFault.{LinesFault}
 use Rattle.nx_fec.specs.declared.line_run.LinesFault.TheVariants as run
-use Rattle.nx_fec.proofs.LineLaws.{HasFault-unique, IsAirFile-good, NoFeed, first_feed, no_feed-not, reading-unique, regroup, spelling-IsBeginning, spelling-injective, split}
-use Rattle.nx_fec.proofs.LineRunLemmas.{file_of-one}
+use Rattle.nx_fec.proofs.LineLaws.{HasFault-unique, IsAirFile-good, NoFeed, first_feed, no_feed-not}
+use Rattle.nx_fec.proofs.LineLaws.{reading-unique, regroup, spelling-IsBeginning}
+use Rattle.nx_fec.proofs.LineLaws.{spelling-injective, split}
+use Rattle.nx_fec.proofs.LineRunLemmas.{StopsAt-map, file_of-one}
 use Rattle.nx_receiver.specs.Events.{Refuses}
 use Rattle.nx_receiver.specs.Listen.{AreTaken, HasListenFault, HasLogged, IsLogOf, RefusesAfter}
 use Rattle.nx_receiver.specs.private.Taken.{IsTakenAfter}
@@ -20,7 +26,10 @@ use Rattle.nx_receiver.specs.private.Listener.{RefusesLine, lines_fault, refusal
 use Rattle.nx_receiver.specs.declared.fault.MomentFault.{MomentFault}
 use Rattle.nx_receiver.specs.declared.fault.MomentFault.TheVariants.{Range, Back}
 use Rattle.nx_receiver.specs.declared.listen_fault.ListenFault.{ListenFault}
-use Rattle.nx_receiver.specs.declared.listen_fault.ListenFault.TheVariants.{Memory, Read, Write, AirTooLong, LineLong, LineCut, BadLine, NoMoment, Moment, Vital}
+use Rattle.nx_receiver.specs.declared.listen_fault.ListenFault.TheVariants.{Memory, Read, Write}
+use Rattle.nx_receiver.specs.declared.listen_fault.ListenFault.TheVariants.{AirTooLong, LineLong}
+use Rattle.nx_receiver.specs.declared.listen_fault.ListenFault.TheVariants.{LineCut, BadLine}
+use Rattle.nx_receiver.specs.declared.listen_fault.ListenFault.TheVariants.{NoMoment, Moment, Vital}
 use Rattle.nx_receiver.specs.declared.listening.LineRefusal.{LineRefusal}
 use Rattle.nx_receiver.specs.declared.listening.LineRefusal.TheVariants as refusal
 
@@ -303,16 +312,7 @@ module _ (starts : Starts) where
   as-fault : (bytes : List ℕ) (why : LineFault) → StopsWith bytes (run.Line why)
       → HasFault air_limit bytes why
   unfolding StopsWith
-  as-fault bytes why h = record {
-    lines = h.lines;
-    rest = h.rest;
-    more = h.more;
-    whole = h.whole;
-    each = h.each;
-    part =
-        h.part;
-    here = h.here.0;
-  }
+  as-fault bytes why h = StopsAt-map bytes _ _ (λ lines rest more here. here.0) h
 
   -- a stop at a line that is refused
   record AtLine (bytes : List ℕ) (number : ℕ) (why : LineRefusal) : Type 0 where
@@ -457,16 +457,7 @@ module _ (starts : Starts) where
       → StopsAt bytes (λ lines rest more. P lines rest more × holds lines)
       → StopsAt bytes (λ lines rest more. P lines rest more × AreTaken starts lines)
   stop-taken bytes P holds f h =
-      record {
-        lines = h.lines;
-        rest = h.rest;
-        more = h.more;
-        whole = h.whole;
-        each = h.each;
-        part =
-            h.part;
-        here = (h.here.0, f h.lines h.here.1);
-      }
+      StopsAt-map bytes _ _ (λ lines rest more here. (here.0, f lines here.1)) h
 
   -- whatever was written, the lines before a fault were taken
   pub first_fault-taken : (old new : Option (List ℕ)) (bytes : List ℕ) (why : ListenFault)

@@ -1,25 +1,34 @@
 -- What a run over lines says, said of the log and in the faults of `listen`.
-use Rattle.std.proofs.Common.{◌≡◌, inl, inr, ℕ, ◌+◌, ◌≤◌, List, [], ◌∷◌, ◌++◌, length, map, Option, None, Some, IfSome, Result, Ok, Err, refl, ap, ap₂, ◌∙◌, arith, length-append}
+use Rattle.std.proofs.Common.{◌≡◌, inl, inr, ℕ, ◌+◌, ◌≤◌, List, [], ◌∷◌, ◌++◌, length, map, Option}
+use Rattle.std.proofs.Common.{None, Some, IfSome, Result, Ok, Err, refl, ap, ap₂, ◌∙◌, arith}
+use Rattle.std.proofs.Common.{length-append}
 use Rattle.std.specs.Prelude.{⊤}
 use Rattle.std.specs.List.{flat_map}
 use Rattle.std.specs.Io.KnownBytes.{Appends}
 use Rattle.std.specs.declared.alloc.AllocError.{AllocError}
 use Rattle.std.proofs.KnownBytes.{Consumes-nil}
 use Rattle.std.proofs.lemmas.List.{length-map}
-use Rattle.nx_fec.specs.AirFile.{Line, moment, elements, refuse_station, accept_station, refuse_subject, accept_subject, element_digit, mark_bytes}
-use Rattle.nx_fec.specs.Transfers.{CountedDevice, HasWritten, Devices, IsReadOut, Reads, Writes, devices}
+use Rattle.nx_fec.specs.AirFile.{Line, moment, elements, refuse_station, accept_station}
+use Rattle.nx_fec.specs.AirFile.{refuse_subject, accept_subject, element_digit, mark_bytes}
+use Rattle.nx_fec.specs.Transfers.{CountedDevice, HasWritten, Devices, IsReadOut, Reads, Writes}
+use Rattle.nx_fec.specs.Transfers.{devices}
 use Rattle.nx_fec.specs.LineRuns.{ExplainsLines, HasTaken, HasTakenAll, RunsLines}
-use Rattle.nx_fec.specs.Lines.{IsLineRefused, StopsAt, air_limit, elements_of, file_of, line_bytes}
+use Rattle.nx_fec.specs.Lines.{IsLineRefused, air_limit, elements_of, file_of, line_bytes}
 use Rattle.nx_fec.specs.declared.fault.LineFault.TheVariants as file
 use Rattle.nx_fec.specs.declared.line_run.LinesFault.{LinesFault}
 use Rattle.nx_fec.specs.declared.line_run.LinesFault.TheVariants as run
 use Rattle.nx_fec.specs.declared.line_run.LinesRead.{LinesRead}
+use Rattle.nx_fec.proofs.LineRunLemmas.{StopsAt-map}
 use Rattle.nx_fec.proofs.TransferLaws.{Ok-not_err, Reads-on, Writes-none, read_failed-none}
 use Rattle.nx_receiver.specs.Events.{elements_among}
-use Rattle.nx_receiver.specs.Listen.{AnswersListening, HasListened, HasLogged, HasLoggedSome, IsLogOf, RefusesAfter, given_by, given_of}
+use Rattle.nx_receiver.specs.Listen.{AnswersListening, HasListened, HasLogged, HasLoggedSome}
+use Rattle.nx_receiver.specs.Listen.{IsLogOf, RefusesAfter, given_by, given_of}
 use Rattle.nx_receiver.specs.Shares.{Starts}
 use Rattle.nx_receiver.specs.ListenFrom.{ListensBy}
-use Rattle.nx_receiver.specs.private.Listener.{BeginsFrom, HasClosed, HasClosedSome, IsListening, Listening, RefusesFrom, RefusesLine, StandsFrom, elements_given, elements_in, lines_fault, refusal_fault, starts_of}
+use Rattle.nx_receiver.specs.private.Listener.{BeginsFrom, HasClosed, HasClosedSome, IsListening}
+use Rattle.nx_receiver.specs.private.Listener.{Listening, RefusesFrom, RefusesLine, StandsFrom}
+use Rattle.nx_receiver.specs.private.Listener.{elements_given, elements_in, lines_fault}
+use Rattle.nx_receiver.specs.private.Listener.{refusal_fault, starts_of}
 use Rattle.nx_receiver.specs.declared.listen_fault.ListenFault.{ListenFault}
 use Rattle.nx_receiver.specs.declared.listen_fault.ListenFault.TheVariants.{Memory, Read, Write}
 use Rattle.nx_receiver.specs.declared.listening.LineRefusal.{LineRefusal}
@@ -43,20 +52,6 @@ logged first now old new lines h = (
   h.here,
 )
 
-pub stops-on : (bytes : List ℕ) (P Q : List Line → List ℕ → List ℕ → Type 0)
-    → ((lines : List Line) (rest more : List ℕ) → P lines rest more → Q lines rest more)
-    → StopsAt bytes P → StopsAt bytes Q
-stops-on bytes P Q f h = record {
-  lines = h.lines;
-  rest = h.rest;
-  more = h.more;
-  whole = h.whole;
-  each = h.each;
-  part =
-      h.part;
-  here = f h.lines h.rest h.more h.here;
-}
-
 -- a line that is refused isn't taken, as its fault says
 fault-says : (starts : Starts) (number : ℕ) (lines : List Line) (line : Line) (why : LineRefusal)
     → number ≡ length lines + 1 → RefusesLine starts lines line why
@@ -69,7 +64,8 @@ fault-says starts number lines (elements mark bits) (refusal.Moment why) e h = h
 fault-says starts number lines (elements mark bits) (refusal.Vital subject) e h = h
 fault-says starts number lines (refuse_subject mark letter) refusal.NoMoment e h = h
 fault-says starts number lines (refuse_subject mark letter) (refusal.Moment why) e h = h
-fault-says starts number lines (refuse_subject mark letter) (refusal.Vital subject) e h = (e, h.0, h.1)
+fault-says starts number lines (refuse_subject mark letter) (refusal.Vital subject) e h =
+    (e, h.0, h.1)
 fault-says starts number lines (refuse_station mark letter) refusal.NoMoment e h = h
 fault-says starts number lines (refuse_station mark letter) (refusal.Moment why) e h = h
 fault-says starts number lines (refuse_station mark letter) (refusal.Vital subject) e h = h
@@ -104,29 +100,32 @@ explains : (AtEnd : Type 0) (IsLeft : List ℕ → Type 0) (first now : Listenin
     (Appends old new) bytes fault
     → AnswersListening (starts_of first) AtEnd IsLeft old new (Err (lines_fault fault)) bytes
 explains AtEnd IsLeft first now old new bytes run.Read h =
-    stops-on bytes _ _ (λ lines rest more p. (p.0, p.1, logged first now old new lines p.2)) h
+    StopsAt-map bytes _ _ (λ lines rest more p. (p.0, p.1, logged first now old new lines p.2)) h
 explains AtEnd IsLeft first now old new bytes (run.Line file.TooLong) h =
-    stops-on bytes _ _ (λ lines rest more p. (p.0, logged first now old new lines p.1)) h.1
+    StopsAt-map bytes _ _ (λ lines rest more p. (p.0, logged first now old new lines p.1)) h.1
 explains AtEnd IsLeft first now old new bytes (run.Line (file.LineLong line)) h =
-    stops-on bytes _ _ (λ lines rest more p. (p.0, logged first now old new lines p.1)) h.1
-explains AtEnd IsLeft first now old new bytes (run.Line (file.LineCut line)) h =
-    (h.0, stops-on bytes _ _ (λ lines rest more p. (p.0, logged first now old new lines p.1)) h.1)
+    StopsAt-map bytes _ _ (λ lines rest more p. (p.0, logged first now old new lines p.1)) h.1
+explains AtEnd IsLeft first now old new bytes (run.Line (file.LineCut line)) h = (
+  h.0,
+  StopsAt-map bytes _ _
+      (λ lines rest more p. (p.0, logged first now old new lines p.1)) h.1,
+)
 explains AtEnd IsLeft first now old new bytes (run.Line (file.BadLine line)) h =
-    stops-on bytes _ _ (λ lines rest more p. (p.0, logged first now old new lines p.1)) h.1
+    StopsAt-map bytes _ _ (λ lines rest more p. (p.0, logged first now old new lines p.1)) h.1
 explains AtEnd IsLeft first now old new bytes (run.Refused line refusal.NoMoment) h =
-    stops-on bytes _ _ (λ lines rest more p. (
+    StopsAt-map bytes _ _ (λ lines rest more p. (
       next-refused first line lines rest more refusal.NoMoment p.0,
       logged first now old new
           lines p.1,
     )) h
 explains AtEnd IsLeft first now old new bytes (run.Refused line (refusal.Moment why)) h =
-    stops-on bytes _ _ (λ lines rest more p. (
+    StopsAt-map bytes _ _ (λ lines rest more p. (
       next-refused first line lines rest more (refusal.Moment why) p.0,
       logged first now old new
           lines p.1,
     )) h
 explains AtEnd IsLeft first now old new bytes (run.Refused line (refusal.Vital subject)) h =
-    stops-on bytes _ _ (λ lines rest more p. (
+    StopsAt-map bytes _ _ (λ lines rest more p. (
       next-refused first line lines rest more (refusal.Vital subject) p.0,
       logged first now old
           new lines p.1,

@@ -1,17 +1,23 @@
 -- Lines that are taken, which are those of which none is refused after those before it.
-use Rattle.std.proofs.Common.{◌≡◌, ◌||◌, ℕ, ◌+◌, ◌≤◌, ◌==◌, Bool, true, false, inl, inr, List, [], ◌∷◌, ◌++◌, length, refl, sym, ap, ◌∙◌, subst, append-nil, append_assoc, arith}
+use Rattle.std.proofs.Common.{◌≡◌, ◌||◌, ℕ, ◌+◌, ◌≤◌, ◌==◌, Bool, true, false, inl, inr, List, []}
+use Rattle.std.proofs.Common.{◌∷◌, ◌++◌, length, refl, sym, ap, ◌∙◌, subst, append-nil}
+use Rattle.std.proofs.Common.{append_assoc, arith}
 use Rattle.std.proofs.lemmas.Bool.{cases_lt, eqb-true, true≢false}
 use Rattle.nx_code.specs.Reading.{IsCapital}
 use Rattle.nx_envelope.specs.Moment.{last_moment}
 use Rattle.nx_envelope.proofs.LettersAndDigits.{letter_at}
-use Rattle.nx_fec.specs.AirFile.{Line, moment, elements, refuse_station, accept_station, refuse_subject, accept_subject}
+use Rattle.nx_fec.specs.AirFile.{Line, moment, elements, refuse_station, accept_station}
+use Rattle.nx_fec.specs.AirFile.{refuse_subject, accept_subject}
 use Rattle.nx_memory.specs.Selection.{is_vital}
 use Rattle.nx_receiver.specs.Listen.{AreTaken, RefusesAfter, has_moment, moment_after}
 use Rattle.nx_receiver.specs.Shares.{Starts}
 use Rattle.nx_receiver.specs.private.Taken.{AreTakenAfter, IsTakenAfter}
 use Rattle.nx_receiver.specs.declared.fault.MomentFault.TheVariants.{Range, Back}
 use Rattle.nx_receiver.specs.declared.listen_fault.ListenFault.{ListenFault}
-use Rattle.nx_receiver.specs.declared.listen_fault.ListenFault.TheVariants.{Memory, Read, Write, AirTooLong, LineLong, LineCut, BadLine, NoMoment, Moment, Vital}
+use Rattle.nx_receiver.specs.declared.listen_fault.ListenFault.TheVariants.{Memory, Read, Write}
+use Rattle.nx_receiver.specs.declared.listen_fault.ListenFault.TheVariants.{AirTooLong, LineLong}
+use Rattle.nx_receiver.specs.declared.listen_fault.ListenFault.TheVariants.{LineCut, BadLine}
+use Rattle.nx_receiver.specs.declared.listen_fault.ListenFault.TheVariants.{NoMoment, Moment, Vital}
 
 one-of : (x : ℕ) (a b c d : Bool) → (65 == x) ≡ a → (66 == x) ≡ b → (68 == x) ≡ c → (76 == x) ≡ d
     → (a || (b || (c || (d || false)))) ≡ true → IsCapital x

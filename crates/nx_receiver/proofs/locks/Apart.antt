@@ -1,5 +1,6 @@
 -- Locks share nothing.
-use Rattle.std.proofs.Common.{◌≡◌, ℕ, ◌+◌, ◌-◌, ◌*◌, ◌<◌, ◌≤◌, Bool, List, ◌∷◌, take, drop, cond, ◌==◌, sym, ap, ◌∙◌, arith}
+use Rattle.std.proofs.Common.{◌≡◌, ℕ, ◌+◌, ◌-◌, ◌*◌, ◌<◌, ◌≤◌, Bool, List, ◌∷◌, take, drop, cond}
+use Rattle.std.proofs.Common.{◌==◌, sym, ap, ◌∙◌, arith}
 use Rattle.std.proofs.lemmas.List.{drop-take, drop-drop, take-take}
 use Rattle.nx_code.specs.Word.{number_of}
 use Rattle.nx_code.specs.Table.{phasing_1}

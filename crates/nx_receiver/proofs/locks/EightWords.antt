@@ -1,6 +1,8 @@
 -- Eight words of a lock that are read at once, DX and RX by turns: what they add to the DX words,
 -- to the positions and to the text.
-use Rattle.std.proofs.Common.{◌≡◌, ℕ, zero, suc, ◌+◌, ◌*◌, ◌<◌, ◌≤◌, List, [], ◌∷◌, ◌++◌, length, map, take, get_or, sym, ap, ◌∙◌, subst, add-one, append_assoc, append-nil, arith, slice_index}
+use Rattle.std.proofs.Common.{◌≡◌, ℕ, zero, suc, ◌+◌, ◌*◌, ◌<◌, ◌≤◌, List, [], ◌∷◌, ◌++◌, length}
+use Rattle.std.proofs.Common.{map, take, get_or, sym, ap, ◌∙◌, subst, add-one, append_assoc}
+use Rattle.std.proofs.Common.{append-nil, arith, slice_index}
 use Rattle.std.proofs.lemmas.List.{get_or-map, length-map, take_all, take_more}
 use Rattle.nx_code.specs.Classes.{reception_of_class}
 use Rattle.nx_code.specs.Reading.{Reception, shift_after_all, text}
@@ -15,8 +17,10 @@ use Rattle.nx_sync.specs.declared.step.Role.TheVariants.{Dx, Rx}
 use Rattle.nx_envelope.specs.Finder.{BringNothing, StandsAfter}
 use Rattle.nx_receiver.specs.LockText.{positions}
 use Rattle.nx_receiver.specs.Watching.{LockReading}
-use Rattle.nx_receiver.specs.private.LockReader.{AreNext, PrintsPlain, ReadsLock, dx_words, text_after}
-use Rattle.nx_receiver.proofs.locks.ReaderWords.{dx_words-dx, dx_words-rx, positions-dx, positions-rx}
+use Rattle.nx_receiver.specs.private.LockReader.{AreNext, PrintsPlain, ReadsLock, dx_words}
+use Rattle.nx_receiver.specs.private.LockReader.{text_after}
+use Rattle.nx_receiver.proofs.locks.ReaderWords.{dx_words-dx, dx_words-rx, positions-dx}
+use Rattle.nx_receiver.proofs.locks.ReaderWords.{positions-rx}
 
 -- a DX word after as many pairs, and the RX word of the next one
 dx_of_pair : (first : Role) (n i : ℕ) → role_of first n ≡ Dx → role_of first (n + 2 * i) ≡ Dx

@@ -1,23 +1,40 @@
 -- The copies in the text of a lock: those that have ended stay, and each stands at a place of its
 -- lock.
-use Rattle.std.proofs.Common.{◌≡◌, ℕ, zero, suc, ◌+◌, ◌-◌, ◌*◌, ◌<◌, ◌≤◌, List, [], ◌∷◌, ◌++◌, map, length, refl, sym, ap, ◌∙◌, subst, arith, Option, Some, None, get_or, unwrap_or}
+use Rattle.std.proofs.Common.{◌≡◌, ℕ, zero, suc, ◌+◌, ◌-◌, ◌*◌, ◌<◌, ◌≤◌, List, [], ◌∷◌, ◌++◌, map}
+use Rattle.std.proofs.Common.{length, refl, sym, ap, ◌∙◌, subst, arith, Option, Some, None, get_or}
+use Rattle.std.proofs.Common.{unwrap_or, Bool}
 use Rattle.std.specs.List.{All, Contains, filter_map, cons_option}
 use Rattle.std.specs.Option.{option_map}
-use Rattle.std.proofs.lemmas.List.{get_or_append_left, map-append, length-append, length-map, length-take}
-use Rattle.std.proofs.lemmas.List.Elements.{All-nil, All-cons, All-head, All-tail, All-append, All-map, All-weaker, All-get_or, All-filter, All-contains_itself}
+use Rattle.std.proofs.lemmas.List.{get_or_append_left, map-append, length-append, length-map}
+use Rattle.std.proofs.lemmas.List.{length-take}
+use Rattle.std.proofs.lemmas.List.Elements.{All-nil, All-cons, All-head, All-tail, All-append}
+use Rattle.std.proofs.lemmas.List.Elements.{All-map, All-weaker, All-get_or, All-filter}
+use Rattle.std.proofs.lemmas.List.Elements.{All-contains_itself}
 use Rattle.std.proofs.lemmas.Option.{slice_get-get_or}
 use Rattle.nx_envelope.specs.Header.{Header}
-use Rattle.nx_envelope.specs.Copies.{Copy, Ending, headers, ended_copies, ended_copy, open_headers, is_open, closed_copy, copies, copy_with, ending_of, raw_text}
+use Rattle.nx_envelope.specs.Copies.{Copy, Ending, headers, ended_copies, ended_copy, open_headers}
+use Rattle.nx_envelope.specs.Copies.{is_open, closed_copy, copies, copy_with, ending_of, raw_text}
 use Rattle.nx_envelope.specs.Header.{StandsIn}
 use Rattle.nx_envelope.specs.Laws.{Grows}
 use Rattle.nx_envelope.proofs.Anywhere.{anywhere_both}
 use Rattle.nx_envelope.proofs.OneOpenCopy.{grown, copies_parts, one_at_most}
+use Rattle.nx_sync.specs.Locks.{IsNow, Lock, Now}
 use Rattle.nx_sync.specs.declared.step.Role.{Role}
+use Rattle.nx_sync.proofs.UniqueStates.{locks-unique, now-unique}
 use Rattle.nx_receiver.specs.private.LockReader.{word_place}
 use Rattle.nx_receiver.specs.LockText.{PlacedByte, printed_by, text_by, bytes_of}
 use Rattle.nx_receiver.specs.private.Watch.{place_of_header}
-use Rattle.nx_receiver.specs.FoundCopies.{FoundCopy, place_in, found_copy, ended_in, open_in, all_in}
+use Rattle.nx_receiver.specs.FoundCopies.{FoundCopy, place_in, found_copy, ended_in, open_in}
+use Rattle.nx_receiver.specs.FoundCopies.{all_in}
 use Rattle.nx_receiver.proofs.locks.Texts.{GoesOnAs, bytes_of-append}
+
+-- after the same bits one thing is told of the locks and of the state
+pub one_told : {A : Type 0} (told : List Lock → Now → A) (bits : List Bool)
+    (locks others : List Lock) (now other : Now) → IsNow bits locks now → IsNow bits others other
+    → told locks now ≡ told others other
+one_told told bits locks others now other is are =
+    ap (λ ls. told ls now) (locks-unique bits locks others now other is are)
+    ∙ ap (told others) (now-unique bits locks others now other is are)
 
 abbrev pub IsByteIn : ℕ → ℕ → PlacedByte → Type 0
 IsByteIn low high b = (low ≤ b.place) × (b.place < high)

@@ -1,17 +1,21 @@
 -- More bits and more events: what was found stays, and so does what was printed.
-use Rattle.std.proofs.Common.{◌≡◌, ℕ, ◌+◌, ◌*◌, ◌≤◌, Bool, List, [], ◌∷◌, ◌++◌, length, refl, sym, ap, ◌∙◌, subst, arith, inl, inr, append-nil}
+use Rattle.std.proofs.Common.{◌≡◌, ℕ, ◌+◌, ◌*◌, ◌≤◌, Bool, List, [], ◌∷◌, ◌++◌, length, refl, sym}
+use Rattle.std.proofs.Common.{ap, ◌∙◌, subst, arith, inl, inr, append-nil}
 use Rattle.std.proofs.lemmas.List.{length-append}
 use Rattle.std.proofs.lemmas.Bool.{cases_lt}
 use Rattle.nx_sync.specs.Words.{whole_words, first_role, word_of_lock}
 use Rattle.nx_sync.specs.Locks.{Lock, Now, hunting, locked, IsNow, Past, IsPast, IsPattern}
-use Rattle.nx_sync.specs.Laws.{Extends, same, newer, GoesOn, hunts_on, finds_one, stands_still, found_and_past, is_past}
+use Rattle.nx_sync.specs.Laws.{Extends, same, newer, GoesOn, hunts_on, finds_one, stands_still}
+use Rattle.nx_sync.specs.Laws.{found_and_past, is_past}
 use Rattle.nx_sync.proofs.StateChanges.{goes-on, Extends-trans}
 use Rattle.nx_sync.proofs.KeptPast.{IsReleased-less}
 use Rattle.nx_envelope.specs.Copies.{ended_copies, open_headers, headers, beginnings, header_at_end}
 use Rattle.nx_envelope.specs.Header.{identity_at_end}
 use Rattle.nx_receiver.specs.LockText.{PlacedByte, bytes_of, lock_text}
-use Rattle.nx_receiver.specs.FoundCopies.{FoundCopy, ended_in, open_in, all_in, past_text, past_copies, standing_text, ended_so_far}
-use Rattle.nx_receiver.proofs.locks.Texts.{GoesOnAs, goes_on_as_is, goes_on_twice, goes_on_then, goes_on_behind, lock_text-more, text_by-grows}
+use Rattle.nx_receiver.specs.FoundCopies.{FoundCopy, ended_in, open_in, all_in, past_text}
+use Rattle.nx_receiver.specs.FoundCopies.{past_copies, standing_text, ended_so_far}
+use Rattle.nx_receiver.proofs.locks.Texts.{GoesOnAs, goes_on_as_is, goes_on_twice, goes_on_then}
+use Rattle.nx_receiver.proofs.locks.Texts.{goes_on_behind, lock_text-more, text_by-grows}
 use Rattle.nx_receiver.proofs.locks.Found.{all_in-parts, ended_in-grows}
 
 -- more bits leave the copies of the locks that are past

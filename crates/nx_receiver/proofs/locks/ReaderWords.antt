@@ -1,7 +1,9 @@
 -- The words of a lock: the third last of the DX words before an RX word is the word five before it;
 -- and what one word
 -- more adds to the positions.
-use Rattle.std.proofs.Common.{◌≡◌, ℕ, false, is_some, Option, zero, suc, ◌+◌, ◌-◌, ◌*◌, ◌<◌, ◌≤◌, cond, List, [], ◌∷◌, ◌++◌, length, get_or, inl, inr, refl, sym, ap, ◌∙◌, subst, add-one, append_assoc, append-nil, length-append, arith}
+use Rattle.std.proofs.Common.{◌≡◌, ℕ, false, is_some, Option, zero, suc, ◌+◌, ◌-◌, ◌*◌, ◌<◌, ◌≤◌}
+use Rattle.std.proofs.Common.{cond, List, [], ◌∷◌, ◌++◌, length, get_or, inl, inr, refl, sym, ap}
+use Rattle.std.proofs.Common.{◌∙◌, subst, add-one, append_assoc, append-nil, length-append, arith}
 use Rattle.std.proofs.lemmas.Bool.{cases_lt}
 use Rattle.std.proofs.lemmas.Bool.Decides.{nat_tests}
 use Rattle.std.proofs.Math.Seq.{get_or-append_seam}
@@ -14,7 +16,8 @@ use Rattle.nx_envelope.specs.declared.found.HeldCopy.{HeldCopy}
 use Rattle.nx_envelope.specs.declared.found.HeldCopy.TheVariants as held
 use Rattle.nx_envelope.proofs.Hearing.{closes_none}
 use Rattle.nx_envelope.proofs.OneOpenCopy.{open_headers-nil}
-use Rattle.nx_fec.specs.Pairing.{Counted, IsLatest, nothing, counts_as, pairing, third_last, five_before}
+use Rattle.nx_fec.specs.Pairing.{Counted, IsLatest, nothing, counts_as, pairing, third_last}
+use Rattle.nx_fec.specs.Pairing.{five_before}
 use Rattle.nx_fec.specs.declared.diversity.Diversity.{Diversity}
 use Rattle.nx_sync.specs.Words.{role_of, other_role, is_dx}
 use Rattle.nx_sync.specs.declared.step.Role.{Role}

@@ -1,5 +1,7 @@
 -- The text of a lock: more bits and more words leave it as it is, and add to its end.
-use Rattle.std.proofs.Common.{◌≡◌, ℕ, zero, suc, ◌+◌, ◌-◌, ◌*◌, ◌<◌, ◌≤◌, Bool, true, false, cond, ltb, List, [], ◌∷◌, ◌++◌, map, length, lt-ltb, add-suc, refl, sym, ap, ◌∙◌, subst, arith, inl, inr, append_assoc, append-nil, add-zero}
+use Rattle.std.proofs.Common.{◌≡◌, ℕ, zero, suc, ◌+◌, ◌-◌, ◌*◌, ◌<◌, ◌≤◌, Bool, true, false, cond}
+use Rattle.std.proofs.Common.{ltb, List, [], ◌∷◌, ◌++◌, map, length, lt-ltb, add-suc, refl, sym, ap}
+use Rattle.std.proofs.Common.{◌∙◌, subst, arith, inl, inr, append_assoc, append-nil, add-zero}
 use Rattle.std.proofs.lemmas.List.{map-append}
 use Rattle.std.proofs.lemmas.Bool.{cases_lt}
 use Rattle.nx_code.specs.Reading.{text, shift_after_all}
@@ -11,7 +13,8 @@ use Rattle.nx_sync.specs.Locks.{IsPattern}
 use Rattle.nx_sync.specs.declared.step.Role.{Role}
 use Rattle.nx_sync.proofs.KeptPast.{word_at-more, first_role-more}
 use Rattle.nx_receiver.specs.private.LockReader.{word_place}
-use Rattle.nx_receiver.specs.LockText.{taken_at, positions, PlacedByte, printed_by, text_by, lock_text, bytes_of}
+use Rattle.nx_receiver.specs.LockText.{taken_at, positions, PlacedByte, printed_by, text_by}
+use Rattle.nx_receiver.specs.LockText.{lock_text, bytes_of}
 
 -- words that are the same up to a word give the same text up to there
 five_before-same : (f g : ℕ → ℕ) (k : ℕ) → ((j : ℕ) → j < k → f j ≡ g j)

@@ -1,23 +1,29 @@
 -- Over gaps and received emissions a message is printed once.
-use Rattle.std.proofs.Common.{◌≡◌, ℕ, zero, suc, ◌+◌, ◌*◌, ◌<◌, Bool, true, false, ltb, cond, max, List, [], ◌∷◌, ◌++◌, length, filter, get_or, refl, sym, ap, ap₂, ◌∙◌, subst, arith, IsTrue, lt-ltb}
+use Rattle.std.proofs.Common.{◌≡◌, ℕ, zero, suc, ◌+◌, ◌*◌, ◌<◌, Bool, true, false, ltb, cond, max}
+use Rattle.std.proofs.Common.{List, [], ◌∷◌, ◌++◌, length, filter, get_or, refl, sym, ap, ap₂, ◌∙◌}
+use Rattle.std.proofs.Common.{subst, arith, IsTrue, lt-ltb}
 use Rattle.std.specs.List.{All, Contains}
-use Rattle.std.proofs.lemmas.List.Elements.{All-head, All-tail, All-cons, All-nil, All-map, All-weaker, All-contains, All-contains_itself, filter_passes}
+use Rattle.std.proofs.lemmas.List.Elements.{All-head, All-tail, All-cons, All-nil, All-map}
+use Rattle.std.proofs.lemmas.List.Elements.{All-weaker, All-contains, All-contains_itself}
+use Rattle.std.proofs.lemmas.List.Elements.{filter_passes}
 use Rattle.nx_envelope.specs.Copies.{errors_of}
 use Rattle.nx_envelope.specs.Identity.{same_identity}
 use Rattle.nx_envelope.specs.Message.{text_of, MessageView}
+use Rattle.nx_envelope.specs.declared.identity.Identity.{Identity}
 use Rattle.nx_envelope.proofs.Identities.{same_identity-true, same_itself}
 use Rattle.nx_memory.specs.declared.entry.MemoryEntry.{MemoryEntry}
 use Rattle.nx_memory.specs.Memory.{most_entries, seconds_known}
 use Rattle.nx_station.specs.Sendings.{Part, Sending, IsSentAt}
-use Rattle.nx_sync.proofs.UniqueStates.{locks-unique, now-unique}
 use Rattle.nx_receiver.specs.Events.{Event, Start, elements_among, first_setting, setting_at}
 use Rattle.nx_receiver.specs.FoundCopies.{FoundCopy, found_to_end, TaggedCopy, tag, tagged_copies}
 use Rattle.nx_receiver.specs.LawTerms.{AreRepeats}
-use Rattle.nx_receiver.specs.Printing.{copies_of, entries_after, entries_made, is_good, is_remembered, printed_copies}
+use Rattle.nx_receiver.specs.Printing.{copies_of, entries_after, entries_made, is_good}
+use Rattle.nx_receiver.specs.Printing.{is_remembered, printed_copies}
 use Rattle.nx_receiver.specs.Log.{PrintsToEnd, printed_of}
 use Rattle.nx_receiver.specs.Once.{IsHeardInTime, IsPrintedOnce}
 use Rattle.nx_receiver.specs.private.Heard.{HeardTerms}
 use Rattle.nx_receiver.specs.Emissions.{copies_at, copy_of_sending}
+use Rattle.nx_receiver.proofs.locks.Found.{one_told}
 use Rattle.nx_receiver.proofs.once.Repeats.{once, one_split, split}
 use Rattle.nx_receiver.proofs.once.Rising.{one_of_key, contains_map}
 use Rattle.nx_receiver.proofs.emissions.Found.{one_found, sending_in_end, sending_errors}
@@ -70,11 +76,19 @@ has_first [] x c = absurd (omega (arith, c.1))
 has_first (y ∷ ys) x c = record { first = y; rest = ys; whole = refl }
 
 -- each item that is kept passes the test
-pub first_passes : {A : Type 0} (p : A → Bool) (xs : List A) (first : A) (rest : List A)
+first_passes : {A : Type 0} (p : A → Bool) (xs : List A) (first : A) (rest : List A)
     → filter p xs ≡ first ∷ rest
     → p first ≡ true
 first_passes p xs first rest e =
     All-head (λ x. p x ≡ true) first rest (subst (All (λ x. p x ≡ true)) e (filter_passes p xs))
+
+-- the first of the copies of an identity bears it
+pub named_first : (identity : Identity) (heard : List TaggedCopy) (first : TaggedCopy)
+    (rest : List TaggedCopy) → copies_of identity heard ≡ first ∷ rest
+    → same_identity first.identity identity ≡ true
+unfolding copies_of
+named_first identity heard first rest e =
+    first_passes (λ (c : TaggedCopy). same_identity c.identity identity) heard first rest e
 
 pub no_errors-good : (text : List ℕ) → errors_of text ≡ 0
     → ltb (25 * errors_of text) (max 1 (length text)) ≡ true
@@ -167,14 +181,6 @@ module _ (start : Start) (events : List Event) (parts : List Part) (message : Me
       ap (λ (c : TaggedCopy). c.moment) p.is in
       omega arith
 
-  named_first : (first : TaggedCopy) (rest : List TaggedCopy)
-      → copies_of message.identity heard ≡ first ∷ rest
-      → same_identity first.identity message.identity ≡ true
-  unfolding copies_of
-  named_first first rest e =
-      first_passes (λ (c : TaggedCopy). same_identity c.identity message.identity) heard first rest
-      e
-
   repeats : (first : TaggedCopy) (rest : List TaggedCopy)
       → copies_of message.identity heard ≡ first ∷ rest
       → AreRepeats start.entries message.identity heard first rest
@@ -192,7 +198,8 @@ module _ (start : Start) (events : List Event) (parts : List Part) (message : Me
             (All-contains IsOfSending (first ∷ rest) one each a)
             (All-contains IsOfSending (first ∷ rest) other each b);
         few = λ before between after later whole none named.
-            h.few before between after first later whole none (named_first first rest e) named;
+            h.few before between after first later whole none
+            (named_first message.identity heard first rest e) named;
       }
 
   pub printed_by_terms : (log : List TaggedCopy) → PrintsToEnd start events log
@@ -206,12 +213,9 @@ module _ (start : Start) (events : List Event) (parts : List Part) (message : Me
       (subst (All IsOfSending) start_of.whole all_of_sendings) in
       let log_is : log ≡ printed_copies start.entries heard =
       prints.printed
-      ∙ ap (λ ls. printed_of start events (found_to_end (elements_among events) ls prints.now))
-      (locks-unique (elements_among events) prints.locks h.locks prints.now h.now prints.stands
-      h.stands)
-      ∙ ap (λ n. printed_of start events (found_to_end (elements_among events) h.locks n))
-      (now-unique (elements_among events) prints.locks h.locks prints.now h.now prints.stands
-      h.stands) in
+      ∙ ap (printed_of start events)
+      (one_told (found_to_end (elements_among events)) (elements_among events) prints.locks h.locks
+      prints.now h.now prints.stands h.stands) in
       let text : start_of.first.text ≡ text_of message.lines =
       ap (λ (c : TaggedCopy). c.text) of.is in
       record {

@@ -1,6 +1,7 @@
 -- A message that is heard in time in an air file has one entry in the log that `listen` writes of
 -- it.
-use Rattle.std.proofs.Common.{ℕ, List, ◌++◌, Option, None, Some, IfSome, Ok, sym, ap, ◌∙◌, subst, append-nil}
+use Rattle.std.proofs.Common.{ℕ, List, ◌++◌, Option, None, Some, IfSome, Ok, sym, ap, ◌∙◌, subst}
+use Rattle.std.proofs.Common.{append-nil}
 use Rattle.std.specs.Io.KnownBytes.{Consumes, IsAtEnd}
 use Rattle.nx_envelope.specs.Message.{MessageView}
 use Rattle.nx_fec.specs.AirFile.{Line}

@@ -1,8 +1,11 @@
 -- The law of printing once.
-use Rattle.std.proofs.Common.{◌≡◌, ℕ, ◌+◌, ◌<◌, Bool, true, false, cond, List, [], ◌∷◌, ◌++◌, length, filter, refl, sym, ap, ap₂, ◌∙◌, subst, arith, append_assoc, append-nil, IsTrue}
+use Rattle.std.proofs.Common.{◌≡◌, ℕ, ◌+◌, ◌<◌, Bool, true, false, cond, List, [], ◌∷◌, ◌++◌}
+use Rattle.std.proofs.Common.{length, filter, refl, sym, ap, ap₂, ◌∙◌, subst, arith, append_assoc}
+use Rattle.std.proofs.Common.{append-nil, IsTrue}
 use Rattle.std.specs.List.{All, Contains}
 use Rattle.std.proofs.lemmas.Bool.{false_from_ne_true, true≢false, ne_eqb}
-use Rattle.std.proofs.lemmas.List.Elements.{All-head, All-nil, All-cons, All-append, All-contains, filter-append, Contains-append_right}
+use Rattle.std.proofs.lemmas.List.Elements.{All-head, All-nil, All-cons, All-append, All-contains}
+use Rattle.std.proofs.lemmas.List.Elements.{filter-append, Contains-append_right}
 use Rattle.nx_envelope.specs.declared.identity.Identity.{Identity}
 use Rattle.nx_envelope.specs.Identity.{same_identity}
 use Rattle.nx_memory.specs.declared.entry.MemoryEntry.{MemoryEntry}
@@ -10,7 +13,9 @@ use Rattle.nx_memory.specs.Memory.{IsLive, most_entries, seconds_known}
 use Rattle.nx_envelope.proofs.Identities.{same_identity-true, same_itself}
 use Rattle.nx_memory.proofs.Known.{known_from_live, live_from_known}
 use Rattle.nx_receiver.specs.FoundCopies.{TaggedCopy}
-use Rattle.nx_receiver.specs.Printing.{is_good, is_number_00, is_remembered, is_printed, is_entered, entry_of, entry_made, entries_made, entries_after, if_printed, printed_copies, copies_of}
+use Rattle.nx_receiver.specs.Printing.{is_good, is_number_00, is_remembered, is_printed, is_entered}
+use Rattle.nx_receiver.specs.Printing.{entry_of, entry_made, entries_made, entries_after}
+use Rattle.nx_receiver.specs.Printing.{if_printed, printed_copies, copies_of}
 use Rattle.nx_receiver.specs.LawTerms.{AreRepeats}
 use Rattle.nx_receiver.specs.Once.{IsUnknownAtFirst}
 use Rattle.nx_receiver.proofs.receiving.Judging.{remembered, unknown, entered}
@@ -178,7 +183,8 @@ one_split identity [] [] first second after rest e none lacks named again = reco
 }
 one_split identity [] (x ∷ other) first second after rest e none lacks named again =
     let same : first ≡ x = cc in
-    absurd (true≢false (sym named ∙ ap (bears identity) same ∙ (none_first identity x other lacks).0))
+    absurd (true≢false
+    (sym named ∙ ap (bears identity) same ∙ (none_first identity x other lacks).0))
 one_split identity (x ∷ before) [] first second after rest e none lacks named again =
     let same : x ≡ second = cc in
     absurd (true≢false (sym again ∙ ap (bears identity) (sym same)

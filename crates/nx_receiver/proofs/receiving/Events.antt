@@ -1,8 +1,11 @@
 -- What one more event, or some more elements, do to what a receiver was given, and to what it
 -- stands after.
-use Rattle.std.proofs.Common.{◌≡◌, ℕ, Bool, List, [], ◌∷◌, ◌++◌, map, refl, sym, ap, ◌∙◌, subst, append-nil}
+use Rattle.std.proofs.Common.{◌≡◌, ℕ, Bool, List, [], ◌∷◌, ◌++◌, map, refl, sym, ap, ◌∙◌, subst}
+use Rattle.std.proofs.Common.{append-nil}
 use Rattle.nx_memory.specs.declared.entry.MemoryEntry.{MemoryEntry}
-use Rattle.nx_receiver.specs.Events.{Event, Command, Setting, Start, at_moment, elements_among, command, element, first_setting, setting_after, setting_after_all, settings, elements}
+use Rattle.nx_receiver.specs.Events.{Event, Command, Setting, Start, at_moment, elements_among}
+use Rattle.nx_receiver.specs.Events.{command, element, first_setting, setting_after}
+use Rattle.nx_receiver.specs.Events.{setting_after_all, settings, elements}
 use Rattle.nx_receiver.specs.Receiver.{Receiving, Stands}
 use Rattle.nx_receiver.specs.FoundCopies.{TaggedCopy}
 use Rattle.nx_receiver.specs.private.Watch.{WatchStands, all_in_force}

@@ -1,5 +1,7 @@
 -- A receiver that is fed elements: what it stands after, and what was printed before each of them.
-use Rattle.std.proofs.Common.{◌≡◌, ℕ, ◌+◌, ◌-◌, ◌<◌, ◌≤◌, Bool, List, ◌++◌, Option, None, length, take, drop, refl, sym, ap, ◌∙◌, subst, append-nil, append_assoc, arith, inl, inr, is_some, false, Some, length-drop}
+use Rattle.std.proofs.Common.{◌≡◌, ℕ, ◌+◌, ◌-◌, ◌<◌, ◌≤◌, Bool, List, ◌++◌, Option, None, length}
+use Rattle.std.proofs.Common.{take, drop, refl, sym, ap, ◌∙◌, subst, append-nil, append_assoc}
+use Rattle.std.proofs.Common.{arith, inl, inr, is_some, false, Some, length-drop}
 use lib.Seq.{take-add}
 use Rattle.std.proofs.lemmas.Bool.{cases_lt}
 use Rattle.std.proofs.lemmas.List.{length-take, map-append, take-take}
@@ -7,7 +9,8 @@ use Rattle.nx_memory.specs.declared.entry.MemoryEntry.{MemoryEntry}
 use Rattle.nx_receiver.specs.declared.over.Over.{Over}
 use Rattle.nx_receiver.specs.declared.over.Over.TheVariants as over
 use Rattle.nx_receiver.specs.declared.entry.Entry.{Entry}
-use Rattle.nx_receiver.specs.Events.{Event, Setting, Start, elements_among, element, first_setting, setting_after_all, settings, elements}
+use Rattle.nx_receiver.specs.Events.{Event, Setting, Start, elements_among, element, first_setting}
+use Rattle.nx_receiver.specs.Events.{setting_after_all, settings, elements}
 use Rattle.nx_receiver.specs.Log.{HasPrinted}
 use Rattle.nx_receiver.specs.Receiver.{Receiving, Stands, StandsOver, entry_list}
 use Rattle.nx_receiver.specs.private.Awaiting.{Awaits, AwaitsOver}

@@ -1,5 +1,6 @@
 -- A copy that is over is judged where it lies, and handed out.
-use Rattle.std.proofs.Common.{◌≡◌, ◌≢◌, ℕ, Bool, true, false, cond, List, [], ◌∷◌, ◌++◌, Option, Some, IsNone, refl, sym, ap, ◌∙◌, subst, append-nil}
+use Rattle.std.proofs.Common.{◌≡◌, ◌≢◌, ℕ, Bool, true, false, cond, List, [], ◌∷◌, ◌++◌, Option}
+use Rattle.std.proofs.Common.{Some, IsNone, refl, sym, ap, ◌∙◌, subst, append-nil}
 use Rattle.std.specs.Prelude.{MatchOption, ◌↔◌}
 use Rattle.std.proofs.lemmas.Bool.{and_parts}
 use Rattle.nx_code.specs.Lists.{last_of}
@@ -14,7 +15,8 @@ use Rattle.nx_memory.specs.Memory.{most_entries}
 use Rattle.nx_memory.specs.declared.entry.MemoryEntry.{MemoryEntry}
 use Rattle.nx_receiver.specs.Events.{Setting, Start, first_setting}
 use Rattle.nx_receiver.specs.FoundCopies.{TaggedCopy}
-use Rattle.nx_receiver.specs.Printing.{entries_after, entries_made, entry_made, if_printed, is_printed, printed_copies}
+use Rattle.nx_receiver.specs.Printing.{entries_after, entries_made, entry_made, if_printed}
+use Rattle.nx_receiver.specs.Printing.{is_printed, printed_copies}
 use Rattle.nx_receiver.specs.Receiver.{Receiving}
 use Rattle.nx_receiver.specs.Watching.{Watching, in_force}
 use Rattle.nx_receiver.specs.declared.over.CopyTag.{CopyTag}
@@ -130,7 +132,8 @@ judged content start watch old new h s now copies log more copy left is_shown is
       force = force;
       printed = ap (λ l. l ++ more) printed
           ∙ ap (λ l. printed_copies start.entries copies ++ l)
-          (gives ∙ ap (λ b. cond b (copy ∷ []) []) prints ∙ sym (append-nil (if_printed before copy)))
+          (gives ∙ ap (λ b. cond b (copy ∷ []) []) prints
+          ∙ sym (append-nil (if_printed before copy)))
           ∙ sym (printed_copies-append start.entries copies (copy ∷ []));
       memory = enters
           ∙ ap (last_of most_entries)

@@ -1,6 +1,9 @@
 -- What becomes of a copy, case by case.
-use Rattle.std.proofs.Common.{Bool, ◌≡◌, ℕ, ◌+◌, ◌-◌, ◌≤◌, true, false, not, ◌&&◌, ◌||◌, cond, List, [], ◌∷◌, ◌++◌, length, drop, slice_get, Some, refl, sym, ap, ◌∙◌, arith, append-nil}
-use Rattle.std.proofs.lemmas.Bool.{and_parts, not-true, and_right, and_from, or_from, or_right, not_from_true, not_from_false}
+use Rattle.std.proofs.Common.{Bool, ◌≡◌, ℕ, ◌+◌, ◌-◌, ◌≤◌, true, false, not, ◌&&◌, ◌||◌, cond, List}
+use Rattle.std.proofs.Common.{[], ◌∷◌, ◌++◌, length, drop, slice_get, Some, refl, sym, ap, ◌∙◌}
+use Rattle.std.proofs.Common.{arith, append-nil}
+use Rattle.std.proofs.lemmas.Bool.{and_parts, not-true, and_right, and_from, or_from, or_right}
+use Rattle.std.proofs.lemmas.Bool.{not_from_true, not_from_false}
 use Rattle.std.specs.Option.{option_map}
 use Rattle.std.proofs.lemmas.List.{drop-append-le, length-append}
 use Rattle.std.proofs.lemmas.Grind.{common_steps}
@@ -8,7 +11,8 @@ use Rattle.nx_envelope.specs.declared.identity.Identity.{Identity}
 use Rattle.nx_memory.specs.declared.entry.MemoryEntry.{MemoryEntry}
 use Rattle.nx_code.specs.Lists.{last_of}
 use Rattle.nx_memory.specs.Memory.{most_entries, is_known, content_after, newest_of, newest_moment}
-use Rattle.nx_receiver.specs.Printing.{is_printed, is_entered, is_good, is_number_00, is_remembered, entry_of, entry_made}
+use Rattle.nx_receiver.specs.Printing.{is_printed, is_entered, is_good, is_number_00, is_remembered}
+use Rattle.nx_receiver.specs.Printing.{entry_of, entry_made}
 use Rattle.nx_receiver.specs.FoundCopies.{TaggedCopy}
 
 -- what a memory forgot makes no difference

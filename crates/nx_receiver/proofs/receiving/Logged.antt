@@ -1,20 +1,26 @@
 -- What more events leave of what was printed.
-use Rattle.std.proofs.Common.{◌≡◌, ℕ, suc, ◌+◌, ◌*◌, ◌<◌, Bool, List, [], ◌∷◌, ◌++◌, length, refl, sym, ap, ◌∙◌, subst, arith, get_or, append_assoc, append-nil}
+use Rattle.std.proofs.Common.{◌≡◌, ℕ, suc, ◌+◌, ◌*◌, ◌<◌, Bool, List, [], ◌∷◌, ◌++◌, length, refl}
+use Rattle.std.proofs.Common.{sym, ap, ◌∙◌, subst, arith, get_or, append_assoc, append-nil}
 use Rattle.std.specs.List.{All}
 use Rattle.std.proofs.lemmas.List.{map-append, get_or_append_left}
 use Rattle.std.proofs.lemmas.List.Elements.{All-nil, All-head, All-tail, All-append, All-weaker}
 use Rattle.nx_memory.specs.declared.entry.MemoryEntry.{MemoryEntry}
 use Rattle.nx_sync.specs.Locks.{Lock, Now, hunting, locked, IsNow, Past}
 use Rattle.nx_sync.proofs.StateChanges.{standing_after}
-use Rattle.nx_sync.proofs.UniqueStates.{locks-unique, now-unique}
-use Rattle.nx_receiver.specs.Events.{Event, at_moment, element, command, Setting, Start, setting_after, elements_among, settings, setting_after_all, setting_at, first_setting}
+use Rattle.nx_receiver.specs.Events.{Event, at_moment, element, command, Setting, Start}
+use Rattle.nx_receiver.specs.Events.{setting_after, elements_among, settings, setting_after_all}
+use Rattle.nx_receiver.specs.Events.{setting_at, first_setting}
 use Rattle.nx_sync.specs.Words.{whole_words}
 use Rattle.nx_receiver.specs.LockText.{lock_text}
-use Rattle.nx_receiver.specs.FoundCopies.{FoundCopy, ended_in, open_in, all_in, past_text, past_copies, standing_text, ended_so_far, open_so_far, found_to_end, TaggedCopy, tag, tagged_copies}
-use Rattle.nx_receiver.specs.Printing.{printed_copies, entries_after, entries_made, entry_made, if_printed}
+use Rattle.nx_receiver.specs.FoundCopies.{FoundCopy, ended_in, open_in, all_in, past_text}
+use Rattle.nx_receiver.specs.FoundCopies.{past_copies, standing_text, ended_so_far, open_so_far}
+use Rattle.nx_receiver.specs.FoundCopies.{found_to_end, TaggedCopy, tag, tagged_copies}
+use Rattle.nx_receiver.specs.Printing.{printed_copies, entries_after, entries_made, entry_made}
+use Rattle.nx_receiver.specs.Printing.{if_printed}
 use Rattle.nx_receiver.specs.Log.{printed_of, HasPrinted, PrintsToEnd}
 use Rattle.nx_receiver.proofs.locks.Texts.{GoesOnAs}
-use Rattle.nx_receiver.proofs.locks.Found.{IsCopyIn, text_placed, ended_in_placed, all_in_placed, all_in-parts}
+use Rattle.nx_receiver.proofs.locks.Found.{IsCopyIn, text_placed, ended_in_placed, all_in_placed}
+use Rattle.nx_receiver.proofs.locks.Found.{all_in-parts, one_told}
 use Rattle.nx_receiver.proofs.locks.Growing.{ended_go_on, ended_in-nil, whole_heard}
 
 pub bits_of-append : (xs ys : List Event)
@@ -97,7 +103,8 @@ standing_placed bits locks (locked p t) is =
     (ended_in_placed t (t + 7 * whole_words bits t) text
     (text_placed _ _ t (whole_words bits t)))
 
-past_is : (bits : List Bool) (locks : List Lock) (now : Now) → IsNow bits locks now
+-- the past of what stands now
+pub past_is : (bits : List Bool) (locks : List Lock) (now : Now) → IsNow bits locks now
     → (p : ℕ) × Past bits locks p
 past_is bits locks (hunting p) is = (p, is.past)
 past_is bits locks (locked p t) is = (p, is.past)
@@ -209,20 +216,16 @@ pub one_printed : (start : Start) (events : List Event) (log other : List Tagged
 one_printed start events log other h j =
     let bits = elements_among events in
     h.printed ∙ ap (printed_of start events)
-    (ap (λ ls. ended_so_far bits ls h.now)
-    (locks-unique bits h.locks j.locks h.now j.now h.stands j.stands)
-    ∙ ap (ended_so_far bits j.locks)
-    (now-unique bits h.locks j.locks h.now j.now h.stands j.stands)) ∙ sym j.printed
+    (one_told (ended_so_far bits) bits h.locks j.locks h.now j.now h.stands j.stands)
+    ∙ sym j.printed
 
 pub one_to_end : (start : Start) (events : List Event) (log other : List TaggedCopy)
     → PrintsToEnd start events log → PrintsToEnd start events other → log ≡ other
 one_to_end start events log other h j =
     let bits = elements_among events in
     h.printed ∙ ap (printed_of start events)
-    (ap (λ ls. found_to_end bits ls h.now)
-    (locks-unique bits h.locks j.locks h.now j.now h.stands j.stands)
-    ∙ ap (found_to_end bits j.locks)
-    (now-unique bits h.locks j.locks h.now j.now h.stands j.stands)) ∙ sym j.printed
+    (one_told (found_to_end bits) bits h.locks j.locks h.now j.now h.stands j.stands)
+    ∙ sym j.printed
 
 pub some_printed : (start : Start) (events : List Event)
     → (log : List TaggedCopy) × HasPrinted start events log

@@ -1,8 +1,9 @@
 -- What is over with some elements, and is then taken and ended: what the watch stands after.
-use Rattle.std.proofs.Common.{◌≡◌, ℕ, ◌+◌, Bool, List, [], ◌∷◌, ◌++◌, map, Option, None, sym, ap, ◌∙◌, subst, append-nil}
+use Rattle.std.proofs.Common.{◌≡◌, ℕ, ◌+◌, Bool, List, [], ◌∷◌, ◌++◌, map, Option, None, sym, ap}
+use Rattle.std.proofs.Common.{◌∙◌, subst, append-nil}
 use Rattle.nx_sync.specs.Locks.{Lock, hunting}
 use Rattle.nx_sync.specs.Words.{first_role, word_of_lock}
-use Rattle.nx_sync.proofs.UniqueStates.{locks-unique, now-unique}
+use Rattle.nx_sync.proofs.UniqueStates.{locks-unique}
 use Rattle.nx_envelope.specs.Copies.{Copy, closed_copy, open_headers}
 use Rattle.nx_envelope.specs.Finder.{HasReady, HoldsCopy, StandsAfter}
 use Rattle.nx_envelope.specs.declared.finder.Finder.{Finder}
@@ -10,11 +11,13 @@ use Rattle.nx_envelope.specs.declared.found.Found.{Found}
 use Rattle.nx_receiver.specs.declared.over.CopyTag.{CopyTag}
 use Rattle.nx_receiver.specs.declared.over.Over.TheVariants as over
 use Rattle.nx_receiver.specs.Events.{Setting}
-use Rattle.nx_receiver.specs.FoundCopies.{ended_in, ended_so_far, found_copy, past_copies, past_text, TaggedCopy}
+use Rattle.nx_receiver.specs.FoundCopies.{ended_in, ended_so_far, found_copy, past_copies}
+use Rattle.nx_receiver.specs.FoundCopies.{past_text, TaggedCopy}
 use Rattle.nx_receiver.specs.LockText.{bytes_of}
-use Rattle.nx_receiver.specs.private.Watch.{BothAreOver, LockIsOver, WatchStands, copies_by, handed_out}
+use Rattle.nx_receiver.specs.private.Watch.{BothAreOver, LockIsOver, WatchStands, copies_by}
+use Rattle.nx_receiver.specs.private.Watch.{handed_out}
 use Rattle.nx_receiver.specs.Watching.{Watching, in_force}
-use Rattle.nx_receiver.proofs.locks.Found.{all_in-parts}
+use Rattle.nx_receiver.proofs.locks.Found.{all_in-parts, one_told}
 use Rattle.nx_receiver.proofs.locks.Growing.{hunted}
 use Rattle.nx_receiver.proofs.locks.Texts.{bytes_are_reading}
 
@@ -56,11 +59,8 @@ both_ended first old taken new h s copies these more both over stands =
     ∙ none_open old.reader.finder _ both.copy both.ready both.lock.reads.finder in
     let reads = stands.reads in
     stands.reads.ended
-    ∙ ap (λ ls. copies_by first s (ended_so_far h ls reads.now))
-    (locks-unique h reads.locks (over.lock ∷ over.older) reads.now (hunting over.from)
-    reads.stands over.stands)
-    ∙ ap (λ now. copies_by first s (ended_so_far h (over.lock ∷ over.older) now))
-    (now-unique h reads.locks (over.lock ∷ over.older) reads.now (hunting over.from)
+    ∙ ap (copies_by first s)
+    (one_told (ended_so_far h) h reads.locks (over.lock ∷ over.older) reads.now (hunting over.from)
     reads.stands over.stands)
     ∙ ap (copies_by first s) (all_ended h over.lock over.older over.from
     (subst (λ l. open_headers (bytes_of (past_text h l)) ≡ []) one none))

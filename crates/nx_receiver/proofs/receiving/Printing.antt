@@ -1,6 +1,8 @@
 -- What is printed of a copy that was handed out, and entered; and what a receiver stands after with
 -- it.
-use Rattle.std.proofs.Common.{◌≡◌, Bool, true, cond, List, [], ◌∷◌, ◌++◌, Option, Some, None, Result, Ok, Err, IfOk, ◌-◌, ◌≤◌, length, drop, refl, sym, ap, ◌∙◌, subst, append-nil, arith}
+use Rattle.std.proofs.Common.{◌≡◌, Bool, true, cond, List, [], ◌∷◌, ◌++◌, Option, Some, None}
+use Rattle.std.proofs.Common.{Result, Ok, Err, IfOk, ◌-◌, ◌≤◌, length, drop, refl, sym, ap, ◌∙◌}
+use Rattle.std.proofs.Common.{subst, append-nil, arith}
 use Rattle.std.specs.Result.{MatchResult, is_ok}
 use Rattle.std.proofs.lemmas.Bool.{and_parts, true≢false}
 use Rattle.nx_code.specs.Lists.{last_of}
@@ -8,12 +10,15 @@ use Rattle.nx_memory.specs.Memory.{most_entries}
 use Rattle.nx_memory.specs.declared.entry.MemoryEntry.{MemoryEntry}
 use Rattle.nx_envelope.specs.declared.found.Found.{Found}
 use Rattle.nx_receiver.specs.declared.over.CopyTag.{CopyTag}
-use Rattle.nx_receiver.specs.Events.{Event, Setting, Start, elements_among, first_setting, setting_after_all, settings}
+use Rattle.nx_receiver.specs.Events.{Event, Setting, Start, elements_among, first_setting}
+use Rattle.nx_receiver.specs.Events.{setting_after_all, settings}
 use Rattle.nx_receiver.specs.FoundCopies.{FoundCopy, TaggedCopy, tagged_copies, tagged_found}
 use Rattle.nx_receiver.specs.Log.{HasPrinted, PrintsToEnd}
-use Rattle.nx_receiver.specs.Printing.{entries_after, entries_made, entry_made, if_printed, is_printed, printed_copies}
+use Rattle.nx_receiver.specs.Printing.{entries_after, entries_made, entry_made, if_printed}
+use Rattle.nx_receiver.specs.Printing.{is_printed, printed_copies}
 use Rattle.nx_receiver.specs.Receiver.{Stands, StandsOver}
-use Rattle.nx_receiver.specs.private.Watch.{HasEnded, HasEndedAll, WatchStands, copies_by, handed_out}
+use Rattle.nx_receiver.specs.private.Watch.{HasEnded, HasEndedAll, WatchStands, copies_by}
+use Rattle.nx_receiver.specs.private.Watch.{handed_out}
 use Rattle.nx_receiver.specs.Watching.{Watching, in_force}
 use Rattle.nx_receiver.proofs.receiving.Logged.{printed_copies-append, entries_after-append}
 

@@ -1,16 +1,20 @@
 -- An input has one answer: reading a state can end in one way alone, unless a read fails.
-use Rattle.std.proofs.Common.{◌≡◌, ◌≢◌, ◌⊎◌, ℕ, ◌+◌, ◌<◌, List, [], ◌∷◌, ◌++◌, length, Option, None, Some, IfSome, Result, Ok, Err, MatchResult, inl, inr, refl, sym, ap, ◌∙◌, subst, append_assoc, append-nil, arith}
+use Rattle.std.proofs.Common.{◌≡◌, ◌≢◌, ◌⊎◌, ℕ, ◌+◌, ◌<◌, List, [], ◌∷◌, ◌++◌, length, Option, None}
+use Rattle.std.proofs.Common.{Some, IfSome, Result, Ok, Err, MatchResult, inl, inr, refl, sym, ap}
+use Rattle.std.proofs.Common.{◌∙◌, subst, append_assoc, append-nil, arith}
 use Rattle.std.specs.List.{AllByRecursion}
 use Rattle.std.proofs.lemmas.List.{length-append}
 use Rattle.nx_memory.specs.Saved.{SavedStates, AreSavedStates}
 use Rattle.nx_memory.specs.StateText.{BeginsNoText, BeginsText, IsShortLine, IsStateText, text_2}
 use Rattle.nx_memory.proofs.StateLaws.{none_begins, one_state, text_short}
 use Rattle.nx_memory.proofs.StateLines.{each_left, each_right}
-use Rattle.nx_receiver.specs.State.{AnswersState, BeginsWithState, IsNotUnderstood, IsStateBytes, ended_lines, state_bytes}
+use Rattle.nx_receiver.specs.State.{AnswersState, BeginsWithState, IsNotUnderstood, IsStateBytes}
+use Rattle.nx_receiver.specs.State.{ended_lines, state_bytes}
 use Rattle.nx_receiver.specs.declared.state_fault.StateFault.{StateFault}
 use Rattle.nx_receiver.specs.declared.state_fault.StateFault.TheVariants.{Read, StateLine, StateCut}
 use Rattle.nx_receiver.proofs.states.Bounds.{some_lines}
-use Rattle.nx_receiver.proofs.states.Splits.{same, longer, shorter, compare, ended-one, none_ends, none_so_long, same_line}
+use Rattle.nx_receiver.proofs.states.Splits.{same, longer, shorter, compare, ended-one, none_ends}
+use Rattle.nx_receiver.proofs.states.Splits.{none_so_long, same_line}
 
 abbrev Answer : Type 0
 Answer = Result SavedStates StateFault

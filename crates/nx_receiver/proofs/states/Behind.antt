@@ -1,10 +1,12 @@
 -- What holds of a run over an air file, where the text of a state was read before it.
-use Rattle.std.proofs.Common.{ℕ, List, ◌++◌, Option, None, Some, IfSome, Result, Ok, Err, OnOk, refl, sym, ap, ◌∙◌, subst, append-nil}
+use Rattle.std.proofs.Common.{ℕ, List, ◌++◌, Option, None, Some, IfSome, Result, Ok, Err, OnOk}
+use Rattle.std.proofs.Common.{refl, sym, ap, ◌∙◌, subst, append-nil}
 use Rattle.std.specs.Io.KnownBytes.{Consumes}
 use Rattle.std.proofs.KnownBytes.{Consumes-trans}
 use Rattle.nx_fec.specs.Transfers.{CountedDevice, Devices}
 use Rattle.nx_memory.specs.Saved.{SavedStates}
-use Rattle.nx_receiver.specs.Resume.{AnswersAir, AnswersResuming, HasPrintedOnceFrom, HoldsBehind, HoldsOfInput, ReadStateAlone, Resumes, ResumesBy}
+use Rattle.nx_receiver.specs.Resume.{AnswersAir, AnswersResuming, HasPrintedOnceFrom, HoldsBehind}
+use Rattle.nx_receiver.specs.Resume.{HoldsOfInput, ReadStateAlone, Resumes, ResumesBy}
 use Rattle.nx_receiver.specs.ListenOnce.{KeepsHeadline}
 use Rattle.nx_receiver.specs.Shares.{starts_from}
 use Rattle.nx_receiver.specs.State.{BeginsWith, IsStateBytes, ReadsState}
@@ -84,7 +86,8 @@ module _ {R W : Type 0} (remaining : R → Option (List ℕ)) (contents : W → 
   resumes-as : (states : SavedStates) (want : Want) (outcome : Outcome)
       → ReadStateAlone remaining old mid states
       → ((AtEnd : Type 0) (IsLeft : List ℕ → Type 0) (a b : Option (List ℕ)) (air : List ℕ)
-      (text : List ℕ) → IsStateBytes text states → AnswersAir want states AtEnd IsLeft a b outcome air
+      (text : List ℕ) → IsStateBytes text states
+      → AnswersAir want states AtEnd IsLeft a b outcome air
       → AnswersResuming want AtEnd IsLeft a b outcome (text ++ air))
       → ResumesBy (AnswersAir want states) want air_part outcome
       → Resumes want whole_run outcome

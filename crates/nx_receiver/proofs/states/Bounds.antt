@@ -1,10 +1,12 @@
 -- A text of a state has few lines, and at least one.
-use Rattle.std.proofs.Common.{ℕ, ◌+◌, ◌<◌, ◌≤◌, zero, suc, Bool, true, false, cond, List, ◌∷◌, length, inl, inr, ap, arith}
+use Rattle.std.proofs.Common.{ℕ, ◌+◌, ◌<◌, ◌≤◌, zero, suc, Bool, true, false, cond, List, ◌∷◌}
+use Rattle.std.proofs.Common.{length, inl, inr, ap, arith}
 use Rattle.std.specs.List.{filter, range_with_len}
 use Rattle.std.specs.FinSet as set
 use Rattle.std.proofs.lemmas.List.{length-append, length-map}
 use Rattle.nx_memory.specs.Saved.{SavedState, SavedStates, IsSavedState, AreSavedStates}
-use Rattle.nx_memory.specs.StateText.{BeginsText, IsStateText, last_line, rising, said, section, spelling, text_1, text_2}
+use Rattle.nx_memory.specs.StateText.{BeginsText, IsStateText, last_line, rising, said, section}
+use Rattle.nx_memory.specs.StateText.{spelling, text_1, text_2}
 use Rattle.nx_memory.proofs.StateWriting.{count_lines}
 
 few_picked : (p : ℕ → Bool) (first n : ℕ) → length (filter p (range_with_len first n)) ≤ n

@@ -1,5 +1,6 @@
 -- A run that goes on from a state over an air file, where its log is thrown away.
-use Rattle.std.proofs.Common.{◌≡◌, ℕ, List, [], Option, None, Some, IfSome, Ok, Err, inl, inr, refl, arith}
+use Rattle.std.proofs.Common.{◌≡◌, ℕ, List, [], Option, None, Some, IfSome, Ok, Err, inl, inr, refl}
+use Rattle.std.proofs.Common.{arith}
 use Rattle.std.specs.Io.KnownBytes.{Consumes, IsAtEnd}
 use Rattle.nx_fec.specs.Transfers.{Devices, Reads}
 use Rattle.nx_fec.proofs.TransferLaws.{Ok-not_err}

@@ -1,5 +1,6 @@
 -- What reading a state says of its reader, at each of its ends.
-use Rattle.std.proofs.Common.{◌≡◌, ℕ, ◌+◌, List, [], ◌∷◌, ◌++◌, length, Option, Result, Ok, Err, inl, inr, refl, sym, ap, ◌∙◌, subst, append_assoc, append-nil, arith}
+use Rattle.std.proofs.Common.{◌≡◌, ℕ, ◌+◌, List, [], ◌∷◌, ◌++◌, length, Option, Result, Ok, Err}
+use Rattle.std.proofs.Common.{inl, inr, refl, sym, ap, ◌∙◌, subst, append_assoc, append-nil, arith}
 use Rattle.std.specs.Io.KnownBytes.{Consumes}
 use Rattle.std.proofs.KnownBytes.{Consumes-trans}
 use Rattle.nx_fec.specs.Lines.{line_end}
@@ -7,7 +8,8 @@ use Rattle.nx_fec.specs.Transfers.{CountedDevice}
 use Rattle.nx_fec.proofs.TransferLaws.{IfSome-end, IfSome-front, Ok-not_err, read_failed-none}
 use Rattle.nx_memory.specs.Saved.{SavedStates}
 use Rattle.nx_memory.specs.StateText.{BeginsNoText, BeginsText, IsShortLine, IsStateText}
-use Rattle.nx_receiver.specs.State.{AnswersState, IsStateBytes, ReadsState, StopsInText, ended_lines}
+use Rattle.nx_receiver.specs.State.{AnswersState, IsStateBytes, ReadsState, StopsInText}
+use Rattle.nx_receiver.specs.State.{ended_lines}
 use Rattle.nx_receiver.specs.private.StateParts.{IsNextLine}
 use Rattle.nx_receiver.specs.declared.state.LineRead.TheVariants.{Long, Cut, Failed}
 use Rattle.nx_receiver.specs.declared.state_fault.StateFault.{StateFault}
@@ -45,10 +47,12 @@ stops-here lines line front P begins part here = record {
   here = here;
 }
 
-Line-not_read : (line : ℕ) → ◌≡◌ {A = Result SavedStates StateFault} (Err (StateLine line)) (Err Read) → ⊥
+Line-not_read : (line : ℕ)
+    → ◌≡◌ {A = Result SavedStates StateFault} (Err (StateLine line)) (Err Read) → ⊥
 Line-not_read line e = cc
 
-Cut-not_read : (line : ℕ) → ◌≡◌ {A = Result SavedStates StateFault} (Err (StateCut line)) (Err Read) → ⊥
+Cut-not_read : (line : ℕ) → ◌≡◌ {A = Result SavedStates StateFault} (Err (StateCut line)) (Err Read)
+    → ⊥
 Cut-not_read line e = cc
 
 module _ {R : Type 0} (remaining : R → Option (List ℕ)) (old mid new : CountedDevice R)

@@ -1,5 +1,7 @@
 -- Lines that are given one after the other are the bytes of a text.
-use Rattle.std.proofs.Common.{◌≡◌, ℕ, ◌+◌, zero, suc, Some, None, List, [], ◌∷◌, ◌++◌, take, drop, slice_get, Option, OnOk, IfErr, Result, Ok, Err, MatchResult, refl, sym, ap, ◌∙◌, subst, take-append-drop, arith}
+use Rattle.std.proofs.Common.{◌≡◌, ℕ, ◌+◌, zero, suc, Some, None, List, [], ◌∷◌, ◌++◌, take, drop}
+use Rattle.std.proofs.Common.{slice_get, Option, OnOk, IfErr, Result, Ok, Err, MatchResult, refl}
+use Rattle.std.proofs.Common.{sym, ap, ◌∙◌, subst, take-append-drop, arith}
 use Rattle.std.proofs.KnownBytes.{Appends-nil}
 use Rattle.std.specs.Io.KnownBytes.{Appends}
 use Rattle.nx_fec.specs.Lines.{line_end}

@@ -1,5 +1,6 @@
 -- What is printed of what is given, and then of one more.
-use Rattle.std.proofs.Common.{◌≡◌, ℕ, Bool, true, false, List, [], ◌∷◌, ◌++◌, map, refl, sym, ap, ◌∙◌, subst, append-nil, arith}
+use Rattle.std.proofs.Common.{◌≡◌, ℕ, Bool, true, false, List, [], ◌∷◌, ◌++◌, map, refl, sym, ap}
+use Rattle.std.proofs.Common.{◌∙◌, subst, append-nil, arith}
 use Rattle.std.specs.Prelude.{if◌then◌else◌}
 use Rattle.std.specs.List.{All}
 use Rattle.std.proofs.lemmas.List.{append_cancel_left}
@@ -12,11 +13,15 @@ use Rattle.nx_receiver.specs.FoundCopies.{FoundCopy, TaggedCopy, ended_so_far, t
 use Rattle.nx_receiver.specs.InTurn.{HavePrinted, PrintsInTurn}
 use Rattle.nx_receiver.specs.Log.{HasPrinted, printed_of}
 use Rattle.nx_receiver.specs.Printing.{printed_copies}
-use Rattle.nx_receiver.specs.Shares.{Given, MarkedCopy, Starts, copies_on, marked, share, start_on, to_all, to_one}
-use Rattle.nx_receiver.proofs.Shares.{copies_on-append, copies_on-marked, copies_on-other, in_turn-none, same_channel-is, same_channel-refl, share-append, share-one}
+use Rattle.nx_receiver.specs.Shares.{Given, MarkedCopy, Starts, copies_on, marked, share, start_on}
+use Rattle.nx_receiver.specs.Shares.{to_all, to_one}
+use Rattle.nx_receiver.proofs.Shares.{copies_on-append, copies_on-marked, copies_on-other}
+use Rattle.nx_receiver.proofs.Shares.{in_turn-none, same_channel-is, same_channel-refl}
+use Rattle.nx_receiver.proofs.Shares.{share-append, share-one}
 use Rattle.nx_receiver.proofs.locks.Found.{IsCopyIn}
 use Rattle.nx_receiver.proofs.locks.Texts.{GoesOnAs}
-use Rattle.nx_receiver.proofs.receiving.Logged.{bits_of-append, ended_placed, has_printed_on, one_printed, some_printed, tagged_copies-more}
+use Rattle.nx_receiver.proofs.receiving.Logged.{bits_of-append, ended_placed, has_printed_on}
+use Rattle.nx_receiver.proofs.receiving.Logged.{one_printed, some_printed, tagged_copies-more}
 use Rattle.nx_receiver.proofs.turns.Marked.{none-on, of-one}
 
 -- ---- of one receiver

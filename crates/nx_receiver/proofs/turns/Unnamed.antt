@@ -1,7 +1,9 @@
 -- Lines that name no channel: what they give belongs to channel 0, so one receiver makes their log.
-use Rattle.std.proofs.Common.{◌≡◌, ℕ, Bool, false, true, cond, List, [], ◌∷◌, ◌++◌, Option, None, map, refl, ap, ◌∙◌, subst}
+use Rattle.std.proofs.Common.{◌≡◌, ℕ, Bool, false, true, cond, List, [], ◌∷◌, ◌++◌, Option, None}
+use Rattle.std.proofs.Common.{map, refl, ap, ◌∙◌, subst}
 use Rattle.std.specs.List.{AllByRecursion, flat_map}
-use Rattle.nx_fec.specs.AirFile.{Line, moment, elements, refuse_station, accept_station, refuse_subject, accept_subject}
+use Rattle.nx_fec.specs.AirFile.{Line, moment, elements, refuse_station, accept_station}
+use Rattle.nx_fec.specs.AirFile.{refuse_subject, accept_subject}
 use Rattle.nx_fec.specs.Channels.{channel_of, same_channel}
 use Rattle.nx_fec.specs.declared.channel.Channel.{Channel}
 use Rattle.nx_fec.specs.declared.channel.Channel.TheVariants.{Zero}
@@ -24,7 +26,8 @@ given-one channel mark said b e h =
     ap (λ (m : Option Channel). cond (same_channel (channel_of m) channel) said []) e
     ∙ ap (λ (c : Bool). cond c said []) h
 
-line-on_0 : (line : Line) → named_by line ≡ None → events_for Zero (given_of line) ≡ events_said line
+line-on_0 : (line : Line) → named_by line ≡ None
+    → events_for Zero (given_of line) ≡ events_said line
 line-on_0 (moment n) e = refl
 line-on_0 (elements mark bits) e = given-one Zero mark (map element bits) true e refl
 line-on_0 (refuse_station mark letter) e =

@@ -1,14 +1,20 @@
 -- Eight words of a lock that a watch hears at once, where none of them brings anything.
-use Rattle.std.proofs.Common.{◌≡◌, ℕ, zero, suc, ◌+◌, ◌*◌, ◌<◌, ◌≤◌, Bool, false, List, [], ◌∷◌, ◌++◌, length, take, drop, get_or, Some, None, refl, sym, ap, ◌∙◌, subst, arith, append_assoc, append-nil, add-one, map, slice_index, subst₂}
+use Rattle.std.proofs.Common.{◌≡◌, ℕ, zero, suc, ◌+◌, ◌*◌, ◌<◌, ◌≤◌, Bool, false, List, [], ◌∷◌}
+use Rattle.std.proofs.Common.{◌++◌, length, take, drop, get_or, Some, None, refl, sym, ap, ◌∙◌}
+use Rattle.std.proofs.Common.{subst, arith, append_assoc, append-nil, add-one, map, slice_index}
+use Rattle.std.proofs.Common.{subst₂}
 use Rattle.std.specs.Prelude.{IsTrue}
 use Rattle.std.specs.List.{All, flat_map}
-use Rattle.std.proofs.lemmas.List.{append_cancel_left, length-append, length-map, take-append-drop, take_all, take_more}
+use Rattle.std.proofs.lemmas.List.{append_cancel_left, length-append, length-map, take-append-drop}
+use Rattle.std.proofs.lemmas.List.{take_all, take_more}
 use Rattle.nx_code.specs.Word.{elements}
 use Rattle.nx_sync.specs.Laws.{OneMore, still_stands, now_over}
 use Rattle.nx_sync.specs.Locks.{Lock, Now, hunting, locked, IsNow}
-use Rattle.nx_sync.specs.Steps.{AreQuietWords, LimitStands, Brings, found, word, inside, over, hunts, IsStep, IsWordStep, step}
+use Rattle.nx_sync.specs.Steps.{AreQuietWords, LimitStands, Brings, found, word, inside, over}
+use Rattle.nx_sync.specs.Steps.{hunts, IsStep, IsWordStep, step}
 use Rattle.nx_sync.specs.Synchroniser.{Held, StandsAfter, is_between_words}
-use Rattle.nx_sync.specs.Words.{word_of_lock, first_role, heard_word, other_role, role_of, whole_words}
+use Rattle.nx_sync.specs.Words.{word_of_lock, first_role, heard_word, other_role, role_of}
+use Rattle.nx_sync.specs.Words.{whole_words}
 use Rattle.nx_sync.specs.declared.step.Role.{Role}
 use Rattle.nx_sync.specs.declared.step.Role.TheVariants.{Dx}
 use Rattle.nx_sync.specs.declared.step.Step.{Step}
@@ -23,14 +29,18 @@ use Rattle.nx_envelope.specs.Finder.{BringNothing, Keeps}
 use Rattle.nx_receiver.specs.declared.over.CopyTag.{CopyTag}
 use Rattle.nx_receiver.specs.declared.over.Over.TheVariants as over
 use Rattle.nx_receiver.specs.Events.{Setting}
-use Rattle.nx_receiver.specs.FoundCopies.{FoundCopy, ended_in, ended_so_far, found_copy, past_copies, standing_text, TaggedCopy, tag}
+use Rattle.nx_receiver.specs.FoundCopies.{FoundCopy, ended_in, ended_so_far, found_copy}
+use Rattle.nx_receiver.specs.FoundCopies.{past_copies, standing_text, TaggedCopy, tag}
 use Rattle.nx_receiver.specs.LockText.{PlacedByte, bytes_of, lock_text, text_by}
 use Rattle.nx_receiver.specs.Watching.{LockReading, Watching, in_force}
 use Rattle.nx_receiver.specs.private.LockReader.{AreNext, PrintsPlain, ReadsLock, text_after}
-use Rattle.nx_receiver.specs.private.Watch.{HasEnded, HasTag, HearsBits, ReadsNow, ReadsOver, WatchStands, all_in_force, copies_by, setting_in}
-use Rattle.nx_receiver.proofs.locks.Found.{IsByteIn, ended_headers_in, found-same, open_headers_in, text_placed}
+use Rattle.nx_receiver.specs.private.Watch.{HasEnded, HasTag, HearsBits, ReadsNow, ReadsOver}
+use Rattle.nx_receiver.specs.private.Watch.{WatchStands, all_in_force, copies_by, setting_in}
+use Rattle.nx_receiver.proofs.locks.Found.{IsByteIn, ended_headers_in, found-same, open_headers_in}
+use Rattle.nx_receiver.proofs.locks.Found.{text_placed}
 use Rattle.nx_receiver.proofs.locks.Growing.{ended_go_on, past_copies-more}
-use Rattle.nx_receiver.proofs.locks.Texts.{bytes_are_reading, bytes_of-append, lock_text-more, text_by-grows}
+use Rattle.nx_receiver.proofs.locks.Texts.{bytes_are_reading, bytes_of-append, lock_text-more}
+use Rattle.nx_receiver.proofs.locks.Texts.{text_by-grows}
 use Rattle.nx_receiver.proofs.receiving.Logged.{ended_placed}
 use Rattle.nx_receiver.proofs.watching.Bits.{copies_by-later, no_word, reads-more}
 use Rattle.nx_receiver.proofs.watching.Texts.{IsTagOf, tags-same}

@@ -1,6 +1,9 @@
 -- What a watch hears: one element, one word, the elements that a hunt passes over, and some after
 -- others.
-use Rattle.std.proofs.Common.{◌≡◌, ℕ, zero, suc, ◌+◌, ◌-◌, ◌<◌, ◌≤◌, Bool, false, List, [], ◌∷◌, ◌++◌, map, length, take, get_or, Option, Some, None, is_some, true≢false, refl, sym, ap, ◌∙◌, subst, arith, inl, inr, append_assoc, append-nil, take-take, length-take, length-append, add-one, subst₂}
+use Rattle.std.proofs.Common.{◌≡◌, ℕ, zero, suc, ◌+◌, ◌-◌, ◌<◌, ◌≤◌, Bool, false, List, [], ◌∷◌}
+use Rattle.std.proofs.Common.{◌++◌, map, length, take, get_or, Option, Some, None, is_some}
+use Rattle.std.proofs.Common.{true≢false, refl, sym, ap, ◌∙◌, subst, arith, inl, inr, append_assoc}
+use Rattle.std.proofs.Common.{append-nil, take-take, length-take, length-append, add-one, subst₂}
 use Rattle.std.proofs.lemmas.List.{map-append, take_more, take_all, take-append-le}
 use Rattle.std.proofs.lemmas.Bool.{cases_lt}
 use Rattle.nx_sync.specs.Locks.{Past, hunting}
@@ -16,7 +19,10 @@ use Rattle.nx_receiver.specs.Watching.{LockReading, Watching, in_force}
 use Rattle.nx_receiver.specs.FoundCopies.{TaggedCopy, past_copies}
 use Rattle.nx_envelope.specs.declared.found.TextEvent.{TextEvent}
 use Rattle.nx_envelope.specs.declared.found.TextEvent.TheVariants as events
-use Rattle.nx_receiver.specs.private.Watch.{at_words, tag_after, HasEnded, HearsBits, IsOver, ReadsOver, ReadsStep, TagGoesOn, as_it_was, now_in_force, IsFresh, WatchStands, all_in_force, copies_by}
+use Rattle.nx_receiver.specs.private.Watch.{at_words, tag_after, HasEnded, HearsBits, IsOver}
+use Rattle.nx_receiver.specs.private.Watch.{ReadsOver, ReadsStep, TagGoesOn, as_it_was}
+use Rattle.nx_receiver.specs.private.Watch.{now_in_force, IsFresh, WatchStands, all_in_force}
+use Rattle.nx_receiver.specs.private.Watch.{copies_by}
 use Rattle.nx_receiver.proofs.locks.Growing.{hunted}
 use Rattle.nx_receiver.proofs.watching.Takes.{tag-hunting}
 use Rattle.nx_receiver.proofs.watching.Bits.{quiet_bit}

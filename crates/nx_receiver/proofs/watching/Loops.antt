@@ -1,5 +1,6 @@
 -- A loop over elements: those before the place were heard, and nothing was over with any of them.
-use Rattle.std.proofs.Common.{◌≡◌, ℕ, ◌+◌, ◌-◌, ◌≤◌, Bool, List, ◌++◌, length, take, drop, refl, sym, ap, ◌∙◌, subst, arith, length-drop}
+use Rattle.std.proofs.Common.{◌≡◌, ℕ, ◌+◌, ◌-◌, ◌≤◌, Bool, List, ◌++◌, length, take, drop, refl}
+use Rattle.std.proofs.Common.{sym, ap, ◌∙◌, subst, arith, length-drop}
 use lib.Seq.{take-add}
 use Rattle.std.proofs.lemmas.List.{take_all}
 use Rattle.nx_receiver.specs.declared.over.Over.{Over}

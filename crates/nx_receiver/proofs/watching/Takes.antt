@@ -1,5 +1,7 @@
 -- A copy that is over is taken, and a text ends.
-use Rattle.std.proofs.Common.{◌≡◌, ◌≢◌, ℕ, zero, ◌+◌, Bool, true, false, refl, List, [], ◌∷◌, ◌++◌, map, Option, Some, None, sym, ap, ◌∙◌, subst, append-nil, append_assoc}
+use Rattle.std.proofs.Common.{◌≡◌, ◌≢◌, ℕ, zero, ◌+◌, Bool, true, false, refl, List, [], ◌∷◌, ◌++◌}
+use Rattle.std.proofs.Common.{map, Option, Some, None, sym, ap, ◌∙◌, subst, append-nil}
+use Rattle.std.proofs.Common.{append_assoc}
 use Rattle.std.specs.Prelude.{MatchOption}
 use Rattle.std.specs.List.{All}
 use Rattle.std.proofs.lemmas.List.Elements.{All-head}
@@ -15,11 +17,15 @@ use Rattle.nx_envelope.proofs.OneOpenCopy.{open_headers-nil}
 use Rattle.nx_receiver.specs.declared.over.CopyTag.{CopyTag}
 use Rattle.nx_receiver.specs.declared.over.Over.TheVariants as over
 use Rattle.nx_receiver.specs.Events.{Setting}
-use Rattle.nx_receiver.specs.FoundCopies.{ended_in, open_in, past_copies, past_text, standing_text, ended_so_far, open_so_far, found_copy, TaggedCopy, tag}
+use Rattle.nx_receiver.specs.FoundCopies.{ended_in, open_in, past_copies, past_text, standing_text}
+use Rattle.nx_receiver.specs.FoundCopies.{ended_so_far, open_so_far, found_copy, TaggedCopy, tag}
 use Rattle.nx_receiver.specs.private.LockReader.{ReadsLock, text_after}
 use Rattle.nx_receiver.specs.Watching.{LockReading, Watching}
 use Rattle.nx_receiver.specs.LockText.{PlacedByte, bytes_of, text_by}
-use Rattle.nx_receiver.specs.private.Watch.{BothAreOver, CopyIsOver, HasEndedAll, HasTag, IsFresh, IsOver, LockIsOver, ReadsNow, WatchStands, copies_by, handed_out, over_with, ready_copy, setting_in, tag_of, place_of_header}
+use Rattle.nx_receiver.specs.private.Watch.{BothAreOver, CopyIsOver, HasEndedAll, HasTag, IsFresh}
+use Rattle.nx_receiver.specs.private.Watch.{IsOver, LockIsOver, ReadsNow, WatchStands, copies_by}
+use Rattle.nx_receiver.specs.private.Watch.{handed_out, over_with, ready_copy, setting_in, tag_of}
+use Rattle.nx_receiver.specs.private.Watch.{place_of_header}
 use Rattle.nx_receiver.proofs.locks.Found.{all_in-parts}
 use Rattle.nx_receiver.proofs.locks.Growing.{hunted}
 use Rattle.nx_receiver.proofs.locks.Texts.{bytes_are_reading}

@@ -1,8 +1,11 @@
 -- What one more word does to the text of a lock, to the copies in it and to the tag of the open
 -- one.
-use Rattle.std.proofs.Common.{◌≡◌, ℕ, suc, ◌+◌, ◌-◌, ◌<◌, ◌≤◌, Bool, true, false, List, [], ◌∷◌, ◌++◌, map, length, get_or, refl, sym, ap, ◌∙◌, subst, arith, inl, inr, append-nil, add-one}
+use Rattle.std.proofs.Common.{◌≡◌, ℕ, suc, ◌+◌, ◌-◌, ◌<◌, ◌≤◌, Bool, true, false, List, [], ◌∷◌}
+use Rattle.std.proofs.Common.{◌++◌, map, length, get_or, refl, sym, ap, ◌∙◌, subst, arith, inl, inr}
+use Rattle.std.proofs.Common.{append-nil, add-one}
 use Rattle.std.specs.List.{All}
-use Rattle.std.proofs.lemmas.List.{get_or_append_left, map-append, length-append, append_cancel_left}
+use Rattle.std.proofs.lemmas.List.{get_or_append_left, map-append, length-append}
+use Rattle.std.proofs.lemmas.List.{append_cancel_left}
 use Rattle.std.proofs.lemmas.List.Elements.{All-nil, All-cons, All-head, All-tail}
 use Rattle.nx_code.specs.Reading.{text}
 use Rattle.nx_sync.specs.declared.step.Role.{Role}
@@ -14,13 +17,17 @@ use Rattle.nx_envelope.specs.declared.found.TextEvent.{TextEvent}
 use Rattle.nx_envelope.specs.declared.found.TextEvent.TheVariants as events
 use Rattle.nx_receiver.specs.declared.over.CopyTag.{CopyTag}
 use Rattle.nx_receiver.specs.Events.{Setting}
-use Rattle.nx_receiver.specs.FoundCopies.{FoundCopy, place_in, found_copy, ended_in, TaggedCopy, tag}
+use Rattle.nx_receiver.specs.FoundCopies.{FoundCopy, place_in, found_copy, ended_in, TaggedCopy}
+use Rattle.nx_receiver.specs.FoundCopies.{tag}
 use Rattle.nx_receiver.specs.private.LockReader.{HearsWord, text_after, word_place}
 use Rattle.nx_receiver.specs.LockText.{PlacedByte, printed_by, text_by, bytes_of}
-use Rattle.nx_receiver.specs.private.Watch.{HasTag, copies_by, ready_copy, setting_in, tag_after, tag_of, place_of_header}
+use Rattle.nx_receiver.specs.private.Watch.{HasTag, copies_by, ready_copy, setting_in, tag_after}
+use Rattle.nx_receiver.specs.private.Watch.{tag_of, place_of_header}
 use Rattle.nx_receiver.specs.Watching.{Watching, in_force}
 use Rattle.nx_receiver.proofs.locks.Texts.{bytes_are_reading, bytes_of-append, bytes-placed}
-use Rattle.nx_receiver.proofs.locks.Found.{IsByteIn, IsHeaderIn, ended_headers_in, found-same, header_placed, length-bytes_of, open_headers_in, place_in-append, place_in-get_or}
+use Rattle.nx_receiver.proofs.locks.Found.{IsByteIn, IsHeaderIn, ended_headers_in, found-same}
+use Rattle.nx_receiver.proofs.locks.Found.{header_placed, length-bytes_of, open_headers_in}
+use Rattle.nx_receiver.proofs.locks.Found.{place_in-append, place_in-get_or}
 
 -- a word adds nothing to the text, or one byte
 pub data AddsByte (before after : List PlacedByte) (place : ℕ) (finder : Finder)

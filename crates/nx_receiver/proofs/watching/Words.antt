@@ -1,5 +1,7 @@
 -- What a word of the lock does to what a watch stands after, with its last element.
-use Rattle.std.proofs.Common.{◌≡◌, ℕ, ◌+◌, ◌*◌, ◌≤◌, Bool, true, false, is_some, List, [], ◌∷◌, ◌++◌, length, Some, None, sym, ap, ◌∙◌, subst, arith, append_assoc, append-nil}
+use Rattle.std.proofs.Common.{◌≡◌, ℕ, ◌+◌, ◌*◌, ◌≤◌, Bool, true, false, is_some, List, [], ◌∷◌}
+use Rattle.std.proofs.Common.{◌++◌, length, Some, None, sym, ap, ◌∙◌, subst, arith, append_assoc}
+use Rattle.std.proofs.Common.{append-nil}
 use Rattle.std.proofs.lemmas.List.{length_push}
 use Rattle.nx_sync.specs.Laws.{OneMore, still_hunts, now_finds, still_stands, now_over}
 use Rattle.nx_sync.specs.Locks.{Lock, Now, hunting, locked, IsNow, Past, IsPattern}
@@ -14,16 +16,19 @@ use Rattle.nx_envelope.specs.Finder.{is_over}
 use Rattle.nx_receiver.specs.declared.over.CopyTag.{CopyTag}
 use Rattle.nx_receiver.specs.declared.over.Over.{Over}
 use Rattle.nx_receiver.specs.Events.{Setting}
-use Rattle.nx_receiver.specs.FoundCopies.{FoundCopy, ended_in, past_copies, standing_text, ended_so_far, TaggedCopy}
+use Rattle.nx_receiver.specs.FoundCopies.{FoundCopy, ended_in, past_copies, standing_text}
+use Rattle.nx_receiver.specs.FoundCopies.{ended_so_far, TaggedCopy}
 use Rattle.nx_receiver.specs.private.LockReader.{ReadsLock, word_place}
 use Rattle.nx_receiver.specs.LockText.{PlacedByte, lock_text}
-use Rattle.nx_receiver.specs.private.Watch.{HasTag, IsOver, LockIsOver, ReadsNow, ReadsOver, ReadsWord, WatchStands, copies_by, over_with, tag_after}
+use Rattle.nx_receiver.specs.private.Watch.{HasTag, IsOver, LockIsOver, ReadsNow, ReadsOver}
+use Rattle.nx_receiver.specs.private.Watch.{ReadsWord, WatchStands, copies_by, over_with, tag_after}
 use Rattle.nx_receiver.specs.Watching.{Watching, in_force}
 use Rattle.nx_receiver.proofs.locks.Found.{text_placed}
 use Rattle.nx_receiver.proofs.locks.Growing.{past_copies-more}
 use Rattle.nx_receiver.proofs.locks.Texts.{lock_text-more}
 use Rattle.nx_receiver.proofs.receiving.Logged.{ended_placed}
-use Rattle.nx_receiver.proofs.watching.Texts.{AfterWord, Brought, adds_byte, after_word, copies_by-append}
+use Rattle.nx_receiver.proofs.watching.Texts.{AfterWord, Brought, adds_byte, after_word}
+use Rattle.nx_receiver.proofs.watching.Texts.{copies_by-append}
 use Rattle.nx_receiver.proofs.watching.Bits.{copies_by-later, reads-more}
 
 -- what is over, by what a word brought to the copies

@@ -5,7 +5,8 @@ use Rattle.nx_code.specs.Lists.{last_of}
 use Rattle.nx_envelope.specs.Moment.{last_moment}
 use Rattle.nx_memory.specs.Memory.{most_entries}
 use Rattle.nx_memory.specs.declared.entry.MemoryEntry.{MemoryEntry}
-use Rattle.nx_receiver.specs.Events.{Event, Start, Setting, elements_among, first_setting, settings, setting_after_all, elements}
+use Rattle.nx_receiver.specs.Events.{Event, Start, Setting, elements_among, first_setting, settings}
+use Rattle.nx_receiver.specs.Events.{setting_after_all, elements}
 use Rattle.nx_receiver.specs.FoundCopies.{TaggedCopy}
 use Rattle.nx_receiver.specs.Printing.{printed_copies, entries_after}
 use Rattle.nx_receiver.specs.Receiver.{Receiving, Stands}

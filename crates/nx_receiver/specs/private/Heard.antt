@@ -1,5 +1,5 @@
--- What has to be met so that a message is printed once, told of whichever copy of its identity is the
--- first (this profile).
+-- What has to be met so that a message is printed once, told of whichever copy of its identity is
+-- the first (this profile).
 use Rattle.std.specs.Prelude.{◌≡◌, ℕ, ◌+◌, ◌<◌, List, Contains, IsTrue}
 use Rattle.nx_sync.specs.Locks.{Lock, Now, IsNow}
 use Rattle.nx_envelope.specs.Message.{MessageView}

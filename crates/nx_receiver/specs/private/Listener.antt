@@ -1,5 +1,6 @@
 -- How the taker of lines behind a run that listens stands after lines (this profile).
-use Rattle.std.specs.Prelude.{◌≡◌, ℕ, ◌+◌, ◌-◌, ◌^◌, ◌≤◌, Bool, false, List, [], ◌∷◌, ◌++◌, length, map, min, Option, IsTrue}
+use Rattle.std.specs.Prelude.{◌≡◌, ℕ, ◌+◌, ◌-◌, ◌^◌, ◌≤◌, Bool, false, List, [], ◌∷◌, ◌++◌, length}
+use Rattle.std.specs.Prelude.{map, min, Option, IsTrue}
 use Rattle.std.specs.List.{flat_map}
 use Rattle.std.specs.Io.KnownBytes.{Appends}
 use Rattle.nx_envelope.specs.declared.letter.Letter.{Letter}
@@ -20,7 +21,8 @@ use Rattle.nx_receiver.specs.InTurn.{PrintAllToEnd, PrintsInTurn}
 use Rattle.nx_receiver.specs.Listen.{AreTaken, given_by, has_moment, moment_after}
 use Rattle.nx_receiver.specs.Log.{IsLog}
 use Rattle.nx_receiver.specs.Receiver.{Receiving, Stands}
-use Rattle.nx_receiver.specs.Shares.{Given, MarkedCopy, Starts, copies_on, marked, share, start_on, to_all, to_one}
+use Rattle.nx_receiver.specs.Shares.{Given, MarkedCopy, Starts, copies_on, marked, share, start_on}
+use Rattle.nx_receiver.specs.Shares.{to_all, to_one}
 use Rattle.nx_receiver.specs.private.Awaiting.{Awaits}
 use Rattle.nx_receiver.specs.FoundCopies.{TaggedCopy}
 use Rattle.nx_receiver.specs.declared.fault.MomentFault.{MomentFault}
@@ -84,8 +86,8 @@ then_elements given channel bits = given ++ to_one channel (events.elements bits
 
 -- After it was given this, with what it started, a listener printed these copies: the receiver of
 -- each channel stands after the channel's share, with the copies of that channel; they are in the
--- order in which they ended; it counted the elements and the entries; and no element ended more than
--- one copy.
+-- order in which they ended; it counted the elements and the entries; and no element ended more
+-- than one copy.
 pub record HearsGiven (starts : Starts) (listener : Listening) (given : List Given)
     (copies : List MarkedCopy)
     : Type 0 where
@@ -127,8 +129,8 @@ pub record HeardSome (starts : Starts) (given : List Given) (old new : Option (L
   pub begun : BeginsLog starts given bytes
   pub some : WroteSome old new bytes written
 
--- What was over on a channel was finished, whatever the start: it brought these copies, at most one,
--- which were counted, and these are their bytes.
+-- What was over on a channel was finished, whatever the start: it brought these copies, at most
+-- one, which were counted, and these are their bytes.
 pub record HasFinished (old new : Listening) (channel : Channel) (over : Over) (bytes : List ℕ)
     : Type 0 where
   pub copies : List TaggedCopy
@@ -189,8 +191,8 @@ BeginsFrom first lines bytes = BeginsListening (starts_of first) lines bytes
 abbrev pub RefusesFrom : Listening → List Line → Line → LineRefusal → Type 0
 RefusesFrom first lines line why = RefusesLine (starts_of first) lines line why
 
--- The file ended after it was given this: the log of all copies was written, with those that the end
--- closes, and the report counts the elements and the copies.
+-- The file ended after it was given this: the log of all copies was written, with those that the
+-- end closes, and the report counts the elements and the copies.
 pub record HasClosed (starts : Starts) (old new : Option (List ℕ)) (given : List Given)
     (report : Report)
     : Type 0 where

@@ -2,7 +2,8 @@ use Rattle.std.proofs.Common.{◌≡◌, ◌==◌, not, ◌&&◌, sym, ap, ◌�
 use Rattle.std.proofs.lemmas.Bool.{eqb-false}
 use Rattle.nx_receiver.specs.private.Watch.{is_good_text}
 use Rattle.nx_receiver.specs.private.Heads.{headed_copy}
-use Rattle.nx_receiver.proofs.receiving.Judging.{printed_as, made_true, made_false, can_enter, content_stays, content_grows, newest_is_last}
+use Rattle.nx_receiver.proofs.receiving.Judging.{printed_as, made_true, made_false, can_enter}
+use Rattle.nx_receiver.proofs.receiving.Judging.{content_stays, content_grows, newest_is_last}
 use Rattle.nx_receiver.proofs.judging.judge_head.Goals as goal
 
 pub enter-requires-clause-unknown : goal.enter-requires-clause-unknown
@@ -25,7 +26,8 @@ enter-requires-clause-numbered g c =
 
 pub returns-then-is_entered-clause-printed : goal.returns-then-is_entered-clause-printed
 returns-then-is_entered-clause-printed g c entries h =
-    printed_as entries _ (headed_copy c.args.head.now c.args.text.now c.args.moment c.args.selected) _ h
+    printed_as entries _
+    (headed_copy c.args.head.now c.args.text.now c.args.moment c.args.selected) _ h
     c.is_printed-printed.ensures
 
 pub returns-then-is_entered-clause-entered : goal.returns-then-is_entered-clause-entered
@@ -42,7 +44,8 @@ returns-then-is_entered-clause-not_before g c =
 
 pub returns-else-is_entered-clause-printed : goal.returns-else-is_entered-clause-printed
 returns-else-is_entered-clause-printed g c entries h =
-    printed_as entries _ (headed_copy c.args.head.now c.args.text.now c.args.moment c.args.selected) _ h
+    printed_as entries _
+    (headed_copy c.args.head.now c.args.text.now c.args.moment c.args.selected) _ h
     c.is_printed-printed.ensures
 
 pub returns-else-is_entered-clause-entered : goal.returns-else-is_entered-clause-entered

@@ -2,7 +2,8 @@ use Rattle.std.proofs.Common.{sym, subst}
 use Rattle.nx_fec.specs.Transfers.{devices}
 use Rattle.nx_receiver.specs.Resume.{AnswersResuming, ReadStateAlone, ResumesBy, WritesLeft}
 use Rattle.nx_receiver.specs.declared.resume_fault.Want.TheVariants.{Log, State}
-use Rattle.nx_receiver.proofs.states.Behind.{headline-behind, holds-behind, read-alone, resumes-behind}
+use Rattle.nx_receiver.proofs.states.Behind.{headline-behind, holds-behind, read-alone}
+use Rattle.nx_receiver.proofs.states.Behind.{resumes-behind}
 use Rattle.nx_receiver.proofs.resuming.resume.Goals as goal
 
 pub returns-in-Log-clause-resumes : goal.returns-in-Log-clause-resumes

@@ -8,7 +8,8 @@ abbrev pub invariant-loop-line : goal.invariant-loop-line
 invariant-loop-line g l = record {
   none : l.reader.failures ≡ 0;
   part : IsShortLine l.line.items;
-  consumed : Consumes (g.R.Read.remaining l.initial.reader.inner) (g.R.Read.remaining l.reader.inner)
+  consumed : Consumes (g.R.Read.remaining l.initial.reader.inner)
+      (g.R.Read.remaining l.reader.inner)
       l.line.items;
 }
 

@@ -1,4 +1,5 @@
-use Rattle.std.proofs.Common.{ℕ, ◌+◌, List, [], ◌∷◌, ◌++◌, length, Ok, Err, sym, ap, ◌∙◌, subst, arith}
+use Rattle.std.proofs.Common.{ℕ, ◌+◌, List, [], ◌∷◌, ◌++◌, length, Ok, Err, sym, ap, ◌∙◌, subst}
+use Rattle.std.proofs.Common.{arith}
 use Rattle.std.specs.Io.KnownBytes.{Consumes}
 use Rattle.std.proofs.KnownBytes.{Consumes-nil, Consumes-trans}
 use Rattle.std.proofs.lemmas.List.{length-append}
@@ -8,7 +9,8 @@ use Rattle.nx_receiver.specs.State.{ended_lines}
 use Rattle.nx_receiver.specs.declared.state_fault.StateFault.TheVariants.{Read, StateLine, StateCut}
 use Rattle.nx_receiver.proofs.states.Answers.{good_answer}
 use Rattle.nx_receiver.proofs.states.Bounds.{few_begun}
-use Rattle.nx_receiver.proofs.states.Reading.{reads-bad, reads-cut, reads-done, reads-failed, reads-long}
+use Rattle.nx_receiver.proofs.states.Reading.{reads-bad, reads-cut, reads-done, reads-failed}
+use Rattle.nx_receiver.proofs.states.Reading.{reads-long}
 use Rattle.nx_receiver.proofs.states.Splits.{ended-one}
 use Rattle.nx_receiver.proofs.state.read_state.Goals as goal
 

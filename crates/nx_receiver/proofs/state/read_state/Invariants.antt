@@ -10,6 +10,7 @@ invariant-loop-line g l = record {
   none : l.reader.failures ≡ 0;
   begins : BeginsText l.text;
   count : l.line ≡ length l.text + 1;
-  consumed : Consumes (g.R.Read.remaining l.initial.reader.inner) (g.R.Read.remaining l.reader.inner)
+  consumed : Consumes (g.R.Read.remaining l.initial.reader.inner)
+      (g.R.Read.remaining l.reader.inner)
       (ended_lines l.text);
 }

@@ -7,7 +7,8 @@ use Rattle.nx_fec.specs.Transfers.{WroteSome}
 use Rattle.nx_memory.specs.StateText.{text_2}
 use Rattle.nx_receiver.specs.State.{ended_lines, state_bytes}
 use Rattle.nx_receiver.proofs.states.Bounds.{few_lines_2}
-use Rattle.nx_receiver.proofs.states.Writing.{given-next, given-none, sent-all, sent-some, state_bytes-is, take-all, wrote-front}
+use Rattle.nx_receiver.proofs.states.Writing.{given-next, given-none, sent-all, sent-some}
+use Rattle.nx_receiver.proofs.states.Writing.{state_bytes-is, take-all, wrote-front}
 use Rattle.nx_receiver.proofs.state.write_state.Goals as goal
 
 pub loop-line-init : goal.loop-line-init
@@ -51,7 +52,8 @@ loop-line-preserved g c =
           c.give.new.self (text_2 c.args.states.now) c.loop-line.place c.in-Some.line.items
           (sym c.in-Some.ensures.line)
           (subst (λ l. HasGiven (contents c.args.writer.now.inner)
-          (contents c.give.new.writer.inner) c.give.new.self (ended_lines (take c.loop-line.place (text_2 c.args.states.now)) ++ l)) bytes
+          (contents c.give.new.writer.inner) c.give.new.self
+          (ended_lines (take c.loop-line.place (text_2 c.args.states.now)) ++ l)) bytes
           (c.in_ok-give.ensures.bytes (contents c.args.writer.now.inner)
           (ended_lines (take c.loop-line.place (text_2 c.args.states.now)))
           c.loop-line.invariant.given));
@@ -70,7 +72,8 @@ returns-in_err-give-clause-err g c =
     (contents c.give.new.writer.inner) (text_2 c.args.states.now) c.loop-line.place
     c.in-Some.line.items written (sym c.in-Some.ensures.line)
     (subst (λ l. WroteSome (contents c.args.writer.now.inner)
-    (contents c.give.new.writer.inner) (ended_lines (take c.loop-line.place (text_2 c.args.states.now)) ++ l) written) bytes
+    (contents c.give.new.writer.inner)
+    (ended_lines (take c.loop-line.place (text_2 c.args.states.now)) ++ l) written) bytes
     (c.in_err-give.ensures.bytes (contents c.args.writer.now.inner)
     (ended_lines (take c.loop-line.place (text_2 c.args.states.now)))
     c.loop-line.invariant.given)))))

@@ -11,7 +11,8 @@ both_ways (Err e) P Q p q = q
 
 pub returns-clause-written : goal.returns-clause-written
 returns-clause-written g c =
-    let is = subst (IsEntry (marked c.args.channel (copy_of c.args.entry.now))) (sym c.deref.ensures.0)
+    let is = subst (IsEntry (marked c.args.channel (copy_of c.args.entry.now)))
+    (sym c.deref.ensures.0)
     c.entry_bytes.ensures in (
       c.deref.result.now,
       is,

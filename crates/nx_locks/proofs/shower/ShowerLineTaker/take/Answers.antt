@@ -1,9 +1,12 @@
 use Rattle.std.proofs.Common.{inl, inr, ◌∷◌, ◌++◌, [], refl, subst, sym, ap, ◌∙◌, ◌≡◌, false, ℕ}
-use Rattle.nx_fec.specs.AirFile.{moment, refuse_station, accept_station, refuse_subject, accept_subject}
+use Rattle.nx_fec.specs.AirFile.{moment, refuse_station, accept_station, refuse_subject}
+use Rattle.nx_fec.specs.AirFile.{accept_subject}
 use Rattle.nx_memory.specs.Selection.{is_vital}
 use Rattle.nx_receiver.proofs.listens.Lines.{said}
 use Rattle.nx_locks.specs.private.Shower.{IsShowing, RefusesLine}
-use Rattle.nx_locks.proofs.Taking.{accept_station_line, accept_subject_line, match-map, on-err, refuse_station_line, refuse_subject_line, taken-always, taken-line}
+use Rattle.nx_locks.proofs.Taking.{accept_station_line, accept_subject_line, match-map, on-err}
+use Rattle.nx_locks.proofs.Taking.{refuse_station_line, refuse_subject_line, taken-always}
+use Rattle.nx_locks.proofs.Taking.{taken-line}
 use Rattle.nx_locks.proofs.shower.ShowerLineTaker.take.Goals as goal
 
 pub returns-in-Moment-clause-taken : goal.returns-in-Moment-clause-taken

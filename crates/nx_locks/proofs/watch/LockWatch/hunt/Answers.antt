@@ -1,4 +1,5 @@
-use Rattle.std.proofs.Common.{◌≡◌, ◌+◌, ◌<◌, ◌≤◌, ◌++◌, [], ◌∷◌, Bool, List, ℕ, take, drop, length, length-drop, arith, ap, ◌∙◌, subst}
+use Rattle.std.proofs.Common.{◌≡◌, ◌+◌, ◌<◌, ◌≤◌, ◌++◌, [], ◌∷◌, Bool, List, ℕ, take, drop, length}
+use Rattle.std.proofs.Common.{length-drop, arith, ap, ◌∙◌, subst}
 use Rattle.std.specs.Prelude.{min, ◌-◌, ◌^◌}
 use Rattle.nx_code.specs.Packed.{packed_part}
 use Rattle.nx_sync.specs.Steps.{HuntsThrough}

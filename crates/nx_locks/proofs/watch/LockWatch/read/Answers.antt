@@ -1,4 +1,5 @@
-use Rattle.std.proofs.Common.{◌≡◌, ◌+◌, ◌-◌, ◌^◌, ◌++◌, Option, ℕ, refl, sym, ap, ◌∙◌, subst, append-nil}
+use Rattle.std.proofs.Common.{◌≡◌, ◌+◌, ◌-◌, ◌^◌, ◌++◌, Option, ℕ, refl, sym, ap, ◌∙◌, subst}
+use Rattle.std.proofs.Common.{append-nil}
 use Rattle.std.specs.Prelude.{min}
 use Rattle.std.specs.Option.{option_to_list}
 use Rattle.nx_sync.specs.declared.step.Change.{Change}

@@ -1,5 +1,6 @@
 use Rattle.nx_receiver.proofs.chain.Moments.{copies-from}
-use Rattle.nx_receiver.proofs.chain.Runs.{chains_join, few_left, goes_on, one_left, some_gone_on, some_left}
+use Rattle.nx_receiver.proofs.chain.Runs.{chains_join, few_left, goes_on, one_left, some_gone_on}
+use Rattle.nx_receiver.proofs.chain.Runs.{some_left}
 use Rattle.nx_receiver.proofs.laws.chain.a_run_goes_on_from_what_is_saved.Goals as goal
 
 pub returns : goal.returns

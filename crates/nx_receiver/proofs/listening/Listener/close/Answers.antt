@@ -1,7 +1,8 @@
 use Rattle.std.proofs.Common.{◌++◌, ap, subst}
 use Rattle.std.proofs.lemmas.Result.{err_from_is_err_and}
 use Rattle.nx_receiver.specs.private.Listener.{Listening}
-use Rattle.nx_receiver.proofs.listens.Ends.{CloseAll, Closes, Closing, closed-all, closed-part-0, closed-part-1, closed-part-2}
+use Rattle.nx_receiver.proofs.listens.Ends.{CloseAll, Closes, Closing, closed-all, closed-part-0}
+use Rattle.nx_receiver.proofs.listens.Ends.{closed-part-1, closed-part-2}
 use Rattle.nx_receiver.proofs.listening.Listener.close.Goals as goal
 
 pub returns-in_err-at_end-clause-closed : goal.returns-in_err-at_end-clause-closed

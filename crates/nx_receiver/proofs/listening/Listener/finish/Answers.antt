@@ -1,4 +1,5 @@
-use Rattle.std.proofs.Common.{◌≡◌, ◌≤◌, ℕ, ◌+◌, ◌++◌, ◌∙◌, Bool, true, false, cond, ap, ap₂, arith, length, refl, subst, sym}
+use Rattle.std.proofs.Common.{◌≡◌, ◌≤◌, ℕ, ◌+◌, ◌++◌, ◌∙◌, Bool, true, false, cond, ap, ap₂, arith}
+use Rattle.std.proofs.Common.{length, refl, subst, sym}
 use mir.Val.{bool_byte}
 use Rattle.nx_receiver.specs.Receiver.{Stands}
 use Rattle.nx_receiver.specs.private.Listener.{Listening, content, count_of}

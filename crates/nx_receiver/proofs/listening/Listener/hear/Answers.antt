@@ -1,9 +1,12 @@
-use Rattle.std.proofs.Common.{◌≡◌, ◌+◌, ◌++◌, ◌∙◌, ap, arith, drop, length-drop, rules, subst, sym, take}
+use Rattle.std.proofs.Common.{◌≡◌, ◌+◌, ◌++◌, ◌∙◌, ap, arith, drop, length-drop, rules, subst, sym}
+use Rattle.std.proofs.Common.{take}
 use Rattle.nx_receiver.specs.Events.{elements}
 use Rattle.nx_receiver.specs.declared.over.Over.TheVariants.{Nothing}
 use Rattle.nx_receiver.specs.private.Awaiting.{Awaits}
-use Rattle.nx_receiver.specs.private.Listener.{BeginsLog, Listening, content, count_of, then_elements}
-use Rattle.nx_receiver.proofs.listens.Listener.{begins-more, differs-on, heard-no-over, heard-over, same-receivers, whole-part}
+use Rattle.nx_receiver.specs.private.Listener.{BeginsLog, Listening, content, count_of}
+use Rattle.nx_receiver.specs.private.Listener.{then_elements}
+use Rattle.nx_receiver.proofs.listens.Listener.{begins-more, differs-on, heard-no-over, heard-over}
+use Rattle.nx_receiver.proofs.listens.Listener.{same-receivers, whole-part}
 use Rattle.nx_receiver.proofs.listening.Listener.hear.Goals as goal
 
 pub returns-then-eq-clause-heard : goal.returns-then-eq-clause-heard

@@ -18,7 +18,8 @@ returns-in-Ok-clause-taken g c = λ first old lines h.
     record {
       given = heard.bytes;
       stood = heard-line (starts_of first) c.args.self.now c.hear_all.new.self lines
-          c.args.mark c.of.result c.args.packed.now h.given heard.bytes c.of.ensures h.stood some c.hear_all.ensures.moment heard.hears;
+          c.args.mark c.of.result c.args.packed.now h.given heard.bytes
+          c.of.ensures h.stood some c.hear_all.ensures.moment heard.hears;
       here = heard.here;
     }
 
@@ -35,7 +36,8 @@ returns-in-Err-clause-taken g c = λ first old lines h.
     }) in
     record {
       given = heard.bytes;
-      begun = begins-line (starts_of first) lines c.args.mark c.of.result c.args.packed.now heard.bytes
+      begun = begins-line
+          (starts_of first) lines c.args.mark c.of.result c.args.packed.now heard.bytes
           c.of.ensures h.stood.taken some
           heard.begun;
       some = heard.some;

@@ -23,7 +23,8 @@ returns-in-Ok c = λ starts lines bytes h.
       elements = c.self.inside.elements;
       entries = c.self.inside.entries;
     } in
-    goes_on starts c.args.self.now new lines (moment n) bytes h (after, c.in-Ok.ensures.taken.1) refl
+    goes_on starts c.args.self.now new lines (moment n) bytes h
+    (after, c.in-Ok.ensures.taken.1) refl
     (moment-one lines n) (ap (λ (l : Listening). l.elements) e ∙ c.set_moments.ensures.elements)
     (ap (λ (l : Listening). l.entries) e ∙ c.set_moments.ensures.entries)
     (λ channel log s. subst (λ r. TakesEvent content (receiver_on c.args.self.now channel) r

@@ -1,5 +1,6 @@
 use Rattle.std.proofs.Common.{[], ◌∷◌, ap, refl, sym}
-use Rattle.nx_fec.specs.AirFile.{moment, refuse_station, accept_station, refuse_subject, accept_subject}
+use Rattle.nx_fec.specs.AirFile.{moment, refuse_station, accept_station, refuse_subject}
+use Rattle.nx_fec.specs.AirFile.{accept_subject}
 use Rattle.nx_receiver.specs.Events as events
 use Rattle.nx_receiver.specs.Events.{command}
 use Rattle.nx_receiver.specs.Shares.{to_one}
@@ -40,7 +41,8 @@ returns-in-RefuseStation-clause-taken g c = λ first old lines line latest h.
     (said _ _ _ _ line latest c.latest.ensures c.in-Some.is c.in-RefuseStation.is) h
     (λ bytes s. commanded-on (starts_of first) c.args.self.now made.new.self lines is on.result
     (events.refuse_station byte) bytes s tt
-    (ap (λ channel. to_one channel (command (events.refuse_station byte) ∷ [])) (sym on.ensures)) refl
+    (ap (λ channel. to_one channel (command (events.refuse_station byte) ∷ []))
+    (sym on.ensures)) refl
     made.ensures.only made.ensures.stands)
 
 pub returns-in-AcceptStation-clause-taken : goal.returns-in-AcceptStation-clause-taken
@@ -53,7 +55,8 @@ returns-in-AcceptStation-clause-taken g c = λ first old lines line latest h.
     (said _ _ _ _ line latest c.latest.ensures c.in-Some.is c.in-AcceptStation.is) h
     (λ bytes s. commanded-on (starts_of first) c.args.self.now made.new.self lines is on.result
     (events.accept_station byte) bytes s tt
-    (ap (λ channel. to_one channel (command (events.accept_station byte) ∷ [])) (sym on.ensures)) refl
+    (ap (λ channel. to_one channel (command (events.accept_station byte) ∷ []))
+    (sym on.ensures)) refl
     made.ensures.only made.ensures.stands)
 
 pub returns-in-AcceptSubject-clause-taken : goal.returns-in-AcceptSubject-clause-taken
@@ -66,5 +69,6 @@ returns-in-AcceptSubject-clause-taken g c = λ first old lines line latest h.
     (said _ _ _ _ line latest c.latest.ensures c.in-Some.is c.in-AcceptSubject.is) h
     (λ bytes s. commanded-on (starts_of first) c.args.self.now made.new.self lines is on.result
     (events.accept_subject byte) bytes s tt
-    (ap (λ channel. to_one channel (command (events.accept_subject byte) ∷ [])) (sym on.ensures)) refl
+    (ap (λ channel. to_one channel (command (events.accept_subject byte) ∷ []))
+    (sym on.ensures)) refl
     made.ensures.only made.ensures.stands)

@@ -1,6 +1,7 @@
 use Rattle.std.proofs.Common.{◌≡◌, List, Bool, None, take, drop, length, rules, ◌-◌}
 use Rattle.nx_receiver.specs.declared.over.Over.TheVariants.{Nothing}
-use Rattle.nx_receiver.proofs.receiving.Feeds.{Finished, fed_before, fed_on, fed_to, is_none, none_finished, piece_is, piece_within, prints_none}
+use Rattle.nx_receiver.proofs.receiving.Feeds.{Finished, fed_before, fed_on, fed_to, is_none}
+use Rattle.nx_receiver.proofs.receiving.Feeds.{none_finished, piece_is, piece_within, prints_none}
 use Rattle.nx_receiver.proofs.receiver.Receiver.feed.Goals as goal
 
 pub returns-then-is_some-clause-stands : goal.returns-then-is_some-clause-stands
@@ -28,7 +29,8 @@ returns-then-is_some-clause-first g c start history log stands k lt =
     let at = c.loop-at.at in
     let n = c.hear_bits-count.result.0 in
     let rest : List Bool = take (length bits - at) (drop at bits) in
-    let within = piece_within bits at n c.loop-at.invariant.within c.hear_bits-count.ensures.within in
+    let within =
+    piece_within bits at n c.loop-at.invariant.within c.hear_bits-count.ensures.within in
     let none = prints_none content c.loop-at.self rest n c.hear_bits-count.ensures.within
     c.hear_bits-count.ensures.first in
     fed_before content c.args.self.now c.loop-at.self bits (take n rest) at n c.loop-at.invariant
@@ -49,7 +51,8 @@ loop-at-preserved g c =
       before = prints_none content c.loop-at.self rest n c.hear_bits-count.ensures.within
           c.hear_bits-count.ensures.first;
     } in
-    let within = piece_within bits at n c.loop-at.invariant.within c.hear_bits-count.ensures.within in
+    let within =
+    piece_within bits at n c.loop-at.invariant.within c.hear_bits-count.ensures.within in
     let none = is_none entry c.is_some.result c.is_some.ensures c.if-is_some.false in
     fed_on content c.args.self.now c.loop-at.self c.finish-entry.new.self bits (take n rest) at n
     entry c.loop-at.invariant (piece_is bits at n) within done none
@@ -68,7 +71,8 @@ returns-then-eq-clause-stands g c start history log stands =
     let done = none_finished content c.loop-at.self c.hear_bits-count.new.self (take n rest)
     c.hear_bits-count.result.1 nothing
     (λ start history log s. c.hear_bits-count.ensures.stands start history log s) none in
-    fed_to content c.args.self.now c.loop-at.self c.hear_bits-count.new.self bits (take n rest) at n None
+    fed_to content c.args.self.now c.loop-at.self c.hear_bits-count.new.self bits
+    (take n rest) at n None
     c.loop-at.invariant (piece_is bits at n) done start history log stands
 
 pub returns-then-eq-clause-first : goal.returns-then-eq-clause-first
@@ -80,6 +84,7 @@ returns-then-eq-clause-first g c start history log stands k lt =
     let rest : List Bool = take (length bits - at) (drop at bits) in
     let none = prints_none content c.loop-at.self rest n c.hear_bits-count.ensures.within
     c.hear_bits-count.ensures.first in
-    let within = piece_within bits at n c.loop-at.invariant.within c.hear_bits-count.ensures.within in
+    let within =
+    piece_within bits at n c.loop-at.invariant.within c.hear_bits-count.ensures.within in
     fed_before content c.args.self.now c.loop-at.self bits (take n rest) at n c.loop-at.invariant
     (piece_is bits at n) within none start history log stands k lt

@@ -1,4 +1,5 @@
-use Rattle.std.proofs.Common.{◌≤◌, ◌∙◌, ◌++◌, ap, arith, length, length-take, subst, take, take-take}
+use Rattle.std.proofs.Common.{◌≤◌, ◌∙◌, ◌++◌, ap, arith, length, length-take, subst, take}
+use Rattle.std.proofs.Common.{take-take}
 use Rattle.nx_receiver.specs.Events.{elements}
 use Rattle.nx_receiver.specs.Log.{HasPrinted}
 use Rattle.nx_receiver.specs.private.Awaiting.{Awaits}

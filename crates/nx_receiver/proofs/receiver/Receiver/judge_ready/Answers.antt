@@ -39,7 +39,8 @@ returns-then-not-judge_head-clause-stands g c start history log awaits =
     } in
     let before = subst (λ r. Awaits content start r history log c.args.over) (sym c.self.view_is)
     awaits in
-    subst (λ b. AwaitsOver content start (record { watch = watch; memory = c.judge_head.new.memory })
+    subst (λ b. AwaitsOver content start
+    (record { watch = watch; memory = c.judge_head.new.memory })
     (elements_among history) (settings first history) now
     (log ++ cond b (headed_copy head finder.text watch.tag.moment true ∷ []) [])
     (behind_copy c.args.over)) c.if-not-judge_head.true
@@ -78,7 +79,8 @@ returns-clause-stands g c start history log awaits =
     (elements_among history) (settings first history) now
     (log ++ headed_copy head r.watch.reader.finder.text r.watch.tag.moment true ∷ [])
     (behind_copy c.args.over)) c.self.view_is
-    (subst (λ b. AwaitsOver content start (record { watch = watch; memory = c.judge_head.new.memory })
+    (subst (λ b. AwaitsOver content start
+    (record { watch = watch; memory = c.judge_head.new.memory })
     (elements_among history) (settings first history) now
     (log ++ cond b (headed_copy head finder.text watch.tag.moment true ∷ []) [])
     (behind_copy c.args.over)) c.if-not-judge_head.false all)

@@ -1,4 +1,5 @@
-use Rattle.std.proofs.Common.{◌≡◌, ◌+◌, ◌≤◌, Bool, List, drop, take, length, length-drop, arith, rules, subst}
+use Rattle.std.proofs.Common.{◌≡◌, ◌+◌, ◌≤◌, Bool, List, drop, take, length, length-drop, arith}
+use Rattle.std.proofs.Common.{rules, subst}
 use Rattle.nx_receiver.specs.private.Watch.{HearsAll, at_words}
 use Rattle.nx_receiver.specs.declared.over.Over.TheVariants.{Nothing}
 use Rattle.nx_receiver.proofs.watching.Hears.{tag_by_words}

@@ -1,4 +1,5 @@
-use Rattle.std.proofs.Common.{◌≡◌, ◌+◌, ◌≤◌, List, Bool, take, drop, length, length-drop, arith, rules, subst}
+use Rattle.std.proofs.Common.{◌≡◌, ◌+◌, ◌≤◌, List, Bool, take, drop, length, length-drop, arith}
+use Rattle.std.proofs.Common.{rules, subst}
 use Rattle.nx_receiver.specs.private.Watch.{HearsAll}
 use Rattle.nx_receiver.specs.declared.over.Over.TheVariants.{Nothing}
 use Rattle.nx_receiver.proofs.watching.Loops.{goes_first, goes_on, goes_to}

@@ -1,4 +1,5 @@
-use Rattle.std.proofs.Common.{◌≡◌, ◌+◌, ◌-◌, ◌++◌, ◌∙◌, ◌≤◌, [], ◌∷◌, List, Bool, ap, arith, drop, length, length-drop, subst, take}
+use Rattle.std.proofs.Common.{◌≡◌, ◌+◌, ◌-◌, ◌++◌, ◌∙◌, ◌≤◌, [], ◌∷◌, List, Bool, ap, arith, drop}
+use Rattle.std.proofs.Common.{length, length-drop, subst, take}
 use Rattle.nx_code.specs.Packed.{packed_part}
 use Rattle.nx_sync.specs.Steps.{HuntsThrough}
 use Rattle.nx_sync.specs.Synchroniser.{StandsAfter}
