@@ -4,13 +4,14 @@ use Rattle.std.proofs.Common.{◌≡◌, ℕ, zero, suc, ◌+◌, ◌-◌, ◌*�
 use Rattle.std.proofs.Common.{[], ◌∷◌, ◌++◌, length, take, drop, get_or, Bool, refl, sym, ap, ap₂}
 use Rattle.std.proofs.Common.{subst, ◌∙◌, inl, inr, arith, length-append, length-drop, drop-drop}
 use Rattle.std.proofs.Common.{take-take}
+use Rattle.std.specs.List.{flat_map}
 use Rattle.std.proofs.Math.Nat.{pow-succ', pow-le-pow_right, mod-lt, mul_assoc, mul-mod_left}
 use Rattle.std.proofs.Math.Pow.{shr_lt}
 use Rattle.std.proofs.Math.Seq.{drop-cons, drop-append-add, take-append-add}
 use Rattle.std.proofs.lemmas.Bool.{cases_eq, ne_eqb}
 use Rattle.std.proofs.lemmas.Nat.{shr-shr, shl-shr, mod-pow-add, pow_pos}
 use Rattle.std.proofs.lemmas.List.{drop-append-le, take-append-le, take-append-drop}
-use Rattle.nx_code.specs.Word.{elements, elements_from, elements_of_list, number_of, value_of}
+use Rattle.nx_code.specs.Word.{elements, elements_from, number_of, value_of}
 use Rattle.nx_code.specs.Packed.{elements_of_words, packed_part}
 use Rattle.nx_code.proofs.WordLemmas.{number_of-lt}
 
@@ -271,16 +272,16 @@ words_in zero i x = []
 words_in (suc n) i x = (x / 2 ^ (7 * i) % 128) ∷ words_in n (i + 1) x
 
 -- their elements are those of the number
-pub elements_of_list-words_in : (n i x : ℕ)
-    → elements_of_list (words_in n i x) ≡ elements_from (7 * n) (x / 2 ^ (7 * i))
-unfolding elements_of_list elements_from
-elements_of_list-words_in zero i x = refl
-elements_of_list-words_in (suc n) i x =
+pub elements_of-words_in : (n i x : ℕ)
+    → flat_map elements (words_in n i x) ≡ elements_from (7 * n) (x / 2 ^ (7 * i))
+unfolding elements_from
+elements_of-words_in zero i x = refl
+elements_of-words_in (suc n) i x =
     let e : 7 + 7 * n ≡ 7 * suc n = omega arith in
-    ap (λ l. elements (x / 2 ^ (7 * i) % 128) ++ l) (elements_of_list-words_in n (i + 1) x)
+    ap (λ l. elements (x / 2 ^ (7 * i) % 128) ++ l) (elements_of-words_in n (i + 1) x)
     ∙ (sym (next_word (7 * n) i x) ∙ ap (λ k. elements_from k (x / 2 ^ (7 * i))) e)
 
-pub elements_of_list-words : (x : ℕ) → elements_of_list (words_in 8 0 x) ≡ elements_from 56 x
-elements_of_list-words x =
+pub elements_of-words : (x : ℕ) → flat_map elements (words_in 8 0 x) ≡ elements_from 56 x
+elements_of-words x =
     let e : x / 2 ^ (7 * 0) ≡ x = omega arith in
-    elements_of_list-words_in 8 0 x ∙ ap (elements_from 56) e
+    elements_of-words_in 8 0 x ∙ ap (elements_from 56) e

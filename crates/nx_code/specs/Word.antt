@@ -1,6 +1,6 @@
 -- Words and their elements (ITU-R M.476 and M.625: seven elements, each B or Y; four B and three Y
 -- in a signal).
-use Rattle.std.specs.Prelude.{ℕ, ◌+◌, ◌*◌, ◌/◌, ◌%◌, ◌==◌, Bool, true, false, not, List, [], ◌∷◌, ◌++◌, sum_by, take, drop, zero, suc, if◌then◌else◌}
+use Rattle.std.specs.Prelude.{ℕ, ◌+◌, ◌*◌, ◌/◌, ◌%◌, ◌==◌, Bool, true, false, not, List, [], ◌∷◌, sum_by, take, drop, zero, suc, if◌then◌else◌}
 
 -- the lowest elements of a number, so many of them, in the order of sending: the least place first,
 -- 1 is B
@@ -11,11 +11,6 @@ elements_from (suc count) number = (number % 2 == 1) ∷ elements_from count (nu
 -- the seven elements of a word
 unfoldable pub elements : ℕ → List Bool
 elements number = elements_from 7 number
-
--- the elements of words, in the order of sending
-unfoldable pub elements_of_list : List ℕ → List Bool
-elements_of_list [] = []
-elements_of_list (word ∷ words) = elements word ++ elements_of_list words
 
 -- what an element counts: B is 1, Y is 0
 abbrev pub value_of : Bool → ℕ

@@ -2,7 +2,9 @@
 //! is inlined always, since a call would cost more than its few instructions.
 
 ghost use Rattle.std.specs.Prelude.{◌≡◌, ◌+◌, ◌*◌, ◌/◌, ◌%◌, ◌^◌, ◌<◌, ◌≤◌, length};
-ghost use Rattle.nx_code.specs.Word.{elements_from, elements_of_list};
+ghost use Rattle.std.specs.List.{flat_map};
+ghost use Rattle.nx_code.specs.Word as words;
+ghost use Rattle.nx_code.specs.Word.{elements_from};
 ghost use Rattle.nx_code.specs.Packed.{packed_elements, packed_part};
 
 use crate::words::{ELEMENTS, Word};
@@ -47,7 +49,7 @@ pub fn packed_word(elements: u64) -> Word
 #[inline(always)]
 pub fn words_of(elements: u64) -> [Word; WORDS_AT_ONCE]
     requires { elements < 2 ^ 56 }
-    ensures { elements_of_list result ≡ elements_from 56 elements }
+    ensures { flat_map words.elements result ≡ elements_from 56 elements }
 {
     [
         word_in(elements, 0),

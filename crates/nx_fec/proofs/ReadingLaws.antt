@@ -1,15 +1,14 @@
 -- Lemmas on what a scanner has read, and on the faults that explain why it stopped.
-use Rattle.std.proofs.Common.{◌≡◌, ℕ, arith, Bool, length, take, drop, refl, List, [], ◌∷◌, ◌++◌}
+use Rattle.std.proofs.Common.{◌≡◌, ℕ, arith, Bool, length, take, drop, List, [], ◌∷◌, ◌++◌}
 use Rattle.std.proofs.Common.{sym, ap, ◌∙◌, subst, append-nil, Option, None, Some, IfSome, Result}
 use Rattle.std.proofs.Common.{Ok, Err, IfErr}
 use Rattle.std.specs.List.{flat_map}
 use Rattle.std.proofs.lemmas.List.Concat.{flat_map-append}
 use Rattle.nx_fec.specs.AirFile.{Line}
-use Rattle.nx_fec.specs.Lines.{HasFault, IsAtByte, IsBitFile, IsCause, IsFaultless, Scanning, Scans}
-use Rattle.nx_fec.specs.Lines.{Splits, StopsIn, elements_on, file_of}
+use Rattle.nx_fec.specs.Lines.{HasFault, IsAtByte, IsCause, IsFaultless, Scanning, Scans}
+use Rattle.nx_fec.specs.Lines.{Splits, StopsIn, elements_on}
 use Rattle.nx_fec.specs.Runs.{run_fault, ExplainsReading, IsOutside}
 use Rattle.nx_fec.specs.private.Takers.{ExplainsPiece, HasRead}
-use Rattle.std.specs.declared.alloc.AllocError.{AllocError}
 use Rattle.nx_fec.proofs.PieceLemmas.{piece-parts}
 use Rattle.nx_fec.specs.declared.channel.Channel.TheVariants.{Zero}
 use Rattle.nx_fec.specs.declared.fault.LineFault.{LineFault}

@@ -11,7 +11,7 @@ ghost use Rattle.nx_sync.specs.Synchroniser.{is_between_words, is_hunting, keeps
 
 use crate::reader::LockReader;
 use crate::report_text::{Counts, Shown, close_lock, end_report, open_lock};
-use nx_code::{ELEMENTS, WORDS_AT_ONCE, Word, elements_at, words_of};
+use nx_code::{ELEMENTS, WORDS_AT_ONCE, Word};
 use nx_envelope::NEWLINE;
 use nx_fec::PackedElements;
 use nx_sync::{Change, Role, Step, Synchroniser, WordSynchroniser};
@@ -232,7 +232,7 @@ impl LockWatch {
             shown.old.items shown.new.items }
     {
         if elements.len() - from >= BLOCK {
-            let block = block_at(elements, from);
+            let block = elements.eight_words_at(from);
             if synchroniser.keeps_lock(&block) {
                 self.hear_block(synchroniser, &block, shown);
                 return BLOCK;
@@ -378,14 +378,4 @@ impl LockWatch {
         end_report(shown, self.elements, self.locks, copies);
         (self.locks, copies)
     }
-}
-
-/// The eight words of the elements from a place on, which are there.
-#[inline(always)]
-fn block_at(elements: &PackedElements, from: usize) -> [Word; WORDS_AT_ONCE]
-    requires { from + 56 ≤ length elements.now }
-    ensures { flat_map words.elements result ≡ take 56 (drop from elements.now) }
-{
-    let _ = elements.len();
-    words_of(elements_at(elements.words(), from, BLOCK))
 }

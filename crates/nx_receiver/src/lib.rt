@@ -9,7 +9,6 @@ mod listen_fault;
 mod listening;
 mod lock_reader;
 mod over;
-mod packed;
 mod receiver;
 mod resume_fault;
 mod resuming;

@@ -20,7 +20,6 @@ ghost use Rattle.nx_receiver.specs.declared.over.Over.TheVariants.{Lock, Nothing
 
 use crate::lock_reader::LockReader;
 use crate::over::{CopyTag, Over};
-use crate::packed::{EIGHT_WORDS, eight_words};
 use nx_code::{ELEMENTS, WORDS_AT_ONCE, Word};
 use nx_envelope::{Found, FoundHead, Identity, Letter, TextEvent};
 use nx_fec::PackedElements;
@@ -28,6 +27,9 @@ use nx_memory::{Selection, Vital};
 use nx_sync::{Role, Step, Synchroniser, WordSynchroniser};
 use std::alloc::{AllocError, Global};
 use std::marker::Model;
+
+/// How many elements eight words have.
+const EIGHT_WORDS: usize = WORDS_AT_ONCE * ELEMENTS;
 
 /// A watch over the elements that arrive.
 ///
@@ -270,7 +272,7 @@ impl Watch {
         ensures tag { TagGoesOn self.old self.new }
     {
         if packed.len() - from >= EIGHT_WORDS {
-            if self.hear_eight(synchroniser, &eight_words(packed, from)) {
+            if self.hear_eight(synchroniser, &packed.eight_words_at(from)) {
                 return (EIGHT_WORDS, Over::Nothing);
             }
         }

@@ -27,7 +27,7 @@ use Rattle.nx_receiver.specs.private.Watch.{HasTag, ReadsNow, ReadsOver, copies_
 use Rattle.nx_receiver.proofs.locks.Found.{IsByteIn, IsCopyIn, text_placed}
 use Rattle.nx_receiver.proofs.locks.Growing.{past_copies-more, whole_heard}
 use Rattle.nx_receiver.proofs.locks.Texts.{lock_text-more, positions-same}
-use Rattle.nx_receiver.proofs.receiving.Logged.{ended_placed}
+use Rattle.nx_receiver.proofs.receiving.Logged.{ended_placed, past_is}
 use Rattle.nx_receiver.proofs.watching.Texts.{tag-later}
 
 -- words that are the same up to a word leave the reader where it stands
@@ -80,11 +80,6 @@ standing_heard bits locks (locked p t) is =
     All-weaker (IsByteIn t (t + 7 * whole_words bits t)) (IsByteIn 0 (length bits))
     (λ b h. (omega arith, omega (arith, h.1, heard))) (lock_text bits t (whole_words bits t))
     (text_placed _ _ t (whole_words bits t))
-
-past_is : (bits : List Bool) (locks : List Lock) (now : Now) → IsNow bits locks now
-    → (p : ℕ) × Past bits locks p
-past_is bits locks (hunting p) is = (p, is.past)
-past_is bits locks (locked p t) is = (p, is.past)
 
 -- a step without a word completes none
 pub no_word : (r : Step) (w : ℕ × Role) → r.word ≡ None → r.word ≡ Some w → ⊥

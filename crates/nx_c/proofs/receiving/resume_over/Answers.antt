@@ -7,7 +7,8 @@ pub returns-in-Ok-clause-resumes : goal.returns-in-Ok-clause-resumes
 returns-in-Ok-clause-resumes c =
     resumes-to c.args.state.now c.args.air.now c.go_on.result.log.items c.go_on.result.left.items
     c.in-Ok.states c.go_on.result.outcome
-    (subst (λ r. AnswersState (Unit {0}) (λ more. Unit {0}) r.now (Ok c.in-Ok.states)) c.new.ensures.inner c.in-Ok.ensures.reads.file) c.go_on.ensures
+    (subst (λ r. AnswersState (Unit {0}) (λ more. Unit {0}) r.now (Ok c.in-Ok.states))
+    c.new.ensures.inner c.in-Ok.ensures.reads.file) c.go_on.ensures
 
 pub returns-in-Ok-clause-ok : goal.returns-in-Ok-clause-ok
 returns-in-Ok-clause-ok c =

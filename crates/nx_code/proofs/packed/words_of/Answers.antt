@@ -1,4 +1,4 @@
-use Rattle.nx_code.proofs.PackedLemmas.{elements_of_list-words}
+use Rattle.nx_code.proofs.PackedLemmas.{elements_of-words}
 use Rattle.nx_code.proofs.packed.words_of.Goals as goal
 
 pub returns : goal.returns
@@ -12,4 +12,4 @@ returns c = rw (
   c.word_in-7.ensures,
   c.word_in-8.ensures,
 )
-    (elements_of_list-words c.args.elements)
+    (elements_of-words c.args.elements)

@@ -1,4 +1,6 @@
-use Rattle.std.proofs.Common.{◌≡◌, ℕ, ◌+◌, ◌-◌, ◌++◌, ◌∙◌, Bool, List, [], length, take, drop, subst, sym, ap, arith, append-nil, append_assoc, take_all, length-drop}
+use Rattle.std.proofs.Common.{◌≡◌, ℕ, ◌+◌, ◌-◌, ◌++◌, ◌∙◌, Bool, List, [], length, take, drop}
+use Rattle.std.proofs.Common.{subst, sym, ap, arith, append-nil, append_assoc, take_all}
+use Rattle.std.proofs.Common.{length-drop}
 use Rattle.std.proofs.lemmas.List.{map-append, take_rest}
 use Rattle.nx_receiver.specs.Events.{Event, element, elements}
 use Rattle.nx_receiver.specs.Receiver.{Stands, entry_list}

@@ -6,7 +6,8 @@ use Rattle.nx_locks.proofs.watch.LockWatch.follow_words.Goals as goal
 
 pub loop-count-init : goal.loop-count-init
 loop-count-init c = record {
-  goes = goes_first (at_words c.args.self.now c.args.synchroniser.now) (drop c.args.from c.args.elements.now)
+  goes = goes_first (at_words c.args.self.now c.args.synchroniser.now)
+      (drop c.args.from c.args.elements.now)
       c.args.shown.now.items;
   limit = c.requires.limit;
   few = omega arith;

@@ -9,7 +9,8 @@ use Rattle.nx_receiver.proofs.watch.Watch.follow_words.Goals as goal
 
 pub loop-heard-init : goal.loop-heard-init
 loop-heard-init c =
-    (goes_first (at_words c.args.self.now c.args.synchroniser.now) (drop c.args.from c.args.packed.now), c.requires.limit)
+    let watch = at_words c.args.self.now c.args.synchroniser.now in
+    (goes_first watch (drop c.args.from c.args.packed.now), c.requires.limit)
 
 pub returns-then-ne-clause-hears : goal.returns-then-ne-clause-hears
 returns-then-ne-clause-hears c =
@@ -35,7 +36,8 @@ loop-heard-preserved c =
     let mid = at_words c.loop-heard.self c.loop-heard.synchroniser in
     let new = at_words some.new.self some.new.synchroniser in
     let heard = subst (HearsAll mid new piece) nothing some.ensures.hears in (
-      goes_on old mid new (drop c.args.from all) piece at some.result.0 c.loop-heard.invariant.0 within (behind all c.args.from at some.result.0)
+      goes_on old mid new (drop c.args.from all) piece at some.result.0
+          c.loop-heard.invariant.0 within (behind all c.args.from at some.result.0)
           heard some.ensures.force (tag_by_words some.ensures.tag),
       search rules,
     )
