@@ -5,7 +5,7 @@ use super::air::{Heard, LOG_OF_EA01, MOMENT_OF_EA01, Piece, hears_each, made_of}
 use super::devices::{Sink, Source};
 use super::station::{AIR_FILE_OF_EA01, MESSAGE_FILE};
 use super::{refuses, run_in_pieces, run_on, writes};
-use crate::program::run;
+use nx_program::run;
 use std::alloc::Global;
 use std::test::Fail;
 
