@@ -1,17 +1,11 @@
 //! The program `navtex`: a NAVTEX broadcast station and receiver on standard input and output.
 #![tactic(auto)]
 
-mod commands;
-mod fault;
-pub mod laws;
-pub mod program;
-mod slots;
 #[cfg(test)]
 mod tests;
-mod words;
 
 use nx_fec::Counting;
-use program::answer;
+use nx_program::answer;
 use std::process::ExitCode;
 use std::{env, io};
 

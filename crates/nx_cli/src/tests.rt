@@ -20,8 +20,8 @@ mod shown_locks;
 mod station;
 mod words;
 
-use crate::program::run;
 use devices::{Sink, Source};
+use nx_program::run;
 use std::alloc::Global;
 use std::test::Fail;
 

@@ -28,6 +28,3 @@ pub use resuming::resume;
 pub use state::{read_state, write_state};
 pub use state_fault::StateFault;
 pub use writing::{MAX_ENTRY, entry_text, entry_text_on};
-
-#[cfg(test)]
-mod tests;

@@ -63,13 +63,14 @@ fn refuses_lines_of_channels(rt: HostRuntime) -> Result<(), Fail> {
     let alloc = rt.alloc();
     let long_line = join(alloc, &[b"B1 ", &[b'0'; 512], b"\n"])?;
     let bad = "navtex: line 1 is not understood\n";
-    let cases: [(&[u8], &str); 6] = [
+    let cases: [(&[u8], &str); 7] = [
         (b"B3 1\n", bad),
         (b"RS1E\n", bad),
         (b"T1 5\n", bad),
         (&long_line, "navtex: line 1 is longer than 514 bytes\n"),
         (b"B2 1\n", "navtex: line 1 has elements before any moment\n"),
         (b"RJ2 L\n", "navtex: line 1: subject L can't be refused\n"),
+        (b"T 5\nB1 1\nB1 1", "navtex: line 3 has no end\n"),
     ];
     for (air_file, line) in cases {
         assert!(rt;

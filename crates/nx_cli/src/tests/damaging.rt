@@ -2,8 +2,8 @@
 
 use super::station::AIR_FILE_OF_EA01;
 use super::{AIR_FILE_OF_A, output_of, refuses, run_on, writes};
-use crate::program::run;
 use crate::tests::devices::{Sink, Source};
+use nx_program::run;
 use std::alloc::Global;
 
 // 59 words from slot 144 on are those of slots 144 to 202, of which 30 are even.

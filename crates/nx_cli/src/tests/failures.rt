@@ -1,9 +1,9 @@
 //! Devices that fail, take little, or forget.
 
 use super::AIR_FILE_OF_A;
-use crate::program::run;
 use crate::tests::devices::{Sink, Source};
 use nx_fec::Counting;
+use nx_program::run;
 use std::alloc::{AllocError, Global};
 use std::io::Write;
 use std::test::Fail;

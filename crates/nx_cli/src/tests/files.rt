@@ -2,8 +2,8 @@
 
 use super::station::SEND;
 use super::{AIR_FILE_OF_A, output_of, refuses, with_word, writes};
-use crate::program::run;
 use crate::tests::devices::{Sink, Source};
+use nx_program::run;
 use std::alloc::Global;
 use std::test::Fail;
 

@@ -5,7 +5,7 @@ use super::air::{Heard, LOG_OF_EA01, MOMENT_OF_EA01, Piece, hears_each, made_of}
 use super::devices::{Sink, Source};
 use super::station::{AIR_FILE_OF_EA01, MESSAGE_FILE};
 use super::{refuses, run_in_pieces, run_on, writes};
-use crate::program::run;
+use nx_program::run;
 use std::alloc::Global;
 use std::test::Fail;
 
@@ -36,7 +36,8 @@ static ZEROS: [u8; 513] = [b'0'; 513];
 #[test]
 fn stops_at_a_fault_of_a_line(rt: HostRuntime) -> Result<(), Fail> {
     let long_line = Text(&ZEROS);
-    let cases: [(&[Piece], &str); 9] = [
+    let now = Text(MOMENT_OF_EA01);
+    let cases: [(&[Piece], &str); 10] = [
         (
             &[Text(b"T 5\nT 4\n")],
             "navtex: line 2: moment 4 is before 5\n",
@@ -66,6 +67,11 @@ fn stops_at_a_fault_of_a_line(rt: HostRuntime) -> Result<(), Fail> {
         (
             &[Text(b"T 0\nRJ C\n\n")],
             "navtex: line 3 is not understood\n",
+        ),
+        // A line that is bad closes no copy.
+        (
+            &[now, Part(0, 1_323, 490), Text(b"?\n")],
+            "navtex: line 5 is not understood\n",
         ),
     ];
     for (pieces, line) in cases {

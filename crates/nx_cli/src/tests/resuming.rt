@@ -6,7 +6,7 @@ use super::channels::{LOG_ON_BOTH, LOG_ON_CHANNEL_1};
 use super::devices::{Sink, Source};
 use super::station::AIR_FILE_OF_EA01;
 use super::{run_in_pieces, run_on};
-use crate::program::run;
+use nx_program::run;
 use std::alloc::{AllocError, Global};
 use std::test::Fail;
 

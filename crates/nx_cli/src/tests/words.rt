@@ -1,13 +1,13 @@
 //! What the words of the command line are answered with.
 
 use super::{AIR_FILE_OF_A, run_on};
-use crate::laws::{
+use crate::tests::devices::{Sink, Source};
+use nx_fec::Counting;
+use nx_program::answer;
+use nx_program::laws::{
     damage_in_examples, numbers_are_in_range, slots_in_examples, words_in_examples,
     words_read_as_one,
 };
-use crate::program::answer;
-use crate::tests::devices::{Sink, Source};
-use nx_fec::Counting;
 use std::alloc::Global;
 use std::io::{Error, ErrorKind};
 

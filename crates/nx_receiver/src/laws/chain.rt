@@ -156,22 +156,3 @@ pub fn there_is_a_chain_with_a_message_heard_in_time()
     ensures heard { IsHeardInTimeOver Zero none_saved example_runs example_message }
     ensures logs { all_logs example_runs ≡ worked_log }
 {}
-
-#[cfg(test)]
-mod tests {
-    use super::*;
-    use nx_memory::PlainRecall;
-
-    /// Each law is called once.
-    #[test]
-    fn laws(_rt: HostRuntime) {
-        the_last_entries_decide();
-        copies_are_printed_in_turn();
-        a_chain_logs_its_joined_copies();
-        a_run_goes_on_from_what_is_saved();
-        a_receiver_holds_what_it_leaves::<PlainRecall>();
-        a_chain_is_told_by_its_files();
-        a_message_heard_over_runs_has_one_entry();
-        there_is_a_chain_with_a_message_heard_in_time();
-    }
-}

@@ -57,17 +57,3 @@ pub fn a_file_without_channels_has_the_log_of_one_receiver()
 pub fn two_channels_are_logged()
     ensures { IsLogOf all_at_zero (file_of two_channels) two_channels_log }
 {}
-
-#[cfg(test)]
-mod tests {
-    use super::*;
-
-    /// Each law is called once.
-    #[test]
-    fn laws(_rt: HostRuntime) {
-        each_channel_has_its_log();
-        channels_share_nothing();
-        a_file_without_channels_has_the_log_of_one_receiver();
-        two_channels_are_logged();
-    }
-}

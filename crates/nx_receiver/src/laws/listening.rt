@@ -59,17 +59,3 @@ pub fn there_is_an_air_file_with_a_message_heard_in_time()
     ensures heard { IsHeardInTimeOn Zero all_at_zero example_air_file example_message }
     ensures log { IsLogOf all_at_zero example_air_file worked_log }
 {}
-
-#[cfg(test)]
-mod tests {
-    use super::*;
-
-    /// Each law is called once.
-    #[test]
-    fn laws(_rt: HostRuntime) {
-        an_air_file_has_one_log();
-        an_air_file_has_one_outcome();
-        a_message_heard_in_time_has_one_entry();
-        there_is_an_air_file_with_a_message_heard_in_time();
-    }
-}

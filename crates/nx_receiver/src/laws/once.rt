@@ -63,18 +63,3 @@ pub fn printed_messages_hold_their_headers_alone()
         AllByRecursion (λ (message : MessageView). AreLines message.lines) messages
         → Contains (headers (flat_map printed_text messages)) header ↔ IsHeaderOf messages header }
 {}
-
-#[cfg(test)]
-mod tests {
-    use super::*;
-
-    /// Each law is called once.
-    #[test]
-    fn laws(_rt: HostRuntime) {
-        a_received_emission_keeps_its_lock();
-        each_sending_gives_one_copy();
-        a_message_is_printed_once();
-        printed_messages_hold_their_headers_alone();
-        there_is_a_message_heard_in_time();
-    }
-}

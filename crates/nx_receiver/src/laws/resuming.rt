@@ -73,17 +73,3 @@ pub fn a_run_writes_its_log_or_its_state()
         → (text air state : List ℕ) × (input ≡ text ++ air) × WritesState text air state
         × (new ≡ old ++ state) }
 {}
-
-#[cfg(test)]
-mod tests {
-    use super::*;
-
-    /// Each law is called once.
-    #[test]
-    fn laws(_rt: HostRuntime) {
-        a_state_is_told_by_its_bytes();
-        an_input_has_one_state();
-        texts_make_a_chain();
-        a_run_writes_its_log_or_its_state();
-    }
-}

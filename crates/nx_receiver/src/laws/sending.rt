@@ -61,16 +61,3 @@ pub fn what_was_sent_is_printed_once()
         → IsLogOfFile all_at_zero air lines copies log
         → IsPrintedOnce message (copies_on Zero copies) }
 {}
-
-#[cfg(test)]
-mod tests {
-    use super::*;
-
-    /// Each law is called once.
-    #[test]
-    fn laws(_rt: HostRuntime) {
-        an_emission_as_sent_is_heard_in_time();
-        what_was_sent_is_printed();
-        what_was_sent_is_printed_once();
-    }
-}

@@ -1,0 +1,153 @@
+-- Words that clap takes enter a command of the program, which is given the numbers that it wants.
+use Rattle.std.proofs.Common.{◌≡◌, ◌&&◌, ◌||◌, option_map, Bool, true, false, not, List, [], ◌∷◌, Option, Some, None, IfSome, refl, subst, codes, find}
+use Rattle.std.specs.Option.{option_map_or}
+use Rattle.clap.specs.Kinds.{check_kinds}
+use Rattle.clap.specs.Takes.{is_given}
+use Rattle.clap.specs.Words.{Row, Rule, Shape, Text, built, fault_of, subcommand_of}
+use Rattle.clap.specs.Simple.{argument_words, built_leaf, entered, filled_from, help_rule, label_of, names_of, rows_at}
+use Rattle.clap.specs.Walk.{answers_to, nothing_held, rows_after, walk}
+use Rattle.clap.specs.Faults.{check_fault, entered_fault, level_fault}
+use Rattle.nx_program.proofs.CommandTable.{Entry, IsSound, Maker, Makes, entries, entries-sound, plain, range, slot, tree_of}
+use Rattle.nx_program.proofs.EachFound.{Each, each-map, found_is}
+use Rattle.nx_program.proofs.NumbersGiven.{GivesNumber, IsNumeric, gets, uses-other, uses-text, uses-wanted}
+use Rattle.nx_program.proofs.RowsKept.{UsesWell, or-first, or-second}
+use Rattle.nx_program.specs.Words.{navtex, number_rule, text_rule}
+
+-- the arguments of a command that wants a station and a moment, and of one that wants words, as
+-- they are built
+abbrev slot_rules : List Rule
+slot_rules = filled_from 1
+    (text_rule (codes "STATION") ∷ number_rule (codes "MOMENT") 32503679999 ∷ help_rule ∷ [])
+
+abbrev damage_rules : List Rule
+damage_rules = filled_from 1
+    (text_rule (codes "KIND") ∷ number_rule (codes "FROM") 4294967295 ∷ number_rule
+    (codes "COUNT") 4294967295 ∷ help_rule ∷ [])
+
+slot_rules-moment : Each (UsesWell (IsNumeric (codes "MOMENT") 32503679999)) slot_rules
+slot_rules-moment = (
+  uses-text _ _ 1 _ refl,
+  (uses-wanted _ _ 2, ((λ again vs rows e good. good), tt)),
+)
+
+damage_rules-from : Each (UsesWell (IsNumeric (codes "FROM") 4294967295)) damage_rules
+damage_rules-from = (
+  uses-text _ _ 1 _ refl,
+  (
+    uses-wanted _ _ 2,
+    (
+      uses-other _ _ 3 _ _ refl,
+      ((λ again vs rows e good. good), tt),
+    ),
+  ),
+)
+
+damage_rules-count : Each (UsesWell (IsNumeric (codes "COUNT") 4294967295)) damage_rules
+damage_rules-count = (
+  uses-text _ _ 1 _ refl,
+  (
+    uses-other _ _ 2 _ _ refl,
+    (
+      uses-wanted _ _ 3,
+      ((λ again vs rows e good. good), tt),
+    ),
+  ),
+)
+
+second_wanted : (a b : Bool) → check_kinds false false ((true && not a) || ((true && not b) ||
+    (false || false))) ≡ [] → b ≡ true
+second_wanted true true e = refl
+second_wanted true false e = absurd (cc)
+second_wanted false true e = absurd (cc)
+second_wanted false false e = absurd (cc)
+
+-- the second and the third of three arguments are given
+both_wanted : (a b c : Bool)
+    → check_kinds false false ((true && not a) || ((true && not b) || ((true && not c) ||
+    (false || false)))) ≡ [] → (b ≡ true) × (c ≡ true)
+both_wanted true true true e = (refl, refl)
+both_wanted true true false e = absurd (cc)
+both_wanted true false true e = absurd (cc)
+both_wanted true false false e = absurd (cc)
+both_wanted false true true e = absurd (cc)
+both_wanted false true false e = absurd (cc)
+both_wanted false false true e = absurd (cc)
+both_wanted false false false e = absurd (cc)
+
+-- the numbers that the command of an entry is given
+abbrev pub Gives : Maker → List Row → Type 0
+Gives (plain call) rows = Unit {0}
+Gives (slot make) rows = GivesNumber (codes "MOMENT") 32503679999 rows
+Gives (range make) rows =
+    GivesNumber (codes "FROM") 4294967295 rows × GivesNumber (codes "COUNT") 4294967295 rows
+
+-- the name of a command that was entered, and the numbers that its arguments hold
+pub record IsCommand (name : Text) (rows : List Row) : Type 0 where
+  pub maker : Maker
+  pub makes : Makes name maker
+  pub gives : Gives maker rows
+
+abbrev IsCommandOf : Shape → Type 0
+IsCommandOf s = (words : List Text) → level_fault s [] nothing_held words false [] ≡ []
+    → IsCommand s.name (rows_after s.rules [] words)
+
+-- the command of an entry, as it is built
+abbrev pub leaf : Entry → Shape
+leaf e = built_leaf (tree_of e.0 e.1).top
+
+leaf-is : (name : Text) (maker : Maker) → Makes name maker → IsCommandOf (leaf (name, maker))
+leaf-is name (plain call) makes words e = record { maker = plain call; makes = makes; gives = tt }
+leaf-is name (slot make) makes words e = record {
+  maker = slot make;
+  makes = makes;
+  gives = gets _ _ _ slot_rules-moment (refl, (refl, (refl, tt)))
+      (λ rows checked. second_wanted (is_given (codes "STATION") rows)
+      (is_given (codes "MOMENT") rows) checked) words e;
+}
+leaf-is name (range make) makes words e =
+    let wanted : (rows : List Row) → check_fault (leaf (name, range make)) rows false ≡ []
+    → (is_given (codes "FROM") rows ≡ true) × (is_given (codes "COUNT") rows ≡ true) =
+    λ rows checked. both_wanted (is_given (codes "KIND") rows) (is_given (codes "FROM") rows)
+    (is_given (codes "COUNT") rows) checked in
+    record {
+      maker = range make;
+      makes = makes;
+      gives = (
+        gets _ _ _ damage_rules-from (refl, (refl, (refl, (refl, tt))))
+            (λ rows checked. (wanted rows checked).0) words e,
+        gets _ _ _ damage_rules-count (refl, (refl, (refl, (refl, tt))))
+            (λ rows checked. (wanted rows checked).1) words e,
+      );
+    }
+
+commands-are : Each IsCommandOf (built navtex).subs
+commands-are = each-map IsSound IsCommandOf leaf (λ e sound. leaf-is e.0 e.1 sound) entries
+    entries-sound
+
+found-command : (words : List Text) (found : Option Shape) → IfSome found IsCommandOf
+    → option_map_or (λ s. level_fault s [] nothing_held words false []) found [] ≡ []
+    → (name : Text) (rows : List Row) → option_map (λ s. rows_at s words) found ≡ Some (name, rows)
+    → IsCommand name rows
+found-command words None is e name rows entered = absurd (cc)
+found-command words (Some s) is e name rows entered =
+    let same : Some (rows_at s words) ≡ Some (name, rows) = entered in
+    let pair : rows_at s words ≡ (name, rows) = cc in
+    let P : Text × List Row → Type 0 = λ p. IsCommand p.0 p.1 in
+    subst P pair (is words e)
+
+entered-command : (stop : Option (Text × List Text)) → entered_fault (built navtex) stop ≡ []
+    → (name : Text) (rows : List Row)
+    → entered (built navtex) stop ≡ Some (name, rows) → IsCommand name rows
+entered-command None e name rows is = absurd (cc)
+entered-command (Some p) e name rows is =
+    found-command p.1 (find (λ s. answers_to p.0 (label_of s)) (built navtex).subs)
+    (found_is IsCommandOf (λ s. answers_to p.0 (label_of s)) (built navtex).subs commands-are) e
+    name rows is
+
+-- words that clap takes enter a command of the program, which is given the numbers that it wants
+pub taken-command : (words : List Text) (name : Text) (rows : List Row) → fault_of navtex words ≡ []
+    → subcommand_of navtex words ≡ Some (name, rows) → IsCommand name rows
+taken-command words name rows taken is =
+    let stop = (walk (built navtex).top.rules (names_of (built navtex)) nothing_held
+    (argument_words navtex words)).stopped in
+    entered-command stop (or-first _ _ (or-second _ _ taken)) name rows is

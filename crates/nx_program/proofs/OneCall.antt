@@ -1,0 +1,93 @@
+-- The call of a command's word and its arguments, by the table of commands: there is at most one.
+use Rattle.std.proofs.Common.{◌≡◌, ◌∙◌, ◌⊎◌, Bool, true, false, List, [], ◌∷◌, Option, Some, None, IfSome, if◌then◌else◌, codes, inl, inr, refl, subst, sym}
+use Rattle.std.specs.Str.{bytes_eq}
+use Rattle.std.proofs.lemmas.Slice.Eq.{bytes_eq-Decides}
+use Rattle.clap.specs.Words.{Row, Text}
+use Rattle.nx_envelope.specs.declared.letter.Letter.{Letter}
+use Rattle.nx_station.specs.declared.damaging.DamageKind.{DamageKind}
+use Rattle.nx_program.specs.declared.words.Call.{Call}
+use Rattle.nx_program.specs.Words.{HasArguments, IsKind, IsStation, command_name}
+use Rattle.nx_program.proofs.CallArguments.{range_call-is, range_call-kind, slot_call-is, slot_call-station}
+use Rattle.nx_program.proofs.CommandTable.{Entry, HasCall, IsSlotWord, IsSound, Maker, Makes, call_in, call_in-only, entries, entries-sound, made, plain, range, slot}
+use Rattle.nx_program.proofs.EachFound.{Each}
+
+made-is : (name : Text) (maker : Maker) → Makes name maker → (rows : List Row)
+    → IfSome (made maker rows) (HasCall name rows)
+made-is name (plain call) makes rows = makes rows
+made-is name (slot make) makes rows = slot_call-is make rows (HasCall name rows) (makes.1 rows)
+made-is name (range make) makes rows = range_call-is make rows (HasCall name rows) (makes.1 rows)
+
+call_in-is : (es : List Entry) → Each IsSound es → (name : Text) (rows : List Row)
+    → IfSome (call_in es name rows) (HasCall name rows)
+call_in-is [] each name rows = tt
+call_in-is (e ∷ es) each name rows = go (bytes_eq e.0 name) refl (call_in-is es each.1 name rows)
+  where
+    go : (t : Bool) → bytes_eq e.0 name ≡ t → IfSome (call_in es name rows) (HasCall name rows)
+        → IfSome (if t then made e.1 rows else call_in es name rows) (HasCall name rows)
+    go true same rest =
+        let is : e.0 ≡ name = (bytes_eq-Decides e.0 name).0 same in
+        let P : Text → Type 0 = λ word. IfSome (made e.1 rows) (HasCall word rows) in
+        subst P is (made-is e.0 e.1 each.0 rows)
+    go false other rest = rest
+
+only_named : (name : Text) (rows : List Row) (call : Call) → HasCall name rows call
+    → call_in entries name rows ≡ Some call
+only_named name rows call has =
+    let P : Text → Type 0 = λ word. call_in entries word rows ≡ Some call in
+    subst P (sym has.0) (call_in-only call rows has.1)
+
+-- a command and its arguments have at most one call
+pub same_call : (a b : Call) (rows : List Row) → command_name a ≡ command_name b
+    → HasArguments a rows
+    → HasArguments b rows → a ≡ b
+same_call a b rows e given other =
+    let same : Some a ≡ Some b =
+    sym (call_in-only a rows given) ∙ only_named (command_name a) rows b (e, other) in
+    cc
+
+-- and whether there is one is decided
+abbrev pub IsNotCalled : Text → List Row → Type 0
+IsNotCalled name rows = (call : Call) → name ≡ command_name call → HasArguments call rows → ⊥
+
+not_called : (name : Text) (rows : List Row) → call_in entries name rows ≡ None
+    → IsNotCalled name rows
+not_called name rows none call word given =
+    let some : None ≡ Some call = sym none ∙ only_named name rows call (word, given) in
+    absurd (cc)
+
+pub call_or_none : (name : Text) (rows : List Row)
+    → ((call : Call) × HasCall name rows call) ⊎ IsNotCalled name rows
+call_or_none name rows = go (call_in entries name rows) refl
+    (call_in-is entries entries-sound name rows)
+  where
+    go : (o : Option Call) → call_in entries name rows ≡ o → IfSome o (HasCall name rows)
+        → ((call : Call) × HasCall name rows call) ⊎ IsNotCalled name rows
+    go (Some call) e is = inl (call, is)
+    go None e is = inr (not_called name rows e)
+
+-- a word whose entry makes no call of the arguments is not called
+pub at_word : (word name : Text) (rows : List Row) → name ≡ word → call_in entries word rows ≡ None
+    → IsNotCalled name rows
+at_word word name rows is none =
+    let P : Text → Type 0 = λ n. IsNotCalled n rows in subst P (sym is) (not_called word rows none)
+
+-- what the entry under a call's word makes of its arguments
+made_at : (word : Text) (call : Call) (rows : List Row) → command_name call ≡ word
+    → HasArguments call rows
+    → call_in entries word rows ≡ Some call
+made_at word call rows is given = only_named word rows call (sym is, given)
+
+-- a call of the word of a slot has a station, and one of the word of damage has a kind
+pub has-station : (call : Call) (rows : List Row) → IsSlotWord (command_name call)
+    → HasArguments call rows
+    → (letter : Letter) × IsStation rows letter
+has-station call rows (inl send) given =
+    slot_call-station _ rows call (made_at (codes "send") call rows send given)
+has-station call rows (inr slots) given =
+    slot_call-station _ rows call (made_at (codes "slots") call rows slots given)
+
+pub has-kind : (call : Call) (rows : List Row) → command_name call ≡ codes "damage"
+    → HasArguments call rows
+    → (kind : DamageKind) × IsKind rows kind
+has-kind call rows is given =
+    range_call-kind _ rows call (made_at (codes "damage") call rows is given)

@@ -1,0 +1,231 @@
+-- What the outcome of a run says of its words.
+use Rattle.std.proofs.Common.{◌≡◌, ◌⊎◌, ℕ, List, Result, Ok, Err, Option, ap, ap₂, inl, inr, refl, subst, sym, ◌∙◌, arith}
+use Rattle.clap.specs.Words.{Text}
+use Rattle.nx_program.specs.declared.fault.CallFault.{CallFault}
+use Rattle.nx_program.specs.declared.fault.CallFault.TheVariants as call
+use Rattle.nx_program.specs.declared.fault.Fault.{Fault}
+use Rattle.nx_program.specs.declared.fault.Fault.TheVariants as fault
+use Rattle.nx_receiver.specs.declared.listen_fault.ListenFault.{ListenFault}
+use Rattle.nx_receiver.specs.declared.listen_fault.ListenFault.TheVariants as listen
+use Rattle.nx_receiver.specs.declared.resume_fault.ResumeFault.{ResumeFault}
+use Rattle.nx_receiver.specs.declared.resume_fault.ResumeFault.TheVariants as resume
+use Rattle.nx_receiver.specs.declared.state_fault.StateFault.TheVariants as state
+use Rattle.nx_station.specs.declared.fault.CheckFault.{CheckFault}
+use Rattle.nx_station.specs.declared.fault.CheckFault.TheVariants as check
+use Rattle.nx_station.specs.declared.fault.DamageFault.{DamageFault}
+use Rattle.nx_station.specs.declared.fault.DamageFault.TheVariants as damage
+use Rattle.nx_station.specs.declared.fault.EmissionFault.TheVariants as emission
+use Rattle.nx_station.specs.declared.fault.SendRunFault.{SendRunFault}
+use Rattle.nx_station.specs.declared.fault.SendRunFault.TheVariants as send
+use Rattle.nx_program.specs.declared.words.Call.{Call}
+use Rattle.nx_fec.specs.declared.fault.RunFault.{RunFault}
+use Rattle.nx_fec.specs.declared.fault.RunFault.TheVariants as run
+use Rattle.nx_program.specs.Program.{EndsRun, Exits, Performs, Succeeds, Tells, fresh_device}
+use Rattle.nx_program.specs.Status.{IsStatus, call_status, check_status, damage_status, listen_status, fault_status, resume_status, run_status, send_status, status_of}
+use Rattle.nx_fec.specs.Transfers.{Devices, devices, CountedDevice}
+use Rattle.nx_program.specs.Words.{IsRefused, Names}
+use Rattle.nx_program.proofs.WordsLemmas.{help_not_refused, named_not_help, named_not_refused, named_not_version, named_once, version_not_refused}
+
+-- what was wrapped, with no failed call
+fresh-is : {T : Type 0} (c : CountedDevice T) (device : T) → c.inner ≡ device → c.failures ≡ 0
+    → c ≡ fresh_device device
+fresh-is {T} c device inner none =
+    let make : T → ℕ → CountedDevice T = λ i n. record { inner = i; failures = n } in
+    ap₂ make inner none
+
+-- how a run over devices that were wrapped ends, told of fresh ones
+pub exits-fresh : {R W : Type 0} (words : List Text) (remaining : R → Option (List ℕ))
+    (contents : W → Option (List ℕ))
+    (input : R) (reader reader_after : CountedDevice R) (output : W)
+    (writer writer_after : CountedDevice W)
+    (status : ℕ)
+    → reader.inner ≡ input → reader.failures ≡ 0 → writer.inner ≡ output → writer.failures ≡ 0
+    → Exits words (devices remaining contents reader reader_after writer writer_after) status
+    → Exits words (devices remaining contents (fresh_device input) reader_after
+    (fresh_device output) writer_after) status
+exits-fresh {R} {W} words remaining contents input reader reader_after output writer writer_after
+    status input_is unread output_is unwritten exits =
+    let P : Devices R W → Type 0 = λ d. Exits words d status in
+    let on : CountedDevice R → CountedDevice W
+    → Devices R W = λ r w. devices remaining contents r reader_after w writer_after in
+    subst P (ap₂ on (fresh-is reader input input_is unread)
+    (fresh-is writer output output_is unwritten)) exits
+
+-- a fault of a call has status 1 or 2
+run-status : (why : RunFault) → (run_status why ≡ 1) ⊎ (run_status why ≡ 2)
+run-status run.Read = inl refl
+run-status (run.Write written) = inl refl
+run-status (run.Memory want) = inl refl
+run-status run.FileTooLong = inr refl
+run-status (run.LineLong line) = inr refl
+run-status (run.LineCut line) = inr refl
+run-status (run.BadLine line) = inr refl
+run-status (run.Ragged bits) = inr refl
+run-status (run.NoSuchCharacter at) = inr refl
+
+send-status : (why : SendRunFault) → (send_status why ≡ 1) ⊎ (send_status why ≡ 2)
+send-status send.Read = inl refl
+send-status (send.Write written) = inl refl
+send-status (send.Memory want) = inl refl
+send-status send.FileTooLong = inr refl
+send-status (send.BadLine line) = inr refl
+send-status (send.Text line fault) = inr refl
+send-status (send.LineCut line) = inr refl
+send-status (send.Open line) = inr refl
+send-status (send.Send why) = inr refl
+
+check-status : (why : CheckFault) → (check_status why ≡ 1) ⊎ (check_status why ≡ 2)
+check-status (check.Run why) = run-status why
+check-status (check.Emission (emission.Ragged bits)) = inr refl
+check-status (check.Emission (emission.WrongWord slot)) = inr refl
+check-status (check.Emission (emission.Unpaired position)) = inr refl
+check-status (check.Emission emission.BadEnvelope) = inr refl
+check-status (check.Emission (emission.Memory want)) = inl refl
+
+listen-status : (why : ListenFault) → (listen_status why ≡ 1) ⊎ (listen_status why ≡ 2)
+listen-status listen.Read = inl refl
+listen-status listen.AirTooLong = inr refl
+listen-status (listen.LineLong line) = inr refl
+listen-status (listen.LineCut line) = inr refl
+listen-status (listen.BadLine line) = inr refl
+listen-status (listen.NoMoment line) = inr refl
+listen-status (listen.Moment line why) = inr refl
+listen-status (listen.Vital line subject) = inr refl
+listen-status (listen.Write written) = inl refl
+listen-status (listen.Memory want) = inl refl
+
+resume-status : (why : ResumeFault) → (resume_status why ≡ 1) ⊎ (resume_status why ≡ 2)
+resume-status (resume.State state.Read) = inl refl
+resume-status (resume.State (state.StateLine line)) = inr refl
+resume-status (resume.State (state.StateCut line)) = inr refl
+resume-status (resume.Listen why) = listen-status why
+resume-status (resume.Write written) = inl refl
+
+damage-status : (why : DamageFault) → (damage_status why ≡ 1) ⊎ (damage_status why ≡ 2)
+damage-status damage.Read = inl refl
+damage-status damage.AirTooLong = inr refl
+damage-status (damage.LineLong line) = inr refl
+damage-status (damage.LineCut line) = inr refl
+damage-status (damage.BadLine line) = inr refl
+damage-status (damage.Write written) = inl refl
+
+call-status : (why : CallFault) → (call_status why ≡ 1) ⊎ (call_status why ≡ 2)
+call-status (call.Run why) = run-status why
+call-status (call.Send why) = send-status why
+call-status (call.Check why) = check-status why
+call-status (call.Listen why) = listen-status why
+call-status (call.Resume why) = resume-status why
+call-status (call.Damage why) = damage-status why
+call-status call.NoSlot = inr refl
+
+fault-status : (why : Fault)
+    → (fault_status why ≡ 1) ⊎ ((fault_status why ≡ 2) ⊎ (fault_status why ≡ 64))
+fault-status (fault.Words answer) = inr (inr refl)
+fault-status fault.NoText = inr (inr refl)
+fault-status fault.Station = inr (inr refl)
+fault-status fault.Kind = inr (inr refl)
+fault-status (fault.Call why) =
+    elim (call-status why) [ inl one ↦ inl one | inr two ↦ inr (inl two) ]
+
+outcome-status : (outcome : Result (Unit {0}) Fault) → IsStatus (status_of outcome)
+outcome-status (Ok done) = inl refl
+outcome-status (Err why) = inr (fault-status why)
+
+-- a run exits with one of the statuses
+pub status-exits : {R W : Type 0} (words : List Text) (d : Devices R W) (status : ℕ)
+    → Exits words d status
+    → IsStatus status
+status-exits words d status exits =
+    let P : ℕ → Type 0 = λ n. IsStatus n in
+    subst P (sym exits.status_is) (outcome-status exits.outcome)
+
+success-ends : {R W : Type 0} (words : List Text) (d : Devices R W)
+    (outcome : Result (Unit {0}) Fault)
+    → EndsRun words d outcome → status_of outcome ≡ 0 → Succeeds words d
+success-ends words d (Ok done) ends zero = ends
+success-ends words d (Err why) ends zero = elim (fault-status why) [
+  | inl one ↦ absurd (omega arith)
+  | inr other ↦ elim other [ inl two ↦ absurd (omega arith) | inr words ↦ absurd (omega arith) ]
+]
+
+-- status 0 is a success
+pub success-exits : {R W : Type 0} (words : List Text) (d : Devices R W) (status : ℕ)
+    → Exits words d status
+    → status ≡ 0 → Succeeds words d
+success-exits words d status exits zero =
+    success-ends words d exits.outcome exits.ends (sym exits.status_is ∙ zero)
+
+words-end : {R W : Type 0} (words : List Text) (d : Devices R W) (outcome : Result (Unit {0}) Fault)
+    → EndsRun words d outcome → status_of outcome ≡ 64 → IsRefused words
+words-end words d (Ok done) ends is = absurd (omega arith)
+words-end words d (Err (fault.Words answer)) ends is = inl ends.0
+words-end words d (Err fault.NoText) ends is = absurd ends
+words-end words d (Err fault.Station) ends is = inr (inl ends.0)
+words-end words d (Err fault.Kind) ends is = inr (inr ends.0)
+words-end words d (Err (fault.Call why)) ends is = elim (call-status why) [
+  | inl one ↦ absurd
+      (omega arith)
+  | inr two ↦ absurd (omega arith)
+]
+
+-- status 64 is a refusal of the words
+pub words-exit : {R W : Type 0} (words : List Text) (d : Devices R W) (status : ℕ)
+    → Exits words d status
+    → status ≡ 64 → IsRefused words
+words-exit words d status exits is =
+    words-end words d exits.outcome exits.ends (sym exits.status_is ∙ is)
+
+refused-ends : {R W : Type 0} (words : List Text) (d : Devices R W)
+    (outcome : Result (Unit {0}) Fault)
+    → EndsRun words d outcome → IsRefused words → (status_of outcome ≡ 64) ⊎ (status_of outcome ≡ 1)
+refused-ends words d (Ok done) ends refused = elim ends [
+  | inl runs ↦ absurd (named_not_refused words runs.call runs.named refused)
+  | inr (inl help) ↦ absurd (help_not_refused words help.asked refused)
+  | inr (inr version) ↦ absurd (version_not_refused words version.asked refused)
+]
+refused-ends words d (Err (fault.Words answer)) ends refused = inl refl
+refused-ends words d (Err fault.NoText) ends refused = absurd ends
+refused-ends words d (Err fault.Station) ends refused = inl refl
+refused-ends words d (Err fault.Kind) ends refused = inl refl
+refused-ends words d (Err (fault.Call why)) ends refused = elim ends [
+  | inl runs ↦ absurd (named_not_refused words runs.call runs.named refused)
+  | inr (inl help) ↦ absurd (help_not_refused words help.asked refused)
+  | inr (inr (inl version)) ↦ absurd (version_not_refused words version.asked refused)
+  | inr (inr (inr lacks)) ↦ inr (ap call_status lacks.memory)
+]
+
+-- words that are refused end with status 64, or with 1 for want of memory
+pub refused-exits : {R W : Type 0} (words : List Text) (d : Devices R W) (status : ℕ)
+    → Exits words d status
+    → IsRefused words → (status ≡ 64) ⊎ (status ≡ 1)
+refused-exits words d status exits refused =
+    elim (refused-ends words d exits.outcome exits.ends refused) [
+      | inl is ↦ inl (exits.status_is ∙ is)
+      | inr is ↦ inr (exits.status_is ∙ is)
+    ]
+
+-- a success of words that name a call is the success of that call
+pub success-named : {R W : Type 0} (words : List Text) (d : Devices R W) (call : Call)
+    → Names words call
+    → Succeeds words d → Performs call d (Ok tt)
+success-named words d call named success = elim success [
+  | inl runs ↦ let P : Call → Type 0 = λ c. Performs c d (Ok tt) in
+      subst P (named_once words runs.call call runs.named named) runs.performed
+  | inr (inl help) ↦ absurd (named_not_help words call named help.asked)
+  | inr (inr version) ↦ absurd (named_not_version words call named version.asked)
+]
+
+-- what a run answered is told
+pub tells-ok : {N F : Type 0} (name : F → CallFault) (answers : Result N F → Type 0) (answer : N)
+    → answers (Ok answer) → Tells name answers (Ok tt)
+tells-ok name answers answer answered = record { own = Ok answer; answered = answered; told = refl }
+
+pub tells-err : {N F : Type 0} (name : F → CallFault) (answers : Result N F
+    → Type 0) (outcome : Result (Unit {0}) CallFault) (why : F) (fault : CallFault)
+    → answers (Err why)
+    → outcome ≡ Err fault → fault ≡ name why → Tells name answers outcome
+tells-err name answers outcome why fault answered is named = record {
+  own = Err why;
+  answered = answered;
+  told = is ∙ ap (λ (f : CallFault). Err f) named;
+}

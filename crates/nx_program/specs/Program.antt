@@ -1,0 +1,169 @@
+-- How a run of the program ends: what it leaves on its devices, by the contracts of the calls, and
+-- the status with which it exits (this profile).
+use Rattle.std.specs.Prelude.{◌≡◌, ◌⊎◌, ◌∷◌, ◌++◌, ⊤, ℕ, List, [], Option, Result, Ok, Err}
+use Rattle.std.specs.Prelude.{alloc_error, codes}
+use Rattle.std.specs.Io.KnownBytes.{Appends}
+use Rattle.clap.specs.Words.{Text}
+use Rattle.nx_envelope.specs.Moment.{IsShownAs}
+use Rattle.std.specs.Fmt.{decimal}
+use Rattle.nx_fec.specs.Transfers.{CountedDevice, WroteSome, Devices}
+use Rattle.nx_fec.specs.Runs.{Decodes, Encodes, Shows}
+use Rattle.nx_fec.specs.TableText.{table_text}
+use Rattle.nx_locks.specs.Run.{ShowsLocks}
+use Rattle.nx_receiver.specs.Shares.{all_at_zero}
+use Rattle.nx_receiver.specs.ListenFrom.{ListensBy}
+use Rattle.nx_receiver.specs.Resume.{Resumes}
+use Rattle.nx_receiver.specs.declared.resume_fault.Want.TheVariants.{Log, State}
+use Rattle.nx_station.specs.Checking.{Checks}
+use Rattle.nx_station.specs.Damage.{Damages}
+use Rattle.nx_station.specs.FileSending.{Sends}
+use Rattle.nx_fec.specs.declared.fault.RunFault.{RunFault}
+use Rattle.nx_fec.specs.declared.fault.RunFault.TheVariants as run
+use Rattle.nx_station.specs.Slots.{HasNoSlot, IsNextSlot}
+use Rattle.nx_program.specs.declared.words.Call.{Call}
+use Rattle.nx_program.specs.declared.words.Call.TheVariants.{Check, Code, Decode, Encode, Listen, Show}
+use Rattle.nx_program.specs.declared.words.Call.TheVariants.{Damage, Locks, Resume, Save, Send, Slots}
+use Rattle.nx_program.specs.declared.fault.CallFault.{CallFault}
+use Rattle.nx_program.specs.declared.fault.CallFault.TheVariants as call
+use Rattle.nx_program.specs.declared.fault.Fault.{Fault}
+use Rattle.nx_program.specs.declared.fault.Fault.TheVariants as fault
+use Rattle.nx_program.specs.Status.{status_of}
+use Rattle.nx_program.specs.Words.{AsksForHelp, AsksForVersion, IsRefusedByClap, LacksKind}
+use Rattle.nx_program.specs.Words.{LacksStation, Names}
+
+-- a device on which no call has failed
+abbrev pub fresh_device : {T : Type 0} → T → CountedDevice T
+fresh_device device = record { inner = device; failures = 0 }
+
+-- nothing was read, and no read was tried
+abbrev pub IsUnread : {R W : Type 0} → Devices R W → Type 0
+IsUnread d = d.reader_after ≡ d.reader
+
+-- neither device was called
+pub record IsUntouched {R W : Type 0} (d : Devices R W) : Type 0 where
+  pub reader : d.reader_after ≡ d.reader
+  pub writer : d.writer_after ≡ d.writer
+
+-- the outcome of a run as the program tells it: what a success answers is dropped, and a fault
+-- gets this name
+abbrev pub program_outcome : {N F : Type 0} → (F → CallFault) → Result N F
+    → Result (Unit {0}) CallFault
+program_outcome name (Ok answer) = Ok tt
+program_outcome name (Err why) = Err (name why)
+
+-- the run had an outcome of its own, of which this holds, and the program tells it so
+pub record Tells {N F : Type 0} (name : F → CallFault) (answers : Result N F → Type 0)
+    (outcome : Result (Unit {0}) CallFault) : Type 0 where
+  pub own : Result N F
+  pub answered : answers own
+  pub told : outcome ≡ program_outcome name own
+
+-- A text of which this holds was written whole, or as far as the fault says; or memory ran out
+-- before it was written.
+abbrev pub WritesText : {W : Type 0} → (List ℕ → Type 0) → (W → Option (List ℕ)) → CountedDevice W
+    → CountedDevice W → Result (Unit {0}) RunFault → Type 0
+WritesText IsText contents old new (Ok done) =
+    (text : List ℕ) × IsText text × Appends (contents old.inner) (contents new.inner) text
+    × (new.failures ≡ 0)
+WritesText IsText contents old new (Err (run.Write written)) =
+    (text : List ℕ) × IsText text
+    × WroteSome (contents old.inner) (contents new.inner) text written × (new.failures ≡ 1)
+WritesText IsText contents old new (Err (run.Memory want)) = new ≡ old
+WritesText IsText contents old new (Err _) = ⊥
+
+-- the line of a slot: the moment at which it begins, in decimal, a space (32), its civil time and a
+-- newline (10)
+pub record IsSlotLine (slot : ℕ) (line : List ℕ) : Type 0 where
+  pub time : List ℕ
+  pub shown : IsShownAs slot time
+  pub whole : line ≡ decimal slot ++ 32 ∷ time ++ 10 ∷ []
+
+-- the line of the station's next slot was written, or it has none
+abbrev pub ShowsSlot : {W : Type 0} → ℕ → ℕ → (W → Option (List ℕ)) → CountedDevice W
+    → CountedDevice W → Result (Unit {0}) CallFault → Type 0
+ShowsSlot station moment contents old new (Ok done) =
+    (slot : ℕ) × IsNextSlot station moment slot
+    × WritesText (IsSlotLine slot) contents old new (Ok done)
+ShowsSlot station moment contents old new (Err (call.Run why)) =
+    (slot : ℕ) × IsNextSlot station moment slot
+    × WritesText (IsSlotLine slot) contents old new (Err why)
+ShowsSlot station moment contents old new (Err call.NoSlot) = HasNoSlot station moment × (new ≡ old)
+ShowsSlot station moment contents old new (Err _) = ⊥
+
+-- the call did on the devices what its outcome says
+abbrev pub Performs : {R W : Type 0} → Call → Devices R W → Result (Unit {0}) CallFault → Type 0
+Performs Decode d outcome = Tells (λ why. call.Run why) (Decodes d) outcome
+Performs Encode d outcome = Tells (λ why. call.Run why) (Encodes d) outcome
+Performs Code d outcome =
+    IsUnread d × Tells (λ why. call.Run why)
+    (WritesText (λ text. text ≡ table_text) d.contents d.writer d.writer_after) outcome
+Performs Show d outcome = Tells (λ why. call.Run why) (Shows d) outcome
+Performs Check d outcome = Tells (λ why. call.Check why) (Checks d) outcome
+Performs Listen d outcome = Tells (λ why. call.Listen why) (ListensBy all_at_zero d) outcome
+Performs Resume d outcome = Tells (λ why. call.Resume why) (Resumes Log d) outcome
+Performs Save d outcome = Tells (λ why. call.Resume why) (Resumes State d) outcome
+Performs Locks d outcome = Tells (λ why. call.Listen why) (ShowsLocks d) outcome
+Performs (Send station moment) d outcome =
+    Tells (λ why. call.Send why) (Sends d station.byte moment) outcome
+Performs (Slots station moment) d outcome =
+    IsUnread d × ShowsSlot station.byte moment d.contents d.writer d.writer_after outcome
+Performs (Damage kind from count) d outcome =
+    Tells (λ why. call.Damage why)
+    (Damages (record { kind = kind; from = from; count = count }) d) outcome
+
+-- the words name a call, which had this outcome
+pub record RunsCall {R W : Type 0} (words : List Text) (d : Devices R W)
+    (outcome : Result (Unit {0}) CallFault) : Type 0 where
+  pub call : Call
+  pub named : Names words call
+  pub performed : Performs call d outcome
+
+-- the words ask for help, and a text was written; which text that is, clap leaves open
+pub record GivesHelp {R W : Type 0} (words : List Text) (d : Devices R W)
+    (outcome : Result (Unit {0}) CallFault) : Type 0 where
+  pub asked : AsksForHelp words
+  pub unread : IsUnread d
+  pub written : Tells (λ why. call.Run why)
+      (WritesText (λ text. ⊤) d.contents d.writer d.writer_after) outcome
+
+-- the text of the version: the program's name, its version, what `rt version` says of the kit and
+-- of the logic that it is proved with, and a newline (10)
+abbrev pub version_text : List ℕ
+version_text =
+    codes "navtex 1.0.0, proved with rattle-kit-13b logic dac8208d650f15bf" ++ 10 ∷ []
+
+-- the words ask for the version, and its text was written
+pub record GivesVersion {R W : Type 0} (words : List Text) (d : Devices R W)
+    (outcome : Result (Unit {0}) CallFault) : Type 0 where
+  pub asked : AsksForVersion words
+  pub unread : IsUnread d
+  pub written : Tells (λ why. call.Run why)
+      (WritesText (λ text. text ≡ version_text) d.contents d.writer d.writer_after) outcome
+
+-- memory ran out before a device was called
+pub record LacksMemory {R W : Type 0} (d : Devices R W) (why : CallFault) : Type 0 where
+  pub untouched : IsUntouched d
+  pub memory : why ≡ call.Run (run.Memory alloc_error)
+
+-- how the program ends
+abbrev pub EndsRun : {R W : Type 0} → List Text → Devices R W → Result (Unit {0}) Fault → Type 0
+EndsRun words d (Ok done) =
+    RunsCall words d (Ok done)
+    ⊎ (GivesHelp words d (Ok done) ⊎ GivesVersion words d (Ok done))
+EndsRun words d (Err (fault.Words answer)) = IsRefusedByClap words × IsUntouched d
+EndsRun words d (Err fault.NoText) = ⊥
+EndsRun words d (Err fault.Station) = LacksStation words × IsUntouched d
+EndsRun words d (Err fault.Kind) = LacksKind words × IsUntouched d
+EndsRun words d (Err (fault.Call why)) =
+    RunsCall words d (Err why)
+    ⊎ (GivesHelp words d (Err why) ⊎ (GivesVersion words d (Err why) ⊎ LacksMemory d why))
+
+-- the program ends so on these devices, with this status
+pub record Exits {R W : Type 0} (words : List Text) (d : Devices R W) (status : ℕ) : Type 0 where
+  pub outcome : Result (Unit {0}) Fault
+  pub ends : EndsRun words d outcome
+  pub status_is : status ≡ status_of outcome
+
+-- the call that the words name succeeded, or they ask for help or for the version, which was written
+abbrev pub Succeeds : {R W : Type 0} → List Text → Devices R W → Type 0
+Succeeds words d = EndsRun words d (Ok tt)

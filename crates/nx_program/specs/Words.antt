@@ -1,0 +1,165 @@
+-- What the words of the command line name, by clap's own reading of them (this profile).
+use Rattle.std.specs.Prelude.{◌≡◌, ◌≢◌, ◌⊎◌, ◌<◌, ◌∷◌, ◌^◌, ⊤, ℕ, List, [], Some, codes, fold}
+use Rattle.std.specs.Prelude.{true}
+use Rattle.std.specs.Str.Parse.{IsNumeral, digits_value, without_leading_plus}
+use Rattle.clap.specs.Words.{App, IsAmong, Row, Rule, Text, fault_of, first_of, new_app}
+use Rattle.clap.specs.Words.{new_rule, one_of, subcommand_of, with_rule, with_subcommand}
+use Rattle.clap.specs.Simple.{on_top}
+use Rattle.clap.specs.declared.builder.value_parser.ValueParser.TheVariants as parser
+use Rattle.clap.specs.declared.error.kind.ErrorKind.{ErrorKind}
+use Rattle.clap.specs.declared.error.kind.ErrorKind.TheVariants.{DisplayHelp, DisplayVersion}
+use Rattle.nx_envelope.specs.declared.letter.Letter.{Letter}
+use Rattle.nx_program.specs.declared.words.Call.{Call}
+use Rattle.nx_program.specs.declared.words.Call.TheVariants.{Check, Code, Decode, Encode, Listen, Show}
+use Rattle.nx_program.specs.declared.words.Call.TheVariants.{Damage, Locks, Resume, Save, Send, Slots}
+use Rattle.nx_station.specs.declared.damaging.DamageKind.{DamageKind}
+use Rattle.nx_station.specs.declared.damaging.DamageKind.TheVariants.{Dx, Rx, All}
+
+-- the word by which the command line names a call
+abbrev pub command_name : Call → Text
+command_name Decode = codes "decode"
+command_name Encode = codes "encode"
+command_name Code = codes "code"
+command_name Show = codes "show"
+command_name Check = codes "check"
+command_name Listen = codes "listen"
+command_name Resume = codes "resume"
+command_name Save = codes "save"
+command_name Locks = codes "locks"
+command_name (Send station moment) = codes "send"
+command_name (Slots station moment) = codes "slots"
+command_name (Damage kind from count) = codes "damage"
+
+-- the word by which the command line names a kind of damage
+abbrev pub kind_name : DamageKind → Text
+kind_name Dx = codes "dx"
+kind_name Rx = codes "rx"
+kind_name All = codes "all"
+
+-- a command that takes no argument
+abbrev pub plain_tree : Text → App
+plain_tree word = new_app word
+
+-- an argument of this name, which is any text and must be given
+abbrev pub text_rule : Text → Rule
+text_rule name = record (new_rule name) { required = true }
+
+-- an argument of this name, which is a whole number up to the most and must be given
+abbrev pub number_rule : Text → ℕ → Rule
+number_rule name most =
+    record (new_rule name) { required = true; parser = Some (parser.Unsigned 0 most) }
+
+-- a command that takes a station and a moment, which is at most the last moment
+abbrev pub slot_tree : Text → App
+slot_tree word =
+    let with_station = with_rule (new_app word) (text_rule (codes "STATION")) in
+    with_rule with_station (number_rule (codes "MOMENT") 32503679999)
+
+-- a command that takes a kind of damage, the first word and a count of words, each of 32 bits
+abbrev pub damage_tree : Text → App
+damage_tree word =
+    let with_kind = with_rule (new_app word) (text_rule (codes "KIND")) in
+    let with_first = with_rule with_kind (number_rule (codes "FROM") 4294967295) in
+    with_rule with_first (number_rule (codes "COUNT") 4294967295)
+
+-- the program without its commands: one of them must be given, unless the version is asked for, and
+-- there is no command `help`
+abbrev pub bare_tree : App
+bare_tree = on_top (λ s. record s {
+  disable_help_subcommand = true;
+  subcommand_required = true;
+  has_version = true;
+}) (new_app (codes "navtex"))
+
+-- the commands of the program, in the order in which help lists them
+abbrev pub commands : List App
+commands =
+    plain_tree (codes "listen") ∷ slot_tree (codes "send") ∷ plain_tree (codes "resume")
+    ∷ plain_tree (codes "save") ∷ plain_tree (codes "locks") ∷ slot_tree (codes "slots")
+    ∷ plain_tree (codes "check") ∷ damage_tree (codes "damage") ∷ plain_tree (codes "decode")
+    ∷ plain_tree (codes "encode") ∷ plain_tree (codes "show") ∷ plain_tree (codes "code") ∷ []
+
+-- the command tree of the program
+abbrev pub navtex : App
+navtex = fold (λ (tree command : App). with_subcommand tree command.top) bare_tree commands
+
+-- the argument STATION is this letter alone
+abbrev pub IsStation : List Row → Letter → Type 0
+IsStation arguments station = first_of (codes "STATION") arguments ≡ Some (station.byte ∷ [])
+
+-- the argument KIND names this kind of damage
+abbrev pub IsKind : List Row → DamageKind → Type 0
+IsKind arguments kind = first_of (codes "KIND") arguments ≡ Some (kind_name kind)
+
+-- the argument of this name is this number: one decimal digit or more, before which a plus may
+-- stand
+pub record IsNumber (name : Text) (arguments : List Row) (number : ℕ) : Type 0 where
+  pub text : Text
+  pub given : one_of name arguments ≡ Some text
+  pub numeral : IsNumeral 10 (without_leading_plus text)
+  pub value : number ≡ digits_value 10 (without_leading_plus text)
+  pub fits : number < 2 ^ 64
+
+-- the arguments are those of the call
+abbrev pub HasArguments : Call → List Row → Type 0
+HasArguments Decode arguments = ⊤
+HasArguments Encode arguments = ⊤
+HasArguments Code arguments = ⊤
+HasArguments Show arguments = ⊤
+HasArguments Check arguments = ⊤
+HasArguments Listen arguments = ⊤
+HasArguments Resume arguments = ⊤
+HasArguments Save arguments = ⊤
+HasArguments Locks arguments = ⊤
+HasArguments (Send station moment) arguments =
+    IsStation arguments station × IsNumber (codes "MOMENT") arguments moment
+HasArguments (Slots station moment) arguments =
+    IsStation arguments station × IsNumber (codes "MOMENT") arguments moment
+HasArguments (Damage kind from count) arguments =
+    IsKind arguments kind × IsNumber (codes "FROM") arguments from
+    × IsNumber (codes "COUNT") arguments count
+
+-- the words, of which the first is the program's name, name the call: clap finds no fault in them
+-- and enters the call's command with the call's arguments
+pub record Names (words : List Text) (call : Call) : Type 0 where
+  pub taken : fault_of navtex words ≡ []
+  pub arguments : List Row
+  pub command : subcommand_of navtex words ≡ Some (command_name call, arguments)
+  pub given : HasArguments call arguments
+
+-- clap answers the words with help
+abbrev pub AsksForHelp : List Text → Type 0
+AsksForHelp words = IsAmong DisplayHelp (fault_of navtex words)
+
+-- clap answers the words with the version
+abbrev pub AsksForVersion : List Text → Type 0
+AsksForVersion words = IsAmong DisplayVersion (fault_of navtex words)
+
+-- an answer of this kind is neither help nor the version
+abbrev pub IsRefusal : ErrorKind → Type 0
+IsRefusal kind = (kind ≢ DisplayHelp) × (kind ≢ DisplayVersion)
+
+-- clap refuses the words
+abbrev pub IsRefusedByClap : List Text → Type 0
+IsRefusedByClap words =
+    (kind : ErrorKind) × IsRefusal kind × IsAmong kind (fault_of navtex words)
+
+-- clap takes the words, which enter a command that wants a station, and STATION is not one letter A
+-- to Z
+pub record LacksStation (words : List Text) : Type 0 where
+  pub taken : fault_of navtex words ≡ []
+  pub arguments : List Row
+  pub entered : (subcommand_of navtex words ≡ Some (codes "send", arguments))
+      ⊎ (subcommand_of navtex words ≡ Some (codes "slots", arguments))
+  pub no_letter : (letter : Letter) → ¬ IsStation arguments letter
+
+-- clap takes the words, which enter the command `damage`, and KIND is none of its kinds
+pub record LacksKind (words : List Text) : Type 0 where
+  pub taken : fault_of navtex words ≡ []
+  pub arguments : List Row
+  pub entered : subcommand_of navtex words ≡ Some (codes "damage", arguments)
+  pub no_kind : (kind : DamageKind) → ¬ IsKind arguments kind
+
+-- the words are refused, by clap, for their station or for their kind of damage
+abbrev pub IsRefused : List Text → Type 0
+IsRefused words = IsRefusedByClap words ⊎ (LacksStation words ⊎ LacksKind words)

@@ -1,0 +1,607 @@
+//! The command tree of the program, and the texts of its help.
+
+ghost use Rattle.std.specs.Prelude.{◌≡◌, IfOk, codes, false};
+ghost use Rattle.clap.specs.Words.{rule_of};
+ghost use Rattle.nx_program.specs.Words.{bare_tree, damage_tree, navtex, number_rule, plain_tree, slot_tree};
+ghost use Rattle.nx_program.specs.private.Reading.{IsBuiltAs};
+
+use clap::builder::ValueParser;
+use clap::{Arg, Command};
+use nx_envelope::LAST_MOMENT;
+use std::alloc::{AllocError, Global};
+
+/// The text of the version: the program's name, its version, and what `rt version` says of the kit
+/// and of the logic that it is proved with.
+pub const VERSION: &str = "navtex 1.0.0, proved with rattle-kit-13b logic dac8208d650f15bf\n";
+
+/// What short help says of the files of a command.
+const AIR_FILE: &str =
+    "An air file is text: lines of B with the elements on the air, 1 or 0 each, and
+lines of T with the time. --help says more.";
+
+const LISTEN_SHORT: &str =
+    "An air file is text: lines of B with the elements on the air, 1 or 0 each, and
+lines of T with the time. A log is what a receiver prints of it: an entry for
+each message. --help says more, and what an empty log can mean.";
+
+const LISTEN_HELP: &str = "Print the log of an air file.
+
+An air file is a text of what is on the air. A log is what a receiver prints of
+it: an entry for each message.
+
+Reads an air file of at most 268435456 bytes from standard input, to its end.
+Its lines, each ended by a line feed, are:
+  B 0110011     elements in the order of sending, 1 to 512 of them: 1 is B, 0
+                is Y
+  T 1735692000  the moment from here on, in seconds since 1970-01-01 00:00:00
+                UTC; the first B comes after a T, and no T is before the last
+  RS E          refuse station E from here on, for all its subjects; AS E
+                accepts it again
+  RJ C          refuse subject C from here on, which A, B, D and L can't be;
+                AJ C accepts it again
+These are lines of channel 0. A receiver of two or three frequencies hears each
+as a channel of its own, whose lines name it directly behind the letters, 0, 1
+or 2:
+  B1 0110011    elements on channel 1, 1 to 511 of them
+  RS2 E         refuse station E on channel 2 alone; so with AS2, RJ2 and AJ2
+A line of T is for all channels. A line that ends in CR and LF is not
+understood: tr -d '\\r' takes the CR away.
+
+Writes an entry to standard output for each copy of a message that is printed,
+as soon as the line with its last element has come: a head, the text, and an
+empty line. The head has the identity, the time of the copy, how it ended (full,
+cut or long), its errors, which are asterisks in the text, and its characters.
+A message that was printed full, with less than 4 per cent of errors, is not
+printed again within 66 hours, unless 200 others came in between; one numbered
+00 is printed each time that it is selected. What is heard on channel 1 or 2 has
+/1 or /2 behind the identity, and no channel knows of the others. Nothing is
+kept for a later run: resume and save do that.
+
+An empty log can mean one of these; navtex locks < x.air tells some apart, as
+locks --help says:
+  exchanged tones    each 1 should be a 0 and each 0 a 1. This exchanges them:
+                     sed '/^B /y/01/10/' x.air | navtex listen
+  another pitch      the demodulator that made the elements listens beside the
+                     two tones
+  a refused station  or a refused subject: a line RS or RJ stands in the file
+  a weak signal      more words are damaged than a lock on the signal, or the
+                     first line of a message, can bear; also where elements are
+                     lost or doubled, since all later words are then shifted";
+
+const LISTEN_EXAMPLE: &str =
+    "Example: of message 01 of subject A of station E the first sending of each
+letter is damaged, and it is printed whole:
+  $ printf '#A01\\nTEST\\n;\\n' | navtex send E 1735689600 > sent.air
+  $ navtex damage dx 144 59 < sent.air > ea01.air
+  $ head -c 53 ea01.air
+  T 1735692000
+  B 01100111111000011001111110000110011111
+  $ navtex listen < ea01.air
+  [EA01 2025-01-01 00:40:00 full 0/5]
+  TEST
+
+The same on channel 1:
+  $ sed 's/^B /B1 /' ea01.air | navtex listen
+  [EA01/1 2025-01-01 00:40:00 full 0/5]
+  TEST";
+
+fn listen_command<'a>(alloc: Global) -> Command<'a>
+    ensures { IsBuiltAs (plain_tree (codes "listen")) result }
+{
+    Command::new(alloc, "listen")
+        .about("Print the log of an air file")
+        .after_help(LISTEN_SHORT)
+        .long_about(LISTEN_HELP)
+        .after_long_help(LISTEN_EXAMPLE)
+}
+
+const RESUME_SHORT: &str =
+    "A state is a text of what a receiver knows when it is switched off, and an air
+file one of what is on the air behind it. A log is what a receiver prints of it:
+an entry for each message. --help says more.";
+
+const RESUME_HELP: &str = "Print the log of an air file, and go on from a state.
+
+A state is a text of what a receiver knows when it is switched off: for each
+channel what is refused, and which messages were printed and when. So they are
+not printed again when it is switched on.
+
+Reads a state from standard input, as far as its line END, and behind it an air
+file of at most 268435456 bytes, to its end. The lines of the air file are those
+that listen --help lists. Those of a state, each ended by a line feed, are:
+  STATE 2          first of all
+  C0               what follows is that of channel 0; then C1, and last C2
+  RS E             station E is refused
+  RJ C             subject C is refused
+  EA01 1735692000  message EA01 was printed, and this was its moment; the oldest
+                   stands first, and there are 200 at most
+  END              last of all
+Behind STATE 1 stand the lines of channel 0 alone, without C0. So the state of a
+receiver that has heard nothing yet is the two lines STATE 1 and END.
+
+Writes the log to standard output, as listen does. What the state holds as
+printed is not printed again within 66 hours, what it refuses stays refused, and
+no moment is before its newest one. Lines are counted from the start of the air
+file, and those of a state from its own start.
+
+Writes no state. save does, over the same input: both read the state first and
+the air file behind it.";
+
+const RESUME_EXAMPLE: &str =
+    "Example: a message is heard, and four hours later again, when it is not printed:
+  $ printf 'STATE 1\\nEND\\n' > state
+  $ printf '#A01\\nTEST\\n;\\n' > ea01
+  $ navtex send E 1735689600 < ea01 | cat state - > in
+  $ navtex resume < in
+  [EA01 2025-01-01 00:40:00 full 0/5]
+  TEST
+
+  $ navtex save < in > state.new && mv state.new state
+  $ navtex send E 1735692001 < ea01 | cat state - | navtex resume";
+
+fn resume_command<'a>(alloc: Global) -> Command<'a>
+    ensures { IsBuiltAs (plain_tree (codes "resume")) result }
+{
+    Command::new(alloc, "resume")
+        .about("Print the log of an air file, and go on from a state")
+        .after_help(RESUME_SHORT)
+        .long_about(RESUME_HELP)
+        .after_long_help(RESUME_EXAMPLE)
+}
+
+const SAVE_SHORT: &str =
+    "A state is a text of what a receiver knows when it is switched off, and an air
+file one of what is on the air behind it. --help says more, and how a state is
+kept from run to run.";
+
+const SAVE_HELP: &str = "Print the state that an air file leaves behind a state.
+
+A state is a text of what a receiver knows when it is switched off: for each
+channel what is refused, and which messages were printed and when.
+
+Reads what resume reads, in the same way: a state, as far as its line END, and
+behind it an air file of at most 268435456 bytes, to its end. resume --help says
+which lines they have, and with what state to begin.
+
+Writes no log, but the state that the receiver of that log ends with, once all
+was read. It is of version 2, as resume and save read it. A copy that is still
+open where the air file ends is no part of it.
+
+After a fault nothing was written, but for a write that failed. So a run that
+fails leaves the old state, where the new one is written beside it and is put in
+its place by a run that succeeds:
+  navtex save < in > state.new && mv state.new state
+The log and the new state of one run come from two commands over one file in,
+which is the state and the air file behind it:
+  cat state day.air > in
+  navtex resume < in >> log
+  navtex save < in > state.new && mv state.new state";
+
+const SAVE_EXAMPLE: &str = "Example: the state of a receiver that has heard one message:
+  $ printf 'STATE 1\\nEND\\n' > state
+  $ printf '#A01\\nTEST\\n;\\n' | navtex send E 1735689600 > day.air
+  $ cat state day.air > in
+  $ navtex save < in > state.new && mv state.new state
+  $ cat state
+  STATE 2
+  C0
+  EA01 1735692000
+  C1
+  C2
+  END";
+
+fn save_command<'a>(alloc: Global) -> Command<'a>
+    ensures { IsBuiltAs (plain_tree (codes "save")) result }
+{
+    Command::new(alloc, "save")
+        .about("Print the state that an air file leaves behind a state")
+        .after_help(SAVE_SHORT)
+        .long_about(SAVE_HELP)
+        .after_long_help(SAVE_EXAMPLE)
+}
+
+const LOCKS_SHORT: &str =
+    "An air file is text: lines of B with the elements on the air, 1 or 0 each, and
+lines of T with the time. A lock is a stretch of it in which a receiver reads
+words. --help says more, and how to find out why a log is empty.";
+
+const LOCKS_HELP: &str = "Print the locks of an air file and their running text.
+
+An air file is a text of what is on the air. A lock is a stretch of it in which
+a receiver reads words. It begins with phasing, and is over with the emission or
+where most of its last 64 words are wrong.
+
+Reads an air file of at most 268435456 bytes from standard input, to its end.
+Its lines are those that listen --help lists; the locks are those of channel 0.
+The stations and subjects that lines refuse are checked and change nothing here.
+
+Writes each lock to standard output, as soon as the line with its elements has
+come, whether a message stands in it or not:
+  a line         the time, and after how many elements the lock began
+  the text       as it is printed, with an asterisk for each lost character
+  a line         the time; whether the lock ended with the emission, was lost,
+                 or is open where the file ends; how many words it has, how many
+                 of them have other than four B, and how many copies of messages
+                 begin in its text
+  an empty line
+and at the end one line with the counts of elements, locks and copies.
+
+Why a log of listen is empty:
+  locks 0        the tones are exchanged, or of another pitch, or the signal is
+                 too weak for a lock; try the first two
+  lost locks     the signal is weak, or elements are lost or doubled
+  copies 0       a text was heard, but no first line of a message in it
+  copies 1 ...   the station or the subject of each copy is refused";
+
+const LOCKS_EXAMPLE: &str =
+    "Example: listen prints nothing of this file, since a part of the first line of
+its message was lost:
+  $ printf '#A01\\nTEST\\n;\\n' | navtex send E 1735689600 > sent.air
+  $ navtex damage all 160 6 < sent.air > lost.air
+  $ navtex listen < lost.air
+  $ navtex locks < lost.air
+  [2025-01-01 00:40:00 lock 28]
+  ZCZC EA*PQ
+  TEST
+  NNNN
+
+  [2025-01-01 00:40:00 open words 199 wrong 6 copies 0]
+
+  [elements 1421 locks 1 copies 0]";
+
+fn locks_command<'a>(alloc: Global) -> Command<'a>
+    ensures { IsBuiltAs (plain_tree (codes "locks")) result }
+{
+    Command::new(alloc, "locks")
+        .about("Print the locks of an air file and their running text")
+        .after_help(LOCKS_SHORT)
+        .long_about(LOCKS_HELP)
+        .after_long_help(LOCKS_EXAMPLE)
+}
+
+/// A command that takes a station and a moment.
+fn slot_command<'a>(alloc: Global, word: &'a str) -> Result<Command<'a>, AllocError>
+    ensures { IfOk result (IsBuiltAs (slot_tree word.entry.now)) }
+{
+    let station = Arg::new(alloc, "STATION")
+        .required(true)
+        .help("The station, one letter A to Z");
+    let moment = Arg::new(alloc, "MOMENT")
+        .required(true)
+        .value_parser(ValueParser::unsigned(0, LAST_MOMENT))
+        .help("Seconds since 1970-01-01 00:00:00 UTC, 0 to 32503679999");
+    Command::new(alloc, word).arg(station)?.arg(moment)
+}
+
+const SEND_HELP: &str = "Write messages as an air file, to be sent in the station's next slot.
+
+An air file is a text of what is on the air: here one line of T with a moment,
+and lines of B with elements, 1 or 0 each.
+
+Reads a message file of at most 1048576 bytes from standard input. Its lines are
+each ended by a line feed (tr -d '\\r' takes a CR before it away). A message
+begins with the line of #, its subject (a letter A to Z) and its number (two
+digits), and ends with the line ; alone. Between them stand its lines of text,
+each of at most 69 characters A to Z, 0 to 9, space and -?:().,'=+/ without ZCZC
+and NNNN; together they have at most 4096 characters, with one more for each
+line's end.
+
+Writes an air file to standard output: the line of T, a space and the moment at
+which the first slot of the station begins that is not before MOMENT, and lines
+of B, a space and the elements of the emission. Stations A to X have a slot of
+ten minutes in each four hours, Y and Z have none.";
+
+const SEND_EXAMPLE: &str = "Example, of which the first 40 columns are shown:
+  $ printf '#A01\\nTEST\\n;\\n' | navtex send E 1735689600 | cut -c1-40
+  T 1735692000
+  B 01100111111000011001111110000110011111
+  B 01100111111000011001111110000110011111
+  B 01100111111000011001111110000101101111";
+
+fn send_command<'a>(alloc: Global) -> Result<Command<'a>, AllocError>
+    ensures { IfOk result (IsBuiltAs (slot_tree (codes "send"))) }
+{
+    Ok(
+        slot_command(alloc, "send")?
+            .about("Write messages as an air file, to be sent in the next slot")
+            .after_help(AIR_FILE)
+            .long_about(SEND_HELP)
+            .after_long_help(SEND_EXAMPLE),
+    )
+}
+
+const SLOTS_HELP: &str = "Print when the station's next slot begins.
+
+Reads nothing, and writes one line: the moment at which the first slot of the
+station begins that is not before MOMENT, and its civil time in UTC. Stations A
+to X have a slot of ten minutes in each four hours, Y and Z have none.";
+
+const SLOTS_EXAMPLE: &str = "Example:
+  $ navtex slots E 1735689600
+  1735692000 2025-01-01 00:40:00";
+
+fn slots_command<'a>(alloc: Global) -> Result<Command<'a>, AllocError>
+    ensures { IfOk result (IsBuiltAs (slot_tree (codes "slots"))) }
+{
+    Ok(
+        slot_command(alloc, "slots")?
+            .about("Print when the station's next slot begins")
+            .long_about(SLOTS_HELP)
+            .after_long_help(SLOTS_EXAMPLE),
+    )
+}
+
+const CHECK_HELP: &str = "Print the messages of an air file that is exactly an emission.
+
+An air file is a text of what is on the air: lines of B with elements, 1 or 0
+each, and others that decode --help lists.
+
+Reads an air file of at most 1048576 bytes from standard input. The elements of
+its lines of B, joined, must be those that send writes for a list of messages,
+and no others: a word of wrong weight, a word that its second sending doesn't
+repeat and all else that send doesn't write are faults.
+
+Writes the station and the messages to standard output, once all was found
+right: the line station, a space and the station's letter, and then the message
+file that send reads.";
+
+const CHECK_EXAMPLE: &str = "Example:
+  $ printf '#A01\\nTEST\\n;\\n' | navtex send E 1735689600 | navtex check
+  station E
+  #A01
+  TEST
+  ;";
+
+fn check_command<'a>(alloc: Global) -> Command<'a>
+    ensures { IsBuiltAs (plain_tree (codes "check")) result }
+{
+    Command::new(alloc, "check")
+        .about("Print the messages of an air file that is exactly an emission")
+        .after_help(AIR_FILE)
+        .long_about(CHECK_HELP)
+        .after_long_help(CHECK_EXAMPLE)
+}
+
+const DAMAGE_HELP: &str = "Copy an air file with some of its words damaged.
+
+An air file is a text of what is on the air: lines of B with elements, 1 or 0
+each, and others that decode --help lists.
+
+Reads an air file of at most 268435456 bytes from standard input and writes it
+to standard output while it reads, line by line. Word 0 is the first seven
+elements of the lines of B, joined, word 1 the next seven, and so on. Of the
+words from FROM on, COUNT of them, those that KIND names get their first element
+inverted: dx names the words of even number, rx those of odd number, and all
+every word. A good word, with four B, is then a damaged one. All else is copied
+as it is, and the same command on the output gives the file back.";
+
+const DAMAGE_EXAMPLE: &str = "Example, which inverts the first element of the word 2:
+  $ printf 'B 011001111110000110011\\n' | navtex damage dx 1 2
+  B 011001111110001110011";
+
+/// An argument that is a whole number of 32 bits.
+fn number_argument<'a>(alloc: Global, name: &'a str, help: &'a str) -> Arg<'a>
+    ensures rule { rule_of result ≡ number_rule name.entry.now 4294967295 }
+    ensures local { result.global ≡ false }
+{
+    Arg::new(alloc, name)
+        .required(true)
+        .value_parser(ValueParser::unsigned(0, 0xFFFF_FFFF))
+        .help(help)
+}
+
+/// The command that takes a kind of damage and a range of words.
+fn range_command<'a>(alloc: Global) -> Result<Command<'a>, AllocError>
+    ensures { IfOk result (IsBuiltAs (damage_tree (codes "damage"))) }
+{
+    let kind = Arg::new(alloc, "KIND")
+        .required(true)
+        .help("The words that are meant: dx, rx or all");
+    let from = number_argument(
+        alloc,
+        "FROM",
+        "The first word of the range, 0 to 4294967295",
+    );
+    let count = number_argument(
+        alloc,
+        "COUNT",
+        "How many words the range has, 0 to 4294967295",
+    );
+    Command::new(alloc, "damage")
+        .arg(kind)?
+        .arg(from)?
+        .arg(count)
+}
+
+fn damage_command<'a>(alloc: Global) -> Result<Command<'a>, AllocError>
+    ensures { IfOk result (IsBuiltAs (damage_tree (codes "damage"))) }
+{
+    Ok(
+        range_command(alloc)?
+            .about("Copy an air file with some of its words damaged")
+            .after_help(AIR_FILE)
+            .long_about(DAMAGE_HELP)
+            .after_long_help(DAMAGE_EXAMPLE),
+    )
+}
+
+const DECODE_HELP: &str = "Print the text of an air file.
+
+An air file is a text of what is on the air.
+
+Reads an air file of at most 1048576 bytes from standard input. Its lines, each
+ended by a line feed, are:
+  B 0110011     elements in the order of sending, 1 to 512 of them: 1 is B, 0
+                is Y
+  T 1735692000  the moment from here on, in seconds since 1970-01-01 00:00:00
+                UTC
+  RS E          refuse station E; AS E accepts it, RJ C and AJ C do so for
+                subject C
+A line that ends in CR and LF is not understood: tr -d '\\r' takes the CR away.
+The elements of the B lines, joined, are the words of one emission from its
+first word on, seven elements each. The other lines are checked and skipped.
+
+Writes the text to standard output and nothing else, once all was read. A
+character is sent in two words. Where one of them is damaged, with other than
+four B, the other one counts; where neither can be relied on, the character is
+an asterisk.";
+
+const DECODE_EXAMPLE: &str = "Example, the letter A as encode sends it, here in three lines:
+  $ cat a.air
+  B 01100111111000011001111110000110011
+  B 11110000110011111100011100011111000
+  B 11110001111000111100011100011111000
+  $ navtex decode < a.air
+  A";
+
+fn decode_command<'a>(alloc: Global) -> Command<'a>
+    ensures { IsBuiltAs (plain_tree (codes "decode")) result }
+{
+    Command::new(alloc, "decode")
+        .about("Print the text of an air file")
+        .after_help(AIR_FILE)
+        .long_about(DECODE_HELP)
+        .after_long_help(DECODE_EXAMPLE)
+}
+
+const ENCODE_HELP: &str = "Write a text as an air file.
+
+An air file is a text of what is on the air: here lines of B with elements, 1 or
+0 each.
+
+Reads a text of at most 1048576 bytes from standard input: the letters A to Z,
+the digits, space, newline and -?:().,'=+/
+
+Writes an air file to standard output: lines of B, a space and up to 490
+elements in the order of sending, 1 for B and 0 for Y, each ended by a line
+feed. They are the elements of four phasing positions, the text from the letter
+shift, and three end positions. Of a long text they may be more than the 1048576
+bytes that decode takes.";
+
+const ENCODE_EXAMPLE: &str =
+    "Example, of which the first 60 columns are shown; decode prints it as A again:
+  $ printf A | navtex encode | cut -c1-60
+  B 0110011111100001100111111000011001111110000110011111100011";
+
+fn encode_command<'a>(alloc: Global) -> Command<'a>
+    ensures { IsBuiltAs (plain_tree (codes "encode")) result }
+{
+    Command::new(alloc, "encode")
+        .about("Write a text as an air file")
+        .after_help(AIR_FILE)
+        .long_about(ENCODE_HELP)
+        .after_long_help(ENCODE_EXAMPLE)
+}
+
+const SHOW_HELP: &str = "Print the words of an air file, one line for each.
+
+An air file is a text of what is on the air: lines of B with elements, 1 or 0
+each, and others that decode --help lists.
+
+Reads an air file of at most 1048576 bytes from standard input: the elements of
+its lines of B, joined, are words of seven elements each.
+
+Writes one line for each word to standard output, once all was read: its slot,
+from 0; DX where the slot is even and RX where it is odd; its number in
+hexadecimal, with the element that is sent first in the least place; and its
+name, which is what code prints as its letter, or wrong where the number of its
+elements B is not four.";
+
+const SHOW_EXAMPLE: &str = "Example, of which the first two lines and the ninth are shown:
+  $ printf A | navtex encode | navtex show | sed -n '1,2p;9p'
+  0 DX 66 P2
+  1 RX 0F P1
+  8 DX 47 A";
+
+fn show_command<'a>(alloc: Global) -> Command<'a>
+    ensures { IsBuiltAs (plain_tree (codes "show")) result }
+{
+    Command::new(alloc, "show")
+        .about("Print the words of an air file")
+        .after_help(AIR_FILE)
+        .long_about(SHOW_HELP)
+        .after_long_help(SHOW_EXAMPLE)
+}
+
+const CODE_HELP: &str = "Print the table of the code.
+
+Reads nothing, and writes one line for each of the 35 words. Its four fields,
+with a space between them, are:
+  the number     two hexadecimal digits; the element that is sent first has the
+                 least place
+  the elements   seven letters B or Y, in the order of sending
+  the letter     what the word prints in the letter shift
+  the figure     what the word prints in the figure shift
+One character is printed as it stands. CR, LF, LTRS, FIGS, SPACE, BLANK, P1,
+BETA and P2 are names of signals, of which LF prints a newline and SPACE a
+space; none means that nothing is printed.";
+
+const CODE_EXAMPLE: &str = "Example, the first and the fourth line:
+  $ navtex code | sed -n '1p;4p'
+  47 BBBYYYB A -
+  53 BBYYBYB D none";
+
+fn code_command<'a>(alloc: Global) -> Command<'a>
+    ensures { IsBuiltAs (plain_tree (codes "code")) result }
+{
+    Command::new(alloc, "code")
+        .about("Print the table of the code")
+        .long_about(CODE_HELP)
+        .after_long_help(CODE_EXAMPLE)
+}
+
+const PROGRAM_HELP: &str =
+    "A NAVTEX broadcast station and receiver, for the elements of a signal and not
+for its sound.
+
+An air file is a text of what is on the air: lines of B with elements, the ones
+and zeros of the two tones, and lines of T with the time. A log is what a
+receiver prints of it: an entry for each message.";
+
+const STATUS_HELP: &str =
+    "A command reads standard input and writes standard output; code and slots read
+nothing. --help after a command says what it reads and writes. A fault is one
+line on standard error; where words are not understood, it may be a text of
+several lines.
+
+Example:
+  $ printf '#A01\\nTEST\\n;\\n' | navtex send E 1735689600 | navtex listen
+  [EA01 2025-01-01 00:40:00 full 0/5]
+  TEST
+
+Exit status:
+  0   success, or help, or the version
+  1   a device failed, or memory ran out
+  2   a bad file, line or value
+  64  words that are not understood";
+
+fn bare_command<'a>(alloc: Global) -> Result<Command<'a>, AllocError>
+    ensures { IfOk result (IsBuiltAs bare_tree) }
+{
+    Command::new(alloc, "navtex")
+        .about(PROGRAM_HELP)
+        .version(VERSION)
+        .after_help(STATUS_HELP)
+        .disable_help_subcommand(true)
+        .subcommand_required(true)
+        .bin_name("navtex")
+}
+
+/// The command of the program, with all its commands.
+pub fn navtex_command<'a>(alloc: Global) -> Result<Command<'a>, AllocError>
+    ensures { IfOk result (IsBuiltAs navtex) }
+{
+    bare_command(alloc)?
+        .subcommand(listen_command(alloc))?
+        .subcommand(send_command(alloc)?)?
+        .subcommand(resume_command(alloc))?
+        .subcommand(save_command(alloc))?
+        .subcommand(locks_command(alloc))?
+        .subcommand(slots_command(alloc)?)?
+        .subcommand(check_command(alloc))?
+        .subcommand(damage_command(alloc)?)?
+        .subcommand(decode_command(alloc))?
+        .subcommand(encode_command(alloc))?
+        .subcommand(show_command(alloc))?
+        .subcommand(code_command(alloc))
+}

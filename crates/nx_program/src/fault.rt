@@ -1,0 +1,225 @@
+//! Why a run of the program fails: the line on standard error, and the exit status.
+
+ghost use Rattle.std.specs.Fmt.InlineText.{inline_text};
+ghost use Rattle.std.specs.Prelude.{◌≡◌};
+ghost use Rattle.nx_program.specs.Report.{IsFaultLine, IsFaultText, WritesOne};
+ghost use Rattle.nx_program.specs.Status.{call_status, fault_status};
+ghost use Rattle.nx_program.specs.declared.fault.CallFault.TheVariants.{Check, Damage, Listen};
+ghost use Rattle.nx_program.specs.declared.fault.CallFault.TheVariants.{Resume, Run, Send};
+ghost use Rattle.nx_program.specs.declared.fault.Fault.TheVariants.{Call};
+ghost use Rattle.nx_fec.specs.declared.fault.RunFault.TheVariants.{Memory};
+
+use nx_fec::{Counting, RunFault, write_out};
+use nx_receiver::{ListenFault, ResumeFault, StateFault};
+use nx_station::{CheckFault, DamageFault, EmissionFault, SendRunFault};
+use std::alloc::AllocError;
+use std::fmt::InlineText;
+use std::io::Write;
+use thiserror::Error;
+
+/// The exit status where a device failed or memory ran out.
+const DEVICE_OR_MEMORY: u8 = 1;
+/// The exit status for a bad file, line or value.
+const BAD_INPUT: u8 = 2;
+/// The exit status for words that are not understood.
+const BAD_WORDS: u8 = 64;
+
+/// The line for words of which one is no text.
+const NO_TEXT: &str = "navtex: a word of the command line is not UTF-8\n";
+/// The line for a station that is not one letter A to Z.
+const STATION: &str = "navtex: station must be one letter A to Z\n";
+/// The line for a kind of damage that there isn't.
+const KIND: &str = "navtex: kind must be dx, rx or all\n";
+
+/// What stands before a fault in its line.
+const PROGRAM: &str = "navtex: ";
+/// The most bytes of a fault in its line. The longest fault has 101 bytes.
+const SHOWN_BYTES: usize = 160;
+/// More bytes than a line of a fault has.
+const LINE_BYTES: usize = 176;
+
+/// Why a call of the program failed.
+#[derive(Debug, Drop, Error)]
+pub enum CallFault {
+    /// The reading, decoding, encoding or writing of a file failed, or the writing of a text.
+    #[error(transparent)]
+    Run(RunFault),
+    /// The messages of a file were not sent.
+    #[error(transparent)]
+    Send(SendRunFault),
+    /// An air file was not checked, or it is no emission.
+    #[error(transparent)]
+    Check(CheckFault),
+    /// An air file was not listened to, or not to its end.
+    #[error(transparent)]
+    Listen(ListenFault),
+    /// A state was not read, the air file behind it was not listened to, or not to its end, or a new
+    /// state was not written whole.
+    #[error(transparent)]
+    Resume(ResumeFault),
+    /// An air file was not copied whole.
+    #[error(transparent)]
+    Damage(DamageFault),
+    /// The station has no slot from that moment on.
+    #[error("no slot")]
+    NoSlot,
+}
+
+impl CallFault {
+    fn status(&self) -> u8
+        ensures { result ≡ call_status self.now }
+    {
+        match self {
+            CallFault::Run(RunFault::Read | RunFault::Write { written: _ } | RunFault::Memory(_)) =>
+                DEVICE_OR_MEMORY,
+            CallFault::Send(
+                SendRunFault::Read | SendRunFault::Write { written: _ } | SendRunFault::Memory(_),
+            ) => DEVICE_OR_MEMORY,
+            CallFault::Check(
+                CheckFault::Run(
+                    RunFault::Read | RunFault::Write { written: _ } | RunFault::Memory(_),
+                )
+                | CheckFault::Emission(EmissionFault::Memory(_)),
+            ) => DEVICE_OR_MEMORY,
+            CallFault::Listen(
+                ListenFault::Read | ListenFault::Write { written: _ } | ListenFault::Memory(_),
+            ) => DEVICE_OR_MEMORY,
+            CallFault::Resume(
+                ResumeFault::State(StateFault::Read)
+                | ResumeFault::Listen(
+                    ListenFault::Read | ListenFault::Write { written: _ } | ListenFault::Memory(_),
+                )
+                | ResumeFault::Write { written: _ },
+            ) => DEVICE_OR_MEMORY,
+            CallFault::Damage(DamageFault::Read | DamageFault::Write { written: _ }) =>
+                DEVICE_OR_MEMORY,
+            _ => BAD_INPUT,
+        }
+    }
+
+    /// The line that reports the fault. It is made without memory.
+    fn line(&self) -> InlineText<LINE_BYTES>
+        ensures { IsFaultLine (inline_text result) }
+    {
+        let shown = InlineText::<SHOWN_BYTES>::of(self);
+        InlineText::new()
+            .and_str(PROGRAM, PROGRAM.len())
+            .and_str(shown.as_str(), SHOWN_BYTES)
+            .and_str("\n", 1)
+    }
+}
+
+/// Why a run of the program failed.
+#[derive(Debug, Drop)]
+pub enum Fault {
+    /// The words are not understood, as this text says.
+    Words(String),
+    /// A word of the command line is no text, so none of them was read.
+    NoText,
+    /// The station is not one letter A to Z.
+    Station,
+    /// The kind of damage is none of those that there are.
+    Kind,
+    /// The call that the words name failed, or the writing of help did.
+    Call(CallFault),
+}
+
+impl Fault {
+    fn status(&self) -> u8
+        ensures { result ≡ fault_status self.now }
+    {
+        match self {
+            Fault::Words(_) | Fault::NoText | Fault::Station | Fault::Kind => BAD_WORDS,
+            Fault::Call(why) => why.status(),
+        }
+    }
+
+    /// Reports the fault on standard error by one text, and answers its exit status, which stays the
+    /// same where the text can't be written. The device isn't called again after it failed.
+    pub fn report<E: Write>(&self, faults: &mut Counting<E>) -> u8
+        requires { faults.old.failures ≡ 0 }
+        ensures status { result ≡ fault_status self.now }
+        ensures reported { WritesOne (IsFaultText self.now) E.contents faults.old faults.new }
+    {
+        let _ = match self {
+            Fault::Words(answer) => write_out(faults, answer.as_bytes()),
+            Fault::NoText => write_out(faults, NO_TEXT.as_bytes()),
+            Fault::Station => write_out(faults, STATION.as_bytes()),
+            Fault::Kind => write_out(faults, KIND.as_bytes()),
+            Fault::Call(why) => write_out(faults, why.line().as_str().as_bytes()),
+        };
+        self.status()
+    }
+}
+
+impl From<RunFault> for CallFault {
+    ghost from_gives = { λ why fault. fault ≡ Run why };
+
+    fn from(why: RunFault) -> CallFault {
+        CallFault::Run(why)
+    }
+}
+
+impl From<SendRunFault> for CallFault {
+    ghost from_gives = { λ why fault. fault ≡ Send why };
+
+    fn from(why: SendRunFault) -> CallFault {
+        CallFault::Send(why)
+    }
+}
+
+impl From<CheckFault> for CallFault {
+    ghost from_gives = { λ why fault. fault ≡ Check why };
+
+    fn from(why: CheckFault) -> CallFault {
+        CallFault::Check(why)
+    }
+}
+
+impl From<ListenFault> for CallFault {
+    ghost from_gives = { λ why fault. fault ≡ Listen why };
+
+    fn from(why: ListenFault) -> CallFault {
+        CallFault::Listen(why)
+    }
+}
+
+impl From<ResumeFault> for CallFault {
+    ghost from_gives = { λ why fault. fault ≡ Resume why };
+
+    fn from(why: ResumeFault) -> CallFault {
+        CallFault::Resume(why)
+    }
+}
+
+impl From<DamageFault> for CallFault {
+    ghost from_gives = { λ why fault. fault ≡ Damage why };
+
+    fn from(why: DamageFault) -> CallFault {
+        CallFault::Damage(why)
+    }
+}
+
+impl From<CallFault> for Fault {
+    ghost from_gives = { λ why fault. fault ≡ Call why };
+
+    fn from(why: CallFault) -> Fault {
+        Fault::Call(why)
+    }
+}
+
+impl From<RunFault> for Fault {
+    ghost from_gives = { λ why fault. fault ≡ Call (Run why) };
+
+    fn from(why: RunFault) -> Fault {
+        Fault::Call(CallFault::Run(why))
+    }
+}
+
+impl From<AllocError> for Fault {
+    ghost from_gives = { λ want fault. fault ≡ Call (Run (Memory want)) };
+
+    fn from(want: AllocError) -> Fault {
+        Fault::Call(CallFault::Run(RunFault::Memory(want)))
+    }
+}

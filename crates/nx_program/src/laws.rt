@@ -1,0 +1,104 @@
+//! Laws over the definitions of the program alone.
+
+ghost use Rattle.std.specs.Prelude.{◌≡◌, ◌⊎◌, ◌≤◌, ℕ, List, [], ◌∷◌, codes};
+ghost use Rattle.clap.specs.Words.{Text};
+ghost use Rattle.nx_envelope.specs.declared.letter.Letter.{Letter};
+ghost use Rattle.nx_program.specs.Words.{AsksForHelp, AsksForVersion, IsRefused, IsRefusedByClap};
+ghost use Rattle.nx_program.specs.Words.{LacksKind, LacksStation, Names};
+ghost use Rattle.nx_program.specs.declared.words.Call.{Call};
+ghost use Rattle.nx_program.specs.declared.words.Call.TheVariants.{Check, Code, Decode, Encode, Listen, Show};
+ghost use Rattle.nx_program.specs.declared.words.Call.TheVariants.{Damage, Locks, Resume, Save, Send, Slots};
+ghost use Rattle.nx_station.specs.declared.damaging.DamageKind.{DamageKind};
+ghost use Rattle.nx_station.specs.declared.damaging.DamageKind.TheVariants.{All, Dx};
+
+/// How the words are read: each list of words names one call, asks for help, asks for the version or
+/// is refused, and these exclude each other.
+pub fn words_read_as_one()
+    ensures some { (words : List Text) → ((call : Call) × Names words call)
+        ⊎ (AsksForHelp words ⊎ (AsksForVersion words ⊎ IsRefused words)) }
+    ensures one_call { (words : List Text) (a b : Call) → Names words a → Names words b → a ≡ b }
+    ensures named_not_help { (words : List Text) (call : Call)
+        → Names words call → ¬ AsksForHelp words }
+    ensures named_not_version { (words : List Text) (call : Call)
+        → Names words call → ¬ AsksForVersion words }
+    ensures named_not_refused { (words : List Text) (call : Call)
+        → Names words call → ¬ IsRefused words }
+    ensures help_not_version { (words : List Text) → AsksForHelp words → ¬ AsksForVersion words }
+    ensures help_not_refused { (words : List Text) → AsksForHelp words → ¬ IsRefused words }
+    ensures version_not_refused { (words : List Text) → AsksForVersion words → ¬ IsRefused words }
+{}
+
+/// What some words are read as, whatever the program's name.
+pub fn words_in_examples()
+    ensures decode { (program : Text) → Names (program ∷ codes "decode" ∷ []) Decode }
+    ensures encode { (program : Text) → Names (program ∷ codes "encode" ∷ []) Encode }
+    ensures code { (program : Text) → Names (program ∷ codes "code" ∷ []) Code }
+    ensures show { (program : Text) → Names (program ∷ codes "show" ∷ []) Show }
+    ensures check { (program : Text) → Names (program ∷ codes "check" ∷ []) Check }
+    ensures listen { (program : Text) → Names (program ∷ codes "listen" ∷ []) Listen }
+    ensures resume { (program : Text) → Names (program ∷ codes "resume" ∷ []) Resume }
+    ensures save { (program : Text) → Names (program ∷ codes "save" ∷ []) Save }
+    ensures locks { (program : Text) → Names (program ∷ codes "locks" ∷ []) Locks }
+    ensures help { (program : Text) → AsksForHelp (program ∷ codes "--help" ∷ []) }
+    ensures short_help { (program : Text) → AsksForHelp (program ∷ codes "-h" ∷ []) }
+    ensures help_of_call { (program : Text)
+        → AsksForHelp (program ∷ codes "decode" ∷ codes "--help" ∷ []) }
+    ensures version { (program : Text) → AsksForVersion (program ∷ codes "--version" ∷ []) }
+    ensures short_version { (program : Text) → AsksForVersion (program ∷ codes "-V" ∷ []) }
+    ensures version_first { (program : Text)
+        → AsksForVersion (program ∷ codes "--version" ∷ codes "decode" ∷ []) }
+    ensures version_of_call { (program : Text)
+        → IsRefused (program ∷ codes "decode" ∷ codes "--version" ∷ []) }
+    ensures unknown { (program : Text) → IsRefused (program ∷ codes "frob" ∷ []) }
+    ensures none { (program : Text) → IsRefused (program ∷ []) }
+    ensures surplus { (program : Text) → IsRefused (program ∷ codes "decode" ∷ codes "frob" ∷ []) }
+    ensures twice { (program : Text) → IsRefused (program ∷ codes "decode" ∷ codes "decode" ∷ []) }
+    ensures option { (program : Text) → IsRefused (program ∷ codes "decode" ∷ codes "--frob" ∷ []) }
+    ensures help_command { (program : Text) → IsRefused (program ∷ codes "help" ∷ []) }
+{}
+
+/// The numbers that words name are in their ranges.
+pub fn numbers_are_in_range()
+    ensures send { (words : List Text) (station : Letter) (moment : ℕ)
+        → Names words (Send station moment) → moment ≤ 32503679999 }
+    ensures slots { (words : List Text) (station : Letter) (moment : ℕ)
+        → Names words (Slots station moment) → moment ≤ 32503679999 }
+    ensures from { (words : List Text) (kind : DamageKind) (from count : ℕ)
+        → Names words (Damage kind from count) → from ≤ 4294967295 }
+    ensures count { (words : List Text) (kind : DamageKind) (from count : ℕ)
+        → Names words (Damage kind from count) → count ≤ 4294967295 }
+{}
+
+/// What words with a station and a moment are read as, whatever the program's name.
+pub fn slots_in_examples()
+    ensures send { (program : Text) (station : Letter) → station.byte ≡ 69
+        → Names (program ∷ codes "send" ∷ codes "E" ∷ codes "1735689600" ∷ [])
+        (Send station 1735689600) }
+    ensures slots { (program : Text) (station : Letter) → station.byte ≡ 69
+        → Names (program ∷ codes "slots" ∷ codes "E" ∷ codes "0" ∷ []) (Slots station 0) }
+    ensures small_letter { (program : Text)
+        → LacksStation (program ∷ codes "send" ∷ codes "e" ∷ codes "0" ∷ []) }
+    ensures two_letters { (program : Text)
+        → LacksStation (program ∷ codes "slots" ∷ codes "EA" ∷ codes "0" ∷ []) }
+    ensures too_late { (program : Text)
+        → IsRefused (program ∷ codes "send" ∷ codes "E" ∷ codes "32503680000" ∷ []) }
+    ensures no_moment { (program : Text) → IsRefused (program ∷ codes "send" ∷ codes "E" ∷ []) }
+    ensures no_number { (program : Text)
+        → IsRefused (program ∷ codes "slots" ∷ codes "E" ∷ codes "now" ∷ []) }
+{}
+
+/// What words with a kind of damage and two numbers are read as, whatever the program's name.
+pub fn damage_in_examples()
+    ensures some { (program : Text)
+        → Names (program ∷ codes "damage" ∷ codes "dx" ∷ codes "144" ∷ codes "59" ∷ [])
+        (Damage Dx 144 59) }
+    ensures widest { (program : Text)
+        → Names (program ∷ codes "damage" ∷ codes "all" ∷ codes "0" ∷ codes "4294967295" ∷ [])
+        (Damage All 0 4294967295) }
+    ensures capitals { (program : Text)
+        → LacksKind (program ∷ codes "damage" ∷ codes "DX" ∷ codes "0" ∷ codes "1" ∷ []) }
+    ensures too_many { (program : Text) → IsRefusedByClap
+        (program ∷ codes "damage" ∷ codes "tx" ∷ codes "0" ∷ codes "4294967296" ∷ []) }
+    ensures no_count { (program : Text)
+        → IsRefused (program ∷ codes "damage" ∷ codes "rx" ∷ codes "0" ∷ []) }
+{}

@@ -1,0 +1,215 @@
+//! The words of the command line and the call that they name, read by `clap`.
+
+ghost use Rattle.std.specs.Prelude.{◌≡◌, ◌≢◌, ℕ, [], ◌∷◌, IfErr, IfNone, IfOk, IfSome, codes, map};
+ghost use Rattle.clap.specs.Words.{found_of, rows_of};
+ghost use Rattle.nx_program.specs.Words.{HasArguments, IsKind, IsNumber, IsStation, Names, command_name};
+ghost use Rattle.nx_program.specs.Words.{kind_name};
+ghost use Rattle.nx_program.specs.private.Reading.{ExplainsWords, IsSortedAs};
+ghost use Rattle.nx_program.specs.declared.words.Call.{Call};
+ghost use Rattle.nx_station.specs.declared.damaging.DamageKind.{DamageKind};
+ghost use Rattle.nx_program.specs.declared.words.WordsFault.TheVariants.{Kind, Memory, Station};
+ghost use Rattle.nx_envelope.specs.declared.letter.Letter.{Letter};
+
+use crate::commands::navtex_command;
+use clap::ArgMatches;
+use clap::error::ErrorKind;
+use nx_envelope::Letter;
+use nx_station::DamageKind;
+use std::alloc::{AllocError, Global};
+use std::convert::AsStr;
+
+/// A call of the program, which the words of the command line name.
+#[derive(Clone, Copy, Debug, PartialEq, Eq)]
+pub enum Call {
+    /// Print the text of an air file.
+    Decode,
+    /// Write a text as an air file.
+    Encode,
+    /// Print the table of the code.
+    Code,
+    /// Print the words of an air file.
+    Show,
+    /// Print the messages of an air file that is exactly an emission.
+    Check,
+    /// Print the log of an air file.
+    Listen,
+    /// Print the log of the air file behind a state, from which it goes on.
+    Resume,
+    /// Print the state that listening to the air file behind a state leaves.
+    Save,
+    /// Print the locks of an air file and their running text.
+    Locks,
+    /// Write messages as an air file, to be sent in the station's next slot.
+    Send {
+        /// The station whose messages they are.
+        station: Letter,
+        /// The moment, in seconds since 1970, before which the slot doesn't begin.
+        moment: u64,
+    },
+    /// Print when the station's next slot begins.
+    Slots {
+        /// The station.
+        station: Letter,
+        /// The moment, in seconds since 1970, before which the slot doesn't begin.
+        moment: u64,
+    },
+    /// Copy an air file with the first element of some words inverted.
+    Damage {
+        /// Which of the words are meant.
+        kind: DamageKind,
+        /// The first word, from 0.
+        from: u64,
+        /// How many words the range has from there on.
+        count: u64,
+    },
+}
+
+/// Why the words name no call.
+#[derive(Debug, Drop)]
+pub enum WordsFault {
+    /// The words ask for help, which is this text.
+    Help(clap::Error),
+    /// The words ask for the version.
+    Version,
+    /// The words are not understood, as this text says.
+    Refused(clap::Error),
+    /// The station is not one letter A to Z.
+    Station,
+    /// The kind of damage is none of those that there are.
+    Kind,
+    /// Memory ran out while the words were read.
+    Memory(AllocError),
+}
+
+/// The call that the words name, of which the first is the program's name. `Help` and `Version` where
+/// they ask for these, `Refused` where clap doesn't understand them, `Station` and `Kind` where that
+/// argument is none, and `Memory` where it ran out.
+pub fn call_of<S: AsStr>(alloc: Global, words: &[S]) -> Result<Call, WordsFault>
+    ensures named { IfOk result (Names (map S.text words.now)) }
+    ensures refused { IfErr result (ExplainsWords (map S.text words.now)) }
+{
+    let command = navtex_command(alloc)?;
+    let matches = command.try_get_matches_from(words)?;
+    let (word, arguments) = matches.subcommand().unwrap();
+    Call::of_command(word, arguments).ok_or(unfit_argument(word))
+}
+
+/// Why a command that clap takes names no call: of its arguments, one at most is any text to clap,
+/// and the program itself checks that one.
+fn unfit_argument(word: &str) -> WordsFault
+    ensures kind { word.now ≡ codes "damage" → result ≡ Kind }
+    ensures station { word.now ≢ codes "damage" → result ≡ Station }
+{
+    match word {
+        "damage" => WordsFault::Kind,
+        _ => WordsFault::Station,
+    }
+}
+
+impl Call {
+    /// The call that the command line names by this word with these arguments.
+    fn of_command(word: &str, arguments: &ArgMatches) -> Option<Call>
+        ensures some { IfSome result (λ call. (word.now ≡ command_name call)
+            × HasArguments call (rows_of (found_of arguments.now))) }
+        ensures none { IfNone result ((call : Call) → word.now ≡ command_name call
+            → ¬ HasArguments call (rows_of (found_of arguments.now))) }
+    {
+        Some(match word {
+            "decode" => Call::Decode,
+            "encode" => Call::Encode,
+            "code" => Call::Code,
+            "show" => Call::Show,
+            "check" => Call::Check,
+            "listen" => Call::Listen,
+            "resume" => Call::Resume,
+            "save" => Call::Save,
+            "locks" => Call::Locks,
+            "send" => Call::Send {
+                station: station_in(arguments)?,
+                moment: number_in(arguments, "MOMENT")?,
+            },
+            "slots" => Call::Slots {
+                station: station_in(arguments)?,
+                moment: number_in(arguments, "MOMENT")?,
+            },
+            "damage" => Call::Damage {
+                kind: kind_in(arguments)?,
+                from: number_in(arguments, "FROM")?,
+                count: number_in(arguments, "COUNT")?,
+            },
+            _ => return None,
+        })
+    }
+}
+
+/// The letter that the text is alone, A to Z.
+fn single_letter(text: &str) -> Option<Letter>
+    ensures some { IfSome result (λ letter. text.now ≡ letter.byte ∷ []) }
+    ensures none { IfNone result ((letter : Letter) → text.now ≢ letter.byte ∷ []) }
+{
+    match text.as_bytes() {
+        [byte] => Letter::new(*byte),
+        _ => None,
+    }
+}
+
+/// The argument STATION, where it is one letter A to Z.
+fn station_in(arguments: &ArgMatches) -> Option<Letter>
+    ensures some { IfSome result (IsStation (rows_of (found_of arguments.now))) }
+    ensures none { IfNone result ((station : Letter)
+        → ¬ IsStation (rows_of (found_of arguments.now)) station) }
+{
+    single_letter(arguments.get_str("STATION")?)
+}
+
+/// The kind of damage that the text names.
+fn kind_by_name(text: &str) -> Option<DamageKind>
+    ensures some { IfSome result (λ kind. text.now ≡ kind_name kind) }
+    ensures none { IfNone result ((kind : DamageKind) → text.now ≢ kind_name kind) }
+{
+    match text {
+        "dx" => Some(DamageKind::Dx),
+        "rx" => Some(DamageKind::Rx),
+        "all" => Some(DamageKind::All),
+        _ => None,
+    }
+}
+
+/// The argument KIND, where it names a kind of damage.
+fn kind_in(arguments: &ArgMatches) -> Option<DamageKind>
+    ensures some { IfSome result (IsKind (rows_of (found_of arguments.now))) }
+    ensures none { IfNone result ((kind : DamageKind)
+        → ¬ IsKind (rows_of (found_of arguments.now)) kind) }
+{
+    kind_by_name(arguments.get_str("KIND")?)
+}
+
+/// The argument of this name, where it is a number.
+fn number_in(arguments: &ArgMatches, name: &str) -> Option<u64>
+    ensures some { IfSome result (IsNumber name.now (rows_of (found_of arguments.now))) }
+    ensures none { IfNone result ((number : ℕ)
+        → ¬ IsNumber name.now (rows_of (found_of arguments.now)) number) }
+{
+    arguments.get_one(name)
+}
+
+impl From<AllocError> for WordsFault {
+    ghost from_gives = { λ want fault. fault ≡ Memory want };
+
+    fn from(want: AllocError) -> WordsFault {
+        WordsFault::Memory(want)
+    }
+}
+
+impl From<clap::Error> for WordsFault {
+    ghost from_gives = { IsSortedAs };
+
+    fn from(error: clap::Error) -> WordsFault {
+        match error.kind() {
+            ErrorKind::DisplayHelp => WordsFault::Help(error),
+            ErrorKind::DisplayVersion => WordsFault::Version,
+            ErrorKind::OutOfMemory => WordsFault::Memory(AllocError),
+            _ => WordsFault::Refused(error),
+        }
+    }
+}

@@ -1,0 +1,59 @@
+//! Entries as they are printed, a judge's answers, emissions through a receiver and through
+//! `listen`, and states.
+
+mod entries;
+mod hearing;
+mod judging;
+mod laws;
+mod listening;
+mod states;
+
+use nx_envelope::{Finder, FinderStep, Found, Letter};
+use nx_fec::{Counting, read_bits};
+use nx_station::send;
+use std::alloc::Global;
+use std::test::Fail;
+
+/// 2025-01-01 00:40:00, four hours later, and 66 hours after the first.
+const FIRST: u64 = 1_735_692_000;
+
+const SECOND: u64 = 1_735_706_400;
+
+const AGAIN: u64 = FIRST + 237_600;
+
+/// The message EA01 with the one line TEST, and its log at the first moment.
+const EA01: &[u8] = b"#A01\nTEST\n;\n";
+
+const LOG_OF_EA01: &[u8] = b"[EA01 2025-01-01 00:40:00 full 0/5]\nTEST\n\n";
+
+/// The first copy of a text, which ends at the end of the text where no marker ends it.
+fn first_copy(text: &[u8]) -> Option<Found> {
+    let mut finder = Finder::new();
+    for byte in text {
+        if let FinderStep::Over(found) = finder.push(*byte) {
+            return Some(found);
+        }
+    }
+    finder.end()
+}
+
+/// What station E sends of a message file, in its slot that begins at this moment.
+fn sent(alloc: Global, messages: &[u8], moment: u64) -> Result<Vec<u8>, Fail> {
+    let station = Letter::new(b'E').ok_or("a station")?;
+    let mut air_file = Counting::new(Vec::new(alloc));
+    send(
+        alloc,
+        &mut Counting::new(messages),
+        &mut air_file,
+        station,
+        moment,
+    )
+    .or(Err("sending"))?;
+    Ok(air_file.into_inner())
+}
+
+/// The elements of a message file's emission.
+fn elements_of(alloc: Global, messages: &[u8]) -> Result<Vec<bool>, Fail> {
+    let air_file = sent(alloc, messages, FIRST)?;
+    Ok(read_bits(alloc, &mut Counting::new(air_file.as_slice())).or(Err("reading"))?)
+}

@@ -1,0 +1,109 @@
+//! What `listen` and `listen_from` report.
+
+use super::{EA01, FIRST, LOG_OF_EA01, SECOND, elements_of, sent};
+use nx_fec::Counting;
+use nx_memory::SavedSet;
+use nx_receiver::{ListenFault, Report, listen, listen_from};
+use std::alloc::{AllocError, Global};
+use std::test::Fail;
+
+/// Whether a file is listened to with this report and this log.
+fn reports(alloc: Global, air_file: &[u8], report: Report, log: &[u8]) -> bool {
+    let mut writer = Counting::new(Vec::new(alloc));
+    let outcome = listen(alloc, &mut Counting::new(air_file), &mut writer);
+    outcome == Ok(report) && writer.into_inner().as_slice() == log
+}
+
+/// EA01 at the first moment, with one element in each line.
+fn in_lines_of_one(alloc: Global) -> Result<Vec<u8>, Fail> {
+    let mut lines = b"T 1735692000\n".to_vec(alloc)?;
+    for bit in elements_of(alloc, EA01)? {
+        lines.extend_from_slice(if bit { b"B 1\n" } else { b"B 0\n" })?;
+    }
+    Ok(lines)
+}
+
+#[test]
+fn counts_lines_and_elements(rt: HostRuntime) -> Result<(), Fail> {
+    let whole = sent(rt.alloc(), EA01, FIRST)?;
+    let lines_of_one = in_lines_of_one(rt.alloc())?;
+    // Four elements stand between an emission and its repeat.
+    let mut repeated = whole.clone()?;
+    repeated.extend_from_slice(b"B 0110\n")?;
+    repeated.extend_from_slice(&sent(rt.alloc(), EA01, SECOND)?)?;
+    let cases: [(&[u8], [u64; 3], &[u8]); 4] = [
+        (b"", [0, 0, 0], b""),
+        (&whole, [4, 1_421, 1], LOG_OF_EA01),
+        (&lines_of_one, [1_422, 1_421, 1], LOG_OF_EA01),
+        (&repeated, [9, 2_846, 1], LOG_OF_EA01),
+    ];
+    for (air_file, [lines, bits, printed], log) in cases {
+        let report = Report {
+            lines,
+            bits,
+            printed,
+        };
+        assert!(rt; reports(rt.alloc(), air_file, report, log));
+    }
+    Ok(())
+}
+
+#[test]
+fn texts_of_faults(rt: HostRuntime) -> Result<(), Fail> {
+    let cases = [
+        (
+            ListenFault::AirTooLong,
+            "air file longer than 268435456 bytes",
+        ),
+        (ListenFault::Memory(AllocError), "out of memory"),
+    ];
+    for (fault, text) in cases {
+        assert_eq!(rt; fault.to_string(rt.alloc())?.as_str(), text);
+    }
+    Ok(())
+}
+
+/// A message file of one of 250 messages.
+fn message_of(index: u8) -> [u8; 9] {
+    let number = index % 50 + 1;
+    let subject = b'E' + index / 50;
+    let [tens, ones] = [b'0' + number / 10, b'0' + number % 10];
+    [b'#', subject, tens, ones, b'\n', b'X', b'\n', b';', b'\n']
+}
+
+/// What a run that goes on from what is saved leaves, of which the log is appended to others.
+fn go_on(
+    alloc: Global,
+    saved: &SavedSet,
+    air_file: &[u8],
+    logs: &mut Vec<u8>,
+) -> Result<SavedSet, Fail> {
+    let mut writer = Counting::new(Vec::new(alloc));
+    let outcome = listen_from(alloc, saved, &mut Counting::new(air_file), &mut writer);
+    let (_, left) = outcome.or(Err("listening"))?;
+    logs.extend_from_slice(&writer.into_inner())?;
+    Ok(left)
+}
+
+/// Runs over 252 emissions, one each, log what one run logs that hears them all: the first of 250
+/// messages has fallen out when it comes again, and the last is known.
+#[test]
+fn many_runs(rt: HostRuntime) -> Result<(), Fail> {
+    let mut saved = SavedSet::new();
+    let mut joined = Vec::new(rt.alloc());
+    let mut logs = Vec::new(rt.alloc());
+    for index in (0..250).chain([0, 249]) {
+        let air_file = sent(rt.alloc(), &message_of(index), FIRST)?;
+        saved = go_on(rt.alloc(), &saved, &air_file, &mut logs)?;
+        joined.extend_from_slice(&air_file)?;
+    }
+    let kept = saved.get(0).ok_or("channel 0")?;
+    assert_eq!(rt; kept.count(), 200);
+    let report = Report {
+        lines: 4 * 252,
+        bits: 252 * 1_379,
+        printed: 251,
+    };
+    assert!(rt; reports(rt.alloc(), &joined, report, &logs));
+    Ok(())
+}
