@@ -276,10 +276,7 @@ impl Watch {
                 return (EIGHT_WORDS, Over::Nothing);
             }
         }
-        (
-            ELEMENTS,
-            self.hear_word(synchroniser, packed.word_at(from)),
-        )
+        (ELEMENTS, self.hear_word(synchroniser, packed.word_at(from)))
     }
 
     /// Whether a lock stands.
