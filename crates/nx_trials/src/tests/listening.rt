@@ -1,9 +1,10 @@
 //! What `listen` and `listen_from` report.
 
 use super::{EA01, FIRST, LOG_OF_EA01, SECOND, elements_of, sent};
+use nx_envelope::Letter;
 use nx_fec::Counting;
 use nx_memory::SavedSet;
-use nx_receiver::{ListenFault, Report, listen, listen_from};
+use nx_receiver::{ListenFault, MomentFault, Report, listen, listen_from};
 use std::alloc::{AllocError, Global};
 use std::test::Fail;
 
@@ -23,6 +24,24 @@ fn in_lines_of_one(alloc: Global) -> Result<Vec<u8>, Fail> {
     Ok(lines)
 }
 
+/// An air file with each line of its elements a second time, on channel 1.
+fn on_two_channels(alloc: Global, air_file: &[u8]) -> Result<Vec<u8>, Fail> {
+    let mut both = Vec::new(alloc);
+    let mut line = Vec::new(alloc);
+    for byte in air_file {
+        line.push(*byte)?;
+        if *byte == b'\n' {
+            both.extend_from_slice(&line)?;
+            if let Some(elements) = line.strip_prefix(b"B") {
+                both.extend_from_slice(b"B1")?;
+                both.extend_from_slice(elements)?;
+            }
+            line.clear();
+        }
+    }
+    Ok(both)
+}
+
 #[test]
 fn counts_lines_and_elements(rt: HostRuntime) -> Result<(), Fail> {
     let whole = sent(rt.alloc(), EA01, FIRST)?;
@@ -31,11 +50,18 @@ fn counts_lines_and_elements(rt: HostRuntime) -> Result<(), Fail> {
     let mut repeated = whole.clone()?;
     repeated.extend_from_slice(b"B 0110\n")?;
     repeated.extend_from_slice(&sent(rt.alloc(), EA01, SECOND)?)?;
-    let cases: [(&[u8], [u64; 3], &[u8]); 4] = [
+    let both = on_two_channels(rt.alloc(), &whole)?;
+    let cases: [(&[u8], [u64; 3], &[u8]); 5] = [
         (b"", [0, 0, 0], b""),
         (&whole, [4, 1_421, 1], LOG_OF_EA01),
         (&lines_of_one, [1_422, 1_421, 1], LOG_OF_EA01),
         (&repeated, [9, 2_846, 1], LOG_OF_EA01),
+        (
+            &both,
+            [7, 2_842, 2],
+            b"[EA01 2025-01-01 00:40:00 full 0/5]\nTEST\n\n\
+            [EA01/1 2025-01-01 00:40:00 full 0/5]\nTEST\n\n",
+        ),
     ];
     for (air_file, [lines, bits, printed], log) in cases {
         let report = Report {
@@ -44,6 +70,61 @@ fn counts_lines_and_elements(rt: HostRuntime) -> Result<(), Fail> {
             printed,
         };
         assert!(rt; reports(rt.alloc(), air_file, report, log));
+    }
+    Ok(())
+}
+
+/// A fault names its line, and nothing is logged before it.
+#[test]
+fn faults_of_lines(rt: HostRuntime) -> Result<(), Fail> {
+    let l = Letter::new(b'L').ok_or("L")?;
+    let mut too_long = [b'0'; 516];
+    too_long[..2].copy_from_slice(b"B ");
+    too_long[515] = b'\n';
+    let back = MomentFault::Back { last: 5, given: 4 };
+    let range = MomentFault::Range {
+        given: 32_503_680_000,
+    };
+    let cases: [(&[u8], ListenFault); 9] = [
+        (
+            b"T 5\nT 4\n",
+            ListenFault::Moment {
+                line: 2,
+                fault: back,
+            },
+        ),
+        (
+            b"T 32503680000\n",
+            ListenFault::Moment {
+                line: 1,
+                fault: range,
+            },
+        ),
+        (b"B 0\n", ListenFault::NoMoment { line: 1 }),
+        (b"T 05\n", ListenFault::BadLine { line: 1 }),
+        (b"T 5", ListenFault::LineCut { line: 1 }),
+        (&too_long, ListenFault::LineLong { line: 1 }),
+        (
+            b"T 0\nRJ L\n",
+            ListenFault::Vital {
+                line: 2,
+                subject: l,
+            },
+        ),
+        (
+            b"RJ2 L\n",
+            ListenFault::Vital {
+                line: 1,
+                subject: l,
+            },
+        ),
+        (b"B3 1\n", ListenFault::BadLine { line: 1 }),
+    ];
+    for (air_file, fault) in cases {
+        let mut writer = Counting::new(Vec::new(rt.alloc()));
+        let outcome = listen(rt.alloc(), &mut Counting::new(air_file), &mut writer);
+        assert_eq!(rt; outcome, Err(fault));
+        assert!(rt; writer.into_inner().is_empty());
     }
     Ok(())
 }

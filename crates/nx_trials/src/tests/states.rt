@@ -1,7 +1,11 @@
-//! The text of a state, read and written.
+//! The text of a state, read and written, and runs that resume from it.
 
+use super::{EA01, SECOND, sent};
 use nx_fec::Counting;
-use nx_receiver::{read_state, write_state};
+use nx_receiver::{
+    ListenFault, MomentFault, Report, ResumeFault, StateFault, Want, read_state, resume,
+    write_state,
+};
 use std::test::Fail;
 
 const STATE: &[u8] = b"STATE 2\nC0\nRS A\nRJ E\nEA01 5\nC1\nC2\nEB02 7\nEND\n";
@@ -17,5 +21,63 @@ fn reads_and_writes_a_state(rt: HostRuntime) -> Result<(), Fail> {
     let mut writer = Counting::new(Vec::new(rt.alloc()));
     write_state(&states, &mut writer).or(Err("writing"))?;
     assert_eq!(rt; writer.into_inner().as_slice(), STATE);
+    Ok(())
+}
+
+/// What was printed four hours ago is counted and not printed again, and stays saved.
+#[test]
+fn resumes(rt: HostRuntime) -> Result<(), Fail> {
+    let mut input = b"STATE 1\nEA01 1735692000\nEND\n".to_vec(rt.alloc())?;
+    input.extend_from_slice(&sent(rt.alloc(), EA01, SECOND)?)?;
+    let cases: [(Want, &[u8]); 2] = [
+        (Want::Log, b""),
+        (Want::State, b"STATE 2\nC0\nEA01 1735692000\nC1\nC2\nEND\n"),
+    ];
+    for (want, written) in cases {
+        let mut reader = Counting::new(input.as_slice());
+        let mut writer = Counting::new(Vec::new(rt.alloc()));
+        let report = Report {
+            lines: 4,
+            bits: 1_421,
+            printed: 0,
+        };
+        assert_eq!(rt;
+            resume(rt.alloc(), &mut reader, &mut writer, want),
+            Ok(report)
+        );
+        assert_eq!(rt; writer.into_inner().as_slice(), written);
+    }
+    Ok(())
+}
+
+/// A state or the air file behind it is refused by its own line, and nothing is written.
+#[test]
+fn faults_of_states(rt: HostRuntime) -> Result<(), Fail> {
+    let back = ListenFault::Moment {
+        line: 1,
+        fault: MomentFault::Back { last: 5, given: 4 },
+    };
+    let cases: [(&[u8], ResumeFault); 3] = [
+        (
+            b"STATE 1\nRS B\nRS A\n",
+            ResumeFault::State(StateFault::StateLine { line: 3 }),
+        ),
+        (
+            b"STATE 1\nEN",
+            ResumeFault::State(StateFault::StateCut { line: 2 }),
+        ),
+        (b"STATE 1\nEA01 5\nEND\nT 4\n", ResumeFault::Listen(back)),
+    ];
+    for (input, fault) in cases {
+        let mut writer = Counting::new(Vec::new(rt.alloc()));
+        let outcome = resume(
+            rt.alloc(),
+            &mut Counting::new(input),
+            &mut writer,
+            Want::State,
+        );
+        assert_eq!(rt; outcome, Err(fault));
+        assert!(rt; writer.into_inner().is_empty());
+    }
     Ok(())
 }
