@@ -130,7 +130,7 @@ pub record GivesHelp {R W : Type 0} (words : List Text) (d : Devices R W)
 -- of the logic that it is proved with, and a newline (10)
 abbrev pub version_text : List ℕ
 version_text =
-    codes "navtex 1.0.0, proved with rattle-kit-13b logic dac8208d650f15bf" ++ 10 ∷ []
+    codes "navtex 1.0.0, proved with rattle-kit-13f logic dac8208d650f15bf" ++ 10 ∷ []
 
 -- the words ask for the version, and its text was written
 pub record GivesVersion {R W : Type 0} (words : List Text) (d : Devices R W)
