@@ -16,8 +16,8 @@ HavePrinted starts given copies =
 -- What is printed of the copies that have ended, in the order in which they end: what is printed of
 -- a beginning of what is given is so many of them, from the first on. What is given at once ends
 -- copies of one channel alone.
-pub record PrintsInTurn (starts : Starts) (given : List Given)
-    (copies : List MarkedCopy) : Type 0 where
+pub record PrintsInTurn (starts : Starts) (given : List Given) (copies : List MarkedCopy)
+    : Type 0 where
   pub each : HavePrinted starts given copies
   pub in_turn : (before later : List Given) → given ≡ before ++ later
       → (count : ℕ) × HavePrinted starts before (take count copies)
@@ -29,8 +29,7 @@ pub record PrintAllToEnd (starts : Starts) (given : List Given) (copies : List M
   pub ended : List MarkedCopy
   pub in_turn : PrintsInTurn starts given ended
   pub closed : Channel → List TaggedCopy
-  pub to_end : (channel : Channel)
-      → Prints found_to_end (start_on starts channel) (share channel given)
-      (copies_on channel ended ++ closed channel)
+  pub to_end : (channel : Channel) → Prints found_to_end (start_on starts channel)
+      (share channel given) (copies_on channel ended ++ closed channel)
   pub whole : copies
       ≡ ended ++ flat_map (λ channel. map (marked channel) (closed channel)) (Zero ∷ One ∷ Two ∷ [])

@@ -132,8 +132,7 @@ HasLoggedSome IsLogged old new written =
 -- Good lines and the beginning of one more stand before a fault of the file, of which this is the
 -- cause; and this holds of the lines.
 abbrev pub HasFaultAfter : (List Line → Type 0) → List ℕ → LineFault → Type 0
-HasFaultAfter holds bytes why =
-    StopsAt bytes (λ lines rest more.
+HasFaultAfter holds bytes why = StopsAt bytes (λ lines rest more.
     IsCause air_limit (length (file_of lines ++ rest)) lines rest more why × holds lines)
 
 -- The first fault of an air file, by its bytes alone: a fault of the file, or the next line is
@@ -144,8 +143,7 @@ HasListenFault starts holds bytes AirTooLong = HasFaultAfter holds bytes file.To
 HasListenFault starts holds bytes (LineLong line) = HasFaultAfter holds bytes (file.LineLong line)
 HasListenFault starts holds bytes (LineCut line) = HasFaultAfter holds bytes (file.LineCut line)
 HasListenFault starts holds bytes (BadLine line) = HasFaultAfter holds bytes (file.BadLine line)
-HasListenFault starts holds bytes fault =
-    StopsAt bytes (λ lines rest more.
+HasListenFault starts holds bytes fault = StopsAt bytes (λ lines rest more.
     IsLineRefused (RefusesAfter starts fault) air_limit lines rest more (length lines + 1)
     × holds lines)
 
@@ -160,8 +158,7 @@ abbrev pub AnswersListening : Starts → Type 0 → (List ℕ → Type 0) → Op
 AnswersListening starts AtEnd IsLeft old new (Ok report) bytes =
     AtEnd × HasListened starts old new bytes report
 AnswersListening starts AtEnd IsLeft old new (Err (Memory error)) bytes = ⊤
-AnswersListening starts AtEnd IsLeft old new (Err Read) bytes =
-    StopsAt bytes (λ lines rest more.
+AnswersListening starts AtEnd IsLeft old new (Err Read) bytes = StopsAt bytes (λ lines rest more.
     (length (file_of lines ++ rest) ≤ air_limit) × IsLeft more × HasLogged starts old new lines)
 AnswersListening starts AtEnd IsLeft old new (Err (Write written)) bytes =
     (log : List ℕ) × WroteSome old new log written

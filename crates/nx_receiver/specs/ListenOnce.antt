@@ -45,7 +45,6 @@ pub record KeepsHeadline (starts : Starts)
   pub all : IsAtEnd left_after
   pub report : Report
   pub listened : HasListened starts old new bytes report
-  pub once : (channel : Channel) (message : MessageView) (parts : List Part)
-      → IsHeardInTime (start_on starts channel) (share channel (map given_of listened.lines)) parts
-      message
+  pub once : (channel : Channel) (message : MessageView) (parts : List Part) → IsHeardInTime
+      (start_on starts channel) (share channel (map given_of listened.lines)) parts message
       → IsPrintedOnce message (copies_on channel listened.copies)
