@@ -103,11 +103,11 @@ impl LockReader {
         self.is_line_open
     }
 
-    /// Hears the next word of the lock, which has that role, and answers the byte that it prints,
+    /// Takes the next word of the lock, which has that role, and answers the byte that it prints,
     /// if it prints one.
     // Inlined, since it is called for each word.
     #[inline(always)]
-    pub(crate) fn hear(&mut self, word: Word, role: Role) -> Option<u8>
+    pub(crate) fn take_word(&mut self, word: Word, role: Role) -> Option<u8>
         ensures { HearsWord self.old self.new word role result }
     {
         self.count(word);
@@ -131,7 +131,7 @@ impl LockReader {
 
     /// Hears the next eight words of the lock, of which the first is a DX word, and appends the bytes
     /// that they print.
-    // Inlined, as `hear`.
+    // Inlined, as `take_word`.
     #[inline(always)]
     pub(crate) fn hear_eight(&mut self, words: &[Word; WORDS_AT_ONCE], shown: &mut Shown)
         requires room { array_vec_len shown.old + 8 ≤ 57856 }
@@ -147,7 +147,7 @@ impl LockReader {
 
     /// The same at once, where surely no header begins or ends in what they print: `true` where it
     /// did. Else nothing changed, and they have to be heard one by one.
-    // Inlined, as `hear`.
+    // Inlined, as `take_word`.
     #[inline(always)]
     fn hear_plain(&mut self, words: &[Word; WORDS_AT_ONCE], shown: &mut Shown) -> bool
         requires room { array_vec_len shown.old + 8 ≤ 57856 }
@@ -192,14 +192,14 @@ impl LockReader {
 
     /// Hears the next word of the lock, which has that role, and appends the byte that it prints, if
     /// it prints one.
-    // Inlined, as `hear`.
+    // Inlined, as `take_word`.
     #[inline(always)]
     fn show(&mut self, word: Word, role: Role, shown: &mut Shown)
         requires room { array_vec_len shown.old + 1 ≤ 57856 }
         ensures few { array_vec_len shown.new ≤ array_vec_len shown.old + 1 }
         ensures shows { ShowsWord self.old self.new word role shown.old.items shown.new.items }
     {
-        if let Some(byte) = self.hear(word, role) {
+        if let Some(byte) = self.take_word(word, role) {
             shown.push(byte);
         }
     }

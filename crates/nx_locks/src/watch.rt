@@ -335,7 +335,7 @@ impl LockWatch {
             shown.new.items }
         ensures moment { self.new.moment ≡ self.old.moment }
     {
-        if let Some(byte) = self.reader.hear(word, role) {
+        if let Some(byte) = self.reader.take_word(word, role) {
             shown.push(byte);
         }
         if let Some(how) = change {

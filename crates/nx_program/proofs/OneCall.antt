@@ -6,9 +6,9 @@ use Rattle.clap.specs.Words.{Row, Text}
 use Rattle.nx_envelope.specs.declared.letter.Letter.{Letter}
 use Rattle.nx_station.specs.declared.damaging.DamageKind.{DamageKind}
 use Rattle.nx_program.specs.declared.words.Call.{Call}
-use Rattle.nx_program.specs.Words.{HasArguments, IsKind, IsStation, command_name}
+use Rattle.nx_program.specs.Words.{Entry, HasArguments, IsKind, IsStation, Maker, command_name, entries, plain, range, slot}
 use Rattle.nx_program.proofs.CallArguments.{range_call-is, range_call-kind, slot_call-is, slot_call-station}
-use Rattle.nx_program.proofs.CommandTable.{Entry, HasCall, IsSlotWord, IsSound, Maker, Makes, call_in, call_in-only, entries, entries-sound, made, plain, range, slot}
+use Rattle.nx_program.proofs.CommandTable.{HasCall, IsSlotWord, IsSound, Makes, call_in, call_in-only, entries-sound, made}
 use Rattle.nx_program.proofs.EachFound.{Each}
 
 made-is : (name : Text) (maker : Maker) → Makes name maker → (rows : List Row)

@@ -19,11 +19,11 @@ use Rattle.nx_program.specs.declared.words.Call.{Call}
 use Rattle.nx_program.specs.declared.words.WordsFault.{WordsFault}
 use Rattle.nx_program.specs.declared.words.WordsFault.TheVariants.{Help, Refused, Station, Kind, Memory, Version}
 use Rattle.nx_station.specs.declared.damaging.DamageKind.{DamageKind}
-use Rattle.nx_program.specs.Words.{AsksForHelp, AsksForVersion, HasArguments, IsKind, IsNumber, IsRefusal, IsRefused, IsStation, LacksKind, LacksStation, Names, navtex, command_name}
+use Rattle.nx_program.specs.Words.{AsksForHelp, AsksForVersion, HasArguments, IsKind, IsNumber, IsRefusal, IsRefused, IsStation, LacksKind, LacksStation, Maker, Names, command_name, entries, navtex, plain, range, slot}
 use Rattle.nx_program.specs.private.Reading.{ExplainsWords, IsSortedAs}
 use Rattle.nx_program.proofs.EachFound.{Each, each-map, found_is}
 use Rattle.nx_program.proofs.CallArguments.{differ, number_once}
-use Rattle.nx_program.proofs.CommandTable.{HasCall, IsSlotWord, IsSound, Maker, Makes, entries, entries-sound, plain, range, slot}
+use Rattle.nx_program.proofs.CommandTable.{HasCall, IsSlotWord, IsSound, Makes, entries-sound}
 use Rattle.nx_program.proofs.CommandsTaken.{Gives, leaf, taken-command}
 use Rattle.nx_program.proofs.NumbersGiven.{number-given}
 use Rattle.nx_program.proofs.OneCall.{IsNotCalled, call_or_none, has-kind, has-station, same_call}

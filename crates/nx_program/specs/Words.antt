@@ -71,17 +71,36 @@ bare_tree = on_top (λ s. record s {
   has_version = true;
 }) (new_app (codes "navtex"))
 
+-- what a command takes, and the call that it makes of it: nothing; a station and a moment; a kind
+-- of damage and two numbers
+pub data Maker : Type 0 where
+  plain : Call → Maker
+  slot : (Letter → ℕ → Call) → Maker
+  range : (DamageKind → ℕ → ℕ → Call) → Maker
+
+-- the command tree of a command of this name
+abbrev pub tree_of : Text → Maker → App
+tree_of name (plain call) = plain_tree name
+tree_of name (slot make) = slot_tree name
+tree_of name (range make) = damage_tree name
+
+-- a command of the program: its name, and what it takes
+abbrev pub Entry : Type 0
+Entry = Text × Maker
+
 -- the commands of the program, in the order in which help lists them
-abbrev pub commands : List App
-commands =
-    plain_tree (codes "listen") ∷ slot_tree (codes "send") ∷ plain_tree (codes "resume")
-    ∷ plain_tree (codes "save") ∷ plain_tree (codes "locks") ∷ slot_tree (codes "slots")
-    ∷ plain_tree (codes "check") ∷ damage_tree (codes "damage") ∷ plain_tree (codes "decode")
-    ∷ plain_tree (codes "encode") ∷ plain_tree (codes "show") ∷ plain_tree (codes "code") ∷ []
+abbrev pub entries : List Entry
+entries =
+    (codes "listen", plain Listen) ∷ (codes "send", slot Send) ∷ (codes "resume", plain Resume)
+    ∷ (codes "save", plain Save) ∷ (codes "locks", plain Locks) ∷ (codes "slots", slot Slots)
+    ∷ (codes "check", plain Check) ∷ (codes "damage", range Damage)
+    ∷ (codes "decode", plain Decode) ∷ (codes "encode", plain Encode) ∷ (codes "show", plain Show)
+    ∷ (codes "code", plain Code) ∷ []
 
 -- the command tree of the program
 abbrev pub navtex : App
-navtex = fold (λ (tree command : App). with_subcommand tree command.top) bare_tree commands
+navtex =
+    fold (λ (tree : App) (e : Entry). with_subcommand tree (tree_of e.0 e.1).top) bare_tree entries
 
 -- the argument STATION is this letter alone
 abbrev pub IsStation : List Row → Letter → Type 0
@@ -102,15 +121,6 @@ pub record IsNumber (name : Text) (arguments : List Row) (number : ℕ) : Type 0
 
 -- the arguments are those of the call
 abbrev pub HasArguments : Call → List Row → Type 0
-HasArguments Decode arguments = ⊤
-HasArguments Encode arguments = ⊤
-HasArguments Code arguments = ⊤
-HasArguments Show arguments = ⊤
-HasArguments Check arguments = ⊤
-HasArguments Listen arguments = ⊤
-HasArguments Resume arguments = ⊤
-HasArguments Save arguments = ⊤
-HasArguments Locks arguments = ⊤
 HasArguments (Send station moment) arguments =
     IsStation arguments station × IsNumber (codes "MOMENT") arguments moment
 HasArguments (Slots station moment) arguments =
@@ -118,6 +128,7 @@ HasArguments (Slots station moment) arguments =
 HasArguments (Damage kind from count) arguments =
     IsKind arguments kind × IsNumber (codes "FROM") arguments from
     × IsNumber (codes "COUNT") arguments count
+HasArguments _ arguments = ⊤
 
 -- the words, of which the first is the program's name, name the call: clap finds no fault in them
 -- and enters the call's command with the call's arguments

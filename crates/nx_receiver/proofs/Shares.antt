@@ -11,7 +11,7 @@ use Rattle.std.proofs.lemmas.List.Elements.{filter-append}
 use Rattle.nx_fec.specs.Channels.{same_channel}
 use Rattle.nx_fec.specs.declared.channel.Channel.{Channel}
 use Rattle.nx_fec.specs.declared.channel.Channel.TheVariants.{Zero, One, Two}
-use Rattle.nx_receiver.specs.Events.{at_zero, none_refused}
+use Rattle.nx_receiver.specs.Events.{none_refused}
 use Rattle.nx_receiver.specs.FoundCopies.{TaggedCopy}
 use Rattle.nx_receiver.specs.InTurn.{HavePrinted, PrintAllToEnd, PrintsInTurn}
 use Rattle.nx_receiver.specs.Log.{PrintsToEnd}

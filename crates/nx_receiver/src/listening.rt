@@ -404,7 +404,7 @@ impl Listener {
 
     /// Hears elements of a channel up to and with the one that ends the first copy that is printed,
     /// and gives its entry. Answers how many it heard.
-    fn hear<W: Write>(
+    fn hear_next<W: Write>(
         &mut self,
         channel: Channel,
         packed: &PackedElements,
@@ -488,7 +488,7 @@ impl Listener {
     {
         let mut at = 0;
         while at < packed.len() {
-            match self.hear(channel, packed, at, writer, batch) {
+            match self.hear_next(channel, packed, at, writer, batch) {
                 Ok(count) => at += count,
                 Err(fault) => return Err(fault),
             }

@@ -62,11 +62,11 @@ impl LockReader {
         }
     }
 
-    /// Hears the next word of the lock, which has that role, and answers what it brings. A copy
+    /// Takes the next word of the lock, which has that role, and answers what it brings. A copy
     /// that it ends can be taken before the next word.
     // Inlined, since it is called for each word.
     #[inline(always)]
-    pub(crate) fn hear(&mut self, word: Word, role: Role) -> TextEvent
+    pub(crate) fn take_word(&mut self, word: Word, role: Role) -> TextEvent
         ensures stands { (first : Role) (words : ℕ → ℕ) (n : ℕ) → ReadsLock self.old first words n
             → words n ≡ word → role ≡ role_of first n → ReadsLock self.new first words (n + 1) }
         ensures hears { (first : Role) (words : ℕ → ℕ) (n : ℕ) → ReadsLock self.old first words n
@@ -94,7 +94,7 @@ impl LockReader {
     /// Hears the next eight words of the lock at once, of which the first is a DX word, where surely
     /// none of them begins or ends a copy: `true` where it did. Else nothing changed, and they have
     /// to be heard one by one.
-    // Inlined, as `hear`.
+    // Inlined, as `take_word`.
     #[inline(always)]
     pub(crate) fn hear_eight(&mut self, words: &[Word; WORDS_AT_ONCE]) -> bool
         ensures stands { IsTrue result → (first : Role) (before : ℕ → ℕ) (n : ℕ)
@@ -114,15 +114,6 @@ impl LockReader {
         self.diversity = diversity;
         self.printer = printer;
         true
-    }
-
-    /// The identity of the copy that stands open, or that can be taken.
-    // Inlined, since its answer is small and asked where it is used.
-    #[inline(always)]
-    pub(crate) fn identity(&self) -> Option<Identity>
-        ensures { result ≡ held_identity self.now.finder.copy }
-    {
-        self.finder.identity()
     }
 
     /// The copy that the last word ended, where it was not taken yet.

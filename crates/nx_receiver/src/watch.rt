@@ -179,10 +179,10 @@ impl Watch {
         ensures force { in_force self.new ≡ in_force self.old }
         ensures tag { TagGoesOn self.old self.new }
     {
-        if !self.is_locked() {
+        if !self.synchroniser.is_locked() {
             return self.hunt(packed, from);
         }
-        if self.is_between_words() && packed.len() - from >= ELEMENTS {
+        if self.synchroniser.is_between_words() && packed.len() - from >= ELEMENTS {
             return self.hear_words(packed, from);
         }
         (1, self.hear_element(packed.get(from)))
@@ -277,24 +277,6 @@ impl Watch {
             }
         }
         (ELEMENTS, self.hear_word(synchroniser, packed.word_at(from)))
-    }
-
-    /// Whether a lock stands.
-    // Inlined, since it is asked for each part that is heard.
-    #[inline(always)]
-    fn is_locked(&self) -> bool
-        ensures { result ≡ not (is_hunting self.now.synchroniser) }
-    {
-        self.synchroniser.is_locked()
-    }
-
-    /// Whether a lock stands, and the next element is the first of a word.
-    // Inlined, since it is asked for each word.
-    #[inline(always)]
-    fn is_between_words(&self) -> bool
-        ensures { result ≡ is_between_words self.now.synchroniser }
-    {
-        self.synchroniser.is_between_words()
     }
 
     /// Hears the next eight words of the lock at once, where surely nothing is over with any of
@@ -398,7 +380,7 @@ impl Watch {
         ensures word { ReadsWord self.old self.new word role is_changed result }
         ensures tag { TagGoesOn self.old self.new }
     {
-        match self.reader.hear(word, role) {
+        match self.reader.take_word(word, role) {
             TextEvent::Nothing => Over::of(false, is_changed),
             TextEvent::Header(identity) => {
                 self.tag = CopyTag {
@@ -467,15 +449,6 @@ impl Watch {
         ensures tag { self.new.tag ≡ self.old.tag }
     {
         self.reader.end()
-    }
-
-    /// The identity of the copy that stands open, or that can be taken.
-    // Inlined, as that of the reader.
-    #[inline(always)]
-    pub(crate) fn identity(&self) -> Option<Identity>
-        ensures { result ≡ held_identity self.now.reader.finder.copy }
-    {
-        self.reader.identity()
     }
 
     /// Ends the text of a lock that is over, where no copy stands open: none is over then.

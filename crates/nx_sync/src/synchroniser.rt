@@ -144,7 +144,7 @@ impl Synchroniser {
             → IsStep (bits ++ bit ∷ []) result }
         ensures limit { result.change ≡ Some Locked → IsTrue (is_between_words self.new) }
     {
-        self.hear(bit);
+        self.shift_in(bit);
         match self.track {
             None => self.hunt_on(),
             Some(track) => self.follow(track),
@@ -220,7 +220,7 @@ impl Synchroniser {
 
     /// Takes one element into the last 28.
     #[inline(always)]
-    fn hear(&mut self, bit: bool)
+    fn shift_in(&mut self, bit: bool)
         ensures { self.new ≡ heard_one self.old bit }
     {
         self.recent = next_window(self.recent, bit);
@@ -370,7 +370,7 @@ impl Synchroniser {
     {
         let early = ((PATTERN - 1).saturating_sub(self.seen) as usize).min(count);
         for at in 0..early {
-            self.hear(element(numbers, from + at));
+            self.shift_in(element(numbers, from + at));
         }
         early
     }
@@ -451,7 +451,7 @@ impl Synchroniser {
             .len()
             .min((PATTERN - 1).saturating_sub(self.seen) as usize);
         for bit in &bits[..count] {
-            self.hear(*bit);
+            self.shift_in(*bit);
         }
         count
     }

@@ -1,17 +1,13 @@
 -- What `send` writes of messages, as an air file that is listened to.
-use Rattle.std.proofs.Common.{◌≡◌, ℕ, ◌^◌, ◌<◌, ◌≤◌, Bool, List, [], ◌∷◌, map, length, refl, sym}
+use Rattle.std.proofs.Common.{◌≡◌, ℕ, ◌<◌, ◌≤◌, Bool, List, [], ◌∷◌, map, length, refl, sym}
 use Rattle.std.proofs.Common.{ap, ◌∙◌, subst, arith}
-use Rattle.std.specs.Int.{div_ceil}
-use Rattle.std.proofs.lemmas.List.{length-append}
 use Rattle.nx_envelope.specs.Message.{MessageView}
-use Rattle.nx_fec.specs.AirFile.{Line, moment, spelling}
+use Rattle.nx_fec.specs.AirFile.{Line, moment}
 use Rattle.nx_fec.specs.BitLines.{bit_lines}
 use Rattle.nx_fec.specs.Emission.{bits_of, emission}
 use Rattle.nx_fec.specs.declared.channel.Channel.TheVariants.{Zero}
-use Rattle.nx_fec.specs.Lines.{IsAirFile, file_of, line_bytes, air_limit}
-use Rattle.nx_fec.proofs.EmissionLemmas.{length-emission}
-use Rattle.nx_fec.proofs.LineLaws.{IsAirFile-unique, spelling-IsBeginning}
-use Rattle.nx_fec.proofs.RoundTripLemmas.{length-bits_of}
+use Rattle.nx_fec.specs.Lines.{IsAirFile, air_limit}
+use Rattle.nx_fec.proofs.LineLaws.{IsAirFile-unique}
 use Rattle.nx_station.specs.FileSending.{IsTransmission}
 use Rattle.nx_station.specs.declared.sending.Sent.{Sent}
 use Rattle.nx_station.proofs.TransmissionLength.{length-transmission}

@@ -1,18 +1,17 @@
 -- Lines of elements: they are lines of an air file and hold these elements, they are taken, and
 -- what they give to the receiver of each channel.
-use Rattle.std.proofs.Common.{◌≡◌, ℕ, ◌*◌, ◌≤◌, Bool, true, false, List, [], ◌∷◌, ◌++◌, None, map}
+use Rattle.std.proofs.Common.{◌≡◌, ℕ, ◌*◌, Bool, true, false, List, [], ◌∷◌, ◌++◌, None, map}
 use Rattle.std.proofs.Common.{length, take, drop, sym, ap, ◌∙◌, arith, refl, take_all}
 use Rattle.std.specs.Int.{div_ceil}
 use Rattle.std.specs.Prelude.{if◌then◌else◌}
 use Rattle.std.specs.List.{AllByRecursion, flat_map, range_with_len}
-use Rattle.std.proofs.lemmas.List.{length-append, length-map, length-take, map-append}
-use Rattle.std.proofs.lemmas.List.FromFn.{length-map-range_with_len}
-use Rattle.nx_fec.specs.AirFile.{Line, IsLine, element_digit, elements, spelling}
+use Rattle.std.proofs.lemmas.List.{map-append}
+use Rattle.nx_fec.specs.AirFile.{Line, IsLine, elements}
 use Rattle.nx_fec.specs.BitLines.{bit_lines}
 use Rattle.nx_fec.specs.Channels.{same_channel}
 use Rattle.nx_fec.specs.declared.channel.Channel.{Channel}
 use Rattle.nx_fec.specs.declared.channel.Channel.TheVariants.{Zero}
-use Rattle.nx_fec.specs.Lines.{elements_of, elements_on, file_of, line_bytes}
+use Rattle.nx_fec.specs.Lines.{elements_of, elements_on}
 use Rattle.nx_fec.proofs.EncodingLaws.{first_lines-each, first_lines-elements}
 use Rattle.nx_receiver.specs.Events.{element}
 use Rattle.nx_receiver.specs.Listen.{events_on, has_moment}

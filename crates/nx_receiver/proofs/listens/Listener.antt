@@ -1,7 +1,7 @@
 -- What a line does to a listener: how it stands after one more line, after some more elements, and
 -- after the end.
-use Rattle.std.proofs.Common.{◌≡◌, ◌||◌, ℕ, ◌+◌, ◌<◌, ◌≤◌, Bool, true, false, cond, IsTrue, List}
-use Rattle.std.proofs.Common.{[], ◌∷◌, ◌++◌, map, Option, Some, None, Ok, IsErr, length, take}
+use Rattle.std.proofs.Common.{◌≡◌, ◌||◌, ℕ, ◌+◌, ◌<◌, ◌≤◌, Bool, true, false, cond, List}
+use Rattle.std.proofs.Common.{[], ◌∷◌, ◌++◌, map, Option, Some, None, length, take}
 use Rattle.std.proofs.Common.{take-append-drop, drop, refl, sym, ap, ap₂, ◌∙◌, subst, append-nil}
 use Rattle.std.proofs.Common.{append_assoc, arith, length-append}
 use lib.Seq.{take-add}

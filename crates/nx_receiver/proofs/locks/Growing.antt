@@ -9,7 +9,7 @@ use Rattle.nx_sync.specs.Laws.{Extends, same, newer, GoesOn, hunts_on, finds_one
 use Rattle.nx_sync.specs.Laws.{found_and_past, is_past}
 use Rattle.nx_sync.proofs.StateChanges.{goes-on, Extends-trans}
 use Rattle.nx_sync.proofs.KeptPast.{IsReleased-less}
-use Rattle.nx_envelope.specs.Copies.{ended_copies, open_headers, headers, beginnings, header_at_end}
+use Rattle.nx_envelope.specs.Copies.{ended_copies, headers, beginnings, header_at_end}
 use Rattle.nx_envelope.specs.Header.{identity_at_end}
 use Rattle.nx_receiver.specs.LockText.{PlacedByte, bytes_of, lock_text}
 use Rattle.nx_receiver.specs.FoundCopies.{FoundCopy, ended_in, open_in, all_in, past_text}

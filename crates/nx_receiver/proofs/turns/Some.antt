@@ -1,7 +1,6 @@
 -- What is given has a log in turn; and what is given of a part of it has a beginning of that log.
-use Rattle.std.proofs.Common.{◌≡◌, List, [], ◌∷◌, ◌++◌, map, refl, sym, subst, append-nil}
+use Rattle.std.proofs.Common.{List, [], ◌∷◌, ◌++◌, map, refl, sym, subst, append-nil}
 use Rattle.std.proofs.Common.{append_assoc}
-use Rattle.std.specs.List.{flat_map}
 use Rattle.nx_fec.specs.declared.channel.Channel.{Channel}
 use Rattle.nx_receiver.specs.Events.{Event}
 use Rattle.nx_receiver.specs.FoundCopies.{TaggedCopy}
@@ -9,11 +8,10 @@ use Rattle.nx_receiver.specs.InTurn.{HavePrinted, PrintAllToEnd, PrintsInTurn}
 use Rattle.nx_receiver.specs.Log.{HasPrinted, PrintsToEnd}
 use Rattle.nx_receiver.specs.Shares.{Given, MarkedCopy, Starts, copies_on, marked, share, start_on}
 use Rattle.nx_receiver.specs.Shares.{to_all, to_one}
-use Rattle.nx_receiver.proofs.Shares.{all_channels, in_turn-more, in_turn-other}
-use Rattle.nx_receiver.proofs.locks.Texts.{GoesOnAs, goes_on_twice}
+use Rattle.nx_receiver.proofs.Shares.{in_turn-more}
 use Rattle.nx_receiver.proofs.receiving.Logged.{has_printed_on, prints_to_end_on, some_printed}
 use Rattle.nx_receiver.proofs.receiving.Logged.{some_to_end}
-use Rattle.nx_receiver.proofs.turns.Added.{moment-given, nothing-given, one-given, share-own}
+use Rattle.nx_receiver.proofs.turns.Added.{moment-given, nothing-given, one-given}
 
 -- what some are printed after, and how they go on
 pub record GoesOnPrinted (starts : Starts) (given : List Given) (copies : List MarkedCopy)

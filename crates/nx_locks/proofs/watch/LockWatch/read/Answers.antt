@@ -11,8 +11,8 @@ use Rattle.nx_locks.proofs.watch.LockWatch.read.Goals.{in-Some, in_default}
 pub returns-in-Some-change-clause-reads : goal.returns-in-Some-change-clause-reads
 returns-in-Some-change-clause-reads c = rw (← c.self.view_is) (
     let before = c.args.shown.now.items in
-    let printed : c.match-hear.shown.items ≡ before ++ option_to_list c.hear.result =
-    elim c.match-hear.branch [
+    let printed : c.match-take_word.shown.items ≡ before ++ option_to_list c.take_word.result =
+    elim c.match-take_word.branch [
       | in-Some w ↦ ap (λ b. b.items) w.shown-is ∙ w.push.ensures.items
           ∙ ap (λ o. before ++ option_to_list o) (sym w.in-Some.is)
       | in_default w ↦ ap (λ b. b.items) w.shown-is ∙ sym (append-nil before)
@@ -39,16 +39,16 @@ returns-in-Some-change-clause-reads c = rw (← c.self.view_is) (
       copies = k;
     } in
     record {
-      reader = c.hear.new.self;
-      printed = c.hear.result;
-      hears = c.hear.ensures;
+      reader = c.take_word.new.self;
+      printed = c.take_word.result;
+      hears = c.take_word.ensures;
       to = subst (λ (change : Option Change). ReadsTo old (made c.saturating_add-self-inside.result)
-          c.hear.new.self c.hear.result change before c.close.new.shown.items)
+          c.take_word.new.self c.take_word.result change before c.close.new.shown.items)
           (sym c.in-Some-change.is) (record {
             civil = c.close.ensures.closes.0;
             shown = c.close.ensures.closes.1;
             spelled = c.close.ensures.closes.2
-                ∙ ap (λ l. l ++ closing_of c.hear.new.self c.close.ensures.closes.0
+                ∙ ap (λ l. l ++ closing_of c.take_word.new.self c.close.ensures.closes.0
                 c.in-Some-change.how) printed;
             fresh = c.restart.ensures.fresh;
             kept = ap made (c.saturating_add-self-inside.ensures
@@ -59,8 +59,8 @@ returns-in-Some-change-clause-reads c = rw (← c.self.view_is) (
 pub returns-in_default-change-clause-reads : goal.returns-in_default-change-clause-reads
 returns-in_default-change-clause-reads c = rw (← c.self.view_is) (
     let before = c.args.shown.now.items in
-    let printed : c.match-hear.shown.items ≡ before ++ option_to_list c.hear.result =
-    elim c.match-hear.branch [
+    let printed : c.match-take_word.shown.items ≡ before ++ option_to_list c.take_word.result =
+    elim c.match-take_word.branch [
       | in-Some w ↦ ap (λ b. b.items) w.shown-is ∙ w.push.ensures.items
           ∙ ap (λ o. before ++ option_to_list o) (sym w.in-Some.is)
       | in_default w ↦ ap (λ b. b.items) w.shown-is ∙ sym (append-nil before)
@@ -78,7 +78,7 @@ returns-in_default-change-clause-reads c = rw (← c.self.view_is) (
     } in
     let new : Watching = record {
       synchroniser = i.synchroniser;
-      reader = c.hear.new.self;
+      reader = c.take_word.new.self;
       moment = i.moment;
       elements =
           i.elements;
@@ -86,10 +86,10 @@ returns-in_default-change-clause-reads c = rw (← c.self.view_is) (
       copies = i.copies;
     } in
     record {
-      reader = c.hear.new.self;
-      printed = c.hear.result;
-      hears = c.hear.ensures;
-      to = subst (λ (change : Option Change). ReadsTo old new c.hear.new.self c.hear.result change
-          before c.match-hear.shown.items) (sym (none-left _ c.in_default-change.not-Some))
+      reader = c.take_word.new.self;
+      printed = c.take_word.result;
+      hears = c.take_word.ensures;
+      to = subst (λ (change : Option Change). ReadsTo old new c.take_word.new.self
+          c.take_word.result change before c.match-take_word.shown.items) (sym (none-left _ c.in_default-change.not-Some))
           (record { kept = refl; spelled = printed });
     })

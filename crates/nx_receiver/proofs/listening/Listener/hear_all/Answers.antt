@@ -10,10 +10,10 @@ loop-at-preserved g c =
     record {
       none = c.in-Ok.ensures.counts.none;
       within = omega (arith, c.in-Ok.ensures.within.1);
-      moment = c.hear.ensures.moment ∙ c.loop-at.invariant.moment;
+      moment = c.hear_next.ensures.moment ∙ c.loop-at.invariant.moment;
       heard = λ starts old given h.
-          subst (λ bs. IsHearing starts c.hear.new.self (then_elements given c.args.channel bs)
-          (HasGiven old (g.W.Write.contents c.hear.new.writer.inner) c.hear.new.batch))
+          subst (λ bs. IsHearing starts c.hear_next.new.self (then_elements given c.args.channel bs)
+          (HasGiven old (g.W.Write.contents c.hear_next.new.writer.inner) c.hear_next.new.batch))
           (elements-next bits c.loop-at.at c.in-Ok.count)
           (c.in-Ok.ensures.heard starts old given (take c.loop-at.at bits)
           (c.loop-at.invariant.heard starts old given h));
@@ -23,7 +23,7 @@ pub returns-in-Err-clause-heard : goal.returns-in-Err-clause-heard
 returns-in-Err-clause-heard g c = λ starts old given h.
     let bits = c.args.packed.now in
     subst (λ bs. HeardSome starts (then_elements given c.args.channel bs) old
-    (g.W.Write.contents c.hear.new.writer.inner) c.in-Err.fault.written)
+    (g.W.Write.contents c.hear_next.new.writer.inner) c.in-Err.fault.written)
     (elements-rest bits c.loop-at.at)
     (c.in-Err.ensures.heard starts old given (take c.loop-at.at bits)
     (c.loop-at.invariant.heard starts old given h))

@@ -18,7 +18,7 @@ loop-bit-preserved c =
     simp length-take (omega (arith, c.min-count.ensures)) in
     let low : i < c.min-count.result = omega (arith, c.loop-bit-test.true, l) in
     let b = get_or-take c.min-count.result bits i false low in
-    c.hear.ensures ∙ (ap (λ b. heard_one c.loop-bit.self b) b
+    c.shift_in.ensures ∙ (ap (λ b. heard_one c.loop-bit.self b) b
     ∙ (ap (λ h. heard_one h (get_or bits i false)) c.loop-bit.invariant
     ∙ heard_all-more c.args.self.now bits i (omega (arith, c.min-count.ensures))))
 

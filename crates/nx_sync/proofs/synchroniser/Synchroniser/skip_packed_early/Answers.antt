@@ -20,7 +20,7 @@ loop-at-preserved c =
     let room : at + 1 ≤ c.args.count = omega (arith, c.min-early.ensures, c.loop-at-test.true) in
     let one : c.element.result ∷ [] ≡ take 1 (drop at bits) =
     c.element.ensures ∙ sym (part_of_part c.args.numbers.now c.args.from c.args.count at 1 room) in
-    c.hear.ensures
+    c.shift_in.ensures
     ∙ (sym (heard_all-one c.loop-at.self c.element.result)
     ∙ (ap (heard_all c.loop-at.self) one
     ∙ (ap (λ h. heard_all h (take 1 (drop at bits))) c.loop-at.invariant

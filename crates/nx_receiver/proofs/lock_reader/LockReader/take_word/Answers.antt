@@ -9,7 +9,7 @@ use Rattle.nx_fec.specs.Pairing.{IsLatest, counts_as}
 use Rattle.nx_envelope.specs.Finder.{StandsAfter}
 use Rattle.nx_receiver.specs.private.LockReader.{ReadsLock, dx_words, text_after}
 use Rattle.nx_receiver.proofs.locks.ReaderWords.{has_read_dx, has_read_rx, positions-dx}
-use Rattle.nx_receiver.proofs.lock_reader.LockReader.hear.Goals as goal
+use Rattle.nx_receiver.proofs.lock_reader.LockReader.take_word.Goals as goal
 
 pub returns-in-Dx-clause-stands : goal.returns-in-Dx-clause-stands
 returns-in-Dx-clause-stands c first words n reads is_word is_role =

@@ -5,7 +5,7 @@ use Rattle.nx_fec.specs.Pairing.{counts_as}
 use Rattle.nx_receiver.proofs.locks.ReaderWords.{has_read_rx}
 use Rattle.nx_locks.specs.private.Reader.{Reading, counted}
 use Rattle.nx_locks.proofs.ReaderWords.{heard_dx, heard_none, heard_some, is_counted}
-use Rattle.nx_locks.proofs.reader.LockReader.hear.Goals as goal
+use Rattle.nx_locks.proofs.reader.LockReader.take_word.Goals as goal
 
 pub returns-in-Dx : goal.returns-in-Dx
 returns-in-Dx c =

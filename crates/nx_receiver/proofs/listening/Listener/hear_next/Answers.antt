@@ -7,7 +7,7 @@ use Rattle.nx_receiver.specs.private.Listener.{BeginsLog, Listening, content, co
 use Rattle.nx_receiver.specs.private.Listener.{then_elements}
 use Rattle.nx_receiver.proofs.listens.Listener.{begins-more, differs-on, heard-no-over, heard-over}
 use Rattle.nx_receiver.proofs.listens.Listener.{same-receivers, whole-part}
-use Rattle.nx_receiver.proofs.listening.Listener.hear.Goals as goal
+use Rattle.nx_receiver.proofs.listening.Listener.hear_next.Goals as goal
 
 pub returns-then-eq-clause-heard : goal.returns-then-eq-clause-heard
 returns-then-eq-clause-heard g c = λ starts old given part h.
