@@ -1,8 +1,5 @@
 -- What the arguments of a call hold, as a function of them: at most one station, one kind of
--- damage, and one number of
--- each name; and the call that is made of them.
-use mathlib.Core.HLevel.{is_prop→PathP, ×_prop}
-use native.Mathlib.Bridge.{le_prop}
+-- damage, and one number of each name; and the call that is made of them.
 use Rattle.std.proofs.lemmas.Bool.{leb-false, leb-true}
 use Rattle.std.proofs.Common.{◌≡◌, ◌≢◌, ◌∙◌, ◌⊎◌, ℕ, Bool, true, false, nat_le, List, [], ◌∷◌, Option, Some, None, IfSome, option_map, option_and_then, codes, refl, ap, inl, inr, sym, arith}
 use Rattle.std.specs.Str.{bytes_eq}
@@ -13,19 +10,12 @@ use Rattle.clap.specs.ValueTests.{accepts}
 use Rattle.clap.specs.declared.builder.value_parser.ValueParser.{ValueParser}
 use Rattle.clap.specs.declared.builder.value_parser.ValueParser.TheVariants as parser
 use Rattle.clap.proofs.ValueTestLemmas.{Accepts-accepts, accepts-Accepts}
-use Rattle.nx_code.specs.Reading.{IsCapital}
 use Rattle.nx_envelope.specs.declared.letter.Letter.{Letter}
+use Rattle.nx_envelope.proofs.LettersAndDigits.{same_letter}
 use Rattle.nx_program.specs.declared.words.Call.{Call}
 use Rattle.nx_station.specs.declared.damaging.DamageKind.{DamageKind}
 use Rattle.nx_station.specs.declared.damaging.DamageKind.TheVariants.{Dx, Rx, All}
 use Rattle.nx_program.specs.Words.{IsKind, IsNumber, IsStation, kind_name}
-
-same_letter : (a b : Letter) → a.byte ≡ b.byte → a ≡ b
-same_letter a b e = λ i. record {
-  byte = e i;
-  in_range = is_prop→PathP (λ j. IsCapital (e j))
-      (λ j. ×_prop le_prop le_prop) a.in_range b.in_range i;
-}
 
 pub differ : (a b : Text) → bytes_eq a b ≡ false → a ≡ b → ⊥
 differ a b unlike e =

@@ -1,6 +1,5 @@
 -- Hunting: what the windows of a block say of its elements, how blocks follow on each other, and
--- that the elements which
--- a hunt hears are those whose pushes bring nothing.
+-- that the elements which a hunt hears are those whose pushes bring nothing.
 use Rattle.std.proofs.Common.{◌≡◌, ℕ, suc, ◌+◌, ◌-◌, ◌<◌, ◌≤◌, min, List, [], ◌∷◌, ◌++◌, length}
 use Rattle.std.proofs.Common.{take, drop, get_or, Bool, true, false, not, is_some, refl, sym, ap}
 use Rattle.std.proofs.Common.{subst, subst₂, ◌∙◌, inl, inr, arith, Some, None, Option, append_assoc}

@@ -101,9 +101,8 @@ unfolding phasing before_dx elements elements_from
 ends_with_pattern = refl
 
 -- What a lock at t is, seen from the phasing that begins at the bit count n: word g of it is a DX
--- word, and begins with
--- pair a of the phasing; either that is the first pair, or at most one word of the lock comes
--- before.
+-- word, and begins with pair a of the phasing; either that is the first pair, or at most one word
+-- of the lock comes before.
 pub record IsAligned (first : Role) (n t : ℕ) : Type 0 where
   pub g : ℕ
   pub a : ℕ
@@ -225,8 +224,7 @@ module _ (earlier : List Bool) where
       ]
 
   -- A lock that began before the phasing, or in its first seven bits, and that no word before the
-  -- end has released: word
-  -- k of it is the first that begins in the phasing, at place o.
+  -- end has released: word k of it is the first that begins in the phasing, at place o.
   module _ (t k o : ℕ) (low : o < 7) (place : t + 7 * k ≡ length earlier + o)
       (quiet : (j : ℕ) → t + 7 * (j + 1) < length earlier + 336
       → release (earlier ++ phasing 24) t j ≡ None) where

@@ -1,6 +1,5 @@
 -- Seven elements from the end of a word on, heard at once: what is held after them, and what was
--- brought, is what seven
--- pushes make of it.
+-- brought, is what seven pushes make of it.
 use Rattle.std.proofs.Common.{◌≡◌, ℕ, suc, ◌+◌, ◌-◌, ◌/◌, ◌^◌, ◌<◌, ◌≤◌, min, List, [], ◌∷◌, ◌++◌}
 use Rattle.std.proofs.Common.{length, take, drop, replicate, get_or, Bool, true, false, refl, sym}
 use Rattle.std.proofs.Common.{ap, subst, subst₂, ◌∙◌, inl, inr, arith, Some, None, Option}

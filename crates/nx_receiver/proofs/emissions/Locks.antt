@@ -30,9 +30,8 @@ abbrev pub word_of : List ℕ → ℕ → ℕ
 word_of heard i = get_or heard i 0
 
 -- Words by which a lock is kept: 48 phasing words as they are sent, and then words of which, with
--- those, any 64 in a row
--- have too few wrong ones to lose it, and no two DX words in a row are phasing signal 1 before the
--- last words.
+-- those, any 64 in a row have too few wrong ones to lose it, and no two DX words in a row are
+-- phasing signal 1 before the last words.
 pub record KeepsLock (heard : List ℕ) : Type 0 where
   pub words : AreWords heard
   pub long : 48 ≤ length heard
@@ -122,8 +121,7 @@ even_apart first w k dw dk le =
     ]
 
 -- The lock that the phasing leaves stands after all the words, and its words from its word `whole`
--- on are those from the
--- 49th on.
+-- on are those from the 49th on.
 pub record LockedThrough (gap : List Bool) (heard : List ℕ) : Type 0 where
   pub locks : List Lock
   pub p : ℕ

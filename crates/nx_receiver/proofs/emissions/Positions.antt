@@ -55,8 +55,7 @@ role_of-rx first w i dx =
     ap (role_of first) at ∙ ap other_role (role_of-even first w (i + 2) ∙ dx)
 
 -- Of the words of a lock from a DX word on these positions are taken: what is taken of each DX word
--- and the RX word
--- five after it is what was sent.
+-- and the RX word five after it is what was sent.
 abbrev pub AreTaken : (ℕ → ℕ) → ℕ → List SentPosition → Type 0
 AreTaken words w sent =
     (i : ℕ) → i < length sent

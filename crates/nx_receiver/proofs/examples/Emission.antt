@@ -1,6 +1,5 @@
 -- The worked emission, of which each DX word of the message is damaged, meets what is asked of a
--- message that is printed
--- once.
+-- message that is printed once.
 use Rattle.std.proofs.Common.{◌≡◌, ℕ, zero, suc, ◌+◌, ◌<◌, Bool, List, [], ◌∷◌, ◌++◌, length, take}
 use Rattle.std.proofs.Common.{drop, get_or, refl, sym, ap, ◌∙◌, subst, arith, append-nil, lit<}
 use Rattle.std.specs.Prelude.{codes}

@@ -1,6 +1,5 @@
 -- The words of an emission that arrives as it is sent: they keep the lock that its first four words
--- give, and the text of
--- that lock is what its messages print.
+-- give, and the text of that lock is what its messages print.
 use Rattle.std.proofs.Common.{◌≡◌, ℕ, zero, suc, ◌+◌, ◌-◌, ◌*◌, ◌/◌, ◌<◌, ◌≤◌, Bool, false, not}
 use Rattle.std.proofs.Common.{eqb, List, [], ◌∷◌, ◌++◌, map, length, take, drop, replicate, get_or}
 use Rattle.std.proofs.Common.{refl, sym, ap, ap₂, ◌∙◌, subst, arith, inl, inr, lit≤, lit<}
@@ -17,11 +16,10 @@ use Rattle.nx_code.proofs.ReadingLemmas.{text-append}
 use Rattle.nx_envelope.specs.Message.{MessageView}
 use Rattle.nx_fec.specs.Emission.{SentPosition, phasing_position, end_position, AreInCode, IsInCode}
 use Rattle.nx_fec.specs.Emission.{bits_of, dx_word, emission, position_at, reception, rx_word}
-use Rattle.nx_fec.specs.Pairing.{idle_signal, nothing, counts_as, pairing}
+use Rattle.nx_fec.specs.Pairing.{nothing, counts_as, pairing}
 use Rattle.nx_fec.proofs.EmissionLemmas.{AreWords-emission, IsEmission-emission, get_or-emission}
-use Rattle.nx_fec.proofs.EmissionLemmas.{length-emission, phasing_1-words, phasing_2-words}
-use Rattle.nx_fec.proofs.PairingLemmas.{counts_as-words}
-use Rattle.nx_fec.proofs.RoundTripLemmas.{length-bits_of}
+use Rattle.nx_fec.proofs.EmissionLemmas.{length-emission}
+use Rattle.nx_fec.proofs.RoundTripLemmas.{counts_as-phasing_1, counts_as-phasing_2, length-bits_of}
 use Rattle.nx_station.specs.Broadcast.{AreSpelled, IsBroadcast, layout, printed_text}
 use Rattle.nx_station.specs.Channel.{PassesChannel, heard_in}
 use Rattle.nx_station.proofs.ChannelLaws.{inner-in_code, no-phasing_1, sent-weight, taken-as_sent}
@@ -90,12 +88,6 @@ first_lock = record {
   limit = length-phasing 24;
   dx = role_of-even (first_role (phasing 24) 28) 0 22 ∙ first_dx;
 }
-
-counts_1 : counts_as phasing_1 ≡ idle_signal
-counts_1 = ap counts_as (sym phasing_1-words) ∙ counts_as-words 32 (lit< tt)
-
-counts_2 : counts_as phasing_2 ≡ idle_signal
-counts_2 = ap counts_as (sym phasing_2-words) ∙ counts_as-words 34 (lit< tt)
 
 -- ---- all words
 
@@ -223,8 +215,9 @@ module _ (messages : List MessageView) (numbers : List ℕ) (spellings : List (L
   pair_is i lt = elim (cases_lt i 72) [
     | inl early ↦
         let at : 2 * i + 5 ≡ 2 * (i + 2) + 1 = omega arith in
-        let dx = ap counts_as (second_at i early) ∙ counts_2 in
-        let rx = ap counts_as (ap (word_of heard) at ∙ first_at (i + 2) (omega arith)) ∙ counts_1 in
+        let dx = ap counts_as (second_at i early) ∙ counts_as-phasing_2 in
+        let rx = ap counts_as (ap (word_of heard) at ∙ first_at (i + 2) (omega arith))
+        ∙ counts_as-phasing_1 in
         ap₂ pairing dx rx ∙ ap reception (sym (phasing_is i early))
     | inr from ↦
         ap₂ (λ a b. pairing (counts_as a) (counts_as b)) (sym (heard_is (2 * i) (omega arith)))
@@ -273,9 +266,10 @@ module _ (messages : List MessageView) (numbers : List ℕ) (spellings : List (L
   first_five : positions Dx lock_word 5 ≡ idle ∷ (idle ∷ [])
   unfolding positions taken_at role_of
   first_five =
-      let one = ap counts_as (word_is 1 (omega (arith, long)) ∙ first_at 2 (lit< tt)) ∙ counts_1 in
+      let one = ap counts_as (word_is 1 (omega (arith, long)) ∙ first_at 2 (lit< tt))
+      ∙ counts_as-phasing_1 in
       let three = ap counts_as (word_is 3 (omega (arith, long)) ∙ first_at 3 (lit< tt))
-      ∙ counts_1 in
+      ∙ counts_as-phasing_1 in
       ap₂ (λ a b. pairing nothing a ∷ (pairing nothing b ∷ [])) one three
 
   dx_first : role_of Dx 0 ≡ Dx

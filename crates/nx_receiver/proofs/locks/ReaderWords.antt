@@ -1,6 +1,5 @@
 -- The words of a lock: the third last of the DX words before an RX word is the word five before it;
--- and what one word
--- more adds to the positions.
+-- and what one word more adds to the positions.
 use Rattle.std.proofs.Common.{◌≡◌, ℕ, false, is_some, Option, zero, suc, ◌+◌, ◌-◌, ◌*◌, ◌<◌, ◌≤◌}
 use Rattle.std.proofs.Common.{cond, List, [], ◌∷◌, ◌++◌, length, get_or, inl, inr, refl, sym, ap}
 use Rattle.std.proofs.Common.{◌∙◌, subst, add-one, append_assoc, append-nil, length-append, arith}
@@ -18,6 +17,7 @@ use Rattle.nx_envelope.proofs.Hearing.{closes_none}
 use Rattle.nx_envelope.proofs.OneOpenCopy.{open_headers-nil}
 use Rattle.nx_fec.specs.Pairing.{Counted, IsLatest, nothing, counts_as, pairing, third_last}
 use Rattle.nx_fec.specs.Pairing.{five_before}
+use Rattle.nx_fec.proofs.PairingLemmas.{third_last-early, third_last-late}
 use Rattle.nx_fec.specs.declared.diversity.Diversity.{Diversity}
 use Rattle.nx_sync.specs.Words.{role_of, other_role, is_dx}
 use Rattle.nx_sync.specs.declared.step.Role.{Role}
@@ -58,18 +58,11 @@ one_if_rx-small : (role : Role) → one_if_rx role ≤ 1
 one_if_rx-small Dx = omega arith
 one_if_rx-small Rx = omega arith
 
-third_last-few : (xs : List Counted) → length xs < 3 → third_last xs ≡ nothing
-third_last-few xs h = grind (arith, nat_tests)
-
-third_last-many : (xs : List Counted) → 3 ≤ length xs
-    → third_last xs ≡ get_or xs (length xs - 3) nothing
-third_last-many xs h = grind (arith, nat_tests)
-
 third_last-three : (xs : List Counted) (a b c : Counted) → third_last (xs ++ a ∷ b ∷ c ∷ []) ≡ a
 third_last-three xs a b c =
     let whole = xs ++ a ∷ b ∷ c ∷ [] in
     let count : length whole - 3 ≡ length xs = omega (arith, length-append xs (a ∷ b ∷ c ∷ [])) in
-    third_last-many whole (omega (arith, length-append xs (a ∷ b ∷ c ∷ [])))
+    third_last-late whole (omega (arith, length-append xs (a ∷ b ∷ c ∷ [])))
     ∙ ap (λ k. get_or whole k nothing) count
     ∙ get_or-append_seam xs a (b ∷ c ∷ []) nothing
 
@@ -88,10 +81,10 @@ five_on Rx h = cc
 abbrev after_five : ℕ → ℕ
 after_five m = suc (suc (suc (suc (suc m))))
 
-third_last-late : (first : Role) (words : ℕ → ℕ) (m : ℕ) → role_of first (after_five m) ≡ Rx
+third_last-after_five : (first : Role) (words : ℕ → ℕ) (m : ℕ) → role_of first (after_five m) ≡ Rx
     → third_last (dx_words first words (after_five m)) ≡ counts_as (words m)
 unfolding dx_words role_of
-third_last-late first words m h =
+third_last-after_five first words m h =
     let counts = λ (k : ℕ). counts_as (words k) in
     let b = counts (suc m) in
     let c = counts (suc (suc m)) in
@@ -114,12 +107,12 @@ third_last-dx_words first words n h =
       | inl early ↦
           let few = length-dx_words first words n in
           let one = one_if_rx-small (role_of first n) in
-          third_last-few (dx_words first words n) (omega arith)
+          third_last-early (dx_words first words n) (omega arith)
           ∙ sym (five_before-early words n early)
       | inr late ↦
           let e : n ≡ after_five (n - 5) = omega arith in
           ap (λ k. third_last (dx_words first words k)) e
-          ∙ third_last-late first words (n - 5) (ap (role_of first) (sym e) ∙ h)
+          ∙ third_last-after_five first words (n - 5) (ap (role_of first) (sym e) ∙ h)
           ∙ sym (five_before-late words n late)
     ]
 

@@ -1,8 +1,6 @@
 -- A message that is heard in time in an air file has one entry in the log that `listen` writes of
 -- it.
-use Rattle.std.proofs.Common.{ℕ, List, ◌++◌, Option, None, Some, IfSome, Ok, sym, ap, ◌∙◌, subst}
-use Rattle.std.proofs.Common.{append-nil}
-use Rattle.std.specs.Io.KnownBytes.{Consumes, IsAtEnd}
+use Rattle.std.proofs.Common.{ℕ, List, Option, None, Some, IfSome, Ok, subst}
 use Rattle.nx_envelope.specs.Message.{MessageView}
 use Rattle.nx_fec.specs.AirFile.{Line}
 use Rattle.nx_fec.specs.Transfers.{Devices}
@@ -50,14 +48,6 @@ printed-once starts old new file report h = record {
   once = λ channel message k. one-entry starts file h.log h.lines h.copies channel message h.heard
       k;
 }
-
--- what holds of the bytes that were read, which are all, holds of the known input
-pub of-all : (a b : Option (List ℕ)) (bytes : List ℕ) (P : List ℕ → Type 0) → Consumes a b bytes
-    → IsAtEnd b → P bytes → IfSome a P
-of-all None b bytes P consumed end h = tt
-of-all (Some xs) None bytes P consumed end h = absurd consumed
-of-all (Some xs) (Some ys) bytes P consumed end h =
-    subst P (sym (consumed ∙ ap (λ l. bytes ++ l) end ∙ append-nil bytes)) h
 
 pub on-some : (o : Option (List ℕ)) (P Q : List ℕ → Type 0) → ((xs : List ℕ) → P xs → Q xs)
     → IfSome o P → IfSome o Q

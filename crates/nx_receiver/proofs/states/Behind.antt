@@ -4,6 +4,7 @@ use Rattle.std.proofs.Common.{refl, sym, ap, ◌∙◌, subst, append-nil}
 use Rattle.std.specs.Io.KnownBytes.{Consumes}
 use Rattle.std.proofs.KnownBytes.{Consumes-trans}
 use Rattle.nx_fec.specs.Transfers.{CountedDevice, Devices}
+use Rattle.nx_fec.proofs.TransferLaws.{IfSome-end}
 use Rattle.nx_memory.specs.Saved.{SavedStates}
 use Rattle.nx_receiver.specs.Resume.{AnswersAir, AnswersResuming, HasPrintedOnceFrom, HoldsBehind}
 use Rattle.nx_receiver.specs.Resume.{HoldsOfInput, ReadStateAlone, Resumes, ResumesBy}
@@ -14,7 +15,7 @@ use Rattle.nx_receiver.specs.declared.listening.Report.{Report}
 use Rattle.nx_receiver.specs.declared.resume_fault.ResumeFault.{ResumeFault}
 use Rattle.nx_receiver.specs.declared.resume_fault.ResumeFault.TheVariants as resume
 use Rattle.nx_receiver.specs.declared.resume_fault.Want.{Want}
-use Rattle.nx_receiver.proofs.once.Listen.{of-all, printed-once}
+use Rattle.nx_receiver.proofs.once.Listen.{printed-once}
 
 abbrev Outcome : Type 0
 Outcome = Result Report ResumeFault
@@ -132,6 +133,6 @@ module _ {R W : Type 0} (remaining : R → Option (List ℕ)) (contents : W → 
         bytes = h.bytes;
         consumed = h.consumed;
         here = printed;
-        file = of-all _ _ h.bytes (HasPrintedOnceFrom whole_run states) h.consumed h.all printed;
+        file = IfSome-end _ _ h.bytes (HasPrintedOnceFrom whole_run states) h.consumed h.all printed;
       })
   headline-behind states (Err fault) read h = tt
