@@ -1,6 +1,7 @@
 -- What each call over slices answers, by the run below it: a reader over a slice gave all its bytes,
 -- and what was written begins empty (this profile).
-use Rattle.std.specs.Prelude.{ℕ, ◌≡◌, ◌≢◌, ◌==◌, nat_lt, if◌then◌else◌, List, [], length, Some, Result, Ok, Err, IfErr}
+use Rattle.std.specs.Prelude.{ℕ, ◌≡◌, ◌≢◌, ◌==◌, nat_lt, if◌then◌else◌, List, [], length, Some}
+use Rattle.std.specs.Prelude.{Result, Ok, Err, IfErr}
 use Rattle.std.specs.declared.alloc.AllocError.{AllocError}
 use Rattle.nx_c.specs.Faults.{resume_told}
 use Rattle.nx_c.specs.Told.{Answer, IsPut, IsTold, Room, answer, ended_told}

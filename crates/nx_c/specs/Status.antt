@@ -1,7 +1,14 @@
 -- The numbers by which C knows how a call ended (this profile).
 use Rattle.std.specs.Prelude.{ℕ}
 use Rattle.nx_c.specs.declared.told.Status.{Status}
-use Rattle.nx_c.specs.declared.told.Status.TheVariants.{Done, NoRoom, Read, Write, Memory, FileTooLong, AirTooLong, LineLong, LineCut, BadLine, NoMoment, MomentRange, MomentBack, Vital, StateLine, StateCut, StateNoRoom, Ragged, NoSuchCharacter, LongLine, BadCharacter, Reserved, LongText, Open, NoMessages, MixedStations, NoSlot, SlotFull, NoStation, WrongWord, Unpaired, BadEnvelope}
+use Rattle.nx_c.specs.declared.told.Status.TheVariants.{Done, NoRoom, Read, Write, Memory}
+use Rattle.nx_c.specs.declared.told.Status.TheVariants.{FileTooLong, AirTooLong, LineLong, LineCut}
+use Rattle.nx_c.specs.declared.told.Status.TheVariants.{BadLine, NoMoment, MomentRange, MomentBack}
+use Rattle.nx_c.specs.declared.told.Status.TheVariants.{Vital, StateLine, StateCut, StateNoRoom}
+use Rattle.nx_c.specs.declared.told.Status.TheVariants.{Ragged, NoSuchCharacter, LongLine}
+use Rattle.nx_c.specs.declared.told.Status.TheVariants.{BadCharacter, Reserved, LongText, Open}
+use Rattle.nx_c.specs.declared.told.Status.TheVariants.{NoMessages, MixedStations, NoSlot, SlotFull}
+use Rattle.nx_c.specs.declared.told.Status.TheVariants.{NoStation, WrongWord, Unpaired, BadEnvelope}
 
 -- the number of a status
 abbrev pub number_of : Status → ℕ

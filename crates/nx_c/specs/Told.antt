@@ -1,5 +1,6 @@
 -- What a call tells its caller, and what it puts into the caller's room (this profile).
-use Rattle.std.specs.Prelude.{◌≡◌, ℕ, nat_lt, if◌then◌else◌, List, ◌++◌, length, take, drop, min, Result, Ok, Err}
+use Rattle.std.specs.Prelude.{◌≡◌, ℕ, nat_lt, if◌then◌else◌, List, ◌++◌, length, take, drop, min}
+use Rattle.std.specs.Prelude.{Result, Ok, Err}
 use Rattle.nx_c.specs.Status.{number_of}
 use Rattle.nx_c.specs.declared.told.Place.{Place}
 use Rattle.nx_c.specs.declared.told.Status.{Status}

@@ -1,7 +1,9 @@
 -- What the arguments of a call hold, as a function of them: at most one station, one kind of
 -- damage, and one number of each name; and the call that is made of them.
 use Rattle.std.proofs.lemmas.Bool.{leb-false, leb-true}
-use Rattle.std.proofs.Common.{◌≡◌, ◌≢◌, ◌∙◌, ◌⊎◌, ℕ, Bool, true, false, nat_le, List, [], ◌∷◌, Option, Some, None, IfSome, option_map, option_and_then, codes, refl, ap, inl, inr, sym, arith}
+use Rattle.std.proofs.Common.{◌≡◌, ◌≢◌, ◌∙◌, ◌⊎◌, ℕ, Bool, true, false, nat_le, List, [], ◌∷◌}
+use Rattle.std.proofs.Common.{Option, Some, None, IfSome, option_map, option_and_then, codes, refl}
+use Rattle.std.proofs.Common.{ap, inl, inr, sym, arith}
 use Rattle.std.specs.Str.{bytes_eq}
 use Rattle.std.specs.Str.Parse.{digits_value, without_leading_plus}
 use Rattle.std.proofs.lemmas.Slice.Eq.{bytes_eq-Decides}

@@ -1,13 +1,15 @@
 -- The table of commands gives each call by its name and its arguments. A new kind of row asks for a
 -- line here, a new command that takes what others do for none.
-use Rattle.std.proofs.Common.{◌≡◌, ◌⊎◌, ℕ, List, [], ◌∷◌, Option, Some, None, codes, if◌then◌else◌, refl, rules}
+use Rattle.std.proofs.Common.{◌≡◌, ◌⊎◌, ℕ, List, [], ◌∷◌, Option, Some, None, codes, if◌then◌else◌}
+use Rattle.std.proofs.Common.{refl, rules}
 use Rattle.std.specs.Str.{bytes_eq}
 use Rattle.clap.specs.Words.{Row, Text}
 use Rattle.nx_envelope.specs.declared.letter.Letter.{Letter}
 use Rattle.nx_station.specs.declared.damaging.DamageKind.{DamageKind}
 use Rattle.nx_program.specs.declared.words.Call.{Call}
 use Rattle.nx_program.specs.declared.words.Call.TheVariants.{Damage, Send, Slots}
-use Rattle.nx_program.specs.Words.{Entry, HasArguments, IsKind, IsNumber, IsStation, Maker, command_name, entries, plain, range, slot}
+use Rattle.nx_program.specs.Words.{Entry, HasArguments, IsKind, IsNumber, IsStation, Maker}
+use Rattle.nx_program.specs.Words.{command_name, entries, plain, range, slot}
 use Rattle.nx_program.proofs.CallArguments.{range_call, range_call-only, slot_call, slot_call-only}
 use Rattle.nx_program.proofs.EachFound.{Each}
 

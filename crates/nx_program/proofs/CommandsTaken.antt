@@ -1,17 +1,21 @@
 -- Words that clap takes enter a command of the program, which is given the numbers that it wants.
-use Rattle.std.proofs.Common.{◌≡◌, ◌&&◌, ◌||◌, option_map, Bool, true, false, not, List, [], ◌∷◌, Option, Some, None, IfSome, refl, subst, codes, find}
+use Rattle.std.proofs.Common.{◌≡◌, ◌&&◌, ◌||◌, option_map, Bool, true, false, not, List, [], ◌∷◌}
+use Rattle.std.proofs.Common.{Option, Some, None, IfSome, refl, subst, codes, find}
 use Rattle.std.specs.Option.{option_map_or}
 use Rattle.clap.specs.Kinds.{check_kinds}
 use Rattle.clap.specs.Takes.{is_given}
 use Rattle.clap.specs.Words.{Row, Rule, Shape, Text, built, fault_of, subcommand_of}
-use Rattle.clap.specs.Simple.{argument_words, built_leaf, entered, filled_from, help_rule, label_of, names_of, rows_at}
+use Rattle.clap.specs.Simple.{argument_words, built_leaf, entered, filled_from, help_rule, label_of}
+use Rattle.clap.specs.Simple.{names_of, rows_at}
 use Rattle.clap.specs.Walk.{answers_to, nothing_held, rows_after, walk}
 use Rattle.clap.specs.Faults.{check_fault, entered_fault, level_fault}
 use Rattle.nx_program.proofs.CommandTable.{IsSound, Makes, entries-sound}
 use Rattle.nx_program.proofs.EachFound.{Each, each-map, found_is}
-use Rattle.nx_program.proofs.NumbersGiven.{GivesNumber, IsNumeric, gets, uses-other, uses-text, uses-wanted}
+use Rattle.nx_program.proofs.NumbersGiven.{GivesNumber, IsNumeric, gets, uses-other, uses-text}
+use Rattle.nx_program.proofs.NumbersGiven.{uses-wanted}
 use Rattle.nx_program.proofs.RowsKept.{UsesWell, or-first, or-second}
-use Rattle.nx_program.specs.Words.{Entry, Maker, entries, navtex, number_rule, plain, range, slot, text_rule, tree_of}
+use Rattle.nx_program.specs.Words.{Entry, Maker, entries, navtex, number_rule, plain, range, slot}
+use Rattle.nx_program.specs.Words.{text_rule, tree_of}
 
 -- the arguments of a command that wants a station and a moment, and of one that wants words, as
 -- they are built

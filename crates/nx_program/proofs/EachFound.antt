@@ -1,5 +1,6 @@
 -- What holds of each element of a list holds of one that is found, and of what each is mapped to.
-use Rattle.std.proofs.Common.{Bool, true, false, List, [], ◌∷◌, Option, Some, IfSome, cond, find, map}
+use Rattle.std.proofs.Common.{Bool, true, false, List, [], ◌∷◌, Option, Some, IfSome, cond, find}
+use Rattle.std.proofs.Common.{map}
 
 -- what holds of each element, by recursion
 abbrev pub Each : {X : Type 0} → (X → Type 0) → List X → Type 0

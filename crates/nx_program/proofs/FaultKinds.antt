@@ -1,20 +1,33 @@
 -- Clap's faults of one parse are all help, all the version, or all refusals, for a command with no
 -- subcommand `help`.
-use Rattle.std.proofs.Common.{◌≡◌, ◌∙◌, ℕ, ◌+◌, zero, suc, ◌&&◌, Bool, true, false, not, List, [], ◌∷◌, Option, Some, None, IfSome, refl, ap, sym, ◌⊎◌, subst, inl, inr, codes, drop, length, slice_get, encode_utf8, is_some, min, if◌then◌else◌}
+use Rattle.std.proofs.Common.{◌≡◌, ◌∙◌, ℕ, ◌+◌, zero, suc, ◌&&◌, Bool, true, false, not, List, []}
+use Rattle.std.proofs.Common.{◌∷◌, Option, Some, None, IfSome, refl, ap, sym, ◌⊎◌, subst, inl, inr}
+use Rattle.std.proofs.Common.{codes, drop, length, slice_get, encode_utf8, is_some, min}
+use Rattle.std.proofs.Common.{if◌then◌else◌}
 use Rattle.std.specs.Option.{option_map_or}
 use Rattle.std.specs.List.{list_any}
 use Rattle.std.specs.Str.{bytes_eq, chars}
 use Rattle.clap.specs.Lexer.{long_of, short_of}
 use Rattle.clap.specs.Facts.{explicit_source, parser_of_value, unwrap_or_range}
 use Rattle.clap.specs.Matches.{count_text}
-use Rattle.clap.specs.Walk.{arg_by_id, arg_by_index, arg_by_long, arg_by_short, attached_value, count_of, reacted, subcommand_met, walked, word_met}
+use Rattle.clap.specs.Walk.{arg_by_id, arg_by_index, arg_by_long, arg_by_short, attached_value}
+use Rattle.clap.specs.Walk.{count_of, reacted, subcommand_met, walked, word_met}
 use Rattle.clap.specs.Takes.{is_given}
 use Rattle.clap.specs.Words.{Rule, Text, IsAmong, Kinds, Shape}
-use Rattle.clap.specs.Walk.{Held, Names, Row, Step, Waiting, Walk, action_of, finished, most_values, settled, values_or_missing, walk, walk_from, with_default, next, trailing, subcommand, value}
-use Rattle.clap.specs.Kinds.{check_kinds, or_else, range_kinds, request_kinds, value_kinds, values_kinds}
-use Rattle.clap.specs.Faults.{action_fault, bundle_step_fault, check_fault, count_fault, default_fault, defaults_fault, flag_word_fault, flags_fault, level_fault, long_fault, option_fault, other_fault, react_fault, set_fault, settle_fault, short_fault, step_fault, stray_fault, turn_fault, use_fault, walk_fault, word_fault}
+use Rattle.clap.specs.Walk.{Held, Names, Row, Step, Waiting, Walk, action_of, finished, most_values}
+use Rattle.clap.specs.Walk.{settled, values_or_missing, walk, walk_from, with_default, next}
+use Rattle.clap.specs.Walk.{trailing, subcommand, value}
+use Rattle.clap.specs.Kinds.{check_kinds, or_else, range_kinds, request_kinds, value_kinds}
+use Rattle.clap.specs.Kinds.{values_kinds}
+use Rattle.clap.specs.Faults.{action_fault, bundle_step_fault, check_fault, count_fault}
+use Rattle.clap.specs.Faults.{default_fault, defaults_fault, flag_word_fault, flags_fault}
+use Rattle.clap.specs.Faults.{level_fault, long_fault, option_fault, other_fault, react_fault}
+use Rattle.clap.specs.Faults.{set_fault, settle_fault, short_fault, step_fault, stray_fault}
+use Rattle.clap.specs.Faults.{turn_fault, use_fault, walk_fault, word_fault}
 use Rattle.clap.specs.declared.builder.action.ArgAction.{ArgAction}
-use Rattle.clap.specs.declared.builder.action.ArgAction.TheVariants.{Set, Append, SetTrue, SetFalse, Count, Help, HelpShort, HelpLong, Version}
+use Rattle.clap.specs.declared.builder.action.ArgAction.TheVariants.{Set, Append, SetTrue, SetFalse}
+use Rattle.clap.specs.declared.builder.action.ArgAction.TheVariants.{Count, Help, HelpShort}
+use Rattle.clap.specs.declared.builder.action.ArgAction.TheVariants.{HelpLong, Version}
 use Rattle.clap.specs.declared.builder.value_parser.ValueParser.{ValueParser}
 use Rattle.clap.specs.declared.error.kind.ErrorKind.{ErrorKind}
 use Rattle.clap.specs.declared.error.kind.ErrorKind.TheVariants as kind

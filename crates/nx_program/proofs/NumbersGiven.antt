@@ -1,13 +1,16 @@
 -- Where clap takes the words of a command that wants a number, that number stands among its
 -- arguments, in its range.
-use Rattle.std.proofs.Common.{◌≡◌, ◌≤◌, ◌∙◌, ℕ, option_map, option_and_then, ap₂, Bool, true, false, List, [], ◌∷◌, ◌++◌, Option, Some, None, IfSome, refl, ap, sym, subst, slice_get, find, fold, cond, if◌then◌else◌}
+use Rattle.std.proofs.Common.{◌≡◌, ◌≤◌, ◌∙◌, ℕ, option_map, option_and_then, ap₂, Bool, true, false}
+use Rattle.std.proofs.Common.{List, [], ◌∷◌, ◌++◌, Option, Some, None, IfSome, refl, ap, sym, subst}
+use Rattle.std.proofs.Common.{slice_get, find, fold, cond, if◌then◌else◌}
 use Rattle.std.specs.Option.{option_map_or}
 use Rattle.std.specs.Str.{bytes_eq}
 use Rattle.clap.specs.Facts.{explicit_source}
 use Rattle.clap.specs.ValueTests.{accepts}
 use Rattle.clap.specs.Takes.{is_given}
 use Rattle.clap.specs.Words.{Row, Rule, Shape, Text, one_of, read_as}
-use Rattle.clap.specs.Walk.{default_rows, has_row, reading_by, row_text, more_values, nothing_held, rows_after, settled, values_or_missing, walk, with_default, with_values}
+use Rattle.clap.specs.Walk.{default_rows, has_row, reading_by, row_text, more_values, nothing_held}
+use Rattle.clap.specs.Walk.{rows_after, settled, values_or_missing, walk, with_default, with_values}
 use Rattle.clap.specs.Faults.{check_fault, level_fault, use_fault}
 use Rattle.clap.specs.declared.builder.value_parser.Reading.{Reading}
 use Rattle.clap.specs.declared.builder.value_parser.Reading.TheVariants.{AsWritten}
@@ -19,7 +22,8 @@ use Rattle.clap.specs.declared.builder.action.ArgAction.TheVariants.{Set}
 use Rattle.std.specs.Str.Parse.{digits_value, without_leading_plus}
 use Rattle.clap.proofs.ValueTestLemmas.{accepts-Accepts}
 use Rattle.nx_program.proofs.EachFound.{Each}
-use Rattle.nx_program.proofs.RowsKept.{UsesWell, good-at_row, good-settled_end, good-without, level-check, or-first, or-second}
+use Rattle.nx_program.proofs.RowsKept.{UsesWell, good-at_row, good-settled_end, good-without}
+use Rattle.nx_program.proofs.RowsKept.{level-check, or-first, or-second}
 use Rattle.nx_program.specs.Words.{IsNumber, number_rule, text_rule}
 
 -- numbers from 0 to the most

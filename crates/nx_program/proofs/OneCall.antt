@@ -1,14 +1,18 @@
 -- The call of a command's word and its arguments, by the table of commands: there is at most one.
-use Rattle.std.proofs.Common.{◌≡◌, ◌∙◌, ◌⊎◌, Bool, true, false, List, [], ◌∷◌, Option, Some, None, IfSome, if◌then◌else◌, codes, inl, inr, refl, subst, sym}
+use Rattle.std.proofs.Common.{◌≡◌, ◌∙◌, ◌⊎◌, Bool, true, false, List, [], ◌∷◌, Option, Some, None}
+use Rattle.std.proofs.Common.{IfSome, if◌then◌else◌, codes, inl, inr, refl, subst, sym}
 use Rattle.std.specs.Str.{bytes_eq}
 use Rattle.std.proofs.lemmas.Slice.Eq.{bytes_eq-Decides}
 use Rattle.clap.specs.Words.{Row, Text}
 use Rattle.nx_envelope.specs.declared.letter.Letter.{Letter}
 use Rattle.nx_station.specs.declared.damaging.DamageKind.{DamageKind}
 use Rattle.nx_program.specs.declared.words.Call.{Call}
-use Rattle.nx_program.specs.Words.{Entry, HasArguments, IsKind, IsStation, Maker, command_name, entries, plain, range, slot}
-use Rattle.nx_program.proofs.CallArguments.{range_call-is, range_call-kind, slot_call-is, slot_call-station}
-use Rattle.nx_program.proofs.CommandTable.{HasCall, IsSlotWord, IsSound, Makes, call_in, call_in-only, entries-sound, made}
+use Rattle.nx_program.specs.Words.{Entry, HasArguments, IsKind, IsStation, Maker, command_name}
+use Rattle.nx_program.specs.Words.{entries, plain, range, slot}
+use Rattle.nx_program.proofs.CallArguments.{range_call-is, range_call-kind, slot_call-is}
+use Rattle.nx_program.proofs.CallArguments.{slot_call-station}
+use Rattle.nx_program.proofs.CommandTable.{HasCall, IsSlotWord, IsSound, Makes, call_in}
+use Rattle.nx_program.proofs.CommandTable.{call_in-only, entries-sound, made}
 use Rattle.nx_program.proofs.EachFound.{Each}
 
 made-is : (name : Text) (maker : Maker) → Makes name maker → (rows : List Row)

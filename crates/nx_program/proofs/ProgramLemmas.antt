@@ -1,5 +1,6 @@
 -- What the outcome of a run says of its words.
-use Rattle.std.proofs.Common.{◌≡◌, ◌⊎◌, ℕ, List, Result, Ok, Err, Option, ap, ap₂, inl, inr, refl, subst, sym, ◌∙◌, arith}
+use Rattle.std.proofs.Common.{◌≡◌, ◌⊎◌, ℕ, List, Result, Ok, Err, Option, ap, ap₂, inl, inr, refl}
+use Rattle.std.proofs.Common.{subst, sym, ◌∙◌, arith}
 use Rattle.clap.specs.Words.{Text}
 use Rattle.nx_program.specs.declared.fault.CallFault.{CallFault}
 use Rattle.nx_program.specs.declared.fault.CallFault.TheVariants as call
@@ -21,10 +22,13 @@ use Rattle.nx_program.specs.declared.words.Call.{Call}
 use Rattle.nx_fec.specs.declared.fault.RunFault.{RunFault}
 use Rattle.nx_fec.specs.declared.fault.RunFault.TheVariants as run
 use Rattle.nx_program.specs.Program.{EndsRun, Exits, Performs, Succeeds, Tells, fresh_device}
-use Rattle.nx_program.specs.Status.{IsStatus, call_status, check_status, damage_status, listen_status, fault_status, resume_status, run_status, send_status, status_of}
+use Rattle.nx_program.specs.Status.{IsStatus, call_status, check_status, damage_status}
+use Rattle.nx_program.specs.Status.{listen_status, fault_status, resume_status, run_status}
+use Rattle.nx_program.specs.Status.{send_status, status_of}
 use Rattle.nx_fec.specs.Transfers.{Devices, devices, CountedDevice}
 use Rattle.nx_program.specs.Words.{IsRefused, Names}
-use Rattle.nx_program.proofs.WordsLemmas.{help_not_refused, named_not_help, named_not_refused, named_not_version, named_once, version_not_refused}
+use Rattle.nx_program.proofs.WordsLemmas.{help_not_refused, named_not_help, named_not_refused}
+use Rattle.nx_program.proofs.WordsLemmas.{named_not_version, named_once, version_not_refused}
 
 -- what was wrapped, with no failed call
 fresh-is : {T : Type 0} (c : CountedDevice T) (device : T) → c.inner ≡ device → c.failures ≡ 0

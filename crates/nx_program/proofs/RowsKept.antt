@@ -1,13 +1,26 @@
 -- A predicate of rows that each use of an argument keeps holds of all rows that clap gives where it
 -- takes the words.
-use Rattle.std.proofs.Common.{◌≡◌, ℕ, zero, suc, ◌&&◌, Bool, true, false, List, [], ◌∷◌, ◌++◌, Option, Some, None, IfSome, is_some, refl, drop, length, slice_get, encode_utf8, fold, if◌then◌else◌}
+use Rattle.std.proofs.Common.{◌≡◌, ℕ, zero, suc, ◌&&◌, Bool, true, false, List, [], ◌∷◌, ◌++◌}
+use Rattle.std.proofs.Common.{Option, Some, None, IfSome, is_some, refl, drop, length, slice_get}
+use Rattle.std.proofs.Common.{encode_utf8, fold, if◌then◌else◌}
 use Rattle.std.specs.Option.{option_map_or}
 use Rattle.std.specs.Str.{bytes_eq, chars}
 use Rattle.clap.specs.Lexer.{long_of, short_of}
 use Rattle.clap.specs.Kinds.{or_else}
 use Rattle.clap.specs.Words.{Kinds, Row, Rule, Shape, Text}
-use Rattle.clap.specs.Walk.{Held, Outcome, Step, Waiting, Walk, after_flag, after_step, arg_by_id, arg_by_index, arg_by_long, arg_by_short, at_row, attached_value, bundle_met, bundle_step, finished, flag_met, is_pending, long_met, long_or_other, nothing_held, option_met, option_word, plain_word, reacted, settled, settled_rows, short_met, short_or_plain, subcommand_met, subcommand_or_other, takes_several, takes_values, to_positional, used, used_by_id, walk, walk_from, walked, walked_from, without, word_met, done, idle, next, option, plain, positional, refused, subcommand, trailing, value, waits}
-use Rattle.clap.specs.Faults.{bundle_step_fault, check_fault, defaults_fault, flag_word_fault, flags_fault, level_fault, long_fault, option_fault, other_fault, positional_fault, react_fault, settle_fault, short_fault, step_fault, stray_fault, turn_fault, use_fault, walk_fault, word_fault}
+use Rattle.clap.specs.Walk.{Held, Outcome, Step, Waiting, Walk, after_flag, after_step, arg_by_id}
+use Rattle.clap.specs.Walk.{arg_by_index, arg_by_long, arg_by_short, at_row, attached_value}
+use Rattle.clap.specs.Walk.{bundle_met, bundle_step, finished, flag_met, is_pending, long_met}
+use Rattle.clap.specs.Walk.{long_or_other, nothing_held, option_met, option_word, plain_word}
+use Rattle.clap.specs.Walk.{reacted, settled, settled_rows, short_met, short_or_plain}
+use Rattle.clap.specs.Walk.{subcommand_met, subcommand_or_other, takes_several, takes_values}
+use Rattle.clap.specs.Walk.{to_positional, used, used_by_id, walk, walk_from, walked, walked_from}
+use Rattle.clap.specs.Walk.{without, word_met, done, idle, next, option, plain, positional, refused}
+use Rattle.clap.specs.Walk.{subcommand, trailing, value, waits}
+use Rattle.clap.specs.Faults.{bundle_step_fault, check_fault, defaults_fault, flag_word_fault}
+use Rattle.clap.specs.Faults.{flags_fault, level_fault, long_fault, option_fault, other_fault}
+use Rattle.clap.specs.Faults.{positional_fault, react_fault, settle_fault, short_fault, step_fault}
+use Rattle.clap.specs.Faults.{stray_fault, turn_fault, use_fault, walk_fault, word_fault}
 use Rattle.clap.specs.declared.error.kind.ErrorKind.TheVariants as kind
 use Rattle.nx_program.proofs.EachFound.{Each, found_is}
 

@@ -1,25 +1,33 @@
 -- Clap's reading of the program's words: the command tree is one of those that clap's clauses
 -- speak of exactly, and a command that it enters is the command of a call.
-use Rattle.std.proofs.Common.{ℕ, codes, ◌≤◌, ◌≡◌, ◌≢◌, ◌∙◌, true, false, List, [], ◌∷◌, Option, Some, None, is_some, ◌⊎◌, IfNone, IfSome, IfOk, IfErr, Result, option_map, refl, ap, ap₂, inl, inr, sym, subst, Box, Global}
+use Rattle.std.proofs.Common.{ℕ, codes, ◌≤◌, ◌≡◌, ◌≢◌, ◌∙◌, true, false, List, [], ◌∷◌, Option}
+use Rattle.std.proofs.Common.{Some, None, is_some, ◌⊎◌, IfNone, IfSome, IfOk, IfErr, Result}
+use Rattle.std.proofs.Common.{option_map, refl, ap, ap₂, inl, inr, sym, subst, Box, Global}
 use Rattle.std.specs.Box.{box_value}
 use Rattle.std.specs.Option.{ok_or}
-use Rattle.clap.specs.Words.{HasKind, Kinds, IsAmong, Row, Text, built, fault_of, is_simple, is_simple_and_free, kind_of, subcommand_of, subcommand_name_of, subcommand_rows, subcommand_rows_of}
+use Rattle.clap.specs.Words.{HasKind, Kinds, IsAmong, Row, Text, built, fault_of, is_simple}
+use Rattle.clap.specs.Words.{is_simple_and_free, kind_of, subcommand_of, subcommand_name_of}
+use Rattle.clap.specs.Words.{subcommand_rows, subcommand_rows_of}
 use Rattle.clap.specs.Simple.{argument_words, entered, label_of, names_of}
 use Rattle.clap.specs.Walk.{answers_to, nothing_held, walk}
 use Rattle.clap.specs.Faults.{entered_fault}
 use Rattle.clap.proofs.OnLiterals.{clap_on_literals}
 use Rattle.clap.specs.declared.error.Error.{Error}
 use Rattle.clap.specs.declared.error.kind.ErrorKind.{ErrorKind}
-use Rattle.clap.specs.declared.error.kind.ErrorKind.TheVariants.{DisplayHelp, DisplayVersion, OutOfMemory}
+use Rattle.clap.specs.declared.error.kind.ErrorKind.TheVariants.{DisplayHelp, DisplayVersion}
+use Rattle.clap.specs.declared.error.kind.ErrorKind.TheVariants.{OutOfMemory}
 use Rattle.clap.specs.declared.error.kind.ErrorKind.TheVariants as kind
 use Rattle.clap.specs.declared.parser.matches.ArgMatches.{ArgMatches}
 use Rattle.clap.specs.declared.parser.matches.ArgMatches.TheViews.{out-ArgMatches, out-SubCommand}
 use Rattle.clap.specs.declared.parser.matches.SubCommand.{SubCommand}
 use Rattle.nx_program.specs.declared.words.Call.{Call}
 use Rattle.nx_program.specs.declared.words.WordsFault.{WordsFault}
-use Rattle.nx_program.specs.declared.words.WordsFault.TheVariants.{Help, Refused, Station, Kind, Memory, Version}
+use Rattle.nx_program.specs.declared.words.WordsFault.TheVariants.{Help, Refused, Station, Kind}
+use Rattle.nx_program.specs.declared.words.WordsFault.TheVariants.{Memory, Version}
 use Rattle.nx_station.specs.declared.damaging.DamageKind.{DamageKind}
-use Rattle.nx_program.specs.Words.{AsksForHelp, AsksForVersion, HasArguments, IsKind, IsNumber, IsRefusal, IsRefused, IsStation, LacksKind, LacksStation, Maker, Names, command_name, entries, navtex, plain, range, slot}
+use Rattle.nx_program.specs.Words.{AsksForHelp, AsksForVersion, HasArguments, IsKind, IsNumber}
+use Rattle.nx_program.specs.Words.{IsRefusal, IsRefused, IsStation, LacksKind, LacksStation, Maker}
+use Rattle.nx_program.specs.Words.{Names, command_name, entries, navtex, plain, range, slot}
 use Rattle.nx_program.specs.private.Reading.{ExplainsWords, IsSortedAs}
 use Rattle.nx_program.proofs.EachFound.{Each, each-map, found_is}
 use Rattle.nx_program.proofs.CallArguments.{differ, number_once}
@@ -29,7 +37,9 @@ use Rattle.nx_program.proofs.NumbersGiven.{number-given}
 use Rattle.nx_program.proofs.OneCall.{IsNotCalled, call_or_none, has-kind, has-station, same_call}
 use Rattle.nx_envelope.specs.declared.letter.Letter.{Letter}
 use Rattle.nx_program.specs.declared.words.Call.TheVariants.{Damage, Send, Slots}
-use Rattle.nx_program.proofs.FaultKinds.{HasNoHelp, IsUniform, help-alone, help-no_version, kinds_cases, level-nil, refusal_is, u-level, u-none, u-option, version-alone}
+use Rattle.nx_program.proofs.FaultKinds.{HasNoHelp, IsUniform, help-alone, help-no_version}
+use Rattle.nx_program.proofs.FaultKinds.{kinds_cases, level-nil, refusal_is, u-level, u-none}
+use Rattle.nx_program.proofs.FaultKinds.{u-option, version-alone}
 
 pub navtex-is_simple : is_simple navtex ≡ true
 unfolding clap_on_literals

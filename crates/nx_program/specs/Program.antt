@@ -21,8 +21,10 @@ use Rattle.nx_fec.specs.declared.fault.RunFault.{RunFault}
 use Rattle.nx_fec.specs.declared.fault.RunFault.TheVariants as run
 use Rattle.nx_station.specs.Slots.{HasNoSlot, IsNextSlot}
 use Rattle.nx_program.specs.declared.words.Call.{Call}
-use Rattle.nx_program.specs.declared.words.Call.TheVariants.{Check, Code, Decode, Encode, Listen, Show}
-use Rattle.nx_program.specs.declared.words.Call.TheVariants.{Damage, Locks, Resume, Save, Send, Slots}
+use Rattle.nx_program.specs.declared.words.Call.TheVariants.{Check, Code, Decode, Encode, Listen}
+use Rattle.nx_program.specs.declared.words.Call.TheVariants.{Show}
+use Rattle.nx_program.specs.declared.words.Call.TheVariants.{Damage, Locks, Resume, Save, Send}
+use Rattle.nx_program.specs.declared.words.Call.TheVariants.{Slots}
 use Rattle.nx_program.specs.declared.fault.CallFault.{CallFault}
 use Rattle.nx_program.specs.declared.fault.CallFault.TheVariants as call
 use Rattle.nx_program.specs.declared.fault.Fault.{Fault}

@@ -1,6 +1,7 @@
 -- What a watch over the elements holds that shows their locks, and after which elements it stands
 -- (this profile).
-use Rattle.std.specs.Prelude.{◌≡◌, ℕ, ◌+◌, ◌-◌, ◌^◌, ◌<◌, ◌≤◌, Bool, if◌then◌else◌, List, [], ◌∷◌, ◌++◌, length, map, min, Option, Some, None}
+use Rattle.std.specs.Prelude.{◌≡◌, ℕ, ◌+◌, ◌-◌, ◌^◌, ◌<◌, ◌≤◌, Bool, if◌then◌else◌, List, [], ◌∷◌}
+use Rattle.std.specs.Prelude.{◌++◌, length, map, min, Option, Some, None}
 use Rattle.std.specs.Option.{option_to_list}
 use Rattle.nx_envelope.specs.Moment.{IsShownAs}
 use Rattle.nx_envelope.specs.Header.{newline}
@@ -10,7 +11,8 @@ use Rattle.nx_sync.specs.Words.{word_of_lock, first_role, whole_words}
 use Rattle.nx_sync.specs.declared.step.Change.{Change}
 use Rattle.nx_sync.specs.declared.step.Role.{Role}
 use Rattle.nx_sync.specs.declared.step.Step.{Step}
-use Rattle.nx_locks.specs.Report.{AreShown, IsNowShown, IsReport, now_headers, now_locks, past_headers}
+use Rattle.nx_locks.specs.Report.{AreShown, IsNowShown, IsReport, now_headers, now_locks}
+use Rattle.nx_locks.specs.Report.{past_headers}
 use Rattle.nx_locks.specs.ReportText.{closing_lines, opening_line}
 use Rattle.nx_locks.specs.private.Reader.{HearsWord, IsFresh, Reading, ReadsLock, one_more}
 

@@ -7,10 +7,12 @@ use Rattle.clap.specs.declared.builder.command.Command.TheViews.{out-Command}
 use Rattle.clap.specs.declared.error.Error.{Error}
 use Rattle.clap.specs.declared.error.kind.ErrorKind.TheVariants.{DisplayHelp, DisplayVersion}
 use Rattle.clap.specs.declared.error.kind.ErrorKind.TheVariants.{OutOfMemory}
-use Rattle.nx_program.specs.Words.{AsksForHelp, AsksForVersion, IsRefusal, IsRefusedByClap, LacksKind}
+use Rattle.nx_program.specs.Words.{AsksForHelp, AsksForVersion, IsRefusal, IsRefusedByClap}
+use Rattle.nx_program.specs.Words.{LacksKind}
 use Rattle.nx_program.specs.Words.{LacksStation}
 use Rattle.nx_program.specs.declared.words.WordsFault.{WordsFault}
-use Rattle.nx_program.specs.declared.words.WordsFault.TheVariants.{Help, Kind, Memory, Refused, Station}
+use Rattle.nx_program.specs.declared.words.WordsFault.TheVariants.{Help, Kind, Memory, Refused}
+use Rattle.nx_program.specs.declared.words.WordsFault.TheVariants.{Station}
 use Rattle.nx_program.specs.declared.words.WordsFault.TheVariants.{Version}
 
 -- the command is built as this tree says

@@ -133,6 +133,7 @@ module _ {R W : Type 0} (remaining : R → Option (List ℕ)) (contents : W → 
         bytes = h.bytes;
         consumed = h.consumed;
         here = printed;
-        file = IfSome-end _ _ h.bytes (HasPrintedOnceFrom whole_run states) h.consumed h.all printed;
+        file =
+            IfSome-end _ _ h.bytes (HasPrintedOnceFrom whole_run states) h.consumed h.all printed;
       })
   headline-behind states (Err fault) read h = tt

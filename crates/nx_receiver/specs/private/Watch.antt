@@ -1,7 +1,9 @@
 -- What a receiver keeps but its memory, and after which elements: the layer below what is printed.
 -- A watch turns elements into copies, each with the moment and the selection in force at its second
 -- digit (this profile).
-use Rattle.std.specs.Prelude.{◌≡◌, ℕ, ◌+◌, ◌-◌, ◌*◌, ◌≤◌, ◌&&◌, nat_lt, max, Bool, true, false, is_some, List, [], ◌∷◌, ◌++◌, length, map, take, Option, Some, None, slice_index_or}
+use Rattle.std.specs.Prelude.{◌≡◌, ℕ, ◌+◌, ◌-◌, ◌*◌, ◌≤◌, ◌&&◌, nat_lt, max, Bool, true, false}
+use Rattle.std.specs.Prelude.{is_some, List, [], ◌∷◌, ◌++◌, length, map, take, Option, Some, None}
+use Rattle.std.specs.Prelude.{slice_index_or}
 use Rattle.std.specs.List.{All}
 use Rattle.nx_sync.specs.Synchroniser.{Held, StandsAfter}
 use Rattle.nx_sync.specs.Locks.{Lock, Now, hunting, locked, IsNow}
@@ -25,7 +27,9 @@ use Rattle.nx_receiver.specs.Printing.{is_full}
 use Rattle.nx_receiver.specs.private.LockReader.{ReadsLock, HearsWord, text_after}
 use Rattle.nx_receiver.specs.Watching.{LockReading, Watching, in_force}
 use Rattle.nx_receiver.specs.LockText.{PlacedByte, bytes_of}
-use Rattle.nx_receiver.specs.FoundCopies.{FoundCopy, place_in, ended_in, past_text, past_copies, standing_text, ended_so_far, found_to_end, TaggedCopy, tag, tagged_found}
+use Rattle.nx_receiver.specs.FoundCopies.{FoundCopy, place_in, ended_in, past_text, past_copies}
+use Rattle.nx_receiver.specs.FoundCopies.{standing_text, ended_so_far, found_to_end, TaggedCopy}
+use Rattle.nx_receiver.specs.FoundCopies.{tag, tagged_found}
 
 -- what a copy of the identity bears of what is in force at its second digit
 abbrev pub tag_of : Setting → Identity → CopyTag

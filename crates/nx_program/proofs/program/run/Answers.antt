@@ -1,5 +1,6 @@
 use Rattle.std.proofs.Common.{map}
-use Rattle.nx_program.proofs.ProgramLemmas.{exits-fresh, refused-exits, status-exits, success-exits, success-named, words-exit}
+use Rattle.nx_program.proofs.ProgramLemmas.{exits-fresh, refused-exits, status-exits, success-exits}
+use Rattle.nx_program.proofs.ProgramLemmas.{success-named, words-exit}
 use Rattle.nx_program.proofs.ReportLemmas.{answers-exits}
 use Rattle.nx_program.specs.Program.{Exits, fresh_device}
 use Rattle.nx_fec.specs.Transfers.{devices}

@@ -1,4 +1,5 @@
-use Rattle.std.proofs.Common.{◌≡◌, ◌∙◌, [], ◌∷◌, Option, Some, None, Bor, ap, sym, rules, option_map, codes}
+use Rattle.std.proofs.Common.{◌≡◌, ◌∙◌, [], ◌∷◌, Option, Some, None, Bor, ap, sym, rules}
+use Rattle.std.proofs.Common.{option_map, codes}
 use Rattle.clap.specs.Words.{Text, found_of}
 use Rattle.nx_envelope.specs.declared.letter.Letter.{Letter}
 use Rattle.nx_program.proofs.ArgumentsRead.{if_none, text-absent, text-none, text-some}

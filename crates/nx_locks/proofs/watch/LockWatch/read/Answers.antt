@@ -90,6 +90,7 @@ returns-in_default-change-clause-reads c = rw (← c.self.view_is) (
       printed = c.take_word.result;
       hears = c.take_word.ensures;
       to = subst (λ (change : Option Change). ReadsTo old new c.take_word.new.self
-          c.take_word.result change before c.match-take_word.shown.items) (sym (none-left _ c.in_default-change.not-Some))
+          c.take_word.result change before c.match-take_word.shown.items)
+          (sym (none-left _ c.in_default-change.not-Some))
           (record { kept = refl; spelled = printed });
     })
