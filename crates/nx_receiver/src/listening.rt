@@ -1,6 +1,6 @@
 //! Listening to an air file: the log of its lines, written while it is read.
 
-ghost use Rattle.std.specs.Prelude.{◌≡◌, ◌+◌, ◌-◌, ◌^◌, ◌<◌, ◌≤◌, ℕ, Bool, false, List, [], ◌∷◌, ◌++◌, length, map, take, drop, Option, Some, IfErr, IfOk, IfSome, MatchResult, OnErr, OnOk};
+ghost use Rattle.std.specs.Prelude.{◌≡◌, ◌+◌, ◌-◌, ◌^◌, ◌<◌, ◌≤◌, ℕ, Bool, false, List, [], ◌∷◌, ◌++◌, length, map, take, drop, Option, Some, IfErr, IfOk, IfSome, MatchResult, OnOk};
 ghost use Rattle.nx_code.specs.Reading.{IsCapital};
 ghost use Rattle.nx_envelope.specs.Moment.{last_moment};
 ghost use Rattle.nx_fec.specs.AirFile.{Line};
@@ -11,9 +11,8 @@ ghost use Rattle.nx_memory.specs.Memory.{newest_moment};
 ghost use Rattle.nx_memory.specs.Saved.{AreSavedEntries};
 ghost use Rattle.nx_memory.specs.Selection.{is_vital};
 ghost use Rattle.nx_receiver.specs.Chain.{Leaves};
-ghost use Rattle.nx_receiver.specs.Events.{Event, Refuses, Start, at_moment, command};
+ghost use Rattle.nx_receiver.specs.Events.{Refuses, Start, at_moment, command};
 ghost use Rattle.nx_receiver.specs.Events as events;
-ghost use Rattle.nx_receiver.specs.FoundCopies.{TaggedCopy};
 ghost use Rattle.nx_receiver.specs.Listen.{Listens, events_on};
 ghost use Rattle.nx_receiver.specs.ListenFrom.{GoesOnBy, reported};
 ghost use Rattle.nx_receiver.specs.ListenOnce.{KeepsHeadline};

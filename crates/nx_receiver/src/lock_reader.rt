@@ -4,12 +4,12 @@ ghost use Rattle.std.specs.Prelude.{◌≡◌, ◌↔◌, ◌+◌, ℕ, false, I
 ghost use Rattle.nx_sync.specs.Words.{role_of};
 ghost use Rattle.nx_sync.specs.declared.step.Role.{Role};
 ghost use Rattle.nx_envelope.specs.Copies.{Copy};
-ghost use Rattle.nx_envelope.specs.Finder.{Closes, ClosesHeld, ClosesNone, HasReady, held_identity, is_over, is_ready};
+ghost use Rattle.nx_envelope.specs.Finder.{Closes, ClosesHeld, ClosesNone, HasReady, is_over, is_ready};
 ghost use Rattle.nx_envelope.specs.Found.{IsFound, IsHeadOf};
 ghost use Rattle.nx_receiver.specs.private.LockReader.{AreNext, HearsWord, PrintsPlain, ReadsLock, is_open, text_after};
 
 use nx_code::{Printer, WORDS_AT_ONCE, Word};
-use nx_envelope::{Finder, Found, FoundHead, Identity, TextEvent};
+use nx_envelope::{Finder, Found, FoundHead, TextEvent};
 use nx_fec::Diversity;
 use nx_sync::Role;
 use std::marker::Model;

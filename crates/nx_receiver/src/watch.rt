@@ -2,12 +2,12 @@
 //! the selection in force at its second digit. What runs for each element or each word has a small
 //! answer.
 
-ghost use Rattle.std.specs.Prelude.{◌≡◌, ◌≢◌, ◌+◌, ◌<◌, ◌≤◌, List, Bool, [], ◌∷◌, ◌++◌, ◌↔◌, length, not, take, drop, false, IfOk, IfErr, IsErr, IsNone, IsTrue, MatchOption, OnErr, OnOk};
+ghost use Rattle.std.specs.Prelude.{◌≡◌, ◌≢◌, ◌+◌, ◌<◌, ◌≤◌, List, Bool, [], ◌∷◌, ◌++◌, ◌↔◌, length, take, drop, false, IfOk, IfErr, IsErr, IsNone, IsTrue, MatchOption, OnErr, OnOk};
 ghost use Rattle.std.specs.List.{flat_map};
 ghost use Rattle.nx_code.specs.Word.{elements};
 ghost use Rattle.nx_sync.specs.Synchroniser.{is_between_words, is_hunting};
 ghost use Rattle.nx_envelope.specs.Copies.{Copy};
-ghost use Rattle.nx_envelope.specs.Finder.{HasReady, held_identity, is_ready};
+ghost use Rattle.nx_envelope.specs.Finder.{HasReady, is_ready};
 ghost use Rattle.nx_envelope.specs.Found.{IsHeadOf};
 ghost use Rattle.nx_memory.specs.Selection.{admits, is_vital};
 ghost use Rattle.nx_receiver.specs.Events as events;

@@ -1,7 +1,7 @@
 //! Laws of the text of a state, by its bytes, and of runs each of which begins with the text that
 //! the one before it wrote. Each function does nothing; its contract is the law.
 
-ghost use Rattle.std.specs.Prelude.{◌≡◌, ◌≢◌, ℕ, List, [], ◌++◌, Option, Some, Result, Ok, Err};
+ghost use Rattle.std.specs.Prelude.{◌≡◌, ◌≢◌, ℕ, List, [], ◌++◌, Some, Result, Ok, Err};
 ghost use Rattle.std.specs.Io.KnownBytes.{Appends};
 ghost use Rattle.nx_fec.specs.declared.channel.Channel.{Channel};
 ghost use Rattle.nx_memory.specs.Saved.{AreSavedStates, SavedStates};
