@@ -1,6 +1,6 @@
 //! Putting a text into the room of a caller, and telling it how the call ended.
 
-ghost use Rattle.std.specs.Prelude.{◌≡◌, ◌≤◌, ◌++◌, length, take, drop, min};
+ghost use Rattle.std.specs.Prelude.{◌≡◌, ◌≤◌, ◌++◌, length, take, min};
 ghost use Rattle.nx_c.specs.Told.{IsPut, IsTold, after_putting, answer, room};
 ghost use Rattle.nx_c.specs.declared.told.Status.TheVariants.{Done};
 

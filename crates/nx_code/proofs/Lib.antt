@@ -9,3 +9,4 @@ mod SilentCombinations
 pub mod SpellingLemmas
 pub mod TableLemmas
 pub mod WordLemmas
+pub mod WordCounts

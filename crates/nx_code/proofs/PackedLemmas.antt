@@ -31,6 +31,11 @@ unfolding elements_from
 length-elements_from zero x = refl
 length-elements_from (suc n) x = omega (arith, length-elements_from n (x / 2))
 
+-- a word has seven elements
+pub length-elements : (word : ℕ) → length (elements word) ≡ 7
+unfolding elements
+length-elements word = length-elements_from 7 word
+
 pub value_of-odd : (x : ℕ) → value_of (x % 2 == 1) ≡ x % 2
 value_of-odd x = elim (cases_eq (x % 2) 1) [
   | inl one ↦ rw one refl

@@ -1,6 +1,6 @@
 //! Words: what is sent for one signal, seven elements each.
 
-ghost use Rattle.std.specs.Prelude.{◌≡◌, ◌<◌, ◌^◌, ◌↔◌, length, IsTrue, IsSome, IfSome};
+ghost use Rattle.std.specs.Prelude.{◌≡◌, ◌<◌, ◌^◌, ◌↔◌, IsTrue, IsSome, IfSome};
 ghost use Rattle.nx_code.specs.Word.{elements, number_of, weight};
 
 use crate::classes::{NO_CLASS, class_of};

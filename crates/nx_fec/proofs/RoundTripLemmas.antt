@@ -14,6 +14,7 @@ use Rattle.nx_code.specs.declared.signals.Comb.{Comb}
 use Rattle.nx_code.specs.declared.shifts.Shift.TheVariants.{Letters}
 use Rattle.nx_code.specs.Word.{elements, elements_from, number_of}
 use Rattle.nx_code.specs.Reading.{Reception, combination, idle, lost, text}
+use Rattle.nx_code.proofs.PackedLemmas.{length-elements}
 use Rattle.nx_code.proofs.WordLemmas.{value_of-le, number_of-elements, elements-number_of}
 use Rattle.nx_fec.specs.declared.positions.Position.TheVariants.{Phasing, Traffic, End}
 use Rattle.nx_fec.specs.Pairing.{traffic, idle_signal, nothing, counts_as, pairing}
@@ -38,10 +39,6 @@ take-elements word rest = refl
 drop-elements : (word : ℕ) (rest : List Bool) → drop 7 (elements word ++ rest) ≡ rest
 unfolding elements elements_from
 drop-elements word rest = refl
-
-length-elements : (word : ℕ) → length (elements word) ≡ 7
-unfolding elements elements_from
-length-elements word = refl
 
 pub length-bits_of : (sent : List ℕ) → length (bits_of sent) ≡ 7 * length sent
 unfolding bits_of

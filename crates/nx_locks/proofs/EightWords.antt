@@ -15,7 +15,7 @@ use Rattle.nx_sync.specs.Words.{first_role, other_role, word_of_lock}
 use Rattle.nx_sync.specs.declared.step.Role.{Role}
 use Rattle.nx_sync.specs.declared.step.Role.TheVariants.{Dx, Rx}
 use Rattle.nx_sync.proofs.EightWords.{eight_items}
-use Rattle.nx_sync.proofs.Numbers.{length-elements}
+use Rattle.nx_code.proofs.PackedLemmas.{length-elements}
 use Rattle.nx_sync.proofs.UniqueStates.{locks-unique, now-unique}
 use Rattle.nx_sync.proofs.WordLimits.{limit_by}
 use Rattle.nx_locks.specs.private.Reader.{HearsWord, HearsWords, Reading, ReadsLock, ShowsWord}

@@ -16,11 +16,11 @@ use Rattle.nx_envelope.specs.Finder.{BringNothing, Keeps, StandsAfter}
 use Rattle.nx_fec.specs.Aligned as aligned
 use Rattle.nx_fec.specs.Pairing.{Counted, IsLatest}
 use Rattle.nx_sync.specs.declared.step.Role.TheVariants.{Dx}
-use Rattle.nx_sync.proofs.Counts.{one_if, wrong_in-add, wrong_in-le}
+use Rattle.nx_code.proofs.WordCounts.{one_if, wrong_in-add, wrong_in-le}
 use Rattle.nx_receiver.specs.Log.{is_of_lines}
 use Rattle.nx_receiver.specs.LockText.{positions}
 use Rattle.nx_receiver.specs.private.LockReader.{AreNext, dx_words, text_after}
-use Rattle.nx_station.proofs.ChannelCounts.{wrong_in-same}
+use Rattle.nx_code.proofs.WordCounts.{wrong_in-same}
 use Rattle.nx_receiver.proofs.locks.EightWords.{dx_words-pairs, pair_of, positions-pairs}
 use Rattle.nx_locks.specs.private.Reader.{HasHeardWords, Reading, ShowsWords}
 use Rattle.nx_locks.proofs.ReaderWords.{line_pushed}

@@ -17,7 +17,7 @@ use Rattle.nx_envelope.specs.declared.identity.Identity.{Identity}
 use Rattle.nx_fec.specs.Pairing.{Counted, IsLatest, counts_as}
 use Rattle.nx_fec.specs.declared.diversity.Diversity.{Diversity}
 use Rattle.nx_code.specs.Word.{is_wrong, wrong_in}
-use Rattle.nx_sync.proofs.Counts.{one_if}
+use Rattle.nx_code.proofs.WordCounts.{one_if}
 use Rattle.nx_sync.specs.Words.{role_of}
 use Rattle.nx_sync.specs.declared.step.Role.{Role}
 use Rattle.nx_sync.specs.declared.step.Role.TheVariants.{Dx}

@@ -1,6 +1,6 @@
 //! The text of one lock, read from its words, and what is counted of it.
 
-ghost use Rattle.std.specs.Prelude.{◌≡◌, ◌+◌, ◌≤◌, ◌==◌, ◌++◌, ℕ, List, false, length, not, slice_index, take, if◌then◌else◌, IsTrue};
+ghost use Rattle.std.specs.Prelude.{◌≡◌, ◌+◌, ◌≤◌, ◌==◌, ◌++◌, ℕ, List, false, not, slice_index, take, if◌then◌else◌, IsTrue};
 ghost use Rattle.arrayvec.specs.ArrayVec.{array_vec_len};
 ghost use Rattle.nx_code.specs.Word.{is_wrong, wrong_in};
 ghost use Rattle.nx_envelope.specs.Finder.{StandsAfter};

@@ -6,6 +6,7 @@ use Rattle.std.specs.List.{count_by}
 use Rattle.std.proofs.lemmas.List.{get_or-drop}
 use Rattle.std.proofs.lemmas.List.Sums.{count_by_more_yes, count_by_more_no}
 use Rattle.nx_code.specs.Word.{weight, is_wrong, wrong_in}
+use Rattle.nx_code.proofs.WordCounts.{one_if-le}
 
 -- a word of the wrong weight counts one
 abbrev pub one_if_wrong : ℕ → ℕ
@@ -14,40 +15,17 @@ one_if_wrong word = cond (is_wrong word) 1 0
 pub right-counts_none : (word : ℕ) → weight word ≡ 4 → one_if_wrong word ≡ 0
 right-counts_none word h = ap (λ w. cond (not (eqb w 4)) 1 0) h
 
-bit-le : (b : Bool) → cond (not b) 1 0 ≤ 1
-bit-le true = omega arith
-bit-le false = omega arith
-
 pub one_if_wrong-le : (word : ℕ) → one_if_wrong word ≤ 1
-one_if_wrong-le word = bit-le (weight word == 4)
+one_if_wrong-le word = one_if-le (is_wrong word)
 
--- a run of words in two parts
-pub wrong_in-add : (words : ℕ → ℕ) (i a b : ℕ)
-    → wrong_in words i (a + b) ≡ wrong_in words i a + wrong_in words (i + a) b
-unfolding wrong_in
-wrong_in-add words i a zero = let e : a + 0 ≡ a = omega arith in
-    ap (wrong_in words i) e ∙ omega arith
-wrong_in-add words i a (suc b) =
-    let e : a + suc b ≡ suc (a + b) = omega arith in
-    let g : i + (a + b) ≡ i + a + b = omega arith in
-    let w : one_if_wrong (words (i + (a + b))) ≡ one_if_wrong (words (i + a + b)) =
-    ap (λ j. one_if_wrong (words j)) g in
-    ap (wrong_in words i) e ∙ omega (arith, wrong_in-add words i a b, w)
-
--- no more than there are
-pub wrong_in-le : (words : ℕ → ℕ) (i n : ℕ) → wrong_in words i n ≤ n
-unfolding wrong_in
-wrong_in-le words i zero = omega arith
-wrong_in-le words i (suc n) = omega (arith, wrong_in-le words i n, one_if_wrong-le (words (i + n)))
-
-pub wrong_in-none : (words : ℕ → ℕ) (i n : ℕ) → ((j : ℕ) → j < n → weight (words (i + j)) ≡ 4)
+pub wrong_in-right : (words : ℕ → ℕ) (i n : ℕ) → ((j : ℕ) → j < n → weight (words (i + j)) ≡ 4)
     → wrong_in words i n ≡ 0
 unfolding wrong_in
-wrong_in-none words i zero h = refl
-wrong_in-none words i (suc n) h =
+wrong_in-right words i zero h = refl
+wrong_in-right words i (suc n) h =
     omega (
       arith,
-      wrong_in-none words i n (λ j lt. h j (omega arith)),
+      wrong_in-right words i n (λ j lt. h j (omega arith)),
       right-counts_none
           (words (i + n)) (h n (omega arith)),
     )
@@ -57,19 +35,6 @@ pub wrong_in-one : (words : ℕ → ℕ) (i n : ℕ)
     → wrong_in words i (n + 1) ≡ wrong_in words i n + one_if_wrong (words (i + n))
 unfolding wrong_in
 wrong_in-one words i n = let e : n + 1 ≡ suc n = omega arith in ap (wrong_in words i) e
-
--- words that are the same count the same
-pub wrong_in-same : (words others : ℕ → ℕ) (i k n : ℕ)
-    → ((j : ℕ) → j < n → words (i + j) ≡ others (k + j)) → wrong_in words i n ≡ wrong_in others k n
-unfolding wrong_in
-wrong_in-same words others i k zero h = refl
-wrong_in-same words others i k (suc n) h =
-    omega (
-      arith,
-      wrong_in-same words others i k n (λ j lt. h j (omega arith)),
-      ap one_if_wrong
-          (h n (omega arith)),
-    )
 
 -- the count of a part of a list
 count-step : (xs : List ℕ) (n : ℕ) → n < length xs → (b : Bool) → (weight (get_or xs n 0) == 4) ≡ b

@@ -17,7 +17,8 @@ use Rattle.nx_fec.proofs.RoundTripLemmas.{counts_as-phasing_1, counts_as-phasing
 use Rattle.nx_station.specs.Channel.{PassesChannel, IsAsSent, heard_in, first_slot, message_slot}
 use Rattle.nx_station.specs.Channel.{slots_of, window, most_wrong}
 use Rattle.nx_station.proofs.ChannelCounts.{one_if_wrong, right-counts_none, one_if_wrong-le}
-use Rattle.nx_station.proofs.ChannelCounts.{wrong_in-add, wrong_in-le, wrong_in-none, wrong_in-one}
+use Rattle.nx_station.proofs.ChannelCounts.{wrong_in-right, wrong_in-one}
+use Rattle.nx_code.proofs.WordCounts.{wrong_in-add, wrong_in-le}
 use Rattle.nx_station.proofs.ChannelPositions.{HasInner, IsInner, inner-no_end, position-end}
 use Rattle.nx_station.proofs.ChannelPositions.{position-inner}
 use Rattle.nx_station.proofs.WordWeights.{phasing_1-weight, dx-weight, rx-weight}
@@ -178,7 +179,7 @@ module _ (positions : List SentPosition) (heard : List ℕ) (has : HasInner posi
   pairs-le a zero from to =
       let e : 2 * 0 + 4 ≡ (0 + 2) + 2 = omega arith in
       let none : wrong_in (heard_in heard) (2 * a) 0 ≡ 0 =
-      wrong_in-none (heard_in heard) (2 * a) 0 (λ j lt. absurd (omega (arith, lt))) in
+      wrong_in-right (heard_in heard) (2 * a) 0 (λ j lt. absurd (omega (arith, lt))) in
       let d0 = at-slot (2 * a + 0) (2 * (a + 0)) (omega arith) in
       let d1 = at-slot (2 * a + (0 + 2)) (2 * (a + 0 + 1)) (omega arith) in
       let r0 = one_if_wrong-le (heard_in heard (2 * a + 0 + 1)) in

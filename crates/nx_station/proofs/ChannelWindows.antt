@@ -15,8 +15,10 @@ use Rattle.nx_station.specs.Broadcast.{IsBroadcast, layout}
 use Rattle.nx_envelope.specs.Message.{MessageView}
 use Rattle.nx_station.specs.Channel.{PassesChannel, heard_in, first_slot, message_slot}
 use Rattle.nx_station.specs.Channel.{phasing_received, slots_of, window, most_wrong}
-use Rattle.nx_station.proofs.ChannelCounts.{wrong_in-add, wrong_in-count, wrong_in-le}
-use Rattle.nx_station.proofs.ChannelCounts.{wrong_in-none, wrong_in-same}
+use Rattle.nx_station.proofs.ChannelCounts.{wrong_in-count}
+use Rattle.nx_code.proofs.WordCounts.{wrong_in-add, wrong_in-le}
+use Rattle.nx_station.proofs.ChannelCounts.{wrong_in-right}
+use Rattle.nx_code.proofs.WordCounts.{wrong_in-same}
 use Rattle.nx_station.proofs.ChannelLaws.{few-wrong, sent-weight}
 use Rattle.nx_station.proofs.ChannelPositions.{HasInner, layout-inner}
 
@@ -109,7 +111,7 @@ module _ (positions : List SentPosition) (heard : List ℕ) (has : HasInner posi
             let two = ap (wrong_in (heard_in heard) first_slot) parts in
             let added = wrong_in-add (heard_in heard) first_slot (2 * phasing_received)
             (slot + 1 - message_slot) in
-            let right = wrong_in-none (heard_in heard) first_slot (2 * phasing_received)
+            let right = wrong_in-right (heard_in heard) first_slot (2 * phasing_received)
             (λ j lt. ap weight (passes.phasing (first_slot + j) (omega arith) (omega arith))
             ∙ sent-weight positions heard has passes (first_slot + j) (omega arith)) in
             let later = wrong_in-le (heard_in heard) (first_slot + 2 * phasing_received)

@@ -26,9 +26,9 @@ use Rattle.nx_sync.specs.Steps.{step, IsWordStep, AreQuietWords}
 use Rattle.nx_sync.specs.Locks.{Now, hunting, locked}
 use Rattle.nx_sync.specs.Synchroniser.{Held, p1_marks, Tracks, StandsAfter, awaits_free_dx}
 use Rattle.nx_sync.specs.Synchroniser.{has_dx_phasing_1, keeps_lock}
-use Rattle.nx_sync.proofs.Counts.{one_if-le}
+use Rattle.nx_code.proofs.WordCounts.{one_if-le}
 use Rattle.nx_sync.proofs.Marks.{length-p1_marks}
-use Rattle.nx_sync.proofs.Numbers.{length-elements}
+use Rattle.nx_code.proofs.PackedLemmas.{length-elements}
 use Rattle.nx_sync.proofs.WholeWords.{word_stands, word_step}
 
 -- eight items by their places

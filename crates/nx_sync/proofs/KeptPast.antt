@@ -4,7 +4,7 @@ use Rattle.std.proofs.Common.{length, Bool, refl, sym, ap, ap₂, ◌∙◌, inl
 use Rattle.nx_code.specs.Word.{number_of, is_wrong, wrong_in}
 use Rattle.nx_sync.specs.declared.step.Role.{Role}
 use Rattle.nx_sync.specs.Words.{marked_words, word_of_lock, first_role, role_of, wrong_until}
-use Rattle.nx_sync.proofs.Counts.{one_if}
+use Rattle.nx_code.proofs.WordCounts.{one_if}
 use Rattle.nx_sync.specs.Locks.{last_28, IsPattern, Finds, IsSecondPhasing1, IsReleased, Lock}
 use Rattle.nx_sync.specs.Locks.{IsPast, Past}
 use Rattle.nx_sync.specs.private.Releases.{releases_as_ended, change_at, release}

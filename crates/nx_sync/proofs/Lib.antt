@@ -12,7 +12,7 @@ pub mod Pushes
 pub mod StateChanges
 pub mod Releases
 pub mod Phasing
-pub mod Counts
+pub mod Roles
 pub mod WordLists
 pub mod Hunting
 pub mod WholeWords

@@ -11,7 +11,7 @@ use Rattle.nx_sync.specs.declared.step.Role.TheVariants.{Dx, Rx}
 use Rattle.nx_sync.specs.declared.track.Track.{Track}
 use Rattle.nx_code.specs.Table.{phasing_1}
 use Rattle.nx_sync.specs.Words.{marked_words, other_role, is_dx, role_of, wrong_until}
-use Rattle.nx_sync.proofs.Counts.{one_if}
+use Rattle.nx_code.proofs.WordCounts.{one_if}
 use Rattle.nx_sync.specs.private.Releases.{releases_as_ended, change_at}
 use Rattle.nx_sync.specs.Synchroniser.{wrong_marks, was_p1, p1_marks}
 use Rattle.nx_sync.specs.private.Calls.{fills_releasing_word, change_of}

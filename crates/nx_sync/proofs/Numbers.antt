@@ -71,8 +71,3 @@ pub number_of-next_word : (xs ys : List Bool) → length xs ≡ 28 → length ys
 number_of-next_word xs ys l m =
     let e : length (drop 7 xs) ≡ 21 = simp length-drop (omega arith) in
     number_of-append (drop 7 xs) ys ∙ ap₂ (λ a n. a + 2 ^ n * number_of ys) (number_of-drop 7 xs) e
-
--- a word has seven elements
-pub length-elements : (word : ℕ) → length (elements word) ≡ 7
-unfolding elements
-length-elements word = length-elements_from 7 word

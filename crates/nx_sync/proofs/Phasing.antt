@@ -17,8 +17,8 @@ use Rattle.nx_sync.specs.private.Releases.{releases_as_ended, release}
 use Rattle.nx_sync.specs.Locks.{pattern_elements, before_dx, before_rx, IsPattern, IsSecondPhasing1}
 use Rattle.nx_sync.specs.Locks.{Lock, Past, Now, hunting, locked, IsLocked, IsNow}
 use Rattle.nx_sync.specs.Laws.{phasing, LockedBeforeDx}
-use Rattle.nx_sync.proofs.Counts.{wrong_in-add, wrong_in-all, wrong_in-none, wrong_in-le}
-use Rattle.nx_sync.proofs.Counts.{role_of-even}
+use Rattle.nx_code.proofs.WordCounts.{wrong_in-add, wrong_in-all, wrong_in-none, wrong_in-le}
+use Rattle.nx_sync.proofs.Roles.{role_of-even}
 use Rattle.nx_sync.proofs.Patterns.{last_word-window}
 use Rattle.nx_sync.proofs.Computed.{IsSecondPhasing1-from, IsSecondPhasing1-to, at_none, ByTests}
 use Rattle.nx_sync.proofs.Computed.{by_end, by_loss, by_tests, released-from, holds-from}

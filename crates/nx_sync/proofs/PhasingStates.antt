@@ -18,7 +18,8 @@ use Rattle.nx_sync.specs.Locks.{pattern_elements, before_dx, before_rx, IsPatter
 use Rattle.nx_sync.specs.Locks.{IsSecondPhasing1, Lock, IsHunting, IsLocked}
 use Rattle.nx_sync.specs.private.Releases.{release}
 use Rattle.nx_sync.specs.Laws.{phasing, IsOnPhasing, IsBetweenLimits, IsReleasedBy}
-use Rattle.nx_sync.proofs.Counts.{wrong_in-add, wrong_in-all, wrong_in-none, role_of-even}
+use Rattle.nx_sync.proofs.Roles.{role_of-even}
+use Rattle.nx_code.proofs.WordCounts.{wrong_in-add, wrong_in-all, wrong_in-none}
 use Rattle.nx_sync.proofs.KeptPast.{wrong_in-same, IsPattern-less, word_at-more, Past-within}
 use Rattle.nx_sync.proofs.Computed.{IsSecondPhasing1-to, at_none, holds-from, least_released}
 use Rattle.nx_sync.proofs.Releases.{stands_longer}

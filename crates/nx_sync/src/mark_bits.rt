@@ -1,10 +1,10 @@
 //! The marks of the last words of a lock in one number, for a line of words at once. What runs for
 //! each word is inlined always, since its answers would go through memory otherwise.
 
-ghost use Rattle.std.specs.Prelude.{◌≡◌, ◌∷◌, ◌++◌, ◌≤◌, ◌<◌, ◌^◌, ◌-◌, [], Bool, length, drop, false, replicate, IsTrue};
+ghost use Rattle.std.specs.Prelude.{◌≡◌, ◌∷◌, ◌++◌, ◌≤◌, ◌<◌, ◌^◌, ◌-◌, [], Bool, length, drop, false, IsTrue};
 ghost use Rattle.std.specs.List.{count_by};
 ghost use Rattle.circular_buffer.specs.Buffer.{keep_last};
-ghost use Rattle.nx_code.specs.Word.{elements_from, number_of};
+ghost use Rattle.nx_code.specs.Word.{number_of};
 ghost use Rattle.nx_sync.specs.Words.{marked_words};
 ghost use Rattle.nx_sync.specs.private.Eight.{marks_after_words};
 

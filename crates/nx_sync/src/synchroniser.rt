@@ -2,7 +2,7 @@
 //! last words. Calls that run for each element, each word or each stride are inlined always, since
 //! their answers would go through memory otherwise.
 
-ghost use Rattle.std.specs.Prelude.{◌≡◌, ℕ, ◌+◌, ◌-◌, ◌*◌, ◌/◌, ◌^◌, ◌<◌, ◌≤◌, ◌↔◌, List, Bool, false, [], ◌∷◌, ◌++◌, length, take, drop, slice_index, min, nat_le, not, IsTrue, IfOk};
+ghost use Rattle.std.specs.Prelude.{◌≡◌, ◌+◌, ◌-◌, ◌*◌, ◌/◌, ◌^◌, ◌<◌, ◌≤◌, ◌↔◌, List, Bool, false, [], ◌∷◌, ◌++◌, length, take, min, nat_le, not, IsTrue, IfOk};
 ghost use Rattle.std.specs.List.{count_by};
 ghost use Rattle.nx_sync.specs.declared.step.Change.TheVariants.{Locked};
 ghost use Rattle.nx_code.specs.Word.{elements_from};
@@ -57,7 +57,7 @@ impl Model for Synchroniser {
     ghost use Rattle.std.specs.Prelude.{◌≡◌, ◌≤◌, ◌<◌, ◌^◌, length};
     ghost use Rattle.std.specs.List.{count_by};
     ghost use Rattle.std.specs.Option.{ForSome};
-    ghost use Rattle.std.proofs.Common.{sym, ap, ap₂};
+    ghost use Rattle.std.proofs.Common.{sym, ap₂};
     ghost use Rattle.circular_buffer.specs.Buffer.{buffer};
     ghost use Rattle.nx_sync.specs.Words.{marked_words};
     ghost use Rattle.nx_sync.specs.Locks.{pattern_elements};

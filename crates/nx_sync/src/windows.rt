@@ -3,7 +3,6 @@
 //! since a call would cost more than its few instructions.
 
 ghost use Rattle.std.specs.Prelude.{◌≡◌, ℕ, ◌+◌, ◌/◌, ◌^◌, ◌<◌, ◌≤◌, length, take, slice_index, IfSome, IsTrue, false};
-ghost use Rattle.nx_code.specs.Word.{elements_from};
 ghost use Rattle.nx_sync.specs.Locks.{pattern_elements};
 ghost use Rattle.nx_sync.specs.Windows as locking;
 ghost use Rattle.nx_sync.specs.Windows.{IsFirstLock, HasNoLock};

@@ -1,8 +1,8 @@
 //! A synchroniser at work on whole words of a lock. All of it runs for each word or for eight of
 //! them, and is inlined always, since its answers would go through memory otherwise.
 
-ghost use Rattle.std.specs.Prelude.{◌≡◌, ℕ, ◌+◌, ◌*◌, ◌/◌, ◌^◌, ◌<◌, List, Bool, ◌++◌, slice_index, nat_le, IsTrue};
-ghost use Rattle.std.specs.List.{count_by, flat_map};
+ghost use Rattle.std.specs.Prelude.{◌≡◌, ℕ, ◌+◌, ◌*◌, ◌/◌, ◌^◌, ◌<◌, List, Bool, ◌++◌, slice_index, IsTrue};
+ghost use Rattle.std.specs.List.{flat_map};
 ghost use Rattle.std.specs.Option.{ForSome};
 ghost use Rattle.nx_sync.specs.declared.step.Role.TheVariants.{Dx};
 ghost use Rattle.nx_code.specs.Word.{elements};

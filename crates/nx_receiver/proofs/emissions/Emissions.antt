@@ -18,7 +18,7 @@ use Rattle.nx_fec.proofs.RoundTripLemmas.{length-bits_of}
 use Rattle.nx_station.specs.Broadcast.{layout, phasing_and_message}
 use Rattle.nx_station.specs.Channel.{PassesChannel, heard_in, first_slot}
 use Rattle.nx_station.specs.Sendings.{IsReceived, digit_slot}
-use Rattle.nx_station.proofs.ChannelCounts.{wrong_in-same}
+use Rattle.nx_code.proofs.WordCounts.{wrong_in-same}
 use Rattle.nx_station.proofs.ChannelLaws.{few-wrong, no-phasing_1, taken-as_sent}
 use Rattle.nx_station.proofs.ChannelPositions.{HasInner, told-inner}
 use Rattle.nx_station.proofs.ChannelWindows.{not-empty}

@@ -13,14 +13,15 @@ use Rattle.nx_fec.specs.Aligned.{word_in}
 use Rattle.nx_fec.specs.Emission.{bits_of, AreWords}
 use Rattle.nx_fec.proofs.AlignedLemmas.{get_or-words_of}
 use Rattle.nx_fec.proofs.RoundTripLemmas.{length-bits_of, words_of-bits_of}
-use Rattle.nx_station.proofs.ChannelCounts.{wrong_in-same}
+use Rattle.nx_code.proofs.WordCounts.{wrong_in-same}
 use Rattle.nx_sync.specs.Words.{word_of_lock, first_role, role_of, other_role, wrong_until}
 use Rattle.nx_sync.specs.Words.{losing_count}
 use Rattle.nx_sync.specs.Locks.{IsSecondPhasing1, Lock, IsLocked}
 use Rattle.nx_sync.specs.Laws.{LockedBeforeDx, phasing}
 use Rattle.nx_sync.specs.declared.step.Role.{Role}
 use Rattle.nx_sync.specs.declared.step.Role.TheVariants.{Dx, Rx}
-use Rattle.nx_sync.proofs.Counts.{wrong_in-add, wrong_in-le, wrong_in-none, role_of-even}
+use Rattle.nx_sync.proofs.Roles.{role_of-even}
+use Rattle.nx_code.proofs.WordCounts.{wrong_in-add, wrong_in-le, wrong_in-none}
 use Rattle.nx_sync.proofs.KeptPast.{first_role-more}
 use Rattle.nx_sync.proofs.Phasing.{phasing_locks, phasing_heard}
 use Rattle.nx_sync.proofs.Releases.{stands_longer}

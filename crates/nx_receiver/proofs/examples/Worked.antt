@@ -22,7 +22,7 @@ use Rattle.nx_sync.specs.private.Releases.{releases_as_ended, change_at}
 use Rattle.nx_sync.proofs.Computed.{holds-to}
 use Rattle.nx_sync.specs.declared.step.Role.TheVariants.{Dx, Rx}
 use Rattle.nx_sync.specs.declared.step.Change.TheVariants.{Ended, LostLock}
-use Rattle.nx_sync.proofs.Counts.{wrong_in-add}
+use Rattle.nx_code.proofs.WordCounts.{wrong_in-add}
 use Rattle.nx_sync.proofs.KeptPast.{change_at-same}
 use Rattle.nx_receiver.specs.LockText.{taken_at, positions, lock_text, bytes_of}
 use Rattle.nx_receiver.specs.Worked.{worked_words, damaged_words}

@@ -30,7 +30,8 @@ use Rattle.nx_sync.specs.Laws.{IsOnPhasing, LockedBeforeDx, phasing}
 use Rattle.nx_sync.specs.Locks.{IsLocked, Past, before_dx, last_28}
 use Rattle.nx_sync.specs.Words.{first_role, losing_count, role_of, whole_words, word_of_lock}
 use Rattle.nx_sync.specs.declared.step.Role.TheVariants.{Dx}
-use Rattle.nx_sync.proofs.Counts.{role_of-even, wrong_in-none}
+use Rattle.nx_sync.proofs.Roles.{role_of-even}
+use Rattle.nx_code.proofs.WordCounts.{wrong_in-none}
 use Rattle.nx_sync.proofs.Patterns.{first_role-dx}
 use Rattle.nx_sync.proofs.Phasing.{length-phasing}
 use Rattle.nx_sync.proofs.PhasingStates.{right_stays}

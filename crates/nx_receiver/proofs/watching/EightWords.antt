@@ -20,7 +20,7 @@ use Rattle.nx_sync.specs.declared.step.Role.TheVariants.{Dx}
 use Rattle.nx_sync.specs.declared.step.Step.{Step}
 use Rattle.nx_sync.proofs.EightWords.{quiet_first, quiet_rest}
 use Rattle.nx_sync.proofs.KeptPast.{word_at-more, first_role-more}
-use Rattle.nx_sync.proofs.Numbers.{length-elements}
+use Rattle.nx_code.proofs.PackedLemmas.{length-elements}
 use Rattle.nx_sync.proofs.StateChanges.{one_more, standing_after}
 use Rattle.nx_sync.proofs.UniqueStates.{now-unique}
 use Rattle.nx_sync.proofs.WordLimits.{limit_by}

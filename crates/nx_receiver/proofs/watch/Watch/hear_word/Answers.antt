@@ -1,5 +1,5 @@
 use Rattle.nx_code.specs.Word.{elements}
-use Rattle.nx_sync.proofs.Numbers.{length-elements}
+use Rattle.nx_code.proofs.PackedLemmas.{length-elements}
 use Rattle.nx_receiver.specs.private.Watch.{at_words}
 use Rattle.nx_receiver.proofs.watching.Hears.{word_heard_by, force_on, reads_by}
 use Rattle.nx_receiver.proofs.watch.Watch.hear_word.Goals as goal

@@ -5,7 +5,7 @@ use Rattle.nx_sync.specs.declared.track.Track.{Track}
 use Rattle.nx_sync.specs.private.Windows.{next_word_window}
 use Rattle.nx_sync.specs.Synchroniser.{Held}
 use Rattle.nx_sync.specs.private.Calls.{Completes}
-use Rattle.nx_sync.proofs.Numbers.{length-elements}
+use Rattle.nx_code.proofs.PackedLemmas.{length-elements}
 use Rattle.nx_sync.proofs.WholeWords.{word_stands, word_step, between}
 use Rattle.nx_sync.proofs.word_synchroniser.WordSynchroniser.push.Goals as goal
 

@@ -1,9 +1,6 @@
--- Counts of wrong words, and roles of later words.
-use Rattle.std.proofs.Common.{◌≡◌, ℕ, zero, suc, ◌+◌, ◌*◌, ◌<◌, ◌≤◌, if◌then◌else◌, Bool, true}
-use Rattle.std.proofs.Common.{false, refl, ap, ◌∙◌, arith}
-use Rattle.nx_sync.specs.declared.step.Role.{Role}
-use Rattle.nx_sync.specs.declared.step.Role.TheVariants.{Dx, Rx}
-use Rattle.nx_sync.specs.Words.{other_role, role_of}
+-- How many of a run of words have the wrong weight.
+use Rattle.std.proofs.Common.{◌≡◌, ℕ, zero, suc, ◌+◌, ◌<◌, ◌≤◌, if◌then◌else◌, Bool, true, false}
+use Rattle.std.proofs.Common.{refl, ap, ◌∙◌, arith}
 use Rattle.nx_code.specs.Word.{is_wrong, wrong_in}
 
 abbrev pub one_if : Bool → ℕ
@@ -49,15 +46,14 @@ unfolding wrong_in
 wrong_in-le f i zero = omega arith
 wrong_in-le f i (suc n) = omega (arith, wrong_in-le f i n, one_if-le (is_wrong (f (i + n))))
 
--- two words on, the role is the same
-turned_twice : (role : Role) → other_role (other_role role) ≡ role
-turned_twice Dx = refl
-turned_twice Rx = refl
-
--- an even number of words on, the role is the same
-pub role_of-even : (first : Role) (g j : ℕ) → role_of first (g + 2 * j) ≡ role_of first g
-unfolding role_of
-role_of-even first g zero = let e : g + 2 * 0 ≡ g = omega arith in ap (role_of first) e
-role_of-even first g (suc j) =
-    let e : g + 2 * suc j ≡ suc (suc (g + 2 * j)) = omega arith in
-    ap (role_of first) e ∙ (turned_twice (role_of first (g + 2 * j)) ∙ role_of-even first g j)
+-- words that are the same count the same
+pub wrong_in-same : (words others : ℕ → ℕ) (i k n : ℕ)
+    → ((j : ℕ) → j < n → words (i + j) ≡ others (k + j)) → wrong_in words i n ≡ wrong_in others k n
+unfolding wrong_in
+wrong_in-same words others i k zero h = refl
+wrong_in-same words others i k (suc n) h =
+    omega (
+      arith,
+      wrong_in-same words others i k n (λ j lt. h j (omega arith)),
+      ap (λ w. one_if (is_wrong w)) (h n (omega arith)),
+    )
