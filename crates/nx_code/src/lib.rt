@@ -26,6 +26,3 @@ pub use spelling::{Extent, SpellFault, extent_of, spell};
 pub use steps::FourPrinted;
 pub use table::{SIGNALS, cell_of, signal_at, signal_of, word_of};
 pub use words::{ELEMENTS, Word, check_bits};
-
-#[cfg(test)]
-mod tests;

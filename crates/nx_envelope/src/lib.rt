@@ -10,8 +10,6 @@ mod letter;
 mod message;
 mod moment;
 mod stage;
-#[cfg(test)]
-mod tests;
 mod windows;
 
 pub use finder::Finder;

@@ -118,25 +118,3 @@ pub fn writes_in_turn()
         → WroteSome a b xs written
         → WroteSome a b (xs ++ ys) written }
 {}
-
-#[cfg(test)]
-mod tests {
-    use super::*;
-
-    /// Each law is called once.
-    #[test]
-    fn laws(_rt: HostRuntime) {
-        emissions();
-        words_and_bits();
-        receptions_of_emissions();
-        decoded_emissions();
-        one_spelling();
-        one_reading();
-        one_outcome();
-        reading_of_writing();
-        decoding_of_encoding();
-        dx_words_of_locks();
-        causes_of_faults();
-        writes_in_turn();
-    }
-}

@@ -269,38 +269,3 @@ fn near_places_of(digits: &[u8], byte: u8) -> u64
         .simd_eq(u8x32::splat(byte))
         .to_bitmask()
 }
-
-#[cfg(test)]
-mod tests {
-    use super::*;
-
-    /// 65 elements, of which the first, the 64th and the last are B; then fewer, in place of them; then none.
-    #[test]
-    fn packed_digits(rt: HostRuntime) {
-        let mut digits = [b'0'; 65];
-        for place in [0, 63, 64] {
-            digits[place] = b'1';
-        }
-        let mut packed = PackedElements::new();
-        assert_eq!(rt; packed.read(&digits), true);
-        assert_eq!(rt; packed.len(), 65);
-        assert_eq!(rt; packed.words()[0], 0x8000_0000_0000_0001);
-        assert_eq!(rt; packed.words()[1], 1);
-        assert_eq!(rt; packed.read(b"01"), true);
-        assert_eq!(rt; (packed.len(), packed.words()[0]), (2, 2));
-        assert_eq!(rt; packed.read(b"02"), false);
-        assert_eq!(rt; packed.len(), 0);
-    }
-
-    /// Elements that stand as bools.
-    #[test]
-    fn packed_bools(rt: HostRuntime) {
-        let mut packed = PackedElements::new();
-        packed.pack_bits(&[false, true, true]);
-        assert_eq!(rt; (packed.len(), packed.words()[0]), (3, 6));
-        packed.pack_bits(&[true; 512]);
-        assert_eq!(rt; (packed.len(), packed.words()[7]), (512, u64::MAX));
-        packed.pack_bits(&[]);
-        assert_eq!(rt; packed.len(), 0);
-    }
-}

@@ -10,6 +10,3 @@ mod shower;
 mod watch;
 
 pub use run::{LocksReport, locks};
-
-#[cfg(test)]
-mod tests;

@@ -29,6 +29,3 @@ pub use saved_set::SavedSet;
 pub use selection::{Selection, Vital};
 pub use state_reader::{StateReader, StateStep};
 pub use state_text::state_line;
-
-#[cfg(test)]
-mod tests;

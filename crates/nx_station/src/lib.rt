@@ -21,6 +21,3 @@ pub use fault::{CheckFault, DamageFault, EmissionFault, SendFault, SendRunFault}
 pub use reading::read_emission;
 pub use sending::{Sent, send};
 pub use slots::next_slot;
-
-#[cfg(test)]
-mod tests;

@@ -8,8 +8,6 @@ mod mark_bits;
 mod packed;
 mod step;
 mod synchroniser;
-#[cfg(test)]
-mod tests;
 mod track;
 mod windows;
 mod word_synchroniser;

@@ -1,7 +1,8 @@
-//! Trials of the receiver's public calls on worked examples, over emissions that the station sends.
+//! Trials of the public calls of the crates below on worked examples: words and signals, locks,
+//! messages in a text, memories, states, the station, the receiver and the text of locks.
 //!
 //! There are tests here and nothing else. A crate with tests is proved a second time with them, so
-//! the receiver's crate has none.
+//! those crates have none.
 #![tactic(auto)]
 
 #[cfg(test)]

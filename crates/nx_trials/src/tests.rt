@@ -1,12 +1,19 @@
-//! Entries as they are printed, a judge's answers, emissions through a receiver and through
-//! `listen`, and states.
+//! Signals, locks, texts, memories, what is sent and checked; entries as they are printed, a judge's
+//! answers, emissions through a receiver, through `listen` and through `locks`, and states.
 
+mod air_files;
 mod entries;
 mod hearing;
 mod judging;
 mod laws;
 mod listening;
+mod locking;
+mod remembering;
+mod sending;
+mod signals;
 mod states;
+mod synchronising;
+mod texts;
 
 use nx_envelope::{Finder, FinderStep, Found, Letter};
 use nx_fec::{Counting, read_bits};

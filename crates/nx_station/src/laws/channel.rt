@@ -115,20 +115,3 @@ pub fn an_example_is_received()
         → IsSending (example_parts before after) (example_sending before) }
     ensures outside { PassesChannel (layout (example_numbers ∷ [])) heard_without_75 → ⊥ }
 {}
-
-#[cfg(test)]
-mod tests {
-    use super::*;
-
-    /// Each law is called once.
-    #[test]
-    fn laws(_rt: HostRuntime) {
-        few_words_are_wrong();
-        no_phasing_1_before_the_end();
-        positions_are_taken_as_sent();
-        words_stand_in_the_bits();
-        messages_stand_in_their_emission();
-        an_undamaged_emission_is_received();
-        an_example_is_received();
-    }
-}

@@ -4,6 +4,7 @@
 use super::*;
 use nx_code::{Comb, ELEMENTS, Word};
 use nx_fec::{Position, RunFault};
+use nx_station::{CheckFault, EmissionFault, check_run, read_emission};
 
 /// The elements of the emission of EA01 with the one line TEST.
 fn bits_of_ea01(alloc: Global) -> Result<Vec<bool>, Fail> {

@@ -4,9 +4,11 @@
 mod channels;
 mod checks;
 
-use super::*;
 use nx_envelope::{Identity, Letter, MAX_LINE, Message};
 use nx_fec::{Counting, read_bits, to_bits, word_at};
+use nx_station::{
+    DamageFault, DamageKind, SendFault, SendRunFault, Sent, damage, emission, laws, next_slot, send,
+};
 use std::alloc::{AllocError, Global};
 use std::test::Fail;
 
@@ -319,4 +321,11 @@ fn laws_can_be_called() {
     laws::checking_gives_back_what_was_sent();
     laws::checking_takes_channel_0_alone();
     laws::damage_undoes_itself();
+    laws::channel::few_words_are_wrong();
+    laws::channel::no_phasing_1_before_the_end();
+    laws::channel::positions_are_taken_as_sent();
+    laws::channel::words_stand_in_the_bits();
+    laws::channel::messages_stand_in_their_emission();
+    laws::channel::an_undamaged_emission_is_received();
+    laws::channel::an_example_is_received();
 }

@@ -2,7 +2,11 @@
 //! M.476 and M.625, in the numbering of this profile; the spelling of the example is counted out by
 //! hand.
 
-use super::*;
+use nx_code::{
+    Case, Comb, Extent, Printer, Shift, Signal, SpellFault, Taken, Word, cell_of, char_to_code,
+    check_bits, class_of, code_to_char, elements_at, extent_of, laws, packed_word, pair_classes,
+    signal_at, signal_of, spell, word_of, words_of,
+};
 use std::alloc::AllocError;
 use std::test::Fail;
 

@@ -1,8 +1,8 @@
 //! A synchroniser that hears a case, and whether what it answered so far is what the case says.
 
 use super::cases::Case;
-use crate::{Role, Step, Synchroniser};
 use nx_code::Word;
+use nx_sync::{Role, Step, Synchroniser};
 use std::alloc::{AllocError, Global};
 
 /// A new synchroniser, how many elements it heard, how many changes and words it answered, and
@@ -104,7 +104,7 @@ impl Run {
                 word: Some((*word, role)),
                 change: None,
             });
-            role = role.other();
+            role = other(role);
         }
     }
 
@@ -143,10 +143,18 @@ fn word_at(case: &Case, index: usize) -> Option<(usize, Role, u8)> {
     for (first, role, words) in case.words {
         let place = index.wrapping_sub(before);
         if let Some(word) = words.get(place) {
-            let role = if place % 2 == 0 { *role } else { role.other() };
+            let role = if place % 2 == 0 { *role } else { other(*role) };
             return Some((first.wrapping_add(place.wrapping_mul(7)), role, *word));
         }
         before = before.wrapping_add(words.len());
     }
     None
+}
+
+/// The role of the word that comes behind one in this role.
+fn other(role: Role) -> Role {
+    match role {
+        Role::Dx => Role::Rx,
+        Role::Rx => Role::Dx,
+    }
 }

@@ -4,7 +4,7 @@ use Rattle.nx_fec.specs.AirFile.{Line, spelling}
 use Rattle.nx_fec.specs.Lines.{file_of}
 use Rattle.nx_fec.proofs.LineRunLemmas.{file_of-one}
 use Rattle.nx_fec.proofs.WritingLaws.{WroteSome-front}
-use Rattle.nx_fec.proofs.line_run.tests.CopyingLineTaker.take.Goals as goal
+use Rattle.nx_trials.proofs.tests.air_files.line_runs.CopyingLineTaker.take.Goals as goal
 
 spelled : (piece : List ℕ) (latest : Option Line) (line : Line)
     → Some piece ≡ option_map spelling latest → latest ≡ Some line → piece ≡ spelling line

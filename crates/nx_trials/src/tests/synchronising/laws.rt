@@ -1,6 +1,6 @@
 //! Each law is a call that does nothing.
 
-use crate::laws;
+use nx_sync::laws;
 
 #[test]
 fn laws_hold() {

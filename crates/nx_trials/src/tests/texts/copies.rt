@@ -1,6 +1,6 @@
 //! The cases of copies: what a finder answers to texts.
 
-use super::super::*;
+use nx_envelope::{Finder, FinderStep, Found, How, Identity, NEWLINE, TextEvent};
 use std::alloc::{AllocError, Global};
 use std::fmt::Write;
 use std::test::Fail;

@@ -3,8 +3,11 @@
 ghost use Rattle.std.specs.Prelude.{◌≡◌, ◌<◌, ◌≤◌, []};
 ghost use Rattle.nx_memory.specs.Memory.{newest_moment};
 
-use super::*;
 use nx_envelope::{Identity, Letter};
+use nx_memory::{
+    CAPACITY, Listed, PlainRecall, Recall, RingRecall, Saved, SavedSet, Selection, StateReader,
+    StateStep, Vital, laws, state_line,
+};
 use std::process::Abort;
 use std::test::Fail;
 

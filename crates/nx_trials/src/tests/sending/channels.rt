@@ -1,6 +1,7 @@
 //! Worked examples of an air file of several channels: checking and damage look at channel 0 alone.
 
 use super::*;
+use nx_station::check_run;
 
 /// The air file that is sent of EA01 with the one line TEST.
 fn air_of_ea01(alloc: Global) -> Result<Vec<u8>, Fail> {

@@ -2,7 +2,7 @@
 //! lists of elements the changes and the words that a new synchroniser answers.
 
 use super::run::Run;
-use crate::{Change, Role};
+use nx_sync::{Change, Role};
 use std::alloc::AllocError;
 
 /// Elements; the changes, each with the number of elements heard by then; and the words, in runs of

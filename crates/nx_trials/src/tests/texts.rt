@@ -2,7 +2,10 @@
 
 mod copies;
 
-use super::*;
+use nx_envelope::{
+    Finder, FoundHead, How, Identity, LAST_MOMENT, Letter, MAX_LINE, Message, MessageFault, civil,
+    laws,
+};
 use std::alloc::{AllocError, Global};
 use std::test::Fail;
 

@@ -1,8 +1,8 @@
 //! Worked examples: the counts of elements were worked out from the definition of the locks, apart
 //! from this program.
 
-use crate::{Change, Role, Synchroniser, first_lock};
 use nx_code::Word;
+use nx_sync::{Change, Role, Synchroniser, first_lock};
 use std::alloc::AllocError;
 
 /// P2 P1 P2 P1, after which a DX word follows, and P1 P2 P1 P2, after which an RX word follows.

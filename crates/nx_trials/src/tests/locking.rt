@@ -2,10 +2,10 @@
 
 mod emissions;
 
-use crate::{LocksReport, locks};
 use emissions::{AT_FIRST, EA01, EB02, after_pattern, air_file, emission, two_channels};
 use nx_envelope::Letter;
 use nx_fec::Counting;
+use nx_locks::{LocksReport, locks};
 use nx_receiver::ListenFault;
 use std::alloc::Global;
 use std::io;

@@ -1,0 +1,117 @@
+//! Runs that encode, decode and show.
+
+use nx_fec::{Counting, RunFault, WriteFault, decode_run, encode_run, show_run, write_out};
+use std::alloc::Global;
+use std::io::Write;
+use std::test::Fail;
+
+/// The file of the text A.
+const FILE_OF_A: &[u8] =
+    b"B 011001111110000110011111100001100111111000011001111110001110001111100011110001111000111100011100011111000\n";
+
+/// The characters of the code, in both shifts.
+const ALL: &[u8] = b"ABCDEFGHIJKLM1234567890NOPQRSTUVWXYZ -?:().,\n'=+/ Z9\n\n";
+
+/// What decoding answers to a file, and writes.
+fn decode_answer(alloc: Global, file: &[u8]) -> Result<(Result<u64, RunFault>, Vec<u8>), Fail> {
+    let mut writer = Counting::new(Vec::new(alloc));
+    let outcome = decode_run(alloc, &mut Counting::new(file), &mut writer);
+    Ok((outcome, writer.into_inner()))
+}
+
+/// What encoding answers to a text, and writes.
+fn encode_answer(alloc: Global, text: &[u8]) -> Result<(Result<u64, RunFault>, Vec<u8>), Fail> {
+    let mut writer = Counting::new(Vec::new(alloc));
+    let outcome = encode_run(alloc, &mut Counting::new(text), &mut writer);
+    Ok((outcome, writer.into_inner()))
+}
+
+#[test]
+fn decode_cases(rt: HostRuntime) -> Result<(), Fail> {
+    let cases: [(&[u8], Result<u64, RunFault>, &[u8]); 6] = [
+        (FILE_OF_A, Ok(1), b"A"),
+        (b"", Ok(0), b""),
+        (b"B1 0110011\nRJ2 D\n", Ok(0), b""),
+        (b"B 01100111\n", Err(RunFault::Ragged { bits: 8 }), b""),
+        (b"B 012\n", Err(RunFault::BadLine { line: 1 }), b""),
+        (b"T 5\nAS E\nB 0", Err(RunFault::LineCut { line: 3 }), b""),
+    ];
+    for (file, outcome, text) in cases {
+        let (answer, written) = decode_answer(rt.alloc(), file)?;
+        assert_eq!(rt; answer, outcome);
+        assert_eq!(rt; written.as_slice(), text);
+    }
+    Ok(())
+}
+
+#[test]
+fn encode_cases(rt: HostRuntime) -> Result<(), Fail> {
+    let (answer, file) = encode_answer(rt.alloc(), b"A")?;
+    assert_eq!(rt; answer, Ok(8));
+    assert_eq!(rt; file.as_slice(), FILE_OF_A);
+    let (answer, file) = encode_answer(rt.alloc(), b"a")?;
+    assert_eq!(rt; answer, Err(RunFault::NoSuchCharacter { at: 0 }));
+    assert_eq!(rt; file.len(), 0);
+    let (answer, file) = encode_answer(rt.alloc(), b"")?;
+    assert_eq!(rt; answer, Ok(7));
+    assert_eq!(rt; file.len(), 94);
+    assert_eq!(rt; decode_answer(rt.alloc(), &file)?.1.len(), 0);
+    Ok(())
+}
+
+#[test]
+fn all_characters(rt: HostRuntime) -> Result<(), Fail> {
+    let (answer, file) = encode_answer(rt.alloc(), ALL)?;
+    assert_eq!(rt; answer.is_ok(), true);
+    let (answer, text) = decode_answer(rt.alloc(), &file)?;
+    assert_eq!(rt; answer, Ok(ALL.len() as u64));
+    assert_eq!(rt; text.as_slice(), ALL);
+    Ok(())
+}
+
+/// The first two lines, the ninth and the last of the text A, and a word of the wrong weight.
+#[test]
+fn show_a(rt: HostRuntime) -> Result<(), Fail> {
+    let mut writer = Counting::new(Vec::new(rt.alloc()));
+    let outcome = show_run(rt.alloc(), &mut Counting::new(FILE_OF_A), &mut writer);
+    assert_eq!(rt; outcome, Ok(15));
+    let text = writer.into_inner();
+    let mut lines = text.split(|byte| *byte == b'\n');
+    assert_eq!(rt; lines.next(), Some(b"0 DX 66 P2".as_slice()));
+    assert_eq!(rt; lines.next(), Some(b"1 RX 0F P1".as_slice()));
+    assert_eq!(rt; lines.nth(6), Some(b"8 DX 47 A".as_slice()));
+    assert_eq!(rt; lines.nth(5), Some(b"14 DX 0F P1".as_slice()));
+    assert_eq!(rt; lines.next(), Some(b"".as_slice()));
+    assert_eq!(rt; lines.next(), None);
+    let mut writer = Counting::new(Vec::new(rt.alloc()));
+    let outcome = show_run(
+        rt.alloc(),
+        &mut Counting::new(&b"B 0000000\n"[..]),
+        &mut writer,
+    );
+    assert_eq!(rt; outcome, Ok(1));
+    assert_eq!(rt;
+        writer.into_inner().as_slice(),
+        b"0 DX 00 wrong\n".as_slice()
+    );
+    Ok(())
+}
+
+#[test]
+fn full_writers(rt: HostRuntime) -> Result<(), Fail> {
+    let mut space = [0; 10];
+    let mut writer = Counting::new(&mut space[..]);
+    let outcome = encode_run(rt.alloc(), &mut Counting::new(&b"A"[..]), &mut writer);
+    assert_eq!(rt; outcome, Err(RunFault::Write { written: 10 }));
+    assert_eq!(rt; writer.failures(), 1);
+    assert_eq!(rt; writer.write(b"B").is_err(), true);
+    assert_eq!(rt; writer.flush().is_err(), true);
+    assert_eq!(rt; writer.failures(), 3);
+    assert_eq!(rt; space, *b"B 01100111");
+    let mut writer = Counting::new(&mut space[..]);
+    assert_eq!(rt;
+        write_out(&mut writer, b"0123456789A"),
+        Err(WriteFault { written: 10 })
+    );
+    Ok(())
+}
