@@ -4,6 +4,7 @@ use Rattle.std.proofs.Common.{length, map, take, drop, position, Option, Some, R
 use Rattle.std.proofs.Common.{sym, ap, ◌∙◌, subst, append-nil, arith, add-one}
 use Rattle.std.specs.List.{flat_map, AllByRecursion}
 use Rattle.std.specs.Int.{div_ceil}
+use Rattle.std.proofs.ByRecursion.{All-push}
 use Rattle.std.proofs.Math.Seq.{take-add}
 use Rattle.std.proofs.lemmas.List.{length-map, length-take, length-drop, take_all}
 use Rattle.std.proofs.lemmas.List.Concat.{flat_map-append}
@@ -15,7 +16,7 @@ use Rattle.nx_code.specs.declared.shifts.Shift.TheVariants.{Letters}
 use Rattle.nx_code.specs.declared.signals.Comb.{Comb}
 use Rattle.nx_code.specs.declared.spelling.SpellFault.{SpellFault}
 use Rattle.nx_code.specs.declared.spelling.SpellFault.TheVariants.{NoSuchCharacter, Memory}
-use Rattle.nx_fec.specs.AirFile.{Line, IsLine}
+use Rattle.nx_fec.specs.AirFile.{IsLine}
 use Rattle.nx_fec.specs.declared.channel.Channel.TheVariants.{Zero}
 use Rattle.nx_fec.specs.Lines.{file_of, elements_on, IsBitFile}
 use Rattle.nx_fec.specs.BitLines.{bit_line, bit_lines}
@@ -72,11 +73,6 @@ IsEncoded-of bytes text combs positions bits same spells framed_positions-is bit
 
 -- ---- lines of elements are lines of an air file, and hold these elements
 
-All-push : (lines : List Line) (line : Line) → AllByRecursion IsLine lines → IsLine line
-    → AllByRecursion IsLine (lines ++ (line ∷ []))
-All-push [] line h good = (good, tt)
-All-push (a ∷ lines) line h good = (h.0, All-push lines line h.1 good)
-
 bit_line-IsLine : (bits : List Bool) (i : ℕ) → 490 * i < length bits → IsLine (bit_line bits i)
 bit_line-IsLine bits i some =
     let count : length (take 490 (drop (490 * i) bits)) ≡ _ =
@@ -95,7 +91,7 @@ pub first_lines-each : (bits : List Bool) (n : ℕ) → ((i : ℕ) → i < n →
 first_lines-each bits zero h = tt
 first_lines-each bits (suc n) h =
     subst (AllByRecursion IsLine) (sym (first_lines-more bits n))
-    (All-push (first_lines bits n) (bit_line bits n)
+    (All-push IsLine (first_lines bits n) (bit_line bits n)
     (first_lines-each bits n (λ i below. h i (omega arith)))
     (bit_line-IsLine bits n (h n (omega arith))))
 

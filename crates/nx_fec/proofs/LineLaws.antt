@@ -153,9 +153,10 @@ spelling-IsBeginning (accept_subject mark letter) h =
 
 -- ---- one reading of each file
 
-no_feed-front : (p q : List ℕ) → NoFeed (p ++ q) → NoFeed p
-no_feed-front [] q h = tt
-no_feed-front (x ∷ p) q h = (h.0, no_feed-front p q h.1)
+pub All-front : {X : Type 0} (P : X → Type 0) (xs ys : List X) → AllByRecursion P (xs ++ ys)
+    → AllByRecursion P xs
+All-front P [] ys h = tt
+All-front P (x ∷ xs) ys h = (h.0, All-front P xs ys h.1)
 
 pub no_feed-not : (p q : List ℕ) → NoFeed (p ++ (10 ∷ q)) → ⊥
 no_feed-not [] q h = h.0 refl
@@ -221,7 +222,10 @@ split (a ∷ p) x (b ∷ q) y e =
 
 IsBeginning-front : (p q : List ℕ) → IsBeginning (p ++ q) → IsBeginning p
 IsBeginning-front p q h =
-    record { none = no_feed-front p q h.none; short = omega (arith, h.short, length-append p q) }
+    record {
+      none = All-front (λ byte. byte ≢ 10) p q h.none;
+      short = omega (arith, h.short, length-append p q);
+    }
 
 -- a beginning of a file, read as lines
 record Begins (front : List ℕ) : Type 0 where

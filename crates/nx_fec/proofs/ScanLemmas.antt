@@ -1,34 +1,15 @@
 -- A scanner over the bytes of a piece.
-use Rattle.std.proofs.Common.{◌≡◌, ◌≢◌, ℕ, zero, suc, ◌+◌, ◌<◌, ◌≤◌, length, take, drop, get_or}
+use Rattle.std.proofs.Common.{◌≡◌, ◌≢◌, ℕ, ◌+◌, ◌<◌, ◌≤◌, length, take, drop, get_or}
 use Rattle.std.proofs.Common.{option_to_list, Option, None, List, [], ◌∷◌, ◌++◌, sym, ap, ◌∙◌}
 use Rattle.std.proofs.Common.{subst, append_assoc, append-nil, arith}
-use Rattle.std.proofs.lemmas.Bool.{cases_eq}
+use Rattle.std.proofs.ByRecursion.{All-append, All-drop, All-take}
 use Rattle.std.proofs.lemmas.List.{drop-append-le, drop_more, length-append, length-drop}
 use Rattle.std.proofs.lemmas.List.{length-take-le, take-append-drop, take-append-le, take_more}
-use Rattle.std.proofs.Math.Logic.{⊎_elim}
 use Rattle.nx_fec.specs.AirFile.{Line}
 use Rattle.nx_fec.specs.Lines.{IsCause, Scanning, Scans, StopsIn, file_of}
 use Rattle.nx_fec.specs.declared.fault.LineFault.{LineFault}
 use Rattle.nx_fec.specs.declared.fault.LineFault.TheVariants.{TooLong, LineLong}
 use Rattle.nx_fec.proofs.LineLaws.{NoFeed}
-
--- ---- line feeds
-
-NoFeed-drop : (bytes : List ℕ) (n : ℕ) → NoFeed bytes → NoFeed (drop n bytes)
-NoFeed-drop [] zero h = tt
-NoFeed-drop [] (suc n) h = tt
-NoFeed-drop (b ∷ bytes) zero h = h
-NoFeed-drop (b ∷ bytes) (suc n) h = NoFeed-drop bytes n h.1
-
-NoFeed-front : (bytes : List ℕ) (n : ℕ) → NoFeed bytes → NoFeed (take n bytes)
-NoFeed-front [] zero h = tt
-NoFeed-front [] (suc n) h = tt
-NoFeed-front (b ∷ bytes) zero h = tt
-NoFeed-front (b ∷ bytes) (suc n) h = (h.0, NoFeed-front bytes n h.1)
-
-NoFeed-append : (front more : List ℕ) → NoFeed front → NoFeed more → NoFeed (front ++ more)
-NoFeed-append [] more h k = k
-NoFeed-append (b ∷ front) more h k = (h.0, NoFeed-append front more h.1 k)
 
 -- ---- a scanner over bytes of the open line
 
@@ -48,7 +29,8 @@ Scans-on limit s o t before bytes lines count none within fits part same room mo
         each = h.splits.each;
         part = record {
           none = subst NoFeed (sym whole)
-              (NoFeed-append s.part taken h.splits.part.none (NoFeed-front bytes count none));
+              (All-append (λ byte. byte ≢ 10) s.part taken h.splits.part.none
+              (All-take (λ byte. byte ≢ 10) count bytes none));
           short = omega (
             arith,
             ap length more,
@@ -91,28 +73,28 @@ StopsIn-on limit t before bytes lines count why none within scans h = record {
   within = within;
   scans = scans;
   cause = λ more. cause-on limit t _ lines (drop count bytes) more why
-      (NoFeed-drop bytes count none) (omega (arith, length-drop count bytes, within)) h;
+      (All-drop (λ byte. byte ≢ 10) count bytes none)
+      (omega (arith, length-drop count bytes, within)) h;
 }
 
--- it took as many as there is room for, in the line and in the file
-pub StopsIn-room : (limit : ℕ) (t : Scanning) (before bytes : List ℕ) (lines : List Line)
-    (count : ℕ) (why : LineFault) → NoFeed bytes → count < length bytes
-    → (t.room ≡ 0 → why ≡ TooLong) → (0 < t.room → why ≡ LineLong (t.lines + 1))
-    → (0 < t.room → length t.part ≡ 514)
-    → Scans limit t (before ++ take count bytes) lines → StopsIn limit t before bytes lines why
-StopsIn-room limit t before bytes lines count why none within empty some full scans =
-    ⊎_elim (λ zero. StopsIn-on limit t before bytes lines count why none within scans
+-- it took as many as there is room for in the file
+pub StopsIn-file : (limit : ℕ) (t : Scanning) (before bytes : List ℕ) (lines : List Line)
+    (count : ℕ) → NoFeed bytes → count < length bytes → t.room ≡ 0
+    → Scans limit t (before ++ take count bytes) lines → StopsIn limit t before bytes lines TooLong
+StopsIn-file limit t before bytes lines count none within empty scans =
+    StopsIn-on limit t before bytes lines count TooLong none within scans (λ byte rest other.
+    let front : length (before ++ take count bytes) ≡ limit = omega (arith, scans.room, empty) in
+    front)
+
+-- it took as many as there is room for in the line
+pub StopsIn-line : (limit : ℕ) (t : Scanning) (before bytes : List ℕ) (lines : List Line)
+    (count line : ℕ) → NoFeed bytes → count < length bytes → 0 < t.room → length t.part ≡ 514
+    → line ≡ t.lines + 1 → Scans limit t (before ++ take count bytes) lines
+    → StopsIn limit t before bytes lines (LineLong line)
+StopsIn-line limit t before bytes lines count line none within some full next scans =
+    StopsIn-on limit t before bytes lines count (LineLong line) none within scans
     (λ byte rest other.
-    subst (IsCause limit (length (before ++ take count bytes)) lines t.part (byte ∷ rest))
-    (sym (empty zero))
-    (let front : length (before ++ take count bytes) ≡ limit = omega (arith, scans.room, zero) in
-    front)))
-    (λ other. let room : 0 < t.room = omega (arith, other) in
-    StopsIn-on limit t before bytes lines count why none within scans (λ byte rest feed.
-    subst (IsCause limit (length (before ++ take count bytes)) lines t.part (byte ∷ rest))
-    (sym (some room))
-    (omega (arith, scans.room, room), feed, full room, ap (λ n. n + 1) scans.count)))
-    (cases_eq t.room 0)
+    (omega (arith, scans.room, some), other, full, next ∙ ap (λ n. n + 1) scans.count))
 
 -- ---- a scanner over a piece
 

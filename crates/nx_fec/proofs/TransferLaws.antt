@@ -3,15 +3,11 @@ use Rattle.std.proofs.Common.{◌≡◌, ◌≢◌, ◌↔◌, ◌∙◌, ℕ, a
 use Rattle.std.proofs.Common.{subst, sym, Option, None, Some, IfSome, Result, Ok, Err, IfErr}
 use Rattle.std.proofs.Common.{IsErrOf}
 use Rattle.std.specs.Io.KnownBytes.{Consumes, IsAtEnd}
+use Rattle.std.proofs.lemmas.Option.{IfSome_then}
 use Rattle.nx_fec.proofs.ReadingLaws.{Err-same, IfSome-always}
 use Rattle.nx_fec.specs.Transfers.{CountedDevice, Reads, ReadsToEnd, Writes}
 use Rattle.nx_fec.specs.declared.fault.RunFault.{RunFault}
 use Rattle.nx_fec.specs.declared.fault.RunFault.TheVariants.{Read, Write}
-
-IfSome-later : (o : Option (List ℕ)) (P Q : List ℕ → Type 0) → ((xs : List ℕ) → P xs → Q xs)
-    → IfSome o P → IfSome o Q
-IfSome-later None P Q f h = tt
-IfSome-later (Some xs) P Q f h = f xs h
 
 -- what holds of the bytes before a fault that is outside
 abbrev pub Before : {N F : Type 0} → (F → Type 0) → Result N F → Type 0 → Type 0
@@ -35,7 +31,7 @@ Reads-on remaining old new read run_read outcome run_outcome known whole run_kno
       bytes = h.bytes;
       consumed = h.consumed;
       answer = k h.bytes h.answer;
-      file = IfSome-later (remaining old.inner) whole run_whole w h.file;
+      file = IfSome_then (remaining old.inner) h.file w;
       before = early h.bytes h.answer h.before;
       failed = (λ e. h.failed.0 (there e), λ one. here (h.failed.1 one));
       once = h.once;

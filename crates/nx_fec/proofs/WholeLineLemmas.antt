@@ -3,7 +3,7 @@ use Rattle.std.proofs.Common.{◌≡◌, ℕ, ◌+◌, ◌-◌, ◌^◌, ◌<◌
 use Rattle.std.proofs.Common.{length, map, take, codes, get_or, Option, None, Some, refl, sym, ap}
 use Rattle.std.proofs.Common.{◌∙◌, append_assoc, arith}
 use Rattle.std.specs.Fmt.{decimal}
-use Rattle.std.proofs.lemmas.List.{length-append, length-map, length-take-le, take_more}
+use Rattle.std.proofs.lemmas.List.{length-append, length-map, length-take-le, take_more, take-take}
 use Rattle.std.proofs.Math.Seq.{take-append-add}
 use Rattle.nx_fec.specs.AirFile.{element_digit, elements, mark_bytes, moment, with_mark}
 use Rattle.nx_fec.specs.Lines.{Scanning, line_bytes}
@@ -161,8 +161,17 @@ takes-moment old new piece digits value count whole found within feed empty late
       room = room;
     }
 
--- a line that is open has no other bytes than those that are kept
-pub kept-open : (ended : Option LineKind) (bits : List Bool) (kept : List ℕ)
-    → line_ended ended bits ≡ None → part_of ended kept ≡ [] → kept ≡ []
-kept-open None bits kept none part = part
-kept-open (Some kind) bits kept none part = cc
+-- a line that is open has the bytes that are kept
+pub part-open : (ended : Option LineKind) (bits : List Bool) (kept : List ℕ)
+    → line_ended ended bits ≡ None → part_of ended kept ≡ kept
+part-open None bits kept none = refl
+part-open (Some kind) bits kept none = cc
+
+-- and with them those of the front of a piece that were kept too
+pub part-more : (ended : Option LineKind) (bits : List Bool) (kept more piece part : List ℕ)
+    (count fitting : ℕ) → line_ended ended bits ≡ None → kept ≡ part
+    → more ≡ kept ++ take fitting piece → fitting ≤ count
+    → part_of ended more ≡ part ++ take fitting (take count piece)
+part-more ended bits kept more piece part count fitting none is longer within =
+    part-open ended bits more none ∙ longer ∙ ap (λ l. l ++ take fitting piece) is
+    ∙ ap (λ l. part ++ l) (sym (take-take fitting count piece within))

@@ -86,25 +86,16 @@ impl Batch {
         ensures counts { FailsOnce writer.new result }
     {
         if bytes.len() <= BATCH_BYTES - self.waiting.len() {
-            self.keep(bytes);
+            self.waiting.append(bytes);
             return Ok(());
         }
         self.send(writer)?;
         if bytes.len() <= BATCH_BYTES {
-            self.keep(bytes);
+            self.waiting.append(bytes);
         } else {
             self.sent = write_on(writer, self.sent, bytes)?;
         }
         Ok(())
-    }
-
-    /// Lets these bytes wait.
-    fn keep(&mut self, bytes: &[u8])
-        requires { length self.old.bytes + length bytes.now ≤ BATCH_BYTES }
-        ensures bytes { self.new.bytes ≡ self.old.bytes ++ bytes.now }
-        ensures sent { self.new.sent ≡ self.old.sent }
-    {
-        self.waiting.append(bytes);
     }
 
     /// Writes the bytes that wait.

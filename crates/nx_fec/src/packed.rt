@@ -14,7 +14,7 @@ use std::simd::prelude::*;
 /// How many elements stand in one word.
 const LANES: usize = 64;
 
-/// So many digits fill a part of a word without a copy of 64.
+/// Fewer digits than so many are packed one by one, without a copy of 64.
 const FEW: usize = 16;
 
 /// How many words the elements of one line have.
@@ -90,11 +90,22 @@ impl PackedElements {
         if digits.is_empty() || digits.len() > MAX_ELEMENTS {
             return false;
         }
-        if !pack(digits, &mut self.words) {
-            return false;
+        let mut right = true;
+        let whole = digits.len() / LANES;
+        for place in 0..whole {
+            let (word, here) = pack_64(&digits[LANES * place..]);
+            self.words[place] = word;
+            right &= here;
         }
-        self.length = digits.len();
-        true
+        if LANES * whole < digits.len() {
+            let (word, here) = pack_last(&digits[LANES * whole..]);
+            self.words[whole] = word;
+            right &= here;
+        }
+        if right {
+            self.length = digits.len();
+        }
+        right
     }
 
     /// Reads the elements at the front of bytes, up to the first byte that is no digit of one, or 512, in place of those
@@ -144,31 +155,7 @@ impl PackedElements {
     }
 }
 
-/// Packs digits into words. Whether each of them is one of an element.
-// Inlined always, as a part of `read`.
-#[inline(always)]
-fn pack(digits: &[u8], words: &mut [u64; WORDS]) -> bool
-    requires { length digits.now ≤ 512 }
-    ensures elements { take (length digits.now) (elements_of_words words.new)
-        ≡ map is_one digits.now }
-    ensures right { result ≡ are_elements digits.now }
-{
-    let mut right = true;
-    let whole = digits.len() / LANES;
-    for place in 0..whole {
-        let (word, here) = pack_64(&digits[LANES * place..]);
-        words[place] = word;
-        right &= here;
-    }
-    if LANES * whole < digits.len() {
-        let (word, here) = pack_last(&digits[LANES * whole..]);
-        words[whole] = word;
-        right &= here;
-    }
-    right
-}
-
-/// Packs fewer digits than a word holds.
+/// Packs fewer digits than a word holds: few of them one by one.
 // Inlined always, as a part of `read`.
 #[inline(always)]
 fn pack_last(digits: &[u8]) -> (u64, bool)
@@ -176,22 +163,11 @@ fn pack_last(digits: &[u8]) -> (u64, bool)
     ensures word { take (length digits.now) (elements_from 64 result.0) ≡ map is_one digits.now }
     ensures right { result.1 ≡ are_elements digits.now }
 {
-    if digits.len() < FEW {
-        return pack_few(digits);
+    if digits.len() >= FEW {
+        let mut whole = [b'0'; LANES];
+        whole[..digits.len()].copy_from_slice(digits);
+        return pack_64(&whole);
     }
-    let mut whole = [b'0'; LANES];
-    whole[..digits.len()].copy_from_slice(digits);
-    pack_64(&whole)
-}
-
-/// Packs a few digits, one by one.
-// Inlined always, as a part of `read`.
-#[inline(always)]
-fn pack_few(digits: &[u8]) -> (u64, bool)
-    requires { length digits.now < 16 }
-    ensures word { take (length digits.now) (elements_from 64 result.0) ≡ map is_one digits.now }
-    ensures right { result.1 ≡ are_elements digits.now }
-{
     let mut word = 0;
     let mut right = true;
     for place in (0..digits.len()).rev() {

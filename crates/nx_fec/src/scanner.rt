@@ -1,12 +1,11 @@
 //! A scanner of the lines of an air file, which takes one piece after the other.
-ghost use Rattle.std.specs.Prelude.{◌≡◌, ◌≢◌, ◌+◌, ◌-◌, ◌<◌, ◌≤◌, ℕ, min, List, [], ◌∷◌, ◌++◌, None, option_to_list, IfOk, IfErr, IfSome, OnOk, OnErr, IsSomeAnd, length, take, MatchResult};
+ghost use Rattle.std.specs.Prelude.{◌≡◌, ◌≢◌, ◌+◌, ◌<◌, ◌≤◌, ℕ, List, [], ◌∷◌, ◌++◌, None, option_to_list, IfOk, IfErr, IfSome, OnOk, OnErr, IsSomeAnd, length, take, MatchResult};
 ghost use Rattle.std.specs.List.{AllByRecursion};
 ghost use Rattle.std.specs.Option.{option_map};
 ghost use Rattle.nx_fec.specs.AirFile.{IsLine, Line, spelling};
 ghost use Rattle.nx_fec.specs.Lines.{Scans, StopsIn, IsCause, IsAirFile, IsAtByte, line_end};
 ghost use Rattle.nx_fec.specs.Scanner.{elements_kept, kind_kept};
 ghost use Rattle.nx_fec.specs.private.WholeLines.{TakesLine, Waits};
-ghost use Rattle.nx_fec.specs.declared.fault.LineFault.TheVariants.{TooLong, LineLong};
 
 use crate::air_file::{
     LineKind, MAX_ELEMENTS, after, digits_behind, moment_front, read_line, unpack,
@@ -311,13 +310,19 @@ impl Scanner {
         ensures room { OnOk result (self.new.room + count ≡ self.old.room) }
     {
         self.open();
-        let fitting = self.fitting(count);
-        self.keep(piece, fitting);
+        let line_room = MAX_LINE_BYTES - self.kept.len();
+        let fitting = (count.min(line_room) as u64).min(self.room) as usize;
+        self.kept.extend(piece, fitting);
+        self.room -= fitting as u64;
         if fitting == count {
-            Ok(())
-        } else {
-            Err(self.fault_of_room())
+            return Ok(());
         }
+        if self.room == 0 {
+            return Err(LineFault::TooLong);
+        }
+        Err(LineFault::LineLong {
+            line: self.lines + 1,
+        })
     }
 
     /// Opens the next line where the last byte ended one.
@@ -331,46 +336,6 @@ impl Scanner {
             self.kept.clear();
             self.elements.clear();
             self.ended = None;
-        }
-    }
-
-    /// How many of so many bytes the open line and the file have room for.
-    fn fitting(&self, count: usize) -> usize
-        requires { self.now.latest ≡ None }
-        ensures count { result ≡ min count (min (514 - length self.now.part) self.now.room) }
-        ensures line { length self.now.part + result ≤ 514 }
-    {
-        let line = count.min(MAX_LINE_BYTES - self.kept.len());
-        (line as u64).min(self.room) as usize
-    }
-
-    /// Takes the first `count` bytes of a piece into the open line.
-    // Inlined always, as a part of `push_line`.
-    #[inline(always)]
-    fn keep(&mut self, piece: &[u8], count: usize)
-        requires open { self.old.latest ≡ None }
-        requires within { count ≤ length piece.now }
-        requires line { length self.old.part + count ≤ 514 }
-        requires room { count ≤ self.old.room }
-        ensures part { self.new.part ≡ self.old.part ++ take count piece.now }
-        ensures lines { self.new.lines ≡ self.old.lines }
-        ensures room { self.new.room + count ≡ self.old.room }
-        ensures latest { self.new.latest ≡ None }
-    {
-        self.kept.extend(piece, count);
-        self.room -= count as u64;
-    }
-
-    /// Why there is no room for one more byte of the open line.
-    fn fault_of_room(&self) -> LineFault
-        ensures file { self.now.room ≡ 0 → result ≡ TooLong }
-        ensures line { 0 < self.now.room → result ≡ LineLong (self.now.lines + 1) }
-    {
-        if self.room == 0 {
-            return LineFault::TooLong;
-        }
-        LineFault::LineLong {
-            line: self.lines + 1,
         }
     }
 

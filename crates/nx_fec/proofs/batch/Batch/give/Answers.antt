@@ -1,5 +1,5 @@
 use Rattle.std.proofs.lemmas.Result.{err_from_is_err_and}
-use Rattle.std.proofs.Common.{◌≡◌}
+use Rattle.std.proofs.Common.{ap}
 use Rattle.nx_fec.proofs.WritingLaws.{WroteSome-front}
 use Rattle.nx_fec.proofs.LineRunLemmas.{HasGiven-written}
 use Rattle.nx_fec.proofs.batch.Batch.give.Goals as goal
@@ -14,7 +14,7 @@ pub returns-in_err-self-inside-clause-bytes : goal.returns-in_err-self-inside-cl
 returns-in_err-self-inside-clause-bytes g c = λ first before h.
     let p = err_from_is_err_and c.from_residual-in_err-self-inside.result
     c.from_residual-in_err-self-inside.ensures.1 in
-    let same : c.self-else-bytes-le-BATCH_BYTES.inside.sent ≡ c.send.new.self.sent = cc in
     rw p.1 (rw p.2 (c.in_err-self-inside.ensures.bytes first before
-    (HasGiven-written first _ c.send.new.self before _ c.in_ok-send.ensures.empty same
+    (HasGiven-written first _ c.send.new.self before _ c.in_ok-send.ensures.empty
+    (ap (λ b. b.sent) c.self-2.view_is)
     (c.in_ok-send.ensures.bytes first before h))))

@@ -1,7 +1,7 @@
 use Rattle.std.proofs.Common.{◌+◌, ◌-◌, ◌∙◌, ◌++◌, ap, arith, length, refl, subst, sym, take}
 use Rattle.nx_fec.specs.private.ScannerKept.{SpellsLine}
 use Rattle.nx_fec.specs.declared.air_file.LineKind.TheVariants.{Elements}
-use Rattle.nx_fec.proofs.WholeLineLemmas.{Digits, digits-spell, kept-open, takes-digits}
+use Rattle.nx_fec.proofs.WholeLineLemmas.{Digits, digits-spell, part-open, takes-digits}
 use Rattle.nx_fec.proofs.scanner.Scanner.take_far.Goals as goal
 
 pub invariant_of-self-2 : goal.invariant_of-self-2
@@ -23,8 +23,9 @@ invariant_of-self-2 c =
       are = c.read_front-count.ensures.elements;
     } in
     let none = ap (λ s. s.latest) c.self-2.view_is ∙ c.open.ensures.latest in
-    let empty = kept-open c.self-2.inside.ended c.self-2.inside.elements c.self-2.inside.kept none
-    (ap (λ s. s.part) c.self-2.view_is ∙ c.open.ensures.part ∙ c.requires) in (
+    let empty = sym (part-open c.self-2.inside.ended c.self-2.inside.elements
+    c.self-2.inside.kept none)
+    ∙ ap (λ s. s.part) c.self-2.view_is ∙ c.open.ensures.part ∙ c.requires in (
       omega (
         arith,
         c.self-2.invariant.0,

@@ -1,7 +1,7 @@
 use Rattle.std.proofs.Common.{◌≡◌, ◌≤◌, drop, length, map}
 use Rattle.std.specs.Simd.Lanes.{mask_l}
 use Rattle.nx_fec.specs.private.Packing.{are_elements, is_one}
-use Rattle.nx_fec.proofs.packed.pack_few.Given as goal
+use Rattle.nx_fec.proofs.packed.pack_last.Given as goal
 
 -- the mask of the last digits
 abbrev pub invariant-loop-place : goal.invariant-loop-place
