@@ -1,16 +1,15 @@
 -- What the finder holds, and what it notes of a byte.
-use Rattle.std.proofs.Common.{◌≡◌, ◌≢◌, ℕ, ◌+◌, ◌-◌, ◌<◌, ◌==◌, ◌&&◌, Bool, true, false, inl, inr}
-use Rattle.std.proofs.Common.{Some, None, List, [], ◌∷◌, ◌++◌, length, take, drop, reverse, refl}
-use Rattle.std.proofs.Common.{sym, ap, ◌∙◌, arith}
+use Rattle.std.proofs.Common.{◌≡◌, ◌≢◌, ℕ, ◌+◌, ◌-◌, ◌<◌, ◌==◌, ◌&&◌, ◌⊎◌, inl, inr}
+use Rattle.std.proofs.Common.{Bool, true, false, Some, None, List, [], ◌∷◌, ◌++◌, length, take}
+use Rattle.std.proofs.Common.{drop, reverse, slice_index, refl, sym, ap, ◌∙◌, arith}
 use Rattle.std.proofs.lemmas.Bool.{and_parts}
 use Rattle.std.proofs.lemmas.List.{drop-append-le}
-use Rattle.nx_envelope.specs.private.Backward.{marker_back, header_back, spaces_back, station_back}
-use Rattle.nx_envelope.specs.private.Backward.{subject_back, tens_back}
+use Rattle.nx_envelope.specs.private.Backward.{last_four, marker_back, header_back, spaces_back}
+use Rattle.nx_envelope.specs.private.Backward.{station_back, subject_back, tens_back}
 use Rattle.nx_envelope.specs.Copies.{Copy, raw_text, open_headers, closed_copy}
-use Rattle.nx_envelope.specs.Finder.{BringsCopy, ClosesCopy, ClosesHeld, ClosesNone, ClosesReady}
+use Rattle.nx_envelope.specs.Finder.{BringsCopy, ClosesCopy, ClosesHeld, ClosesNone}
 use Rattle.nx_envelope.specs.Finder.{Ends, HoldsCopy, HoldsOpen, Keeps, is_empty, is_ready}
 use Rattle.nx_envelope.specs.Finder.{is_ready_copy}
-use Rattle.nx_envelope.specs.private.Room.{HasRoom, closed_held}
 use Rattle.nx_envelope.specs.private.Finding.{Hearing, found_text}
 use Rattle.nx_envelope.specs.Found.{IsFound, IsFoundOf}
 use Rattle.nx_envelope.specs.Header.{Header}
@@ -35,6 +34,12 @@ stage-nil = record { spaces = refl; station = refl; subject = refl; tens = refl 
 
 pub none-nil : open_headers [] ≡ []
 none-nil = open_headers-nil
+
+-- the last four bytes, one byte later
+pub last_four-push : (recent back : List ℕ) (b : ℕ) → recent ≡ last_four back
+    → slice_index recent 1 ∷ slice_index recent 2 ∷ slice_index recent 3 ∷ b ∷ []
+    ≡ last_four (b ∷ back)
+last_four-push recent back b e = rw e refl
 
 -- What is held of an open copy.
 
@@ -251,52 +256,39 @@ none_open states.Nothing kept text none h = h
 none_open (states.Open i fresh) kept text none h = absurd (none i fresh refl)
 none_open (states.Ready i how) kept text none h = h
 
+pub none_held : (copy : HeldCopy) (kept text : List ℕ)
+    → (copy ≡ states.Nothing) ⊎ ((i : Identity) × (how : How) × copy ≡ states.Ready i how)
+    → HoldsCopy copy kept text → open_headers text ≡ []
+none_held copy kept text (inl is) h = rw is at h
+none_held copy kept text (inr (i, how, is)) h = rw is at h
+
 -- the copy that is handed out
 pub hands_out : (text : List ℕ) (b : ℕ) (copy : Copy) (found : Found) → Ends text b copy
     → IsFound copy found → BringsCopy text b found
 hands_out text b copy found ends is = record { copy = copy; is_found = is; ends = ends }
 
 -- the end of a text leaves the open copy with the finder
-closes_ready : (fresh : Bool) (kept text : List ℕ) (identity : Identity) (now : Finder)
+pub closes_held : (fresh : Bool) (kept text : List ℕ) (identity : Identity) (now : Finder)
     → HoldsOpen fresh kept text identity → now.copy ≡ states.Ready identity Cut → now.text ≡ kept
-    → ClosesReady text now
+    → ClosesHeld text now
 unfolding closed_copy
-closes_ready fresh kept text identity now h copy same =
+closes_held fresh kept text identity now h copy same =
     let g = held fresh kept text identity h in
     record {
-      header = g.one.header;
-      was_open = open_headers-one text g.one;
-      ready =
-          record { held = rw (g.named) copy; text = same ∙ g.raw };
-      whole = copies_one text g.one;
-    }
-
-pub closes_held : (copy : HeldCopy) (kept text : List ℕ) (now : Finder) → HoldsCopy copy kept text
-    → now.copy ≡ closed_held copy → now.text ≡ kept → ClosesHeld text now
-closes_held states.Nothing kept text now h copy same =
-    record {
-      some = λ e. absurd (let not : is_ready now ≡ false = ap is_ready_copy copy in cc);
-      none = λ e. closes_none text h;
-    }
-closes_held (states.Open i fresh) kept text now h copy same =
-    record {
-      some = λ e. closes_ready fresh kept text i now h copy same;
+      some = λ e. record {
+        header = g.one.header;
+        was_open = open_headers-one text g.one;
+        ready =
+            record { held = rw (g.named) copy; text = same ∙ g.raw };
+        whole = copies_one text g.one;
+      };
       none =
           λ e. absurd (let not : is_ready now ≡ true = ap is_ready_copy copy in cc);
     }
-closes_held (states.Ready i how) kept text now h copy same =
-    record {
-      some = λ e. absurd (let not : is_ready now ≡ false = ap is_ready_copy copy in cc);
-      none = λ e. closes_none text h;
-    }
 
--- a finder that has no open copy holds what there is after the empty text
-pub closed-nil : (copy : HeldCopy) (kept : List ℕ) → HoldsCopy (closed_held copy) kept []
-closed-nil states.Nothing kept = none-nil
-closed-nil (states.Open i fresh) kept = none-nil
-closed-nil (states.Ready i how) kept = none-nil
-
-pub closed-room : (copy : HeldCopy) (kept : List ℕ) → HasRoom (closed_held copy) kept
-closed-room states.Nothing kept = tt
-closed-room (states.Open i fresh) kept = tt
-closed-room (states.Ready i how) kept = tt
+pub closes_shut : (text : List ℕ) (now : Finder) → open_headers text ≡ []
+    → is_ready now ≡ false → ClosesHeld text now
+closes_shut text now none shut = record {
+  some = λ e. absurd (cc);
+  none = λ e. closes_none text none;
+}

@@ -26,10 +26,9 @@ same_itself a =
     and_from _ _ (and_from _ _ (eq-eqb a.b1.byte a.b1.byte refl) (eq-eqb a.b2.byte a.b2.byte refl))
     (eq-eqb a.number a.number refl)
 
-same_equal : (a b : Identity) → a ≡ b → same_identity a b ≡ true
-same_equal a b e =
-    subst (λ (it : Identity). same_identity a it ≡ true) e (same_itself a)
-
 pub same_identity_both : (a b : Identity)
     → (same_identity a b ≡ true → a ≡ b) × (a ≡ b → same_identity a b ≡ true)
-same_identity_both a b = (same_identity-true a b, same_equal a b)
+same_identity_both a b = (
+  same_identity-true a b,
+  λ e. subst (λ (it : Identity). same_identity a it ≡ true) e (same_itself a),
+)

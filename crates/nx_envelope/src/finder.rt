@@ -1,10 +1,9 @@
 //! The finder of copies, which sees a received text byte by byte.
 
-ghost use Rattle.std.specs.Prelude.{◌≡◌, ◌+◌, ◌==◌, ◌≤◌, ◌&&◌, ◌∷◌, ◌++◌, ℕ, List, length, take};
+ghost use Rattle.std.specs.Prelude.{◌≡◌, ◌+◌, ◌≤◌, ◌∷◌, ◌++◌, ℕ, List, length, take};
 ghost use Rattle.nx_envelope.specs.private.Backward.{last_four, marker_back};
 ghost use Rattle.nx_envelope.specs.Copies.{errors_of};
 ghost use Rattle.nx_envelope.specs.Found.{IsFoundOf};
-ghost use Rattle.nx_envelope.specs.private.Room.{closed_held};
 
 use crate::found::{FinderStep, Found, FoundHead, HeldCopy, How, MAX_FOUND, TextEvent};
 use crate::identity::Identity;
@@ -109,7 +108,8 @@ impl Finder {
         ensures ready { is_ready self.new ≡ is_over result }
     {
         let after_start = self.recent == START_MARKER;
-        self.recent = one_later(self.recent, byte);
+        let [_, third, second, last] = self.recent;
+        self.recent = [third, second, last, byte];
         match self.copy {
             // No header begins in an open copy, so the stage stays.
             HeldCopy::Open(identity, fresh) => self.add(identity, fresh, byte),
@@ -122,9 +122,9 @@ impl Finder {
     }
 
     /// Takes in the first `count` of these bytes at once, where surely none of them begins or ends
-    /// a copy: `true` where it did. Else nothing changed, and they have to be heard one by one. It is
-    /// `true` only in an open copy behind whose header something stands already, and where no copy
-    /// is open or can be taken and no header has begun.
+    /// a copy: `true` where it did. Else nothing changed, and they have to be heard one by one. It
+    /// is `true` only in an open copy behind whose header something stands already, and where no
+    /// copy is open or can be taken and no header has begun.
     // Inlined always, since it is called for each four bytes of a text.
     #[inline(always)]
     pub fn hear_plain(&mut self, bytes: [u8; MARKER_LEN], count: usize) -> bool
@@ -226,7 +226,10 @@ impl Finder {
         ensures closes { (text : List ℕ) → StandsAfter self.old text → ClosesHeld text self.new }
         ensures as_new { StandsAfter self.new [] }
     {
-        let copy = closed(self.copy);
+        let copy = match self.copy {
+            HeldCopy::Open(identity, _) => HeldCopy::Ready(identity, How::Cut),
+            HeldCopy::Nothing | HeldCopy::Ready(_, _) => HeldCopy::Nothing,
+        };
         self.restart();
         self.copy = copy;
     }
@@ -300,7 +303,8 @@ impl Finder {
         ensures ready { is_ready self.new ≡ is_over result }
     {
         self.copy = HeldCopy::Open(identity, false);
-        if is_dropped(fresh, byte) {
+        if fresh && byte == NEWLINE {
+            // A newline directly behind a header is no part of the found text.
             return TextEvent::Nothing;
         }
         if let Some(how) = marker_of(self.recent) {
@@ -310,7 +314,7 @@ impl Finder {
             return TextEvent::CopyOver;
         }
         self.text.push(byte);
-        if is_long(self.text.len()) {
+        if self.text.len() == MAX_FOUND {
             self.copy = HeldCopy::Ready(identity, How::Long);
             return TextEvent::CopyOver;
         }
@@ -329,16 +333,6 @@ fn append(text: &mut ArrayVec<u8, MAX_FOUND>, bytes: [u8; MARKER_LEN], count: us
     let length = text.len() + count;
     text.try_extend_from_slice(&bytes).unwrap();
     text.truncate(length);
-}
-
-/// What is held of a copy once the text has ended.
-fn closed(copy: HeldCopy) -> HeldCopy
-    ensures { result ≡ closed_held copy }
-{
-    match copy {
-        HeldCopy::Open(identity, _) => HeldCopy::Ready(identity, How::Cut),
-        HeldCopy::Nothing | HeldCopy::Ready(_, _) => HeldCopy::Nothing,
-    }
 }
 
 /// The errors of a found text.
@@ -365,28 +359,6 @@ fn found_of(identity: Identity, how: How, text: ArrayVec<u8, MAX_FOUND>) -> Foun
         errors,
         how,
     }
-}
-
-/// Whether the byte is a newline directly behind a header, which is no part of the found text.
-fn is_dropped(fresh: bool, byte: u8) -> bool
-    ensures { result ≡ (fresh && (byte == 10)) }
-{
-    fresh && byte == NEWLINE
-}
-
-/// Whether a text of that length, without a marker, is that of a long copy.
-fn is_long(length: usize) -> bool
-    ensures { result ≡ (length == 4100) }
-{
-    length == MAX_FOUND
-}
-
-/// The last four bytes of a text, one byte later.
-fn one_later(recent: [u8; MARKER_LEN], byte: u8) -> [u8; MARKER_LEN]
-    ensures { (back : List ℕ) → recent ≡ last_four back → result ≡ last_four (byte ∷ back) }
-{
-    let [_, third, second, last] = recent;
-    [third, second, last, byte]
 }
 
 /// How the copy ends whose text has these last four bytes, if they are a marker.

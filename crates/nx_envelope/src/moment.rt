@@ -1,8 +1,8 @@
 //! Moments, and the civil time that they are printed as.
 
-ghost use Rattle.std.specs.Prelude.{◌≡◌, ◌↔◌, ◌<◌, IfSome, IsNone};
+ghost use Rattle.std.specs.Prelude.{◌↔◌, ◌<◌, IfSome, IsNone};
 ghost use Rattle.nx_envelope.specs.Moment.{IsShownAs, last_moment};
-ghost use Rattle.nx_envelope.specs.private.CivilTimes.{IsCivilTime, IsMomentOf, civil_text};
+ghost use Rattle.nx_envelope.specs.private.CivilTimes.{IsCivilTime, IsMomentOf};
 
 use crate::digit::two_digits;
 use jiff::Timestamp;
@@ -54,23 +54,6 @@ fn civil_time(moment: u64) -> Option<CivilTime>
     })
 }
 
-/// The text of a civil time, `YYYY-MM-DD HH:MM:SS`.
-fn civil_bytes(time: CivilTime) -> [u8; CIVIL_LEN]
-    requires { IsCivilTime time }
-    ensures { result ≡ civil_text time }
-{
-    let [y1, y2] = two_digits((time.year / 100) as u8);
-    let [y3, y4] = two_digits((time.year % 100) as u8);
-    let [n1, n2] = two_digits(time.month);
-    let [d1, d2] = two_digits(time.day);
-    let [h1, h2] = two_digits(time.hour);
-    let [m1, m2] = two_digits(time.minute);
-    let [s1, s2] = two_digits(time.second);
-    [
-        y1, y2, y3, y4, b'-', n1, n2, b'-', d1, d2, b' ', h1, h2, b':', m1, m2, b':', s1, s2,
-    ]
-}
-
 /// The civil time of a moment in UTC, as `2025-01-01 00:40:00`; `None` exactly above the last
 /// moment.
 pub fn civil(moment: u64) -> Option<[u8; CIVIL_LEN]>
@@ -78,5 +61,14 @@ pub fn civil(moment: u64) -> Option<[u8; CIVIL_LEN]>
     ensures shown { IfSome result (IsShownAs moment) }
 {
     let time = civil_time(moment)?;
-    Some(civil_bytes(time))
+    let [y1, y2] = two_digits((time.year / 100) as u8);
+    let [y3, y4] = two_digits((time.year % 100) as u8);
+    let [n1, n2] = two_digits(time.month);
+    let [d1, d2] = two_digits(time.day);
+    let [h1, h2] = two_digits(time.hour);
+    let [m1, m2] = two_digits(time.minute);
+    let [s1, s2] = two_digits(time.second);
+    Some([
+        y1, y2, y3, y4, b'-', n1, n2, b'-', d1, d2, b' ', h1, h2, b':', m1, m2, b':', s1, s2,
+    ])
 }

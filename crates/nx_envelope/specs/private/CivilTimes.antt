@@ -1,7 +1,6 @@
 -- The date and the time of day of a moment, as the calendar gives them (this profile).
-use Rattle.std.specs.Prelude.{◌≡◌, ℕ, ◌+◌, ◌*◌, ◌/◌, ◌%◌, ◌<◌, List, ◌∷◌, ◌++◌, pos, ◌+ℤ◌, ◌*ℤ◌}
+use Rattle.std.specs.Prelude.{◌≡◌, ℕ, ◌+◌, ◌*◌, ◌<◌, pos, ◌+ℤ◌, ◌*ℤ◌}
 use Rattle.jiff_core.specs.Calendar.{IsCivilDate, days_from_civil}
-use Rattle.nx_envelope.specs.Identity.{two_digits}
 use Rattle.nx_envelope.specs.declared.moment.CivilTime.{CivilTime}
 
 -- the calendar has this day, and a clock shows this time
@@ -17,10 +16,3 @@ abbrev pub IsMomentOf : CivilTime → ℕ → Type 0
 IsMomentOf t moment =
     days_from_civil (pos t.year) t.month t.day *ℤ pos 86400
     +ℤ pos (t.hour * 3600 + t.minute * 60 + t.second) ≡ pos moment
-
--- the text YYYY-MM-DD HH:MM:SS, where 45 is a hyphen, 32 a space and 58 a colon
-abbrev pub civil_text : CivilTime → List ℕ
-civil_text t =
-    two_digits (t.year / 100) ++ two_digits (t.year % 100)
-    ++ 45 ∷ two_digits t.month ++ 45 ∷ two_digits t.day
-    ++ 32 ∷ two_digits t.hour ++ 58 ∷ two_digits t.minute ++ 58 ∷ two_digits t.second
