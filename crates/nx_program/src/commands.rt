@@ -591,17 +591,19 @@ fn bare_command<'a>(alloc: Global) -> Result<Command<'a>, AllocError>
 pub fn navtex_command<'a>(alloc: Global) -> Result<Command<'a>, AllocError>
     ensures { IfOk result (IsBuiltAs navtex) }
 {
-    bare_command(alloc)?
-        .subcommand(listen_command(alloc))?
-        .subcommand(send_command(alloc)?)?
-        .subcommand(resume_command(alloc))?
-        .subcommand(save_command(alloc))?
-        .subcommand(locks_command(alloc))?
-        .subcommand(slots_command(alloc)?)?
-        .subcommand(check_command(alloc))?
-        .subcommand(damage_command(alloc)?)?
-        .subcommand(decode_command(alloc))?
-        .subcommand(encode_command(alloc))?
-        .subcommand(show_command(alloc))?
-        .subcommand(code_command(alloc))
+    let commands = vec![in alloc;
+        listen_command(alloc),
+        send_command(alloc)?,
+        resume_command(alloc),
+        save_command(alloc),
+        locks_command(alloc),
+        slots_command(alloc)?,
+        check_command(alloc),
+        damage_command(alloc)?,
+        decode_command(alloc),
+        encode_command(alloc),
+        show_command(alloc),
+        code_command(alloc),
+    ]?;
+    bare_command(alloc)?.subcommands(commands)
 }
