@@ -4,8 +4,8 @@ use Rattle.std.proofs.Common.{length, drop, Bool, true, false, refl, sym, ap, ap
 use Rattle.std.proofs.Common.{drop-drop, length-drop, ◌==◌, eq-eqb}
 use Rattle.std.proofs.lemmas.Bool.{ne_eqb}
 use Rattle.std.proofs.lemmas.Nat.{shr-shr}
-use Rattle.nx_code.specs.Word.{elements, number_of, value_of}
-use Rattle.nx_code.proofs.PackedLemmas.{number_of-append, length-elements_from}
+use Rattle.nx_code.specs.Word.{number_of, value_of}
+use Rattle.nx_code.proofs.PackedLemmas.{number_of-append}
 use Rattle.nx_code.proofs.WordLemmas.{value_of-le}
 
 -- without the first bit

@@ -167,8 +167,8 @@ impl Synchroniser {
         step
     }
 
-    /// The same synchroniser at work on whole words, between two of which a lock stands. Once it has
-    /// heard them, `go_on_from` takes back what it holds.
+    /// The same synchroniser at work on whole words, between two of which a lock stands. Once it
+    /// has heard them, `go_on_from` takes back what it holds.
     #[inline(always)]
     pub fn at_words(&self) -> WordSynchroniser
         requires { IsTrue (is_between_words self.now) }
@@ -199,7 +199,16 @@ impl Synchroniser {
         ensures pushes { (h : List Bool) → StandsAfter self.old h → HuntsThrough h bits.now result }
         ensures hunting { IsTrue (is_hunting self.new) }
     {
-        self.skip(bits)
+        let mut at = self.skip_early(bits);
+        while at < bits.len() {
+            let part = &bits[at..(at + STRIDE).min(bits.len())];
+            let count = self.skip_part(part);
+            at += count;
+            if count < part.len() {
+                return at;
+            }
+        }
+        at
     }
 
     /// The same over packed elements: hunts through `count` of them from the place `from` on.
@@ -215,7 +224,15 @@ impl Synchroniser {
             → HuntsThrough h (packed_part numbers.now from count) result }
         ensures hunting { IsTrue (is_hunting self.new) }
     {
-        self.skip_packed(numbers, from, count)
+        let mut at = self.skip_packed_early(numbers, from, count);
+        while at < count {
+            let heard = self.skip_some(numbers, from + at, count - at);
+            if heard == 0 {
+                return at;
+            }
+            at += heard;
+        }
+        at
     }
 
     /// Takes one element into the last 28.
@@ -261,7 +278,8 @@ impl Synchroniser {
         self.track = Some(Track::begin(role));
     }
 
-    /// Adds the element that was heard last to the word that the track fills.
+    /// Adds the element that was heard last to the word that the track fills, and gives the lock up
+    /// where that completes a word which brings a change.
     #[inline(always)]
     fn follow(&mut self, track: Track) -> Step
         requires filled { track.filled < 7 }
@@ -274,17 +292,7 @@ impl Synchroniser {
             self.track = Some(Track { filled, ..track });
             return Step::NOTHING;
         }
-        self.complete(track, last_word(self.recent))
-    }
-
-    /// Takes the last seven elements as a word of the lock, and gives the lock up where the word
-    /// brings a change.
-    #[inline(always)]
-    fn complete(&mut self, track: Track, word: Word) -> Step
-        requires word { word ≡ self.old.recent / 2 ^ 21 }
-        requires seen { self.old.seen ≡ pattern_elements }
-        ensures { Completes self.old track self.new result }
-    {
+        let word = last_word(self.recent);
         let is_lost = self.mark(!check_bits(word));
         let (next, step) = track.complete(word, is_lost);
         self.track = next;
@@ -327,39 +335,6 @@ impl Synchroniser {
         self.wrong.clear();
         self.wrong.extend_from_slice(&padded[MARKS - marks.len()..]);
         self.marks = marks;
-    }
-
-    /// Hears elements as long as none ends a pattern, and says how many.
-    fn skip(&mut self, bits: &[bool]) -> usize
-        ensures { Skips self.old bits.now result self.new }
-    {
-        let mut at = self.skip_early(bits);
-        while at < bits.len() {
-            let part = &bits[at..(at + STRIDE).min(bits.len())];
-            let count = self.skip_part(part);
-            at += count;
-            if count < part.len() {
-                return at;
-            }
-        }
-        at
-    }
-
-    /// Hears packed elements as long as none ends a pattern, and says how many.
-    fn skip_packed(&mut self, numbers: &[u64], from: usize, count: usize) -> usize
-        requires room { from + count ≤ packed_elements * length numbers.now }
-        requires counted { from + count < 2 ^ 64 }
-        ensures { Skips self.old (packed_part numbers.now from count) result self.new }
-    {
-        let mut at = self.skip_packed_early(numbers, from, count);
-        while at < count {
-            let heard = self.skip_some(numbers, from + at, count - at);
-            if heard == 0 {
-                return at;
-            }
-            at += heard;
-        }
-        at
     }
 
     /// Hears the packed elements that come too early to be the last of 28, and says how many.

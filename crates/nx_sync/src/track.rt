@@ -3,7 +3,7 @@
 
 ghost use Rattle.std.specs.Prelude.{◌≡◌, Some, None};
 ghost use Rattle.nx_sync.specs.declared.step.Change.{Change};
-ghost use Rattle.nx_sync.specs.private.Calls.{track_from, track_after, fills_releasing_word, change_by};
+ghost use Rattle.nx_sync.specs.private.Calls.{track_from, track_after, change_by};
 ghost use Rattle.nx_sync.specs.private.Eight.{last_five_marks};
 ghost use Rattle.nx_sync.specs.Synchroniser as held;
 
@@ -81,32 +81,6 @@ impl Track {
             & (self.was_p1 / 8 % 2 == 0)
     }
 
-    /// Whether the word that is being filled releases the lock as ended: the words three and five
-    /// before it, which are DX words, are both phasing signal 1.
-    #[inline(always)]
-    fn fills_releasing_word(self) -> bool
-        ensures { result ≡ fills_releasing_word self }
-    {
-        self.role == Role::Rx && self.was_p1 % 2 == 1 && self.was_p1 / 4 % 2 == 1
-    }
-
-    /// Which change the word that is being filled brings, by whether it loses the lock. Asked first
-    /// whether there is one, since mostly there is none.
-    #[inline(always)]
-    fn change(self, is_lost: bool) -> Option<Change>
-        ensures { result ≡ change_by self is_lost }
-    {
-        let is_ended = self.fills_releasing_word();
-        if !is_ended && !is_lost {
-            return None;
-        }
-        Some(if is_ended {
-            Change::Ended
-        } else {
-            Change::LostLock
-        })
-    }
-
     /// What the word that was being filled brings, now that it is complete, by whether it loses the
     /// lock; and the track after it, None where it brings a change.
     #[inline(always)]
@@ -116,7 +90,17 @@ impl Track {
         ensures goes_on { result.1.change ≡ None → result.0 ≡ Some (track_after self word) }
         ensures over { (how : Change) → result.1.change ≡ Some how → result.0 ≡ None }
     {
-        let change = self.change(is_lost);
+        // A lock has ended where the words three and five before, which are DX words, are both
+        // phasing signal 1.
+        let is_ended = self.role == Role::Rx && self.was_p1 % 2 == 1 && self.was_p1 / 4 % 2 == 1;
+        // Asked first whether there is a change, since mostly there is none.
+        let change = if !is_ended && !is_lost {
+            None
+        } else if is_ended {
+            Some(Change::Ended)
+        } else {
+            Some(Change::LostLock)
+        };
         let next = match change {
             None => Some(self.after(word)),
             Some(_) => None,

@@ -1,15 +1,14 @@
 //! A synchroniser at work on whole words of a lock. All of it runs for each word or for eight of
 //! them, and is inlined always, since its answers would go through memory otherwise.
 
-ghost use Rattle.std.specs.Prelude.{◌≡◌, ℕ, ◌+◌, ◌*◌, ◌/◌, ◌^◌, ◌<◌, List, Bool, ◌++◌, slice_index, IsTrue};
+ghost use Rattle.std.specs.Prelude.{◌≡◌, ℕ, ◌+◌, ◌^◌, ◌<◌, List, Bool, ◌++◌, slice_index, IsTrue};
 ghost use Rattle.std.specs.List.{flat_map};
 ghost use Rattle.std.specs.Option.{ForSome};
 ghost use Rattle.nx_sync.specs.declared.step.Role.TheVariants.{Dx};
 ghost use Rattle.nx_code.specs.Word.{elements};
 ghost use Rattle.nx_sync.specs.Locks.{pattern_elements};
 ghost use Rattle.nx_sync.specs.Steps.{IsWordStep, AreQuietWords};
-ghost use Rattle.nx_sync.specs.private.Windows as spec;
-ghost use Rattle.nx_sync.specs.private.Calls.{Completes, held_at_words};
+ghost use Rattle.nx_sync.specs.private.Calls.{held_at_words};
 ghost use Rattle.nx_sync.specs.private.Eight.{after_eight};
 ghost use Rattle.nx_sync.specs.Synchroniser.{StandsAfter, is_between_words, keeps_lock};
 
@@ -122,11 +121,15 @@ impl WordSynchroniser {
             → IsWordStep h (elements word) result }
         ensures limit { result.change ≡ None → IsTrue (is_between_words self.new) }
     {
-        self.hear_word(word);
-        match self.track {
-            None => unreachable!(),
-            Some(track) => self.complete(track, word),
-        }
+        let Some(track) = self.track else {
+            unreachable!();
+        };
+        self.recent = next_word_window(self.recent, word);
+        self.marks.push(!check_bits(word));
+        // A word that brings a change gives the lock up.
+        let (next, step) = track.complete(word, self.marks.wrong_count() >= LOSING_COUNT);
+        self.track = next;
+        step
     }
 
     /// Whether surely none of the next eight words, if they are these, brings a change, so that
@@ -157,29 +160,6 @@ impl WordSynchroniser {
             None => unreachable!(),
             Some(track) => self.follow_eight(track, words),
         }
-    }
-
-    /// Takes a word of a lock into the last 28 elements.
-    #[inline(always)]
-    fn hear_word(&mut self, word: Word)
-        ensures held { self.new
-            ≡ record self.old { recent = spec.next_word_window self.old.recent word } }
-        ensures last { self.new.recent / 2 ^ 21 ≡ word }
-    {
-        self.recent = next_word_window(self.recent, word);
-    }
-
-    /// Takes the last seven elements as a word of the lock, and gives the lock up where the word
-    /// brings a change.
-    #[inline(always)]
-    fn complete(&mut self, track: Track, word: Word) -> Step
-        requires word { word ≡ self.old.recent / 2 ^ 21 }
-        ensures { Completes self.old track self.new result }
-    {
-        self.marks.push(!check_bits(word));
-        let (next, step) = track.complete(word, self.marks.wrong_count() >= LOSING_COUNT);
-        self.track = next;
-        step
     }
 
     /// Follows a lock over eight words that bring no change.

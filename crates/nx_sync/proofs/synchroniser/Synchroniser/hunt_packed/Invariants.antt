@@ -1,7 +1,7 @@
 use Rattle.std.proofs.Common.{◌+◌, ◌-◌, ◌<◌, ◌≤◌}
 use Rattle.nx_code.specs.Packed.{packed_part}
 use Rattle.nx_sync.specs.private.Calls.{Passes}
-use Rattle.nx_sync.proofs.synchroniser.Synchroniser.skip_packed.Given as goal
+use Rattle.nx_sync.proofs.synchroniser.Synchroniser.hunt_packed.Given as goal
 
 -- the elements so far were heard, none of them ends a pattern, and the next one is not too early
 -- for one

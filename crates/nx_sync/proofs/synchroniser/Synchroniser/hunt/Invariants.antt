@@ -1,6 +1,6 @@
 use Rattle.std.proofs.Common.{◌+◌, ◌-◌, ◌<◌, ◌≤◌, length}
 use Rattle.nx_sync.specs.private.Calls.{Passes}
-use Rattle.nx_sync.proofs.synchroniser.Synchroniser.skip.Given as goal
+use Rattle.nx_sync.proofs.synchroniser.Synchroniser.hunt.Given as goal
 
 -- the elements so far were heard, none of them ends a pattern, and the next one is not too early
 -- for one
