@@ -8,14 +8,13 @@ ghost use Rattle.nx_receiver.specs.Printing as spec;
 ghost use Rattle.nx_receiver.specs.Printing.{entry_made};
 ghost use Rattle.nx_envelope.specs.Copies.{errors_of};
 ghost use Rattle.nx_receiver.specs.private.Heads.{headed_copy};
-ghost use Rattle.nx_receiver.specs.private.Watch.{is_good_text};
 ghost use Rattle.nx_receiver.specs.FoundCopies.{tagged_found};
 
 use nx_envelope::{Found, FoundHead, How, Identity};
 use nx_memory::Recall;
 
-/// A copy is good where this many times its errors is less than its characters: fewer than 4 per
-/// cent are lost.
+/// A full copy is good where this many times its errors is less than its characters: fewer than 4
+/// per cent are lost. An empty one is good.
 const GOOD_SHARE: usize = 25;
 
 /// Whether a copy that was found is printed, by whether it is selected and by its moment, which
@@ -63,7 +62,9 @@ pub(crate) fn judge_head<M: Recall>(
     ensures not_before { newest_moment (M.content memory.new) ≤ moment }
 {
     let printed = is_printed(&head.identity, moment, selected, memory);
-    if is_entered(head, text, printed) {
+    let is_good = head.how == How::Full
+        && GOOD_SHARE * usize::from(head.errors) < text.len().max(1);
+    if printed && is_good && head.identity.number() != 0 {
         memory.enter(head.identity, moment);
     }
     printed
@@ -76,21 +77,4 @@ fn is_printed<M: Recall>(identity: &Identity, moment: u64, selected: bool, memor
         || not (is_known identity.now moment (M.content memory.now)))) }
 {
     selected && (identity.number() == 0 || !memory.knows(identity, moment))
-}
-
-/// Whether a copy is printed, as the caller says, and is good and not numbered 00.
-fn is_entered(head: &FoundHead, text: &[u8], printed: bool) -> bool
-    requires { head.now.errors ≡ errors_of text.now }
-    ensures { result ≡ (printed && is_good_text head.now.how text.now
-        && not (head.now.identity.number == 0)) }
-{
-    printed && is_good(head, text) && head.identity.number() != 0
-}
-
-/// Whether a copy is full and fewer than 4 per cent of its characters are lost; an empty one is.
-fn is_good(head: &FoundHead, text: &[u8]) -> bool
-    requires { head.now.errors ≡ errors_of text.now }
-    ensures { result ≡ is_good_text head.now.how text.now }
-{
-    head.how == How::Full && GOOD_SHARE * usize::from(head.errors) < text.len().max(1)
 }

@@ -24,7 +24,7 @@ use std::marker::Model;
 pub(crate) struct LockReader {
     diversity: Diversity,
     printer: Printer,
-    finder: Finder,
+    pub(crate) finder: Finder,
 }
 
 impl Model for LockReader {
@@ -128,22 +128,6 @@ impl LockReader {
         ensures taken { is_ready self.new.finder ≡ false }
     {
         self.finder.take_found()
-    }
-
-    /// All but the text of the copy that the last word or the end ended, where it was not taken yet.
-    pub(crate) fn ready_head(&self) -> Option<FoundHead>
-        ensures head { (copy : Copy) → HasReady self.now.finder copy
-            → MatchOption result ⊥ (IsHeadOf copy) }
-        ensures none { IsNone result ↔ (is_ready self.now.finder ≡ false) }
-    {
-        self.finder.ready_head()
-    }
-
-    /// The text of the copy that can be taken.
-    pub(crate) fn ready_text(&self) -> &[u8]
-        ensures { (copy : Copy) → HasReady self.now.finder copy → result.now ≡ copy.text }
-    {
-        self.finder.ready_text()
     }
 
     /// Ends the text; the reader is then as new, for the next lock, but for the copy that stood

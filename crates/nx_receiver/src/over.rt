@@ -1,7 +1,7 @@
 //! What an element brings to its end, and what a copy bears of its second digit.
 
 ghost use Rattle.std.specs.Prelude.{◌≡◌};
-ghost use Rattle.nx_receiver.specs.private.Watch.{is_copy, over_with};
+ghost use Rattle.nx_receiver.specs.private.Watch.{over_with};
 
 /// What is over with an element that was heard. It is copied for each element, so it is small; a
 /// copy that is over is left with the finder.
@@ -29,16 +29,6 @@ impl Over {
             (true, false) => Over::Copy,
             (false, true) => Over::Lock,
             (true, true) => Over::CopyAndLock,
-        }
-    }
-
-    /// Whether a copy is over, which can be taken.
-    pub(crate) fn is_copy(self) -> bool
-        ensures { result ≡ is_copy self }
-    {
-        match self {
-            Over::Nothing | Over::Lock => false,
-            Over::Copy | Over::CopyAndLock => true,
         }
     }
 }

@@ -12,7 +12,7 @@ ghost use Rattle.nx_receiver.specs.Events.{Event, Start, at_moment, command, fir
 ghost use Rattle.nx_receiver.specs.Log.{PrintsToEnd};
 ghost use Rattle.nx_receiver.specs.Printing.{entries_after, printed_copies};
 ghost use Rattle.nx_receiver.specs.Receiver.{HandsOutNoneBefore, RefusesStart, Stands, TakesEvent, entry_list};
-ghost use Rattle.nx_receiver.specs.private.Awaiting.{Awaits, HandsOut, HearsUpTo, PassesOver, behind_copy};
+ghost use Rattle.nx_receiver.specs.private.Awaiting.{Awaits, HandsOut, HearsUpTo, behind_copy};
 ghost use Rattle.nx_receiver.specs.private.Heads.{headed_list};
 ghost use Rattle.nx_receiver.specs.private.LockReader.{is_open};
 ghost use Rattle.nx_receiver.specs.FoundCopies.{TaggedCopy};
@@ -330,34 +330,22 @@ impl<M: Recall> Receiver<M> {
             fault.written)) }
         ensures counts { FailsOnce writer.new result.1 }
     {
-        let over = self.close_lock(over);
-        let Some(head) = self.judge_ready(over) else {
-            self.end_behind(over);
-            return (false, Ok(()));
-        };
-        let moment = self.watch.tag().moment;
-        let given = give_entry(
-            &head,
-            self.watch.ready_text(),
-            moment,
-            channel,
-            writer,
-            batch,
-        );
-        self.end_behind(over);
-        (true, given)
-    }
-
-    /// Ends the text of a lock where the lock alone is over. Answers what is over then: the copy that
-    /// stood open.
-    fn close_lock(&mut self, over: Over) -> Over
-        ensures passes { PassesOver M.content self.old self.new over result }
-        ensures closed { result ≢ Lock }
-    {
-        match over {
+        let over = match over {
             Over::Lock => self.watch.close_text(),
             Over::Nothing | Over::Copy | Over::CopyAndLock => over,
+        };
+        let judged = self.judge_ready(over);
+        let given = match &judged {
+            Some(head) => {
+                let text = self.watch.finder().ready_text();
+                give_entry(head, text, self.watch.tag().moment, channel, writer, batch)
+            }
+            None => Ok(()),
+        };
+        if over == Over::CopyAndLock {
+            self.watch.restart();
         }
+        (judged.is_some(), given)
     }
 
     /// Judges the copy that is over, where one is: its head where it is printed. The copy stays with
@@ -372,39 +360,20 @@ impl<M: Recall> Receiver<M> {
         ensures ready { IfSome result (λ head. (copy : Copy)
             × HasReady self.old.watch.reader.finder copy × IsHeadOf copy head) }
     {
-        if !over.is_copy() {
-            return None;
-        }
-        let Some(head) = self.watch.ready_head() else {
+        let (Over::Copy | Over::CopyAndLock) = over else {
             return None;
         };
         let CopyTag {
             moment,
             is_selected,
         } = self.watch.tag();
-        if !judge_head(
-            &head,
-            self.watch.ready_text(),
-            moment,
-            is_selected,
-            &mut self.memory,
-        ) {
+        let finder = self.watch.finder();
+        let head = finder.ready_head()?;
+        let text = finder.ready_text();
+        if !judge_head(&head, text, moment, is_selected, &mut self.memory) {
             return None;
         }
         Some(head)
-    }
-
-    /// Ends the text behind a copy where the lock is over with it: no other stands open.
-    fn end_behind(&mut self, over: Over)
-        ensures { (start : Start) (history : List Event) (log : List TaggedCopy)
-            → Awaits M.content start self.old history log (behind_copy over)
-            → (over ≡ CopyAndLock → is_open self.old.watch.reader.finder.copy ≡ false)
-            → over ≢ Lock
-            → Stands M.content start self.new history log }
-    {
-        if over == Over::CopyAndLock {
-            self.watch.restart();
-        }
     }
 }
 

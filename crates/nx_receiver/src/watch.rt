@@ -13,7 +13,7 @@ ghost use Rattle.nx_memory.specs.Selection.{admits, is_vital};
 ghost use Rattle.nx_receiver.specs.Events as events;
 ghost use Rattle.nx_receiver.specs.Events.{Setting, Start, first_setting, refused_after};
 ghost use Rattle.nx_receiver.specs.FoundCopies.{TaggedCopy};
-ghost use Rattle.nx_receiver.specs.private.Watch.{BothAreOver, CopyIsOver, HasEndedAll, HearsAll, IsOver, LockIsOver, ReadsStep, ReadsWord, TagGoesOn, WatchStands, at_words, handed_out};
+ghost use Rattle.nx_receiver.specs.private.Watch.{BothAreOver, CopyIsOver, HasEndedAll, HearsAll, IsOver, LockIsOver, ReadsStep, TagGoesOn, WatchStands, at_words, handed_out};
 ghost use Rattle.nx_receiver.specs.private.LockReader.{is_open};
 ghost use Rattle.nx_receiver.specs.Watching.{in_force};
 ghost use Rattle.nx_receiver.specs.declared.over.Over.TheVariants.{Lock, Nothing};
@@ -21,7 +21,7 @@ ghost use Rattle.nx_receiver.specs.declared.over.Over.TheVariants.{Lock, Nothing
 use crate::lock_reader::LockReader;
 use crate::over::{CopyTag, Over};
 use nx_code::{ELEMENTS, WORDS_AT_ONCE, Word};
-use nx_envelope::{Found, FoundHead, Identity, Letter, TextEvent};
+use nx_envelope::{Finder, Found, Identity, Letter, TextEvent};
 use nx_fec::PackedElements;
 use nx_memory::{Selection, Vital};
 use nx_sync::{Role, Step, Synchroniser, WordSynchroniser};
@@ -357,29 +357,10 @@ impl Watch {
         ensures tag { TagGoesOn self.old self.new }
     {
         let Step { word, change } = step;
-        let Some(heard) = word else {
+        let Some((word, role)) = word else {
             return Over::Nothing;
         };
-        self.read_word(heard.0, heard.1, change.is_some())
-    }
-
-    /// Reads a step as `read` does.
-    // Not inlined, so that its registers are saved only where there is a word.
-    #[inline(never)]
-    fn read_apart(&mut self, step: Step) -> Over
-        ensures step { ReadsStep self.old self.new step result }
-        ensures tag { TagGoesOn self.old self.new }
-    {
-        self.read(step)
-    }
-
-    /// Reads a word of the lock, which may bring a change.
-    // Inlined, since it is called for each word.
-    #[inline(always)]
-    fn read_word(&mut self, word: Word, role: Role, is_changed: bool) -> Over
-        ensures word { ReadsWord self.old self.new word role is_changed result }
-        ensures tag { TagGoesOn self.old self.new }
-    {
+        let is_changed = change.is_some();
         match self.reader.take_word(word, role) {
             TextEvent::Nothing => Over::of(false, is_changed),
             TextEvent::Header(identity) => {
@@ -391,6 +372,16 @@ impl Watch {
             }
             TextEvent::CopyOver => Over::of(true, is_changed),
         }
+    }
+
+    /// Reads a step as `read` does.
+    // Not inlined, so that its registers are saved only where there is a word.
+    #[inline(never)]
+    fn read_apart(&mut self, step: Step) -> Over
+        ensures step { ReadsStep self.old self.new step result }
+        ensures tag { TagGoesOn self.old self.new }
+    {
+        self.read(step)
     }
 
     /// The copy that is over, which can be taken.
@@ -407,20 +398,11 @@ impl Watch {
         self.reader.take_found()
     }
 
-    /// All but the text of the copy that is over, which can be taken.
-    pub(crate) fn ready_head(&self) -> Option<FoundHead>
-        ensures head { (copy : Copy) → HasReady self.now.reader.finder copy
-            → MatchOption result ⊥ (IsHeadOf copy) }
-        ensures none { IsNone result ↔ (is_ready self.now.reader.finder ≡ false) }
+    /// The finder, which has the copy that is over.
+    pub(crate) fn finder(&self) -> &Finder
+        ensures { result.now ≡ self.now.reader.finder }
     {
-        self.reader.ready_head()
-    }
-
-    /// Its text.
-    pub(crate) fn ready_text(&self) -> &[u8]
-        ensures { (copy : Copy) → HasReady self.now.reader.finder copy → result.now ≡ copy.text }
-    {
-        self.reader.ready_text()
+        &self.reader.finder
     }
 
     /// Ends the text of a lock that is over. The copy that stands open, if one does, is over then,

@@ -8,7 +8,6 @@ ghost use Rattle.nx_envelope.specs.Header.{newline};
 ghost use Rattle.nx_envelope.specs.Moment.{IsShownAs, last_moment};
 ghost use Rattle.nx_fec.specs.LineRuns.{HasGiven};
 ghost use Rattle.nx_fec.specs.Transfers.{FailsOnce, WroteSome};
-ghost use Rattle.nx_receiver.specs.Log as spec;
 ghost use Rattle.nx_fec.specs.declared.channel.Channel.TheVariants.{Zero};
 ghost use Rattle.nx_receiver.specs.Log.{IsEntry, channel_mark, entry_head, how_name, missing_newline};
 ghost use Rattle.nx_receiver.specs.FoundCopies.{copy_of};
@@ -167,20 +166,14 @@ fn how_text(how: How) -> &'static str
 
 /// What stands behind the text of an entry: a newline where the text isn't empty and doesn't end with
 /// one, and a newline.
+#[tactic(auto, unfolding(crate::specs::Log::missing_newline, crate::specs::Log::is_of_lines))]
 fn end_of(text: &[u8]) -> &'static [u8]
     ensures end { result.now ≡ missing_newline text.now ++ newline ∷ [] }
     ensures short { length result.now ≤ 2 }
 {
-    if is_of_lines(text) { b"\n" } else { b"\n\n" }
-}
-
-/// Whether a text is empty or ends with a newline.
-fn is_of_lines(text: &[u8]) -> bool
-    ensures { result ≡ spec.is_of_lines text.now }
-{
     match text.last() {
-        Some(last) => *last == NEWLINE,
-        None => true,
+        Some(last) if *last != NEWLINE => b"\n\n",
+        Some(_) | None => b"\n",
     }
 }
 

@@ -18,7 +18,6 @@ use Rattle.nx_receiver.specs.FoundCopies.{FoundCopy, ended_so_far, found_copy, f
 use Rattle.nx_receiver.specs.FoundCopies.{open_so_far, standing_text, TaggedCopy, tag}
 use Rattle.nx_receiver.specs.FoundCopies.{tagged_copies}
 use Rattle.nx_receiver.specs.LockText.{PlacedByte, bytes_of}
-use Rattle.nx_receiver.specs.private.Watch.{is_good_text}
 use Rattle.nx_receiver.specs.Printing.{entries_after, entries_made, entry_made, entry_of}
 use Rattle.nx_receiver.specs.Printing.{is_entered, is_good, is_number_00, is_printed}
 use Rattle.nx_receiver.specs.Receiver.{Receiving, Stands}
@@ -33,7 +32,7 @@ cut-made : (entries : List MemoryEntry) (copy : TaggedCopy) → copy.how ≡ Cut
     → entry_made entries copy ≡ []
 unfolding entry_made is_entered
 cut-made entries copy h =
-    let bad : is_good copy ≡ false = ap (λ (how : How). is_good_text how copy.text) h in
+    let bad : is_good copy ≡ false = ap (λ (how : How). is_good (record copy { how = how })) h in
     ap (λ b. cond (b && not (is_number_00 copy)) (entry_of copy ∷ []) [])
     (and_right (is_printed entries copy) (is_good copy) bad)
 

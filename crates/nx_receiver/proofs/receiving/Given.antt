@@ -1,6 +1,8 @@
 -- A copy that is over is judged where it lies, and handed out.
-use Rattle.std.proofs.Common.{◌≡◌, ℕ, Bool, true, false, cond, List, [], ◌∷◌, ◌++◌, Option}
-use Rattle.std.proofs.Common.{Some, IsNone, refl, sym, ap, ◌∙◌, subst, append-nil}
+use Rattle.std.proofs.Common.{◌≡◌, ◌⊎◌, inl, inr, ℕ, Bool, true, false, cond, List, [], ◌∷◌, ◌++◌}
+use Rattle.std.proofs.Common.{Option}
+use Rattle.std.proofs.Common.{None, Some, IsNone, is_some, length, ◌≢◌, subst₂, refl, sym, ap, ◌∙◌}
+use Rattle.std.proofs.Common.{subst, append-nil}
 use Rattle.std.specs.Prelude.{MatchOption, ◌↔◌}
 use Rattle.std.proofs.lemmas.Bool.{and_parts}
 use Rattle.nx_code.specs.Lists.{last_of}
@@ -17,15 +19,16 @@ use Rattle.nx_receiver.specs.Events.{Setting, Start, first_setting}
 use Rattle.nx_receiver.specs.FoundCopies.{TaggedCopy}
 use Rattle.nx_receiver.specs.Printing.{entries_after, entries_made, entry_made, if_printed}
 use Rattle.nx_receiver.specs.Printing.{is_printed, printed_copies}
-use Rattle.nx_receiver.specs.Receiver.{Receiving}
+use Rattle.nx_receiver.specs.Receiver.{Receiving, StandsOver}
 use Rattle.nx_receiver.specs.Watching.{Watching, in_force}
 use Rattle.nx_receiver.specs.declared.over.CopyTag.{CopyTag}
 use Rattle.nx_receiver.specs.declared.over.Over.{Over}
 use Rattle.nx_receiver.specs.declared.over.Over.TheVariants as over
 use Rattle.nx_receiver.specs.private.Awaiting.{AwaitsOver, behind_copy}
-use Rattle.nx_receiver.specs.private.Heads.{headed_copy}
+use Rattle.nx_receiver.specs.private.Heads.{headed_copy, headed_list}
 use Rattle.nx_receiver.specs.private.LockReader.{is_open}
-use Rattle.nx_receiver.specs.private.Watch.{IsOver, is_copy, ready_copy}
+use Rattle.nx_receiver.specs.private.Watch.{IsOver, LockIsOver, WatchStands, ready_copy}
+use Rattle.nx_receiver.proofs.receiving.Feeds.{nothing_awaited}
 use Rattle.nx_receiver.proofs.receiving.Logged.{printed_copies-append, entries_after-append}
 
 -- the copy that can be taken, with its head
@@ -178,7 +181,7 @@ copy_judged content start watch old new h s now copies log head copy left is_sho
 pub ready_judged : {M : Type 0} (content : M → List MemoryEntry) (start : Start)
     (watch : Watching) (old new : M) (h : List Bool) (s : List Setting) (now : Setting)
     (log : List TaggedCopy) (head : FoundHead) (is_over : Over) (is_shown : Bool)
-    → is_copy is_over ≡ true
+    → (is_over ≡ over.Copy) ⊎ (is_over ≡ over.CopyAndLock)
     → ((copy : Copy) → HasReady watch.reader.finder copy → IsHeadOf copy head)
     → IsJudged content old new
     (headed_copy head watch.reader.finder.text watch.tag.moment watch.tag.is_selected) is_shown
@@ -187,34 +190,103 @@ pub ready_judged : {M : Type 0} (content : M → List MemoryEntry) (start : Star
     (log ++ cond is_shown (headed_copy head watch.reader.finder.text watch.tag.moment true ∷ []) [])
     (behind_copy is_over)
 ready_judged content start watch old new h s now log head over.Nothing is_shown some is j a =
-    absurd (let e : false ≡ true = some in cc)
+    elim some [ inl e ↦ cc | inr e ↦ cc ]
 ready_judged content start watch old new h s now log head over.Copy is_shown some is j a =
     copy_judged content start watch old new h s now a.copies log head a.watch.copy over.Nothing
     is_shown a.watch.ready (is a.watch.copy a.watch.ready) a.watch.stands a.force a.printed
     a.memory j
 ready_judged content start watch old new h s now log head over.Lock is_shown some is j a =
-    absurd (let e : false ≡ true = some in cc)
+    elim some [ inl e ↦ cc | inr e ↦ cc ]
 ready_judged content start watch old new h s now log head over.CopyAndLock is_shown some is j a =
     copy_judged content start watch old new h s now a.copies log head a.watch.copy over.Lock
     is_shown a.watch.ready (is a.watch.copy a.watch.ready) a.watch.lock a.force a.printed
     a.memory j
 
--- a copy that is over can be taken
-pub over_ready : {M : Type 0} (content : M → List MemoryEntry) (start : Start) (r : Receiving M)
-    (h : List Bool) (s : List Setting) (now : Setting) (log : List TaggedCopy) (is_over : Over)
-    → is_copy is_over ≡ true → AwaitsOver content start r h s now log is_over
-    → (copy : Copy) × HasReady r.watch.reader.finder copy
-over_ready content start r h s now log over.Nothing some a =
-    absurd (let e : false ≡ true = some in cc)
-over_ready content start r h s now log over.Copy some a = (a.watch.copy, a.watch.ready)
-over_ready content start r h s now log over.Lock some a =
-    absurd (let e : false ≡ true = some in cc)
-over_ready content start r h s now log over.CopyAndLock some a = (a.watch.copy, a.watch.ready)
-
--- and so it isn't open
+-- a copy that is over with the lock isn't open
 pub over_not_open : {M : Type 0} (content : M → List MemoryEntry) (start : Start)
     (r : Receiving M) (h : List Bool) (s : List Setting) (now : Setting) (log : List TaggedCopy)
     (is_over : Over) → AwaitsOver content start r h s now log is_over
     → is_over ≡ over.CopyAndLock → is_open r.watch.reader.finder.copy ≡ false
 over_not_open content start r h s now log is_over a is =
-    ap is_open (over_ready content start r h s now log is_over (ap is_copy is) a).1.held
+    let both = subst (λ o. AwaitsOver content start r h s now log o) is a in
+    ap is_open both.watch.ready.held
+
+-- Whatever awaits to be finished, some of it may be passed over: then this is left of what is over.
+abbrev pub PassesOver : {M : Type 0} → (M → List MemoryEntry) → Receiving M → Receiving M → Over
+    → Over → Type 0
+PassesOver content old new is_over left =
+    (start : Start) (h : List Bool) (s : List Setting) (now : Setting) (log : List TaggedCopy)
+    → AwaitsOver content start old h s now log is_over
+    → AwaitsOver content start new h s now log left
+
+-- what is over stays where nothing is passed over
+pub none_passed : {M : Type 0} (content : M → List MemoryEntry) (old new : Receiving M)
+    (is_over left : Over) → new ≡ old → left ≡ is_over → PassesOver content old new is_over left
+none_passed content old new is_over left same is start h s now log a =
+    subst₂ (λ r o. AwaitsOver content start r h s now log o) (sym same) (sym is) a
+
+-- the end of a lock leaves the copy that stood open
+pub lock_passed : {M : Type 0} (content : M → List MemoryEntry) (watch after : Watching)
+    (memory : M) (new : Receiving M) (is_over left answer : Over)
+    → ((first : Setting) (h : List Bool) (s : List Setting) (copies : List TaggedCopy)
+    → LockIsOver first watch h s copies → IsOver first after h s copies answer)
+    → in_force after ≡ in_force watch
+    → new ≡ record { watch = after; memory = memory } → left ≡ answer → is_over ≡ over.Lock
+    → PassesOver content (record { watch = watch; memory = memory }) new is_over left
+lock_passed content watch after memory new is_over left answer lock force same is over start h s
+    now log a =
+    let was = subst (λ o. AwaitsOver content start (record { watch = watch; memory = memory }) h s
+    now log o) over a in
+    subst₂ (λ r o. AwaitsOver content start r h s now log o) (sym same) (sym is) (record {
+      copies = was.copies;
+      watch = lock (first_setting start) h s was.copies was.watch;
+      force = force ∙ was.force;
+      printed = was.printed;
+      memory = was.memory;
+    })
+
+-- Behind a copy the lock is ended where it is over too: nothing awaits to be finished then.
+abbrev pub EndsBehind : {M : Type 0} → (M → List MemoryEntry) → Receiving M → Receiving M → Over
+    → Type 0
+EndsBehind content old new is_over =
+    (start : Start) (h : List Bool) (s : List Setting) (now : Setting) (log : List TaggedCopy)
+    → AwaitsOver content start old h s now log (behind_copy is_over)
+    → StandsOver content start new h s now log
+
+pub lock_behind : {M : Type 0} (content : M → List MemoryEntry) (watch after : Watching)
+    (memory : M) (new : Receiving M) (is_over : Over)
+    → ((first : Setting) (h : List Bool) (s : List Setting) (copies : List TaggedCopy)
+    → LockIsOver first watch h s copies → WatchStands first after h s copies)
+    → in_force after ≡ in_force watch
+    → new ≡ record { watch = after; memory = memory } → is_over ≡ over.CopyAndLock
+    → EndsBehind content (record { watch = watch; memory = memory }) new is_over
+lock_behind content watch after memory new is_over lock force same over start h s now log a =
+    let was = subst (λ o. AwaitsOver content start (record { watch = watch; memory = memory }) h s
+    now log (behind_copy o)) over a in
+    subst (λ r. StandsOver content start r h s now log) (sym same) (record {
+      copies = was.copies;
+      watch = lock (first_setting start) h s was.copies was.watch;
+      force = force ∙ was.force;
+      printed = was.printed;
+      memory = was.memory;
+    })
+
+pub none_behind : {M : Type 0} (content : M → List MemoryEntry) (old new : Receiving M)
+    (is_over : Over) → new ≡ old → is_over ≢ over.Lock → is_over ≢ over.CopyAndLock
+    → EndsBehind content old new is_over
+none_behind content old new over.Nothing same not_lock not_both start h s now log a =
+    subst (λ r. StandsOver content start r h s now log) (sym same)
+    (nothing_awaited content start old h s now log over.Nothing refl a)
+none_behind content old new over.Copy same not_lock not_both start h s now log a =
+    subst (λ r. StandsOver content start r h s now log) (sym same)
+    (nothing_awaited content start old h s now log over.Nothing refl a)
+none_behind content old new over.Lock same not_lock not_both start h s now log a =
+    absurd (not_lock refl)
+none_behind content old new over.CopyAndLock same not_lock not_both start h s now log a =
+    absurd (not_both refl)
+
+-- how many copies of a head are handed out
+pub heads_counted : (head : Option FoundHead) (text : List ℕ) (moment : ℕ)
+    → length (headed_list head text moment) ≡ cond (is_some head) 1 0
+heads_counted None text moment = refl
+heads_counted (Some head) text moment = refl

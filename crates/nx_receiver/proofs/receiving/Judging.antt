@@ -2,7 +2,7 @@
 use Rattle.std.proofs.Common.{Bool, ◌≡◌, ℕ, ◌+◌, ◌-◌, ◌≤◌, true, false, not, ◌&&◌, ◌||◌, cond, List}
 use Rattle.std.proofs.Common.{[], ◌∷◌, ◌++◌, length, drop, slice_get, Some, refl, sym, ap, ◌∙◌}
 use Rattle.std.proofs.Common.{arith, append-nil}
-use Rattle.std.proofs.lemmas.Bool.{and_parts, not-true, and_right, and_from, or_from, or_right}
+use Rattle.std.proofs.lemmas.Bool.{and_right, and_from, or_from, or_right}
 use Rattle.std.proofs.lemmas.Bool.{not_from_true, not_from_false}
 use Rattle.std.specs.Option.{option_map}
 use Rattle.std.proofs.lemmas.List.{drop-append-le, length-append}
@@ -87,23 +87,6 @@ pub made_where : (entries : List MemoryEntry) (copy : TaggedCopy) (is_made : Boo
 unfolding entry_made is_entered
 made_where entries copy is_made h = ap (λ b. cond b (entry_of copy ∷ []) []) (sym h)
 
--- what is entered is unknown, and not numbered 00
-pub record CanEnter (is_00 is_old : Bool) : Type 0 where
-  pub numbered : is_00 ≡ false
-  pub unknown : is_old ≡ false
-
-pub can_enter : (selected is_00 is_old good : Bool)
-    → ((selected && (is_00 || not is_old)) && good && not is_00) ≡ true → CanEnter is_00 is_old
-can_enter selected is_00 is_old good h =
-    let parts = and_parts _ _ h in
-    let numbered : is_00 ≡ false = not-true is_00 parts.1 in
-    let shown = (and_parts _ _ (and_parts _ _ parts.0).0).1 in
-    record {
-      numbered = numbered;
-      unknown =
-          not-true is_old (ap (λ b. b || not is_old) (sym numbered) ∙ shown);
-    }
-
 -- what is printed by the content of a memory is what is printed by all entries
 pub printed_as : (entries content : List MemoryEntry) (copy : TaggedCopy) (shown : Bool)
     → content ≡ last_of most_entries entries
@@ -113,13 +96,6 @@ unfolding is_printed
 printed_as entries content copy shown h e =
     e ∙ ap (λ es. copy.selected
     && (is_number_00 copy || not (is_known copy.identity copy.moment es))) h
-
-pub made_true : (entries : List MemoryEntry) (copy : TaggedCopy) (shown is_made : Bool)
-    → shown ≡ is_printed entries copy → is_made ≡ (shown && is_good copy && not (is_number_00 copy))
-    → is_made ≡ true → entry_made entries copy ≡ entry_of copy ∷ []
-made_true entries copy shown is_made s e h =
-    made_where entries copy is_made (e ∙ ap (λ b. b && is_good copy && not (is_number_00 copy)) s)
-    ∙ ap (λ b. cond b (entry_of copy ∷ []) []) h
 
 pub made_false : (entries : List MemoryEntry) (copy : TaggedCopy) (shown is_made : Bool)
     → shown ≡ is_printed entries copy → is_made ≡ (shown && is_good copy && not (is_number_00 copy))

@@ -45,14 +45,6 @@ HearsUpTo content old new bits over =
     → Stands content start old history log
     → Awaits content start new (history ++ elements bits) log over
 
--- Whatever awaits to be finished, some of it may be passed over: then this is left of what is over.
-abbrev pub PassesOver : {M : Type 0} → (M → List MemoryEntry) → Receiving M → Receiving M → Over
-    → Over → Type 0
-PassesOver content old new over left =
-    (start : Start) (bits : List Bool) (settings : List Setting) (now : Setting)
-    (log : List TaggedCopy) → AwaitsOver content start old bits settings now log over
-    → AwaitsOver content start new bits settings now log left
-
 -- what is left of what is over, once the copy that ended was handed out
 abbrev pub behind_copy : Over → Over
 behind_copy over.Nothing = over.Nothing

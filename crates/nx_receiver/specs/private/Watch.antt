@@ -1,7 +1,7 @@
 -- What a receiver keeps but its memory, and after which elements: the layer below what is printed.
 -- A watch turns elements into copies, each with the moment and the selection in force at its second
 -- digit (this profile).
-use Rattle.std.specs.Prelude.{◌≡◌, ℕ, ◌+◌, ◌-◌, ◌*◌, ◌≤◌, ◌&&◌, nat_lt, max, Bool, true, false}
+use Rattle.std.specs.Prelude.{◌≡◌, ℕ, ◌+◌, ◌-◌, ◌≤◌, Bool, true, false}
 use Rattle.std.specs.Prelude.{is_some, List, [], ◌∷◌, ◌++◌, length, map, take, Option, Some, None}
 use Rattle.std.specs.Prelude.{slice_index_or}
 use Rattle.std.specs.List.{All}
@@ -10,8 +10,7 @@ use Rattle.nx_sync.specs.Locks.{Lock, Now, hunting, locked, IsNow}
 use Rattle.nx_sync.specs.Words.{word_of_lock, first_role, role_of, whole_words}
 use Rattle.nx_sync.specs.declared.step.Step.{Step}
 use Rattle.nx_sync.specs.declared.step.Role.{Role}
-use Rattle.nx_envelope.specs.Copies.{Copy, errors_of, open_headers}
-use Rattle.nx_envelope.specs.declared.found.How.{How}
+use Rattle.nx_envelope.specs.Copies.{Copy, open_headers}
 use Rattle.nx_envelope.specs.Header.{Header}
 use Rattle.nx_envelope.specs.Finder.{HasReady, is_over}
 use Rattle.nx_envelope.specs.declared.found.Found.{Found}
@@ -23,7 +22,6 @@ use Rattle.nx_receiver.specs.declared.over.Over.{Over}
 use Rattle.nx_receiver.specs.declared.over.Over.TheVariants as over
 use Rattle.nx_receiver.specs.declared.over.CopyTag.{CopyTag}
 use Rattle.nx_receiver.specs.Events.{Setting}
-use Rattle.nx_receiver.specs.Printing.{is_full}
 use Rattle.nx_receiver.specs.private.LockReader.{ReadsLock, HearsWord, text_after}
 use Rattle.nx_receiver.specs.Watching.{LockReading, Watching, in_force}
 use Rattle.nx_receiver.specs.LockText.{PlacedByte, bytes_of}
@@ -177,10 +175,6 @@ abbrev pub handed_out : Option Found → CopyTag → List TaggedCopy
 handed_out None kept = []
 handed_out (Some found) kept = tagged_found found kept.moment kept.is_selected ∷ []
 
--- a copy is good, by how it ended and its text
-abbrev pub is_good_text : How → List ℕ → Bool
-is_good_text how text = is_full how && nat_lt (25 * errors_of text) (max 1 (length text))
-
 -- the tag after what a word brings: a header takes what is in force
 abbrev pub tag_after : Watching → TextEvent → CopyTag
 tag_after watch events.Nothing = watch.tag
@@ -193,13 +187,6 @@ over_with false false = over.Nothing
 over_with true false = over.Copy
 over_with false true = over.Lock
 over_with true true = over.CopyAndLock
-
--- a copy is over, which can be taken
-abbrev pub is_copy : Over → Bool
-is_copy over.Nothing = false
-is_copy over.Copy = true
-is_copy over.Lock = false
-is_copy over.CopyAndLock = true
 
 -- a word was read, whichever lock it is of: what it brings to the text, what is over, and the tag
 pub record ReadsWord (old new : Watching) (word : ℕ) (role : Role) (is_changed : Bool)

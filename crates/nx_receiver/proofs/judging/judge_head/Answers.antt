@@ -1,56 +1,45 @@
-use Rattle.std.proofs.Common.{◌≡◌, ◌==◌, not, ◌&&◌, sym, ap, ◌∙◌, arith}
-use Rattle.std.proofs.lemmas.Bool.{eqb-false}
-use Rattle.nx_receiver.specs.private.Watch.{is_good_text}
+use Rattle.std.proofs.Common.{◌≡◌, ◌==◌, ◌&&◌, false, not, sym, ap, ◌∙◌, rules}
+use Rattle.nx_receiver.specs.Printing.{is_good}
 use Rattle.nx_receiver.specs.private.Heads.{headed_copy}
-use Rattle.nx_receiver.proofs.receiving.Judging.{printed_as, made_true, made_false, can_enter}
-use Rattle.nx_receiver.proofs.receiving.Judging.{content_stays, content_grows, newest_is_last}
+use Rattle.nx_receiver.proofs.receiving.Judging.{content_grows, content_stays, entered, made_false}
+use Rattle.nx_receiver.proofs.receiving.Judging.{newest_is_last, printed_as}
 use Rattle.nx_receiver.proofs.judging.judge_head.Goals as goal
 
-pub enter-requires-clause-unknown : goal.enter-requires-clause-unknown
-enter-requires-clause-unknown g c =
-    let head = c.args.head.now in
-    (can_enter c.args.selected _ _ _
-    (sym (c.is_entered.ensures
-    ∙ ap (λ b. b && is_good_text head.how c.args.text.now && not (head.identity.number == 0))
-    c.is_printed-printed.ensures) ∙ c.if-is_entered.true)).unknown
-
-pub enter-requires-clause-numbered : goal.enter-requires-clause-numbered
-enter-requires-clause-numbered g c =
-    let head = c.args.head.now in
-    let numbered = (can_enter c.args.selected _ _ _
-    (sym (c.is_entered.ensures
-    ∙ ap (λ b. b && is_good_text head.how c.args.text.now && not (head.identity.number == 0))
-    c.is_printed-printed.ensures) ∙ c.if-is_entered.true)).numbered in
-    let above : head.identity.number ≡ 0 → ⊥ = eqb-false head.identity.number 0 numbered in
-    omega arith
-
-pub returns-then-is_entered-clause-printed : goal.returns-then-is_entered-clause-printed
-returns-then-is_entered-clause-printed g c entries h =
+pub returns-then-number-ne0-clause-printed : goal.returns-then-number-ne0-clause-printed
+returns-then-number-ne0-clause-printed g c entries h =
     printed_as entries _
     (headed_copy c.args.head.now c.args.text.now c.args.moment c.args.selected) _ h
     c.is_printed-printed.ensures
 
-pub returns-then-is_entered-clause-entered : goal.returns-then-is_entered-clause-entered
-returns-then-is_entered-clause-entered g c entries h =
-    let copy = headed_copy c.args.head.now c.args.text.now c.args.moment c.args.selected in
+pub returns-then-number-ne0-clause-entered : goal.returns-then-number-ne0-clause-entered
+returns-then-number-ne0-clause-entered g c entries h =
+    let head = c.args.head.now in
+    let copy = headed_copy head c.args.text.now c.args.moment c.args.selected in
+    let good : c.if-eq.is_good ≡ is_good copy = search rules in
+    let numbered : (head.identity.number == 0) ≡ false = search rules in
     content_grows entries _ _ _ _ h c.enter.ensures
-    (made_true entries copy _ _ (printed_as entries _ copy _ h c.is_printed-printed.ensures)
-    c.is_entered.ensures c.if-is_entered.true)
+    (entered entries copy
+    (sym (printed_as entries _ copy _ h c.is_printed-printed.ensures) ∙ c.if-printed.true)
+    (sym good ∙ c.if-is_good.true) numbered)
 
-pub returns-then-is_entered-clause-not_before : goal.returns-then-is_entered-clause-not_before
-returns-then-is_entered-clause-not_before g c =
+pub returns-then-number-ne0-clause-not_before : goal.returns-then-number-ne0-clause-not_before
+returns-then-number-ne0-clause-not_before g c =
     newest_is_last (g.M.Recall.content c.args.memory.now) _ c.args.head.now.identity c.args.moment
     c.enter.ensures
 
-pub returns-else-is_entered-clause-printed : goal.returns-else-is_entered-clause-printed
-returns-else-is_entered-clause-printed g c entries h =
+pub returns-else-printed-clause-printed : goal.returns-else-printed-clause-printed
+returns-else-printed-clause-printed g c entries h =
     printed_as entries _
     (headed_copy c.args.head.now c.args.text.now c.args.moment c.args.selected) _ h
     c.is_printed-printed.ensures
 
-pub returns-else-is_entered-clause-entered : goal.returns-else-is_entered-clause-entered
-returns-else-is_entered-clause-entered g c entries h =
-    let copy = headed_copy c.args.head.now c.args.text.now c.args.moment c.args.selected in
+pub returns-else-printed-clause-entered : goal.returns-else-printed-clause-entered
+returns-else-printed-clause-entered g c entries h =
+    let head = c.args.head.now in
+    let copy = headed_copy head c.args.text.now c.args.moment c.args.selected in
+    let good : c.if-eq.is_good ≡ is_good copy = search rules in
+    let none : (c.is_printed-printed.result && c.if-eq.is_good && not (head.identity.number == 0))
+    ≡ false = search rules in
     content_stays entries _ _ h
     (made_false entries copy _ _ (printed_as entries _ copy _ h c.is_printed-printed.ensures)
-    c.is_entered.ensures c.if-is_entered.false)
+    (ap (λ b. c.is_printed-printed.result && b && not (head.identity.number == 0)) good) none)

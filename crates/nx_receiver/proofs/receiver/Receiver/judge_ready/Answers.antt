@@ -2,6 +2,7 @@ use Rattle.std.proofs.Common.{◌++◌, ◌∷◌, [], ap, ap₂, cond, subst, s
 use Rattle.nx_code.specs.Lists.{last_of}
 use Rattle.nx_envelope.specs.Copies.{errors_of}
 use Rattle.nx_envelope.specs.Finder.{HasReady}
+use Rattle.nx_envelope.specs.declared.finder.Finder.{Finder}
 use Rattle.nx_memory.specs.Memory.{most_entries}
 use Rattle.nx_receiver.specs.Events.{elements_among, first_setting, setting_after_all, settings}
 use Rattle.nx_receiver.specs.Printing.{entry_made, is_printed}
@@ -14,53 +15,24 @@ use Rattle.nx_receiver.proofs.receiver.Receiver.judge_ready.Goals as goal
 
 pub judge_head-requires-clause-errors : goal.judge_head-requires-clause-errors
 judge_head-requires-clause-errors g c =
-    let has = has_head c.self.inside.watch.reader.finder c.ready_head.result c.in-Some.head
-    c.in-Some.is c.ready_head.ensures.none c.ready_head.ensures.head in
-    has.is.errors ∙ ap errors_of (sym (c.ready_text.ensures has.copy has.ready))
+    let has = has_head _ c.ready_head.result c.in_ok-head.head
+    c.in_ok-head.was c.ready_head.ensures.none c.ready_head.ensures.head in
+    has.is.errors ∙ ap errors_of (sym (c.ready_text-text.ensures.text has.copy has.ready))
 
 pub returns-then-not-judge_head-clause-stands : goal.returns-then-not-judge_head-clause-stands
 returns-then-not-judge_head-clause-stands g c start history log awaits =
     let content = g.M.Recall.content in
     let watch = c.self.inside.watch in
     let finder = watch.reader.finder in
-    let head = c.in-Some.head in
+    let head = c.in_ok-head.head in
     let first = first_setting start in
     let now = setting_after_all first history in
-    let has = has_head finder c.ready_head.result head c.in-Some.is c.ready_head.ensures.none
+    let has = has_head _ c.ready_head.result head c.in_ok-head.was c.ready_head.ensures.none
     c.ready_head.ensures.head in
+    let at = c.finder-finder.ensures in
     let same = ap₂ (λ x (t : CopyTag). headed_copy head x t.moment t.is_selected)
-    (c.ready_text.ensures has.copy has.ready ∙ sym has.ready.text) c.tag-moment.ensures in
-    let j : IsJudged content c.self.inside.memory c.judge_head.new.memory
-    (headed_copy head finder.text watch.tag.moment watch.tag.is_selected) c.judge_head.result =
-    record {
-      printed = λ entries e. c.judge_head.ensures.printed entries e ∙ ap (is_printed entries) same;
-      entered = λ entries e. c.judge_head.ensures.entered entries e
-          ∙ ap (λ k. last_of most_entries (entries ++ entry_made entries k)) same;
-    } in
-    let before = subst (λ r. Awaits content start r history log c.args.over) (sym c.self.view_is)
-    awaits in
-    subst (λ b. AwaitsOver content start
-    (record { watch = watch; memory = c.judge_head.new.memory })
-    (elements_among history) (settings first history) now
-    (log ++ cond b (headed_copy head finder.text watch.tag.moment true ∷ []) [])
-    (behind_copy c.args.over)) c.if-not-judge_head.true
-    (ready_judged content start watch c.self.inside.memory c.judge_head.new.memory
-    (elements_among history) (settings first history) now log head c.args.over
-    c.judge_head.result (sym c.is_copy.ensures ∙ c.if-not-is_copy.false) c.in-Some.ensures.head j
-    before)
-
-pub returns-clause-stands : goal.returns-clause-stands
-returns-clause-stands g c start history log awaits =
-    let content = g.M.Recall.content in
-    let watch = c.self.inside.watch in
-    let finder = watch.reader.finder in
-    let head = c.in-Some.head in
-    let first = first_setting start in
-    let now = setting_after_all first history in
-    let has = has_head finder c.ready_head.result head c.in-Some.is c.ready_head.ensures.none
-    c.ready_head.ensures.head in
-    let same = ap₂ (λ x (t : CopyTag). headed_copy head x t.moment t.is_selected)
-    (c.ready_text.ensures has.copy has.ready ∙ sym has.ready.text) c.tag-moment.ensures in
+    (c.ready_text-text.ensures.text has.copy has.ready ∙ sym has.ready.text
+    ∙ ap (λ (f : Finder). f.text) at) c.tag-moment.ensures in
     let j : IsJudged content c.self.inside.memory c.judge_head.new.memory
     (headed_copy head finder.text watch.tag.moment watch.tag.is_selected) c.judge_head.result =
     record {
@@ -72,7 +44,42 @@ returns-clause-stands g c start history log awaits =
     awaits in
     let all = ready_judged content start watch c.self.inside.memory c.judge_head.new.memory
     (elements_among history) (settings first history) now log head c.args.over
-    c.judge_head.result (sym c.is_copy.ensures ∙ c.if-not-is_copy.false) c.in-Some.ensures.head j
+    c.judge_head.result c.in-Copy.is
+    (λ copy ready. c.in_ok-head.ensures.head copy (subst (λ f. HasReady f copy) (sym at) ready)) j
+    before in
+    (subst (λ b. AwaitsOver content start
+    (record { watch = watch; memory = c.judge_head.new.memory })
+    (elements_among history) (settings first history) now
+    (log ++ cond b (headed_copy head finder.text watch.tag.moment true ∷ []) [])
+    (behind_copy c.args.over)) c.if-not-judge_head.true all)
+
+pub returns-clause-stands : goal.returns-clause-stands
+returns-clause-stands g c start history log awaits =
+    let content = g.M.Recall.content in
+    let watch = c.self.inside.watch in
+    let finder = watch.reader.finder in
+    let head = c.in_ok-head.head in
+    let first = first_setting start in
+    let now = setting_after_all first history in
+    let has = has_head _ c.ready_head.result head c.in_ok-head.was c.ready_head.ensures.none
+    c.ready_head.ensures.head in
+    let at = c.finder-finder.ensures in
+    let same = ap₂ (λ x (t : CopyTag). headed_copy head x t.moment t.is_selected)
+    (c.ready_text-text.ensures.text has.copy has.ready ∙ sym has.ready.text
+    ∙ ap (λ (f : Finder). f.text) at) c.tag-moment.ensures in
+    let j : IsJudged content c.self.inside.memory c.judge_head.new.memory
+    (headed_copy head finder.text watch.tag.moment watch.tag.is_selected) c.judge_head.result =
+    record {
+      printed = λ entries e. c.judge_head.ensures.printed entries e ∙ ap (is_printed entries) same;
+      entered = λ entries e. c.judge_head.ensures.entered entries e
+          ∙ ap (λ k. last_of most_entries (entries ++ entry_made entries k)) same;
+    } in
+    let before = subst (λ r. Awaits content start r history log c.args.over) (sym c.self.view_is)
+    awaits in
+    let all = ready_judged content start watch c.self.inside.memory c.judge_head.new.memory
+    (elements_among history) (settings first history) now log head c.args.over
+    c.judge_head.result c.in-Copy.is
+    (λ copy ready. c.in_ok-head.ensures.head copy (subst (λ f. HasReady f copy) (sym at) ready)) j
     before in
     subst (λ (r : Receiving g.row.M.Denot). AwaitsOver content start
     (record { watch = watch; memory = c.judge_head.new.memory })
@@ -87,10 +94,11 @@ returns-clause-stands g c start history log awaits =
 
 pub returns-clause-ready : goal.returns-clause-ready
 returns-clause-ready g c =
-    let has = has_head c.self.inside.watch.reader.finder c.ready_head.result c.in-Some.head
-    c.in-Some.is c.ready_head.ensures.none c.ready_head.ensures.head in (
+    let has = has_head _ c.ready_head.result c.in_ok-head.head
+    c.in_ok-head.was c.ready_head.ensures.none c.ready_head.ensures.head in
+    let at = c.finder-finder.ensures
+    ∙ ap (λ (w : Receiving g.row.M.Denot). w.watch.reader.finder) c.self.view_is in (
       has.copy,
-      subst (λ (r : Receiving g.row.M.Denot). HasReady r.watch.reader.finder has.copy)
-          c.self.view_is has.ready,
+      subst (λ f. HasReady f has.copy) at has.ready,
       has.is,
     )
