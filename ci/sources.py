@@ -155,8 +155,7 @@ class Sources:
         if not name:
             return self.rust_key(scope.home, chain.split(".")[0])
         _, crate, *rest = module.split(".")
-        if crate not in self.stands_on or rest[1:2] == ["contracts"]:
-            # (what the toolchain makes of a type, as its `the_row`, has no line of ours either)
+        if crate not in self.stands_on:
             return (None, f"{module}.{name}")
         home, one = (crate, *rest), name
         if rest[1:2] == ["declared"]:

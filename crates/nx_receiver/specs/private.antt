@@ -3,7 +3,6 @@ pub mod Heads
 pub mod Heard
 pub mod Listener
 pub mod ListenerBegins
-pub mod ListenerLends
 pub mod LockReader
 pub mod StateParts
 pub mod Taken

@@ -212,9 +212,6 @@ impl Model for Listener {
 }
 
 impl Listener {
-    ghost use Rattle.std.specs.Borrow.{sem};
-    ghost use Rattle.nx_receiver.specs.private.ListenerLends.{LendsReceiver};
-
     /// A listener that has heard nothing, and starts with what is saved.
     fn starting(alloc: Global, saved: &SavedSet) -> Result<Listener, AllocError>
         ensures listens { IfOk result (λ listener.
@@ -299,7 +296,13 @@ impl Listener {
             (λ why. RefusesLine starts lines (line.refuse_subject mark byte) why
             × (self.new ≡ self.old)) }
     {
-        match self.on(channel).refuse_subject(letter(byte)) {
+        let subject = letter(byte);
+        let refused = match channel {
+            Channel::Zero => self.on_0.refuse_subject(subject),
+            Channel::One => self.on_1.refuse_subject(subject),
+            Channel::Two => self.on_2.refuse_subject(subject),
+        };
+        match refused {
             Ok(()) => Ok(()),
             Err(vital) => Err(LineRefusal::Vital {
                 subject: vital.subject,
@@ -314,7 +317,12 @@ impl Listener {
             (receiver_on self.new channel) (command (events.refuse_station byte)) }
         ensures only { self.new ≡ with_receiver self.old channel (receiver_on self.new channel) }
     {
-        self.on(channel).refuse_station(letter(byte));
+        let station = letter(byte);
+        match channel {
+            Channel::Zero => self.on_0.refuse_station(station),
+            Channel::One => self.on_1.refuse_station(station),
+            Channel::Two => self.on_2.refuse_station(station),
+        }
     }
 
     /// Takes a command to refuse a station no longer on a channel.
@@ -324,7 +332,12 @@ impl Listener {
             (receiver_on self.new channel) (command (events.accept_station byte)) }
         ensures only { self.new ≡ with_receiver self.old channel (receiver_on self.new channel) }
     {
-        self.on(channel).accept_station(letter(byte));
+        let station = letter(byte);
+        match channel {
+            Channel::Zero => self.on_0.accept_station(station),
+            Channel::One => self.on_1.accept_station(station),
+            Channel::Two => self.on_2.accept_station(station),
+        }
     }
 
     /// Takes a command to refuse a subject no longer on a channel.
@@ -334,18 +347,57 @@ impl Listener {
             (receiver_on self.new channel) (command (events.accept_subject byte)) }
         ensures only { self.new ≡ with_receiver self.old channel (receiver_on self.new channel) }
     {
-        self.on(channel).accept_subject(letter(byte));
+        let subject = letter(byte);
+        match channel {
+            Channel::Zero => self.on_0.accept_subject(subject),
+            Channel::One => self.on_1.accept_subject(subject),
+            Channel::Two => self.on_2.accept_subject(subject),
+        }
     }
 
-    /// The receiver of a channel.
-    fn on(&mut self, channel: Channel) -> &mut Receiver<RingRecall>
-        ensures* writes_back { sem 𝓛 (LendsReceiver self.entry channel result) }
-        ensures value { result.now ≡ receiver_on self.old channel }
+    /// Hears elements of a channel up to and with the first one with which something is over that
+    /// may bring an entry; says how many, and what is over.
+    fn hear_on(&mut self, channel: Channel, packed: &PackedElements, from: usize) -> (usize, Over)
+        requires { from ≤ length packed.now }
+        ensures within { from + result.0 ≤ length packed.now }
+        ensures stands { HearsUpTo content (receiver_on self.old channel)
+            (receiver_on self.new channel) (take result.0 (drop from packed.now)) result.1 }
+        ensures some { from < length packed.now → 0 < result.0 }
+        ensures only { self.new ≡ with_receiver self.old channel (receiver_on self.new channel) }
     {
         match channel {
-            Channel::Zero => &mut self.on_0,
-            Channel::One => &mut self.on_1,
-            Channel::Two => &mut self.on_2,
+            Channel::Zero => self.on_0.hear(packed, from),
+            Channel::One => self.on_1.hear(packed, from),
+            Channel::Two => self.on_2.hear(packed, from),
+        }
+    }
+
+    /// Finishes what is over on a channel, and gives the entry that it brings, if it brings one: says
+    /// whether it does.
+    fn finish_on<W: Write>(
+        &mut self,
+        channel: Channel,
+        over: Over,
+        writer: &mut Counting<W>,
+        batch: &mut Batch,
+    ) -> (bool, Result<(), WriteFault>)
+        requires { writer.old.failures ≡ 0 }
+        ensures given { (bytes : List ℕ)
+            × HandsOut content (receiver_on self.old channel) (receiver_on self.new channel)
+            channel over result.0 bytes
+            × ((old : Option (List ℕ)) (before : List ℕ)
+            → HasGiven old (W.contents writer.old.inner) batch.old before
+            → MatchResult result.1
+            (λ _. HasGiven old (W.contents writer.new.inner) batch.new (before ++ bytes))
+            (λ fault. WroteSome old (W.contents writer.new.inner) (before ++ bytes)
+            fault.written)) }
+        ensures only { self.new ≡ with_receiver self.old channel (receiver_on self.new channel) }
+        ensures counts { FailsOnce writer.new result.1 }
+    {
+        match channel {
+            Channel::Zero => self.on_0.give(over, channel, writer, batch),
+            Channel::One => self.on_1.give(over, channel, writer, batch),
+            Channel::Two => self.on_2.give(over, channel, writer, batch),
         }
     }
 
@@ -376,7 +428,7 @@ impl Listener {
         ensures moment { self.new.has_moment ≡ self.old.has_moment }
         ensures counts { FailsOnce writer.new result }
     {
-        let (count, over) = self.on(channel).hear(packed, from);
+        let (count, over) = self.hear_on(channel, packed, from);
         self.elements = self.elements.saturating_add(count as u64);
         if over == Over::Nothing {
             return Ok(count);
@@ -407,7 +459,7 @@ impl Listener {
         ensures moment { self.new.has_moment ≡ self.old.has_moment }
         ensures counts { FailsOnce writer.new result }
     {
-        let (is_printed, given) = self.on(channel).give(over, channel, writer, batch);
+        let (is_printed, given) = self.finish_on(channel, over, writer, batch);
         self.entries = self.entries.saturating_add(u64::from(is_printed));
         given
     }

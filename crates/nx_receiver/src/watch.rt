@@ -254,7 +254,7 @@ impl Watch {
 
     /// Hears eight whole words at once where they are there and nothing can be over with them, else
     /// one word.
-    // Inlined, as `hear_word`.
+    // Inlined, since it is called for each word.
     #[inline(always)]
     fn hear_some_words(
         &mut self,
@@ -276,13 +276,14 @@ impl Watch {
                 return (EIGHT_WORDS, Over::Nothing);
             }
         }
-        (ELEMENTS, self.hear_word(synchroniser, packed.word_at(from)))
+        let step = synchroniser.push(packed.word_at(from));
+        (ELEMENTS, self.read(step))
     }
 
     /// Hears the next eight words of the lock at once, where surely nothing is over with any of
     /// them and no copy begins: `true` where it did. Else nothing changed, and they have to be heard
     /// one by one.
-    // Inlined, as `hear_word`.
+    // Inlined, as `hear_some_words`.
     #[inline(always)]
     fn hear_eight(
         &mut self,
@@ -308,22 +309,8 @@ impl Watch {
         true
     }
 
-    /// Hears the next word of the lock.
-    // Inlined, since it is called for each word.
-    #[inline(always)]
-    fn hear_word(&mut self, synchroniser: &mut WordSynchroniser, word: Word) -> Over
-        requires { IsTrue (is_between_words synchroniser.old) }
-        ensures hears { HearsAll (at_words self.old synchroniser.old)
-            (at_words self.new synchroniser.new) (elements word) result }
-        ensures force { in_force self.new ≡ in_force self.old }
-        ensures tag { TagGoesOn self.old self.new }
-    {
-        let step = synchroniser.push(word);
-        self.read(step)
-    }
-
     /// Hears one element.
-    // Inlined, as `hear_word`.
+    // Inlined, as `hear_some_words`.
     #[inline(always)]
     fn hear_element(&mut self, bit: bool) -> Over
         ensures hears { HearsAll self.old self.new (bit ∷ []) result }

@@ -15,7 +15,6 @@ use Rattle.nx_fec.specs.Channels.{channel_of, same_channel}
 use Rattle.nx_fec.specs.declared.channel.Channel.{Channel}
 use Rattle.nx_fec.specs.declared.channel.Channel.TheVariants.{Zero, One, Two}
 use Rattle.nx_envelope.specs.Moment.{last_moment}
-use Rattle.nx_memory.specs.Ring.{RingMemory}
 use Rattle.nx_receiver.specs.Events.{Event, Setting, Start, element, first_setting}
 use Rattle.nx_receiver.specs.Events.{setting_after_all}
 use Rattle.nx_receiver.specs.Events as fed
@@ -30,7 +29,7 @@ use Rattle.nx_receiver.specs.private.Listener.{elements_given, elements_in, rece
 use Rattle.nx_receiver.specs.private.Listener.{then_elements, with_receiver}
 use Rattle.nx_receiver.specs.private.ListenerBegins.{printed-so_far}
 use Rattle.nx_receiver.specs.Log.{HasPrinted}
-use Rattle.nx_receiver.specs.Receiver.{Receiving, Stands}
+use Rattle.nx_receiver.specs.Receiver.{Stands}
 use Rattle.nx_receiver.specs.Shares.{Given, MarkedCopy, Starts, copies_on, events_for, marked}
 use Rattle.nx_receiver.specs.Shares.{share, start_on, to_one}
 use Rattle.nx_receiver.specs.private.Awaiting.{Awaits}
@@ -656,16 +655,3 @@ begins-line starts lines mark channel bits bytes e taken some h = record {
 pub none-left : {A : Type 0} (o : Option A) → ((x : A) → o ≡ Some x → ⊥) → o ≡ None
 none-left None h = refl
 none-left (Some x) h = absurd (h x refl)
-
--- the receiver that a channel was given is the one that it has
-pub on-with : (channel : Channel) (old : Listening) (receiver : Receiving RingMemory)
-    → receiver_on (with_receiver old channel receiver) channel ≡ receiver
-on-with Zero old receiver = refl
-on-with One old receiver = refl
-on-with Two old receiver = refl
-
--- and it alone was given one
-pub put-on : (channel : Channel) (old : Listening) (receiver : Receiving RingMemory)
-    → with_receiver old channel receiver
-    ≡ with_receiver old channel (receiver_on (with_receiver old channel receiver) channel)
-put-on channel old receiver = ap (with_receiver old channel) (sym (on-with channel old receiver))
