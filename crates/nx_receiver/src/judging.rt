@@ -61,20 +61,12 @@ pub(crate) fn judge_head<M: Recall>(
         (entries ++ entry_made entries (headed_copy head.now text.now moment selected)) }
     ensures not_before { newest_moment (M.content memory.new) ≤ moment }
 {
-    let printed = is_printed(&head.identity, moment, selected, memory);
+    let identity = &head.identity;
+    let printed = selected && (identity.number() == 0 || !memory.knows(identity, moment));
     let is_good = head.how == How::Full
         && GOOD_SHARE * usize::from(head.errors) < text.len().max(1);
     if printed && is_good && head.identity.number() != 0 {
         memory.enter(head.identity, moment);
     }
     printed
-}
-
-/// Whether a copy of this identity is selected, and is numbered 00 or unknown to the memory.
-fn is_printed<M: Recall>(identity: &Identity, moment: u64, selected: bool, memory: &M) -> bool
-    requires { newest_moment (M.content memory.now) ≤ moment }
-    ensures { result ≡ (selected && ((identity.now.number == 0)
-        || not (is_known identity.now moment (M.content memory.now)))) }
-{
-    selected && (identity.number() == 0 || !memory.knows(identity, moment))
 }

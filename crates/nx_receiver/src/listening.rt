@@ -433,69 +433,14 @@ impl Listener {
         if over == Over::Nothing {
             return Ok(count);
         }
-        match self.finish(channel, over, writer, batch) {
-            Ok(()) => Ok(count),
-            Err(fault) => Err(fault),
-        }
-    }
-
-    /// Finishes what is over on a channel, and gives and counts the entry that it brings, if it
-    /// brings one.
-    fn finish<W: Write>(
-        &mut self,
-        channel: Channel,
-        over: Over,
-        writer: &mut Counting<W>,
-        batch: &mut Batch,
-    ) -> Result<(), WriteFault>
-        requires { writer.old.failures ≡ 0 }
-        ensures finished { (bytes : List ℕ) × HasFinished self.old self.new channel over bytes
-            × ((old : Option (List ℕ)) (before : List ℕ)
-            → HasGiven old (W.contents writer.old.inner) batch.old before
-            → MatchResult result
-            (λ _. HasGiven old (W.contents writer.new.inner) batch.new (before ++ bytes))
-            (λ fault. WroteSome old (W.contents writer.new.inner) (before ++ bytes)
-            fault.written)) }
-        ensures moment { self.new.has_moment ≡ self.old.has_moment }
-        ensures counts { FailsOnce writer.new result }
-    {
         let (is_printed, given) = self.finish_on(channel, over, writer, batch);
         self.entries = self.entries.saturating_add(u64::from(is_printed));
-        given
+        given?;
+        Ok(count)
     }
 
-    /// Hears the elements of a line of a channel, and gives the entries of the copies that they
-    /// end.
-    fn hear_all<W: Write>(
-        &mut self,
-        channel: Channel,
-        packed: &PackedElements,
-        writer: &mut Counting<W>,
-        batch: &mut Batch,
-    ) -> Result<(), WriteFault>
-        requires { writer.old.failures ≡ 0 }
-        ensures heard { (starts : Starts) (old : Option (List ℕ)) (given : List Given)
-            → IsHearing starts self.old (then_elements given channel [])
-            (HasGiven old (W.contents writer.old.inner) batch.old)
-            → MatchResult result
-            (λ _. IsHearing starts self.new (then_elements given channel packed.now)
-            (HasGiven old (W.contents writer.new.inner) batch.new))
-            (λ fault. HeardSome starts (then_elements given channel packed.now) old
-            (W.contents writer.new.inner) fault.written) }
-        ensures moment { self.new.has_moment ≡ self.old.has_moment }
-        ensures counts { FailsOnce writer.new result }
-    {
-        let mut at = 0;
-        while at < packed.len() {
-            match self.hear_next(channel, packed, at, writer, batch) {
-                Ok(count) => at += count,
-                Err(fault) => return Err(fault),
-            }
-        }
-        Ok(())
-    }
-
-    /// Takes the elements of a line, for the channel that it names.
+    /// Takes the elements of a line, for the channel that it names: hears them, and gives the entries
+    /// of the copies that they end.
     fn take_elements<W: Write>(
         &mut self,
         mark: Option<Channel>,
@@ -516,10 +461,15 @@ impl Listener {
         if !self.has_moment {
             return Err(TakeFault::Refused(LineRefusal::NoMoment));
         }
-        match self.hear_all(Channel::of(mark), packed, writer, batch) {
-            Ok(()) => Ok(()),
-            Err(fault) => Err(TakeFault::Write(fault.written)),
+        let channel = Channel::of(mark);
+        let mut at = 0;
+        while at < packed.len() {
+            match self.hear_next(channel, packed, at, writer, batch) {
+                Ok(count) => at += count,
+                Err(fault) => return Err(TakeFault::Write(fault.written)),
+            }
         }
+        Ok(())
     }
 
     /// Ends the file: writes, channel by channel, the entry of the copy that its end closes, where

@@ -183,7 +183,10 @@ impl Watch {
             return self.hunt(packed, from);
         }
         if self.synchroniser.is_between_words() && packed.len() - from >= ELEMENTS {
-            return self.hear_words(packed, from);
+            let mut synchroniser = self.synchroniser.at_words();
+            let (heard, over) = self.follow_words(&mut synchroniser, packed, from);
+            self.synchroniser.go_on_from(&synchroniser);
+            return (heard, over);
         }
         (1, self.hear_element(packed.get(from)))
     }
@@ -204,22 +207,6 @@ impl Watch {
             return (count, Over::Nothing);
         }
         (count + 1, self.hear_element(packed.get(from + count)))
-    }
-
-    /// Hears whole words, as many as there are up to the first with which anything is over.
-    fn hear_words(&mut self, packed: &PackedElements, from: usize) -> (usize, Over)
-        requires limit { IsTrue (is_between_words self.old.synchroniser) }
-        requires some { from + 7 ≤ length packed.now }
-        ensures within { from + result.0 ≤ length packed.now }
-        ensures some { 0 < result.0 }
-        ensures hears { HearsAll self.old self.new (take result.0 (drop from packed.now)) result.1 }
-        ensures force { in_force self.new ≡ in_force self.old }
-        ensures tag { TagGoesOn self.old self.new }
-    {
-        let mut synchroniser = self.synchroniser.at_words();
-        let (heard, over) = self.follow_words(&mut synchroniser, packed, from);
-        self.synchroniser.go_on_from(&synchroniser);
-        (heard, over)
     }
 
     /// Hears whole words by a synchroniser that is at work on these, in place of the one that the

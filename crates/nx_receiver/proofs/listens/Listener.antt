@@ -5,6 +5,7 @@ use Rattle.std.proofs.Common.{[], ◌∷◌, ◌++◌, map, Option, Some, None, 
 use Rattle.std.proofs.Common.{take-append-drop, drop, refl, sym, ap, ap₂, ◌∙◌, subst, append-nil}
 use Rattle.std.proofs.Common.{append_assoc, arith, length-append}
 use lib.Seq.{take-add}
+use mir.Val.{bool_byte}
 use Rattle.std.proofs.Math.Path.{fun_ext}
 use Rattle.std.proofs.lemmas.List.{length-map, length-take-le, map-append}
 use Rattle.std.proofs.lemmas.List.Concat.{flat_map-append}
@@ -32,7 +33,7 @@ use Rattle.nx_receiver.specs.Log.{HasPrinted}
 use Rattle.nx_receiver.specs.Receiver.{Stands}
 use Rattle.nx_receiver.specs.Shares.{Given, MarkedCopy, Starts, copies_on, events_for, marked}
 use Rattle.nx_receiver.specs.Shares.{share, start_on, to_one}
-use Rattle.nx_receiver.specs.private.Awaiting.{Awaits}
+use Rattle.nx_receiver.specs.private.Awaiting.{Awaits, HandsOut}
 use Rattle.nx_receiver.specs.FoundCopies.{TaggedCopy}
 use Rattle.nx_receiver.specs.declared.over.Over.{Over}
 use Rattle.nx_receiver.specs.declared.over.Over.TheVariants as overs
@@ -655,3 +656,33 @@ begins-line starts lines mark channel bits bytes e taken some h = record {
 pub none-left : {A : Type 0} (o : Option A) → ((x : A) → o ≡ Some x → ⊥) → o ≡ None
 none-left None h = refl
 none-left (Some x) h = absurd (h x refl)
+
+as_count : (is : Bool) → bool_byte is ≡ cond is 1 0
+as_count true = refl
+as_count false = refl
+
+at_most_one : (is : Bool) (n : ℕ) → n ≡ cond is 1 0 → n ≤ 1
+at_most_one true n e = omega (arith, e)
+at_most_one false n e = omega (arith, e)
+
+-- a listener of which the receiver of a channel handed out what was over with it, and that counted
+-- this, finished it
+pub finishes : (old mid new : Listening) (channel : Channel) (over : Over) (is : Bool)
+    (bytes : List ℕ)
+    → HandsOut content (receiver_on old channel) (receiver_on mid channel) channel over is bytes
+    → DiffersOn channel old mid
+    → ((other : Channel) → receiver_on mid other ≡ receiver_on new other)
+    → new.elements ≡ mid.elements → new.entries ≡ count_of (mid.entries + bool_byte is)
+    → HasFinished old new channel over bytes
+finishes old mid new channel over is bytes hands differs same heard-more counted = record {
+  copies = hands.copies;
+  one = at_most_one is (length hands.copies) hands.counted;
+  stands = λ start events log awaits.
+      subst (λ r. Stands content start r events (log ++ hands.copies)) (same channel)
+      (hands.stands start events log awaits);
+  others = λ other not. sym (same other) ∙ differs.others other not;
+  spelled = hands.spelled;
+  elements = heard-more ∙ differs.elements;
+  entries = λ fits. counted ∙ ap₂ (λ m n. count_of (m + n)) differs.entries
+      (as_count is ∙ sym hands.counted);
+}

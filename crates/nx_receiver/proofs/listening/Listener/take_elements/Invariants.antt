@@ -2,7 +2,7 @@ use Rattle.std.proofs.Common.{◌≡◌, ◌-◌, ◌≤◌, ℕ, Option, List, 
 use Rattle.nx_fec.specs.LineRuns.{HasGiven}
 use Rattle.nx_receiver.specs.Shares.{Given, Starts}
 use Rattle.nx_receiver.specs.private.Listener.{IsHearing, then_elements}
-use Rattle.nx_receiver.proofs.listening.Listener.hear_all.Given as goal
+use Rattle.nx_receiver.proofs.listening.Listener.take_elements.Given as goal
 
 -- the first elements were heard
 abbrev pub invariant-loop-at : goal.invariant-loop-at
