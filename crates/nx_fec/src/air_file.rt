@@ -2,7 +2,7 @@
 ghost use Rattle.std.specs.Prelude.{◌≡◌, ◌≢◌, ◌<◌, ◌≤◌, ◌^◌, ℕ, List, ◌++◌, codes, length, map, take, IfSome, IfNone, MatchOption, [], ◌∷◌, Some};
 ghost use Rattle.std.specs.Fmt.{decimal};
 ghost use Rattle.nx_code.specs.Reading.{IsCapital};
-ghost use Rattle.nx_fec.specs.AirFile.{IsLine, IsNoLine, Line, Means, mark_bytes, spelling, with_mark};
+ghost use Rattle.nx_fec.specs.AirFile.{IsLine, IsNoLine, Line, Means, spelling, with_mark};
 ghost use Rattle.nx_fec.specs.private.Packing.{is_one};
 ghost use Rattle.nx_fec.specs.private.ScannerKept.{IsMarked, SpellsLine};
 ghost use Rattle.nx_fec.specs.declared.air_file.LineKind.{LineKind};
@@ -112,17 +112,17 @@ pub(crate) fn read_line(line: &[u8], elements: &mut PackedElements) -> Option<Li
             None
         };
     }
-    if let Some(rest) = after(line, b"RS ") {
-        return Some(LineKind::RefuseStation(None, letter(rest)?));
+    if let Some(letter) = letter_behind(line, b"RS ") {
+        return Some(LineKind::RefuseStation(None, letter));
     }
-    if let Some(rest) = after(line, b"AS ") {
-        return Some(LineKind::AcceptStation(None, letter(rest)?));
+    if let Some(letter) = letter_behind(line, b"AS ") {
+        return Some(LineKind::AcceptStation(None, letter));
     }
-    if let Some(rest) = after(line, b"RJ ") {
-        return Some(LineKind::RefuseSubject(None, letter(rest)?));
+    if let Some(letter) = letter_behind(line, b"RJ ") {
+        return Some(LineKind::RefuseSubject(None, letter));
     }
-    if let Some(rest) = after(line, b"AJ ") {
-        return Some(LineKind::AcceptSubject(None, letter(rest)?));
+    if let Some(letter) = letter_behind(line, b"AJ ") {
+        return Some(LineKind::AcceptSubject(None, letter));
     }
     read_marked(line, elements)
 }
@@ -137,29 +137,24 @@ fn read_marked(line: &[u8], elements: &mut PackedElements) -> Option<LineKind>
         → line.now ≢ spelling sent) }
     ensures unread { IfNone result (elements.new ≡ []) }
 {
-    if let Some(rest) = after(line, b"B") {
-        let (channel, digits) = marked(rest)?;
+    if let Some((channel, digits)) = marked(line, b"B") {
         return if digits.len() < MAX_ELEMENTS && elements.read(digits) {
             Some(LineKind::Elements(Some(channel)))
         } else {
             None
         };
     }
-    if let Some(rest) = after(line, b"RS") {
-        let (channel, rest) = marked(rest)?;
-        return Some(LineKind::RefuseStation(Some(channel), letter(rest)?));
+    if let Some((channel, letter)) = marked_letter(line, b"RS") {
+        return Some(LineKind::RefuseStation(Some(channel), letter));
     }
-    if let Some(rest) = after(line, b"AS") {
-        let (channel, rest) = marked(rest)?;
-        return Some(LineKind::AcceptStation(Some(channel), letter(rest)?));
+    if let Some((channel, letter)) = marked_letter(line, b"AS") {
+        return Some(LineKind::AcceptStation(Some(channel), letter));
     }
-    if let Some(rest) = after(line, b"RJ") {
-        let (channel, rest) = marked(rest)?;
-        return Some(LineKind::RefuseSubject(Some(channel), letter(rest)?));
+    if let Some((channel, letter)) = marked_letter(line, b"RJ") {
+        return Some(LineKind::RefuseSubject(Some(channel), letter));
     }
-    if let Some(rest) = after(line, b"AJ") {
-        let (channel, rest) = marked(rest)?;
-        return Some(LineKind::AcceptSubject(Some(channel), letter(rest)?));
+    if let Some((channel, letter)) = marked_letter(line, b"AJ") {
+        return Some(LineKind::AcceptSubject(Some(channel), letter));
     }
     None
 }
@@ -172,17 +167,32 @@ pub(crate) fn digits_behind(line: &[u8]) -> Option<(Option<Channel>, &[u8])>
     if let Some(digits) = after(line, b"B ") {
         return Some((None, digits));
     }
-    let (channel, digits) = marked(after(line, b"B")?)?;
+    let (channel, digits) = marked(line, b"B")?;
     Some((Some(channel), digits))
 }
 
-/// The channel that is named by the digit at the front, and what follows it and a space.
-fn marked(text: &[u8]) -> Option<(Channel, &[u8])>
-    ensures found { IfSome result (λ found.
-        text.now ≡ mark_bytes (Some found.0) ++ (32 ∷ found.1.now)) }
-    ensures none { IfNone result ((channel : Channel) (rest : List ℕ)
-        → text.now ≢ mark_bytes (Some channel) ++ (32 ∷ rest)) }
+/// The channel that a line names behind a word, and the letter A to Z that follows a space behind
+/// it and ends the line.
+#[tactic(auto, using(std::proofs::lemmas::List::append_cancel_left))]
+fn marked_letter(line: &[u8], word: &[u8]) -> Option<(Channel, u8)>
+    ensures found { IfSome result (λ found. IsCapital found.1
+        × (line.now ≡ with_mark word.now (Some found.0) (found.1 ∷ []))) }
+    ensures none { IfNone result ((channel : Channel) (letter : ℕ) → IsCapital letter
+        → line.now ≢ with_mark word.now (Some channel) (letter ∷ [])) }
 {
+    let (channel, rest) = marked(line, word)?;
+    Some((channel, letter(rest)?))
+}
+
+/// The channel that a line names behind a word, and what follows it and a space.
+#[tactic(auto, using(std::proofs::lemmas::List::append_cancel_left))]
+fn marked<'a>(line: &'a [u8], word: &[u8]) -> Option<(Channel, &'a [u8])>
+    ensures found { IfSome result (λ found.
+        line.now ≡ with_mark word.now (Some found.0) found.1.now) }
+    ensures none { IfNone result ((channel : Channel) (rest : List ℕ)
+        → line.now ≢ with_mark word.now (Some channel) rest) }
+{
+    let text = after(line, word)?;
     if let Some(rest) = after(text, b"0 ") {
         return Some((Channel::Zero, rest));
     }
@@ -202,6 +212,18 @@ pub(crate) fn after<'a>(line: &'a [u8], word: &[u8]) -> Option<&'a [u8]>
         (λ rest. line.now ≡ word.now ++ rest.now) }
 {
     line.strip_prefix(word)
+}
+
+/// The letter A to Z that follows the word at the front of a line and ends the line.
+// Inlined always, as a part of `read_line`.
+#[inline(always)]
+fn letter_behind(line: &[u8], word: &[u8]) -> Option<u8>
+    ensures found { IfSome result (λ found. IsCapital found
+        × (line.now ≡ word.now ++ (found ∷ []))) }
+    ensures none { IfNone result ((byte : ℕ) → IsCapital byte
+        → line.now ≢ word.now ++ (byte ∷ [])) }
+{
+    letter(after(line, word)?)
 }
 
 /// One letter A to Z.

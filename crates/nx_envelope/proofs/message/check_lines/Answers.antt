@@ -1,3 +1,4 @@
+use Rattle.std.proofs.lemmas.Grind.{common_steps}
 use Rattle.std.proofs.Common.{◌<◌, List, ℕ, [], length, map, arith}
 use Rattle.std.proofs.lemmas.List.{get_or-map, length-map}
 use Rattle.std.proofs.lemmas.List.Elements.{All-more}
@@ -34,3 +35,6 @@ loop-line-preserved c =
           c.loop-line.invariant.good (rw here c.in_ok-check_line.ensures.good);
       text = rw (text, here) (omega (arith, sum, c.loop-line.invariant.text));
     }
+
+pub returns-clause-good : goal.returns-clause-good
+returns-clause-good c = grind (arith, common_steps)

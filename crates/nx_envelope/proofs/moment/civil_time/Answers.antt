@@ -1,3 +1,4 @@
+use Rattle.std.proofs.Common.{rules}
 use Rattle.std.proofs.Common.{◌≡◌, pos, ◌*ℤ◌, ◌≤ℤ◌, arith, to_z, w64}
 use Rattle.std.proofs.lemmas.Int.{to_z_pos}
 use Rattle.jiff_core.proofs.SignedLemmas.{signed_arith}
@@ -35,3 +36,6 @@ returns-clause-moment c =
     let low : pos 0 ≤ℤ c.to_plain-datetime.result.date.year = omega (arith, signed_arith) in
     moment_at c.to_plain-datetime.result _ c.args.moment (cast_year _ low year.1)
     (seconds_of_nanos c.to_plain-datetime.result c.args.moment n)
+
+pub returns-clause-none : goal.returns-clause-none
+returns-clause-none c = search rules

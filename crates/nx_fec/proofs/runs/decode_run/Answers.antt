@@ -4,6 +4,7 @@ use Rattle.nx_fec.specs.Aligned.{aligned_text, words_of}
 use Rattle.nx_fec.specs.Lines.{IsBitFile}
 use Rattle.nx_fec.specs.Runs.{IsDecoded}
 use Rattle.nx_fec.proofs.TransferLaws.{Reads-on, Ok-not_err, Write-not_read}
+use Rattle.nx_fec.proofs.RunLaws.{WordRun-refused, WordRun-unread}
 use Rattle.nx_fec.proofs.runs.decode_run.Goals as goal
 
 decoded-of : (bytes text items : List ℕ) (bits given : List Bool) → given ≡ bits
@@ -16,6 +17,18 @@ decoded-of bytes text items bits given same whole decoded is file = record {
   whole = subst (λ l. length l % 7 ≡ 0) same whole;
   read = is ∙ decoded ∙ ap (λ l. aligned_text (words_of l)) same;
 }
+
+pub returns-in_err-bits : goal.returns-in_err-bits
+returns-in_err-bits g c =
+    let p = err_from_is_err_and c.from_residual.result c.from_residual.ensures.1 in
+    rw p.1 (rw p.2 (WordRun-unread _ _ _ _ _ _ _ c.requires.writer c.in_err-bits.ensures.reads))
+
+pub returns-in_err-text : goal.returns-in_err-text
+returns-in_err-text g c =
+    let p = err_from_is_err_and c.from_residual-in_err-text.result
+    c.from_residual-in_err-text.ensures.1 in
+    rw p.1 (rw p.2 (WordRun-refused _ _ _ _ _ _ c.in_ok-bits.bits _ _ c.requires.writer
+    c.deref.ensures.value c.in_ok-bits.ensures.reads c.in_err-text.ensures.refused))
 
 pub returns-in_err-write_out : goal.returns-in_err-write_out
 returns-in_err-write_out g c =

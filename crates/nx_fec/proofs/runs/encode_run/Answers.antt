@@ -8,7 +8,13 @@ use Rattle.nx_fec.specs.Runs.{IsEncoded}
 use Rattle.nx_fec.proofs.TransferLaws.{Reads-on, Ok-not_err, Write-not_read}
 use Rattle.nx_fec.proofs.EncodingLaws.{spelling-explains, spell_fault-not_read}
 use Rattle.nx_fec.proofs.EncodingLaws.{spell_fault-not_write, IsEncoded-of}
+use Rattle.nx_fec.proofs.RunLaws.{Encodes-no_memory, Encodes-unread}
 use Rattle.nx_fec.proofs.runs.encode_run.Goals as goal
+
+pub returns-in_err-text : goal.returns-in_err-text
+returns-in_err-text g c =
+    let p = err_from_is_err_and c.from_residual.result c.from_residual.ensures.1 in
+    rw p.1 (rw p.2 (Encodes-unread _ _ _ _ _ _ c.requires.writer c.in_err-text.ensures))
 
 pub returns-in_err-combs : goal.returns-in_err-combs
 returns-in_err-combs g c =
@@ -35,6 +41,12 @@ returns-in_err-combs g c =
       };
       unwritten = λ other. refl;
     }))
+
+pub returns-in_err-positions : goal.returns-in_err-positions
+returns-in_err-positions g c =
+    let p = err_from_is_err_and c.from_residual-in_err-positions.result
+    c.from_residual-in_err-positions.ensures.1 in
+    rw p.1 (rw p.2 (Encodes-no_memory _ _ _ _ _ _ _ c.requires.writer c.in_ok-text.ensures))
 
 pub returns-in_err-write_emission : goal.returns-in_err-write_emission
 returns-in_err-write_emission g c =

@@ -3,7 +3,20 @@ use Rattle.std.proofs.lemmas.Result.{err_from_is_err_and}
 use Rattle.nx_fec.specs.Lines.{IsBitFile}
 use Rattle.nx_fec.proofs.TransferLaws.{Reads-on, Ok-not_err, Write-not_read}
 use Rattle.nx_fec.proofs.WordLineLemmas.{IsShown-of}
+use Rattle.nx_fec.proofs.RunLaws.{WordRun-refused, WordRun-unread}
 use Rattle.nx_fec.proofs.runs.show_run.Goals as goal
+
+pub returns-in_err-bits : goal.returns-in_err-bits
+returns-in_err-bits g c =
+    let p = err_from_is_err_and c.from_residual.result c.from_residual.ensures.1 in
+    rw p.1 (rw p.2 (WordRun-unread _ _ _ _ _ _ _ c.requires.writer c.in_err-bits.ensures.reads))
+
+pub returns-in_err-lines : goal.returns-in_err-lines
+returns-in_err-lines g c =
+    let p = err_from_is_err_and c.from_residual-in_err-lines.result
+    c.from_residual-in_err-lines.ensures.1 in
+    rw p.1 (rw p.2 (WordRun-refused _ _ _ _ _ _ c.in_ok-bits.bits _ _ c.requires.writer
+    c.deref.ensures.value c.in_ok-bits.ensures.reads c.in_err-lines.ensures.refused))
 
 pub returns-in_err-write_out : goal.returns-in_err-write_out
 returns-in_err-write_out g c =

@@ -1,6 +1,10 @@
+use Rattle.std.proofs.Common.{rules}
 use Rattle.std.proofs.Common.{refl}
 use Rattle.nx_envelope.proofs.Hearing.{stage-nil, none-nil}
 use Rattle.nx_envelope.proofs.finder.Finder.new.Goals as goal
 
 pub returns : goal.returns
 returns c = record { recent = refl; stage = stage-nil; copy = none-nil }
+
+pub prove-unreachable-requires : goal.prove-unreachable-requires
+prove-unreachable-requires c = search rules

@@ -1,3 +1,4 @@
+use Rattle.std.proofs.Common.{rules}
 use Rattle.std.proofs.Common.{refl}
 use Rattle.nx_memory.proofs.Content.{content-nil}
 use Rattle.nx_memory.proofs.Tables.{table-nil}
@@ -9,3 +10,6 @@ invariant_of-result c = rw c.in_ok-with_capacity.ensures (record {
   content = content-nil;
   table_of = rw c.in_ok-new.ensures table-nil;
 })
+
+pub prove-unreachable-requires : goal.prove-unreachable-requires
+prove-unreachable-requires c = search rules

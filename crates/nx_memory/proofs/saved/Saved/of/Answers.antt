@@ -1,3 +1,5 @@
+use Rattle.std.proofs.Common.{arith}
+use Rattle.std.proofs.lemmas.Grind.{common_steps}
 use Rattle.std.proofs.Common.{rules, ◌≡◌, List, ◌++◌, ap, ◌∙◌}
 use Rattle.nx_memory.specs.declared.entry.MemoryEntry.{MemoryEntry}
 use Rattle.nx_memory.proofs.Loading.{one_of, taken-more}
@@ -11,3 +13,12 @@ loop-place-preserved g c =
     made
     ∙ ap (λ (them : List MemoryEntry). them ++ one_of c.entry.result) c.loop-place.invariant
     ∙ rw c.entry.ensures (taken-more (g.M.Recall.content c.args.memory.now) c.loop-place.place)
+
+pub invariant_of-result : goal.invariant_of-result
+invariant_of-result g c = grind (arith, common_steps)
+
+pub returns-clause-entries : goal.returns-clause-entries
+returns-clause-entries g c = grind (arith, common_steps)
+
+pub returns-clause-refused : goal.returns-clause-refused
+returns-clause-refused g c = search rules

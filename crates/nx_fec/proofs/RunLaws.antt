@@ -1,0 +1,151 @@
+-- Runs that fail before they write.
+use Rattle.std.proofs.Common.{◌≡◌, ◌≢◌, ◌∙◌, ℕ, Bool, List, [], Option, Result, Ok, Err}
+use Rattle.std.proofs.Common.{append-nil, arith, refl, subst, sym}
+use Rattle.std.specs.Global.{Vec}
+use Rattle.std.specs.declared.alloc.AllocError.{AllocError}
+use Rattle.nx_fec.specs.Aligned.{ExplainsAligned}
+use Rattle.nx_fec.specs.Lines.{IsBitFile, IsFaultless}
+use Rattle.nx_fec.specs.Runs.{Encodes, ExplainsReading, ExplainsWordRun, IsWordRun}
+use Rattle.nx_fec.specs.Runs.{ReadsElements, ReadsWhole, aligned_fault, file_limit, reading_fault}
+use Rattle.nx_fec.specs.Transfers.{CountedDevice, devices}
+use Rattle.nx_fec.specs.declared.aligned.AlignedFault.{AlignedFault}
+use Rattle.nx_fec.specs.declared.aligned.AlignedFault.TheVariants as words
+use Rattle.nx_fec.specs.declared.fault.ReadFault.{ReadFault}
+use Rattle.nx_fec.specs.declared.fault.ReadFault.TheVariants as read
+use Rattle.nx_fec.specs.declared.fault.RunFault.{RunFault}
+use Rattle.nx_fec.specs.declared.fault.RunFault.TheVariants.{Read, FileTooLong, LineLong, LineCut}
+use Rattle.nx_fec.specs.declared.fault.RunFault.TheVariants.{BadLine, Ragged, NoSuchCharacter}
+use Rattle.nx_fec.specs.declared.fault.RunFault.TheVariants.{Write, Memory}
+use Rattle.nx_fec.proofs.ReadingLaws.{Err-same}
+use Rattle.nx_fec.proofs.TransferLaws.{Ok-not_err, Reads-on, Writes-none}
+
+-- a fault of reading elements is one of the run
+reading-explains : (IsText : List ℕ → ℕ → Type 0) (AtEnd : Type 0) (limit : ℕ) (bytes : List ℕ)
+    (old new : Option (List ℕ)) (fault : RunFault) → ExplainsReading AtEnd limit bytes fault
+    → ExplainsWordRun IsText AtEnd limit bytes old new fault
+reading-explains IsText AtEnd limit bytes old new Read h = h
+reading-explains IsText AtEnd limit bytes old new FileTooLong h = h
+reading-explains IsText AtEnd limit bytes old new (LineLong line) h = h
+reading-explains IsText AtEnd limit bytes old new (LineCut line) h = h
+reading-explains IsText AtEnd limit bytes old new (BadLine line) h = h
+reading-explains IsText AtEnd limit bytes old new (Ragged bits) h = absurd h
+reading-explains IsText AtEnd limit bytes old new (NoSuchCharacter at) h = h
+reading-explains IsText AtEnd limit bytes old new (Write written) h = absurd h
+reading-explains IsText AtEnd limit bytes old new (Memory error) h = h
+
+reading-not_write : (AtEnd : Type 0) (limit : ℕ) (bytes : List ℕ) (fault : RunFault)
+    → ExplainsReading AtEnd limit bytes fault → (written : ℕ) → fault ≢ Write written
+reading-not_write AtEnd limit bytes fault h written same =
+    subst (ExplainsReading AtEnd limit bytes) same h
+
+-- a run whose reading failed
+pub WordRun-unread : {R W : Type 0} (IsText : List ℕ → List ℕ → ℕ → Type 0)
+    (remaining : R → Option (List ℕ)) (contents : W → Option (List ℕ))
+    (reader reader_after : CountedDevice R) (writer : CountedDevice W) (fault : RunFault)
+    → writer.failures ≡ 0
+    → ReadsElements remaining reader reader_after (Err fault)
+    → IsWordRun IsText (devices remaining contents reader reader_after writer writer) (Err fault)
+WordRun-unread IsText remaining contents reader reader_after writer fault none h = record {
+  reads = Reads-on _ _ _ _ _ _ _ _ _ _ _ h
+      (λ bytes k. reading-explains (IsText bytes) _ file_limit bytes _ _ fault k)
+      (λ bytes k. reading-explains (IsText bytes) _ file_limit bytes _ _ fault k)
+      (λ bytes k clean. clean) (Err-same fault Read) (Err-same fault Read);
+  writes = Writes-none _ _ _
+      (λ written same. reading-not_write _ file_limit h.bytes fault h.answer written cc) none;
+  unwritten = λ other. refl;
+}
+
+-- elements that are no whole words, or no memory for their text
+aligned-explains : (IsText : List ℕ → ℕ → Type 0) (AtEnd : Type 0) (limit : ℕ) (bytes : List ℕ)
+    (old new : Option (List ℕ)) (bits : List Bool) (fault : AlignedFault) → AtEnd
+    → IsBitFile limit bytes bits → ExplainsAligned bits fault
+    → ExplainsWordRun IsText AtEnd limit bytes old new (aligned_fault fault)
+aligned-explains IsText AtEnd limit bytes old new bits (words.Ragged given) end file h =
+    (end, bits, file, h.0, h.1)
+aligned-explains IsText AtEnd limit bytes old new bits (words.Memory error) end file h = tt
+
+aligned-not_read : {T : Type 0} (fault : AlignedFault)
+    → ◌≡◌ {A = Result T RunFault} (Err (aligned_fault fault)) (Err Read) → ⊥
+aligned-not_read (words.Ragged given) same = cc
+aligned-not_read (words.Memory error) same = cc
+
+aligned-not_write : {T : Type 0} (fault : AlignedFault) (written : ℕ)
+    → ◌≡◌ {A = Result T RunFault} (Err (aligned_fault fault)) (Err (Write written)) → ⊥
+aligned-not_write (words.Ragged given) written same = cc
+aligned-not_write (words.Memory error) written same = cc
+
+-- no fault stands in the bytes of elements
+bit_file-faultless : (limit : ℕ) (bytes : List ℕ) (bits : List Bool) → IsBitFile limit bytes bits
+    → IsFaultless limit bytes
+bit_file-faultless limit bytes bits h = record {
+  lines = h.lines;
+  rest = [];
+  splits = record {
+    whole = h.file.whole ∙ sym (append-nil _);
+    each = h.file.each;
+    part = record { none = tt; short = omega arith };
+  };
+  within = h.file.within;
+}
+
+-- a run whose elements have no text
+pub WordRun-refused : {R W : Type 0} (IsText : List ℕ → List ℕ → ℕ → Type 0)
+    (remaining : R → Option (List ℕ)) (contents : W → Option (List ℕ))
+    (reader reader_after : CountedDevice R) (writer : CountedDevice W) (bits : Vec Bool)
+    (given : List Bool) (fault : AlignedFault) → writer.failures ≡ 0 → given ≡ bits.items
+    → ReadsElements remaining reader reader_after (Ok bits) → ExplainsAligned given fault
+    → IsWordRun IsText (devices remaining contents reader reader_after writer writer)
+    (Err (aligned_fault fault))
+WordRun-refused IsText remaining contents reader reader_after writer bits given fault none is h
+    refused =
+    let why = subst (λ l. ExplainsAligned l fault) is refused in
+    record {
+      reads = Reads-on _ _ _ _ _ _ _ _ _ _ _ h
+          (λ bytes k. aligned-explains (IsText bytes) _ file_limit bytes _ _ bits.items fault k.0
+          k.1 why)
+          (λ bytes k. aligned-explains (IsText bytes) _ file_limit bytes _ _ bits.items fault tt
+          k why)
+          (λ bytes k clean outside. bit_file-faultless file_limit bytes bits.items k.1)
+          (λ e. absurd (aligned-not_read fault e)) (λ e. absurd (Ok-not_err _ _ e));
+      writes = Writes-none _ _ _ (aligned-not_write fault) none;
+      unwritten = λ other. refl;
+    }
+
+-- a text that isn't read
+pub Encodes-unread : {R W : Type 0} (remaining : R → Option (List ℕ))
+    (contents : W → Option (List ℕ)) (reader reader_after : CountedDevice R)
+    (writer : CountedDevice W) (fault : ReadFault) → writer.failures ≡ 0
+    → ReadsWhole remaining reader reader_after (Err fault)
+    → Encodes (devices remaining contents reader reader_after writer writer)
+    (Err (reading_fault fault))
+Encodes-unread remaining contents reader reader_after writer read.Read none h = record {
+  reads = Reads-on _ _ _ _ _ _ _ _ _ _ _ h (λ bytes k. tt) (λ bytes k. tt)
+      (λ bytes k clean. clean) (λ e. refl) (λ e. refl);
+  writes = Writes-none _ _ _ (λ written same. cc) none;
+  unwritten = λ other. refl;
+}
+Encodes-unread remaining contents reader reader_after writer read.FileTooLong none h = record {
+  reads = Reads-on _ _ _ _ _ _ _ _ _ _ _ h (λ bytes k. k) (λ bytes k. k)
+      (λ bytes k clean outside. absurd outside) (λ e. cc) (λ e. cc);
+  writes = Writes-none _ _ _ (λ written same. cc) none;
+  unwritten = λ other. refl;
+}
+Encodes-unread remaining contents reader reader_after writer (read.Memory error) none h = record {
+  reads = Reads-on _ _ _ _ _ _ _ _ _ _ _ h (λ bytes k. tt) (λ bytes k. tt)
+      (λ bytes k clean. clean) (λ e. cc) (λ e. cc);
+  writes = Writes-none _ _ _ (λ written same. cc) none;
+  unwritten = λ other. refl;
+}
+
+-- a text whose positions have no memory
+pub Encodes-no_memory : {R W : Type 0} (remaining : R → Option (List ℕ))
+    (contents : W → Option (List ℕ)) (reader reader_after : CountedDevice R)
+    (writer : CountedDevice W) (text : Vec ℕ) (error : AllocError) → writer.failures ≡ 0
+    → ReadsWhole remaining reader reader_after (Ok text)
+    → Encodes (devices remaining contents reader reader_after writer writer) (Err (Memory error))
+Encodes-no_memory remaining contents reader reader_after writer text error none h = record {
+  reads = Reads-on _ _ _ _ _ _ _ _ _ _ _ h (λ bytes k. tt) (λ bytes k. tt)
+      (λ bytes k clean outside. k.1) (λ e. cc) (λ e. cc);
+  writes = Writes-none _ _ _ (λ written same. cc) none;
+  unwritten = λ other. refl;
+}
