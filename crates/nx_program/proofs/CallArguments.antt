@@ -18,6 +18,7 @@ use Rattle.nx_program.specs.declared.words.Call.{Call}
 use Rattle.nx_station.specs.declared.damaging.DamageKind.{DamageKind}
 use Rattle.nx_station.specs.declared.damaging.DamageKind.TheVariants.{Dx, Rx, All}
 use Rattle.nx_program.specs.Words.{IsKind, IsNumber, IsStation, kind_name}
+use Rattle.nx_program.specs.private.Reading.{LacksRange, LacksSlot}
 
 pub differ : (a b : Text) → bytes_eq a b ≡ false → a ≡ b → ⊥
 differ a b unlike e =
@@ -223,9 +224,6 @@ slot_call-station make rows call made = go (station_in rows) (station-reads rows
     go (Some s) is e = (s, is)
 
 -- and where one of the two is absent, there is none
-abbrev pub LacksSlot : List Row → Type 0
-LacksSlot rows = (s : Letter) (m : ℕ) → IsStation rows s → IsNumber (codes "MOMENT") rows m → ⊥
-
 pub slot_call-absent : (make : Letter → ℕ → Call) (rows : List Row) → LacksSlot rows
     → slot_call make rows ≡ None
 slot_call-absent make rows absent =
@@ -286,11 +284,6 @@ range_call-kind make rows call made = go (kind_in rows) (kind-reads rows).is mad
         → (kind : DamageKind) × IsKind rows kind
     go None is e = absurd (cc)
     go (Some k) is e = (k, is)
-
-abbrev pub LacksRange : List Row → Type 0
-LacksRange rows =
-    (k : DamageKind) (f c : ℕ) → IsKind rows k → IsNumber (codes "FROM") rows f
-    → IsNumber (codes "COUNT") rows c → ⊥
 
 pub range_call-absent : (make : DamageKind → ℕ → ℕ → Call) (rows : List Row) → LacksRange rows
     → range_call make rows ≡ None

@@ -1,9 +1,10 @@
 //! The command tree of the program, and the texts of its help.
 
-ghost use Rattle.std.specs.Prelude.{◌≡◌, IfOk, codes, false};
-ghost use Rattle.clap.specs.Words.{rule_of};
-ghost use Rattle.nx_program.specs.Words.{bare_tree, damage_tree, navtex, number_rule, plain_tree, slot_tree};
-ghost use Rattle.nx_program.specs.private.Reading.{IsBuiltAs};
+ghost use Rattle.std.specs.Prelude.{IfOk};
+ghost use Rattle.nx_program.specs.Words.{bare_tree, damage_tree, navtex, number_rule, slot_tree};
+ghost use Rattle.nx_program.specs.Words.{text_rule};
+ghost use Rattle.nx_program.specs.private.Reading.{AddsRow, AddsRule, IsBuiltAs, IsReadAs};
+ghost use Rattle.nx_program.specs.private.Reading.{row_tree, with_rows};
 
 use clap::builder::ValueParser;
 use clap::{Arg, Command};
@@ -13,6 +14,33 @@ use std::alloc::{AllocError, Global};
 /// The text of the version: the program's name, its version, and what `rt version` says of the kit
 /// and of the logic that it is proved with.
 pub const VERSION: &str = "navtex 1.0.0, proved with rattle-kit-13f logic dac8208d650f15bf\n";
+
+/// What a command takes.
+#[derive(Clone, Copy)]
+enum Takes {
+    /// No argument.
+    Nothing,
+    /// A station and a moment.
+    Slot,
+    /// A kind of damage and a range of words.
+    Range,
+}
+
+/// A row of the table of commands: a command's name, what it takes, and what help says of it.
+struct Row {
+    /// The word by which the command line names the command.
+    name: &'static str,
+    /// What the command takes.
+    takes: Takes,
+    /// What the program's help says of the command, and short help first of all.
+    about: &'static str,
+    /// What stands at the end of short help, if anything.
+    short: Option<&'static str>,
+    /// What long help says first of all.
+    long: &'static str,
+    /// What stands at the end of long help.
+    example: &'static str,
+}
 
 /// What short help says of the files of a command.
 const AIR_FILE: &str =
@@ -85,15 +113,14 @@ The same on channel 1:
   [EA01/1 2025-01-01 00:40:00 full 0/5]
   TEST";
 
-fn listen_command<'a>(alloc: Global) -> Command<'a>
-    ensures { IsBuiltAs (plain_tree (codes "listen")) result }
-{
-    Command::new(alloc, "listen")
-        .about("Print the log of an air file")
-        .after_help(LISTEN_SHORT)
-        .long_about(LISTEN_HELP)
-        .after_long_help(LISTEN_EXAMPLE)
-}
+const LISTEN: Row = Row {
+    name: "listen",
+    takes: Takes::Nothing,
+    about: "Print the log of an air file",
+    short: Some(LISTEN_SHORT),
+    long: LISTEN_HELP,
+    example: LISTEN_EXAMPLE,
+};
 
 const RESUME_SHORT: &str =
     "A state is a text of what a receiver knows when it is switched off, and an air
@@ -139,15 +166,14 @@ const RESUME_EXAMPLE: &str =
   $ navtex save < in > state.new && mv state.new state
   $ navtex send E 1735692001 < ea01 | cat state - | navtex resume";
 
-fn resume_command<'a>(alloc: Global) -> Command<'a>
-    ensures { IsBuiltAs (plain_tree (codes "resume")) result }
-{
-    Command::new(alloc, "resume")
-        .about("Print the log of an air file, and go on from a state")
-        .after_help(RESUME_SHORT)
-        .long_about(RESUME_HELP)
-        .after_long_help(RESUME_EXAMPLE)
-}
+const RESUME: Row = Row {
+    name: "resume",
+    takes: Takes::Nothing,
+    about: "Print the log of an air file, and go on from a state",
+    short: Some(RESUME_SHORT),
+    long: RESUME_HELP,
+    example: RESUME_EXAMPLE,
+};
 
 const SAVE_SHORT: &str =
     "A state is a text of what a receiver knows when it is switched off, and an air
@@ -190,15 +216,14 @@ const SAVE_EXAMPLE: &str = "Example: the state of a receiver that has heard one 
   C2
   END";
 
-fn save_command<'a>(alloc: Global) -> Command<'a>
-    ensures { IsBuiltAs (plain_tree (codes "save")) result }
-{
-    Command::new(alloc, "save")
-        .about("Print the state that an air file leaves behind a state")
-        .after_help(SAVE_SHORT)
-        .long_about(SAVE_HELP)
-        .after_long_help(SAVE_EXAMPLE)
-}
+const SAVE: Row = Row {
+    name: "save",
+    takes: Takes::Nothing,
+    about: "Print the state that an air file leaves behind a state",
+    short: Some(SAVE_SHORT),
+    long: SAVE_HELP,
+    example: SAVE_EXAMPLE,
+};
 
 const LOCKS_SHORT: &str =
     "An air file is text: lines of B with the elements on the air, 1 or 0 each, and
@@ -249,29 +274,14 @@ its message was lost:
 
   [elements 1421 locks 1 copies 0]";
 
-fn locks_command<'a>(alloc: Global) -> Command<'a>
-    ensures { IsBuiltAs (plain_tree (codes "locks")) result }
-{
-    Command::new(alloc, "locks")
-        .about("Print the locks of an air file and their running text")
-        .after_help(LOCKS_SHORT)
-        .long_about(LOCKS_HELP)
-        .after_long_help(LOCKS_EXAMPLE)
-}
-
-/// A command that takes a station and a moment.
-fn slot_command<'a>(alloc: Global, word: &'a str) -> Result<Command<'a>, AllocError>
-    ensures { IfOk result (IsBuiltAs (slot_tree word.entry.now)) }
-{
-    let station = Arg::new(alloc, "STATION")
-        .required(true)
-        .help("The station, one letter A to Z");
-    let moment = Arg::new(alloc, "MOMENT")
-        .required(true)
-        .value_parser(ValueParser::unsigned(0, LAST_MOMENT))
-        .help("Seconds since 1970-01-01 00:00:00 UTC, 0 to 32503679999");
-    Command::new(alloc, word).arg(station)?.arg(moment)
-}
+const LOCKS: Row = Row {
+    name: "locks",
+    takes: Takes::Nothing,
+    about: "Print the locks of an air file and their running text",
+    short: Some(LOCKS_SHORT),
+    long: LOCKS_HELP,
+    example: LOCKS_EXAMPLE,
+};
 
 const SEND_HELP: &str = "Write messages as an air file, to be sent in the station's next slot.
 
@@ -298,17 +308,14 @@ const SEND_EXAMPLE: &str = "Example, of which the first 40 columns are shown:
   B 01100111111000011001111110000110011111
   B 01100111111000011001111110000101101111";
 
-fn send_command<'a>(alloc: Global) -> Result<Command<'a>, AllocError>
-    ensures { IfOk result (IsBuiltAs (slot_tree (codes "send"))) }
-{
-    Ok(
-        slot_command(alloc, "send")?
-            .about("Write messages as an air file, to be sent in the next slot")
-            .after_help(AIR_FILE)
-            .long_about(SEND_HELP)
-            .after_long_help(SEND_EXAMPLE),
-    )
-}
+const SEND: Row = Row {
+    name: "send",
+    takes: Takes::Slot,
+    about: "Write messages as an air file, to be sent in the next slot",
+    short: Some(AIR_FILE),
+    long: SEND_HELP,
+    example: SEND_EXAMPLE,
+};
 
 const SLOTS_HELP: &str = "Print when the station's next slot begins.
 
@@ -320,16 +327,14 @@ const SLOTS_EXAMPLE: &str = "Example:
   $ navtex slots E 1735689600
   1735692000 2025-01-01 00:40:00";
 
-fn slots_command<'a>(alloc: Global) -> Result<Command<'a>, AllocError>
-    ensures { IfOk result (IsBuiltAs (slot_tree (codes "slots"))) }
-{
-    Ok(
-        slot_command(alloc, "slots")?
-            .about("Print when the station's next slot begins")
-            .long_about(SLOTS_HELP)
-            .after_long_help(SLOTS_EXAMPLE),
-    )
-}
+const SLOTS: Row = Row {
+    name: "slots",
+    takes: Takes::Slot,
+    about: "Print when the station's next slot begins",
+    short: None,
+    long: SLOTS_HELP,
+    example: SLOTS_EXAMPLE,
+};
 
 const CHECK_HELP: &str = "Print the messages of an air file that is exactly an emission.
 
@@ -352,15 +357,14 @@ const CHECK_EXAMPLE: &str = "Example:
   TEST
   ;";
 
-fn check_command<'a>(alloc: Global) -> Command<'a>
-    ensures { IsBuiltAs (plain_tree (codes "check")) result }
-{
-    Command::new(alloc, "check")
-        .about("Print the messages of an air file that is exactly an emission")
-        .after_help(AIR_FILE)
-        .long_about(CHECK_HELP)
-        .after_long_help(CHECK_EXAMPLE)
-}
+const CHECK: Row = Row {
+    name: "check",
+    takes: Takes::Nothing,
+    about: "Print the messages of an air file that is exactly an emission",
+    short: Some(AIR_FILE),
+    long: CHECK_HELP,
+    example: CHECK_EXAMPLE,
+};
 
 const DAMAGE_HELP: &str = "Copy an air file with some of its words damaged.
 
@@ -379,51 +383,14 @@ const DAMAGE_EXAMPLE: &str = "Example, which inverts the first element of the wo
   $ printf 'B 011001111110000110011\\n' | navtex damage dx 1 2
   B 011001111110001110011";
 
-/// An argument that is a whole number of 32 bits.
-fn number_argument<'a>(alloc: Global, name: &'a str, help: &'a str) -> Arg<'a>
-    ensures rule { rule_of result ≡ number_rule name.entry.now 4294967295 }
-    ensures local { result.global ≡ false }
-{
-    Arg::new(alloc, name)
-        .required(true)
-        .value_parser(ValueParser::unsigned(0, 0xFFFF_FFFF))
-        .help(help)
-}
-
-/// The command that takes a kind of damage and a range of words.
-fn range_command<'a>(alloc: Global) -> Result<Command<'a>, AllocError>
-    ensures { IfOk result (IsBuiltAs (damage_tree (codes "damage"))) }
-{
-    let kind = Arg::new(alloc, "KIND")
-        .required(true)
-        .help("The words that are meant: dx, rx or all");
-    let from = number_argument(
-        alloc,
-        "FROM",
-        "The first word of the range, 0 to 4294967295",
-    );
-    let count = number_argument(
-        alloc,
-        "COUNT",
-        "How many words the range has, 0 to 4294967295",
-    );
-    Command::new(alloc, "damage")
-        .arg(kind)?
-        .arg(from)?
-        .arg(count)
-}
-
-fn damage_command<'a>(alloc: Global) -> Result<Command<'a>, AllocError>
-    ensures { IfOk result (IsBuiltAs (damage_tree (codes "damage"))) }
-{
-    Ok(
-        range_command(alloc)?
-            .about("Copy an air file with some of its words damaged")
-            .after_help(AIR_FILE)
-            .long_about(DAMAGE_HELP)
-            .after_long_help(DAMAGE_EXAMPLE),
-    )
-}
+const DAMAGE: Row = Row {
+    name: "damage",
+    takes: Takes::Range,
+    about: "Copy an air file with some of its words damaged",
+    short: Some(AIR_FILE),
+    long: DAMAGE_HELP,
+    example: DAMAGE_EXAMPLE,
+};
 
 const DECODE_HELP: &str = "Print the text of an air file.
 
@@ -454,15 +421,14 @@ const DECODE_EXAMPLE: &str = "Example, the letter A as encode sends it, here in 
   $ navtex decode < a.air
   A";
 
-fn decode_command<'a>(alloc: Global) -> Command<'a>
-    ensures { IsBuiltAs (plain_tree (codes "decode")) result }
-{
-    Command::new(alloc, "decode")
-        .about("Print the text of an air file")
-        .after_help(AIR_FILE)
-        .long_about(DECODE_HELP)
-        .after_long_help(DECODE_EXAMPLE)
-}
+const DECODE: Row = Row {
+    name: "decode",
+    takes: Takes::Nothing,
+    about: "Print the text of an air file",
+    short: Some(AIR_FILE),
+    long: DECODE_HELP,
+    example: DECODE_EXAMPLE,
+};
 
 const ENCODE_HELP: &str = "Write a text as an air file.
 
@@ -483,15 +449,14 @@ const ENCODE_EXAMPLE: &str =
   $ printf A | navtex encode | cut -c1-60
   B 0110011111100001100111111000011001111110000110011111100011";
 
-fn encode_command<'a>(alloc: Global) -> Command<'a>
-    ensures { IsBuiltAs (plain_tree (codes "encode")) result }
-{
-    Command::new(alloc, "encode")
-        .about("Write a text as an air file")
-        .after_help(AIR_FILE)
-        .long_about(ENCODE_HELP)
-        .after_long_help(ENCODE_EXAMPLE)
-}
+const ENCODE: Row = Row {
+    name: "encode",
+    takes: Takes::Nothing,
+    about: "Write a text as an air file",
+    short: Some(AIR_FILE),
+    long: ENCODE_HELP,
+    example: ENCODE_EXAMPLE,
+};
 
 const SHOW_HELP: &str = "Print the words of an air file, one line for each.
 
@@ -513,15 +478,14 @@ const SHOW_EXAMPLE: &str = "Example, of which the first two lines and the ninth 
   1 RX 0F P1
   8 DX 47 A";
 
-fn show_command<'a>(alloc: Global) -> Command<'a>
-    ensures { IsBuiltAs (plain_tree (codes "show")) result }
-{
-    Command::new(alloc, "show")
-        .about("Print the words of an air file")
-        .after_help(AIR_FILE)
-        .long_about(SHOW_HELP)
-        .after_long_help(SHOW_EXAMPLE)
-}
+const SHOW: Row = Row {
+    name: "show",
+    takes: Takes::Nothing,
+    about: "Print the words of an air file",
+    short: Some(AIR_FILE),
+    long: SHOW_HELP,
+    example: SHOW_EXAMPLE,
+};
 
 const CODE_HELP: &str = "Print the table of the code.
 
@@ -541,14 +505,14 @@ const CODE_EXAMPLE: &str = "Example, the first and the fourth line:
   47 BBBYYYB A -
   53 BBYYBYB D none";
 
-fn code_command<'a>(alloc: Global) -> Command<'a>
-    ensures { IsBuiltAs (plain_tree (codes "code")) result }
-{
-    Command::new(alloc, "code")
-        .about("Print the table of the code")
-        .long_about(CODE_HELP)
-        .after_long_help(CODE_EXAMPLE)
-}
+const CODE: Row = Row {
+    name: "code",
+    takes: Takes::Nothing,
+    about: "Print the table of the code",
+    short: None,
+    long: CODE_HELP,
+    example: CODE_EXAMPLE,
+};
 
 const PROGRAM_HELP: &str =
     "A NAVTEX broadcast station and receiver, for the elements of a signal and not
@@ -575,7 +539,123 @@ Exit status:
   2   a bad file, line or value
   64  words that are not understood";
 
-fn bare_command<'a>(alloc: Global) -> Result<Command<'a>, AllocError>
+/// The commands of the program, in the order in which help lists them.
+const COMMANDS: [Row; 12] = [
+    LISTEN, SEND, RESUME, SAVE, LOCKS, SLOTS, CHECK, DAMAGE, DECODE, ENCODE, SHOW, CODE,
+];
+
+/// The command with an argument that is any text.
+fn with_text<'a>(
+    alloc: Global,
+    command: Command<'a>,
+    name: &'a str,
+    help: &'a str,
+) -> Result<Command<'a>, AllocError>
+    ensures { IfOk result (AddsRule (text_rule name.entry.now) command.entry) }
+{
+    command.arg(Arg::new(alloc, name).required(true).help(help))
+}
+
+/// The command with an argument that is a whole number up to the most.
+fn with_number<'a>(
+    alloc: Global,
+    command: Command<'a>,
+    name: &'a str,
+    most: u64,
+    help: &'a str,
+) -> Result<Command<'a>, AllocError>
+    ensures { IfOk result (AddsRule (number_rule name.entry.now most) command.entry) }
+{
+    command.arg(
+        Arg::new(alloc, name)
+            .required(true)
+            .value_parser(ValueParser::unsigned(0, most))
+            .help(help),
+    )
+}
+
+/// A command that takes a station and a moment.
+fn slot_command<'a>(alloc: Global, word: &'a str) -> Result<Command<'a>, AllocError>
+    ensures { IfOk result (IsBuiltAs (slot_tree word.entry.now)) }
+{
+    let command = with_text(
+        alloc,
+        Command::new(alloc, word),
+        "STATION",
+        "The station, one letter A to Z",
+    )?;
+    with_number(
+        alloc,
+        command,
+        "MOMENT",
+        LAST_MOMENT,
+        "Seconds since 1970-01-01 00:00:00 UTC, 0 to 32503679999",
+    )
+}
+
+/// A command that takes a kind of damage and a range of words.
+fn range_command<'a>(alloc: Global, word: &'a str) -> Result<Command<'a>, AllocError>
+    ensures { IfOk result (IsBuiltAs (damage_tree word.entry.now)) }
+{
+    let with_kind = with_text(
+        alloc,
+        Command::new(alloc, word),
+        "KIND",
+        "The words that are meant: dx, rx or all",
+    )?;
+    let with_first = with_number(
+        alloc,
+        with_kind,
+        "FROM",
+        0xFFFF_FFFF,
+        "The first word of the range, 0 to 4294967295",
+    )?;
+    with_number(
+        alloc,
+        with_first,
+        "COUNT",
+        0xFFFF_FFFF,
+        "How many words the range has, 0 to 4294967295",
+    )
+}
+
+impl Row {
+    /// The command of this row, without its help.
+    fn bare_command<'a>(&self, alloc: Global) -> Result<Command<'a>, AllocError>
+        ensures { IfOk result (IsBuiltAs (row_tree self.now)) }
+    {
+        match self.takes {
+            Takes::Nothing => Ok(Command::new(alloc, self.name)),
+            Takes::Slot => slot_command(alloc, self.name),
+            Takes::Range => range_command(alloc, self.name),
+        }
+    }
+
+    /// The command with this row's help.
+    fn described<'a>(&self, command: Command<'a>) -> Command<'a>
+        ensures { IsReadAs command.entry result }
+    {
+        let described = command
+            .about(self.about)
+            .long_about(self.long)
+            .after_long_help(self.example);
+        match self.short {
+            Some(short) => described.after_help(short),
+            None => described,
+        }
+    }
+
+    /// The program with the command of this row behind those that it has.
+    fn added_to<'a>(&self, alloc: Global, program: Command<'a>) -> Result<Command<'a>, AllocError>
+        ensures { IfOk result (AddsRow self.now program.entry) }
+    {
+        let command = self.bare_command(alloc)?;
+        program.subcommand(self.described(command))
+    }
+}
+
+/// The program without its commands.
+fn bare_program<'a>(alloc: Global) -> Result<Command<'a>, AllocError>
     ensures { IfOk result (IsBuiltAs bare_tree) }
 {
     Command::new(alloc, "navtex")
@@ -587,23 +667,20 @@ fn bare_command<'a>(alloc: Global) -> Result<Command<'a>, AllocError>
         .bin_name("navtex")
 }
 
+/// The program with the commands of these rows.
+fn program_of<'a>(alloc: Global, rows: &[Row]) -> Result<Command<'a>, AllocError>
+    ensures { IfOk result (IsBuiltAs (with_rows bare_tree rows.now)) }
+{
+    let mut program = bare_program(alloc)?;
+    for row in rows {
+        program = row.added_to(alloc, program)?;
+    }
+    Ok(program)
+}
+
 /// The command of the program, with all its commands.
 pub fn navtex_command<'a>(alloc: Global) -> Result<Command<'a>, AllocError>
     ensures { IfOk result (IsBuiltAs navtex) }
 {
-    let commands = vec![in alloc;
-        listen_command(alloc),
-        send_command(alloc)?,
-        resume_command(alloc),
-        save_command(alloc),
-        locks_command(alloc),
-        slots_command(alloc)?,
-        check_command(alloc),
-        damage_command(alloc)?,
-        decode_command(alloc),
-        encode_command(alloc),
-        show_command(alloc),
-        code_command(alloc),
-    ]?;
-    bare_command(alloc)?.subcommands(commands)
+    program_of(alloc, &COMMANDS)
 }

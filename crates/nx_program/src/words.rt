@@ -1,10 +1,12 @@
 //! The words of the command line and the call that they name, read by `clap`.
 
-ghost use Rattle.std.specs.Prelude.{◌≡◌, ◌≢◌, ℕ, [], ◌∷◌, IfErr, IfNone, IfOk, IfSome, codes, map};
-ghost use Rattle.clap.specs.Words.{found_of, rows_of};
+ghost use Rattle.std.specs.Prelude.{◌≡◌, ◌≢◌, ℕ, List, [], ◌∷◌, IfErr, IfNone, IfOk, IfSome};
+ghost use Rattle.std.specs.Prelude.{codes, map};
+ghost use Rattle.clap.specs.Words.{Row, found_of, rows_of};
 ghost use Rattle.nx_program.specs.Words.{HasArguments, IsKind, IsNumber, IsStation, Names, command_name};
 ghost use Rattle.nx_program.specs.Words.{kind_name};
-ghost use Rattle.nx_program.specs.private.Reading.{ExplainsWords, IsSortedAs};
+ghost use Rattle.nx_program.specs.private.Reading.{ExplainsWords, IsSortedAs, LacksRange, LacksSlot};
+ghost use Rattle.nx_program.specs.private.Reading.{WantsArguments};
 ghost use Rattle.nx_program.specs.declared.words.Call.{Call};
 ghost use Rattle.nx_station.specs.declared.damaging.DamageKind.{DamageKind};
 ghost use Rattle.nx_program.specs.declared.words.WordsFault.TheVariants.{Kind, Memory, Station};
@@ -107,12 +109,12 @@ fn unfit_argument(word: &str) -> WordsFault
 }
 
 impl Call {
-    /// The call that the command line names by this word with these arguments.
-    fn of_command(word: &str, arguments: &ArgMatches) -> Option<Call>
+    /// The call of a command that takes no argument, by its word.
+    fn without_arguments(word: &str) -> Option<Call>
         ensures some { IfSome result (λ call. (word.now ≡ command_name call)
-            × HasArguments call (rows_of (found_of arguments.now))) }
+            × ((rows : List Row) → HasArguments call rows)) }
         ensures none { IfNone result ((call : Call) → word.now ≡ command_name call
-            → ¬ HasArguments call (rows_of (found_of arguments.now))) }
+            → WantsArguments call) }
     {
         Some(match word {
             "decode" => Call::Decode,
@@ -124,21 +126,32 @@ impl Call {
             "resume" => Call::Resume,
             "save" => Call::Save,
             "locks" => Call::Locks,
-            "send" => Call::Send {
-                station: station_in(arguments)?,
-                moment: number_in(arguments, "MOMENT")?,
-            },
-            "slots" => Call::Slots {
-                station: station_in(arguments)?,
-                moment: number_in(arguments, "MOMENT")?,
-            },
-            "damage" => Call::Damage {
-                kind: kind_in(arguments)?,
-                from: number_in(arguments, "FROM")?,
-                count: number_in(arguments, "COUNT")?,
-            },
             _ => return None,
         })
+    }
+
+    /// The call that the command line names by this word with these arguments.
+    fn of_command(word: &str, arguments: &ArgMatches) -> Option<Call>
+        ensures some { IfSome result (λ call. (word.now ≡ command_name call)
+            × HasArguments call (rows_of (found_of arguments.now))) }
+        ensures none { IfNone result ((call : Call) → word.now ≡ command_name call
+            → ¬ HasArguments call (rows_of (found_of arguments.now))) }
+    {
+        match word {
+            "send" => {
+                let (station, moment) = slot_in(arguments)?;
+                Some(Call::Send { station, moment })
+            }
+            "slots" => {
+                let (station, moment) = slot_in(arguments)?;
+                Some(Call::Slots { station, moment })
+            }
+            "damage" => {
+                let (kind, from, count) = range_in(arguments)?;
+                Some(Call::Damage { kind, from, count })
+            }
+            _ => Call::without_arguments(word),
+        }
     }
 }
 
@@ -191,6 +204,29 @@ fn number_in(arguments: &ArgMatches, name: &str) -> Option<u64>
         → ¬ IsNumber name.now (rows_of (found_of arguments.now)) number) }
 {
     arguments.get_one(name)
+}
+
+/// The arguments of a command that takes a station and a moment.
+fn slot_in(arguments: &ArgMatches) -> Option<(Letter, u64)>
+    ensures some { IfSome result (λ slot. IsStation (rows_of (found_of arguments.now)) slot.0
+        × IsNumber (codes "MOMENT") (rows_of (found_of arguments.now)) slot.1) }
+    ensures none { IfNone result (LacksSlot (rows_of (found_of arguments.now))) }
+{
+    Some((station_in(arguments)?, number_in(arguments, "MOMENT")?))
+}
+
+/// The arguments of a command that takes a kind of damage and a range of words.
+fn range_in(arguments: &ArgMatches) -> Option<(DamageKind, u64, u64)>
+    ensures some { IfSome result (λ range. IsKind (rows_of (found_of arguments.now)) range.0
+        × IsNumber (codes "FROM") (rows_of (found_of arguments.now)) range.1
+        × IsNumber (codes "COUNT") (rows_of (found_of arguments.now)) range.2) }
+    ensures none { IfNone result (LacksRange (rows_of (found_of arguments.now))) }
+{
+    Some((
+        kind_in(arguments)?,
+        number_in(arguments, "FROM")?,
+        number_in(arguments, "COUNT")?,
+    ))
 }
 
 impl From<AllocError> for WordsFault {

@@ -19,7 +19,8 @@ use nx_envelope::{Finder, FinderStep, Found, Letter};
 use nx_fec::{Counting, read_bits};
 use nx_station::send;
 use std::alloc::Global;
-use std::test::Fail;
+use std::fmt::Display;
+use std::process::Abort;
 
 /// 2025-01-01 00:40:00, four hours later, and 66 hours after the first.
 const FIRST: u64 = 1_735_692_000;
@@ -44,9 +45,14 @@ fn first_copy(text: &[u8]) -> Option<Found> {
     finder.end()
 }
 
+/// Whether a fault is told by this text.
+fn is_told(rt: &impl Abort, alloc: Global, fault: &impl Display, text: &str) -> bool {
+    fault.to_string(alloc).expect(rt, "memory").as_str() == text
+}
+
 /// What station E sends of a message file, in its slot that begins at this moment.
-fn sent(alloc: Global, messages: &[u8], moment: u64) -> Result<Vec<u8>, Fail> {
-    let station = Letter::new(b'E').ok_or("a station")?;
+fn sent(rt: &impl Abort, alloc: Global, messages: &[u8], moment: u64) -> Vec<u8> {
+    let station = Letter::new(b'E').expect(rt, "a station");
     let mut air_file = Counting::new(Vec::new(alloc));
     send(
         alloc,
@@ -55,12 +61,12 @@ fn sent(alloc: Global, messages: &[u8], moment: u64) -> Result<Vec<u8>, Fail> {
         station,
         moment,
     )
-    .or(Err("sending"))?;
-    Ok(air_file.into_inner())
+    .expect(rt, "sending");
+    air_file.into_inner()
 }
 
 /// The elements of a message file's emission.
-fn elements_of(alloc: Global, messages: &[u8]) -> Result<Vec<bool>, Fail> {
-    let air_file = sent(alloc, messages, FIRST)?;
-    Ok(read_bits(alloc, &mut Counting::new(air_file.as_slice())).or(Err("reading"))?)
+fn elements_of(rt: &impl Abort, alloc: Global, messages: &[u8]) -> Vec<bool> {
+    let air_file = sent(rt, alloc, messages, FIRST);
+    read_bits(alloc, &mut Counting::new(air_file.as_slice())).expect(rt, "reading")
 }

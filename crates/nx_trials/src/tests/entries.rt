@@ -4,7 +4,6 @@ use super::{FIRST, first_copy};
 use nx_fec::{Channel, Counting};
 use nx_receiver::{Entry, entry_text, entry_text_on};
 use std::alloc::Global;
-use std::test::Fail;
 
 /// What is printed of the first copy of a text, at the first moment on this channel.
 fn printed(alloc: Global, text: &[u8], channel: Channel) -> Option<Vec<u8>> {
@@ -16,21 +15,21 @@ fn printed(alloc: Global, text: &[u8], channel: Channel) -> Option<Vec<u8>> {
 
 /// The mark of a channel stands directly behind the identity.
 #[test]
-fn entries_of_texts(rt: HostRuntime) -> Result<(), Fail> {
-    let test = b"ZCZC EA01\nTEST\nNNNN".as_slice();
-    let cases: [(&[u8], Channel, &[u8]); 7] = [
+fn entries_of_texts(rt: HostRuntime) {
+    const TEST: &[u8] = b"ZCZC EA01\nTEST\nNNNN";
+    static CASES: [(&[u8], Channel, &[u8]); 7] = [
         (
-            test,
+            TEST,
             Channel::Zero,
             b"[EA01 2025-01-01 00:40:00 full 0/5]\nTEST\n\n",
         ),
         (
-            test,
+            TEST,
             Channel::One,
             b"[EA01/1 2025-01-01 00:40:00 full 0/5]\nTEST\n\n",
         ),
         (
-            test,
+            TEST,
             Channel::Two,
             b"[EA01/2 2025-01-01 00:40:00 full 0/5]\nTEST\n\n",
         ),
@@ -55,23 +54,21 @@ fn entries_of_texts(rt: HostRuntime) -> Result<(), Fail> {
             b"[EA01 2025-01-01 00:40:00 cut 1/1]\n*\n\n",
         ),
     ];
-    for (text, channel, entry) in cases {
-        let bytes = printed(rt.alloc(), text, channel).ok_or("no entry")?;
-        assert_eq!(rt; bytes.as_slice(), entry);
+    for &(text, channel, entry) in &CASES {
+        let bytes = printed(rt.alloc(), text, channel).expect(&rt, "no entry");
+        assert!(rt; bytes.as_slice() == entry);
     }
-    Ok(())
 }
 
 #[test]
-fn an_entry_of_4100_characters(rt: HostRuntime) -> Result<(), Fail> {
+fn an_entry_of_4100_characters(rt: HostRuntime) {
     let mut text = [b'A'; 4_110];
     text[..10].copy_from_slice(b"ZCZC EA01\n");
-    let entry = Entry::new(first_copy(&text).ok_or("no copy")?, FIRST);
+    let entry = Entry::new(first_copy(&text).expect(&rt, "no copy"), FIRST);
     let mut writer = Counting::new(Vec::new(rt.alloc()));
-    entry_text(&entry, &mut writer).or(Err("writing"))?;
+    entry_text(&entry, &mut writer).expect(&rt, "writing");
     let bytes = writer.into_inner();
     let rest = bytes.strip_prefix(b"[EA01 2025-01-01 00:40:00 long 0/4100]\n");
     let letters = rest.and_then(|rest| rest.strip_suffix(b"\n\n"));
-    assert_eq!(rt; letters, Some([b'A'; 4_100].as_slice()));
-    Ok(())
+    assert!(rt; letters == Some([b'A'; 4_100].as_slice()));
 }

@@ -8,8 +8,8 @@ use nx_envelope::{Identity, Letter};
 use nx_fec::Counting;
 use nx_memory::{PlainRecall, Recall, RingRecall, Selection};
 use nx_receiver::{Entry, MomentFault, Receiver, ReceiverFault, entry_text};
-use std::alloc::{AllocError, Global};
-use std::test::Fail;
+use std::alloc::Global;
+use std::process::Abort;
 
 /// A moment, and which of the emissions at hand is heard from it on.
 type Heard = (u64, usize);
@@ -18,76 +18,86 @@ type Heard = (u64, usize);
 type Case<'a> = (&'a [Heard], &'a [u8]);
 
 /// Appends an entry to a log.
-fn add_entry(alloc: Global, log: &mut Vec<u8>, entry: &Entry) -> Result<(), Fail>
+fn add_entry(rt: &impl Abort, alloc: Global, log: &mut Vec<u8>, entry: &Entry)
     requires { entry.now.moment ≤ last_moment }
 {
     let mut writer = Counting::new(Vec::new(alloc));
-    entry_text(entry, &mut writer).or(Err("writing"))?;
-    log.extend_from_slice(&writer.into_inner())?;
-    Ok(())
+    entry_text(entry, &mut writer).expect(rt, "writing");
+    log.extend_from_slice(&writer.into_inner())
+        .expect(rt, "memory");
 }
 
 /// Feeds one piece, and goes on behind each entry.
 fn hear<M: Recall>(
+    rt: &impl Abort,
     alloc: Global,
     receiver: &mut Receiver<M>,
     bits: &[bool],
     log: &mut Vec<u8>,
-) -> Result<(), Fail> {
+) {
     let mut at = 0;
     while at < bits.len() {
         let (count, entry) = receiver.feed(&bits[at..]);
         at += count;
         if let Some(entry) = entry {
-            add_entry(alloc, log, &entry)?;
+            add_entry(rt, alloc, log, &entry);
         }
     }
-    Ok(())
 }
 
 /// The log of all that a receiver hears of these emissions, in pieces of this length.
 fn log_of<M: Recall>(
+    rt: &impl Abort,
     alloc: Global,
     memory: M,
     emissions: &[&[bool]],
     heard: &[Heard],
     length: usize,
-) -> Result<Vec<u8>, Fail>
+) -> Vec<u8>
     requires { 0 < length }
 {
-    let mut receiver = Receiver::new(alloc, memory, 0).or(Err("receiver"))?;
+    let mut receiver = Receiver::new(alloc, memory, 0).expect(rt, "receiver");
     let mut log = Vec::new(alloc);
     for (moment, which) in heard {
-        receiver.set_moment(*moment).or(Err("moment"))?;
-        let bits = emissions.get(*which).ok_or("an emission")?;
+        receiver.set_moment(*moment).expect(rt, "moment");
+        let bits = emissions.get(*which).expect(rt, "an emission");
         for piece in bits.chunks(length) {
-            hear(alloc, &mut receiver, piece, &mut log)?;
+            hear(rt, alloc, &mut receiver, piece, &mut log);
         }
     }
     if let Some(entry) = receiver.close() {
-        add_entry(alloc, &mut log, &entry)?;
+        add_entry(rt, alloc, &mut log, &entry);
     }
-    Ok(log)
+    log
 }
 
 /// Whether this is the log, with either memory, in pieces of this length.
-fn is_log(alloc: Global, emissions: &[&[bool]], case: Case, length: usize) -> Result<bool, Fail>
+fn is_log(rt: &impl Abort, alloc: Global, emissions: &[&[bool]], case: Case, length: usize) -> bool
     requires { 0 < length }
 {
     let (heard, log) = case;
-    let plain = log_of(alloc, PlainRecall::new(), emissions, heard, length)?;
-    let ring = log_of(alloc, RingRecall::new(alloc)?, emissions, heard, length)?;
-    Ok(plain.as_slice() == log && ring.as_slice() == log)
+    let plain = log_of(rt, alloc, PlainRecall::new(), emissions, heard, length);
+    let ring = log_of(
+        rt,
+        alloc,
+        RingRecall::new(alloc).expect(rt, "memory"),
+        emissions,
+        heard,
+        length,
+    );
+    plain.as_slice() == log && ring.as_slice() == log
 }
 
 /// Whether each of these is heard so, in one piece and bit by bit.
-fn are_logs(alloc: Global, emissions: &[&[bool]], cases: &[Case]) -> Result<bool, Fail> {
+fn are_logs(rt: &impl Abort, alloc: Global, emissions: &[&[bool]], cases: &[Case]) -> bool {
     for case in cases {
-        if !is_log(alloc, emissions, *case, usize::MAX)? || !is_log(alloc, emissions, *case, 1)? {
-            return Ok(false);
+        if !is_log(rt, alloc, emissions, *case, usize::MAX)
+            || !is_log(rt, alloc, emissions, *case, 1)
+        {
+            return false;
         }
     }
-    Ok(true)
+    true
 }
 
 /// Inverts the first element of each of these words.
@@ -100,42 +110,41 @@ fn damage(bits: &mut [bool], words: &[u16]) {
 }
 
 /// These elements in a row.
-fn joined(alloc: Global, pieces: &[&[bool]]) -> Result<Vec<bool>, AllocError> {
+fn joined(rt: &impl Abort, alloc: Global, pieces: &[&[bool]]) -> Vec<bool> {
     let mut all = Vec::new(alloc);
     for piece in pieces {
-        all.extend_from_slice(*piece)?;
+        all.extend_from_slice(*piece).expect(rt, "memory");
     }
-    Ok(all)
+    all
 }
 
 /// Behind the four words of a lock three elements slip in, or one word is lost, so that the roles
 /// are swapped.
 #[test]
-fn slipped_and_swapped(rt: HostRuntime) -> Result<(), Fail> {
-    let whole = elements_of(rt.alloc(), EA01)?;
-    let four_words = whole.get(..28).ok_or("elements")?;
-    let but_one_word = whole.get(7..).ok_or("elements")?;
-    let slipped = joined(rt.alloc(), &[four_words, &[false; 3], &whole])?;
-    let swapped = joined(rt.alloc(), &[four_words, but_one_word])?;
+fn slipped_and_swapped(rt: HostRuntime) {
+    let whole = elements_of(&rt, rt.alloc(), EA01);
+    let four_words = whole.get(..28).expect(&rt, "elements");
+    let but_one_word = whole.get(7..).expect(&rt, "elements");
+    let slipped = joined(&rt, rt.alloc(), &[four_words, &[false; 3], &whole]);
+    let swapped = joined(&rt, rt.alloc(), &[four_words, but_one_word]);
     let cases: [Case; 2] = [(&[(FIRST, 0)], LOG_OF_EA01), (&[(FIRST, 1)], LOG_OF_EA01)];
-    assert!(rt; are_logs(rt.alloc(), &[&slipped, &swapped], &cases)?);
-    Ok(())
+    assert!(rt; are_logs(&rt, rt.alloc(), &[&slipped, &swapped], &cases));
 }
 
 #[test]
-fn damaged_and_cut(rt: HostRuntime) -> Result<(), Fail> {
-    let whole = elements_of(rt.alloc(), EA01)?;
-    assert_eq!(rt; whole.len(), 1_421);
+fn damaged_and_cut(rt: HostRuntime) {
+    let whole = elements_of(&rt, rt.alloc(), EA01);
+    assert!(rt; whole.len() == 1_421);
     // The figure shift is lost in both words.
-    let mut lost = whole.clone()?;
+    let mut lost = whole.clone().expect(&rt, "memory");
     damage(&mut lost, &[160, 165]);
     // Each DX word of the message from its letter shift on is damaged.
-    let mut half = whole.clone()?;
+    let mut half = whole.clone().expect(&rt, "memory");
     for pair in 72..102 {
         damage(&mut half, &[2 * pair]);
     }
-    let cut = whole.get(..1_323).ok_or("elements")?;
-    let cases: [Case; 5] = [
+    let cut = whole.get(..1_323).expect(&rt, "elements");
+    static CASES: [Case; 5] = [
         (&[(FIRST, 0)], LOG_OF_EA01),
         (&[(FIRST, 1)], b""),
         (&[(FIRST, 2)], LOG_OF_EA01),
@@ -149,17 +158,16 @@ fn damaged_and_cut(rt: HostRuntime) -> Result<(), Fail> {
             [EA01 2025-01-01 04:40:00 full 0/5]\nTEST\n\n",
         ),
     ];
-    assert!(rt; are_logs(rt.alloc(), &[&whole, &lost, &half, cut], &cases)?);
-    Ok(())
+    assert!(rt; are_logs(&rt, rt.alloc(), &[&whole, &lost, &half, cut], &CASES));
 }
 
 #[test]
-fn repeats(rt: HostRuntime) -> Result<(), Fail> {
-    let ea01 = elements_of(rt.alloc(), EA01)?;
-    let ea00 = elements_of(rt.alloc(), b"#A00\nTEST\n;\n")?;
-    let two = elements_of(rt.alloc(), b"#A01\nTEST\n;\n#B02\n;\n")?;
-    assert_eq!(rt; two.len(), 2_219);
-    let cases: [Case; 4] = [
+fn repeats(rt: HostRuntime) {
+    let ea01 = elements_of(&rt, rt.alloc(), EA01);
+    let ea00 = elements_of(&rt, rt.alloc(), b"#A00\nTEST\n;\n");
+    let two = elements_of(&rt, rt.alloc(), b"#A01\nTEST\n;\n#B02\n;\n");
+    assert!(rt; two.len() == 2_219);
+    static CASES: [Case; 4] = [
         (&[(FIRST, 0), (SECOND, 0)], LOG_OF_EA01),
         (
             &[(FIRST, 0), (AGAIN - 1, 0), (AGAIN, 0)],
@@ -178,19 +186,18 @@ fn repeats(rt: HostRuntime) -> Result<(), Fail> {
             [EB02 2025-01-01 00:40:00 full 0/0]\n\n",
         ),
     ];
-    assert!(rt; are_logs(rt.alloc(), &[&ea01, &ea00, &two], &cases)?);
-    Ok(())
+    assert!(rt; are_logs(&rt, rt.alloc(), &[&ea01, &ea00, &two], &CASES));
 }
 
 #[test]
-fn moments(rt: HostRuntime) -> Result<(), Fail> {
+fn moments(rt: HostRuntime) {
     let range = Some(ReceiverFault::MomentRange);
     let late = Receiver::new(rt.alloc(), PlainRecall::new(), 32_503_680_000);
-    assert_eq!(rt; late.err(), range);
+    assert!(rt; late.err() == range);
     let mut memory = PlainRecall::new();
-    memory.enter(Identity::new(b'E', b'A', 1).ok_or("EA01")?, 5);
-    assert_eq!(rt; Receiver::new(rt.alloc(), memory, 4).err(), range);
-    let mut receiver = Receiver::new(rt.alloc(), PlainRecall::new(), 0).or(Err("receiver"))?;
+    memory.enter(Identity::new(b'E', b'A', 1).expect(&rt, "EA01"), 5);
+    assert!(rt; Receiver::new(rt.alloc(), memory, 4).err() == range);
+    let mut receiver = Receiver::new(rt.alloc(), PlainRecall::new(), 0).expect(&rt, "receiver");
     let cases = [
         (5, Ok(())),
         (4, Err(MomentFault::Back { last: 5, given: 4 })),
@@ -203,17 +210,16 @@ fn moments(rt: HostRuntime) -> Result<(), Fail> {
         (5, Ok(())),
     ];
     for (moment, outcome) in cases {
-        assert_eq!(rt; receiver.set_moment(moment), outcome);
+        assert!(rt; receiver.set_moment(moment) == outcome);
     }
-    Ok(())
 }
 
 #[test]
-fn commands(rt: HostRuntime) -> Result<(), Fail> {
-    let e = Letter::new(b'E').ok_or("E")?;
-    let d = Letter::new(b'D').ok_or("D")?;
-    let ee01 = Identity::new(b'E', b'E', 1).ok_or("EE01")?;
-    let mut receiver = Receiver::new(rt.alloc(), PlainRecall::new(), 0).or(Err("receiver"))?;
+fn commands(rt: HostRuntime) {
+    let e = Letter::new(b'E').expect(&rt, "E");
+    let d = Letter::new(b'D').expect(&rt, "D");
+    let ee01 = Identity::new(b'E', b'E', 1).expect(&rt, "EE01");
+    let mut receiver = Receiver::new(rt.alloc(), PlainRecall::new(), 0).expect(&rt, "receiver");
     assert!(rt; receiver.admits(&ee01));
     receiver.refuse_station(e);
     assert!(rt; !receiver.admits(&ee01));
@@ -231,5 +237,4 @@ fn commands(rt: HostRuntime) -> Result<(), Fail> {
     assert!(rt; !receiver.admits(&ee01));
     assert!(rt; receiver.saved().selection().refuses_station(e));
     assert!(rt; receiver.close().is_none());
-    Ok(())
 }

@@ -7,7 +7,6 @@ use super::{AGAIN, FIRST, SECOND, first_copy};
 use nx_envelope::Identity;
 use nx_memory::{PlainRecall, Recall, RingRecall};
 use nx_receiver::judge;
-use std::test::Fail;
 
 /// What a memory makes of copies that follow one another.
 fn judge_copies<M: Recall>(memory: &mut M) -> Option<[bool; 8]>
@@ -34,15 +33,14 @@ fn judge_copies<M: Recall>(memory: &mut M) -> Option<[bool; 8]>
 }
 
 #[test]
-fn judges(rt: HostRuntime) -> Result<(), Fail> {
+fn judges(rt: HostRuntime) {
     let judged = [true, true, false, true, false, false, true, true];
     let mut plain = PlainRecall::new();
-    assert_eq!(rt; judge_copies(&mut plain), Some(judged));
-    let mut ring = RingRecall::new(rt.alloc())?;
-    assert_eq!(rt; judge_copies(&mut ring), Some(judged));
-    let name = Identity::new(b'E', b'A', 1).ok_or("EA01")?;
+    assert!(rt; judge_copies(&mut plain) == Some(judged));
+    let mut ring = RingRecall::new(rt.alloc()).expect(&rt, "memory");
+    assert!(rt; judge_copies(&mut ring) == Some(judged));
+    let name = Identity::new(b'E', b'A', 1).expect(&rt, "EA01");
     // A repeat that isn't printed renews nothing.
     assert!(rt; plain.knows(&name, AGAIN - 1));
     assert!(rt; !plain.knows(&name, AGAIN));
-    Ok(())
 }

@@ -1,12 +1,12 @@
 //! What `listen` and `listen_from` report.
 
-use super::{EA01, FIRST, LOG_OF_EA01, SECOND, elements_of, sent};
+use super::{EA01, FIRST, LOG_OF_EA01, SECOND, elements_of, is_told, sent};
 use nx_envelope::Letter;
 use nx_fec::Counting;
 use nx_memory::SavedSet;
 use nx_receiver::{ListenFault, MomentFault, Report, listen, listen_from};
 use std::alloc::{AllocError, Global};
-use std::test::Fail;
+use std::process::Abort;
 
 /// Whether a file is listened to with this report and this log.
 fn reports(alloc: Global, air_file: &[u8], report: Report, log: &[u8]) -> bool {
@@ -16,41 +16,47 @@ fn reports(alloc: Global, air_file: &[u8], report: Report, log: &[u8]) -> bool {
 }
 
 /// EA01 at the first moment, with one element in each line.
-fn in_lines_of_one(alloc: Global) -> Result<Vec<u8>, Fail> {
-    let mut lines = b"T 1735692000\n".to_vec(alloc)?;
-    for bit in elements_of(alloc, EA01)? {
-        lines.extend_from_slice(if bit { b"B 1\n" } else { b"B 0\n" })?;
+fn in_lines_of_one(rt: &impl Abort, alloc: Global) -> Vec<u8> {
+    let mut lines = b"T 1735692000\n".to_vec(alloc).expect(rt, "memory");
+    for bit in elements_of(rt, alloc, EA01) {
+        lines
+            .extend_from_slice(if bit { b"B 1\n" } else { b"B 0\n" })
+            .expect(rt, "memory");
     }
-    Ok(lines)
+    lines
 }
 
 /// An air file with each line of its elements a second time, on channel 1.
-fn on_two_channels(alloc: Global, air_file: &[u8]) -> Result<Vec<u8>, Fail> {
+fn on_two_channels(rt: &impl Abort, alloc: Global, air_file: &[u8]) -> Vec<u8> {
     let mut both = Vec::new(alloc);
     let mut line = Vec::new(alloc);
     for byte in air_file {
-        line.push(*byte)?;
+        line.push(*byte).expect(rt, "memory");
         if *byte == b'\n' {
-            both.extend_from_slice(&line)?;
+            both.extend_from_slice(&line).expect(rt, "memory");
             if let Some(elements) = line.strip_prefix(b"B") {
-                both.extend_from_slice(b"B1")?;
-                both.extend_from_slice(elements)?;
+                both.extend_from_slice(b"B1").expect(rt, "memory");
+                both.extend_from_slice(elements).expect(rt, "memory");
             }
             line.clear();
         }
     }
-    Ok(both)
+    both
 }
 
 #[test]
-fn counts_lines_and_elements(rt: HostRuntime) -> Result<(), Fail> {
-    let whole = sent(rt.alloc(), EA01, FIRST)?;
-    let lines_of_one = in_lines_of_one(rt.alloc())?;
+fn counts_lines_and_elements(rt: HostRuntime) {
+    let whole = sent(&rt, rt.alloc(), EA01, FIRST);
+    let lines_of_one = in_lines_of_one(&rt, rt.alloc());
     // Four elements stand between an emission and its repeat.
-    let mut repeated = whole.clone()?;
-    repeated.extend_from_slice(b"B 0110\n")?;
-    repeated.extend_from_slice(&sent(rt.alloc(), EA01, SECOND)?)?;
-    let both = on_two_channels(rt.alloc(), &whole)?;
+    let mut repeated = whole.clone().expect(&rt, "memory");
+    repeated
+        .extend_from_slice(b"B 0110\n")
+        .expect(&rt, "memory");
+    repeated
+        .extend_from_slice(&sent(&rt, rt.alloc(), EA01, SECOND))
+        .expect(&rt, "memory");
+    let both = on_two_channels(&rt, rt.alloc(), &whole);
     let cases: [(&[u8], [u64; 3], &[u8]); 5] = [
         (b"", [0, 0, 0], b""),
         (&whole, [4, 1_421, 1], LOG_OF_EA01),
@@ -71,13 +77,19 @@ fn counts_lines_and_elements(rt: HostRuntime) -> Result<(), Fail> {
         };
         assert!(rt; reports(rt.alloc(), air_file, report, log));
     }
-    Ok(())
+}
+
+/// Whether listening to a file ends with this fault, and logs nothing.
+fn is_refused(alloc: Global, air_file: &[u8], fault: ListenFault) -> bool {
+    let mut writer = Counting::new(Vec::new(alloc));
+    let outcome = listen(alloc, &mut Counting::new(air_file), &mut writer);
+    outcome == Err(fault) && writer.into_inner().is_empty()
 }
 
 /// A fault names its line, and nothing is logged before it.
 #[test]
-fn faults_of_lines(rt: HostRuntime) -> Result<(), Fail> {
-    let l = Letter::new(b'L').ok_or("L")?;
+fn faults_of_lines(rt: HostRuntime) {
+    let l = Letter::new(b'L').expect(&rt, "L");
     let mut too_long = [b'0'; 516];
     too_long[..2].copy_from_slice(b"B ");
     too_long[515] = b'\n';
@@ -121,16 +133,12 @@ fn faults_of_lines(rt: HostRuntime) -> Result<(), Fail> {
         (b"B3 1\n", ListenFault::BadLine { line: 1 }),
     ];
     for (air_file, fault) in cases {
-        let mut writer = Counting::new(Vec::new(rt.alloc()));
-        let outcome = listen(rt.alloc(), &mut Counting::new(air_file), &mut writer);
-        assert_eq!(rt; outcome, Err(fault));
-        assert!(rt; writer.into_inner().is_empty());
+        assert!(rt; is_refused(rt.alloc(), air_file, fault));
     }
-    Ok(())
 }
 
 #[test]
-fn texts_of_faults(rt: HostRuntime) -> Result<(), Fail> {
+fn texts_of_faults(rt: HostRuntime) {
     let cases = [
         (
             ListenFault::AirTooLong,
@@ -139,9 +147,8 @@ fn texts_of_faults(rt: HostRuntime) -> Result<(), Fail> {
         (ListenFault::Memory(AllocError), "out of memory"),
     ];
     for (fault, text) in cases {
-        assert_eq!(rt; fault.to_string(rt.alloc())?.as_str(), text);
+        assert!(rt; is_told(&rt, rt.alloc(), &fault, text));
     }
-    Ok(())
 }
 
 /// A message file of one of 250 messages.
@@ -154,37 +161,38 @@ fn message_of(index: u8) -> [u8; 9] {
 
 /// What a run that goes on from what is saved leaves, of which the log is appended to others.
 fn go_on(
+    rt: &impl Abort,
     alloc: Global,
     saved: &SavedSet,
     air_file: &[u8],
     logs: &mut Vec<u8>,
-) -> Result<SavedSet, Fail> {
+) -> SavedSet {
     let mut writer = Counting::new(Vec::new(alloc));
     let outcome = listen_from(alloc, saved, &mut Counting::new(air_file), &mut writer);
-    let (_, left) = outcome.or(Err("listening"))?;
-    logs.extend_from_slice(&writer.into_inner())?;
-    Ok(left)
+    let (_, left) = outcome.expect(rt, "listening");
+    logs.extend_from_slice(&writer.into_inner())
+        .expect(rt, "memory");
+    left
 }
 
 /// Runs over 252 emissions, one each, log what one run logs that hears them all: the first of 250
 /// messages has fallen out when it comes again, and the last is known.
 #[test]
-fn many_runs(rt: HostRuntime) -> Result<(), Fail> {
+fn many_runs(rt: HostRuntime) {
     let mut saved = SavedSet::new();
     let mut joined = Vec::new(rt.alloc());
     let mut logs = Vec::new(rt.alloc());
     for index in (0..250).chain([0, 249]) {
-        let air_file = sent(rt.alloc(), &message_of(index), FIRST)?;
-        saved = go_on(rt.alloc(), &saved, &air_file, &mut logs)?;
-        joined.extend_from_slice(&air_file)?;
+        let air_file = sent(&rt, rt.alloc(), &message_of(index), FIRST);
+        saved = go_on(&rt, rt.alloc(), &saved, &air_file, &mut logs);
+        joined.extend_from_slice(&air_file).expect(&rt, "memory");
     }
-    let kept = saved.get(0).ok_or("channel 0")?;
-    assert_eq!(rt; kept.count(), 200);
+    let kept = saved.get(0).expect(&rt, "channel 0");
+    assert!(rt; kept.count() == 200);
     let report = Report {
         lines: 4 * 252,
         bits: 252 * 1_379,
         printed: 251,
     };
     assert!(rt; reports(rt.alloc(), &joined, report, &logs));
-    Ok(())
 }

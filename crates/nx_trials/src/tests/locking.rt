@@ -10,7 +10,7 @@ use nx_receiver::ListenFault;
 use std::alloc::Global;
 use std::io;
 use std::io::{Error, ErrorKind, Read};
-use std::test::Fail;
+use std::process::Abort;
 
 /// The report of EA01 with the one line TEST, sent at 2025-01-01 00:40:00.
 const EA01_REPORT: &[u8] = b"[2025-01-01 00:40:00 lock 28]\nZCZC EA01\nTEST\nNNNN\n\n\
@@ -37,122 +37,125 @@ impl Read for Slow<'_> {
 }
 
 /// What showing the locks of a file answers, and writes.
-fn shown<R: Read + Drop>(
-    alloc: Global,
-    reader: R,
-) -> Result<(Result<LocksReport, ListenFault>, Vec<u8>), Fail> {
+fn shown<R: Read + Drop>(alloc: Global, reader: R) -> (Result<LocksReport, ListenFault>, Vec<u8>) {
     let mut writer = Counting::new(Vec::new(alloc));
     let outcome = locks(alloc, &mut Counting::new(reader), &mut writer);
-    Ok((outcome, writer.into_inner()))
+    (outcome, writer.into_inner())
 }
 
 /// The report of elements that are all heard at the first moment.
-fn report_of(alloc: Global, bits: &[bool]) -> Result<Vec<u8>, Fail> {
-    let file = air_file(alloc, AT_FIRST, bits)?;
-    let (outcome, report) = shown(alloc, file.as_slice())?;
-    outcome.or(Err("fault"))?;
-    Ok(report)
+fn report_of(rt: &impl Abort, alloc: Global, bits: &[bool]) -> Vec<u8> {
+    let file = air_file(rt, alloc, AT_FIRST, bits);
+    let (outcome, report) = shown(alloc, file.as_slice());
+    outcome.expect(rt, "fault");
+    report
 }
 
 #[test]
-fn locks_of_ea01(rt: HostRuntime) -> Result<(), Fail> {
-    let file = air_file(rt.alloc(), AT_FIRST, &emission(rt.alloc(), &[EA01])?)?;
+fn locks_of_ea01(rt: HostRuntime) {
+    let file = air_file(
+        &rt,
+        rt.alloc(),
+        AT_FIRST,
+        &emission(&rt, rt.alloc(), &[EA01]),
+    );
     let counts = LocksReport {
         lines: 4,
         elements: 1421,
         locks: 1,
         copies: 1,
     };
-    let (outcome, report) = shown(rt.alloc(), file.as_slice())?;
-    assert_eq!(rt; report.as_slice(), EA01_REPORT);
-    assert_eq!(rt; outcome, Ok(counts));
+    let (outcome, report) = shown(rt.alloc(), file.as_slice());
+    assert!(rt; report.as_slice() == EA01_REPORT);
+    assert!(rt; outcome == Ok(counts));
     let slow = Slow {
         rest: &file,
         fails: false,
     };
-    let (outcome, report) = shown(rt.alloc(), slow)?;
-    assert_eq!(rt; report.as_slice(), EA01_REPORT);
-    assert_eq!(rt; outcome, Ok(counts));
-    Ok(())
+    let (outcome, report) = shown(rt.alloc(), slow);
+    assert!(rt; report.as_slice() == EA01_REPORT);
+    assert!(rt; outcome == Ok(counts));
 }
 
 #[test]
-fn locks_of_channel_0(rt: HostRuntime) -> Result<(), Fail> {
-    let file = two_channels(rt.alloc(), AT_FIRST, &emission(rt.alloc(), &[EA01])?)?;
+fn locks_of_channel_0(rt: HostRuntime) {
+    let file = two_channels(
+        &rt,
+        rt.alloc(),
+        AT_FIRST,
+        &emission(&rt, rt.alloc(), &[EA01]),
+    );
     let counts = LocksReport {
         lines: 7,
         elements: 1421,
         locks: 1,
         copies: 1,
     };
-    let (outcome, report) = shown(rt.alloc(), file.as_slice())?;
-    assert_eq!(rt; report.as_slice(), EA01_REPORT);
-    assert_eq!(rt; outcome, Ok(counts));
-    Ok(())
+    let (outcome, report) = shown(rt.alloc(), file.as_slice());
+    assert!(rt; report.as_slice() == EA01_REPORT);
+    assert!(rt; outcome == Ok(counts));
 }
 
 #[test]
-fn locks_that_end(rt: HostRuntime) -> Result<(), Fail> {
-    let x = emission(rt.alloc(), &[EA01])?;
+fn locks_that_end(rt: HostRuntime) {
+    let x = emission(&rt, rt.alloc(), &[EA01]);
     // The roles are swapped after a pattern.
-    let (_, rest) = x.split_at_checked(7).ok_or("elements")?;
-    let report = report_of(rt.alloc(), &after_pattern(rt.alloc(), rest)?)?;
-    assert_eq!(rt;
-        report.as_slice(),
-        b"[2025-01-01 00:40:00 lock 28]\n\
+    let (_, rest) = x.split_at_checked(7).expect(&rt, "elements");
+    let report = report_of(&rt, rt.alloc(), &after_pattern(&rt, rt.alloc(), rest));
+    assert!(rt;
+        report.as_slice()
+            == b"[2025-01-01 00:40:00 lock 28]\n\
 [2025-01-01 00:40:00 ended words 6 wrong 0 copies 0]\n\n\
 [2025-01-01 00:40:00 lock 77]\nZCZC EA01\nTEST\nNNNN\n\n\
 [2025-01-01 00:40:00 open words 195 wrong 0 copies 1]\n\n\
 [elements 1442 locks 2 copies 1]\n"
-            .as_slice()
+                .as_slice()
     );
-    Ok(())
 }
 
 #[test]
-fn locks_of_two_messages(rt: HostRuntime) -> Result<(), Fail> {
-    let two = emission(rt.alloc(), &[EA01, EB02])?;
-    let report = report_of(rt.alloc(), &two)?;
-    assert_eq!(rt;
-        report.as_slice(),
-        b"[2025-01-01 00:40:00 lock 28]\nZCZC EA01\nTEST\nNNNN\n\nZCZC EB02\nNNNN\n\n\
+fn locks_of_two_messages(rt: HostRuntime) {
+    let two = emission(&rt, rt.alloc(), &[EA01, EB02]);
+    let report = report_of(&rt, rt.alloc(), &two);
+    assert!(rt;
+        report.as_slice()
+            == b"[2025-01-01 00:40:00 lock 28]\nZCZC EA01\nTEST\nNNNN\n\nZCZC EB02\nNNNN\n\n\
 [2025-01-01 00:40:00 open words 313 wrong 0 copies 2]\n\n\
 [elements 2219 locks 1 copies 2]\n"
-            .as_slice()
+                .as_slice()
     );
-    Ok(())
 }
 
 #[test]
-fn locks_and_faults(rt: HostRuntime) -> Result<(), Fail> {
-    let (outcome, report) = shown(rt.alloc(), b"".as_slice())?;
-    assert_eq!(rt; outcome.map(|counts| counts.lines), Ok(0));
-    assert_eq!(rt;
-        report.as_slice(),
-        b"[elements 0 locks 0 copies 0]\n".as_slice()
-    );
+fn locks_and_faults(rt: HostRuntime) {
+    let (outcome, report) = shown(rt.alloc(), b"".as_slice());
+    assert!(rt; outcome.map(|counts| counts.lines) == Ok(0));
+    assert!(rt; report.as_slice() == b"[elements 0 locks 0 copies 0]\n".as_slice());
     // A fault in the text of a lock: what the lines before it show stands, and nothing is closed.
-    let mut file = air_file(rt.alloc(), AT_FIRST, &emission(rt.alloc(), &[EA01])?)?;
-    file.extend_from_slice(b"RJ L\n")?;
-    let (outcome, report) = shown(rt.alloc(), file.as_slice())?;
-    let subject = Letter::new(b'L').ok_or("subject")?;
-    assert_eq!(rt; outcome, Err(ListenFault::Vital { line: 5, subject }));
-    assert_eq!(rt;
-        report.as_slice(),
-        b"[2025-01-01 00:40:00 lock 28]\nZCZC EA01\nTEST\nNNNN\n\n".as_slice()
+    let mut file = air_file(
+        &rt,
+        rt.alloc(),
+        AT_FIRST,
+        &emission(&rt, rt.alloc(), &[EA01]),
     );
-    let (outcome, report) = shown(rt.alloc(), b"B 0\n".as_slice())?;
-    assert_eq!(rt; outcome, Err(ListenFault::NoMoment { line: 1 }));
+    file.extend_from_slice(b"RJ L\n").expect(&rt, "memory");
+    let (outcome, report) = shown(rt.alloc(), file.as_slice());
+    let subject = Letter::new(b'L').expect(&rt, "subject");
+    assert!(rt; outcome == Err(ListenFault::Vital { line: 5, subject }));
+    assert!(rt;
+        report.as_slice() == b"[2025-01-01 00:40:00 lock 28]\nZCZC EA01\nTEST\nNNNN\n\n".as_slice()
+    );
+    let (outcome, report) = shown(rt.alloc(), b"B 0\n".as_slice());
+    assert!(rt; outcome == Err(ListenFault::NoMoment { line: 1 }));
     assert!(rt; report.is_empty());
     // Faults are those of all channels.
-    let (outcome, _) = shown(rt.alloc(), b"B1 1\n".as_slice())?;
-    assert_eq!(rt; outcome, Err(ListenFault::NoMoment { line: 1 }));
-    let (outcome, _) = shown(rt.alloc(), b"RJ2 L\n".as_slice())?;
-    assert_eq!(rt; outcome, Err(ListenFault::Vital { line: 1, subject }));
+    let (outcome, _) = shown(rt.alloc(), b"B1 1\n".as_slice());
+    assert!(rt; outcome == Err(ListenFault::NoMoment { line: 1 }));
+    let (outcome, _) = shown(rt.alloc(), b"RJ2 L\n".as_slice());
+    assert!(rt; outcome == Err(ListenFault::Vital { line: 1, subject }));
     let mut space = [0; 10];
     let mut writer = Counting::new(&mut space[..]);
     let outcome = locks(rt.alloc(), &mut Counting::new(file.as_slice()), &mut writer);
-    assert_eq!(rt; outcome, Err(ListenFault::Write { written: 10 }));
-    assert_eq!(rt; &space[..], b"[2025-01-0".as_slice());
-    Ok(())
+    assert!(rt; outcome == Err(ListenFault::Write { written: 10 }));
+    assert!(rt; &space[..] == b"[2025-01-0".as_slice());
 }

@@ -3,13 +3,13 @@
 ghost use Rattle.std.specs.Prelude.{◌≡◌, ◌<◌, ◌≤◌, []};
 ghost use Rattle.nx_memory.specs.Memory.{newest_moment};
 
+use super::is_told;
 use nx_envelope::{Identity, Letter};
 use nx_memory::{
     CAPACITY, Listed, PlainRecall, Recall, RingRecall, Saved, SavedSet, Selection, StateReader,
     StateStep, Vital, laws, state_line,
 };
 use std::process::Abort;
-use std::test::Fail;
 
 /// 2025-01-01 00:40:00 UTC, the start of a slot of station E.
 const SLOT_START: u64 = 1_735_692_000;
@@ -58,7 +58,7 @@ fn check_forgetting<M: Recall>(rt: &impl Abort, memory: &mut M, moment: u64)
     assert!(rt; memory.knows(&warning, moment));
     assert!(rt; enter_unknown(memory, next, moment));
     assert!(rt; !memory.knows(&warning, moment));
-    assert_eq!(rt; memory.newest(), Some(moment));
+    assert!(rt; memory.newest() == Some(moment));
 }
 
 /// The examples of a memory, over two that know nothing: one forgets its oldest entry, and in the
@@ -67,7 +67,7 @@ fn check_memories<M: Recall>(rt: &impl Abort, first: &mut M, second: &mut M)
     requires first { M.content first.old ≡ [] }
     requires second { M.content second.old ≡ [] }
 {
-    assert_eq!(rt; first.newest(), None);
+    assert!(rt; first.newest().is_none());
     check_forgetting(rt, first, SLOT_START);
     let warning = Identity::new(b'E', b'A', 1).expect(rt, "EA01");
     assert!(rt; enter_unknown(second, warning, 0));
@@ -82,11 +82,10 @@ fn plain_memories_pass_the_examples(rt: HostRuntime) {
 }
 
 #[test]
-fn ring_memories_pass_the_examples(rt: HostRuntime) -> Result<(), Fail> {
-    let mut first = RingRecall::new(rt.alloc())?;
-    let mut second = RingRecall::new(rt.alloc())?;
+fn ring_memories_pass_the_examples(rt: HostRuntime) {
+    let mut first = RingRecall::new(rt.alloc()).expect(&rt, "memory");
+    let mut second = RingRecall::new(rt.alloc()).expect(&rt, "memory");
     check_memories(&rt, &mut first, &mut second);
-    Ok(())
 }
 
 /// Of 201 entries the last 200 are saved, and loaded into another memory that has none.
@@ -101,18 +100,18 @@ fn check_saving<M: Listed>(rt: &impl Abort, memory: &mut M, other: &mut M)
     selection.refuse_station(letter(rt, b'E'));
     let saved = Saved::of(&selection, memory);
     assert!(rt; saved.selection().refuses_station(letter(rt, b'E')));
-    assert_eq!(rt; saved.count(), CAPACITY);
-    assert_eq!(rt; saved.newest(), Some(SLOT_START));
+    assert!(rt; saved.count() == CAPACITY);
+    assert!(rt; saved.newest() == Some(SLOT_START));
     let oldest = Identity::new(b'B', b'A', 2).expect(rt, "BA02");
     let newest = Identity::new(b'B', b'C', 3).expect(rt, "BC03");
-    assert_eq!(rt; saved.entry(0), Some((oldest, SLOT_START)));
-    assert_eq!(rt; saved.entry(199), Some((newest, SLOT_START)));
-    assert_eq!(rt; saved.entry(200), None);
+    assert!(rt; saved.entry(0) == Some((oldest, SLOT_START)));
+    assert!(rt; saved.entry(199) == Some((newest, SLOT_START)));
+    assert!(rt; saved.entry(200).is_none());
     let again = laws::loaded_is_saved_again(&saved, other);
-    assert_eq!(rt; again.count(), CAPACITY);
-    assert_eq!(rt; other.count(), CAPACITY);
-    assert_eq!(rt; other.entry(0), Some((oldest, SLOT_START)));
-    assert_eq!(rt; other.entry(199), Some((newest, SLOT_START)));
+    assert!(rt; again.count() == CAPACITY);
+    assert!(rt; other.count() == CAPACITY);
+    assert!(rt; other.entry(0) == Some((oldest, SLOT_START)));
+    assert!(rt; other.entry(199) == Some((newest, SLOT_START)));
     assert!(rt; other.knows(&oldest, SLOT_START + 237_599));
 }
 
@@ -122,39 +121,39 @@ fn plain_memories_are_saved(rt: HostRuntime) {
 }
 
 #[test]
-fn ring_memories_are_saved(rt: HostRuntime) -> Result<(), Fail> {
-    let mut memory = RingRecall::new(rt.alloc())?;
-    let mut other = RingRecall::new(rt.alloc())?;
+fn ring_memories_are_saved(rt: HostRuntime) {
+    let mut memory = RingRecall::new(rt.alloc()).expect(&rt, "memory");
+    let mut other = RingRecall::new(rt.alloc()).expect(&rt, "memory");
     check_saving(&rt, &mut memory, &mut other);
-    Ok(())
 }
 
 #[test]
-fn nothing_is_saved_at_first(rt: HostRuntime) -> Result<(), Fail> {
+fn nothing_is_saved_at_first(rt: HostRuntime) {
     let saved = Saved::new();
-    assert_eq!(rt; saved.count(), 0);
-    assert_eq!(rt; saved.newest(), None);
+    assert!(rt; saved.count() == 0);
+    assert!(rt; saved.newest().is_none());
     let mut memory = PlainRecall::new();
     saved.load(&mut memory);
-    let mut ring = RingRecall::new(rt.alloc())?;
+    let mut ring = RingRecall::new(rt.alloc()).expect(&rt, "memory");
     laws::saved_is_loaded_again(&memory, &mut ring);
-    assert_eq!(rt; ring.count(), 0);
-    Ok(())
+    assert!(rt; ring.count() == 0);
 }
 
 #[test]
-fn refuses_what_is_not_vital(rt: HostRuntime) -> Result<(), Fail> {
+fn refuses_what_is_not_vital(rt: HostRuntime) {
     let mut selection = Selection::all();
     let ice = Identity::new(b'E', b'C', 5).expect(&rt, "EC05");
     let warning = Identity::new(b'E', b'L', 6).expect(&rt, "EL06");
-    selection.refuse_subject(letter(&rt, b'C'))?;
+    selection
+        .refuse_subject(letter(&rt, b'C'))
+        .expect(&rt, "no vital subject");
     assert!(rt; selection.refuses_subject(letter(&rt, b'C')));
     assert!(rt; !selection.refuses_station(letter(&rt, b'E')));
     assert!(rt; !selection.admits(&ice));
     assert!(rt; selection.admits(&warning));
     for vital in *b"ABDL" {
         let subject = letter(&rt, vital);
-        assert_eq!(rt; selection.refuse_subject(subject), Err(Vital { subject }));
+        assert!(rt; selection.refuse_subject(subject) == Err(Vital { subject }));
     }
     assert!(rt; selection.admits(&warning));
     selection.refuse_station(letter(&rt, b'E'));
@@ -163,17 +162,14 @@ fn refuses_what_is_not_vital(rt: HostRuntime) -> Result<(), Fail> {
     assert!(rt; selection.admits(&warning) && !selection.admits(&ice));
     selection.accept_subject(letter(&rt, b'C'));
     assert!(rt; selection.admits(&ice));
-    Ok(())
 }
 
 #[test]
-fn names_the_vital_subject(rt: HostRuntime) -> Result<(), Fail> {
+fn names_the_vital_subject(rt: HostRuntime) {
     let refusal = Vital {
         subject: letter(&rt, b'D'),
     };
-    let text = format!(in rt.alloc(); "{refusal}")?;
-    assert_eq!(rt; text.as_str(), "subject D can't be refused");
-    Ok(())
+    assert!(rt; is_told(&rt, rt.alloc(), &refusal, "subject D can't be refused"));
 }
 
 /// Whether a reader takes each of the lines but the last, and can't take that.
@@ -218,7 +214,7 @@ fn is_written(states: &SavedSet, lines: &[&str]) -> bool {
 #[test]
 fn states_are_read_and_written(rt: HostRuntime) {
     let states = read(&rt, &["STATE 1", "EA01 1735692000", "END"]);
-    assert_eq!(rt; states.newest(), Some(SLOT_START));
+    assert!(rt; states.newest() == Some(SLOT_START));
     assert!(rt; states.get(0).is_some_and(|saved| saved.count() == 1));
     assert!(rt; states.get(1).is_some_and(|saved| saved.count() == 0));
     assert!(rt; states.get(3).is_none());
@@ -240,11 +236,11 @@ fn states_are_read_and_written(rt: HostRuntime) {
         "END",
     ];
     let states = read(&rt, &lines);
-    assert_eq!(rt; states.newest(), Some(1_735_706_400));
+    assert!(rt; states.newest() == Some(1_735_706_400));
     assert!(rt; is_written(&states, &lines));
     let states = SavedSet::of(Saved::new(), Saved::new(), Saved::new());
     assert!(rt; is_written(&states, &["STATE 2", "C0", "C1", "C2", "END"]));
-    assert_eq!(rt; SavedSet::new().newest(), None);
+    assert!(rt; SavedSet::new().newest().is_none());
 }
 
 #[test]
@@ -273,7 +269,7 @@ fn a_201st_entry_is_refused(rt: HostRuntime) {
         );
         let [b1, b2, tens, units] = identity.bytes();
         let step = reader.line(&[b1, b2, tens, units, b' ', b'5']);
-        assert_eq!(rt; matches!(step, StateStep::Bad), place == 200);
+        assert!(rt; matches!(step, StateStep::Bad) == (place == 200));
     }
 }
 

@@ -4,13 +4,15 @@
 mod channels;
 mod checks;
 
+use super::is_told;
 use nx_envelope::{Identity, Letter, MAX_LINE, Message};
-use nx_fec::{Counting, read_bits, to_bits, word_at};
+use nx_fec::{Counting, Position, read_bits, to_bits, word_at};
 use nx_station::{
-    DamageFault, DamageKind, SendFault, SendRunFault, Sent, damage, emission, laws, next_slot, send,
+    CheckFault, DamageFault, DamageKind, SendFault, SendRunFault, Sent, check_run, damage,
+    emission, laws, next_slot, send,
 };
 use std::alloc::{AllocError, Global};
-use std::test::Fail;
+use std::process::Abort;
 
 /// The words of the emission of EA01 with the one line TEST, from slot 144 on; before it P2 and P1
 /// alternate.
@@ -25,37 +27,64 @@ static WORDS: [u8; 59] = [
 const FILE: &[u8] = b"#A01\nTEST\n;\n";
 
 /// A letter.
-fn letter(byte: u8) -> Result<Letter, Fail> {
-    Ok(Letter::new(byte).ok_or("a letter")?)
+fn letter(rt: &impl Abort, byte: u8) -> Letter {
+    Letter::new(byte).expect(rt, "a letter")
 }
 
 /// A message of these letters and this number.
-fn message(alloc: Global, b1: u8, b2: u8, number: u8, lines: &[&[u8]]) -> Result<Message, Fail> {
-    let identity = Identity::new(b1, b2, number).ok_or("an identity")?;
-    Ok(Message::new(alloc, identity, lines)?)
+fn message(rt: &impl Abort, alloc: Global, b1: u8, b2: u8, number: u8, lines: &[&[u8]]) -> Message {
+    let identity = Identity::new(b1, b2, number).expect(rt, "an identity");
+    Message::new(alloc, identity, lines).expect(rt, "a message")
 }
 
 /// What sending answers to a file, and writes.
 fn sent(
+    rt: &impl Abort,
     alloc: Global,
     file: &[u8],
     station: u8,
     moment: u64,
-) -> Result<(Result<Sent, SendRunFault>, Vec<u8>), Fail> {
+) -> (Result<Sent, SendRunFault>, Vec<u8>) {
     let mut writer = Counting::new(Vec::new(alloc));
     let outcome = send(
         alloc,
         &mut Counting::new(file),
         &mut writer,
-        letter(station)?,
+        letter(rt, station),
         moment,
     );
-    Ok((outcome, writer.into_inner()))
+    (outcome, writer.into_inner())
+}
+
+/// The positions of the emission of EA01 with the one line TEST.
+fn positions_of_ea01(rt: &impl Abort, alloc: Global) -> Vec<Position> {
+    let messages = [message(rt, alloc, b'E', b'A', 1, &[b"TEST"])];
+    emission(alloc, &messages).expect(rt, "an emission")
+}
+
+/// What damaging the DX words among the 59 from word 144 on answers, and writes.
+fn damaged(alloc: Global, air: &[u8]) -> (Result<u64, DamageFault>, Vec<u8>) {
+    let mut writer = Counting::new(Vec::new(alloc));
+    let outcome = damage(
+        &mut Counting::new(air),
+        &mut writer,
+        DamageKind::Dx,
+        144,
+        59,
+    );
+    (outcome, writer.into_inner())
+}
+
+/// What checking answers to an air file, and writes.
+fn checked(alloc: Global, air: &[u8]) -> (Result<u64, CheckFault>, Vec<u8>) {
+    let mut writer = Counting::new(Vec::new(alloc));
+    let outcome = check_run(alloc, &mut Counting::new(air), &mut writer);
+    (outcome, writer.into_inner())
 }
 
 #[test]
-fn slots(rt: HostRuntime) -> Result<(), Fail> {
-    let cases = [
+fn slots(rt: HostRuntime) {
+    static CASES: [(u8, u64, Option<u64>); 10] = [
         (b'E', 1_735_689_600, Some(1_735_692_000)),
         (b'E', 1_735_692_000, Some(1_735_692_000)),
         (b'E', 1_735_692_001, Some(1_735_706_400)),
@@ -67,150 +96,123 @@ fn slots(rt: HostRuntime) -> Result<(), Fail> {
         (b'A', 0, Some(0)),
         (b'A', u64::MAX, None),
     ];
-    for (station, moment, slot) in cases {
-        assert_eq!(rt; next_slot(letter(station)?, moment), slot);
+    for &(station, moment, slot) in &CASES {
+        assert!(rt; next_slot(letter(&rt, station), moment) == slot);
     }
-    Ok(())
 }
 
 #[test]
-fn words_of_one_message(rt: HostRuntime) -> Result<(), Fail> {
-    let messages = [message(rt.alloc(), b'E', b'A', 1, &[b"TEST"])?];
-    let positions = emission(rt.alloc(), &messages)?;
-    assert_eq!(rt; positions.len(), 102);
+fn words_of_one_message(rt: HostRuntime) {
+    let positions = positions_of_ea01(&rt, rt.alloc());
+    assert!(rt; positions.len() == 102);
     for slot in 0..144 {
-        let word = word_at(&positions, slot).ok_or("a slot")?;
-        assert_eq!(rt; word.number(), if slot % 2 == 0 { 0x66 } else { 0x0F });
+        let word = word_at(&positions, slot).expect(&rt, "a slot");
+        assert!(rt; word.number() == (if slot % 2 == 0 { 0x66 } else { 0x0F }));
     }
     for (place, number) in WORDS.iter().enumerate() {
-        let word = word_at(&positions, place.saturating_add(144)).ok_or("a slot")?;
-        assert_eq!(rt; word.number(), *number);
+        let word = word_at(&positions, place.saturating_add(144)).expect(&rt, "a slot");
+        assert!(rt; word.number() == *number);
     }
-    assert_eq!(rt; word_at(&positions, 203), None);
-    Ok(())
+    assert!(rt; word_at(&positions, 203).is_none());
 }
 
 #[test]
-fn two_messages(rt: HostRuntime) -> Result<(), Fail> {
+fn two_messages(rt: HostRuntime) {
     let messages = [
-        message(rt.alloc(), b'E', b'A', 1, &[b"TEST"])?,
-        message(rt.alloc(), b'E', b'B', 2, &[])?,
+        message(&rt, rt.alloc(), b'E', b'A', 1, &[b"TEST"]),
+        message(&rt, rt.alloc(), b'E', b'B', 2, &[]),
     ];
-    let positions = emission(rt.alloc(), &messages)?;
-    assert_eq!(rt; positions.len(), 159);
-    assert_eq!(rt; to_bits(rt.alloc(), &positions)?.len(), 2219);
-    Ok(())
+    let positions = emission(rt.alloc(), &messages).expect(&rt, "an emission");
+    assert!(rt; positions.len() == 159);
+    assert!(rt;
+        to_bits(rt.alloc(), &positions)
+            .expect(&rt, "elements")
+            .len()
+            == 2219
+    );
 }
 
 /// The emission of one message: so many lines of 69 A, this line, and so many empty ones.
 fn positions_of(
+    rt: &impl Abort,
     alloc: Global,
     full: usize,
     line: Option<&[u8]>,
     empty: usize,
-) -> Result<Result<usize, SendFault>, Fail> {
+) -> Result<usize, SendFault> {
     static LINE: [u8; MAX_LINE] = [b'A'; MAX_LINE];
     let mut lines: Vec<&[u8]> = Vec::new(alloc);
     for _ in 0..full {
-        lines.push(&LINE)?;
+        lines.push(&LINE).expect(rt, "memory");
     }
     if let Some(line) = line {
-        lines.push(line)?;
+        lines.push(line).expect(rt, "memory");
     }
     for _ in 0..empty {
-        lines.push(b"")?;
+        lines.push(b"").expect(rt, "memory");
     }
-    let messages = [message(alloc, b'E', b'A', 1, &lines)?];
-    Ok(match emission(alloc, &messages) {
+    let messages = [message(rt, alloc, b'E', b'A', 1, &lines)];
+    match emission(alloc, &messages) {
         Ok(positions) => Ok(positions.len()),
         Err(fault) => Err(fault),
-    })
+    }
 }
 
 #[test]
-fn full_slot(rt: HostRuntime) -> Result<(), Fail> {
-    assert_eq!(rt; positions_of(rt.alloc(), 58, None, 36)?, Ok(4286));
+fn full_slot(rt: HostRuntime) {
+    assert!(rt; positions_of(&rt, rt.alloc(), 58, None, 36) == Ok(4286));
     let mut line = [b'A'; 68];
     line[67] = b'1';
-    assert_eq!(rt;
-        positions_of(rt.alloc(), 57, Some(&line), 36)?,
-        Err(SendFault::SlotFull { positions: 4287 })
+    assert!(rt;
+        positions_of(&rt, rt.alloc(), 57, Some(&line), 36)
+            == Err(SendFault::SlotFull { positions: 4287 })
     );
-    Ok(())
 }
 
 #[test]
-fn emissions_are_refused(rt: HostRuntime) -> Result<(), Fail> {
-    assert_eq!(rt;
-        emission(rt.alloc(), &[]).err(),
-        Some(SendFault::NoMessages)
-    );
+fn emissions_are_refused(rt: HostRuntime) {
+    assert!(rt; emission(rt.alloc(), &[]).err() == Some(SendFault::NoMessages));
     let mixed = [
-        message(rt.alloc(), b'E', b'A', 1, &[])?,
-        message(rt.alloc(), b'F', b'A', 1, &[])?,
+        message(&rt, rt.alloc(), b'E', b'A', 1, &[]),
+        message(&rt, rt.alloc(), b'F', b'A', 1, &[]),
     ];
-    assert_eq!(rt;
-        emission(rt.alloc(), &mixed).err(),
-        Some(SendFault::MixedStations { at: 1 })
-    );
-    let without = [message(rt.alloc(), b'Y', b'A', 1, &[])?];
-    assert_eq!(rt;
-        emission(rt.alloc(), &without).err(),
-        Some(SendFault::NoSlot)
-    );
-    Ok(())
+    assert!(rt; emission(rt.alloc(), &mixed).err() == Some(SendFault::MixedStations { at: 1 }));
+    let without = [message(&rt, rt.alloc(), b'Y', b'A', 1, &[])];
+    assert!(rt; emission(rt.alloc(), &without).err() == Some(SendFault::NoSlot));
 }
 
 #[test]
-fn a_file_is_sent(rt: HostRuntime) -> Result<(), Fail> {
-    let (answer, file) = sent(rt.alloc(), FILE, b'E', 1_735_689_600)?;
+fn a_file_is_sent(rt: HostRuntime) {
+    let (answer, file) = sent(&rt, rt.alloc(), FILE, b'E', 1_735_689_600);
     let expected = Sent {
         slot: 1_735_692_000,
         positions: 102,
         messages: 1,
     };
-    assert_eq!(rt; answer, Ok(expected));
-    assert_eq!(rt; file.len(), 1443);
-    assert_eq!(rt; &file[..16], b"T 1735692000\nB 0".as_slice());
-    let bits = read_bits(rt.alloc(), &mut Counting::new(file.as_slice()))?;
-    assert_eq!(rt; bits.len(), 1421);
-    let messages = [message(rt.alloc(), b'E', b'A', 1, &[b"TEST"])?];
-    let positions = emission(rt.alloc(), &messages)?;
-    assert_eq!(rt; to_bits(rt.alloc(), &positions)?, bits);
-    Ok(())
+    assert!(rt; answer == Ok(expected));
+    assert!(rt; file.len() == 1443);
+    assert!(rt; &file[..16] == b"T 1735692000\nB 0".as_slice());
+    let bits = read_bits(rt.alloc(), &mut Counting::new(file.as_slice())).expect(&rt, "elements");
+    assert!(rt; bits.len() == 1421);
+    let positions = positions_of_ea01(&rt, rt.alloc());
+    assert!(rt; to_bits(rt.alloc(), &positions).expect(&rt, "elements") == bits);
 }
 
 /// Of the 59 words from slot 144 on, 30 have even slots; the damage is undone by the same once
 /// more.
 #[test]
-fn damage_is_counted(rt: HostRuntime) -> Result<(), Fail> {
-    let (_, file) = sent(rt.alloc(), FILE, b'E', 1_735_689_600)?;
-    let mut once = Counting::new(Vec::new(rt.alloc()));
-    let count = damage(
-        &mut Counting::new(file.as_slice()),
-        &mut once,
-        DamageKind::Dx,
-        144,
-        59,
-    );
-    assert_eq!(rt; count, Ok(30));
-    let damaged = once.into_inner();
-    let mut twice = Counting::new(Vec::new(rt.alloc()));
-    let count = damage(
-        &mut Counting::new(damaged.as_slice()),
-        &mut twice,
-        DamageKind::Dx,
-        144,
-        59,
-    );
-    assert_eq!(rt; count, Ok(30));
-    assert_eq!(rt; twice.into_inner(), file);
-    Ok(())
+fn damage_is_counted(rt: HostRuntime) {
+    let (_, file) = sent(&rt, rt.alloc(), FILE, b'E', 1_735_689_600);
+    let (count, once) = damaged(rt.alloc(), &file);
+    assert!(rt; count == Ok(30));
+    let (count, twice) = damaged(rt.alloc(), &once);
+    assert!(rt; count == Ok(30));
+    assert!(rt; twice == file);
 }
 
 #[test]
-fn files_are_refused(rt: HostRuntime) -> Result<(), Fail> {
-    let cases: [(&[u8], u8, u64, &str); 10] = [
+fn files_are_refused(rt: HostRuntime) {
+    static CASES: [(&[u8], u8, u64, &str); 10] = [
         (b"", b'E', 0, "no messages"),
         (b"", b'Y', 0, "no messages"),
         (b"#A01\nTEST\n", b'E', 0, "message at line 1 is not ended"),
@@ -232,34 +234,32 @@ fn files_are_refused(rt: HostRuntime) -> Result<(), Fail> {
             "message at line 1: line 1 has a reserved word",
         ),
     ];
-    for (file, station, moment, text) in cases {
-        let (answer, written) = sent(rt.alloc(), file, station, moment)?;
-        let fault = answer.err().ok_or("a fault")?;
-        assert_eq!(rt; fault.to_string(rt.alloc())?.as_str(), text);
-        assert_eq!(rt; written.len(), 0);
+    for &(file, station, moment, text) in &CASES {
+        let (answer, written) = sent(&rt, rt.alloc(), file, station, moment);
+        let fault = answer.err().expect(&rt, "a fault");
+        assert!(rt; is_told(&rt, rt.alloc(), &fault, text));
+        assert!(rt; written.len() == 0);
     }
-    Ok(())
 }
 
 #[test]
-fn a_full_writer(rt: HostRuntime) -> Result<(), Fail> {
+fn a_full_writer(rt: HostRuntime) {
     let mut space = [0; 20];
     let mut writer = Counting::new(&mut space[..]);
     let outcome = send(
         rt.alloc(),
         &mut Counting::new(FILE),
         &mut writer,
-        letter(b'E')?,
+        letter(&rt, b'E'),
         0,
     );
-    assert_eq!(rt; outcome, Err(SendRunFault::Write { written: 20 }));
-    assert_eq!(rt; space, *b"T 2400\nB 01100111111");
-    Ok(())
+    assert!(rt; outcome == Err(SendRunFault::Write { written: 20 }));
+    assert!(rt; space == *b"T 2400\nB 01100111111");
 }
 
 #[test]
-fn texts_of_faults(rt: HostRuntime) -> Result<(), Fail> {
-    let cases = [
+fn texts_of_faults(rt: HostRuntime) {
+    static CASES: [(SendRunFault, &str); 7] = [
         (SendRunFault::Read, "read failed"),
         (SendRunFault::FileTooLong, "file longer than 1048576 bytes"),
         (
@@ -280,15 +280,14 @@ fn texts_of_faults(rt: HostRuntime) -> Result<(), Fail> {
             "out of memory",
         ),
     ];
-    for (fault, text) in cases {
-        assert_eq!(rt; fault.to_string(rt.alloc())?.as_str(), text);
+    for (fault, text) in &CASES {
+        assert!(rt; is_told(&rt, rt.alloc(), fault, text));
     }
-    Ok(())
 }
 
 #[test]
-fn texts_of_faults_of_damage(rt: HostRuntime) -> Result<(), Fail> {
-    let cases = [
+fn texts_of_faults_of_damage(rt: HostRuntime) {
+    static CASES: [(DamageFault, &str); 6] = [
         (DamageFault::Read, "read failed"),
         (
             DamageFault::AirTooLong,
@@ -305,10 +304,9 @@ fn texts_of_faults_of_damage(rt: HostRuntime) -> Result<(), Fail> {
             "write failed after 10 bytes",
         ),
     ];
-    for (fault, text) in cases {
-        assert_eq!(rt; fault.to_string(rt.alloc())?.as_str(), text);
+    for (fault, text) in &CASES {
+        assert!(rt; is_told(&rt, rt.alloc(), fault, text));
     }
-    Ok(())
 }
 
 #[test]

@@ -6,34 +6,37 @@ use nx_receiver::{
     ListenFault, MomentFault, Report, ResumeFault, StateFault, Want, read_state, resume,
     write_state,
 };
-use std::test::Fail;
+use std::alloc::Global;
 
 const STATE: &[u8] = b"STATE 2\nC0\nRS A\nRJ E\nEA01 5\nC1\nC2\nEB02 7\nEND\n";
 
 /// A state is read up to its last line feed, and written as it was.
 #[test]
-fn reads_and_writes_a_state(rt: HostRuntime) -> Result<(), Fail> {
-    let mut input = STATE.to_vec(rt.alloc())?;
-    input.extend_from_slice(b"T 5\n")?;
+fn reads_and_writes_a_state(rt: HostRuntime) {
+    let mut input = STATE.to_vec(rt.alloc()).expect(&rt, "memory");
+    input.extend_from_slice(b"T 5\n").expect(&rt, "memory");
     let mut reader = Counting::new(input.as_slice());
-    let states = read_state(&mut reader).or(Err("state"))?;
-    assert_eq!(rt; reader.into_inner(), b"T 5\n".as_slice());
+    let states = read_state(&mut reader).expect(&rt, "state");
+    assert!(rt; reader.into_inner() == b"T 5\n".as_slice());
     let mut writer = Counting::new(Vec::new(rt.alloc()));
-    write_state(&states, &mut writer).or(Err("writing"))?;
-    assert_eq!(rt; writer.into_inner().as_slice(), STATE);
-    Ok(())
+    write_state(&states, &mut writer).expect(&rt, "writing");
+    assert!(rt; writer.into_inner().as_slice() == STATE);
 }
 
 /// What was printed four hours ago is counted and not printed again, and stays saved.
 #[test]
-fn resumes(rt: HostRuntime) -> Result<(), Fail> {
-    let mut input = b"STATE 1\nEA01 1735692000\nEND\n".to_vec(rt.alloc())?;
-    input.extend_from_slice(&sent(rt.alloc(), EA01, SECOND)?)?;
-    let cases: [(Want, &[u8]); 2] = [
+fn resumes(rt: HostRuntime) {
+    let mut input = b"STATE 1\nEA01 1735692000\nEND\n"
+        .to_vec(rt.alloc())
+        .expect(&rt, "memory");
+    input
+        .extend_from_slice(&sent(&rt, rt.alloc(), EA01, SECOND))
+        .expect(&rt, "memory");
+    static CASES: [(Want, &[u8]); 2] = [
         (Want::Log, b""),
         (Want::State, b"STATE 2\nC0\nEA01 1735692000\nC1\nC2\nEND\n"),
     ];
-    for (want, written) in cases {
+    for (want, written) in &CASES {
         let mut reader = Counting::new(input.as_slice());
         let mut writer = Counting::new(Vec::new(rt.alloc()));
         let report = Report {
@@ -41,18 +44,21 @@ fn resumes(rt: HostRuntime) -> Result<(), Fail> {
             bits: 1_421,
             printed: 0,
         };
-        assert_eq!(rt;
-            resume(rt.alloc(), &mut reader, &mut writer, want),
-            Ok(report)
-        );
-        assert_eq!(rt; writer.into_inner().as_slice(), written);
+        assert!(rt; resume(rt.alloc(), &mut reader, &mut writer, *want) == Ok(report));
+        assert!(rt; writer.into_inner().as_slice() == *written);
     }
-    Ok(())
+}
+
+/// Whether resuming from a text for its state ends with this fault, and writes nothing.
+fn is_refused(alloc: Global, input: &[u8], fault: ResumeFault) -> bool {
+    let mut writer = Counting::new(Vec::new(alloc));
+    let outcome = resume(alloc, &mut Counting::new(input), &mut writer, Want::State);
+    outcome == Err(fault) && writer.into_inner().is_empty()
 }
 
 /// A state or the air file behind it is refused by its own line, and nothing is written.
 #[test]
-fn faults_of_states(rt: HostRuntime) -> Result<(), Fail> {
+fn faults_of_states(rt: HostRuntime) {
     let back = ListenFault::Moment {
         line: 1,
         fault: MomentFault::Back { last: 5, given: 4 },
@@ -69,15 +75,6 @@ fn faults_of_states(rt: HostRuntime) -> Result<(), Fail> {
         (b"STATE 1\nEA01 5\nEND\nT 4\n", ResumeFault::Listen(back)),
     ];
     for (input, fault) in cases {
-        let mut writer = Counting::new(Vec::new(rt.alloc()));
-        let outcome = resume(
-            rt.alloc(),
-            &mut Counting::new(input),
-            &mut writer,
-            Want::State,
-        );
-        assert_eq!(rt; outcome, Err(fault));
-        assert!(rt; writer.into_inner().is_empty());
+        assert!(rt; is_refused(rt.alloc(), input, fault));
     }
-    Ok(())
 }

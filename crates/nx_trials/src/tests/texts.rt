@@ -2,28 +2,29 @@
 
 mod copies;
 
+use super::is_told;
 use nx_envelope::{
     Finder, FoundHead, How, Identity, LAST_MOMENT, Letter, MAX_LINE, Message, MessageFault, civil,
     laws,
 };
 use std::alloc::{AllocError, Global};
-use std::test::Fail;
+use std::process::Abort;
 
 /// So many lines of 69 A, and then so many empty ones.
-fn lines_of(alloc: Global, full: usize, empty: usize) -> Result<Vec<&'static [u8]>, AllocError> {
+fn lines_of(rt: &impl Abort, alloc: Global, full: usize, empty: usize) -> Vec<&'static [u8]> {
     static LINE: [u8; MAX_LINE] = [b'A'; MAX_LINE];
     let mut lines: Vec<&'static [u8]> = Vec::new(alloc);
     for _ in 0..full {
-        lines.push(&LINE)?;
+        lines.push(&LINE).expect(rt, "memory");
     }
     for _ in 0..empty {
-        lines.push(b"")?;
+        lines.push(b"").expect(rt, "memory");
     }
-    Ok(lines)
+    lines
 }
 
 #[test]
-fn plain_bytes_are_heard_at_once(rt: HostRuntime) -> Result<(), Fail> {
+fn plain_bytes_are_heard_at_once(rt: HostRuntime) {
     let mut one = Finder::new();
     let mut other = Finder::new();
     for byte in *b"ZCZC EA01\nA" {
@@ -37,15 +38,14 @@ fn plain_bytes_are_heard_at_once(rt: HostRuntime) -> Result<(), Fail> {
     // Here NNNN would end, so nothing is taken in.
     assert!(rt; !one.hear_plain(*b"NNN ", 4));
     for byte in *b"NNN" {
-        assert_eq!(rt; one.hear(byte), other.hear(byte));
+        assert!(rt; one.hear(byte) == other.hear(byte));
     }
-    assert_eq!(rt; one.ready_head(), other.ready_head());
+    assert!(rt; one.ready_head() == other.ready_head());
     assert!(rt; one.ready_text() == b"ALL ".as_slice());
-    Ok(())
 }
 
 #[test]
-fn plain_bytes_between_copies_are_passed_at_once(rt: HostRuntime) -> Result<(), Fail> {
+fn plain_bytes_between_copies_are_passed_at_once(rt: HostRuntime) {
     let mut finder = Finder::new();
     assert!(rt; finder.hear_plain(*b"ALL ", 4));
     // Here ZCZC may begin a header, which is heard byte by byte up to its end.
@@ -62,12 +62,11 @@ fn plain_bytes_between_copies_are_passed_at_once(rt: HostRuntime) -> Result<(), 
     assert!(rt; !finder.hear_plain(*b"ALL ", 4));
     assert!(rt; finder.take_found().is_some());
     assert!(rt; finder.hear_plain(*b"ALL ", 4));
-    Ok(())
 }
 
 #[test]
-fn copies_are_told_in_place(rt: HostRuntime) -> Result<(), Fail> {
-    let identity = Identity::new(b'E', b'A', 1).ok_or("identity")?;
+fn copies_are_told_in_place(rt: HostRuntime) {
+    let identity = Identity::new(b'E', b'A', 1).expect(&rt, "identity");
     let mut finder = Finder::new();
     for byte in *b"ZCZC EA01\nA*NNNN" {
         finder.hear(byte);
@@ -77,84 +76,75 @@ fn copies_are_told_in_place(rt: HostRuntime) -> Result<(), Fail> {
         errors: 1,
         how: How::Full,
     };
-    assert_eq!(rt; finder.ready_head(), Some(full));
+    assert!(rt; finder.ready_head() == Some(full));
     assert!(rt; finder.ready_text() == b"A*".as_slice());
     for byte in *b"ZCZC EA01\nNN" {
         finder.hear(byte);
     }
-    assert_eq!(rt; finder.ready_head(), None);
+    assert!(rt; finder.ready_head().is_none());
     finder.close();
     let cut = FoundHead {
         identity,
         errors: 0,
         how: How::Cut,
     };
-    assert_eq!(rt; finder.ready_head(), Some(cut));
+    assert!(rt; finder.ready_head() == Some(cut));
     assert!(rt; finder.ready_text() == b"NN".as_slice());
-    Ok(())
 }
 
 #[test]
-fn messages_are_made(rt: HostRuntime) -> Result<(), Fail> {
-    let identity = Identity::new(b'E', b'A', 1).ok_or("identity")?;
-    let lines = lines_of(rt.alloc(), 58, 36)?;
-    let message = Message::new(rt.alloc(), identity, lines.as_slice())?;
-    assert_eq!(rt; message.identity(), identity);
-    assert_eq!(rt; message.line_count(), 94);
-    assert_eq!(rt; message.line(57).map_or(0, |line| line.len()), 69);
-    assert_eq!(rt; message.line(58).map_or(1, |line| line.len()), 0);
+fn messages_are_made(rt: HostRuntime) {
+    let identity = Identity::new(b'E', b'A', 1).expect(&rt, "identity");
+    let lines = lines_of(&rt, rt.alloc(), 58, 36);
+    let message = Message::new(rt.alloc(), identity, lines.as_slice()).expect(&rt, "a message");
+    assert!(rt; message.identity() == identity);
+    assert!(rt; message.line_count() == 94);
+    assert!(rt; message.line(57).map_or(0, |line| line.len()) == 69);
+    assert!(rt; message.line(58).map_or(1, |line| line.len()) == 0);
     assert!(rt; message.line(94).is_none());
-    let lines = lines_of(rt.alloc(), 58, 37)?;
+    let lines = lines_of(&rt, rt.alloc(), 58, 37);
     let refused = Message::new(rt.alloc(), identity, lines.as_slice());
-    assert_eq!(rt; refused.err(), Some(MessageFault::LongText));
-    Ok(())
+    assert!(rt; refused.err() == Some(MessageFault::LongText));
 }
 
 #[test]
-fn lines_are_refused(rt: HostRuntime) -> Result<(), Fail> {
-    static LONG: [u8; 70] = [b'A'; 70];
-    let identity = Identity::new(b'E', b'A', 1).ok_or("identity")?;
-    let cases: [(&[u8], &str); 5] = [
-        (&LONG, "line 2 is too long"),
+fn lines_are_refused(rt: HostRuntime) {
+    let identity = Identity::new(b'E', b'A', 1).expect(&rt, "identity");
+    static CASES: [(&[u8], &str); 5] = [
+        (&[b'A'; 70], "line 2 is too long"),
         (b"a", "line 2 has no signal at 0"),
         (b"AB NNNN\n", "line 2 has no signal at 7"),
         (b"AB NNNN", "line 2 has a reserved word"),
         (b"ZCZC", "line 2 has a reserved word"),
     ];
-    for (line, text) in cases.iter() {
-        match Message::new(rt.alloc(), identity, &[b"TEST", *line]) {
-            Ok(_) => assert!(rt; false),
-            Err(fault) => {
-                let shown = format!(in rt.alloc(); "{fault}")?;
-                assert_eq!(rt; shown.as_str(), *text);
-            }
-        }
+    for (line, text) in CASES.iter() {
+        let refused = Message::new(rt.alloc(), identity, &[b"TEST", *line]);
+        let fault = refused.err().expect(&rt, "a fault");
+        assert!(rt; is_told(&rt, rt.alloc(), &fault, text));
     }
-    Ok(())
 }
 
 #[test]
-fn texts_of_faults(rt: HostRuntime) -> Result<(), Fail> {
-    let cases = [
+fn texts_of_faults(rt: HostRuntime) {
+    static CASES: [(MessageFault, &str); 2] = [
         (MessageFault::LongText, "text is too long"),
         (MessageFault::Memory(AllocError), "out of memory"),
     ];
-    for (fault, text) in cases {
-        assert_eq!(rt; fault.to_string(rt.alloc())?.as_str(), text);
+    for (fault, text) in &CASES {
+        assert!(rt; is_told(&rt, rt.alloc(), fault, text));
     }
-    Ok(())
 }
 
 #[test]
 fn moments_are_printed(rt: HostRuntime) {
-    let cases: [(u64, &[u8]); 5] = [
+    static CASES: [(u64, &[u8]); 5] = [
         (0, b"1970-01-01 00:00:00"),
         (951_782_400, b"2000-02-29 00:00:00"),
         (1_735_692_000, b"2025-01-01 00:40:00"),
         (4_107_542_399, b"2100-02-28 23:59:59"),
         (LAST_MOMENT, b"2999-12-31 23:59:59"),
     ];
-    for (moment, text) in cases.iter() {
+    for (moment, text) in CASES.iter() {
         let shown = civil(*moment);
         assert!(rt; shown.is_some_and(|bytes| bytes.as_slice() == *text));
     }

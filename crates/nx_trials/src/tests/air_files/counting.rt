@@ -5,7 +5,6 @@ ghost use Rattle.std.specs.Prelude.{◌≡◌, IfOk};
 use nx_fec::{Counting, RunFault, WriteFault, decode_run, write_out};
 use std::io;
 use std::io::{Error, ErrorKind, Read, Write};
-use std::test::Fail;
 
 /// A device whose first call fails, or none, and all others succeed. It counts its calls.
 #[derive(Drop)]
@@ -53,51 +52,47 @@ fn device(fails: bool) -> Counting<Recovering>
 fn no_read_after_a_failure(rt: HostRuntime) {
     let mut reader = device(true);
     for _ in 0..3 {
-        assert_eq!(rt; reader.read(&mut [0; 4]).is_err(), true);
+        assert!(rt; reader.read(&mut [0; 4]).is_err());
     }
-    assert_eq!(rt; reader.failures(), 3);
-    assert_eq!(rt; reader.into_inner().calls, 1);
+    assert!(rt; reader.failures() == 3);
+    assert!(rt; reader.into_inner().calls == 1);
 }
 
 #[test]
 fn no_write_after_a_failure(rt: HostRuntime) {
     let mut writer = device(true);
-    assert_eq!(rt; writer.write(b"A").is_err(), true);
-    assert_eq!(rt; writer.write(b"A").is_err(), true);
-    assert_eq!(rt; writer.flush().is_err(), true);
-    assert_eq!(rt; writer.failures(), 3);
-    assert_eq!(rt; writer.into_inner().calls, 1);
+    assert!(rt; writer.write(b"A").is_err());
+    assert!(rt; writer.write(b"A").is_err());
+    assert!(rt; writer.flush().is_err());
+    assert!(rt; writer.failures() == 3);
+    assert!(rt; writer.into_inner().calls == 1);
     let mut writer = device(true);
-    assert_eq!(rt; writer.flush().is_err(), true);
-    assert_eq!(rt; writer.flush().is_err(), true);
-    assert_eq!(rt; writer.write(b"A").is_err(), true);
-    assert_eq!(rt; writer.failures(), 3);
-    assert_eq!(rt; writer.into_inner().calls, 1);
+    assert!(rt; writer.flush().is_err());
+    assert!(rt; writer.flush().is_err());
+    assert!(rt; writer.write(b"A").is_err());
+    assert!(rt; writer.failures() == 3);
+    assert!(rt; writer.into_inner().calls == 1);
 }
 
 #[test]
 fn each_call_is_made_once(rt: HostRuntime) {
     let mut sound = device(false);
-    assert_eq!(rt; sound.flush().is_ok(), true);
-    assert_eq!(rt; sound.write(b"AB").ok(), Some(2));
-    assert_eq!(rt; sound.read(&mut [0; 4]).ok(), Some(4));
-    assert_eq!(rt; sound.failures(), 0);
-    assert_eq!(rt; sound.into_inner().calls, 3);
+    assert!(rt; sound.flush().is_ok());
+    assert!(rt; sound.write(b"AB").ok() == Some(2));
+    assert!(rt; sound.read(&mut [0; 4]).ok() == Some(4));
+    assert!(rt; sound.failures() == 0);
+    assert!(rt; sound.into_inner().calls == 3);
 }
 
 /// After a failed read the writer isn't called either, and a failed write is made once.
 #[test]
-fn runs_over_failing_devices(rt: HostRuntime) -> Result<(), Fail> {
+fn runs_over_failing_devices(rt: HostRuntime) {
     let (mut reader, mut writer) = (device(true), device(false));
     let outcome = decode_run(rt.alloc(), &mut reader, &mut writer);
-    assert_eq!(rt; outcome, Err(RunFault::Read));
-    assert_eq!(rt;
-        (reader.into_inner().calls, writer.into_inner().calls),
-        (1, 0)
-    );
+    assert!(rt; outcome == Err(RunFault::Read));
+    assert!(rt; (reader.into_inner().calls, writer.into_inner().calls) == (1, 0));
     let mut writer = device(true);
     let fault = write_out(&mut writer, b"A").err();
-    assert_eq!(rt; fault, Some(WriteFault { written: 0 }));
-    assert_eq!(rt; writer.into_inner().calls, 1);
-    Ok(())
+    assert!(rt; fault == Some(WriteFault { written: 0 }));
+    assert!(rt; writer.into_inner().calls == 1);
 }

@@ -1,12 +1,12 @@
 //! The texts of faults.
 
+use crate::tests::is_told;
 use nx_fec::{ReadFault, RunFault, WriteFault};
 use std::alloc::AllocError;
-use std::test::Fail;
 
 #[test]
-fn texts_of_faults(rt: HostRuntime) -> Result<(), Fail> {
-    let cases = [
+fn texts_of_faults(rt: HostRuntime) {
+    static CASES: [(RunFault, &str); 9] = [
         (RunFault::Read, "read failed"),
         (RunFault::FileTooLong, "file longer than 1048576 bytes"),
         (
@@ -29,21 +29,17 @@ fn texts_of_faults(rt: HostRuntime) -> Result<(), Fail> {
         ),
         (RunFault::Memory(AllocError), "out of memory"),
     ];
-    for (fault, text) in cases {
-        assert_eq!(rt; fault.to_string(rt.alloc())?.as_str(), text);
+    for (fault, text) in &CASES {
+        assert!(rt; is_told(&rt, rt.alloc(), fault, text));
     }
-    let cases = [
+    static READ_CASES: [(ReadFault, &str); 3] = [
         (ReadFault::Read, "read failed"),
         (ReadFault::FileTooLong, "file longer than 1048576 bytes"),
         (ReadFault::Memory(AllocError), "out of memory"),
     ];
-    for (fault, text) in cases {
-        assert_eq!(rt; fault.to_string(rt.alloc())?.as_str(), text);
+    for (fault, text) in &READ_CASES {
+        assert!(rt; is_told(&rt, rt.alloc(), fault, text));
     }
     let fault = WriteFault { written: 10 };
-    assert_eq!(rt;
-        fault.to_string(rt.alloc())?.as_str(),
-        "write failed after 10 bytes"
-    );
-    Ok(())
+    assert!(rt; is_told(&rt, rt.alloc(), &fault, "write failed after 10 bytes"));
 }

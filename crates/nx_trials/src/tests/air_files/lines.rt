@@ -19,7 +19,7 @@ fn commands(rt: HostRuntime) {
         (b"T1 5", None),
     ];
     for (line, said) in cases {
-        assert_eq!(rt; air_line(line), said);
+        assert!(rt; air_line(line) == said);
     }
 }
 
@@ -33,11 +33,11 @@ fn three_elements(channel: Channel) -> Option<AirLine> {
 /// Elements of channels, and lines of no channel.
 #[test]
 fn elements(rt: HostRuntime) {
-    assert_eq!(rt; air_line(b"B 011"), three_elements(Channel::Zero));
-    assert_eq!(rt; air_line(b"B0 011"), three_elements(Channel::Zero));
-    assert_eq!(rt; air_line(b"B2 011"), three_elements(Channel::Two));
+    assert!(rt; air_line(b"B 011") == three_elements(Channel::Zero));
+    assert!(rt; air_line(b"B0 011") == three_elements(Channel::Zero));
+    assert!(rt; air_line(b"B2 011") == three_elements(Channel::Two));
     for line in [b"B3 1", b"B1  ", b"B012", b"B 1 "] {
-        assert_eq!(rt; air_line(line), None);
+        assert!(rt; air_line(line).is_none());
     }
 }
 
@@ -46,9 +46,9 @@ fn elements(rt: HostRuntime) {
 fn longest_lines(rt: HostRuntime) {
     let mut line = [b'0'; 515];
     line[..2].copy_from_slice(b"B ");
-    assert_eq!(rt; air_line(&line[..514]).is_some(), true);
-    assert_eq!(rt; air_line(&line), None);
+    assert!(rt; air_line(&line[..514]).is_some());
+    assert!(rt; air_line(&line).is_none());
     line[..3].copy_from_slice(b"B1 ");
-    assert_eq!(rt; air_line(&line[..514]).is_some(), true);
-    assert_eq!(rt; air_line(&line), None);
+    assert!(rt; air_line(&line[..514]).is_some());
+    assert!(rt; air_line(&line).is_none());
 }

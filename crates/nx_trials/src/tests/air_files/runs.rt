@@ -3,7 +3,6 @@
 use nx_fec::{Counting, RunFault, WriteFault, decode_run, encode_run, show_run, write_out};
 use std::alloc::Global;
 use std::io::Write;
-use std::test::Fail;
 
 /// The file of the text A.
 const FILE_OF_A: &[u8] =
@@ -13,22 +12,22 @@ const FILE_OF_A: &[u8] =
 const ALL: &[u8] = b"ABCDEFGHIJKLM1234567890NOPQRSTUVWXYZ -?:().,\n'=+/ Z9\n\n";
 
 /// What decoding answers to a file, and writes.
-fn decode_answer(alloc: Global, file: &[u8]) -> Result<(Result<u64, RunFault>, Vec<u8>), Fail> {
+fn decode_answer(alloc: Global, file: &[u8]) -> (Result<u64, RunFault>, Vec<u8>) {
     let mut writer = Counting::new(Vec::new(alloc));
     let outcome = decode_run(alloc, &mut Counting::new(file), &mut writer);
-    Ok((outcome, writer.into_inner()))
+    (outcome, writer.into_inner())
 }
 
 /// What encoding answers to a text, and writes.
-fn encode_answer(alloc: Global, text: &[u8]) -> Result<(Result<u64, RunFault>, Vec<u8>), Fail> {
+fn encode_answer(alloc: Global, text: &[u8]) -> (Result<u64, RunFault>, Vec<u8>) {
     let mut writer = Counting::new(Vec::new(alloc));
     let outcome = encode_run(alloc, &mut Counting::new(text), &mut writer);
-    Ok((outcome, writer.into_inner()))
+    (outcome, writer.into_inner())
 }
 
 #[test]
-fn decode_cases(rt: HostRuntime) -> Result<(), Fail> {
-    let cases: [(&[u8], Result<u64, RunFault>, &[u8]); 6] = [
+fn decode_cases(rt: HostRuntime) {
+    static CASES: [(&[u8], Result<u64, RunFault>, &[u8]); 6] = [
         (FILE_OF_A, Ok(1), b"A"),
         (b"", Ok(0), b""),
         (b"B1 0110011\nRJ2 D\n", Ok(0), b""),
@@ -36,82 +35,71 @@ fn decode_cases(rt: HostRuntime) -> Result<(), Fail> {
         (b"B 012\n", Err(RunFault::BadLine { line: 1 }), b""),
         (b"T 5\nAS E\nB 0", Err(RunFault::LineCut { line: 3 }), b""),
     ];
-    for (file, outcome, text) in cases {
-        let (answer, written) = decode_answer(rt.alloc(), file)?;
-        assert_eq!(rt; answer, outcome);
-        assert_eq!(rt; written.as_slice(), text);
+    for (file, outcome, text) in &CASES {
+        let (answer, written) = decode_answer(rt.alloc(), file);
+        assert!(rt; answer == *outcome);
+        assert!(rt; written.as_slice() == *text);
     }
-    Ok(())
 }
 
 #[test]
-fn encode_cases(rt: HostRuntime) -> Result<(), Fail> {
-    let (answer, file) = encode_answer(rt.alloc(), b"A")?;
-    assert_eq!(rt; answer, Ok(8));
-    assert_eq!(rt; file.as_slice(), FILE_OF_A);
-    let (answer, file) = encode_answer(rt.alloc(), b"a")?;
-    assert_eq!(rt; answer, Err(RunFault::NoSuchCharacter { at: 0 }));
-    assert_eq!(rt; file.len(), 0);
-    let (answer, file) = encode_answer(rt.alloc(), b"")?;
-    assert_eq!(rt; answer, Ok(7));
-    assert_eq!(rt; file.len(), 94);
-    assert_eq!(rt; decode_answer(rt.alloc(), &file)?.1.len(), 0);
-    Ok(())
+fn encode_cases(rt: HostRuntime) {
+    let (answer, file) = encode_answer(rt.alloc(), b"A");
+    assert!(rt; answer == Ok(8));
+    assert!(rt; file.as_slice() == FILE_OF_A);
+    let (answer, file) = encode_answer(rt.alloc(), b"a");
+    assert!(rt; answer == Err(RunFault::NoSuchCharacter { at: 0 }));
+    assert!(rt; file.len() == 0);
+    let (answer, file) = encode_answer(rt.alloc(), b"");
+    assert!(rt; answer == Ok(7));
+    assert!(rt; file.len() == 94);
+    assert!(rt; decode_answer(rt.alloc(), &file).1.len() == 0);
 }
 
 #[test]
-fn all_characters(rt: HostRuntime) -> Result<(), Fail> {
-    let (answer, file) = encode_answer(rt.alloc(), ALL)?;
-    assert_eq!(rt; answer.is_ok(), true);
-    let (answer, text) = decode_answer(rt.alloc(), &file)?;
-    assert_eq!(rt; answer, Ok(ALL.len() as u64));
-    assert_eq!(rt; text.as_slice(), ALL);
-    Ok(())
+fn all_characters(rt: HostRuntime) {
+    let (answer, file) = encode_answer(rt.alloc(), ALL);
+    assert!(rt; answer.is_ok());
+    let (answer, text) = decode_answer(rt.alloc(), &file);
+    assert!(rt; answer == Ok(ALL.len() as u64));
+    assert!(rt; text.as_slice() == ALL);
 }
 
 /// The first two lines, the ninth and the last of the text A, and a word of the wrong weight.
 #[test]
-fn show_a(rt: HostRuntime) -> Result<(), Fail> {
+fn show_a(rt: HostRuntime) {
     let mut writer = Counting::new(Vec::new(rt.alloc()));
     let outcome = show_run(rt.alloc(), &mut Counting::new(FILE_OF_A), &mut writer);
-    assert_eq!(rt; outcome, Ok(15));
+    assert!(rt; outcome == Ok(15));
     let text = writer.into_inner();
     let mut lines = text.split(|byte| *byte == b'\n');
-    assert_eq!(rt; lines.next(), Some(b"0 DX 66 P2".as_slice()));
-    assert_eq!(rt; lines.next(), Some(b"1 RX 0F P1".as_slice()));
-    assert_eq!(rt; lines.nth(6), Some(b"8 DX 47 A".as_slice()));
-    assert_eq!(rt; lines.nth(5), Some(b"14 DX 0F P1".as_slice()));
-    assert_eq!(rt; lines.next(), Some(b"".as_slice()));
-    assert_eq!(rt; lines.next(), None);
+    assert!(rt; lines.next() == Some(b"0 DX 66 P2".as_slice()));
+    assert!(rt; lines.next() == Some(b"1 RX 0F P1".as_slice()));
+    assert!(rt; lines.nth(6) == Some(b"8 DX 47 A".as_slice()));
+    assert!(rt; lines.nth(5) == Some(b"14 DX 0F P1".as_slice()));
+    assert!(rt; lines.next() == Some(b"".as_slice()));
+    assert!(rt; lines.next().is_none());
     let mut writer = Counting::new(Vec::new(rt.alloc()));
     let outcome = show_run(
         rt.alloc(),
         &mut Counting::new(&b"B 0000000\n"[..]),
         &mut writer,
     );
-    assert_eq!(rt; outcome, Ok(1));
-    assert_eq!(rt;
-        writer.into_inner().as_slice(),
-        b"0 DX 00 wrong\n".as_slice()
-    );
-    Ok(())
+    assert!(rt; outcome == Ok(1));
+    assert!(rt; writer.into_inner().as_slice() == b"0 DX 00 wrong\n".as_slice());
 }
 
 #[test]
-fn full_writers(rt: HostRuntime) -> Result<(), Fail> {
+fn full_writers(rt: HostRuntime) {
     let mut space = [0; 10];
     let mut writer = Counting::new(&mut space[..]);
     let outcome = encode_run(rt.alloc(), &mut Counting::new(&b"A"[..]), &mut writer);
-    assert_eq!(rt; outcome, Err(RunFault::Write { written: 10 }));
-    assert_eq!(rt; writer.failures(), 1);
-    assert_eq!(rt; writer.write(b"B").is_err(), true);
-    assert_eq!(rt; writer.flush().is_err(), true);
-    assert_eq!(rt; writer.failures(), 3);
-    assert_eq!(rt; space, *b"B 01100111");
+    assert!(rt; outcome == Err(RunFault::Write { written: 10 }));
+    assert!(rt; writer.failures() == 1);
+    assert!(rt; writer.write(b"B").is_err());
+    assert!(rt; writer.flush().is_err());
+    assert!(rt; writer.failures() == 3);
+    assert!(rt; space == *b"B 01100111");
     let mut writer = Counting::new(&mut space[..]);
-    assert_eq!(rt;
-        write_out(&mut writer, b"0123456789A"),
-        Err(WriteFault { written: 10 })
-    );
-    Ok(())
+    assert!(rt; write_out(&mut writer, b"0123456789A") == Err(WriteFault { written: 10 }));
 }

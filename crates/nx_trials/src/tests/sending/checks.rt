@@ -4,146 +4,135 @@
 use super::*;
 use nx_code::{Comb, ELEMENTS, Word};
 use nx_fec::{Position, RunFault};
-use nx_station::{CheckFault, EmissionFault, check_run, read_emission};
+use nx_station::{EmissionFault, read_emission};
 
 /// The elements of the emission of EA01 with the one line TEST.
-fn bits_of_ea01(alloc: Global) -> Result<Vec<bool>, Fail> {
-    let messages = [message(alloc, b'E', b'A', 1, &[b"TEST"])?];
-    let positions = emission(alloc, &messages)?;
-    Ok(to_bits(alloc, &positions)?)
+fn bits_of_ea01(rt: &impl Abort, alloc: Global) -> Vec<bool> {
+    to_bits(alloc, &positions_of_ea01(rt, alloc)).expect(rt, "elements")
 }
 
 /// The elements, and after them those of a word.
-fn with_word_after(alloc: Global, bits: &[bool], number: u8) -> Result<Vec<bool>, Fail> {
-    let word = Word::new(number).ok_or("a word")?;
-    let mut more = Vec::from_slice(alloc, bits)?;
-    more.extend_from_slice(&word.elements())?;
-    Ok(more)
+fn with_word_after(rt: &impl Abort, alloc: Global, bits: &[bool], number: u8) -> Vec<bool> {
+    let word = Word::new(number).expect(rt, "a word");
+    let mut more = Vec::from_slice(alloc, bits).expect(rt, "memory");
+    more.extend_from_slice(&word.elements())
+        .expect(rt, "memory");
+    more
 }
 
 /// The elements with another word in a slot.
-fn with_word(alloc: Global, bits: &[bool], slot: usize, number: u8) -> Result<Vec<bool>, Fail> {
+fn with_word(rt: &impl Abort, alloc: Global, bits: &[bool], slot: usize, number: u8) -> Vec<bool> {
     let at = slot.saturating_mul(ELEMENTS);
-    let front = bits.get(..at).ok_or("a slot")?;
-    let back = bits.get(at.saturating_add(ELEMENTS)..).ok_or("a slot")?;
-    let mut changed = with_word_after(alloc, front, number)?;
-    changed.extend_from_slice(back)?;
-    Ok(changed)
+    let front = bits.get(..at).expect(rt, "a slot");
+    let back = bits.get(at.saturating_add(ELEMENTS)..).expect(rt, "a slot");
+    let mut changed = with_word_after(rt, alloc, front, number);
+    changed.extend_from_slice(back).expect(rt, "memory");
+    changed
 }
 
 /// The elements of EA01 with one more combination in a position.
-fn with_comb(alloc: Global, position: usize, number: u8) -> Result<Vec<bool>, Fail> {
-    let messages = [message(alloc, b'E', b'A', 1, &[b"TEST"])?];
-    let positions = emission(alloc, &messages)?;
-    let comb = Comb::new(number).ok_or("a combination")?;
-    let mut more = Vec::from_slice(alloc, positions.get(..position).ok_or("a position")?)?;
-    more.push(Position::Traffic(comb))?;
-    more.extend_from_slice(positions.get(position..).ok_or("a position")?)?;
-    Ok(to_bits(alloc, &more)?)
+fn with_comb(rt: &impl Abort, alloc: Global, position: usize, number: u8) -> Vec<bool> {
+    let positions = positions_of_ea01(rt, alloc);
+    let (front, back) = positions
+        .split_at_checked(position)
+        .expect(rt, "a position");
+    let comb = Comb::new(number).expect(rt, "a combination");
+    let mut more = Vec::from_slice(alloc, front).expect(rt, "memory");
+    more.push(Position::Traffic(comb)).expect(rt, "memory");
+    more.extend_from_slice(back).expect(rt, "memory");
+    to_bits(alloc, &more).expect(rt, "elements")
 }
 
 #[test]
-fn check_ea01(rt: HostRuntime) -> Result<(), Fail> {
-    let bits = bits_of_ea01(rt.alloc())?;
-    let messages = read_emission(rt.alloc(), &bits)?;
-    assert_eq!(rt; messages.len(), 1);
-    let first = messages.first().ok_or("a message")?;
-    assert_eq!(rt;
-        first.identity(),
-        Identity::new(b'E', b'A', 1).ok_or("EA01")?
-    );
-    assert_eq!(rt; first.line_count(), 1);
-    assert_eq!(rt; first.line(0), Some(b"TEST".as_slice()));
-    let (_, file) = sent(rt.alloc(), FILE, b'E', 1_735_689_600)?;
-    let mut writer = Counting::new(Vec::new(rt.alloc()));
-    let outcome = check_run(rt.alloc(), &mut Counting::new(file.as_slice()), &mut writer);
-    assert_eq!(rt; outcome, Ok(1));
-    assert_eq!(rt;
-        writer.into_inner().as_slice(),
-        b"station E\n#A01\nTEST\n;\n".as_slice()
-    );
-    Ok(())
+fn check_ea01(rt: HostRuntime) {
+    let bits = bits_of_ea01(&rt, rt.alloc());
+    let messages = read_emission(rt.alloc(), &bits).expect(&rt, "messages");
+    assert!(rt; messages.len() == 1);
+    let first = messages.first().expect(&rt, "a message");
+    assert!(rt; first.identity() == Identity::new(b'E', b'A', 1).expect(&rt, "EA01"));
+    assert!(rt; first.line_count() == 1);
+    assert!(rt; first.line(0) == Some(b"TEST".as_slice()));
+    let (_, file) = sent(&rt, rt.alloc(), FILE, b'E', 1_735_689_600);
+    let (outcome, written) = checked(rt.alloc(), &file);
+    assert!(rt; outcome == Ok(1));
+    assert!(rt; written.as_slice() == b"station E\n#A01\nTEST\n;\n".as_slice());
+}
+
+/// The fault of an emission of these elements.
+fn fault_of(alloc: Global, bits: &[bool]) -> Option<EmissionFault> {
+    read_emission(alloc, bits).err()
+}
+
+/// Whether these elements, with another word in a slot, have this fault.
+fn is_refused(
+    rt: &impl Abort,
+    alloc: Global,
+    bits: &[bool],
+    case: (usize, u8, EmissionFault),
+) -> bool {
+    let (slot, number, fault) = case;
+    fault_of(alloc, &with_word(rt, alloc, bits, slot, number)) == Some(fault)
 }
 
 #[test]
-fn emissions_are_read_strictly(rt: HostRuntime) -> Result<(), Fail> {
-    let bits = bits_of_ea01(rt.alloc())?;
-    let wrong = with_word(rt.alloc(), &bits, 150, 0x62)?;
+fn emissions_are_read_strictly(rt: HostRuntime) {
+    let bits = bits_of_ea01(&rt, rt.alloc());
     let cases = [
         // Word 150 with its first element inverted, and then the word of A in its place.
-        (
-            with_word(rt.alloc(), &bits, 150, 0x62)?,
-            EmissionFault::WrongWord { slot: 150 },
-        ),
-        (
-            with_word(rt.alloc(), &bits, 150, 0x47)?,
-            EmissionFault::Unpaired { position: 75 },
-        ),
-        // A wrong word comes before a position that is unpaired, and the least of each is told.
-        (
-            with_word(rt.alloc(), &wrong, 20, 0x47)?,
-            EmissionFault::WrongWord { slot: 150 },
-        ),
-        (
-            with_word(rt.alloc(), &wrong, 152, 0x1C)?,
-            EmissionFault::WrongWord { slot: 150 },
-        ),
-        // One word more, other words where no RX word is sent again, and in slot 1.
-        (
-            with_word_after(rt.alloc(), &bits, 0x0F)?,
-            EmissionFault::BadEnvelope,
-        ),
-        (
-            with_word(rt.alloc(), &bits, 198, 0x66)?,
-            EmissionFault::BadEnvelope,
-        ),
-        (
-            with_word(rt.alloc(), &bits, 1, 0x66)?,
-            EmissionFault::BadEnvelope,
-        ),
-        // A needless shift, and the figure of D behind the digits.
-        (with_comb(rt.alloc(), 73, 29)?, EmissionFault::BadEnvelope),
-        (with_comb(rt.alloc(), 83, 4)?, EmissionFault::BadEnvelope),
-        (Vec::new(rt.alloc()), EmissionFault::BadEnvelope),
+        (150, 0x62, EmissionFault::WrongWord { slot: 150 }),
+        (150, 0x47, EmissionFault::Unpaired { position: 75 }),
+        // Other words where no RX word is sent again, and in slot 1.
+        (198, 0x66, EmissionFault::BadEnvelope),
+        (1, 0x66, EmissionFault::BadEnvelope),
     ];
-    for (elements, fault) in cases {
-        assert_eq!(rt; read_emission(rt.alloc(), &elements).err(), Some(fault));
+    for case in cases {
+        assert!(rt; is_refused(&rt, rt.alloc(), &bits, case));
     }
-    let ragged = read_emission(rt.alloc(), &[true; 8]).err();
-    assert_eq!(rt; ragged, Some(EmissionFault::Ragged { bits: 8 }));
-    Ok(())
+    // A wrong word comes before a position that is unpaired, and the least of each is told.
+    let wrong = with_word(&rt, rt.alloc(), &bits, 150, 0x62);
+    for (slot, number) in [(20, 0x47), (152, 0x1C)] {
+        let fault = EmissionFault::WrongWord { slot: 150 };
+        assert!(rt; is_refused(&rt, rt.alloc(), &wrong, (slot, number, fault)));
+    }
+}
+
+/// One word more, a needless shift, the figure of D behind the digits, and nothing.
+#[test]
+fn other_envelopes_are_refused(rt: HostRuntime) {
+    let bits = bits_of_ea01(&rt, rt.alloc());
+    for other in [
+        with_word_after(&rt, rt.alloc(), &bits, 0x0F),
+        with_comb(&rt, rt.alloc(), 73, 29),
+        with_comb(&rt, rt.alloc(), 83, 4),
+        Vec::new(rt.alloc()),
+    ] {
+        assert!(rt; fault_of(rt.alloc(), &other) == Some(EmissionFault::BadEnvelope));
+    }
+    assert!(rt; fault_of(rt.alloc(), &[true; 8]) == Some(EmissionFault::Ragged { bits: 8 }));
 }
 
 #[test]
-fn files_are_checked(rt: HostRuntime) -> Result<(), Fail> {
-    let cases: [(&[u8], &str); 4] = [
+fn files_are_checked(rt: HostRuntime) {
+    static CASES: [(&[u8], &str); 4] = [
         (b"", "not an emission of this profile"),
         (b"B 0\n", "1 elements are no whole words"),
         (b"B 0111111\n", "word 0 has the wrong weight"),
         (b"B 012\n", "line 1 is not understood"),
     ];
-    for (file, text) in cases {
-        let mut writer = Counting::new(Vec::new(rt.alloc()));
-        let outcome = check_run(rt.alloc(), &mut Counting::new(file), &mut writer);
-        let fault = outcome.err().ok_or("a fault")?;
-        assert_eq!(rt; fault.to_string(rt.alloc())?.as_str(), text);
-        assert_eq!(rt; writer.into_inner().len(), 0);
+    for &(file, text) in &CASES {
+        let (outcome, written) = checked(rt.alloc(), file);
+        let fault = outcome.err().expect(&rt, "a fault");
+        assert!(rt; is_told(&rt, rt.alloc(), &fault, text));
+        assert!(rt; written.is_empty());
     }
-    let (_, file) = sent(rt.alloc(), FILE, b'E', 0)?;
+    let (_, file) = sent(&rt, rt.alloc(), FILE, b'E', 0);
     let mut space = [0; 10];
     let mut writer = Counting::new(&mut space[..]);
     let outcome = check_run(rt.alloc(), &mut Counting::new(file.as_slice()), &mut writer);
-    assert_eq!(rt;
-        outcome,
-        Err(CheckFault::Run(RunFault::Write { written: 10 }))
-    );
-    assert_eq!(rt; space, *b"station E\n");
+    assert!(rt; outcome == Err(CheckFault::Run(RunFault::Write { written: 10 })));
+    assert!(rt; space == *b"station E\n");
     let unpaired = CheckFault::Emission(EmissionFault::Unpaired { position: 75 });
-    assert_eq!(rt;
-        unpaired.to_string(rt.alloc())?.as_str(),
-        "position 75 is unpaired"
-    );
+    assert!(rt; is_told(&rt, rt.alloc(), &unpaired, "position 75 is unpaired"));
     let memory = CheckFault::Emission(EmissionFault::Memory(AllocError));
-    assert_eq!(rt; memory.to_string(rt.alloc())?.as_str(), "out of memory");
-    Ok(())
+    assert!(rt; is_told(&rt, rt.alloc(), &memory, "out of memory"));
 }

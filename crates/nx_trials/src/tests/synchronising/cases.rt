@@ -3,7 +3,6 @@
 
 use super::run::Run;
 use nx_sync::{Change, Role};
-use std::alloc::AllocError;
 
 /// Elements; the changes, each with the number of elements heard by then; and the words, in runs of
 /// words that follow on each other with alternating roles: the number of elements heard at the
@@ -322,22 +321,20 @@ static CASES: [Case; 12] = [
 ];
 
 #[test]
-fn by_elements(rt: HostRuntime) -> Result<(), AllocError> {
+fn by_elements(rt: HostRuntime) {
     for case in &CASES {
-        let mut run = Run::new(rt.alloc(), case)?;
+        let mut run = Run::new(rt.alloc(), case).expect(&rt, "memory");
         run.push_all();
         assert!(rt; run.agrees(), "{}", case.name);
     }
-    Ok(())
 }
 
 /// The same by hunts and whole words.
 #[test]
-fn by_hunts_and_words(rt: HostRuntime) -> Result<(), AllocError> {
+fn by_hunts_and_words(rt: HostRuntime) {
     for case in &CASES {
-        let mut run = Run::new(rt.alloc(), case)?;
+        let mut run = Run::new(rt.alloc(), case).expect(&rt, "memory");
         run.hear_all();
         assert!(rt; run.agrees(), "{}", case.name);
     }
-    Ok(())
 }

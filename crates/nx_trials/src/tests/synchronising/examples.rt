@@ -3,7 +3,6 @@
 
 use nx_code::Word;
 use nx_sync::{Change, Role, Synchroniser, first_lock};
-use std::alloc::AllocError;
 
 /// P2 P1 P2 P1, after which a DX word follows, and P1 P2 P1 P2, after which an RX word follows.
 const PATTERNS: [u32; 2] = [0x1F9_87E6, 0x0CC3_F30F];
@@ -11,67 +10,62 @@ const PATTERNS: [u32; 2] = [0x1F9_87E6, 0x0CC3_F30F];
 /// All 28 bits are needed: the last 27 are none, though what no bit has filled reads as the missing
 /// one.
 #[test]
-fn needs_28_bits(rt: HostRuntime) -> Result<(), AllocError> {
+fn needs_28_bits(rt: HostRuntime) {
     for (skipped, locked) in [(1, false), (0, true)] {
-        let mut sync = Synchroniser::new(rt.alloc())?;
+        let mut sync = Synchroniser::new(rt.alloc()).expect(&rt, "memory");
         let mut last = None;
         for bit in "0110011111100001100111111000".bytes().skip(skipped) {
             last = sync.push(bit == b'1').change;
         }
-        assert_eq!(rt; last == Some(Change::Locked), locked);
-        assert_eq!(rt; sync.is_locked(), locked);
+        assert!(rt; (last == Some(Change::Locked)) == locked);
+        assert!(rt; sync.is_locked() == locked);
     }
-    Ok(())
 }
 
 /// A hunt hears the elements before the one that locks, all of them where none does.
 #[test]
-fn hunts(rt: HostRuntime) -> Result<(), AllocError> {
+fn hunts(rt: HostRuntime) {
     let mut bits = [false; 31];
     for (place, bit) in bits.iter_mut().zip("0110011111100001100111111000".bytes()) {
         *place = bit == b'1';
     }
-    let mut sync = Synchroniser::new(rt.alloc())?;
-    assert_eq!(rt; sync.hunt(&bits), 27);
-    assert_eq!(rt; sync.push(false).change, Some(Change::Locked));
-    let mut sync = Synchroniser::new(rt.alloc())?;
-    assert_eq!(rt; sync.hunt(&[]), 0);
-    assert_eq!(rt; sync.hunt(&[false; 1000]), 1000);
+    let mut sync = Synchroniser::new(rt.alloc()).expect(&rt, "memory");
+    assert!(rt; sync.hunt(&bits) == 27);
+    assert!(rt; sync.push(false).change == Some(Change::Locked));
+    let mut sync = Synchroniser::new(rt.alloc()).expect(&rt, "memory");
+    assert!(rt; sync.hunt(&[]) == 0);
+    assert!(rt; sync.hunt(&[false; 1000]) == 1000);
     assert!(rt; !sync.is_locked());
-    Ok(())
 }
 
 /// P2 P1 P2 P1 as packed elements, over the seam of two numbers and behind Y alone; then a word by
 /// its number, which is the first DX word of the lock.
 #[test]
-fn hunts_packed_elements(rt: HostRuntime) -> Result<(), AllocError> {
+fn hunts_packed_elements(rt: HostRuntime) {
     let numbers = [0x1F9_87E6 << 50, 0x1F9_87E6 >> 14];
-    let mut sync = Synchroniser::new(rt.alloc())?;
-    assert_eq!(rt; sync.hunt_packed(&numbers, 3, 125), 74);
-    assert_eq!(rt; sync.push(false).change, Some(Change::Locked));
+    let mut sync = Synchroniser::new(rt.alloc()).expect(&rt, "memory");
+    assert!(rt; sync.hunt_packed(&numbers, 3, 125) == 74);
+    assert!(rt; sync.push(false).change == Some(Change::Locked));
     if sync.is_between_words() {
         let word = Word::from_elements([false, true, true, false, false, true, true]);
         let step = sync.at_words().push(word);
-        assert_eq!(rt; step.word, Some((word, Role::Dx)));
+        assert!(rt; step.word == Some((word, Role::Dx)));
     }
-    Ok(())
 }
 
 /// Eight words of phasing after P2 P1 P2 P1 are heard at once. Not so after one more word, since
 /// the next one is an RX word then; nor with a DX word among them that is P1; nor after such a one,
 /// as long as it may end the lock.
 #[test]
-fn hears_eight_words(rt: HostRuntime) -> Result<(), AllocError> {
-    let mut sync = Synchroniser::new(rt.alloc())?;
+fn hears_eight_words(rt: HostRuntime) {
+    let mut sync = Synchroniser::new(rt.alloc()).expect(&rt, "memory");
     let p1 = Word::from_elements([true, true, true, true, false, false, false]);
     let p2 = Word::from_elements([false, true, true, false, false, true, true]);
     let phasing = [p2, p1, p2, p1, p2, p1, p2, p1];
     for bit in "0110011111100001100111111000".bytes() {
         sync.push(bit == b'1');
     }
-    if !sync.is_between_words() {
-        return Ok(assert!(rt; false));
-    }
+    assert!(rt; sync.is_between_words());
     let mut words = sync.at_words();
     assert!(rt; !words.keeps_lock(&[p2, p1, p2, p1, p2, p1, p1, p1]));
     let keeps = words.keeps_lock(&phasing);
@@ -85,18 +79,17 @@ fn hears_eight_words(rt: HostRuntime) -> Result<(), AllocError> {
         (p2, Role::Dx, false),
     ] {
         if words.is_between_words() {
-            assert_eq!(rt; words.push(word).word, Some((word, role)));
+            assert!(rt; words.push(word).word == Some((word, role)));
         }
-        assert_eq!(rt; words.keeps_lock(&phasing), kept);
+        assert!(rt; words.keeps_lock(&phasing) == kept);
     }
-    Ok(())
 }
 
 /// The least window that is a pattern, by the worked example.
 #[test]
 fn least_window(rt: HostRuntime) {
-    assert_eq!(rt; first_lock(&[0, 0x0CC3_F30F, 0x1F9_87E6]), Some(1));
-    assert_eq!(rt; first_lock(&[]), None);
+    assert!(rt; first_lock(&[0, 0x0CC3_F30F, 0x1F9_87E6]) == Some(1));
+    assert!(rt; first_lock(&[]).is_none());
 }
 
 /// One pattern, or two of them, at each place of 0 to 25 windows: the same as by looking at one
@@ -111,10 +104,10 @@ fn window_at_each_place(rt: HostRuntime) {
                 windows[(place + 5).min(24)] = 0x1F9_87E6;
                 let windows = &windows[..length];
                 let plain = windows.iter().position(|window| PATTERNS.contains(window));
-                assert_eq!(rt; first_lock(windows), Some(place));
-                assert_eq!(rt; first_lock(windows), plain);
+                assert!(rt; first_lock(windows) == Some(place));
+                assert!(rt; first_lock(windows) == plain);
             }
-            assert_eq!(rt; first_lock(&[0x0CC3_F30E; 25][..length]), None);
+            assert!(rt; first_lock(&[0x0CC3_F30E; 25][..length]).is_none());
         }
     }
 }

@@ -1,9 +1,9 @@
 //! The cases of copies: what a finder answers to texts.
 
 use nx_envelope::{Finder, FinderStep, Found, How, Identity, NEWLINE, TextEvent};
-use std::alloc::{AllocError, Global};
+use std::alloc::Global;
 use std::fmt::Write;
-use std::test::Fail;
+use std::process::Abort;
 
 /// Texts, and what a new finder answers to the bytes of each and then to its end.
 ///
@@ -202,18 +202,17 @@ static LONG_CASES: [LongCase; 9] = [
 ];
 
 /// Writes the letters A of a run, in short where there are many.
-fn write_run(log: &mut String, run: usize) -> Result<(), AllocError> {
+fn write_run(rt: &impl Abort, log: &mut String, run: usize) {
     if run >= 100 {
-        return write!(log, "A^{run}");
+        return write!(log, "A^{run}").expect(rt, "memory");
     }
     for _ in 0..run {
-        log.push('A')?;
+        log.push('A').expect(rt, "memory");
     }
-    Ok(())
 }
 
 /// Writes the end, the errors, the characters and the text of a found copy.
-fn write_found(log: &mut String, found: &Found) -> Result<(), AllocError> {
+fn write_found(rt: &impl Abort, log: &mut String, found: &Found) {
     let how = match found.how {
         How::Full => "full",
         How::Cut => "cut",
@@ -221,22 +220,19 @@ fn write_found(log: &mut String, found: &Found) -> Result<(), AllocError> {
     };
     let errors = found.errors;
     let characters = found.text.len();
-    write!(log, " {how} {errors}/{characters} ")?;
+    write!(log, " {how} {errors}/{characters} ").expect(rt, "memory");
     let mut run = 0usize;
     for byte in found.text.as_slice() {
         if *byte == b'A' {
             run = run.saturating_add(1);
         } else {
-            write_run(log, run)?;
+            write_run(rt, log, run);
             run = 0;
-            log.push(if *byte == NEWLINE {
-                '|'
-            } else {
-                char::from(*byte)
-            })?;
+            let shown = if *byte == NEWLINE { b'|' } else { *byte };
+            log.push(char::from(shown)).expect(rt, "memory");
         }
     }
-    write_run(log, run)
+    write_run(rt, log, run);
 }
 
 /// A finder and the log of its answers.
@@ -249,104 +245,98 @@ struct Hearing {
 
 impl Hearing {
     /// Puts what parts two answers before the next one.
-    fn part(&mut self) -> Result<(), AllocError> {
+    fn part(&mut self, rt: &impl Abort) {
         if !self.log.is_empty() {
-            self.log.push_str("; ")?;
+            self.log.push_str("; ").expect(rt, "memory");
         }
-        Ok(())
     }
 
     /// Hands the finder a byte and notes its answer.
-    fn hear(&mut self, byte: u8) -> Result<(), AllocError> {
+    fn hear(&mut self, rt: &impl Abort, byte: u8) {
         self.heard = self.heard.saturating_add(1);
         let heard = self.heard;
         match self.finder.hear(byte) {
             TextEvent::Nothing => {}
             TextEvent::Header(identity) => {
-                self.part()?;
+                self.part(rt);
                 let [b1, b2, tens, units] = identity.bytes().map(char::from);
-                write!(self.log, "{heard} Header {b1}{b2}{tens}{units}")?;
+                write!(self.log, "{heard} Header {b1}{b2}{tens}{units}").expect(rt, "memory");
             }
             TextEvent::CopyOver => {
-                self.part()?;
-                write!(self.log, "{heard} Over")?;
+                self.part(rt);
+                write!(self.log, "{heard} Over").expect(rt, "memory");
                 if let Some(found) = self.finder.take_found() {
-                    write_found(&mut self.log, &found)?;
+                    write_found(rt, &mut self.log, &found);
                 }
             }
         }
-        Ok(())
     }
 
     /// Hands the finder the bytes of a text.
-    fn hear_text(&mut self, text: &str) -> Result<(), AllocError> {
+    fn hear_text(&mut self, rt: &impl Abort, text: &str) {
         for byte in text.as_bytes() {
-            self.hear(if *byte == b'|' { NEWLINE } else { *byte })?;
+            self.hear(rt, if *byte == b'|' { NEWLINE } else { *byte });
         }
-        Ok(())
     }
 
     /// Ends the text.
-    fn end(&mut self) -> Result<(), AllocError> {
+    fn end(&mut self, rt: &impl Abort) {
         if let Some(found) = self.finder.end() {
-            self.part()?;
-            self.log.push_str("End")?;
-            write_found(&mut self.log, &found)?;
+            self.part(rt);
+            self.log.push_str("End").expect(rt, "memory");
+            write_found(rt, &mut self.log, &found);
         }
-        Ok(())
     }
 }
 
 /// The log of a text: `before`, so many letters A, and `after`.
-fn log_of(alloc: Global, before: &str, letters: usize, after: &str) -> Result<String, AllocError> {
+fn log_of(rt: &impl Abort, alloc: Global, before: &str, letters: usize, after: &str) -> String {
     let mut hearing = Hearing {
         finder: Finder::new(),
         heard: 0,
         log: String::new(alloc),
     };
-    hearing.hear_text(before)?;
+    hearing.hear_text(rt, before);
     for _ in 0..letters {
-        hearing.hear(b'A')?;
+        hearing.hear(rt, b'A');
     }
-    hearing.hear_text(after)?;
-    hearing.end()?;
+    hearing.hear_text(rt, after);
+    hearing.end(rt);
     let Hearing { log, .. } = hearing;
-    Ok(log)
+    log
 }
 
 #[test]
-fn finder_finds_copies(rt: HostRuntime) -> Result<(), Fail> {
+fn finder_finds_copies(rt: HostRuntime) {
     for (text, log) in CASES.iter() {
-        let answers = log_of(rt.alloc(), text, 0, "")?;
-        assert_eq!(rt; answers.as_str(), *log);
+        let answers = log_of(&rt, rt.alloc(), text, 0, "");
+        assert!(rt; answers.as_str() == *log, "{text}");
     }
     for case in LONG_CASES.iter() {
-        let answers = log_of(rt.alloc(), case.before, case.letters, case.after)?;
-        assert_eq!(rt; answers.as_str(), case.log);
+        let answers = log_of(&rt, rt.alloc(), case.before, case.letters, case.after);
+        assert!(rt; answers.as_str() == case.log, "{}", case.log);
     }
-    Ok(())
 }
 
 #[test]
-fn steps_hand_out_what_is_found(rt: HostRuntime) -> Result<(), Fail> {
+fn steps_hand_out_what_is_found(rt: HostRuntime) {
     let mut finder = Finder::new();
-    let identity = Identity::new(b'E', b'A', 1).ok_or("identity")?;
+    let identity = Identity::new(b'E', b'A', 1).expect(&rt, "identity");
     for byte in b"ZCZC EA0".iter() {
         assert!(rt; matches!(finder.push(*byte), FinderStep::Nothing));
     }
     let FinderStep::Header(named) = finder.push(b'1') else {
-        return Err(Fail::from("no header"));
+        rt.panic("no header")
     };
-    assert_eq!(rt; named, identity);
+    assert!(rt; named == identity);
     for byte in b"\nA*NNN".iter() {
         assert!(rt; matches!(finder.push(*byte), FinderStep::Nothing));
     }
     let FinderStep::Over(found) = finder.push(b'N') else {
-        return Err(Fail::from("no copy"));
+        rt.panic("no copy")
     };
-    assert_eq!(rt; found.identity, identity);
-    assert_eq!(rt; found.text.as_slice(), b"A*".as_slice());
-    assert_eq!(rt; found.errors, 1);
-    assert_eq!(rt; found.how, How::Full);
-    Ok(())
+    assert!(rt; found.identity == identity);
+    assert!(rt; found.text.as_slice() == b"A*".as_slice());
+    assert!(rt; found.errors == 1);
+    assert!(rt; found.how == How::Full);
 }
