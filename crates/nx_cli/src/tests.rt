@@ -23,7 +23,7 @@ mod words;
 use devices::{Sink, Source};
 use nx_program::run;
 use std::alloc::Global;
-use std::test::Fail;
+use std::process::Abort;
 
 // The text `A` as an air file: four phasing positions, the letter and three end positions, by the
 // code table of M.476.
@@ -83,14 +83,16 @@ fn refuses(alloc: Global, words: &[&str], input: &[u8], status: u8, line: &str) 
 
 // The file with other elements at this place.
 fn with_word(
+    rt: &impl Abort,
     alloc: Global,
     air_file: &[u8],
     place: usize,
     elements: &[u8; 7],
-) -> Result<Vec<u8>, Fail> {
-    let mut other = air_file.to_vec(alloc)?;
-    let end = place.checked_add(7).ok_or("a place")?;
+) -> Vec<u8> {
+    let mut other = air_file.to_vec(alloc).expect(rt, "memory");
+    let end = place.checked_add(7).expect(rt, "a place");
     let word = other.as_mut_slice().get_mut(place..end);
-    word.ok_or("a place in the file")?.copy_from_slice(elements);
-    Ok(other)
+    word.expect(rt, "a place in the file")
+        .copy_from_slice(elements);
+    other
 }

@@ -6,9 +6,9 @@ use super::station::AIR_FILE_OF_EA01;
 use super::{output_of, run_on};
 use nx_code::Comb;
 use nx_fec::{Position, to_bits};
-use std::alloc::{AllocError, Global};
+use std::alloc::Global;
 use std::ops::Range;
-use std::test::Fail;
+use std::process::Abort;
 
 /// The moment of the emission of EA01.
 pub const MOMENT_OF_EA01: &[u8] = b"T 1735692000\n";
@@ -24,51 +24,57 @@ pub const HEADER_OF_EA01: [u8; 13] = [29, 26, 3, 26, 3, 31, 5, 1, 30, 16, 17, 27
 pub const REST_OF_EA01: [u8; 14] = [29, 20, 5, 19, 20, 27, 28, 14, 14, 14, 14, 27, 28, 28];
 
 /// The pieces in a row.
-pub fn join(alloc: Global, pieces: &[&[u8]]) -> Result<Vec<u8>, AllocError> {
+pub fn join(rt: &impl Abort, alloc: Global, pieces: &[&[u8]]) -> Vec<u8> {
     let mut whole = Vec::new(alloc);
     for piece in pieces {
-        whole.extend_from_slice(piece)?;
+        whole.extend_from_slice(piece).expect(rt, "memory");
     }
-    Ok(whole)
+    whole
 }
 
 /// The elements of a file, a digit for each.
-fn elements_of(alloc: Global, air_file: &[u8]) -> Result<Vec<u8>, AllocError> {
+fn elements_of(rt: &impl Abort, alloc: Global, air_file: &[u8]) -> Vec<u8> {
     let mut elements = Vec::new(alloc);
     for line in air_file.split(|byte| *byte == b'\n') {
         if let Some(digits) = line.strip_prefix(b"B ") {
-            elements.extend_from_slice(digits)?;
+            elements.extend_from_slice(digits).expect(rt, "memory");
         }
     }
-    Ok(elements)
+    elements
 }
 
 /// Lines of so many elements each.
-fn lines_of(alloc: Global, elements: &[u8], length: usize) -> Result<Vec<u8>, AllocError>
+fn lines_of(rt: &impl Abort, alloc: Global, elements: &[u8], length: usize) -> Vec<u8>
     requires { 0 < length }
 {
     let mut lines = Vec::new(alloc);
     for digits in elements.chunks(length) {
-        lines.extend_from_slice(b"B ")?;
-        lines.extend_from_slice(digits)?;
-        lines.push(b'\n')?;
+        lines.extend_from_slice(b"B ").expect(rt, "memory");
+        lines.extend_from_slice(digits).expect(rt, "memory");
+        lines.push(b'\n').expect(rt, "memory");
     }
-    Ok(lines)
+    lines
 }
 
 /// The elements of 72 phasing positions, these combinations and three end positions.
-fn elements_sent(alloc: Global, combinations: &[u8]) -> Result<Vec<u8>, Fail> {
-    let mut positions = vec![in alloc; Position::Phasing; 72]?;
+fn elements_sent(rt: &impl Abort, alloc: Global, combinations: &[u8]) -> Vec<u8> {
+    let mut positions = vec![in alloc; Position::Phasing; 72].expect(rt, "memory");
     for number in combinations {
-        let combination = Comb::new(*number).ok_or("a combination")?;
-        positions.push(Position::Traffic(combination))?;
+        let combination = Comb::new(*number).expect(rt, "a combination");
+        positions
+            .push(Position::Traffic(combination))
+            .expect(rt, "memory");
     }
-    positions.extend_from_slice(&[Position::End; 3])?;
+    positions
+        .extend_from_slice(&[Position::End; 3])
+        .expect(rt, "memory");
     let mut elements = Vec::new(alloc);
-    for bit in to_bits(alloc, &positions)? {
-        elements.push(if bit { b'1' } else { b'0' })?;
+    for bit in to_bits(alloc, &positions).expect(rt, "memory") {
+        elements
+            .push(if bit { b'1' } else { b'0' })
+            .expect(rt, "memory");
     }
-    Ok(elements)
+    elements
 }
 
 /// What `send` writes of a message file of station E from this moment on.
@@ -109,91 +115,89 @@ pub const LINES: Piece<'static> = Piece::Part(0, 1_421, 490);
 
 impl Piece<'_> {
     /// The piece itself.
-    fn made(&self, alloc: Global) -> Result<Vec<u8>, Fail> {
+    fn made(&self, rt: &impl Abort, alloc: Global) -> Vec<u8> {
         match *self {
-            Piece::Text(text) => Ok(text.to_vec(alloc)?),
-            Piece::Damaged(damages) => Ok(damaged(alloc, AIR_FILE_OF_EA01, damages)?),
+            Piece::Text(text) => text.to_vec(alloc).expect(rt, "memory"),
+            Piece::Damaged(damages) => damaged(rt, alloc, AIR_FILE_OF_EA01, damages),
             Piece::Sent(moment, message_file, damages) => {
-                Ok(damaged(alloc, &send_from(alloc, moment, message_file), damages)?)
+                damaged(rt, alloc, &send_from(alloc, moment, message_file), damages)
             }
             Piece::Part(from, to, length) => {
-                part_of(
-                    alloc,
-                    &elements_of(alloc, AIR_FILE_OF_EA01)?,
-                    from..to,
-                    length,
-                )
+                let elements = elements_of(rt, alloc, AIR_FILE_OF_EA01);
+                part_of(rt, alloc, &elements, from..to, length)
             }
             Piece::Named(digit, from, to) => {
-                let elements = elements_of(alloc, AIR_FILE_OF_EA01)?;
-                Ok(named(alloc, digit, &part_of(alloc, &elements, from..to, 490)?)?)
+                let elements = elements_of(rt, alloc, AIR_FILE_OF_EA01);
+                named(
+                    rt,
+                    alloc,
+                    digit,
+                    &part_of(rt, alloc, &elements, from..to, 490),
+                )
             }
             Piece::InTurn(is_1_first) => {
-                let lines = lines_of_ea01()?;
-                Ok(alternating(alloc, lines, lines, is_1_first)?)
+                let lines = lines_of_ea01(rt);
+                alternating(rt, alloc, lines, lines, is_1_first)
             }
             Piece::Combinations(pieces, to) => {
-                part_of(
-                    alloc,
-                    &elements_sent(alloc, &join(alloc, pieces)?)?,
-                    0..to,
-                    490,
-                )
+                let elements = elements_sent(rt, alloc, &join(rt, alloc, pieces));
+                part_of(rt, alloc, &elements, 0..to, 490)
             }
         }
     }
 }
 
 /// The pieces in a row.
-pub fn made_of(alloc: Global, pieces: &[Piece]) -> Result<Vec<u8>, Fail> {
+pub fn made_of(rt: &impl Abort, alloc: Global, pieces: &[Piece]) -> Vec<u8> {
     let mut whole = Vec::new(alloc);
     for piece in pieces {
-        whole.extend_from_slice(&piece.made(alloc)?)?;
+        whole
+            .extend_from_slice(&piece.made(rt, alloc))
+            .expect(rt, "memory");
     }
-    Ok(whole)
+    whole
 }
 
 /// The lines of elements of the emission of EA01, without its moment.
-pub fn lines_of_ea01() -> Result<&'static [u8], Fail> {
-    Ok(
-        AIR_FILE_OF_EA01
-            .strip_prefix(MOMENT_OF_EA01)
-            .ok_or("a moment")?,
-    )
+pub fn lines_of_ea01(rt: &impl Abort) -> &'static [u8] {
+    AIR_FILE_OF_EA01
+        .strip_prefix(MOMENT_OF_EA01)
+        .expect(rt, "a moment")
 }
 
 /// What is left of a file behind each damage in turn.
-fn damaged(alloc: Global, air_file: &[u8], damages: &[Damage]) -> Result<Vec<u8>, AllocError> {
-    let mut left = air_file.to_vec(alloc)?;
+fn damaged(rt: &impl Abort, alloc: Global, air_file: &[u8], damages: &[Damage]) -> Vec<u8> {
+    let mut left = air_file.to_vec(alloc).expect(rt, "memory");
     for [kind, from, count] in damages {
         left = damage_in(alloc, kind, from, count, &left);
     }
-    Ok(left)
+    left
 }
 
 /// These lines of elements, each named as one of a channel by this digit.
-fn named(alloc: Global, digit: u8, lines: &[u8]) -> Result<Vec<u8>, AllocError> {
+fn named(rt: &impl Abort, alloc: Global, digit: u8, lines: &[u8]) -> Vec<u8> {
     let mut named = Vec::new(alloc);
     for line in lines.split(|byte| *byte == b'\n') {
         if let Some(rest) = line.strip_prefix(b"B") {
-            named.extend_from_slice(&[b'B', digit])?;
-            named.extend_from_slice(rest)?;
-            named.push(b'\n')?;
+            named.extend_from_slice(&[b'B', digit]).expect(rt, "memory");
+            named.extend_from_slice(rest).expect(rt, "memory");
+            named.push(b'\n').expect(rt, "memory");
         }
     }
-    Ok(named)
+    named
 }
 
 /// The moment of EA01, and each of these lines of channel 0 with one of those that are named as lines of
 /// channel 1: behind it, or before it where these come first.
 pub fn alternating(
+    rt: &impl Abort,
     alloc: Global,
     on_0: &[u8],
     on_1: &[u8],
     is_1_first: bool,
-) -> Result<Vec<u8>, AllocError> {
-    let mut air_file = MOMENT_OF_EA01.to_vec(alloc)?;
-    let named = named(alloc, b'1', on_1)?;
+) -> Vec<u8> {
+    let mut air_file = MOMENT_OF_EA01.to_vec(alloc).expect(rt, "memory");
+    let named = named(rt, alloc, b'1', on_1);
     let others = named.split_inclusive(|byte| *byte == b'\n');
     for (line, other) in on_0.split_inclusive(|byte| *byte == b'\n').zip(others) {
         let (first, second) = if is_1_first {
@@ -201,39 +205,40 @@ pub fn alternating(
         } else {
             (line, other)
         };
-        air_file.extend_from_slice(first)?;
-        air_file.extend_from_slice(second)?;
+        air_file.extend_from_slice(first).expect(rt, "memory");
+        air_file.extend_from_slice(second).expect(rt, "memory");
     }
-    Ok(air_file)
+    air_file
 }
 
 /// Some of the elements, or those that there are of them, in lines of so many.
 fn part_of(
+    rt: &impl Abort,
     alloc: Global,
     elements: &[u8],
     part: Range<usize>,
     length: usize,
-) -> Result<Vec<u8>, Fail> {
+) -> Vec<u8> {
     let end = part.end.min(elements.len());
-    let part = elements.get(part.start..end).ok_or("elements")?;
-    Ok(lines_of(alloc, part, length.max(1))?)
+    let part = elements.get(part.start..end).expect(rt, "elements");
+    lines_of(rt, alloc, part, length.max(1))
 }
 
 /// Whether `listen` succeeds on a file that these pieces make in a row, and writes this log.
-pub fn hears(alloc: Global, pieces: &[Piece], log: &[u8]) -> Result<bool, Fail> {
-    let air_file = made_of(alloc, pieces)?;
-    Ok(run_on(alloc, &["navtex", "listen"], &air_file).is(0, log, b""))
+pub fn hears(rt: &impl Abort, alloc: Global, pieces: &[Piece], log: &[u8]) -> bool {
+    let air_file = made_of(rt, alloc, pieces);
+    run_on(alloc, &["navtex", "listen"], &air_file).is(0, log, b"")
 }
 
 /// What `listen` hears: the pieces of a file, and the log.
 pub type Heard<'a> = (&'a [Piece<'a>], &'a [u8]);
 
 /// Whether `listen` hears each file so.
-pub fn hears_each(alloc: Global, cases: &[Heard]) -> Result<bool, Fail> {
+pub fn hears_each(rt: &impl Abort, alloc: Global, cases: &[Heard]) -> bool {
     for (pieces, log) in cases {
-        if !hears(alloc, pieces, log)? {
-            return Ok(false);
+        if !hears(rt, alloc, pieces, log) {
+            return false;
         }
     }
-    Ok(true)
+    true
 }

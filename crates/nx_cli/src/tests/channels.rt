@@ -3,12 +3,11 @@
 
 use super::air::Piece::{InTurn, Named, Part, Text};
 use super::air::{
-    Heard, LOG_OF_EA01, MOMENT_OF_EA01, alternating, damage_in, hears, hears_each, join,
+    Heard, LOG_OF_EA01, MOMENT_OF_EA01, Piece, alternating, damage_in, hears, hears_each, join,
     lines_of_ea01, made_of,
 };
 use super::station::AIR_FILE_OF_EA01;
 use super::{output_of, refuses, run_in_pieces, writes};
-use std::test::Fail;
 
 /// The log of EA01 on channel 1.
 pub const LOG_ON_CHANNEL_1: &[u8] = b"[EA01/1 2025-01-01 00:40:00 full 0/5]\nTEST\n\n";
@@ -21,32 +20,30 @@ const LOG_ON_1_AND_0: &[u8] = b"[EA01/1 2025-01-01 00:40:00 full 0/5]\nTEST\n\n\
     [EA01 2025-01-01 00:40:00 full 0/5]\nTEST\n\n";
 
 #[test]
-fn hears_channels(rt: HostRuntime) -> Result<(), Fail> {
-    let now = Text(MOMENT_OF_EA01);
-    let in_turn = InTurn(false);
-    let cases: [Heard; 6] = [
-        (&[now, Named(b'1', 0, 1_421)], LOG_ON_CHANNEL_1),
-        (&[now, Named(b'0', 0, 1_421)], LOG_OF_EA01),
-        (&[in_turn], LOG_ON_BOTH),
+fn hears_channels(rt: HostRuntime) {
+    const NOW: Piece = Text(MOMENT_OF_EA01);
+    const IN_TURN: Piece = InTurn(false);
+    static CASES: [Heard; 6] = [
+        (&[NOW, Named(b'1', 0, 1_421)], LOG_ON_CHANNEL_1),
+        (&[NOW, Named(b'0', 0, 1_421)], LOG_OF_EA01),
+        (&[IN_TURN], LOG_ON_BOTH),
         (&[InTurn(true)], LOG_ON_1_AND_0),
         // A station is refused on channel 1 alone, and on channel 0.
-        (&[Text(b"RS1 E\n"), in_turn], LOG_OF_EA01),
-        (&[Text(b"RS E\n"), in_turn], LOG_ON_CHANNEL_1),
+        (&[Text(b"RS1 E\n"), IN_TURN], LOG_OF_EA01),
+        (&[Text(b"RS E\n"), IN_TURN], LOG_ON_CHANNEL_1),
     ];
-    assert!(rt; hears_each(rt.alloc(), &cases)?);
-    Ok(())
+    assert!(rt; hears_each(&rt, rt.alloc(), &CASES));
 }
 
 #[test]
-fn hears_two_channels_byte_by_byte(rt: HostRuntime) -> Result<(), Fail> {
-    let air_file = made_of(rt.alloc(), &[InTurn(false)])?;
+fn hears_two_channels_byte_by_byte(rt: HostRuntime) {
+    let air_file = made_of(&rt, rt.alloc(), &[InTurn(false)]);
     let ended = run_in_pieces(rt.alloc(), &["navtex", "listen"], &air_file, 1);
     assert!(rt; ended.is(0, LOG_ON_BOTH, b""));
-    Ok(())
 }
 
 #[test]
-fn closes_by_channel(rt: HostRuntime) -> Result<(), Fail> {
+fn closes_by_channel(rt: HostRuntime) {
     let pieces = [
         Text(MOMENT_OF_EA01),
         Named(b'2', 0, 1_323),
@@ -54,19 +51,18 @@ fn closes_by_channel(rt: HostRuntime) -> Result<(), Fail> {
     ];
     let log = b"[EA01 2025-01-01 00:40:00 cut 0/5]\nTEST\n\n\
         [EA01/2 2025-01-01 00:40:00 cut 0/5]\nTEST\n\n";
-    assert!(rt; hears(rt.alloc(), &pieces, log)?);
-    Ok(())
+    assert!(rt; hears(&rt, rt.alloc(), &pieces, log));
 }
 
 #[test]
-fn refuses_lines_of_channels(rt: HostRuntime) -> Result<(), Fail> {
+fn refuses_lines_of_channels(rt: HostRuntime) {
     let alloc = rt.alloc();
-    let long_line = join(alloc, &[b"B1 ", &[b'0'; 512], b"\n"])?;
-    let bad = "navtex: line 1 is not understood\n";
+    let long_line = join(&rt, alloc, &[b"B1 ", &[b'0'; 512], b"\n"]);
+    const BAD: &str = "navtex: line 1 is not understood\n";
     let cases: [(&[u8], &str); 7] = [
-        (b"B3 1\n", bad),
-        (b"RS1E\n", bad),
-        (b"T1 5\n", bad),
+        (b"B3 1\n", BAD),
+        (b"RS1E\n", BAD),
+        (b"T1 5\n", BAD),
         (&long_line, "navtex: line 1 is longer than 514 bytes\n"),
         (b"B2 1\n", "navtex: line 1 has elements before any moment\n"),
         (b"RJ2 L\n", "navtex: line 1: subject L can't be refused\n"),
@@ -78,13 +74,12 @@ fn refuses_lines_of_channels(rt: HostRuntime) -> Result<(), Fail> {
             "{line}"
         );
     }
-    Ok(())
 }
 
 #[test]
-fn takes_channel_0_alone(rt: HostRuntime) -> Result<(), Fail> {
+fn takes_channel_0_alone(rt: HostRuntime) {
     let alloc = rt.alloc();
-    let air_file = made_of(alloc, &[InTurn(false)])?;
+    let air_file = made_of(&rt, alloc, &[InTurn(false)]);
     let locks = output_of(alloc, &["navtex", "locks"], AIR_FILE_OF_EA01);
     let cases: [(&str, &[u8]); 3] = [
         ("check", b"station E\n#A01\nTEST\n;\n"),
@@ -97,16 +92,15 @@ fn takes_channel_0_alone(rt: HostRuntime) -> Result<(), Fail> {
             "{word}"
         );
     }
-    Ok(())
 }
 
 #[test]
-fn damages_channel_0_alone(rt: HostRuntime) -> Result<(), Fail> {
+fn damages_channel_0_alone(rt: HostRuntime) {
     let alloc = rt.alloc();
     let damaged = damage_in(alloc, "dx", "144", "59", AIR_FILE_OF_EA01);
-    let lines = damaged.strip_prefix(MOMENT_OF_EA01).ok_or("a moment")?;
-    let both = alternating(alloc, lines, lines_of_ea01()?, false)?;
-    let air_file = made_of(alloc, &[InTurn(false)])?;
+    let lines = damaged.strip_prefix(MOMENT_OF_EA01).expect(&rt, "a moment");
+    let both = alternating(&rt, alloc, lines, lines_of_ea01(&rt), false);
+    let air_file = made_of(&rt, alloc, &[InTurn(false)]);
     assert!(rt;
         writes(
             alloc,
@@ -115,5 +109,4 @@ fn damages_channel_0_alone(rt: HostRuntime) -> Result<(), Fail> {
             &both
         )
     );
-    Ok(())
 }

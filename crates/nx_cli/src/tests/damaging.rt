@@ -40,7 +40,7 @@ const LINES_OF_ALL_KINDS: &[u8] = b"T 5\nB 00000\nRS E\nB 000000000000\nAJ C\n";
 #[test]
 fn copies_all_else(rt: HostRuntime) {
     // What is damaged, and what is written of these lines.
-    let rows: [([&str; 3], &[u8]); 5] = [
+    static ROWS: [([&str; 3], &[u8]); 5] = [
         (
             ["dx", "0", "4294967295"],
             b"T 5\nB 10000\nRS E\nB 000000000100\nAJ C\n",
@@ -59,7 +59,7 @@ fn copies_all_else(rt: HostRuntime) {
         ),
         (["all", "0", "0"], LINES_OF_ALL_KINDS),
     ];
-    for ([kind, from, count], output) in rows {
+    for &([kind, from, count], output) in &ROWS {
         let words = ["navtex", "damage", kind, from, count];
         assert!(rt;
             writes(rt.alloc(), &words, LINES_OF_ALL_KINDS, output),

@@ -4,9 +4,9 @@ use super::AIR_FILE_OF_A;
 use crate::tests::devices::{Sink, Source};
 use nx_fec::Counting;
 use nx_program::run;
-use std::alloc::{AllocError, Global};
+use std::alloc::Global;
 use std::io::Write;
-use std::test::Fail;
+use std::process::Abort;
 
 // Whether three calls on a counted writer, of which the third fails, reach what it wraps, and two more
 // do not: each of these fails, and counts as a failure.
@@ -57,7 +57,7 @@ fn stops_at_a_failed_read(rt: HostRuntime) {
 }
 
 // Whether a writer that takes a byte at each call, and fails behind so many, ends the run.
-fn stops_at_write(alloc: Global, taken: usize) -> Result<bool, AllocError> {
+fn stops_at_write(rt: &impl Abort, alloc: Global, taken: usize) -> bool {
     let mut source = Source::of(b"A");
     let mut output = Sink::new(Vec::new(alloc));
     output.piece = 1;
@@ -70,22 +70,19 @@ fn stops_at_write(alloc: Global, taken: usize) -> Result<bool, AllocError> {
         &mut output,
         &mut faults,
     );
-    let line = format!(in alloc; "navtex: write failed after {taken} bytes\n")?;
-    Ok(
-        status == 1
-            && source.calls == 2
-            && Some(output.calls) == output.fails_at
-            && Some(output.taken.as_slice()) == AIR_FILE_OF_A.get(..taken)
-            && faults.took(line.as_bytes()),
-    )
+    let line = format!(in alloc; "navtex: write failed after {taken} bytes\n").expect(rt, "memory");
+    status == 1
+        && source.calls == 2
+        && Some(output.calls) == output.fails_at
+        && Some(output.taken.as_slice()) == AIR_FILE_OF_A.get(..taken)
+        && faults.took(line.as_bytes())
 }
 
 #[test]
-fn stops_at_a_failed_write(rt: HostRuntime) -> Result<(), Fail> {
+fn stops_at_a_failed_write(rt: HostRuntime) {
     for taken in 0..AIR_FILE_OF_A.len() {
-        assert!(rt; stops_at_write(rt.alloc(), taken)?);
+        assert!(rt; stops_at_write(&rt, rt.alloc(), taken));
     }
-    Ok(())
 }
 
 // A word of the program, the input, the most bytes that the output takes at once, whether it forgets
@@ -110,7 +107,7 @@ fn keeps_its_status(alloc: Global, row: OddRow) -> bool {
 
 #[test]
 fn keeps_its_status_on_odd_devices(rt: HostRuntime) {
-    let rows: [OddRow; 9] = [
+    static ROWS: [OddRow; 9] = [
         ("encode", b"A", usize::MAX, true, 0),
         ("decode", AIR_FILE_OF_A, 1, false, 0),
         ("decode", AIR_FILE_OF_A, 0, false, 1),
@@ -121,7 +118,7 @@ fn keeps_its_status_on_odd_devices(rt: HostRuntime) {
         ("frob", b"", 1, false, 64),
         ("encode", b"a", 1, false, 2),
     ];
-    for row in rows {
+    for &row in &ROWS {
         assert!(rt; keeps_its_status(rt.alloc(), row));
     }
 }

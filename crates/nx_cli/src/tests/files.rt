@@ -5,7 +5,6 @@ use super::{AIR_FILE_OF_A, output_of, refuses, with_word, writes};
 use crate::tests::devices::{Sink, Source};
 use nx_program::run;
 use std::alloc::Global;
-use std::test::Fail;
 
 // The empty text: four phasing positions and three end positions, by the code table of M.476.
 const AIR_FILE_OF_NOTHING: &[u8] =
@@ -14,7 +13,7 @@ const AIR_FILE_OF_NOTHING: &[u8] =
 #[test]
 fn names_each_fault(rt: HostRuntime) {
     // A call, what it reads, and this profile's line for its fault.
-    let rows: [(&str, &[u8], &str); 8] = [
+    static ROWS: [(&str, &[u8], &str); 8] = [
         (
             "decode",
             b"B 01100111\n",
@@ -36,7 +35,7 @@ fn names_each_fault(rt: HostRuntime) {
             "navtex: no signal for the character at 2\n",
         ),
     ];
-    for (call, input, line) in rows {
+    for &(call, input, line) in &ROWS {
         assert!(rt;
             refuses(rt.alloc(), &["navtex", call], input, 2, line),
             "{line}"
@@ -97,13 +96,12 @@ fn decodes(alloc: Global, air_file: &[u8], text: &[u8]) -> bool {
 }
 
 #[test]
-fn decodes_damaged_words(rt: HostRuntime) -> Result<(), Fail> {
+fn decodes_damaged_words(rt: HostRuntime) {
     let alloc = rt.alloc();
     let first = damaged(alloc, "dx", "8", AIR_FILE_OF_A);
     let both = damaged(alloc, "all", "13", &first);
-    let other = with_word(alloc, AIR_FILE_OF_A, WORD_13, b"0100111")?;
+    let other = with_word(&rt, alloc, AIR_FILE_OF_A, WORD_13, b"0100111");
     for (air_file, text) in [(&first, b"A"), (&both, b"*"), (&other, b"*")] {
         assert!(rt; decodes(alloc, air_file, text));
     }
-    Ok(())
 }

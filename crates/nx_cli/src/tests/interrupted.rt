@@ -1,7 +1,7 @@
 //! Each call over a reader and a writer, interrupted at each of its reads, and behind each byte
 //! that it writes.
 
-ghost use Rattle.std.specs.Prelude.{◌≡◌, ◌≤◌, IfOk};
+ghost use Rattle.std.specs.Prelude.{◌≡◌, ◌≤◌};
 ghost use Rattle.nx_envelope.specs.Moment.{last_moment};
 
 use super::AIR_FILE_OF_A;
@@ -18,7 +18,7 @@ use nx_receiver::{Entry, Want, entry_text, listen, listen_from, resume};
 use nx_station::{DamageKind, check_run, damage, send};
 use std::alloc::Global;
 use std::io::{Read, Write};
-use std::test::Fail;
+use std::process::Abort;
 
 /// A call over a reader and a writer, or over one of them.
 #[derive(Clone, Copy, Debug, PartialEq, Eq)]
@@ -137,53 +137,54 @@ const TABLE: &[u8] = b"\
 const LINE_OF_MOMENT: usize = 13;
 
 /// The entry of EA01.
-fn entry_of_ea01() -> Result<Entry, Fail>
-    ensures { IfOk result (λ entry. entry.moment ≤ last_moment) }
+fn entry_of_ea01(rt: &impl Abort) -> Entry
+    ensures { result.moment ≤ last_moment }
 {
     let mut finder = Finder::new();
     for byte in b"ZCZC EA01\nTEST\nNNNN" {
         if let FinderStep::Over(found) = finder.push(*byte) {
-            return Ok(Entry::new(found, 1_735_692_000));
+            return Entry::new(found, 1_735_692_000);
         }
     }
-    Err("a copy")?
+    rt.panic("no copy")
 }
 
 /// A memory that holds EB02, saved.
-fn saved_with_eb02() -> Result<SavedSet, Fail> {
+fn saved_with_eb02(rt: &impl Abort) -> SavedSet {
     let mut memory = PlainRecall::new();
-    memory.enter(Identity::new(b'E', b'B', 2).ok_or("EB02")?, MOMENT);
+    memory.enter(Identity::new(b'E', b'B', 2).expect(rt, "EB02"), MOMENT);
     let on_0 = Saved::of(&Selection::all(), &memory);
-    Ok(SavedSet::of(on_0, Saved::new(), Saved::new()))
+    SavedSet::of(on_0, Saved::new(), Saved::new())
 }
 
-fn given_to_calls(alloc: Global) -> Result<Given, Fail>
-    ensures { IfOk result (λ given. given.entry.moment ≤ last_moment) }
+fn given_to_calls(rt: &impl Abort, alloc: Global) -> Given
+    ensures { result.entry.moment ≤ last_moment }
 {
     let mut file = Counting::new(AIR_FILE_OF_EA01);
-    let bits = read_bits(alloc, &mut file).or(Err("elements"))?;
-    let short_lines = in_short_lines(alloc, &bits)?;
-    Ok(Given {
-        station: Letter::new(b'E').ok_or("a station")?,
-        entry: entry_of_ea01()?,
-        saved: saved_with_eb02()?,
-        resumed: join(alloc, &[NOTHING, &short_lines])?,
+    let bits = read_bits(alloc, &mut file).expect(rt, "elements");
+    let short_lines = in_short_lines(rt, alloc, &bits);
+    Given {
+        station: Letter::new(b'E').expect(rt, "a station"),
+        entry: entry_of_ea01(rt),
+        saved: saved_with_eb02(rt),
+        resumed: join(rt, alloc, &[NOTHING, &short_lines]),
         short_lines,
         bits,
-    })
+    }
 }
 
 /// EA01 at its moment, with 100 elements in each line.
-fn in_short_lines(alloc: Global, bits: &[bool]) -> Result<Vec<u8>, Fail> {
-    let mut file = b"T 1735692000\n".to_vec(alloc)?;
+fn in_short_lines(rt: &impl Abort, alloc: Global, bits: &[bool]) -> Vec<u8> {
+    let mut file = b"T 1735692000\n".to_vec(alloc).expect(rt, "memory");
     for line in bits.chunks(100) {
-        file.extend_from_slice(b"B ")?;
+        file.extend_from_slice(b"B ").expect(rt, "memory");
         for bit in line {
-            file.push(if *bit { b'1' } else { b'0' })?;
+            file.push(if *bit { b'1' } else { b'0' })
+                .expect(rt, "memory");
         }
-        file.push(b'\n')?;
+        file.push(b'\n').expect(rt, "memory");
     }
-    Ok(file)
+    file
 }
 
 /// A call, what it reads, and what it writes.
@@ -434,14 +435,13 @@ fn stops_at_reads(alloc: Global, case: &Case, given: &Given, piece: usize) -> bo
 }
 
 #[test]
-fn stops_at_each_failed_read(rt: HostRuntime) -> Result<(), Fail> {
-    let given = given_to_calls(rt.alloc())?;
+fn stops_at_each_failed_read(rt: HostRuntime) {
+    let given = given_to_calls(&rt, rt.alloc());
     for case in &cases(&given) {
         assert!(rt; stops_at_reads(rt.alloc(), case, &given, usize::MAX));
         assert!(rt; stops_at_reads(rt.alloc(), case, &given, LINE_OF_MOMENT));
         assert!(rt; case.input.len() >= 200 || stops_at_reads(rt.alloc(), case, &given, 1));
     }
-    Ok(())
 }
 
 /// Whether the call stops at a writer that fails behind so many bytes.
@@ -473,19 +473,17 @@ fn stops_at_writes(alloc: Global, case: &Case, given: &Given) -> bool
 }
 
 #[test]
-fn stops_behind_each_byte(rt: HostRuntime) -> Result<(), Fail> {
-    let given = given_to_calls(rt.alloc())?;
+fn stops_behind_each_byte(rt: HostRuntime) {
+    let given = given_to_calls(&rt, rt.alloc());
     for case in &cases(&given) {
         assert!(rt; case.call == Call::Send || stops_at_writes(rt.alloc(), case, &given));
     }
-    Ok(())
 }
 
 #[test]
-fn stops_behind_each_byte_of_an_emission(rt: HostRuntime) -> Result<(), Fail> {
-    let given = given_to_calls(rt.alloc())?;
+fn stops_behind_each_byte_of_an_emission(rt: HostRuntime) {
+    let given = given_to_calls(&rt, rt.alloc());
     for case in &cases(&given) {
         assert!(rt; case.call != Call::Send || stops_at_writes(rt.alloc(), case, &given));
     }
-    Ok(())
 }

@@ -7,21 +7,19 @@ use super::station::{AIR_FILE_OF_EA01, MESSAGE_FILE};
 use super::{refuses, run_in_pieces, run_on, writes};
 use nx_program::run;
 use std::alloc::Global;
-use std::test::Fail;
 
 const LISTEN: [&str; 2] = ["navtex", "listen"];
 
 #[test]
-fn listens_to_what_was_sent(rt: HostRuntime) -> Result<(), Fail> {
-    let cases: [Heard; 3] = [
+fn listens_to_what_was_sent(rt: HostRuntime) {
+    static CASES: [Heard; 3] = [
         (&[Sent("1735689600", MESSAGE_FILE, &[])], LOG_OF_EA01),
         // The same with one element in each line.
         (&[Text(MOMENT_OF_EA01), Part(0, 1_421, 1)], LOG_OF_EA01),
         (&[], b""),
     ];
-    assert!(rt; made_of(rt.alloc(), &[Part(0, 1_421, 1)])?.len() == 4 * 1_421);
-    assert!(rt; hears_each(rt.alloc(), &cases)?);
-    Ok(())
+    assert!(rt; made_of(&rt, rt.alloc(), &[Part(0, 1_421, 1)]).len() == 4 * 1_421);
+    assert!(rt; hears_each(&rt, rt.alloc(), &CASES));
 }
 
 #[test]
@@ -31,13 +29,13 @@ fn listens_byte_by_byte(rt: HostRuntime) {
 }
 
 /// Elements of which no line has so many.
-static ZEROS: [u8; 513] = [b'0'; 513];
+const ZEROS: &[u8] = &[b'0'; 513];
 
 #[test]
-fn stops_at_a_fault_of_a_line(rt: HostRuntime) -> Result<(), Fail> {
-    let long_line = Text(&ZEROS);
-    let now = Text(MOMENT_OF_EA01);
-    let cases: [(&[Piece], &str); 10] = [
+fn stops_at_a_fault_of_a_line(rt: HostRuntime) {
+    const LONG_LINE: Piece = Text(ZEROS);
+    const NOW: Piece = Text(MOMENT_OF_EA01);
+    static CASES: [(&[Piece], &str); 10] = [
         (
             &[Text(b"T 5\nT 4\n")],
             "navtex: line 2: moment 4 is before 5\n",
@@ -53,11 +51,11 @@ fn stops_at_a_fault_of_a_line(rt: HostRuntime) -> Result<(), Fail> {
         (&[Text(b"T 05\n")], "navtex: line 1 is not understood\n"),
         (&[Text(b"T 5")], "navtex: line 1 has no end\n"),
         (
-            &[Text(b"B "), long_line],
+            &[Text(b"B "), LONG_LINE],
             "navtex: line 1 is longer than 514 bytes\n",
         ),
         (
-            &[Text(b"T 0\nB "), long_line],
+            &[Text(b"T 0\nB "), LONG_LINE],
             "navtex: line 2 is longer than 514 bytes\n",
         ),
         (
@@ -70,24 +68,22 @@ fn stops_at_a_fault_of_a_line(rt: HostRuntime) -> Result<(), Fail> {
         ),
         // A line that is bad closes no copy.
         (
-            &[now, Part(0, 1_323, 490), Text(b"?\n")],
+            &[NOW, Part(0, 1_323, 490), Text(b"?\n")],
             "navtex: line 5 is not understood\n",
         ),
     ];
-    for (pieces, line) in cases {
-        let air_file = made_of(rt.alloc(), pieces)?;
+    for &(pieces, line) in &CASES {
+        let air_file = made_of(&rt, rt.alloc(), pieces);
         assert!(rt; refuses(rt.alloc(), &LISTEN, &air_file, 2, line), "{line}");
     }
-    Ok(())
 }
 
 #[test]
-fn writes_the_log_before_a_fault(rt: HostRuntime) -> Result<(), Fail> {
+fn writes_the_log_before_a_fault(rt: HostRuntime) {
     let pieces = [Text(AIR_FILE_OF_EA01), Text(b"T 1735692000\nT 0\n")];
-    let ended = run_on(rt.alloc(), &LISTEN, &made_of(rt.alloc(), &pieces)?);
+    let ended = run_on(rt.alloc(), &LISTEN, &made_of(&rt, rt.alloc(), &pieces));
     let line = b"navtex: line 6: moment 0 is before 1735692000\n";
     assert!(rt; ended.is(2, LOG_OF_EA01, line));
-    Ok(())
 }
 
 // Whether the first bytes of the air file of EA01, as many as said, have an empty log.
@@ -106,7 +102,7 @@ fn is_cut(alloc: Global, length: usize, line: &str) -> bool {
 fn names_the_line_in_which_a_file_is_cut(rt: HostRuntime) {
     // Where a line begins, lengths that end inside it, the first and the last of them among these, and
     // what is said of them. The file that ends where the line begins is taken.
-    let rows = [
+    static ROWS: [(usize, [usize; 6], &str); 4] = [
         (0, [1, 2, 3, 7, 11, 12], "navtex: line 1 has no end\n"),
         (
             13,
@@ -124,7 +120,7 @@ fn names_the_line_in_which_a_file_is_cut(rt: HostRuntime) {
             "navtex: line 4 has no end\n",
         ),
     ];
-    for (begin, lengths, line) in rows {
+    for &(begin, lengths, line) in &ROWS {
         assert!(rt; is_taken(rt.alloc(), begin), "{begin}");
         for length in lengths {
             assert!(rt; is_cut(rt.alloc(), length, line), "{length}");
@@ -157,11 +153,11 @@ fn stops_at_read(alloc: Global, given: &[u8], log: &[u8]) -> bool {
 }
 
 #[test]
-fn listens_on_devices_that_fail(rt: HostRuntime) -> Result<(), Fail> {
+fn listens_on_devices_that_fail(rt: HostRuntime) {
     let alloc = rt.alloc();
     // Readers that fail behind the first line, behind a line with the end of a copy and behind one
     // within a copy: the log of the lines that came is written, and an open copy is not closed.
-    let open = made_of(alloc, &[Text(MOMENT_OF_EA01), Part(0, 1_323, 490)])?;
+    let open = made_of(&rt, alloc, &[Text(MOMENT_OF_EA01), Part(0, 1_323, 490)]);
     let cases: [(&[u8], &[u8]); 3] = [
         (MOMENT_OF_EA01, b""),
         (AIR_FILE_OF_EA01, LOG_OF_EA01),
@@ -171,5 +167,4 @@ fn listens_on_devices_that_fail(rt: HostRuntime) -> Result<(), Fail> {
         assert!(rt; stops_at_read(alloc, given, log));
     }
     assert!(rt; stops_at_write(alloc));
-    Ok(())
 }

@@ -3,40 +3,38 @@
 
 use super::air::Piece::{Combinations, Damaged, Part, Text};
 use super::air::{
-    HEADER_OF_EA01, Heard, LINES, LOG_OF_EA01, MOMENT_OF_EA01, REST_OF_EA01, hears_each,
+    HEADER_OF_EA01, Heard, LINES, LOG_OF_EA01, MOMENT_OF_EA01, Piece, REST_OF_EA01, hears_each,
 };
-use std::test::Fail;
 
 #[test]
-fn finds_the_emission(rt: HostRuntime) -> Result<(), Fail> {
-    let now = Text(MOMENT_OF_EA01);
-    let four_words = Text(b"B 0110011111100001100111111000\n");
+fn finds_the_emission(rt: HostRuntime) {
+    const NOW: Piece = Text(MOMENT_OF_EA01);
+    const FOUR_WORDS: Piece = Text(b"B 0110011111100001100111111000\n");
     // The first word is lost, so the roles of the words are swapped; or the receiver hears the last
     // 749 elements alone, from word 96 on.
-    let but_one_word = Part(7, 1_421, 490);
-    let last_749 = Part(672, 1_421, 490);
-    let cases: [Heard; 5] = [
+    const BUT_ONE_WORD: Piece = Part(7, 1_421, 490);
+    const LAST_749: Piece = Part(672, 1_421, 490);
+    static CASES: [Heard; 5] = [
         // Three elements slip in behind the four words, or one that makes a false lock.
-        (&[now, four_words, Text(b"B 000\n"), LINES], LOG_OF_EA01),
-        (&[now, four_words, Text(b"B 1\n"), LINES], LOG_OF_EA01),
-        (&[now, four_words, but_one_word], LOG_OF_EA01),
-        (&[now, last_749], LOG_OF_EA01),
+        (&[NOW, FOUR_WORDS, Text(b"B 000\n"), LINES], LOG_OF_EA01),
+        (&[NOW, FOUR_WORDS, Text(b"B 1\n"), LINES], LOG_OF_EA01),
+        (&[NOW, FOUR_WORDS, BUT_ONE_WORD], LOG_OF_EA01),
+        (&[NOW, LAST_749], LOG_OF_EA01),
         // Z and C come before the letter shift: the text reads ZCZCZC EA01.
         (
             &[
-                now,
+                NOW,
                 Combinations(&[&[26, 3], &HEADER_OF_EA01, &REST_OF_EA01], usize::MAX),
             ],
             LOG_OF_EA01,
         ),
     ];
-    assert!(rt; hears_each(rt.alloc(), &cases)?);
-    Ok(())
+    assert!(rt; hears_each(&rt, rt.alloc(), &CASES));
 }
 
 #[test]
-fn prints_a_damaged_emission(rt: HostRuntime) -> Result<(), Fail> {
-    let cases: [Heard; 3] = [
+fn prints_a_damaged_emission(rt: HostRuntime) {
+    static CASES: [Heard; 3] = [
         // Of each position of the message the first sending is lost.
         (&[Damaged(&[["dx", "144", "59"]])], LOG_OF_EA01),
         // The first 96 words are lost too, so the lock comes late.
@@ -47,6 +45,5 @@ fn prints_a_damaged_emission(rt: HostRuntime) -> Result<(), Fail> {
         // Both sendings of the figure shift are lost, so EA*PQ is read, and no header.
         (&[Damaged(&[["all", "160", "1"], ["all", "165", "1"]])], b""),
     ];
-    assert!(rt; hears_each(rt.alloc(), &cases)?);
-    Ok(())
+    assert!(rt; hears_each(&rt, rt.alloc(), &CASES));
 }

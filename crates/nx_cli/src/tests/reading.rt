@@ -3,7 +3,6 @@
 use super::air::join;
 use super::station::{AIR_FILE_OF_EA01, MESSAGE_FILE, SEND};
 use super::{AIR_FILE_OF_A, output_of, refuses, with_word, writes};
-use std::test::Fail;
 
 // The words of an emission of A in their slots (M.625, mode B), with their numbers and names by the
 // code table of M.476.
@@ -13,11 +12,11 @@ const WORDS_OF_A: &[u8] = b"0 DX 66 P2\n1 RX 0F P1\n2 DX 66 P2\n3 RX 0F P1\n4 DX
 
 #[test]
 fn shows_words(rt: HostRuntime) {
-    let cases: [(&[u8], &[u8]); 2] = [
+    static CASES: [(&[u8], &[u8]); 2] = [
         (AIR_FILE_OF_A, WORDS_OF_A),
         (b"B 0110001\n", b"0 DX 46 wrong\n"),
     ];
-    for (air_file, lines) in cases {
+    for &(air_file, lines) in &CASES {
         assert!(rt; writes(rt.alloc(), &["navtex", "show"], air_file, lines));
     }
 }
@@ -35,12 +34,12 @@ fn checks_what_was_sent(rt: HostRuntime) {
 const WORD_150: usize = 1_071;
 
 #[test]
-fn refuses_what_is_not_sent(rt: HostRuntime) -> Result<(), Fail> {
+fn refuses_what_is_not_sent(rt: HostRuntime) {
     let alloc = rt.alloc();
     let words = ["navtex", "damage", "all", "150", "1"];
     let wrong = output_of(alloc, &words, AIR_FILE_OF_EA01);
-    let unpaired = with_word(alloc, AIR_FILE_OF_EA01, WORD_150, b"1110001")?;
-    let longer = join(alloc, &[AIR_FILE_OF_EA01, b"B 1111000\n"])?;
+    let unpaired = with_word(&rt, alloc, AIR_FILE_OF_EA01, WORD_150, b"1110001");
+    let longer = join(&rt, alloc, &[AIR_FILE_OF_EA01, b"B 1111000\n"]);
     // The first of the faults of strict reading, in this profile's order, and its line.
     let other = "navtex: not an emission of this profile\n";
     let cases: [(&[u8], &str); 6] = [
@@ -57,5 +56,4 @@ fn refuses_what_is_not_sent(rt: HostRuntime) -> Result<(), Fail> {
             "{line}"
         );
     }
-    Ok(())
 }

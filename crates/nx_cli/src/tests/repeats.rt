@@ -1,9 +1,8 @@
 //! What `listen` prints of messages that are sent again, and of those that are refused.
 
 use super::air::Piece::{Damaged, Sent, Text};
-use super::air::{Damage, Heard, LINES, LOG_OF_EA01, MOMENT_OF_EA01, hears_each};
+use super::air::{Damage, Heard, LINES, LOG_OF_EA01, MOMENT_OF_EA01, Piece, hears_each};
 use super::station::{AIR_FILE_OF_EA01, MESSAGE_FILE};
-use std::test::Fail;
 
 /// Moments whose next slots of station E begin at 1735692000, 1735706400 and 1735720800.
 const NOW: &str = "1735689600";
@@ -17,19 +16,18 @@ const TWICE: &[u8] = b"[EA01 2025-01-01 00:40:00 full 0/5]\nTEST\n\n\
     [EA01 2025-01-03 18:40:00 full 0/5]\nTEST\n\n";
 
 #[test]
-fn prints_again_after_66_hours(rt: HostRuntime) -> Result<(), Fail> {
-    let first = Text(AIR_FILE_OF_EA01);
-    let within = Text(b"T 1735929599\n");
-    let after = Text(b"T 1735929600\n");
-    let cases: [Heard; 2] = [
-        (&[first, Text(b"T 1735706400\n"), LINES], LOG_OF_EA01),
+fn prints_again_after_66_hours(rt: HostRuntime) {
+    const FIRST: Piece = Text(AIR_FILE_OF_EA01);
+    const WITHIN: Piece = Text(b"T 1735929599\n");
+    const AFTER: Piece = Text(b"T 1735929600\n");
+    static CASES: [Heard; 2] = [
+        (&[FIRST, Text(b"T 1735706400\n"), LINES], LOG_OF_EA01),
         (
-            &[Text(MOMENT_OF_EA01), LINES, within, LINES, after, LINES],
+            &[Text(MOMENT_OF_EA01), LINES, WITHIN, LINES, AFTER, LINES],
             TWICE,
         ),
     ];
-    assert!(rt; hears_each(rt.alloc(), &cases)?);
-    Ok(())
+    assert!(rt; hears_each(&rt, rt.alloc(), &CASES));
 }
 
 /// No damage.
@@ -47,43 +45,42 @@ const OF_25: &[u8] = b"#A01\nABCDEFGHIJKLMNOPQRSTUVWX\n;\n";
 const OF_26: &[u8] = b"#A01\nABCDEFGHIJKLMNOPQRSTUVWXY\n;\n";
 
 #[test]
-fn prints_a_repeat_of_what_was_heard_badly(rt: HostRuntime) -> Result<(), Fail> {
+fn prints_a_repeat_of_what_was_heard_badly(rt: HostRuntime) {
     // One character of 25 is lost, which is not less than 4 per cent; or one of 26, which is.
-    let badly = b"[EA01 2025-01-01 00:40:00 full 1/25]\n*BCDEFGHIJKLMNOPQRSTUVWX\n\n\
+    const BADLY: &[u8] = b"[EA01 2025-01-01 00:40:00 full 1/25]\n*BCDEFGHIJKLMNOPQRSTUVWX\n\n\
         [EA01 2025-01-01 04:40:00 full 0/25]\nABCDEFGHIJKLMNOPQRSTUVWX\n\n";
-    let well = b"[EA01 2025-01-01 00:40:00 full 1/26]\n*BCDEFGHIJKLMNOPQRSTUVWXY\n\n";
-    let cases: [Heard; 3] = [
+    const WELL: &[u8] = b"[EA01 2025-01-01 00:40:00 full 1/26]\n*BCDEFGHIJKLMNOPQRSTUVWXY\n\n";
+    static CASES: [Heard; 3] = [
         (
             &[Sent(NOW, OF_25, A_LOST), Sent(LATER, OF_25, WHOLE)],
-            badly,
+            BADLY,
         ),
-        (&[Sent(NOW, OF_26, A_LOST), Sent(LATER, OF_26, WHOLE)], well),
+        (&[Sent(NOW, OF_26, A_LOST), Sent(LATER, OF_26, WHOLE)], WELL),
         // Both sendings of a letter of its header are lost.
         (
             &[Damaged(HEADER_LOST), Sent(LATER, MESSAGE_FILE, WHOLE)],
             b"[EA01 2025-01-01 04:40:00 full 0/5]\nTEST\n\n",
         ),
     ];
-    assert!(rt; hears_each(rt.alloc(), &cases)?);
-    Ok(())
+    assert!(rt; hears_each(&rt, rt.alloc(), &CASES));
 }
 
 /// A message with the number 00.
 const OF_00: &[u8] = b"#A00\nTEST\n;\n";
 
 #[test]
-fn prints_the_number_00_each_time(rt: HostRuntime) -> Result<(), Fail> {
-    let log = b"[EA00 2025-01-01 00:40:00 full 0/5]\nTEST\n\n\
+fn prints_the_number_00_each_time(rt: HostRuntime) {
+    const LOG: &[u8] = b"[EA00 2025-01-01 00:40:00 full 0/5]\nTEST\n\n\
         [EA00 2025-01-01 04:40:00 full 0/5]\nTEST\n\n\
         [EA00 2025-01-01 08:40:00 full 0/5]\nTEST\n\n";
-    let cases: [Heard; 2] = [
+    static CASES: [Heard; 2] = [
         (
             &[
                 Sent(NOW, OF_00, WHOLE),
                 Sent(LATER, OF_00, WHOLE),
                 Sent(LATEST, OF_00, WHOLE),
             ],
-            log,
+            LOG,
         ),
         (
             &[
@@ -95,8 +92,7 @@ fn prints_the_number_00_each_time(rt: HostRuntime) -> Result<(), Fail> {
             b"",
         ),
     ];
-    assert!(rt; hears_each(rt.alloc(), &cases)?);
-    Ok(())
+    assert!(rt; hears_each(&rt, rt.alloc(), &CASES));
 }
 
 /// Messages 01 of subject A and 02 of subject B, and then 05 of C and 06 of L.
@@ -108,14 +104,14 @@ const TWO_OTHERS: &[u8] = b"#C05\nTEST\n;\n#L06\nTEST\n;\n";
 const RX_LOST: &[Damage<'static>] = &[["rx", "145", "57"]];
 
 #[test]
-fn prints_each_message_once(rt: HostRuntime) -> Result<(), Fail> {
-    let log_of_two = b"[EA01 2025-01-01 00:40:00 full 0/5]\nTEST\n\n\
+fn prints_each_message_once(rt: HostRuntime) {
+    const LOG_OF_TWO: &[u8] = b"[EA01 2025-01-01 00:40:00 full 0/5]\nTEST\n\n\
         [EB02 2025-01-01 00:40:00 full 0/0]\n\n";
-    let cases: [Heard; 4] = [
-        (&[Sent(NOW, TWO, WHOLE)], log_of_two),
+    static CASES: [Heard; 4] = [
+        (&[Sent(NOW, TWO, WHOLE)], LOG_OF_TWO),
         (
             &[Sent(NOW, TWO, WHOLE), Sent(LATER, TWO, WHOLE)],
-            log_of_two,
+            LOG_OF_TWO,
         ),
         // Four elements between two emissions, of which the second has lost second sendings.
         (
@@ -132,6 +128,5 @@ fn prints_each_message_once(rt: HostRuntime) -> Result<(), Fail> {
             b"[EL06 2025-01-01 00:40:00 full 0/5]\nTEST\n\n",
         ),
     ];
-    assert!(rt; hears_each(rt.alloc(), &cases)?);
-    Ok(())
+    assert!(rt; hears_each(&rt, rt.alloc(), &CASES));
 }

@@ -7,8 +7,8 @@ use super::devices::{Sink, Source};
 use super::station::AIR_FILE_OF_EA01;
 use super::{run_in_pieces, run_on};
 use nx_program::run;
-use std::alloc::{AllocError, Global};
-use std::test::Fail;
+use std::alloc::Global;
+use std::process::Abort;
 
 const RESUME: [&str; 2] = ["navtex", "resume"];
 
@@ -50,13 +50,13 @@ fn leaves(alloc: Global, input: &[u8], log: &[u8], state: &[u8]) -> bool {
 type Left<'a> = (&'a [Piece<'a>], &'a [u8], &'a [u8]);
 
 /// Whether each input leaves its log and its state.
-fn leave_each(alloc: Global, cases: &[Left]) -> Result<bool, Fail> {
+fn leave_each(rt: &impl Abort, alloc: Global, cases: &[Left]) -> bool {
     for (pieces, log, state) in cases {
-        if !leaves(alloc, &made_of(alloc, pieces)?, log, state) {
-            return Ok(false);
+        if !leaves(alloc, &made_of(rt, alloc, pieces), log, state) {
+            return false;
         }
     }
-    Ok(true)
+    true
 }
 
 /// Whether `resume` and `save` refuse an input by this line, and write nothing.
@@ -65,33 +65,34 @@ fn refuse(alloc: Global, input: &[u8], line: &[u8]) -> bool {
 }
 
 #[test]
-fn goes_on_from_a_state(rt: HostRuntime) -> Result<(), Fail> {
-    let nothing = Text(NOTHING);
-    let with_ea01 = Text(WITH_EA01);
-    let again = b"[EA01 2025-01-03 18:40:00 full 0/5]\nTEST\n\n";
-    let both_saved = b"STATE 2\nC0\nEA01 1735692000\nEA01 1735929600\nC1\nC2\nEND\n";
-    let cases: [Left; 5] = [
-        (&[nothing], b"", NOTHING_SAVED),
-        (&[nothing, Text(AIR_FILE_OF_EA01)], LOG_OF_EA01, EA01_SAVED),
+fn goes_on_from_a_state(rt: HostRuntime) {
+    const AGAIN: &[u8] = b"[EA01 2025-01-03 18:40:00 full 0/5]\nTEST\n\n";
+    const BOTH_SAVED: &[u8] = b"STATE 2\nC0\nEA01 1735692000\nEA01 1735929600\nC1\nC2\nEND\n";
+    static CASES: [Left; 5] = [
+        (&[Text(NOTHING)], b"", NOTHING_SAVED),
+        (
+            &[Text(NOTHING), Text(AIR_FILE_OF_EA01)],
+            LOG_OF_EA01,
+            EA01_SAVED,
+        ),
         // A repeat is not printed, and renews nothing; 66 hours later it is printed, and entered.
-        (&[with_ea01, LATER, LINES], b"", EA01_SAVED),
+        (&[Text(WITH_EA01), LATER, LINES], b"", EA01_SAVED),
         (&[Text(EA01_SAVED), LATER, LINES], b"", EA01_SAVED),
         (
-            &[with_ea01, Text(b"T 1735929600\n"), LINES],
-            again,
-            both_saved,
+            &[Text(WITH_EA01), Text(b"T 1735929600\n"), LINES],
+            AGAIN,
+            BOTH_SAVED,
         ),
     ];
-    assert!(rt; leave_each(rt.alloc(), &cases)?);
-    Ok(())
+    assert!(rt; leave_each(&rt, rt.alloc(), &CASES));
 }
 
 #[test]
-fn keeps_no_open_copy(rt: HostRuntime) -> Result<(), Fail> {
-    let cut = [Text(NOTHING), Text(MOMENT_OF_EA01), Part(0, 1_323, 490)];
-    let cases: [Left; 2] = [
+fn keeps_no_open_copy(rt: HostRuntime) {
+    const CUT: [Piece; 3] = [Text(NOTHING), Text(MOMENT_OF_EA01), Part(0, 1_323, 490)];
+    static CASES: [Left; 2] = [
         (
-            &cut,
+            &CUT,
             b"[EA01 2025-01-01 00:40:00 cut 0/5]\nTEST\n\n",
             NOTHING_SAVED,
         ),
@@ -101,27 +102,25 @@ fn keeps_no_open_copy(rt: HostRuntime) -> Result<(), Fail> {
             b"STATE 2\nC0\nEA01 1735706400\nC1\nC2\nEND\n",
         ),
     ];
-    assert!(rt; leave_each(rt.alloc(), &cases)?);
-    Ok(())
+    assert!(rt; leave_each(&rt, rt.alloc(), &CASES));
 }
 
 #[test]
-fn keeps_what_is_refused(rt: HostRuntime) -> Result<(), Fail> {
-    let state = b"STATE 2\nC0\nRS B\nRS E\nC1\nRJ C\nC2\nEND\n".as_slice();
-    let accepted = b"STATE 2\nC0\nRS B\nEA01 1735692000\nC1\nRJ C\nC2\nEND\n";
-    let x = Text(AIR_FILE_OF_EA01);
-    let cases: [Left; 3] = [
-        (&[Text(NOTHING), Text(b"RS E\nRJ1 C\nRS B\n")], b"", state),
-        (&[Text(state), x], b"", state),
-        (&[Text(state), Text(b"AS E\n"), x], LOG_OF_EA01, accepted),
+fn keeps_what_is_refused(rt: HostRuntime) {
+    const STATE: &[u8] = b"STATE 2\nC0\nRS B\nRS E\nC1\nRJ C\nC2\nEND\n";
+    const ACCEPTED: &[u8] = b"STATE 2\nC0\nRS B\nEA01 1735692000\nC1\nRJ C\nC2\nEND\n";
+    const X: Piece = Text(AIR_FILE_OF_EA01);
+    static CASES: [Left; 3] = [
+        (&[Text(NOTHING), Text(b"RS E\nRJ1 C\nRS B\n")], b"", STATE),
+        (&[Text(STATE), X], b"", STATE),
+        (&[Text(STATE), Text(b"AS E\n"), X], LOG_OF_EA01, ACCEPTED),
     ];
-    assert!(rt; leave_each(rt.alloc(), &cases)?);
-    Ok(())
+    assert!(rt; leave_each(&rt, rt.alloc(), &CASES));
 }
 
 #[test]
-fn keeps_each_channel(rt: HostRuntime) -> Result<(), Fail> {
-    let cases: [Left; 2] = [
+fn keeps_each_channel(rt: HostRuntime) {
+    static CASES: [Left; 2] = [
         (
             &[Text(NOTHING), InTurn(false)],
             LOG_ON_BOTH,
@@ -133,30 +132,29 @@ fn keeps_each_channel(rt: HostRuntime) -> Result<(), Fail> {
             b"STATE 2\nC0\nEA01 1735692000\nC1\nEA01 1735706400\nC2\nEND\n",
         ),
     ];
-    assert!(rt; leave_each(rt.alloc(), &cases)?);
-    Ok(())
+    assert!(rt; leave_each(&rt, rt.alloc(), &CASES));
 }
 
 /// What is refused, in two pieces, and the line that says where.
 type Refused<'a> = (&'a [u8], &'a [u8], &'a [u8]);
 
 /// Whether each row is refused by its line.
-fn refuse_each(alloc: Global, rows: &[Refused]) -> Result<bool, AllocError> {
+fn refuse_each(rt: &impl Abort, alloc: Global, rows: &[Refused]) -> bool {
     for (first, second, line) in rows {
-        if !refuse(alloc, &join(alloc, &[*first, *second])?, line) {
-            return Ok(false);
+        if !refuse(alloc, &join(rt, alloc, &[*first, *second]), line) {
+            return false;
         }
     }
-    Ok(true)
+    true
 }
 
 #[test]
-fn refuses_what_is_behind_a_state(rt: HostRuntime) -> Result<(), Fail> {
+fn refuses_what_is_behind_a_state(rt: HostRuntime) {
     // Lines are counted from the start of the air file, and its moments from the newest entry.
-    let back = b"navtex: line 1: moment 4 is before 5\n";
-    let rows: [Refused; 6] = [
-        (b"STATE 1\nEA01 5\nEND\n", b"T 4\n", back),
-        (b"STATE 2\nC0\nC1\nC2\nEA01 5\nEND\n", b"T 4\n", back),
+    const BACK: &[u8] = b"navtex: line 1: moment 4 is before 5\n";
+    static ROWS: [Refused; 6] = [
+        (b"STATE 1\nEA01 5\nEND\n", b"T 4\n", BACK),
+        (b"STATE 2\nC0\nC1\nC2\nEA01 5\nEND\n", b"T 4\n", BACK),
         (
             WITH_EA01,
             b"B 0\n",
@@ -170,22 +168,20 @@ fn refuses_what_is_behind_a_state(rt: HostRuntime) -> Result<(), Fail> {
             b"navtex: line 2: subject L can't be refused\n",
         ),
     ];
-    assert!(rt; refuse_each(rt.alloc(), &rows)?);
+    assert!(rt; refuse_each(&rt, rt.alloc(), &ROWS));
     let saved = b"STATE 2\nC0\nEA01 5\nC1\nC2\nEND\n";
     assert!(rt; leaves(rt.alloc(), b"STATE 1\nEA01 5\nEND\nT 5\n", b"", saved));
-    Ok(())
 }
 
 #[test]
-fn writes_the_log_before_a_fault(rt: HostRuntime) -> Result<(), Fail> {
+fn writes_the_log_before_a_fault(rt: HostRuntime) {
     let alloc = rt.alloc();
-    let input = join(alloc, &[NOTHING, AIR_FILE_OF_EA01, b"T 0\n"])?;
+    let input = join(&rt, alloc, &[NOTHING, AIR_FILE_OF_EA01, b"T 0\n"]);
     let line = b"navtex: line 5: moment 0 is before 1735692000\n";
     // No state is written of a run that fails.
     for (words, output) in [(RESUME, LOG_OF_EA01), (SAVE, b"")] {
         assert!(rt; ends_so(alloc, &words, &input, 2, output, line));
     }
-    Ok(())
 }
 
 const LINE_1: &[u8] = b"navtex: state line 1 is not understood\n";
@@ -195,8 +191,8 @@ const LINE_2: &[u8] = b"navtex: state line 2 is not understood\n";
 const LINE_3: &[u8] = b"navtex: state line 3 is not understood\n";
 
 #[test]
-fn refuses_a_line_of_a_state(rt: HostRuntime) -> Result<(), Fail> {
-    let rows: [Refused; 14] = [
+fn refuses_a_line_of_a_state(rt: HostRuntime) {
+    static ROWS: [Refused; 14] = [
         (b"STATE 1\n", b"RS B\nRS A\nEND\n", LINE_3),
         (b"STATE 1\n", b"RJ D\nEND\n", LINE_2),
         (b"STATE 1\n", b"EA00 5\nEND\n", LINE_2),
@@ -212,11 +208,10 @@ fn refuses_a_line_of_a_state(rt: HostRuntime) -> Result<(), Fail> {
         (b"STATE 2\n", b"C1\n", LINE_2),
         (b"STATE 2\n", b"C0\nEND\n", LINE_3),
     ];
-    assert!(rt; refuse_each(rt.alloc(), &rows)?);
+    assert!(rt; refuse_each(&rt, rt.alloc(), &ROWS));
     let state = b"STATE 1\nEA01 5\nEA01 237605\nEND\n";
     let saved = b"STATE 2\nC0\nEA01 5\nEA01 237605\nC1\nC2\nEND\n";
     assert!(rt; leaves(rt.alloc(), state, b"", saved));
-    Ok(())
 }
 
 /// A state of each kind of line.
@@ -231,27 +226,28 @@ fn last_line(text: &[u8]) -> usize {
 }
 
 /// Whether the first bytes of a state, so many, are refused by the line in which they end.
-fn is_cut(alloc: Global, length: usize) -> Result<bool, AllocError> {
+fn is_cut(rt: &impl Abort, alloc: Global, length: usize) -> bool {
     let Some(part) = WHOLE.get(..length) else {
-        return Ok(false);
+        return false;
     };
-    let line = format!(in alloc; "navtex: state has no end at line {}\n", last_line(part))?;
-    Ok(refuse(alloc, part, line.as_bytes()))
+    let line = format!(in alloc; "navtex: state has no end at line {}\n", last_line(part)).expect(
+        rt, "memory",
+    );
+    refuse(alloc, part, line.as_bytes())
 }
 
 #[test]
-fn names_the_line_in_which_a_state_is_cut(rt: HostRuntime) -> Result<(), Fail> {
+fn names_the_line_in_which_a_state_is_cut(rt: HostRuntime) {
     let alloc = rt.alloc();
     for length in 0..WHOLE.len() {
-        assert!(rt; is_cut(alloc, length)?, "{length}");
+        assert!(rt; is_cut(&rt, alloc, length), "{length}");
     }
-    let rows: [Refused; 2] = [
+    static ROWS: [Refused; 2] = [
         (b"", b"", b"navtex: state has no end at line 1\n"),
         (b"STATE 1\n", b"EN", b"navtex: state has no end at line 2\n"),
     ];
-    assert!(rt; refuse_each(alloc, &rows)?);
+    assert!(rt; refuse_each(&rt, alloc, &ROWS));
     assert!(rt; leaves(alloc, WHOLE, b"", WHOLE));
-    Ok(())
 }
 
 /// Whether a run over a text that comes again and again ends with this line, behind so many reads.
@@ -276,25 +272,25 @@ fn stops_an_endless_state(rt: HostRuntime) {
 
 /// Entries of the moment of EA01, of these many identities from BA01 on, of which each subject has
 /// the numbers 01 to 99.
-fn entries(alloc: Global, from: usize, to: usize) -> Result<Vec<u8>, AllocError> {
+fn entries(rt: &impl Abort, alloc: Global, from: usize, to: usize) -> Vec<u8> {
     let mut lines = Vec::new(alloc);
     for index in from..to {
         let subject = b"ABC".get(index / 99).copied().unwrap_or(b'E');
         let number = (index % 99).saturating_add(1);
-        let name = format!(in alloc; "B{}{number:02} 1735692000\n", char::from(subject))?;
-        lines.extend_from_slice(name.as_bytes())?;
+        let name = format!(in alloc; "B{}{number:02} 1735692000\n", char::from(subject)).expect(
+            rt, "memory",
+        );
+        lines
+            .extend_from_slice(name.as_bytes())
+            .expect(rt, "memory");
     }
-    Ok(lines)
+    lines
 }
 
 /// A state with these entries on channels 0 and 2, and these on channel 1, in two parts.
-fn state_of(
-    alloc: Global,
-    others: &[u8],
-    first: &[u8],
-    last: &[u8],
-) -> Result<Vec<u8>, AllocError> {
+fn state_of(rt: &impl Abort, alloc: Global, others: &[u8], first: &[u8], last: &[u8]) -> Vec<u8> {
     join(
+        rt,
         alloc,
         &[
             b"STATE 2\nC0\n",
@@ -310,25 +306,27 @@ fn state_of(
 }
 
 #[test]
-fn keeps_200_entries_on_each_channel(rt: HostRuntime) -> Result<(), Fail> {
+fn keeps_200_entries_on_each_channel(rt: HostRuntime) {
     let alloc = rt.alloc();
-    let full = entries(alloc, 0, 200)?;
-    let later = entries(alloc, 1, 200)?;
-    let state = state_of(alloc, &full, &full, b"")?;
-    let left = state_of(alloc, &full, &later, b"EA01 1735692000\n")?;
-    let on_1 = made_of(alloc, &[Text(MOMENT_OF_EA01), Named(b'1', 0, 1_421)])?;
+    let full = entries(&rt, alloc, 0, 200);
+    let later = entries(&rt, alloc, 1, 200);
+    let state = state_of(&rt, alloc, &full, &full, b"");
+    let left = state_of(&rt, alloc, &full, &later, b"EA01 1735692000\n");
+    let on_1 = made_of(&rt, alloc, &[Text(MOMENT_OF_EA01), Named(b'1', 0, 1_421)]);
     assert!(rt; leaves(alloc, &state, b"", &state));
     // Another one lets the oldest of its channel go.
-    let input = join(alloc, &[&state, &on_1])?;
+    let input = join(&rt, alloc, &[&state, &on_1]);
     assert!(rt; leaves(alloc, &input, LOG_ON_CHANNEL_1, &left));
-    Ok(())
 }
 
 #[test]
-fn refuses_a_201st_entry(rt: HostRuntime) -> Result<(), Fail> {
+fn refuses_a_201st_entry(rt: HostRuntime) {
     let alloc = rt.alloc();
-    let full = entries(alloc, 0, 200)?;
-    let state = join(alloc, &[b"STATE 1\n", &full, b"EA01 1735692000\nEND\n"])?;
+    let full = entries(&rt, alloc, 0, 200);
+    let state = join(
+        &rt,
+        alloc,
+        &[b"STATE 1\n", &full, b"EA01 1735692000\nEND\n"],
+    );
     assert!(rt; refuse(alloc, &state, b"navtex: state line 202 is not understood\n"));
-    Ok(())
 }

@@ -1,8 +1,8 @@
 //! `send`, `slots` and `code`.
 
 use super::{output_of, refuses, run_on, writes};
-use std::alloc::{AllocError, Global};
-use std::test::Fail;
+use std::alloc::Global;
+use std::process::Abort;
 
 // The message EA01 with the one line TEST.
 pub const MESSAGE_FILE: &[u8] = b"#A01\nTEST\n;\n";
@@ -44,14 +44,15 @@ fn tells(alloc: Global, station: &str, moment: &str, line: &str) -> bool {
 fn tells_the_next_slot(rt: HostRuntime) {
     // The slots of a station begin at 14,400k + 600i, of E (i is 4) 40 minutes past each fourth hour
     // and of X (i is 23) 3 hours and 50 minutes (this profile).
-    let first = "1735692000 2025-01-01 00:40:00\n";
-    for (station, moment, line) in [
-        ("E", "1735689600", first),
-        ("E", "1735692000", first),
+    const FIRST: &str = "1735692000 2025-01-01 00:40:00\n";
+    static ROWS: [(&str, &str, &str); 5] = [
+        ("E", "1735689600", FIRST),
+        ("E", "1735692000", FIRST),
         ("E", "1735692001", "1735706400 2025-01-01 04:40:00\n"),
         ("X", "1735689600", "1735703400 2025-01-01 03:50:00\n"),
         ("X", "32503679400", "32503679400 2999-12-31 23:50:00\n"),
-    ] {
+    ];
+    for &(station, moment, line) in &ROWS {
         assert!(rt; tells(rt.alloc(), station, moment, line));
     }
 }
@@ -61,7 +62,7 @@ pub const SEND: [&str; 4] = ["navtex", "send", "E", "1735689600"];
 #[test]
 fn names_each_fault_of_a_message_file(rt: HostRuntime) {
     // The lines are those of this profile for each fault.
-    let rows: [(&[u8], &str); 6] = [
+    static ROWS: [(&[u8], &str); 6] = [
         (b"", "navtex: no messages\n"),
         (b"TEST\n", "navtex: line 1 is not understood\n"),
         (b"#A01\nTEST\n", "navtex: message at line 1 is not ended\n"),
@@ -75,7 +76,7 @@ fn names_each_fault_of_a_message_file(rt: HostRuntime) {
             "navtex: message at line 3: line 1 has a reserved word\n",
         ),
     ];
-    for (message_file, line) in rows {
+    for &(message_file, line) in &ROWS {
         assert!(rt; refuses(rt.alloc(), &SEND, message_file, 2, line), "{line}");
     }
 }
@@ -83,17 +84,18 @@ fn names_each_fault_of_a_message_file(rt: HostRuntime) {
 #[test]
 fn names_each_fault_of_a_station(rt: HostRuntime) {
     // The lines and statuses are those of this profile for each fault.
-    let no_slot = "navtex: no slot\n";
-    let no_letter = "navtex: station must be one letter A to Z\n";
-    for (command, station, moment, status, line) in [
-        ("send", "Y", "1735689600", 2, no_slot),
-        ("send", "X", "32503679401", 2, no_slot),
-        ("slots", "Y", "0", 2, no_slot),
-        ("slots", "X", "32503679401", 2, no_slot),
-        ("send", "e", "0", 64, no_letter),
-        ("slots", "EA", "0", 64, no_letter),
-        ("slots", "", "0", 64, no_letter),
-    ] {
+    const NO_SLOT: &str = "navtex: no slot\n";
+    const NO_LETTER: &str = "navtex: station must be one letter A to Z\n";
+    static ROWS: [(&str, &str, &str, u8, &str); 7] = [
+        ("send", "Y", "1735689600", 2, NO_SLOT),
+        ("send", "X", "32503679401", 2, NO_SLOT),
+        ("slots", "Y", "0", 2, NO_SLOT),
+        ("slots", "X", "32503679401", 2, NO_SLOT),
+        ("send", "e", "0", 64, NO_LETTER),
+        ("slots", "EA", "0", 64, NO_LETTER),
+        ("slots", "", "0", 64, NO_LETTER),
+    ];
+    for &(command, station, moment, status, line) in &ROWS {
         let words = ["navtex", command, station, moment];
         assert!(rt; refuses(rt.alloc(), &words, MESSAGE_FILE, status, line));
     }
@@ -101,44 +103,44 @@ fn names_each_fault_of_a_station(rt: HostRuntime) {
 
 // A message file of one message: so many lines of 69 letters A, this line, and so many empty lines.
 fn long_file(
+    rt: &impl Abort,
     alloc: Global,
     full_lines: usize,
     line: &[u8],
     empty_lines: usize,
-) -> Result<Vec<u8>, AllocError> {
-    let mut file = b"#A01\n".to_vec(alloc)?;
+) -> Vec<u8> {
+    let mut file = b"#A01\n".to_vec(alloc).expect(rt, "memory");
     for _ in 0..full_lines {
-        file.extend_from_slice(&[b'A'; 69])?;
-        file.push(b'\n')?;
+        file.extend_from_slice(&[b'A'; 69]).expect(rt, "memory");
+        file.push(b'\n').expect(rt, "memory");
     }
-    file.extend_from_slice(line)?;
+    file.extend_from_slice(line).expect(rt, "memory");
     for _ in 0..=empty_lines {
-        file.push(b'\n')?;
+        file.push(b'\n').expect(rt, "memory");
     }
-    file.extend_from_slice(b";\n")?;
-    Ok(file)
+    file.extend_from_slice(b";\n").expect(rt, "memory");
+    file
 }
 
 // Whether `send` refuses such a file by this line, and sends it where there is none.
 fn sends_long(
+    rt: &impl Abort,
     alloc: Global,
     full_lines: usize,
     line: &[u8],
     empty_lines: usize,
     fault: &str,
-) -> Result<bool, AllocError> {
-    let file = long_file(alloc, full_lines, line, empty_lines)?;
+) -> bool {
+    let file = long_file(rt, alloc, full_lines, line, empty_lines);
     let ended = run_on(alloc, &SEND, &file);
     let status = if fault.is_empty() { 0 } else { 2 };
-    Ok(
-        ended.status == status
-            && ended.output.is_empty() != fault.is_empty()
-            && ended.faults.as_slice() == fault.as_bytes(),
-    )
+    ended.status == status
+        && ended.output.is_empty() != fault.is_empty()
+        && ended.faults.as_slice() == fault.as_bytes()
 }
 
 #[test]
-fn fills_a_slot(rt: HostRuntime) -> Result<(), Fail> {
+fn fills_a_slot(rt: HostRuntime) {
     // A message alone costs 72 positions of phasing, 13 of its head, 7 of its end and three of the end
     // of the emission, one for the letter shift before the first A, 71 for a line of 69 A and 2 for an
     // empty line: with 58 and 36 of these 4,286, the most that a slot takes. The second has a 1 with
@@ -163,11 +165,10 @@ fn fills_a_slot(rt: HostRuntime) -> Result<(), Fail> {
     ];
     for (full_lines, line, empty_lines, fault) in rows {
         assert!(rt;
-            sends_long(rt.alloc(), full_lines, line, empty_lines, fault)?,
+            sends_long(&rt, rt.alloc(), full_lines, line, empty_lines, fault),
             "{fault}"
         );
     }
-    Ok(())
 }
 
 // Whether a line of the table, from 0, is this one.
@@ -180,13 +181,13 @@ fn has_line(table: &[u8], index: usize, line: &[u8]) -> bool {
 fn prints_the_table(rt: HostRuntime) {
     let table = output_of(rt.alloc(), &["navtex", "code"], b"");
     // By the code table of M.476, with the numbers and names of this profile.
-    let lines: [(usize, &[u8]); 4] = [
+    static LINES: [(usize, &[u8]); 4] = [
         (0, b"47 BBBYYYB A -"),
         (3, b"53 BBYYBYB D none"),
         (34, b"66 YBBYYBB P2 P2"),
         (35, b""),
     ];
-    for (index, line) in lines {
+    for &(index, line) in &LINES {
         assert!(rt; has_line(&table, index, line));
     }
 }

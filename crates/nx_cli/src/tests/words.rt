@@ -27,7 +27,7 @@ const MISSING: &str = "error: 'navtex' requires a subcommand but one was not pro
 
 #[test]
 fn reads_its_words(rt: HostRuntime) {
-    let rows: [(&[&str], u8, &str); 12] = [
+    static ROWS: [(&[&str], u8, &str); 12] = [
         (
             &["navtex", "frob"],
             64,
@@ -81,7 +81,7 @@ fn reads_its_words(rt: HostRuntime) {
             "error: invalid value '4294967296' for '<COUNT>'",
         ),
     ];
-    for (words, status, text) in rows {
+    for &(words, status, text) in &ROWS {
         assert!(rt; is_answered(rt.alloc(), words, status, text), "{text}");
     }
 }
