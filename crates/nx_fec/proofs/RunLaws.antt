@@ -1,13 +1,13 @@
--- Runs that fail before they write.
+-- Runs that fail before they write, and runs that write when all else succeeded.
 use Rattle.std.proofs.Common.{◌≡◌, ◌≢◌, ◌∙◌, ℕ, Bool, List, [], Option, Result, Ok, Err}
 use Rattle.std.proofs.Common.{append-nil, arith, refl, subst, sym}
 use Rattle.std.specs.Global.{Vec}
 use Rattle.std.specs.declared.alloc.AllocError.{AllocError}
 use Rattle.nx_fec.specs.Aligned.{ExplainsAligned}
 use Rattle.nx_fec.specs.Lines.{IsBitFile, IsFaultless}
-use Rattle.nx_fec.specs.Runs.{Encodes, ExplainsReading, ExplainsWordRun, IsWordRun}
+use Rattle.nx_fec.specs.Runs.{Encodes, ExplainsReading, ExplainsWordRun, IsOutside, IsWordRun}
 use Rattle.nx_fec.specs.Runs.{ReadsElements, ReadsWhole, aligned_fault, file_limit, reading_fault}
-use Rattle.nx_fec.specs.Transfers.{CountedDevice, devices}
+use Rattle.nx_fec.specs.Transfers.{CountedDevice, Reads, Transfers, at_the_end, devices}
 use Rattle.nx_fec.specs.declared.aligned.AlignedFault.{AlignedFault}
 use Rattle.nx_fec.specs.declared.aligned.AlignedFault.TheVariants as words
 use Rattle.nx_fec.specs.declared.fault.ReadFault.{ReadFault}
@@ -17,7 +17,7 @@ use Rattle.nx_fec.specs.declared.fault.RunFault.TheVariants.{Read, FileTooLong, 
 use Rattle.nx_fec.specs.declared.fault.RunFault.TheVariants.{BadLine, Ragged, NoSuchCharacter}
 use Rattle.nx_fec.specs.declared.fault.RunFault.TheVariants.{Write, Memory}
 use Rattle.nx_fec.proofs.ReadingLaws.{Err-same}
-use Rattle.nx_fec.proofs.TransferLaws.{Ok-not_err, Reads-on, Writes-none}
+use Rattle.nx_fec.proofs.TransferLaws.{Ok-not_err, Reads-on, Write-not_read, Writes-none}
 
 -- a fault of reading elements is one of the run
 reading-explains : (IsText : List ℕ → ℕ → Type 0) (AtEnd : Type 0) (limit : ℕ) (bytes : List ℕ)
@@ -149,3 +149,34 @@ Encodes-no_memory remaining contents reader reader_after writer text error none 
   writes = Writes-none _ _ _ (λ written same. cc) none;
   unwritten = λ other. refl;
 }
+
+module _ {R W T F : Type 0} (remaining : R → Option (List ℕ)) (contents : W → Option (List ℕ))
+    (reader reader_after : CountedDevice R) (writer writer_after : CountedDevice W) (read : F)
+    (items : T) (outside : F → Type 0)
+    (faultless known whole run_known run_whole : List ℕ → Type 0)
+    (reads : Reads remaining reader reader_after read outside (Ok items) faultless known whole)
+    (knows : (bytes : List ℕ) → known bytes → run_known bytes)
+    (all : (bytes : List ℕ) → whole bytes → run_whole bytes) where
+  -- a run that read all and wrote what that gives
+  pub Transfers-done : (count : ℕ) → writer_after.failures ≡ 0
+      → Transfers Read IsOutside (λ written. Write written) at_the_end
+      (devices remaining contents reader reader_after writer writer_after)
+      (Ok count) faultless run_known run_whole
+  Transfers-done count none = record {
+    reads = Reads-on _ _ _ _ _ _ _ _ _ _ _ reads knows all (λ bytes k h. h)
+        (λ e. absurd (Ok-not_err _ _ e)) (λ e. absurd (Ok-not_err _ _ e));
+    writes = Writes-none _ _ _ (λ written same. Ok-not_err _ _ same) none;
+    unwritten = tt;
+  }
+
+  -- a run that read all, and whose write failed
+  pub Transfers-cut : {N : Type 0} (written : ℕ) → writer_after.failures ≡ 1
+      → Transfers {N = N} Read IsOutside (λ written. Write written) at_the_end
+      (devices remaining contents reader reader_after writer writer_after)
+      (Err (Write written)) faultless run_known run_whole
+  Transfers-cut written one = record {
+    reads = Reads-on _ _ _ _ _ _ _ _ _ _ _ reads knows all (λ bytes k h out. absurd out)
+        (λ e. absurd (Write-not_read _ e)) (λ e. absurd (Ok-not_err _ _ e));
+    writes = record { failed = (λ w. one, λ o. (written, refl)); once = omega (arith, one) };
+    unwritten = λ other. absurd (other written refl);
+  }

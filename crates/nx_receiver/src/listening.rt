@@ -357,6 +357,8 @@ impl Listener {
 
     /// Hears elements of a channel up to and with the first one with which something is over that
     /// may bring an entry; says how many, and what is over.
+    // Inlined always: it runs for each line of elements.
+    #[inline(always)]
     fn hear_on(&mut self, channel: Channel, packed: &PackedElements, from: usize) -> (usize, Over)
         requires { from ≤ length packed.now }
         ensures within { from + result.0 ≤ length packed.now }

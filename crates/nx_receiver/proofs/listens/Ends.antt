@@ -58,6 +58,13 @@ pub record CloseAll (listener : Listening) (closing : Closing) : Type 0 where
   pub on_1 : Closes listener.on_1 closing.on_1
   pub on_2 : Closes listener.on_2 closing.on_2
 
+pub closes-all : (now inside : Listening) (one two three : Option Entry) → inside ≡ now
+    → Closes inside.on_0 one → Closes inside.on_1 two → Closes inside.on_2 three
+    → CloseAll now (record { on_0 = one; on_1 = two; on_2 = three })
+closes-all now inside one two three e h i j =
+    subst (λ l. CloseAll l (record { on_0 = one; on_1 = two; on_2 = three })) e
+    (record { on_0 = h; on_1 = i; on_2 = j })
+
 close-on : (starts : Starts) (listener : Listening) (closing : Closing) (given : List Given)
     (copies : List MarkedCopy) → CloseAll listener closing → HearsGiven starts listener given copies
     → (channel : Channel) → PrintsToEnd (start_on starts channel) (share channel given)

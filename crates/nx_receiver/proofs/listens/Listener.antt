@@ -33,7 +33,7 @@ use Rattle.nx_receiver.specs.Log.{HasPrinted}
 use Rattle.nx_receiver.specs.Receiver.{Stands}
 use Rattle.nx_receiver.specs.Shares.{Given, MarkedCopy, Starts, copies_on, events_for, marked}
 use Rattle.nx_receiver.specs.Shares.{share, start_on, to_one}
-use Rattle.nx_receiver.specs.private.Awaiting.{Awaits, HandsOut}
+use Rattle.nx_receiver.specs.private.Awaiting.{Awaits, HandsOut, HearsUpTo}
 use Rattle.nx_receiver.specs.FoundCopies.{TaggedCopy}
 use Rattle.nx_receiver.specs.declared.over.Over.{Over}
 use Rattle.nx_receiver.specs.declared.over.Over.TheVariants as overs
@@ -460,22 +460,46 @@ hears-more starts old new given channel part more copies next h few stands other
       few = omega (arith, all, longer, few, h.few);
     }
 
+-- These elements of a channel were heard, and so many counted; this is over with the last of them,
+-- and not yet finished.
+pub record HearsUntil (old new : Listening) (channel : Channel) (bits : List Bool) (n : ℕ)
+    (over : Over) : Type 0 where
+  pub awaits : HearsUpTo content (receiver_on old channel) (receiver_on new channel) bits over
+  pub others : (other : Channel) → same_channel channel other ≡ false
+      → receiver_on new other ≡ receiver_on old other
+  pub elements : new.elements ≡ count_of (old.elements + n)
+  pub entries : new.entries ≡ old.entries
+
+-- the receiver of the channel heard them, and then the listener counted them
+pub hears-until : (old heard now : Listening) (channel : Channel) (bits : List Bool) (n m : ℕ)
+    (over : Over) → heard ≡ with_receiver old channel (receiver_on heard channel)
+    → HearsUpTo content (receiver_on old channel) (receiver_on heard channel) bits over
+    → now ≡ heard → m ≡ count_of (now.elements + n)
+    → HearsUntil old (record now { elements = m }) channel bits n over
+hears-until old heard now channel bits n m over only hears e counted =
+    let new = record now { elements = m } in
+    let same = same-receivers heard new (sym (ap (λ (l : Listening). l.on_0) e))
+    (sym (ap (λ (l : Listening). l.on_1) e)) (sym (ap (λ (l : Listening). l.on_2) e)) in
+    let differs = differs-on channel old heard only in
+    record {
+      awaits = λ start events log stands.
+          subst (λ r. Awaits content start r (events ++ fed.elements bits) log over) (same channel)
+          (hears start events log stands);
+      others = λ other not. sym (same other) ∙ differs.others other not;
+      elements = counted ∙ ap (λ k. count_of (k + n))
+          (ap (λ (l : Listening). l.elements) e ∙ differs.elements);
+      entries = ap (λ (l : Listening). l.entries) e ∙ differs.entries;
+    }
+
 -- What was over with the last of these elements was finished, and these are the bytes of the entry,
 -- if one was made.
 pub heard-over : (starts : Starts) (old mid new : Listening) (given : List Given)
     (channel : Channel) (part bits : List Bool) (n : ℕ) (bytes more : List ℕ) (over : Over)
     → HasFinished mid new channel over more
     → HearsLog starts old (then_elements given channel part) bytes → n ≤ length bits → 0 < n
-    → ((start : Start) (events : List Event) (log : List TaggedCopy)
-    → Stands content start (receiver_on old channel) events log
-    → Awaits content start (receiver_on mid channel) (events ++ fed.elements (take n bits)) log
-    over)
-    → ((other : Channel) → same_channel channel other ≡ false
-    → receiver_on mid other ≡ receiver_on old other)
-    → mid.elements ≡ count_of (old.elements + n) → mid.entries ≡ old.entries
+    → HearsUntil old mid channel (take n bits) n over
     → HearsLog starts new (then_elements given channel (part ++ take n bits)) (bytes ++ more)
-heard-over starts old mid new given channel part bits n bytes more over f h within least awaits
-    others heard same =
+heard-over starts old mid new given channel part bits n bytes more over f h within least u =
     let next = f.copies in
     let few : length next ≤ 1 = f.one in
     let many : length (take n bits) ≡ n = length-take-le n bits within in
@@ -484,11 +508,11 @@ heard-over starts old mid new given channel part bits n bytes more over f h with
       hears = hears-more starts old new given channel part (take n bits) h.log next h.hears
           (omega (arith, few, many))
           (λ start events log s. f.stands start (events ++ fed.elements (take n bits)) log
-          (awaits start events log s))
-          (λ other not. f.others other not ∙ others other not)
-          (f.elements ∙ heard ∙ ap (λ k. count_of (old.elements + k)) (sym many))
-          (f.entries (omega (arith, h.hears.entries, same))
-          ∙ ap (λ k. count_of (k + length next)) same);
+          (u.awaits start events log s))
+          (λ other not. f.others other not ∙ u.others other not)
+          (f.elements ∙ u.elements ∙ ap (λ k. count_of (old.elements + k)) (sym many))
+          (f.entries (omega (arith, h.hears.entries, u.entries))
+          ∙ ap (λ k. count_of (k + length next)) u.entries);
       spelled = logs_join h.log (map (marked channel) next) bytes more h.spelled
           f.spelled;
     }
@@ -498,25 +522,18 @@ pub heard-no-over : (starts : Starts) (old new : Listening) (given : List Given)
     (channel : Channel) (part bits : List Bool) (n : ℕ) (bytes : List ℕ) (over : Over)
     → over ≡ overs.Nothing
     → HearsLog starts old (then_elements given channel part) bytes → n ≤ length bits
-    → ((start : Start) (events : List Event) (log : List TaggedCopy)
-    → Stands content start (receiver_on old channel) events log
-    → Awaits content start (receiver_on new channel) (events ++ fed.elements (take n bits)) log
-    over)
-    → ((other : Channel) → same_channel channel other ≡ false
-    → receiver_on new other ≡ receiver_on old other)
-    → new.elements ≡ count_of (old.elements + n) → new.entries ≡ old.entries
+    → HearsUntil old new channel (take n bits) n over
     → HearsLog starts new (then_elements given channel (part ++ take n bits)) bytes
-heard-no-over starts old new given channel part bits n bytes over nothing h within awaits others
-    heard printed =
+heard-no-over starts old new given channel part bits n bytes over nothing h within u =
     let many : length (take n bits) ≡ n = length-take-le n bits within in
     let more = hears-more starts old new given channel part (take n bits) h.log [] h.hears
     (omega arith)
     (λ start events log s. subst (λ l. Stands content start (receiver_on new channel)
     (events ++ fed.elements (take n bits)) l) (sym (append-nil log))
     (nothing_awaited content start (receiver_on new channel) _ _ _ log over nothing
-    (awaits start events log s)))
-    others (heard ∙ ap (λ k. count_of (old.elements + k)) (sym many))
-    (omega (arith, printed, h.hears.entries)) in
+    (u.awaits start events log s)))
+    u.others (u.elements ∙ ap (λ k. count_of (old.elements + k)) (sym many))
+    (omega (arith, u.entries, h.hears.entries)) in
     record {
       log = h.log;
       hears = subst (λ log. HearsGiven starts new
@@ -665,24 +682,29 @@ at_most_one : (is : Bool) (n : ℕ) → n ≡ cond is 1 0 → n ≤ 1
 at_most_one true n e = omega (arith, e)
 at_most_one false n e = omega (arith, e)
 
--- a listener of which the receiver of a channel handed out what was over with it, and that counted
--- this, finished it
-pub finishes : (old mid new : Listening) (channel : Channel) (over : Over) (is : Bool)
+-- The receiver of the channel handed out what was over with it, and then the listener counted this:
+-- so it was finished.
+pub finishes : (old last now : Listening) (channel : Channel) (over : Over) (is : Bool) (k n : ℕ)
     (bytes : List ℕ)
-    → HandsOut content (receiver_on old channel) (receiver_on mid channel) channel over is bytes
-    → DiffersOn channel old mid
-    → ((other : Channel) → receiver_on mid other ≡ receiver_on new other)
-    → new.elements ≡ mid.elements → new.entries ≡ count_of (mid.entries + bool_byte is)
-    → HasFinished old new channel over bytes
-finishes old mid new channel over is bytes hands differs same heard-more counted = record {
-  copies = hands.copies;
-  one = at_most_one is (length hands.copies) hands.counted;
-  stands = λ start events log awaits.
-      subst (λ r. Stands content start r events (log ++ hands.copies)) (same channel)
-      (hands.stands start events log awaits);
-  others = λ other not. sym (same other) ∙ differs.others other not;
-  spelled = hands.spelled;
-  elements = heard-more ∙ differs.elements;
-  entries = λ fits. counted ∙ ap₂ (λ m n. count_of (m + n)) differs.entries
-      (as_count is ∙ sym hands.counted);
-}
+    → HandsOut content (receiver_on old channel) (receiver_on last channel) channel over is bytes
+    → last ≡ with_receiver old channel (receiver_on last channel) → now ≡ last
+    → k ≡ bool_byte is → n ≡ count_of (now.entries + k)
+    → HasFinished old (record now { entries = n }) channel over bytes
+finishes old last now channel over is k n bytes hands only e one counted =
+    let new = record now { entries = n } in
+    let same = same-receivers last new (sym (ap (λ (l : Listening). l.on_0) e))
+    (sym (ap (λ (l : Listening). l.on_1) e)) (sym (ap (λ (l : Listening). l.on_2) e)) in
+    let differs = differs-on channel old last only in
+    record {
+      copies = hands.copies;
+      one = at_most_one is (length hands.copies) hands.counted;
+      stands = λ start events log awaits.
+          subst (λ r. Stands content start r events (log ++ hands.copies)) (same channel)
+          (hands.stands start events log awaits);
+      others = λ other not. sym (same other) ∙ differs.others other not;
+      spelled = hands.spelled;
+      elements = ap (λ (l : Listening). l.elements) e ∙ differs.elements;
+      entries = λ fits. counted ∙ ap₂ (λ m n. count_of (m + n))
+          (ap (λ (l : Listening). l.entries) e ∙ differs.entries)
+          (one ∙ as_count is ∙ sym hands.counted);
+    }

@@ -7,9 +7,10 @@ use Rattle.std.proofs.lemmas.Bool.{cases_lt}
 use Rattle.std.proofs.lemmas.Bool.Decides.{nat_tests}
 use Rattle.std.proofs.Math.Seq.{get_or-append_seam}
 use Rattle.std.specs.Option.{option_to_list}
-use Rattle.nx_code.specs.Reading.{Reception, shift_after_all, text}
+use Rattle.nx_code.specs.Reading.{Reception, byte_of, shift_after, shift_after_all, text}
 use Rattle.nx_code.specs.declared.printing.Printer.{Printer}
 use Rattle.nx_code.specs.declared.shifts.Shift.TheVariants.{Letters}
+use Rattle.nx_code.proofs.ReadingLemmas.{reading_push}
 use Rattle.nx_envelope.specs.Finder.{ClosesNone, HoldsCopy, held_identity, is_ready_copy}
 use Rattle.nx_envelope.specs.declared.found.HeldCopy.{HeldCopy}
 use Rattle.nx_envelope.specs.declared.found.HeldCopy.TheVariants as held
@@ -174,18 +175,17 @@ pub has_read_rx : {reader : LockReading} {diversity : Diversity} {printer : Prin
     → ((sent : List Counted) → IsLatest reader.diversity sent
     → position ≡ pairing (third_last sent) word)
     → diversity ≡ reader.diversity
-    → ((taken : List Reception) → reader.printer ≡ shift_after_all taken Letters
-    → (printer ≡ shift_after_all (taken ++ position ∷ []) Letters)
-    × (text (taken ++ position ∷ []) Letters ≡ text taken Letters ++ option_to_list printed))
+    → printed ≡ byte_of position reader.printer → printer ≡ shift_after position reader.printer
     → HasReadRx diversity printer printed first words n
-has_read_rx {reader} {diversity} {position = position} {first = first} {words = words} {n = n}
-    before rx counts pairs kept reads =
+has_read_rx {reader} {diversity} {printer} {position = position} {printed = printed} {first = first}
+    {words = words} {n = n} before rx counts pairs kept prints shifts =
     let sent = dx_words first words n in
     let pair : position ≡ pairing (third_last sent) (counts_as (words n)) =
     pairs sent before.latest ∙ ap (pairing (third_last sent)) counts in
     let more : positions first words n ++ position ∷ [] ≡ positions first words (n + 1) =
     ap (λ p. positions first words n ++ p ∷ []) pair ∙ sym (positions-rx first words n rx) in
-    let read = reads (positions first words n) before.shift in
+    let read = reading_push (positions first words n) position reader.printer printer printed prints
+    shifts before.shift in
     record {
       latest = subst (IsLatest diversity) (sym (dx_words-rx first words n rx))
           (kept ∙ before.latest);

@@ -3,8 +3,7 @@ use Rattle.std.proofs.lemmas.Result.{err_from_is_err_and}
 use Rattle.nx_fec.specs.Aligned.{aligned_text, words_of}
 use Rattle.nx_fec.specs.Lines.{IsBitFile}
 use Rattle.nx_fec.specs.Runs.{IsDecoded}
-use Rattle.nx_fec.proofs.TransferLaws.{Reads-on, Ok-not_err, Write-not_read}
-use Rattle.nx_fec.proofs.RunLaws.{WordRun-refused, WordRun-unread}
+use Rattle.nx_fec.proofs.RunLaws.{Transfers-cut, Transfers-done, WordRun-refused, WordRun-unread}
 use Rattle.nx_fec.proofs.runs.decode_run.Goals as goal
 
 decoded-of : (bytes text items : List ℕ) (bits given : List Bool) → given ≡ bits
@@ -41,19 +40,10 @@ returns-in_err-write_out g c =
     c.deref.ensures.value c.in_ok-text.ensures.whole c.in_ok-text.ensures.text
     c.deref-2.ensures.value file in
     let wrote = c.in_err-write_out.ensures in
-    rw p.1 (rw p.2 (record {
-      reads = Reads-on _ _ _ _ _ _ _ _ _ _ _ c.in_ok-bits.ensures.reads
-          (λ bytes k. (k.0, text, length text, (decoded bytes k.1, refl), wrote.err))
-          (λ bytes k. (tt, text, length text, (decoded bytes k, refl), wrote.err))
-          (λ bytes k h outside. absurd outside) (λ e. absurd (Write-not_read _ e))
-          (λ e. absurd (Ok-not_err _ _ e));
-      writes = record {
-        failed =
-            (λ w. wrote.counts.failed.0 refl, λ one. (c.in_err-write_out.field-0.0.written, refl));
-        once = wrote.counts.once;
-      };
-      unwritten = λ other. absurd (other c.in_err-write_out.field-0.0.written refl);
-    }))
+    rw p.1 (rw p.2 (Transfers-cut _ _ _ _ _ _ _ _ _ _ _ _ _ _ c.in_ok-bits.ensures.reads
+    (λ bytes k. (k.0, text, length text, (decoded bytes k.1, refl), wrote.err))
+    (λ bytes k. (tt, text, length text, (decoded bytes k, refl), wrote.err))
+    c.in_err-write_out.field-0.0.written (wrote.counts.failed.0 refl)))
 
 pub returns : goal.returns
 returns g c =
@@ -67,18 +57,6 @@ returns g c =
     c.deref.ensures.value c.in_ok-text.ensures.whole c.in_ok-text.ensures.text
     c.deref-2.ensures.value file in
     let wrote = c.in_ok-write_out.ensures in
-    record {
-      reads = Reads-on _ _ _ _ _ _ _ _ _ _ _ c.in_ok-bits.ensures.reads
-          (λ bytes k. (k.0, text, (decoded bytes k.1, count), wrote.ok))
-          (λ bytes k. (tt, text, (decoded bytes k, count), wrote.ok))
-          (λ bytes k h. h) (λ e. absurd (Ok-not_err _ _ e)) (λ e. absurd (Ok-not_err _ _ e));
-      writes = record {
-        failed = (
-          λ w. absurd (Ok-not_err _ _ w.1),
-          λ one. absurd
-              (omega (arith, wrote.counts.none, one)),
-        );
-        once = wrote.counts.once;
-      };
-      unwritten = tt;
-    }
+    Transfers-done _ _ _ _ _ _ _ _ _ _ _ _ _ _ c.in_ok-bits.ensures.reads
+    (λ bytes k. (k.0, text, (decoded bytes k.1, count), wrote.ok))
+    (λ bytes k. (tt, text, (decoded bytes k, count), wrote.ok)) _ wrote.counts.none

@@ -5,10 +5,11 @@ use Rattle.nx_fec.specs.Emission.{bits_of, emission, framed_positions, sent_posi
 use Rattle.nx_fec.specs.Lines.{file_of}
 use Rattle.nx_fec.specs.BitLines.{bit_lines}
 use Rattle.nx_fec.specs.Runs.{IsEncoded}
-use Rattle.nx_fec.proofs.TransferLaws.{Reads-on, Ok-not_err, Write-not_read}
+use Rattle.nx_fec.proofs.TransferLaws.{Ok-not_err, Reads-on}
 use Rattle.nx_fec.proofs.EncodingLaws.{spelling-explains, spell_fault-not_read}
 use Rattle.nx_fec.proofs.EncodingLaws.{spell_fault-not_write, IsEncoded-of}
-use Rattle.nx_fec.proofs.RunLaws.{Encodes-no_memory, Encodes-unread}
+use Rattle.nx_fec.proofs.RunLaws.{Encodes-no_memory, Encodes-unread, Transfers-cut}
+use Rattle.nx_fec.proofs.RunLaws.{Transfers-done}
 use Rattle.nx_fec.proofs.runs.encode_run.Goals as goal
 
 pub returns-in_err-text : goal.returns-in_err-text
@@ -64,22 +65,10 @@ returns-in_err-write_emission g c =
     ∙ ap (λ l. framed_positions (map (λ (comb : Comb). comb.number) l)) c.deref-2.ensures.value)
     (ap (λ l. bits_of (emission (map sent_position l))) c.deref-3.ensures.value) in
     let wrote = c.in_err-write_emission.ensures in
-    rw p.1 (rw p.2 (record {
-      reads = Reads-on _ _ _ _ _ _ _ _ _ _ _ c.in_ok-text.ensures
-          (λ bytes k. (k.0, k.1, file, count, encoded bytes k.2, wrote.err))
-          (λ bytes k. (tt, k.0, file, count, encoded bytes k.1, wrote.err))
-          (λ bytes k h outside. k.1) (λ e. absurd (Write-not_read _ e))
-          (λ e. absurd (Ok-not_err _ _ e));
-      writes = record {
-        failed = (
-          λ w. wrote.counts.failed.0 refl,
-          λ one.
-              (c.in_err-write_emission.field-0.0.written, refl),
-        );
-        once = wrote.counts.once;
-      };
-      unwritten = λ other. absurd (other c.in_err-write_emission.field-0.0.written refl);
-    }))
+    rw p.1 (rw p.2 (Transfers-cut _ _ _ _ _ _ _ _ _ _ _ _ _ _ c.in_ok-text.ensures
+    (λ bytes k. (k.0, k.1, file, count, encoded bytes k.2, wrote.err))
+    (λ bytes k. (tt, k.0, file, count, encoded bytes k.1, wrote.err))
+    c.in_err-write_emission.field-0.0.written (wrote.counts.failed.0 refl)))
 
 pub returns : goal.returns
 returns g c =
@@ -97,18 +86,6 @@ returns g c =
     ∙ ap (λ l. framed_positions (map (λ (comb : Comb). comb.number) l)) c.deref-2.ensures.value)
     (ap (λ l. bits_of (emission (map sent_position l))) c.deref-3.ensures.value)) in
     let wrote = c.in_ok-write_emission.ensures in
-    record {
-      reads = Reads-on _ _ _ _ _ _ _ _ _ _ _ c.in_ok-text.ensures
-          (λ bytes k. (k.0, k.1, file, encoded bytes k.2, wrote.ok))
-          (λ bytes k. (tt, k.0, file, encoded bytes k.1, wrote.ok))
-          (λ bytes k h. h) (λ e. absurd (Ok-not_err _ _ e)) (λ e. absurd (Ok-not_err _ _ e));
-      writes = record {
-        failed = (
-          λ w. absurd (Ok-not_err _ _ w.1),
-          λ one. absurd
-              (omega (arith, wrote.counts.none, one)),
-        );
-        once = wrote.counts.once;
-      };
-      unwritten = tt;
-    }
+    Transfers-done _ _ _ _ _ _ _ _ _ _ _ _ _ _ c.in_ok-text.ensures
+    (λ bytes k. (k.0, k.1, file, encoded bytes k.2, wrote.ok))
+    (λ bytes k. (tt, k.0, file, encoded bytes k.1, wrote.ok)) _ wrote.counts.none

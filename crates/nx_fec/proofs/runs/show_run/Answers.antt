@@ -1,9 +1,8 @@
 use Rattle.std.proofs.Common.{◌≡◌, ℕ, List, ◌/◌, length, refl, arith}
 use Rattle.std.proofs.lemmas.Result.{err_from_is_err_and}
 use Rattle.nx_fec.specs.Lines.{IsBitFile}
-use Rattle.nx_fec.proofs.TransferLaws.{Reads-on, Ok-not_err, Write-not_read}
 use Rattle.nx_fec.proofs.WordLineLemmas.{IsShown-of}
-use Rattle.nx_fec.proofs.RunLaws.{WordRun-refused, WordRun-unread}
+use Rattle.nx_fec.proofs.RunLaws.{Transfers-cut, Transfers-done, WordRun-refused, WordRun-unread}
 use Rattle.nx_fec.proofs.runs.show_run.Goals as goal
 
 pub returns-in_err-bits : goal.returns-in_err-bits
@@ -28,19 +27,10 @@ returns-in_err-write_out g c =
     c.deref.ensures.value c.in_ok-lines.ensures.whole c.in_ok-lines.ensures.text
     c.deref-2.ensures.value refl file in
     let wrote = c.in_err-write_out.ensures in
-    rw p.1 (rw p.2 (record {
-      reads = Reads-on _ _ _ _ _ _ _ _ _ _ _ c.in_ok-bits.ensures.reads
-          (λ bytes k. (k.0, c.deref-2.result.now, length bits / 7, shown bytes k.1, wrote.err))
-          (λ bytes k. (tt, c.deref-2.result.now, length bits / 7, shown bytes k, wrote.err))
-          (λ bytes k h outside. absurd outside) (λ e. absurd (Write-not_read _ e))
-          (λ e. absurd (Ok-not_err _ _ e));
-      writes = record {
-        failed =
-            (λ w. wrote.counts.failed.0 refl, λ one. (c.in_err-write_out.field-0.0.written, refl));
-        once = wrote.counts.once;
-      };
-      unwritten = λ other. absurd (other c.in_err-write_out.field-0.0.written refl);
-    }))
+    rw p.1 (rw p.2 (Transfers-cut _ _ _ _ _ _ _ _ _ _ _ _ _ _ c.in_ok-bits.ensures.reads
+    (λ bytes k. (k.0, c.deref-2.result.now, length bits / 7, shown bytes k.1, wrote.err))
+    (λ bytes k. (tt, c.deref-2.result.now, length bits / 7, shown bytes k, wrote.err))
+    c.in_err-write_out.field-0.0.written (wrote.counts.failed.0 refl)))
 
 pub returns : goal.returns
 returns g c =
@@ -52,18 +42,6 @@ returns g c =
     c.deref.ensures.value c.in_ok-lines.ensures.whole c.in_ok-lines.ensures.text
     c.deref-2.ensures.value count file in
     let wrote = c.in_ok-write_out.ensures in
-    record {
-      reads = Reads-on _ _ _ _ _ _ _ _ _ _ _ c.in_ok-bits.ensures.reads
-          (λ bytes k. (k.0, c.deref-2.result.now, shown bytes k.1, wrote.ok))
-          (λ bytes k. (tt, c.deref-2.result.now, shown bytes k, wrote.ok))
-          (λ bytes k h. h) (λ e. absurd (Ok-not_err _ _ e)) (λ e. absurd (Ok-not_err _ _ e));
-      writes = record {
-        failed = (
-          λ w. absurd (Ok-not_err _ _ w.1),
-          λ one. absurd
-              (omega (arith, wrote.counts.none, one)),
-        );
-        once = wrote.counts.once;
-      };
-      unwritten = tt;
-    }
+    Transfers-done _ _ _ _ _ _ _ _ _ _ _ _ _ _ c.in_ok-bits.ensures.reads
+    (λ bytes k. (k.0, c.deref-2.result.now, shown bytes k.1, wrote.ok))
+    (λ bytes k. (tt, c.deref-2.result.now, shown bytes k, wrote.ok)) _ wrote.counts.none

@@ -1,3 +1,5 @@
+use Rattle.std.proofs.Common.{arith}
+use Rattle.std.proofs.lemmas.Grind.{common_steps}
 use Rattle.std.proofs.Common.{◌∙◌, ap, length, refl, subst, sym}
 use Rattle.std.proofs.lemmas.Result.{err_from_is_err_and}
 use Rattle.nx_fec.specs.Transfers.{devices}
@@ -45,3 +47,6 @@ returns-in_err-write_out g c =
       whole = text;
       counted = refl;
     } wrote.err))
+
+pub returns : goal.returns
+returns g c = grind (arith, common_steps)

@@ -12,15 +12,6 @@ pub returns : goal.returns
 returns c = rw (← c.self.view_is) (record {
   ends = λ bits moments given w.
       let i = c.self.inside in
-      let watch : Watching = record {
-        synchroniser = i.synchroniser;
-        reader = i.reader;
-        moment = i.moment;
-        elements =
-            i.elements;
-        locks = i.locks;
-        copies = i.copies;
-      } in
       let total = c.saturating_add-copies.result in
       let counted : total ≡ min (i.copies + i.reader.copies) (2 ^ 64 - 1) =
       c.saturating_add-copies.ensures
@@ -35,11 +26,11 @@ returns c = rw (← c.self.view_is) (record {
             × (b.close.new.shown.items
             ≡ c.args.shown.now.items ++ closing_of v.reader civil Locked)) (sym c.self.view_is)
             b.close.ensures.closes in
-            ended_locked watch bits moments given c.args.shown.now.items c.if-is_locked.shown.items
+            ended_locked _ bits moments given c.args.shown.now.items c.if-is_locked.shown.items
             c.end_report.new.shown.items total w (stands.0 b.if-is_locked.true) counted
             closes.0 closes.1 (ap (λ s. s.items) b.shown-is ∙ closes.2) c.end_report.ensures.line
         | else-is_locked b ↦
-            ended_hunting watch bits moments given c.args.shown.now.items
+            ended_hunting _ bits moments given c.args.shown.now.items
             c.end_report.new.shown.items total w
             (λ l. let both : true ≡ false = sym (stands.1 l) ∙ b.if-is_locked.false in cc) counted
             (c.end_report.ensures.line

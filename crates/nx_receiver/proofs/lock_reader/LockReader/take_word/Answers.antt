@@ -1,15 +1,18 @@
 use Rattle.std.proofs.Common.{◌≡◌, ◌+◌, [], ◌∷◌, ◌++◌, inl, inr, refl, sym, ap, ◌∙◌, subst}
-use Rattle.std.proofs.Common.{append-nil}
+use Rattle.std.proofs.Common.{append-nil, ℕ, List, None, Option}
 use Rattle.std.specs.Option.{option_to_list}
-use Rattle.nx_code.specs.Classes.{reception_of_class}
 use Rattle.nx_code.specs.Reading.{shift_after_all, text}
 use Rattle.nx_code.specs.declared.shifts.Shift.TheVariants.{Letters}
-use Rattle.nx_code.proofs.ReadingLemmas.{reading_push}
 use Rattle.nx_fec.specs.Pairing.{IsLatest, counts_as}
 use Rattle.nx_envelope.specs.Finder.{StandsAfter}
 use Rattle.nx_receiver.specs.private.LockReader.{ReadsLock, dx_words, text_after}
 use Rattle.nx_receiver.proofs.locks.ReaderWords.{has_read_dx, has_read_rx, positions-dx}
 use Rattle.nx_receiver.proofs.lock_reader.LockReader.take_word.Goals as goal
+
+-- a text that grows by nothing stays
+prints-none : {old new : List ℕ} {printed : Option ℕ} → new ≡ old ++ option_to_list printed
+    → printed ≡ None → new ≡ old
+prints-none {old} grows none = grows ∙ ap (λ o. old ++ option_to_list o) none ∙ append-nil old
 
 pub returns-in-Dx-clause-stands : goal.returns-in-Dx-clause-stands
 returns-in-Dx-clause-stands c first words n reads is_word is_role =
@@ -35,71 +38,45 @@ returns-in-Dx-clause-hears c first words n reads is_word is_role =
 pub returns-in-Some-clause-stands : goal.returns-in-Some-clause-stands
 returns-in-Some-clause-stands c first words n reads is_word is_role =
     let before = subst (λ r. ReadsLock r first words n) (sym c.self.view_is) reads in
-    let counts = ap counts_as (sym is_word) in
-    let rx = c.hear_rx-class.ensures in
     let so_far = text_after first words n in
-    let read = has_read_rx before (sym is_role ∙ c.in-Rx.is) counts rx.stands refl
-    (λ positions. reading_push positions (reception_of_class c.hear_rx-class.result)
-    c.self.inside.printer c.print_class.new.self c.print_class.result
-    c.print_class.ensures.printed c.print_class.ensures.shift) in
-    let grows : text_after first words (n + 1) ≡ text_after first words n ++ c.in-Some.byte ∷ [] =
+    let read = has_read_rx before (sym is_role ∙ c.in-Rx.is) (ap counts_as (sym is_word))
+    c.hear_rx-class.ensures.stands refl c.print_class.ensures.printed c.print_class.ensures.shift in
+    let grows : text_after first words (n + 1) ≡ so_far ++ c.in-Some.byte ∷ [] =
     read.grows ∙ ap (λ o. so_far ++ option_to_list o) c.in-Some.is in
-    let stands = c.hear.ensures.stands (text_after first words n) before.finder in
     record {
       latest = read.latest;
       shift = read.shift;
-      finder =
-          subst (StandsAfter c.hear.new.self) (sym grows) stands;
+      finder = subst (StandsAfter c.hear.new.self) (sym grows)
+          (c.hear.ensures.stands so_far before.finder);
     }
 
 pub returns-in-Some-clause-hears : goal.returns-in-Some-clause-hears
 returns-in-Some-clause-hears c first words n reads is_word is_role =
     let before = subst (λ r. ReadsLock r first words n) (sym c.self.view_is) reads in
-    let counts = ap counts_as (sym is_word) in
-    let rx = c.hear_rx-class.ensures in
     let so_far = text_after first words n in
-    let read = has_read_rx before (sym is_role ∙ c.in-Rx.is) counts rx.stands refl
-    (λ positions. reading_push positions (reception_of_class c.hear_rx-class.result)
-    c.self.inside.printer c.print_class.new.self c.print_class.result
-    c.print_class.ensures.printed c.print_class.ensures.shift) in
+    let read = has_read_rx before (sym is_role ∙ c.in-Rx.is) (ap counts_as (sym is_word))
+    c.hear_rx-class.ensures.stands refl c.print_class.ensures.printed c.print_class.ensures.shift in
     inr (record {
       byte = c.in-Some.byte;
       grows = read.grows ∙ ap (λ o. so_far ++ option_to_list o) c.in-Some.is;
-      hears = c.hear.ensures.hears (text_after first words n) before.finder;
+      hears = c.hear.ensures.hears so_far before.finder;
     })
 
 pub returns-in-None-clause-stands : goal.returns-in-None-clause-stands
 returns-in-None-clause-stands c first words n reads is_word is_role =
     let before = subst (λ r. ReadsLock r first words n) (sym c.self.view_is) reads in
-    let counts = ap counts_as (sym is_word) in
-    let rx = c.hear_rx-class.ensures in
-    let so_far = text_after first words n in
-    let read = has_read_rx before (sym is_role ∙ c.in-Rx.is) counts rx.stands refl
-    (λ positions. reading_push positions (reception_of_class c.hear_rx-class.result)
-    c.self.inside.printer c.print_class.new.self c.print_class.result
-    c.print_class.ensures.printed c.print_class.ensures.shift) in
-    let same : text_after first words (n + 1) ≡ text_after first words n =
-    read.grows ∙ ap (λ o. so_far ++ option_to_list o) c.in-None.is
-    ∙ append-nil (text_after first words n) in
+    let read = has_read_rx before (sym is_role ∙ c.in-Rx.is) (ap counts_as (sym is_word))
+    c.hear_rx-class.ensures.stands refl c.print_class.ensures.printed c.print_class.ensures.shift in
     record {
       latest = read.latest;
       shift = read.shift;
-      finder =
-          subst (StandsAfter c.self.inside.finder) (sym same) before.finder;
+      finder = subst (StandsAfter c.self.inside.finder)
+          (sym (prints-none read.grows c.in-None.is)) before.finder;
     }
 
 pub returns-in-None-clause-hears : goal.returns-in-None-clause-hears
 returns-in-None-clause-hears c first words n reads is_word is_role =
     let before = subst (λ r. ReadsLock r first words n) (sym c.self.view_is) reads in
-    let counts = ap counts_as (sym is_word) in
-    let rx = c.hear_rx-class.ensures in
-    let so_far = text_after first words n in
-    let read = has_read_rx before (sym is_role ∙ c.in-Rx.is) counts rx.stands refl
-    (λ positions. reading_push positions (reception_of_class c.hear_rx-class.result)
-    c.self.inside.printer c.print_class.new.self c.print_class.result
-    c.print_class.ensures.printed c.print_class.ensures.shift) in
-    inl (record {
-      same = read.grows ∙ ap (λ o. so_far ++ option_to_list o) c.in-None.is
-          ∙ append-nil (text_after first words n);
-      nothing = refl;
-    })
+    let read = has_read_rx before (sym is_role ∙ c.in-Rx.is) (ap counts_as (sym is_word))
+    c.hear_rx-class.ensures.stands refl c.print_class.ensures.printed c.print_class.ensures.shift in
+    inl (record { same = prints-none read.grows c.in-None.is; nothing = refl })
