@@ -1,3 +1,4 @@
+use Rattle.std.proofs.Common.{rules}
 use Rattle.std.proofs.Common.{◌≡◌, Result, Ok, Err, IsErr, IsErrAnd, ap, subst, sym, ◌∙◌}
 use Rattle.nx_receiver.specs.Listen.{Listens}
 use Rattle.nx_receiver.specs.ListenOnce.{KeepsHeadline}
@@ -35,3 +36,9 @@ returns-clause-once g c =
     (g.W.Write.contents c.args.writer.now.inner)
     (g.W.Write.contents c.listen_from.new.writer.inner))
     (ap starts_from c.new.ensures ∙ from-nothing) c.in_ok-report.ensures.once
+
+pub returns-clause-listens : goal.returns-clause-listens
+returns-clause-listens g c = search rules
+
+pub returns-in_err-report-clause-memory : goal.returns-in_err-report-clause-memory
+returns-in_err-report-clause-memory g c = search rules

@@ -1,3 +1,4 @@
+use Rattle.std.proofs.Common.{rules}
 use Rattle.std.proofs.Common.{refl}
 use Rattle.std.specs.Io.KnownBytes.{Appends}
 use Rattle.nx_fec.specs.Transfers.{WroteSome, devices}
@@ -41,3 +42,9 @@ returns-in-Err-write_state-clause-left g c = λ read.
     (contents c.write_state.new.writer.inner) text c.in-Err-write_state.fault.written)
     left.consumed left.gone left.file c.in-Err-write_state.ensures.sound
     c.in-Err-write_state.ensures.err
+
+pub returns-in-Err-clause-memory : goal.returns-in-Err-clause-memory
+returns-in-Err-clause-memory g c = search rules
+
+pub returns-in-Err-clause-resumes : goal.returns-in-Err-clause-resumes
+returns-in-Err-clause-resumes g c = search rules

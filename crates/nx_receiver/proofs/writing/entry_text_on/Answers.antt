@@ -1,3 +1,4 @@
+use Rattle.std.proofs.Common.{rules}
 use Rattle.std.proofs.Common.{Result, Ok, Err, OnOk, IfErr, MatchResult, subst, sym}
 use Rattle.nx_receiver.specs.Log.{IsEntry}
 use Rattle.nx_receiver.specs.FoundCopies.{copy_of}
@@ -19,3 +20,6 @@ returns-clause-written g c =
       both_ways c.write_out.result _ _ c.write_out.ensures.ok
           c.write_out.ensures.err,
     )
+
+pub returns-clause-counts : goal.returns-clause-counts
+returns-clause-counts g c = search rules

@@ -1,3 +1,4 @@
+use Rattle.std.proofs.lemmas.Grind.{common_steps}
 use Rattle.std.proofs.Common.{◌≡◌, ◌≤◌, ℕ, false, [], Option, Some, None, unwrap_or, refl, sym, ap}
 use Rattle.std.proofs.Common.{◌∙◌, arith}
 use Rattle.nx_envelope.specs.Moment.{last_moment}
@@ -69,3 +70,12 @@ returns-clause-start c =
     ∙ ap (λ (s : SavedState). s.entries) c.kept_on-selected_1.ensures.kept)
     (c.in_ok-on_2.ensures.kept
     ∙ ap (λ (s : SavedState). s.entries) c.kept_on-selected_2.ensures.kept))
+
+pub receiver_from-requires-2-clause-newest : goal.receiver_from-requires-2-clause-newest
+receiver_from-requires-2-clause-newest c = grind (arith, common_steps)
+
+pub receiver_from-requires-3-clause-newest : goal.receiver_from-requires-3-clause-newest
+receiver_from-requires-3-clause-newest c = grind (arith, common_steps)
+
+pub receiver_from-requires-clause-newest : goal.receiver_from-requires-clause-newest
+receiver_from-requires-clause-newest c = grind (arith, common_steps)

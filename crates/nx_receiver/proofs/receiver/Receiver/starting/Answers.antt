@@ -1,3 +1,4 @@
+use Rattle.std.proofs.Common.{rules}
 use Rattle.nx_receiver.specs.Events.{Setting, first_setting}
 use Rattle.nx_receiver.specs.private.Watch.{WatchStands}
 use Rattle.nx_receiver.specs.Watching.{in_force}
@@ -15,3 +16,12 @@ returns-clause-stands g c start entries moment selection =
     (c.new.ensures.force start moment selection) in
     begins g.M.Recall.content start c.args.memory c.in_ok-watch.watch stands force entries
     c.newest.ensures.bounded
+
+pub invariant_of-result : goal.invariant_of-result
+invariant_of-result g c = search rules
+
+pub returns-clause-taken : goal.returns-clause-taken
+returns-clause-taken g c = search rules
+
+pub returns-in_err-watch-clause-refused : goal.returns-in_err-watch-clause-refused
+returns-in_err-watch-clause-refused g c = search rules
