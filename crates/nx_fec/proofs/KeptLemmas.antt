@@ -1,12 +1,12 @@
 -- The digits of a line of elements are its last bytes.
 use Rattle.std.proofs.Common.{◌≡◌, ℕ, ◌+◌, ◌-◌, ◌≤◌, Bool, List, [], ◌∷◌, ◌++◌, Option, Some, None}
 use Rattle.std.proofs.Common.{length, map, drop, sym, ap, ◌∙◌, subst, arith, append-nil}
-use Rattle.std.proofs.Common.{length-append}
+use Rattle.std.proofs.Common.{length-append, refl}
 use Rattle.std.proofs.lemmas.List.{length-map}
 use Rattle.std.proofs.Math.Seq.{drop-append_seam}
 use Rattle.nx_fec.specs.AirFile.{element_digit, mark_bytes}
 use Rattle.nx_fec.specs.private.Packing.{is_one}
-use Rattle.nx_fec.specs.private.ScannerKept.{IsKept, SpellsLine}
+use Rattle.nx_fec.specs.private.ScannerKept.{IsKept, SpellsLine, line_ended, part_of}
 use Rattle.nx_fec.specs.declared.air_file.LineKind.{LineKind}
 use Rattle.nx_fec.specs.declared.air_file.LineKind.TheVariants.{Moment, Elements, RefuseStation}
 use Rattle.nx_fec.specs.declared.air_file.LineKind.TheVariants.{AcceptStation, RefuseSubject}
@@ -53,3 +53,14 @@ pub tail-kept : (ended : Option LineKind) (bits : List Bool) (kept : List ℕ)
     → IsKept ended bits kept → IsTail bits kept
 tail-kept None bits kept h = tail-none kept bits (sym h)
 tail-kept (Some kind) bits kept h = tail-line kind bits kept h
+
+-- where no line was ended, none is whatever the elements, and the open line has all that is kept
+pub still-open : (ended : Option LineKind) (bits more : List Bool) → line_ended ended bits ≡ None
+    → line_ended ended more ≡ None
+still-open None bits more e = refl
+still-open (Some kind) bits more e = cc
+
+pub kept-open : (ended : Option LineKind) (bits : List Bool) (kept : List ℕ)
+    → line_ended ended bits ≡ None → part_of ended kept ≡ kept
+kept-open None bits kept e = refl
+kept-open (Some kind) bits kept e = cc

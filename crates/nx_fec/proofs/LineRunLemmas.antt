@@ -3,6 +3,7 @@ use Rattle.std.proofs.Common.{◌≡◌, ◌↔◌, IsErrOf, ℕ, ◌<◌, ◌�
 use Rattle.std.proofs.Common.{true, false, ◌⊎◌, inl, inr, Option, None, Some, IfSome, Result, Ok}
 use Rattle.std.proofs.Common.{Err, List, [], ◌∷◌, ◌++◌, refl, sym, ap, ◌∙◌, subst, append_assoc}
 use Rattle.std.proofs.Common.{append-nil, arith}
+use Rattle.std.specs.List.{AllByRecursion}
 use Rattle.std.specs.Option.{is_some}
 use Rattle.std.specs.Io.KnownBytes.{Appends, Consumes, IsAtEnd}
 use Rattle.std.proofs.lemmas.List.{length-append}
@@ -22,7 +23,7 @@ use Rattle.nx_fec.specs.declared.fault.LineFault.TheVariants.{TooLong, LineLong,
 use Rattle.nx_fec.specs.declared.line_run.LinesFault.{LinesFault}
 use Rattle.nx_fec.specs.declared.line_run.LinesFault.TheVariants as run
 use Rattle.nx_fec.specs.declared.line_run.LinesRead.{LinesRead}
-use Rattle.nx_fec.proofs.LineLaws.{All-front, spelling-IsBeginning}
+use Rattle.nx_fec.proofs.LineLaws.{spelling-IsBeginning}
 use Rattle.nx_fec.proofs.PieceLemmas.{piece-parts}
 use Rattle.nx_fec.proofs.ReadingLaws.{IfErr-always, IsCause-more}
 
@@ -144,6 +145,10 @@ IsTaking-sent stands first now limit s old mid new batch batch' bytes f h =
       taken =
           HasTaken-map stands first now h.lines _ _ f h.taken;
     }
+
+All-front : (xs ys : List Line) → AllByRecursion IsLine (xs ++ ys) → AllByRecursion IsLine xs
+All-front [] ys h = tt
+All-front (x ∷ xs) ys h = (h.0, All-front xs ys h.1)
 
 -- the length of the last line that a scanner has ended
 last-within : (limit : ℕ) (s : Scanning) (bytes : List ℕ) (lines : List Line) (line : Line)
@@ -276,7 +281,7 @@ module _ {T F : Type 0} (stands : Standing T) (begins : Beginning T) (refuses : 
         rest = spelling line;
         more = 10 ∷ (s.part ++ (drop count piece ++ more));
         whole = refused-whole limit s bytes piece more count lines line scans;
-        each = All-front IsLine lines (line ∷ []) scans.splits.each;
+        each = All-front lines (line ∷ []) scans.splits.each;
         part = spelling-IsBeginning line good;
         here = (
           record {

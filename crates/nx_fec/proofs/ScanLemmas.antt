@@ -5,8 +5,9 @@ use Rattle.std.proofs.Common.{subst, append_assoc, append-nil, arith}
 use Rattle.std.proofs.ByRecursion.{All-append, All-drop, All-take}
 use Rattle.std.proofs.lemmas.List.{drop-append-le, drop_more, length-append, length-drop}
 use Rattle.std.proofs.lemmas.List.{length-take-le, take-append-drop, take-append-le, take_more}
-use Rattle.nx_fec.specs.AirFile.{Line}
-use Rattle.nx_fec.specs.Lines.{IsCause, Scanning, Scans, StopsIn, file_of}
+use Rattle.std.proofs.lemmas.List.Concat.{flat_map-append}
+use Rattle.nx_fec.specs.AirFile.{IsLine, Line, spelling}
+use Rattle.nx_fec.specs.Lines.{IsBeginning, IsCause, Scanning, Scans, StopsIn, file_of, line_bytes}
 use Rattle.nx_fec.specs.declared.fault.LineFault.{LineFault}
 use Rattle.nx_fec.specs.declared.fault.LineFault.TheVariants.{TooLong, LineLong}
 use Rattle.nx_fec.proofs.LineLaws.{NoFeed}
@@ -120,6 +121,26 @@ pub Scans-ended : (limit : ℕ) (s : Scanning) (bytes piece : List ℕ) (at : �
     → Scans limit s (bytes ++ take (at + 1) piece) lines
 Scans-ended limit s bytes piece at lines within feed scans =
     subst (λ l. Scans limit s l lines) (feed-next bytes piece at within feed) scans
+
+-- the open line is one of an air file, and a line feed ends it
+pub Scans-line : (limit : ℕ) (s t : Scanning) (bytes : List ℕ) (lines : List Line) (line : Line)
+    → Scans limit s bytes lines → IsLine line → s.part ≡ spelling line → t.part ≡ []
+    → t.lines ≡ s.lines + 1 → t.room + 1 ≡ s.room
+    → Scans limit t (bytes ++ 10 ∷ []) (lines ++ line ∷ [])
+Scans-line limit s t bytes lines line h good spelled none next room = record {
+  splits = record {
+    whole =
+        ap (λ l. l ++ 10 ∷ []) (h.splits.whole ∙ ap (λ l. file_of lines ++ l) spelled)
+        ∙ append_assoc (file_of lines) (spelling line) (10 ∷ [])
+        ∙ ap (λ l. file_of lines ++ l) (sym (append-nil (spelling line ++ 10 ∷ [])))
+        ∙ sym (append-nil _ ∙ flat_map-append line_bytes lines (line ∷ []))
+        ∙ ap (λ l. file_of (lines ++ line ∷ []) ++ l) (sym none);
+    each = All-append IsLine lines (line ∷ []) h.splits.each (good, tt);
+    part = subst IsBeginning (sym none) (record { none = tt; short = omega arith });
+  };
+  count = next ∙ ap (λ n. n + 1) h.count ∙ sym (length-append lines (line ∷ []));
+  room = omega (arith, h.room, room, length-append bytes (10 ∷ []));
+}
 
 -- a scanner that stops in the front of a piece stops in the piece
 StopsIn-more : (limit : ℕ) (t : Scanning) (bytes front rest : List ℕ) (lines : List Line)

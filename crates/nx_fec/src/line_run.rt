@@ -1,5 +1,5 @@
 //! A run over the lines of an air file that writes while it reads.
-ghost use Rattle.std.specs.Prelude.{◌≡◌, ◌+◌, ℕ, Option, List, [], ◌∷◌, ◌++◌, length, MatchResult, IsSomeAnd, OnOk};
+ghost use Rattle.std.specs.Prelude.{◌≡◌, ◌+◌, ◌<◌, ◌≤◌, ℕ, Option, List, [], ◌∷◌, ◌++◌, length, take, MatchResult, IsSomeAnd, OnOk, IfOk};
 ghost use Rattle.std.specs.Io.KnownBytes.{Appends};
 ghost use Rattle.nx_fec.specs.AirFile.{IsLine, Line};
 ghost use Rattle.nx_fec.specs.LineRuns.{ExplainsLines, ExplainsTaking, HasGiven, HasTaken, RunsLines};
@@ -156,26 +156,55 @@ fn take_piece<W: Write, T: LineTaker>(
 {
     let mut at = 0;
     while at < piece.len() {
-        match scanner.push_line(&piece[at..]) {
+        match take_line(&piece[at..], scanner, taker, writer, batch) {
             Ok(count) => at += count,
-            Err(fault) => return Err(LinesFault::Line(fault)),
-        }
-        if scanner.latest().is_none() {
-            // No line feed was left, so all of the piece was taken.
-            return Ok(());
-        }
-        match taker.take(scanner, writer, batch) {
-            Ok(()) => {}
-            Err(TakeFault::Write(written)) => return Err(LinesFault::Write(written)),
-            Err(TakeFault::Refused(why)) => {
-                return Err(LinesFault::Refused {
-                    line: scanner.lines(),
-                    why,
-                });
-            }
+            Err(fault) => return Err(fault),
         }
     }
     Ok(())
+}
+
+/// Scans the bytes of a piece up to and with its first line feed, and takes the line that it ends. Answers how many bytes
+/// there were.
+fn take_line<W: Write, T: LineTaker>(
+    piece: &[u8],
+    scanner: &mut Scanner,
+    taker: &mut T,
+    writer: &mut Counting<W>,
+    batch: &mut Batch,
+) -> Result<usize, LinesFault<T::Refusal>>
+    requires some { 0 < length piece.now }
+    requires writer { writer.old.failures ≡ 0 }
+    ensures taken { (first : T) (old : Option (List ℕ)) (limit : ℕ) (bytes : List ℕ)
+        → IsTaking T.stands first taker.old limit scanner.old old
+        (W.contents writer.old.inner) batch.old bytes
+        → MatchResult result
+        (λ count. IsTaking T.stands first taker.new limit scanner.new old
+        (W.contents writer.new.inner) batch.new
+        (bytes ++ take count piece.now))
+        (λ fault. (more : List ℕ)
+        → ExplainsLines T.stands T.begins T.refuses ⊥ (λ _. ⊥) limit first taker.new
+        old (W.contents writer.new.inner) (HasGiven old (W.contents writer.new.inner) batch.new)
+        ((bytes ++ piece.now) ++ more) fault) }
+    ensures some { IfOk result (λ count. (0 < count) × (count ≤ length piece.now)
+        × (scanner.new.room + count ≡ scanner.old.room)) }
+    ensures writes { Writes writer.new LinesFault.Write result }
+{
+    let count = match scanner.push_line(piece) {
+        Ok(count) => count,
+        Err(fault) => return Err(LinesFault::Line(fault)),
+    };
+    if scanner.latest().is_none() {
+        return Ok(count);
+    }
+    match taker.take(scanner, writer, batch) {
+        Ok(()) => Ok(count),
+        Err(TakeFault::Write(written)) => Err(LinesFault::Write(written)),
+        Err(TakeFault::Refused(why)) => Err(LinesFault::Refused {
+            line: scanner.lines(),
+            why,
+        }),
+    }
 }
 
 /// Writes what the lines before a fault gave, unless it is that of a write. Answers the fault of the run.

@@ -185,7 +185,17 @@ impl Scanner {
             return Ok(piece.len());
         };
         self.go_on(piece, at)?;
-        self.end_line()?;
+        if self.room == 0 {
+            return Err(LineFault::TooLong);
+        }
+        let Some(kind) = read_line(self.kept.as_slice(), &mut self.elements) else {
+            return Err(LineFault::BadLine {
+                line: self.lines + 1,
+            });
+        };
+        self.ended = Some(kind);
+        self.lines += 1;
+        self.room -= 1;
         Ok(at + 1)
     }
 
@@ -337,37 +347,6 @@ impl Scanner {
             self.elements.clear();
             self.ended = None;
         }
-    }
-
-    /// Takes a line feed, which ends the open line. After a fault nothing changed.
-    // Inlined always, as a part of `push_line`.
-    #[inline(always)]
-    fn end_line(&mut self) -> Result<(), LineFault>
-        requires { self.old.latest ≡ None }
-        ensures bytes { (limit : ℕ) (before : List ℕ) (lines : List Line)
-            → Scans limit self.old before lines →
-            MatchResult result
-            (λ _. Scans limit self.new (before ++ line_end ∷ [])
-            (lines ++ option_to_list self.new.latest))
-            (λ why. (more : List ℕ)
-            → IsCause limit (length before) lines self.old.part (line_end ∷ more) why) }
-        ensures at_byte { IfErr result IsAtByte }
-        ensures latest { OnOk result (IsSomeAnd self.new.latest IsLine) }
-        ensures room { OnOk result (self.new.room + 1 ≡ self.old.room) }
-        ensures unchanged { OnErr result (self.new ≡ self.old) }
-    {
-        if self.room == 0 {
-            return Err(LineFault::TooLong);
-        }
-        let Some(kind) = read_line(self.kept.as_slice(), &mut self.elements) else {
-            return Err(LineFault::BadLine {
-                line: self.lines + 1,
-            });
-        };
-        self.ended = Some(kind);
-        self.lines += 1;
-        self.room -= 1;
-        Ok(())
     }
 
     /// What the end of the file says: the lines so far are all of it, or the open line is cut.

@@ -1,3 +1,4 @@
+use Rattle.std.proofs.Common.{rules}
 use Rattle.std.proofs.Common.{◌<◌, subst}
 use Rattle.nx_c.proofs.SignalLemmas.{number-lt}
 use Rattle.nx_c.proofs.codes.nx_signal_of.Goals as goal
@@ -6,3 +7,6 @@ pub returns-in_default-clause-signal : goal.returns-in_default-clause-signal
 returns-in_default-clause-signal c = λ signal e.
     let low = subst (λ n. n < 128) e (number-lt signal) in
     let none = c.in_default.ensures.range.1 low in cc
+
+pub returns-in-Some-Alpha-clause-signal : goal.returns-in-Some-Alpha-clause-signal
+returns-in-Some-Alpha-clause-signal c = search rules

@@ -1,3 +1,4 @@
+use Rattle.std.proofs.Common.{rules}
 use Rattle.std.proofs.Common.{Ok, ap, sym, ◌∙◌}
 use Rattle.nx_receiver.proofs.once.Listen.{printed-once}
 use Rattle.nx_receiver.specs.Chain.{HasGoneOn}
@@ -28,3 +29,9 @@ returns-in-Ok-state_text c =
         spelled = c.in-Ok-state_text.ensures.text;
       },
     )
+
+pub returns-in-Err : goal.returns-in-Err
+returns-in-Err c = search rules
+
+pub returns-in-Err-state_text : goal.returns-in-Err-state_text
+returns-in-Err-state_text c = search rules

@@ -1,3 +1,5 @@
+use Rattle.std.proofs.Common.{arith}
+use Rattle.std.proofs.lemmas.Grind.{common_steps}
 use Rattle.std.proofs.Common.{Some, ap, sym, ◌∙◌, subst}
 use Rattle.nx_receiver.proofs.once.Listen.{printed-once}
 use Rattle.nx_receiver.specs.Listen.{AnswersListening}
@@ -24,3 +26,9 @@ returns-clause-once c = λ zero.
       | in-Err w ↦ absurd (w.listen_told-told.ensures.fails
           (ap (λ t. t.status) (sym w.told-is) ∙ done.0))
     ]
+
+pub returns-clause-listens : goal.returns-clause-listens
+returns-clause-listens c = grind (arith, common_steps)
+
+pub returns-clause-log : goal.returns-clause-log
+returns-clause-log c = grind (arith, common_steps)

@@ -1,3 +1,4 @@
+use Rattle.std.proofs.Common.{rules}
 use Rattle.std.proofs.Common.{inr, refl, subst}
 use Rattle.nx_station.specs.Slots.{HasNoSlot}
 use Rattle.nx_c.proofs.station.nx_slot.Goals as goal
@@ -8,3 +9,6 @@ returns-in-None c = inr (
   λ capital. subst (λ station. HasNoSlot station c.args.moment) c.in-Some.ensures.given
       (c.in-None.ensures.none refl),
 )
+
+pub returns-in-Some-next_slot : goal.returns-in-Some-next_slot
+returns-in-Some-next_slot c = search rules

@@ -1,3 +1,4 @@
+use Rattle.std.proofs.Common.{rules}
 use Rattle.std.proofs.Common.{Ok, sym, subst}
 use Rattle.std.proofs.lemmas.Result.{err_from_is_err_and}
 use Rattle.nx_fec.specs.Transfers.{devices}
@@ -64,3 +65,6 @@ returns-in_ok-damage-in-Damage g c =
           c.in-Damage.count;
     }) d)
     c.in_ok-damage-in-Damage.field-0 c.in_ok-damage-in-Damage.ensures)
+
+pub returns-in_ok-resume-in-Save : goal.returns-in_ok-resume-in-Save
+returns-in_ok-resume-in-Save g c = search rules

@@ -1,3 +1,4 @@
+use Rattle.std.proofs.lemmas.Grind.{common_steps}
 use Rattle.std.proofs.Common.{refl, ap, arith, length}
 use Rattle.nx_locks.proofs.ReaderWords.{headers_kept}
 use Rattle.nx_locks.proofs.reader.LockReader.take.Goals as goal
@@ -19,3 +20,9 @@ returns-in_default c = rw (← c.self.view_is) (record {
   kept = refl;
   few = omega arith;
 })
+
+pub returns-in-Header-clause-few : goal.returns-in-Header-clause-few
+returns-in-Header-clause-few c = grind (arith, common_steps)
+
+pub returns-in-Header-clause-headers : goal.returns-in-Header-clause-headers
+returns-in-Header-clause-headers c = grind (arith, common_steps)

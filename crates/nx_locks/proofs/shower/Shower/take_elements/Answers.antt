@@ -1,3 +1,4 @@
+use Rattle.std.proofs.Common.{rules}
 use Rattle.std.proofs.Common.{◌≡◌, ◌∙◌, ◌++◌, ◌∷◌, true, [], sym, refl, subst, arith}
 use Rattle.nx_fec.specs.AirFile as line
 use Rattle.nx_receiver.specs.Listen.{has_moment}
@@ -60,3 +61,6 @@ returns-then-not-is_on_0-clause-taken g c = rw (← c.self.view_is) (λ first ol
       (sym h.stood.has_moment ∙ c.if-not-self.false);
   here = h.here;
 })
+
+pub returns-in-Err-clause-writes : goal.returns-in-Err-clause-writes
+returns-in-Err-clause-writes g c = search rules
