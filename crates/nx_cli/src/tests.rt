@@ -66,6 +66,19 @@ fn run_in_pieces(alloc: Global, words: &[&str], input: &[u8], piece: usize) -> E
     }
 }
 
+// Whether a run over these devices ends with this status and this line on standard error.
+fn ends_with(
+    alloc: Global,
+    words: &[&str],
+    source: &mut Source,
+    output: &mut Sink,
+    status: u8,
+    line: &[u8],
+) -> bool {
+    let mut faults = Sink::new(Vec::new(alloc));
+    run(alloc, words, source, output, &mut faults) == status && faults.took(line)
+}
+
 // What a run writes.
 fn output_of(alloc: Global, words: &[&str], input: &[u8]) -> Vec<u8> {
     run_on(alloc, words, input).output

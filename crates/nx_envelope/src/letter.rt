@@ -3,6 +3,9 @@
 ghost use Rattle.std.specs.Prelude.{◌≡◌, ◌↔◌, IfSome, IsSome};
 ghost use Rattle.nx_code.specs.Reading.{IsCapital};
 
+use std::fmt;
+use std::fmt::{Display, Formatter, Write};
+
 /// A letter A to Z, which names a station (B1) or a subject (B2) of ITU-R M.540.
 #[derive(Clone, Copy, PartialEq, Eq, Debug)]
 pub struct Letter {
@@ -30,5 +33,12 @@ impl Letter {
         ensures in_range { IsCapital result }
     {
         self.byte
+    }
+}
+
+/// Writes the letter itself.
+impl Display for Letter {
+    fn fmt<W: Write>(&self, f: &mut Formatter<W>) -> fmt::Result {
+        char::from(self.byte).fmt(f)
     }
 }

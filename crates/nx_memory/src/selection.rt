@@ -13,7 +13,7 @@ use thiserror::Error;
 
 /// The refusal to leave out a subject that every receiver has to print: A, B, D or L (ITU-R M.540).
 #[derive(Clone, Copy, PartialEq, Eq, Debug, Error)]
-#[error("subject {} can't be refused", char::from(subject.byte()))]
+#[error("subject {subject} can't be refused")]
 pub struct Vital {
     /// The subject that was to be refused.
     pub subject: Letter,

@@ -31,7 +31,7 @@ pub enum ListenFault {
     #[error("line {line}: {fault}")]
     Moment { line: u64, fault: MomentFault },
     /// The line refuses a subject that can't be refused (ITU-R M.540).
-    #[error("line {line}: subject {} can't be refused", char::from(.subject.byte()))]
+    #[error("line {line}: subject {subject} can't be refused")]
     Vital { line: u64, subject: Letter },
     /// A write failed, after the writer took this many bytes in the run.
     #[error("write failed after {written} bytes")]

@@ -198,17 +198,26 @@ pub fn alternating(
 ) -> Vec<u8> {
     let mut air_file = MOMENT_OF_EA01.to_vec(alloc).expect(rt, "memory");
     let named = named(rt, alloc, b'1', on_1);
-    let others = named.split_inclusive(|byte| *byte == b'\n');
-    for (line, other) in on_0.split_inclusive(|byte| *byte == b'\n').zip(others) {
-        let (first, second) = if is_1_first {
-            (other, line)
-        } else {
-            (line, other)
+    let mut others = named.split_inclusive(|byte| *byte == b'\n');
+    for line in on_0.split_inclusive(|byte| *byte == b'\n') {
+        let Some(other) = others.next() else {
+            break;
         };
-        air_file.extend_from_slice(first).expect(rt, "memory");
-        air_file.extend_from_slice(second).expect(rt, "memory");
+        let pair = if is_1_first {
+            [other, line]
+        } else {
+            [line, other]
+        };
+        append_both(rt, &mut air_file, pair);
     }
     air_file
+}
+
+/// Appends two lines.
+fn append_both(rt: &impl Abort, air_file: &mut Vec<u8>, pair: [&[u8]; 2]) {
+    for line in pair {
+        air_file.extend_from_slice(line).expect(rt, "memory");
+    }
 }
 
 /// Some of the elements, or those that there are of them, in lines of so many.

@@ -1,9 +1,8 @@
 //! `damage`.
 
 use super::station::AIR_FILE_OF_EA01;
-use super::{AIR_FILE_OF_A, output_of, refuses, run_on, writes};
+use super::{AIR_FILE_OF_A, ends_with, output_of, refuses, run_on, writes};
 use crate::tests::devices::{Sink, Source};
-use nx_program::run;
 use std::alloc::Global;
 
 // 59 words from slot 144 on are those of slots 144 to 202, of which 30 are even.
@@ -105,12 +104,10 @@ fn stops_at_read(alloc: Global) -> bool {
     source.piece = 1;
     source.fails_at = Some(7);
     let mut output = Sink::new(Vec::new(alloc));
-    let mut faults = Sink::new(Vec::new(alloc));
-    let status = run(alloc, &DAMAGE_FIRST, &mut source, &mut output, &mut faults);
-    status == 1
+    let line = b"navtex: read failed\n";
+    ends_with(alloc, &DAMAGE_FIRST, &mut source, &mut output, 1, line)
         && source.calls == 7
         && output.took(b"B 1\n")
-        && faults.took(b"navtex: read failed\n")
 }
 
 // Whether a writer that takes a byte at each call, and fails at its third, ends it.
@@ -119,12 +116,10 @@ fn stops_at_write(alloc: Global) -> bool {
     let mut output = Sink::new(Vec::new(alloc));
     output.piece = 1;
     output.fails_at = Some(3);
-    let mut faults = Sink::new(Vec::new(alloc));
-    let status = run(alloc, &DAMAGE_FIRST, &mut source, &mut output, &mut faults);
-    status == 1
+    let line = b"navtex: write failed after 2 bytes\n";
+    ends_with(alloc, &DAMAGE_FIRST, &mut source, &mut output, 1, line)
         && source.calls == 1
         && output.took(b"B ")
-        && faults.took(b"navtex: write failed after 2 bytes\n")
 }
 
 #[test]

@@ -1,6 +1,6 @@
 //! Devices that fail, take little, or forget.
 
-use super::AIR_FILE_OF_A;
+use super::{AIR_FILE_OF_A, ends_with};
 use crate::tests::devices::{Sink, Source};
 use nx_fec::Counting;
 use nx_program::run;
@@ -33,18 +33,10 @@ fn stops_at_read(alloc: Global, call: &str, failing: u64) -> bool {
     source.piece = 1;
     source.fails_at = Some(failing);
     let mut output = Sink::new(Vec::new(alloc));
-    let mut faults = Sink::new(Vec::new(alloc));
-    let status = run(
-        alloc,
-        &["navtex", call],
-        &mut source,
-        &mut output,
-        &mut faults,
-    );
-    status == 1
+    let line = b"navtex: read failed\n";
+    ends_with(alloc, &["navtex", call], &mut source, &mut output, 1, line)
         && source.calls == failing
         && output.calls == 0
-        && faults.took(b"navtex: read failed\n")
 }
 
 #[test]
@@ -62,20 +54,12 @@ fn stops_at_write(rt: &impl Abort, alloc: Global, taken: usize) -> bool {
     let mut output = Sink::new(Vec::new(alloc));
     output.piece = 1;
     output.fails_at = Some((taken as u64).saturating_add(1));
-    let mut faults = Sink::new(Vec::new(alloc));
-    let status = run(
-        alloc,
-        &["navtex", "encode"],
-        &mut source,
-        &mut output,
-        &mut faults,
-    );
+    let words = ["navtex", "encode"];
     let line = format!(in alloc; "navtex: write failed after {taken} bytes\n").expect(rt, "memory");
-    status == 1
+    ends_with(alloc, &words, &mut source, &mut output, 1, line.as_bytes())
         && source.calls == 2
         && Some(output.calls) == output.fails_at
         && Some(output.taken.as_slice()) == AIR_FILE_OF_A.get(..taken)
-        && faults.took(line.as_bytes())
 }
 
 #[test]

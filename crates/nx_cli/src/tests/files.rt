@@ -1,9 +1,8 @@
 //! `encode` and `decode` on files.
 
 use super::station::SEND;
-use super::{AIR_FILE_OF_A, output_of, refuses, with_word, writes};
+use super::{AIR_FILE_OF_A, ends_with, output_of, refuses, with_word, writes};
 use crate::tests::devices::{Sink, Source};
-use nx_program::run;
 use std::alloc::Global;
 
 // The empty text: four phasing positions and three end positions, by the code table of M.476.
@@ -48,9 +47,8 @@ fn stops_on_endless(alloc: Global, words: &[&str], line: &[u8]) -> bool {
     let mut source = Source::of(line);
     source.endless = true;
     let mut output = Sink::new(Vec::new(alloc));
-    let mut faults = Sink::new(Vec::new(alloc));
-    let status = run(alloc, words, &mut source, &mut output, &mut faults);
-    status == 2 && output.calls == 0 && faults.took(b"navtex: file longer than 1048576 bytes\n")
+    let fault = b"navtex: file longer than 1048576 bytes\n";
+    ends_with(alloc, words, &mut source, &mut output, 2, fault) && output.calls == 0
 }
 
 #[test]

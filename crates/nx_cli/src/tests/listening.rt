@@ -4,8 +4,7 @@ use super::air::Piece::{Part, Sent, Text};
 use super::air::{Heard, LOG_OF_EA01, MOMENT_OF_EA01, Piece, hears_each, made_of};
 use super::devices::{Sink, Source};
 use super::station::{AIR_FILE_OF_EA01, MESSAGE_FILE};
-use super::{refuses, run_in_pieces, run_on, writes};
-use nx_program::run;
+use super::{ends_with, refuses, run_in_pieces, run_on, writes};
 use std::alloc::Global;
 
 const LISTEN: [&str; 2] = ["navtex", "listen"];
@@ -134,12 +133,10 @@ fn stops_at_write(alloc: Global) -> bool {
     let mut output = Sink::new(Vec::new(alloc));
     output.piece = 10;
     output.fails_at = Some(2);
-    let mut faults = Sink::new(Vec::new(alloc));
-    let status = run(alloc, &LISTEN, &mut source, &mut output, &mut faults);
-    status == 1
+    let line = b"navtex: write failed after 10 bytes\n";
+    ends_with(alloc, &LISTEN, &mut source, &mut output, 1, line)
         && output.calls == 2
         && output.took(b"[EA01 2025")
-        && faults.took(b"navtex: write failed after 10 bytes\n")
 }
 
 // Whether a reader that gives this at once and then fails ends the run behind this log.
@@ -147,9 +144,10 @@ fn stops_at_read(alloc: Global, given: &[u8], log: &[u8]) -> bool {
     let mut source = Source::of(given);
     source.fails_at = Some(2);
     let mut output = Sink::new(Vec::new(alloc));
-    let mut faults = Sink::new(Vec::new(alloc));
-    let status = run(alloc, &LISTEN, &mut source, &mut output, &mut faults);
-    status == 1 && source.calls == 2 && output.took(log) && faults.took(b"navtex: read failed\n")
+    let line = b"navtex: read failed\n";
+    ends_with(alloc, &LISTEN, &mut source, &mut output, 1, line)
+        && source.calls == 2
+        && output.took(log)
 }
 
 #[test]

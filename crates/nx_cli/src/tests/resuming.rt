@@ -5,8 +5,7 @@ use super::air::{LINES, LOG_OF_EA01, MOMENT_OF_EA01, Piece, join, made_of};
 use super::channels::{LOG_ON_BOTH, LOG_ON_CHANNEL_1};
 use super::devices::{Sink, Source};
 use super::station::AIR_FILE_OF_EA01;
-use super::{run_in_pieces, run_on};
-use nx_program::run;
+use super::{ends_with, run_in_pieces, run_on};
 use std::alloc::Global;
 use std::process::Abort;
 
@@ -255,9 +254,9 @@ fn stops_on_endless(alloc: Global, words: &[&str], text: &[u8], reads: u64, line
     let mut source = Source::of(text);
     source.endless = true;
     let mut output = Sink::new(Vec::new(alloc));
-    let mut faults = Sink::new(Vec::new(alloc));
-    let status = run(alloc, words, &mut source, &mut output, &mut faults);
-    status == 2 && source.calls == reads && output.calls == 0 && faults.took(line)
+    ends_with(alloc, words, &mut source, &mut output, 2, line)
+        && source.calls == reads
+        && output.calls == 0
 }
 
 #[test]

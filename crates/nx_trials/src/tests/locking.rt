@@ -126,12 +126,31 @@ fn locks_of_two_messages(rt: HostRuntime) {
     );
 }
 
+/// Whether showing the locks of a file answers this, and writes this.
+fn shows(
+    alloc: Global,
+    file: &[u8],
+    outcome: Result<LocksReport, ListenFault>,
+    written: &[u8],
+) -> bool {
+    let (answer, report) = shown(alloc, file);
+    answer == outcome && report.as_slice() == written
+}
+
+#[test]
+fn locks_of_nothing(rt: HostRuntime) {
+    let counts = LocksReport {
+        lines: 0,
+        elements: 0,
+        locks: 0,
+        copies: 0,
+    };
+    let report = b"[elements 0 locks 0 copies 0]\n";
+    assert!(rt; shows(rt.alloc(), b"", Ok(counts), report));
+}
+
 #[test]
 fn locks_and_faults(rt: HostRuntime) {
-    let (outcome, report) = shown(rt.alloc(), b"".as_slice());
-    assert!(rt; outcome.map(|counts| counts.lines) == Ok(0));
-    assert!(rt; report.as_slice() == b"[elements 0 locks 0 copies 0]\n".as_slice());
-    // A fault in the text of a lock: what the lines before it show stands, and nothing is closed.
     let mut file = air_file(
         &rt,
         rt.alloc(),
@@ -139,20 +158,26 @@ fn locks_and_faults(rt: HostRuntime) {
         &emission(&rt, rt.alloc(), &[EA01]),
     );
     file.extend_from_slice(b"RJ L\n").expect(&rt, "memory");
-    let (outcome, report) = shown(rt.alloc(), file.as_slice());
     let subject = Letter::new(b'L').expect(&rt, "subject");
-    assert!(rt; outcome == Err(ListenFault::Vital { line: 5, subject }));
-    assert!(rt;
-        report.as_slice() == b"[2025-01-01 00:40:00 lock 28]\nZCZC EA01\nTEST\nNNNN\n\n".as_slice()
-    );
-    let (outcome, report) = shown(rt.alloc(), b"B 0\n".as_slice());
-    assert!(rt; outcome == Err(ListenFault::NoMoment { line: 1 }));
-    assert!(rt; report.is_empty());
-    // Faults are those of all channels.
-    let (outcome, _) = shown(rt.alloc(), b"B1 1\n".as_slice());
-    assert!(rt; outcome == Err(ListenFault::NoMoment { line: 1 }));
-    let (outcome, _) = shown(rt.alloc(), b"RJ2 L\n".as_slice());
-    assert!(rt; outcome == Err(ListenFault::Vital { line: 1, subject }));
+    let begun = b"[2025-01-01 00:40:00 lock 28]\nZCZC EA01\nTEST\nNNNN\n\n";
+    let no_moment = ListenFault::NoMoment { line: 1 };
+    let cases: [(&[u8], ListenFault, &[u8]); 4] = [
+        // A fault in the text of a lock: what the lines before it show stands, and nothing is closed.
+        (&file, ListenFault::Vital { line: 5, subject }, begun),
+        (b"B 0\n", no_moment, b""),
+        // Faults are those of all channels.
+        (b"B1 1\n", no_moment, b""),
+        (b"RJ2 L\n", ListenFault::Vital { line: 1, subject }, b""),
+    ];
+    for (file, fault, written) in cases {
+        assert!(rt; shows(rt.alloc(), file, Err(fault), written));
+    }
+}
+
+#[test]
+fn locks_to_a_full_writer(rt: HostRuntime) {
+    let elements = emission(&rt, rt.alloc(), &[EA01]);
+    let file = air_file(&rt, rt.alloc(), AT_FIRST, &elements);
     let mut space = [0; 10];
     let mut writer = Counting::new(&mut space[..]);
     let outcome = locks(rt.alloc(), &mut Counting::new(file.as_slice()), &mut writer);

@@ -65,28 +65,36 @@ fn all_characters(rt: HostRuntime) {
     assert!(rt; text.as_slice() == ALL);
 }
 
+/// Whether a file is shown in so many lines, of which each that a row names by its place is this.
+fn is_shown(alloc: Global, file: &[u8], positions: u64, lines: &[(usize, &[u8])]) -> bool {
+    let mut writer = Counting::new(Vec::new(alloc));
+    let outcome = show_run(alloc, &mut Counting::new(file), &mut writer);
+    outcome == Ok(positions) && has_lines(&writer.into_inner(), lines)
+}
+
+/// Whether each line that a row names by its place is this.
+fn has_lines(text: &[u8], lines: &[(usize, &[u8])]) -> bool {
+    for (place, line) in lines {
+        if text.split(|byte| *byte == b'\n').nth(*place) != Some(*line) {
+            return false;
+        }
+    }
+    true
+}
+
 /// The first two lines, the ninth and the last of the text A, and a word of the wrong weight.
 #[test]
 fn show_a(rt: HostRuntime) {
-    let mut writer = Counting::new(Vec::new(rt.alloc()));
-    let outcome = show_run(rt.alloc(), &mut Counting::new(FILE_OF_A), &mut writer);
-    assert!(rt; outcome == Ok(15));
-    let text = writer.into_inner();
-    let mut lines = text.split(|byte| *byte == b'\n');
-    assert!(rt; lines.next() == Some(b"0 DX 66 P2".as_slice()));
-    assert!(rt; lines.next() == Some(b"1 RX 0F P1".as_slice()));
-    assert!(rt; lines.nth(6) == Some(b"8 DX 47 A".as_slice()));
-    assert!(rt; lines.nth(5) == Some(b"14 DX 0F P1".as_slice()));
-    assert!(rt; lines.next() == Some(b"".as_slice()));
-    assert!(rt; lines.next().is_none());
-    let mut writer = Counting::new(Vec::new(rt.alloc()));
-    let outcome = show_run(
-        rt.alloc(),
-        &mut Counting::new(&b"B 0000000\n"[..]),
-        &mut writer,
-    );
-    assert!(rt; outcome == Ok(1));
-    assert!(rt; writer.into_inner().as_slice() == b"0 DX 00 wrong\n".as_slice());
+    static LINES_OF_A: [(usize, &[u8]); 5] = [
+        (0, b"0 DX 66 P2"),
+        (1, b"1 RX 0F P1"),
+        (8, b"8 DX 47 A"),
+        (14, b"14 DX 0F P1"),
+        (15, b""),
+    ];
+    assert!(rt; is_shown(rt.alloc(), FILE_OF_A, 15, &LINES_OF_A));
+    static LINES: [(usize, &[u8]); 2] = [(0, b"0 DX 00 wrong"), (1, b"")];
+    assert!(rt; is_shown(rt.alloc(), b"B 0000000\n", 1, &LINES));
 }
 
 #[test]
@@ -96,10 +104,15 @@ fn full_writers(rt: HostRuntime) {
     let outcome = encode_run(rt.alloc(), &mut Counting::new(&b"A"[..]), &mut writer);
     assert!(rt; outcome == Err(RunFault::Write { written: 10 }));
     assert!(rt; writer.failures() == 1);
-    assert!(rt; writer.write(b"B").is_err());
-    assert!(rt; writer.flush().is_err());
+    assert!(rt; writer.write(b"B").is_err() && writer.flush().is_err());
     assert!(rt; writer.failures() == 3);
     assert!(rt; space == *b"B 01100111");
-    let mut writer = Counting::new(&mut space[..]);
-    assert!(rt; write_out(&mut writer, b"0123456789A") == Err(WriteFault { written: 10 }));
+}
+
+#[test]
+fn writing_out_to_a_full_writer(rt: HostRuntime) {
+    let mut space = [0; 10];
+    let outcome = write_out(&mut Counting::new(&mut space[..]), b"0123456789A");
+    assert!(rt; outcome == Err(WriteFault { written: 10 }));
+    assert!(rt; space == *b"0123456789");
 }

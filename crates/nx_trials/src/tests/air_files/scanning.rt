@@ -11,28 +11,50 @@ fn taken(scanner: &mut Scanner, bytes: &[u8]) -> Option<usize> {
     scanner.push_line(bytes).ok()
 }
 
-/// The elements of the line that the last byte ended.
-fn bits(scanner: &Scanner) -> ArrayVec<bool, MAX_ELEMENTS> {
+/// What is told of the line that the last byte ended: what it says, its bytes, and its elements.
+type Told<'a> = (Option<LineKind>, Option<&'a [u8]>, &'a [bool]);
+
+/// Whether this is told.
+fn tells(scanner: &Scanner, told: Told) -> bool {
+    let (kind, line, elements) = told;
     let mut bits = ArrayVec::from([true; MAX_ELEMENTS]);
     scanner.unpacked(&mut bits);
-    bits
+    (scanner.latest(), scanner.line()) == (kind, line)
+        && bits.as_slice() == elements
+        && scanner.elements().len() == elements.len()
 }
+
+/// A piece, how many of its bytes are taken, and what is told then.
+type Given<'a> = (&'a [u8], usize, Told<'a>);
+
+/// Whether a scanner takes each piece so.
+fn takes_each(scanner: &mut Scanner, pieces: &[Given]) -> bool {
+    for &(bytes, count, told) in pieces {
+        if taken(scanner, bytes) != Some(count) || !tells(scanner, told) {
+            return false;
+        }
+    }
+    true
+}
+
+const NOTHING: Told<'static> = (None, None, &[]);
 
 #[test]
 fn lines_by_pieces(rt: HostRuntime) {
+    const ELEMENTS: Option<LineKind> = Some(LineKind::Elements(None));
+    static PIECES: [Given; 4] = [
+        (b"T", 1, NOTHING),
+        (
+            b" 5\nB 01\n",
+            3,
+            (Some(LineKind::Moment(5)), Some(b"T 5"), &[]),
+        ),
+        (b"B 01\n", 5, (ELEMENTS, Some(b"B 01"), &[false, true])),
+        (b"RS EX", 5, NOTHING),
+    ];
     let mut scanner = Scanner::new(20);
-    assert!(rt; taken(&mut scanner, b"T") == Some(1));
-    assert!(rt; taken(&mut scanner, b" 5\nB 01\n") == Some(3));
-    assert!(rt; scanner.latest() == Some(LineKind::Moment(5)));
-    assert!(rt; taken(&mut scanner, b"B 01\n") == Some(5));
+    assert!(rt; takes_each(&mut scanner, &PIECES));
     assert!(rt; scanner.lines() == 2);
-    assert!(rt; scanner.latest() == Some(LineKind::Elements(None)));
-    assert!(rt; bits(&scanner).as_slice() == [false, true].as_slice());
-    assert!(rt; scanner.line() == Some(b"B 01".as_slice()));
-    assert!(rt; taken(&mut scanner, b"RS EX") == Some(5));
-    assert!(rt; scanner.latest().is_none());
-    assert!(rt; scanner.elements().len() == 0);
-    assert!(rt; scanner.line().is_none());
     assert!(rt; scanner.end() == Err(LineFault::LineCut { line: 3 }));
     assert!(rt; taken(&mut scanner, b"\n").is_none());
 }
@@ -40,17 +62,30 @@ fn lines_by_pieces(rt: HostRuntime) {
 /// Lines that name their channel are told as they were sent.
 #[test]
 fn lines_of_channels(rt: HostRuntime) {
+    const ON_0: Option<LineKind> = Some(LineKind::Elements(Some(Channel::Zero)));
+    const ELEMENTS: Option<LineKind> = Some(LineKind::Elements(None));
+    const ON_2: Option<LineKind> = Some(LineKind::RefuseSubject(Some(Channel::Two), b'A'));
+    static PIECES: [Given; 3] = [
+        (
+            b"B0 011\n",
+            7,
+            (ON_0, Some(b"B0 011"), &[false, true, true]),
+        ),
+        (
+            b"B 011\n",
+            6,
+            (ELEMENTS, Some(b"B 011"), &[false, true, true]),
+        ),
+        (b"RJ2 A\n", 6, (ON_2, Some(b"RJ2 A"), &[])),
+    ];
     let mut scanner = Scanner::new(1000);
-    assert!(rt; taken(&mut scanner, b"B0 011\n") == Some(7));
-    assert!(rt; scanner.latest() == Some(LineKind::Elements(Some(Channel::Zero))));
-    assert!(rt; bits(&scanner).as_slice() == [false, true, true].as_slice());
-    assert!(rt; scanner.line() == Some(b"B0 011".as_slice()));
-    assert!(rt; (scanner.elements().len(), scanner.elements().words()[0]) == (3, 6));
-    assert!(rt; taken(&mut scanner, b"B 011\n") == Some(6));
-    assert!(rt; scanner.latest() == Some(LineKind::Elements(None)));
-    assert!(rt; taken(&mut scanner, b"RJ2 A\n") == Some(6));
-    assert!(rt; scanner.latest() == Some(LineKind::RefuseSubject(Some(Channel::Two), b'A')));
+    assert!(rt; takes_each(&mut scanner, &PIECES));
     assert!(rt; scanner.push_line(b"B3 1\n") == Err(LineFault::BadLine { line: 4 }));
+}
+
+/// The longest line that names its channel.
+#[test]
+fn longest_line_of_a_channel(rt: HostRuntime) {
     let mut scanner = Scanner::new(1000);
     assert!(rt; taken(&mut scanner, b"B1 ") == Some(3));
     assert!(rt; taken(&mut scanner, &[b'1'; 511]) == Some(511));
@@ -59,50 +94,60 @@ fn lines_of_channels(rt: HostRuntime) {
     assert!(rt; scanner.elements().len() == 511);
 }
 
-/// What is told of the line that the last byte ended: what it says, its bytes, and how many elements it has.
-fn told(scanner: &Scanner) -> (Option<LineKind>, Option<&[u8]>, usize) {
-    (scanner.latest(), scanner.line(), scanner.elements().len())
+/// Four lines, with the bytes of a fifth behind them.
+fn four_lines() -> [u8; 600] {
+    let mut file = [b'1'; 600];
+    file[..24].copy_from_slice(b"T 5\nB 0110\nT 1234\nB1 01\n");
+    file
+}
+
+/// Where a line begins, and a cut in it, how many bytes are taken from the one place and from the
+/// other, and what is told of it.
+type Cut<'a> = (usize, usize, usize, usize, Told<'a>);
+
+/// Whether a scanner takes the line whole, with all that is behind it, and another in two parts.
+fn takes_cut(whole: &mut Scanner, cut: &mut Scanner, row: Cut) -> bool {
+    let (begin, middle, count, rest, told) = row;
+    let file = four_lines();
+    let (Some(from), Some(last)) = (file.get(begin..), file.get(middle..)) else {
+        return false;
+    };
+    let Some(first) = file.get(begin..middle) else {
+        return false;
+    };
+    takes_each(whole, &[(from, count, told)])
+        && takes_each(cut, &[(first, first.len(), NOTHING), (last, rest, told)])
 }
 
 /// Lines that stand whole in a piece, which has many bytes behind them, and the same lines cut in two.
 #[test]
 fn whole_lines(rt: HostRuntime) {
-    let mut file = [b'1'; 600];
-    file[..24].copy_from_slice(b"T 5\nB 0110\nT 1234\nB1 01\n");
+    const ON_1: Option<LineKind> = Some(LineKind::Elements(Some(Channel::One)));
+    static LINES: [Cut; 4] = [
+        (0, 2, 4, 2, (Some(LineKind::Moment(5)), Some(b"T 5"), &[])),
+        (
+            4,
+            8,
+            7,
+            3,
+            (
+                Some(LineKind::Elements(None)),
+                Some(b"B 0110"),
+                &[false, true, true, false],
+            ),
+        ),
+        (
+            11,
+            14,
+            7,
+            4,
+            (Some(LineKind::Moment(1234)), Some(b"T 1234"), &[]),
+        ),
+        (18, 23, 6, 1, (ON_1, Some(b"B1 01"), &[false, true])),
+    ];
     let (mut whole, mut cut) = (Scanner::new(1000), Scanner::new(1000));
-    assert!(rt; taken(&mut whole, &file) == Some(4));
-    assert!(rt; taken(&mut cut, &file[..4]) == Some(4));
-
-    assert!(rt; taken(&mut whole, &file[4..]) == Some(7));
-    assert!(rt; taken(&mut cut, &file[4..8]) == Some(4));
-    assert!(rt; told(&cut) == (None, None, 0));
-    assert!(rt; taken(&mut cut, &file[8..]) == Some(3));
-    let elements = (
-        Some(LineKind::Elements(None)),
-        Some(b"B 0110".as_slice()),
-        4,
-    );
-    assert!(rt; told(&whole) == elements);
-    assert!(rt; told(&cut) == elements);
-    assert!(rt; whole.elements().words()[0] % 16 == 6);
-    assert!(rt; cut.elements().words()[0] % 16 == 6);
-
-    assert!(rt; taken(&mut whole, &file[11..]) == Some(7));
-    assert!(rt; taken(&mut cut, &file[11..14]) == Some(3));
-    assert!(rt; taken(&mut cut, &file[14..]) == Some(4));
-    let moment = (Some(LineKind::Moment(1234)), Some(b"T 1234".as_slice()), 0);
-    assert!(rt; told(&whole) == moment);
-    assert!(rt; told(&cut) == moment);
-
-    assert!(rt; taken(&mut whole, &file[18..]) == Some(6));
-    assert!(rt; taken(&mut cut, &file[18..23]) == Some(5));
-    assert!(rt; taken(&mut cut, &file[23..24]) == Some(1));
-    let marked = (
-        Some(LineKind::Elements(Some(Channel::One))),
-        Some(b"B1 01".as_slice()),
-        2,
-    );
-    assert!(rt; told(&whole) == marked);
-    assert!(rt; told(&cut) == marked);
+    for &row in &LINES {
+        assert!(rt; takes_cut(&mut whole, &mut cut, row));
+    }
     assert!(rt; (whole.lines(), cut.lines()) == (4, 4));
 }

@@ -3,6 +3,8 @@
 
 use super::run::Run;
 use nx_sync::{Change, Role};
+use std::alloc::Global;
+use std::process::Abort;
 
 /// Elements; the changes, each with the number of elements heard by then; and the words, in runs of
 /// words that follow on each other with alternating roles: the number of elements heard at the
@@ -320,21 +322,26 @@ static CASES: [Case; 12] = [
     },
 ];
 
-#[test]
-fn by_elements(rt: HostRuntime) {
-    for case in &CASES {
-        let mut run = Run::new(rt.alloc(), case).expect(&rt, "memory");
+/// Whether a new synchroniser answers what the case says, element by element or by hunts and whole
+/// words.
+fn agrees(rt: &impl Abort, alloc: Global, case: &'static Case, by_hunts: bool) -> bool {
+    let mut run = Run::new(alloc, case).expect(rt, "memory");
+    if by_hunts {
+        run.hear_all();
+    } else {
         run.push_all();
-        assert!(rt; run.agrees(), "{}", case.name);
     }
+    run.agrees()
 }
 
-/// The same by hunts and whole words.
 #[test]
-fn by_hunts_and_words(rt: HostRuntime) {
+fn as_the_model_says(rt: HostRuntime) {
     for case in &CASES {
-        let mut run = Run::new(rt.alloc(), case).expect(&rt, "memory");
-        run.hear_all();
-        assert!(rt; run.agrees(), "{}", case.name);
+        assert!(rt; agrees(&rt, rt.alloc(), case, false), "{}", case.name);
+        assert!(rt;
+            agrees(&rt, rt.alloc(), case, true),
+            "{}, by hunts",
+            case.name
+        );
     }
 }
