@@ -6,6 +6,8 @@
  *                                      the new state to the file NEW, where there is one
  *   calls slot E MOMENT                the moment of a station's next slot
  *   calls signals                      the signal of each word
+ *   calls rooms                        what calls leave of a room that is too small, on the air file
+ *                                      of the standard input
  *
  * The status is 0, or 2 with a line `status N line N text line N at N` on standard error. */
 #include "navtex.h"
@@ -129,6 +131,38 @@ static int signals(void) {
     return 0;
 }
 
+/* A room of twelve places that hold a point each. */
+static void clear(char room[13]) {
+    memcpy(room, "............", 13);
+}
+
+/* Says how `encode` ends that is told of ten places, of a room with two more. */
+static void encode_in_ten(const char *text) {
+    char room[13];
+    size_t written;
+    struct nx_place place;
+    clear(room);
+    uint32_t status = nx_encode((const uint8_t *)text, strlen(text), (uint8_t *)room, 10, &written, &place);
+    printf("encode %" PRIu32 " %zu %s\n", status, written, room);
+}
+
+static int rooms(void) {
+    static const char state[] = "STATE 1\nEND\n";
+    struct bytes air = read_all(stdin);
+    char log[13], left[13];
+    size_t written, state_written;
+    struct nx_place place;
+    encode_in_ten("A");
+    encode_in_ten("Aa");
+    clear(log);
+    clear(left);
+    uint32_t status = nx_resume((const uint8_t *)state, strlen(state), air.at, air.length, (uint8_t *)log, 9, &written,
+                                (uint8_t *)left, 12, &state_written, &place);
+    printf("resume %" PRIu32 " %zu %s %zu %s\n", status, written, log, state_written, left);
+    free(air.at);
+    return 0;
+}
+
 int main(int count, char **words) {
     static const struct {
         const char *name;
@@ -140,6 +174,8 @@ int main(int count, char **words) {
             return run(plain[at].one);
     if (count == 2 && strcmp(name, "signals") == 0)
         return signals();
+    if (count == 2 && strcmp(name, "rooms") == 0)
+        return rooms();
     if (count == 4 && strcmp(name, "resume") == 0)
         return resume(words[2], words[3]);
     if (count == 4 && strcmp(name, "send") == 0)

@@ -10,6 +10,3 @@ mod station;
 mod told;
 
 pub use told::{Place, Status, Told};
-
-#[cfg(test)]
-mod tests;

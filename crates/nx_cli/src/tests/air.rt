@@ -3,7 +3,7 @@
 ghost use Rattle.std.specs.Prelude.{◌<◌};
 
 use super::station::AIR_FILE_OF_EA01;
-use super::{output_of, run_on};
+use super::{output_of, refuses, run_on};
 use nx_code::Comb;
 use nx_fec::{Position, to_bits};
 use std::alloc::Global;
@@ -122,18 +122,9 @@ impl Piece<'_> {
             Piece::Sent(moment, message_file, damages) => {
                 damaged(rt, alloc, &send_from(alloc, moment, message_file), damages)
             }
-            Piece::Part(from, to, length) => {
-                let elements = elements_of(rt, alloc, AIR_FILE_OF_EA01);
-                part_of(rt, alloc, &elements, from..to, length)
-            }
+            Piece::Part(from, to, length) => part_of_ea01(rt, alloc, from..to, length),
             Piece::Named(digit, from, to) => {
-                let elements = elements_of(rt, alloc, AIR_FILE_OF_EA01);
-                named(
-                    rt,
-                    alloc,
-                    digit,
-                    &part_of(rt, alloc, &elements, from..to, 490),
-                )
+                named(rt, alloc, digit, &part_of_ea01(rt, alloc, from..to, 490))
             }
             Piece::InTurn(is_1_first) => {
                 let lines = lines_of_ea01(rt);
@@ -220,6 +211,17 @@ fn append_both(rt: &impl Abort, air_file: &mut Vec<u8>, pair: [&[u8]; 2]) {
     }
 }
 
+/// Some of the elements of EA01, in lines of so many.
+fn part_of_ea01(rt: &impl Abort, alloc: Global, part: Range<usize>, length: usize) -> Vec<u8> {
+    part_of(
+        rt,
+        alloc,
+        &elements_of(rt, alloc, AIR_FILE_OF_EA01),
+        part,
+        length,
+    )
+}
+
 /// Some of the elements, or those that there are of them, in lines of so many.
 fn part_of(
     rt: &impl Abort,
@@ -246,6 +248,20 @@ pub type Heard<'a> = (&'a [Piece<'a>], &'a [u8]);
 pub fn hears_each(rt: &impl Abort, alloc: Global, cases: &[Heard]) -> bool {
     for (pieces, log) in cases {
         if !hears(rt, alloc, pieces, log) {
+            return false;
+        }
+    }
+    true
+}
+
+/// What `listen` refuses: the pieces of a file, and the line that says why.
+pub type Refused<'a> = (&'a [Piece<'a>], &'a str);
+
+/// Whether `listen` refuses each file by its line, and writes nothing.
+pub fn refuses_each(rt: &impl Abort, alloc: Global, cases: &[Refused]) -> bool {
+    for (pieces, line) in cases {
+        let air_file = made_of(rt, alloc, pieces);
+        if !refuses(alloc, &["navtex", "listen"], &air_file, 2, line) {
             return false;
         }
     }

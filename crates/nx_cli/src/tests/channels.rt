@@ -3,11 +3,11 @@
 
 use super::air::Piece::{InTurn, Named, Part, Text};
 use super::air::{
-    Heard, LOG_OF_EA01, MOMENT_OF_EA01, Piece, alternating, damage_in, hears, hears_each, join,
-    lines_of_ea01, made_of,
+    Heard, LOG_OF_EA01, MOMENT_OF_EA01, Piece, Refused, alternating, damage_in, hears, hears_each,
+    lines_of_ea01, made_of, refuses_each,
 };
 use super::station::AIR_FILE_OF_EA01;
-use super::{output_of, refuses, run_in_pieces, writes};
+use super::{output_of, run_in_pieces, writes};
 
 /// The log of EA01 on channel 1.
 pub const LOG_ON_CHANNEL_1: &[u8] = b"[EA01/1 2025-01-01 00:40:00 full 0/5]\nTEST\n\n";
@@ -56,24 +56,28 @@ fn closes_by_channel(rt: HostRuntime) {
 
 #[test]
 fn refuses_lines_of_channels(rt: HostRuntime) {
-    let alloc = rt.alloc();
-    let long_line = join(&rt, alloc, &[b"B1 ", &[b'0'; 512], b"\n"]);
     const BAD: &str = "navtex: line 1 is not understood\n";
-    let cases: [(&[u8], &str); 7] = [
-        (b"B3 1\n", BAD),
-        (b"RS1E\n", BAD),
-        (b"T1 5\n", BAD),
-        (&long_line, "navtex: line 1 is longer than 514 bytes\n"),
-        (b"B2 1\n", "navtex: line 1 has elements before any moment\n"),
-        (b"RJ2 L\n", "navtex: line 1: subject L can't be refused\n"),
-        (b"T 5\nB1 1\nB1 1", "navtex: line 3 has no end\n"),
+    // A line that names its channel has 511.
+    const ZEROS: Piece = Text(&[b'0'; 512]);
+    static CASES: [Refused; 7] = [
+        (&[Text(b"B3 1\n")], BAD),
+        (&[Text(b"RS1E\n")], BAD),
+        (&[Text(b"T1 5\n")], BAD),
+        (
+            &[Text(b"B1 "), ZEROS, Text(b"\n")],
+            "navtex: line 1 is longer than 514 bytes\n",
+        ),
+        (
+            &[Text(b"B2 1\n")],
+            "navtex: line 1 has elements before any moment\n",
+        ),
+        (
+            &[Text(b"RJ2 L\n")],
+            "navtex: line 1: subject L can't be refused\n",
+        ),
+        (&[Text(b"T 5\nB1 1\nB1 1")], "navtex: line 3 has no end\n"),
     ];
-    for (air_file, line) in cases {
-        assert!(rt;
-            refuses(alloc, &["navtex", "listen"], air_file, 2, line),
-            "{line}"
-        );
-    }
+    assert!(rt; refuses_each(&rt, rt.alloc(), &CASES));
 }
 
 #[test]

@@ -1,7 +1,9 @@
 //! `listen` on a whole file, on a part of one, on faulty ones and on devices that fail.
 
 use super::air::Piece::{Part, Sent, Text};
-use super::air::{Heard, LOG_OF_EA01, MOMENT_OF_EA01, Piece, hears_each, made_of};
+use super::air::{
+    Heard, LOG_OF_EA01, MOMENT_OF_EA01, Piece, Refused, hears_each, made_of, refuses_each,
+};
 use super::devices::{Sink, Source};
 use super::station::{AIR_FILE_OF_EA01, MESSAGE_FILE};
 use super::{ends_with, refuses, run_in_pieces, run_on, writes};
@@ -27,14 +29,12 @@ fn listens_byte_by_byte(rt: HostRuntime) {
     assert!(rt; ended.is(0, LOG_OF_EA01, b""));
 }
 
-/// Elements of which no line has so many.
-const ZEROS: &[u8] = &[b'0'; 513];
-
 #[test]
 fn stops_at_a_fault_of_a_line(rt: HostRuntime) {
-    const LONG_LINE: Piece = Text(ZEROS);
+    // Elements of which no line has so many.
+    const LONG_LINE: Piece = Text(&[b'0'; 513]);
     const NOW: Piece = Text(MOMENT_OF_EA01);
-    static CASES: [(&[Piece], &str); 10] = [
+    static CASES: [Refused; 10] = [
         (
             &[Text(b"T 5\nT 4\n")],
             "navtex: line 2: moment 4 is before 5\n",
@@ -71,10 +71,7 @@ fn stops_at_a_fault_of_a_line(rt: HostRuntime) {
             "navtex: line 5 is not understood\n",
         ),
     ];
-    for &(pieces, line) in &CASES {
-        let air_file = made_of(&rt, rt.alloc(), pieces);
-        assert!(rt; refuses(rt.alloc(), &LISTEN, &air_file, 2, line), "{line}");
-    }
+    assert!(rt; refuses_each(&rt, rt.alloc(), &CASES));
 }
 
 #[test]
