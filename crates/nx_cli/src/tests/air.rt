@@ -199,16 +199,11 @@ pub fn alternating(
         } else {
             [line, other]
         };
-        append_both(rt, &mut air_file, pair);
+        air_file
+            .extend_from_slice(&join(rt, alloc, &pair))
+            .expect(rt, "memory");
     }
     air_file
-}
-
-/// Appends two lines.
-fn append_both(rt: &impl Abort, air_file: &mut Vec<u8>, pair: [&[u8]; 2]) {
-    for line in pair {
-        air_file.extend_from_slice(line).expect(rt, "memory");
-    }
 }
 
 /// Some of the elements of EA01, in lines of so many.
