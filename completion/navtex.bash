@@ -14,4 +14,5 @@ _navtex() {
     fi
     COMPREPLY=($(compgen -W "$choices" -- "$word"))
 }
-complete -F _navtex navtex
+# behind < and > bash completes the names of files
+complete -o default -F _navtex navtex
