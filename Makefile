@@ -1,8 +1,33 @@
-# Puts the built program, its man page and its completion in place. `(cd crates/nx_cli && rt run -- code)` builds it.
+# What can be made here; `make` alone prints it.
 PREFIX = /usr/local
 PROGRAM = crates/nx_cli/out/nx_cli
+CRATE =
 
-.PHONY: install uninstall deb
+.PHONY: help check test ci bench install uninstall deb clean
+
+help:
+	@echo 'make check CRATE=nx_sync  prove one crate, and those below it that have changed'
+	@echo 'make test                 run all tests that need no proof: some two minutes on two processors'
+	@echo 'make ci                   the merge gate: prove all from nothing, wrong bodies, tests, programs: hours'
+	@echo 'make bench                measure the built program'
+	@echo 'make install              put the built program, its man page and its completion below PREFIX ($(PREFIX))'
+	@echo 'make uninstall            take them away'
+	@echo 'make deb                  a Debian package of a static program, out/navtex_VERSION_amd64.deb; it installs nothing'
+	@echo 'make clean                remove what rt keeps and makes in out/; the next check begins from nothing'
+	@echo "The program is built by (cd crates/nx_cli && rt run -- code), which proves it first."
+
+check:
+	@if [ ! -d 'crates/$(CRATE)/src' ] || [ -z '$(CRATE)' ]; then echo 'name a crate, as in: make check CRATE=nx_sync' >&2; exit 2; fi
+	cd crates/$(CRATE) && rt check
+
+test:
+	ci/test
+
+ci:
+	.ci/run
+
+bench:
+	bench/listen
 
 install:
 	install -D -m 755 $(PROGRAM) $(DESTDIR)$(PREFIX)/bin/navtex
@@ -18,6 +43,8 @@ uninstall:
 	rm -f $(DESTDIR)$(PREFIX)/share/zsh/site-functions/_navtex
 	rm -f $(DESTDIR)$(PREFIX)/share/fish/vendor_completions.d/navtex.fish
 
-# A Debian package of a static program, out/navtex_VERSION_amd64.deb; it installs nothing.
 deb:
 	package/deb
+
+clean:
+	rm -rf out crates/*/out
