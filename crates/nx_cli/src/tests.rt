@@ -24,6 +24,7 @@ use devices::{Sink, Source};
 use nx_program::run;
 use std::alloc::Global;
 use std::process::Abort;
+use std::str::from_utf8;
 
 // The text `A` as an air file: four phasing positions, the letter and three end positions, by the
 // code table of M.476.
@@ -39,12 +40,31 @@ struct Ended {
 }
 
 impl Ended {
-    // Whether the run ended so.
-    fn is(&self, status: u8, output: &[u8], faults: &[u8]) -> bool {
-        self.status == status
-            && self.output.as_slice() == output
-            && self.faults.as_slice() == faults
+    // Expects that the run of this row ended so.
+    fn expect(&self, rt: &impl Abort, row: &str, status: u8, output: &[u8], faults: &[u8]) {
+        expect_text(rt, row, &self.faults, faults);
+        expect_text(rt, row, &self.output, output);
+        assert!(rt;
+            self.status == status,
+            "{row}: status {} in place of {status}",
+            self.status
+        );
     }
+}
+
+// The bytes as a text, where they are one.
+fn shown(bytes: &[u8]) -> &str {
+    from_utf8(bytes).unwrap_or("bytes that are no text")
+}
+
+// Expects these bytes in this row; where others are found, both are shown.
+fn expect_text(rt: &impl Abort, row: &str, found: &[u8], wanted: &[u8]) {
+    assert!(rt;
+        found == wanted,
+        "{row}: {:?} in place of {:?}",
+        shown(found),
+        shown(wanted)
+    );
 }
 
 fn run_on(alloc: Global, words: &[&str], input: &[u8]) -> Ended {
@@ -66,17 +86,27 @@ fn run_in_pieces(alloc: Global, words: &[&str], input: &[u8], piece: usize) -> E
     }
 }
 
-// Whether a run over these devices ends with this status and this line on standard error.
-fn ends_with(
+// How a run ends: the status, and the line on standard error.
+type End<'a> = (u8, &'a str);
+
+// Expects that a run over these devices ends so.
+fn expect_end(
+    rt: &impl Abort,
     alloc: Global,
+    row: &str,
     words: &[&str],
     source: &mut Source,
     output: &mut Sink,
-    status: u8,
-    line: &[u8],
-) -> bool {
+    end: End,
+) {
     let mut faults = Sink::new(Vec::new(alloc));
-    run(alloc, words, source, output, &mut faults) == status && faults.took(line)
+    let status = run(alloc, words, source, output, &mut faults);
+    expect_text(rt, row, &faults.taken, end.1.as_bytes());
+    assert!(rt;
+        status == end.0,
+        "{row}: status {status} in place of {}",
+        end.0
+    );
 }
 
 // What a run writes.
@@ -84,14 +114,21 @@ fn output_of(alloc: Global, words: &[&str], input: &[u8]) -> Vec<u8> {
     run_on(alloc, words, input).output
 }
 
-// Whether a run on these words and this input succeeds, writes this and reports no fault.
-fn writes(alloc: Global, words: &[&str], input: &[u8], output: &[u8]) -> bool {
-    run_on(alloc, words, input).is(0, output, b"")
+// Expects that a run on these words and this input succeeds, writes this and reports no fault.
+fn expect_output(
+    rt: &impl Abort,
+    alloc: Global,
+    row: &str,
+    words: &[&str],
+    input: &[u8],
+    output: &[u8],
+) {
+    run_on(alloc, words, input).expect(rt, row, 0, output, b"");
 }
 
-// Whether a run ends with this status and this line on standard error, and writes nothing.
-fn refuses(alloc: Global, words: &[&str], input: &[u8], status: u8, line: &str) -> bool {
-    run_on(alloc, words, input).is(status, b"", line.as_bytes())
+// Expects that a run ends so, and writes nothing.
+fn expect_fault(rt: &impl Abort, alloc: Global, row: &str, words: &[&str], input: &[u8], end: End) {
+    run_on(alloc, words, input).expect(rt, row, end.0, b"", end.1.as_bytes());
 }
 
 // The file with other elements at this place.

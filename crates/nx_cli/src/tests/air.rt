@@ -3,7 +3,7 @@
 ghost use Rattle.std.specs.Prelude.{◌<◌};
 
 use super::station::AIR_FILE_OF_EA01;
-use super::{output_of, refuses, run_on};
+use super::{expect_fault, expect_output, output_of, shown};
 use nx_code::Comb;
 use nx_fec::{Position, to_bits};
 use std::alloc::Global;
@@ -230,35 +230,31 @@ fn part_of(
     lines_of(rt, alloc, part, length.max(1))
 }
 
-/// Whether `listen` succeeds on a file that these pieces make in a row, and writes this log.
-pub fn hears(rt: &impl Abort, alloc: Global, pieces: &[Piece], log: &[u8]) -> bool {
+/// What `listen` hears: what is told of a file, its pieces, and the log.
+pub type Heard<'a> = (&'a str, &'a [Piece<'a>], &'a [u8]);
+
+/// Expects that `listen` succeeds on a file that these pieces make in a row, and writes this log.
+pub fn expect_log(rt: &impl Abort, alloc: Global, heard: Heard) {
+    let (row, pieces, log) = heard;
     let air_file = made_of(rt, alloc, pieces);
-    run_on(alloc, &["navtex", "listen"], &air_file).is(0, log, b"")
+    expect_output(rt, alloc, row, &["navtex", "listen"], &air_file, log);
 }
 
-/// What `listen` hears: the pieces of a file, and the log.
-pub type Heard<'a> = (&'a [Piece<'a>], &'a [u8]);
-
-/// Whether `listen` hears each file so.
-pub fn hears_each(rt: &impl Abort, alloc: Global, cases: &[Heard]) -> bool {
-    for (pieces, log) in cases {
-        if !hears(rt, alloc, pieces, log) {
-            return false;
-        }
+/// Expects that `listen` hears each file so.
+pub fn expect_logs(rt: &impl Abort, alloc: Global, cases: &[Heard]) {
+    for heard in cases {
+        expect_log(rt, alloc, *heard);
     }
-    true
 }
 
 /// What `listen` refuses: the pieces of a file, and the line that says why.
 pub type Refused<'a> = (&'a [Piece<'a>], &'a str);
 
-/// Whether `listen` refuses each file by its line, and writes nothing.
-pub fn refuses_each(rt: &impl Abort, alloc: Global, cases: &[Refused]) -> bool {
+/// Expects that `listen` refuses each file by its line, and writes nothing.
+pub fn expect_refusals(rt: &impl Abort, alloc: Global, cases: &[Refused]) {
     for (pieces, line) in cases {
         let air_file = made_of(rt, alloc, pieces);
-        if !refuses(alloc, &["navtex", "listen"], &air_file, 2, line) {
-            return false;
-        }
+        let row = shown(&air_file);
+        expect_fault(rt, alloc, row, &["navtex", "listen"], &air_file, (2, line));
     }
-    true
 }

@@ -3,11 +3,11 @@
 
 use super::air::Piece::{InTurn, Named, Part, Text};
 use super::air::{
-    Heard, LOG_OF_EA01, MOMENT_OF_EA01, Piece, Refused, alternating, damage_in, hears, hears_each,
-    lines_of_ea01, made_of, refuses_each,
+    Heard, LOG_OF_EA01, MOMENT_OF_EA01, Piece, Refused, alternating, damage_in, expect_log,
+    expect_logs, expect_refusals, lines_of_ea01, made_of,
 };
 use super::station::AIR_FILE_OF_EA01;
-use super::{output_of, run_in_pieces, writes};
+use super::{expect_output, output_of, run_in_pieces};
 
 /// The log of EA01 on channel 1.
 pub const LOG_ON_CHANNEL_1: &[u8] = b"[EA01/1 2025-01-01 00:40:00 full 0/5]\nTEST\n\n";
@@ -24,22 +24,25 @@ fn hears_channels(rt: HostRuntime) {
     const NOW: Piece = Text(MOMENT_OF_EA01);
     const IN_TURN: Piece = InTurn(false);
     static CASES: [Heard; 6] = [
-        (&[NOW, Named(b'1', 0, 1_421)], LOG_ON_CHANNEL_1),
-        (&[NOW, Named(b'0', 0, 1_421)], LOG_OF_EA01),
-        (&[IN_TURN], LOG_ON_BOTH),
-        (&[InTurn(true)], LOG_ON_1_AND_0),
-        // A station is refused on channel 1 alone, and on channel 0.
-        (&[Text(b"RS1 E\n"), IN_TURN], LOG_OF_EA01),
-        (&[Text(b"RS E\n"), IN_TURN], LOG_ON_CHANNEL_1),
+        ("on 1", &[NOW, Named(b'1', 0, 1_421)], LOG_ON_CHANNEL_1),
+        ("on 0", &[NOW, Named(b'0', 0, 1_421)], LOG_OF_EA01),
+        ("on 0 and 1", &[IN_TURN], LOG_ON_BOTH),
+        ("on 1 and 0", &[InTurn(true)], LOG_ON_1_AND_0),
+        ("refused on 1", &[Text(b"RS1 E\n"), IN_TURN], LOG_OF_EA01),
+        (
+            "refused on 0",
+            &[Text(b"RS E\n"), IN_TURN],
+            LOG_ON_CHANNEL_1,
+        ),
     ];
-    assert!(rt; hears_each(&rt, rt.alloc(), &CASES));
+    expect_logs(&rt, rt.alloc(), &CASES);
 }
 
 #[test]
 fn hears_two_channels_byte_by_byte(rt: HostRuntime) {
     let air_file = made_of(&rt, rt.alloc(), &[InTurn(false)]);
     let ended = run_in_pieces(rt.alloc(), &["navtex", "listen"], &air_file, 1);
-    assert!(rt; ended.is(0, LOG_ON_BOTH, b""));
+    ended.expect(&rt, "byte by byte", 0, LOG_ON_BOTH, b"");
 }
 
 #[test]
@@ -51,7 +54,7 @@ fn closes_by_channel(rt: HostRuntime) {
     ];
     let log = b"[EA01 2025-01-01 00:40:00 cut 0/5]\nTEST\n\n\
         [EA01/2 2025-01-01 00:40:00 cut 0/5]\nTEST\n\n";
-    assert!(rt; hears(&rt, rt.alloc(), &pieces, log));
+    expect_log(&rt, rt.alloc(), ("on 2 and 0", &pieces, log));
 }
 
 #[test]
@@ -77,7 +80,7 @@ fn refuses_lines_of_channels(rt: HostRuntime) {
         ),
         (&[Text(b"T 5\nB1 1\nB1 1")], "navtex: line 3 has no end\n"),
     ];
-    assert!(rt; refuses_each(&rt, rt.alloc(), &CASES));
+    expect_refusals(&rt, rt.alloc(), &CASES);
 }
 
 #[test]
@@ -91,10 +94,7 @@ fn takes_channel_0_alone(rt: HostRuntime) {
         ("locks", &locks),
     ];
     for (word, output) in cases {
-        assert!(rt;
-            writes(alloc, &["navtex", word], &air_file, output),
-            "{word}"
-        );
+        expect_output(&rt, alloc, word, &["navtex", word], &air_file, output);
     }
 }
 
@@ -105,12 +105,6 @@ fn damages_channel_0_alone(rt: HostRuntime) {
     let lines = damaged.strip_prefix(MOMENT_OF_EA01).expect(&rt, "a moment");
     let both = alternating(&rt, alloc, lines, lines_of_ea01(&rt), false);
     let air_file = made_of(&rt, alloc, &[InTurn(false)]);
-    assert!(rt;
-        writes(
-            alloc,
-            &["navtex", "damage", "dx", "144", "59"],
-            &air_file,
-            &both
-        )
-    );
+    let words = ["navtex", "damage", "dx", "144", "59"];
+    expect_output(&rt, alloc, "on 0 and 1", &words, &air_file, &both);
 }

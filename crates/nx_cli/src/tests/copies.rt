@@ -1,7 +1,9 @@
 //! Copies that are cut or too long.
 
 use super::air::Piece::{Combinations, Part, Text};
-use super::air::{HEADER_OF_EA01, Heard, LINES, MOMENT_OF_EA01, Piece, hears, hears_each, join};
+use super::air::{
+    HEADER_OF_EA01, Heard, LINES, MOMENT_OF_EA01, Piece, expect_log, expect_logs, join,
+};
 use std::alloc::Global;
 use std::process::Abort;
 
@@ -13,15 +15,21 @@ static LETTERS: [u8; 4_100] = [b'A'; 4_100];
 #[test]
 fn cuts_a_copy(rt: HostRuntime) {
     const CUT: Piece = Part(0, 1_323, 490);
-    // The file ends behind the text; or the next emission begins there, of which three positions are
-    // joined with its words and are lost.
+    // Three positions of the text are joined with words of the next emission, and are lost.
     const LOG: &[u8] = b"[EA01 2025-01-01 00:40:00 cut 0/5]\nTEST\n\n";
     const JOINED: &[u8] = b"[EA01 2025-01-01 00:40:00 cut 3/8]\nTEST\n***\n\n\
         [EA01 2025-01-01 04:40:00 full 0/5]\nTEST\n\n";
     const NOW: Piece = Text(MOMENT_OF_EA01);
     const NEXT: Piece = Text(b"T 1735706400\n");
-    static CASES: [Heard; 2] = [(&[NOW, CUT], LOG), (&[NOW, CUT, NEXT, LINES], JOINED)];
-    assert!(rt; hears_each(&rt, rt.alloc(), &CASES));
+    static CASES: [Heard; 2] = [
+        ("the file ends behind the text", &[NOW, CUT], LOG),
+        (
+            "the next emission begins behind the text",
+            &[NOW, CUT, NEXT, LINES],
+            JOINED,
+        ),
+    ];
+    expect_logs(&rt, rt.alloc(), &CASES);
 }
 
 /// The entry with this head and so many letters A, at most 4,100, and what is heard behind it.
@@ -49,7 +57,7 @@ fn ends_a_long_copy(rt: HostRuntime) {
     let head = b"[EA01 2025-01-01 00:40:00 long 0/4100]\n";
     let next = b"[EA01 2025-01-01 04:40:00 full 0/5]\nTEST\n\n";
     let log = entry_of_letters(&rt, rt.alloc(), head, 4_100, next);
-    assert!(rt; hears(&rt, rt.alloc(), &pieces, &log));
+    expect_log(&rt, rt.alloc(), ("4,101 letters", &pieces, &log));
 }
 
 #[test]
@@ -60,5 +68,5 @@ fn cuts_a_copy_of_letters(rt: HostRuntime) {
     let pieces = [Text(MOMENT_OF_EA01), Combinations(&endless, 7 * 4_176)];
     let head = b"[EA01 2025-01-01 00:40:00 cut 0/2000]\n";
     let log = entry_of_letters(&rt, rt.alloc(), head, 2_000, b"");
-    assert!(rt; hears(&rt, rt.alloc(), &pieces, &log));
+    expect_log(&rt, rt.alloc(), ("2,000 letters", &pieces, &log));
 }

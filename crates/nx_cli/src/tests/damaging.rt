@@ -1,8 +1,10 @@
 //! `damage`.
 
+use super::devices::{Sink, Source};
 use super::station::AIR_FILE_OF_EA01;
-use super::{AIR_FILE_OF_A, ends_with, output_of, refuses, run_on, writes};
-use crate::tests::devices::{Sink, Source};
+use super::{
+    AIR_FILE_OF_A, expect_end, expect_fault, expect_output, expect_text, output_of, run_on,
+};
 use std::alloc::Global;
 
 // 59 words from slot 144 on are those of slots 144 to 202, of which 30 are even.
@@ -27,10 +29,36 @@ fn count_wrong(alloc: Global, air_file: &[u8]) -> usize {
 fn inverts_elements(rt: HostRuntime) {
     let alloc = rt.alloc();
     let damaged = output_of(alloc, &DAMAGE_EA01, AIR_FILE_OF_EA01);
-    assert!(rt; writes(alloc, &DAMAGE_EA01, AIR_FILE_OF_EA01, &damaged));
-    assert!(rt; differing(&damaged, AIR_FILE_OF_EA01) == Some(30));
-    assert!(rt; count_wrong(alloc, &damaged) == 30);
-    assert!(rt; writes(alloc, &DAMAGE_EA01, &damaged, AIR_FILE_OF_EA01));
+    expect_output(&rt, alloc, "once", &DAMAGE_EA01, AIR_FILE_OF_EA01, &damaged);
+    assert_eq!(rt; count_wrong(alloc, &damaged), 30);
+    expect_output(
+        &rt,
+        alloc,
+        "twice",
+        &DAMAGE_EA01,
+        &damaged,
+        AIR_FILE_OF_EA01,
+    );
+}
+
+#[test]
+fn inverts_one_element_of_each_word(rt: HostRuntime) {
+    // What is damaged, and how many words that are: of 59 words from slot 144 on 30 are DX words, and of
+    // 57 from slot 145 on 29 are RX words.
+    static ROWS: [([&str; 3], usize); 3] = [
+        (["dx", "144", "59"], 30),
+        (["rx", "145", "57"], 29),
+        (["all", "0", "96"], 96),
+    ];
+    for &([kind, from, count], words) in &ROWS {
+        let call = ["navtex", "damage", kind, from, count];
+        let damaged = output_of(rt.alloc(), &call, AIR_FILE_OF_EA01);
+        assert_eq!(rt;
+            differing(&damaged, AIR_FILE_OF_EA01),
+            Some(words),
+            "{kind}"
+        );
+    }
 }
 
 // Words, of which the last may be cut, over lines of all kinds.
@@ -60,20 +88,12 @@ fn copies_all_else(rt: HostRuntime) {
     ];
     for &([kind, from, count], output) in &ROWS {
         let words = ["navtex", "damage", kind, from, count];
-        assert!(rt;
-            writes(rt.alloc(), &words, LINES_OF_ALL_KINDS, output),
-            "{kind} {from}"
-        );
+        expect_output(&rt, rt.alloc(), kind, &words, LINES_OF_ALL_KINDS, output);
     }
 }
 
 // The words of a call that inverts the first element of the file.
 const DAMAGE_FIRST: [&str; 5] = ["navtex", "damage", "all", "0", "1"];
-
-// Whether it ends with a bad line, behind this output.
-fn stops_behind(alloc: Global, input: &[u8], output: &[u8], line: &str) -> bool {
-    run_on(alloc, &DAMAGE_FIRST, input).is(2, output, line.as_bytes())
-}
 
 #[test]
 fn writes_whole_lines_before_a_fault(rt: HostRuntime) {
@@ -93,39 +113,51 @@ fn writes_whole_lines_before_a_fault(rt: HostRuntime) {
         ),
     ];
     for (input, output, line) in cases {
-        assert!(rt; stops_behind(rt.alloc(), input, output, line));
+        let ended = run_on(rt.alloc(), &DAMAGE_FIRST, input);
+        ended.expect(&rt, line, 2, output, line.as_bytes());
     }
 }
 
-// Whether a reader that gives a byte at each call, and fails at its seventh, behind one whole line,
-// ends the run.
-fn stops_at_read(alloc: Global) -> bool {
+// A reader that gives a byte at each call, and fails at its seventh, behind one whole line.
+#[test]
+fn stops_at_a_failed_read(rt: HostRuntime) {
     let mut source = Source::of(b"B 0\nB 1\n");
     source.piece = 1;
     source.fails_at = Some(7);
-    let mut output = Sink::new(Vec::new(alloc));
-    let line = b"navtex: read failed\n";
-    ends_with(alloc, &DAMAGE_FIRST, &mut source, &mut output, 1, line)
-        && source.calls == 7
-        && output.took(b"B 1\n")
+    let mut output = Sink::new(Vec::new(rt.alloc()));
+    let end = (1, "navtex: read failed\n");
+    expect_end(
+        &rt,
+        rt.alloc(),
+        "read",
+        &DAMAGE_FIRST,
+        &mut source,
+        &mut output,
+        end,
+    );
+    assert_eq!(rt; source.calls, 7);
+    expect_text(&rt, "written", &output.taken, b"B 1\n");
 }
 
-// Whether a writer that takes a byte at each call, and fails at its third, ends it.
-fn stops_at_write(alloc: Global) -> bool {
+// A writer that takes a byte at each call, and fails at its third.
+#[test]
+fn stops_at_a_failed_write(rt: HostRuntime) {
     let mut source = Source::of(b"B 0\nB 1\n");
-    let mut output = Sink::new(Vec::new(alloc));
+    let mut output = Sink::new(Vec::new(rt.alloc()));
     output.piece = 1;
     output.fails_at = Some(3);
-    let line = b"navtex: write failed after 2 bytes\n";
-    ends_with(alloc, &DAMAGE_FIRST, &mut source, &mut output, 1, line)
-        && source.calls == 1
-        && output.took(b"B ")
-}
-
-#[test]
-fn stops_at_a_failed_device(rt: HostRuntime) {
-    assert!(rt; stops_at_read(rt.alloc()));
-    assert!(rt; stops_at_write(rt.alloc()));
+    let end = (1, "navtex: write failed after 2 bytes\n");
+    expect_end(
+        &rt,
+        rt.alloc(),
+        "write",
+        &DAMAGE_FIRST,
+        &mut source,
+        &mut output,
+        end,
+    );
+    assert_eq!(rt; source.calls, 1);
+    expect_text(&rt, "written", &output.taken, b"B ");
 }
 
 #[test]
@@ -134,6 +166,6 @@ fn refuses_other_kinds(rt: HostRuntime) {
     let line = "navtex: kind must be dx, rx or all\n";
     for kind in ["DX", "tx", ""] {
         let words = ["navtex", "damage", kind, "0", "1"];
-        assert!(rt; refuses(alloc, &words, AIR_FILE_OF_A, 64, line));
+        expect_fault(&rt, alloc, kind, &words, AIR_FILE_OF_A, (64, line));
     }
 }

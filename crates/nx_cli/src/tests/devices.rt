@@ -75,11 +75,6 @@ impl Sink {
             calls: 0,
         }
     }
-
-    /// Whether it took just this.
-    pub fn took(&self, text: &[u8]) -> bool {
-        self.taken.as_slice() == text
-    }
 }
 
 impl Write for Sink {

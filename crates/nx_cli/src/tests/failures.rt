@@ -1,71 +1,89 @@
 //! Devices that fail, take little, or forget.
 
-use super::{AIR_FILE_OF_A, ends_with};
-use crate::tests::devices::{Sink, Source};
+use super::devices::{Sink, Source};
+use super::{AIR_FILE_OF_A, expect_end, expect_text};
 use nx_fec::Counting;
 use nx_program::run;
 use std::alloc::Global;
 use std::io::Write;
 use std::process::Abort;
 
-// Whether three calls on a counted writer, of which the third fails, reach what it wraps, and two more
-// do not: each of these fails, and counts as a failure.
-fn passes_calls_on_until_one_fails(alloc: Global) -> bool {
-    let mut sink = Sink::new(Vec::new(alloc));
-    sink.fails_at = Some(3);
-    let mut writer = Counting::new(sink);
-    let passed = writer.write(b"A").is_ok() & writer.flush().is_ok() & writer.flush().is_err();
-    let failures = writer.failures();
-    let refused = writer.flush().is_err() & writer.write(b"B").is_err();
-    let all_failures = writer.failures();
-    let sink = writer.into_inner();
-    passed & refused & (failures == 1) & (all_failures == 3) & (sink.calls == 3) & sink.took(b"A")
-}
-
+// Three calls on a counted writer, of which the third fails, reach what it wraps, and two more do not:
+// each of these fails, and counts as a failure.
 #[test]
 fn counts_failures(rt: HostRuntime) {
-    assert!(rt; passes_calls_on_until_one_fails(rt.alloc()));
+    let mut sink = Sink::new(Vec::new(rt.alloc()));
+    sink.fails_at = Some(3);
+    let mut writer = Counting::new(sink);
+    assert!(rt; writer.write(b"A").is_ok());
+    assert!(rt; writer.flush().is_ok());
+    assert!(rt; writer.flush().is_err());
+    assert!(rt; writer.failures() == 1);
+    assert!(rt; writer.flush().is_err());
+    assert!(rt; writer.write(b"B").is_err());
+    assert!(rt; writer.failures() == 3);
+    let sink = writer.into_inner();
+    assert!(rt; sink.calls == 3);
+    expect_text(&rt, "written", &sink.taken, b"A");
 }
 
-// Whether a reader that gives a byte at each call, and fails at this one, ends the run.
-fn stops_at_read(alloc: Global, call: &str, failing: u64) -> bool {
+// Expects that a reader that gives a byte at each call, and fails at this one, ends the run.
+fn expect_stop_at_read(rt: &impl Abort, alloc: Global, call: &str, failing: u64) {
     let mut source = Source::of(b"B 01\n");
     source.piece = 1;
     source.fails_at = Some(failing);
     let mut output = Sink::new(Vec::new(alloc));
-    let line = b"navtex: read failed\n";
-    ends_with(alloc, &["navtex", call], &mut source, &mut output, 1, line)
-        && source.calls == failing
-        && output.calls == 0
+    let end = (1, "navtex: read failed\n");
+    expect_end(
+        rt,
+        alloc,
+        call,
+        &["navtex", call],
+        &mut source,
+        &mut output,
+        end,
+    );
+    assert!(rt;
+        source.calls == failing,
+        "{call}: {} reads of {failing}",
+        source.calls
+    );
+    assert!(rt; output.calls == 0, "{call}, read {failing}");
 }
 
 #[test]
 fn stops_at_a_failed_read(rt: HostRuntime) {
     for call in ["decode", "encode", "show", "check"] {
         for failing in 1..=5u64 {
-            assert!(rt; stops_at_read(rt.alloc(), call, failing));
+            expect_stop_at_read(&rt, rt.alloc(), call, failing);
         }
     }
 }
 
-// Whether a writer that takes a byte at each call, and fails behind so many, ends the run.
-fn stops_at_write(rt: &impl Abort, alloc: Global, taken: usize) -> bool {
+// Expects that a writer that takes a byte at each call, and fails behind so many, ends the run.
+fn expect_stop_at_write(rt: &impl Abort, alloc: Global, taken: usize) {
     let mut source = Source::of(b"A");
     let mut output = Sink::new(Vec::new(alloc));
     output.piece = 1;
     output.fails_at = Some((taken as u64).saturating_add(1));
     let words = ["navtex", "encode"];
     let line = format!(in alloc; "navtex: write failed after {taken} bytes\n").expect(rt, "memory");
-    ends_with(alloc, &words, &mut source, &mut output, 1, line.as_bytes())
-        && source.calls == 2
-        && Some(output.calls) == output.fails_at
-        && Some(output.taken.as_slice()) == AIR_FILE_OF_A.get(..taken)
+    let end = (1, line.as_str());
+    expect_end(rt, alloc, "encode", &words, &mut source, &mut output, end);
+    assert!(rt; source.calls == 2, "{taken} bytes: {} reads", source.calls);
+    assert!(rt;
+        Some(output.calls) == output.fails_at,
+        "{taken} bytes: {} writes",
+        output.calls
+    );
+    let wanted = AIR_FILE_OF_A.get(..taken).expect(rt, "bytes");
+    expect_text(rt, "encode", &output.taken, wanted);
 }
 
 #[test]
 fn stops_at_a_failed_write(rt: HostRuntime) {
     for taken in 0..AIR_FILE_OF_A.len() {
-        assert!(rt; stops_at_write(&rt, rt.alloc(), taken));
+        expect_stop_at_write(&rt, rt.alloc(), taken);
     }
 }
 
@@ -73,8 +91,8 @@ fn stops_at_a_failed_write(rt: HostRuntime) {
 // them, and the status.
 type OddRow<'a> = (&'a str, &'a [u8], usize, bool, u8);
 
-// Whether the run ends with the status, where standard error fails at its first call.
-fn keeps_its_status(alloc: Global, row: OddRow) -> bool {
+// Expects that the run ends with the status, where standard error fails at its first call.
+fn expect_status(rt: &impl Abort, alloc: Global, row: OddRow) {
     let (word, input, piece, discards, wanted) = row;
     let mut source = Source::of(input);
     source.piece = 1;
@@ -86,7 +104,16 @@ fn keeps_its_status(alloc: Global, row: OddRow) -> bool {
     let words = ["navtex", word];
     let status = run(alloc, &words, &mut source, &mut output, &mut faults);
     let calls = if wanted == 0 { 0 } else { 1 };
-    status == wanted && faults.calls == calls && faults.taken.is_empty()
+    assert!(rt;
+        status == wanted,
+        "{word}, {piece}: status {status} in place of {wanted}"
+    );
+    assert!(rt;
+        faults.calls == calls,
+        "{word}, {piece}: {} lines",
+        faults.calls
+    );
+    expect_text(rt, word, &faults.taken, b"");
 }
 
 #[test]
@@ -103,6 +130,6 @@ fn keeps_its_status_on_odd_devices(rt: HostRuntime) {
         ("encode", b"a", 1, false, 2),
     ];
     for &row in &ROWS {
-        assert!(rt; keeps_its_status(rt.alloc(), row));
+        expect_status(&rt, rt.alloc(), row);
     }
 }

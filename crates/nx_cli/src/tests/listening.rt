@@ -2,31 +2,42 @@
 
 use super::air::Piece::{Part, Sent, Text};
 use super::air::{
-    Heard, LOG_OF_EA01, MOMENT_OF_EA01, Piece, Refused, hears_each, made_of, refuses_each,
+    Heard, LOG_OF_EA01, MOMENT_OF_EA01, Piece, Refused, expect_logs, expect_refusals, made_of,
 };
 use super::devices::{Sink, Source};
 use super::station::{AIR_FILE_OF_EA01, MESSAGE_FILE};
-use super::{ends_with, refuses, run_in_pieces, run_on, writes};
+use super::{expect_end, expect_fault, expect_output, expect_text, run_in_pieces, run_on, shown};
 use std::alloc::Global;
+use std::process::Abort;
 
 const LISTEN: [&str; 2] = ["navtex", "listen"];
 
 #[test]
 fn listens_to_what_was_sent(rt: HostRuntime) {
     static CASES: [Heard; 3] = [
-        (&[Sent("1735689600", MESSAGE_FILE, &[])], LOG_OF_EA01),
-        // The same with one element in each line.
-        (&[Text(MOMENT_OF_EA01), Part(0, 1_421, 1)], LOG_OF_EA01),
-        (&[], b""),
+        (
+            "EA01",
+            &[Sent("1735689600", MESSAGE_FILE, &[])],
+            LOG_OF_EA01,
+        ),
+        (
+            "the same with one element in each line",
+            &[Text(MOMENT_OF_EA01), Part(0, 1_421, 1)],
+            LOG_OF_EA01,
+        ),
+        ("nothing", &[], b""),
     ];
-    assert!(rt; made_of(&rt, rt.alloc(), &[Part(0, 1_421, 1)]).len() == 4 * 1_421);
-    assert!(rt; hears_each(&rt, rt.alloc(), &CASES));
+    assert_eq!(rt;
+        made_of(&rt, rt.alloc(), &[Part(0, 1_421, 1)]).len(),
+        4 * 1_421
+    );
+    expect_logs(&rt, rt.alloc(), &CASES);
 }
 
 #[test]
 fn listens_byte_by_byte(rt: HostRuntime) {
     let ended = run_in_pieces(rt.alloc(), &LISTEN, AIR_FILE_OF_EA01, 1);
-    assert!(rt; ended.is(0, LOG_OF_EA01, b""));
+    ended.expect(&rt, "byte by byte", 0, LOG_OF_EA01, b"");
 }
 
 #[test]
@@ -71,7 +82,7 @@ fn stops_at_a_fault_of_a_line(rt: HostRuntime) {
             "navtex: line 5 is not understood\n",
         ),
     ];
-    assert!(rt; refuses_each(&rt, rt.alloc(), &CASES));
+    expect_refusals(&rt, rt.alloc(), &CASES);
 }
 
 #[test]
@@ -79,19 +90,7 @@ fn writes_the_log_before_a_fault(rt: HostRuntime) {
     let pieces = [Text(AIR_FILE_OF_EA01), Text(b"T 1735692000\nT 0\n")];
     let ended = run_on(rt.alloc(), &LISTEN, &made_of(&rt, rt.alloc(), &pieces));
     let line = b"navtex: line 6: moment 0 is before 1735692000\n";
-    assert!(rt; ended.is(2, LOG_OF_EA01, line));
-}
-
-// Whether the first bytes of the air file of EA01, as many as said, have an empty log.
-fn is_taken(alloc: Global, length: usize) -> bool {
-    let part = AIR_FILE_OF_EA01.get(..length);
-    part.is_some_and(|part| writes(alloc, &LISTEN, part, b""))
-}
-
-// Whether they are refused by this line.
-fn is_cut(alloc: Global, length: usize, line: &str) -> bool {
-    let part = AIR_FILE_OF_EA01.get(..length);
-    part.is_some_and(|part| refuses(alloc, &LISTEN, part, 2, line))
+    ended.expect(&rt, "back", 2, LOG_OF_EA01, line);
 }
 
 #[test]
@@ -117,49 +116,59 @@ fn names_the_line_in_which_a_file_is_cut(rt: HostRuntime) {
         ),
     ];
     for &(begin, lengths, line) in &ROWS {
-        assert!(rt; is_taken(rt.alloc(), begin), "{begin}");
+        let whole_lines = AIR_FILE_OF_EA01.get(..begin).expect(&rt, "lines");
+        expect_output(&rt, rt.alloc(), line, &LISTEN, whole_lines, b"");
         for length in lengths {
-            assert!(rt; is_cut(rt.alloc(), length, line), "{length}");
+            let part = AIR_FILE_OF_EA01.get(..length).expect(&rt, "a part");
+            expect_fault(&rt, rt.alloc(), shown(part), &LISTEN, part, (2, line));
         }
     }
 }
 
-// Whether a writer that takes ten bytes and then fails ends the run.
-fn stops_at_write(alloc: Global) -> bool {
+// A writer that takes ten bytes and then fails ends the run.
+#[test]
+fn listens_to_a_writer_that_fails(rt: HostRuntime) {
     let mut source = Source::of(AIR_FILE_OF_EA01);
-    let mut output = Sink::new(Vec::new(alloc));
+    let mut output = Sink::new(Vec::new(rt.alloc()));
     output.piece = 10;
     output.fails_at = Some(2);
-    let line = b"navtex: write failed after 10 bytes\n";
-    ends_with(alloc, &LISTEN, &mut source, &mut output, 1, line)
-        && output.calls == 2
-        && output.took(b"[EA01 2025")
+    let end = (1, "navtex: write failed after 10 bytes\n");
+    expect_end(
+        &rt,
+        rt.alloc(),
+        "write",
+        &LISTEN,
+        &mut source,
+        &mut output,
+        end,
+    );
+    assert_eq!(rt; output.calls, 2);
+    expect_text(&rt, "written", &output.taken, b"[EA01 2025");
 }
 
-// Whether a reader that gives this at once and then fails ends the run behind this log.
-fn stops_at_read(alloc: Global, given: &[u8], log: &[u8]) -> bool {
+// Expects that a reader that gives this at once and then fails ends the run behind this log.
+fn expect_stop_at_read(rt: &impl Abort, alloc: Global, row: &str, given: &[u8], log: &[u8]) {
     let mut source = Source::of(given);
     source.fails_at = Some(2);
     let mut output = Sink::new(Vec::new(alloc));
-    let line = b"navtex: read failed\n";
-    ends_with(alloc, &LISTEN, &mut source, &mut output, 1, line)
-        && source.calls == 2
-        && output.took(log)
+    let end = (1, "navtex: read failed\n");
+    expect_end(rt, alloc, row, &LISTEN, &mut source, &mut output, end);
+    assert!(rt; source.calls == 2, "{row}: {} reads", source.calls);
+    expect_text(rt, row, &output.taken, log);
 }
 
 #[test]
-fn listens_on_devices_that_fail(rt: HostRuntime) {
+fn listens_to_readers_that_fail(rt: HostRuntime) {
     let alloc = rt.alloc();
     // Readers that fail behind the first line, behind a line with the end of a copy and behind one
     // within a copy: the log of the lines that came is written, and an open copy is not closed.
     let open = made_of(&rt, alloc, &[Text(MOMENT_OF_EA01), Part(0, 1_323, 490)]);
-    let cases: [(&[u8], &[u8]); 3] = [
-        (MOMENT_OF_EA01, b""),
-        (AIR_FILE_OF_EA01, LOG_OF_EA01),
-        (&open, b""),
+    let cases: [(&str, &[u8], &[u8]); 3] = [
+        ("the first line", MOMENT_OF_EA01, b""),
+        ("the end of a copy", AIR_FILE_OF_EA01, LOG_OF_EA01),
+        ("within a copy", &open, b""),
     ];
-    for (given, log) in cases {
-        assert!(rt; stops_at_read(alloc, given, log));
+    for (row, given, log) in cases {
+        expect_stop_at_read(&rt, alloc, row, given, log);
     }
-    assert!(rt; stops_at_write(alloc));
 }

@@ -3,7 +3,7 @@
 
 use super::air::Piece::{Combinations, Damaged, Part, Text};
 use super::air::{
-    HEADER_OF_EA01, Heard, LINES, LOG_OF_EA01, MOMENT_OF_EA01, Piece, REST_OF_EA01, hears_each,
+    HEADER_OF_EA01, Heard, LINES, LOG_OF_EA01, MOMENT_OF_EA01, Piece, REST_OF_EA01, expect_logs,
 };
 
 #[test]
@@ -15,13 +15,25 @@ fn finds_the_emission(rt: HostRuntime) {
     const BUT_ONE_WORD: Piece = Part(7, 1_421, 490);
     const LAST_749: Piece = Part(672, 1_421, 490);
     static CASES: [Heard; 5] = [
-        // Three elements slip in behind the four words, or one that makes a false lock.
-        (&[NOW, FOUR_WORDS, Text(b"B 000\n"), LINES], LOG_OF_EA01),
-        (&[NOW, FOUR_WORDS, Text(b"B 1\n"), LINES], LOG_OF_EA01),
-        (&[NOW, FOUR_WORDS, BUT_ONE_WORD], LOG_OF_EA01),
-        (&[NOW, LAST_749], LOG_OF_EA01),
-        // Z and C come before the letter shift: the text reads ZCZCZC EA01.
         (
+            "three elements slip in",
+            &[NOW, FOUR_WORDS, Text(b"B 000\n"), LINES],
+            LOG_OF_EA01,
+        ),
+        (
+            "an element makes a false lock",
+            &[NOW, FOUR_WORDS, Text(b"B 1\n"), LINES],
+            LOG_OF_EA01,
+        ),
+        (
+            "the roles are swapped",
+            &[NOW, FOUR_WORDS, BUT_ONE_WORD],
+            LOG_OF_EA01,
+        ),
+        ("the last 749 elements", &[NOW, LAST_749], LOG_OF_EA01),
+        // Z and C come before the letter shift.
+        (
+            "ZCZCZC EA01",
             &[
                 NOW,
                 Combinations(&[&[26, 3], &HEADER_OF_EA01, &REST_OF_EA01], usize::MAX),
@@ -29,21 +41,27 @@ fn finds_the_emission(rt: HostRuntime) {
             LOG_OF_EA01,
         ),
     ];
-    assert!(rt; hears_each(&rt, rt.alloc(), &CASES));
+    expect_logs(&rt, rt.alloc(), &CASES);
 }
 
 #[test]
 fn prints_a_damaged_emission(rt: HostRuntime) {
     static CASES: [Heard; 3] = [
-        // Of each position of the message the first sending is lost.
-        (&[Damaged(&[["dx", "144", "59"]])], LOG_OF_EA01),
-        // The first 96 words are lost too, so the lock comes late.
         (
+            "of each position of the message the first sending is lost",
+            &[Damaged(&[["dx", "144", "59"]])],
+            LOG_OF_EA01,
+        ),
+        (
+            "the first 96 words are lost too, so the lock comes late",
             &[Damaged(&[["dx", "144", "59"], ["all", "0", "96"]])],
             LOG_OF_EA01,
         ),
-        // Both sendings of the figure shift are lost, so EA*PQ is read, and no header.
-        (&[Damaged(&[["all", "160", "1"], ["all", "165", "1"]])], b""),
+        (
+            "both sendings of the figure shift are lost, so EA*PQ is read, and no header",
+            &[Damaged(&[["all", "160", "1"], ["all", "165", "1"]])],
+            b"",
+        ),
     ];
-    assert!(rt; hears_each(&rt, rt.alloc(), &CASES));
+    expect_logs(&rt, rt.alloc(), &CASES);
 }

@@ -2,7 +2,7 @@
 
 use super::air::join;
 use super::station::{AIR_FILE_OF_EA01, MESSAGE_FILE, SEND};
-use super::{AIR_FILE_OF_A, output_of, refuses, with_word, writes};
+use super::{AIR_FILE_OF_A, expect_fault, expect_output, output_of, shown, with_word};
 
 // The words of an emission of A in their slots (M.625, mode B), with their numbers and names by the
 // code table of M.476.
@@ -17,7 +17,8 @@ fn shows_words(rt: HostRuntime) {
         (b"B 0110001\n", b"0 DX 46 wrong\n"),
     ];
     for &(air_file, lines) in &CASES {
-        assert!(rt; writes(rt.alloc(), &["navtex", "show"], air_file, lines));
+        let row = shown(air_file);
+        expect_output(&rt, rt.alloc(), row, &["navtex", "show"], air_file, lines);
     }
 }
 
@@ -26,7 +27,7 @@ fn checks_what_was_sent(rt: HostRuntime) {
     let alloc = rt.alloc();
     let sent = output_of(alloc, &SEND, MESSAGE_FILE);
     let checked = b"station E\n#A01\nTEST\n;\n";
-    assert!(rt; writes(alloc, &["navtex", "check"], &sent, checked));
+    expect_output(&rt, alloc, "sent", &["navtex", "check"], &sent, checked);
 }
 
 // The place of word 150 in the file of an emission: behind the line of the moment and two lines of
@@ -51,9 +52,7 @@ fn refuses_what_is_not_sent(rt: HostRuntime) {
         (b"B 2\n", "navtex: line 1 is not understood\n"),
     ];
     for (air_file, line) in cases {
-        assert!(rt;
-            refuses(alloc, &["navtex", "check"], air_file, 2, line),
-            "{line}"
-        );
+        let row = shown(air_file);
+        expect_fault(&rt, alloc, row, &["navtex", "check"], air_file, (2, line));
     }
 }

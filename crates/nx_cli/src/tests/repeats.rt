@@ -1,7 +1,7 @@
 //! What `listen` prints of messages that are sent again, and of those that are refused.
 
 use super::air::Piece::{Damaged, Sent, Text};
-use super::air::{Damage, Heard, LINES, LOG_OF_EA01, MOMENT_OF_EA01, Piece, hears_each};
+use super::air::{Damage, Heard, LINES, LOG_OF_EA01, MOMENT_OF_EA01, Piece, expect_logs};
 use super::station::{AIR_FILE_OF_EA01, MESSAGE_FILE};
 
 /// Moments whose next slots of station E begin at 1735692000, 1735706400 and 1735720800.
@@ -21,13 +21,18 @@ fn prints_again_after_66_hours(rt: HostRuntime) {
     const WITHIN: Piece = Text(b"T 1735929599\n");
     const AFTER: Piece = Text(b"T 1735929600\n");
     static CASES: [Heard; 2] = [
-        (&[FIRST, Text(b"T 1735706400\n"), LINES], LOG_OF_EA01),
         (
+            "four hours later",
+            &[FIRST, Text(b"T 1735706400\n"), LINES],
+            LOG_OF_EA01,
+        ),
+        (
+            "a second before 66 hours, and at 66 hours",
             &[Text(MOMENT_OF_EA01), LINES, WITHIN, LINES, AFTER, LINES],
             TWICE,
         ),
     ];
-    assert!(rt; hears_each(&rt, rt.alloc(), &CASES));
+    expect_logs(&rt, rt.alloc(), &CASES);
 }
 
 /// No damage.
@@ -46,23 +51,27 @@ const OF_26: &[u8] = b"#A01\nABCDEFGHIJKLMNOPQRSTUVWXY\n;\n";
 
 #[test]
 fn prints_a_repeat_of_what_was_heard_badly(rt: HostRuntime) {
-    // One character of 25 is lost, which is not less than 4 per cent; or one of 26, which is.
     const BADLY: &[u8] = b"[EA01 2025-01-01 00:40:00 full 1/25]\n*BCDEFGHIJKLMNOPQRSTUVWX\n\n\
         [EA01 2025-01-01 04:40:00 full 0/25]\nABCDEFGHIJKLMNOPQRSTUVWX\n\n";
     const WELL: &[u8] = b"[EA01 2025-01-01 00:40:00 full 1/26]\n*BCDEFGHIJKLMNOPQRSTUVWXY\n\n";
     static CASES: [Heard; 3] = [
         (
+            "one character of 25 is lost, which is not less than 4 per cent",
             &[Sent(NOW, OF_25, A_LOST), Sent(LATER, OF_25, WHOLE)],
             BADLY,
         ),
-        (&[Sent(NOW, OF_26, A_LOST), Sent(LATER, OF_26, WHOLE)], WELL),
-        // Both sendings of a letter of its header are lost.
         (
+            "one character of 26 is lost",
+            &[Sent(NOW, OF_26, A_LOST), Sent(LATER, OF_26, WHOLE)],
+            WELL,
+        ),
+        (
+            "both sendings of a letter of its header are lost",
             &[Damaged(HEADER_LOST), Sent(LATER, MESSAGE_FILE, WHOLE)],
             b"[EA01 2025-01-01 04:40:00 full 0/5]\nTEST\n\n",
         ),
     ];
-    assert!(rt; hears_each(&rt, rt.alloc(), &CASES));
+    expect_logs(&rt, rt.alloc(), &CASES);
 }
 
 /// A message with the number 00.
@@ -75,6 +84,7 @@ fn prints_the_number_00_each_time(rt: HostRuntime) {
         [EA00 2025-01-01 08:40:00 full 0/5]\nTEST\n\n";
     static CASES: [Heard; 2] = [
         (
+            "nothing is refused",
             &[
                 Sent(NOW, OF_00, WHOLE),
                 Sent(LATER, OF_00, WHOLE),
@@ -83,6 +93,7 @@ fn prints_the_number_00_each_time(rt: HostRuntime) {
             LOG,
         ),
         (
+            "the station is refused",
             &[
                 Text(b"RS E\n"),
                 Sent(NOW, OF_00, WHOLE),
@@ -92,7 +103,7 @@ fn prints_the_number_00_each_time(rt: HostRuntime) {
             b"",
         ),
     ];
-    assert!(rt; hears_each(&rt, rt.alloc(), &CASES));
+    expect_logs(&rt, rt.alloc(), &CASES);
 }
 
 /// Messages 01 of subject A and 02 of subject B, and then 05 of C and 06 of L.
@@ -108,13 +119,14 @@ fn prints_each_message_once(rt: HostRuntime) {
     const LOG_OF_TWO: &[u8] = b"[EA01 2025-01-01 00:40:00 full 0/5]\nTEST\n\n\
         [EB02 2025-01-01 00:40:00 full 0/0]\n\n";
     static CASES: [Heard; 4] = [
-        (&[Sent(NOW, TWO, WHOLE)], LOG_OF_TWO),
+        ("once", &[Sent(NOW, TWO, WHOLE)], LOG_OF_TWO),
         (
+            "twice",
             &[Sent(NOW, TWO, WHOLE), Sent(LATER, TWO, WHOLE)],
             LOG_OF_TWO,
         ),
-        // Four elements between two emissions, of which the second has lost second sendings.
         (
+            "four elements between two emissions, of which the second has lost second sendings",
             &[
                 Text(AIR_FILE_OF_EA01),
                 Text(b"B 0110\n"),
@@ -122,11 +134,11 @@ fn prints_each_message_once(rt: HostRuntime) {
             ],
             LOG_OF_EA01,
         ),
-        // One of two subjects is refused.
         (
+            "one of two subjects is refused",
             &[Text(b"RJ C\n"), Sent(NOW, TWO_OTHERS, WHOLE)],
             b"[EL06 2025-01-01 00:40:00 full 0/5]\nTEST\n\n",
         ),
     ];
-    assert!(rt; hears_each(&rt, rt.alloc(), &CASES));
+    expect_logs(&rt, rt.alloc(), &CASES);
 }

@@ -5,7 +5,7 @@ use super::air::{LINES, LOG_OF_EA01, MOMENT_OF_EA01, Piece, join, made_of};
 use super::channels::{LOG_ON_BOTH, LOG_ON_CHANNEL_1};
 use super::devices::{Sink, Source};
 use super::station::AIR_FILE_OF_EA01;
-use super::{ends_with, run_in_pieces, run_on};
+use super::{End, expect_end, run_in_pieces, run_on, shown};
 use std::alloc::Global;
 use std::process::Abort;
 
@@ -26,41 +26,44 @@ pub const EA01_SAVED: &[u8] = b"STATE 2\nC0\nEA01 1735692000\nC1\nC2\nEND\n";
 /// Four hours after the moment of EA01.
 const LATER: Piece<'static> = Text(b"T 1735706400\n");
 
-/// Whether a run ends so on this input, where it comes at once, and where it comes byte by byte and
-/// the output takes one at a time.
-fn ends_so(
+/// Expects that a run ends so on this input and writes this, where the input comes at once, and where
+/// it comes byte by byte and the output takes one at a time.
+fn expect_run(
+    rt: &impl Abort,
     alloc: Global,
+    row: &str,
     words: &[&str],
     input: &[u8],
-    status: u8,
     output: &[u8],
-    line: &[u8],
-) -> bool {
-    run_on(alloc, words, input).is(status, output, line)
-        && run_in_pieces(alloc, words, input, 1).is(status, output, line)
+    end: End,
+) {
+    let (status, line) = (end.0, end.1.as_bytes());
+    run_on(alloc, words, input).expect(rt, row, status, output, line);
+    run_in_pieces(alloc, words, input, 1).expect(rt, row, status, output, line);
 }
 
-/// Whether `resume` writes this log of an input, and `save` this state.
-fn leaves(alloc: Global, input: &[u8], log: &[u8], state: &[u8]) -> bool {
-    ends_so(alloc, &RESUME, input, 0, log, b"") && ends_so(alloc, &SAVE, input, 0, state, b"")
+/// Expects that `resume` writes this log of an input, and `save` this state.
+fn expect_left(rt: &impl Abort, alloc: Global, row: &str, input: &[u8], log: &[u8], state: &[u8]) {
+    expect_run(rt, alloc, row, &RESUME, input, log, (0, ""));
+    expect_run(rt, alloc, row, &SAVE, input, state, (0, ""));
 }
 
-/// A state and what stands behind it, the log of `resume`, and the state that `save` writes.
-type Left<'a> = (&'a [Piece<'a>], &'a [u8], &'a [u8]);
+/// What is told of an input, a state and what stands behind it, the log of `resume`, and the state
+/// that `save` writes.
+type Left<'a> = (&'a str, &'a [Piece<'a>], &'a [u8], &'a [u8]);
 
-/// Whether each input leaves its log and its state.
-fn leave_each(rt: &impl Abort, alloc: Global, cases: &[Left]) -> bool {
-    for (pieces, log, state) in cases {
-        if !leaves(alloc, &made_of(rt, alloc, pieces), log, state) {
-            return false;
-        }
+/// Expects that each input leaves its log and its state.
+fn expect_each_left(rt: &impl Abort, alloc: Global, cases: &[Left]) {
+    for (row, pieces, log, state) in cases {
+        expect_left(rt, alloc, row, &made_of(rt, alloc, pieces), log, state);
     }
-    true
 }
 
-/// Whether `resume` and `save` refuse an input by this line, and write nothing.
-fn refuse(alloc: Global, input: &[u8], line: &[u8]) -> bool {
-    ends_so(alloc, &RESUME, input, 2, b"", line) && ends_so(alloc, &SAVE, input, 2, b"", line)
+/// Expects that `resume` and `save` refuse an input by this line, and write nothing.
+fn expect_refusal(rt: &impl Abort, alloc: Global, input: &[u8], line: &str) {
+    let row = shown(input);
+    expect_run(rt, alloc, row, &RESUME, input, b"", (2, line));
+    expect_run(rt, alloc, row, &SAVE, input, b"", (2, line));
 }
 
 #[test]
@@ -68,22 +71,34 @@ fn goes_on_from_a_state(rt: HostRuntime) {
     const AGAIN: &[u8] = b"[EA01 2025-01-03 18:40:00 full 0/5]\nTEST\n\n";
     const BOTH_SAVED: &[u8] = b"STATE 2\nC0\nEA01 1735692000\nEA01 1735929600\nC1\nC2\nEND\n";
     static CASES: [Left; 5] = [
-        (&[Text(NOTHING)], b"", NOTHING_SAVED),
+        ("nothing", &[Text(NOTHING)], b"", NOTHING_SAVED),
         (
+            "EA01 behind nothing",
             &[Text(NOTHING), Text(AIR_FILE_OF_EA01)],
             LOG_OF_EA01,
             EA01_SAVED,
         ),
         // A repeat is not printed, and renews nothing; 66 hours later it is printed, and entered.
-        (&[Text(WITH_EA01), LATER, LINES], b"", EA01_SAVED),
-        (&[Text(EA01_SAVED), LATER, LINES], b"", EA01_SAVED),
         (
+            "a repeat, from STATE 1",
+            &[Text(WITH_EA01), LATER, LINES],
+            b"",
+            EA01_SAVED,
+        ),
+        (
+            "a repeat, from STATE 2",
+            &[Text(EA01_SAVED), LATER, LINES],
+            b"",
+            EA01_SAVED,
+        ),
+        (
+            "66 hours later",
             &[Text(WITH_EA01), Text(b"T 1735929600\n"), LINES],
             AGAIN,
             BOTH_SAVED,
         ),
     ];
-    assert!(rt; leave_each(&rt, rt.alloc(), &CASES));
+    expect_each_left(&rt, rt.alloc(), &CASES);
 }
 
 #[test]
@@ -91,17 +106,19 @@ fn keeps_no_open_copy(rt: HostRuntime) {
     const CUT: [Piece; 3] = [Text(NOTHING), Text(MOMENT_OF_EA01), Part(0, 1_323, 490)];
     static CASES: [Left; 2] = [
         (
+            "a cut copy",
             &CUT,
             b"[EA01 2025-01-01 00:40:00 cut 0/5]\nTEST\n\n",
             NOTHING_SAVED,
         ),
         (
+            "the message in full",
             &[Text(NOTHING_SAVED), LATER, LINES],
             b"[EA01 2025-01-01 04:40:00 full 0/5]\nTEST\n\n",
             b"STATE 2\nC0\nEA01 1735706400\nC1\nC2\nEND\n",
         ),
     ];
-    assert!(rt; leave_each(&rt, rt.alloc(), &CASES));
+    expect_each_left(&rt, rt.alloc(), &CASES);
 }
 
 #[test]
@@ -110,84 +127,94 @@ fn keeps_what_is_refused(rt: HostRuntime) {
     const ACCEPTED: &[u8] = b"STATE 2\nC0\nRS B\nEA01 1735692000\nC1\nRJ C\nC2\nEND\n";
     const X: Piece = Text(AIR_FILE_OF_EA01);
     static CASES: [Left; 3] = [
-        (&[Text(NOTHING), Text(b"RS E\nRJ1 C\nRS B\n")], b"", STATE),
-        (&[Text(STATE), X], b"", STATE),
-        (&[Text(STATE), Text(b"AS E\n"), X], LOG_OF_EA01, ACCEPTED),
+        (
+            "what is refused",
+            &[Text(NOTHING), Text(b"RS E\nRJ1 C\nRS B\n")],
+            b"",
+            STATE,
+        ),
+        ("refused by the state", &[Text(STATE), X], b"", STATE),
+        (
+            "accepted again",
+            &[Text(STATE), Text(b"AS E\n"), X],
+            LOG_OF_EA01,
+            ACCEPTED,
+        ),
     ];
-    assert!(rt; leave_each(&rt, rt.alloc(), &CASES));
+    expect_each_left(&rt, rt.alloc(), &CASES);
 }
 
 #[test]
 fn keeps_each_channel(rt: HostRuntime) {
     static CASES: [Left; 2] = [
         (
+            "on 0 and 1",
             &[Text(NOTHING), InTurn(false)],
             LOG_ON_BOTH,
             b"STATE 2\nC0\nEA01 1735692000\nC1\nEA01 1735692000\nC2\nEND\n",
         ),
         (
+            "known on 0 alone",
             &[Text(WITH_EA01), LATER, Named(b'1', 0, 1_421), LINES],
             b"[EA01/1 2025-01-01 04:40:00 full 0/5]\nTEST\n\n",
             b"STATE 2\nC0\nEA01 1735692000\nC1\nEA01 1735706400\nC2\nEND\n",
         ),
     ];
-    assert!(rt; leave_each(&rt, rt.alloc(), &CASES));
+    expect_each_left(&rt, rt.alloc(), &CASES);
 }
 
 /// What is refused, in two pieces, and the line that says where.
-type Refused<'a> = (&'a [u8], &'a [u8], &'a [u8]);
+type Refused<'a> = (&'a [u8], &'a [u8], &'a str);
 
-/// Whether each row is refused by its line.
-fn refuse_each(rt: &impl Abort, alloc: Global, rows: &[Refused]) -> bool {
+/// Expects that each row is refused by its line.
+fn expect_refusals(rt: &impl Abort, alloc: Global, rows: &[Refused]) {
     for (first, second, line) in rows {
-        if !refuse(alloc, &join(rt, alloc, &[*first, *second]), line) {
-            return false;
-        }
+        expect_refusal(rt, alloc, &join(rt, alloc, &[*first, *second]), line);
     }
-    true
 }
 
 #[test]
 fn refuses_what_is_behind_a_state(rt: HostRuntime) {
     // Lines are counted from the start of the air file, and its moments from the newest entry.
-    const BACK: &[u8] = b"navtex: line 1: moment 4 is before 5\n";
+    const BACK: &str = "navtex: line 1: moment 4 is before 5\n";
     static ROWS: [Refused; 6] = [
         (b"STATE 1\nEA01 5\nEND\n", b"T 4\n", BACK),
         (b"STATE 2\nC0\nC1\nC2\nEA01 5\nEND\n", b"T 4\n", BACK),
         (
             WITH_EA01,
             b"B 0\n",
-            b"navtex: line 1 has elements before any moment\n",
+            "navtex: line 1 has elements before any moment\n",
         ),
-        (NOTHING, b"END\n", b"navtex: line 1 is not understood\n"),
-        (NOTHING, b"T 5", b"navtex: line 1 has no end\n"),
+        (NOTHING, b"END\n", "navtex: line 1 is not understood\n"),
+        (NOTHING, b"T 5", "navtex: line 1 has no end\n"),
         (
             NOTHING,
             b"T 0\nRJ2 L\n",
-            b"navtex: line 2: subject L can't be refused\n",
+            "navtex: line 2: subject L can't be refused\n",
         ),
     ];
-    assert!(rt; refuse_each(&rt, rt.alloc(), &ROWS));
+    expect_refusals(&rt, rt.alloc(), &ROWS);
     let saved = b"STATE 2\nC0\nEA01 5\nC1\nC2\nEND\n";
-    assert!(rt; leaves(rt.alloc(), b"STATE 1\nEA01 5\nEND\nT 5\n", b"", saved));
+    let input = b"STATE 1\nEA01 5\nEND\nT 5\n";
+    expect_left(&rt, rt.alloc(), "at the newest moment", input, b"", saved);
 }
 
 #[test]
 fn writes_the_log_before_a_fault(rt: HostRuntime) {
     let alloc = rt.alloc();
     let input = join(&rt, alloc, &[NOTHING, AIR_FILE_OF_EA01, b"T 0\n"]);
-    let line = b"navtex: line 5: moment 0 is before 1735692000\n";
+    let end = (2, "navtex: line 5: moment 0 is before 1735692000\n");
     // No state is written of a run that fails.
     for (words, output) in [(RESUME, LOG_OF_EA01), (SAVE, b"")] {
-        assert!(rt; ends_so(alloc, &words, &input, 2, output, line));
+        expect_run(&rt, alloc, words[1], &words, &input, output, end);
     }
 }
 
-const LINE_1: &[u8] = b"navtex: state line 1 is not understood\n";
+const LINE_1: &str = "navtex: state line 1 is not understood\n";
 
-const LINE_2: &[u8] = b"navtex: state line 2 is not understood\n";
+const LINE_2: &str = "navtex: state line 2 is not understood\n";
 
-const LINE_3: &[u8] = b"navtex: state line 3 is not understood\n";
+const LINE_3: &str = "navtex: state line 3 is not understood\n";
 
 #[test]
 fn refuses_a_line_of_a_state(rt: HostRuntime) {
@@ -207,10 +234,10 @@ fn refuses_a_line_of_a_state(rt: HostRuntime) {
         (b"STATE 2\n", b"C1\n", LINE_2),
         (b"STATE 2\n", b"C0\nEND\n", LINE_3),
     ];
-    assert!(rt; refuse_each(&rt, rt.alloc(), &ROWS));
+    expect_refusals(&rt, rt.alloc(), &ROWS);
     let state = b"STATE 1\nEA01 5\nEA01 237605\nEND\n";
     let saved = b"STATE 2\nC0\nEA01 5\nEA01 237605\nC1\nC2\nEND\n";
-    assert!(rt; leaves(rt.alloc(), state, b"", saved));
+    expect_left(&rt, rt.alloc(), "66 hours apart", state, b"", saved);
 }
 
 /// A state of each kind of line.
@@ -224,49 +251,62 @@ fn last_line(text: &[u8]) -> usize {
         .saturating_add(1)
 }
 
-/// Whether the first bytes of a state, so many, are refused by the line in which they end.
-fn is_cut(rt: &impl Abort, alloc: Global, length: usize) -> bool {
-    let Some(part) = WHOLE.get(..length) else {
-        return false;
-    };
+/// Expects that the first bytes of a state, so many, are refused by the line in which they end.
+fn expect_cut(rt: &impl Abort, alloc: Global, length: usize) {
+    let part = WHOLE.get(..length).expect(rt, "a part");
     let line = format!(in alloc; "navtex: state has no end at line {}\n", last_line(part)).expect(
         rt, "memory",
     );
-    refuse(alloc, part, line.as_bytes())
+    expect_refusal(rt, alloc, part, line.as_str());
 }
 
 #[test]
 fn names_the_line_in_which_a_state_is_cut(rt: HostRuntime) {
     let alloc = rt.alloc();
     for length in 0..WHOLE.len() {
-        assert!(rt; is_cut(&rt, alloc, length), "{length}");
+        expect_cut(&rt, alloc, length);
     }
     static ROWS: [Refused; 2] = [
-        (b"", b"", b"navtex: state has no end at line 1\n"),
-        (b"STATE 1\n", b"EN", b"navtex: state has no end at line 2\n"),
+        (b"", b"", "navtex: state has no end at line 1\n"),
+        (b"STATE 1\n", b"EN", "navtex: state has no end at line 2\n"),
     ];
-    assert!(rt; refuse_each(&rt, alloc, &ROWS));
-    assert!(rt; leaves(alloc, WHOLE, b"", WHOLE));
+    expect_refusals(&rt, alloc, &ROWS);
+    expect_left(&rt, alloc, "whole", WHOLE, b"", WHOLE);
 }
 
-/// Whether a run over a text that comes again and again ends with this line, behind so many reads.
-fn stops_on_endless(alloc: Global, words: &[&str], text: &[u8], reads: u64, line: &[u8]) -> bool {
-    let mut source = Source::of(text);
-    source.endless = true;
-    let mut output = Sink::new(Vec::new(alloc));
-    ends_with(alloc, words, &mut source, &mut output, 2, line)
-        && source.calls == reads
-        && output.calls == 0
+/// Expects that `resume` and `save` over a text that comes again and again end with this line, behind
+/// so many reads, and write nothing.
+fn expect_stop_on_endless(rt: &impl Abort, alloc: Global, text: &[u8], reads: u64, line: &str) {
+    for words in [RESUME, SAVE] {
+        let mut source = Source::of(text);
+        source.endless = true;
+        let mut output = Sink::new(Vec::new(alloc));
+        let end = (2, line);
+        expect_end(
+            rt,
+            alloc,
+            shown(text),
+            &words,
+            &mut source,
+            &mut output,
+            end,
+        );
+        assert!(rt;
+            source.calls == reads,
+            "{}: {} reads",
+            shown(text),
+            source.calls
+        );
+        assert!(rt; output.calls == 0, "{}", shown(text));
+    }
 }
 
 #[test]
 fn stops_an_endless_state(rt: HostRuntime) {
     let alloc = rt.alloc();
-    for words in [RESUME, SAVE] {
-        assert!(rt; stops_on_endless(alloc, &words, b"STATE 1\n", 16, LINE_2));
-        assert!(rt; stops_on_endless(alloc, &words, b"S", 17, LINE_1));
-        assert!(rt; stops_on_endless(alloc, &words, b"\n", 1, LINE_1));
-    }
+    expect_stop_on_endless(&rt, alloc, b"STATE 1\n", 16, LINE_2);
+    expect_stop_on_endless(&rt, alloc, b"S", 17, LINE_1);
+    expect_stop_on_endless(&rt, alloc, b"\n", 1, LINE_1);
 }
 
 /// Entries of the moment of EA01, of these many identities from BA01 on, of which each subject has
@@ -312,10 +352,10 @@ fn keeps_200_entries_on_each_channel(rt: HostRuntime) {
     let state = state_of(&rt, alloc, &full, &full, b"");
     let left = state_of(&rt, alloc, &full, &later, b"EA01 1735692000\n");
     let on_1 = made_of(&rt, alloc, &[Text(MOMENT_OF_EA01), Named(b'1', 0, 1_421)]);
-    assert!(rt; leaves(alloc, &state, b"", &state));
+    expect_left(&rt, alloc, "200 on each", &state, b"", &state);
     // Another one lets the oldest of its channel go.
     let input = join(&rt, alloc, &[&state, &on_1]);
-    assert!(rt; leaves(alloc, &input, LOG_ON_CHANNEL_1, &left));
+    expect_left(&rt, alloc, "one more", &input, LOG_ON_CHANNEL_1, &left);
 }
 
 #[test]
@@ -327,5 +367,10 @@ fn refuses_a_201st_entry(rt: HostRuntime) {
         alloc,
         &[b"STATE 1\n", &full, b"EA01 1735692000\nEND\n"],
     );
-    assert!(rt; refuse(alloc, &state, b"navtex: state line 202 is not understood\n"));
+    expect_refusal(
+        &rt,
+        alloc,
+        &state,
+        "navtex: state line 202 is not understood\n",
+    );
 }

@@ -1,9 +1,9 @@
 //! What `locks` shows of whole files and of faulty ones, in one piece and byte by byte.
 
 use super::air::Piece::{Damaged, Part, Sent, Text};
-use super::air::{LINES, MOMENT_OF_EA01, Piece, hears, made_of};
+use super::air::{LINES, MOMENT_OF_EA01, Piece, expect_log, made_of};
 use super::station::AIR_FILE_OF_EA01;
-use super::{run_in_pieces, run_on};
+use super::{End, run_in_pieces, run_on};
 use std::alloc::Global;
 use std::process::Abort;
 
@@ -12,33 +12,24 @@ const LOCKS: [&str; 2] = ["navtex", "locks"];
 /// P2 P1 P2 P1 at the moment of EA01.
 const PATTERN: Piece<'static> = Text(b"T 1735692000\nB 0110011111100001100111111000\n");
 
-/// Whether `locks` ends with this status, this report and this line on standard error, where the
-/// pieces in a row are read at once, and where they are read and written byte by byte.
-fn ends_so(
-    rt: &impl Abort,
-    alloc: Global,
-    pieces: &[Piece],
-    status: u8,
-    report: &[u8],
-    line: &[u8],
-) -> bool {
+/// What is told of a file, its pieces, and the report of its locks.
+type Shown<'a> = (&'a str, &'a [Piece<'a>], &'a [u8]);
+
+/// Expects that `locks` ends so and writes its report, where the pieces in a row are read at once, and
+/// where they are read and written byte by byte.
+fn expect_report(rt: &impl Abort, alloc: Global, case: Shown, end: End) {
+    let (row, pieces, report) = case;
     let air_file = made_of(rt, alloc, pieces);
-    let at_once = run_on(alloc, &LOCKS, &air_file).is(status, report, line);
-    let in_bytes = run_in_pieces(alloc, &LOCKS, &air_file, 1).is(status, report, line);
-    at_once && in_bytes
+    let (status, line) = (end.0, end.1.as_bytes());
+    run_on(alloc, &LOCKS, &air_file).expect(rt, row, status, report, line);
+    run_in_pieces(alloc, &LOCKS, &air_file, 1).expect(rt, row, status, report, line);
 }
 
-/// The pieces of a file, and the report of its locks.
-type Shown<'a> = (&'a [Piece<'a>], &'a [u8]);
-
-/// Whether `locks` succeeds on each file, and writes its report.
-fn shows_each(rt: &impl Abort, alloc: Global, cases: &[Shown]) -> bool {
-    for (pieces, report) in cases {
-        if !ends_so(rt, alloc, pieces, 0, report, b"") {
-            return false;
-        }
+/// Expects that `locks` succeeds on each file, and writes its report.
+fn expect_reports(rt: &impl Abort, alloc: Global, cases: &[Shown]) {
+    for case in cases {
+        expect_report(rt, alloc, *case, (0, ""));
     }
-    true
 }
 
 #[test]
@@ -50,9 +41,18 @@ fn shows_the_lock_of_an_emission(rt: HostRuntime) {
         b"[2025-01-01 00:40:00 lock 28]\nZCZC EA01\nTEST\nNNNN\n\nZCZC EB02\nNNNN\n\n\
         [2025-01-01 00:40:00 open words 313 wrong 0 copies 2]\n\n\
         [elements 2219 locks 1 copies 2]\n";
+    // The first 96 words are damaged, so the lock comes behind the next four.
+    const LATE: &[u8] = b"[2025-01-01 00:40:00 lock 700]\nZCZC EA01\nTEST\nNNNN\n\n\
+        [2025-01-01 00:40:00 open words 103 wrong 30 copies 1]\n\n\
+        [elements 1421 locks 1 copies 1]\n";
+    const DAMAGED: Piece = Damaged(&[["all", "0", "96"], ["dx", "144", "59"]]);
     const SENT: Piece = Sent("1735689600", b"#A01\nTEST\n;\n#B02\n;\n", &[]);
-    static CASES: [Shown; 2] = [(&[Text(AIR_FILE_OF_EA01)], ONE), (&[SENT], TWO)];
-    assert!(rt; shows_each(&rt, rt.alloc(), &CASES));
+    static CASES: [Shown; 3] = [
+        ("the first slots are lost", &[DAMAGED], LATE),
+        ("one message", &[Text(AIR_FILE_OF_EA01)], ONE),
+        ("two messages", &[SENT], TWO),
+    ];
+    expect_reports(&rt, rt.alloc(), &CASES);
 }
 
 #[test]
@@ -70,10 +70,18 @@ fn shows_locks_that_are_lost(rt: HostRuntime) {
         [2025-01-01 00:40:00 open words 162 wrong 0 copies 1]\n\n\
         [elements 1450 locks 2 copies 1]\n";
     static CASES: [Shown; 2] = [
-        (&[PATTERN, Text(b"B 000\n"), LINES], NONE_RIGHT),
-        (&[PATTERN, Text(b"B 1\n"), LINES], ONE_RIGHT),
+        (
+            "three elements slip in",
+            &[PATTERN, Text(b"B 000\n"), LINES],
+            NONE_RIGHT,
+        ),
+        (
+            "one element slips in",
+            &[PATTERN, Text(b"B 1\n"), LINES],
+            ONE_RIGHT,
+        ),
     ];
-    assert!(rt; shows_each(&rt, rt.alloc(), &CASES));
+    expect_reports(&rt, rt.alloc(), &CASES);
 }
 
 #[test]
@@ -93,10 +101,14 @@ fn shows_locks_that_ended(rt: HostRuntime) {
     const CUT: Piece = Part(0, 1_323, 490);
     const NEXT: Piece = Text(b"T 1735706400\n");
     static CASES: [Shown; 2] = [
-        (&[PATTERN, Part(7, 1_421, 490)], SWAPPED),
-        (&[Text(MOMENT_OF_EA01), CUT, NEXT, LINES], RELEASED),
+        ("swapped", &[PATTERN, Part(7, 1_421, 490)], SWAPPED),
+        (
+            "released by the next emission",
+            &[Text(MOMENT_OF_EA01), CUT, NEXT, LINES],
+            RELEASED,
+        ),
     ];
-    assert!(rt; shows_each(&rt, rt.alloc(), &CASES));
+    expect_reports(&rt, rt.alloc(), &CASES);
 }
 
 #[test]
@@ -109,12 +121,12 @@ fn shows_why_a_log_is_empty(rt: HostRuntime) {
     // There is no phasing in noise.
     const NOISE: Piece = Text(b"T 0\nB 011010011001011010010110011010010110100110010110\n");
     static CASES: [Shown; 3] = [
-        (&NO_HEADER, REPORT),
-        (&[NOISE], b"[elements 48 locks 0 copies 0]\n"),
-        (&[], b"[elements 0 locks 0 copies 0]\n"),
+        ("no header", &NO_HEADER, REPORT),
+        ("noise", &[NOISE], b"[elements 48 locks 0 copies 0]\n"),
+        ("nothing", &[], b"[elements 0 locks 0 copies 0]\n"),
     ];
-    assert!(rt; shows_each(&rt, rt.alloc(), &CASES));
-    assert!(rt; hears(&rt, rt.alloc(), &NO_HEADER, b""));
+    expect_reports(&rt, rt.alloc(), &CASES);
+    expect_log(&rt, rt.alloc(), ("no header", &NO_HEADER, b""));
 }
 
 #[test]
@@ -122,6 +134,6 @@ fn closes_no_lock_at_a_fault(rt: HostRuntime) {
     // A lock stands open within the text where a vital subject is refused.
     let pieces = [Text(MOMENT_OF_EA01), Part(0, 1_323, 490), Text(b"RJ L\n")];
     let report = b"[2025-01-01 00:40:00 lock 28]\nZCZC EA01\nTEST\n";
-    let line = b"navtex: line 5: subject L can't be refused\n";
-    assert!(rt; ends_so(&rt, rt.alloc(), &pieces, 2, report, line));
+    let end = (2, "navtex: line 5: subject L can't be refused\n");
+    expect_report(&rt, rt.alloc(), ("within the text", &pieces, report), end);
 }

@@ -1,6 +1,6 @@
 //! `send`, `slots` and `code`.
 
-use super::{output_of, refuses, run_on, writes};
+use super::{expect_fault, expect_output, expect_text, output_of, run_on, shown};
 use std::alloc::Global;
 use std::process::Abort;
 
@@ -30,14 +30,16 @@ pub const AIR_FILE_OF_EA01: &[u8] = b"\
 #[test]
 fn sends_a_message(rt: HostRuntime) {
     let text = b"ZCZC EA01\nTEST\nNNNN\n\n";
-    assert!(rt; writes(rt.alloc(), &SEND, MESSAGE_FILE, AIR_FILE_OF_EA01));
-    assert!(rt; writes(rt.alloc(), &["navtex", "decode"], AIR_FILE_OF_EA01, text));
-}
-
-// Whether `slots` writes this line.
-fn tells(alloc: Global, station: &str, moment: &str, line: &str) -> bool {
-    let words = ["navtex", "slots", station, moment];
-    writes(alloc, &words, b"", line.as_bytes())
+    let decode = ["navtex", "decode"];
+    expect_output(
+        &rt,
+        rt.alloc(),
+        "send",
+        &SEND,
+        MESSAGE_FILE,
+        AIR_FILE_OF_EA01,
+    );
+    expect_output(&rt, rt.alloc(), "decode", &decode, AIR_FILE_OF_EA01, text);
 }
 
 #[test]
@@ -53,7 +55,8 @@ fn tells_the_next_slot(rt: HostRuntime) {
         ("X", "32503679400", "32503679400 2999-12-31 23:50:00\n"),
     ];
     for &(station, moment, line) in &ROWS {
-        assert!(rt; tells(rt.alloc(), station, moment, line));
+        let words = ["navtex", "slots", station, moment];
+        expect_output(&rt, rt.alloc(), moment, &words, b"", line.as_bytes());
     }
 }
 
@@ -77,7 +80,7 @@ fn names_each_fault_of_a_message_file(rt: HostRuntime) {
         ),
     ];
     for &(message_file, line) in &ROWS {
-        assert!(rt; refuses(rt.alloc(), &SEND, message_file, 2, line), "{line}");
+        expect_fault(&rt, rt.alloc(), line, &SEND, message_file, (2, line));
     }
 }
 
@@ -97,7 +100,14 @@ fn names_each_fault_of_a_station(rt: HostRuntime) {
     ];
     for &(command, station, moment, status, line) in &ROWS {
         let words = ["navtex", command, station, moment];
-        assert!(rt; refuses(rt.alloc(), &words, MESSAGE_FILE, status, line));
+        expect_fault(
+            &rt,
+            rt.alloc(),
+            station,
+            &words,
+            MESSAGE_FILE,
+            (status, line),
+        );
     }
 }
 
@@ -120,23 +130,6 @@ fn long_file(
     }
     file.extend_from_slice(b";\n").expect(rt, "memory");
     file
-}
-
-// Whether `send` refuses such a file by this line, and sends it where there is none.
-fn sends_long(
-    rt: &impl Abort,
-    alloc: Global,
-    full_lines: usize,
-    line: &[u8],
-    empty_lines: usize,
-    fault: &str,
-) -> bool {
-    let file = long_file(rt, alloc, full_lines, line, empty_lines);
-    let ended = run_on(alloc, &SEND, &file);
-    let status = if fault.is_empty() { 0 } else { 2 };
-    ended.status == status
-        && ended.output.is_empty() != fault.is_empty()
-        && ended.faults.as_slice() == fault.as_bytes()
 }
 
 #[test]
@@ -164,17 +157,13 @@ fn fills_a_slot(rt: HostRuntime) {
         ),
     ];
     for (full_lines, line, empty_lines, fault) in rows {
-        assert!(rt;
-            sends_long(&rt, rt.alloc(), full_lines, line, empty_lines, fault),
-            "{fault}"
-        );
+        let file = long_file(&rt, rt.alloc(), full_lines, line, empty_lines);
+        let ended = run_on(rt.alloc(), &SEND, &file);
+        expect_text(&rt, "faults", &ended.faults, fault.as_bytes());
+        let status = if fault.is_empty() { 0 } else { 2 };
+        assert!(rt; ended.status == status, "{fault}");
+        assert!(rt; ended.output.is_empty() != fault.is_empty(), "{fault}");
     }
-}
-
-// Whether a line of the table, from 0, is this one.
-fn has_line(table: &[u8], index: usize, line: &[u8]) -> bool {
-    let mut lines = table.split(|byte| *byte == b'\n');
-    lines.nth(index) == Some(line)
 }
 
 #[test]
@@ -188,6 +177,7 @@ fn prints_the_table(rt: HostRuntime) {
         (35, b""),
     ];
     for &(index, line) in &LINES {
-        assert!(rt; has_line(&table, index, line));
+        let found = table.split(|byte| *byte == b'\n').nth(index);
+        expect_text(&rt, shown(line), found.unwrap_or(b"no line"), line);
     }
 }

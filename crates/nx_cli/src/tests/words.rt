@@ -1,7 +1,7 @@
 //! What the words of the command line are answered with.
 
-use super::{AIR_FILE_OF_A, run_on};
-use crate::tests::devices::{Sink, Source};
+use super::devices::{Sink, Source};
+use super::{AIR_FILE_OF_A, expect_text, run_on, shown};
 use nx_fec::Counting;
 use nx_program::answer;
 use nx_program::laws::{
@@ -10,17 +10,28 @@ use nx_program::laws::{
 };
 use std::alloc::Global;
 use std::io::{Error, ErrorKind};
+use std::process::Abort;
 
-// Whether the words are answered with this status and, from its beginning on, this text in clap's
-// words: help on standard output, a refusal on standard error.
-fn is_answered(alloc: Global, words: &[&str], status: u8, text: &str) -> bool {
+// Expects that the words are answered with this status and, from its beginning on, this text in
+// clap's words: help on standard output, a refusal on standard error.
+fn expect_answer(rt: &impl Abort, alloc: Global, words: &[&str], status: u8, text: &str) {
     let ended = run_on(alloc, words, AIR_FILE_OF_A);
     let (answer, other) = if status == 0 {
         (&ended.output, &ended.faults)
     } else {
         (&ended.faults, &ended.output)
     };
-    ended.status == status && answer.starts_with(text.as_bytes()) && other.is_empty()
+    assert!(rt;
+        answer.starts_with(text.as_bytes()),
+        "{:?} in place of {text:?}",
+        shown(answer)
+    );
+    expect_text(rt, text, other, b"");
+    assert!(rt;
+        ended.status == status,
+        "{text}: status {} in place of {status}",
+        ended.status
+    );
 }
 
 const MISSING: &str = "error: 'navtex' requires a subcommand but one was not provided\n";
@@ -82,22 +93,31 @@ fn reads_its_words(rt: HostRuntime) {
         ),
     ];
     for &(words, status, text) in &ROWS {
-        assert!(rt; is_answered(rt.alloc(), words, status, text), "{text}");
+        expect_answer(&rt, rt.alloc(), words, status, text);
     }
 }
 
-// Whether the program ends so where its words can't be had for this reason, and calls neither input
-// nor output.
-fn ends_without_words(alloc: Global, kind: ErrorKind, status: u8, line: &str) -> bool {
+// Expects that the program ends so where its words can't be had for this reason, and calls neither
+// input nor output.
+fn expect_end_without_words(
+    rt: &impl Abort,
+    alloc: Global,
+    kind: ErrorKind,
+    status: u8,
+    line: &str,
+) {
     let mut input = Counting::new(Source::of(b""));
     let mut output = Counting::new(Sink::new(Vec::new(alloc)));
     let mut faults = Counting::new(Sink::new(Vec::new(alloc)));
     let words = Err(Error::from(kind));
     let ended = answer(alloc, words, &mut input, &mut output, &mut faults);
-    ended == status
-        && faults.into_inner().took(line.as_bytes())
-        && input.into_inner().calls == 0
-        && output.into_inner().calls == 0
+    expect_text(rt, line, &faults.into_inner().taken, line.as_bytes());
+    assert!(rt;
+        ended == status,
+        "{line}: status {ended} in place of {status}"
+    );
+    assert!(rt; input.into_inner().calls == 0, "{line}");
+    assert!(rt; output.into_inner().calls == 0, "{line}");
 }
 
 #[test]
@@ -108,7 +128,7 @@ fn answers_for_words_that_cannot_be_had(rt: HostRuntime) {
         (ErrorKind::InvalidData, 64, no_text),
         (ErrorKind::OutOfMemory, 1, no_memory),
     ] {
-        assert!(rt; ends_without_words(rt.alloc(), kind, status, line));
+        expect_end_without_words(&rt, rt.alloc(), kind, status, line);
     }
 }
 
