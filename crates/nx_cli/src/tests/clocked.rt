@@ -35,13 +35,57 @@ impl Clock {
     }
 }
 
+/// Where the pieces end that a reader gives.
+#[derive(Clone, Copy, Debug)]
+pub enum Pieces {
+    /// Each byte is a piece.
+    Bytes,
+    /// The first half of a line is a piece, and its rest is the next one.
+    HalfLines,
+}
+
+impl Pieces {
+    /// How many bytes the next piece of a text has at most, behind so many pieces.
+    fn next(self, text: &[u8], given: u64) -> usize {
+        match self {
+            Pieces::Bytes => 1,
+            Pieces::HalfLines => {
+                let end = text.iter().position(|byte| *byte == b'\n');
+                let line = end.unwrap_or(text.len()).saturating_add(1);
+                if given % 2 == 0 {
+                    (line / 2).max(1)
+                } else {
+                    line
+                }
+            }
+        }
+    }
+
+    /// How many pieces a text has, behind so many others.
+    pub fn count(self, text: &[u8], given: u64) -> usize {
+        let mut rest = text;
+        let mut count = 0_usize;
+        for _ in 0..text.len() {
+            if rest.is_empty() {
+                break;
+            }
+            let place = given.saturating_add(count as u64);
+            let piece = self.next(rest, place).min(rest.len());
+            rest = &rest[piece..];
+            count = count.saturating_add(1);
+        }
+        count
+    }
+}
+
 /// A reader that gives its text in pieces, fails once, and then goes on.
 #[derive(Drop)]
 pub struct Reader<'a> {
     pub clock: &'a Clock,
     pub rest: &'a [u8],
-    /// The most bytes that one call gives.
-    pub piece: usize,
+    pub pieces: Pieces,
+    /// How many pieces it gave.
+    pub given: u64,
     /// How many calls succeed before the one that fails; none fails where there is no number.
     pub sound: Option<usize>,
 }
@@ -57,7 +101,9 @@ impl Read for Reader<'_> {
             Some(count) => self.sound = Some(count - 1),
             None => {}
         }
-        let count = self.rest.len().min(self.piece).min(buf.len());
+        let piece = self.pieces.next(self.rest, self.given);
+        self.given = self.given.saturating_add(1);
+        let count = self.rest.len().min(piece).min(buf.len());
         let (given, rest) = self.rest.split_at(count);
         buf[..count].copy_from_slice(given);
         self.rest = rest;

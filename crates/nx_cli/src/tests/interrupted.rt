@@ -1,20 +1,23 @@
-//! Each call over a reader and a writer, interrupted at each of its reads, and behind each byte
-//! that it writes.
+//! Each call over a reader and a writer, interrupted at each of its reads, and at each kind of place in
+//! what it writes.
 
 ghost use Rattle.std.specs.Prelude.{◌≡◌, ◌≤◌};
 ghost use Rattle.nx_envelope.specs.Moment.{last_moment};
 
-use super::AIR_FILE_OF_A;
-use super::air::join;
-use super::clocked::{Clock, Reader, Writer};
+use super::air::Piece::{Combinations, Named, Part, Text};
+use super::air::{HEADER_OF_EA01, MOMENT_OF_EA01, Piece, join, made_of};
+use super::clocked::{Clock, Pieces, Reader, Writer};
 use super::endings::Ending;
 use super::resuming::{EA01_SAVED, NOTHING};
 use super::station::{AIR_FILE_OF_EA01, MESSAGE_FILE};
+use super::{AIR_FILE_OF_A, shown};
 use nx_envelope::{Finder, FinderStep, Identity, Letter};
-use nx_fec::{Counting, decode_run, encode_run, read_bits, show_run, write_bits, write_table};
+use nx_fec::{
+    Channel, Counting, decode_run, encode_run, read_bits, show_run, write_bits, write_table,
+};
 use nx_locks::locks;
 use nx_memory::{PlainRecall, Recall, Saved, SavedSet, Selection};
-use nx_receiver::{Entry, Want, entry_text, listen, listen_from, resume};
+use nx_receiver::{Entry, Want, entry_text, entry_text_on, listen, listen_from, resume};
 use nx_station::{DamageKind, check_run, damage, send};
 use std::alloc::Global;
 use std::io::{Read, Write};
@@ -35,6 +38,7 @@ enum Call {
     CheckRun,
     Damage,
     EntryText,
+    EntryTextOn(Channel),
     WriteBits,
     WriteTable,
 }
@@ -47,11 +51,17 @@ struct Given {
     /// What a receiver left that heard EB02.
     saved: SavedSet,
     bits: Vec<bool>,
-    /// The air file of EA01 with 100 elements in each line, so that its copy is open behind some of
+    /// The air file of EA01 with 200 elements in each line, so that its copy is open behind some of
     /// them.
     short_lines: Vec<u8>,
     /// The same behind the state of a receiver that has heard nothing.
     resumed: Vec<u8>,
+    /// Three channels that hear EA01 in turn: 1 all of it, 0 and 2 up to the end of its text.
+    on_three: Vec<u8>,
+    /// The same behind that state.
+    resumed_on_three: Vec<u8>,
+    /// One line in which a copy of EA01 is cut, and one of EB02 ends.
+    two_in_a_line: Vec<u8>,
 }
 
 const MOMENT: u64 = 1_735_689_600;
@@ -103,6 +113,7 @@ impl Call {
                 damage(reader, writer, DamageKind::All, 0, 1)?;
             }
             Call::EntryText => entry_text(&given.entry, writer)?,
+            Call::EntryTextOn(channel) => entry_text_on(&given.entry, channel, writer)?,
             Call::WriteBits => write_bits(writer, &given.bits)?,
             Call::WriteTable => write_table(writer)?,
         }
@@ -163,20 +174,51 @@ fn given_to_calls(rt: &impl Abort, alloc: Global) -> Given
     let mut file = Counting::new(AIR_FILE_OF_EA01);
     let bits = read_bits(alloc, &mut file).expect(rt, "elements");
     let short_lines = in_short_lines(rt, alloc, &bits);
+    let on_three = made_of(rt, alloc, &ON_THREE);
     Given {
         station: Letter::new(b'E').expect(rt, "a station"),
         entry: entry_of_ea01(rt),
         saved: saved_with_eb02(rt),
         resumed: join(rt, alloc, &[NOTHING, &short_lines]),
+        resumed_on_three: join(rt, alloc, &[NOTHING, &on_three]),
+        two_in_a_line: made_of(rt, alloc, &TWO_IN_A_LINE),
         short_lines,
+        on_three,
         bits,
     }
 }
 
-/// EA01 at its moment, with 100 elements in each line.
+/// The elements of EA01 on three channels in turn, of which channel 1 hears all.
+static ON_THREE: [Piece<'static>; 10] = [
+    Text(MOMENT_OF_EA01),
+    Part(0, 490, 490),
+    Named(b'1', 0, 490),
+    Named(b'2', 0, 490),
+    Part(490, 980, 490),
+    Named(b'1', 490, 980),
+    Named(b'2', 490, 980),
+    Part(980, 1_323, 490),
+    Named(b'1', 980, 1_421),
+    Named(b'2', 980, 1_323),
+];
+
+/// The letter shift, ZCZC, a space, EB, the figure shift, 02 and a new line.
+const HEADER_OF_EB02: [u8; 13] = [29, 26, 3, 26, 3, 31, 5, 2, 30, 16, 23, 27, 28];
+
+/// The letter shift, NNNN and what follows it.
+const END: [u8; 8] = [29, 14, 14, 14, 14, 27, 28, 28];
+
+/// The C before EB02 is position 89 and the last N position 102, so that the copies end with the elements
+/// 1,288 and 1,470, which the third line has both.
+static TWO_IN_A_LINE: [Piece<'static>; 2] = [
+    Text(MOMENT_OF_EA01),
+    Combinations(&[&HEADER_OF_EA01, &HEADER_OF_EB02, &END], usize::MAX),
+];
+
+/// EA01 at its moment, with 200 elements in each line.
 fn in_short_lines(rt: &impl Abort, alloc: Global, bits: &[bool]) -> Vec<u8> {
     let mut file = b"T 1735692000\n".to_vec(alloc).expect(rt, "memory");
-    for line in bits.chunks(100) {
+    for line in bits.chunks(200) {
         file.extend_from_slice(b"B ").expect(rt, "memory");
         for bit in line {
             file.push(if *bit { b'1' } else { b'0' })
@@ -216,15 +258,14 @@ impl Case<'_> {
         written
     }
 
-    /// How often the call reads, where one read gives so many bytes at most: a call that reads sees
-    /// the end too.
-    fn reads(&self, piece: usize) -> usize {
+    /// How often the call reads, where each read gives such a piece: a call that reads sees the end too.
+    fn reads(&self, pieces: Pieces) -> usize {
         match self.call {
-            Call::EntryText | Call::WriteBits | Call::WriteTable => 0,
+            Call::EntryText | Call::EntryTextOn(_) | Call::WriteBits | Call::WriteTable => 0,
             _ => {
-                let others = self.input.len().saturating_sub(self.state);
-                let reads = others.div_ceil(piece.max(1)).saturating_add(1);
-                reads.saturating_add(self.state)
+                let others = self.input.get(self.state..).unwrap_or(b"");
+                let count = pieces.count(others, self.state as u64);
+                count.saturating_add(self.state).saturating_add(1)
             }
         }
     }
@@ -241,20 +282,61 @@ fn whole_lines(input: &[u8], read: usize) -> usize {
     lines
 }
 
-/// The copy of EA01 ends with the word of slot 195, its element 1,372. With 100 elements in each line
-/// that is in the 14th of 103 bytes, behind the line of the moment.
-const HEARD_IN_SHORT_LINES: usize = LINE_OF_MOMENT + 14 * 103;
+/// The copy of EA01 ends with the word of slot 195, its element 1,372. With 200 elements in each line
+/// that is in the seventh of 203 bytes, behind the line of the moment.
+const HEARD_IN_SHORT_LINES: usize = LINE_OF_MOMENT + 7 * 203;
 
-fn cases<'a>(given: &'a Given) -> [Case<'a>; 17] {
+/// Where the first of the channels on three has heard a copy in full: behind two lines of 490 elements
+/// on each of the three, one of 343 on channel 0 and one of 441 on channel 1.
+const HEARD_ON_THREE: usize = LINE_OF_MOMENT + 2 * (493 + 494 + 494) + 346 + 445;
+
+/// The copies that stand open at the end come by channel.
+const LOG_ON_THREE: &[u8] = b"[EA01/1 2025-01-01 00:40:00 full 0/5]\nTEST\n\n\
+    [EA01 2025-01-01 00:40:00 cut 0/5]\nTEST\n\n\
+    [EA01/2 2025-01-01 00:40:00 cut 0/5]\nTEST\n\n";
+
+/// Two copies of one line, the third of 490 elements.
+const LOG_OF_TWO: &[u8] =
+    b"[EA01 2025-01-01 00:40:00 cut 0/0]\n\n[EB02 2025-01-01 00:40:00 full 0/0]\n\n";
+
+const HEARD_TWO: usize = LINE_OF_MOMENT + 3 * 493;
+
+const LOG_ON_CHANNEL_2: &[u8] = b"[EA01/2 2025-01-01 00:40:00 full 0/5]\nTEST\n\n";
+
+/// The calls that listen to one channel.
+fn listening<'a>(given: &'a Given) -> [Case<'a>; 6] {
+    let whole = AIR_FILE_OF_EA01.len();
+    [
+        heard(Call::Listen, AIR_FILE_OF_EA01, LOG_OF_EA01, whole),
+        heard(
+            Call::ListenFrom,
+            &given.short_lines,
+            LOG_OF_EA01,
+            HEARD_IN_SHORT_LINES,
+        ),
+        heard(Call::Listen, &given.two_in_a_line, LOG_OF_TWO, HEARD_TWO),
+        row(Call::Listen, LINES, b""),
+        locks_shown(),
+        resumed_for_the_state(given),
+    ]
+}
+
+/// Those that listen to three.
+fn listening_on_three<'a>(given: &'a Given) -> [Case<'a>; 2] {
+    [
+        on_three(Call::Listen, &given.on_three, 0),
+        on_three(
+            Call::Resume(Want::Log),
+            &given.resumed_on_three,
+            NOTHING.len(),
+        ),
+    ]
+}
+
+/// The others.
+fn others<'a>() -> [Case<'a>; 11] {
     [
         row(Call::Send, MESSAGE_FILE, AIR_FILE_OF_EA01),
-        heard(Call::Listen, AIR_FILE_OF_EA01, AIR_FILE_OF_EA01.len()),
-        heard(Call::Listen, &given.short_lines, HEARD_IN_SHORT_LINES),
-        heard(Call::ListenFrom, &given.short_lines, HEARD_IN_SHORT_LINES),
-        row(Call::Listen, LINES, b""),
-        shown(),
-        resumed_for_the_log(given),
-        resumed_for_the_state(given),
         row(Call::ReadBits, LINES, b""),
         row(
             Call::DecodeRun,
@@ -274,6 +356,7 @@ fn cases<'a>(given: &'a Given) -> [Case<'a>; 17] {
         ),
         row(Call::Damage, LINES, DAMAGED_LINES),
         row(Call::EntryText, b"", LOG_OF_EA01),
+        row(Call::EntryTextOn(Channel::Two), b"", LOG_ON_CHANNEL_2),
         row(Call::WriteBits, b"", &AIR_FILE_OF_EA01[LINE_OF_MOMENT..]),
         row(Call::WriteTable, b"", TABLE),
     ]
@@ -290,16 +373,26 @@ fn row<'a>(call: Call, input: &'a [u8], output: &'a [u8]) -> Case<'a> {
     }
 }
 
-/// A case in which EA01 is heard, whose entry is written where so many bytes were read.
-fn heard<'a>(call: Call, input: &'a [u8], enough: usize) -> Case<'a> {
+/// A case in which all that is heard is written where so many bytes were read.
+fn heard<'a>(call: Call, input: &'a [u8], output: &'a [u8], enough: usize) -> Case<'a> {
     Case {
-        written: [(enough, LOG_OF_EA01.len()); 2],
-        ..row(call, input, LOG_OF_EA01)
+        written: [(enough, output.len()); 2],
+        ..row(call, input, output)
+    }
+}
+
+/// Three channels behind so many bytes of a state.
+fn on_three<'a>(call: Call, input: &'a [u8], state: usize) -> Case<'a> {
+    let first = b"[EA01/1 2025-01-01 00:40:00 full 0/5]\nTEST\n\n".len();
+    Case {
+        state,
+        written: [(HEARD_ON_THREE.saturating_add(state), first); 2],
+        ..row(call, input, LOG_ON_THREE)
     }
 }
 
 /// The locks of EA01: its first line of elements begins one, the third has its text.
-fn shown<'a>() -> Case<'a> {
+fn locks_shown<'a>() -> Case<'a> {
     let begun = b"[2025-01-01 00:40:00 lock 28]\n".len();
     let text = b"ZCZC EA01\nTEST\nNNNN\n\n".len();
     Case {
@@ -308,15 +401,7 @@ fn shown<'a>() -> Case<'a> {
     }
 }
 
-/// EA01 in short lines is heard from a state on.
-fn resumed_for_the_log(given: &Given) -> Case<'_> {
-    let enough = NOTHING.len() + HEARD_IN_SHORT_LINES;
-    Case {
-        state: NOTHING.len(),
-        ..heard(Call::Resume(Want::Log), &given.resumed, enough)
-    }
-}
-
+/// EA01 in short lines is heard from a state on, and the state is kept.
 fn resumed_for_the_state(given: &Given) -> Case<'_> {
     Case {
         state: NOTHING.len(),
@@ -334,23 +419,11 @@ struct Ended {
     stopped: bool,
 }
 
-impl Ended {
-    /// Whether the call succeeded and wrote this.
-    fn succeeded(&self, output: &[u8]) -> bool {
-        self.ending == Ok(()) && self.written.as_slice() == output
-    }
-
-    /// Whether the call ended so at the call on a device that failed, and wrote this.
-    fn failed(&self, ending: Ending, written: Option<&[u8]>) -> bool {
-        self.ending == Err(ending) && self.stopped && Some(self.written.as_slice()) == written
-    }
-}
-
 /// Where a call is interrupted.
-#[derive(Clone, Copy, Drop)]
+#[derive(Clone, Copy, Debug, Drop)]
 struct Trouble {
-    /// The most bytes that the reader gives at once.
-    piece: usize,
+    /// What the reader gives at once.
+    pieces: Pieces,
     /// How many reads succeed before one fails.
     sound: Option<usize>,
     /// How many bytes the writer takes before it fails.
@@ -363,7 +436,8 @@ fn reader_on<'a>(clock: &'a Clock, input: &'a [u8], trouble: Trouble) -> Countin
     Counting::new(Reader {
         clock,
         rest: input,
-        piece: trouble.piece,
+        pieces: trouble.pieces,
+        given: 0,
         sound: trouble.sound,
     })
 }
@@ -395,95 +469,164 @@ fn interrupt(alloc: Global, case: &Case, given: &Given, trouble: Trouble) -> End
     }
 }
 
-/// Whether the call stops at a read that fails behind so many.
-fn stops_at_read(alloc: Global, case: &Case, given: &Given, piece: usize, reads: usize) -> bool
-    requires { given.now.entry.moment ≤ last_moment }
-{
-    let trouble = Trouble {
-        piece,
-        sound: Some(reads),
-        room: None,
-    };
-    let ended = interrupt(alloc, case, given, trouble);
-    let written = case.written_after(ended.read);
-    ended.failed(Ending::Read, case.output.get(..written))
+/// Expects that a call with this trouble ended so and wrote this, and that a failed call on a device
+/// was the last one.
+fn expect_ending(
+    rt: &impl Abort,
+    case: &Case,
+    trouble: Trouble,
+    ended: &Ended,
+    ending: Result<(), Ending>,
+    written: usize,
+) {
+    let (call, came) = (case.call, ended.ending);
+    assert!(rt;
+        came == ending,
+        "{call:?}, {trouble:?}: {came:?} in place of {ending:?}"
+    );
+    assert!(rt;
+        ended.stopped || ending.is_ok(),
+        "{call:?}, {trouble:?}: a call after a failure"
+    );
+    assert!(rt;
+        Some(ended.written.as_slice()) == case.output.get(..written),
+        "{call:?}, {trouble:?}: {:?} and not {written} bytes of {:?}",
+        shown(&ended.written),
+        shown(case.output)
+    );
 }
 
-/// Whether the call succeeds where so many reads succeed.
-fn succeeds(alloc: Global, case: &Case, given: &Given, piece: usize, sound: Option<usize>) -> bool
+/// Expects that the call succeeds where so many reads succeed.
+fn expect_success(
+    rt: &impl Abort,
+    alloc: Global,
+    case: &Case,
+    given: &Given,
+    pieces: Pieces,
+    sound: Option<usize>,
+)
     requires { given.now.entry.moment ≤ last_moment }
 {
     let trouble = Trouble {
-        piece,
+        pieces,
         sound,
         room: None,
     };
-    interrupt(alloc, case, given, trouble).succeeded(case.output)
+    let ended = interrupt(alloc, case, given, trouble);
+    expect_ending(rt, case, trouble, &ended, Ok(()), case.output.len());
 }
 
-/// Whether the call stops at each of its reads, as each fails in turn, and there is no further one.
-fn stops_at_reads(alloc: Global, case: &Case, given: &Given, piece: usize) -> bool
+/// Expects that the call stops at each of its reads, as each fails in turn, and that there is no
+/// further one.
+fn expect_stops_at_reads(rt: &impl Abort, alloc: Global, case: &Case, given: &Given, pieces: Pieces)
     requires { given.now.entry.moment ≤ last_moment }
 {
-    let reads = case.reads(piece);
+    let reads = case.reads(pieces);
     for read in 0..reads {
-        if !stops_at_read(alloc, case, given, piece, read) {
-            return false;
-        }
+        let trouble = Trouble {
+            pieces,
+            sound: Some(read),
+            room: None,
+        };
+        let ended = interrupt(alloc, case, given, trouble);
+        let written = case.written_after(ended.read);
+        expect_ending(rt, case, trouble, &ended, Err(Ending::Read), written);
     }
-    succeeds(alloc, case, given, piece, None) && succeeds(alloc, case, given, piece, Some(reads))
+    expect_success(rt, alloc, case, given, pieces, None);
+    expect_success(rt, alloc, case, given, pieces, Some(reads));
 }
 
+/// Each read fails in turn, inside a line and at its end.
 #[test]
 fn stops_at_each_failed_read(rt: HostRuntime) {
     let given = given_to_calls(&rt, rt.alloc());
-    for case in &cases(&given) {
-        assert!(rt; stops_at_reads(rt.alloc(), case, &given, usize::MAX));
-        assert!(rt; stops_at_reads(rt.alloc(), case, &given, LINE_OF_MOMENT));
-        assert!(rt; case.input.len() >= 200 || stops_at_reads(rt.alloc(), case, &given, 1));
+    for case in &others() {
+        expect_stops_at_reads(&rt, rt.alloc(), case, &given, Pieces::HalfLines);
+        if case.input.len() < 100 {
+            expect_stops_at_reads(&rt, rt.alloc(), case, &given, Pieces::Bytes);
+        }
     }
 }
 
-/// Whether the call stops at a writer that fails behind so many bytes.
-fn stops_at_write(alloc: Global, case: &Case, given: &Given, room: usize) -> bool
+#[test]
+fn stops_listening_at_each_failed_read(rt: HostRuntime) {
+    let given = given_to_calls(&rt, rt.alloc());
+    for case in &listening(&given) {
+        expect_stops_at_reads(&rt, rt.alloc(), case, &given, Pieces::HalfLines);
+    }
+}
+
+#[test]
+fn stops_listening_to_three_channels_at_each_failed_read(rt: HostRuntime) {
+    let given = given_to_calls(&rt, rt.alloc());
+    for case in &listening_on_three(&given) {
+        expect_stops_at_reads(&rt, rt.alloc(), case, &given, Pieces::HalfLines);
+    }
+}
+
+/// Expects that the call stops at a writer that fails behind so many bytes, or succeeds where there is
+/// room for all.
+fn expect_stop_at_write(rt: &impl Abort, alloc: Global, case: &Case, given: &Given, room: usize)
     requires { given.now.entry.moment ≤ last_moment }
 {
     let trouble = Trouble {
-        piece: LINE_OF_MOMENT,
+        pieces: Pieces::HalfLines,
         sound: None,
         room: Some(room),
     };
     let ended = interrupt(alloc, case, given, trouble);
-    if room == case.output.len() {
-        return ended.succeeded(case.output);
-    }
-    ended.failed(Ending::Write(room as u64), case.output.get(..room))
+    let ending = if room == case.output.len() {
+        Ok(())
+    } else {
+        Err(Ending::Write(room as u64))
+    };
+    expect_ending(rt, case, trouble, &ended, ending, room);
 }
 
-/// Whether the call stops behind each byte of what it writes, and ends where all have room.
-fn stops_at_writes(alloc: Global, case: &Case, given: &Given) -> bool
+/// Whether a writer fails here: at the beginning, behind one byte, directly before a line's end, or
+/// directly behind it, where one entry ends and the next one begins.
+fn is_place(output: &[u8], room: usize) -> bool {
+    let near = output.get(room.saturating_sub(1)..room.saturating_add(1));
+    room < 2 || near.unwrap_or(b"\n").contains(&b'\n')
+}
+
+/// Expects that the call stops at a writer that fails at each place in turn.
+fn expect_stops_at_writes(rt: &impl Abort, alloc: Global, case: &Case, given: &Given)
     requires { given.now.entry.moment ≤ last_moment }
 {
     for room in 0..=case.output.len() {
-        if !stops_at_write(alloc, case, given, room) {
-            return false;
+        if is_place(case.output, room) {
+            expect_stop_at_write(rt, alloc, case, given, room);
         }
     }
-    true
 }
 
+/// An entry is written to a writer that fails behind each byte in turn, too.
 #[test]
-fn stops_behind_each_byte(rt: HostRuntime) {
+fn stops_at_each_failed_write(rt: HostRuntime) {
     let given = given_to_calls(&rt, rt.alloc());
-    for case in &cases(&given) {
-        assert!(rt; case.call == Call::Send || stops_at_writes(rt.alloc(), case, &given));
+    for case in &others() {
+        expect_stops_at_writes(&rt, rt.alloc(), case, &given);
+        if matches!(case.call, Call::EntryText | Call::EntryTextOn(_)) {
+            for room in 0..=case.output.len() {
+                expect_stop_at_write(&rt, rt.alloc(), case, &given, room);
+            }
+        }
     }
 }
 
 #[test]
-fn stops_behind_each_byte_of_an_emission(rt: HostRuntime) {
+fn stops_listening_at_each_failed_write(rt: HostRuntime) {
     let given = given_to_calls(&rt, rt.alloc());
-    for case in &cases(&given) {
-        assert!(rt; case.call != Call::Send || stops_at_writes(rt.alloc(), case, &given));
+    for case in &listening(&given) {
+        expect_stops_at_writes(&rt, rt.alloc(), case, &given);
+    }
+}
+
+#[test]
+fn stops_listening_to_three_channels_at_each_failed_write(rt: HostRuntime) {
+    let given = given_to_calls(&rt, rt.alloc());
+    for case in &listening_on_three(&given) {
+        expect_stops_at_writes(&rt, rt.alloc(), case, &given);
     }
 }
