@@ -1,5 +1,5 @@
 //! Signals, locks, texts, memories, what is sent and checked; entries as they are printed, a judge's
-//! answers, emissions through a receiver, through `listen` and through `locks`, and states.
+//! answers, emissions through a receiver, through `listen` and through `locks`, states, and limits.
 
 mod air_files;
 mod entries;
@@ -21,6 +21,7 @@ use nx_station::send;
 use std::alloc::Global;
 use std::fmt::Display;
 use std::process::Abort;
+use std::str::from_utf8;
 
 /// 2025-01-01 00:40:00, four hours later, and 66 hours after the first.
 const FIRST: u64 = 1_735_692_000;
@@ -45,9 +46,25 @@ fn first_copy(text: &[u8]) -> Option<Found> {
     finder.end()
 }
 
-/// Whether a fault is told by this text.
-fn is_told(rt: &impl Abort, alloc: Global, fault: &impl Display, text: &str) -> bool {
-    fault.to_string(alloc).expect(rt, "memory").as_str() == text
+/// The bytes as a text, where they are one.
+fn shown(bytes: &[u8]) -> &str {
+    from_utf8(bytes).unwrap_or("bytes that are no text")
+}
+
+/// Expects these bytes in this row; where others are found, both are shown.
+fn expect_text(rt: &impl Abort, row: &str, found: &[u8], wanted: &[u8]) {
+    assert!(rt;
+        found == wanted,
+        "{row}: {:?} in place of {:?}",
+        shown(found),
+        shown(wanted)
+    );
+}
+
+/// Expects that a fault is told by this text.
+fn expect_told(rt: &impl Abort, alloc: Global, fault: &impl Display, text: &str) {
+    let told = fault.to_string(alloc).expect(rt, "memory");
+    expect_text(rt, "a fault", told.as_bytes(), text.as_bytes());
 }
 
 /// What station E sends of a message file, in its slot that begins at this moment.

@@ -1,6 +1,6 @@
 //! Entries as they are printed.
 
-use super::{FIRST, first_copy};
+use super::{FIRST, expect_text, first_copy, shown};
 use nx_fec::{Channel, Counting};
 use nx_receiver::{Entry, entry_text, entry_text_on};
 use std::alloc::Global;
@@ -56,7 +56,7 @@ fn entries_of_texts(rt: HostRuntime) {
     ];
     for &(text, channel, entry) in &CASES {
         let bytes = printed(rt.alloc(), text, channel).expect(&rt, "no entry");
-        assert!(rt; bytes.as_slice() == entry);
+        expect_text(&rt, shown(text), &bytes, entry);
     }
 }
 
@@ -70,5 +70,5 @@ fn an_entry_of_4100_characters(rt: HostRuntime) {
     let bytes = writer.into_inner();
     let rest = bytes.strip_prefix(b"[EA01 2025-01-01 00:40:00 long 0/4100]\n");
     let letters = rest.and_then(|rest| rest.strip_suffix(b"\n\n"));
-    assert!(rt; letters == Some([b'A'; 4_100].as_slice()));
+    assert_eq!(rt; letters, Some([b'A'; 4_100].as_slice()));
 }

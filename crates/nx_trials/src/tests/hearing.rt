@@ -3,7 +3,7 @@
 ghost use Rattle.std.specs.Prelude.{◌<◌, ◌≤◌};
 ghost use Rattle.nx_envelope.specs.Moment.{last_moment};
 
-use super::{AGAIN, EA01, FIRST, LOG_OF_EA01, SECOND, elements_of};
+use super::{AGAIN, EA01, FIRST, LOG_OF_EA01, SECOND, elements_of, expect_text};
 use nx_envelope::{Identity, Letter};
 use nx_fec::Counting;
 use nx_memory::{PlainRecall, Recall, RingRecall, Selection};
@@ -14,8 +14,8 @@ use std::process::Abort;
 /// A moment, and which of the emissions at hand is heard from it on.
 type Heard = (u64, usize);
 
-/// What is heard, and the log.
-type Case<'a> = (&'a [Heard], &'a [u8]);
+/// What is told of what is heard, what is heard, and the log.
+type Case<'a> = (&'a str, &'a [Heard], &'a [u8]);
 
 /// Appends an entry to a log.
 fn add_entry(rt: &impl Abort, alloc: Global, log: &mut Vec<u8>, entry: &Entry)
@@ -71,11 +71,11 @@ fn log_of<M: Recall>(
     log
 }
 
-/// Whether this is the log, with either memory, in pieces of this length.
-fn is_log(rt: &impl Abort, alloc: Global, emissions: &[&[bool]], case: Case, length: usize) -> bool
+/// Expects this log, with either memory, in pieces of this length.
+fn expect_log(rt: &impl Abort, alloc: Global, emissions: &[&[bool]], case: Case, length: usize)
     requires { 0 < length }
 {
-    let (heard, log) = case;
+    let (row, heard, log) = case;
     let plain = log_of(rt, alloc, PlainRecall::new(), emissions, heard, length);
     let ring = log_of(
         rt,
@@ -85,19 +85,16 @@ fn is_log(rt: &impl Abort, alloc: Global, emissions: &[&[bool]], case: Case, len
         heard,
         length,
     );
-    plain.as_slice() == log && ring.as_slice() == log
+    expect_text(rt, row, &plain, log);
+    expect_text(rt, row, &ring, log);
 }
 
-/// Whether each of these is heard so, in one piece and bit by bit.
-fn are_logs(rt: &impl Abort, alloc: Global, emissions: &[&[bool]], cases: &[Case]) -> bool {
+/// Expects that each of these is heard so, in one piece and bit by bit.
+fn expect_logs(rt: &impl Abort, alloc: Global, emissions: &[&[bool]], cases: &[Case]) {
     for case in cases {
-        if !is_log(rt, alloc, emissions, *case, usize::MAX)
-            || !is_log(rt, alloc, emissions, *case, 1)
-        {
-            return false;
-        }
+        expect_log(rt, alloc, emissions, *case, usize::MAX);
+        expect_log(rt, alloc, emissions, *case, 1);
     }
-    true
 }
 
 /// Inverts the first element of each of these words.
@@ -127,14 +124,17 @@ fn slipped_and_swapped(rt: HostRuntime) {
     let but_one_word = whole.get(7..).expect(&rt, "elements");
     let slipped = joined(&rt, rt.alloc(), &[four_words, &[false; 3], &whole]);
     let swapped = joined(&rt, rt.alloc(), &[four_words, but_one_word]);
-    let cases: [Case; 2] = [(&[(FIRST, 0)], LOG_OF_EA01), (&[(FIRST, 1)], LOG_OF_EA01)];
-    assert!(rt; are_logs(&rt, rt.alloc(), &[&slipped, &swapped], &cases));
+    let cases: [Case; 2] = [
+        ("slipped", &[(FIRST, 0)], LOG_OF_EA01),
+        ("swapped", &[(FIRST, 1)], LOG_OF_EA01),
+    ];
+    expect_logs(&rt, rt.alloc(), &[&slipped, &swapped], &cases);
 }
 
 #[test]
 fn damaged_and_cut(rt: HostRuntime) {
     let whole = elements_of(&rt, rt.alloc(), EA01);
-    assert!(rt; whole.len() == 1_421);
+    assert_eq!(rt; whole.len(), 1_421);
     // The figure shift is lost in both words.
     let mut lost = whole.clone().expect(&rt, "memory");
     damage(&mut lost, &[160, 165]);
@@ -145,20 +145,22 @@ fn damaged_and_cut(rt: HostRuntime) {
     }
     let cut = whole.get(..1_323).expect(&rt, "elements");
     static CASES: [Case; 5] = [
-        (&[(FIRST, 0)], LOG_OF_EA01),
-        (&[(FIRST, 1)], b""),
-        (&[(FIRST, 2)], LOG_OF_EA01),
+        ("whole", &[(FIRST, 0)], LOG_OF_EA01),
+        ("the figure shift is lost", &[(FIRST, 1)], b""),
+        ("half of it is damaged", &[(FIRST, 2)], LOG_OF_EA01),
         (
+            "cut",
             &[(FIRST, 3)],
             b"[EA01 2025-01-01 00:40:00 cut 0/5]\nTEST\n\n",
         ),
         (
+            "cut, and then whole",
             &[(FIRST, 3), (SECOND, 0)],
             b"[EA01 2025-01-01 00:40:00 cut 3/8]\nTEST\n***\n\n\
             [EA01 2025-01-01 04:40:00 full 0/5]\nTEST\n\n",
         ),
     ];
-    assert!(rt; are_logs(&rt, rt.alloc(), &[&whole, &lost, &half, cut], &CASES));
+    expect_logs(&rt, rt.alloc(), &[&whole, &lost, &half, cut], &CASES);
 }
 
 #[test]
@@ -166,37 +168,40 @@ fn repeats(rt: HostRuntime) {
     let ea01 = elements_of(&rt, rt.alloc(), EA01);
     let ea00 = elements_of(&rt, rt.alloc(), b"#A00\nTEST\n;\n");
     let two = elements_of(&rt, rt.alloc(), b"#A01\nTEST\n;\n#B02\n;\n");
-    assert!(rt; two.len() == 2_219);
+    assert_eq!(rt; two.len(), 2_219);
     static CASES: [Case; 4] = [
-        (&[(FIRST, 0), (SECOND, 0)], LOG_OF_EA01),
+        ("a repeat", &[(FIRST, 0), (SECOND, 0)], LOG_OF_EA01),
         (
+            "66 hours later",
             &[(FIRST, 0), (AGAIN - 1, 0), (AGAIN, 0)],
             b"[EA01 2025-01-01 00:40:00 full 0/5]\nTEST\n\n\
             [EA01 2025-01-03 18:40:00 full 0/5]\nTEST\n\n",
         ),
         (
+            "the number 00",
             &[(FIRST, 1), (FIRST, 1), (FIRST, 1)],
             b"[EA00 2025-01-01 00:40:00 full 0/5]\nTEST\n\n\
             [EA00 2025-01-01 00:40:00 full 0/5]\nTEST\n\n\
             [EA00 2025-01-01 00:40:00 full 0/5]\nTEST\n\n",
         ),
         (
+            "two messages",
             &[(FIRST, 2), (SECOND, 2)],
             b"[EA01 2025-01-01 00:40:00 full 0/5]\nTEST\n\n\
             [EB02 2025-01-01 00:40:00 full 0/0]\n\n",
         ),
     ];
-    assert!(rt; are_logs(&rt, rt.alloc(), &[&ea01, &ea00, &two], &CASES));
+    expect_logs(&rt, rt.alloc(), &[&ea01, &ea00, &two], &CASES);
 }
 
 #[test]
 fn moments(rt: HostRuntime) {
     let range = Some(ReceiverFault::MomentRange);
     let late = Receiver::new(rt.alloc(), PlainRecall::new(), 32_503_680_000);
-    assert!(rt; late.err() == range);
+    assert_eq!(rt; late.err(), range);
     let mut memory = PlainRecall::new();
     memory.enter(Identity::new(b'E', b'A', 1).expect(&rt, "EA01"), 5);
-    assert!(rt; Receiver::new(rt.alloc(), memory, 4).err() == range);
+    assert_eq!(rt; Receiver::new(rt.alloc(), memory, 4).err(), range);
     let mut receiver = Receiver::new(rt.alloc(), PlainRecall::new(), 0).expect(&rt, "receiver");
     let cases = [
         (5, Ok(())),
@@ -210,7 +215,7 @@ fn moments(rt: HostRuntime) {
         (5, Ok(())),
     ];
     for (moment, outcome) in cases {
-        assert!(rt; receiver.set_moment(moment) == outcome);
+        assert_eq!(rt; receiver.set_moment(moment), outcome, "{moment}");
     }
 }
 

@@ -36,9 +36,9 @@ fn judge_copies<M: Recall>(memory: &mut M) -> Option<[bool; 8]>
 fn judges(rt: HostRuntime) {
     let judged = [true, true, false, true, false, false, true, true];
     let mut plain = PlainRecall::new();
-    assert!(rt; judge_copies(&mut plain) == Some(judged));
+    assert_eq!(rt; judge_copies(&mut plain), Some(judged));
     let mut ring = RingRecall::new(rt.alloc()).expect(&rt, "memory");
-    assert!(rt; judge_copies(&mut ring) == Some(judged));
+    assert_eq!(rt; judge_copies(&mut ring), Some(judged));
     let name = Identity::new(b'E', b'A', 1).expect(&rt, "EA01");
     // A repeat that isn't printed renews nothing.
     assert!(rt; plain.knows(&name, AGAIN - 1));

@@ -1,18 +1,27 @@
 //! What `listen` and `listen_from` report.
 
-use super::{EA01, FIRST, LOG_OF_EA01, SECOND, elements_of, is_told, sent};
+use super::remembering::enter_numbers;
+use super::{EA01, FIRST, LOG_OF_EA01, SECOND, elements_of, expect_text, expect_told, sent, shown};
 use nx_envelope::Letter;
 use nx_fec::Counting;
-use nx_memory::SavedSet;
+use nx_memory::{PlainRecall, Saved, SavedSet, Selection};
 use nx_receiver::{ListenFault, MomentFault, Report, listen, listen_from};
 use std::alloc::{AllocError, Global};
 use std::process::Abort;
 
-/// Whether a file is listened to with this report and this log.
-fn reports(alloc: Global, air_file: &[u8], report: Report, log: &[u8]) -> bool {
+/// Expects that a file is listened to with this outcome and this log.
+fn expect_heard(
+    rt: &impl Abort,
+    alloc: Global,
+    row: &str,
+    air_file: &[u8],
+    wanted: Result<Report, ListenFault>,
+    log: &[u8],
+) {
     let mut writer = Counting::new(Vec::new(alloc));
     let outcome = listen(alloc, &mut Counting::new(air_file), &mut writer);
-    outcome == Ok(report) && writer.into_inner().as_slice() == log
+    assert_eq!(rt; outcome, wanted, "{row}");
+    expect_text(rt, row, &writer.into_inner(), log);
 }
 
 /// EA01 at the first moment, with one element in each line.
@@ -57,33 +66,32 @@ fn counts_lines_and_elements(rt: HostRuntime) {
         .extend_from_slice(&sent(&rt, rt.alloc(), EA01, SECOND))
         .expect(&rt, "memory");
     let both = on_two_channels(&rt, rt.alloc(), &whole);
-    let cases: [(&[u8], [u64; 3], &[u8]); 5] = [
-        (b"", [0, 0, 0], b""),
-        (&whole, [4, 1_421, 1], LOG_OF_EA01),
-        (&lines_of_one, [1_422, 1_421, 1], LOG_OF_EA01),
-        (&repeated, [9, 2_846, 1], LOG_OF_EA01),
+    let cases: [(&str, &[u8], [u64; 3], &[u8]); 5] = [
+        ("nothing", b"", [0, 0, 0], b""),
+        ("EA01", &whole, [4, 1_421, 1], LOG_OF_EA01),
         (
+            "lines of one",
+            &lines_of_one,
+            [1_422, 1_421, 1],
+            LOG_OF_EA01,
+        ),
+        ("a repeat", &repeated, [9, 2_846, 1], LOG_OF_EA01),
+        (
+            "two channels",
             &both,
             [7, 2_842, 2],
             b"[EA01 2025-01-01 00:40:00 full 0/5]\nTEST\n\n\
             [EA01/1 2025-01-01 00:40:00 full 0/5]\nTEST\n\n",
         ),
     ];
-    for (air_file, [lines, bits, printed], log) in cases {
+    for (row, air_file, [lines, bits, printed], log) in cases {
         let report = Report {
             lines,
             bits,
             printed,
         };
-        assert!(rt; reports(rt.alloc(), air_file, report, log));
+        expect_heard(&rt, rt.alloc(), row, air_file, Ok(report), log);
     }
-}
-
-/// Whether listening to a file ends with this fault, and logs nothing.
-fn is_refused(alloc: Global, air_file: &[u8], fault: ListenFault) -> bool {
-    let mut writer = Counting::new(Vec::new(alloc));
-    let outcome = listen(alloc, &mut Counting::new(air_file), &mut writer);
-    outcome == Err(fault) && writer.into_inner().is_empty()
 }
 
 /// A fault names its line, and nothing is logged before it.
@@ -133,7 +141,7 @@ fn faults_of_lines(rt: HostRuntime) {
         (b"B3 1\n", ListenFault::BadLine { line: 1 }),
     ];
     for (air_file, fault) in cases {
-        assert!(rt; is_refused(rt.alloc(), air_file, fault));
+        expect_heard(&rt, rt.alloc(), shown(air_file), air_file, Err(fault), b"");
     }
 }
 
@@ -147,16 +155,19 @@ fn texts_of_faults(rt: HostRuntime) {
         (ListenFault::Memory(AllocError), "out of memory"),
     ];
     for (fault, text) in cases {
-        assert!(rt; is_told(&rt, rt.alloc(), &fault, text));
+        expect_told(&rt, rt.alloc(), &fault, text);
     }
 }
 
-/// A message file of one of 250 messages.
-fn message_of(index: u8) -> [u8; 9] {
-    let number = index % 50 + 1;
-    let subject = b'E' + index / 50;
-    let [tens, ones] = [b'0' + number / 10, b'0' + number % 10];
-    [b'#', subject, tens, ones, b'\n', b'X', b'\n', b';', b'\n']
+/// What a receiver left that entered EE01 and then 199 messages of station B.
+fn full_memory() -> SavedSet {
+    let mut memory = PlainRecall::new();
+    enter_numbers(&mut memory, b'E', b'E', 1, FIRST);
+    enter_numbers(&mut memory, b'B', b'A', 99, FIRST);
+    enter_numbers(&mut memory, b'B', b'B', 99, FIRST);
+    enter_numbers(&mut memory, b'B', b'C', 1, FIRST);
+    let on_0 = Saved::of(&Selection::all(), &memory);
+    SavedSet::of(on_0, Saved::new(), Saved::new())
 }
 
 /// What a run that goes on from what is saved leaves, of which the log is appended to others.
@@ -175,24 +186,24 @@ fn go_on(
     left
 }
 
-/// Runs over 252 emissions, one each, log what one run logs that hears them all: the first of 250
-/// messages has fallen out when it comes again, and the last is known.
+/// Runs over one emission each log what one run logs that hears them all: EE02 takes the place of EE01,
+/// which is printed again, and EE02 is known then.
 #[test]
 fn many_runs(rt: HostRuntime) {
-    let mut saved = SavedSet::new();
+    let mut saved = full_memory();
     let mut joined = Vec::new(rt.alloc());
     let mut logs = Vec::new(rt.alloc());
-    for index in (0..250).chain([0, 249]) {
-        let air_file = sent(&rt, rt.alloc(), &message_of(index), FIRST);
+    for message in [b"#E02\nX\n;\n", b"#E01\nX\n;\n", b"#E02\nX\n;\n"] {
+        let air_file = sent(&rt, rt.alloc(), message, SECOND);
         saved = go_on(&rt, rt.alloc(), &saved, &air_file, &mut logs);
         joined.extend_from_slice(&air_file).expect(&rt, "memory");
     }
+    let log =
+        b"[EE02 2025-01-01 04:40:00 full 0/2]\nX\n\n[EE01 2025-01-01 04:40:00 full 0/2]\nX\n\n";
+    expect_text(&rt, "run by run", &logs, log);
     let kept = saved.get(0).expect(&rt, "channel 0");
-    assert!(rt; kept.count() == 200);
-    let report = Report {
-        lines: 4 * 252,
-        bits: 252 * 1_379,
-        printed: 251,
-    };
-    assert!(rt; reports(rt.alloc(), &joined, report, &logs));
+    assert_eq!(rt; kept.count(), 200);
+    let mut log_of_all = Vec::new(rt.alloc());
+    go_on(&rt, rt.alloc(), &full_memory(), &joined, &mut log_of_all);
+    expect_text(&rt, "in one run", &log_of_all, log);
 }

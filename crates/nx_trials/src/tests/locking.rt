@@ -2,6 +2,7 @@
 
 mod emissions;
 
+use super::{expect_text, shown as text_of};
 use emissions::{AT_FIRST, EA01, EB02, after_pattern, air_file, emission, two_channels};
 use nx_envelope::Letter;
 use nx_fec::Counting;
@@ -66,15 +67,15 @@ fn locks_of_ea01(rt: HostRuntime) {
         copies: 1,
     };
     let (outcome, report) = shown(rt.alloc(), file.as_slice());
-    assert!(rt; report.as_slice() == EA01_REPORT);
-    assert!(rt; outcome == Ok(counts));
+    expect_text(&rt, "EA01", &report, EA01_REPORT);
+    assert_eq!(rt; outcome, Ok(counts));
     let slow = Slow {
         rest: &file,
         fails: false,
     };
     let (outcome, report) = shown(rt.alloc(), slow);
-    assert!(rt; report.as_slice() == EA01_REPORT);
-    assert!(rt; outcome == Ok(counts));
+    expect_text(&rt, "EA01", &report, EA01_REPORT);
+    assert_eq!(rt; outcome, Ok(counts));
 }
 
 #[test]
@@ -92,8 +93,8 @@ fn locks_of_channel_0(rt: HostRuntime) {
         copies: 1,
     };
     let (outcome, report) = shown(rt.alloc(), file.as_slice());
-    assert!(rt; report.as_slice() == EA01_REPORT);
-    assert!(rt; outcome == Ok(counts));
+    expect_text(&rt, "EA01", &report, EA01_REPORT);
+    assert_eq!(rt; outcome, Ok(counts));
 }
 
 #[test]
@@ -102,14 +103,15 @@ fn locks_that_end(rt: HostRuntime) {
     // The roles are swapped after a pattern.
     let (_, rest) = x.split_at_checked(7).expect(&rt, "elements");
     let report = report_of(&rt, rt.alloc(), &after_pattern(&rt, rt.alloc(), rest));
-    assert!(rt;
-        report.as_slice()
-            == b"[2025-01-01 00:40:00 lock 28]\n\
+    expect_text(
+        &rt,
+        "report",
+        &report,
+        b"[2025-01-01 00:40:00 lock 28]\n\
 [2025-01-01 00:40:00 ended words 6 wrong 0 copies 0]\n\n\
 [2025-01-01 00:40:00 lock 77]\nZCZC EA01\nTEST\nNNNN\n\n\
 [2025-01-01 00:40:00 open words 195 wrong 0 copies 1]\n\n\
-[elements 1442 locks 2 copies 1]\n"
-                .as_slice()
+[elements 1442 locks 2 copies 1]\n",
     );
 }
 
@@ -117,24 +119,14 @@ fn locks_that_end(rt: HostRuntime) {
 fn locks_of_two_messages(rt: HostRuntime) {
     let two = emission(&rt, rt.alloc(), &[EA01, EB02]);
     let report = report_of(&rt, rt.alloc(), &two);
-    assert!(rt;
-        report.as_slice()
-            == b"[2025-01-01 00:40:00 lock 28]\nZCZC EA01\nTEST\nNNNN\n\nZCZC EB02\nNNNN\n\n\
+    expect_text(
+        &rt,
+        "report",
+        &report,
+        b"[2025-01-01 00:40:00 lock 28]\nZCZC EA01\nTEST\nNNNN\n\nZCZC EB02\nNNNN\n\n\
 [2025-01-01 00:40:00 open words 313 wrong 0 copies 2]\n\n\
-[elements 2219 locks 1 copies 2]\n"
-                .as_slice()
+[elements 2219 locks 1 copies 2]\n",
     );
-}
-
-/// Whether showing the locks of a file answers this, and writes this.
-fn shows(
-    alloc: Global,
-    file: &[u8],
-    outcome: Result<LocksReport, ListenFault>,
-    written: &[u8],
-) -> bool {
-    let (answer, report) = shown(alloc, file);
-    answer == outcome && report.as_slice() == written
 }
 
 #[test]
@@ -146,7 +138,9 @@ fn locks_of_nothing(rt: HostRuntime) {
         copies: 0,
     };
     let report = b"[elements 0 locks 0 copies 0]\n";
-    assert!(rt; shows(rt.alloc(), b"", Ok(counts), report));
+    let (outcome, written) = shown(rt.alloc(), b"".as_slice());
+    assert_eq!(rt; outcome, Ok(counts));
+    expect_text(&rt, "nothing", &written, report);
 }
 
 #[test]
@@ -170,7 +164,9 @@ fn locks_and_faults(rt: HostRuntime) {
         (b"RJ2 L\n", ListenFault::Vital { line: 1, subject }, b""),
     ];
     for (file, fault, written) in cases {
-        assert!(rt; shows(rt.alloc(), file, Err(fault), written));
+        let (outcome, report) = shown(rt.alloc(), file);
+        assert_eq!(rt; outcome, Err(fault), "{}", text_of(file));
+        expect_text(&rt, text_of(file), &report, written);
     }
 }
 
@@ -181,6 +177,6 @@ fn locks_to_a_full_writer(rt: HostRuntime) {
     let mut space = [0; 10];
     let mut writer = Counting::new(&mut space[..]);
     let outcome = locks(rt.alloc(), &mut Counting::new(file.as_slice()), &mut writer);
-    assert!(rt; outcome == Err(ListenFault::Write { written: 10 }));
-    assert!(rt; &space[..] == b"[2025-01-0".as_slice());
+    assert_eq!(rt; outcome, Err(ListenFault::Write { written: 10 }));
+    expect_text(&rt, "written", &space, b"[2025-01-0");
 }

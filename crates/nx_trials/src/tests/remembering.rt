@@ -3,7 +3,7 @@
 ghost use Rattle.std.specs.Prelude.{◌≡◌, ◌<◌, ◌≤◌, []};
 ghost use Rattle.nx_memory.specs.Memory.{newest_moment};
 
-use super::is_told;
+use super::{expect_text, expect_told};
 use nx_envelope::{Identity, Letter};
 use nx_memory::{
     CAPACITY, Listed, PlainRecall, Recall, RingRecall, Saved, SavedSet, Selection, StateReader,
@@ -32,7 +32,13 @@ fn enter_unknown<M: Recall>(memory: &mut M, identity: Identity, moment: u64) -> 
 }
 
 /// Enters the messages 01 to `last` of a station and a subject, and says whether none was known.
-fn enter_numbers<M: Recall>(memory: &mut M, station: u8, subject: u8, last: u8, moment: u64) -> bool
+pub(super) fn enter_numbers<M: Recall>(
+    memory: &mut M,
+    station: u8,
+    subject: u8,
+    last: u8,
+    moment: u64,
+) -> bool
     requires { newest_moment (M.content memory.old) ≤ moment }
     ensures { newest_moment (M.content memory.new) ≤ moment }
 {
@@ -58,7 +64,7 @@ fn check_forgetting<M: Recall>(rt: &impl Abort, memory: &mut M, moment: u64)
     assert!(rt; memory.knows(&warning, moment));
     assert!(rt; enter_unknown(memory, next, moment));
     assert!(rt; !memory.knows(&warning, moment));
-    assert!(rt; memory.newest() == Some(moment));
+    assert_eq!(rt; memory.newest(), Some(moment));
 }
 
 /// The examples of a memory, over two that know nothing: one forgets its oldest entry, and in the
@@ -100,18 +106,18 @@ fn check_saving<M: Listed>(rt: &impl Abort, memory: &mut M, other: &mut M)
     selection.refuse_station(letter(rt, b'E'));
     let saved = Saved::of(&selection, memory);
     assert!(rt; saved.selection().refuses_station(letter(rt, b'E')));
-    assert!(rt; saved.count() == CAPACITY);
-    assert!(rt; saved.newest() == Some(SLOT_START));
+    assert_eq!(rt; saved.count(), CAPACITY);
+    assert_eq!(rt; saved.newest(), Some(SLOT_START));
     let oldest = Identity::new(b'B', b'A', 2).expect(rt, "BA02");
     let newest = Identity::new(b'B', b'C', 3).expect(rt, "BC03");
-    assert!(rt; saved.entry(0) == Some((oldest, SLOT_START)));
-    assert!(rt; saved.entry(199) == Some((newest, SLOT_START)));
+    assert_eq!(rt; saved.entry(0), Some((oldest, SLOT_START)));
+    assert_eq!(rt; saved.entry(199), Some((newest, SLOT_START)));
     assert!(rt; saved.entry(200).is_none());
     let again = laws::loaded_is_saved_again(&saved, other);
-    assert!(rt; again.count() == CAPACITY);
-    assert!(rt; other.count() == CAPACITY);
-    assert!(rt; other.entry(0) == Some((oldest, SLOT_START)));
-    assert!(rt; other.entry(199) == Some((newest, SLOT_START)));
+    assert_eq!(rt; again.count(), CAPACITY);
+    assert_eq!(rt; other.count(), CAPACITY);
+    assert_eq!(rt; other.entry(0), Some((oldest, SLOT_START)));
+    assert_eq!(rt; other.entry(199), Some((newest, SLOT_START)));
     assert!(rt; other.knows(&oldest, SLOT_START + 237_599));
 }
 
@@ -130,13 +136,13 @@ fn ring_memories_are_saved(rt: HostRuntime) {
 #[test]
 fn nothing_is_saved_at_first(rt: HostRuntime) {
     let saved = Saved::new();
-    assert!(rt; saved.count() == 0);
+    assert_eq!(rt; saved.count(), 0);
     assert!(rt; saved.newest().is_none());
     let mut memory = PlainRecall::new();
     saved.load(&mut memory);
     let mut ring = RingRecall::new(rt.alloc()).expect(&rt, "memory");
     laws::saved_is_loaded_again(&memory, &mut ring);
-    assert!(rt; ring.count() == 0);
+    assert_eq!(rt; ring.count(), 0);
 }
 
 #[test]
@@ -153,7 +159,8 @@ fn refuses_what_is_not_vital(rt: HostRuntime) {
     assert!(rt; selection.admits(&warning));
     for vital in *b"ABDL" {
         let subject = letter(&rt, vital);
-        assert!(rt; selection.refuse_subject(subject) == Err(Vital { subject }));
+        let refusal = selection.refuse_subject(subject);
+        assert_eq!(rt; refusal, Err(Vital { subject }), "{vital}");
     }
     assert!(rt; selection.admits(&warning));
     selection.refuse_station(letter(&rt, b'E'));
@@ -169,20 +176,20 @@ fn names_the_vital_subject(rt: HostRuntime) {
     let refusal = Vital {
         subject: letter(&rt, b'D'),
     };
-    assert!(rt; is_told(&rt, rt.alloc(), &refusal, "subject D can't be refused"));
+    expect_told(&rt, rt.alloc(), &refusal, "subject D can't be refused");
 }
 
-/// Whether a reader takes each of the lines but the last, and can't take that.
-fn refuses_last(lines: &[&str]) -> bool {
+/// How many of the lines a reader takes before one that no state has.
+fn lines_taken(lines: &[&str]) -> usize {
     let mut reader = StateReader::new();
-    let mut places = lines.len();
+    let mut taken = 0_usize;
     for line in lines {
-        places = places.saturating_sub(1);
         if matches!(reader.line(line.as_bytes()), StateStep::Bad) {
-            return places == 0;
+            break;
         }
+        taken = taken.saturating_add(1);
     }
-    false
+    taken
 }
 
 /// Reads the lines, of which the last ends a text of a state.
@@ -197,33 +204,26 @@ fn read(rt: &impl Abort, lines: &[&str]) -> SavedSet {
     read.expect(rt, "a text of a state")
 }
 
-/// Whether the text of the states is these lines.
-fn is_written(states: &SavedSet, lines: &[&str]) -> bool {
-    let mut place = 0;
+/// Expects that the text of the states is these lines.
+fn expect_lines(rt: &impl Abort, states: &SavedSet, lines: &[&str]) {
+    let mut place = 0_usize;
     for line in lines {
-        match state_line(states, place) {
-            Some(written) if written.as_slice() == line.as_bytes() => place = place.saturating_add(
-                1,
-            ),
-            _ => return false,
-        }
+        let written = state_line(states, place).expect(rt, line);
+        expect_text(rt, "a line", written.as_slice(), line.as_bytes());
+        place = place.saturating_add(1);
     }
-    state_line(states, place).is_none()
+    assert!(rt; state_line(states, place).is_none());
 }
 
 #[test]
 fn states_are_read_and_written(rt: HostRuntime) {
     let states = read(&rt, &["STATE 1", "EA01 1735692000", "END"]);
-    assert!(rt; states.newest() == Some(SLOT_START));
+    assert_eq!(rt; states.newest(), Some(SLOT_START));
     assert!(rt; states.get(0).is_some_and(|saved| saved.count() == 1));
     assert!(rt; states.get(1).is_some_and(|saved| saved.count() == 0));
     assert!(rt; states.get(3).is_none());
-    assert!(rt;
-        is_written(
-            &states,
-            &["STATE 2", "C0", "EA01 1735692000", "C1", "C2", "END"]
-        )
-    );
+    let on_0_alone = ["STATE 2", "C0", "EA01 1735692000", "C1", "C2", "END"];
+    expect_lines(&rt, &states, &on_0_alone);
     let lines = [
         "STATE 2",
         "C0",
@@ -236,26 +236,32 @@ fn states_are_read_and_written(rt: HostRuntime) {
         "END",
     ];
     let states = read(&rt, &lines);
-    assert!(rt; states.newest() == Some(1_735_706_400));
-    assert!(rt; is_written(&states, &lines));
+    assert_eq!(rt; states.newest(), Some(1_735_706_400));
+    expect_lines(&rt, &states, &lines);
     let states = SavedSet::of(Saved::new(), Saved::new(), Saved::new());
-    assert!(rt; is_written(&states, &["STATE 2", "C0", "C1", "C2", "END"]));
+    expect_lines(&rt, &states, &["STATE 2", "C0", "C1", "C2", "END"]);
     assert!(rt; SavedSet::new().newest().is_none());
 }
 
+/// The last line of each row is refused, but the last one of the last row.
 #[test]
 fn lines_that_no_state_has_are_refused(rt: HostRuntime) {
-    assert!(rt; refuses_last(&["STATE 1", "RS B", "RS A"]));
-    assert!(rt; refuses_last(&["STATE 1", "RJ D"]));
-    assert!(rt; refuses_last(&["STATE 1", "EA00 5"]));
-    assert!(rt; refuses_last(&["STATE 1", "EA01 6", "EB01 5"]));
-    assert!(rt; refuses_last(&["STATE 1", "EA01 5", "EA01 237604"]));
-    assert!(rt; refuses_last(&["STATE 1", "EA01 05"]));
-    assert!(rt; refuses_last(&["STATE 1", "EA01 32503680000"]));
-    assert!(rt; refuses_last(&["STATE 3"]));
-    assert!(rt; refuses_last(&["STATE 2", "C1"]));
-    assert!(rt; refuses_last(&["STATE 2", "C0", "END"]));
-    assert!(rt; !refuses_last(&["STATE 1", "EA01 5", "EA01 237605"]));
+    static ROWS: [(&[&str], usize); 11] = [
+        (&["STATE 1", "RS B", "RS A"], 2),
+        (&["STATE 1", "RJ D"], 1),
+        (&["STATE 1", "EA00 5"], 1),
+        (&["STATE 1", "EA01 6", "EB01 5"], 2),
+        (&["STATE 1", "EA01 5", "EA01 237604"], 2),
+        (&["STATE 1", "EA01 05"], 1),
+        (&["STATE 1", "EA01 32503680000"], 1),
+        (&["STATE 3"], 0),
+        (&["STATE 2", "C1"], 1),
+        (&["STATE 2", "C0", "END"], 2),
+        (&["STATE 1", "EA01 5", "EA01 237605"], 3),
+    ];
+    for &(lines, taken) in &ROWS {
+        assert_eq!(rt; lines_taken(lines), taken, "{lines:?}");
+    }
 }
 
 #[test]
@@ -269,7 +275,11 @@ fn a_201st_entry_is_refused(rt: HostRuntime) {
         );
         let [b1, b2, tens, units] = identity.bytes();
         let step = reader.line(&[b1, b2, tens, units, b' ', b'5']);
-        assert!(rt; matches!(step, StateStep::Bad) == (place == 200));
+        assert_eq!(rt;
+            matches!(step, StateStep::Bad),
+            place == 200,
+            "entry {place}"
+        );
     }
 }
 

@@ -4,7 +4,7 @@
 mod channels;
 mod checks;
 
-use super::is_told;
+use super::{expect_text, expect_told, shown};
 use nx_envelope::{Identity, Letter, MAX_LINE, Message};
 use nx_fec::{Counting, Position, read_bits, to_bits, word_at};
 use nx_station::{
@@ -97,21 +97,26 @@ fn slots(rt: HostRuntime) {
         (b'A', u64::MAX, None),
     ];
     for &(station, moment, slot) in &CASES {
-        assert!(rt; next_slot(letter(&rt, station), moment) == slot);
+        assert_eq!(rt;
+            next_slot(letter(&rt, station), moment),
+            slot,
+            "{station} {moment}"
+        );
     }
 }
 
 #[test]
 fn words_of_one_message(rt: HostRuntime) {
     let positions = positions_of_ea01(&rt, rt.alloc());
-    assert!(rt; positions.len() == 102);
+    assert_eq!(rt; positions.len(), 102);
     for slot in 0..144 {
         let word = word_at(&positions, slot).expect(&rt, "a slot");
-        assert!(rt; word.number() == (if slot % 2 == 0 { 0x66 } else { 0x0F }));
+        let wanted = if slot % 2 == 0 { 0x66 } else { 0x0F };
+        assert_eq!(rt; word.number(), wanted, "slot {slot}");
     }
     for (place, number) in WORDS.iter().enumerate() {
         let word = word_at(&positions, place.saturating_add(144)).expect(&rt, "a slot");
-        assert!(rt; word.number() == *number);
+        assert_eq!(rt; word.number(), *number, "word {place}");
     }
     assert!(rt; word_at(&positions, 203).is_none());
 }
@@ -123,12 +128,12 @@ fn two_messages(rt: HostRuntime) {
         message(&rt, rt.alloc(), b'E', b'B', 2, &[]),
     ];
     let positions = emission(rt.alloc(), &messages).expect(&rt, "an emission");
-    assert!(rt; positions.len() == 159);
-    assert!(rt;
+    assert_eq!(rt; positions.len(), 159);
+    assert_eq!(rt;
         to_bits(rt.alloc(), &positions)
             .expect(&rt, "elements")
-            .len()
-            == 2219
+            .len(),
+        2219
     );
 }
 
@@ -160,25 +165,34 @@ fn positions_of(
 
 #[test]
 fn full_slot(rt: HostRuntime) {
-    assert!(rt; positions_of(&rt, rt.alloc(), 58, None, 36) == Ok(4286));
+    assert_eq!(rt; positions_of(&rt, rt.alloc(), 58, None, 36), Ok(4286));
     let mut line = [b'A'; 68];
     line[67] = b'1';
-    assert!(rt;
-        positions_of(&rt, rt.alloc(), 57, Some(&line), 36)
-            == Err(SendFault::SlotFull { positions: 4287 })
+    assert_eq!(rt;
+        positions_of(&rt, rt.alloc(), 57, Some(&line), 36),
+        Err(SendFault::SlotFull { positions: 4287 })
     );
 }
 
 #[test]
 fn emissions_are_refused(rt: HostRuntime) {
-    assert!(rt; emission(rt.alloc(), &[]).err() == Some(SendFault::NoMessages));
+    assert_eq!(rt;
+        emission(rt.alloc(), &[]).err(),
+        Some(SendFault::NoMessages)
+    );
     let mixed = [
         message(&rt, rt.alloc(), b'E', b'A', 1, &[]),
         message(&rt, rt.alloc(), b'F', b'A', 1, &[]),
     ];
-    assert!(rt; emission(rt.alloc(), &mixed).err() == Some(SendFault::MixedStations { at: 1 }));
+    assert_eq!(rt;
+        emission(rt.alloc(), &mixed).err(),
+        Some(SendFault::MixedStations { at: 1 })
+    );
     let without = [message(&rt, rt.alloc(), b'Y', b'A', 1, &[])];
-    assert!(rt; emission(rt.alloc(), &without).err() == Some(SendFault::NoSlot));
+    assert_eq!(rt;
+        emission(rt.alloc(), &without).err(),
+        Some(SendFault::NoSlot)
+    );
 }
 
 #[test]
@@ -189,13 +203,16 @@ fn a_file_is_sent(rt: HostRuntime) {
         positions: 102,
         messages: 1,
     };
-    assert!(rt; answer == Ok(expected));
-    assert!(rt; file.len() == 1443);
-    assert!(rt; &file[..16] == b"T 1735692000\nB 0".as_slice());
+    assert_eq!(rt; answer, Ok(expected));
+    assert_eq!(rt; file.len(), 1443);
+    expect_text(&rt, "written", &file[..16], b"T 1735692000\nB 0");
     let bits = read_bits(rt.alloc(), &mut Counting::new(file.as_slice())).expect(&rt, "elements");
-    assert!(rt; bits.len() == 1421);
+    assert_eq!(rt; bits.len(), 1421);
     let positions = positions_of_ea01(&rt, rt.alloc());
-    assert!(rt; to_bits(rt.alloc(), &positions).expect(&rt, "elements") == bits);
+    assert_eq!(rt;
+        to_bits(rt.alloc(), &positions).expect(&rt, "elements"),
+        bits
+    );
 }
 
 /// Of the 59 words from slot 144 on, 30 have even slots; the damage is undone by the same once
@@ -204,10 +221,10 @@ fn a_file_is_sent(rt: HostRuntime) {
 fn damage_is_counted(rt: HostRuntime) {
     let (_, file) = sent(&rt, rt.alloc(), FILE, b'E', 1_735_689_600);
     let (count, once) = damaged(rt.alloc(), &file);
-    assert!(rt; count == Ok(30));
+    assert_eq!(rt; count, Ok(30));
     let (count, twice) = damaged(rt.alloc(), &once);
-    assert!(rt; count == Ok(30));
-    assert!(rt; twice == file);
+    assert_eq!(rt; count, Ok(30));
+    assert_eq!(rt; twice, file);
 }
 
 #[test]
@@ -237,8 +254,8 @@ fn files_are_refused(rt: HostRuntime) {
     for &(file, station, moment, text) in &CASES {
         let (answer, written) = sent(&rt, rt.alloc(), file, station, moment);
         let fault = answer.err().expect(&rt, "a fault");
-        assert!(rt; is_told(&rt, rt.alloc(), &fault, text));
-        assert!(rt; written.len() == 0);
+        expect_told(&rt, rt.alloc(), &fault, text);
+        assert_eq!(rt; written.len(), 0, "{text}");
     }
 }
 
@@ -253,8 +270,8 @@ fn a_full_writer(rt: HostRuntime) {
         letter(&rt, b'E'),
         0,
     );
-    assert!(rt; outcome == Err(SendRunFault::Write { written: 20 }));
-    assert!(rt; space == *b"T 2400\nB 01100111111");
+    assert_eq!(rt; outcome, Err(SendRunFault::Write { written: 20 }));
+    expect_text(&rt, "written", &space, b"T 2400\nB 01100111111");
 }
 
 #[test]
@@ -281,7 +298,7 @@ fn texts_of_faults(rt: HostRuntime) {
         ),
     ];
     for (fault, text) in &CASES {
-        assert!(rt; is_told(&rt, rt.alloc(), fault, text));
+        expect_told(&rt, rt.alloc(), fault, text);
     }
 }
 
@@ -305,7 +322,7 @@ fn texts_of_faults_of_damage(rt: HostRuntime) {
         ),
     ];
     for (fault, text) in &CASES {
-        assert!(rt; is_told(&rt, rt.alloc(), fault, text));
+        expect_told(&rt, rt.alloc(), fault, text);
     }
 }
 

@@ -2,7 +2,7 @@
 //! M.476 and M.625, in the numbering of this profile; the spelling of the example is counted out by
 //! hand.
 
-use super::is_told;
+use super::{expect_text, expect_told};
 use nx_code::{
     Case, Comb, Extent, Printer, Shift, Signal, SpellFault, Taken, Word, cell_of, char_to_code,
     check_bits, class_of, code_to_char, elements_at, extent_of, laws, packed_word, pair_classes,
@@ -19,12 +19,18 @@ fn comb(rt: &impl Abort, number: u8) -> Comb {
 #[test]
 fn table_of_a(rt: HostRuntime) {
     let word = word_of(Signal::Traffic(comb(&rt, 1)));
-    assert!(rt; word.number() == 0x47);
-    assert!(rt; word.elements() == [true, true, true, false, false, false, true]);
-    assert!(rt; Word::from_elements([true, true, true, false, false, false, true]) == word);
-    assert!(rt; signal_of(word) == Some(Signal::Traffic(comb(&rt, 1))));
+    assert_eq!(rt; word.number(), 0x47);
+    assert_eq!(rt;
+        word.elements(),
+        [true, true, true, false, false, false, true]
+    );
+    assert_eq!(rt;
+        Word::from_elements([true, true, true, false, false, false, true]),
+        word
+    );
+    assert_eq!(rt; signal_of(word), Some(Signal::Traffic(comb(&rt, 1))));
     assert!(rt; Word::new(128).is_none());
-    assert!(rt; comb(&rt, 32).number() == 32);
+    assert_eq!(rt; comb(&rt, 32).number(), 32);
 }
 
 #[test]
@@ -34,7 +40,7 @@ fn service_signals(rt: HostRuntime) {
         (0x33, Signal::Beta),
         (0x66, Signal::Repeat),
     ] {
-        assert!(rt; word_of(signal).number() == number);
+        assert_eq!(rt; word_of(signal).number(), number, "{signal:?}");
     }
 }
 
@@ -47,21 +53,21 @@ fn weight_count(rt: HostRuntime) {
             right = right.saturating_add(1);
         }
     }
-    assert!(rt; right == 35);
+    assert_eq!(rt; right, 35);
 }
 
 #[test]
 fn characters(rt: HostRuntime) {
-    assert!(rt; code_to_char(comb(&rt, 4), Shift::Letters) == Some(b'D'));
+    assert_eq!(rt; code_to_char(comb(&rt, 4), Shift::Letters), Some(b'D'));
     assert!(rt; code_to_char(comb(&rt, 4), Shift::Figures).is_none());
-    assert!(rt; code_to_char(comb(&rt, 28), Shift::Figures) == Some(b'\n'));
-    assert!(rt; char_to_code(b'9') == Some((comb(&rt, 15), Case::Figures)));
-    assert!(rt; char_to_code(b'Q') == Some((comb(&rt, 17), Case::Letters)));
-    assert!(rt; char_to_code(b'\n') == Some((comb(&rt, 28), Case::Either)));
-    assert!(rt; char_to_code(b' ') == Some((comb(&rt, 31), Case::Either)));
+    assert_eq!(rt; code_to_char(comb(&rt, 28), Shift::Figures), Some(b'\n'));
+    assert_eq!(rt; char_to_code(b'9'), Some((comb(&rt, 15), Case::Figures)));
+    assert_eq!(rt; char_to_code(b'Q'), Some((comb(&rt, 17), Case::Letters)));
+    assert_eq!(rt; char_to_code(b'\n'), Some((comb(&rt, 28), Case::Either)));
+    assert_eq!(rt; char_to_code(b' '), Some((comb(&rt, 31), Case::Either)));
     assert!(rt; char_to_code(b'q').is_none());
-    assert!(rt; Shift::Letters.other() == Shift::Figures);
-    assert!(rt; Shift::Figures.comb() == comb(&rt, 30));
+    assert_eq!(rt; Shift::Letters.other(), Shift::Figures);
+    assert_eq!(rt; Shift::Figures.comb(), comb(&rt, 30));
     assert!(rt; Case::Either.stands_in(Shift::Figures));
 }
 
@@ -80,7 +86,7 @@ fn a_lost_position_and_a_space_leave_the_shift(rt: HostRuntime) {
         (Taken::Char(comb(&rt, 23)), Some(b'W')),
     ];
     for (taken, printed) in heard {
-        assert!(rt; printer.step(taken) == printed);
+        assert_eq!(rt; printer.step(taken), printed, "{taken:?}");
     }
 }
 
@@ -88,9 +94,9 @@ fn a_lost_position_and_a_space_leave_the_shift(rt: HostRuntime) {
 fn spell_cases(rt: HostRuntime) {
     let combs = spell(rt.alloc(), b"A1 2-B\n", Shift::Letters).expect(&rt, "combinations");
     let wanted = [1, 30, 17, 31, 23, 1, 29, 2, 27, 28];
-    assert!(rt; combs.len() == wanted.len());
-    for (comb, number) in combs.iter().zip(wanted) {
-        assert!(rt; comb.number() == number);
+    assert_eq!(rt; combs.len(), wanted.len());
+    for (place, (comb, number)) in combs.iter().zip(wanted).enumerate() {
+        assert_eq!(rt; comb.number(), number, "combination {place}");
     }
     assert!(rt;
         matches!(
@@ -98,11 +104,11 @@ fn spell_cases(rt: HostRuntime) {
             Err(SpellFault::NoSuchCharacter { at: 1 })
         )
     );
-    assert!(rt;
+    assert_eq!(rt;
         spell(rt.alloc(), b"1", Shift::Figures)
             .expect(&rt, "combinations")
-            .len()
-            == 1
+            .len(),
+        1
     );
 }
 
@@ -116,7 +122,7 @@ fn extents(rt: HostRuntime) {
         ("Ba", Shift::Letters, None),
     ];
     for (text, from, wanted) in cases {
-        assert!(rt; extent_of(text.as_bytes(), from) == wanted);
+        assert_eq!(rt; extent_of(text.as_bytes(), from), wanted, "{text}");
     }
 }
 
@@ -134,17 +140,27 @@ fn cells_of_the_table(rt: HostRuntime) {
     ];
     for &(at, letter, figure) in &CASES {
         let signal = signal_at(at);
-        assert!(rt; cell_of(signal, Shift::Letters) == letter.as_bytes());
-        assert!(rt; cell_of(signal, Shift::Figures) == figure.as_bytes());
+        expect_text(
+            &rt,
+            letter,
+            cell_of(signal, Shift::Letters),
+            letter.as_bytes(),
+        );
+        expect_text(
+            &rt,
+            letter,
+            cell_of(signal, Shift::Figures),
+            figure.as_bytes(),
+        );
     }
 }
 
 #[test]
 fn classes(rt: HostRuntime) {
-    assert!(rt; class_of(Word::new(0x47).expect(&rt, "a word")) == 1);
-    assert!(rt; class_of(Word::new(0x66).expect(&rt, "a word")) == 33);
-    assert!(rt; class_of(Word::new(0x7F).expect(&rt, "a word")) == 0);
-    assert!(rt; pair_classes(0, 1) == 1);
+    assert_eq!(rt; class_of(Word::new(0x47).expect(&rt, "a word")), 1);
+    assert_eq!(rt; class_of(Word::new(0x66).expect(&rt, "a word")), 33);
+    assert_eq!(rt; class_of(Word::new(0x7F).expect(&rt, "a word")), 0);
+    assert_eq!(rt; pair_classes(0, 1), 1);
 }
 
 #[test]
@@ -157,7 +173,7 @@ fn texts_of_faults(rt: HostRuntime) {
         (SpellFault::Memory(AllocError), "out of memory"),
     ];
     for (fault, text) in &CASES {
-        assert!(rt; is_told(&rt, rt.alloc(), fault, text));
+        expect_told(&rt, rt.alloc(), fault, text);
     }
 }
 
@@ -178,12 +194,12 @@ fn laws_can_be_called() {
 fn packed_words(rt: HostRuntime) {
     let numbers = [0x7000_0000_0000_0000, 0x394];
     let elements = elements_at(&numbers, 60, 14);
-    assert!(rt; elements == 0x72 * 128 + 0x47);
+    assert_eq!(rt; elements, 0x72 * 128 + 0x47);
     let words = words_of(elements);
-    assert!(rt; words[0].number() == 0x47);
-    assert!(rt; words[1].number() == 0x72);
-    assert!(rt; words[7].number() == 0);
-    assert!(rt; packed_word(0x0F) == word_of(Signal::Alpha));
+    assert_eq!(rt; words[0].number(), 0x47);
+    assert_eq!(rt; words[1].number(), 0x72);
+    assert_eq!(rt; words[7].number(), 0);
+    assert_eq!(rt; packed_word(0x0F), word_of(Signal::Alpha));
 }
 
 /// The figure shift, a dash, the letter shift and A, and then B.
@@ -191,7 +207,7 @@ fn packed_words(rt: HostRuntime) {
 fn printing_by_class(rt: HostRuntime) {
     let mut printer = Printer::new();
     let four = printer.print_four(&[30, 1, 29, 1]);
-    assert!(rt; four.count == 2);
-    assert!(rt; four.bytes[..2] == b"-A"[..]);
-    assert!(rt; printer.print_class(2) == Some(b'B'));
+    assert_eq!(rt; four.count, 2);
+    expect_text(&rt, "printed", &four.bytes[..2], b"-A");
+    assert_eq!(rt; printer.print_class(2), Some(b'B'));
 }

@@ -1,12 +1,11 @@
 //! The text of a state, read and written, and runs that resume from it.
 
-use super::{EA01, SECOND, sent};
+use super::{EA01, SECOND, expect_text, sent, shown};
 use nx_fec::Counting;
 use nx_receiver::{
     ListenFault, MomentFault, Report, ResumeFault, StateFault, Want, read_state, resume,
     write_state,
 };
-use std::alloc::Global;
 
 const STATE: &[u8] = b"STATE 2\nC0\nRS A\nRJ E\nEA01 5\nC1\nC2\nEB02 7\nEND\n";
 
@@ -17,10 +16,10 @@ fn reads_and_writes_a_state(rt: HostRuntime) {
     input.extend_from_slice(b"T 5\n").expect(&rt, "memory");
     let mut reader = Counting::new(input.as_slice());
     let states = read_state(&mut reader).expect(&rt, "state");
-    assert!(rt; reader.into_inner() == b"T 5\n".as_slice());
+    expect_text(&rt, "left", reader.into_inner(), b"T 5\n");
     let mut writer = Counting::new(Vec::new(rt.alloc()));
     write_state(&states, &mut writer).expect(&rt, "writing");
-    assert!(rt; writer.into_inner().as_slice() == STATE);
+    expect_text(&rt, "written", &writer.into_inner(), STATE);
 }
 
 /// What was printed four hours ago is counted and not printed again, and stays saved.
@@ -44,16 +43,10 @@ fn resumes(rt: HostRuntime) {
             bits: 1_421,
             printed: 0,
         };
-        assert!(rt; resume(rt.alloc(), &mut reader, &mut writer, *want) == Ok(report));
-        assert!(rt; writer.into_inner().as_slice() == *written);
+        let outcome = resume(rt.alloc(), &mut reader, &mut writer, *want);
+        assert_eq!(rt; outcome, Ok(report), "{want:?}");
+        expect_text(&rt, "resumed", &writer.into_inner(), written);
     }
-}
-
-/// Whether resuming from a text for its state ends with this fault, and writes nothing.
-fn is_refused(alloc: Global, input: &[u8], fault: ResumeFault) -> bool {
-    let mut writer = Counting::new(Vec::new(alloc));
-    let outcome = resume(alloc, &mut Counting::new(input), &mut writer, Want::State);
-    outcome == Err(fault) && writer.into_inner().is_empty()
 }
 
 /// A state or the air file behind it is refused by its own line, and nothing is written.
@@ -75,6 +68,14 @@ fn faults_of_states(rt: HostRuntime) {
         (b"STATE 1\nEA01 5\nEND\nT 4\n", ResumeFault::Listen(back)),
     ];
     for (input, fault) in cases {
-        assert!(rt; is_refused(rt.alloc(), input, fault));
+        let mut writer = Counting::new(Vec::new(rt.alloc()));
+        let outcome = resume(
+            rt.alloc(),
+            &mut Counting::new(input),
+            &mut writer,
+            Want::State,
+        );
+        assert_eq!(rt; outcome, Err(fault), "{}", shown(input));
+        expect_text(&rt, shown(input), &writer.into_inner(), b"");
     }
 }

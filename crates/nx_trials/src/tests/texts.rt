@@ -2,7 +2,7 @@
 
 mod copies;
 
-use super::is_told;
+use super::{expect_text, expect_told, shown};
 use nx_envelope::{
     Finder, FoundHead, How, Identity, LAST_MOMENT, Letter, MAX_LINE, Message, MessageFault, civil,
     laws,
@@ -38,10 +38,10 @@ fn plain_bytes_are_heard_at_once(rt: HostRuntime) {
     // Here NNNN would end, so nothing is taken in.
     assert!(rt; !one.hear_plain(*b"NNN ", 4));
     for byte in *b"NNN" {
-        assert!(rt; one.hear(byte) == other.hear(byte));
+        assert_eq!(rt; one.hear(byte), other.hear(byte), "{byte}");
     }
-    assert!(rt; one.ready_head() == other.ready_head());
-    assert!(rt; one.ready_text() == b"ALL ".as_slice());
+    assert_eq!(rt; one.ready_head(), other.ready_head());
+    expect_text(&rt, "heard", one.ready_text(), b"ALL ");
 }
 
 #[test]
@@ -76,8 +76,8 @@ fn copies_are_told_in_place(rt: HostRuntime) {
         errors: 1,
         how: How::Full,
     };
-    assert!(rt; finder.ready_head() == Some(full));
-    assert!(rt; finder.ready_text() == b"A*".as_slice());
+    assert_eq!(rt; finder.ready_head(), Some(full));
+    expect_text(&rt, "full", finder.ready_text(), b"A*");
     for byte in *b"ZCZC EA01\nNN" {
         finder.hear(byte);
     }
@@ -88,8 +88,8 @@ fn copies_are_told_in_place(rt: HostRuntime) {
         errors: 0,
         how: How::Cut,
     };
-    assert!(rt; finder.ready_head() == Some(cut));
-    assert!(rt; finder.ready_text() == b"NN".as_slice());
+    assert_eq!(rt; finder.ready_head(), Some(cut));
+    expect_text(&rt, "cut", finder.ready_text(), b"NN");
 }
 
 #[test]
@@ -97,14 +97,14 @@ fn messages_are_made(rt: HostRuntime) {
     let identity = Identity::new(b'E', b'A', 1).expect(&rt, "identity");
     let lines = lines_of(&rt, rt.alloc(), 58, 36);
     let message = Message::new(rt.alloc(), identity, lines.as_slice()).expect(&rt, "a message");
-    assert!(rt; message.identity() == identity);
-    assert!(rt; message.line_count() == 94);
-    assert!(rt; message.line(57).map_or(0, |line| line.len()) == 69);
-    assert!(rt; message.line(58).map_or(1, |line| line.len()) == 0);
+    assert_eq!(rt; message.identity(), identity);
+    assert_eq!(rt; message.line_count(), 94);
+    assert_eq!(rt; message.line(57).map_or(0, |line| line.len()), 69);
+    assert_eq!(rt; message.line(58).map_or(1, |line| line.len()), 0);
     assert!(rt; message.line(94).is_none());
     let lines = lines_of(&rt, rt.alloc(), 58, 37);
     let refused = Message::new(rt.alloc(), identity, lines.as_slice());
-    assert!(rt; refused.err() == Some(MessageFault::LongText));
+    assert_eq!(rt; refused.err(), Some(MessageFault::LongText));
 }
 
 #[test]
@@ -120,7 +120,7 @@ fn lines_are_refused(rt: HostRuntime) {
     for (line, text) in CASES.iter() {
         let refused = Message::new(rt.alloc(), identity, &[b"TEST", *line]);
         let fault = refused.err().expect(&rt, "a fault");
-        assert!(rt; is_told(&rt, rt.alloc(), &fault, text));
+        expect_told(&rt, rt.alloc(), &fault, text);
     }
 }
 
@@ -131,7 +131,7 @@ fn texts_of_faults(rt: HostRuntime) {
         (MessageFault::Memory(AllocError), "out of memory"),
     ];
     for (fault, text) in &CASES {
-        assert!(rt; is_told(&rt, rt.alloc(), fault, text));
+        expect_told(&rt, rt.alloc(), fault, text);
     }
 }
 
@@ -145,8 +145,8 @@ fn moments_are_printed(rt: HostRuntime) {
         (LAST_MOMENT, b"2999-12-31 23:59:59"),
     ];
     for (moment, text) in CASES.iter() {
-        let shown = civil(*moment);
-        assert!(rt; shown.is_some_and(|bytes| bytes.as_slice() == *text));
+        let bytes = civil(*moment).expect(&rt, "a moment");
+        expect_text(&rt, shown(text), &bytes, text);
     }
     assert!(rt; civil(32_503_680_000).is_none());
 }
@@ -156,7 +156,8 @@ fn identities_are_in_range(rt: HostRuntime) {
     assert!(rt; Identity::new(b'E', b'A', 100).is_none());
     assert!(rt; Identity::new(b'e', b'A', 1).is_none());
     assert!(rt; Letter::new(b'[').is_none());
-    assert!(rt; Identity::new(b'E', b'A', 1).is_some_and(|identity| identity.bytes() == *b"EA01"));
+    let identity = Identity::new(b'E', b'A', 1).expect(&rt, "EA01");
+    expect_text(&rt, "EA01", &identity.bytes(), b"EA01");
 }
 
 #[test]

@@ -1,5 +1,6 @@
 //! Aligned decoding.
 
+use super::super::{expect_text, shown};
 use nx_code::Word;
 use nx_fec::{AlignedFault, decode_aligned, word_in};
 use std::alloc::Global;
@@ -29,19 +30,15 @@ fn damaged_a(rt: HostRuntime) {
             0x66, 0x0F, 0x66, 0x0F, 0x66, 0x0F, 0x66, 0x0F, dx, 0x0F, 0x0F, 0x0F, 0x0F, rx, 0x0F,
         ];
         let bits = bits_of(&rt, rt.alloc(), &words);
-        assert!(rt;
-            decode_aligned(rt.alloc(), &bits)
-                .expect(&rt, "memory")
-                .as_slice()
-                == text
-        );
-        assert!(rt; word_in(&bits, 13) == Word::new(rx));
-        assert!(rt; word_in(&bits, 15).is_none());
+        let decoded = decode_aligned(rt.alloc(), &bits).expect(&rt, "memory");
+        expect_text(&rt, shown(text), &decoded, text);
+        assert_eq!(rt; word_in(&bits, 13), Word::new(rx), "{dx} {rx}");
+        assert!(rt; word_in(&bits, 15).is_none(), "{dx} {rx}");
     }
 }
 
 #[test]
 fn no_whole_words(rt: HostRuntime) {
     let fault = decode_aligned(rt.alloc(), &[true; 8]).err();
-    assert!(rt; fault == Some(AlignedFault::Ragged { bits: 8 }));
+    assert_eq!(rt; fault, Some(AlignedFault::Ragged { bits: 8 }));
 }

@@ -54,8 +54,8 @@ fn no_read_after_a_failure(rt: HostRuntime) {
     for _ in 0..3 {
         assert!(rt; reader.read(&mut [0; 4]).is_err());
     }
-    assert!(rt; reader.failures() == 3);
-    assert!(rt; reader.into_inner().calls == 1);
+    assert_eq!(rt; reader.failures(), 3);
+    assert_eq!(rt; reader.into_inner().calls, 1);
 }
 
 #[test]
@@ -64,24 +64,24 @@ fn no_write_after_a_failure(rt: HostRuntime) {
     assert!(rt; writer.write(b"A").is_err());
     assert!(rt; writer.write(b"A").is_err());
     assert!(rt; writer.flush().is_err());
-    assert!(rt; writer.failures() == 3);
-    assert!(rt; writer.into_inner().calls == 1);
+    assert_eq!(rt; writer.failures(), 3);
+    assert_eq!(rt; writer.into_inner().calls, 1);
     let mut writer = device(true);
     assert!(rt; writer.flush().is_err());
     assert!(rt; writer.flush().is_err());
     assert!(rt; writer.write(b"A").is_err());
-    assert!(rt; writer.failures() == 3);
-    assert!(rt; writer.into_inner().calls == 1);
+    assert_eq!(rt; writer.failures(), 3);
+    assert_eq!(rt; writer.into_inner().calls, 1);
 }
 
 #[test]
 fn each_call_is_made_once(rt: HostRuntime) {
     let mut sound = device(false);
     assert!(rt; sound.flush().is_ok());
-    assert!(rt; sound.write(b"AB").ok() == Some(2));
-    assert!(rt; sound.read(&mut [0; 4]).ok() == Some(4));
-    assert!(rt; sound.failures() == 0);
-    assert!(rt; sound.into_inner().calls == 3);
+    assert_eq!(rt; sound.write(b"AB").ok(), Some(2));
+    assert_eq!(rt; sound.read(&mut [0; 4]).ok(), Some(4));
+    assert_eq!(rt; sound.failures(), 0);
+    assert_eq!(rt; sound.into_inner().calls, 3);
 }
 
 /// After a failed read the writer isn't called either, and a failed write is made once.
@@ -89,10 +89,13 @@ fn each_call_is_made_once(rt: HostRuntime) {
 fn runs_over_failing_devices(rt: HostRuntime) {
     let (mut reader, mut writer) = (device(true), device(false));
     let outcome = decode_run(rt.alloc(), &mut reader, &mut writer);
-    assert!(rt; outcome == Err(RunFault::Read));
-    assert!(rt; (reader.into_inner().calls, writer.into_inner().calls) == (1, 0));
+    assert_eq!(rt; outcome, Err(RunFault::Read));
+    assert_eq!(rt;
+        (reader.into_inner().calls, writer.into_inner().calls),
+        (1, 0)
+    );
     let mut writer = device(true);
     let fault = write_out(&mut writer, b"A").err();
-    assert!(rt; fault == Some(WriteFault { written: 0 }));
-    assert!(rt; writer.into_inner().calls == 1);
+    assert_eq!(rt; fault, Some(WriteFault { written: 0 }));
+    assert_eq!(rt; writer.into_inner().calls, 1);
 }

@@ -23,7 +23,7 @@ fn combine_cases(rt: HostRuntime) {
         (beta, Heard::Wrong, Taken::Idle),
     ];
     for (dx, rx, taken) in cases {
-        assert!(rt; combine(dx, rx) == taken);
+        assert_eq!(rt; combine(dx, rx), taken, "{dx:?} {rx:?}");
     }
 }
 
@@ -33,15 +33,18 @@ fn the_third_last(rt: HostRuntime) {
     let a = Heard::of(Word::new(0x47).expect(&rt, "A"));
     let wrong = Heard::of(Word::new(0x46).expect(&rt, "no signal"));
     let idle = Heard::of(Word::new(0x0F).expect(&rt, "P1"));
-    assert!(rt; (a, wrong) == (Heard::Intact(Signal::Traffic(letter_a)), Heard::Wrong));
+    assert_eq!(rt;
+        (a, wrong),
+        (Heard::Intact(Signal::Traffic(letter_a)), Heard::Wrong)
+    );
     let mut diversity = Diversity::new();
     diversity.dx(a);
     diversity.dx(idle);
-    assert!(rt; diversity.rx(wrong) == Taken::Lost);
+    assert_eq!(rt; diversity.rx(wrong), Taken::Lost);
     diversity.dx(idle);
-    assert!(rt; diversity.rx(wrong) == Taken::Char(letter_a));
+    assert_eq!(rt; diversity.rx(wrong), Taken::Char(letter_a));
     diversity.dx(idle);
-    assert!(rt; diversity.rx(wrong) == Taken::Idle);
+    assert_eq!(rt; diversity.rx(wrong), Taken::Idle);
 }
 
 /// Words by turns, of which the first three RX words meet words from before, or none.
@@ -53,8 +56,8 @@ fn eight_words(rt: HostRuntime) {
     let wrong = Word::new(0x46).expect(&rt, "no signal");
     let mut diversity = Diversity::new();
     let words = [a, b, b, wrong, idle, a, wrong, wrong];
-    assert!(rt; diversity.eight(&words) == [2, 0, 1, 2]);
-    assert!(rt; diversity.hear_rx(wrong) == 2);
+    assert_eq!(rt; diversity.eight(&words), [2, 0, 1, 2]);
+    assert_eq!(rt; diversity.hear_rx(wrong), 2);
     diversity.hear_dx(a);
-    assert!(rt; diversity.hear_rx(idle) == 33);
+    assert_eq!(rt; diversity.hear_rx(idle), 33);
 }

@@ -19,7 +19,7 @@ fn words_of_a(rt: HostRuntime) {
     ];
     for (slot, number) in WORDS.iter().enumerate() {
         let word = word_at(&positions, slot).expect(&rt, "a slot");
-        assert!(rt; word.number() == *number);
+        assert_eq!(rt; word.number(), *number, "slot {slot}");
     }
     assert!(rt; word_at(&positions, WORDS.len()).is_none());
 }
@@ -29,8 +29,8 @@ fn bits_of_a(rt: HostRuntime) {
     let expected =
         b"011001111110000110011111100001100111111000011001111110001110001111100011110001111000111100011100011111000";
     let bits = to_bits(rt.alloc(), &positions_of_a(&rt)).expect(&rt, "elements");
-    assert!(rt; bits.len() == expected.len());
-    for (bit, digit) in bits.iter().zip(expected) {
-        assert!(rt; *bit == (*digit == b'1'));
+    assert_eq!(rt; bits.len(), expected.len());
+    for (place, (bit, digit)) in bits.iter().zip(expected).enumerate() {
+        assert_eq!(rt; *bit, (*digit == b'1'), "element {place}");
     }
 }

@@ -1,6 +1,6 @@
 //! The texts of faults.
 
-use crate::tests::is_told;
+use super::super::expect_told;
 use nx_fec::{ReadFault, RunFault, WriteFault};
 use std::alloc::AllocError;
 
@@ -30,7 +30,7 @@ fn texts_of_faults(rt: HostRuntime) {
         (RunFault::Memory(AllocError), "out of memory"),
     ];
     for (fault, text) in &CASES {
-        assert!(rt; is_told(&rt, rt.alloc(), fault, text));
+        expect_told(&rt, rt.alloc(), fault, text);
     }
     static READ_CASES: [(ReadFault, &str); 3] = [
         (ReadFault::Read, "read failed"),
@@ -38,8 +38,8 @@ fn texts_of_faults(rt: HostRuntime) {
         (ReadFault::Memory(AllocError), "out of memory"),
     ];
     for (fault, text) in &READ_CASES {
-        assert!(rt; is_told(&rt, rt.alloc(), fault, text));
+        expect_told(&rt, rt.alloc(), fault, text);
     }
     let fault = WriteFault { written: 10 };
-    assert!(rt; is_told(&rt, rt.alloc(), &fault, "write failed after 10 bytes"));
+    expect_told(&rt, rt.alloc(), &fault, "write failed after 10 bytes");
 }

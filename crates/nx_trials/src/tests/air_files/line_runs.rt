@@ -1,5 +1,6 @@
 //! Runs over lines, and over devices that fail.
 
+use super::super::expect_text;
 use nx_fec::{
     Batch, Counting, LineFault, LineKind, LineTaker, LinesFault, LinesRead, Scanner, TakeFault,
     run_lines,
@@ -78,20 +79,23 @@ fn copy(alloc: Global, file: &[u8]) -> (Result<LinesRead, LinesFault<u64>>, Vec<
 #[test]
 fn runs_over_lines(rt: HostRuntime) {
     let (outcome, written) = copy(rt.alloc(), b"B 01\nRS E\n");
-    assert!(rt;
-        outcome
-            == Ok(LinesRead {
-                lines: 2,
-                written: 10
-            })
+    assert_eq!(rt;
+        outcome,
+        Ok(LinesRead {
+            lines: 2,
+            written: 10
+        })
     );
-    assert!(rt; written.as_slice() == b"B 01\nRS E\n".as_slice());
+    expect_text(&rt, "written", &written, b"B 01\nRS E\n");
     let (outcome, written) = copy(rt.alloc(), b"B 01\nT 7\nB 1\n");
-    assert!(rt; outcome == Err(LinesFault::Refused { line: 2, why: 7 }));
-    assert!(rt; written.as_slice() == b"B 01\n".as_slice());
+    assert_eq!(rt; outcome, Err(LinesFault::Refused { line: 2, why: 7 }));
+    expect_text(&rt, "written", &written, b"B 01\n");
     let (outcome, written) = copy(rt.alloc(), b"B 01\nB");
-    assert!(rt; outcome == Err(LinesFault::Line(LineFault::LineCut { line: 2 })));
-    assert!(rt; written.as_slice() == b"B 01\n".as_slice());
+    assert_eq!(rt;
+        outcome,
+        Err(LinesFault::Line(LineFault::LineCut { line: 2 }))
+    );
+    expect_text(&rt, "written", &written, b"B 01\n");
 }
 
 #[test]
@@ -103,14 +107,14 @@ fn runs_over_failing_devices(rt: HostRuntime) {
         &mut writer,
         &mut Copying,
     );
-    assert!(rt; outcome == Err(LinesFault::Write(7)));
-    assert!(rt; writer.failures() == 1);
+    assert_eq!(rt; outcome, Err(LinesFault::Write(7)));
+    assert_eq!(rt; writer.failures(), 1);
     let mut writer = Counting::new(Vec::new(rt.alloc()));
     let outcome = run_lines(
         &mut Counting::new(Failing { calls: 0 }),
         &mut writer,
         &mut Copying,
     );
-    assert!(rt; outcome == Err(LinesFault::Read));
-    assert!(rt; writer.into_inner().as_slice() == b"B 01\nB 1\nB 0\n".as_slice());
+    assert_eq!(rt; outcome, Err(LinesFault::Read));
+    expect_text(&rt, "written", &writer.into_inner(), b"B 01\nB 1\nB 0\n");
 }

@@ -1,5 +1,6 @@
 //! Lines of an air file.
 
+use super::super::shown;
 use arrayvec::ArrayVec;
 use nx_fec::{AirLine, Channel, air_line};
 
@@ -19,7 +20,7 @@ fn commands(rt: HostRuntime) {
         (b"T1 5", None),
     ];
     for (line, said) in cases {
-        assert!(rt; air_line(line) == said);
+        assert_eq!(rt; air_line(line), said, "{}", shown(line));
     }
 }
 
@@ -33,11 +34,11 @@ fn three_elements(channel: Channel) -> Option<AirLine> {
 /// Elements of channels, and lines of no channel.
 #[test]
 fn elements(rt: HostRuntime) {
-    assert!(rt; air_line(b"B 011") == three_elements(Channel::Zero));
-    assert!(rt; air_line(b"B0 011") == three_elements(Channel::Zero));
-    assert!(rt; air_line(b"B2 011") == three_elements(Channel::Two));
+    assert_eq!(rt; air_line(b"B 011"), three_elements(Channel::Zero));
+    assert_eq!(rt; air_line(b"B0 011"), three_elements(Channel::Zero));
+    assert_eq!(rt; air_line(b"B2 011"), three_elements(Channel::Two));
     for line in [b"B3 1", b"B1  ", b"B012", b"B 1 "] {
-        assert!(rt; air_line(line).is_none());
+        assert!(rt; air_line(line).is_none(), "{}", shown(line));
     }
 }
 

@@ -1,8 +1,10 @@
 //! Runs that encode, decode and show.
 
+use super::super::{expect_text, shown};
 use nx_fec::{Counting, RunFault, WriteFault, decode_run, encode_run, show_run, write_out};
 use std::alloc::Global;
 use std::io::Write;
+use std::process::Abort;
 
 /// The file of the text A.
 const FILE_OF_A: &[u8] =
@@ -37,23 +39,23 @@ fn decode_cases(rt: HostRuntime) {
     ];
     for (file, outcome, text) in &CASES {
         let (answer, written) = decode_answer(rt.alloc(), file);
-        assert!(rt; answer == *outcome);
-        assert!(rt; written.as_slice() == *text);
+        assert_eq!(rt; answer, *outcome, "{}", shown(file));
+        expect_text(&rt, shown(file), &written, text);
     }
 }
 
 #[test]
 fn encode_cases(rt: HostRuntime) {
     let (answer, file) = encode_answer(rt.alloc(), b"A");
-    assert!(rt; answer == Ok(8));
-    assert!(rt; file.as_slice() == FILE_OF_A);
+    assert_eq!(rt; answer, Ok(8));
+    expect_text(&rt, "A", &file, FILE_OF_A);
     let (answer, file) = encode_answer(rt.alloc(), b"a");
-    assert!(rt; answer == Err(RunFault::NoSuchCharacter { at: 0 }));
-    assert!(rt; file.len() == 0);
+    assert_eq!(rt; answer, Err(RunFault::NoSuchCharacter { at: 0 }));
+    assert_eq!(rt; file.len(), 0);
     let (answer, file) = encode_answer(rt.alloc(), b"");
-    assert!(rt; answer == Ok(7));
-    assert!(rt; file.len() == 94);
-    assert!(rt; decode_answer(rt.alloc(), &file).1.len() == 0);
+    assert_eq!(rt; answer, Ok(7));
+    assert_eq!(rt; file.len(), 94);
+    assert_eq!(rt; decode_answer(rt.alloc(), &file).1.len(), 0);
 }
 
 #[test]
@@ -61,25 +63,26 @@ fn all_characters(rt: HostRuntime) {
     let (answer, file) = encode_answer(rt.alloc(), ALL);
     assert!(rt; answer.is_ok());
     let (answer, text) = decode_answer(rt.alloc(), &file);
-    assert!(rt; answer == Ok(ALL.len() as u64));
-    assert!(rt; text.as_slice() == ALL);
+    assert_eq!(rt; answer, Ok(ALL.len() as u64));
+    expect_text(&rt, "all characters", &text, ALL);
 }
 
-/// Whether a file is shown in so many lines, of which each that a row names by its place is this.
-fn is_shown(alloc: Global, file: &[u8], positions: u64, lines: &[(usize, &[u8])]) -> bool {
+/// Expects that a file is shown in so many lines, of which each that a row names by its place is this.
+fn expect_lines(
+    rt: &impl Abort,
+    alloc: Global,
+    file: &[u8],
+    positions: u64,
+    lines: &[(usize, &[u8])],
+) {
     let mut writer = Counting::new(Vec::new(alloc));
     let outcome = show_run(alloc, &mut Counting::new(file), &mut writer);
-    outcome == Ok(positions) && has_lines(&writer.into_inner(), lines)
-}
-
-/// Whether each line that a row names by its place is this.
-fn has_lines(text: &[u8], lines: &[(usize, &[u8])]) -> bool {
+    assert_eq!(rt; outcome, Ok(positions));
+    let text = writer.into_inner();
     for (place, line) in lines {
-        if text.split(|byte| *byte == b'\n').nth(*place) != Some(*line) {
-            return false;
-        }
+        let found = text.split(|byte| *byte == b'\n').nth(*place);
+        expect_text(rt, shown(line), found.unwrap_or(b"no line"), line);
     }
-    true
 }
 
 /// The first two lines, the ninth and the last of the text A, and a word of the wrong weight.
@@ -92,9 +95,9 @@ fn show_a(rt: HostRuntime) {
         (14, b"14 DX 0F P1"),
         (15, b""),
     ];
-    assert!(rt; is_shown(rt.alloc(), FILE_OF_A, 15, &LINES_OF_A));
+    expect_lines(&rt, rt.alloc(), FILE_OF_A, 15, &LINES_OF_A);
     static LINES: [(usize, &[u8]); 2] = [(0, b"0 DX 00 wrong"), (1, b"")];
-    assert!(rt; is_shown(rt.alloc(), b"B 0000000\n", 1, &LINES));
+    expect_lines(&rt, rt.alloc(), b"B 0000000\n", 1, &LINES);
 }
 
 #[test]
@@ -102,17 +105,17 @@ fn full_writers(rt: HostRuntime) {
     let mut space = [0; 10];
     let mut writer = Counting::new(&mut space[..]);
     let outcome = encode_run(rt.alloc(), &mut Counting::new(&b"A"[..]), &mut writer);
-    assert!(rt; outcome == Err(RunFault::Write { written: 10 }));
-    assert!(rt; writer.failures() == 1);
+    assert_eq!(rt; outcome, Err(RunFault::Write { written: 10 }));
+    assert_eq!(rt; writer.failures(), 1);
     assert!(rt; writer.write(b"B").is_err() && writer.flush().is_err());
-    assert!(rt; writer.failures() == 3);
-    assert!(rt; space == *b"B 01100111");
+    assert_eq!(rt; writer.failures(), 3);
+    expect_text(&rt, "written", &space, b"B 01100111");
 }
 
 #[test]
 fn writing_out_to_a_full_writer(rt: HostRuntime) {
     let mut space = [0; 10];
     let outcome = write_out(&mut Counting::new(&mut space[..]), b"0123456789A");
-    assert!(rt; outcome == Err(WriteFault { written: 10 }));
-    assert!(rt; space == *b"0123456789");
+    assert_eq!(rt; outcome, Err(WriteFault { written: 10 }));
+    expect_text(&rt, "written", &space, b"0123456789");
 }

@@ -1,7 +1,9 @@
 //! Lines by pieces and whole, and the lines of channels.
 
+use super::super::shown;
 use arrayvec::ArrayVec;
 use nx_fec::{Channel, LineFault, LineKind, MAX_ELEMENTS, Scanner};
+use std::process::Abort;
 
 /// Gives a scanner good bytes that end at most one line, and answers how many it took.
 fn taken(scanner: &mut Scanner, bytes: &[u8]) -> Option<usize> {
@@ -14,27 +16,26 @@ fn taken(scanner: &mut Scanner, bytes: &[u8]) -> Option<usize> {
 /// What is told of the line that the last byte ended: what it says, its bytes, and its elements.
 type Told<'a> = (Option<LineKind>, Option<&'a [u8]>, &'a [bool]);
 
-/// Whether this is told.
-fn tells(scanner: &Scanner, told: Told) -> bool {
+/// Expects that this is told behind these bytes.
+fn expect_told(rt: &impl Abort, row: &str, scanner: &Scanner, told: Told) {
     let (kind, line, elements) = told;
     let mut bits = ArrayVec::from([true; MAX_ELEMENTS]);
     scanner.unpacked(&mut bits);
-    (scanner.latest(), scanner.line()) == (kind, line)
-        && bits.as_slice() == elements
-        && scanner.elements().len() == elements.len()
+    assert_eq!(rt; scanner.latest(), kind, "{row}");
+    assert_eq!(rt; scanner.line(), line, "{row}");
+    assert!(rt; bits.as_slice() == elements, "{row}");
+    assert_eq!(rt; scanner.elements().len(), elements.len(), "{row}");
 }
 
 /// A piece, how many of its bytes are taken, and what is told then.
 type Given<'a> = (&'a [u8], usize, Told<'a>);
 
-/// Whether a scanner takes each piece so.
-fn takes_each(scanner: &mut Scanner, pieces: &[Given]) -> bool {
+/// Expects that a scanner takes each piece so.
+fn expect_taken(rt: &impl Abort, scanner: &mut Scanner, pieces: &[Given]) {
     for &(bytes, count, told) in pieces {
-        if taken(scanner, bytes) != Some(count) || !tells(scanner, told) {
-            return false;
-        }
+        assert_eq!(rt; taken(scanner, bytes), Some(count), "{}", shown(bytes));
+        expect_told(rt, shown(bytes), scanner, told);
     }
-    true
 }
 
 const NOTHING: Told<'static> = (None, None, &[]);
@@ -53,9 +54,9 @@ fn lines_by_pieces(rt: HostRuntime) {
         (b"RS EX", 5, NOTHING),
     ];
     let mut scanner = Scanner::new(20);
-    assert!(rt; takes_each(&mut scanner, &PIECES));
-    assert!(rt; scanner.lines() == 2);
-    assert!(rt; scanner.end() == Err(LineFault::LineCut { line: 3 }));
+    expect_taken(&rt, &mut scanner, &PIECES);
+    assert_eq!(rt; scanner.lines(), 2);
+    assert_eq!(rt; scanner.end(), Err(LineFault::LineCut { line: 3 }));
     assert!(rt; taken(&mut scanner, b"\n").is_none());
 }
 
@@ -79,19 +80,25 @@ fn lines_of_channels(rt: HostRuntime) {
         (b"RJ2 A\n", 6, (ON_2, Some(b"RJ2 A"), &[])),
     ];
     let mut scanner = Scanner::new(1000);
-    assert!(rt; takes_each(&mut scanner, &PIECES));
-    assert!(rt; scanner.push_line(b"B3 1\n") == Err(LineFault::BadLine { line: 4 }));
+    expect_taken(&rt, &mut scanner, &PIECES);
+    assert_eq!(rt;
+        scanner.push_line(b"B3 1\n"),
+        Err(LineFault::BadLine { line: 4 })
+    );
 }
 
 /// The longest line that names its channel.
 #[test]
 fn longest_line_of_a_channel(rt: HostRuntime) {
     let mut scanner = Scanner::new(1000);
-    assert!(rt; taken(&mut scanner, b"B1 ") == Some(3));
-    assert!(rt; taken(&mut scanner, &[b'1'; 511]) == Some(511));
-    assert!(rt; scanner.push_line(b"1\n") == Err(LineFault::LineLong { line: 1 }));
-    assert!(rt; taken(&mut scanner, b"\n") == Some(1));
-    assert!(rt; scanner.elements().len() == 511);
+    assert_eq!(rt; taken(&mut scanner, b"B1 "), Some(3));
+    assert_eq!(rt; taken(&mut scanner, &[b'1'; 511]), Some(511));
+    assert_eq!(rt;
+        scanner.push_line(b"1\n"),
+        Err(LineFault::LineLong { line: 1 })
+    );
+    assert_eq!(rt; taken(&mut scanner, b"\n"), Some(1));
+    assert_eq!(rt; scanner.elements().len(), 511);
 }
 
 /// Four lines, with the bytes of a fifth behind them.
@@ -105,18 +112,17 @@ fn four_lines() -> [u8; 600] {
 /// other, and what is told of it.
 type Cut<'a> = (usize, usize, usize, usize, Told<'a>);
 
-/// Whether a scanner takes the line whole, with all that is behind it, and another in two parts.
-fn takes_cut(whole: &mut Scanner, cut: &mut Scanner, row: Cut) -> bool {
+/// Expects that a scanner takes the line whole, with all that is behind it, and another in two parts.
+fn expect_cut(rt: &impl Abort, whole: &mut Scanner, cut: &mut Scanner, row: Cut) {
     let (begin, middle, count, rest, told) = row;
     let file = four_lines();
-    let (Some(from), Some(last)) = (file.get(begin..), file.get(middle..)) else {
-        return false;
-    };
-    let Some(first) = file.get(begin..middle) else {
-        return false;
-    };
-    takes_each(whole, &[(from, count, told)])
-        && takes_each(cut, &[(first, first.len(), NOTHING), (last, rest, told)])
+    let from = file.get(begin..).expect(rt, "a line");
+    let first = file.get(begin..middle).expect(rt, "its first part");
+    let last = file.get(middle..).expect(rt, "its last part");
+    expect_taken(rt, whole, &[(from, count, told)]);
+    assert_eq!(rt; taken(cut, first), Some(first.len()), "{}", shown(first));
+    expect_told(rt, shown(first), cut, NOTHING);
+    expect_taken(rt, cut, &[(last, rest, told)]);
 }
 
 /// Lines that stand whole in a piece, which has many bytes behind them, and the same lines cut in two.
@@ -147,7 +153,7 @@ fn whole_lines(rt: HostRuntime) {
     ];
     let (mut whole, mut cut) = (Scanner::new(1000), Scanner::new(1000));
     for &row in &LINES {
-        assert!(rt; takes_cut(&mut whole, &mut cut, row));
+        expect_cut(&rt, &mut whole, &mut cut, row);
     }
-    assert!(rt; (whole.lines(), cut.lines()) == (4, 4));
+    assert_eq!(rt; (whole.lines(), cut.lines()), (4, 4));
 }

@@ -1,5 +1,6 @@
 //! The table of the code, as it is written.
 
+use super::super::expect_text;
 use nx_fec::{Counting, WriteFault, write_table};
 
 /// The table of M.476 and M.625 in the numbers and names of this profile, some lines of it in each line here.
@@ -22,17 +23,17 @@ fn table_is_written(rt: HostRuntime) {
         wanted.extend_from_slice(lines).expect(&rt, "memory");
     }
     let mut writer = Counting::new(Vec::new(rt.alloc()));
-    assert!(rt; write_table(&mut writer) == Ok(()));
+    assert_eq!(rt; write_table(&mut writer), Ok(()));
     let written = writer.into_inner();
-    assert!(rt; written.iter().filter(|byte| **byte == b'\n').count() == 35);
-    assert!(rt; written.as_slice() == wanted.as_slice());
+    assert_eq!(rt; written.iter().filter(|byte| **byte == b'\n').count(), 35);
+    expect_text(&rt, "the table", &written, &wanted);
 }
 
 #[test]
 fn table_in_a_full_writer(rt: HostRuntime) {
     let mut space = [0; 10];
     let mut writer = Counting::new(&mut space[..]);
-    assert!(rt; write_table(&mut writer) == Err(WriteFault { written: 10 }));
-    assert!(rt; writer.failures() == 1);
-    assert!(rt; space == *b"47 BBBYYYB");
+    assert_eq!(rt; write_table(&mut writer), Err(WriteFault { written: 10 }));
+    assert_eq!(rt; writer.failures(), 1);
+    expect_text(&rt, "the first bytes", &space, b"47 BBBYYYB");
 }

@@ -28,10 +28,10 @@ fn on_two_channels(rt: &impl Abort, alloc: Global, zero: &[u8], one: &[u8]) -> V
 fn channel_0_alone_is_checked(rt: HostRuntime) {
     let air = air_of_ea01(&rt, rt.alloc());
     let both = on_two_channels(&rt, rt.alloc(), &air, &air);
-    assert!(rt; both.len() == 2876);
+    assert_eq!(rt; both.len(), 2876);
     let (outcome, written) = checked(rt.alloc(), &both);
-    assert!(rt; outcome == Ok(1));
-    assert!(rt; written.as_slice() == b"station E\n#A01\nTEST\n;\n".as_slice());
+    assert_eq!(rt; outcome, Ok(1));
+    expect_text(&rt, "channel 0", &written, b"station E\n#A01\nTEST\n;\n");
 }
 
 #[test]
@@ -40,8 +40,8 @@ fn channel_0_alone_is_damaged(rt: HostRuntime) {
     let (_, other) = damaged(rt.alloc(), &air);
     let both = on_two_channels(&rt, rt.alloc(), &air, &air);
     let (count, written) = damaged(rt.alloc(), &both);
-    assert!(rt; count == Ok(30));
-    assert!(rt; written == on_two_channels(&rt, rt.alloc(), &other, &air));
+    assert_eq!(rt; count, Ok(30));
+    assert_eq!(rt; written, on_two_channels(&rt, rt.alloc(), &other, &air));
 }
 
 /// The words 0 to 2 begin at the elements 0, 7 and 14 of channel 0, on whichever lines these stand.
@@ -50,9 +50,7 @@ fn lines_keep_their_names(rt: HostRuntime) {
     let air = b"B0 000000\nRS1 E\nB1 0\nB 00\nB2 1\nT 5\nB0 0000001\n".as_slice();
     let mut writer = Counting::new(Vec::new(rt.alloc()));
     let count = damage(&mut Counting::new(air), &mut writer, DamageKind::All, 0, 3);
-    assert!(rt; count == Ok(3));
-    assert!(rt;
-        writer.into_inner().as_slice()
-            == b"B0 100000\nRS1 E\nB1 0\nB 01\nB2 1\nT 5\nB0 0000000\n".as_slice()
-    );
+    assert_eq!(rt; count, Ok(3));
+    let wanted = b"B0 100000\nRS1 E\nB1 0\nB 01\nB2 1\nT 5\nB0 0000000\n";
+    expect_text(&rt, "damaged", &writer.into_inner(), wanted);
 }

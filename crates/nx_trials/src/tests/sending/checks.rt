@@ -47,15 +47,18 @@ fn with_comb(rt: &impl Abort, alloc: Global, position: usize, number: u8) -> Vec
 fn check_ea01(rt: HostRuntime) {
     let bits = bits_of_ea01(&rt, rt.alloc());
     let messages = read_emission(rt.alloc(), &bits).expect(&rt, "messages");
-    assert!(rt; messages.len() == 1);
+    assert_eq!(rt; messages.len(), 1);
     let first = messages.first().expect(&rt, "a message");
-    assert!(rt; first.identity() == Identity::new(b'E', b'A', 1).expect(&rt, "EA01"));
-    assert!(rt; first.line_count() == 1);
+    assert_eq!(rt;
+        first.identity(),
+        Identity::new(b'E', b'A', 1).expect(&rt, "EA01")
+    );
+    assert_eq!(rt; first.line_count(), 1);
     assert!(rt; first.line(0) == Some(b"TEST".as_slice()));
     let (_, file) = sent(&rt, rt.alloc(), FILE, b'E', 1_735_689_600);
     let (outcome, written) = checked(rt.alloc(), &file);
-    assert!(rt; outcome == Ok(1));
-    assert!(rt; written.as_slice() == b"station E\n#A01\nTEST\n;\n".as_slice());
+    assert_eq!(rt; outcome, Ok(1));
+    expect_text(&rt, "EA01", &written, b"station E\n#A01\nTEST\n;\n");
 }
 
 /// The fault of an emission of these elements.
@@ -63,15 +66,11 @@ fn fault_of(alloc: Global, bits: &[bool]) -> Option<EmissionFault> {
     read_emission(alloc, bits).err()
 }
 
-/// Whether these elements, with another word in a slot, have this fault.
-fn is_refused(
-    rt: &impl Abort,
-    alloc: Global,
-    bits: &[bool],
-    case: (usize, u8, EmissionFault),
-) -> bool {
+/// Expects that these elements, with another word in a slot, have this fault.
+fn expect_fault(rt: &impl Abort, alloc: Global, bits: &[bool], case: (usize, u8, EmissionFault)) {
     let (slot, number, fault) = case;
-    fault_of(alloc, &with_word(rt, alloc, bits, slot, number)) == Some(fault)
+    let found = fault_of(alloc, &with_word(rt, alloc, bits, slot, number));
+    assert_eq!(rt; found, Some(fault), "slot {slot}");
 }
 
 #[test]
@@ -86,29 +85,36 @@ fn emissions_are_read_strictly(rt: HostRuntime) {
         (1, 0x66, EmissionFault::BadEnvelope),
     ];
     for case in cases {
-        assert!(rt; is_refused(&rt, rt.alloc(), &bits, case));
+        expect_fault(&rt, rt.alloc(), &bits, case);
     }
     // A wrong word comes before a position that is unpaired, and the least of each is told.
     let wrong = with_word(&rt, rt.alloc(), &bits, 150, 0x62);
     for (slot, number) in [(20, 0x47), (152, 0x1C)] {
         let fault = EmissionFault::WrongWord { slot: 150 };
-        assert!(rt; is_refused(&rt, rt.alloc(), &wrong, (slot, number, fault)));
+        expect_fault(&rt, rt.alloc(), &wrong, (slot, number, fault));
     }
 }
 
-/// One word more, a needless shift, the figure of D behind the digits, and nothing.
+/// The figure of D stands behind the digits.
 #[test]
 fn other_envelopes_are_refused(rt: HostRuntime) {
     let bits = bits_of_ea01(&rt, rt.alloc());
-    for other in [
-        with_word_after(&rt, rt.alloc(), &bits, 0x0F),
-        with_comb(&rt, rt.alloc(), 73, 29),
-        with_comb(&rt, rt.alloc(), 83, 4),
-        Vec::new(rt.alloc()),
+    for (row, other) in [
+        (
+            "one word more",
+            with_word_after(&rt, rt.alloc(), &bits, 0x0F),
+        ),
+        ("a needless shift", with_comb(&rt, rt.alloc(), 73, 29)),
+        ("the figure of D", with_comb(&rt, rt.alloc(), 83, 4)),
+        ("nothing", Vec::new(rt.alloc())),
     ] {
-        assert!(rt; fault_of(rt.alloc(), &other) == Some(EmissionFault::BadEnvelope));
+        let fault = fault_of(rt.alloc(), &other);
+        assert_eq!(rt; fault, Some(EmissionFault::BadEnvelope), "{row}");
     }
-    assert!(rt; fault_of(rt.alloc(), &[true; 8]) == Some(EmissionFault::Ragged { bits: 8 }));
+    assert_eq!(rt;
+        fault_of(rt.alloc(), &[true; 8]),
+        Some(EmissionFault::Ragged { bits: 8 })
+    );
 }
 
 #[test]
@@ -122,17 +128,20 @@ fn files_are_checked(rt: HostRuntime) {
     for &(file, text) in &CASES {
         let (outcome, written) = checked(rt.alloc(), file);
         let fault = outcome.err().expect(&rt, "a fault");
-        assert!(rt; is_told(&rt, rt.alloc(), &fault, text));
-        assert!(rt; written.is_empty());
+        expect_told(&rt, rt.alloc(), &fault, text);
+        assert!(rt; written.is_empty(), "{text}");
     }
     let (_, file) = sent(&rt, rt.alloc(), FILE, b'E', 0);
     let mut space = [0; 10];
     let mut writer = Counting::new(&mut space[..]);
     let outcome = check_run(rt.alloc(), &mut Counting::new(file.as_slice()), &mut writer);
-    assert!(rt; outcome == Err(CheckFault::Run(RunFault::Write { written: 10 })));
-    assert!(rt; space == *b"station E\n");
+    assert_eq!(rt;
+        outcome,
+        Err(CheckFault::Run(RunFault::Write { written: 10 }))
+    );
+    expect_text(&rt, "written", &space, b"station E\n");
     let unpaired = CheckFault::Emission(EmissionFault::Unpaired { position: 75 });
-    assert!(rt; is_told(&rt, rt.alloc(), &unpaired, "position 75 is unpaired"));
+    expect_told(&rt, rt.alloc(), &unpaired, "position 75 is unpaired");
     let memory = CheckFault::Emission(EmissionFault::Memory(AllocError));
-    assert!(rt; is_told(&rt, rt.alloc(), &memory, "out of memory"));
+    expect_told(&rt, rt.alloc(), &memory, "out of memory");
 }

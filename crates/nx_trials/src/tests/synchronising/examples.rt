@@ -17,8 +17,8 @@ fn needs_28_bits(rt: HostRuntime) {
         for bit in "0110011111100001100111111000".bytes().skip(skipped) {
             last = sync.push(bit == b'1').change;
         }
-        assert!(rt; (last == Some(Change::Locked)) == locked);
-        assert!(rt; sync.is_locked() == locked);
+        assert_eq!(rt; last == Some(Change::Locked), locked, "without {skipped}");
+        assert_eq!(rt; sync.is_locked(), locked, "without {skipped}");
     }
 }
 
@@ -30,11 +30,11 @@ fn hunts(rt: HostRuntime) {
         *place = bit == b'1';
     }
     let mut sync = Synchroniser::new(rt.alloc()).expect(&rt, "memory");
-    assert!(rt; sync.hunt(&bits) == 27);
-    assert!(rt; sync.push(false).change == Some(Change::Locked));
+    assert_eq!(rt; sync.hunt(&bits), 27);
+    assert_eq!(rt; sync.push(false).change, Some(Change::Locked));
     let mut sync = Synchroniser::new(rt.alloc()).expect(&rt, "memory");
-    assert!(rt; sync.hunt(&[]) == 0);
-    assert!(rt; sync.hunt(&[false; 1000]) == 1000);
+    assert_eq!(rt; sync.hunt(&[]), 0);
+    assert_eq!(rt; sync.hunt(&[false; 1000]), 1000);
     assert!(rt; !sync.is_locked());
 }
 
@@ -44,12 +44,12 @@ fn hunts(rt: HostRuntime) {
 fn hunts_packed_elements(rt: HostRuntime) {
     let numbers = [0x1F9_87E6 << 50, 0x1F9_87E6 >> 14];
     let mut sync = Synchroniser::new(rt.alloc()).expect(&rt, "memory");
-    assert!(rt; sync.hunt_packed(&numbers, 3, 125) == 74);
-    assert!(rt; sync.push(false).change == Some(Change::Locked));
+    assert_eq!(rt; sync.hunt_packed(&numbers, 3, 125), 74);
+    assert_eq!(rt; sync.push(false).change, Some(Change::Locked));
     if sync.is_between_words() {
         let word = Word::from_elements([false, true, true, false, false, true, true]);
         let step = sync.at_words().push(word);
-        assert!(rt; step.word == Some((word, Role::Dx)));
+        assert_eq!(rt; step.word, Some((word, Role::Dx)));
     }
 }
 
@@ -79,16 +79,16 @@ fn hears_eight_words(rt: HostRuntime) {
         (p2, Role::Dx, false),
     ] {
         if words.is_between_words() {
-            assert!(rt; words.push(word).word == Some((word, role)));
+            assert_eq!(rt; words.push(word).word, Some((word, role)), "{role:?}");
         }
-        assert!(rt; words.keeps_lock(&phasing) == kept);
+        assert_eq!(rt; words.keeps_lock(&phasing), kept, "{role:?}");
     }
 }
 
 /// The least window that is a pattern, by the worked example.
 #[test]
 fn least_window(rt: HostRuntime) {
-    assert!(rt; first_lock(&[0, 0x0CC3_F30F, 0x1F9_87E6]) == Some(1));
+    assert_eq!(rt; first_lock(&[0, 0x0CC3_F30F, 0x1F9_87E6]), Some(1));
     assert!(rt; first_lock(&[]).is_none());
 }
 
@@ -104,10 +104,13 @@ fn window_at_each_place(rt: HostRuntime) {
                 windows[(place + 5).min(24)] = 0x1F9_87E6;
                 let windows = &windows[..length];
                 let plain = windows.iter().position(|window| PATTERNS.contains(window));
-                assert!(rt; first_lock(windows) == Some(place));
-                assert!(rt; first_lock(windows) == plain);
+                assert_eq!(rt; first_lock(windows), Some(place), "{place} of {length}");
+                assert_eq!(rt; first_lock(windows), plain, "{place} of {length}");
             }
-            assert!(rt; first_lock(&[0x0CC3_F30E; 25][..length]).is_none());
+            assert!(rt;
+                first_lock(&[0x0CC3_F30E; 25][..length]).is_none(),
+                "{length}"
+            );
         }
     }
 }

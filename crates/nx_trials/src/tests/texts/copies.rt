@@ -1,5 +1,6 @@
 //! The cases of copies: what a finder answers to texts.
 
+use super::super::expect_text;
 use nx_envelope::{Finder, FinderStep, Found, How, Identity, NEWLINE, TextEvent};
 use std::alloc::Global;
 use std::fmt::Write;
@@ -310,11 +311,11 @@ fn log_of(rt: &impl Abort, alloc: Global, before: &str, letters: usize, after: &
 fn finder_finds_copies(rt: HostRuntime) {
     for (text, log) in CASES.iter() {
         let answers = log_of(&rt, rt.alloc(), text, 0, "");
-        assert!(rt; answers.as_str() == *log, "{text}");
+        assert_eq!(rt; answers.as_str(), *log, "{text}");
     }
     for case in LONG_CASES.iter() {
         let answers = log_of(&rt, rt.alloc(), case.before, case.letters, case.after);
-        assert!(rt; answers.as_str() == case.log, "{}", case.log);
+        assert_eq!(rt; answers.as_str(), case.log, "{}", case.log);
     }
 }
 
@@ -323,20 +324,20 @@ fn steps_hand_out_what_is_found(rt: HostRuntime) {
     let mut finder = Finder::new();
     let identity = Identity::new(b'E', b'A', 1).expect(&rt, "identity");
     for byte in b"ZCZC EA0".iter() {
-        assert!(rt; matches!(finder.push(*byte), FinderStep::Nothing));
+        assert!(rt; matches!(finder.push(*byte), FinderStep::Nothing), "{byte}");
     }
     let FinderStep::Header(named) = finder.push(b'1') else {
         rt.panic("no header")
     };
-    assert!(rt; named == identity);
+    assert_eq!(rt; named, identity);
     for byte in b"\nA*NNN".iter() {
-        assert!(rt; matches!(finder.push(*byte), FinderStep::Nothing));
+        assert!(rt; matches!(finder.push(*byte), FinderStep::Nothing), "{byte}");
     }
     let FinderStep::Over(found) = finder.push(b'N') else {
         rt.panic("no copy")
     };
-    assert!(rt; found.identity == identity);
-    assert!(rt; found.text.as_slice() == b"A*".as_slice());
-    assert!(rt; found.errors == 1);
-    assert!(rt; found.how == How::Full);
+    assert_eq!(rt; found.identity, identity);
+    expect_text(&rt, "found", found.text.as_slice(), b"A*");
+    assert_eq!(rt; found.errors, 1);
+    assert_eq!(rt; found.how, How::Full);
 }
