@@ -6,6 +6,7 @@ mod entries;
 mod hearing;
 mod judging;
 mod laws;
+mod limits;
 mod listening;
 mod locking;
 mod remembering;
