@@ -18,6 +18,9 @@ use std::marker::Model;
 
 /// Reads the text of a lock, of which it is given one word after the other, and counts its words,
 /// those of the wrong weight, and the headers in the text.
+///
+/// No field can be added whose meaning contracts see (`inverse`); that no field's own type forgets,
+/// the proved size shows.
 #[derive(Drop)]
 pub(crate) struct LockReader {
     diversity: Diversity,
@@ -64,6 +67,8 @@ impl LockReader {
         ensures fresh { IsFresh result }
         ensures copies { result.copies ≡ 0 }
     {
+        // No room for a field of a type whose own model forgets what it holds.
+        prove!(size_of::<LockReader>() == size_of::<Finder>() + 40);
         LockReader {
             diversity: Diversity::new(),
             printer: Printer::new(),

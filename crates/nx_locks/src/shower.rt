@@ -42,6 +42,9 @@ pub enum LineRefusal {
 }
 
 /// A watch that takes the lines of an air file.
+///
+/// No field can be added whose meaning contracts see (`inverse`); that no field's own type forgets,
+/// the proved size shows.
 #[derive(Drop)]
 pub(crate) struct Shower {
     watch: LockWatch,
@@ -75,6 +78,8 @@ impl Shower {
     pub(crate) fn new(alloc: Global) -> Result<Shower, AllocError>
         ensures { IfOk result (λ shower. IsShowing shower [] []) }
     {
+        // No room for a field of a type whose own model forgets what it holds.
+        prove!(size_of::<Shower>() == size_of::<LockWatch>() + size_of::<Shown>() + 8);
         let watch = LockWatch::new(alloc)?;
         Ok(Shower {
             watch,

@@ -23,7 +23,9 @@ const BLOCK: usize = WORDS_AT_ONCE * ELEMENTS;
 
 /// A watch over the elements that arrive, which shows their locks.
 ///
-/// It holds what the synchroniser and the reader of a lock hold, the moment in force, and counts.
+/// It holds what the synchroniser and the reader of a lock hold, the moment in force, and counts. No
+/// field can be added whose meaning contracts see (`inverse`); that no field's own type forgets, the
+/// proved size shows.
 #[derive(Drop)]
 pub(crate) struct LockWatch {
     synchroniser: Synchroniser,
@@ -75,6 +77,8 @@ impl LockWatch {
         ensures shows { IfOk result (λ watch. WatchShows watch [] [] []) }
         ensures moment { IfOk result (λ watch. watch.moment ≡ 0) }
     {
+        // No room for a field of a type whose own model forgets what it holds.
+        prove!(size_of::<LockWatch>() == size_of::<Synchroniser>() + size_of::<LockReader>() + 32);
         let synchroniser = Synchroniser::new(alloc)?;
         Ok(LockWatch {
             synchroniser,
