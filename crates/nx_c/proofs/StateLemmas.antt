@@ -1,6 +1,11 @@
 -- A run that goes on from the state with which some bytes begin.
-use Rattle.std.proofs.Common.{◌≡◌, ℕ, List, [], Option, Some, Result, Ok, Err, OnOk, subst, sym}
+use Rattle.std.proofs.Common.{◌≡◌, ℕ, List, [], IfSome, Option, Some, Result, Ok, Err, OnOk}
+use Rattle.std.proofs.Common.{subst, sym}
+use Rattle.nx_fec.specs.Transfers.{Devices}
+use Rattle.nx_fec.proofs.TransferLaws.{IfSome-end}
 use Rattle.nx_memory.specs.Saved.{SavedStates}
+use Rattle.nx_receiver.specs.Chain.{HasGoneOn}
+use Rattle.nx_receiver.specs.ListenFrom.{GoesOnBy}
 use Rattle.nx_receiver.specs.State.{AnswersState, BeginsWith}
 use Rattle.nx_receiver.specs.declared.listening.Report.{Report}
 use Rattle.nx_receiver.specs.declared.resume_fault.ResumeFault.{ResumeFault}
@@ -44,6 +49,17 @@ module _ (input air log left : List ℕ) (states : SavedStates) where
     here = h.here.1;
   }
   resumed-to (Err fault) h = tt
+
+-- what a run leaves that read its file to the end, it leaves of the whole file
+pub leaves-whole : {R W : Type 0} (saved left : SavedStates) (d : Devices R W) (report : Report)
+    → GoesOnBy saved d (Ok (report, left))
+    → IfSome (d.remaining d.reader.inner) (λ file. HasGoneOn saved (d.contents d.writer.inner)
+    (d.contents d.writer_after.inner) file left)
+leaves-whole saved left d report h =
+    let run = h.listens.run in
+    IfSome-end (d.remaining d.reader.inner) (d.remaining d.reader_after.inner) run.bytes
+    (λ file. HasGoneOn saved (d.contents d.writer.inner) (d.contents d.writer_after.inner) file
+    left) run.consumed run.answer.0 h.left
 
 -- what holds of the contents of a writer and of the bytes of a reader holds of lists that they are
 pub moved : (P : Option (List ℕ) → Option (List ℕ) → List ℕ → Type 0)

@@ -21,7 +21,9 @@ use Rattle.nx_station.specs.declared.fault.SendRunFault.TheVariants as send
 use Rattle.nx_program.specs.declared.words.Call.{Call}
 use Rattle.nx_fec.specs.declared.fault.RunFault.{RunFault}
 use Rattle.nx_fec.specs.declared.fault.RunFault.TheVariants as run
-use Rattle.nx_program.specs.Program.{EndsRun, Exits, Performs, Succeeds, Tells, fresh_device}
+use Rattle.nx_program.specs.Program.{EndsRun, Exits, IsUntouchedByWant, Performs, Succeeds, Tells}
+use Rattle.nx_program.specs.Program.{fresh_device}
+use Rattle.std.specs.declared.alloc.AllocError.{AllocError}
 use Rattle.nx_program.specs.Status.{IsStatus, call_status, check_status, damage_status}
 use Rattle.nx_program.specs.Status.{listen_status, fault_status, resume_status, run_status}
 use Rattle.nx_program.specs.Status.{send_status, status_of}
@@ -233,3 +235,10 @@ tells-err name answers outcome why fault answered is named = record {
   answered = answered;
   told = is ∙ ap (λ (f : CallFault). Err f) named;
 }
+
+-- a call that ran out of memory called neither device
+pub untouched : {R W N : Type 0} (d : Devices R W) (own : Result N ListenFault)
+    → ((error : AllocError) → own ≡ Err (listen.Memory error)
+    → (d.reader_after ≡ d.reader) × (d.writer_after ≡ d.writer)) → IsUntouchedByWant d own
+untouched d own h =
+    λ error e. let kept = h error e in record { reader = kept.0; writer = kept.1 }

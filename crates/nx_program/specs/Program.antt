@@ -3,6 +3,7 @@
 use Rattle.std.specs.Prelude.{◌≡◌, ◌⊎◌, ◌∷◌, ◌++◌, ⊤, ℕ, List, [], Option, Result, Ok, Err}
 use Rattle.std.specs.Prelude.{alloc_error, codes}
 use Rattle.std.specs.Io.KnownBytes.{Appends}
+use Rattle.std.specs.declared.alloc.AllocError.{AllocError}
 use Rattle.clap.specs.Words.{Text}
 use Rattle.nx_envelope.specs.Moment.{IsShownAs}
 use Rattle.std.specs.Fmt.{decimal}
@@ -10,9 +11,14 @@ use Rattle.nx_fec.specs.Transfers.{CountedDevice, WroteSome, Devices}
 use Rattle.nx_fec.specs.Runs.{Decodes, Encodes, Shows}
 use Rattle.nx_fec.specs.TableText.{table_text}
 use Rattle.nx_locks.specs.Run.{ShowsLocks}
+use Rattle.nx_memory.specs.Saved.{SavedStates}
 use Rattle.nx_receiver.specs.Shares.{all_at_zero}
-use Rattle.nx_receiver.specs.ListenFrom.{ListensBy}
-use Rattle.nx_receiver.specs.Resume.{Resumes}
+use Rattle.nx_receiver.specs.ListenOnce.{ListensOnce}
+use Rattle.nx_receiver.specs.Resume.{ReadStateAlone, Resumes}
+use Rattle.nx_receiver.specs.declared.listen_fault.ListenFault.{ListenFault}
+use Rattle.nx_receiver.specs.declared.listen_fault.ListenFault.TheVariants as listen
+use Rattle.nx_receiver.specs.declared.resume_fault.ResumeFault.{ResumeFault}
+use Rattle.nx_receiver.specs.declared.resume_fault.ResumeFault.TheVariants as resume
 use Rattle.nx_receiver.specs.declared.resume_fault.Want.TheVariants.{Log, State}
 use Rattle.nx_station.specs.Checking.{Checks}
 use Rattle.nx_station.specs.Damage.{Damages}
@@ -92,7 +98,19 @@ ShowsSlot station moment contents old new (Err (call.Run why)) =
 ShowsSlot station moment contents old new (Err call.NoSlot) = HasNoSlot station moment × (new ≡ old)
 ShowsSlot station moment contents old new (Err _) = ⊥
 
--- the call did on the devices what its outcome says
+-- where memory ran out, neither device was called
+abbrev pub IsUntouchedByWant : {R W N : Type 0} → Devices R W → Result N ListenFault → Type 0
+IsUntouchedByWant d own = (error : AllocError) → own ≡ Err (listen.Memory error) → IsUntouched d
+
+-- where memory ran out, the text of a state was read, no byte behind it, and nothing was written
+abbrev pub ReadsStateBeforeWant : {R W N : Type 0} → Devices R W → Result N ResumeFault → Type 0
+ReadsStateBeforeWant d own =
+    (error : AllocError) → own ≡ Err (resume.Listen (listen.Memory error))
+    → (states : SavedStates) × ReadStateAlone d.remaining d.reader d.reader_after states
+    × (d.writer_after ≡ d.writer)
+
+-- The call did on the devices what its outcome says. What stands on the output behind what stood
+-- there is what the call wrote, and nothing before it, nor behind it.
 abbrev pub Performs : {R W : Type 0} → Call → Devices R W → Result (Unit {0}) CallFault → Type 0
 Performs Decode d outcome = Tells (λ why. call.Run why) (Decodes d) outcome
 Performs Encode d outcome = Tells (λ why. call.Run why) (Encodes d) outcome
@@ -101,10 +119,15 @@ Performs Code d outcome =
     (WritesText (λ text. text ≡ table_text) d.contents d.writer d.writer_after) outcome
 Performs Show d outcome = Tells (λ why. call.Run why) (Shows d) outcome
 Performs Check d outcome = Tells (λ why. call.Check why) (Checks d) outcome
-Performs Listen d outcome = Tells (λ why. call.Listen why) (ListensBy all_at_zero d) outcome
-Performs Resume d outcome = Tells (λ why. call.Resume why) (Resumes Log d) outcome
-Performs Save d outcome = Tells (λ why. call.Resume why) (Resumes State d) outcome
-Performs Locks d outcome = Tells (λ why. call.Listen why) (ShowsLocks d) outcome
+Performs Listen d outcome =
+    Tells (λ why. call.Listen why)
+    (λ own. ListensOnce all_at_zero d own × IsUntouchedByWant d own) outcome
+Performs Resume d outcome =
+    Tells (λ why. call.Resume why) (λ own. Resumes Log d own × ReadsStateBeforeWant d own) outcome
+Performs Save d outcome =
+    Tells (λ why. call.Resume why) (λ own. Resumes State d own × ReadsStateBeforeWant d own) outcome
+Performs Locks d outcome =
+    Tells (λ why. call.Listen why) (λ own. ShowsLocks d own × IsUntouchedByWant d own) outcome
 Performs (Send station moment) d outcome =
     Tells (λ why. call.Send why) (Sends d station.byte moment) outcome
 Performs (Slots station moment) d outcome =

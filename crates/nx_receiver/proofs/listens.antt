@@ -7,3 +7,4 @@ pub mod Moments
 pub mod Outcomes
 pub mod Runs
 pub mod Taken
+pub mod Unlogged

@@ -1,15 +1,15 @@
 -- What three receivers that listen make of an air file, with whatever they start: the log of its
 -- lines, and its first fault (this profile).
 use Rattle.std.specs.Prelude.{◌≡◌, ◌⊎◌, ◌↔◌, ℕ, ◌+◌, ◌≤◌, Bool, true, false, List, [], ◌∷◌, ◌++◌}
-use Rattle.std.specs.Prelude.{length, map, Option, Result, Ok, Err, IfSome, IsErrOf, IsTrue, ⊤}
+use Rattle.std.specs.Prelude.{length, map, Option, None, Result, Ok, Err, IfSome, IsErrOf, IsTrue, ⊤}
 use Rattle.std.specs.List.{flat_map, list_any}
-use Rattle.std.specs.Io.KnownBytes.{Appends, Consumes, IsAtEnd}
+use Rattle.std.specs.Io.KnownBytes.{Appends, Consumes}
 use Rattle.nx_envelope.specs.Moment.{last_moment}
 use Rattle.nx_fec.specs.AirFile.{Line, moment, elements, refuse_station, accept_station}
 use Rattle.nx_fec.specs.AirFile.{refuse_subject, accept_subject}
 use Rattle.nx_fec.specs.Channels.{channel_of}
 use Rattle.nx_fec.specs.declared.channel.Channel.{Channel}
-use Rattle.nx_fec.specs.Transfers.{WroteSome}
+use Rattle.nx_fec.specs.Transfers.{Devices, IsReadOut, WroteSome}
 use Rattle.nx_fec.specs.Lines.{StopsAt, air_limit, IsAirFile, IsCause, IsLineRefused, elements_of}
 use Rattle.nx_fec.specs.Lines.{file_of}
 use Rattle.nx_fec.specs.declared.fault.LineFault.{LineFault}
@@ -170,19 +170,27 @@ AnswersListening starts AtEnd IsLeft old new (Err (LineCut line)) bytes =
 AnswersListening starts AtEnd IsLeft old new (Err fault) bytes =
     HasListenFault starts (HasLogged starts old new) bytes fault
 
--- A run that listens, with this start. The reader had `left` to read and then `left_after`, and the
--- writer the contents `old` and then `new`, where they tell of their bytes. The run answers so to
--- the bytes that it read, and to the whole file, however it came; and it writes the log of the
--- lines that it read before each further read. A read failed, at most one, exactly where the
--- outcome is `Read`, and a write where it is `Write`.
-pub record Listens (starts : Starts) (left left_after old new : Option (List ℕ))
-    (failed_reads failed_writes : ℕ) (outcome : Result Report ListenFault) : Type 0 where
+-- What such a run answers whose log isn't written: no write fails, and nothing is known of the log
+-- but that there is one.
+abbrev pub AnswersUnlogged : Starts → Type 0 → (List ℕ → Type 0) → Result Report ListenFault
+    → List ℕ → Type 0
+AnswersUnlogged starts AtEnd IsLeft (Err (Write written)) bytes = ⊥
+AnswersUnlogged starts AtEnd IsLeft outcome bytes =
+    AnswersListening starts AtEnd IsLeft None None outcome bytes
+
+-- A run that listens, with this start. It answers so to the bytes that it read, and to the whole
+-- file, however it came; and it writes the log of the lines that it read before each further read.
+-- A read failed, at most one, exactly where the outcome is `Read`, and a write where it is `Write`.
+pub record Listens {R W : Type 0} (starts : Starts) (d : Devices R W)
+    (outcome : Result Report ListenFault) : Type 0 where
   pub bytes : List ℕ
-  pub consumed : Consumes left left_after bytes
-  pub answer : AnswersListening starts (IsAtEnd left_after)
-      (λ more. more ≡ []) old new outcome bytes
-  pub file : IfSome left (AnswersListening starts (Unit {0}) (λ more. Unit {0}) old new outcome)
-  pub unread : IsErrOf outcome Read ↔ (failed_reads ≡ 1)
-  pub read_once : failed_reads ≤ 1
-  pub unwritten : ((written : ℕ) × (outcome ≡ Err (Write written))) ↔ (failed_writes ≡ 1)
-  pub write_once : failed_writes ≤ 1
+  pub consumed : Consumes (d.remaining d.reader.inner) (d.remaining d.reader_after.inner) bytes
+  pub answer : AnswersListening starts (IsReadOut d) (λ more. more ≡ [])
+      (d.contents d.writer.inner) (d.contents d.writer_after.inner) outcome bytes
+  pub file : IfSome (d.remaining d.reader.inner) (AnswersListening starts (Unit {0})
+      (λ more. Unit {0}) (d.contents d.writer.inner) (d.contents d.writer_after.inner) outcome)
+  pub unread : IsErrOf outcome Read ↔ (d.reader_after.failures ≡ 1)
+  pub read_once : d.reader_after.failures ≤ 1
+  pub unwritten : ((written : ℕ) × (outcome ≡ Err (Write written)))
+      ↔ (d.writer_after.failures ≡ 1)
+  pub write_once : d.writer_after.failures ≤ 1

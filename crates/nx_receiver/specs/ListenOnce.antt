@@ -1,15 +1,16 @@
 -- The second half of the headline, over bytes: what has to be met in an air file, so that a message
 -- is printed once; and that it is (this profile).
-use Rattle.std.specs.Prelude.{ℕ, List, Option, map}
-use Rattle.std.specs.Io.KnownBytes.{Consumes, IsAtEnd}
+use Rattle.std.specs.Prelude.{ℕ, List, Option, Result, OnOk}
 use Rattle.nx_envelope.specs.Message.{MessageView}
 use Rattle.nx_fec.specs.AirFile.{Line}
 use Rattle.nx_fec.specs.Lines.{air_limit, IsAirFile}
+use Rattle.nx_fec.specs.Transfers.{Devices}
 use Rattle.nx_fec.specs.declared.channel.Channel.{Channel}
 use Rattle.nx_station.specs.Sendings.{Part}
-use Rattle.nx_receiver.specs.Listen.{HasListened, events_on, given_of}
+use Rattle.nx_receiver.specs.Listen.{HasListened, Listens, events_on}
 use Rattle.nx_receiver.specs.Once.{IsHeardInTime, IsPrintedOnce}
-use Rattle.nx_receiver.specs.Shares.{Starts, copies_on, share, start_on}
+use Rattle.nx_receiver.specs.Shares.{Starts, copies_on, start_on}
+use Rattle.nx_receiver.specs.declared.listen_fault.ListenFault.{ListenFault}
 use Rattle.nx_receiver.specs.declared.listening.Report.{Report}
 
 -- What has to be met on a channel of an air file, so that a message is printed once: the file has
@@ -34,17 +35,10 @@ pub record HasPrintedOnce (starts : Starts) (old new : Option (List ℕ)) (file 
       → IsHeardInTimeOn channel starts file message
       → IsPrintedOnce message (copies_on channel listened.copies)
 
--- Both halves of the headline hold of the bytes that a run read of `left`, which are all, and of
--- those that it wrote after `old`: the log of the file was written, and of its entries on a channel
--- exactly one bears the identity of each message that is heard in time, in whatever parts, in the
--- channel's share of what the lines give.
-pub record KeepsHeadline (starts : Starts)
-    (left left_after old new : Option (List ℕ)) : Type 0 where
-  pub bytes : List ℕ
-  pub consumed : Consumes left left_after bytes
-  pub all : IsAtEnd left_after
-  pub report : Report
-  pub listened : HasListened starts old new bytes report
-  pub once : (channel : Channel) (message : MessageView) (parts : List Part) → IsHeardInTime
-      (start_on starts channel) (share channel (map given_of listened.lines)) parts message
-      → IsPrintedOnce message (copies_on channel listened.copies)
+-- A run that listens, with this start, and where it reads its file to the end, keeps both halves of
+-- the headline for the bytes that it read.
+pub record ListensOnce {R W : Type 0} (starts : Starts) (d : Devices R W)
+    (outcome : Result Report ListenFault) : Type 0 where
+  pub run : Listens starts d outcome
+  pub once : OnOk outcome (HasPrintedOnce starts (d.contents d.writer.inner)
+      (d.contents d.writer_after.inner) run.bytes)

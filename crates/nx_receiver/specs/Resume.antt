@@ -7,7 +7,7 @@ use Rattle.std.specs.Io.KnownBytes.{Appends, Consumes}
 use Rattle.nx_fec.specs.Transfers.{CountedDevice, Devices, IsReadOut, Writes, WroteSome}
 use Rattle.nx_memory.specs.Saved.{AreSavedStates, SavedStates}
 use Rattle.nx_receiver.specs.Chain.{HasGoneOn, IsChain, Run, all_logs, files}
-use Rattle.nx_receiver.specs.Listen.{AnswersListening, IsLogOf}
+use Rattle.nx_receiver.specs.Listen.{AnswersListening, AnswersUnlogged, IsLogOf}
 use Rattle.nx_receiver.specs.ListenOnce.{HasPrintedOnce}
 use Rattle.nx_receiver.specs.Shares.{starts_from}
 use Rattle.nx_receiver.specs.State.{BeginsWith, ExplainsState, IsStateBytes, state_bytes}
@@ -19,26 +19,32 @@ use Rattle.nx_receiver.specs.declared.resume_fault.Want.{Want}
 use Rattle.nx_receiver.specs.declared.resume_fault.Want.TheVariants.{Log, State}
 use Rattle.nx_receiver.specs.declared.state_fault.StateFault.TheVariants as state
 
--- what is known of the log that is written: where the state is wanted, the log is thrown away, and
--- nothing is known of it
-abbrev pub known_log : Want → Option (List ℕ) → Option (List ℕ)
-known_log Log contents = contents
-known_log State contents = None
+-- a run that went on from these states over an air file leaves something, and this holds of its
+-- text
+pub record HasLeft (holds : List ℕ → Type 0) (states : SavedStates) (air : List ℕ) : Type 0 where
+  pub left : SavedStates
+  pub sound : AreSavedStates left
+  pub gone : HasGoneOn states None None air left
+  pub here : holds (state_bytes left)
 
--- What a run answers that goes on from these states over an air file: what a run that listens
--- answers; or, where the state is wanted, the air file was read to its end, and writing the new
--- state failed.
+-- What a run answers that goes on from these states over an air file. Where the log is wanted, it
+-- is written, with both halves of the headline. Where the state is wanted, no log is, and the text
+-- of what the air file leaves is written; or the first bytes of it, before the write that failed.
 abbrev pub AnswersAir : Want → SavedStates → Type 0 → (List ℕ → Type 0) → Option (List ℕ)
     → Option (List ℕ) → Result Report ResumeFault → List ℕ → Type 0
-AnswersAir want states AtEnd IsLeft old new (Ok report) air =
-    AnswersListening (starts_from states) AtEnd IsLeft (known_log want old) (known_log want new)
-    (Ok report) air
-AnswersAir want states AtEnd IsLeft old new (Err (resume.Listen fault)) air =
-    AnswersListening (starts_from states) AtEnd IsLeft (known_log want old) (known_log want new)
-    (Err fault) air
+AnswersAir Log states AtEnd IsLeft old new (Ok report) air =
+    AnswersListening (starts_from states) AtEnd IsLeft old new (Ok report) air
+    × HasPrintedOnce (starts_from states) old new air
+AnswersAir Log states AtEnd IsLeft old new (Err (resume.Listen fault)) air =
+    AnswersListening (starts_from states) AtEnd IsLeft old new (Err fault) air
+AnswersAir State states AtEnd IsLeft old new (Ok report) air =
+    AnswersUnlogged (starts_from states) AtEnd IsLeft (Ok report) air
+    × HasLeft (Appends old new) states air
+AnswersAir State states AtEnd IsLeft old new (Err (resume.Listen fault)) air =
+    AnswersUnlogged (starts_from states) AtEnd IsLeft (Err fault) air
 AnswersAir State states AtEnd IsLeft old new (Err (resume.Write written)) air =
-    (report : Report)
-    × AnswersListening (starts_from states) AtEnd IsLeft None None (Ok report) air
+    ((report : Report) × AnswersUnlogged (starts_from states) AtEnd IsLeft (Ok report) air)
+    × HasLeft (λ text. WroteSome old new text written) states air
 AnswersAir want states AtEnd IsLeft old new outcome air = ⊥
 
 -- What a run that resumes answers to its input: a fault of the state, or the input begins with the
@@ -88,50 +94,6 @@ pub record ResumesBy {R W : Type 0}
 -- a run that resumes
 abbrev pub Resumes : {R W : Type 0} → Want → Devices R W → Result Report ResumeFault → Type 0
 Resumes want d outcome = ResumesBy (AnswersResuming want) want d outcome
-
--- this holds of the bytes that a run read; and of the whole input, where it is known, however it
--- came
-pub record HoldsOfInput {R W : Type 0} (d : Devices R W) (holds : List ℕ → Type 0) : Type 0 where
-  pub bytes : List ℕ
-  pub consumed : Consumes (d.remaining d.reader.inner) (d.remaining d.reader_after.inner) bytes
-  pub here : holds bytes
-  pub file : IfSome (d.remaining d.reader.inner) holds
-
--- and of the air file behind the text of a state, with which the input begins
-abbrev pub HoldsBehind : {R W : Type 0} → Devices R W → (SavedStates → List ℕ → Type 0) → Type 0
-HoldsBehind d holds = HoldsOfInput d (λ input. BeginsWith input holds)
-
--- the input was read to its end
-abbrev pub IsRead : Result Report ResumeFault → Type 0
-IsRead (Ok report) = ⊤
-IsRead (Err (resume.State fault)) = ⊥
-IsRead (Err (resume.Listen fault)) = ⊥
-IsRead (Err (resume.Write written)) = ⊤
-
--- the log of an air file was written by a run that went on from these states, and keeps both halves
--- of the headline
-abbrev pub HasPrintedOnceFrom : {R W : Type 0} → Devices R W → SavedStates → List ℕ → Type 0
-HasPrintedOnceFrom d states air =
-    HasPrintedOnce (starts_from states) (d.contents d.writer.inner)
-    (d.contents d.writer_after.inner) air
-
--- a run that went on from these states over an air file leaves something, and this holds of its
--- text
-pub record HasLeft (holds : List ℕ → Type 0) (states : SavedStates) (air : List ℕ) : Type 0 where
-  pub left : SavedStates
-  pub sound : AreSavedStates left
-  pub gone : HasGoneOn states None None air left
-  pub here : holds (state_bytes left)
-
--- the text of what a run leaves was written, or the first bytes of it, before the write that failed
-abbrev pub WritesLeft : {R W : Type 0} → Devices R W → Result Report ResumeFault
-    → SavedStates → List ℕ → Type 0
-WritesLeft d (Ok report) states air =
-    HasLeft (Appends (d.contents d.writer.inner) (d.contents d.writer_after.inner)) states air
-WritesLeft d (Err (resume.Write written)) states air =
-    HasLeft (λ text. WroteSome (d.contents d.writer.inner) (d.contents d.writer_after.inner) text
-    written) states air
-WritesLeft d (Err fault) states air = ⊥
 
 -- the text of this state was read, and no byte behind it
 pub record ReadStateAlone {R : Type 0} (remaining : R → Option (List ℕ)) (old new : CountedDevice R)

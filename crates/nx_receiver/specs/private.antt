@@ -6,4 +6,5 @@ pub mod ListenerBegins
 pub mod LockReader
 pub mod StateParts
 pub mod Taken
+pub mod Unlogged
 pub mod Watch

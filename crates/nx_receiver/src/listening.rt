@@ -13,15 +13,17 @@ ghost use Rattle.nx_memory.specs.Selection.{is_vital};
 ghost use Rattle.nx_receiver.specs.Chain.{Leaves};
 ghost use Rattle.nx_receiver.specs.Events.{Refuses, Start, at_moment, command};
 ghost use Rattle.nx_receiver.specs.Events as events;
-ghost use Rattle.nx_receiver.specs.Listen.{Listens, events_on};
-ghost use Rattle.nx_receiver.specs.ListenFrom.{GoesOnBy, reported};
-ghost use Rattle.nx_receiver.specs.ListenOnce.{KeepsHeadline};
+ghost use Rattle.nx_receiver.specs.Listen.{events_on};
+ghost use Rattle.nx_receiver.specs.ListenFrom.{GoesOnBy};
+ghost use Rattle.nx_receiver.specs.ListenOnce.{ListensOnce};
 ghost use Rattle.nx_receiver.specs.Log.{IsLog};
 ghost use Rattle.nx_receiver.specs.Receiver.{Stands, TakesEvent, entry_list};
 ghost use Rattle.nx_receiver.specs.Shares.{Given, Starts, all_at_zero, marked, saved_of, start_on, starts_from};
 ghost use Rattle.nx_receiver.specs.private.Awaiting.{HandsOut, HearsUpTo};
 ghost use Rattle.nx_receiver.specs.private.Listener.{BeginsFrom, HasClosed, HasClosedSome, HasFinished, HeardSome, HearsLog, IsHearing, IsListening, Listening, RefusesFrom, RefusesLine, StandsFrom, content, count_of, lines_fault, receiver_on, refusal_fault, starts_of, then_elements, with_receiver};
 ghost use Rattle.nx_receiver.specs.declared.listen_fault.ListenFault.TheVariants.{Memory};
+
+mod unlogged;
 
 use crate::entry::Entry;
 use crate::fault::{MomentFault, ReceiverFault};
@@ -38,6 +40,7 @@ use nx_memory::{RingRecall, Saved, SavedSet, Selection};
 use std::alloc::{AllocError, Global};
 use std::io::{Read, Write};
 use std::marker::Model;
+pub(crate) use unlogged::listen_unlogged;
 
 /// What a run that listened to an air file read and printed.
 #[derive(Clone, Copy, Debug, Drop, PartialEq, Eq)]
@@ -74,11 +77,8 @@ pub fn listen<R: Read, W: Write>(
 ) -> Result<Report, ListenFault>
     requires reader { reader.old.failures ≡ 0 }
     requires writer { writer.old.failures ≡ 0 }
-    ensures listens { Listens all_at_zero (R.remaining reader.old.inner)
-        (R.remaining reader.new.inner) (W.contents writer.old.inner) (W.contents writer.new.inner)
-        reader.new.failures writer.new.failures result }
-    ensures once { OnOk result (KeepsHeadline all_at_zero (R.remaining reader.old.inner)
-        (R.remaining reader.new.inner) (W.contents writer.old.inner) (W.contents writer.new.inner)) }
+    ensures listens { ListensOnce all_at_zero
+        (devices R.remaining W.contents reader.old reader.new writer.old writer.new) result }
     ensures memory { (error : AllocError) → result ≡ Err (Memory error)
         → (reader.new ≡ reader.old) × (writer.new ≡ writer.old) }
 {
@@ -106,13 +106,8 @@ pub fn listen_from<R: Read, W: Write>(
 ) -> Result<(Report, SavedSet), ListenFault>
     requires reader { reader.old.failures ≡ 0 }
     requires writer { writer.old.failures ≡ 0 }
-    ensures listens { Listens (starts_from saved.now) (R.remaining reader.old.inner)
-        (R.remaining reader.new.inner) (W.contents writer.old.inner) (W.contents writer.new.inner)
-        reader.new.failures writer.new.failures (reported result) }
-    ensures left { IfOk result (λ answer. GoesOnBy saved.now
-        (devices R.remaining W.contents reader.old reader.new writer.old writer.new) answer.1) }
-    ensures once { OnOk result (KeepsHeadline (starts_from saved.now) (R.remaining reader.old.inner)
-        (R.remaining reader.new.inner) (W.contents writer.old.inner) (W.contents writer.new.inner)) }
+    ensures listens { GoesOnBy saved.now
+        (devices R.remaining W.contents reader.old reader.new writer.old writer.new) result }
     ensures memory { (error : AllocError) → result ≡ Err (Memory error)
         → (reader.new ≡ reader.old) × (writer.new ≡ writer.old) }
 {

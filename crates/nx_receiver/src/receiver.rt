@@ -22,6 +22,7 @@ ghost use Rattle.nx_envelope.specs.Copies.{Copy};
 ghost use Rattle.nx_envelope.specs.Finder.{HasReady};
 ghost use Rattle.nx_envelope.specs.Found.{IsHeadOf};
 ghost use Rattle.nx_fec.specs.LineRuns.{HasGiven};
+ghost use Rattle.nx_fec.specs.declared.channel.Channel.{Channel};
 ghost use Rattle.nx_fec.specs.Transfers.{FailsOnce, WroteSome};
 
 use crate::entry::Entry;
@@ -346,6 +347,14 @@ impl<M: Recall> Receiver<M> {
             self.watch.restart();
         }
         (judged.is_some(), given)
+    }
+
+    /// Finishes what is over, and says whether it brings an entry. The entry is let go.
+    pub(crate) fn finish_unlogged(&mut self, over: Over) -> bool
+        ensures { (channel : Channel) → (bytes : List ℕ)
+            × HandsOut M.content self.old self.new channel over result bytes }
+    {
+        self.finish(over).is_some()
     }
 
     /// Judges the copy that is over, where one is: its head where it is printed. The copy stays with

@@ -1,29 +1,26 @@
 //! Going on from a state that is read before the air file.
 
-ghost use Rattle.std.specs.Prelude.{◌≡◌, Err, OnOk};
+ghost use Rattle.std.specs.Prelude.{◌≡◌, Err};
 ghost use Rattle.nx_fec.specs.Transfers.{devices};
 ghost use Rattle.nx_memory.specs.Saved.{SavedStates};
-ghost use Rattle.nx_receiver.specs.Resume.{AnswersAir, HasPrintedOnceFrom, HoldsBehind, HoldsOfInput, IsRead, ReadStateAlone, Resumes, ResumesBy, WritesLeft};
-ghost use Rattle.nx_receiver.specs.ListenOnce.{KeepsHeadline};
-ghost use Rattle.nx_receiver.specs.Shares.{starts_from};
+ghost use Rattle.nx_receiver.specs.Resume.{AnswersAir, ReadStateAlone, Resumes, ResumesBy};
 ghost use Rattle.nx_receiver.specs.declared.listen_fault.ListenFault.TheVariants.{Memory};
 ghost use Rattle.nx_receiver.specs.declared.resume_fault.ResumeFault.TheVariants.{Listen};
 ghost use Rattle.nx_receiver.specs.declared.resume_fault.Want.TheVariants as wants;
 
-use crate::listening::{Report, listen_from};
+use crate::listening::{Report, listen_from, listen_unlogged};
 use crate::resume_fault::{ResumeFault, Want};
 use crate::state::{read_state, write_state};
 use nx_fec::Counting;
 use nx_memory::SavedSet;
 use std::alloc::{AllocError, Global};
-use std::io;
 use std::io::{Read, Write};
 
 /// Reads the text of a state, as `read_state` does, and listens to the air file behind it, as
 /// `listen_from` does. With `Want::Log` the log is written, as `listen_from` writes it. With
-/// `Want::State` the log is thrown away, and the text of what the run leaves is written, and
-/// nothing before all else succeeded. Lines and bytes of the air file are counted from its start.
-/// All memory is taken before the first read of the air file.
+/// `Want::State` no log is written, and the text of what the run leaves is, and nothing before all
+/// else succeeded. Lines and bytes of the air file are counted from its start. All memory is taken
+/// before the first read of the air file.
 ///
 /// Where it answers Ok to `Want::Log`, each message that is heard in time in the air file has
 /// exactly one entry in the log, as with `listen_from`.
@@ -37,14 +34,6 @@ pub fn resume<R: Read, W: Write>(
     requires writer { writer.old.failures ≡ 0 }
     ensures resumes { Resumes want
         (devices R.remaining W.contents reader.old reader.new writer.old writer.new) result }
-    ensures left { want ≡ wants.State → IsRead result → HoldsBehind
-        (devices R.remaining W.contents reader.old reader.new writer.old writer.new)
-        (WritesLeft
-        (devices R.remaining W.contents reader.old reader.new writer.old writer.new) result) }
-    ensures once { want ≡ wants.Log → OnOk result (HoldsBehind
-        (devices R.remaining W.contents reader.old reader.new writer.old writer.new)
-        (HasPrintedOnceFrom
-        (devices R.remaining W.contents reader.old reader.new writer.old writer.new))) }
     ensures memory { (error : AllocError) → result ≡ Err (Listen (Memory error))
         → (states : SavedStates) × ReadStateAlone R.remaining reader.old reader.new states
         × (writer.new ≡ writer.old) }
@@ -67,8 +56,6 @@ fn log_from<R: Read, W: Write>(
     requires writer { writer.old.failures ≡ 0 }
     ensures resumes { ResumesBy (AnswersAir wants.Log saved.now) wants.Log
         (devices R.remaining W.contents reader.old reader.new writer.old writer.new) result }
-    ensures once { OnOk result (KeepsHeadline (starts_from saved.now) (R.remaining reader.old.inner)
-        (R.remaining reader.new.inner) (W.contents writer.old.inner) (W.contents writer.new.inner)) }
     ensures memory { (error : AllocError) → result ≡ Err (Listen (Memory error))
         → (reader.new ≡ reader.old) × (writer.new ≡ writer.old) }
 {
@@ -89,16 +76,10 @@ fn save_from<R: Read, W: Write>(
     requires writer { writer.old.failures ≡ 0 }
     ensures resumes { ResumesBy (AnswersAir wants.State saved.now) wants.State
         (devices R.remaining W.contents reader.old reader.new writer.old writer.new) result }
-    ensures left { IsRead result → HoldsOfInput
-        (devices R.remaining W.contents reader.old reader.new writer.old writer.new)
-        (WritesLeft
-        (devices R.remaining W.contents reader.old reader.new writer.old writer.new)
-        result saved.now) }
     ensures memory { (error : AllocError) → result ≡ Err (Listen (Memory error))
         → (reader.new ≡ reader.old) × (writer.new ≡ writer.old) }
 {
-    let mut log = Counting::new(io::sink());
-    match listen_from(alloc, saved, reader, &mut log) {
+    match listen_unlogged(alloc, saved, reader) {
         Ok((report, left)) => match write_state(&left, writer) {
             Ok(()) => Ok(report),
             Err(fault) => Err(ResumeFault::Write {

@@ -1,6 +1,8 @@
 -- What the end of an air file makes of what a listener heard.
 use Rattle.std.proofs.Common.{◌≡◌, ℕ, ◌+◌, ◌-◌, ◌^◌, ◌≤◌, List, [], ◌++◌, map, Option, None, Some}
-use Rattle.std.proofs.Common.{length, ap, ◌∙◌, subst, sym, append-nil, append_assoc, arith}
+use Rattle.std.proofs.Common.{length, ap, ◌∙◌, refl, subst, sym, append-nil, append_assoc, arith}
+use Rattle.std.proofs.Common.{Bool, cond, is_some}
+use mir.Val.{bool_byte}
 use Rattle.std.proofs.Common.{length-append}
 use Rattle.std.specs.Prelude.{IfSome}
 use Rattle.std.specs.List.{All}
@@ -94,14 +96,38 @@ print-all starts listener closing given copies c h =
           ∙ ap (λ l. copies ++ (a ++ (b ++ l))) (sym (append-nil last));
     }
 
+-- an entry whose moment is in range has bytes
+range-of : (entry : Option Entry) (channel : Channel)
+    → IfSome entry (λ entry. entry.moment ≤ last_moment)
+    → All (λ (one : MarkedCopy). one.copy.moment ≤ last_moment)
+    (map (marked channel) (entry_list entry))
+range-of None channel h = All-nil (λ (one : MarkedCopy). one.copy.moment ≤ last_moment)
+range-of (Some entry) channel h =
+    All-cons (λ (one : MarkedCopy). one.copy.moment ≤ last_moment) (marked channel (copy_of entry))
+    [] h (All-nil (λ (one : MarkedCopy). one.copy.moment ≤ last_moment))
+
+pub log-of : (entry : Option Entry) (channel : Channel)
+    → IfSome entry (λ entry. entry.moment ≤ last_moment)
+    → (bytes : List ℕ) × IsLog (map (marked channel) (entry_list entry)) bytes
+log-of entry channel h =
+    some_log (map (marked channel) (entry_list entry)) (range-of entry channel h)
+
 in-range : (receiver : Receiving RingMemory) (entry : Option Entry) (channel : Channel)
     → Closes receiver entry
     → All (λ (one : MarkedCopy). one.copy.moment ≤ last_moment)
     (map (marked channel) (entry_list entry))
-in-range receiver None channel h = All-nil (λ (one : MarkedCopy). one.copy.moment ≤ last_moment)
-in-range receiver (Some entry) channel h =
-    All-cons (λ (one : MarkedCopy). one.copy.moment ≤ last_moment) (marked channel (copy_of entry))
-    [] h.moment (All-nil (λ (one : MarkedCopy). one.copy.moment ≤ last_moment))
+in-range receiver entry channel h = range-of entry channel h.moment
+
+-- how many copies an entry is
+pub entries-counted : (entry : Option Entry)
+    → length (entry_list entry) ≡ cond (is_some entry) 1 0
+entries-counted None = refl
+entries-counted (Some entry) = refl
+
+pub bool-counted : (entry : Option Entry) (is : Bool) (k : ℕ) → is ≡ is_some entry
+    → k ≡ bool_byte is → k ≡ length (entry_list entry)
+bool-counted None is k e f = f ∙ ap bool_byte e
+bool-counted (Some entry) is k e f = f ∙ ap bool_byte e
 
 -- what the end printed was written, and counted
 pub closed-all : (starts : Starts) (listener : Listening) (closing : Closing)

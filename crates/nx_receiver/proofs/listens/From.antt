@@ -1,22 +1,27 @@
 -- What a run that goes on from what is saved answers and leaves.
-use Rattle.std.proofs.Common.{◌≡◌, ℕ, List, Option, Result, Ok, Err, IsErr, IsErrAnd, sym, subst}
-use Rattle.std.specs.Io.KnownBytes.{Appends}
+use Rattle.std.proofs.Common.{◌≡◌, ℕ, List, [], Option, Result, Ok, Err, IsErr, IsErrAnd, sym, subst}
+use Rattle.std.specs.Prelude.{⊤}
+use Rattle.std.specs.Io.KnownBytes.{Appends, IsAtEnd}
 use Rattle.nx_fec.specs.AirFile.{Line}
-use Rattle.nx_fec.specs.Transfers.{CountedDevice, HasWritten, devices}
+use Rattle.nx_fec.specs.Transfers.{CountedDevice, Devices, HasWritten, Reads, devices}
+use Rattle.nx_fec.proofs.TransferLaws.{Ok-not_err, Reads-on, Writes-none}
+use Rattle.nx_fec.specs.declared.line_run.LinesFault.TheVariants as run
 use Rattle.nx_fec.specs.LineRuns.{HasTakenAll, RunsLines}
 use Rattle.nx_fec.specs.Lines.{air_limit}
 use Rattle.nx_fec.specs.declared.line_run.LinesRead.{LinesRead}
 use Rattle.nx_memory.specs.Saved.{SavedStates}
 use Rattle.nx_receiver.specs.Chain.{HasGoneOn}
-use Rattle.nx_receiver.specs.Listen.{IsLogOfFile, given_by}
+use Rattle.nx_receiver.specs.Listen.{AnswersListening, IsLogOfFile, Listens, given_by}
 use Rattle.nx_receiver.specs.ListenFrom.{GoesOnBy, reported}
 use Rattle.nx_receiver.specs.private.Listener.{BeginsFrom, HasClosed, IsListening, Listening}
 use Rattle.nx_receiver.specs.private.Listener.{RefusesFrom, StandsFrom, starts_of}
 use Rattle.nx_receiver.specs.Shares.{Starts, starts_from}
 use Rattle.nx_receiver.specs.declared.listen_fault.ListenFault.{ListenFault}
+use Rattle.nx_receiver.specs.declared.listen_fault.ListenFault.TheVariants.{Read, Write}
 use Rattle.nx_receiver.specs.declared.listening.Report.{Report}
 use Rattle.nx_receiver.proofs.chain.Runs.{LeavesEach, goes_on}
-use Rattle.nx_receiver.proofs.once.Listen.{on-some}
+use Rattle.nx_receiver.proofs.listens.Runs.{listened}
+use Rattle.nx_receiver.proofs.once.Listen.{listens-once, on-some, printed-once}
 
 -- an outcome that is this fault
 pub err-is : (outcome : Result (Report × SavedStates) ListenFault) (fault : ListenFault)
@@ -25,7 +30,7 @@ err-is (Ok x) fault h e = cc
 err-is (Err made) fault h e = cc
 
 -- the whole file was read, and its end printed
-gone : (saved left : SavedStates) (first now : Listening) (old mid new : Option (List ℕ))
+pub gone : (saved left : SavedStates) (first now : Listening) (old mid new : Option (List ℕ))
     (bytes : List ℕ) (read : LinesRead) (report : Report) → starts_of first ≡ starts_from saved
     → HasTakenAll StandsFrom first now old mid air_limit bytes read
     → ((lines : List Line) (given : List ℕ) → IsListening (starts_of first) now lines given
@@ -64,15 +69,64 @@ pub goes-on : {R W : Type 0} (remaining : R → Option (List ℕ)) (contents : W
     report)
     → ((lines : List Line) (given : List ℕ) → IsListening (starts_of first) now lines given
     → LeavesEach (starts_of first) lines left)
-    → GoesOnBy saved (devices remaining contents reader reader_after writer new) left
-goes-on remaining contents saved left first now reader reader_after writer mid new read report
-    begins h closed leaves = record {
-      bytes = h.reads.bytes;
-      consumed = h.reads.consumed;
-      gone = gone saved left first now _ _ _ h.reads.bytes read report begins h.reads.answer.1
-          closed
-          leaves;
-      file = on-some (remaining reader.inner) _ _
-          (λ file k. gone saved left first now _ _ _ file read report begins k.1 closed leaves)
-          h.reads.file;
+    → report.lines ≡ read.lines → new.failures ≡ 0
+    → GoesOnBy saved (devices remaining contents reader reader_after writer new)
+    (Ok (report, left))
+goes-on remaining contents saved left first now' reader reader_after writer mid new read report
+    begins h closed leaves counted none =
+    let d = devices remaining contents reader reader_after writer new in
+    let old = contents writer.inner in
+    let now = contents new.inner in
+    let heard : (AtEnd : Type 0) (IsLeft : List ℕ → Type 0) (bytes : List ℕ)
+    → AtEnd × HasTakenAll StandsFrom first now' old (contents mid.inner) air_limit bytes read
+    → AnswersListening (starts_of first) AtEnd IsLeft old now (Ok report) bytes
+    × HasGoneOn saved old now bytes left = λ AtEnd IsLeft bytes k. (
+      (k.0, listened first now' _ _ _ bytes read report k.1 closed counted),
+      gone saved left first now' _ _ _ bytes read report begins k.1 closed leaves,
+    ) in
+    let r : Reads remaining reader reader_after Read (λ _. ⊥) (Ok report) (λ _. ⊤)
+    (λ bytes. AnswersListening (starts_of first) (IsAtEnd (remaining reader_after.inner))
+    (λ more. more ≡ []) old now (Ok report) bytes × HasGoneOn saved old now bytes left)
+    (λ bytes. AnswersListening (starts_of first) (Unit {0}) (λ more. Unit {0}) old now (Ok report)
+    bytes × HasGoneOn saved old now bytes left) =
+    Reads-on remaining reader reader_after run.Read Read (Ok read) (Ok report) _ _ _ _ h.reads
+    (λ bytes k. heard (IsAtEnd (remaining reader_after.inner)) (λ more. more ≡ []) bytes k)
+    (λ bytes k. heard (Unit {0}) (λ more. Unit {0}) bytes k)
+    (λ bytes k h. h) (λ e. absurd (Ok-not_err _ _ e)) (λ e. absurd (Ok-not_err _ _ e)) in
+    let writes = Writes-none new (λ written. Write written) (Ok report)
+    (λ written. Ok-not_err _ _) none in
+    let P : Starts → Type 0 = λ starts. (run : Listens starts d (Ok report))
+    × HasGoneOn saved old now run.bytes left in
+    let here : P (starts_of first) = (
+      record {
+        bytes = r.bytes;
+        consumed = r.consumed;
+        answer = r.answer.0;
+        file = on-some (remaining reader.inner) _ _ (λ file k. k.0) r.file;
+        unread = r.failed;
+        read_once = r.once;
+        unwritten = writes.failed;
+        write_once = writes.once;
+      },
+      r.answer.1,
+    ) in
+    let there = subst P begins here in
+    record {
+      listens = record {
+        run = there.0;
+        once = printed-once (starts_from saved) old now there.0.bytes report there.0.answer.1;
+      };
+      left = there.1;
     }
+
+-- and so does one that ended early, which leaves nothing
+pub goes-nowhere : {R W : Type 0} (saved : SavedStates) (d : Devices R W)
+    (outcome : Result (Report × SavedStates) ListenFault) (fault : ListenFault) → IsErr outcome
+    → reported outcome ≡ Err fault → Listens (starts_from saved) d (Err fault)
+    → GoesOnBy saved d outcome
+goes-nowhere saved d (Ok answer) fault h e run = absurd (cc)
+goes-nowhere saved d (Err made) fault h e run = record {
+  listens = listens-once (starts_from saved) d (Err made)
+      (subst (Listens (starts_from saved) d) (sym e) run);
+  left = tt;
+}

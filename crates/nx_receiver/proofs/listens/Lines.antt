@@ -1,26 +1,30 @@
 -- What the taking of a line by a listener answers, by what the line says.
 use Rattle.std.proofs.Common.{◌≡◌, ℕ, List, [], ◌∷◌, ◌++◌, Option, Some, Result, Ok, Err}
-use Rattle.std.proofs.Common.{MatchResult, OnOk, false, refl, sym, ap, ◌∙◌, subst}
+use Rattle.std.proofs.Common.{Bool, IfOk, MatchResult, OnOk, false, true, refl, sym, ap, ◌∙◌, subst}
 use Rattle.nx_fec.specs.AirFile.{Line, moment, elements, refuse_station, accept_station}
 use Rattle.nx_fec.specs.AirFile.{refuse_subject, accept_subject}
 use Rattle.nx_fec.specs.LineRuns.{ExplainsTaking, HasGiven, HasTaken, Waiting}
 use Rattle.nx_fec.specs.Lines.{elements_of}
-use Rattle.nx_fec.specs.Scanner.{kind_kept, kind_of, line_with}
+use Rattle.nx_fec.specs.Channels.{channel_of}
+use Rattle.nx_fec.specs.Scanner.{elements_kept, kind_kept, kind_of, line_with}
 use Rattle.nx_fec.specs.declared.air_file.LineKind.{LineKind}
+use Rattle.nx_fec.specs.declared.air_file.LineKind.TheVariants.{Elements}
 use Rattle.nx_fec.specs.declared.line_run.TakeFault.{TakeFault}
 use Rattle.nx_fec.specs.declared.line_run.TakeFault.TheVariants as take
 use Rattle.nx_fec.specs.declared.channel.Channel.{Channel}
 use Rattle.nx_memory.specs.Selection.{is_vital}
 use Rattle.nx_receiver.specs.Events.{command}
 use Rattle.nx_receiver.specs.Events as fed
-use Rattle.nx_receiver.specs.Listen.{given_of}
+use Rattle.nx_receiver.specs.Listen.{given_by, given_of}
 use Rattle.nx_receiver.specs.Receiver.{TakesEvent}
-use Rattle.nx_receiver.specs.Shares.{Starts, to_one}
+use Rattle.nx_receiver.specs.Shares.{Given, Starts, to_one}
 use Rattle.nx_receiver.specs.private.Listener.{BeginsFrom, IsListening, Listening, RefusesFrom}
 use Rattle.nx_receiver.specs.private.Listener.{RefusesLine, StandsFrom, content, receiver_on}
-use Rattle.nx_receiver.specs.private.Listener.{starts_of, with_receiver}
+use Rattle.nx_receiver.specs.private.Listener.{starts_of, then_elements, with_receiver}
+use Rattle.nx_receiver.specs.private.Unlogged.{HasHeard, HasHeardGiven}
 use Rattle.nx_receiver.specs.declared.listening.LineRefusal.{LineRefusal}
-use Rattle.nx_receiver.proofs.listens.Listener.{commanded-on}
+use Rattle.nx_receiver.specs.declared.listening.LineRefusal.TheVariants.{NoMoment}
+use Rattle.nx_receiver.proofs.listens.Listener.{commanded-on, heard-line, none-heard}
 
 line-is : (line : Line) → line ≡ line_with (kind_of line) (elements_of line)
 line-is (moment n) = refl
@@ -38,6 +42,15 @@ said latest found kind is line e f g h =
     let kinds : Some kind ≡ Some (kind_of line) = sym g ∙ f ∙ ap kind_kept e in
     let same : kind_of line ≡ is = cc in
     line-is line ∙ ap (λ k. line_with k (elements_of line)) same
+
+-- the same of a line of elements
+pub said-elements : (latest : Option Line) (found : Option LineKind) (kind : LineKind)
+    (mark : Option Channel) (bits : List Bool) (line : Line) → latest ≡ Some line
+    → found ≡ kind_kept latest → found ≡ Some kind → kind ≡ Elements mark
+    → bits ≡ elements_kept latest → line ≡ elements mark bits
+said-elements latest found kind mark bits line e f g h same =
+    said latest found kind (Elements mark) line e f g h
+    ∙ ap (λ (bits : List Bool). elements mark bits) (sym (same ∙ ap elements_kept e))
 
 -- a line that may be refused
 pub taken-line : (first before after : Listening) (old new : Option (List ℕ)) (batch : Waiting)
@@ -90,6 +103,53 @@ taken-always first before after old new batch lines line is same h takes = recor
       (takes h.given h.stood);
   here = h.here;
 }
+
+-- a line for which nothing is given: there is a log
+pub heard-same : (starts : Starts) (old new : Listening) (lines : List Line) (line is : Line)
+    (result : Result (Unit {0}) LineRefusal) → line ≡ is
+    → MatchResult result (λ _. HasHeard starts new (lines ++ is ∷ []))
+    (λ why. RefusesLine starts lines is why × (new ≡ old))
+    → MatchResult result (λ _. HasHeard starts new (lines ++ line ∷ []))
+    (λ why. RefusesLine starts lines line why × (new ≡ old))
+heard-same starts old new lines line is (Ok x) e h =
+    subst (λ l. HasHeard starts new (lines ++ l ∷ [])) (sym e) h
+heard-same starts old new lines line is (Err why) e h =
+    (subst (λ l. RefusesLine starts lines l why) (sym e) h.0, h.1)
+
+pub heard-as : (starts : Starts) (old new : Listening) (lines : List Line) (line is : Line)
+    (log : List ℕ) (result : Result (Unit {0}) LineRefusal) → line ≡ is
+    → MatchResult result (λ _. IsListening starts new (lines ++ is ∷ []) log)
+    (λ why. RefusesLine starts lines is why × (new ≡ old))
+    → MatchResult result (λ _. HasHeard starts new (lines ++ line ∷ []))
+    (λ why. RefusesLine starts lines line why × (new ≡ old))
+heard-as starts old new lines line is log (Ok x) e h =
+    heard-same starts old new lines line is (Ok x) e (log, h)
+heard-as starts old new lines line is log (Err why) e h =
+    heard-same starts old new lines line is (Err why) e h
+
+-- a line of elements is heard, or refused where there was no moment
+pub heard-elements : (starts : Starts) (old new : Listening) (lines : List Line)
+    (mark : Option Channel) (channel : Channel) (bits : List Bool) (log : List ℕ)
+    (result : Result (Unit {0}) LineRefusal) → channel ≡ channel_of mark
+    → IsListening starts old lines log
+    → IfOk result (λ _. (starts : Starts) (given : List Given)
+    → HasHeardGiven starts old (then_elements given channel [])
+    → HasHeardGiven starts new (then_elements given channel bits))
+    → MatchResult result (λ _. (old.has_moment ≡ true) × (new.has_moment ≡ old.has_moment))
+    (λ why. (old.has_moment ≡ false) × (why ≡ NoMoment) × (new ≡ old))
+    → MatchResult result (λ _. HasHeard starts new (lines ++ elements mark bits ∷ []))
+    (λ why. RefusesLine starts lines (elements mark bits) why × (new ≡ old))
+heard-elements starts old new lines mark channel bits log (Ok x) e h heard some =
+    let more = heard starts (given_by lines)
+    (log, none-heard starts old (given_by lines) channel log h.hears) in (
+      more.0,
+      heard-line starts old new lines mark channel bits log more.0 e h (sym h.moment ∙ some.0)
+          some.1 more.1,
+    )
+heard-elements starts old new lines mark channel bits log (Err why) e h heard none = (
+  subst (RefusesLine starts lines (elements mark bits)) (sym none.1) (sym h.moment ∙ none.0),
+  none.2,
+)
 
 -- a command to refuse a subject on a channel
 pub subject-taken : (starts : Starts) (old new : Listening) (lines : List Line)

@@ -22,9 +22,8 @@ use Rattle.nx_fec.proofs.LineRunLemmas.{StopsAt-map}
 use Rattle.nx_fec.proofs.TransferLaws.{Ok-not_err, Reads-on, Writes-none, read_failed-none}
 use Rattle.nx_receiver.specs.Events.{elements_among}
 use Rattle.nx_receiver.specs.Listen.{AnswersListening, HasListened, HasLogged, HasLoggedSome}
-use Rattle.nx_receiver.specs.Listen.{IsLogOf, RefusesAfter, given_by, given_of}
+use Rattle.nx_receiver.specs.Listen.{IsLogOf, Listens, RefusesAfter, given_by, given_of}
 use Rattle.nx_receiver.specs.Shares.{Starts}
-use Rattle.nx_receiver.specs.ListenFrom.{ListensBy}
 use Rattle.nx_receiver.specs.private.Listener.{BeginsFrom, HasClosed, HasClosedSome, IsListening}
 use Rattle.nx_receiver.specs.private.Listener.{Listening, RefusesFrom, RefusesLine, StandsFrom}
 use Rattle.nx_receiver.specs.private.Listener.{elements_given, elements_in, lines_fault}
@@ -94,7 +93,7 @@ next-refused first number lines rest more why h = record {
 }
 
 -- what a fault of the lines explains
-explains : (AtEnd : Type 0) (IsLeft : List ℕ → Type 0) (first now : Listening)
+pub explains : (AtEnd : Type 0) (IsLeft : List ℕ → Type 0) (first now : Listening)
     (old new : Option (List ℕ)) (bytes : List ℕ) (fault : LinesFault LineRefusal)
     → ExplainsLines StandsFrom BeginsFrom RefusesFrom AtEnd IsLeft air_limit first now old new
     (Appends old new) bytes fault
@@ -147,7 +146,7 @@ explains AtEnd IsLeft first now old new bytes (run.Write written) h =
     )
 
 -- the faults of devices are those of devices
-read-back : (fault : LinesFault LineRefusal) → lines_fault fault ≡ Read → fault ≡ run.Read
+pub read-back : (fault : LinesFault LineRefusal) → lines_fault fault ≡ Read → fault ≡ run.Read
 read-back run.Read e = refl
 read-back (run.Write written) e = cc
 read-back (run.Line file.TooLong) e = cc
@@ -174,7 +173,7 @@ pub err-of : {N : Type 0} (a b : ListenFault)
     → ◌≡◌ {A = Result N ListenFault} (Err a) (Err b) → a ≡ b
 err-of a b e = cc
 
-run-err-of : {N : Type 0} (a b : LinesFault LineRefusal)
+pub run-err-of : {N : Type 0} (a b : LinesFault LineRefusal)
     → ◌≡◌ {A = Result N (LinesFault LineRefusal)} (Err a) (Err b) → a ≡ b
 run-err-of a b e = cc
 
@@ -189,7 +188,7 @@ listens-by : {R W : Type 0} (starts : Starts) (d : Devices R W)
     (d.contents d.writer_after.inner) outcome)
     (AnswersListening starts (Unit {0}) (λ more. Unit {0}) (d.contents d.writer.inner)
     (d.contents d.writer_after.inner) outcome)
-    → Writes d.writer_after (λ written. Write written) outcome → ListensBy starts d outcome
+    → Writes d.writer_after (λ written. Write written) outcome → Listens starts d outcome
 listens-by starts d outcome r w = record {
   bytes = r.bytes;
   consumed = r.consumed;
@@ -205,7 +204,7 @@ listens-by starts d outcome r w = record {
 pub listens-fault : {R W : Type 0} (first now : Listening) (d : Devices R W)
     (fault : LinesFault LineRefusal)
     → RunsLines StandsFrom BeginsFrom RefusesFrom air_limit first now d (Err fault)
-    → ListensBy (starts_of first) d (Err (lines_fault fault))
+    → Listens (starts_of first) d (Err (lines_fault fault))
 listens-fault first now d fault h =
     listens-by (starts_of first) d (Err (lines_fault fault))
     (Reads-on d.remaining d.reader d.reader_after run.Read Read (Err fault)
@@ -269,7 +268,7 @@ lines-fewer (line ∷ lines) =
     )
 
 -- the whole file was read, and its end printed
-listened : (first now : Listening) (old mid new : Option (List ℕ)) (bytes : List ℕ)
+pub listened : (first now : Listening) (old mid new : Option (List ℕ)) (bytes : List ℕ)
     (read : LinesRead) (report : Report)
     → HasTakenAll StandsFrom first now old mid air_limit bytes read
     → ((lines : List Line) (given : List ℕ) → IsListening (starts_of first) now lines given
@@ -298,29 +297,6 @@ listened first now old mid new bytes read report h closed counted =
       bits_counted = omega (arith, few, same, e.bits_counted);
       printed_counted = omega (arith, few, same, e.few, e.printed_counted);
     }
-
--- a run over lines that read its file to the end, and what the end prints, are a run of `listen`
-pub listens-ok : {R W : Type 0} (remaining : R → Option (List ℕ)) (contents : W → Option (List ℕ))
-    (first now : Listening) (reader reader_after : CountedDevice R)
-    (writer mid new : CountedDevice W) (read : LinesRead) (report : Report)
-    → RunsLines StandsFrom BeginsFrom RefusesFrom air_limit first now
-    (devices remaining contents reader reader_after writer mid) (Ok read)
-    → ((lines : List Line) (given : List ℕ) → IsListening (starts_of first) now lines given
-    → HasWritten (contents writer.inner) (contents mid.inner) given read.written
-    → HasClosed (starts_of first) (contents writer.inner) (contents new.inner) (given_by lines)
-    report)
-    → report.lines ≡ read.lines → new.failures ≡ 0
-    → ListensBy (starts_of first) (devices remaining contents reader reader_after writer new)
-    (Ok report)
-listens-ok remaining contents first now reader reader_after writer mid new read report h closed
-    counted none =
-    listens-by (starts_of first) (devices remaining contents reader reader_after writer new)
-    (Ok report)
-    (Reads-on remaining reader reader_after run.Read Read (Ok read) (Ok report) _ _ _ _ h.reads
-    (λ bytes k. (k.0, listened first now _ _ _ bytes read report k.1 closed counted))
-    (λ bytes k. (k.0, listened first now _ _ _ bytes read report k.1 closed counted))
-    (λ bytes k h. h) (λ e. absurd (Ok-not_err _ _ e)) (λ e. absurd (Ok-not_err _ _ e)))
-    (Writes-none _ _ _ (λ written. Ok-not_err _ _) none)
 
 -- the whole file was read, and a write of what its end prints failed
 part-listened : (first now : Listening) (old mid new : Option (List ℕ)) (bytes : List ℕ)
@@ -355,7 +331,7 @@ pub listens-part : {R W : Type 0} (remaining : R → Option (List ℕ)) (content
     → HasWritten (contents writer.inner) (contents mid.inner) given read.written
     → HasClosedSome (starts_of first) (contents writer.inner) (contents new.inner) (given_by lines)
     written)
-    → new.failures ≡ 1 → ListensBy (starts_of first)
+    → new.failures ≡ 1 → Listens (starts_of first)
     (devices remaining contents reader reader_after writer new) (Err (Write written))
 listens-part remaining contents first now reader reader_after writer mid new read written h closed
     one =
@@ -388,7 +364,7 @@ pub listens-memory : {R W : Type 0} (starts : Starts) (remaining : R → Option 
     (contents : W → Option (List ℕ)) (reader : CountedDevice R) (writer : CountedDevice W)
     (error : AllocError)
     → reader.failures ≡ 0 → writer.failures ≡ 0
-    → ListensBy starts (devices remaining contents reader reader writer writer)
+    → Listens starts (devices remaining contents reader reader writer writer)
     (Err (Memory error))
 listens-memory starts remaining contents reader writer error read written =
     let outcome : Result Report ListenFault = Err (Memory error) in

@@ -1,19 +1,18 @@
 -- A message that is heard in time in an air file has one entry in the log that `listen` writes of
 -- it.
-use Rattle.std.proofs.Common.{ℕ, List, Option, None, Some, IfSome, Ok, subst}
+use Rattle.std.proofs.Common.{ℕ, List, Option, None, Some, IfSome, Result, Ok, Err, subst}
 use Rattle.nx_envelope.specs.Message.{MessageView}
 use Rattle.nx_fec.specs.AirFile.{Line}
 use Rattle.nx_fec.specs.Transfers.{Devices}
 use Rattle.nx_fec.proofs.LineLaws.{IsAirFile-unique}
 use Rattle.nx_fec.specs.Lines.{air_limit}
 use Rattle.nx_fec.specs.declared.channel.Channel.{Channel}
-use Rattle.nx_station.specs.Sendings.{Part}
 use Rattle.nx_receiver.specs.InTurn.{PrintAllToEnd}
-use Rattle.nx_receiver.specs.Listen.{HasListened, IsLogOfFile, events_on, given_by}
-use Rattle.nx_receiver.specs.ListenFrom.{ListensBy}
-use Rattle.nx_receiver.specs.ListenOnce.{HasPrintedOnce, IsHeardInTimeOn, KeepsHeadline}
-use Rattle.nx_receiver.specs.Once.{IsHeardInTime, IsPrintedOnce}
+use Rattle.nx_receiver.specs.Listen.{HasListened, IsLogOfFile, Listens, events_on, given_by}
+use Rattle.nx_receiver.specs.ListenOnce.{HasPrintedOnce, IsHeardInTimeOn, ListensOnce}
+use Rattle.nx_receiver.specs.Once.{IsPrintedOnce}
 use Rattle.nx_receiver.specs.Shares.{MarkedCopy, Starts, copies_on, start_on}
+use Rattle.nx_receiver.specs.declared.listen_fault.ListenFault.{ListenFault}
 use Rattle.nx_receiver.specs.declared.listening.Report.{Report}
 use Rattle.nx_receiver.proofs.Shares.{to_end-on}
 use Rattle.nx_receiver.proofs.once.Found.{printed_once}
@@ -30,16 +29,6 @@ one-entry starts file log lines copies channel message l h =
     printed_once (start_on starts channel) (events_on channel h.lines) h.parts message h.heard
     (copies_on channel copies) (to_end-on starts (given_by h.lines) copies channel prints)
 
--- so the log that was written has one, in whatever parts the message is heard
-pub entry-once : (starts : Starts) (old new : Option (List ℕ)) (file : List ℕ) (report : Report)
-    → (h : HasListened starts old new file report)
-    → (channel : Channel) (message : MessageView) (parts : List Part)
-    → IsHeardInTime (start_on starts channel) (events_on channel h.lines) parts message
-    → IsPrintedOnce message (copies_on channel h.copies)
-entry-once starts old new file report h channel message parts heard =
-    one-entry starts file h.log h.lines h.copies channel message h.heard
-    (record { lines = h.lines; spelled = h.heard.file; parts = parts; heard = heard })
-
 pub printed-once : (starts : Starts) (old new : Option (List ℕ)) (file : List ℕ) (report : Report)
     → HasListened starts old new file report → HasPrintedOnce starts old new file
 printed-once starts old new file report h = record {
@@ -54,16 +43,9 @@ pub on-some : (o : Option (List ℕ)) (P Q : List ℕ → Type 0) → ((xs : Lis
 on-some None P Q f h = tt
 on-some (Some xs) P Q f h = f xs h
 
--- a run of `listen` that answers Ok keeps both halves of the headline
-pub keeps-headline : {R W : Type 0} (starts : Starts) (d : Devices R W) (report : Report)
-    → ListensBy starts d (Ok report)
-    → KeepsHeadline starts (d.remaining d.reader.inner) (d.remaining d.reader_after.inner)
-    (d.contents d.writer.inner) (d.contents d.writer_after.inner)
-keeps-headline starts d report h = record {
-  bytes = h.bytes;
-  consumed = h.consumed;
-  all = h.answer.0;
-  report = report;
-  listened = h.answer.1;
-  once = entry-once starts _ _ h.bytes report h.answer.1;
-}
+-- a run that listens keeps both halves of the headline
+pub listens-once : {R W : Type 0} (starts : Starts) (d : Devices R W)
+    (outcome : Result Report ListenFault) → Listens starts d outcome → ListensOnce starts d outcome
+listens-once starts d (Ok report) h =
+    record { run = h; once = printed-once starts _ _ h.bytes report h.answer.1 }
+listens-once starts d (Err fault) h = record { run = h; once = tt }

@@ -1,21 +1,18 @@
 -- What holds of a run over an air file, where the text of a state was read before it.
-use Rattle.std.proofs.Common.{ℕ, List, ◌++◌, Option, None, Some, IfSome, Result, Ok, Err, OnOk}
+use Rattle.std.proofs.Common.{ℕ, List, ◌++◌, Option, None, Some, IfSome, Result, Ok, Err}
 use Rattle.std.proofs.Common.{refl, sym, ap, ◌∙◌, subst, append-nil}
 use Rattle.std.specs.Io.KnownBytes.{Consumes}
 use Rattle.std.proofs.KnownBytes.{Consumes-trans}
 use Rattle.nx_fec.specs.Transfers.{CountedDevice, Devices}
-use Rattle.nx_fec.proofs.TransferLaws.{IfSome-end}
 use Rattle.nx_memory.specs.Saved.{SavedStates}
-use Rattle.nx_receiver.specs.Resume.{AnswersAir, AnswersResuming, HasPrintedOnceFrom, HoldsBehind}
-use Rattle.nx_receiver.specs.Resume.{HoldsOfInput, ReadStateAlone, Resumes, ResumesBy}
-use Rattle.nx_receiver.specs.ListenOnce.{KeepsHeadline}
-use Rattle.nx_receiver.specs.Shares.{starts_from}
+use Rattle.nx_receiver.specs.Resume.{AnswersAir, AnswersResuming, ReadStateAlone, Resumes}
+use Rattle.nx_receiver.specs.Resume.{ResumesBy}
 use Rattle.nx_receiver.specs.State.{BeginsWith, IsStateBytes, ReadsState}
 use Rattle.nx_receiver.specs.declared.listening.Report.{Report}
 use Rattle.nx_receiver.specs.declared.resume_fault.ResumeFault.{ResumeFault}
 use Rattle.nx_receiver.specs.declared.resume_fault.ResumeFault.TheVariants as resume
 use Rattle.nx_receiver.specs.declared.resume_fault.Want.{Want}
-use Rattle.nx_receiver.proofs.once.Listen.{printed-once}
+use Rattle.nx_receiver.specs.declared.resume_fault.Want.TheVariants.{Log, State}
 
 abbrev Outcome : Type 0
 Outcome = Result Report ResumeFault
@@ -73,17 +70,6 @@ module _ {R W : Type 0} (remaining : R → Option (List ℕ)) (contents : W → 
     writer_after = writer_after;
   }
 
-  pub holds-behind : (states : SavedStates) (holds : SavedStates → List ℕ → Type 0)
-      → ReadStateAlone remaining old mid states → HoldsOfInput air_part (holds states)
-      → HoldsBehind whole_run holds
-  holds-behind states holds read h = record {
-    bytes = read.text ++ h.bytes;
-    consumed = Consumes-trans _ _ _ _ _ read.consumed h.consumed;
-    here = begins-with read.text h.bytes states holds read.stands_for h.here;
-    file = behind _ _ read.text _ _ read.consumed
-        (λ air k. begins-with read.text air states holds read.stands_for k) h.file;
-  }
-
   resumes-as : (states : SavedStates) (want : Want) (outcome : Outcome)
       → ReadStateAlone remaining old mid states
       → ((AtEnd : Type 0) (IsLeft : List ℕ → Type 0) (a b : Option (List ℕ)) (air : List ℕ)
@@ -111,29 +97,11 @@ module _ {R W : Type 0} (remaining : R → Option (List ℕ)) (contents : W → 
   resumes-behind states want (Ok report) read h =
       resumes-as states want (Ok report) read
       (λ AtEnd IsLeft a b air text stands k. begins-with text air states _ stands k) h
-  resumes-behind states want (Err (resume.State fault)) read h = absurd (h.answer)
+  resumes-behind states Log (Err (resume.State fault)) read h = absurd (h.answer)
+  resumes-behind states State (Err (resume.State fault)) read h = absurd (h.answer)
   resumes-behind states want (Err (resume.Listen fault)) read h =
       resumes-as states want (Err (resume.Listen fault)) read
       (λ AtEnd IsLeft a b air text stands k. begins-with text air states _ stands k) h
   resumes-behind states want (Err (resume.Write written)) read h =
       resumes-as states want (Err (resume.Write written)) read
       (λ AtEnd IsLeft a b air text stands k. begins-with text air states _ stands k) h
-
-  -- both halves of the headline hold of the air file
-  pub headline-behind : (states : SavedStates) (outcome : Outcome)
-      → ReadStateAlone remaining old mid states
-      → OnOk outcome (KeepsHeadline (starts_from states) (remaining mid.inner)
-      (remaining new.inner) (contents writer.inner) (contents writer_after.inner))
-      → OnOk outcome (HoldsBehind whole_run (HasPrintedOnceFrom whole_run))
-  headline-behind states (Ok report) read h =
-      let printed = printed-once (starts_from states) (contents writer.inner)
-      (contents writer_after.inner) h.bytes h.report h.listened in
-      holds-behind states (HasPrintedOnceFrom whole_run) read
-      (record {
-        bytes = h.bytes;
-        consumed = h.consumed;
-        here = printed;
-        file =
-            IfSome-end _ _ h.bytes (HasPrintedOnceFrom whole_run states) h.consumed h.all printed;
-      })
-  headline-behind states (Err fault) read h = tt

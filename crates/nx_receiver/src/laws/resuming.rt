@@ -2,18 +2,17 @@
 //! the one before it wrote. Each function does nothing; its contract is the law.
 
 ghost use Rattle.std.specs.Prelude.{◌≡◌, ◌≢◌, ℕ, List, [], ◌++◌, Some, Result, Ok, Err};
-ghost use Rattle.std.specs.Io.KnownBytes.{Appends};
 ghost use Rattle.nx_fec.specs.declared.channel.Channel.{Channel};
 ghost use Rattle.nx_memory.specs.Saved.{AreSavedStates, SavedStates};
 ghost use Rattle.nx_memory.specs.StateText.{IsText1, IsText2};
 ghost use Rattle.nx_receiver.specs.Chain.{all_copies, all_printed};
 ghost use Rattle.nx_receiver.specs.Log.{IsLog};
 ghost use Rattle.nx_receiver.specs.Printing.{printed_copies};
-ghost use Rattle.nx_receiver.specs.Resume.{AnswersResuming, HasChain, HasLeft, IsTextChain, TextRun, WritesLog, WritesState, text_logs};
+ghost use Rattle.nx_receiver.specs.Resume.{AnswersResuming, HasChain, IsTextChain, TextRun, WritesLog, WritesState, text_logs};
 ghost use Rattle.nx_receiver.specs.Shares.{copies_on, saved_of};
-ghost use Rattle.nx_receiver.specs.State.{AnswersState, BeginsWith, BeginsWithState, IsStateBytes, ended_lines, state_bytes};
+ghost use Rattle.nx_receiver.specs.State.{AnswersState, BeginsWithState, IsStateBytes, ended_lines, state_bytes};
 ghost use Rattle.nx_receiver.specs.declared.listening.Report.{Report};
-ghost use Rattle.nx_receiver.specs.declared.resume_fault.Want.TheVariants.{Log};
+ghost use Rattle.nx_receiver.specs.declared.resume_fault.Want.TheVariants.{Log, State};
 ghost use Rattle.nx_receiver.specs.declared.state_fault.StateFault.{StateFault};
 ghost use Rattle.nx_receiver.specs.declared.state_fault.StateFault.TheVariants.{Read};
 
@@ -62,14 +61,14 @@ pub fn texts_make_a_chain()
 
 /// What a run that resumes writes of its whole input is such a log: where it answers a report to
 /// `Want::Log`, the input is the text of a state and an air file, and what it wrote is the log of
-/// the two. And where it wants the state, what it wrote is the text of what they leave.
+/// the two. And where it answers one to `Want::State`, what it wrote is the text of what they leave.
 pub fn a_run_writes_its_log_or_its_state()
     ensures log { (input old new : List ℕ) (report : Report)
         → AnswersResuming Log (Unit {0}) (λ more. Unit {0}) (Some old) (Some new) (Ok report) input
         → (text air log : List ℕ) × (input ≡ text ++ air) × WritesLog text air log
         × (new ≡ old ++ log) }
-    ensures state { (input old new : List ℕ)
-        → BeginsWith input (HasLeft (Appends (Some old) (Some new)))
-        → (text air state : List ℕ) × (input ≡ text ++ air) × WritesState text air state
+    ensures state { (input old new : List ℕ) (report : Report)
+        → AnswersResuming State (Unit {0}) (λ more. Unit {0}) (Some old) (Some new) (Ok report)
+        input → (text air state : List ℕ) × (input ≡ text ++ air) × WritesState text air state
         × (new ≡ old ++ state) }
 {}

@@ -5,7 +5,7 @@ use Rattle.nx_receiver.specs.Chain.{HasGoneOn}
 use Rattle.nx_receiver.specs.Listen.{AnswersListening}
 use Rattle.nx_receiver.specs.ListenOnce.{HasPrintedOnce}
 use Rattle.nx_receiver.specs.Shares.{starts_from}
-use Rattle.nx_c.proofs.StateLemmas.{moved}
+use Rattle.nx_c.proofs.StateLemmas.{leaves-whole, moved}
 use Rattle.nx_c.proofs.receiving.go_on.Goals as goal
 
 pub returns-in-Ok-state_text : goal.returns-in-Ok-state_text
@@ -13,19 +13,20 @@ returns-in-Ok-state_text c =
     let old = ap (λ v. v.items) c.new-writer.ensures.inner ∙ c.new.ensures.items in
     let new = ap (λ v. v.items) (sym c.into_inner-log.ensures) in
     let read = ap (λ r. r.now) c.new-2.ensures.inner in
-    let starts = starts_from c.args.states.now in (
+    let starts = starts_from c.args.states.now in
+    let run = c.in-Ok.ensures.listens.listens.run in (
       record {
         answers = moved (λ a b air. AnswersListening starts (Unit {0}) (λ more. Unit {0}) a b
-            (Ok c.in-Ok.report) air) old new read c.in-Ok.ensures.listens.file;
+            (Ok c.in-Ok.report) air) old new read run.file;
         memory = λ error e. cc;
       },
       record {
         left = c.in-Ok.saved;
         sound = c.state_text.ensures.sound;
         gone = moved (λ a b air. HasGoneOn c.args.states.now a b air c.in-Ok.saved) old new read
-            c.in-Ok.ensures.left.file;
+            (leaves-whole c.args.states.now c.in-Ok.saved _ c.in-Ok.report c.in-Ok.ensures.listens);
         printed = moved (λ a b air. HasPrintedOnce starts a b air) old new read
-            (printed-once starts _ _ _ c.in-Ok.report c.in-Ok.ensures.listens.file.1);
+            (printed-once starts _ _ _ c.in-Ok.report run.file.1);
         spelled = c.in-Ok-state_text.ensures.text;
       },
     )

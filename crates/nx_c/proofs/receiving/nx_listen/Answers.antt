@@ -20,7 +20,7 @@ returns-clause-once c = λ zero.
       | in-Ok w ↦
           let run = subst (λ o. AnswersListening all_at_zero (Unit {0}) (λ more. Unit {0})
           (Some c.new-writer.result.inner.items) (Some c.listen.new.writer.inner.items) o
-          c.new-2.result.inner.now) w.in-Ok.is c.listen.ensures.listens.file in
+          c.new-2.result.inner.now) w.in-Ok.is c.listen.ensures.listens.run.file in
           moved (λ a b air. HasPrintedOnce all_at_zero a b air) old new read
           (printed-once all_at_zero _ _ _ _ run.1)
       | in-Err w ↦ absurd (w.listen_told-told.ensures.fails

@@ -1,13 +1,17 @@
-use Rattle.std.proofs.Common.{rules}
-use Rattle.std.proofs.Common.{Ok, sym, subst}
+use Rattle.std.proofs.Common.{Ok, Err, sym, subst}
 use Rattle.std.proofs.lemmas.Result.{err_from_is_err_and}
 use Rattle.nx_fec.specs.Transfers.{devices}
 use Rattle.nx_station.specs.Damage.{Damages}
 use Rattle.nx_station.specs.FileSending.{Sends}
-use Rattle.nx_program.specs.Program.{Performs}
+use Rattle.nx_locks.specs.Run.{ShowsLocks}
+use Rattle.nx_receiver.specs.ListenOnce.{ListensOnce}
+use Rattle.nx_receiver.specs.Resume.{Resumes}
+use Rattle.nx_receiver.specs.Shares.{all_at_zero}
+use Rattle.nx_receiver.specs.declared.resume_fault.Want.TheVariants.{Log, State}
+use Rattle.nx_program.specs.Program.{IsUntouchedByWant, Performs, ReadsStateBeforeWant}
 use Rattle.nx_program.specs.declared.fault.CallFault.TheVariants as call
 use Rattle.nx_program.specs.declared.words.Call.{Call}
-use Rattle.nx_program.proofs.ProgramLemmas.{tells-err, tells-ok}
+use Rattle.nx_program.proofs.ProgramLemmas.{tells-err, tells-ok, untouched}
 use Rattle.nx_program.proofs.program.perform.Goals as goal
 
 pub returns-in_err-send-in-Send : goal.returns-in_err-send-in-Send
@@ -66,5 +70,98 @@ returns-in_ok-damage-in-Damage g c =
     }) d)
     c.in_ok-damage-in-Damage.field-0 c.in_ok-damage-in-Damage.ensures)
 
+pub returns-in_ok-listen-in-Listen : goal.returns-in_ok-listen-in-Listen
+returns-in_ok-listen-in-Listen g c =
+    let own = c.in_ok-listen-in-Listen in
+    let d = devices g.R.Read.remaining g.W.Write.contents c.args.reader.now c.listen.new.reader
+    c.args.writer.now c.listen.new.writer in
+    let P : Call → Type 0 = λ call. Performs call d (Ok tt) in
+    subst P (sym c.in-Listen.is)
+    (tells-ok (λ why. call.Listen why) (λ own. ListensOnce all_at_zero d own × IsUntouchedByWant d own)
+    own.field-0
+    (own.ensures.listens, untouched d (Ok own.field-0) own.ensures.memory))
+
+pub returns-in_err-listen-in-Listen : goal.returns-in_err-listen-in-Listen
+returns-in_err-listen-in-Listen g c =
+    let own = c.in_err-listen-in-Listen in
+    let d = devices g.R.Read.remaining g.W.Write.contents c.args.reader.now c.listen.new.reader
+    c.args.writer.now c.listen.new.writer in
+    let outcome = c.from_residual-in_err-listen-in-Listen.result in
+    let p = err_from_is_err_and outcome c.from_residual-in_err-listen-in-Listen.ensures.1 in
+    let P : Call → Type 0 = λ call. Performs call d outcome in
+    subst P (sym c.in-Listen.is)
+    (tells-err (λ why. call.Listen why) (λ own. ListensOnce all_at_zero d own × IsUntouchedByWant d own)
+    outcome own.field-0.0 p.0
+    (own.ensures.listens, untouched d (Err own.field-0.0) own.ensures.memory) p.1 p.2)
+
+pub returns-in_ok-locks-in-Locks : goal.returns-in_ok-locks-in-Locks
+returns-in_ok-locks-in-Locks g c =
+    let own = c.in_ok-locks-in-Locks in
+    let d = devices g.R.Read.remaining g.W.Write.contents c.args.reader.now c.locks.new.reader
+    c.args.writer.now c.locks.new.writer in
+    let P : Call → Type 0 = λ call. Performs call d (Ok tt) in
+    subst P (sym c.in-Locks.is)
+    (tells-ok (λ why. call.Listen why) (λ own. ShowsLocks d own × IsUntouchedByWant d own)
+    own.field-0
+    (own.ensures.shows, untouched d (Ok own.field-0) own.ensures.memory))
+
+pub returns-in_err-locks-in-Locks : goal.returns-in_err-locks-in-Locks
+returns-in_err-locks-in-Locks g c =
+    let own = c.in_err-locks-in-Locks in
+    let d = devices g.R.Read.remaining g.W.Write.contents c.args.reader.now c.locks.new.reader
+    c.args.writer.now c.locks.new.writer in
+    let outcome = c.from_residual-in_err-locks-in-Locks.result in
+    let p = err_from_is_err_and outcome c.from_residual-in_err-locks-in-Locks.ensures.1 in
+    let P : Call → Type 0 = λ call. Performs call d outcome in
+    subst P (sym c.in-Locks.is)
+    (tells-err (λ why. call.Listen why) (λ own. ShowsLocks d own × IsUntouchedByWant d own)
+    outcome own.field-0.0 p.0
+    (own.ensures.shows, untouched d (Err own.field-0.0) own.ensures.memory) p.1 p.2)
+
+pub returns-in_ok-resume-in-Resume : goal.returns-in_ok-resume-in-Resume
+returns-in_ok-resume-in-Resume g c =
+    let own = c.in_ok-resume-in-Resume in
+    let d = devices g.R.Read.remaining g.W.Write.contents c.args.reader.now c.resume.new.reader
+    c.args.writer.now c.resume.new.writer in
+    let P : Call → Type 0 = λ call. Performs call d (Ok tt) in
+    subst P (sym c.in-Resume.is)
+    (tells-ok (λ why. call.Resume why) (λ own. Resumes Log d own × ReadsStateBeforeWant d own)
+    own.field-0
+    (own.ensures.resumes, own.ensures.memory))
+
+pub returns-in_err-resume-in-Resume : goal.returns-in_err-resume-in-Resume
+returns-in_err-resume-in-Resume g c =
+    let own = c.in_err-resume-in-Resume in
+    let d = devices g.R.Read.remaining g.W.Write.contents c.args.reader.now c.resume.new.reader
+    c.args.writer.now c.resume.new.writer in
+    let outcome = c.from_residual-in_err-resume-in-Resume.result in
+    let p = err_from_is_err_and outcome c.from_residual-in_err-resume-in-Resume.ensures.1 in
+    let P : Call → Type 0 = λ call. Performs call d outcome in
+    subst P (sym c.in-Resume.is)
+    (tells-err (λ why. call.Resume why) (λ own. Resumes Log d own × ReadsStateBeforeWant d own)
+    outcome own.field-0.0 p.0
+    (own.ensures.resumes, own.ensures.memory) p.1 p.2)
+
 pub returns-in_ok-resume-in-Save : goal.returns-in_ok-resume-in-Save
-returns-in_ok-resume-in-Save g c = search rules
+returns-in_ok-resume-in-Save g c =
+    let own = c.in_ok-resume-in-Save in
+    let d = devices g.R.Read.remaining g.W.Write.contents c.args.reader.now
+    c.resume-in-Save.new.reader c.args.writer.now c.resume-in-Save.new.writer in
+    let P : Call → Type 0 = λ call. Performs call d (Ok tt) in
+    subst P (sym c.in-Save.is)
+    (tells-ok (λ why. call.Resume why) (λ own. Resumes State d own × ReadsStateBeforeWant d own)
+    own.field-0
+    (own.ensures.resumes, own.ensures.memory))
+
+pub returns-in_err-resume-in-Save : goal.returns-in_err-resume-in-Save
+returns-in_err-resume-in-Save g c =
+    let own = c.in_err-resume-in-Save in
+    let d = devices g.R.Read.remaining g.W.Write.contents c.args.reader.now
+    c.resume-in-Save.new.reader c.args.writer.now c.resume-in-Save.new.writer in
+    let outcome = c.from_residual-in_err-resume-in-Save.result in
+    let p = err_from_is_err_and outcome c.from_residual-in_err-resume-in-Save.ensures.1 in
+    let P : Call → Type 0 = λ call. Performs call d outcome in
+    subst P (sym c.in-Save.is)
+    (tells-err (λ why. call.Resume why) (λ own. Resumes State d own × ReadsStateBeforeWant d own)
+    outcome own.field-0.0 p.0
+    (own.ensures.resumes, own.ensures.memory) p.1 p.2)

@@ -1,21 +1,20 @@
-use Rattle.std.proofs.Common.{Ok, Err, [], refl, subst, sym}
+use Rattle.std.proofs.Common.{Err, [], refl, subst, sym}
 use Rattle.nx_fec.specs.Transfers.{devices}
 use Rattle.nx_fec.proofs.TransferLaws.{Ok-not_err, Writes-sound}
-use Rattle.nx_receiver.specs.Listen.{given_by}
-use Rattle.nx_receiver.specs.ListenFrom.{ListensBy, reported}
+use Rattle.nx_receiver.specs.Listen.{Listens, given_by}
 use Rattle.nx_receiver.specs.Shares.{Starts, starts_from}
 use Rattle.nx_receiver.specs.private.Listener.{StandsFrom, IsListening, starts_of}
-use Rattle.nx_receiver.proofs.listens.From.{err-is, goes-on}
-use Rattle.nx_receiver.proofs.once.Listen.{keeps-headline}
-use Rattle.nx_receiver.proofs.listens.Runs.{listens-fault, listens-memory, listens-ok, listens-part}
+use Rattle.nx_receiver.specs.declared.listen_fault.ListenFault.TheVariants.{Write}
+use Rattle.nx_receiver.proofs.listens.From.{err-is, goes-nowhere, goes-on}
+use Rattle.nx_receiver.proofs.listens.Runs.{listens-fault, listens-memory, listens-part}
 use Rattle.nx_receiver.proofs.listening.listen_from.Goals as goal
 
 pub returns-in_err-listener-clause-listens : goal.returns-in_err-listener-clause-listens
 returns-in_err-listener-clause-listens g c =
-    subst (ListensBy (starts_from c.args.saved.now)
+    goes-nowhere c.args.saved.now
     (devices g.R.Read.remaining g.W.Write.contents c.args.reader.now c.args.reader.now
-    c.args.writer.now c.args.writer.now))
-    (sym (err-is c.from_residual.result _ c.from_residual.ensures.0 c.from_residual.ensures.1))
+    c.args.writer.now c.args.writer.now) c.from_residual.result _ c.from_residual.ensures.0
+    (err-is c.from_residual.result _ c.from_residual.ensures.0 c.from_residual.ensures.1)
     (listens-memory (starts_from c.args.saved.now) g.R.Read.remaining g.W.Write.contents
     c.args.reader.now c.args.writer.now c.in_err-listener.field-0.0 c.requires.reader
     c.requires.writer)
@@ -28,10 +27,11 @@ returns-in-Err-clause-listens g c =
     let begun : StandsFrom first first [] [] =
     subst (λ (starts : Starts). IsListening starts first [] [])
     (sym c.in_ok-listener.ensures.start) c.in_ok-listener.ensures.listens in
-    subst (λ (starts : Starts). ListensBy starts d (Err c.run_fault.result))
+    goes-nowhere c.args.saved.now d (Err c.run_fault.result) c.run_fault.result refl refl
+    (subst (λ (starts : Starts). Listens starts d (Err c.run_fault.result))
     c.in_ok-listener.ensures.start
-    (subst (λ fault. ListensBy (starts_of first) d (Err fault)) (sym c.run_fault.ensures)
-    (listens-fault first c.run_lines.new.taker d c.in-Err.fault (c.in-Err.ensures first begun)))
+    (subst (λ fault. Listens (starts_of first) d (Err fault)) (sym c.run_fault.ensures)
+    (listens-fault first c.run_lines.new.taker d c.in-Err.fault (c.in-Err.ensures first begun))))
 
 pub close-requires : goal.close-requires
 close-requires g c =
@@ -50,11 +50,12 @@ returns-in_err-report-clause-listens g c =
     let begun : StandsFrom first first [] [] =
     subst (λ (starts : Starts). IsListening starts first [] [])
     (sym c.in_ok-listener.ensures.start) c.in_ok-listener.ensures.listens in
-    subst (λ (starts : Starts). ListensBy starts d (reported c.from_residual-in_err-report.result))
-    c.in_ok-listener.ensures.start
-    (subst (ListensBy (starts_of first) d)
-    (sym (err-is c.from_residual-in_err-report.result _ c.from_residual-in_err-report.ensures.0
-    c.from_residual-in_err-report.ensures.1))
+    goes-nowhere c.args.saved.now d c.from_residual-in_err-report.result _
+    c.from_residual-in_err-report.ensures.0
+    (err-is c.from_residual-in_err-report.result _ c.from_residual-in_err-report.ensures.0
+    c.from_residual-in_err-report.ensures.1)
+    (subst (λ (starts : Starts). Listens starts d
+    (Err (Write c.in_err-report.field-0.0.written))) c.in_ok-listener.ensures.start
     (listens-part g.R.Read.remaining contents first c.run_lines.new.taker c.args.reader.now
     c.run_lines.new.reader c.args.writer.now c.run_lines.new.writer c.close.new.writer
     c.in-Ok.read c.in_err-report.field-0.0.written (c.in-Ok.ensures first begun)
@@ -63,24 +64,6 @@ returns-in_err-report-clause-listens g c =
 
 pub returns-clause-listens : goal.returns-clause-listens
 returns-clause-listens g c =
-    let first = c.in_ok-listener.listener in
-    let contents = g.W.Write.contents in
-    let d = devices g.R.Read.remaining contents c.args.reader.now c.run_lines.new.reader
-    c.args.writer.now c.close.new.writer in
-    let begun : StandsFrom first first [] [] =
-    subst (λ (starts : Starts). IsListening starts first [] [])
-    (sym c.in_ok-listener.ensures.start) c.in_ok-listener.ensures.listens in
-    subst (λ (starts : Starts). ListensBy starts d (Ok c.in_ok-report.report))
-    c.in_ok-listener.ensures.start
-    (listens-ok g.R.Read.remaining contents first c.run_lines.new.taker c.args.reader.now
-    c.run_lines.new.reader c.args.writer.now c.run_lines.new.writer c.close.new.writer
-    c.in-Ok.read c.in_ok-report.report (c.in-Ok.ensures first begun)
-    (λ lines given h w. c.in_ok-report.ensures.closed _ (contents c.args.writer.now.inner)
-    (given_by lines) given h.hears w) c.in_ok-report.ensures.lines
-    c.in_ok-report.ensures.counts.none)
-
-pub returns-clause-left : goal.returns-clause-left
-returns-clause-left g c =
     let first = c.in_ok-listener.listener in
     let contents = g.W.Write.contents in
     let begun : StandsFrom first first [] [] =
@@ -93,10 +76,4 @@ returns-clause-left g c =
     (λ lines given h w. c.in_ok-report.ensures.closed _ (contents c.args.writer.now.inner)
     (given_by lines) given h.hears w)
     (λ lines given h. c.saved-left.ensures (starts_of first) lines given h)
-
-pub returns-clause-once : goal.returns-clause-once
-returns-clause-once g c =
-    keeps-headline (starts_from c.args.saved.now)
-    (devices g.R.Read.remaining g.W.Write.contents c.args.reader.now c.run_lines.new.reader
-    c.args.writer.now c.close.new.writer)
-    c.in_ok-report.report (returns-clause-listens g c)
+    c.in_ok-report.ensures.lines c.in_ok-report.ensures.counts.none

@@ -1,9 +1,8 @@
 use Rattle.std.proofs.Common.{sym, subst}
 use Rattle.nx_fec.specs.Transfers.{devices}
-use Rattle.nx_receiver.specs.Resume.{AnswersResuming, ReadStateAlone, ResumesBy, WritesLeft}
+use Rattle.nx_receiver.specs.Resume.{AnswersResuming, ReadStateAlone, ResumesBy}
 use Rattle.nx_receiver.specs.declared.resume_fault.Want.TheVariants.{Log, State}
-use Rattle.nx_receiver.proofs.states.Behind.{headline-behind, holds-behind, read-alone}
-use Rattle.nx_receiver.proofs.states.Behind.{resumes-behind}
+use Rattle.nx_receiver.proofs.states.Behind.{read-alone, resumes-behind}
 use Rattle.nx_receiver.proofs.resuming.resume.Goals as goal
 
 pub returns-in-Log-clause-resumes : goal.returns-in-Log-clause-resumes
@@ -18,15 +17,6 @@ returns-in-Log-clause-resumes g c =
     (resumes-behind remaining contents c.args.reader.now c.read_state.new.reader
     c.log_from.new.reader c.args.writer.now c.log_from.new.writer c.in_ok-states.states Log
     c.log_from.result read c.log_from.ensures.resumes)
-
-pub returns-in-Log-clause-once : goal.returns-in-Log-clause-once
-returns-in-Log-clause-once g c = λ want.
-    let remaining = g.R.Read.remaining in
-    let read = read-alone remaining c.args.reader.now c.read_state.new.reader c.in_ok-states.states
-    c.in_ok-states.ensures.reads in
-    headline-behind remaining g.W.Write.contents c.args.reader.now c.read_state.new.reader
-    c.log_from.new.reader c.args.writer.now c.log_from.new.writer c.in_ok-states.states
-    c.log_from.result read c.log_from.ensures.once
 
 pub returns-in-Log-clause-memory : goal.returns-in-Log-clause-memory
 returns-in-Log-clause-memory g c = λ error e.
@@ -52,18 +42,6 @@ returns-in-State-clause-resumes g c =
     (resumes-behind remaining contents c.args.reader.now c.read_state.new.reader
     c.save_from.new.reader c.args.writer.now c.save_from.new.writer c.in_ok-states.states State
     c.save_from.result read c.save_from.ensures.resumes)
-
-pub returns-in-State-clause-left : goal.returns-in-State-clause-left
-returns-in-State-clause-left g c = λ want done.
-    let remaining = g.R.Read.remaining in
-    let contents = g.W.Write.contents in
-    let read = read-alone remaining c.args.reader.now c.read_state.new.reader c.in_ok-states.states
-    c.in_ok-states.ensures.reads in
-    holds-behind remaining contents c.args.reader.now c.read_state.new.reader
-    c.save_from.new.reader c.args.writer.now c.save_from.new.writer c.in_ok-states.states
-    (WritesLeft (devices remaining contents c.args.reader.now c.save_from.new.reader
-    c.args.writer.now c.save_from.new.writer) c.save_from.result) read
-    (c.save_from.ensures.left done)
 
 pub returns-in-State-clause-memory : goal.returns-in-State-clause-memory
 returns-in-State-clause-memory g c = λ error e.

@@ -4,7 +4,7 @@ use Rattle.nx_receiver.proofs.laws.resuming.a_run_writes_its_log_or_its_state.Go
 
 pub returns : goal.returns
 returns c = record {
-  log = λ input old new report h. let l = h.here.1 in (
+  log = λ input old new report h. let l = h.here.0.1 in (
     h.text,
     h.more,
     l.log,
@@ -16,7 +16,7 @@ returns c = record {
     },
     l.written,
   );
-  state = λ input old new h. let l = h.here in (
+  state = λ input old new report h. let l = h.here.1 in (
     h.text,
     h.more,
     state_bytes l.left,

@@ -1,4 +1,4 @@
-use Rattle.std.proofs.Common.{◌≡◌, ◌+◌, ◌++◌, arith, drop, length-drop, rules, subst, take}
+use Rattle.std.proofs.Common.{◌≡◌, ◌++◌, arith, drop, length-drop, rules, subst, take}
 use Rattle.std.specs.Prelude.{MatchResult}
 use Rattle.std.proofs.lemmas.Result.{err_from_is_err_and}
 use Rattle.nx_fec.specs.LineRuns.{HasGiven}

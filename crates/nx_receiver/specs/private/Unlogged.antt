@@ -1,0 +1,42 @@
+-- A run that listens and goes on from what is saved, and writes no log; and how its listener stands:
+-- nothing is said of the log but that there is one (this profile).
+use Rattle.std.specs.Prelude.{◌≡◌, ℕ, List, [], None, Option, Result, IfOk, ⊤}
+use Rattle.std.specs.Io.KnownBytes.{IsAtEnd}
+use Rattle.nx_fec.specs.AirFile.{Line}
+use Rattle.nx_fec.specs.Transfers.{CountedDevice, Reads}
+use Rattle.nx_memory.specs.Saved.{SavedStates}
+use Rattle.nx_receiver.specs.Chain.{HasGoneOn}
+use Rattle.nx_receiver.specs.Listen.{AnswersUnlogged}
+use Rattle.nx_receiver.specs.ListenFrom.{reported}
+use Rattle.nx_receiver.specs.Shares.{Given, Starts, starts_from}
+use Rattle.nx_receiver.specs.declared.listen_fault.ListenFault.{ListenFault}
+use Rattle.nx_receiver.specs.declared.listen_fault.ListenFault.TheVariants.{Read}
+use Rattle.nx_receiver.specs.declared.listening.Report.{Report}
+use Rattle.nx_receiver.specs.private.Listener.{HearsLog, IsListening, Listening, starts_of}
+
+-- after these lines
+abbrev pub HasHeard : Starts → Listening → List Line → Type 0
+HasHeard starts listener lines = (log : List ℕ) × IsListening starts listener lines log
+
+-- the same for a taker of lines that stood so at first, and gives nothing
+abbrev pub StandsUnlogged : Listening → Listening → List Line → List ℕ → Type 0
+StandsUnlogged first now lines given = (given ≡ []) × HasHeard (starts_of first) now lines
+
+-- after what lines gave
+abbrev pub HasHeardGiven : Starts → Listening → List Given → Type 0
+HasHeardGiven starts listener given = (log : List ℕ) × HearsLog starts listener given log
+
+-- what such a run answers, and what it leaves
+abbrev pub AnswersLeaving : SavedStates → Type 0 → (List ℕ → Type 0)
+    → Result (Report × SavedStates) ListenFault → List ℕ → Type 0
+AnswersLeaving saved AtEnd IsLeft outcome bytes =
+    AnswersUnlogged (starts_from saved) AtEnd IsLeft (reported outcome) bytes
+    × IfOk outcome (λ answer. HasGoneOn saved None None bytes answer.1)
+
+-- such a run, of its reader
+abbrev pub ListensUnlogged : {R : Type 0} → SavedStates → (R → Option (List ℕ)) → CountedDevice R
+    → CountedDevice R → Result (Report × SavedStates) ListenFault → Type 0
+ListensUnlogged saved remaining old new outcome =
+    Reads remaining old new Read (λ _. ⊥) outcome (λ _. ⊤)
+    (λ bytes. AnswersLeaving saved (IsAtEnd (remaining new.inner)) (λ more. more ≡ []) outcome bytes)
+    (λ bytes. AnswersLeaving saved (Unit {0}) (λ more. Unit {0}) outcome bytes)
