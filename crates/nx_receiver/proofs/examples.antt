@@ -1,3 +1,4 @@
+pub mod Again
 pub mod AirFile
 pub mod Chain
 pub mod Channels

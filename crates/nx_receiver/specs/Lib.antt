@@ -1,3 +1,4 @@
+pub mod AgainExample
 pub mod Chain
 pub mod ChainExample
 pub mod ChainOnce

@@ -20,8 +20,10 @@ use Rattle.nx_station.specs.Sendings.{IsCut, Sending, IsSentAt}
 use Rattle.nx_station.proofs.ChannelExamples.{example_sent}
 use Rattle.nx_sync.specs.Locks.{locked, IsNow}
 use Rattle.nx_station.proofs.TransmissionLength.{length-bit_lines}
-use Rattle.nx_receiver.specs.Events.{Event, Setting, at_moment, at_zero, element, first_setting}
-use Rattle.nx_receiver.specs.Events.{settings, elements_among, setting_at}
+use Rattle.nx_receiver.specs.Events.{Event, Setting, Start, at_moment, at_zero, element}
+use Rattle.nx_receiver.specs.Events.{elements_among, first_setting, none_refused, setting_at}
+use Rattle.nx_receiver.specs.Events.{settings}
+use Rattle.nx_memory.specs.declared.entry.MemoryEntry.{MemoryEntry}
 use Rattle.nx_receiver.specs.Example.{first_copy}
 use Rattle.nx_receiver.specs.FoundCopies.{FoundCopy, found_to_end, tag, tagged_copies}
 use Rattle.nx_receiver.specs.Listen.{AreTaken, IsLogOf, events_on, given_by}
@@ -30,7 +32,7 @@ use Rattle.nx_receiver.proofs.listens.Taken.{are-taken}
 use Rattle.nx_receiver.specs.ListenExample.{example_air_file, example_lines}
 use Rattle.nx_receiver.specs.ListenOnce.{IsHeardInTimeOn}
 use Rattle.nx_receiver.specs.Log.{PrintsToEnd}
-use Rattle.nx_receiver.specs.Once.{IsHeardInTime}
+use Rattle.nx_receiver.specs.Once.{IsHeardInTime, IsUnknownAtFirst}
 use Rattle.nx_receiver.specs.private.Heard.{HeardTerms}
 use Rattle.nx_receiver.proofs.once.Found.{heard_at_first}
 use Rattle.nx_receiver.specs.Printing.{printed_copies}
@@ -84,26 +86,6 @@ file-is = record {
 pub events-are : events_on Zero example_lines ≡ at_moment 1735692000 ∷ events
 events-are = ap (λ es. at_moment 1735692000 ∷ es) (events-lines bits)
 
-abbrev heard : List Event
-heard = events_on Zero example_lines
-
-same : elements_among events ≡ elements_among heard
-unfolding elements_among
-same = sym (ap elements_among events-are)
-
-cut : IsCut (elements_among heard) (example_parts first_bits [])
-cut = subst (λ (b : List Bool). IsCut b (example_parts first_bits [])) same cut_is
-
-stands-heard : IsNow (elements_among heard) [] (locked 0 28)
-stands-heard = subst (λ (b : List Bool). IsNow b [] (locked 0 28)) same stands_is
-
--- the copies that are found in it are those of its elements
-abbrev all-found : List FoundCopy
-all-found = found_to_end (elements_among heard) [] (locked 0 28)
-
-found-same : found ≡ all-found
-found-same = ap (λ (b : List Bool). found_to_end b [] (locked 0 28)) same
-
 -- each sending of the message is the one at this element
 abbrev pub place : ℕ
 place = length first_bits + 517
@@ -132,53 +114,97 @@ place-within =
     length-take 96 damaged_words ∙ omega (arith, damaged_computed.long) in
     omega (arith, long, count, length-bits_of (take 96 damaged_words))
 
-in-force : setting_at (first_setting at_zero) heard place ≡ first_setting at_its_slot
-unfolding settings
-in-force =
-    ap (λ es. slice_index_or (settings (first_setting at_zero) es) place (first_setting at_zero))
-    events-are
-    ∙ inside (first_setting at_its_slot) (first_setting at_zero) bits place place-within
+-- what a receiver hears that starts with these entries, at this moment, where the moment of the file
+-- and the elements are all that it is given
+module _ (entries : List MemoryEntry) (from : ℕ) (heard : List Event)
+    (are : heard ≡ at_moment 1735692000 ∷ events) where
+  abbrev pub begun : Start
+  begun = record { entries = entries; moment = from; refused = none_refused }
 
-in-force-at : (at : ℕ) → IsSentAt (example_parts first_bits []) example_message at
-    → setting_at (first_setting at_zero) heard at ≡ first_setting at_its_slot
-in-force-at at sent = ap (setting_at (first_setting at_zero) heard) (one-sending at sent) ∙ in-force
+  same : elements_among events ≡ elements_among heard
+  unfolding elements_among
+  same = sym (ap elements_among are)
 
-one-tagged : length (tagged_copies (first_setting at_zero) heard all-found) ≡ 1
-unfolding tagged_copies
-one-tagged = length-map all-found _ ∙ ap length (sym found-same) ∙ one_found
+  cut : IsCut (elements_among heard) (example_parts first_bits [])
+  cut = subst (λ (b : List Bool). IsCut b (example_parts first_bits [])) same cut_is
 
-terms : HeardTerms at_zero heard (example_parts first_bits []) example_message
-terms = record {
-  cut = cut;
-  place = place;
-  sent = example_sent first_bits [];
-  numbered = lit< tt;
-  locks = [];
-  now = locked 0 28;
-  stands = stands-heard;
-  alone = λ copy there named.
-      let among : Contains found copy =
-      subst (λ (cs : List FoundCopy). Contains cs copy) (sym found-same) there in
-      subst (IsSentAt (example_parts first_bits []) example_message)
-      (ap (λ (c : FoundCopy). c.place)
-      (one_in found (copy_of_sending (example_sending first_bits)) copy one_found sent_there
-      among)) (example_sent first_bits []);
-  selected = λ at sent. ap (λ (s : Setting). admits s.refused example_message.identity)
-      (in-force-at at sent) ∙ all_selected;
-  close = λ one other a b.
-      let m = ap (λ (s : Setting). s.moment) (in-force-at one a) in
-      let n = ap (λ (s : Setting). s.moment) (in-force-at other b) in
-      omega arith;
-  unknown = none_live example_message.identity
-      (tagged_copies (first_setting at_zero) heard all-found);
-  few =
-      λ before between after first later e none named again. absurd
-      (not_two (tagged_copies (first_setting at_zero) heard all-found) before between after
-      first later one-tagged e);
-}
+  pub stands-heard : IsNow (elements_among heard) [] (locked 0 28)
+  stands-heard = subst (λ (b : List Bool). IsNow b [] (locked 0 28)) same stands_is
 
-heard-there : IsHeardInTime at_zero heard (example_parts first_bits []) example_message
-heard-there = heard_at_first at_zero heard (example_parts first_bits []) example_message terms
+  -- the copies that are found in it are those of its elements
+  abbrev pub all-found : List FoundCopy
+  all-found = found_to_end (elements_among heard) [] (locked 0 28)
+
+  pub found-same : found ≡ all-found
+  found-same = ap (λ (b : List Bool). found_to_end b [] (locked 0 28)) same
+
+  pub in-force : setting_at (first_setting begun) heard place ≡ first_setting at_its_slot
+  unfolding settings
+  in-force =
+      ap (λ es. slice_index_or (settings (first_setting begun) es) place (first_setting begun)) are
+      ∙ inside (first_setting at_its_slot) (first_setting begun) bits place place-within
+
+  in-force-at : (at : ℕ) → IsSentAt (example_parts first_bits []) example_message at
+      → setting_at (first_setting begun) heard at ≡ first_setting at_its_slot
+  in-force-at at sent =
+      ap (setting_at (first_setting begun) heard) (one-sending at sent) ∙ in-force
+
+  one-tagged : length (tagged_copies (first_setting begun) heard all-found) ≡ 1
+  unfolding tagged_copies
+  one-tagged = length-map all-found _ ∙ ap length (sym found-same) ∙ one_found
+
+  -- its one copy, with the moment of the file
+  pub tagged-is : tagged_copies (first_setting begun) heard all-found
+      ≡ tag (first_setting at_its_slot) (copy_of_sending (example_sending first_bits)) ∷ []
+  unfolding tagged_copies
+  tagged-is =
+      let this = copy_of_sending (example_sending first_bits) in
+      ap (tagged_copies (first_setting begun) heard)
+      (sym found-same ∙ alone found this one_found sent_there)
+      ∙ ap (λ (s : Setting). tag s this ∷ []) in-force
+
+  terms : IsUnknownAtFirst entries example_message.identity
+      (tagged_copies (first_setting begun) heard all-found)
+      → HeardTerms begun heard (example_parts first_bits []) example_message
+  terms unknown = record {
+    cut = cut;
+    place = place;
+    sent = example_sent first_bits [];
+    numbered = lit< tt;
+    locks = [];
+    now = locked 0 28;
+    stands = stands-heard;
+    alone = λ copy there named.
+        let among : Contains found copy =
+        subst (λ (cs : List FoundCopy). Contains cs copy) (sym found-same) there in
+        subst (IsSentAt (example_parts first_bits []) example_message)
+        (ap (λ (c : FoundCopy). c.place)
+        (one_in found (copy_of_sending (example_sending first_bits)) copy one_found sent_there
+        among)) (example_sent first_bits []);
+    selected = λ at sent. ap (λ (s : Setting). admits s.refused example_message.identity)
+        (in-force-at at sent) ∙ all_selected;
+    close = λ one other a b.
+        let m = ap (λ (s : Setting). s.moment) (in-force-at one a) in
+        let n = ap (λ (s : Setting). s.moment) (in-force-at other b) in
+        omega arith;
+    unknown = unknown;
+    few =
+        λ before between after first later e none named again. absurd
+        (not_two (tagged_copies (first_setting begun) heard all-found) before between after
+        first later one-tagged e);
+  }
+
+  pub heard-there : IsUnknownAtFirst entries example_message.identity
+      (tagged_copies (first_setting begun) heard all-found)
+      → IsHeardInTime begun heard (example_parts first_bits []) example_message
+  heard-there unknown =
+      heard_at_first begun heard (example_parts first_bits []) example_message (terms unknown)
+
+abbrev heard : List Event
+heard = events_on Zero example_lines
+
+abbrev found-there : List FoundCopy
+found-there = all-found [] 0 heard events-are
 
 pub heard-in-time : IsHeardInTimeOn Zero all_at_zero example_air_file example_message
 heard-in-time = record {
@@ -186,7 +212,9 @@ heard-in-time = record {
   spelled = file-is;
   parts =
       example_parts first_bits [];
-  heard = heard-there;
+  heard = heard-there [] 0 heard events-are
+      (none_live example_message.identity
+      (tagged_copies (first_setting at_zero) heard found-there));
 }
 
 -- ---- its log
@@ -205,7 +233,7 @@ tagged-same =
     let is : found ≡ this ∷ [] = alone found this one_found sent_there in
     ap (tagged_copies (first_setting at_zero) heard) is
     ∙ ap (λ (s : Setting). tag s this ∷ [])
-    (in-force ∙ sym (at_first (first_setting at_its_slot) bits place))
+    (in-force [] 0 heard events-are ∙ sym (at_first (first_setting at_its_slot) bits place))
     ∙ ap (tagged_copies (first_setting at_its_slot) events) (sym is)
 
 pub printed : PrintsToEnd at_zero heard (first_copy ∷ [])
@@ -217,11 +245,11 @@ printed =
     record {
       locks = [];
       now = locked 0 28;
-      stands = stands-heard;
+      stands = stands-heard [] 0 heard events-are;
       printed = one_to_end at_its_slot events _ _ before mine
           ∙ ap (printed_copies []) (sym tagged-same)
           ∙ ap (λ (cs : List FoundCopy). printed_copies []
-          (tagged_copies (first_setting at_zero) heard cs)) found-same;
+          (tagged_copies (first_setting at_zero) heard cs)) (found-same [] 0 heard events-are);
     }
 
 -- the other channels are given the moment alone

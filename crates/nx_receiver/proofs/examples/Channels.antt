@@ -26,7 +26,7 @@ use Rattle.nx_receiver.specs.Events.{Event, at_moment, at_zero, element, element
 use Rattle.nx_receiver.specs.Example.{first_copy}
 use Rattle.nx_receiver.specs.FoundCopies.{FoundCopy, ended_so_far, found_to_end, open_so_far}
 use Rattle.nx_receiver.specs.FoundCopies.{tagged_copies}
-use Rattle.nx_receiver.specs.Listen.{AreTaken, IsLogOf}
+use Rattle.nx_receiver.specs.Listen.{AreTaken, IsLogOf, events_on}
 use Rattle.nx_receiver.specs.private.Taken.{AreTakenAfter}
 use Rattle.nx_receiver.proofs.listens.Taken.{are-taken}
 use Rattle.nx_receiver.specs.InTurn.{HavePrinted, PrintAllToEnd, PrintsInTurn}
@@ -155,6 +155,11 @@ among-moment more = refl
 none-among : elements_among [] ≡ []
 unfolding elements_among
 none-among = refl
+
+-- what the file gives to the receiver of channel 1
+pub heard-on_1 : events_on One two_channels ≡ heard
+unfolding m
+heard-on_1 = sym heard-pieces
 
 quiet-0 : HasPrinted at_zero [] []
 quiet-0 = none-ended [] heard refl (omega (arith, ap length none-among))
@@ -383,7 +388,7 @@ file-short (line ∷ lines) h =
       length-append (line_bytes line) (file_of lines),
     )
 
-file-is : IsAirFile air_limit (file_of two_channels) two_channels
+pub file-is : IsAirFile air_limit (file_of two_channels) two_channels
 file-is = record {
   whole = refl;
   each = lines-good;

@@ -6,19 +6,23 @@ ghost use Rattle.nx_code.specs.Lists.{last_of};
 ghost use Rattle.nx_envelope.specs.Message.{MessageView};
 ghost use Rattle.nx_fec.specs.AirFile.{Line};
 ghost use Rattle.nx_fec.specs.declared.channel.Channel.{Channel};
-ghost use Rattle.nx_fec.specs.declared.channel.Channel.TheVariants.{Zero};
-ghost use Rattle.nx_memory.specs.Saved.{SavedState, SavedStates};
+ghost use Rattle.nx_fec.specs.Lines.{file_of};
+ghost use Rattle.nx_fec.specs.declared.channel.Channel.TheVariants.{One, Zero};
+ghost use Rattle.nx_memory.specs.Saved.{AreSavedStates, SavedState, SavedStates};
 ghost use Rattle.nx_memory.specs.Memory.{most_entries, newest_moment};
 ghost use Rattle.nx_memory.specs.declared.entry.MemoryEntry.{MemoryEntry};
 ghost use Rattle.nx_station.specs.ChannelExample.{example_message};
 ghost use Rattle.nx_sync.specs.Locks.{IsNow, Lock, Now};
+ghost use Rattle.nx_receiver.specs.AgainExample.{saved_long_ago};
+ghost use Rattle.nx_receiver.specs.ChannelsExample.{two_channels};
+ghost use Rattle.nx_receiver.specs.ListenOnce.{IsHeardInTimeOn};
 ghost use Rattle.nx_receiver.specs.Chain.{AgreeInLast, GoesOn, HasGoneOn, IsChain, Leaves, Run, all_copies, all_events, all_logs, all_printed, copies_in, files};
 ghost use Rattle.nx_receiver.specs.ChainExample.{example_runs, saved_after};
 ghost use Rattle.nx_receiver.specs.ChainOnce.{IsHeardInTimeOver};
 ghost use Rattle.nx_receiver.specs.Events.{Event, Start, elements_among, first_setting, setting_after_all};
 ghost use Rattle.nx_receiver.specs.FoundCopies.{ended_so_far, TaggedCopy, tagged_copies};
 ghost use Rattle.nx_receiver.specs.Once.{IsUnknownAtFirst, IsPrintedOnce};
-ghost use Rattle.nx_receiver.specs.Listen.{HasListened, IsLogOfFile, events_on};
+ghost use Rattle.nx_receiver.specs.Listen.{HasListened, IsLogOf, IsLogOfFile, events_on};
 ghost use Rattle.nx_receiver.specs.Log.{IsLog};
 ghost use Rattle.nx_receiver.specs.Printing.{entries_after, entries_made, printed_copies};
 ghost use Rattle.nx_receiver.specs.Receiver.{Receiving, Stands};
@@ -155,4 +159,15 @@ pub fn there_is_a_chain_with_a_message_heard_in_time()
     ensures chain { IsChain none_saved example_runs saved_after }
     ensures heard { IsHeardInTimeOver Zero none_saved example_runs example_message }
     ensures logs { all_logs example_runs ≡ worked_log }
+{}
+
+/// What has to be met can be met where a receiver goes on from an entry of the message: of channel 1
+/// an entry of EA01 is saved, and EA01 is heard there again when the entry is 66 hours old. The
+/// file has a log with that start.
+pub fn there_is_a_message_heard_again_after_66_hours()
+    ensures saved { AreSavedStates saved_long_ago }
+    ensures heard { IsHeardInTimeOn One (starts_from saved_long_ago) (file_of two_channels)
+        example_message }
+    ensures logged { (log : List ℕ)
+        × IsLogOf (starts_from saved_long_ago) (file_of two_channels) log }
 {}

@@ -60,6 +60,7 @@ fn laws_of_chains() {
     chain::a_chain_is_told_by_its_files();
     chain::a_message_heard_over_runs_has_one_entry();
     chain::there_is_a_chain_with_a_message_heard_in_time();
+    chain::there_is_a_message_heard_again_after_66_hours();
 }
 
 #[test]
