@@ -1,0 +1,187 @@
+"""From samples to the two tones of each element: blanking, middle, clock.
+
+All works on pieces of 0.2 s. A piece is mixed down so that the middle of the two tones lies at 0 Hz,
+and brought to 16 samples an element; then the clock finds where elements begin.
+"""
+import numpy as np
+
+BAUD = 100            # elements a second (ITU-R M.540)
+SHIFT = 170.0         # Hz from the lower tone to the upper one (ITU-R M.540)
+PER = 16              # samples an element behind the filter
+RATE = BAUD * PER     # samples a second there
+PIECE = 20            # elements a piece
+AHEAD = 5             # pieces that the clock looks ahead
+MEMORY = 15.0         # pieces that the clock remembers
+BAND = 320.0          # Hz on each side of the middle that pass the filter
+
+
+class Middle:
+    """Finds the middle of two tones SHIFT apart, by the power of the sound at each frequency.
+
+    Power: the squared FFT of 0.2 s (Hann window) over its own mean, so that each piece counts alike;
+    averaged over some 2.5 s; smoothed by the width of a keyed tone. The score of f is the lesser of
+    the powers at f - SHIFT/2 and f + SHIFT/2: a carrier alone has one of them.
+    """
+
+    def __init__(self, rate, first, last):
+        self.size = int(rate * 0.2)
+        self.window = np.hanning(self.size)
+        self.bin = rate / self.size
+        self.places = np.arange(max(first, SHIFT), min(last, rate / 2 - SHIFT) + 1, 2.0)
+        self.power = np.ones(self.size // 2 + 1)
+        self.before = np.zeros(0)
+        wide = np.arange(-12, 13) * self.bin
+        self.line = np.exp(-(wide / 22.0) ** 2)
+        self.line /= self.line.sum()
+
+    def hear(self, samples):
+        joined = np.concatenate((self.before, samples))[-self.size:]
+        self.before = joined
+        if len(joined) == self.size and joined.any():
+            power = np.abs(np.fft.rfft(joined * self.window)) ** 2
+            lowest, highest = int(200 / self.bin), int(min(4000 / self.bin, len(power)))
+            power /= np.mean(power[lowest:highest])
+            self.power += (np.minimum(power, 50 * np.median(power) + 20) - self.power) / 12
+
+    def scores(self, places=None):
+        places = self.places if places is None else np.asarray(places)
+        smooth = np.convolve(self.power, self.line, "same")
+        at = lambda f: np.interp(f / self.bin, np.arange(len(smooth)), smooth)
+        return np.minimum(at(places - SHIFT / 2), at(places + SHIFT / 2))
+
+    def best(self):
+        scores = self.scores()
+        return self.places[scores.argmax()], scores.max()
+
+
+class Mixer:
+    """Samples at any rate, mixed down by a frequency that may change, at RATE samples a second."""
+
+    def __init__(self, rate):
+        self.fold = max(1, int(rate / 6000))       # so many samples are averaged to one, first
+        self.rate = rate / self.fold
+        self.turn = 0.0                            # where the mixing oscillator stands, in turns
+        self.whole = rate
+        self.rest = np.zeros(0, complex)           # samples that don't fill a fold yet
+        self.folded = [np.zeros(0, complex)] * 3   # the last pieces: before, now, next
+        self.half = int(1.5 * self.rate / BAND)    # half the length of the filter
+        self.held = np.zeros(self.half, complex)   # blanked samples that the filter still needs
+        self.begin = -float(self.half)             # number of the first of them
+        self.made = 0                              # samples made so far
+
+    def hear(self, samples, middle):
+        """The new samples at RATE, one piece behind."""
+        steps = self.turn + middle / self.whole * np.arange(1, len(samples) + 1)
+        self.turn = steps[-1] % 1 if len(steps) else self.turn
+        mixed = np.concatenate((self.rest, samples * np.exp(-2j * np.pi * steps)))
+        count = len(mixed) // self.fold
+        self.rest = mixed[count * self.fold:]
+        self.folded = self.folded[1:] + [mixed[:count * self.fold].reshape(count, self.fold).mean(1)]
+        return self.filtered(self.blanked())
+
+    def blanked(self):
+        """The piece before the newest, without clicks.
+
+        A click is louder than 5 times the largest median of the piece and its neighbours; 0.7 ms
+        around it is silenced too, unless that is more than 15 per cent of the piece.
+        """
+        piece = self.folded[1]
+        if not len(piece):
+            return piece
+        limit = 5 * max(np.median(np.abs(p)) for p in self.folded if len(p))
+        loud = np.abs(piece) > limit
+        if loud.any() and limit > 0:
+            around = int(0.0007 * self.rate) + 1
+            loud = np.convolve(loud, np.ones(2 * around + 1), "same") > 0
+            if loud.mean() < 0.15:
+                piece = np.where(loud, 0, piece)
+        return piece
+
+    def filtered(self, piece):
+        """Low pass by a sinc of BAND Hz in a Hann window, at each moment of RATE that it reaches."""
+        self.held = np.concatenate((self.held, piece))
+        step = self.rate / RATE
+        last = int((self.begin + len(self.held) - 1 - self.half) / step)
+        moments = np.arange(self.made, max(self.made, last)) * step - self.begin
+        if not len(moments):
+            return np.zeros(0, complex)
+        nearest = np.round(moments).astype(int)
+        reach = np.arange(-self.half, self.half + 1)
+        away = (nearest - moments)[:, None] + reach
+        weights = np.sinc(2 * BAND / self.rate * away) * (0.5 + 0.5 * np.cos(np.pi * away / (self.half + 1)))
+        made = np.sum(weights * self.held[nearest[:, None] + reach], 1) * (2 * BAND / self.rate)
+        self.made += len(made)
+        drop = max(0, int(self.made * step - self.begin) - self.half - 2)
+        self.held, self.begin = self.held[drop:], self.begin + drop
+        return made
+
+
+class Clock:
+    """Where elements begin, and what each of the tones is in them.
+
+    E(t) is the energy of a tone over the 16 samples up to t. |E_B - E_Y| is largest where an element
+    ends, so the angle of the sum of |E_B - E_Y| e^(-2 pi i t / 16) tells the place. The sum is over
+    3 s before and 1 s after. Each element moves by an eighth of what it is late, at most 2 per cent
+    of its length, so that the count of elements goes on where nothing is heard.
+    """
+
+    def __init__(self):
+        self.heard = np.zeros(0, complex)   # samples at RATE that are still needed
+        self.begin = 0                      # number of the first of them
+        self.seen = 0                       # pieces whose swing is known
+        self.swings = []                    # the sums of the pieces that no element was taken of
+        self.past = 0j                      # the sum before them, as it is remembered
+        self.loud = 0.0
+        self.next = 0.0                     # where the next element begins
+
+    def hear(self, samples):
+        """(begins, upper, lower): where the new elements begin, in samples, and r of both tones."""
+        self.heard = np.concatenate((self.heard, samples))
+        size = PER * PIECE
+        told = []
+        while (self.seen + 1) * size + PER <= self.begin + len(self.heard):
+            self.swings.append(self.swing(self.seen * size))
+            self.seen += 1
+            if len(self.swings) > AHEAD:
+                told.append(self.piece())
+        if not told:
+            return np.zeros((3, 0))
+        return np.concatenate(told, 1)
+
+    def swing(self, first):
+        """The sum over one piece, from the end of its first element on."""
+        part = self.heard[first - self.begin:first - self.begin + PER * (PIECE + 1)]
+        turns = np.exp(-1j * np.pi * SHIFT / RATE * np.arange(len(part)))
+        energies = []
+        for mixed in (part * turns, part * turns.conj()):
+            sums = np.concatenate(([0], np.cumsum(mixed)))
+            energies.append(np.abs(sums[PER:-1] - sums[:-PER - 1]) ** 2)
+        loud = np.mean(energies[0] + energies[1])
+        self.loud += (loud - self.loud) / 5
+        ends = np.exp(-2j * np.pi * np.arange(len(energies[0])) / PER)
+        return np.sum(np.abs(energies[0] - energies[1]) * ends) / (max(loud, self.loud) + 1e-30)
+
+    def piece(self):
+        """The elements of the oldest piece."""
+        place = -np.angle(self.past + sum(self.swings)) / (2 * np.pi) * PER
+        self.past = (self.past + self.swings.pop(0)) * np.exp(-1 / MEMORY)
+        limit = (self.seen - AHEAD) * PER * PIECE
+        begins = []
+        while self.next < limit:
+            begins.append(self.next)
+            late = (place - self.next + PER / 2) % PER - PER / 2
+            self.next += PER + np.clip(late / 8, -0.02 * PER, 0.02 * PER)
+        begins = np.array(begins)
+        pair = [self.tone(begins, sign) for sign in (1, -1)]
+        drop = max(0, int(self.next) - self.begin - 2 * PER)
+        self.heard, self.begin = self.heard[drop:], self.begin + drop
+        return np.array([begins, *pair])
+
+    def tone(self, begins, sign):
+        """r of the upper tone (sign 1) or the lower: the mean of x e^(-2 pi i f t) over each element,
+        t from its beginning, between samples by straight lines."""
+        turns = sign * np.pi * SHIFT / RATE
+        places = self.begin + np.arange(len(self.heard))
+        sums = np.concatenate(([0], np.cumsum(self.heard * np.exp(-1j * turns * places))))
+        at = lambda t: np.interp(t - self.begin, np.arange(len(sums)), sums)
+        return (at(begins + PER) - at(begins)) * np.exp(1j * turns * begins) / PER
