@@ -16,8 +16,8 @@ NEAR = 20                                   # elements on each side that tell lo
 BACK, ON = 14, 10                           # positions before and behind that tell a lock
 LOCK, LOSE = 14.0, 5.0                      # evidence at which a lock begins and ends
 SURE = 0.98                                 # a word is written where it is so probable
-SPOILT = 0.005                              # how often one sending of a word is spoilt in any way
-UNHEARD = 0.03                              # how often an element is in a fade
+SPOILT = 0.002                              # how often one sending of a word is spoilt in any way
+ENTER, LEAVE = 0.01, 0.1                    # how often a fade begins and ends
 
 PATTERNS = (np.arange(128)[:, None] >> np.arange(WORD)) & 1
 SIGNS = 2 * PATTERNS - 1
@@ -55,6 +55,21 @@ def pairs(dx, rx, exchanged):
     both = dx[..., DX ^ turn] + rx[..., RX ^ turn] + PRIOR
     end = dx[..., P1 ^ turn] + no_rx + LAST
     return np.concatenate((both, end[..., None]), -1) - (no_dx + no_rx)[..., None]
+
+
+def fades(proof):
+    """The odds that each element is heard, by those before it and by those behind it: a fade begins
+    with ENTER and ends with LEAVE at each element (the forward and backward pass of a hidden Markov
+    model of two states). `proof` is the likelihood of each element, over that of noise alone."""
+    before, behind, odds, back = [], [], 10.0, 1.0
+    for one in proof:
+        odds = (odds * (1 - ENTER) + LEAVE) / (odds * ENTER + 1 - LEAVE)
+        before.append(odds)
+        odds = min(odds * one, 1e12)
+    for one in proof[::-1]:
+        behind.append(back)
+        back = ((1 - ENTER) * one * back + ENTER) / (LEAVE * one * back + 1 - LEAVE)
+    return np.array(before), np.array(behind[::-1])
 
 
 class Store:
@@ -127,11 +142,14 @@ class Sendings:
             loud = np.maximum(near(sent * power) / near(sent) - noise, 0.05 * noise)
             likely = self.likely(power, loud[wide], noise[wide])
             sent = 1 / (1 + np.exp(np.clip(likely[:, ::-1] - likely, -30, 30)))
-        likely = likely[rows]
-        half = self.likely(power[rows], loud / 4, noise)
-        mixed = np.logaddexp(np.logaddexp(likely, half + np.log(0.07)), np.log(UNHEARD))
-        heard = 1 / (1 + np.exp(np.clip(np.log(UNHEARD) - log_sum(likely) + np.log(2), -30, 30)))
-        self.state.add(np.stack((loud * heard[:, None], noise, mixed), 2))
+        half = self.likely(power, loud[wide] / 4, noise[wide])
+        likely = np.logaddexp(likely, half + np.log(0.07))
+        proof = np.exp(np.clip(log_sum(likely) - np.log(2), -30, 30))
+        before, behind = fades(proof)
+        odds = (before * behind)[rows]
+        likely = np.log((odds[:, None] * np.exp(likely[rows]) + 1) / (odds[:, None] + 1))
+        heard = odds * proof[rows] / (odds * proof[rows] + 1)
+        self.state.add(np.stack((loud * heard[:, None], noise, likely), 2))
 
     @staticmethod
     def likely(power, loud, noise):
