@@ -33,14 +33,15 @@ class Demodulator:
         the elements."""
         self.samples = np.concatenate((self.samples, samples))
         self.heard += len(samples)
-        digits = []
+        moment, digits = 0.0, ""
         while len(self.samples) >= self.piece:
-            digits.append(self.hear_piece(self.samples[:self.piece]))
+            told = self.hear_piece(self.samples[:self.piece])
             self.samples = self.samples[self.piece:]
-        digits = np.concatenate(digits) if digits else np.zeros(0, int)
-        moment = self.begins[self.told] / receive.RATE if len(digits) else 0.0
-        self.told += len(digits)
-        return moment, "".join(map(str, digits))
+            if len(told) and not digits:
+                moment = self.begins[self.told] / receive.RATE
+            digits += "".join(map(str, told))
+            self.told += len(told)
+        return moment, digits
 
     def hear_piece(self, samples):
         self.spectrum.hear(samples)

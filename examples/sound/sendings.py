@@ -1,8 +1,9 @@
 """From the tones of elements to elements: words are decided from both sendings of a position.
 
-A position is sent twice: as DX in one slot, and as RX five slots later, 35 elements behind. Here n is
-the number of a word (element 1 in the least place, B as 1). Likelihoods are natural logarithms, over
-that of noise alone.
+A position is sent twice: as DX in one slot, and as RX five slots later, 35 elements behind. A word is
+named by its number, element 1 in the least place, B as 1; with the tones exchanged it is 127 less its
+number. Likelihoods are natural logarithms, over that of noise alone. r is the mean of a tone over an
+element, A its size where the tone is sent, N the power of noise in it.
 """
 import numpy as np
 
@@ -14,21 +15,20 @@ WORD, TURN, GAP = 7, 14, 35                 # elements of a word, of two slots, 
 T = 0.01                                    # seconds of an element
 NEAR = 20                                   # elements on each side that tell loudness and noise
 BACK, ON = 14, 10                           # positions before and behind that tell a lock
-LOCK, LOSE = 14.0, 5.0                      # evidence at which a lock begins and ends
+LOCK, LOSE, BETTER = 14.0, 5.0, 8.0         # evidence for a lock, against it, and for another one
 SURE = 0.98                                 # a word is written where it is so probable
 SPOILT = 0.002                              # how often one sending of a word is spoilt in any way
-ENTER, LEAVE = 0.01, 0.1                    # how often a fade begins and ends
+ENTER, LEAVE = 0.01, 0.1                    # how often a fade begins, and ends, at an element
+WEAK = 0.07                                 # how often an element has half its size
 
-PATTERNS = (np.arange(128)[:, None] >> np.arange(WORD)) & 1
-SIGNS = 2 * PATTERNS - 1
-PICK = np.concatenate((PATTERNS, 1 - PATTERNS), 1).T.astype(float)   # (upper, lower) elements by word
-PAIRS = [(n, n, 0.75 / 32) for n in TRAFFIC] + [(P2, P1, 0.20), (P1, P1, 0.02)]
-DX = np.array([pair[0] for pair in PAIRS])
-RX = np.array([pair[1] for pair in PAIRS])
-PRIOR = np.log([pair[2] for pair in PAIRS])
+PATTERNS = (np.arange(128)[:, None] >> np.arange(WORD)) & 1          # the elements of each word
+PICK = np.concatenate((PATTERNS, 1 - PATTERNS), 1).T.astype(float)   # the same, by tone
+STEPS = 0.85 * (2 * PATTERNS - 1)           # turns that an element adds: 85 Hz for 10 ms
+TURNED = np.exp(-2j * np.pi * (np.cumsum(STEPS, 1) - STEPS))
+DX = np.array(TRAFFIC + [P2, P1])           # what may be sent: a combination twice, phasing, P1 twice
+RX = np.array(TRAFFIC + [P1, P1])
+PRIOR = np.log([0.75 / 32] * 32 + [0.20, 0.02])
 LAST = np.log(0.001)                        # an end position: P1, and no second sending
-
-
 BESSEL = np.linspace(0, 40, 1601), np.log(np.i0(np.linspace(0, 40, 1601)))
 
 
@@ -37,30 +37,26 @@ def log_i0(x):
     return np.where(x < 40, np.interp(x, BESSEL[0], BESSEL[1]), x - 0.5 * np.log(2 * np.pi * x + 1e-9) + 0.003)
 
 
-def log_sum(x, axis=-1):
-    top = np.max(x, axis, keepdims=True)
-    return np.squeeze(top, axis) + np.log(np.sum(np.exp(x - top), axis))
+def log_sum(x):
+    """ln(sum of e^x) over the last axis."""
+    top = np.max(x, -1, keepdims=True)
+    return top[..., 0] + np.log(np.sum(np.exp(x - top), -1))
 
 
-def spoilt(models):
-    """The likelihoods of 128 patterns, where each sending may also be spoilt to any pattern."""
-    nothing = log_sum(models) - np.log(128)
-    return np.logaddexp(models + np.log(1 - SPOILT), nothing[..., None] + np.log(SPOILT)), nothing
+def part(odds):
+    """The probability of which the logarithm of the odds is given."""
+    return 1 / (1 + np.exp(-np.clip(odds, -30, 30)))
 
 
-def pairs(dx, rx, exchanged):
-    """The likelihood of each of PAIRS and, last, of an end; less that of any two patterns."""
-    turn = 127 if exchanged else 0
-    (dx, no_dx), (rx, no_rx) = spoilt(dx), spoilt(rx)
-    both = dx[..., DX ^ turn] + rx[..., RX ^ turn] + PRIOR
-    end = dx[..., P1 ^ turn] + no_rx + LAST
-    return np.concatenate((both, end[..., None]), -1) - (no_dx + no_rx)[..., None]
+def likely(power, loud, noise):
+    """ln I0(2 A |r| / N) - A^2 / N: Rice over Rayleigh, for |r|^2, A^2 and N; |r| is cut, for clicks."""
+    size = np.minimum(np.sqrt(power), 1.5 * np.sqrt(loud) + 2 * np.sqrt(noise))
+    return log_i0(2 * np.sqrt(loud) * size / noise) - loud / noise
 
 
 def fades(proof):
-    """The odds that each element is heard, by those before it and by those behind it: a fade begins
-    with ENTER and ends with LEAVE at each element (the forward and backward pass of a hidden Markov
-    model of two states). `proof` is the likelihood of each element, over that of noise alone."""
+    """The odds that each element is heard, by those before it and by those behind it: the passes of a
+    hidden Markov model of two states, heard and faded. `proof` is the likelihood of each element."""
     before, behind, odds, back = [], [], 10.0, 1.0
     for one in proof:
         odds = (odds * (1 - ENTER) + LEAVE) / (odds * ENTER + 1 - LEAVE)
@@ -69,11 +65,26 @@ def fades(proof):
     for one in proof[::-1]:
         behind.append(back)
         back = ((1 - ENTER) * one * back + ENTER) / (LEAVE * one * back + 1 - LEAVE)
-    return np.array(before), np.array(behind[::-1])
+    return np.array(before) * behind[::-1]
+
+
+def spoilt(models):
+    """The likelihoods of 128 words where a sending may also be spoilt to any, and their mean."""
+    mean = log_sum(models) - np.log(128)
+    return np.logaddexp(models + np.log(1 - SPOILT), mean[..., None] + np.log(SPOILT)), mean
+
+
+def pairs(dx, rx, exchanged):
+    """The likelihood of each pair of DX and RX and, last, of an end, over that of any two words."""
+    turn = 127 if exchanged else 0
+    (dx, any_dx), (rx, any_rx) = spoilt(dx), spoilt(rx)
+    both = dx[..., DX ^ turn] + rx[..., RX ^ turn] + PRIOR
+    end = dx[..., P1 ^ turn] + any_rx + LAST
+    return np.concatenate((both, end[..., None]), -1) - (any_dx + any_rx)[..., None]
 
 
 class Store:
-    """Rows by number, of which the last ones are kept."""
+    """Rows by number, of which at least the last 1,200 are kept."""
 
     def __init__(self, *shape, dtype=float):
         self.rows = np.zeros((4096,) + shape, dtype)
@@ -94,29 +105,29 @@ class Store:
 
 
 class Sendings:
+    """Takes the tones of elements and tells elements, 2.3 s behind. All is numbered by elements."""
+
     def __init__(self, exchanged=False):
-        self.exchanged = exchanged      # whether the lower tone is B
-        self.lock = None                # the place of DX words, from 0 to 13
-        self.tones = Store(2, dtype=complex)
-        self.mixed = Store()            # the frequency that each was mixed down by
-        self.state = Store(2, 3)        # of each tone: A^2 as it is heard, N, likelihood
-        self.words = Store(128)         # without phase
-        self.proof = Store(2)           # what speaks for a position here; the same, exchanged
-        self.slopes = Store(2, dtype=complex)
+        self.exchanged = exchanged               # whether the lower tone is B
+        self.lock = None                         # the place of DX words, from 0 to 13
+        self.middle = None                       # the middle by the phase of words, in a lock
+        self.phasing = 0                         # phasing positions met
+        self.tones = Store(2, dtype=complex)     # r of the upper and of the lower tone
+        self.mixed = Store()                     # the frequency that they were mixed down by
+        self.state = Store(2, 3)                 # of each tone A^2, N, and its likelihood
+        self.words = Store(128)                  # the likelihood of each word that begins here
+        self.proof = Store(2)                    # that of a position that begins here; exchanged
+        self.slopes = Store(2, dtype=complex)    # how the phase of its words grows; exchanged
         self.out = Store(dtype=int)
         self.told = 0
-        self.phase = 0.0                # what speaks for the model with phase
-        self.loud, self.noise = np.zeros(2), np.full(2, 1e-12)
-        self.phasing = 0                # phasing positions met
-        self.middle = None
-        self.score = 0.0
+        self.phase = 0.0                         # what speaks for tones without a jump of phase
 
     def hear(self, upper, lower, middle):
-        """Takes the tones of elements and the middle of each; answers elements, some 2 s behind."""
         self.tones.add(np.array([upper, lower]).T)
         self.mixed.add(middle)
         self.hear_tones()
         self.hear_words()
+        self.hear_positions()
         first = self.told
         while self.told + TURN * (ON + 1) + WORD + GAP < self.words.end:
             self.decide(self.told)
@@ -124,15 +135,15 @@ class Sendings:
         return self.out[first:self.told]
 
     def hear_tones(self):
-        """Loudness A^2 and noise N of each tone near each element, and the likelihood that it was sent:
-        l = ln I0(2 A |r| / N) - A^2 / N (Rice over Rayleigh)."""
+        """A^2 and N of each tone, by two rounds of expectation and maximisation over the elements near
+        it, and its likelihood, where the element may also be weak or in a fade."""
         first, end = self.state.end, self.tones.end - NEAR
         if end <= first:
             return
         begin = max(0, first - NEAR)
-        power = np.abs(self.tones[begin:end + NEAR]) ** 2 + 1e-9
+        power = np.abs(self.tones[begin:end + NEAR]) ** 2 + 1e-15
         rows = np.arange(first, end) - begin
-        upto, since = rows + NEAR + 1, np.maximum(rows - NEAR, 0)
+        since, upto = np.maximum(rows - NEAR, 0), rows + NEAR + 1
         sums = lambda x: np.cumsum(np.concatenate((np.zeros((1, 2)), x)), 0)
         near = lambda x: sums(x)[upto] - sums(x)[since]
         wide = np.clip(np.arange(len(power)) - rows[0], 0, len(rows) - 1)
@@ -140,122 +151,98 @@ class Sendings:
         for _ in range(2):
             noise = near((1 - sent) * power) / near(1 - sent)
             loud = np.maximum(near(sent * power) / near(sent) - noise, 0.05 * noise)
-            likely = self.likely(power, loud[wide], noise[wide])
-            sent = 1 / (1 + np.exp(np.clip(likely[:, ::-1] - likely, -30, 30)))
-        half = self.likely(power, loud[wide] / 4, noise[wide])
-        likely = np.logaddexp(likely, half + np.log(0.07))
-        proof = np.exp(np.clip(log_sum(likely) - np.log(2), -30, 30))
-        before, behind = fades(proof)
-        odds = (before * behind)[rows]
-        likely = np.log((odds[:, None] * np.exp(likely[rows]) + 1) / (odds[:, None] + 1))
-        heard = odds * proof[rows] / (odds * proof[rows] + 1)
-        self.state.add(np.stack((loud * heard[:, None], noise, likely), 2))
-
-    @staticmethod
-    def likely(power, loud, noise):
-        size = np.minimum(np.sqrt(power), 1.5 * np.sqrt(loud) + 2 * np.sqrt(noise))
-        return log_i0(2 * np.sqrt(loud) * size / noise) - loud / noise
+            likes = likely(power, loud[wide], noise[wide])
+            sent = part(likes - likes[:, ::-1])
+        likes = np.logaddexp(likes, likely(power, loud[wide] / 4, noise[wide]) + np.log(WEAK))
+        proof = np.exp(np.clip(log_sum(likes) - np.log(2), -30, 30))
+        odds = fades(proof)[rows, None]
+        heard = odds * proof[rows, None]
+        likes = np.log((odds * np.exp(likes[rows]) + 1) / (odds + 1))
+        self.state.add(np.stack((loud * heard / (heard + 1), noise, likes), 2))
 
     def hear_words(self):
+        """The likelihood of each word: the sum of those of its elements, without their phase."""
         first, end = self.words.end, self.state.end - WORD + 1
         if end > first:
-            likely = self.state[first:end + WORD - 1][:, :, 2]
-            rows = np.lib.stride_tricks.sliding_window_view(likely, WORD, 0)   # place, tone, element
+            likes = self.state[first:end + WORD - 1][:, :, 2]
+            rows = np.lib.stride_tricks.sliding_window_view(likes, WORD, 0)   # place, tone, element
             self.words.add(rows.reshape(len(rows), 2 * WORD) @ PICK)
+
+    def hear_positions(self):
+        """What speaks for a position at each place, and how the phase grows in its likeliest words."""
         first, end = self.proof.end, self.words.end - GAP
-        if end > first:
-            dx, rx = self.words[first:end], self.words[first + GAP:end + GAP]
-            proofs, slopes = [], []
-            for exchanged in (False, True):
-                models = pairs(dx, rx, exchanged)
-                proofs.append(np.clip(log_sum(models), -4, 6))
-                best = models[:, :-1].argmax(1)
-                turn = 127 if exchanged else 0
-                weight = np.exp(models.max(1) - log_sum(models))
-                slopes.append(weight * (self.slope(first, end, DX[best] ^ turn)
-                                        + self.slope(first + GAP, end + GAP, RX[best] ^ turn)))
-            self.proof.add(np.array(proofs).T)
-            self.slopes.add(np.array(slopes).T)
+        if end <= first:
+            return
+        proofs, slopes = [], []
+        for turn in (0, 127):
+            models = pairs(self.words[first:end], self.words[first + GAP:end + GAP], turn)
+            proofs.append(np.clip(log_sum(models), -4, 6))
+            best = models[:, :-1].argmax(1)
+            slopes.append(np.exp(models.max(1) - log_sum(models)) * (
+                self.slope(first, end, DX[best] ^ turn) + self.slope(first + GAP, end + GAP, RX[best] ^ turn)))
+        self.proof.add(np.array(proofs).T)
+        self.slopes.add(np.array(slopes).T)
 
     def slope(self, first, end, words):
-        """How the phase of words grows beyond what their tones say: the sum of c(i + m) c(i)*, m to 3
-        (Luise and Reggiannini 1995)."""
-        places = np.arange(first, end)[:, None] + np.arange(WORD) - self.tones.first
-        rows = self.tones.rows[places, 1 - PATTERNS[words]]
-        state = self.state.rows[places + self.tones.first - self.state.first, 1 - PATTERNS[words]]
-        rows = rows * np.sqrt(state[..., 0]) / state[..., 1] * TEMPLATE[words]
-        return sum(np.sum(rows[:, m:] * rows[:, :WORD - m].conj(), 1) for m in (1, 2, 3))
+        """The sum of c(i + m) c(i)*, m from 1 to 3, of which the angle is 4 pi T times the frequency that
+        is left in c, the tones of a word turned back (Luise and Reggiannini 1995)."""
+        places, tone = np.arange(first, end)[:, None] + np.arange(WORD), 1 - PATTERNS[words]
+        state = self.state.rows[places - self.state.first, tone]
+        turned = self.tones.rows[places - self.tones.first, tone] * TURNED[words]
+        turned *= np.sqrt(state[..., 0]) / state[..., 1]
+        return sum(np.sum(turned[:, m:] * turned[:, :WORD - m].conj(), 1) for m in (1, 2, 3))
 
     def decide(self, place):
-        """Element `place` and those behind it, where a position of the lock begins there."""
+        """Element `place`, and the words of a position of the lock that begins there."""
         if self.out.end <= place:
             upper, lower = np.abs(self.tones[place])
             self.out.add([int((upper > lower) != self.exchanged)])
         if place % TURN == 0 and place > TURN * BACK:
-            self.relock(place)
+            self.seek(place)
         if self.lock is not None and place % TURN == self.lock:
             self.write(place)
 
-    def relock(self, place):
-        window = self.proof[place - TURN * (BACK - 1):place + TURN * (ON + 1)]
-        scores = window.reshape(-1, TURN, 2).sum(0)
+    def seek(self, place):
+        """The lock: the place in a turn, and the sideband, for which the positions near here speak."""
+        near = self.proof[place - TURN * (BACK - 1):place + TURN * (ON + 1)]
+        scores = near.reshape(-1, TURN, 2).sum(0)
         best = np.unravel_index(scores.argmax(), scores.shape)
-        here = -9e9 if self.lock is None else scores[self.lock, int(self.exchanged)]
-        self.score = max(here, scores[best])
-        if scores[best] > max(LOCK, here + 8):
-            self.lock, self.exchanged = int(best[0]), bool(best[1])
-            self.phase = 0.0
+        here = -np.inf if self.lock is None else scores[self.lock, int(self.exchanged)]
+        if scores[best] > max(LOCK, here + BETTER):
+            self.lock, self.exchanged, self.phase = int(best[0]), bool(best[1]), 0.0
         elif here < LOSE:
             self.lock, self.middle = None, None
 
     def write(self, place):
-        """The words of the position that begins here, in both places; where none is sure, 0."""
+        """The words of the position that begins here, in both places; where none is sure, 0. Two models
+        are mixed, with and without phase, by what spoke for each of late."""
         off = self.off(place)
-        dx, rx = self.words[place], self.words[place + GAP]
-        still = pairs(dx, rx, self.exchanged)
+        still = pairs(self.words[place], self.words[place + GAP], self.exchanged)
         turning = pairs(self.with_phase(place, off), self.with_phase(place + GAP, off), self.exchanged)
         self.phase = np.clip(0.95 * self.phase + log_sum(turning) - log_sum(still), -6, 6)
-        share = 1 / (1 + np.exp(-self.phase))
+        share = part(self.phase)
         models = np.logaddexp(still + np.log(1 - share), turning + np.log(share))
-        chances = np.exp(models - log_sum(models))
-        best = chances.argmax()
-        self.chance = chances[best]
-        first = second = 0
-        if best == len(PAIRS):
-            first = P1
-        else:
-            first, second = DX[best], RX[best]
-        if chances[best] < SURE:
-            first = second = 0
-        self.phasing += first == P2
-        self.put(place, first)
-        self.put(place + GAP, second)
-
-    def put(self, place, word):
-        if self.out.end < place + WORD:
-            self.out.add(np.zeros(place + WORD - self.out.end, int))
-        self.out.rows[place - self.out.first:place - self.out.first + WORD] = PATTERNS[word]
+        best = models.argmax()
+        dx, rx = (P1, 0) if best == len(DX) else (DX[best], RX[best])
+        if models[best] - log_sum(models) < np.log(SURE):
+            dx = rx = 0
+        self.phasing += int(dx == P2)
+        for begin, word in ((place, dx), (place + GAP, rx)):
+            self.out.add(np.zeros(max(0, begin + WORD - self.out.end), int))
+            self.out[begin:begin + WORD][:] = PATTERNS[word]
 
     def off(self, place):
-        """How far the middle is from where it was mixed down, Hz, by the slopes near this place."""
-        places = place + TURN * np.arange(-12, ON + 1)
-        places = places[places >= max(0, self.slopes.first)]
+        """How far the middle is from where element `place` was mixed down, Hz."""
+        places = [p for p in range(place - 12 * TURN, place + ON * TURN + 1, TURN) if p >= self.slopes.first]
         total = sum(self.slopes[p][int(self.exchanged)] for p in places)
-        off = np.angle(total) / (np.pi * 4 * T)
-        around = np.mean([self.mixed[p] for p in places])
-        self.middle = around + off
+        self.middle = np.mean([self.mixed[p] for p in places]) + np.angle(total) / (4 * np.pi * T)
         return self.middle - self.mixed[place]
 
     def with_phase(self, place, off):
-        """The likelihoods of 128 patterns whose tones follow each other without a jump of phase:
-        ln I0(|sum of 2 A r e^(-i phi) / N|) - sum of A^2 / N."""
+        """The likelihood of each word whose tones follow each other without a jump of phase:
+        ln I0(|sum of 2 A r e^(-i phi) / N|) - sum of A^2 / N; phi grows by 0.85 turns an element."""
         state = self.state[place:place + WORD]
         rows = 2 * np.sqrt(state[:, :, 0]) / state[:, :, 1] * self.tones[place:place + WORD]
         rows = rows * np.exp(-2j * np.pi * off * T * np.arange(WORD))[:, None]
-        total = np.sum(np.where(PATTERNS, rows[:, 0], rows[:, 1]) * TEMPLATE, 1)
-        gone = (state[:, :, 0] / state[:, :, 1]).T.reshape(-1) @ PICK
-        return log_i0(np.abs(total)) - gone
-
-
-STEPS = 0.85 * SIGNS                                       # turns that an element of each tone adds
-TEMPLATE = np.exp(-2j * np.pi * (np.cumsum(STEPS, 1) - STEPS))
+        total = np.sum(np.where(PATTERNS, rows[:, 0], rows[:, 1]) * TURNED, 1)
+        return log_i0(np.abs(total)) - (state[:, :, 0] / state[:, :, 1]).T.reshape(-1) @ PICK
