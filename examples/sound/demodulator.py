@@ -23,6 +23,7 @@ class Demodulator:
         self.heard = self.told = self.locks = 0
         self.tone = 0.0               # the greatest score of two tones so far
         self.was = False
+        self.place = self.middle      # the middle in the last lock
 
     locked = property(lambda self: self.sendings.lock is not None)
     phasing = property(lambda self: self.sendings.phasing)
@@ -51,6 +52,7 @@ class Demodulator:
         told = self.sendings.hear(upper, lower, np.full(len(upper), self.middle))
         self.locks += self.locked and not self.was
         self.was = self.locked
+        self.place = self.middle if self.locked else self.place
         return told
 
     def follow(self):
@@ -74,10 +76,10 @@ class Demodulator:
 
 
 def find(samples, rate):
-    """What two tones there are: a list of (phasing met, locks, middle, exchanged, moment), best first.
+    """Where words of NAVTEX are: a list of (phasing met, locks, middle, exchanged, second), best first.
 
-    The places are the six clearest of the spectrum, at least 60 Hz apart; each is demodulated for two
-    minutes from where it is first clear.
+    Tried are the six clearest places of the spectrum, at least 60 Hz apart, each for two minutes from
+    where it is first clear; of what is found within 200 Hz of something better nothing is told.
     """
     spectrum = receive.Middle(rate, *BAND)
     piece = int(rate * receive.PIECE / receive.BAUD)
@@ -98,6 +100,10 @@ def find(samples, rate):
         one = Demodulator(rate, centre)
         one.hear(part)
         one.end()
-        found.append((one.phasing, one.locks, one.middle, one.exchanged, max(0, second - 8)))
+        found.append((one.phasing, one.locks, one.place, one.exchanged, max(0, second - 8)))
         best = np.where(np.abs(spectrum.places - centre) < 60, 0, best)
-    return sorted(found, key=lambda one: one[:2], reverse=True)
+    clear = []
+    for one in sorted(found, key=lambda one: one[:2], reverse=True):
+        if one[1] and all(abs(one[2] - other[2]) > 200 for other in clear):
+            clear.append(one)
+    return clear

@@ -157,7 +157,7 @@ class Sendings:
         proof = np.exp(np.clip(log_sum(likes) - np.log(2), -30, 30))
         odds = fades(proof)[rows, None]
         heard = odds * proof[rows, None]
-        likes = np.log((odds * np.exp(likes[rows]) + 1) / (odds + 1))
+        likes = np.logaddexp(likes[rows] + np.log(odds), 0) - np.log(odds + 1)
         self.state.add(np.stack((loud * heard / (heard + 1), noise, likes), 2))
 
     def hear_words(self):
