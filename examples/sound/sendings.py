@@ -56,7 +56,8 @@ def likely(power, loud, noise):
 
 def fades(proof):
     """The odds that each element is heard, by those before it and by those behind it: the passes of a
-    hidden Markov model of two states, heard and faded. `proof` is the likelihood of each element."""
+    hidden Markov model of two states, heard and faded (Rabiner 1989). `proof` is the likelihood of each
+    element."""
     before, behind, odds, back = [], [], 10.0, 1.0
     for one in proof:
         odds = (odds * (1 - ENTER) + LEAVE) / (odds * ENTER + 1 - LEAVE)
@@ -136,7 +137,8 @@ class Sendings:
 
     def hear_tones(self):
         """A^2 and N of each tone, by two rounds of expectation and maximisation over the elements near
-        it, and its likelihood, where the element may also be weak or in a fade."""
+        it (Dempster, Laird and Rubin 1977), and its likelihood, where the element may also be weak or in a
+        fade."""
         first, end = self.state.end, self.tones.end - NEAR
         if end <= first:
             return
