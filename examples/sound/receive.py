@@ -121,8 +121,8 @@ class Clock:
 
     E(t) is the energy of a tone over the 16 samples up to t. |E_B - E_Y| is largest where an element
     ends, so the angle of the sum of |E_B - E_Y| e^(-2 pi i t / 16) tells the place (after Oerder and
-    Meyr 1988). The sum is over 3 s before and 1 s after. Each element moves by an eighth of what it is late, at most 2 per cent
-    of its length, so that the count of elements goes on where nothing is heard.
+    Meyr 1988). The sum is over 3 s before and 1 s after. Each element moves by an eighth of what it is
+    late, at most 2 per cent of its length, so that the count of elements goes on where nothing is heard.
     """
 
     def __init__(self):
