@@ -1,0 +1,24 @@
+//! What the words of a kept log mean: laws over the definitions alone.
+
+ghost use Rattle.std.specs.Prelude.{◌≡◌, List, ℕ};
+ghost use Rattle.nx_kept.specs.Kept.{IsDamaged, StandsFor};
+ghost use Rattle.nx_kept.specs.Log.{Keeps};
+
+use crate::disk::DiskFile;
+use crate::grammar::Grammar;
+use crate::log::KeptLog;
+
+/// Bytes stand for at most one list of records, and are damaged at no more than one line.
+pub fn bytes_stand_for_one_list<G: Grammar>()
+    ensures one_list { (a b : List (List ℕ)) (bytes : List ℕ) →
+        StandsFor G.is_record G.LONGEST a bytes → StandsFor G.is_record G.LONGEST b bytes → a ≡ b }
+    ensures one_line { (a b : ℕ) (bytes : List ℕ) →
+        IsDamaged G.is_record G.LONGEST a bytes → IsDamaged G.is_record G.LONGEST b bytes → a ≡ b }
+{}
+
+/// Whatever a crash leaves of a log that keeps records stands for these records.
+pub fn what_is_kept_is_left<D: DiskFile, G: Grammar>(log: &KeptLog<D, G>)
+    ensures { (start c : List ℕ) (records : List (List ℕ)) →
+        Keeps (D.seen start) (D.may_leave start) G.is_record records log.now →
+        D.may_leave start log.now.device c → StandsFor G.is_record G.LONGEST records c }
+{}

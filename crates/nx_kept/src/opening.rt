@@ -1,0 +1,76 @@
+//! A kept log is read, and its end is put right.
+
+ghost use Rattle.std.specs.Prelude.{◌≡◌, ◌+◌, ◌<◌, ◌≤◌, ◌^◌, [], ◌∷◌, ◌++◌, List, ℕ, length, take, IfOk, IfErr, IsErrOf, OnOk};
+ghost use Rattle.nx_kept.specs.Disk.{LeavesOnly, Only, OnlyReads, TellsFaults};
+ghost use Rattle.nx_kept.specs.Kept.{closed_gate, IsDamaged, IsKeptLog, StandsFor};
+ghost use Rattle.nx_kept.specs.Open.{HasCause, KeepsRecords};
+ghost use Rattle.nx_kept.specs.private.Scan.{IsCutThere, Settles};
+
+use crate::disk::{DiskFailed, DiskFile};
+use crate::fault::OpenFault;
+use crate::grammar::Grammar;
+use crate::scan::{CLOSED_GATE, scan};
+use crate::taker::RecordTaker;
+use std::alloc::Global;
+
+/// Cuts what stands from a place on, and writes a closed gate there. The cut is on the disk first:
+/// behind a gate that a crash has torn open, what stood there could count.
+fn repair<D: DiskFile>(device: &mut D, gate: usize) -> Result<(), DiskFailed>
+    ensures repaired { (start : List ℕ) → gate ≤ length (D.seen start device.old) → OnOk result
+        (D.seen start device.new ≡ take gate (D.seen start device.old) ++ closed_gate ∷ []) }
+    ensures durable { (start : List ℕ) → OnOk result
+        (Only (D.seen start device.new) (D.may_leave start device.new)) }
+    ensures in_range { OnOk result (gate + 1 < 2 ^ 63) }
+    ensures any_moment { (start : List ℕ) → gate ≤ length (D.seen start device.old) →
+        Only (D.seen start device.old) (D.may_leave start device.old) →
+        LeavesOnly D.moment (D.left_since start) device.old device.new
+        (IsCutThere gate (D.seen start device.old)) }
+    ensures faults { TellsFaults (D.faults device.old) (D.faults device.new)
+        (D.has_failed_to_write device.new) result }
+    ensures explained { (start : List ℕ) → D.explains start device.new → D.explains start device.old }
+{
+    device.cut(gate)?;
+    device.sync()?;
+    device.write_at(gate, &[CLOSED_GATE])?;
+    device.sync()
+}
+
+/// Reads a kept log from its beginning, and leaves one closed gate behind its records; its place.
+pub(crate) fn settle<D: DiskFile, G: Grammar, T: RecordTaker>(
+    alloc: Global,
+    device: &mut D,
+    grammar: &G,
+    taker: &mut T,
+) -> Result<usize, OpenFault>
+    requires { (record_ : List ℕ) → G.is_record record_ → T.can_take record_ }
+    ensures settled { (start : List ℕ) → D.explains start device.new → IfOk result
+        (Settles G.is_record G.LONGEST T.takes (D.seen start) (D.may_leave start)
+        device.old device.new taker.old taker.new) }
+    ensures in_range { IfOk result (λ gate. gate + 1 < 2 ^ 63) }
+    ensures only_read { (start : List ℕ) → D.explains start device.new →
+        OnOk result (D.seen start device.new ≡ D.seen start device.old →
+        OnlyReads (D.seen start) (D.may_leave start) D.moment (D.left_since start) device.old device.new) }
+    ensures any_moment { (start : List ℕ) (records : List (List ℕ)) → D.explains start device.new →
+        StandsFor G.is_record G.LONGEST records (D.seen start device.old) →
+        KeepsRecords G.is_record G.LONGEST (D.may_leave start) D.moment (D.left_since start)
+        records device.old device.new }
+    ensures damaged { (start : List ℕ) (line : ℕ) → D.explains start device.new →
+        IsErrOf result (OpenFault.Damaged line) →
+        IsDamaged G.is_record G.LONGEST line (D.seen start device.old) }
+    ensures only_read_err { (start : List ℕ) → D.explains start device.new →
+        (IsKeptLog G.is_record G.LONGEST (D.seen start device.old) → ⊥) →
+        OnlyReads (D.seen start) (D.may_leave start) D.moment (D.left_since start) device.old device.new }
+    ensures faults { OnOk result (D.faults device.new ≡ D.faults device.old) }
+    ensures cause { IfErr result (λ fault.
+        HasCause D.faults D.has_failed_to_read D.has_failed_to_write fault device.old device.new) }
+    ensures explained { (start : List ℕ) → D.explains start device.new → D.explains start device.old }
+{
+    let mut window = vec![in alloc; 0; G::LONGEST + 3]?;
+    device.sync()?;
+    let rest = scan(device, grammar, taker, &mut window)?;
+    if rest.is_closed {
+        return Ok(rest.gate);
+    }
+    repair(device, rest.gate)?;
+    Ok(rest.gate)
+}
