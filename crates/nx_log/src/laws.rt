@@ -1,0 +1,47 @@
+//! Laws of logged entries. Each function does nothing; its contract is the law.
+
+ghost use Rattle.std.specs.Prelude.{◌≡◌, ℕ, ◌≤◌, List, [], ◌∷◌, ◌++◌, length};
+ghost use Rattle.nx_code.specs.Lists.{last_of};
+ghost use Rattle.nx_envelope.specs.Moment.{IsShownAs};
+ghost use Rattle.nx_fec.specs.declared.channel.Channel.{Channel};
+ghost use Rattle.nx_memory.specs.Memory.{most_entries};
+ghost use Rattle.nx_memory.specs.Saved.{SavedStates};
+ghost use Rattle.nx_memory.specs.declared.entry.MemoryEntry.{MemoryEntry};
+ghost use Rattle.nx_receiver.specs.Chain.{GoesOn, Run};
+ghost use Rattle.nx_receiver.specs.FoundCopies.{TaggedCopy};
+ghost use Rattle.nx_receiver.specs.Printing.{entries_made, printed_copies};
+ghost use Rattle.nx_receiver.specs.Shares.{MarkedCopy, saved_of};
+ghost use Rattle.nx_log.specs.Logged.{IsLoggedAs, IsLogOfLogged, kept_entries, remembered_on};
+
+/// A log is read in one way: its bytes are the log of one list of logged entries. No entry's bytes
+/// begin another's, none is empty, and none has more than 4,146 bytes.
+pub fn a_log_is_read_in_one_way()
+    ensures one_list { (entries others : List MarkedCopy) (bytes : List ℕ)
+        → IsLogOfLogged entries bytes → IsLogOfLogged others bytes → entries ≡ others }
+    ensures one_entry { (one other : MarkedCopy) (bytes : List ℕ)
+        → IsLoggedAs one bytes → IsLoggedAs other bytes → one ≡ other }
+    ensures none_begins { (one other : MarkedCopy) (bytes more : List ℕ)
+        → IsLoggedAs one bytes → IsLoggedAs other (bytes ++ more) → more ≡ [] }
+    ensures some { (one : MarkedCopy) (bytes : List ℕ) → IsLoggedAs one bytes → 1 ≤ length bytes }
+    ensures short { (one : MarkedCopy) (bytes : List ℕ) → IsLoggedAs one bytes
+        → length bytes ≤ 4146 }
+{}
+
+/// A civil time shows one moment.
+pub fn a_text_shows_one_moment()
+    ensures { (moment other : ℕ) (text : List ℕ) → IsShownAs moment text → IsShownAs other text
+        → moment ≡ other }
+{}
+
+/// A log says what the memory of its run knew: the entries that are made of copies are those that
+/// the printed ones keep; and so, where a run started with entries on a channel, the entries after
+/// it are the last 200 of these and what its log remembers of the channel.
+pub fn a_log_remembers_what_its_run_entered()
+    ensures made { (entries : List MemoryEntry) (copies : List TaggedCopy)
+        → entries_made entries copies ≡ kept_entries (printed_copies entries copies) }
+    ensures after { (saved left : SavedStates) (run : Run) (channel : Channel)
+        → GoesOn saved run left
+        → (saved_of left channel).entries
+        ≡ last_of most_entries
+        ((saved_of saved channel).entries ++ remembered_on channel run.printed) }
+{}
