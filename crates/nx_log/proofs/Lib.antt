@@ -1,3 +1,4 @@
 pub mod Moments
 pub mod Remembering
+pub mod printed
 pub mod reading

@@ -1,3 +1,4 @@
 pub mod Logged
+pub mod Runs
 pub mod View
 pub mod private

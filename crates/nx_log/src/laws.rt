@@ -1,17 +1,27 @@
 //! Laws of logged entries. Each function does nothing; its contract is the law.
 
-ghost use Rattle.std.specs.Prelude.{◌≡◌, ℕ, ◌≤◌, List, [], ◌∷◌, ◌++◌, length};
+ghost use Rattle.std.specs.Prelude.{◌≡◌, ℕ, ◌≤◌, List, [], ◌∷◌, ◌++◌, length, All, Option, Result};
+ghost use Rattle.std.specs.Io.KnownBytes.{IsAtEnd};
 ghost use Rattle.nx_code.specs.Lists.{last_of};
 ghost use Rattle.nx_envelope.specs.Moment.{IsShownAs};
+ghost use Rattle.nx_fec.specs.AirFile.{Line};
 ghost use Rattle.nx_fec.specs.declared.channel.Channel.{Channel};
 ghost use Rattle.nx_memory.specs.Memory.{most_entries};
 ghost use Rattle.nx_memory.specs.Saved.{SavedStates};
 ghost use Rattle.nx_memory.specs.declared.entry.MemoryEntry.{MemoryEntry};
 ghost use Rattle.nx_receiver.specs.Chain.{GoesOn, Run};
 ghost use Rattle.nx_receiver.specs.FoundCopies.{TaggedCopy};
+ghost use Rattle.nx_receiver.specs.InTurn.{HavePrinted, PrintAllToEnd};
+ghost use Rattle.nx_receiver.specs.Listen.{AreTaken, Listens, given_by};
 ghost use Rattle.nx_receiver.specs.Printing.{entries_made, printed_copies};
-ghost use Rattle.nx_receiver.specs.Shares.{MarkedCopy, saved_of};
-ghost use Rattle.nx_log.specs.Logged.{IsLoggedAs, IsLogOfLogged, kept_entries, remembered_on};
+ghost use Rattle.nx_receiver.specs.Resume.{AnswersResuming};
+ghost use Rattle.nx_receiver.specs.Shares.{MarkedCopy, Starts, saved_of};
+ghost use Rattle.nx_receiver.specs.declared.listen_fault.ListenFault.{ListenFault};
+ghost use Rattle.nx_receiver.specs.declared.listening.Report.{Report};
+ghost use Rattle.nx_receiver.specs.declared.resume_fault.ResumeFault.{ResumeFault};
+ghost use Rattle.nx_receiver.specs.declared.resume_fault.Want.TheVariants.{Log};
+ghost use Rattle.nx_log.specs.Logged.{IsLogged, IsLoggedAs, IsLogOfLogged, kept_entries, remembered_on};
+ghost use Rattle.nx_log.specs.Runs.{ResumedEntries, WroteEntries};
 
 /// A log is read in one way: its bytes are the log of one list of logged entries. No entry's bytes
 /// begin another's, none is empty, and none has more than 4,146 bytes.
@@ -31,6 +41,26 @@ pub fn a_log_is_read_in_one_way()
 pub fn a_text_shows_one_moment()
     ensures { (moment other : ℕ) (text : List ℕ) → IsShownAs moment text → IsShownAs other text
         → moment ≡ other }
+{}
+
+/// What is printed of lines that are taken is logged entries, while they come and at their end. So
+/// what `listen` and `listen_from` write, and `resume` where it writes its log, is the log of
+/// logged entries after each answer but a failed write, after which it begins one.
+pub fn a_run_writes_a_log()
+    ensures printed { (starts : Starts) (lines : List Line) (copies : List MarkedCopy)
+        → AreTaken starts lines → HavePrinted starts (given_by lines) copies
+        → All IsLogged copies }
+    ensures closed { (starts : Starts) (lines : List Line) (copies : List MarkedCopy)
+        → AreTaken starts lines → PrintAllToEnd starts (given_by lines) copies
+        → All IsLogged copies }
+    ensures listened { (starts : Starts) (left left_after old new : Option (List ℕ))
+        (failed_reads failed_writes : ℕ) (outcome : Result Report ListenFault)
+        → Listens starts left left_after old new failed_reads failed_writes outcome
+        → WroteEntries old new outcome }
+    ensures resumed { (left_after old new : Option (List ℕ)) (outcome : Result Report ResumeFault)
+        (input : List ℕ)
+        → AnswersResuming Log (IsAtEnd left_after) (λ more. more ≡ []) old new outcome input
+        → ResumedEntries old new outcome }
 {}
 
 /// A log says what the memory of its run knew: the entries that are made of copies are those that

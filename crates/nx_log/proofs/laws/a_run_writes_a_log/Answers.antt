@@ -1,0 +1,15 @@
+use Rattle.std.proofs.Common.{◌≡◌, []}
+use Rattle.std.specs.Io.KnownBytes.{IsAtEnd}
+use Rattle.nx_log.proofs.printed.Moments.{closed_logged, open_logged}
+use Rattle.nx_log.proofs.printed.Runs.{resumed_entries, wrote_entries}
+use Rattle.nx_log.proofs.laws.a_run_writes_a_log.Goals as goal
+
+pub returns : goal.returns
+returns c = record {
+  printed = open_logged;
+  closed = closed_logged;
+  listened = λ starts left left_after old new failed_reads failed_writes outcome h.
+      wrote_entries starts (IsAtEnd left_after) (λ more. more ≡ []) old new outcome h.bytes h.answer;
+  resumed = λ left_after old new outcome input h.
+      resumed_entries (IsAtEnd left_after) (λ more. more ≡ []) old new outcome input h;
+}

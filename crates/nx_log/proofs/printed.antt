@@ -1,0 +1,4 @@
+pub mod Copies
+pub mod Moments
+pub mod Runs
+pub mod Texts

@@ -1,0 +1,30 @@
+-- What a run that listens wrote, said as logged entries (this profile).
+use Rattle.std.specs.Prelude.{ℕ, List, Option, Result, Ok, Err, ⊤}
+use Rattle.std.specs.Io.KnownBytes.{Appends}
+use Rattle.nx_fec.specs.Transfers.{WroteSome}
+use Rattle.nx_receiver.specs.Shares.{MarkedCopy}
+use Rattle.nx_receiver.specs.declared.listen_fault.ListenFault.{ListenFault}
+use Rattle.nx_receiver.specs.declared.listen_fault.ListenFault.TheVariants.{Memory, Write}
+use Rattle.nx_receiver.specs.declared.listening.Report.{Report}
+use Rattle.nx_receiver.specs.declared.resume_fault.ResumeFault.{ResumeFault}
+use Rattle.nx_receiver.specs.declared.resume_fault.ResumeFault.TheVariants as resume
+use Rattle.nx_log.specs.Logged.{IsLogOfLogged}
+
+-- this holds of some log of logged entries
+abbrev pub SomeLog : (List ℕ → Type 0) → Type 0
+SomeLog holds =
+    (log : List ℕ) × (entries : List MarkedCopy) × IsLogOfLogged entries log × holds log
+
+-- What was written is the log of logged entries. Where a write failed, the first bytes of one were
+-- written; where memory ran out, the run wrote nothing.
+abbrev pub WroteEntries : Option (List ℕ) → Option (List ℕ) → Result Report ListenFault → Type 0
+WroteEntries old new (Err (Write written)) = SomeLog (λ log. WroteSome old new log written)
+WroteEntries old new (Err (Memory error)) = ⊤
+WroteEntries old new outcome = SomeLog (Appends old new)
+
+-- The same of a run that resumes and writes its log: a fault of the state comes before anything is
+-- written.
+abbrev pub ResumedEntries : Option (List ℕ) → Option (List ℕ) → Result Report ResumeFault → Type 0
+ResumedEntries old new (Ok report) = WroteEntries old new (Ok report)
+ResumedEntries old new (Err (resume.Listen fault)) = WroteEntries old new (Err fault)
+ResumedEntries old new (Err fault) = ⊤
