@@ -1,0 +1,6 @@
+use Rattle.nx_watch.proofs.LawLemmas.{AreLines-one}
+use Rattle.nx_watch.proofs.ReadingLemmas.{AreLines-some}
+use Rattle.nx_watch.proofs.laws.every_bytes_have_one_reading.Goals as goal
+
+pub returns : goal.returns
+returns c = record { some = AreLines-some; one = AreLines-one }

@@ -1,0 +1,5 @@
+pub mod Acting
+pub mod AnyLines
+pub mod Start
+pub mod Watching
+pub mod private

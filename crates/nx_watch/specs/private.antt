@@ -1,0 +1,4 @@
+-- What only private contracts and proofs cite.
+pub mod Effects
+pub mod Running
+pub mod Scanning

@@ -1,0 +1,42 @@
+-- How a run over the lines of any bytes stands.
+use Rattle.std.specs.Prelude.{◌≡◌, ℕ, List, ◌++◌, Option, Result, Err}
+use Rattle.nx_fec.specs.AirFile.{Line}
+use Rattle.nx_watch.specs.AnyLines.{AreLines, cut_line}
+use Rattle.nx_watch.specs.Watching.{AnswersWatch, AreCounted, Failing, HasTaken, HasTold, Standing, first_told}
+use Rattle.nx_watch.specs.Watching.{told_of}
+use Rattle.nx_watch.specs.declared.line_effects.LineEffects.{LineEffects}
+use Rattle.nx_watch.specs.declared.line_watch.LineRun.{LineRun}
+use Rattle.nx_watch.specs.declared.line_watch.LinesWatched.{LinesWatched}
+use Rattle.nx_watch.specs.declared.line_watch.WatchEnd.{WatchEnd}
+use Rattle.nx_watch.specs.private.Effects.{IsKept}
+use Rattle.nx_watch.specs.private.Scanning.{IsScanning}
+
+-- this is kept of these lines, and the first of them without effect was told
+pub record TellsFirst (first : ℕ) (kept : LineEffects) (old new : Option (List ℕ)) (failures : ℕ)
+    (lines : List (Option Line)) : Type 0 where
+  pub kept_so : IsKept first lines kept
+  pub told : HasTold old new failures (first_told kept.first_without)
+
+-- the run stands so behind these bytes: all lines with their ends were read, and those that act
+-- were taken
+pub record IsRunning {T : Type 0} (stands : Standing T) (start now : T) (first : ℕ) (run : LineRun)
+    (old new : Option (List ℕ)) (failures : ℕ) (bytes : List ℕ) : Type 0 where
+  pub lines : List (Option Line)
+  pub scans : IsScanning run.scanner bytes lines
+  pub taken : HasTaken stands start now first lines
+  pub tells : TellsFirst first run.effects old new failures lines
+
+-- the run is over with this end, in these bytes
+abbrev pub EndsRun : {T F : Type 0} → Standing T → Failing T F → T → T → ℕ → LineEffects
+    → Option (List ℕ) → Option (List ℕ) → ℕ → WatchEnd F → List ℕ → Type 0
+EndsRun stands fails start now first kept old new failures end bytes =
+    AnswersWatch stands fails start now first ⊥ (TellsFirst first kept old new failures) (Err end)
+    bytes
+
+-- the input ended: these are the counts of the lines, a cut one too, and all was told
+pub record EndsInput (first : ℕ) (bytes : List ℕ) (lines : List (Option Line))
+    (old new : Option (List ℕ)) (failures : ℕ) (counts : LinesWatched) : Type 0 where
+  pub rest : List ℕ
+  pub are : AreLines bytes lines rest
+  pub counted : AreCounted first (lines ++ cut_line rest) counts
+  pub told : HasTold old new failures (told_of first (lines ++ cut_line rest))
