@@ -94,6 +94,15 @@ def free_names(text, bound=()):
     return names, scopes[0]
 
 
+def without_modules(lines):
+    """The lines of antt, where the items below `module _ (..) where` stand as if they had no parameters in common."""
+    inside = False
+    for line in lines:
+        is_head = line.startswith("module _ ")
+        inside = is_head or inside and (not line or line.startswith("  "))
+        yield "" if is_head else line[2:] if inside else line
+
+
 def without_antt(text):
     """A text of Rust without its clauses and ghosts, and what stands in these."""
     plain, inside, at = "", [], 0
@@ -178,7 +187,7 @@ class Sources:
         return (None, "::".join((crate, *path, name)))
 
     def read_specs(self, path, module, lines):
-        scope, here = Scope(module), ".".join(("Rattle", *module))
+        scope, here, lines = Scope(module), ".".join(("Rattle", *module)), [*without_modules(lines)]
         starts = [at for at, line in enumerate(lines)
                   if line and not line.startswith((" ", "--", "}", ")", "unfolding "))]
         for start, end in zip(starts, [*starts[1:], len(lines)]):
