@@ -12,7 +12,7 @@ ghost use Rattle.nx_memory.specs.declared.entry.MemoryEntry.{MemoryEntry};
 ghost use Rattle.nx_receiver.specs.Chain.{GoesOn, Run};
 ghost use Rattle.nx_receiver.specs.FoundCopies.{TaggedCopy};
 ghost use Rattle.nx_receiver.specs.InTurn.{HavePrinted, PrintAllToEnd};
-ghost use Rattle.nx_receiver.specs.Listen.{AreTaken, Listens, given_by};
+ghost use Rattle.nx_receiver.specs.Listen.{AnswersListening, AreTaken, given_by};
 ghost use Rattle.nx_receiver.specs.Printing.{entries_made, printed_copies};
 ghost use Rattle.nx_receiver.specs.Resume.{AnswersResuming};
 ghost use Rattle.nx_receiver.specs.Shares.{MarkedCopy, Starts, saved_of};
@@ -53,9 +53,9 @@ pub fn a_run_writes_a_log()
     ensures closed { (starts : Starts) (lines : List Line) (copies : List MarkedCopy)
         → AreTaken starts lines → PrintAllToEnd starts (given_by lines) copies
         → All IsLogged copies }
-    ensures listened { (starts : Starts) (left left_after old new : Option (List ℕ))
-        (failed_reads failed_writes : ℕ) (outcome : Result Report ListenFault)
-        → Listens starts left left_after old new failed_reads failed_writes outcome
+    ensures listened { (starts : Starts) (left_after old new : Option (List ℕ))
+        (outcome : Result Report ListenFault) (bytes : List ℕ)
+        → AnswersListening starts (IsAtEnd left_after) (λ more. more ≡ []) old new outcome bytes
         → WroteEntries old new outcome }
     ensures resumed { (left_after old new : Option (List ℕ)) (outcome : Result Report ResumeFault)
         (input : List ℕ)

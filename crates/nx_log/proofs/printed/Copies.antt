@@ -61,7 +61,7 @@ one_is : (text : List ℕ) (header : Header) → All IsTextByte text
 unfolding ended_copy closed_copy
 one_is text header h =
     elim (ending_of (raw_text text header)) as (λ o. ending_of (raw_text text header) ≡ o
-        → IsGood (unwrap_or (option_map (copy_with header) o) (closed_copy text header))) [
+    → IsGood (unwrap_or (option_map (copy_with header) o) (closed_copy text header))) [
       | Some ending ↦ λ e. ended_is (raw_text text header) ending (raw_is text header h) e
       | None ↦ λ e. open_is (raw_text text header) (raw_is text header h) e
     ] refl
@@ -81,7 +81,7 @@ ended_one : (text : List ℕ) (header : Header) → All IsTextByte text
 unfolding ended_copy
 ended_one text header h =
     elim (ending_of (raw_text text header)) as (λ o. ending_of (raw_text text header) ≡ o
-        → some_good (option_map (copy_with header) o)) [
+    → some_good (option_map (copy_with header) o)) [
       | Some ending ↦ λ e. ended_is (raw_text text header) ending (raw_is text header h) e
       | None ↦ λ e. tt
     ] refl

@@ -109,12 +109,12 @@ if_is : (entries : List MemoryEntry) (copy : TaggedCopy) → IsTagged copy
 unfolding if_printed is_printed
 if_is entries copy h =
     elim (is_printed entries copy) as (λ b. is_printed entries copy ≡ b
-        → All IsPrinted (if b then copy ∷ [] else [])) [
+    → All IsPrinted (if b then copy ∷ [] else [])) [
       | true ↦ λ e. All-cons IsPrinted copy [] (record {
-          tagged = h;
-          selected = (and_parts copy.selected
-          (is_number_00 copy || not (is_remembered entries copy)) e).0;
-        }) (All-nil IsPrinted)
+        tagged = h;
+        selected = (and_parts copy.selected
+            (is_number_00 copy || not (is_remembered entries copy)) e).0;
+      }) (All-nil IsPrinted)
       | false ↦ λ e. All-nil IsPrinted
     ] refl
 

@@ -8,8 +8,8 @@ pub returns : goal.returns
 returns c = record {
   printed = open_logged;
   closed = closed_logged;
-  listened = λ starts left left_after old new failed_reads failed_writes outcome h.
-      wrote_entries starts (IsAtEnd left_after) (λ more. more ≡ []) old new outcome h.bytes h.answer;
+  listened = λ starts left_after old new outcome bytes h.
+      wrote_entries starts (IsAtEnd left_after) (λ more. more ≡ []) old new outcome bytes h;
   resumed = λ left_after old new outcome input h.
       resumed_entries (IsAtEnd left_after) (λ more. more ≡ []) old new outcome input h;
 }
