@@ -1,5 +1,5 @@
 -- The copies that are found have texts of logged entries.
-use Rattle.std.proofs.Common.{◌≡◌, ◌+◌, ◌-◌, ◌/◌, ◌<◌, ◌≤◌, ℕ, Bool, true, false, List, [], ◌∷◌, ◌++◌, Option, Some, None, length, take, drop, map, inl, inr, refl, sym, ap, ◌∙◌, subst, arith, cond}
+use Rattle.std.proofs.Common.{◌≡◌, ◌+◌, ◌-◌, ◌/◌, ◌≤◌, ℕ, Bool, true, false, List, [], ◌∷◌, Option, Some, None, length, take, drop, map, inl, inr, refl, ap, arith}
 use Rattle.std.specs.Prelude.{◌==◌, if◌then◌else◌, unwrap_or}
 use Rattle.std.specs.List.{All, cons_option, filter_map}
 use Rattle.std.specs.Option.{option_map}
@@ -8,10 +8,8 @@ use Rattle.std.proofs.lemmas.List.Elements.{All-nil, All-cons, All-head, All-tai
 use Rattle.nx_envelope.specs.Copies.{Copy, Ending, closed_copy, copies, copy_with, ended_copies, ended_copy, ending_of, headers, less_newline, most_found, raw_text}
 use Rattle.nx_envelope.specs.Header.{Header, newline}
 use Rattle.nx_envelope.proofs.Endings.{ended_both, open_both}
-use Rattle.nx_memory.specs.declared.entry.MemoryEntry.{MemoryEntry}
 use Rattle.nx_sync.specs.Locks.{Lock, Now, hunting, locked}
-use Rattle.nx_receiver.specs.Events.{Event, Setting}
-use Rattle.nx_receiver.specs.FoundCopies.{FoundCopy, TaggedCopy, all_in, ended_in, ended_so_far, found_copy, found_to_end, past_copies, past_text, standing_text, tag, tagged_copies}
+use Rattle.nx_receiver.specs.FoundCopies.{FoundCopy, all_in, ended_in, ended_so_far, found_copy, found_to_end, past_copies, past_text, standing_text}
 use Rattle.nx_receiver.specs.LockText.{PlacedByte, bytes_of}
 use Rattle.nx_log.proofs.printed.Texts.{IsTextByte, lock_text_is}
 

@@ -1,6 +1,6 @@
 -- What lines print that are taken has a moment in range, and was selected.
-use Rattle.std.proofs.Common.{◌≡◌, ◌≤◌, ℕ, zero, suc, Bool, true, false, List, [], ◌∷◌, ◌++◌, get_or, refl, subst, cond, not}
-use Rattle.std.specs.Prelude.{⊤, ◌&&◌, ◌||◌, if◌then◌else◌}
+use Rattle.std.proofs.Common.{◌≡◌, ◌≤◌, ℕ, zero, suc, Bool, true, false, List, [], ◌∷◌, ◌++◌, get_or, refl, not}
+use Rattle.std.specs.Prelude.{⊤, ◌||◌, if◌then◌else◌}
 use Rattle.std.specs.List.{All}
 use Rattle.std.proofs.lemmas.Bool.{and_parts}
 use Rattle.std.proofs.lemmas.List.Elements.{All-nil, All-cons, All-head, All-tail, All-append, All-same, All-weaker}
@@ -12,7 +12,7 @@ use Rattle.nx_fec.specs.declared.channel.Channel.{Channel}
 use Rattle.nx_memory.specs.declared.entry.MemoryEntry.{MemoryEntry}
 use Rattle.nx_receiver.specs.Events as fed
 use Rattle.nx_receiver.specs.Events.{Event, Setting, Start, at_moment, command, element, elements_among, first_setting, setting_after, settings}
-use Rattle.nx_receiver.specs.FoundCopies.{FoundCopy, TaggedCopy, ended_so_far, found_to_end, tag, tagged_copies}
+use Rattle.nx_receiver.specs.FoundCopies.{FoundCopy, TaggedCopy, tag, tagged_copies}
 use Rattle.nx_receiver.specs.InTurn.{HavePrinted, PrintAllToEnd}
 use Rattle.nx_receiver.specs.Listen.{AreTaken, events_on, given_by, given_of}
 use Rattle.nx_receiver.specs.Log.{printed_of}

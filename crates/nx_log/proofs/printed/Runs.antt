@@ -1,9 +1,9 @@
 -- What a run that listens writes is the log of logged entries.
-use Rattle.std.proofs.Common.{◌≡◌, ◌⊎◌, ℕ, List, Option, Result, Ok, Err, inl, inr}
+use Rattle.std.proofs.Common.{ℕ, List, Option, Result, Ok, Err, inl, inr}
 use Rattle.std.specs.Io.KnownBytes.{Appends}
 use Rattle.nx_fec.specs.AirFile.{Line}
-use Rattle.nx_receiver.specs.Listen.{AnswersListening, AreTaken, HasListened, HasListenFault, HasLogged, IsLogOfFile, IsLogOfLines}
-use Rattle.nx_receiver.specs.Resume.{AnswersAir, AnswersResuming}
+use Rattle.nx_receiver.specs.Listen.{AnswersListening, HasLogged, IsLogOfFile, IsLogOfLines}
+use Rattle.nx_receiver.specs.Resume.{AnswersResuming}
 use Rattle.nx_receiver.specs.Shares.{MarkedCopy, Starts, starts_from}
 use Rattle.nx_receiver.specs.declared.listen_fault.ListenFault.{ListenFault}
 use Rattle.nx_receiver.specs.declared.listen_fault.ListenFault.TheVariants.{Memory, Read, Write, AirTooLong, LineLong, LineCut, BadLine, NoMoment, Moment, Vital}

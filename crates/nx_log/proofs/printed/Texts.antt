@@ -1,5 +1,5 @@
 -- What a lock prints is made of bytes of a text.
-use Rattle.std.proofs.Common.{◌≡◌, ◌+◌, ◌<◌, ◌≤◌, ℕ, zero, suc, Bool, true, false, List, [], ◌∷◌, ◌++◌, Option, Some, None, length, take, inl, inr, refl, sym, ap, ◌∙◌, subst, arith, cond}
+use Rattle.std.proofs.Common.{◌≡◌, ◌<◌, ◌≤◌, ℕ, zero, suc, Bool, true, false, List, [], ◌∷◌, Option, Some, None, length, take, inl, inr, refl, sym, ap, ◌∙◌, subst, arith}
 use Rattle.std.specs.Prelude.{◌==◌, ◌||◌, IsTrue}
 use Rattle.std.specs.List.{All}
 use Rattle.std.specs.Option.{option_to_list}
@@ -11,7 +11,7 @@ use Rattle.nx_code.specs.Table.{row_of, table}
 use Rattle.nx_code.specs.declared.shifts.Shift.{Shift}
 use Rattle.nx_code.specs.declared.shifts.Shift.TheVariants.{Letters}
 use Rattle.nx_code.proofs.CharacterLemmas.{in_code-printed}
-use Rattle.nx_receiver.specs.LockText.{PlacedByte, bytes_of, lock_text, positions}
+use Rattle.nx_receiver.specs.LockText.{bytes_of, lock_text, positions}
 use Rattle.nx_receiver.proofs.locks.Texts.{bytes_are_reading}
 use Rattle.nx_sync.specs.Words.{word_of_lock, first_role}
 use Rattle.nx_log.specs.Logged.{is_text_byte}
