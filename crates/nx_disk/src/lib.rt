@@ -5,6 +5,8 @@
 mod file;
 mod history;
 mod noted;
+#[cfg(test)]
+mod tests;
 mod torn;
 
 pub use file::{FileFault, LogFile, open};

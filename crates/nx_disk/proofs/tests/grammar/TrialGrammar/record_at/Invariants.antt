@@ -1,0 +1,5 @@
+use Rattle.nx_disk.specs.Trial.{Starts}
+use Rattle.nx_disk.proofs.tests.grammar.TrialGrammar.record_at.Given as goal
+
+abbrev pub invariant-places : goal.invariant-places
+invariant-places l = Starts l.place l.bytes

@@ -1,0 +1,38 @@
+//! A file of the system.
+
+use super::grammar::{Count, Trial, put};
+use crate::{FileFault, open};
+use nx_kept::KeptLog;
+use std::fs;
+use std::test::Fail;
+
+const ENTRY: &[u8; 42] = b"[EA01 2025-01-01 00:40:00 full 0/5]\nTEST\n\n";
+
+// It is locked while it is open, and no entry goes where its name doesn't lead any more.
+#[test]
+fn a_file_is_locked_and_found_by_its_name(rt: HostRuntime) -> Result<(), Fail> {
+    let path = "nx_disk_test.log";
+    let _ = fs::remove_file(&rt, path);
+    let mut count = Count {
+        records: 0,
+        last: 0,
+    };
+    let file = open(&rt, path)?;
+    assert!(rt; matches!(open(&rt, path), Err(FileFault::Busy)));
+    assert!(rt; matches!(open(&rt, "."), Err(FileFault::Open)));
+    match KeptLog::open(rt.alloc(), file, Trial, &mut count) {
+        Ok(mut log) => {
+            assert!(rt; put(&mut log, ENTRY));
+            fs::rename(&rt, path, "nx_disk_test.old")?;
+            assert!(rt; !put(&mut log, ENTRY));
+        }
+        Err(_refused) => assert!(rt; false, "opens"),
+    }
+    let kept = fs::read(&rt, "nx_disk_test.old")?;
+    assert!(rt; kept.len() > 44);
+    let again = open(&rt, "nx_disk_test.old")?;
+    assert!(rt; KeptLog::open(rt.alloc(), again, Trial, &mut count).is_ok());
+    assert!(rt; count.records >= 1);
+    fs::remove_file(&rt, "nx_disk_test.old")?;
+    Ok(())
+}

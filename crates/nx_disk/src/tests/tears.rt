@@ -1,0 +1,149 @@
+//! A file in memory whose disk fails, and tears what was written, in each call.
+
+use super::grammar::{Count, Trial, put};
+use crate::{Noted, Tear, TornFile};
+use nx_kept::{KeptLog, OpenFault};
+use std::alloc::Global;
+use std::process::Abort;
+use std::test::Fail;
+
+// The log of the example of `listen`, and the same entry under other numbers.
+const ENTRY: &[u8; 42] = b"[EA01 2025-01-01 00:40:00 full 0/5]\nTEST\n\n";
+
+const NEXT: &[u8; 42] = b"[FA02 2025-01-01 00:40:00 full 0/5]\nTEST\n\n";
+
+const REST: &[u8; 44] = b"\n[EA01 2025-01-01 00:40:00 full 0/5]\nTEST\n\n ";
+
+type Log = KeptLog<Noted<TornFile>, Trial>;
+
+fn open(alloc: Global, file: TornFile) -> (Result<Log, (OpenFault, Noted<TornFile>)>, Count) {
+    let mut count = Count {
+        records: 0,
+        last: 0,
+    };
+    let opened = KeptLog::open(alloc, Noted::new(file), Trial, &mut count);
+    (opened, count)
+}
+
+fn opened(alloc: Global, bytes: &[u8]) -> Result<(Log, Count), Fail> {
+    let (opened, count) = open(alloc, TornFile::new(alloc, bytes)?);
+    match opened {
+        Ok(log) => Ok((log, count)),
+        Err((fault, _device)) => Err(fault.into()),
+    }
+}
+
+// An empty file is opened, and an entry is put.
+#[test]
+fn an_entry_is_put_behind_a_newline(rt: HostRuntime) -> Result<(), Fail> {
+    let alloc = rt.alloc();
+    let (mut log, count) = opened(alloc, b"")?;
+    assert_eq!(rt; count.records, 0);
+    assert_eq!(rt; log.device.file().bytes(), b" ".as_slice());
+    assert!(rt; put(&mut log, ENTRY));
+    assert_eq!(rt; log.device.file().bytes(), REST.as_slice());
+    Ok(())
+}
+
+// A log at rest is read, and not written.
+#[test]
+fn a_log_at_rest_is_only_read(rt: HostRuntime) -> Result<(), Fail> {
+    let alloc = rt.alloc();
+    let (log, count) = opened(alloc, REST)?;
+    assert_eq!(rt; count.records, 1);
+    // It is synced, and read at each gate.
+    assert_eq!(rt; log.device.file().calls(), 3);
+    Ok(())
+}
+
+// What a torn put left behind the closed gate is cut.
+#[test]
+fn a_torn_tail_is_cut(rt: HostRuntime) -> Result<(), Fail> {
+    let alloc = rt.alloc();
+    let mut torn = REST.to_vec(alloc)?;
+    torn.extend_from_slice(b"[EA02 2025")?;
+    let (log, count) = opened(alloc, &torn)?;
+    assert_eq!(rt; count.records, 1);
+    assert_eq!(rt; log.device.file().bytes(), REST.as_slice());
+    Ok(())
+}
+
+fn refused(rt: &impl Abort, alloc: Global, bytes: &[u8], fault: OpenFault) -> Result<(), Fail> {
+    let (opened, _count) = open(alloc, TornFile::new(alloc, bytes)?);
+    match opened {
+        Ok(_log) => assert!(rt; false, "refused"),
+        Err((why, device)) => {
+            assert_eq!(rt; why, fault);
+            assert_eq!(rt; device.file().bytes(), bytes);
+        }
+    }
+    Ok(())
+}
+
+// A byte that no entry has: the line on which it stands.
+#[test]
+fn a_damaged_log_is_refused(rt: HostRuntime) -> Result<(), Fail> {
+    let alloc = rt.alloc();
+    let mut damaged = REST.to_vec(alloc)?;
+    assert!(rt; damaged.len() == 44);
+    damaged[37] = 0;
+    refused(&rt, alloc, &damaged, OpenFault::Damaged { line: 3 })
+}
+
+// The log of `listen` has no gate before its first entry.
+#[test]
+fn a_foreign_log_is_refused(rt: HostRuntime) -> Result<(), Fail> {
+    refused(&rt, rt.alloc(), ENTRY, OpenFault::Damaged { line: 1 })
+}
+
+// What the file stands for is counted, and then it is opened with a crash in each call.
+fn stays(rt: &impl Abort, alloc: Global, bytes: &[u8]) -> Result<u64, Fail> {
+    let (_log, count) = opened(alloc, bytes)?;
+    for call in 1..12 {
+        let (opened, _count) = open(alloc, TornFile::new(alloc, bytes)?.failing_in(call));
+        match opened {
+            Ok(_log) => {}
+            Err((_fault, device)) => {
+                for tear in Tear::ALL {
+                    stays_so(rt, alloc, &device.file().left(alloc, tear)?, count)?;
+                }
+            }
+        }
+    }
+    Ok(count.records)
+}
+
+fn stays_so(rt: &impl Abort, alloc: Global, bytes: &[u8], count: Count) -> Result<(), Fail> {
+    let (_log, again) = opened(alloc, bytes)?;
+    assert_eq!(rt; again.records, count.records);
+    assert_eq!(rt; again.last, count.last);
+    Ok(())
+}
+
+// The file stands for all that was put with an Ok, and for one more at most.
+fn crashes_in(rt: &impl Abort, alloc: Global, call: u64) -> Result<(), Fail> {
+    let (opened, _count) = open(alloc, TornFile::new(alloc, REST)?.failing_in(call));
+    if let Ok(mut log) = opened {
+        let mut kept = 1;
+        if put(&mut log, NEXT) {
+            kept = 2;
+            if put(&mut log, ENTRY) {
+                kept = 3;
+            }
+        }
+        for tear in Tear::ALL {
+            let found = stays(rt, alloc, &log.device.file().left(alloc, tear)?)?;
+            assert!(rt; kept <= found && found <= 3 && found <= kept + 1);
+        }
+    }
+    Ok(())
+}
+
+// Two puts, of five calls each, behind an opening of three.
+#[test]
+fn each_call_may_be_the_last(rt: HostRuntime) -> Result<(), Fail> {
+    for call in 4..15 {
+        crashes_in(&rt, rt.alloc(), call)?;
+    }
+    Ok(())
+}
