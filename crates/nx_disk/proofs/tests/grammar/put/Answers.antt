@@ -1,4 +1,4 @@
-use Rattle.std.proofs.Common.{◌≡◌, ℕ, length, take, arith, subst, ap, ◌∙◌}
+use Rattle.std.proofs.Common.{ℕ, length, take, arith, subst, ap, ◌∙◌}
 use Rattle.std.proofs.lemmas.List.{take_all}
 use Rattle.nx_disk.specs.Trial.{IsTrial}
 use Rattle.nx_disk.proofs.tests.grammar.put.Goals as goal

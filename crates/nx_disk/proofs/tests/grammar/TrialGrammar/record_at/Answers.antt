@@ -1,4 +1,4 @@
-use Rattle.std.proofs.Common.{◌≡◌, ◌+◌, ◌<◌, ◌≤◌, ℕ, List, ◌++◌, [], length, get_or, take, arith, subst, sym, length-take, IsTrue}
+use Rattle.std.proofs.Common.{◌≡◌, ◌+◌, ℕ, [], length, get_or, take, arith, subst, sym, length-take}
 use Rattle.std.proofs.lemmas.List.{append-nil}
 use Rattle.nx_disk.specs.Trial.{FitsAt, IsTrial, Starts}
 use Rattle.nx_disk.proofs.Trials.{begins, starts_part, starts_more, whole_trial, bad_byte}
