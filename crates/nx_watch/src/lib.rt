@@ -7,6 +7,8 @@ mod line_effects;
 mod line_watch;
 mod start;
 mod telling;
+#[cfg(test)]
+mod tests;
 
 pub use line_watch::{ActingTaker, LinesWatched, WatchEnd, watch_lines};
 pub use start::remembered;

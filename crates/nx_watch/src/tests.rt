@@ -1,0 +1,204 @@
+//! The run over lines, with a taker that counts them.
+
+ghost use Rattle.std.specs.Prelude.{◌≤◌};
+
+use crate::{ActingTaker, LinesWatched, WatchEnd, watch_lines};
+use nx_fec::{Counting, Scanner};
+use std::alloc::Global;
+use std::io::{Error, ErrorKind, Read, Result as IoResult};
+
+/// Counts the lines that act, up to one that it doesn't take.
+#[derive(Drop)]
+struct Counter {
+    taken: u64,
+    most: u64,
+}
+
+impl ActingTaker for Counter {
+    ghost use Rattle.nx_fec.specs.AirFile.{Line};
+
+    type Fault = u64;
+
+    ghost first_moment = { λ counter. 0 };
+
+    ghost stands = { λ start now lines. Unit {0} };
+
+    ghost fails = { λ start now lines line why. Unit {0} };
+
+    fn take(&mut self, _scanner: &Scanner) -> Result<(), u64> {
+        if self.taken >= self.most {
+            return Err(self.taken);
+        }
+        self.taken = self.taken.saturating_add(1);
+        Ok(())
+    }
+}
+
+/// Gives a text in pieces; behind it a read fails, or the input ends.
+#[derive(Drop)]
+struct Source<'a> {
+    rest: &'a [u8],
+    piece: usize,
+    fails: bool,
+}
+
+impl Read for Source<'_> {
+    fn read(&mut self, buf: &mut [u8]) -> IoResult<usize> {
+        let count = self.rest.len().min(self.piece).min(buf.len());
+        if count == 0 && self.fails {
+            return Err(Error::from(ErrorKind::Other));
+        }
+        let (given, rest) = self.rest.split_at(count);
+        buf[..count].copy_from_slice(given);
+        self.rest = rest;
+        Ok(count)
+    }
+}
+
+/// What a run answered, how many lines acted, and what was told.
+#[derive(Drop)]
+struct Outcome {
+    answer: Result<LinesWatched, WatchEnd<u64>>,
+    acted: u64,
+    told: Vec<u8>,
+}
+
+impl Outcome {
+    /// Whether the run answered this, and so many lines acted, and this was told.
+    fn is(&self, answer: Result<LinesWatched, WatchEnd<u64>>, acted: u64, told: &[u8]) -> bool {
+        self.answer == answer && self.acted == acted && self.told.as_slice() == told
+    }
+}
+
+/// A run over a text that comes in pieces, with this moment in force at first.
+fn run_on(alloc: Global, first: u64, text: &[u8], piece: usize) -> Outcome {
+    let source = Source {
+        rest: text,
+        piece,
+        fails: false,
+    };
+    run_up_to(alloc, first, source, 9_223_372_036_854_775_807, u64::MAX)
+}
+
+/// A run over at most so many bytes, with a taker of so many lines.
+fn run_up_to(alloc: Global, first: u64, source: Source, limit: u64, most: u64) -> Outcome
+    requires { limit ≤ 9223372036854775807 }
+{
+    let mut reader = Counting::new(source);
+    let mut faults = Counting::new(Vec::new(alloc));
+    let mut counter = Counter { taken: 0, most };
+    let answer = watch_lines(&mut reader, &mut faults, &mut counter, first, limit);
+    Outcome {
+        answer,
+        acted: counter.taken,
+        told: faults.into_inner(),
+    }
+}
+
+/// The counts of a run over lines.
+fn counts(lines: u64, without_effect: u64, first: Option<u64>) -> LinesWatched {
+    LinesWatched {
+        lines,
+        without_effect,
+        first_without_effect: first,
+    }
+}
+
+/// The lengths of the pieces in which each text is read.
+const PIECES: [usize; 4] = [1, 7, 600, 65_536];
+
+/// The lines 1, 2, 4, 5 and 9 have no effect: one that isn't understood, one of 600 bytes, a moment that
+/// goes back, the refusal of a vital subject, and one that the end cuts.
+#[test]
+fn watch_garbage(rt: HostRuntime) {
+    let alloc = rt.alloc();
+    let mut text = Vec::new(alloc);
+    text.extend_from_slice(b"X\n").expect(&rt, "memory");
+    text.resize(602, b'A').expect(&rt, "memory");
+    let rest = b"\nT 1735692000\nT 1735691000\nRJ L\nB 0110\nB 1\nB 0\nB 01";
+    text.extend_from_slice(rest).expect(&rt, "memory");
+    let told = b"navtex: line 1 had no effect\nnavtex: 5 lines had no effect\n";
+    for piece in PIECES {
+        let run = run_on(alloc, 0, text.as_slice(), piece);
+        assert!(&rt;
+            run.is(Ok(counts(9, 5, Some(1))), 4, told),
+            "in pieces of {piece}"
+        );
+    }
+}
+
+/// A clock that is behind the newest entry: its moment has no effect, and elements behind it act.
+#[test]
+fn watch_clock_behind(rt: HostRuntime) {
+    let alloc = rt.alloc();
+    let told = b"navtex: line 1 had no effect\nnavtex: 1 lines had no effect\n";
+    for piece in PIECES {
+        let run = run_on(alloc, 1_735_692_000, b"T 1735688400\nB 01\n", piece);
+        assert!(&rt;
+            run.is(Ok(counts(2, 1, Some(1))), 1, told),
+            "in pieces of {piece}"
+        );
+    }
+}
+
+/// The second moment that goes back by 66 hours or more ends the watch, and one alone doesn't.
+#[test]
+fn watch_clock_back(rt: HostRuntime) {
+    let alloc = rt.alloc();
+    let back = WatchEnd::Back {
+        line: 3,
+        last: 1_735_692_000,
+        given: 6,
+    };
+    let told = b"navtex: line 2 had no effect\nnavtex: 2 lines had no effect\n";
+    let one = b"navtex: line 2 had no effect\nnavtex: 1 lines had no effect\n";
+    for piece in PIECES {
+        let run = run_on(alloc, 0, b"T 1735692000\nT 5\nT 6\nB 1\n", piece);
+        assert!(&rt; run.is(Err(back), 1, told), "back, in pieces of {piece}");
+        let run = run_on(alloc, 0, b"T 1735692000\nT 5\nT 1735692001\n", piece);
+        assert!(&rt;
+            run.is(Ok(counts(3, 1, Some(2))), 2, one),
+            "once, in pieces of {piece}"
+        );
+    }
+}
+
+/// The limit of the bytes is an end, a failed read isn't one, and the taker may end the run.
+#[test]
+fn watch_ends(rt: HostRuntime) {
+    let alloc = rt.alloc();
+    let text = b"T 5\nB 10\nB 1\nB 0";
+    let cut = b"navtex: line 3 had no effect\nnavtex: 1 lines had no effect\n";
+    for piece in PIECES {
+        let source = Source {
+            rest: text,
+            piece,
+            fails: false,
+        };
+        let run = run_up_to(alloc, 0, source, 10, u64::MAX);
+        assert!(&rt;
+            run.is(Ok(counts(3, 1, Some(3))), 2, cut),
+            "limit, in pieces of {piece}"
+        );
+        let source = Source {
+            rest: text,
+            piece,
+            fails: true,
+        };
+        let run = run_up_to(alloc, 0, source, 1_000, u64::MAX);
+        assert!(&rt;
+            run.is(Err(WatchEnd::Read), 3, b""),
+            "read, in pieces of {piece}"
+        );
+        let source = Source {
+            rest: text,
+            piece,
+            fails: false,
+        };
+        let run = run_up_to(alloc, 0, source, 1_000, 2);
+        assert!(&rt;
+            run.is(Err(WatchEnd::Failed(2)), 2, b""),
+            "taker, in pieces of {piece}"
+        );
+    }
+}
