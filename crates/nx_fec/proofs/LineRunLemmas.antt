@@ -14,12 +14,14 @@ use Rattle.nx_fec.specs.Lines.{IsAtByte, IsCause, IsLineRefused, Scanning, Scans
 use Rattle.nx_fec.specs.Lines.{line_bytes, StopsAt}
 use Rattle.nx_fec.specs.LineRuns.{AnswersLines, Beginning, ExplainsLines, HasGiven, HasTaken}
 use Rattle.nx_fec.specs.LineRuns.{HasTakenAll, HasTakenSome, IsPlaced, Refusing, RunsLines}
-use Rattle.nx_fec.specs.LineRuns.{Standing, Waiting}
-use Rattle.nx_fec.specs.private.LineTaking.{IsTaking}
+use Rattle.nx_fec.specs.LineRuns.{Standing, StopsLines, Waiting}
+use Rattle.nx_fec.specs.private.LineTaking.{IsHearing, IsTaking}
 use Rattle.nx_fec.specs.Scanner.{kind_kept}
 use Rattle.nx_fec.specs.declared.air_file.LineKind.{LineKind}
 use Rattle.nx_fec.specs.declared.fault.LineFault.{LineFault}
 use Rattle.nx_fec.specs.declared.fault.LineFault.TheVariants.{TooLong, LineLong, LineCut, BadLine}
+use Rattle.nx_fec.specs.declared.line_hearing.HearFault.{HearFault}
+use Rattle.nx_fec.specs.declared.line_hearing.HearFault.TheVariants as hear
 use Rattle.nx_fec.specs.declared.line_run.LinesFault.{LinesFault}
 use Rattle.nx_fec.specs.declared.line_run.LinesFault.TheVariants as run
 use Rattle.nx_fec.specs.declared.line_run.LinesRead.{LinesRead}
@@ -198,6 +200,157 @@ IsPlaced-never AtEnd (LineLong line) at = tt
 IsPlaced-never AtEnd (LineCut line) at = absurd at
 IsPlaced-never AtEnd (BadLine line) at = tt
 
+refused-whole : (limit : ℕ) (s : Scanning) (bytes piece more : List ℕ) (count : ℕ)
+    (lines : List Line) (line : Line)
+    → Scans limit s (bytes ++ take count piece) (lines ++ line ∷ [])
+    → (bytes ++ piece) ++ more
+    ≡ (file_of lines ++ spelling line) ++ (10 ∷ (s.part ++ (drop count piece ++ more)))
+refused-whole limit s bytes piece more count lines line scans =
+    let rest = s.part ++ (drop count piece ++ more) in
+    whole-after limit s bytes piece more count (lines ++ line ∷ []) scans
+    ∙ append_assoc (file_of (lines ++ line ∷ [])) s.part (drop count piece ++ more)
+    ∙ ap (λ l. l ++ rest) (file_of-one lines line
+    ∙ sym (append_assoc (file_of lines) (spelling line) (10 ∷ [])))
+    ∙ append_assoc (file_of lines ++ spelling line) (10 ∷ []) rest
+
+IsPlaced-left : (ys : List ℕ) (why : LineFault) → IsPlaced (ys ≡ []) why
+    → IsAtByte why ⊎ (ys ≡ [])
+IsPlaced-left ys TooLong h = inl tt
+IsPlaced-left ys (LineLong line) h = inl tt
+IsPlaced-left ys (LineCut line) h = inr h
+IsPlaced-left ys (BadLine line) h = inl tt
+
+IsPlaced-any : (why : LineFault) → IsPlaced (Unit {0}) why
+IsPlaced-any TooLong = tt
+IsPlaced-any (LineLong line) = tt
+IsPlaced-any (LineCut line) = tt
+IsPlaced-any (BadLine line) = tt
+
+cause-longer : (limit front : ℕ) (lines : List Line) (rest more ys : List ℕ) (why : LineFault)
+    → IsAtByte why ⊎ (ys ≡ []) → IsCause limit front lines rest more why
+    → IsCause limit front lines rest (more ++ ys) why
+cause-longer limit front lines rest more ys why (inl at) h =
+    IsCause-more limit front lines rest more ys why at h
+cause-longer limit front lines rest more ys why (inr none) h =
+    subst (λ l. IsCause limit front lines rest l why)
+    (sym (ap (λ l. more ++ l) none ∙ append-nil more)) h
+
+module _ {F : Type 0} (refuses : List Line → Line → F → Type 0) (holds : List Line → Type 0) where
+  -- a line was refused
+  pub StopsLines-refused : (limit : ℕ) (s : Scanning) (bytes piece : List ℕ) (count number : ℕ)
+      (why : F) (lines : List Line) (latest : Option Line)
+      → (kind_kept latest ≡ None → ⊥) → IfSome latest IsLine → number ≡ s.lines
+      → Scans limit s (bytes ++ take count piece) (lines ++ option_to_list latest)
+      → ((line : Line) → latest ≡ Some line → refuses lines line why × holds lines)
+      → (more : List ℕ) → StopsLines refuses holds ⊥ (λ _. ⊥) limit ((bytes ++ piece) ++ more)
+      (hear.Refused number why)
+  StopsLines-refused limit s bytes piece count number why lines None some good is scans h more =
+      absurd (some refl)
+  StopsLines-refused limit s bytes piece count number why lines (Some line) some good is scans h
+      more =
+      let k = h line refl in
+      record {
+        lines = lines;
+        rest = spelling line;
+        more = 10 ∷ (s.part ++ (drop count piece ++ more));
+        whole = refused-whole limit s bytes piece more count lines line scans;
+        each = All-front lines (line ∷ []) scans.splits.each;
+        part = spelling-IsBeginning line good;
+        here = (
+          record {
+            line = line;
+            after = s.part ++ (drop count piece ++ more);
+            good = good;
+            spelled = refl;
+            ended = refl;
+            within = last-within limit s (bytes ++ take count piece) lines line scans;
+            counted = is ∙ scans.count ∙ length-append lines (line ∷ []);
+            refused = k.0;
+          },
+          k.1,
+        );
+      }
+
+  refused-longer : (limit : ℕ) (lines : List Line) (rest more ys : List ℕ) (number : ℕ) (why : F)
+      → IsLineRefused (λ before next. refuses before next why) limit lines rest more number
+      → IsLineRefused (λ before next. refuses before next why) limit lines rest (more ++ ys) number
+  refused-longer limit lines rest more ys number why h = record {
+    line = h.line;
+    after = h.after ++ ys;
+    good = h.good;
+    spelled = h.spelled;
+    ended = ap (λ l. l ++ ys) h.ended;
+    within = h.within;
+    counted = h.counted;
+    refused = h.refused;
+  }
+
+  -- what is said of the bytes that were read holds of the whole file
+  pub StopsLines-whole : (limit : ℕ) (bytes ys : List ℕ) (fault : HearFault F)
+      → StopsLines refuses holds (ys ≡ []) (λ more. more ≡ []) limit bytes fault
+      → StopsLines refuses holds (Unit {0}) (λ more. Unit {0}) limit (bytes ++ ys) fault
+  StopsLines-whole limit bytes ys hear.Read h =
+      StopsAt-more ys _ _ bytes (λ lines rest more k. (k.0, tt, k.2)) h
+  StopsLines-whole limit bytes ys (hear.Line why) h = (
+    IsPlaced-any why,
+    StopsAt-more ys _ _ bytes
+        (λ lines rest more k. (
+          cause-longer limit _ lines rest more ys why (IsPlaced-left ys why h.0) k.0,
+          k.1,
+        )) h.1,
+  )
+  StopsLines-whole limit bytes ys (hear.Refused line why) h =
+      StopsAt-more ys _ _ bytes
+      (λ lines rest more k. (refused-longer limit lines rest more ys line why k.0, k.1)) h
+
+  -- a fault before the end, over the bytes that were read
+  pub StopsLines-piece : (AtEnd : Type 0) (IsLeft : List ℕ → Type 0) (limit : ℕ) (bytes : List ℕ)
+      (fault : HearFault F) → StopsLines refuses holds ⊥ (λ _. ⊥) limit bytes fault
+      → StopsLines refuses holds AtEnd IsLeft limit bytes fault
+  StopsLines-piece AtEnd IsLeft limit bytes hear.Read h = absurd h.here.1
+  StopsLines-piece AtEnd IsLeft limit bytes (hear.Line why) h = (IsPlaced-never AtEnd why h.0, h.1)
+  StopsLines-piece AtEnd IsLeft limit bytes (hear.Refused line why) h = h
+
+  -- no read failed before the end of a piece
+  pub StopsLines-not_read : {N : Type 0} (limit : ℕ) (bytes : List ℕ) (fault : HearFault F)
+      → StopsLines refuses holds ⊥ (λ _. ⊥) limit bytes fault
+      → ◌≡◌ {A = Result N (HearFault F)} (Err fault) (Err hear.Read) → ⊥
+  StopsLines-not_read limit bytes hear.Read h e = h.here.1
+  StopsLines-not_read limit bytes (hear.Line why) h e = cc
+  StopsLines-not_read limit bytes (hear.Refused line why) h e = cc
+
+-- what holds of the lines before a fault says more
+pub StopsLines-map : {F : Type 0} (refuses : List Line → Line → F → Type 0)
+    (P Q : List Line → Type 0) (AtEnd : Type 0) (IsLeft : List ℕ → Type 0) (limit : ℕ)
+    (bytes : List ℕ) (fault : HearFault F) → ((lines : List Line) → P lines → Q lines)
+    → StopsLines refuses P AtEnd IsLeft limit bytes fault
+    → StopsLines refuses Q AtEnd IsLeft limit bytes fault
+StopsLines-map refuses P Q AtEnd IsLeft limit bytes hear.Read f h =
+    StopsAt-map bytes _ _ (λ lines rest more k. (k.0, k.1, f lines k.2)) h
+StopsLines-map refuses P Q AtEnd IsLeft limit bytes (hear.Line why) f h =
+    (h.0, StopsAt-map bytes _ _ (λ lines rest more k. (k.0, f lines k.1)) h.1)
+StopsLines-map refuses P Q AtEnd IsLeft limit bytes (hear.Refused line why) f h =
+    StopsAt-map bytes _ _ (λ lines rest more k. (k.0, f lines k.1)) h
+
+-- a run at a piece that ended no line
+pub hearing-open : (holds : List Line → Type 0) (limit : ℕ) (s : Scanning) (bytes : List ℕ)
+    (lines : List Line) (latest : Option Line) → latest ≡ None
+    → Scans limit s bytes (lines ++ option_to_list latest) → holds lines
+    → IsHearing holds limit s bytes
+hearing-open holds limit s bytes lines None none scans h =
+    record { lines = lines; scans = subst (Scans limit s bytes) (append-nil lines) scans; taken = h }
+hearing-open holds limit s bytes lines (Some line) none scans h = cc
+
+-- and at one whose line was taken
+pub hearing-ended : (holds : List Line → Type 0) (limit : ℕ) (s : Scanning) (bytes : List ℕ)
+    (lines : List Line) (latest : Option Line) → (kind_kept latest ≡ None → ⊥)
+    → Scans limit s bytes (lines ++ option_to_list latest)
+    → ((line : Line) → latest ≡ Some line → holds (lines ++ line ∷ []))
+    → IsHearing holds limit s bytes
+hearing-ended holds limit s bytes lines None some scans h = absurd (some refl)
+hearing-ended holds limit s bytes lines (Some line) some scans h =
+    record { lines = lines ++ line ∷ []; scans = scans; taken = h line refl }
+
 module _ {T F : Type 0} (stands : Standing T) (begins : Beginning T) (refuses : Refusing T F) where
   -- a run at a piece that ended no line
   pub taking-open : (first now : T) (limit : ℕ) (s : Scanning) (old new : Option (List ℕ))
@@ -205,14 +358,8 @@ module _ {T F : Type 0} (stands : Standing T) (begins : Beginning T) (refuses : 
       → latest ≡ None → Scans limit s bytes (lines ++ option_to_list latest)
       → HasTaken stands first now lines (HasGiven old new batch)
       → IsTaking stands first now limit s old new batch bytes
-  taking-open first now limit s old new batch bytes lines None none scans h =
-      record {
-        lines = lines;
-        scans = subst (Scans limit s bytes) (append-nil lines) scans;
-        taken =
-            h;
-      }
-  taking-open first now limit s old new batch bytes lines (Some line) none scans h = cc
+  taking-open first now limit s old new batch bytes lines latest none scans h =
+      hearing-open _ limit s bytes lines latest none scans h
 
   -- and at one whose line was taken
   pub taking-ended : (first now : T) (limit : ℕ) (s : Scanning) (old new : Option (List ℕ))
@@ -221,9 +368,9 @@ module _ {T F : Type 0} (stands : Standing T) (begins : Beginning T) (refuses : 
       → ((line : Line) → latest ≡ Some line
       → HasTaken stands first now (lines ++ line ∷ []) (HasGiven old new batch))
       → IsTaking stands first now limit s old new batch bytes
-  taking-ended first now limit s old new batch bytes lines None some scans h = absurd (some refl)
-  taking-ended first now limit s old new batch bytes lines (Some line) some scans h =
-      record { lines = lines ++ line ∷ []; scans = scans; taken = h line refl }
+  taking-ended first now limit s old new batch bytes lines latest some scans h =
+      hearing-ended (λ lines. HasTaken stands first now lines (HasGiven old new batch)) limit s bytes
+      lines latest some scans h
 
   -- a write failed while a line was taken
   pub explains-write : (first now : T) (limit : ℕ) (s : Scanning) (old new : Option (List ℕ))
@@ -248,19 +395,6 @@ module _ {T F : Type 0} (stands : Standing T) (begins : Beginning T) (refuses : 
         here = h line refl;
       }
 
-  refused-whole : (limit : ℕ) (s : Scanning) (bytes piece more : List ℕ) (count : ℕ)
-      (lines : List Line) (line : Line)
-      → Scans limit s (bytes ++ take count piece) (lines ++ line ∷ [])
-      → (bytes ++ piece) ++ more
-      ≡ (file_of lines ++ spelling line) ++ (10 ∷ (s.part ++ (drop count piece ++ more)))
-  refused-whole limit s bytes piece more count lines line scans =
-      let rest = s.part ++ (drop count piece ++ more) in
-      whole-after limit s bytes piece more count (lines ++ line ∷ []) scans
-      ∙ append_assoc (file_of (lines ++ line ∷ [])) s.part (drop count piece ++ more)
-      ∙ ap (λ l. l ++ rest) (file_of-one lines line
-      ∙ sym (append_assoc (file_of lines) (spelling line) (10 ∷ [])))
-      ∙ append_assoc (file_of lines ++ spelling line) (10 ∷ []) rest
-
   -- a line was refused
   pub explains-refused : (first now : T) (limit : ℕ) (s : Scanning) (old new : Option (List ℕ))
       (batch : Waiting) (bytes piece : List ℕ) (count number : ℕ) (why : F) (lines : List Line)
@@ -271,32 +405,11 @@ module _ {T F : Type 0} (stands : Standing T) (begins : Beginning T) (refuses : 
       → refuses first lines line why × HasTaken stands first now lines (HasGiven old new batch))
       → (more : List ℕ) → ExplainsLines stands begins refuses ⊥ (λ _. ⊥) limit first now old new
       (HasGiven old new batch) ((bytes ++ piece) ++ more) (run.Refused number why)
-  explains-refused first now limit s old new batch bytes piece count number why lines None some good
-      is scans h more = absurd (some refl)
-  explains-refused first now limit s old new batch bytes piece count number why lines (Some line)
-      some good is scans h more =
-      let k = h line refl in
-      record {
-        lines = lines;
-        rest = spelling line;
-        more = 10 ∷ (s.part ++ (drop count piece ++ more));
-        whole = refused-whole limit s bytes piece more count lines line scans;
-        each = All-front lines (line ∷ []) scans.splits.each;
-        part = spelling-IsBeginning line good;
-        here = (
-          record {
-            line = line;
-            after = s.part ++ (drop count piece ++ more);
-            good = good;
-            spelled = refl;
-            ended = refl;
-            within = last-within limit s (bytes ++ take count piece) lines line scans;
-            counted = is ∙ scans.count ∙ length-append lines (line ∷ []);
-            refused = k.0;
-          },
-          k.1,
-        );
-      }
+  explains-refused first now limit s old new batch bytes piece count number why lines latest some
+      good is scans h more =
+      StopsLines-refused (refuses first)
+      (λ lines. HasTaken stands first now lines (HasGiven old new batch)) limit s bytes piece count
+      number why lines latest some good is scans h more
 
   pub taken-some : (first now : T) (old new : Option (List ℕ)) (G : List ℕ → Type 0)
       (lines : List Line) (lost : ℕ)
@@ -305,22 +418,6 @@ module _ {T F : Type 0} (stands : Standing T) (begins : Beginning T) (refuses : 
       → HasTaken stands first now lines G → HasTakenSome begins first old new lines lost
   taken-some first now old new G lines lost law f h =
       record { given = h.given; begun = law lines h.given h.stood; some = f h.given h.here }
-
-  refused-longer : (first : T) (limit : ℕ) (lines : List Line) (rest more ys : List ℕ) (number : ℕ)
-      (why : F)
-      → IsLineRefused (λ before next. refuses first before next why) limit lines rest more number
-      → IsLineRefused (λ before next. refuses first before next why) limit lines rest (more ++ ys)
-      number
-  refused-longer first limit lines rest more ys number why h = record {
-    line = h.line;
-    after = h.after ++ ys;
-    good = h.good;
-    spelled = h.spelled;
-    ended = ap (λ l. l ++ ys) h.ended;
-    within = h.within;
-    counted = h.counted;
-    refused = h.refused;
-  }
 
   -- what a run says before it settles is what it says after, where what was given is written
   pub settled : (first now : T) (limit : ℕ) (old mid new : Option (List ℕ)) (G A : List ℕ → Type 0)
@@ -360,28 +457,6 @@ module _ {T F : Type 0} (stands : Standing T) (begins : Beginning T) (refuses : 
       absurd (other written refl)
 
   -- what is said of the bytes that were read holds of the whole file
-  IsPlaced-left : (ys : List ℕ) (why : LineFault) → IsPlaced (ys ≡ []) why
-      → IsAtByte why ⊎ (ys ≡ [])
-  IsPlaced-left ys TooLong h = inl tt
-  IsPlaced-left ys (LineLong line) h = inl tt
-  IsPlaced-left ys (LineCut line) h = inr h
-  IsPlaced-left ys (BadLine line) h = inl tt
-
-  IsPlaced-any : (why : LineFault) → IsPlaced (Unit {0}) why
-  IsPlaced-any TooLong = tt
-  IsPlaced-any (LineLong line) = tt
-  IsPlaced-any (LineCut line) = tt
-  IsPlaced-any (BadLine line) = tt
-
-  cause-longer : (limit front : ℕ) (lines : List Line) (rest more ys : List ℕ) (why : LineFault)
-      → IsAtByte why ⊎ (ys ≡ []) → IsCause limit front lines rest more why
-      → IsCause limit front lines rest (more ++ ys) why
-  cause-longer limit front lines rest more ys why (inl at) h =
-      IsCause-more limit front lines rest more ys why at h
-  cause-longer limit front lines rest more ys why (inr none) h =
-      subst (λ l. IsCause limit front lines rest l why)
-      (sym (ap (λ l. more ++ l) none ∙ append-nil more)) h
-
   pub ExplainsLines-whole : (first now : T) (limit : ℕ) (old new : Option (List ℕ))
       (A : List ℕ → Type 0) (bytes ys : List ℕ) (fault : LinesFault F)
       → ExplainsLines stands begins refuses (ys ≡ []) (λ more. more ≡ []) limit first now old new A
@@ -389,19 +464,14 @@ module _ {T F : Type 0} (stands : Standing T) (begins : Beginning T) (refuses : 
       → ExplainsLines stands begins refuses (Unit {0}) (λ more. Unit {0}) limit first now old new A
       (bytes ++ ys) fault
   ExplainsLines-whole first now limit old new A bytes ys run.Read h =
-      StopsAt-more ys _ _ bytes (λ lines rest more k. (k.0, tt, k.2)) h
-  ExplainsLines-whole first now limit old new A bytes ys (run.Line why) h = (
-    IsPlaced-any why,
-    StopsAt-more ys _ _ bytes
-        (λ lines rest more k. (
-          cause-longer limit _ lines rest more ys why
-              (IsPlaced-left ys why h.0) k.0,
-          k.1,
-        )) h.1,
-  )
+      StopsLines-whole (refuses first) (λ lines. HasTaken stands first now lines A) limit bytes ys
+      hear.Read h
+  ExplainsLines-whole first now limit old new A bytes ys (run.Line why) h =
+      StopsLines-whole (refuses first) (λ lines. HasTaken stands first now lines A) limit bytes ys
+      (hear.Line why) h
   ExplainsLines-whole first now limit old new A bytes ys (run.Refused line why) h =
-      StopsAt-more ys _ _ bytes
-      (λ lines rest more k. (refused-longer first limit lines rest more ys line why k.0, k.1)) h
+      StopsLines-whole (refuses first) (λ lines. HasTaken stands first now lines A) limit bytes ys
+      (hear.Refused line why) h
   ExplainsLines-whole first now limit old new A bytes ys (run.Write written) h =
       StopsAt-more ys _ _ bytes (λ lines rest more k. k) h
 

@@ -1,16 +1,69 @@
--- A run over the lines of an air file that writes while it reads (this profile).
+-- A run over the lines of an air file: one that writes nothing, and one that writes while it reads
+-- (this profile).
 use Rattle.std.specs.Prelude.{◌≡◌, ℕ, ◌≤◌, List, [], ◌∷◌, ◌++◌, length, Option, Result, Ok, Err, ⊤}
-use Rattle.std.specs.Io.KnownBytes.{Appends}
+use Rattle.std.specs.Io.KnownBytes.{Appends, IsAtEnd}
 use Rattle.nx_fec.specs.AirFile.{Line}
 use Rattle.nx_fec.specs.Lines.{IsAirFile, IsCause, IsLineRefused, file_of, StopsAt}
-use Rattle.nx_fec.specs.Transfers.{HasWritten, WroteSome, Devices, IsReadOut, Transfers, on_the_way}
+use Rattle.nx_fec.specs.Transfers.{CountedDevice, HasWritten, WroteSome, Devices, IsReadOut, Reads, Transfers, on_the_way}
 use Rattle.nx_fec.specs.declared.fault.LineFault.{LineFault}
 use Rattle.nx_fec.specs.declared.fault.LineFault.TheVariants.{TooLong, LineLong, LineCut, BadLine}
+use Rattle.nx_fec.specs.declared.line_hearing.HearFault.{HearFault}
+use Rattle.nx_fec.specs.declared.line_hearing.HearFault.TheVariants as hear
 use Rattle.nx_fec.specs.declared.line_run.LinesFault.{LinesFault}
 use Rattle.nx_fec.specs.declared.line_run.LinesFault.TheVariants as run
 use Rattle.nx_fec.specs.declared.line_run.TakeFault.{TakeFault}
 use Rattle.nx_fec.specs.declared.line_run.TakeFault.TheVariants as take
 use Rattle.nx_fec.specs.declared.line_run.LinesRead.{LinesRead}
+
+-- a fault at the end of the file comes where this holds
+abbrev pub IsPlaced : Type 0 → LineFault → Type 0
+IsPlaced AtEnd TooLong = ⊤
+IsPlaced AtEnd (LineLong line) = ⊤
+IsPlaced AtEnd (LineCut line) = AtEnd
+IsPlaced AtEnd (BadLine line) = ⊤
+
+-- What a fault of the lines says of the bytes that were read. The whole lines before it were taken,
+-- and `taken` holds of them: after a failed read no byte is left of which `IsLeft` doesn't hold; a
+-- fault of the air file is its first; or a line was refused.
+abbrev pub StopsLines : {F : Type 0} → (List Line → Line → F → Type 0) → (List Line → Type 0)
+    → Type 0 → (List ℕ → Type 0) → ℕ → List ℕ → HearFault F → Type 0
+StopsLines refuses taken AtEnd IsLeft limit bytes hear.Read =
+    StopsAt bytes (λ lines rest more. (length (file_of lines ++ rest) ≤ limit) × IsLeft more
+    × taken lines)
+StopsLines refuses taken AtEnd IsLeft limit bytes (hear.Line why) =
+    IsPlaced AtEnd why × StopsAt bytes
+    (λ lines rest more. IsCause limit (length (file_of lines ++ rest)) lines rest more why
+    × taken lines)
+StopsLines refuses taken AtEnd IsLeft limit bytes (hear.Refused line why) =
+    StopsAt bytes (λ lines rest more.
+    IsLineRefused (λ before next. refuses before next why) limit lines rest more line
+    × taken lines)
+
+-- a file was read to its end, and all its lines were taken
+pub record HasHeardAll (taken : List Line → Type 0) (limit : ℕ) (bytes : List ℕ)
+    (count : ℕ) : Type 0 where
+  pub lines : List Line
+  pub file : IsAirFile limit bytes lines
+  pub here : taken lines
+  pub counted : count ≡ length lines
+
+-- what a run over lines that writes nothing answers of these bytes
+abbrev pub AnswersHearing : {F : Type 0} → (List Line → Line → F → Type 0) → (List Line → Type 0)
+    → Type 0 → (List ℕ → Type 0) → ℕ → Result ℕ (HearFault F) → List ℕ → Type 0
+AnswersHearing refuses taken AtEnd IsLeft limit (Ok count) bytes =
+    AtEnd × HasHeardAll taken limit bytes count
+AnswersHearing refuses taken AtEnd IsLeft limit (Err fault) bytes =
+    StopsLines refuses taken AtEnd IsLeft limit bytes fault
+
+-- A run over lines that writes nothing, and has no writer: it answers so to the bytes that it read,
+-- and to the whole file, however it came.
+abbrev pub HearsLines : {R F : Type 0} → (List Line → Line → F → Type 0) → (List Line → Type 0) → ℕ
+    → (R → Option (List ℕ)) → CountedDevice R → CountedDevice R → Result ℕ (HearFault F) → Type 0
+HearsLines refuses taken limit remaining old new outcome =
+    Reads remaining old new hear.Read (λ _. ⊥) outcome (λ _. ⊤)
+    (λ bytes. AnswersHearing refuses taken (IsAtEnd (remaining new.inner)) (λ more. more ≡ []) limit
+    outcome bytes)
+    (λ bytes. AnswersHearing refuses taken (Unit {0}) (λ more. Unit {0}) limit outcome bytes)
 
 -- bytes that wait to be written, and how many were written before them
 pub record Waiting : Type 0 where
@@ -58,33 +111,23 @@ ExplainsTaking stands begins refuses first now old new batch lines line (take.Re
 ExplainsTaking stands begins refuses first now old new batch lines line (take.Write written) =
     HasTakenSome begins first old new (lines ++ line ∷ []) written
 
--- a fault at the end of the file comes where this holds
-abbrev pub IsPlaced : Type 0 → LineFault → Type 0
-IsPlaced AtEnd TooLong = ⊤
-IsPlaced AtEnd (LineLong line) = ⊤
-IsPlaced AtEnd (LineCut line) = AtEnd
-IsPlaced AtEnd (BadLine line) = ⊤
-
--- What a fault of a run over lines says of the bytes that were read. The whole lines before it were
--- taken, and `wrote` holds of what they gave: after a failed read no byte is left of which `IsLeft`
--- doesn't hold; a fault of the air file is its first; a line was refused; or a write failed, with a
--- beginning of what the lines read by then give.
+-- What a fault of a run over lines that writes says of the bytes that were read. It is one of the
+-- lines, and `wrote` holds of what the whole lines before it gave; or a write failed, with a beginning
+-- of what the lines read by then give.
 abbrev pub ExplainsLines : {T F : Type 0} → Standing T → Beginning T → Refusing T F → Type 0
     → (List ℕ → Type 0) → ℕ → T → T
     → Option (List ℕ) → Option (List ℕ) → (List ℕ → Type 0) → List ℕ → LinesFault F → Type 0
 ExplainsLines stands begins refuses AtEnd IsLeft limit first now old new wrote bytes run.Read =
-    StopsAt bytes (λ lines rest more. (length (file_of lines ++ rest) ≤ limit) × IsLeft more
-    × HasTaken stands first now lines wrote)
+    StopsLines (refuses first) (λ lines. HasTaken stands first now lines wrote) AtEnd IsLeft limit
+    bytes hear.Read
 ExplainsLines stands begins refuses AtEnd IsLeft limit first now old new wrote bytes
     (run.Line why) =
-    IsPlaced AtEnd why × StopsAt bytes
-    (λ lines rest more. IsCause limit (length (file_of lines ++ rest)) lines rest more why
-    × HasTaken stands first now lines wrote)
+    StopsLines (refuses first) (λ lines. HasTaken stands first now lines wrote) AtEnd IsLeft limit
+    bytes (hear.Line why)
 ExplainsLines stands begins refuses AtEnd IsLeft limit first now old new wrote bytes
     (run.Refused line why) =
-    StopsAt bytes (λ lines rest more.
-    IsLineRefused (λ before next. refuses first before next why) limit lines rest more line
-    × HasTaken stands first now lines wrote)
+    StopsLines (refuses first) (λ lines. HasTaken stands first now lines wrote) AtEnd IsLeft limit
+    bytes (hear.Refused line why)
 ExplainsLines stands begins refuses AtEnd IsLeft limit first now old new wrote bytes
     (run.Write written) =
     StopsAt bytes (λ lines rest more. HasTakenSome begins first old new lines written)
@@ -97,7 +140,7 @@ pub record HasTakenAll {T : Type 0} (stands : Standing T) (first now : T)
   pub taken : HasTaken stands first now lines (λ given. HasWritten old new given read.written)
   pub counted : read.lines ≡ length lines
 
--- what a run over lines answers of these bytes
+-- what a run over lines that writes answers of these bytes
 abbrev pub AnswersLines : {T F : Type 0} → Standing T → Beginning T → Refusing T F → Type 0
     → (List ℕ → Type 0) → ℕ → T → T
     → Option (List ℕ) → Option (List ℕ) → Result LinesRead (LinesFault F) → List ℕ → Type 0
@@ -107,8 +150,8 @@ AnswersLines stands begins refuses AtEnd IsLeft limit first now old new (Err fau
     ExplainsLines stands begins refuses AtEnd IsLeft limit first now old new
     (Appends old new) bytes fault
 
--- A run over lines: it answers so to the bytes that it read, and to the whole file, however it
--- came; and it writes what the lines give before each further read.
+-- A run over lines that writes: it answers so to the bytes that it read, and to the whole file,
+-- however it came; and it writes what the lines give before each further read.
 abbrev pub RunsLines : {R W T F : Type 0} → Standing T → Beginning T → Refusing T F → ℕ → T → T
     → Devices R W → Result LinesRead (LinesFault F) → Type 0
 RunsLines stands begins refuses limit first now d outcome =

@@ -15,7 +15,7 @@ use crate::scanner::Scanner;
 use std::io::{Read, Write};
 
 /// The most bytes of an air file.
-const AIR_LIMIT: u64 = 268_435_456;
+pub(crate) const AIR_LIMIT: u64 = 268_435_456;
 
 /// Takes the lines of an air file one after the other, and gives bytes to write for them.
 pub trait LineTaker: Drop {

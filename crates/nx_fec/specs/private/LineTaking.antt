@@ -4,10 +4,16 @@ use Rattle.nx_fec.specs.AirFile.{Line}
 use Rattle.nx_fec.specs.LineRuns.{HasGiven, HasTaken, Standing, Waiting}
 use Rattle.nx_fec.specs.Lines.{Scanning, Scans}
 
--- the scanner stands so after these bytes, and all lines that they ended were taken
-pub record IsTaking {T : Type 0} (stands : Standing T) (first now : T) (limit : ℕ)
-    (scanner : Scanning) (old new : Option (List ℕ)) (batch : Waiting)
+-- the scanner stands so after these bytes, and all lines that they ended were taken: `holds` is true
+-- of them
+pub record IsHearing (holds : List Line → Type 0) (limit : ℕ) (scanner : Scanning)
     (bytes : List ℕ) : Type 0 where
   pub lines : List Line
   pub scans : Scans limit scanner bytes lines
-  pub taken : HasTaken stands first now lines (HasGiven old new batch)
+  pub taken : holds lines
+
+-- and what they gave is written, or waits
+abbrev pub IsTaking : {T : Type 0} → Standing T → T → T → ℕ → Scanning → Option (List ℕ)
+    → Option (List ℕ) → Waiting → List ℕ → Type 0
+IsTaking stands first now limit scanner old new batch bytes =
+    IsHearing (λ lines. HasTaken stands first now lines (HasGiven old new batch)) limit scanner bytes

@@ -2,8 +2,8 @@
 
 use super::super::expect_text;
 use nx_fec::{
-    Batch, Counting, LineFault, LineKind, LineTaker, LinesFault, LinesRead, Scanner, TakeFault,
-    run_lines,
+    Batch, Counting, HearFault, LineFault, LineHearer, LineKind, LineTaker, LinesFault, LinesRead,
+    Scanner, TakeFault, hear_lines, run_lines,
 };
 use std::alloc::Global;
 use std::io;
@@ -48,6 +48,31 @@ impl LineTaker for Copying {
     }
 
     ghost whole = { λ first now lines given h. h };
+}
+
+/// Counts lines, and refuses moments.
+#[derive(Drop)]
+struct LineCount {
+    lines: u64,
+}
+
+impl LineHearer for LineCount {
+    ghost use Rattle.std.specs.Prelude.{◌≡◌, ◌+◌, ◌-◌, ◌^◌, length, min};
+    ghost use Rattle.nx_fec.specs.AirFile.{moment};
+
+    type Refusal = u64;
+
+    ghost stands = { λ first now lines. now.lines ≡ min (first.lines + length lines) (2 ^ 64 - 1) };
+
+    ghost refuses = { λ first lines line why. line ≡ moment why };
+
+    fn hear(&mut self, scanner: &Scanner) -> Result<(), u64> {
+        if let Some(LineKind::Moment(moment)) = scanner.latest() {
+            return Err(moment);
+        }
+        self.lines = self.lines.saturating_add(1);
+        Ok(())
+    }
 }
 
 /// What a reader gives before it fails, a piece for each call.
@@ -117,4 +142,28 @@ fn runs_over_failing_devices(rt: HostRuntime) {
     );
     assert_eq!(rt; outcome, Err(LinesFault::Read));
     expect_text(&rt, "written", &writer.into_inner(), b"B 01\nB 1\nB 0\n");
+}
+
+/// What a run that writes nothing answers to a file, and how many lines were taken.
+fn count_lines(file: &[u8]) -> (Result<u64, HearFault<u64>>, u64) {
+    let mut taker = LineCount { lines: 0 };
+    let outcome = hear_lines(&mut Counting::new(file), &mut taker);
+    (outcome, taker.lines)
+}
+
+#[test]
+fn hears_lines(rt: HostRuntime) {
+    assert_eq!(rt; count_lines(b"B 01\nRS E\n"), (Ok(2), 2));
+    assert_eq!(rt;
+        count_lines(b"B 01\nT 7\nB 1\n"),
+        (Err(HearFault::Refused { line: 2, why: 7 }), 1)
+    );
+    assert_eq!(rt;
+        count_lines(b"B 01\nB"),
+        (Err(HearFault::Line(LineFault::LineCut { line: 2 })), 1)
+    );
+    let mut taker = LineCount { lines: 0 };
+    let mut reader = Counting::new(Failing { calls: 0 });
+    assert_eq!(rt; hear_lines(&mut reader, &mut taker), Err(HearFault::Read));
+    assert_eq!(rt; (reader.failures(), taker.lines), (1, 3));
 }
