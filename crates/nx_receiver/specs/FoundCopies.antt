@@ -2,7 +2,7 @@
 -- (the form of a message is that of ITU-R M.540). No copy reaches from one lock into another, since
 -- each lock has a text of its own (this profile). Then tagged: a copy bears the moment and the
 -- selection that are in force at the place of its second digit.
-use Rattle.std.specs.Prelude.{ℕ, ◌+◌, ◌-◌, ◌/◌, Bool, true, List, [], ◌∷◌, ◌++◌, map, length}
+use Rattle.std.specs.Prelude.{ℕ, ◌+◌, ◌-◌, Bool, true, List, [], ◌∷◌, ◌++◌, map}
 use Rattle.std.specs.Prelude.{slice_get, unwrap_or}
 use Rattle.std.specs.Option.{option_map}
 use Rattle.nx_envelope.specs.Copies.{Copy, ended_copies, open_headers, closed_copy, copies}
@@ -11,6 +11,7 @@ use Rattle.nx_envelope.specs.declared.found.How.{How}
 use Rattle.nx_envelope.specs.declared.identity.Identity.{Identity}
 use Rattle.nx_memory.specs.Selection.{admits}
 use Rattle.nx_sync.specs.Locks.{Lock, Now, hunting, locked}
+use Rattle.nx_sync.specs.Words.{whole_words}
 use Rattle.nx_receiver.specs.declared.entry.Entry.{Entry}
 use Rattle.nx_receiver.specs.Events.{Event, Setting, setting_at}
 use Rattle.nx_receiver.specs.LockText.{PlacedByte, bytes_of, lock_text}
@@ -64,7 +65,7 @@ past_copies bits (lock ∷ older) = past_copies bits older ++ all_in (past_text 
 -- the text of the lock that stands, if one does: that of the words that were heard whole
 abbrev pub standing_text : List Bool → Now → List PlacedByte
 standing_text bits (hunting p) = []
-standing_text bits (locked p t) = lock_text bits t ((length bits - t) / 7)
+standing_text bits (locked p t) = lock_text bits t (whole_words bits t)
 
 -- the copies that have ended after these bits, where these locks are past and this stands
 unfoldable pub ended_so_far : List Bool → List Lock → Now → List FoundCopy

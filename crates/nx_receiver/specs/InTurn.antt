@@ -3,15 +3,15 @@ use Rattle.std.specs.Prelude.{◌≡◌, ℕ, List, [], ◌∷◌, ◌++◌, map
 use Rattle.std.specs.List.{flat_map}
 use Rattle.nx_fec.specs.declared.channel.Channel.{Channel}
 use Rattle.nx_fec.specs.declared.channel.Channel.TheVariants.{Zero, One, Two}
-use Rattle.nx_receiver.specs.FoundCopies.{TaggedCopy, ended_so_far, found_to_end}
-use Rattle.nx_receiver.specs.Log.{Prints}
+use Rattle.nx_receiver.specs.FoundCopies.{TaggedCopy}
+use Rattle.nx_receiver.specs.Log.{HasPrinted, PrintsToEnd}
 use Rattle.nx_receiver.specs.Shares.{Given, MarkedCopy, Starts, copies_on, marked, share, start_on}
 
 -- The copies of each channel are what is printed of its share so far.
 abbrev pub HavePrinted : Starts → List Given → List MarkedCopy → Type 0
 HavePrinted starts given copies =
     (channel : Channel)
-    → Prints ended_so_far (start_on starts channel) (share channel given) (copies_on channel copies)
+    → HasPrinted (start_on starts channel) (share channel given) (copies_on channel copies)
 
 -- What is printed of the copies that have ended, in the order in which they end: what is printed of
 -- a beginning of what is given is so many of them, from the first on. What is given at once ends
@@ -29,7 +29,7 @@ pub record PrintAllToEnd (starts : Starts) (given : List Given) (copies : List M
   pub ended : List MarkedCopy
   pub in_turn : PrintsInTurn starts given ended
   pub closed : Channel → List TaggedCopy
-  pub to_end : (channel : Channel) → Prints found_to_end (start_on starts channel)
+  pub to_end : (channel : Channel) → PrintsToEnd (start_on starts channel)
       (share channel given) (copies_on channel ended ++ closed channel)
   pub whole : copies
       ≡ ended ++ flat_map (λ channel. map (marked channel) (closed channel)) (Zero ∷ One ∷ Two ∷ [])

@@ -14,6 +14,7 @@ pub mod Listen
 pub mod ListenExample
 pub mod ListenFrom
 pub mod ListenOnce
+pub mod Listener
 pub mod LockText
 pub mod Log
 pub mod Once

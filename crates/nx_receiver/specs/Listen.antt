@@ -89,7 +89,7 @@ pub record IsLogOfFile (starts : Starts) (bytes : List ℕ) (lines : List Line)
     (copies : List MarkedCopy) (log : List ℕ) : Type 0 where
   pub file : IsAirFile air_limit bytes lines
   pub taken : AreTaken starts lines
-  pub printed : PrintAllToEnd starts (map given_of lines) copies
+  pub printed : PrintAllToEnd starts (given_by lines) copies
   pub spelled : IsLog copies log
 
 -- the first half of the headline: the air file of these bytes has this log
@@ -102,7 +102,7 @@ IsLogOf starts bytes log =
 pub record IsLogOfLines (starts : Starts) (lines : List Line) (log : List ℕ) : Type 0 where
   pub taken : AreTaken starts lines
   pub copies : List MarkedCopy
-  pub printed : PrintsInTurn starts (map given_of lines) copies
+  pub printed : PrintsInTurn starts (given_by lines) copies
   pub spelled : IsLog copies log
 
 -- the log of the whole file was written, and the report counts its lines, its elements and its

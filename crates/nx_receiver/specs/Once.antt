@@ -40,42 +40,35 @@ FewBetween copies start message =
 -- What has to be met, so that a message is printed once of all that a receiver is given.
 pub record IsHeardInTime (start : Start) (events : List Event) (parts : List Part)
     (message : MessageView) : Type 0 where
-  -- its bits are cut into gaps of any bits and emissions that are received as the channel says
+  -- The bits are cut into gaps of any bits and emissions that are received as the channel says.
   pub cut : IsCut (elements_among events) parts
-  -- the message isn't numbered 00, and is sent, once or more often
-  pub numbered : 0 < message.identity.number
+  -- The message is sent in these emissions, once or more often.
   pub place : ℕ
   pub sent : IsSentAt parts message place
-  -- each copy that is found with its identity is one of its sendings, so all carry the same text
+  -- It is not numbered 00.
+  pub numbered : 0 < message.identity.number
+  -- Each copy that is found with its identity is one of its sendings, so all carry the same text.
   pub locks : List Lock
   pub now : Now
   pub stands : IsNow (elements_among events) locks now
   pub alone : (copy : FoundCopy) → Contains (found_to_end (elements_among events) locks now) copy
       → copy.identity ≡ message.identity → IsSentAt parts message copy.place
-  -- it is selected at each sending
+  -- It is selected at each sending.
   pub selected : (at : ℕ) → IsSentAt parts message at
       → IsTrue (admits (setting_at (first_setting start) events at).refused message.identity)
-  -- any two sendings lie less than 66 hours apart
+  -- Any two sendings lie less than 66 hours apart.
   pub close : (one other : ℕ) → IsSentAt parts message one → IsSentAt parts message other
       → (setting_at (first_setting start) events one).moment
       < (setting_at (first_setting start) events other).moment + seconds_known
-  -- the first of the copies that bear its identity, those before it and those after it
-  pub before : List TaggedCopy
-  pub first : TaggedCopy
-  pub after : List TaggedCopy
-  pub whole : before ++ first ∷ after
-      ≡ tagged_copies (first_setting start) events (found_to_end (elements_among events) locks now)
-  pub none_before : copies_of message.identity before ≡ []
-  pub named : IsTrue (same_identity first.identity message.identity)
-  -- there no entry of its identity is live: an entry that the first list has of it is 66 hours old
-  -- by then, or 200 came after it
-  pub unknown : is_remembered (entries_after start.entries before) first ≡ false
-  -- 200 identities suffice: fewer than 200 entries are made between it and any later copy of its
-  -- identity
-  pub few : (between more : List TaggedCopy) (later : TaggedCopy)
-      → after ≡ between ++ later ∷ more → IsTrue (same_identity later.identity message.identity)
-      → length (entries_made (entries_after start.entries (before ++ first ∷ [])) between)
-      < most_entries
+  -- At its first copy no entry of its identity is live: an entry that the first list has of it is
+  -- 66 hours old by then, or 200 came after it.
+  pub unknown : IsUnknownAtFirst start.entries message.identity
+      (tagged_copies (first_setting start) events (found_to_end (elements_among events) locks now))
+  -- 200 identities suffice: fewer than 200 entries are made between its first copy and any later
+  -- one.
+  pub few : FewBetween
+      (tagged_copies (first_setting start) events (found_to_end (elements_among events) locks now))
+      start message
 
 -- Exactly one of the printed copies bears the identity of the message: it is full, has 0 errors,
 -- and its text is the message's, letter for letter.

@@ -1,6 +1,5 @@
 pub mod Awaiting
 pub mod Heads
-pub mod Heard
 pub mod Listener
 pub mod ListenerBegins
 pub mod LockReader

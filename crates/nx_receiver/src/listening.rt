@@ -1,45 +1,41 @@
 //! Listening to an air file: the log of its lines, written while it is read.
 
-ghost use Rattle.std.specs.Prelude.{◌≡◌, ◌+◌, ◌-◌, ◌^◌, ◌<◌, ◌≤◌, ℕ, Bool, false, List, [], ◌∷◌, ◌++◌, length, map, take, drop, Option, Some, IfErr, IfOk, IfSome, MatchResult, OnOk};
+ghost use Rattle.std.specs.Prelude.{◌≡◌, ◌+◌, ◌-◌, ◌^◌, ◌<◌, ◌≤◌, ℕ, Bool, false, List, [], ◌∷◌, ◌++◌, length, map, take, drop, Option, Some, IfOk, IfSome, MatchResult, OnOk};
 ghost use Rattle.nx_code.specs.Reading.{IsCapital};
 ghost use Rattle.nx_envelope.specs.Moment.{last_moment};
 ghost use Rattle.nx_fec.specs.AirFile.{Line};
 ghost use Rattle.nx_fec.specs.AirFile as line;
 ghost use Rattle.nx_fec.specs.Transfers.{FailsOnce, HasWritten, WroteSome, Writes, devices};
 ghost use Rattle.nx_fec.specs.LineRuns.{ExplainsTaking, HasGiven, HasTaken};
-ghost use Rattle.nx_memory.specs.Memory.{newest_moment};
-ghost use Rattle.nx_memory.specs.Saved.{AreSavedEntries};
 ghost use Rattle.nx_memory.specs.Selection.{is_vital};
-ghost use Rattle.nx_receiver.specs.Chain.{Leaves};
-ghost use Rattle.nx_receiver.specs.Events.{Refuses, Start, at_moment, command};
+ghost use Rattle.nx_receiver.specs.Events.{command};
 ghost use Rattle.nx_receiver.specs.Events as events;
-ghost use Rattle.nx_receiver.specs.Listen.{events_on};
 ghost use Rattle.nx_receiver.specs.ListenFrom.{GoesOnBy};
 ghost use Rattle.nx_receiver.specs.ListenOnce.{ListensOnce};
 ghost use Rattle.nx_receiver.specs.Log.{IsLog};
-ghost use Rattle.nx_receiver.specs.Receiver.{Stands, TakesEvent, entry_list};
-ghost use Rattle.nx_receiver.specs.Shares.{Given, Starts, all_at_zero, marked, saved_of, start_on, starts_from};
-ghost use Rattle.nx_receiver.specs.private.Awaiting.{HandsOut, HearsUpTo};
-ghost use Rattle.nx_receiver.specs.private.Listener.{BeginsFrom, HasClosed, HasClosedSome, HasFinished, HeardSome, HearsLog, IsHearing, IsListening, Listening, RefusesFrom, RefusesLine, StandsFrom, content, count_of, lines_fault, receiver_on, refusal_fault, starts_of, then_elements, with_receiver};
+ghost use Rattle.nx_receiver.specs.Receiver.{TakesEvent, entry_list};
+ghost use Rattle.nx_receiver.specs.Shares.{Given, Starts, all_at_zero, marked, starts_from};
+ghost use Rattle.nx_receiver.specs.private.Awaiting.{HandsOut};
+ghost use Rattle.nx_receiver.specs.Listener.{Listening, content, count_of, receiver_on, starts_of, then_elements, with_receiver};
+ghost use Rattle.nx_receiver.specs.private.Listener.{BeginsFrom, HasClosed, HasClosedSome, HeardSome, HearsLog, IsHearing, IsListening, RefusesFrom, RefusesLine, StandsFrom, lines_fault, refusal_fault};
 ghost use Rattle.nx_receiver.specs.declared.listen_fault.ListenFault.TheVariants.{Memory};
 
 mod unlogged;
 
 use crate::entry::Entry;
-use crate::fault::{MomentFault, ReceiverFault};
+use crate::fault::MomentFault;
 use crate::listen_fault::ListenFault;
+use crate::listener::Listener;
 use crate::over::Over;
-use crate::receiver::Receiver;
 use crate::writing::entry_bytes;
 use nx_envelope::Letter;
 use nx_fec::{
     Batch, Channel, Counting, LineFault, LineKind, LineTaker, LinesFault, LinesRead,
     PackedElements, Scanner, TakeFault, WriteFault, run_lines, write_on,
 };
-use nx_memory::{RingRecall, Saved, SavedSet, Selection};
+use nx_memory::SavedSet;
 use std::alloc::{AllocError, Global};
 use std::io::{Read, Write};
-use std::marker::Model;
 pub(crate) use unlogged::listen_unlogged;
 
 /// What a run that listened to an air file read and printed.
@@ -111,15 +107,24 @@ pub fn listen_from<R: Read, W: Write>(
     ensures memory { (error : AllocError) → result ≡ Err (Memory error)
         → (reader.new ≡ reader.old) × (writer.new ≡ writer.old) }
 {
-    let mut listener = Listener::starting(alloc, saved)?;
+    let mut listener = line_listener(alloc, saved)?;
     let read = match run_lines(reader, writer, &mut listener) {
         Ok(read) => read,
         Err(fault) => return Err(run_fault(fault)),
     };
     // Before the end: the copy that the end closes is cut, and makes no entry.
     let left = listener.saved();
-    let report = listener.close(writer, read)?;
+    let report = listener.close_log(writer, read)?;
     Ok((report, left))
+}
+
+/// A listener that has taken no line, and starts with what is saved.
+fn line_listener(alloc: Global, saved: &SavedSet) -> Result<Listener, AllocError>
+    ensures listens { IfOk result (λ listener.
+        IsListening (starts_from saved.now) listener [] []) }
+    ensures start { IfOk result (λ listener. starts_of listener ≡ starts_from saved.now) }
+{
+    Listener::starting(alloc, saved)
 }
 
 /// The fault of the run that stands for one of its lines.
@@ -159,88 +164,7 @@ pub enum LineRefusal {
     Vital { subject: Letter },
 }
 
-/// The receivers of three channels, which take the lines of an air file.
-///
-/// It holds what its receivers hold, whether there was a moment, and two counts. No field can be
-/// added whose meaning contracts see (`inverse`); that no field's own type forgets, the proved size
-/// shows.
-#[derive(Drop)]
-struct Listener {
-    on_0: Receiver<RingRecall>,
-    on_1: Receiver<RingRecall>,
-    on_2: Receiver<RingRecall>,
-    has_moment: bool,
-    /// How many elements were heard, and how many entries were given, each at most the greatest
-    /// u64.
-    elements: u64,
-    entries: u64,
-}
-
-impl Model for Listener {
-    ghost use Rattle.std.specs.Coded.{codes};
-    ghost use Rattle.nx_memory.specs.private.RefusedCode.{refused_code};
-    ghost use Rattle.nx_receiver.specs.private.Listener.{Listening};
-
-    ghost Value = { Listening };
-
-    ghost coded = { Prim.hlevel (codes, refused_code) };
-
-    ghost view = { λ l. record {
-      on_0 = l.on_0;
-      on_1 = l.on_1;
-      on_2 = l.on_2;
-      has_moment = l.has_moment;
-      elements = l.elements;
-      entries = l.entries;
-    } };
-
-    // What contracts see gives every field back, so that no field for a history can stand beside
-    // them.
-    ghost inverse = { λ v. record {
-      on_0 = v.on_0;
-      on_1 = v.on_1;
-      on_2 = v.on_2;
-      has_moment = v.has_moment;
-      elements = v.elements;
-      entries = v.entries;
-    } };
-}
-
 impl Listener {
-    /// A listener that has heard nothing, and starts with what is saved.
-    fn starting(alloc: Global, saved: &SavedSet) -> Result<Listener, AllocError>
-        ensures listens { IfOk result (λ listener.
-            IsListening (starts_from saved.now) listener [] []) }
-        ensures start { IfOk result (λ listener. starts_of listener ≡ starts_from saved.now) }
-    {
-        // No room for a field of a type whose own model forgets what it holds.
-        prove!(size_of::<Listener>() == 3 * size_of::<Receiver<RingRecall>>() + 24);
-        let (selected_0, kept_0) = kept_on(saved, Channel::Zero);
-        let (selected_1, kept_1) = kept_on(saved, Channel::One);
-        let (selected_2, kept_2) = kept_on(saved, Channel::Two);
-        let moment = saved.newest().unwrap_or(0);
-        let on_0 = receiver_from(alloc, selected_0, kept_0, moment)?;
-        let on_1 = receiver_from(alloc, selected_1, kept_1, moment)?;
-        let on_2 = receiver_from(alloc, selected_2, kept_2, moment)?;
-        Ok(Listener {
-            on_0,
-            on_1,
-            on_2,
-            has_moment: false,
-            elements: 0,
-            entries: 0,
-        })
-    }
-
-    /// What it leaves after the lines that it heard.
-    fn saved(&self) -> SavedSet
-        ensures { (starts : Starts) (lines : List Line) (bytes : List ℕ)
-            → IsListening starts self.now lines bytes → (channel : Channel)
-            → Leaves (start_on starts channel) (events_on channel lines) (saved_of result channel) }
-    {
-        SavedSet::of(self.on_0.saved(), self.on_1.saved(), self.on_2.saved())
-    }
-
     /// Takes a moment, which belongs to all channels.
     fn take_moment(&mut self, moment: u64) -> Result<(), LineRefusal>
         ensures { (starts : Starts) (lines : List Line) (bytes : List ℕ)
@@ -249,37 +173,14 @@ impl Listener {
             (λ _. IsListening starts self.new (lines ++ line.moment moment ∷ []) bytes)
             (λ why. RefusesLine starts lines (line.moment moment) why × (self.new ≡ self.old)) }
     {
-        match self.set_moments(moment) {
-            Ok(()) => {
-                self.has_moment = true;
-                Ok(())
-            }
+        match self.set_moment(moment) {
+            Ok(()) => Ok(()),
             Err(fault) => Err(LineRefusal::Moment(fault)),
         }
     }
 
-    /// Sets the moment of each receiver. Where all have the same one, all take the next or none
-    /// does.
-    fn set_moments(&mut self, moment: u64) -> Result<(), MomentFault>
-        ensures stands { OnOk result ((channel : Channel)
-            → TakesEvent content (receiver_on self.old channel) (receiver_on self.new channel)
-            (at_moment moment)) }
-        ensures taken { OnOk result
-            ((self.old.on_0.watch.moment ≤ moment) × (moment ≤ last_moment)) }
-        ensures refused { self.old.on_1.watch.moment ≡ self.old.on_0.watch.moment
-            → self.old.on_2.watch.moment ≡ self.old.on_0.watch.moment
-            → IfErr result (λ fault.
-            Refuses self.old.on_0.watch.moment moment fault × (self.new ≡ self.old)) }
-        ensures elements { self.new.elements ≡ self.old.elements }
-        ensures entries { self.new.entries ≡ self.old.entries }
-    {
-        self.on_0.set_moment(moment)?;
-        self.on_1.set_moment(moment)?;
-        self.on_2.set_moment(moment)
-    }
-
     /// Takes a command to refuse a subject on a channel.
-    fn refuse_subject(&mut self, channel: Channel, byte: u8) -> Result<(), LineRefusal>
+    fn take_refusal(&mut self, channel: Channel, byte: u8) -> Result<(), LineRefusal>
         requires { IsCapital byte }
         ensures stands { OnOk result
             (TakesEvent content (receiver_on self.old channel) (receiver_on self.new channel)
@@ -291,81 +192,11 @@ impl Listener {
             (λ why. RefusesLine starts lines (line.refuse_subject mark byte) why
             × (self.new ≡ self.old)) }
     {
-        let subject = letter(byte);
-        let refused = match channel {
-            Channel::Zero => self.on_0.refuse_subject(subject),
-            Channel::One => self.on_1.refuse_subject(subject),
-            Channel::Two => self.on_2.refuse_subject(subject),
-        };
-        match refused {
+        match self.refuse_subject(channel, letter(byte)) {
             Ok(()) => Ok(()),
             Err(vital) => Err(LineRefusal::Vital {
                 subject: vital.subject,
             }),
-        }
-    }
-
-    /// Takes a command to refuse a station on a channel.
-    fn refuse_station(&mut self, channel: Channel, byte: u8)
-        requires { IsCapital byte }
-        ensures stands { TakesEvent content (receiver_on self.old channel)
-            (receiver_on self.new channel) (command (events.refuse_station byte)) }
-        ensures only { self.new ≡ with_receiver self.old channel (receiver_on self.new channel) }
-    {
-        let station = letter(byte);
-        match channel {
-            Channel::Zero => self.on_0.refuse_station(station),
-            Channel::One => self.on_1.refuse_station(station),
-            Channel::Two => self.on_2.refuse_station(station),
-        }
-    }
-
-    /// Takes a command to refuse a station no longer on a channel.
-    fn accept_station(&mut self, channel: Channel, byte: u8)
-        requires { IsCapital byte }
-        ensures stands { TakesEvent content (receiver_on self.old channel)
-            (receiver_on self.new channel) (command (events.accept_station byte)) }
-        ensures only { self.new ≡ with_receiver self.old channel (receiver_on self.new channel) }
-    {
-        let station = letter(byte);
-        match channel {
-            Channel::Zero => self.on_0.accept_station(station),
-            Channel::One => self.on_1.accept_station(station),
-            Channel::Two => self.on_2.accept_station(station),
-        }
-    }
-
-    /// Takes a command to refuse a subject no longer on a channel.
-    fn accept_subject(&mut self, channel: Channel, byte: u8)
-        requires { IsCapital byte }
-        ensures stands { TakesEvent content (receiver_on self.old channel)
-            (receiver_on self.new channel) (command (events.accept_subject byte)) }
-        ensures only { self.new ≡ with_receiver self.old channel (receiver_on self.new channel) }
-    {
-        let subject = letter(byte);
-        match channel {
-            Channel::Zero => self.on_0.accept_subject(subject),
-            Channel::One => self.on_1.accept_subject(subject),
-            Channel::Two => self.on_2.accept_subject(subject),
-        }
-    }
-
-    /// Hears elements of a channel up to and with the first one with which something is over that
-    /// may bring an entry; says how many, and what is over.
-    // Inlined always: it runs for each line of elements.
-    #[inline(always)]
-    fn hear_on(&mut self, channel: Channel, packed: &PackedElements, from: usize) -> (usize, Over)
-        requires { from ≤ length packed.now }
-        ensures within { from + result.0 ≤ length packed.now }
-        ensures stands { HearsUpTo content (receiver_on self.old channel)
-            (receiver_on self.new channel) (take result.0 (drop from packed.now)) result.1 }
-        ensures some { from < length packed.now → 0 < result.0 }
-        ensures only { self.new ≡ with_receiver self.old channel (receiver_on self.new channel) }
-    {
-        match channel {
-            Channel::Zero => self.on_0.hear(packed, from),
-            Channel::One => self.on_1.hear(packed, from),
-            Channel::Two => self.on_2.hear(packed, from),
         }
     }
 
@@ -471,7 +302,7 @@ impl Listener {
 
     /// Ends the file: writes, channel by channel, the entry of the copy that its end closes, where
     /// that is printed, and counts.
-    fn close<W: Write>(
+    fn close_log<W: Write>(
         self,
         writer: &mut Counting<W>,
         read: LinesRead,
@@ -549,7 +380,8 @@ impl Ending {
 }
 
 impl LineTaker for Listener {
-    ghost use Rattle.nx_receiver.specs.private.Listener.{BeginsFrom, RefusesFrom, StandsFrom, starts_of};
+    ghost use Rattle.nx_receiver.specs.Listener.{starts_of};
+    ghost use Rattle.nx_receiver.specs.private.Listener.{BeginsFrom, RefusesFrom, StandsFrom};
     ghost use Rattle.nx_receiver.specs.private.ListenerBegins.{begins-listening};
 
     type Refusal = LineRefusal;
@@ -574,53 +406,27 @@ impl LineTaker for Listener {
             LineKind::Elements(mark) => {
                 return self.take_elements(mark, scanner.elements(), writer, batch);
             }
-            LineKind::RefuseStation(mark, byte) => self.refuse_station(Channel::of(mark), byte),
-            LineKind::AcceptStation(mark, byte) => self.accept_station(Channel::of(mark), byte),
+            LineKind::RefuseStation(mark, byte) => self.refuse_station(
+                Channel::of(mark),
+                letter(byte),
+            ),
+            LineKind::AcceptStation(mark, byte) => self.accept_station(
+                Channel::of(mark),
+                letter(byte),
+            ),
             LineKind::RefuseSubject(mark, byte) => {
-                return taking_of(self.refuse_subject(Channel::of(mark), byte));
+                return taking_of(self.take_refusal(Channel::of(mark), byte));
             }
-            LineKind::AcceptSubject(mark, byte) => self.accept_subject(Channel::of(mark), byte),
+            LineKind::AcceptSubject(mark, byte) => self.accept_subject(
+                Channel::of(mark),
+                letter(byte),
+            ),
         }
         Ok(())
     }
 
     ghost whole = { λ first now lines bytes h.
         begins-listening (starts_of first) now lines bytes h };
-}
-
-/// What is selected on a channel at first, and what is saved of it.
-fn kept_on(saved: &SavedSet, channel: Channel) -> (Selection, &Saved)
-    ensures selected { result.0 ≡ (saved_of saved.now channel).refused }
-    ensures kept { result.1.now ≡ saved_of saved.now channel }
-    ensures sound { AreSavedEntries (saved_of saved.now channel).entries }
-{
-    let Some(kept) = saved.get(channel.number()) else {
-        unreachable!()
-    };
-    (kept.selection(), kept)
-}
-
-/// A receiver that has heard nothing, and starts with this selection and the saved entries, at this
-/// moment.
-fn receiver_from(
-    alloc: Global,
-    selected: Selection,
-    kept: &Saved,
-    moment: u64,
-) -> Result<Receiver<RingRecall>, AllocError>
-    requires newest { newest_moment kept.now.entries ≤ moment }
-    requires range { moment ≤ last_moment }
-    ensures stands { (start : Start) → start.entries ≡ kept.now.entries → start.moment ≡ moment
-        → start.refused ≡ selected → IfOk result (λ r. Stands content start r [] []) }
-    ensures kept { IfOk result (λ r. content r.memory ≡ kept.now.entries) }
-{
-    let mut memory = RingRecall::new(alloc)?;
-    kept.load(&mut memory);
-    match Receiver::starting(alloc, memory, moment, selected) {
-        Ok(receiver) => Ok(receiver),
-        Err(ReceiverFault::Memory(error)) => Err(error),
-        Err(ReceiverFault::MomentRange) => unreachable!(),
-    }
 }
 
 /// What came of taking a line that may be refused.

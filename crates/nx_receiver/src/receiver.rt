@@ -1,6 +1,6 @@
 //! The receiver: elements, moments and commands in, entries out.
 
-ghost use Rattle.std.specs.Prelude.{◌≡◌, ◌≢◌, ◌↔◌, ℕ, Option, MatchResult, false, ◌+◌, ◌<◌, ◌≤◌, ◌==◌, ◌||◌, List, [], ◌++◌, length, take, drop, IfErr, IfOk, IfSome, IsErr, IsNone, IsSome, IsTrue, OnErr, OnOk};
+ghost use Rattle.std.specs.Prelude.{◌≡◌, ◌≢◌, ◌↔◌, ℕ, Option, MatchResult, false, ◌+◌, ◌<◌, ◌≤◌, ◌==◌, ◌||◌, List, [], ◌++◌, length, take, drop, IfErr, IfOk, IfSome, IsErr, IsNone, IsSome, IsTrue, OnErr, OnOk, Bool, true};
 ghost use Rattle.nx_envelope.specs.Moment.{last_moment};
 ghost use Rattle.nx_code.specs.Lists.{last_of};
 ghost use Rattle.nx_memory.specs.Memory.{most_entries, newest_moment};
@@ -9,6 +9,7 @@ ghost use Rattle.nx_memory.specs.Selection.{admits, is_vital};
 ghost use Rattle.nx_receiver.specs.Chain.{Leaves};
 ghost use Rattle.nx_receiver.specs.Events as events;
 ghost use Rattle.nx_receiver.specs.Events.{Event, Start, at_moment, command, first_setting, none_refused, setting_after_all, Refuses, elements};
+ghost use Rattle.nx_receiver.specs.Listener.{IsSpelled};
 ghost use Rattle.nx_receiver.specs.Log.{PrintsToEnd};
 ghost use Rattle.nx_receiver.specs.Printing.{entries_after, printed_copies};
 ghost use Rattle.nx_receiver.specs.Receiver.{HandsOutNoneBefore, RefusesStart, Stands, TakesEvent, entry_list};
@@ -30,7 +31,8 @@ use crate::fault::{MomentFault, ReceiverFault};
 use crate::judging::{judge, judge_head};
 use crate::over::{CopyTag, Over};
 use crate::watch::Watch;
-use crate::writing::give_entry;
+use crate::writing::{MAX_ENTRY, give_entry, spell_entry};
+use arrayvec::ArrayVec;
 use nx_envelope::{Found, FoundHead, Identity, LAST_MOMENT, Letter};
 use nx_fec::{Batch, Channel, Counting, MAX_ELEMENTS, PackedElements, WriteFault};
 use nx_memory::{Listed, Recall, RingRecall, Saved, Selection, Vital};
@@ -219,6 +221,97 @@ impl<M: Recall> Receiver<M> {
             }
         }
         (at, None)
+    }
+
+    /// Hears packed elements from a place on, up to and with the one that ends the first copy that is
+    /// printed, as `feed` does.
+    // Inlined always, as `hear`.
+    #[inline(always)]
+    pub(crate) fn next_entry(
+        &mut self,
+        packed: &PackedElements,
+        from: usize,
+    ) -> (usize, Option<Entry>)
+        requires { from ≤ length packed.now }
+        ensures within { from + result.0 ≤ length packed.now }
+        ensures stands { (start : Start) (history : List Event) (log : List TaggedCopy) →
+            Stands M.content start self.old history log → Stands M.content start self.new
+            (history ++ elements (take result.0 (drop from packed.now)))
+            (log ++ entry_list result.1) }
+        ensures first { HandsOutNoneBefore M.content self.old (drop from packed.now) result.0 }
+        ensures all { IsNone result.1 → from + result.0 ≡ length packed.now }
+        ensures some { IsSome result.1 → 0 < result.0 }
+        ensures moment { IfSome result.1 (λ entry. entry.moment ≤ last_moment) }
+    {
+        let mut heard = 0;
+        while heard < packed.len() - from {
+            let (count, over) = self.hear(packed, from + heard);
+            heard += count;
+            if over == Over::Nothing {
+                return (heard, None);
+            }
+            let entry = self.finish(over);
+            if entry.is_some() {
+                return (heard, entry);
+            }
+        }
+        (heard, None)
+    }
+
+    /// Hears packed elements as `next_entry` does, and spells the entry on a channel in place of what
+    /// `spelled` had: says whether there is one.
+    // Inlined always, as `hear`.
+    #[inline(always)]
+    pub(crate) fn next_spelled(
+        &mut self,
+        packed: &PackedElements,
+        from: usize,
+        channel: Channel,
+        spelled: &mut ArrayVec<u8, MAX_ENTRY>,
+    ) -> (usize, bool)
+        requires { from ≤ length packed.now }
+        ensures within { from + result.0 ≤ length packed.now }
+        ensures stands { (copies : List TaggedCopy)
+            × IsSpelled channel result.1 copies spelled.new.items
+            × ((start : Start) (history : List Event) (log : List TaggedCopy)
+            → Stands M.content start self.old history log → Stands M.content start self.new
+            (history ++ elements (take result.0 (drop from packed.now))) (log ++ copies)) }
+        ensures first { HandsOutNoneBefore M.content self.old (drop from packed.now) result.0 }
+        ensures all { result.1 ≡ false → from + result.0 ≡ length packed.now }
+        ensures some { result.1 ≡ true → 0 < result.0 }
+        ensures unchanged { result.1 ≡ false → spelled.new ≡ spelled.old }
+    {
+        let mut heard = 0;
+        while heard < packed.len() - from {
+            let (count, over) = self.hear(packed, from + heard);
+            heard += count;
+            if over == Over::Nothing {
+                return (heard, false);
+            }
+            if self.spell(over, channel, spelled) {
+                return (heard, true);
+            }
+        }
+        (heard, false)
+    }
+
+    /// Finishes what is over, and spells the entry that it brings on a channel, if it brings one, in
+    /// place of what `spelled` had: says whether it does.
+    // Not inlined, so that no loop over elements has a place for an entry.
+    #[inline(never)]
+    fn spell(&mut self, over: Over, channel: Channel, spelled: &mut ArrayVec<u8, MAX_ENTRY>) -> bool
+        ensures stands { (copies : List TaggedCopy)
+            × IsSpelled channel result copies spelled.new.items
+            × ((start : Start) (history : List Event) (log : List TaggedCopy)
+            → Awaits M.content start self.old history log over
+            → Stands M.content start self.new history (log ++ copies)) }
+        ensures unchanged { result ≡ false → spelled.new ≡ spelled.old }
+    {
+        let Some(entry) = self.finish(over) else {
+            return false;
+        };
+        spell_entry(&entry, channel, spelled);
+        true
     }
 
     /// Ends the elements, and hands out the entry that their end prints: that of the open copy,

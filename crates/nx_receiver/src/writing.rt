@@ -94,10 +94,21 @@ pub(crate) fn give_entry<W: Write>(
     batch.give(writer, end_of(text))
 }
 
-/// The bytes of an entry as it stands in the log. The moment is at most the last one.
-pub(crate) fn entry_bytes(entry: &Entry, channel: Channel) -> ArrayVec<u8, MAX_ENTRY>
+/// The bytes of an entry as it stands in the log of its channel. The moment is at most the last one,
+/// as that of every copy is.
+pub fn entry_bytes(entry: &Entry, channel: Channel) -> ArrayVec<u8, MAX_ENTRY>
     requires { entry.now.moment ≤ last_moment }
     ensures { IsEntry (marked channel (copy_of entry.now)) result.items }
+{
+    let mut bytes = ArrayVec::new();
+    spell_entry(entry, channel, &mut bytes);
+    bytes
+}
+
+/// Puts the bytes of an entry in place of those that were there. The moment is at most the last one.
+pub(crate) fn spell_entry(entry: &Entry, channel: Channel, bytes: &mut ArrayVec<u8, MAX_ENTRY>)
+    requires { entry.now.moment ≤ last_moment }
+    ensures { IsEntry (marked channel (copy_of entry.now)) bytes.new.items }
 {
     let head = FoundHead {
         identity: entry.identity,
@@ -106,11 +117,10 @@ pub(crate) fn entry_bytes(entry: &Entry, channel: Channel) -> ArrayVec<u8, MAX_E
     };
     let text = entry.text.as_slice();
     let line = head_line(&head, text, entry.moment, channel);
-    let mut bytes = ArrayVec::new();
-    append(&mut bytes, line.as_slice());
-    append(&mut bytes, text);
-    append(&mut bytes, end_of(text));
-    bytes
+    bytes.clear();
+    append(bytes, line.as_slice());
+    append(bytes, text);
+    append(bytes, end_of(text));
 }
 
 /// The line that heads an entry.

@@ -11,27 +11,54 @@ use Rattle.nx_envelope.specs.Header.{space, start_marker, end_marker, newline}
 use Rattle.nx_envelope.specs.Identity.{identity_bytes}
 use Rattle.nx_envelope.specs.Message.{text_of, MessageView}
 use Rattle.nx_envelope.specs.declared.identity.Identity.{Identity}
+use Rattle.nx_envelope.specs.declared.letter.Letter.{Letter}
 use Rattle.nx_fec.specs.Emission.{SentPosition, phasing_position, traffic_position, end_position}
 
 -- the combinations whose figures are the digits 0 to 9
 abbrev pub digit_combination : ℕ → ℕ
 digit_combination digit = slice_index (16 ∷ 17 ∷ 23 ∷ 5 ∷ 18 ∷ 20 ∷ 25 ∷ 21 ∷ 9 ∷ 15 ∷ []) digit
 
--- The head of a message: letter shift (29), Z, C, Z, C, space (31), station, subject, figure shift
--- (30), the two digits of the number, carriage return (27) and line feed (28). The combination of a
--- letter is 1 for A, whose byte is 65, to 26 for Z.
+-- the combinations of the two shifts, of a space, and of the end of a line (M.476)
+abbrev pub letter_shift : ℕ
+letter_shift = 29
+
+abbrev pub figure_shift : ℕ
+figure_shift = 30
+
+abbrev pub space_combination : ℕ
+space_combination = 31
+
+abbrev pub carriage_return : ℕ
+carriage_return = 27
+
+abbrev pub line_feed : ℕ
+line_feed = 28
+
+-- the combination of a letter: 1 for A, whose byte is 65, to 26 for Z
+abbrev pub letter_combination : Letter → ℕ
+letter_combination letter = letter.byte - 64
+
+-- the letters that begin a message, Z C Z C, and those that end it, N N N N, before what follows
+abbrev pub start_and : List ℕ → List ℕ
+start_and more = 26 ∷ 3 ∷ 26 ∷ 3 ∷ more
+
+abbrev pub end_and : List ℕ → List ℕ
+end_and more = 14 ∷ 14 ∷ 14 ∷ 14 ∷ more
+
+-- The head of a message: letter shift, Z, C, Z, C, space, station, subject, figure shift, the two
+-- digits of the number, carriage return and line feed.
 unfoldable pub head : Identity → List ℕ
 head identity =
-    29 ∷ 26 ∷ 3 ∷ 26 ∷ 3 ∷ 31
-    ∷ (identity.b1.byte - 64) ∷ (identity.b2.byte - 64)
-    ∷ 30 ∷ digit_combination (identity.number / 10) ∷ digit_combination (identity.number % 10)
-    ∷ 27 ∷ 28 ∷ []
+    letter_shift ∷ start_and (space_combination
+    ∷ letter_combination identity.b1 ∷ letter_combination identity.b2
+    ∷ figure_shift ∷ digit_combination (identity.number / 10)
+    ∷ digit_combination (identity.number % 10) ∷ carriage_return ∷ line_feed ∷ [])
 
 -- The end of a message, by the shift that its text leaves in force: a letter shift if that is
 -- figures; N, N, N, N, carriage return, line feed, line feed.
 unfoldable pub ending : Shift → List ℕ
-ending Letters = 14 ∷ 14 ∷ 14 ∷ 14 ∷ 27 ∷ 28 ∷ 28 ∷ []
-ending Figures = 29 ∷ 14 ∷ 14 ∷ 14 ∷ 14 ∷ 27 ∷ 28 ∷ 28 ∷ []
+ending Letters = end_and (carriage_return ∷ line_feed ∷ line_feed ∷ [])
+ending Figures = letter_shift ∷ end_and (carriage_return ∷ line_feed ∷ line_feed ∷ [])
 
 -- the combinations of a message: its head, its text spelled from the figure shift, its end
 pub record IsSpelled (message : MessageView) (numbers : List ℕ) : Type 0 where
@@ -66,7 +93,7 @@ layout [] = []
 layout (numbers ∷ spellings) =
     phasing_and_message first_phasing numbers
     ++ (flat_map (phasing_and_message further_phasing) spellings
-    ++ replicate 3 end_position)
+    ++ replicate end_positions end_position)
 
 -- the positions of a list of messages
 pub record IsBroadcast (messages : List MessageView) (positions : List SentPosition) : Type 0 where

@@ -13,7 +13,7 @@ phasing_received = 24
 -- the first slot whose word is received: of the phasing before the first message the last 24
 -- positions are
 abbrev pub first_slot : ℕ
-first_slot = 2 * (first_phasing - 24)
+first_slot = 2 * (first_phasing - phasing_received)
 
 -- the slot of the first word of the first message
 abbrev pub message_slot : ℕ
@@ -36,7 +36,7 @@ heard_in heard slot = slice_index heard (slot - first_slot)
 
 -- the word of the slot is heard as it was sent, where these are heard from the first slot on
 abbrev pub IsAsSent : List SentPosition → List ℕ → ℕ → Type 0
-IsAsSent positions heard slot = slice_index heard (slot - first_slot) ≡ word_sent positions slot
+IsAsSent positions heard slot = heard_in heard slot ≡ word_sent positions slot
 
 -- The emission of these positions passes the channel, and these are the words that are heard from
 -- the first slot on, to its last slot, 2P-2 of P positions, each by its number. The words before
@@ -45,11 +45,11 @@ IsAsSent positions heard slot = slice_index heard (slot - first_slot) ≡ word_s
 -- words, in the slots 2i and 2i+5, is as sent.
 pub record PassesChannel (positions : List SentPosition) (heard : List ℕ) : Type 0 where
   pub words : EachIndex heard (λ slot. slice_index heard slot < 128)
-  pub whole : first_slot + length heard ≡ 2 * length positions - 1
-  pub phasing : (slot : ℕ) → first_slot ≤ slot → slot < 2 * first_phasing
+  pub whole : first_slot + length heard ≡ slots_of positions
+  pub phasing : (slot : ℕ) → first_slot ≤ slot → slot < message_slot
       → IsAsSent positions heard slot
-  pub later : (slot : ℕ) → 2 * first_phasing ≤ slot → slot < 2 * length positions - 1
-      → IsAsSent positions heard slot ⊎ (weight (slice_index heard (slot - first_slot)) ≢ 4)
+  pub later : (slot : ℕ) → message_slot ≤ slot → slot < slots_of positions
+      → IsAsSent positions heard slot ⊎ (weight (heard_in heard slot) ≢ 4)
   pub one_of_two : (i : ℕ) → first_phasing ≤ i → i < length positions
       → position_at positions i ≢ end_position
       → IsAsSent positions heard (2 * i) ⊎ IsAsSent positions heard (2 * i + 5)

@@ -54,13 +54,14 @@ abbrev pub positions_before : List (List ℕ) → ℕ
 positions_before [] = first_phasing
 positions_before (numbers ∷ more) = (length numbers + further_phasing) + positions_before more
 
--- the slot of the RX of the second digit of message i, which is position 10 of the message
+-- the slot of the RX of the second digit of message i, which is position 10 of the message: the RX
+-- of position i is sent in slot 2i+5
 abbrev pub digit_slot : List (List ℕ) → ℕ → ℕ
 digit_slot spellings i = 2 * (positions_before (take i spellings) + 10) + 5
 
 -- The message is sent in a received emission that is one of these parts, as the message of this
 -- index; and its header is at this place: the index, among all bits, of the last bit of the RX word
--- of its second digit, which is sent in slot 2i+5 of position i, the tenth behind its first.
+-- of its second digit.
 pub record IsSentAt (parts : List Part) (sent : MessageView) (at : ℕ) : Type 0 where
   pub before : List Part
   pub emission : ReceivedEmission
@@ -69,7 +70,7 @@ pub record IsSentAt (parts : List Part) (sent : MessageView) (at : ℕ) : Type 0
   pub index : ℕ
   pub message : slice_get emission.messages index ≡ Some sent
   pub place : at ≡ length (flat_map part_bits before)
-      + 7 * (2 * (positions_before (take index emission.spellings) + 10) + 5 - first_slot) + 6
+      + 7 * (digit_slot emission.spellings index - first_slot) + 6
 
 -- a message that is sent, and the place of its header
 pub record Sending : Type 0 where

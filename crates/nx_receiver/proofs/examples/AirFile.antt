@@ -33,8 +33,6 @@ use Rattle.nx_receiver.specs.ListenExample.{example_air_file, example_lines}
 use Rattle.nx_receiver.specs.ListenOnce.{IsHeardInTimeOn}
 use Rattle.nx_receiver.specs.Log.{PrintsToEnd}
 use Rattle.nx_receiver.specs.Once.{IsHeardInTime, IsUnknownAtFirst}
-use Rattle.nx_receiver.specs.private.Heard.{HeardTerms}
-use Rattle.nx_receiver.proofs.once.Found.{heard_at_first}
 use Rattle.nx_receiver.specs.Printing.{printed_copies}
 use Rattle.nx_receiver.specs.Emissions.{copy_of_sending}
 use Rattle.nx_receiver.specs.Shares.{all_at_zero, marked}
@@ -163,10 +161,10 @@ module _ (entries : List MemoryEntry) (from : ℕ) (heard : List Event)
       (sym found-same ∙ alone found this one_found sent_there)
       ∙ ap (λ (s : Setting). tag s this ∷ []) in-force
 
-  terms : IsUnknownAtFirst entries example_message.identity
+  pub heard-there : IsUnknownAtFirst entries example_message.identity
       (tagged_copies (first_setting begun) heard all-found)
-      → HeardTerms begun heard (example_parts first_bits []) example_message
-  terms unknown = record {
+      → IsHeardInTime begun heard (example_parts first_bits []) example_message
+  heard-there unknown = record {
     cut = cut;
     place = place;
     sent = example_sent first_bits [];
@@ -193,12 +191,6 @@ module _ (entries : List MemoryEntry) (from : ℕ) (heard : List Event)
         (not_two (tagged_copies (first_setting begun) heard all-found) before between after
         first later one-tagged e);
   }
-
-  pub heard-there : IsUnknownAtFirst entries example_message.identity
-      (tagged_copies (first_setting begun) heard all-found)
-      → IsHeardInTime begun heard (example_parts first_bits []) example_message
-  heard-there unknown =
-      heard_at_first begun heard (example_parts first_bits []) example_message (terms unknown)
 
 abbrev heard : List Event
 heard = events_on Zero example_lines

@@ -23,8 +23,6 @@ use Rattle.nx_receiver.specs.FoundCopies.{FoundCopy, found_copy, past_copies, fo
 use Rattle.nx_receiver.specs.FoundCopies.{TaggedCopy, tagged_copies}
 use Rattle.nx_receiver.specs.LockText.{lock_text, bytes_of}
 use Rattle.nx_receiver.specs.Once.{IsHeardInTime}
-use Rattle.nx_receiver.specs.private.Heard.{HeardTerms}
-use Rattle.nx_receiver.proofs.once.Found.{heard_at_first}
 use Rattle.nx_receiver.specs.Emissions.{copy_of_sending}
 use Rattle.nx_receiver.specs.Worked.{at_its_slot, damaged_words, heard_elements}
 use Rattle.nx_receiver.proofs.once.Repeats.{none_live}
@@ -114,8 +112,8 @@ one_tagged : length (tagged_copies (first_setting at_its_slot) events found) ≡
 unfolding tagged_copies
 one_tagged = length-map found _ ∙ one_found
 
-terms : HeardTerms at_its_slot events (example_parts first_bits []) example_message
-terms = record {
+pub heard_in_time : IsHeardInTime at_its_slot events (example_parts first_bits []) example_message
+heard_in_time = record {
   cut = cut_is;
   numbered = lit< tt;
   place = length first_bits + 517;
@@ -145,7 +143,3 @@ terms = record {
       (not_two (tagged_copies (first_setting at_its_slot) events found) before between after
       first later one_tagged e);
 }
-
-pub heard_in_time : IsHeardInTime at_its_slot events (example_parts first_bits []) example_message
-heard_in_time =
-    heard_at_first at_its_slot events (example_parts first_bits []) example_message terms

@@ -27,8 +27,6 @@ use Rattle.nx_receiver.specs.FoundCopies.{FoundCopy, found_to_end, past_copies, 
 use Rattle.nx_receiver.specs.FoundCopies.{tagged_copies}
 use Rattle.nx_receiver.specs.LockText.{PlacedByte, bytes_of, lock_text}
 use Rattle.nx_receiver.specs.Once.{FewBetween, IsHeardInTime}
-use Rattle.nx_receiver.specs.private.Heard.{HeardTerms}
-use Rattle.nx_receiver.proofs.once.Found.{heard_at_first}
 use Rattle.nx_receiver.specs.Emissions.{copy_of_sending}
 use Rattle.nx_receiver.specs.FromSend.{BearsAlone, events_as_sent, parts_as_sent, words_sent}
 use Rattle.nx_receiver.proofs.once.Repeats.{none_live}
@@ -210,8 +208,8 @@ module _ (messages : List MessageView) (numbers : List ℕ) (others : List (List
           (identity_is two.other later two.later_is again) in
           absurd (omega (arith, two.below, ap (λ (c : FoundCopy). c.place) same))
 
-      terms : HeardTerms at_zero events parts message
-      terms = record {
+      pub heard_as_sent : IsHeardInTime at_zero events parts message
+      heard_as_sent = record {
         cut = cut;
         numbered = numbered;
         place = place;
@@ -225,9 +223,6 @@ module _ (messages : List MessageView) (numbers : List ℕ) (others : List (List
         unknown = none_live message.identity (tagged_copies (first_setting at_zero) events found);
         few = no_two;
       }
-
-      pub heard_as_sent : IsHeardInTime at_zero events parts message
-      heard_as_sent = heard_at_first at_zero events parts message terms
 
 -- messages of which there are some have combinations
 pub none_spelled : (messages : List MessageView) → messages ≢ [] → AreSpelled messages [] → ⊥

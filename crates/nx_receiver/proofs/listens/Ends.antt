@@ -20,31 +20,27 @@ use Rattle.nx_receiver.specs.InTurn.{PrintAllToEnd}
 use Rattle.nx_receiver.specs.Log.{IsLog, PrintsToEnd}
 use Rattle.nx_receiver.specs.Receiver.{Receiving, Stands, entry_list}
 use Rattle.nx_receiver.specs.Shares.{Given, MarkedCopy, Starts, copies_on, marked, share, start_on}
-use Rattle.nx_receiver.specs.private.Listener.{HasClosed, HasClosedSome, HearsGiven, HearsLog}
-use Rattle.nx_receiver.specs.private.Listener.{Listening, content, count_of}
+use Rattle.nx_receiver.specs.Listener.{HearsGiven, last_copies}
+use Rattle.nx_receiver.specs.private.Listener.{HasClosed, HasClosedSome, HearsLog}
+use Rattle.nx_receiver.specs.Listener.{Listening, content, count_of}
 use Rattle.nx_receiver.specs.declared.entry.Entry.{Entry}
+use Rattle.nx_receiver.specs.declared.listener.LastEntries.{LastEntries}
 use Rattle.nx_receiver.specs.declared.listening.Report.{Report}
 use Rattle.nx_memory.specs.Ring.{RingMemory}
 use Rattle.nx_receiver.proofs.listens.Listener.{counts-on}
 use Rattle.nx_receiver.proofs.receiving.Log.{logs_join, some_log}
-
--- the entry that the end of the elements prints on each channel, if it prints one
-pub record Closing : Type 0 where
-  pub on_0 : Option Entry
-  pub on_1 : Option Entry
-  pub on_2 : Option Entry
 
 -- an entry is one copy
 at-most-one : (entry : Option Entry) → length (entry_list entry) ≤ 1
 at-most-one None = omega arith
 at-most-one (Some entry) = omega arith
 
-abbrev pub closed_on : Closing → Channel → List TaggedCopy
+abbrev pub closed_on : LastEntries → Channel → List TaggedCopy
 closed_on closing Zero = entry_list closing.on_0
 closed_on closing One = entry_list closing.on_1
 closed_on closing Two = entry_list closing.on_2
 
-abbrev pub marked_on : Closing → Channel → List MarkedCopy
+abbrev pub marked_on : LastEntries → Channel → List MarkedCopy
 marked_on closing channel = map (marked channel) (closed_on closing channel)
 
 -- a receiver prints this entry, or none, at the end, whatever it was given; its moment is in range
@@ -55,7 +51,7 @@ pub record Closes (receiver : Receiving RingMemory) (entry : Option Entry) : Typ
   pub moment : IfSome entry (λ entry. entry.moment ≤ last_moment)
 
 -- the receivers of a listener do
-pub record CloseAll (listener : Listening) (closing : Closing) : Type 0 where
+pub record CloseAll (listener : Listening) (closing : LastEntries) : Type 0 where
   pub on_0 : Closes listener.on_0 closing.on_0
   pub on_1 : Closes listener.on_1 closing.on_1
   pub on_2 : Closes listener.on_2 closing.on_2
@@ -67,7 +63,7 @@ closes-all now inside one two three e h i j =
     subst (λ l. CloseAll l (record { on_0 = one; on_1 = two; on_2 = three })) e
     (record { on_0 = h; on_1 = i; on_2 = j })
 
-close-on : (starts : Starts) (listener : Listening) (closing : Closing) (given : List Given)
+close-on : (starts : Starts) (listener : Listening) (closing : LastEntries) (given : List Given)
     (copies : List MarkedCopy) → CloseAll listener closing → HearsGiven starts listener given copies
     → (channel : Channel) → PrintsToEnd (start_on starts channel) (share channel given)
     (copies_on channel copies ++ closed_on closing channel)
@@ -76,11 +72,11 @@ close-on starts listener closing given copies c h One = c.on_1.to_end _ _ _ (h.r
 close-on starts listener closing given copies c h Two = c.on_2.to_end _ _ _ (h.receivers Two)
 
 -- all copies: those that have ended, and those that the end closes
-abbrev pub all_copies : List MarkedCopy → Closing → List MarkedCopy
+abbrev pub all_copies : List MarkedCopy → LastEntries → List MarkedCopy
 all_copies copies closing =
     ((copies ++ marked_on closing Zero) ++ marked_on closing One) ++ marked_on closing Two
 
-print-all : (starts : Starts) (listener : Listening) (closing : Closing) (given : List Given)
+print-all : (starts : Starts) (listener : Listening) (closing : LastEntries) (given : List Given)
     (copies : List MarkedCopy) → CloseAll listener closing → HearsGiven starts listener given copies
     → PrintAllToEnd starts given (all_copies copies closing)
 print-all starts listener closing given copies c h =
@@ -95,6 +91,19 @@ print-all starts listener closing given copies c h =
       whole = append_assoc (copies ++ a) b last ∙ append_assoc copies a (b ++ last)
           ∙ ap (λ l. copies ++ (a ++ (b ++ l))) (sym (append-nil last));
     }
+
+-- the same, where those that the end prints are told by their entries
+pub prints-last : (starts : Starts) (listener : Listening) (closing : LastEntries)
+    (given : List Given) (copies : List MarkedCopy) → CloseAll listener closing
+    → HearsGiven starts listener given copies
+    → PrintAllToEnd starts given (copies ++ last_copies closing)
+prints-last starts listener closing given copies c h =
+    let a = marked_on closing Zero in
+    let b = marked_on closing One in
+    let last = marked_on closing Two in
+    subst (PrintAllToEnd starts given)
+    (ap (λ l. l ++ last) (append_assoc copies a b) ∙ append_assoc copies (a ++ b) last)
+    (print-all starts listener closing given copies c h)
 
 -- an entry whose moment is in range has bytes
 range-of : (entry : Option Entry) (channel : Channel)
@@ -130,7 +139,7 @@ bool-counted None is k e f = f ∙ ap bool_byte e
 bool-counted (Some entry) is k e f = f ∙ ap bool_byte e
 
 -- what the end printed was written, and counted
-pub closed-all : (starts : Starts) (listener : Listening) (closing : Closing)
+pub closed-all : (starts : Starts) (listener : Listening) (closing : LastEntries)
     (old new : Option (List ℕ)) (given : List Given) (bytes on_0 on_1 on_2 : List ℕ)
     (n first second : ℕ) (report : Report) (h : HearsLog starts listener given bytes)
     → CloseAll listener closing
@@ -202,7 +211,7 @@ some-closed starts old new given first rest log written printed spelled range so
     }
 
 -- the entry that the end printed on channel 0 was written in part
-pub closed-part-0 : (starts : Starts) (listener : Listening) (closing : Closing)
+pub closed-part-0 : (starts : Starts) (listener : Listening) (closing : LastEntries)
     (old new : Option (List ℕ)) (given : List Given) (bytes on_0 : List ℕ) (written : ℕ)
     → HearsLog starts listener given bytes → CloseAll listener closing
     → IsLog (marked_on closing Zero) on_0 → WroteSome old new (bytes ++ on_0) written
@@ -221,7 +230,7 @@ closed-part-0 starts listener closing old new given bytes on_0 written h c is_0 
     some
 
 -- that on channel 1
-pub closed-part-1 : (starts : Starts) (listener : Listening) (closing : Closing)
+pub closed-part-1 : (starts : Starts) (listener : Listening) (closing : LastEntries)
     (old new : Option (List ℕ)) (given : List Given) (bytes on_0 on_1 : List ℕ) (written : ℕ)
     → HearsLog starts listener given bytes → CloseAll listener closing
     → IsLog (marked_on closing Zero) on_0 → IsLog (marked_on closing One) on_1
@@ -238,7 +247,7 @@ closed-part-1 starts listener closing old new given bytes on_0 on_1 written h c 
     (in-range listener.on_2 closing.on_2 Two c.on_2) some
 
 -- and that on channel 2
-pub closed-part-2 : (starts : Starts) (listener : Listening) (closing : Closing)
+pub closed-part-2 : (starts : Starts) (listener : Listening) (closing : LastEntries)
     (old new : Option (List ℕ)) (given : List Given) (bytes on_0 on_1 on_2 : List ℕ) (written : ℕ)
     → HearsLog starts listener given bytes → CloseAll listener closing
     → IsLog (marked_on closing Zero) on_0 → IsLog (marked_on closing One) on_1

@@ -13,8 +13,10 @@ use Rattle.nx_memory.specs.Saved.{SavedStates}
 use Rattle.nx_receiver.specs.Chain.{HasGoneOn}
 use Rattle.nx_receiver.specs.Listen.{AnswersListening, IsLogOfFile, Listens, given_by}
 use Rattle.nx_receiver.specs.ListenFrom.{GoesOnBy, reported}
-use Rattle.nx_receiver.specs.private.Listener.{BeginsFrom, HasClosed, IsListening, Listening}
-use Rattle.nx_receiver.specs.private.Listener.{RefusesFrom, StandsFrom, starts_of}
+use Rattle.nx_receiver.specs.Listener.{Listening}
+use Rattle.nx_receiver.specs.private.Listener.{BeginsFrom, HasClosed, IsListening}
+use Rattle.nx_receiver.specs.Listener.{starts_of}
+use Rattle.nx_receiver.specs.private.Listener.{RefusesFrom, StandsFrom}
 use Rattle.nx_receiver.specs.Shares.{Starts, starts_from}
 use Rattle.nx_receiver.specs.declared.listen_fault.ListenFault.{ListenFault}
 use Rattle.nx_receiver.specs.declared.listen_fault.ListenFault.TheVariants.{Read, Write}

@@ -18,9 +18,11 @@ use Rattle.nx_receiver.specs.Events as fed
 use Rattle.nx_receiver.specs.Listen.{given_by, given_of}
 use Rattle.nx_receiver.specs.Receiver.{TakesEvent}
 use Rattle.nx_receiver.specs.Shares.{Given, Starts, to_one}
-use Rattle.nx_receiver.specs.private.Listener.{BeginsFrom, IsListening, Listening, RefusesFrom}
-use Rattle.nx_receiver.specs.private.Listener.{RefusesLine, StandsFrom, content, receiver_on}
-use Rattle.nx_receiver.specs.private.Listener.{starts_of, then_elements, with_receiver}
+use Rattle.nx_receiver.specs.Listener.{Listening}
+use Rattle.nx_receiver.specs.private.Listener.{BeginsFrom, IsListening, RefusesFrom}
+use Rattle.nx_receiver.specs.Listener.{content, receiver_on}
+use Rattle.nx_receiver.specs.private.Listener.{RefusesLine, StandsFrom}
+use Rattle.nx_receiver.specs.Listener.{starts_of, then_elements, with_receiver}
 use Rattle.nx_receiver.specs.private.Unlogged.{HasHeard, HasHeardGiven}
 use Rattle.nx_receiver.specs.declared.listening.LineRefusal.{LineRefusal}
 use Rattle.nx_receiver.specs.declared.listening.LineRefusal.TheVariants.{NoMoment}

@@ -24,15 +24,20 @@ use Rattle.nx_receiver.specs.Listen.{AreTaken, events_on, given_by, given_of, ha
 use Rattle.nx_receiver.specs.Listen.{is_moment_line, moment_after}
 use Rattle.nx_receiver.specs.private.Taken.{AreTakenAfter, IsTakenAfter}
 use Rattle.nx_receiver.proofs.listens.Taken.{are-taken, taken-each}
-use Rattle.nx_receiver.specs.private.Listener.{BeginsListening, BeginsLog, HasFinished, HearsGiven}
-use Rattle.nx_receiver.specs.private.Listener.{HearsLog, IsListening, Listening, content, count_of}
-use Rattle.nx_receiver.specs.private.Listener.{elements_given, elements_in, receiver_on, starts_of}
-use Rattle.nx_receiver.specs.private.Listener.{then_elements, with_receiver}
+use Rattle.nx_receiver.specs.Listener.{HearsGiven, IsSpelled, Listening, content, count_of}
+use Rattle.nx_receiver.specs.Listener.{elements_given, elements_in, moment_in_force, receiver_on}
+use Rattle.nx_receiver.specs.Listener.{starts_of, then_command, then_elements, then_moment}
+use Rattle.nx_receiver.specs.Listener.{with_receiver}
+use Rattle.nx_receiver.specs.private.Listener.{BeginsListening, BeginsLog, HasFinished, HearsTo}
+use Rattle.nx_receiver.specs.private.Listener.{HearsLog, IsListening}
 use Rattle.nx_receiver.specs.private.ListenerBegins.{printed-so_far}
 use Rattle.nx_receiver.specs.Log.{HasPrinted}
-use Rattle.nx_receiver.specs.Receiver.{Stands}
+use Rattle.nx_memory.specs.Ring.{RingMemory}
+use Rattle.nx_receiver.specs.Receiver.{Receiving, Stands, TakesEvent, entry_list}
+use Rattle.nx_receiver.specs.declared.entry.Entry.{Entry}
+use Rattle.std.specs.Prelude.{Result, Ok, Err, OnOk, IsSome}
 use Rattle.nx_receiver.specs.Shares.{Given, MarkedCopy, Starts, copies_on, events_for, marked}
-use Rattle.nx_receiver.specs.Shares.{share, start_on, to_one}
+use Rattle.nx_receiver.specs.Shares.{share, start_on, to_all, to_one}
 use Rattle.nx_receiver.specs.private.Awaiting.{Awaits, HandsOut, HearsUpTo}
 use Rattle.nx_receiver.specs.FoundCopies.{TaggedCopy}
 use Rattle.nx_receiver.specs.declared.over.Over.{Over}
@@ -235,6 +240,69 @@ force-now starts listener lines bytes h channel =
     ap (λ (s : Setting). s.moment) (h.hears.hears.receivers channel).force
     ∙ moment-on channel (first_setting (start_on starts channel)) lines
 
+-- the moment in force after what is given in two parts
+pub in_force-append : (first : ℕ) (given more : List Given)
+    → moment_in_force first (given ++ more) ≡ moment_in_force (moment_in_force first given) more
+in_force-append first [] more = refl
+in_force-append first (to_all n ∷ given) more = in_force-append n given more
+in_force-append first (to_one channel events ∷ given) more = in_force-append first given more
+
+-- that after lines is that after what they give
+pub in_force-lines : (first : ℕ) (lines : List Line)
+    → moment_in_force first (given_by lines) ≡ moment_after first lines
+in_force-lines first [] = refl
+in_force-lines first (moment n ∷ lines) = in_force-lines n lines
+in_force-lines first (elements mark bits ∷ lines) = in_force-lines first lines
+in_force-lines first (refuse_station mark letter ∷ lines) = in_force-lines first lines
+in_force-lines first (accept_station mark letter ∷ lines) = in_force-lines first lines
+in_force-lines first (refuse_subject mark letter ∷ lines) = in_force-lines first lines
+in_force-lines first (accept_subject mark letter ∷ lines) = in_force-lines first lines
+
+-- what is given sets the moment of a channel as it sets the one in force
+abbrev pub SetsMoment : Given → Type 0
+SetsMoment one =
+    (channel : Channel) (setting : Setting)
+    → (setting_after_all setting (events_for channel one)).moment
+    ≡ moment_in_force setting.moment (one ∷ [])
+
+pub moment-sets : (n : ℕ) → SetsMoment (to_all n)
+unfolding setting_after_all
+moment-sets n channel setting = refl
+
+pub command-sets : (channel : Channel) (command : fed.Command)
+    → SetsMoment (to_one channel (fed.command command ∷ []))
+command-sets channel command on setting =
+    command-keeps (same_channel channel on) setting command
+
+elements-set : (channel : Channel) (bits : List Bool)
+    → SetsMoment (to_one channel (fed.elements bits))
+elements-set channel bits on setting = elements-keep (same_channel channel on) setting bits
+
+pub line-sets : (line : Line) → SetsMoment (given_of line)
+line-sets (moment n) = moment-sets n
+line-sets (elements mark bits) = elements-set (channel_of mark) bits
+line-sets (refuse_station mark letter) =
+    command-sets (channel_of mark) (fed.refuse_station letter)
+line-sets (accept_station mark letter) =
+    command-sets (channel_of mark) (fed.accept_station letter)
+line-sets (refuse_subject mark letter) =
+    command-sets (channel_of mark) (fed.refuse_subject letter)
+line-sets (accept_subject mark letter) =
+    command-sets (channel_of mark) (fed.accept_subject letter)
+
+-- a receiver has the moment in force after one more
+moment-next : (first was now : Setting) (events more : List Event) (given : List Given)
+    (one : Given) → was ≡ setting_after_all first events
+    → now ≡ setting_after_all first (events ++ more)
+    → was.moment ≡ moment_in_force first.moment given
+    → (setting_after_all (setting_after_all first events) more).moment
+    ≡ moment_in_force (setting_after_all first events).moment (one ∷ [])
+    → now.moment ≡ moment_in_force first.moment (given ++ one ∷ [])
+moment-next first was now events more given one e f same sets =
+    ap (λ (s : Setting). s.moment) (f ∙ force-append first events more) ∙ sets
+    ∙ ap (λ n. moment_in_force n (one ∷ [])) (ap (λ (s : Setting). s.moment) (sym e) ∙ same)
+    ∙ sym (in_force-append first.moment given (one ∷ []))
+
 -- what is printed of the share of each channel, by how its receiver stands
 have-printed : (starts : Starts) (listener : Listening) (given : List Given)
     (copies : List MarkedCopy)
@@ -248,24 +316,32 @@ have-printed starts listener given copies stands channel =
 -- one more is given, which has no elements and brings no copies
 pub hears-next : (starts : Starts) (old new : Listening) (given : List Given) (one : Given)
     (copies : List MarkedCopy) → HearsGiven starts old given copies → elements_in one ≡ []
-    → new.elements ≡ old.elements → new.entries ≡ old.entries
+    → SetsMoment one → new.elements ≡ old.elements → new.entries ≡ old.entries
     → ((channel : Channel) (log : List TaggedCopy)
     → Stands content (start_on starts channel) (receiver_on old channel) (share channel given) log
     → Stands content (start_on starts channel) (receiver_on new channel)
     (share channel given ++ events_for channel one) log)
     → HearsGiven starts new (given ++ one ∷ []) copies
-hears-next starts old new given one copies h none heard printed stands =
+hears-next starts old new given one copies h none sets heard printed stands =
     let all = given ++ one ∷ [] in
+    let next : (channel : Channel) → Stands content (start_on starts channel)
+    (receiver_on new channel) (share channel given ++ events_for channel one)
+    (copies_on channel copies) =
+    λ channel. stands channel (copies_on channel copies) (h.receivers channel) in
     let each : (channel : Channel) → Stands content (start_on starts channel)
     (receiver_on new channel) (share channel all) (copies_on channel copies) =
     λ channel. subst (λ es. Stands content (start_on starts channel) (receiver_on new channel) es
-    (copies_on channel copies)) (sym (share-one channel given one))
-    (stands channel (copies_on channel copies) (h.receivers channel)) in
+    (copies_on channel copies)) (sym (share-one channel given one)) (next channel) in
     let same : elements_given all ≡ elements_given given =
     elements-one given one ∙ ap (λ bits. elements_given given ++ bits) none
     ∙ append-nil (elements_given given) in
     record {
       receivers = each;
+      moments = λ channel.
+          let first = first_setting (start_on starts channel) in
+          moment-next first _ _ (share channel given) (events_for channel one) given one
+          (h.receivers channel).force (next channel).force (h.moments channel)
+          (sets channel (setting_after_all first (share channel given)));
       in_turn = subst (PrintsInTurn starts all) (append-nil copies)
           (in_turn-more starts given one copies [] h.in_turn
           (subst (HavePrinted starts all) (sym (append-nil copies))
@@ -274,29 +350,6 @@ hears-next starts old new given one copies h none heard printed stands =
       entries = printed ∙ h.entries;
       few = subst (λ bits. length copies ≤ length bits) (sym same) h.few;
     }
-
--- a line that has no elements changes the receivers alone
-pub goes_on : (starts : Starts) (old new : Listening) (lines : List Line) (line : Line)
-    (bytes : List ℕ) → IsListening starts old lines bytes → IsTakenAfter starts lines line
-    → elements_in (given_of line) ≡ [] → new.has_moment ≡ has_moment (lines ++ line ∷ [])
-    → new.elements ≡ old.elements → new.entries ≡ old.entries
-    → ((channel : Channel) (log : List TaggedCopy)
-    → Stands content (start_on starts channel) (receiver_on old channel) (events_on channel lines)
-    log → Stands content (start_on starts channel) (receiver_on new channel)
-    (events_on channel lines ++ events_for channel (given_of line)) log)
-    → IsListening starts new (lines ++ line ∷ []) bytes
-goes_on starts old new lines line bytes h taken none said heard printed stands = record {
-  taken = taken-one starts lines line h.taken taken;
-  moment = said;
-  hears = record {
-    log = h.hears.log;
-    hears = subst (λ given. HearsGiven starts new given h.hears.log)
-        (sym (given_by-one lines line))
-        (hears-next starts old new (given_by lines) (given_of line) h.hears.log h.hears.hears none
-        heard printed stands);
-    spelled = h.hears.spelled;
-  };
-}
 
 own-events : (channel : Channel) (events : List Event)
     → events_for channel (to_one channel events) ≡ events
@@ -307,37 +360,76 @@ others-events : (channel other : Channel) (events : List Event)
 others-events channel other events h = ap (λ b. cond b events []) h
 
 -- a command for a channel
+pub commanded : (starts : Starts) (old new : Listening) (given : List Given)
+    (copies : List MarkedCopy) (channel : Channel) (command : fed.Command)
+    → HearsGiven starts old given copies
+    → new ≡ with_receiver old channel (receiver_on new channel)
+    → TakesEvent content (receiver_on old channel) (receiver_on new channel) (fed.command command)
+    → HearsGiven starts new (then_command given channel command) copies
+unfolding fed.elements_among
+commanded starts old new given copies channel command h only takes =
+    let differs = differs-on channel old new only in
+    let one = to_one channel (fed.command command ∷ []) in
+    hears-next starts old new given one copies h refl (command-sets channel command)
+    differs.elements differs.entries
+    (on-each (λ on. (log : List TaggedCopy)
+    → Stands content (start_on starts on) (receiver_on old on) (share on given) log
+    → Stands content (start_on starts on) (receiver_on new on)
+    (share on given ++ events_for on one) log) channel
+    (λ log s. subst (λ es. Stands content (start_on starts channel) (receiver_on new channel)
+    (share channel given ++ es) log) (sym (own-events channel (fed.command command ∷ [])))
+    (takes (start_on starts channel) (share channel given) log s))
+    (λ on not log s.
+    let none : share on given ++ events_for on one ≡ share on given =
+    ap (λ es. share on given ++ es) (others-events channel on (fed.command command ∷ []) not)
+    ∙ append-nil (share on given) in
+    subst (λ es. Stands content (start_on starts on) (receiver_on new on) es log) (sym none)
+    (subst (λ r. Stands content (start_on starts on) r (share on given) log)
+    (sym (differs.others on not)) s)))
+
+-- one more line is taken, as what it gives is
+pub takes-line : (starts : Starts) (old new : Listening) (lines : List Line) (line : Line)
+    (bytes : List ℕ) → IsListening starts old lines bytes → IsTakenAfter starts lines line
+    → new.has_moment ≡ has_moment (lines ++ line ∷ [])
+    → ((copies : List MarkedCopy) → HearsGiven starts old (given_by lines) copies
+    → HearsGiven starts new (given_by lines ++ given_of line ∷ []) copies)
+    → IsListening starts new (lines ++ line ∷ []) bytes
+takes-line starts old new lines line bytes h taken said hears = record {
+  taken = taken-one starts lines line h.taken taken;
+  moment = said;
+  hears = record {
+    log = h.hears.log;
+    hears = subst (λ given. HearsGiven starts new given h.hears.log)
+        (sym (given_by-one lines line)) (hears h.hears.log h.hears.hears);
+    spelled = h.hears.spelled;
+  };
+}
+
+-- a command for a channel, as a line says it
 pub commanded-on : (starts : Starts) (old new : Listening) (lines : List Line) (line : Line)
     (channel : Channel) (command : fed.Command) (bytes : List ℕ)
     → IsListening starts old lines bytes → IsTakenAfter starts lines line
     → given_of line ≡ to_one channel (fed.command command ∷ [])
     → is_moment_line line ≡ false → new ≡ with_receiver old channel (receiver_on new channel)
-    → ((start : Start) (history : List Event) (log : List TaggedCopy)
-    → Stands content start (receiver_on old channel) history log
-    → Stands content start (receiver_on new channel) (history ++ fed.command command ∷ []) log)
+    → TakesEvent content (receiver_on old channel) (receiver_on new channel) (fed.command command)
     → IsListening starts new (lines ++ line ∷ []) bytes
-unfolding fed.elements_among
-commanded-on starts old new lines line channel command bytes h taken gives other only stands =
-    let differs = differs-on channel old new only in
-    goes_on starts old new lines line bytes h taken (ap elements_in gives)
-    (moment-other lines line new.has_moment (differs.moment ∙ h.moment) other) differs.elements
-    differs.entries
-    (on-each (λ on. (log : List TaggedCopy)
-    → Stands content (start_on starts on) (receiver_on old on) (events_on on lines) log
-    → Stands content (start_on starts on) (receiver_on new on)
-    (events_on on lines ++ events_for on (given_of line)) log) channel
-    (λ log s. subst (λ es. Stands content (start_on starts channel) (receiver_on new channel)
-    (events_on channel lines ++ es) log)
-    (sym (ap (events_for channel) gives ∙ own-events channel (fed.command command ∷ [])))
-    (stands (start_on starts channel) (events_on channel lines) log s))
-    (λ on not log s.
-    let none : events_on on lines ++ events_for on (given_of line) ≡ events_on on lines =
-    ap (λ es. events_on on lines ++ es)
-    (ap (events_for on) gives ∙ others-events channel on (fed.command command ∷ []) not)
-    ∙ append-nil (events_on on lines) in
-    subst (λ es. Stands content (start_on starts on) (receiver_on new on) es log) (sym none)
-    (subst (λ r. Stands content (start_on starts on) r (events_on on lines) log)
-    (sym (differs.others on not)) s)))
+commanded-on starts old new lines line channel command bytes h taken gives other only takes =
+    takes-line starts old new lines line bytes h taken
+    (moment-other lines line new.has_moment ((differs-on channel old new only).moment ∙ h.moment)
+    other)
+    (λ copies heard. subst (λ one. HearsGiven starts new (given_by lines ++ one ∷ []) copies)
+    (sym gives) (commanded starts old new (given_by lines) copies channel command heard only takes))
+
+-- a moment for all channels
+pub set-all : (starts : Starts) (old new : Listening) (given : List Given)
+    (copies : List MarkedCopy) (n : ℕ) → HearsGiven starts old given copies
+    → new.elements ≡ old.elements → new.entries ≡ old.entries
+    → ((channel : Channel) → TakesEvent content (receiver_on old channel)
+    (receiver_on new channel) (fed.at_moment n))
+    → HearsGiven starts new (then_moment given n) copies
+set-all starts old new given copies n h heard printed takes =
+    hears-next starts old new given (to_all n) copies h refl (moment-sets n) heard printed
+    (λ channel log s. takes channel (start_on starts channel) (share channel given) log s)
 
 -- Share of a channel, where elements of one are given last
 share-own : (given : List Given) (channel : Channel) (bits : List Bool)
@@ -411,6 +503,14 @@ grows-on P given channel part more copies later here others =
     (subst (λ cs. P other (share other (then_elements given channel part)) cs)
     (sym (copies-others copies channel other later not)) (others other not)))
 
+-- elements change no moment, however many they are
+in_force-elements : (first : ℕ) (given : List Given) (channel : Channel) (bits more : List Bool)
+    → moment_in_force first (then_elements given channel bits)
+    ≡ moment_in_force first (then_elements given channel more)
+in_force-elements first given channel bits more =
+    in_force-append first given (to_one channel (fed.elements bits) ∷ [])
+    ∙ sym (in_force-append first given (to_one channel (fed.elements more) ∷ []))
+
 pub counts-on : (old new m n all : ℕ) → old ≡ count_of m → new ≡ count_of (old + n) → all ≡ m + n
     → new ≡ count_of all
 counts-on old new m n all h k e = omega arith
@@ -448,8 +548,20 @@ hears-more starts old new given channel part more copies next h few stands other
     (h.receivers channel))
     (λ other not. subst (λ r. Stands content (start_on starts other) r (share other was)
     (copies_on other copies)) (sym (others other not)) (h.receivers other)) in
+    let first = first_setting (start_on starts channel) in
+    let own = stands (start_on starts channel) (share channel was) (copies_on channel copies)
+    (h.receivers channel) in
+    let kept : (other : Channel) → (receiver_on new other).watch.moment
+    ≡ (receiver_on old other).watch.moment =
+    on-each (λ other. (receiver_on new other).watch.moment ≡ (receiver_on old other).watch.moment)
+    channel
+    (ap (λ (s : Setting). s.moment) (own.force ∙ force-more first (share channel was) more
+    ∙ sym (h.receivers channel).force))
+    (λ other not. ap (λ (r : Receiving RingMemory). r.watch.moment) (others other not)) in
     record {
       receivers = each;
+      moments = λ other. kept other ∙ h.moments other
+          ∙ in_force-elements starts.moment given channel part (part ++ more);
       in_turn = in_turn-other starts given (to_one channel (fed.elements part))
           (to_one channel (fed.elements (part ++ more))) copies later h.in_turn
           (have-printed starts new _ (copies ++ later) each);
@@ -459,6 +571,54 @@ hears-more starts old new given channel part more copies next h few stands other
           h.entries printed longer;
       few = omega (arith, all, longer, few, h.few);
     }
+
+-- The receiver of the channel heard so many of these elements, and handed out these copies with the
+-- last of them; and then the listener counted both.
+pub heard-to : (starts : Starts) (old mid now : Listening) (given : List Given) (channel : Channel)
+    (part bits : List Bool) (n m k : ℕ) (copies : List MarkedCopy) (next : List TaggedCopy)
+    → HearsGiven starts old (then_elements given channel part) copies
+    → HearsTo channel old mid bits n next
+    → mid ≡ with_receiver old channel (receiver_on mid channel) → now ≡ mid
+    → n ≤ length bits → length next ≤ n
+    → m ≡ count_of (now.elements + n) → k ≡ count_of (now.entries + length next)
+    → HearsGiven starts (record now { elements = m; entries = k })
+    (then_elements given channel (part ++ take n bits)) (copies ++ map (marked channel) next)
+heard-to starts old mid now given channel part bits n m k copies next h hears only e within few
+    counted printed =
+    let new = record now { elements = m; entries = k } in
+    let same = same-receivers mid new (sym (ap (λ (l : Listening). l.on_0) e))
+    (sym (ap (λ (l : Listening). l.on_1) e)) (sym (ap (λ (l : Listening). l.on_2) e)) in
+    let differs = differs-on channel old mid only in
+    let many : length (take n bits) ≡ n = length-take-le n bits within in
+    hears-more starts old new given channel part (take n bits) copies next h
+    (omega (arith, many, few))
+    (λ start events log s. subst (λ r. Stands content start r (events ++ fed.elements (take n bits))
+    (log ++ next)) (same channel) (hears.stands start events log s))
+    (λ other not. sym (same other) ∙ differs.others other not)
+    (counted ∙ ap₂ (λ a b. count_of (a + b))
+    (ap (λ (l : Listening). l.elements) e ∙ differs.elements) (sym many))
+    (printed ∙ ap (λ a. count_of (a + length next))
+    (ap (λ (l : Listening). l.entries) e ∙ differs.entries))
+
+-- nothing more is printed before the last of them
+pub none-before : (starts : Starts) (old mid : Listening) (given : List Given) (channel : Channel)
+    (part bits : List Bool) (n : ℕ) (copies : List MarkedCopy) (next : List TaggedCopy)
+    → HearsGiven starts old (then_elements given channel part) copies
+    → HearsTo channel old mid bits n next → (k : ℕ) → k < n
+    → PrintsInTurn starts (then_elements given channel (part ++ take k bits)) copies
+none-before starts old mid given channel part bits n copies next h hears k lt =
+    let start = start_on starts channel in
+    let was = share channel (then_elements given channel part) in
+    let mine = copies_on channel copies in
+    subst (PrintsInTurn starts (then_elements given channel (part ++ take k bits)))
+    (append-nil copies)
+    (in_turn-other starts given (to_one channel (fed.elements part))
+    (to_one channel (fed.elements (part ++ take k bits))) copies [] h.in_turn
+    (grows-on (λ other es log. HasPrinted (start_on starts other) es log) given channel part
+    (take k bits) copies []
+    (subst (HasPrinted start (was ++ fed.elements (take k bits))) (sym (append-nil mine))
+    (hears.first start was mine (h.receivers channel) k lt))
+    (λ other not. h.in_turn.each other)))
 
 -- These elements of a channel were heard, and so many counted; this is over with the last of them,
 -- and not yet finished.
@@ -592,8 +752,8 @@ pub none-heard : (starts : Starts) (listener : Listening) (given : List Given)
 unfolding fed.elements_among
 none-heard starts listener given channel bytes h = record {
   log = h.log;
-  hears = hears-next starts listener listener given (to_one channel []) h.log h.hears refl refl
-      refl
+  hears = hears-next starts listener listener given (to_one channel []) h.log h.hears refl
+      (elements-set channel []) refl refl
       (λ other log s. subst (λ es. Stands content (start_on starts other)
       (receiver_on listener other) es log)
       (sym (ap (λ es. share other given ++ es) (if-empty (same_channel channel other))
@@ -616,26 +776,29 @@ starts-is starts listener stands same =
     (fun_ext (λ channel. ap (λ (s : Setting). s.refused) (stands channel).force))
 
 -- a listener that was made has heard nothing
-pub heard-nothing : (starts : Starts) (listener : Listening) → starts.moment ≤ last_moment
+pub heard-nothing : (starts : Starts) (listener : Listening)
     → ((channel : Channel) → Stands content (start_on starts channel)
     (receiver_on listener channel) [] [])
-    → listener.has_moment ≡ false → listener.elements ≡ 0 → listener.entries ≡ 0
+    → listener.elements ≡ 0 → listener.entries ≡ 0 → HearsGiven starts listener [] []
+unfolding setting_after_all
+heard-nothing starts listener stands elements' entries' = record {
+  receivers = stands;
+  moments = λ channel. ap (λ (s : Setting). s.moment) (stands channel).force;
+  in_turn = in_turn-none starts (have-printed starts listener [] [] stands);
+  elements = elements';
+  entries = entries';
+  few = omega arith;
+}
+
+-- and took no line
+pub took-nothing : (starts : Starts) (listener : Listening) → starts.moment ≤ last_moment
+    → HearsGiven starts listener [] [] → listener.has_moment ≡ false
     → IsListening starts listener [] []
 unfolding AreTakenAfter
-heard-nothing starts listener within stands none elements' entries' = record {
+took-nothing starts listener within heard none = record {
   taken = are-taken starts [] within tt;
   moment = none;
-  hears = record {
-    log = [];
-    hears = record {
-      receivers = stands;
-      in_turn = in_turn-none starts (have-printed starts listener [] [] stands);
-      elements = elements';
-      entries = entries';
-      few = omega arith;
-    };
-    spelled = no-log;
-  };
+  hears = record { log = []; hears = heard; spelled = no-log };
 }
 
 -- after the elements of a line, of the channel that it names
@@ -708,3 +871,25 @@ finishes old last now channel over is k n bytes hands only e one counted =
           (ap (λ (l : Listening). l.entries) e ∙ differs.entries)
           (one ∙ as_count is ∙ sym hands.counted);
     }
+
+-- what follows on Ok
+pub on_ok-map : {A B : Type 0} {P Q : Type 0} (result : Result A B) → OnOk result P → (P → Q)
+    → OnOk result Q
+on_ok-map (Ok x) p f = f p
+on_ok-map (Err x) p f = tt
+
+-- an entry is one copy, and so is what is spelled
+pub entry-few : (entry : Option Entry) (n : ℕ) → (IsSome entry → 0 < n)
+    → length (entry_list entry) ≤ n
+entry-few None n some = omega arith
+entry-few (Some entry) n some = omega (arith, some refl)
+
+pub spelled-few : (channel : Channel) (is : Bool) (copies : List TaggedCopy) (bytes : List ℕ)
+    (n : ℕ) → IsSpelled channel is copies bytes → (is ≡ true → 0 < n) → length copies ≤ n
+spelled-few channel false copies bytes n h some = omega (arith, ap length h)
+spelled-few channel true copies bytes n h some = omega (arith, ap length h.1, some refl)
+
+pub spelled-counted : (channel : Channel) (is : Bool) (copies : List TaggedCopy) (bytes : List ℕ)
+    (k : ℕ) → IsSpelled channel is copies bytes → k ≡ bool_byte is → k ≡ length copies
+spelled-counted channel false copies bytes k h e = e ∙ sym (ap length h)
+spelled-counted channel true copies bytes k h e = e ∙ sym (ap length h.1)

@@ -25,9 +25,12 @@ use Rattle.nx_receiver.specs.Listen.{AnswersListening, HasListened, HasLogged, H
 use Rattle.nx_receiver.specs.Listen.{IsLogOf, Listens, RefusesAfter, given_by, given_of}
 use Rattle.nx_receiver.specs.Shares.{Starts}
 use Rattle.nx_receiver.specs.private.Listener.{BeginsFrom, HasClosed, HasClosedSome, IsListening}
-use Rattle.nx_receiver.specs.private.Listener.{Listening, RefusesFrom, RefusesLine, StandsFrom}
-use Rattle.nx_receiver.specs.private.Listener.{elements_given, elements_in, lines_fault}
-use Rattle.nx_receiver.specs.private.Listener.{refusal_fault, starts_of}
+use Rattle.nx_receiver.specs.Listener.{Listening}
+use Rattle.nx_receiver.specs.private.Listener.{RefusesFrom, RefusesLine, StandsFrom}
+use Rattle.nx_receiver.specs.Listener.{elements_given, elements_in}
+use Rattle.nx_receiver.specs.private.Listener.{lines_fault}
+use Rattle.nx_receiver.specs.Listener.{starts_of}
+use Rattle.nx_receiver.specs.private.Listener.{refusal_fault}
 use Rattle.nx_receiver.specs.declared.listen_fault.ListenFault.{ListenFault}
 use Rattle.nx_receiver.specs.declared.listen_fault.ListenFault.TheVariants.{Memory, Read, Write}
 use Rattle.nx_receiver.specs.declared.listening.LineRefusal.{LineRefusal}

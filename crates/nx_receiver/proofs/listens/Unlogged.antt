@@ -6,26 +6,25 @@ use Rattle.std.specs.Io.KnownBytes.{Appends, IsAtEnd}
 use Rattle.std.specs.declared.alloc.AllocError.{AllocError}
 use Rattle.std.proofs.KnownBytes.{Consumes-nil}
 use Rattle.nx_fec.specs.AirFile.{Line}
-use Rattle.nx_fec.specs.LineRuns.{ExplainsLines, ExplainsTaking, HasGiven, HasTaken, HasTakenAll}
-use Rattle.nx_fec.specs.LineRuns.{RunsLines, Waiting}
-use Rattle.nx_fec.specs.declared.line_run.TakeFault.{TakeFault}
-use Rattle.nx_fec.specs.declared.line_run.TakeFault.TheVariants as take
+use Rattle.nx_fec.specs.LineRuns.{ExplainsLines, HasHeardAll, HasTaken, HasTakenAll, HearsLines}
+use Rattle.nx_fec.specs.LineRuns.{StopsLines}
+use Rattle.nx_fec.specs.declared.line_hearing.HearFault.{HearFault}
+use Rattle.nx_fec.specs.declared.line_hearing.HearFault.TheVariants as hear
 use Rattle.nx_fec.specs.Lines.{air_limit}
-use Rattle.nx_fec.specs.Transfers.{CountedDevice, Devices, IsReadOut, WroteSome}
+use Rattle.nx_fec.specs.Transfers.{CountedDevice}
 use Rattle.nx_fec.specs.declared.fault.LineFault.TheVariants as file
-use Rattle.nx_fec.specs.declared.line_run.LinesFault.{LinesFault}
 use Rattle.nx_fec.specs.declared.line_run.LinesFault.TheVariants as run
 use Rattle.nx_fec.specs.declared.line_run.LinesRead.{LinesRead}
-use Rattle.nx_fec.proofs.LineRunLemmas.{StopsAt-map}
+use Rattle.nx_fec.proofs.LineRunLemmas.{StopsLines-map}
 use Rattle.nx_fec.proofs.TransferLaws.{Ok-not_err, Reads-on, read_failed-none}
 use Rattle.nx_memory.specs.Saved.{SavedStates}
 use Rattle.nx_receiver.specs.Listen.{AnswersUnlogged, given_by}
 use Rattle.nx_receiver.specs.Shares.{Starts, starts_from}
-use Rattle.nx_receiver.specs.private.Listener.{HasClosed, IsListening, Listening}
-use Rattle.nx_receiver.specs.private.Listener.{RefusesFrom, RefusesLine, StandsFrom, count_of, lines_fault}
-use Rattle.nx_receiver.specs.private.Listener.{starts_of}
+use Rattle.nx_receiver.specs.Listener.{Listening, count_of, starts_of}
+use Rattle.nx_receiver.specs.private.Listener.{BeginsFrom, HasClosed, IsListening}
+use Rattle.nx_receiver.specs.private.Listener.{RefusesFrom, RefusesLine, StandsFrom, lines_fault}
 use Rattle.nx_receiver.specs.private.Unlogged.{AnswersLeaving, HasHeard, ListensUnlogged}
-use Rattle.nx_receiver.specs.private.Unlogged.{StandsUnlogged}
+use Rattle.nx_receiver.specs.private.Unlogged.{StandsUnlogged, as_run_fault}
 use Rattle.nx_receiver.specs.declared.listen_fault.ListenFault.TheVariants.{Memory, Read}
 use Rattle.nx_receiver.specs.declared.listening.LineRefusal.{LineRefusal}
 use Rattle.nx_receiver.specs.declared.listening.LineRefusal.TheVariants as refusal
@@ -33,177 +32,157 @@ use Rattle.nx_receiver.specs.declared.listening.Report.{Report}
 use Rattle.nx_receiver.proofs.chain.Runs.{LeavesEach}
 use Rattle.nx_receiver.proofs.listens.From.{gone}
 use Rattle.nx_receiver.proofs.listens.Runs.{as-err, err-of, explains, listened, memory-read}
-use Rattle.nx_receiver.proofs.listens.Runs.{read-back, run-err-of}
+use Rattle.nx_receiver.proofs.listens.Runs.{read-back}
 
--- nothing can't be written in part
-none-in_part : (old new : Option (List ℕ)) (given : List ℕ) (written : ℕ) → given ≡ []
-    → WroteSome old new given written → ⊥
-none-in_part old new given written e some = omega (arith, some.fewer, ap length e)
+-- a line for which nothing is given, which may be refused
+pub heard-line : (first before after : Listening) (lines : List Line) (line : Line)
+    (taken : Result (Unit {0}) LineRefusal) → HasHeard (starts_of first) before lines
+    → MatchResult taken (λ _. HasHeard (starts_of first) after (lines ++ line ∷ []))
+    (λ why. RefusesLine (starts_of first) lines line why × (after ≡ before))
+    → MatchResult taken (λ _. StandsUnlogged first after (lines ++ line ∷ []))
+    (λ why. RefusesFrom first lines line why × StandsUnlogged first after lines)
+heard-line first before after lines line (Ok x) h takes = takes
+heard-line first before after lines line (Err why) h takes = (
+  takes.0,
+  subst (λ (l : Listening). HasHeard (starts_of first) l lines) (sym takes.1) h,
+)
 
-module _ {T : Type 0} (of : T → Listening) where
-  abbrev stands : T → T → List Line → List ℕ → Type 0
-  stands first now lines given = StandsUnlogged (of first) (of now) lines given
+-- there is a log, and whatever a writer has that tells nothing
+told : (first now : Listening) (lines : List Line) → StandsUnlogged first now lines
+    → HasTaken StandsFrom first now lines (Appends None None)
+told first now lines h = record { given = h.0; stood = h.1; here = tt }
 
-  abbrev begins : T → List Line → List ℕ → Type 0
-  begins first lines given = given ≡ []
+-- a fault of the lines, as one of a run that writes
+explains-run : (AtEnd : Type 0) (IsLeft : List ℕ → Type 0) (first now : Listening) (bytes : List ℕ)
+    (fault : HearFault LineRefusal)
+    → StopsLines (RefusesFrom first) (StandsUnlogged first now) AtEnd IsLeft air_limit bytes fault
+    → ExplainsLines StandsFrom BeginsFrom RefusesFrom AtEnd IsLeft air_limit first now None None
+    (Appends None None) bytes (as_run_fault fault)
+explains-run AtEnd IsLeft first now bytes hear.Read h =
+    StopsLines-map (RefusesFrom first) (StandsUnlogged first now) _ AtEnd IsLeft air_limit bytes
+    hear.Read (told first now) h
+explains-run AtEnd IsLeft first now bytes (hear.Line why) h =
+    StopsLines-map (RefusesFrom first) (StandsUnlogged first now) _ AtEnd IsLeft air_limit bytes
+    (hear.Line why) (told first now) h
+explains-run AtEnd IsLeft first now bytes (hear.Refused line why) h =
+    StopsLines-map (RefusesFrom first) (StandsUnlogged first now) _ AtEnd IsLeft air_limit bytes
+    (hear.Refused line why) (told first now) h
 
-  abbrev refuses : T → List Line → Line → LineRefusal → Type 0
-  refuses first lines line why = RefusesFrom (of first) lines line why
+-- what a fault of the lines explains
+explains-unlogged : (AtEnd : Type 0) (IsLeft : List ℕ → Type 0) (first now : Listening)
+    (bytes : List ℕ) (fault : HearFault LineRefusal)
+    → StopsLines (RefusesFrom first) (StandsUnlogged first now) AtEnd IsLeft air_limit bytes fault
+    → AnswersUnlogged (starts_of first) AtEnd IsLeft (Err (lines_fault (as_run_fault fault))) bytes
+explains-unlogged AtEnd IsLeft first now bytes hear.Read h =
+    explains AtEnd IsLeft first now None None bytes run.Read
+    (explains-run AtEnd IsLeft first now bytes hear.Read h)
+explains-unlogged AtEnd IsLeft first now bytes (hear.Line file.TooLong) h =
+    explains AtEnd IsLeft first now None None bytes (run.Line file.TooLong)
+    (explains-run AtEnd IsLeft first now bytes (hear.Line file.TooLong) h)
+explains-unlogged AtEnd IsLeft first now bytes (hear.Line (file.LineLong line)) h =
+    explains AtEnd IsLeft first now None None bytes (run.Line (file.LineLong line))
+    (explains-run AtEnd IsLeft first now bytes (hear.Line (file.LineLong line)) h)
+explains-unlogged AtEnd IsLeft first now bytes (hear.Line (file.LineCut line)) h =
+    explains AtEnd IsLeft first now None None bytes (run.Line (file.LineCut line))
+    (explains-run AtEnd IsLeft first now bytes (hear.Line (file.LineCut line)) h)
+explains-unlogged AtEnd IsLeft first now bytes (hear.Line (file.BadLine line)) h =
+    explains AtEnd IsLeft first now None None bytes (run.Line (file.BadLine line))
+    (explains-run AtEnd IsLeft first now bytes (hear.Line (file.BadLine line)) h)
+explains-unlogged AtEnd IsLeft first now bytes (hear.Refused line refusal.NoMoment) h =
+    explains AtEnd IsLeft first now None None bytes (run.Refused line refusal.NoMoment)
+    (explains-run AtEnd IsLeft first now bytes (hear.Refused line refusal.NoMoment) h)
+explains-unlogged AtEnd IsLeft first now bytes (hear.Refused line (refusal.Moment why)) h =
+    explains AtEnd IsLeft first now None None bytes (run.Refused line (refusal.Moment why))
+    (explains-run AtEnd IsLeft first now bytes (hear.Refused line (refusal.Moment why)) h)
+explains-unlogged AtEnd IsLeft first now bytes (hear.Refused line (refusal.Vital subject)) h =
+    explains AtEnd IsLeft first now None None bytes (run.Refused line (refusal.Vital subject))
+    (explains-run AtEnd IsLeft first now bytes (hear.Refused line (refusal.Vital subject)) h)
 
-  -- a line for which nothing is given, which may be refused
-  pub taken-unlogged : (first before after : T) (old new : Option (List ℕ)) (batch : Waiting)
-      (lines : List Line) (line : Line) (taken : Result (Unit {0}) LineRefusal)
-      (result : Result (Unit {0}) (TakeFault LineRefusal))
-      → HasTaken stands first before lines (HasGiven old new batch)
-      → MatchResult taken (λ _. result ≡ Ok tt) (λ why. result ≡ Err (take.Refused why))
-      → (HasHeard (starts_of (of first)) (of before) lines → MatchResult taken
-      (λ _. HasHeard (starts_of (of first)) (of after) (lines ++ line ∷ []))
-      (λ why. RefusesLine (starts_of (of first)) lines line why × (of after ≡ of before)))
-      → MatchResult result (λ _. HasTaken stands first after (lines ++ line ∷ [])
-      (HasGiven old new batch))
-      (λ fault. ExplainsTaking stands begins refuses first after old new batch lines line fault)
-  taken-unlogged first before after old new batch lines line (Ok x) result h answer takes =
-      subst (λ r. MatchResult r (λ _. HasTaken stands first after (lines ++ line ∷ [])
-      (HasGiven old new batch))
-      (λ fault. ExplainsTaking stands begins refuses first after old new batch lines line fault))
-      (sym answer)
-      (record { given = h.given; stood = (h.stood.0, takes h.stood.1); here = h.here })
-  taken-unlogged first before after old new batch lines line (Err why) result h answer takes =
-      let refused = takes h.stood.1 in
-      subst (λ r. MatchResult r (λ _. HasTaken stands first after (lines ++ line ∷ [])
-      (HasGiven old new batch))
-      (λ fault. ExplainsTaking stands begins refuses first after old new batch lines line fault))
-      (sym answer) (
-        refused.0,
-        record {
-          given = h.given;
-          stood = (
-            h.stood.0,
-            subst (λ (l : Listening). HasHeard (starts_of (of first)) l lines) (sym refused.1)
-                h.stood.1,
-          );
-          here = h.here;
-        },
-      )
+-- the run failed to read exactly where its lines did
+unread-back : (fault : HearFault LineRefusal) → as_run_fault fault ≡ run.Read → fault ≡ hear.Read
+unread-back hear.Read e = refl
+unread-back (hear.Line why) e = cc
+unread-back (hear.Refused line why) e = cc
 
-  -- there is a log, and whatever a writer has that tells nothing
-  told : (first now : T) (lines : List Line) (holds : List ℕ → Type 0)
-      → HasTaken stands first now lines holds
-      → HasTaken StandsFrom (of first) (of now) lines (Appends None None)
-  told first now lines holds h =
-      record { given = h.stood.1.0; stood = h.stood.1.1; here = tt }
+hear-err-of : {N : Type 0} (a b : HearFault LineRefusal)
+    → ◌≡◌ {A = Result N (HearFault LineRefusal)} (Err a) (Err b) → a ≡ b
+hear-err-of a b e = cc
 
-  -- what a fault of the lines explains
-  explains-unlogged : (AtEnd : Type 0) (IsLeft : List ℕ → Type 0) (first now : T)
-      (old new : Option (List ℕ)) (bytes : List ℕ) (fault : LinesFault LineRefusal)
-      → ExplainsLines stands begins refuses AtEnd IsLeft air_limit first now old new
-      (Appends old new) bytes fault
-      → AnswersUnlogged (starts_of (of first)) AtEnd IsLeft (Err (lines_fault fault)) bytes
-  explains-unlogged AtEnd IsLeft first now old new bytes run.Read h =
-      explains AtEnd IsLeft (of first) (of now) None None bytes run.Read
-      (StopsAt-map bytes _ _ (λ lines rest more p. (p.0, p.1, told first now lines _ p.2)) h)
-  explains-unlogged AtEnd IsLeft first now old new bytes (run.Line file.TooLong) h =
-      explains AtEnd IsLeft (of first) (of now) None None bytes (run.Line file.TooLong)
-      (h.0, StopsAt-map bytes _ _ (λ lines rest more p. (p.0, told first now lines _ p.1)) h.1)
-  explains-unlogged AtEnd IsLeft first now old new bytes (run.Line (file.LineLong line)) h =
-      explains AtEnd IsLeft (of first) (of now) None None bytes (run.Line (file.LineLong line))
-      (h.0, StopsAt-map bytes _ _ (λ lines rest more p. (p.0, told first now lines _ p.1)) h.1)
-  explains-unlogged AtEnd IsLeft first now old new bytes (run.Line (file.LineCut line)) h =
-      explains AtEnd IsLeft (of first) (of now) None None bytes (run.Line (file.LineCut line))
-      (h.0, StopsAt-map bytes _ _ (λ lines rest more p. (p.0, told first now lines _ p.1)) h.1)
-  explains-unlogged AtEnd IsLeft first now old new bytes (run.Line (file.BadLine line)) h =
-      explains AtEnd IsLeft (of first) (of now) None None bytes (run.Line (file.BadLine line))
-      (h.0, StopsAt-map bytes _ _ (λ lines rest more p. (p.0, told first now lines _ p.1)) h.1)
-  explains-unlogged AtEnd IsLeft first now old new bytes (run.Refused line refusal.NoMoment) h =
-      explains AtEnd IsLeft (of first) (of now) None None bytes (run.Refused line refusal.NoMoment)
-      (StopsAt-map bytes _ _ (λ lines rest more p. (p.0, told first now lines _ p.1)) h)
-  explains-unlogged AtEnd IsLeft first now old new bytes (run.Refused line (refusal.Moment why)) h =
-      explains AtEnd IsLeft (of first) (of now) None None bytes
-      (run.Refused line (refusal.Moment why))
-      (StopsAt-map bytes _ _ (λ lines rest more p. (p.0, told first now lines _ p.1)) h)
-  explains-unlogged AtEnd IsLeft first now old new bytes (run.Refused line (refusal.Vital subject))
-      h =
-      explains AtEnd IsLeft (of first) (of now) None None bytes
-      (run.Refused line (refusal.Vital subject))
-      (StopsAt-map bytes _ _ (λ lines rest more p. (p.0, told first now lines _ p.1)) h)
-  explains-unlogged AtEnd IsLeft first now old new bytes (run.Write written) h =
-      none-in_part old new h.here.given written h.here.begun h.here.some
+-- a run over lines that ended early is such a run that did
+pub unlogged-fault : {R : Type 0} (saved : SavedStates) (first now : Listening)
+    (remaining : R → Option (List ℕ)) (old new : CountedDevice R) (fault : HearFault LineRefusal)
+    → starts_of first ≡ starts_from saved
+    → HearsLines (RefusesFrom first) (StandsUnlogged first now) air_limit remaining old new
+    (Err fault)
+    → ListensUnlogged saved remaining old new (Err (lines_fault (as_run_fault fault)))
+unlogged-fault saved first now remaining old new fault begun h =
+    let said : (AtEnd : Type 0) (IsLeft : List ℕ → Type 0) (bytes : List ℕ)
+    → StopsLines (RefusesFrom first) (StandsUnlogged first now) AtEnd IsLeft air_limit bytes fault
+    → AnswersLeaving saved AtEnd IsLeft (Err (lines_fault (as_run_fault fault))) bytes =
+    λ AtEnd IsLeft bytes k. (
+      subst (λ (starts : Starts). AnswersUnlogged starts AtEnd IsLeft
+          (Err (lines_fault (as_run_fault fault))) bytes) begun
+          (explains-unlogged AtEnd IsLeft first now bytes fault k),
+      tt,
+    ) in
+    Reads-on remaining old new hear.Read Read (Err fault) (Err (lines_fault (as_run_fault fault)))
+    _ _ _ _ h (λ bytes k. said _ _ bytes k) (λ bytes k. said _ _ bytes k)
+    (λ bytes k h outside. tt)
+    (λ e. as-err _ _ (unread-back fault (read-back (as_run_fault fault) (err-of _ _ e))))
+    (λ e. as-err _ _ (ap (λ f. lines_fault (as_run_fault f)) (hear-err-of _ _ e)))
 
-  -- a run over lines that ended early is such a run that did
-  pub unlogged-fault : {R W : Type 0} (saved : SavedStates) (first now : T) (d : Devices R W)
-      (fault : LinesFault LineRefusal) → starts_of (of first) ≡ starts_from saved
-      → RunsLines stands begins refuses air_limit first now d (Err fault)
-      → ListensUnlogged saved d.remaining d.reader d.reader_after (Err (lines_fault fault))
-  unlogged-fault saved first now d fault begun h =
-      let said : (AtEnd : Type 0) (IsLeft : List ℕ → Type 0) (bytes : List ℕ)
-      → ExplainsLines stands begins refuses AtEnd IsLeft air_limit first now
-      (d.contents d.writer.inner) (d.contents d.writer_after.inner)
-      (Appends (d.contents d.writer.inner) (d.contents d.writer_after.inner)) bytes fault
-      → AnswersLeaving saved AtEnd IsLeft (Err (lines_fault fault)) bytes =
-      λ AtEnd IsLeft bytes k. (
-        subst (λ (starts : Starts). AnswersUnlogged starts AtEnd IsLeft (Err (lines_fault fault))
-            bytes) begun (explains-unlogged AtEnd IsLeft first now _ _ bytes fault k),
-        tt,
-      ) in
-      Reads-on d.remaining d.reader d.reader_after run.Read Read (Err fault)
-      (Err (lines_fault fault)) _ _ _ _ h.reads (λ bytes k. said _ _ bytes k)
-      (λ bytes k. said _ _ bytes k) (λ bytes k h outside. tt)
-      (λ e. as-err _ _ (read-back fault (err-of _ _ e)))
-      (λ e. as-err _ _ (ap lines_fault (run-err-of _ _ e)))
+-- all lines were taken, and there is a log of them
+told-all : (first now : Listening) (bytes : List ℕ) (count : ℕ)
+    → (h : HasHeardAll (StandsUnlogged first now) air_limit bytes count)
+    → HasTakenAll StandsFrom first now None None air_limit bytes
+    (record { lines = count; written = count_of (length h.here.0) })
+told-all first now bytes count h = record {
+  lines = h.lines;
+  file = h.file;
+  taken = record {
+    given = h.here.0;
+    stood = h.here.1;
+    here = record { counted = refl; appended = tt };
+  };
+  counted = h.counted;
+}
 
-  -- all lines were taken, and there is a log of them
-  told-all : (first now : T) (old new : Option (List ℕ)) (bytes : List ℕ) (read : LinesRead)
-      → (h : HasTakenAll stands first now old new air_limit bytes read)
-      → HasTakenAll StandsFrom (of first) (of now) None None air_limit bytes
-      (record { lines = read.lines; written = count_of (length h.taken.stood.1.0) })
-  told-all first now old new bytes read h = record {
-    lines = h.lines;
-    file = h.file;
-    taken = record {
-      given = h.taken.stood.1.0;
-      stood = h.taken.stood.1.1;
-      here = record { counted = refl; appended = tt };
-    };
-    counted = h.counted;
-  }
-
-  -- a run over lines that read its file to the end, and what the end closes, are such a run
-  pub unlogged-ok : {R W : Type 0} (saved left : SavedStates) (first now : T) (d : Devices R W)
-      (read : LinesRead) (report : Report) → starts_of (of first) ≡ starts_from saved
-      → RunsLines stands begins refuses air_limit first now d (Ok read)
-      → ((lines : List Line) (given : List ℕ) → IsListening (starts_of (of first)) (of now) lines
-      given → HasClosed (starts_of (of first)) None None (given_by lines) report)
-      → ((lines : List Line) (given : List ℕ) → IsListening (starts_of (of first)) (of now) lines
-      given → LeavesEach (starts_of (of first)) lines left)
-      → report.lines ≡ read.lines
-      → ListensUnlogged saved d.remaining d.reader d.reader_after (Ok (report, left))
-  unlogged-ok saved left first now d read report begun h closed leaves counted =
-      let said : (AtEnd : Type 0) (IsLeft : List ℕ → Type 0) (bytes : List ℕ) → AtEnd
-      × HasTakenAll stands first now (d.contents d.writer.inner) (d.contents d.writer_after.inner)
-      air_limit bytes read → AnswersLeaving saved AtEnd IsLeft (Ok (report, left)) bytes =
-      λ AtEnd IsLeft bytes k.
-      let all : LinesRead =
-      record { lines = read.lines; written = count_of (length k.1.taken.stood.1.0) } in
-      let told = told-all first now _ _ bytes read k.1 in (
-        subst (λ (starts : Starts). AnswersUnlogged starts AtEnd IsLeft (Ok report) bytes) begun (
-          k.0,
-          listened (of first) (of now) None None None bytes all report told
-              (λ lines given s w. closed lines given s) counted,
-        ),
-        gone saved left (of first) (of now) None None None bytes all report begun told
-            (λ lines given s w. closed lines given s) leaves,
-      ) in
-      Reads-on d.remaining d.reader d.reader_after run.Read Read (Ok read) (Ok (report, left))
-      (λ bytes. IsReadOut d × HasTakenAll stands first now (d.contents d.writer.inner)
-      (d.contents d.writer_after.inner) air_limit bytes read)
-      (λ bytes. Unit {0} × HasTakenAll stands first now (d.contents d.writer.inner)
-      (d.contents d.writer_after.inner) air_limit bytes read)
-      (λ bytes. AnswersLeaving saved (IsAtEnd (d.remaining d.reader_after.inner))
-      (λ more. more ≡ []) (Ok (report, left)) bytes)
-      (λ bytes. AnswersLeaving saved (Unit {0}) (λ more. Unit {0}) (Ok (report, left)) bytes)
-      h.reads (λ bytes k. said (IsReadOut d) (λ more. more ≡ []) bytes k)
-      (λ bytes k. said (Unit {0}) (λ more. Unit {0}) bytes k)
-      (λ bytes k h. h) (λ e. absurd (Ok-not_err _ _ e)) (λ e. absurd (Ok-not_err _ _ e))
+-- a run over lines that read its file to the end, and what the end closes, are such a run
+pub unlogged-ok : {R : Type 0} (saved left : SavedStates) (first now : Listening)
+    (remaining : R → Option (List ℕ)) (old new : CountedDevice R) (count : ℕ) (report : Report)
+    → starts_of first ≡ starts_from saved
+    → HearsLines (RefusesFrom first) (StandsUnlogged first now) air_limit remaining old new
+    (Ok count)
+    → ((lines : List Line) (given : List ℕ) → IsListening (starts_of first) now lines given
+    → HasClosed (starts_of first) None None (given_by lines) report)
+    → ((lines : List Line) (given : List ℕ) → IsListening (starts_of first) now lines given
+    → LeavesEach (starts_of first) lines left)
+    → report.lines ≡ count → ListensUnlogged saved remaining old new (Ok (report, left))
+unlogged-ok saved left first now remaining old new count report begun h closed leaves counted =
+    let said : (AtEnd : Type 0) (IsLeft : List ℕ → Type 0) (bytes : List ℕ)
+    → AtEnd × HasHeardAll (StandsUnlogged first now) air_limit bytes count
+    → AnswersLeaving saved AtEnd IsLeft (Ok (report, left)) bytes =
+    λ AtEnd IsLeft bytes k.
+    let all : LinesRead = record { lines = count; written = count_of (length k.1.here.0) } in
+    let told = told-all first now bytes count k.1 in (
+      subst (λ (starts : Starts). AnswersUnlogged starts AtEnd IsLeft (Ok report) bytes) begun (
+        k.0,
+        listened first now None None None bytes all report told
+            (λ lines given s w. closed lines given s) counted,
+      ),
+      gone saved left first now None None None bytes all report begun told
+          (λ lines given s w. closed lines given s) leaves,
+    ) in
+    Reads-on remaining old new hear.Read Read (Ok count) (Ok (report, left))
+    (λ bytes. IsAtEnd (remaining new.inner)
+    × HasHeardAll (StandsUnlogged first now) air_limit bytes count)
+    (λ bytes. Unit {0} × HasHeardAll (StandsUnlogged first now) air_limit bytes count)
+    (λ bytes. AnswersLeaving saved (IsAtEnd (remaining new.inner)) (λ more. more ≡ [])
+    (Ok (report, left)) bytes)
+    (λ bytes. AnswersLeaving saved (Unit {0}) (λ more. Unit {0}) (Ok (report, left)) bytes)
+    h (λ bytes k. said (IsAtEnd (remaining new.inner)) (λ more. more ≡ []) bytes k)
+    (λ bytes k. said (Unit {0}) (λ more. Unit {0}) bytes k)
+    (λ bytes k h. h) (λ e. absurd (Ok-not_err _ _ e)) (λ e. absurd (Ok-not_err _ _ e))
 
 whatever-twice : (o : Option (List ℕ)) → IfSome o (λ _. ⊤ × ⊤)
 whatever-twice None = tt

@@ -1,6 +1,6 @@
 -- Over gaps and received emissions a message is printed once.
 use Rattle.std.proofs.Common.{◌≡◌, ℕ, zero, suc, ◌+◌, ◌*◌, ◌<◌, Bool, true, false, ltb, cond, max}
-use Rattle.std.proofs.Common.{List, [], ◌∷◌, ◌++◌, length, filter, get_or, refl, sym, ap, ap₂, ◌∙◌}
+use Rattle.std.proofs.Common.{List, [], ◌∷◌, length, filter, get_or, refl, sym, ap, ◌∙◌}
 use Rattle.std.proofs.Common.{subst, arith, IsTrue, lt-ltb}
 use Rattle.std.specs.List.{All, Contains}
 use Rattle.std.proofs.lemmas.List.Elements.{All-head, All-tail, All-cons, All-nil, All-map}
@@ -11,20 +11,18 @@ use Rattle.nx_envelope.specs.Identity.{same_identity}
 use Rattle.nx_envelope.specs.Message.{text_of, MessageView}
 use Rattle.nx_envelope.specs.declared.identity.Identity.{Identity}
 use Rattle.nx_envelope.proofs.Identities.{same_identity-true, same_itself}
-use Rattle.nx_memory.specs.declared.entry.MemoryEntry.{MemoryEntry}
-use Rattle.nx_memory.specs.Memory.{most_entries, seconds_known}
+use Rattle.nx_memory.specs.Memory.{seconds_known}
 use Rattle.nx_station.specs.Sendings.{Part, Sending, IsSentAt}
 use Rattle.nx_receiver.specs.Events.{Event, Start, elements_among, first_setting, setting_at}
 use Rattle.nx_receiver.specs.FoundCopies.{FoundCopy, found_to_end, TaggedCopy, tag, tagged_copies}
 use Rattle.nx_receiver.specs.LawTerms.{AreRepeats}
-use Rattle.nx_receiver.specs.Printing.{copies_of, entries_after, entries_made, is_good}
-use Rattle.nx_receiver.specs.Printing.{is_remembered, printed_copies}
+use Rattle.nx_receiver.specs.Printing.{copies_of, is_good}
+use Rattle.nx_receiver.specs.Printing.{printed_copies}
 use Rattle.nx_receiver.specs.Log.{PrintsToEnd, printed_of}
 use Rattle.nx_receiver.specs.Once.{IsHeardInTime, IsPrintedOnce}
-use Rattle.nx_receiver.specs.private.Heard.{HeardTerms}
 use Rattle.nx_receiver.specs.Emissions.{copies_at, copy_of_sending}
 use Rattle.nx_receiver.proofs.locks.Found.{one_told}
-use Rattle.nx_receiver.proofs.once.Repeats.{once, one_split, split}
+use Rattle.nx_receiver.proofs.once.Repeats.{once}
 use Rattle.nx_receiver.proofs.once.Rising.{one_of_key, contains_map}
 use Rattle.nx_receiver.proofs.emissions.Found.{one_found, sending_in_end, sending_errors}
 use Rattle.nx_receiver.proofs.emissions.Places.{found_rise}
@@ -95,7 +93,7 @@ pub no_errors-good : (text : List ℕ) → errors_of text ≡ 0
 no_errors-good text none = lt-ltb (25 * errors_of text) (max 1 (length text)) (omega arith)
 
 module _ (start : Start) (events : List Event) (parts : List Part) (message : MessageView)
-    (h : HeardTerms start events parts message) where
+    (h : IsHeardInTime start events parts message) where
   abbrev found : List FoundCopy
   found = found_to_end (elements_among events) h.locks h.now
 
@@ -202,10 +200,10 @@ module _ (start : Start) (events : List Event) (parts : List Part) (message : Me
             (named_first message.identity heard first rest e) named;
       }
 
-  pub printed_by_terms : (log : List TaggedCopy) → PrintsToEnd start events log
+  pub printed_once : (log : List TaggedCopy) → PrintsToEnd start events log
       → IsPrintedOnce message log
   unfolding tag
-  printed_by_terms log prints =
+  printed_once log prints =
       let start_of = has_first (copies_of message.identity heard) (copy_at h.place) some_heard in
       let all = repeats start_of.first start_of.rest start_of.whole in
       let of =
@@ -226,65 +224,3 @@ module _ (start : Start) (events : List Event) (parts : List Part) (message : Me
         whole = ap errors_of text ∙ no_errors;
         letters = text;
       }
-
-  -- what is told of whichever copy is the first holds of the one that is
-  pub heard_at_first : IsHeardInTime start events parts message
-  heard_at_first =
-      let f = has_first (copies_of message.identity heard) (copy_at h.place) some_heard in
-      let s = split message.identity heard f.first f.rest f.whole in
-      record {
-        cut = h.cut;
-        numbered = h.numbered;
-        place = h.place;
-        sent = h.sent;
-        locks = h.locks;
-        now = h.now;
-        stands = h.stands;
-        alone = h.alone;
-        selected = h.selected;
-        close = h.close;
-        before = s.before;
-        first = f.first;
-        after = s.after;
-        whole = sym s.whole;
-        none_before = s.none;
-        named = s.named;
-        unknown = h.unknown s.before s.after f.first s.whole s.none s.named;
-        few = λ between more later e again.
-            h.few s.before between more f.first later
-            (s.whole ∙ ap (λ xs. s.before ++ f.first ∷ xs) e) s.none s.named again;
-      }
-
--- and the other way
-terms_of : (start : Start) (events : List Event) (parts : List Part) (message : MessageView)
-    → IsHeardInTime start events parts message → HeardTerms start events parts message
-terms_of start events parts message h = record {
-  cut = h.cut;
-  numbered = h.numbered;
-  place = h.place;
-  sent = h.sent;
-  locks = h.locks;
-  now = h.now;
-  stands = h.stands;
-  alone = h.alone;
-  selected = h.selected;
-  close = h.close;
-  unknown = λ before after first whole none named.
-      let same = one_split message.identity before h.before first h.first after h.after
-      (sym whole ∙ sym h.whole) none h.none_before named h.named in
-      ap₂ (λ bs f. is_remembered (entries_after start.entries bs) f) same.front same.here
-      ∙ h.unknown;
-  few = λ before between after first later whole none named again.
-      let same = one_split message.identity before h.before first h.first
-      (between ++ later ∷ after) h.after (sym whole ∙ sym h.whole) none h.none_before named
-      h.named in
-      subst (λ (es : List MemoryEntry). length (entries_made es between) < most_entries)
-      (ap₂ (λ bs f. entries_after start.entries (bs ++ f ∷ [])) (sym same.front) (sym same.here))
-      (h.few between after later (sym same.back) again);
-}
-
-pub printed_once : (start : Start) (events : List Event) (parts : List Part)
-    (message : MessageView) → IsHeardInTime start events parts message → (log : List TaggedCopy)
-    → PrintsToEnd start events log → IsPrintedOnce message log
-printed_once start events parts message h =
-    printed_by_terms start events parts message (terms_of start events parts message h)

@@ -4,7 +4,7 @@ use Rattle.std.proofs.Common.{take, drop, refl, sym, ap, ◌∙◌, subst, appen
 use Rattle.std.proofs.Common.{arith, inl, inr, is_some, false, Some, length-drop}
 use lib.Seq.{take-add}
 use Rattle.std.proofs.lemmas.Bool.{cases_lt}
-use Rattle.std.proofs.lemmas.List.{length-take, map-append, take-take}
+use Rattle.std.proofs.lemmas.List.{drop-drop, length-take, map-append, take-take}
 use Rattle.nx_memory.specs.declared.entry.MemoryEntry.{MemoryEntry}
 use Rattle.nx_receiver.specs.declared.over.Over.{Over}
 use Rattle.nx_receiver.specs.declared.over.Over.TheVariants as over
@@ -278,3 +278,8 @@ pub is_none : {A : Type 0} (entry : Option A) (test : Bool) → test ≡ is_some
     → entry ≡ None
 is_none None test h e = refl
 is_none (Some x) test h e = cc
+
+-- what was heard of packed elements, those from a place on
+pub packed_piece : (packed : List Bool) (from at n : ℕ)
+    → take n (drop (from + at) packed) ≡ take n (drop at (drop from packed))
+packed_piece packed from at n = ap (take n) (sym (drop-drop at from packed))

@@ -1,28 +1,24 @@
 -- How the taker of lines behind a run that listens stands after lines (this profile).
-use Rattle.std.specs.Prelude.{◌≡◌, ℕ, ◌+◌, ◌-◌, ◌^◌, ◌≤◌, Bool, false, List, [], ◌∷◌, ◌++◌, length}
-use Rattle.std.specs.Prelude.{map, min, Option, IsTrue}
-use Rattle.std.specs.List.{flat_map}
+use Rattle.std.specs.Prelude.{◌≡◌, ℕ, ◌+◌, ◌-◌, ◌^◌, ◌≤◌, Bool, false, List, ◌++◌, length}
+use Rattle.std.specs.Prelude.{map, take, Option, IsTrue}
 use Rattle.std.specs.Io.KnownBytes.{Appends}
 use Rattle.nx_envelope.specs.declared.letter.Letter.{Letter}
 use Rattle.nx_fec.specs.AirFile.{Line, moment, elements, refuse_subject}
 use Rattle.nx_fec.specs.Channels.{same_channel}
 use Rattle.nx_fec.specs.Transfers.{WroteSome}
 use Rattle.nx_fec.specs.declared.channel.Channel.{Channel}
-use Rattle.nx_fec.specs.declared.channel.Channel.TheVariants.{Zero, One, Two}
 use Rattle.nx_fec.specs.declared.fault.LineFault.TheVariants as file
 use Rattle.nx_fec.specs.declared.line_run.LinesFault.{LinesFault}
 use Rattle.nx_fec.specs.declared.line_run.LinesFault.TheVariants as run
-use Rattle.nx_memory.specs.Ring.{RingMemory}
 use Rattle.nx_memory.specs.Selection.{is_vital}
-use Rattle.nx_memory.specs.declared.entry.MemoryEntry.{MemoryEntry}
 use Rattle.nx_receiver.specs.Events as events
 use Rattle.nx_receiver.specs.Events.{Event, Start, elements_among, Refuses}
 use Rattle.nx_receiver.specs.InTurn.{PrintAllToEnd, PrintsInTurn}
 use Rattle.nx_receiver.specs.Listen.{AreTaken, given_by, has_moment, moment_after}
 use Rattle.nx_receiver.specs.Log.{IsLog}
-use Rattle.nx_receiver.specs.Receiver.{Receiving, Stands}
-use Rattle.nx_receiver.specs.Shares.{Given, MarkedCopy, Starts, copies_on, marked, share, start_on}
-use Rattle.nx_receiver.specs.Shares.{to_all, to_one}
+use Rattle.nx_receiver.specs.Listener.{HearsGiven, Listening, content, count_of, elements_given, receiver_on, starts_of}
+use Rattle.nx_receiver.specs.Receiver.{HandsOutNoneBefore, Stands}
+use Rattle.nx_receiver.specs.Shares.{Given, MarkedCopy, Starts, marked}
 use Rattle.nx_receiver.specs.private.Awaiting.{Awaits}
 use Rattle.nx_receiver.specs.FoundCopies.{TaggedCopy}
 use Rattle.nx_receiver.specs.declared.fault.MomentFault.{MomentFault}
@@ -33,73 +29,17 @@ use Rattle.nx_receiver.specs.declared.listen_fault.ListenFault.{ListenFault}
 use Rattle.nx_receiver.specs.declared.listen_fault.ListenFault.TheVariants as listen
 use Rattle.nx_receiver.specs.declared.over.Over.{Over}
 
--- the number that counts so many, at most the greatest of 64 bits
-abbrev pub count_of : ℕ → ℕ
-count_of n = min n (2 ^ 64 - 1)
+-- The receiver of a channel, whatever it was given before, hears so many of these elements, and hands
+-- out these copies with the last of them, and none before.
+pub record HearsTo (channel : Channel) (old new : Listening) (bits : List Bool) (count : ℕ)
+    (copies : List TaggedCopy) : Type 0 where
+  pub stands : (start : Start) (history : List Event) (log : List TaggedCopy)
+      → Stands content start (receiver_on old channel) history log
+      → Stands content start (receiver_on new channel)
+      (history ++ events.elements (take count bits)) (log ++ copies)
+  pub first : HandsOutNoneBefore content (receiver_on old channel) bits count
 
--- the memory's entries, as a listener's receivers have them
-abbrev pub content : RingMemory → List MemoryEntry
-content memory = memory.content
-
--- what contracts see of a listener: the receiver of each channel, whether there was a moment, and
--- how many elements and entries it counted
-pub record Listening : Type 0 where
-  pub on_0 : Receiving RingMemory
-  pub on_1 : Receiving RingMemory
-  pub on_2 : Receiving RingMemory
-  pub has_moment : Bool
-  pub elements : ℕ
-  pub entries : ℕ
-
--- the receiver of a channel
-abbrev pub receiver_on : Listening → Channel → Receiving RingMemory
-receiver_on listener Zero = listener.on_0
-receiver_on listener One = listener.on_1
-receiver_on listener Two = listener.on_2
-
--- the same listener with this as the receiver of a channel
-abbrev pub with_receiver : Listening → Channel → Receiving RingMemory → Listening
-with_receiver listener Zero receiver = record listener { on_0 = receiver }
-with_receiver listener One receiver = record listener { on_1 = receiver }
-with_receiver listener Two receiver = record listener { on_2 = receiver }
-
--- with what a listener starts that has heard nothing yet: what its receivers have, of which all
--- have one moment
-abbrev pub starts_of : Listening → Starts
-starts_of listener = record {
-  moment = listener.on_0.watch.moment;
-  entries = λ channel. content (receiver_on listener channel).memory;
-  refused = λ channel. (receiver_on listener channel).watch.refused;
-}
-
--- the elements among what is given, of all channels
-abbrev pub elements_in : Given → List Bool
-elements_in (to_all n) = []
-elements_in (to_one channel events) = elements_among events
-
-abbrev pub elements_given : List Given → List Bool
-elements_given given = flat_map elements_in given
-
--- the same, and then these elements of a channel, given at once
-abbrev pub then_elements : List Given → Channel → List Bool → List Given
-then_elements given channel bits = given ++ to_one channel (events.elements bits) ∷ []
-
--- After it was given this, with what it started, a listener printed these copies: the receiver of
--- each channel stands after the channel's share, with the copies of that channel; they are in the
--- order in which they ended; it counted the elements and the entries; and no element ended more
--- than one copy.
-pub record HearsGiven (starts : Starts) (listener : Listening) (given : List Given)
-    (copies : List MarkedCopy)
-    : Type 0 where
-  pub receivers : (channel : Channel)
-      → Stands content (start_on starts channel) (receiver_on listener channel)
-      (share channel given) (copies_on channel copies)
-  pub in_turn : PrintsInTurn starts given copies
-  pub elements : listener.elements ≡ count_of (length (elements_given given))
-  pub entries : listener.entries ≡ count_of (length copies)
-  pub few : length copies ≤ length (elements_given given)
-
--- the same, and these bytes are the log of the copies
+-- After it was given this, a listener printed copies, of which these bytes are the log.
 pub record HearsLog (starts : Starts) (listener : Listening) (given : List Given) (bytes : List ℕ)
     : Type 0 where
   pub log : List MarkedCopy

@@ -12,7 +12,7 @@ use Rattle.nx_receiver.specs.Printing.{printed_copies}
 use Rattle.nx_receiver.specs.Receiver.{Receiving, Stands}
 use Rattle.nx_receiver.specs.Shares.{Given, Starts}
 use Rattle.nx_receiver.specs.private.Listener.{BeginsListening, BeginsLog, HearsLog, IsListening}
-use Rattle.nx_receiver.specs.private.Listener.{Listening}
+use Rattle.nx_receiver.specs.Listener.{Listening}
 use Rattle.nx_receiver.specs.private.Watch.{copies_by}
 
 tagged-by : (first : Setting) (events : List Event) (copies : List FoundCopy)

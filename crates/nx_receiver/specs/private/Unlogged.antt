@@ -4,6 +4,10 @@ use Rattle.std.specs.Prelude.{◌≡◌, ℕ, List, [], None, Option, Result, If
 use Rattle.std.specs.Io.KnownBytes.{IsAtEnd}
 use Rattle.nx_fec.specs.AirFile.{Line}
 use Rattle.nx_fec.specs.Transfers.{CountedDevice, Reads}
+use Rattle.nx_fec.specs.declared.line_hearing.HearFault.{HearFault}
+use Rattle.nx_fec.specs.declared.line_hearing.HearFault.TheVariants as hear
+use Rattle.nx_fec.specs.declared.line_run.LinesFault.{LinesFault}
+use Rattle.nx_fec.specs.declared.line_run.LinesFault.TheVariants as run
 use Rattle.nx_memory.specs.Saved.{SavedStates}
 use Rattle.nx_receiver.specs.Chain.{HasGoneOn}
 use Rattle.nx_receiver.specs.Listen.{AnswersUnlogged}
@@ -11,20 +15,28 @@ use Rattle.nx_receiver.specs.ListenFrom.{reported}
 use Rattle.nx_receiver.specs.Shares.{Given, Starts, starts_from}
 use Rattle.nx_receiver.specs.declared.listen_fault.ListenFault.{ListenFault}
 use Rattle.nx_receiver.specs.declared.listen_fault.ListenFault.TheVariants.{Read}
+use Rattle.nx_receiver.specs.declared.listening.LineRefusal.{LineRefusal}
 use Rattle.nx_receiver.specs.declared.listening.Report.{Report}
-use Rattle.nx_receiver.specs.private.Listener.{HearsLog, IsListening, Listening, starts_of}
+use Rattle.nx_receiver.specs.Listener.{Listening, starts_of}
+use Rattle.nx_receiver.specs.private.Listener.{HearsLog, IsListening}
 
 -- after these lines
 abbrev pub HasHeard : Starts → Listening → List Line → Type 0
 HasHeard starts listener lines = (log : List ℕ) × IsListening starts listener lines log
 
--- the same for a taker of lines that stood so at first, and gives nothing
-abbrev pub StandsUnlogged : Listening → Listening → List Line → List ℕ → Type 0
-StandsUnlogged first now lines given = (given ≡ []) × HasHeard (starts_of first) now lines
+-- the same of a listener that stood so at first
+abbrev pub StandsUnlogged : Listening → Listening → List Line → Type 0
+StandsUnlogged first now lines = HasHeard (starts_of first) now lines
 
 -- after what lines gave
 abbrev pub HasHeardGiven : Starts → Listening → List Given → Type 0
 HasHeardGiven starts listener given = (log : List ℕ) × HearsLog starts listener given log
+
+-- a fault of a run over lines that writes nothing, as one of a run that writes
+abbrev pub as_run_fault : HearFault LineRefusal → LinesFault LineRefusal
+as_run_fault hear.Read = run.Read
+as_run_fault (hear.Line why) = run.Line why
+as_run_fault (hear.Refused line why) = run.Refused line why
 
 -- what such a run answers, and what it leaves
 abbrev pub AnswersLeaving : SavedStates → Type 0 → (List ℕ → Type 0)

@@ -8,8 +8,9 @@ ghost use Rattle.nx_fec.specs.Lines.{IsAirFile, air_limit};
 ghost use Rattle.nx_fec.specs.declared.channel.Channel.{Channel};
 ghost use Rattle.nx_fec.specs.declared.channel.Channel.TheVariants.{Zero};
 ghost use Rattle.nx_station.specs.ChannelExample.{example_message};
-ghost use Rattle.nx_receiver.specs.Listen.{AreTaken, HasListenFault, HasLogged, IsLogOf, IsLogOfFile, IsLogOfLines};
+ghost use Rattle.nx_receiver.specs.Listen.{AreTaken, HasListenFault, HasLogged, IsLogOf, IsLogOfFile, IsLogOfLines, given_by, moment_after};
 ghost use Rattle.nx_receiver.specs.ListenExample.{example_air_file};
+ghost use Rattle.nx_receiver.specs.Listener.{moment_in_force};
 ghost use Rattle.nx_receiver.specs.ListenOnce.{IsHeardInTimeOn};
 ghost use Rattle.nx_receiver.specs.Once.{IsPrintedOnce};
 ghost use Rattle.nx_receiver.specs.Shares.{MarkedCopy, Starts, all_at_zero, copies_on};
@@ -58,4 +59,10 @@ pub fn a_message_heard_in_time_has_one_entry()
 pub fn there_is_an_air_file_with_a_message_heard_in_time()
     ensures heard { IsHeardInTimeOn Zero all_at_zero example_air_file example_message }
     ensures log { IsLogOf all_at_zero example_air_file worked_log }
+{}
+
+/// The moment in force after lines is the one in force after what they give.
+pub fn lines_tell_the_moment_in_force()
+    ensures { (first : ℕ) (lines : List Line)
+        → moment_in_force first (given_by lines) ≡ moment_after first lines }
 {}

@@ -4,25 +4,26 @@ ghost use Rattle.std.specs.Prelude.{◌≡◌, ◌+◌, ◌<◌, ◌≤◌, ℕ,
 ghost use Rattle.nx_fec.specs.AirFile.{IsLine, Line};
 ghost use Rattle.nx_receiver.specs.Shares.{Given, Starts};
 ghost use Rattle.nx_receiver.specs.private.Awaiting.{HandsOut};
-ghost use Rattle.nx_receiver.specs.private.Listener.{HasClosed, RefusesLine, content, receiver_on, then_elements, with_receiver};
-ghost use Rattle.nx_receiver.specs.private.Unlogged.{HasHeard, HasHeardGiven, ListensUnlogged};
+ghost use Rattle.nx_receiver.specs.Listener.{content, receiver_on, then_elements, with_receiver};
+ghost use Rattle.nx_receiver.specs.private.Listener.{HasClosed, RefusesLine, lines_fault};
+ghost use Rattle.nx_receiver.specs.private.Unlogged.{HasHeard, HasHeardGiven, ListensUnlogged, as_run_fault};
 ghost use Rattle.nx_receiver.specs.declared.listen_fault.ListenFault.TheVariants.{Memory};
 
 use crate::listen_fault::ListenFault;
-use crate::listening::{LineRefusal, Listener, Report, run_fault, taking_of};
+use crate::listener::Listener;
+use crate::listening::{LineRefusal, Report, letter, line_listener, run_fault};
 use crate::over::Over;
 use nx_fec::{
-    Batch, Channel, Counting, LineKind, LineTaker, LinesRead, PackedElements, Scanner, TakeFault,
-    run_lines,
+    Channel, Counting, HearFault, LineHearer, LineKind, LinesFault, PackedElements, Scanner,
+    hear_lines,
 };
 use nx_memory::SavedSet;
 use std::alloc::{AllocError, Global};
-use std::io;
-use std::io::{Read, Write};
+use std::io::Read;
 
 /// Listens as `listen_from` does, and writes nothing: answers the report of the log that it would
-/// have written, and what the run leaves. No write is tried, so none fails. All memory is taken
-/// before the first read.
+/// have written, and what the run leaves. There is no writer, so no write fails. All memory is
+/// taken before the first read.
 pub(crate) fn listen_unlogged<R: Read>(
     alloc: Global,
     saved: &SavedSet,
@@ -33,48 +34,40 @@ pub(crate) fn listen_unlogged<R: Read>(
     ensures memory { (error : AllocError) → result ≡ Err (Memory error)
         → reader.new ≡ reader.old }
 {
-    let listener = Listener::starting(alloc, saved)?;
-    let mut taker = Unlogged { listener };
-    // A run over lines has a writer; nothing is given for them, so this one is never called.
-    let read = match run_lines(reader, &mut Counting::new(io::sink()), &mut taker) {
-        Ok(read) => read,
-        Err(fault) => return Err(run_fault(fault)),
+    let mut listener = line_listener(alloc, saved)?;
+    let lines = match hear_lines(reader, &mut listener) {
+        Ok(lines) => lines,
+        Err(fault) => return Err(unlogged_fault(fault)),
     };
     // Before the end: the copy that the end closes is cut, and makes no entry.
-    let left = taker.listener.saved();
-    Ok((taker.listener.close_unlogged(read), left))
+    let left = listener.saved();
+    Ok((listener.close_unlogged(lines), left))
 }
 
-/// A listener that takes the lines of an air file and gives nothing for them.
-#[derive(Drop)]
-struct Unlogged {
-    listener: Listener,
+/// The fault of the run that stands for one of its lines.
+fn unlogged_fault(fault: HearFault<LineRefusal>) -> ListenFault
+    ensures { result ≡ lines_fault (as_run_fault fault) }
+{
+    run_fault(match fault {
+        HearFault::Read => LinesFault::Read,
+        HearFault::Line(why) => LinesFault::Line(why),
+        HearFault::Refused { line, why } => LinesFault::Refused { line, why },
+    })
 }
 
-impl LineTaker for Unlogged {
-    ghost use Rattle.std.specs.Prelude.{◌≡◌, []};
+impl LineHearer for Listener {
     ghost use Rattle.nx_receiver.specs.private.Listener.{RefusesFrom};
     ghost use Rattle.nx_receiver.specs.private.Unlogged.{StandsUnlogged};
 
     type Refusal = LineRefusal;
 
-    ghost stands = { λ first now lines given.
-        StandsUnlogged first.listener now.listener lines given };
+    ghost stands = { StandsUnlogged };
 
-    ghost begins = { λ first lines given. given ≡ [] };
+    ghost refuses = { RefusesFrom };
 
-    ghost refuses = { λ first lines line why. RefusesFrom first.listener lines line why };
-
-    fn take<W: Write>(
-        &mut self,
-        scanner: &Scanner,
-        _: &mut Counting<W>,
-        _: &mut Batch,
-    ) -> Result<(), TakeFault<LineRefusal>> {
-        taking_of(self.listener.take_unlogged(scanner))
+    fn hear(&mut self, scanner: &Scanner) -> Result<(), LineRefusal> {
+        self.take_unlogged(scanner)
     }
-
-    ghost whole = { λ first now lines given h. h.0 };
 }
 
 impl Listener {
@@ -94,12 +87,21 @@ impl Listener {
             LineKind::Elements(mark) => {
                 return self.hear_unlogged(Channel::of(mark), scanner.elements());
             }
-            LineKind::RefuseStation(mark, byte) => self.refuse_station(Channel::of(mark), byte),
-            LineKind::AcceptStation(mark, byte) => self.accept_station(Channel::of(mark), byte),
+            LineKind::RefuseStation(mark, byte) => self.refuse_station(
+                Channel::of(mark),
+                letter(byte),
+            ),
+            LineKind::AcceptStation(mark, byte) => self.accept_station(
+                Channel::of(mark),
+                letter(byte),
+            ),
             LineKind::RefuseSubject(mark, byte) => {
-                return self.refuse_subject(Channel::of(mark), byte);
+                return self.take_refusal(Channel::of(mark), byte);
             }
-            LineKind::AcceptSubject(mark, byte) => self.accept_subject(Channel::of(mark), byte),
+            LineKind::AcceptSubject(mark, byte) => self.accept_subject(
+                Channel::of(mark),
+                letter(byte),
+            ),
         }
         Ok(())
     }
@@ -170,10 +172,10 @@ impl Listener {
     }
 
     /// Ends the file, and counts the entries of the copies that its end closes.
-    fn close_unlogged(self, read: LinesRead) -> Report
+    fn close_unlogged(self, lines: u64) -> Report
         ensures closed { (starts : Starts) (given : List Given) → HasHeardGiven starts self given
             → HasClosed starts None None given result }
-        ensures lines { result.lines ≡ read.lines }
+        ensures lines { result.lines ≡ lines }
     {
         let Listener {
             on_0,
@@ -189,7 +191,7 @@ impl Listener {
             .saturating_add(u64::from(end_1.is_some()))
             .saturating_add(u64::from(end_2.is_some()));
         Report {
-            lines: read.lines,
+            lines,
             bits: elements,
             printed,
         }

@@ -3,7 +3,8 @@ use Rattle.nx_fec.specs.Transfers.{devices}
 use Rattle.nx_fec.proofs.TransferLaws.{Ok-not_err, Writes-sound}
 use Rattle.nx_receiver.specs.Listen.{Listens, given_by}
 use Rattle.nx_receiver.specs.Shares.{Starts, starts_from}
-use Rattle.nx_receiver.specs.private.Listener.{StandsFrom, IsListening, starts_of}
+use Rattle.nx_receiver.specs.Listener.{starts_of}
+use Rattle.nx_receiver.specs.private.Listener.{StandsFrom, IsListening}
 use Rattle.nx_receiver.specs.declared.listen_fault.ListenFault.TheVariants.{Write}
 use Rattle.nx_receiver.proofs.listens.From.{err-is, goes-nowhere, goes-on}
 use Rattle.nx_receiver.proofs.listens.Runs.{listens-fault, listens-memory, listens-part}
@@ -33,8 +34,8 @@ returns-in-Err-clause-listens g c =
     (subst (λ fault. Listens (starts_of first) d (Err fault)) (sym c.run_fault.ensures)
     (listens-fault first c.run_lines.new.taker d c.in-Err.fault (c.in-Err.ensures first begun))))
 
-pub close-requires : goal.close-requires
-close-requires g c =
+pub close_log-requires : goal.close_log-requires
+close_log-requires g c =
     let first = c.in_ok-listener.listener in
     let begun : StandsFrom first first [] [] =
     subst (λ (starts : Starts). IsListening starts first [] [])
@@ -46,7 +47,7 @@ returns-in_err-report-clause-listens g c =
     let first = c.in_ok-listener.listener in
     let contents = g.W.Write.contents in
     let d = devices g.R.Read.remaining contents c.args.reader.now c.run_lines.new.reader
-    c.args.writer.now c.close.new.writer in
+    c.args.writer.now c.close_log.new.writer in
     let begun : StandsFrom first first [] [] =
     subst (λ (starts : Starts). IsListening starts first [] [])
     (sym c.in_ok-listener.ensures.start) c.in_ok-listener.ensures.listens in
@@ -57,7 +58,7 @@ returns-in_err-report-clause-listens g c =
     (subst (λ (starts : Starts). Listens starts d
     (Err (Write c.in_err-report.field-0.0.written))) c.in_ok-listener.ensures.start
     (listens-part g.R.Read.remaining contents first c.run_lines.new.taker c.args.reader.now
-    c.run_lines.new.reader c.args.writer.now c.run_lines.new.writer c.close.new.writer
+    c.run_lines.new.reader c.args.writer.now c.run_lines.new.writer c.close_log.new.writer
     c.in-Ok.read c.in_err-report.field-0.0.written (c.in-Ok.ensures first begun)
     (λ lines given h w. c.in_err-report.ensures.closed _ (contents c.args.writer.now.inner)
     (given_by lines) given h.hears w) (c.in_err-report.ensures.counts.failed.0 refl)))
@@ -71,9 +72,10 @@ returns-clause-listens g c =
     (sym c.in_ok-listener.ensures.start) c.in_ok-listener.ensures.listens in
     goes-on g.R.Read.remaining contents c.args.saved.now c.saved-left.result first
     c.run_lines.new.taker c.args.reader.now c.run_lines.new.reader c.args.writer.now
-    c.run_lines.new.writer c.close.new.writer
+    c.run_lines.new.writer c.close_log.new.writer
     c.in-Ok.read c.in_ok-report.report c.in_ok-listener.ensures.start (c.in-Ok.ensures first begun)
     (λ lines given h w. c.in_ok-report.ensures.closed _ (contents c.args.writer.now.inner)
     (given_by lines) given h.hears w)
-    (λ lines given h. c.saved-left.ensures (starts_of first) lines given h)
+    (λ lines given h. c.saved-left.ensures (starts_of first) (given_by lines) h.hears.log
+    h.hears.hears)
     c.in_ok-report.ensures.lines c.in_ok-report.ensures.counts.none

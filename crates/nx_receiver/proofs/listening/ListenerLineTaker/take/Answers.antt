@@ -1,10 +1,10 @@
-use Rattle.std.proofs.Common.{[], ◌∷◌, ap, refl, sym}
+use Rattle.std.proofs.Common.{[], ◌∷◌, ap, ap₂, refl, sym}
 use Rattle.nx_fec.specs.AirFile.{moment, refuse_station, accept_station, refuse_subject}
 use Rattle.nx_fec.specs.AirFile.{accept_subject}
 use Rattle.nx_receiver.specs.Events as events
 use Rattle.nx_receiver.specs.Events.{command}
 use Rattle.nx_receiver.specs.Shares.{to_one}
-use Rattle.nx_receiver.specs.private.Listener.{starts_of}
+use Rattle.nx_receiver.specs.Listener.{starts_of}
 use Rattle.nx_receiver.proofs.listens.Listener.{commanded-on}
 use Rattle.nx_receiver.proofs.listens.Lines.{said, subject-taken, taken-always, taken-line}
 use Rattle.nx_receiver.proofs.listening.ListenerLineTaker.take.Goals as goal
@@ -20,7 +20,7 @@ pub returns-in-RefuseSubject-clause-taken : goal.returns-in-RefuseSubject-clause
 returns-in-RefuseSubject-clause-taken g c = λ first old lines line latest h.
     let mark = c.in-RefuseSubject.mark in
     let byte = c.in-RefuseSubject.byte in
-    let made = c.refuse_subject in
+    let made = c.take_refusal in
     let on = c.of-in-RefuseSubject in
     taken-line first c.args.self.now made.new.self old _ c.args.batch.now lines line
     (refuse_subject mark byte) made.result c.taking_of-in-RefuseSubject.result
@@ -36,13 +36,14 @@ returns-in-RefuseStation-clause-taken g c = λ first old lines line latest h.
     let byte = c.in-RefuseStation.byte in
     let is = refuse_station c.in-RefuseStation.mark byte in
     let made = c.refuse_station in
+    let letter = c.letter in
     let on = c.of in
     taken-always first c.args.self.now made.new.self old _ c.args.batch.now lines line is
     (said _ _ _ _ line latest c.latest.ensures c.in-Some.is c.in-RefuseStation.is) h
     (λ bytes s. commanded-on (starts_of first) c.args.self.now made.new.self lines is on.result
-    (events.refuse_station byte) bytes s tt
-    (ap (λ channel. to_one channel (command (events.refuse_station byte) ∷ []))
-    (sym on.ensures)) refl
+    (events.refuse_station letter.result.byte) bytes s tt
+    (ap₂ (λ channel letter. to_one channel (command (events.refuse_station letter) ∷ []))
+    (sym on.ensures) (sym letter.ensures)) refl
     made.ensures.only made.ensures.stands)
 
 pub returns-in-AcceptStation-clause-taken : goal.returns-in-AcceptStation-clause-taken
@@ -50,13 +51,14 @@ returns-in-AcceptStation-clause-taken g c = λ first old lines line latest h.
     let byte = c.in-AcceptStation.byte in
     let is = accept_station c.in-AcceptStation.mark byte in
     let made = c.accept_station in
+    let letter = c.letter-in-AcceptStation in
     let on = c.of-in-AcceptStation in
     taken-always first c.args.self.now made.new.self old _ c.args.batch.now lines line is
     (said _ _ _ _ line latest c.latest.ensures c.in-Some.is c.in-AcceptStation.is) h
     (λ bytes s. commanded-on (starts_of first) c.args.self.now made.new.self lines is on.result
-    (events.accept_station byte) bytes s tt
-    (ap (λ channel. to_one channel (command (events.accept_station byte) ∷ []))
-    (sym on.ensures)) refl
+    (events.accept_station letter.result.byte) bytes s tt
+    (ap₂ (λ channel letter. to_one channel (command (events.accept_station letter) ∷ []))
+    (sym on.ensures) (sym letter.ensures)) refl
     made.ensures.only made.ensures.stands)
 
 pub returns-in-AcceptSubject-clause-taken : goal.returns-in-AcceptSubject-clause-taken
@@ -64,11 +66,12 @@ returns-in-AcceptSubject-clause-taken g c = λ first old lines line latest h.
     let byte = c.in-AcceptSubject.byte in
     let is = accept_subject c.in-AcceptSubject.mark byte in
     let made = c.accept_subject in
+    let letter = c.letter-in-AcceptSubject in
     let on = c.of-in-AcceptSubject in
     taken-always first c.args.self.now made.new.self old _ c.args.batch.now lines line is
     (said _ _ _ _ line latest c.latest.ensures c.in-Some.is c.in-AcceptSubject.is) h
     (λ bytes s. commanded-on (starts_of first) c.args.self.now made.new.self lines is on.result
-    (events.accept_subject byte) bytes s tt
-    (ap (λ channel. to_one channel (command (events.accept_subject byte) ∷ []))
-    (sym on.ensures)) refl
+    (events.accept_subject letter.result.byte) bytes s tt
+    (ap₂ (λ channel letter. to_one channel (command (events.accept_subject letter) ∷ []))
+    (sym on.ensures) (sym letter.ensures)) refl
     made.ensures.only made.ensures.stands)

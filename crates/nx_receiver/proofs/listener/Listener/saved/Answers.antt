@@ -1,0 +1,17 @@
+use Rattle.std.proofs.Common.{subst, sym}
+use Rattle.nx_fec.specs.declared.channel.Channel.TheVariants.{Zero, One, Two}
+use Rattle.nx_receiver.specs.Chain.{Leaves}
+use Rattle.nx_receiver.specs.Shares.{share, start_on}
+use Rattle.nx_receiver.proofs.listens.Listener.{on-all}
+use Rattle.nx_receiver.proofs.listener.Listener.saved.Goals as goal
+
+pub returns : goal.returns
+returns c = rw (← c.self.view_is) (λ starts given copies h.
+    let stands = h.receivers in
+    on-all _
+    (subst (Leaves (start_on starts Zero) (share Zero given)) (sym c.of.ensures.on_0)
+    (c.saved.ensures.leaves (start_on starts Zero) (share Zero given) _ (stands Zero)))
+    (subst (Leaves (start_on starts One) (share One given)) (sym c.of.ensures.on_1)
+    (c.saved-2.ensures.leaves (start_on starts One) (share One given) _ (stands One)))
+    (subst (Leaves (start_on starts Two) (share Two given)) (sym c.of.ensures.on_2)
+    (c.saved-3.ensures.leaves (start_on starts Two) (share Two given) _ (stands Two))))

@@ -1,0 +1,106 @@
+use Rattle.std.proofs.Common.{◌≡◌, ◌+◌, ◌≤◌, List, Bool, None, arith, take, drop, length, length-drop, rules}
+use Rattle.nx_receiver.specs.declared.over.Over.TheVariants.{Nothing}
+use Rattle.nx_receiver.proofs.receiving.Feeds.{Finished, fed_before, fed_none, fed_on, fed_to}
+use Rattle.nx_receiver.proofs.receiving.Feeds.{is_none, none_finished, packed_piece, prints_none}
+use Rattle.nx_receiver.proofs.receiver.Receiver.next_entry.Goals as goal
+
+pub loop-heard-init : goal.loop-heard-init
+loop-heard-init g c =
+    fed_none g.M.Recall.content c.args.self.now (drop c.args.from c.args.packed.now)
+
+-- an entry is handed out
+pub returns-then-is_some-clause-stands : goal.returns-then-is_some-clause-stands
+returns-then-is_some-clause-stands g c start history log stands =
+    let content = g.M.Recall.content in
+    let packed = c.args.packed.now in
+    let bits = drop c.args.from packed in
+    let at = c.loop-heard.heard in
+    let n = c.hear-count.result.0 in
+    let rest : List Bool = drop (c.args.from + at) packed in
+    let entry = c.finish-entry.result in
+    let within : n ≤ length rest =
+    omega (arith, c.hear-count.ensures.within, length-drop (c.args.from + at) packed) in
+    let done : Finished content c.loop-heard.self c.finish-entry.new.self (take n rest) entry =
+    record {
+      stands = λ start history log s. c.finish-entry.ensures.stands start _ log
+          (c.hear-count.ensures.stands start history log s);
+      before = prints_none content c.loop-heard.self rest n within c.hear-count.ensures.first;
+    } in
+    fed_to content c.args.self.now c.loop-heard.self c.finish-entry.new.self bits (take n rest) at n
+    entry c.loop-heard.invariant (packed_piece packed c.args.from at n) done start history log stands
+
+pub returns-then-is_some-clause-first : goal.returns-then-is_some-clause-first
+returns-then-is_some-clause-first g c start history log stands k lt =
+    let content = g.M.Recall.content in
+    let packed = c.args.packed.now in
+    let bits = drop c.args.from packed in
+    let at = c.loop-heard.heard in
+    let n = c.hear-count.result.0 in
+    let rest : List Bool = drop (c.args.from + at) packed in
+    let within : n ≤ length rest =
+    omega (arith, c.hear-count.ensures.within, length-drop (c.args.from + at) packed) in
+    let none = prints_none content c.loop-heard.self rest n within c.hear-count.ensures.first in
+    let all : at + n ≤ length bits =
+    omega (arith, c.hear-count.ensures.within, length-drop c.args.from packed) in
+    fed_before content c.args.self.now c.loop-heard.self bits (take n rest) at n
+    c.loop-heard.invariant (packed_piece packed c.args.from at n) all none start history log stands
+    k lt
+
+pub loop-heard-preserved : goal.loop-heard-preserved
+loop-heard-preserved g c =
+    let content = g.M.Recall.content in
+    let packed = c.args.packed.now in
+    let bits = drop c.args.from packed in
+    let at = c.loop-heard.heard in
+    let n = c.hear-count.result.0 in
+    let rest : List Bool = drop (c.args.from + at) packed in
+    let entry = c.finish-entry.result in
+    let within : n ≤ length rest =
+    omega (arith, c.hear-count.ensures.within, length-drop (c.args.from + at) packed) in
+    let all : at + n ≤ length bits =
+    omega (arith, c.hear-count.ensures.within, length-drop c.args.from packed) in
+    let done : Finished content c.loop-heard.self c.finish-entry.new.self (take n rest) entry =
+    record {
+      stands = λ start history log s. c.finish-entry.ensures.stands start _ log
+          (c.hear-count.ensures.stands start history log s);
+      before = prints_none content c.loop-heard.self rest n within c.hear-count.ensures.first;
+    } in
+    let none = is_none entry c.is_some.result c.is_some.ensures c.if-is_some.false in
+    fed_on content c.args.self.now c.loop-heard.self c.finish-entry.new.self bits (take n rest) at n
+    entry c.loop-heard.invariant (packed_piece packed c.args.from at n) all done none
+
+-- nothing is over, and all was heard
+pub returns-then-eq-clause-stands : goal.returns-then-eq-clause-stands
+returns-then-eq-clause-stands g c start history log stands =
+    let content = g.M.Recall.content in
+    let packed = c.args.packed.now in
+    let bits = drop c.args.from packed in
+    let at = c.loop-heard.heard in
+    let n = c.hear-count.result.0 in
+    let rest : List Bool = drop (c.args.from + at) packed in
+    let within : n ≤ length rest =
+    omega (arith, c.hear-count.ensures.within, length-drop (c.args.from + at) packed) in
+    let nothing : c.hear-count.result.1 ≡ Nothing = search rules in
+    let none = prints_none content c.loop-heard.self rest n within c.hear-count.ensures.first in
+    let done = none_finished content c.loop-heard.self c.hear-count.new.self (take n rest)
+    c.hear-count.result.1 nothing
+    (λ start history log s. c.hear-count.ensures.stands start history log s) none in
+    fed_to content c.args.self.now c.loop-heard.self c.hear-count.new.self bits (take n rest) at n
+    None c.loop-heard.invariant (packed_piece packed c.args.from at n) done start history log stands
+
+pub returns-then-eq-clause-first : goal.returns-then-eq-clause-first
+returns-then-eq-clause-first g c start history log stands k lt =
+    let content = g.M.Recall.content in
+    let packed = c.args.packed.now in
+    let bits = drop c.args.from packed in
+    let at = c.loop-heard.heard in
+    let n = c.hear-count.result.0 in
+    let rest : List Bool = drop (c.args.from + at) packed in
+    let within : n ≤ length rest =
+    omega (arith, c.hear-count.ensures.within, length-drop (c.args.from + at) packed) in
+    let none = prints_none content c.loop-heard.self rest n within c.hear-count.ensures.first in
+    let all : at + n ≤ length bits =
+    omega (arith, c.hear-count.ensures.within, length-drop c.args.from packed) in
+    fed_before content c.args.self.now c.loop-heard.self bits (take n rest) at n
+    c.loop-heard.invariant (packed_piece packed c.args.from at n) all none start history log stands
+    k lt

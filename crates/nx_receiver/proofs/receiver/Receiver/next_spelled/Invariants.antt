@@ -1,0 +1,13 @@
+use Rattle.std.proofs.Common.{◌≡◌, ◌-◌, drop, length}
+use Rattle.nx_receiver.proofs.receiving.Feeds.{Fed}
+use Rattle.nx_receiver.proofs.receiver.Receiver.next_spelled.Given as goal
+
+-- the first elements were heard, and nothing was spelled
+abbrev pub invariant-loop-heard : goal.invariant-loop-heard
+invariant-loop-heard g l = record {
+  fed : Fed g.M.Recall.content l.fn.self l.self (drop l.from l.packed) l.heard;
+  same : l.spelled ≡ l.fn.spelled;
+}
+
+abbrev pub decreases-loop-heard : goal.decreases-loop-heard
+decreases-loop-heard g l = length l.packed - l.from - l.heard

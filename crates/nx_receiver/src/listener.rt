@@ -1,0 +1,452 @@
+//! Three receivers that hear elements as they come: the engine of `listen`.
+
+ghost use Rattle.std.specs.Prelude.{◌≡◌, ◌+◌, ◌<◌, ◌≤◌, ◌↔◌, ◌∷◌, ℕ, Bool, true, false, List, [], ◌++◌, length, map, take, drop, IfErr, IfOk, IfSome, IsErr, IsNone, IsSome, IsTrue, MatchOption, MatchResult, None, OnErr, OnOk};
+ghost use Rattle.nx_envelope.specs.Moment.{last_moment};
+ghost use Rattle.nx_memory.specs.Memory.{newest_moment};
+ghost use Rattle.nx_memory.specs.Saved.{AreSavedEntries};
+ghost use Rattle.nx_memory.specs.Selection.{is_vital};
+ghost use Rattle.nx_receiver.specs.Chain.{Leaves};
+ghost use Rattle.nx_receiver.specs.Events as events;
+ghost use Rattle.nx_receiver.specs.Events.{Refuses, Start, at_moment, command};
+ghost use Rattle.nx_receiver.specs.FoundCopies.{TaggedCopy, copy_of};
+ghost use Rattle.nx_receiver.specs.InTurn.{PrintAllToEnd, PrintsInTurn};
+ghost use Rattle.nx_receiver.specs.Listener.{AreInRange, HearsGiven, IsSpelled, content, last_copies, moment_in_force, receiver_on, starts_of, then_command, then_elements, then_moment, with_receiver};
+ghost use Rattle.nx_receiver.specs.Receiver.{Stands, TakesEvent, entry_list};
+ghost use Rattle.nx_receiver.specs.Shares.{Given, MarkedCopy, Starts, marked, saved_of, share, start_on, starts_from};
+ghost use Rattle.nx_receiver.specs.private.Awaiting.{HearsUpTo};
+ghost use Rattle.nx_receiver.specs.private.Listener.{HearsTo};
+
+use crate::entry::Entry;
+use crate::fault::{MomentFault, ReceiverFault};
+use crate::over::Over;
+use crate::receiver::Receiver;
+use crate::writing::MAX_ENTRY;
+use arrayvec::ArrayVec;
+use nx_envelope::Letter;
+use nx_fec::{Channel, PackedElements};
+use nx_memory::{RingRecall, Saved, SavedSet, Selection, Vital};
+use std::alloc::{AllocError, Global};
+use std::marker::Model;
+
+/// Three receivers, one for each channel, that hear elements as they come. A moment belongs to all
+/// of them, elements and commands to one. `listen` hears the lines of an air file with it.
+///
+/// It holds what its receivers hold, whether there was a moment, and two counts. No field can be
+/// added whose meaning contracts see (`inverse`); that no field's own type forgets, the proved size
+/// shows.
+#[derive(Drop)]
+pub struct Listener {
+    pub(crate) on_0: Receiver<RingRecall>,
+    pub(crate) on_1: Receiver<RingRecall>,
+    pub(crate) on_2: Receiver<RingRecall>,
+    pub(crate) has_moment: bool,
+    /// How many elements were heard, and how many entries were handed out, each at most the
+    /// greatest u64.
+    pub(crate) elements: u64,
+    pub(crate) entries: u64,
+}
+
+impl Model for Listener {
+    ghost use Rattle.std.specs.Coded.{codes};
+    ghost use Rattle.nx_memory.specs.private.RefusedCode.{refused_code};
+    ghost use Rattle.nx_receiver.specs.Listener.{Listening};
+
+    ghost Value = { Listening };
+
+    ghost coded = { Prim.hlevel (codes, refused_code) };
+
+    ghost view = { λ l. record {
+      on_0 = l.on_0;
+      on_1 = l.on_1;
+      on_2 = l.on_2;
+      has_moment = l.has_moment;
+      elements = l.elements;
+      entries = l.entries;
+    } };
+
+    // What contracts see gives every field back, so that no field for a history can stand beside
+    // them.
+    ghost inverse = { λ v. record {
+      on_0 = v.on_0;
+      on_1 = v.on_1;
+      on_2 = v.on_2;
+      has_moment = v.has_moment;
+      elements = v.elements;
+      entries = v.entries;
+    } };
+}
+
+/// The entries that the end of all elements prints, one at most on each channel.
+#[derive(Debug, Drop)]
+pub struct LastEntries {
+    /// That of channel 0.
+    pub on_0: Option<Entry>,
+    /// That of channel 1.
+    pub on_1: Option<Entry>,
+    /// That of channel 2.
+    pub on_2: Option<Entry>,
+}
+
+impl LastEntries {
+    /// Hands out the first of those that are left, by channel, and the channel; `None` where none is
+    /// left.
+    pub fn take_next(&mut self) -> Option<(Channel, Entry)>
+        ensures next { MatchOption result (last_copies self.old ≡ []) (λ next.
+            last_copies self.old ≡ marked next.0 (copy_of next.1) ∷ last_copies self.new) }
+        ensures moment { AreInRange self.old
+            → IfSome result (λ next. next.1.moment ≤ last_moment) }
+        ensures range { AreInRange self.old → AreInRange self.new }
+        ensures unchanged { IsNone result → self.new ≡ self.old }
+    {
+        if let Some(entry) = self.on_0.take() {
+            return Some((Channel::Zero, entry));
+        }
+        if let Some(entry) = self.on_1.take() {
+            return Some((Channel::One, entry));
+        }
+        let entry = self.on_2.take()?;
+        Some((Channel::Two, entry))
+    }
+}
+
+impl Listener {
+    /// A listener that has heard nothing, and starts with what is saved: the receiver of each channel
+    /// with the saved entries and the saved selection of the channel, and all three at the greatest
+    /// moment of an entry, or 0 where there is none. Takes all memory that it ever needs, and fails
+    /// where there is none.
+    pub fn starting(alloc: Global, saved: &SavedSet) -> Result<Listener, AllocError>
+        ensures heard { IfOk result (λ listener.
+            HearsGiven (starts_from saved.now) listener [] []) }
+        ensures start { IfOk result (λ listener. starts_of listener ≡ starts_from saved.now) }
+        ensures none { IfOk result (λ listener. listener.has_moment ≡ false) }
+        ensures range { OnOk result ((starts_from saved.now).moment ≤ last_moment) }
+    {
+        // No room for a field of a type whose own model forgets what it holds.
+        prove!(size_of::<Listener>() == 3 * size_of::<Receiver<RingRecall>>() + 24);
+        let (selected_0, kept_0) = kept_on(saved, Channel::Zero);
+        let (selected_1, kept_1) = kept_on(saved, Channel::One);
+        let (selected_2, kept_2) = kept_on(saved, Channel::Two);
+        let moment = saved.newest().unwrap_or(0);
+        let on_0 = receiver_from(alloc, selected_0, kept_0, moment)?;
+        let on_1 = receiver_from(alloc, selected_1, kept_1, moment)?;
+        let on_2 = receiver_from(alloc, selected_2, kept_2, moment)?;
+        Ok(Listener {
+            on_0,
+            on_1,
+            on_2,
+            has_moment: false,
+            elements: 0,
+            entries: 0,
+        })
+    }
+
+    /// What it leaves: of each channel the last 200 of all entries, those that it started with and
+    /// those that were made, and what is selected now. Copies that stand open are no part of it.
+    pub fn saved(&self) -> SavedSet
+        ensures { (starts : Starts) (given : List Given) (copies : List MarkedCopy)
+            → HearsGiven starts self.now given copies → (channel : Channel)
+            → Leaves (start_on starts channel) (share channel given) (saved_of result channel) }
+    {
+        SavedSet::of(self.on_0.saved(), self.on_1.saved(), self.on_2.saved())
+    }
+
+    /// Sets the moment of all channels, in whole seconds since 1970-01-01 00:00:00 UTC. `Range` where
+    /// it is past 2999-12-31 23:59:59, else `Back` where it is before the one in force; the listener
+    /// then stays as it was.
+    pub fn set_moment(&mut self, moment: u64) -> Result<(), MomentFault>
+        ensures heard { (starts : Starts) (given : List Given) (copies : List MarkedCopy)
+            → HearsGiven starts self.old given copies → MatchResult result
+            (λ _. (moment_in_force starts.moment given ≤ moment) × (moment ≤ last_moment)
+            × HearsGiven starts self.new (then_moment given moment) copies)
+            (λ fault. Refuses (moment_in_force starts.moment given) moment fault
+            × (self.new ≡ self.old)) }
+        ensures noted { OnOk result (self.new.has_moment ≡ true) }
+    {
+        self.set_moments(moment)?;
+        self.has_moment = true;
+        Ok(())
+    }
+
+    /// Sets the moment of each receiver. Where all have the same one, all take the next or none
+    /// does.
+    fn set_moments(&mut self, moment: u64) -> Result<(), MomentFault>
+        ensures stands { OnOk result ((channel : Channel)
+            → TakesEvent content (receiver_on self.old channel) (receiver_on self.new channel)
+            (at_moment moment)) }
+        ensures taken { OnOk result
+            ((self.old.on_0.watch.moment ≤ moment) × (moment ≤ last_moment)) }
+        ensures refused { self.old.on_1.watch.moment ≡ self.old.on_0.watch.moment
+            → self.old.on_2.watch.moment ≡ self.old.on_0.watch.moment
+            → IfErr result (λ fault.
+            Refuses self.old.on_0.watch.moment moment fault × (self.new ≡ self.old)) }
+        ensures elements { self.new.elements ≡ self.old.elements }
+        ensures entries { self.new.entries ≡ self.old.entries }
+    {
+        self.on_0.set_moment(moment)?;
+        self.on_1.set_moment(moment)?;
+        self.on_2.set_moment(moment)
+    }
+
+    /// Refuses the station on a channel, for all its subjects, from here on.
+    pub fn refuse_station(&mut self, channel: Channel, station: Letter)
+        ensures heard { (starts : Starts) (given : List Given) (copies : List MarkedCopy)
+            → HearsGiven starts self.old given copies → HearsGiven starts self.new
+            (then_command given channel (events.refuse_station station.byte)) copies }
+        ensures stands { TakesEvent content (receiver_on self.old channel)
+            (receiver_on self.new channel) (command (events.refuse_station station.byte)) }
+        ensures only { self.new ≡ with_receiver self.old channel (receiver_on self.new channel) }
+    {
+        match channel {
+            Channel::Zero => self.on_0.refuse_station(station),
+            Channel::One => self.on_1.refuse_station(station),
+            Channel::Two => self.on_2.refuse_station(station),
+        }
+    }
+
+    /// Refuses the station on a channel no longer, from here on.
+    pub fn accept_station(&mut self, channel: Channel, station: Letter)
+        ensures heard { (starts : Starts) (given : List Given) (copies : List MarkedCopy)
+            → HearsGiven starts self.old given copies → HearsGiven starts self.new
+            (then_command given channel (events.accept_station station.byte)) copies }
+        ensures stands { TakesEvent content (receiver_on self.old channel)
+            (receiver_on self.new channel) (command (events.accept_station station.byte)) }
+        ensures only { self.new ≡ with_receiver self.old channel (receiver_on self.new channel) }
+    {
+        match channel {
+            Channel::Zero => self.on_0.accept_station(station),
+            Channel::One => self.on_1.accept_station(station),
+            Channel::Two => self.on_2.accept_station(station),
+        }
+    }
+
+    /// Refuses the subject on a channel, of all stations, from here on. `Vital` where it is A, B, D
+    /// or L (ITU-R M.540); the listener then stays as it was.
+    pub fn refuse_subject(&mut self, channel: Channel, subject: Letter) -> Result<(), Vital>
+        ensures heard { OnOk result ((starts : Starts) (given : List Given)
+            (copies : List MarkedCopy) → HearsGiven starts self.old given copies
+            → HearsGiven starts self.new
+            (then_command given channel (events.refuse_subject subject.byte)) copies) }
+        ensures vital { IsErr result ↔ IsTrue (is_vital subject.byte) }
+        ensures fault { IfErr result (λ vital. vital.subject ≡ subject) }
+        ensures unchanged { OnErr result (self.new ≡ self.old) }
+        ensures stands { OnOk result
+            (TakesEvent content (receiver_on self.old channel) (receiver_on self.new channel)
+            (command (events.refuse_subject subject.byte))) }
+        ensures only { self.new ≡ with_receiver self.old channel (receiver_on self.new channel) }
+    {
+        match channel {
+            Channel::Zero => self.on_0.refuse_subject(subject),
+            Channel::One => self.on_1.refuse_subject(subject),
+            Channel::Two => self.on_2.refuse_subject(subject),
+        }
+    }
+
+    /// Refuses the subject on a channel no longer, from here on.
+    pub fn accept_subject(&mut self, channel: Channel, subject: Letter)
+        ensures heard { (starts : Starts) (given : List Given) (copies : List MarkedCopy)
+            → HearsGiven starts self.old given copies → HearsGiven starts self.new
+            (then_command given channel (events.accept_subject subject.byte)) copies }
+        ensures stands { TakesEvent content (receiver_on self.old channel)
+            (receiver_on self.new channel) (command (events.accept_subject subject.byte)) }
+        ensures only { self.new ≡ with_receiver self.old channel (receiver_on self.new channel) }
+    {
+        match channel {
+            Channel::Zero => self.on_0.accept_subject(subject),
+            Channel::One => self.on_1.accept_subject(subject),
+            Channel::Two => self.on_2.accept_subject(subject),
+        }
+    }
+
+    /// Hears elements of a channel, from a place on, up to and with the one that ends the first copy
+    /// that is printed; says how many it heard, and hands out the entry. With `None` it heard all.
+    ///
+    /// An answer has room for an entry, which is cleared at each call: `hear_spelled` is faster.
+    pub fn hear(
+        &mut self,
+        channel: Channel,
+        packed: &PackedElements,
+        from: usize,
+    ) -> (usize, Option<Entry>)
+        requires { from ≤ length packed.now }
+        ensures heard { (starts : Starts) (given : List Given) (part : List Bool)
+            (copies : List MarkedCopy)
+            → HearsGiven starts self.old (then_elements given channel part) copies
+            → HearsGiven starts self.new
+            (then_elements given channel (part ++ take result.0 (drop from packed.now)))
+            (copies ++ map (marked channel) (entry_list result.1)) }
+        ensures first { (starts : Starts) (given : List Given) (part : List Bool)
+            (copies : List MarkedCopy)
+            → HearsGiven starts self.old (then_elements given channel part) copies
+            → (k : ℕ) → k < result.0 → PrintsInTurn starts
+            (then_elements given channel (part ++ take k (drop from packed.now))) copies }
+        ensures within { from + result.0 ≤ length packed.now }
+        ensures all { IsNone result.1 → from + result.0 ≡ length packed.now }
+        ensures some { IsSome result.1 → 0 < result.0 }
+        ensures moment { IfSome result.1 (λ entry. entry.moment ≤ last_moment) }
+    {
+        let (count, entry) = self.next_entry_on(channel, packed, from);
+        self.elements = self.elements.saturating_add(count as u64);
+        self.entries = self.entries.saturating_add(u64::from(entry.is_some()));
+        (count, entry)
+    }
+
+    /// Hears elements of a channel as `hear` does, but counts nothing.
+    fn next_entry_on(
+        &mut self,
+        channel: Channel,
+        packed: &PackedElements,
+        from: usize,
+    ) -> (usize, Option<Entry>)
+        requires { from ≤ length packed.now }
+        ensures within { from + result.0 ≤ length packed.now }
+        ensures hears { HearsTo channel self.old self.new (drop from packed.now) result.0
+            (entry_list result.1) }
+        ensures all { IsNone result.1 → from + result.0 ≡ length packed.now }
+        ensures some { IsSome result.1 → 0 < result.0 }
+        ensures moment { IfSome result.1 (λ entry. entry.moment ≤ last_moment) }
+        ensures only { self.new ≡ with_receiver self.old channel (receiver_on self.new channel) }
+    {
+        match channel {
+            Channel::Zero => self.on_0.next_entry(packed, from),
+            Channel::One => self.on_1.next_entry(packed, from),
+            Channel::Two => self.on_2.next_entry(packed, from),
+        }
+    }
+
+    /// Hears elements of a channel as `hear` does, and spells the entry: where it says true, `entry`
+    /// has the bytes of the entry of the copy that ended, with the mark of the channel, in place of
+    /// what it had. With false it heard all, and `entry` is as it was.
+    // Inlined always: it runs for each line of elements.
+    #[inline(always)]
+    pub fn hear_spelled(
+        &mut self,
+        channel: Channel,
+        packed: &PackedElements,
+        from: usize,
+        entry: &mut ArrayVec<u8, MAX_ENTRY>,
+    ) -> (usize, bool)
+        requires { from ≤ length packed.now }
+        ensures heard { (next : List TaggedCopy)
+            × IsSpelled channel result.1 next entry.new.items
+            × ((starts : Starts) (given : List Given) (part : List Bool) (copies : List MarkedCopy)
+            → HearsGiven starts self.old (then_elements given channel part) copies
+            → HearsGiven starts self.new
+            (then_elements given channel (part ++ take result.0 (drop from packed.now)))
+            (copies ++ map (marked channel) next)) }
+        ensures first { (starts : Starts) (given : List Given) (part : List Bool)
+            (copies : List MarkedCopy)
+            → HearsGiven starts self.old (then_elements given channel part) copies
+            → (k : ℕ) → k < result.0 → PrintsInTurn starts
+            (then_elements given channel (part ++ take k (drop from packed.now))) copies }
+        ensures within { from + result.0 ≤ length packed.now }
+        ensures all { result.1 ≡ false → from + result.0 ≡ length packed.now }
+        ensures some { result.1 ≡ true → 0 < result.0 }
+        ensures unchanged { result.1 ≡ false → entry.new ≡ entry.old }
+    {
+        let (count, is_spelled) = self.next_spelled_on(channel, packed, from, entry);
+        self.elements = self.elements.saturating_add(count as u64);
+        self.entries = self.entries.saturating_add(u64::from(is_spelled));
+        (count, is_spelled)
+    }
+
+    /// Hears elements of a channel as `hear_spelled` does, but counts nothing.
+    // Inlined always, as a part of it.
+    #[inline(always)]
+    fn next_spelled_on(
+        &mut self,
+        channel: Channel,
+        packed: &PackedElements,
+        from: usize,
+        entry: &mut ArrayVec<u8, MAX_ENTRY>,
+    ) -> (usize, bool)
+        requires { from ≤ length packed.now }
+        ensures within { from + result.0 ≤ length packed.now }
+        ensures hears { (copies : List TaggedCopy)
+            × IsSpelled channel result.1 copies entry.new.items
+            × HearsTo channel self.old self.new (drop from packed.now) result.0 copies }
+        ensures all { result.1 ≡ false → from + result.0 ≡ length packed.now }
+        ensures some { result.1 ≡ true → 0 < result.0 }
+        ensures unchanged { result.1 ≡ false → entry.new ≡ entry.old }
+        ensures only { self.new ≡ with_receiver self.old channel (receiver_on self.new channel) }
+    {
+        match channel {
+            Channel::Zero => self.on_0.next_spelled(packed, from, channel, entry),
+            Channel::One => self.on_1.next_spelled(packed, from, channel, entry),
+            Channel::Two => self.on_2.next_spelled(packed, from, channel, entry),
+        }
+    }
+
+    /// Hears elements of a channel up to and with the first one with which something is over that
+    /// may bring an entry; says how many, and what is over.
+    // Inlined always: it runs for each line of elements.
+    #[inline(always)]
+    pub(crate) fn hear_on(
+        &mut self,
+        channel: Channel,
+        packed: &PackedElements,
+        from: usize,
+    ) -> (usize, Over)
+        requires { from ≤ length packed.now }
+        ensures within { from + result.0 ≤ length packed.now }
+        ensures stands { HearsUpTo content (receiver_on self.old channel)
+            (receiver_on self.new channel) (take result.0 (drop from packed.now)) result.1 }
+        ensures some { from < length packed.now → 0 < result.0 }
+        ensures only { self.new ≡ with_receiver self.old channel (receiver_on self.new channel) }
+    {
+        match channel {
+            Channel::Zero => self.on_0.hear(packed, from),
+            Channel::One => self.on_1.hear(packed, from),
+            Channel::Two => self.on_2.hear(packed, from),
+        }
+    }
+
+    /// Ends the elements of all channels, and hands out what their end prints: the entry of the copy
+    /// that stands open on each channel, where it is printed.
+    pub fn close(self) -> LastEntries
+        ensures printed { (starts : Starts) (given : List Given) (copies : List MarkedCopy)
+            → HearsGiven starts self given copies
+            → PrintAllToEnd starts given (copies ++ last_copies result) }
+        ensures range { AreInRange result }
+        ensures moment_0 { IfSome result.on_0 (λ entry. entry.moment ≤ last_moment) }
+        ensures moment_1 { IfSome result.on_1 (λ entry. entry.moment ≤ last_moment) }
+        ensures moment_2 { IfSome result.on_2 (λ entry. entry.moment ≤ last_moment) }
+    {
+        let (on_0, on_1, on_2) = (self.on_0.close(), self.on_1.close(), self.on_2.close());
+        LastEntries { on_0, on_1, on_2 }
+    }
+}
+
+/// What is selected on a channel at first, and what is saved of it.
+fn kept_on(saved: &SavedSet, channel: Channel) -> (Selection, &Saved)
+    ensures selected { result.0 ≡ (saved_of saved.now channel).refused }
+    ensures kept { result.1.now ≡ saved_of saved.now channel }
+    ensures sound { AreSavedEntries (saved_of saved.now channel).entries }
+{
+    let Some(kept) = saved.get(channel.number()) else {
+        unreachable!()
+    };
+    (kept.selection(), kept)
+}
+
+/// A receiver that has heard nothing, and starts with this selection and the saved entries, at this
+/// moment.
+fn receiver_from(
+    alloc: Global,
+    selected: Selection,
+    kept: &Saved,
+    moment: u64,
+) -> Result<Receiver<RingRecall>, AllocError>
+    requires newest { newest_moment kept.now.entries ≤ moment }
+    requires range { moment ≤ last_moment }
+    ensures stands { (start : Start) → start.entries ≡ kept.now.entries → start.moment ≡ moment
+        → start.refused ≡ selected → IfOk result (λ r. Stands content start r [] []) }
+    ensures kept { IfOk result (λ r. content r.memory ≡ kept.now.entries) }
+{
+    let mut memory = RingRecall::new(alloc)?;
+    kept.load(&mut memory);
+    match Receiver::starting(alloc, memory, moment, selected) {
+        Ok(receiver) => Ok(receiver),
+        Err(ReceiverFault::Memory(error)) => Err(error),
+        Err(ReceiverFault::MomentRange) => unreachable!(),
+    }
+}
