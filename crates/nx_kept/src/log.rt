@@ -80,6 +80,8 @@ impl<D: DiskFile, G: Grammar> KeptLog<D, G> {
 
         ensures explained { IfOk result (λ log. (start : List ℕ) →
             D.explains start log.device → D.explains start device) }
+        ensures explained_err { IfErr result (λ e. (start : List ℕ) →
+            D.explains start e.1 → D.explains start device) }
     {
         match settle(alloc, &mut device, &grammar, taker) {
             Ok(gate) => Ok(KeptLog {
@@ -92,11 +94,10 @@ impl<D: DiskFile, G: Grammar> KeptLog<D, G> {
     }
 
     /// Puts a record behind those that the log keeps. At `Ok` each crash leaves it. At `Err` the
-    /// log is used no more: opened again, it keeps the record or it doesn't.
+    /// log is used no more: opened again, it keeps the record or it doesn't. Of bytes that are no
+    /// record nothing is said.
     pub fn put(&mut self, bytes: &[u8]) -> Result<(), DiskFailed>
-        requires { G.is_record bytes.now }
-
-        ensures acknowledged { (start : List ℕ) (records : List (List ℕ)) →
+        ensures acknowledged { (start : List ℕ) (records : List (List ℕ)) → G.is_record bytes.now →
             Keeps (D.seen start) (D.may_leave start) G.is_record records self.old →
             OnOk result (Keeps (D.seen start) (D.may_leave start) G.is_record
             (records ++ bytes.now ∷ []) self.new) }
@@ -108,7 +109,7 @@ impl<D: DiskFile, G: Grammar> KeptLog<D, G> {
             (front ++ open_gate ∷ bytes.now) self.new) }
 
         // A crash at any moment leaves the records from before, with the new one or without.
-        ensures any_moment { (start : List ℕ) (records : List (List ℕ)) →
+        ensures any_moment { (start : List ℕ) (records : List (List ℕ)) → G.is_record bytes.now →
             Keeps (D.seen start) (D.may_leave start) G.is_record records self.old →
             LeavesOnly D.moment (D.left_since start) self.old.device self.new.device
             (WithOrWithout G.is_record G.LONGEST records bytes.now) }

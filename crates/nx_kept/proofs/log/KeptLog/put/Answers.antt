@@ -8,10 +8,9 @@ use Rattle.nx_kept.proofs.log.KeptLog.put.Goals as goal
 
 -- the record is being written behind the closed gate
 pub returns-in_err-write_at-clause-any_moment : goal.returns-in_err-write_at-clause-any_moment
-returns-in_err-write_at-clause-any_moment g c = λ start records keeps.
+returns-in_err-write_at-clause-any_moment g c = λ start records is_one keeps.
     let front = keeps.front in
     let rest = keeps.at_rest in
-    let is_one = c.requires in
     let size : length (g.D.DiskFile.seen start c.args.self.now.device) ≡ c.args.self.now.gate + 1 = omega (arith, rest.gate, ap length rest.file, length-append front (closed_gate ∷ [])) in
     let record_there : c.args.self.now.gate + 1 ≤ length (g.D.DiskFile.seen start c.args.self.now.device) = omega arith in
     let first = wrote_record g.D.DiskFile.moment (g.D.DiskFile.left_since start) (g.D.DiskFile.may_leave start) g.G.Grammar.is_record g.G.Grammar.LONGEST records c.args.bytes.now front keeps.kept is_one (g.met.G.Grammar.bounded c.args.bytes.now is_one) c.args.self.now.device c.write_at.new.self (g.D.DiskFile.seen start c.args.self.now.device) (c.args.self.now.gate + 1) (omega (arith, rest.gate)) (g.met.D.DiskFile.only_now start c.args.self.now.device) rest.file rest.durable (c.write_at.ensures.time start) (c.write_at.ensures.crash start record_there) in
@@ -19,10 +18,9 @@ returns-in_err-write_at-clause-any_moment g c = λ start records keeps.
 
 -- and the next closed gate
 pub returns-in_err-write_at-2-clause-any_moment : goal.returns-in_err-write_at-2-clause-any_moment
-returns-in_err-write_at-2-clause-any_moment g c = λ start records keeps.
+returns-in_err-write_at-2-clause-any_moment g c = λ start records is_one keeps.
     let front = keeps.front in
     let rest = keeps.at_rest in
-    let is_one = c.requires in
     let size : length (g.D.DiskFile.seen start c.args.self.now.device) ≡ c.args.self.now.gate + 1 = omega (arith, rest.gate, ap length rest.file, length-append front (closed_gate ∷ [])) in
     let record_there : c.args.self.now.gate + 1 ≤ length (g.D.DiskFile.seen start c.args.self.now.device) = omega arith in
     let first = wrote_record g.D.DiskFile.moment (g.D.DiskFile.left_since start) (g.D.DiskFile.may_leave start) g.G.Grammar.is_record g.G.Grammar.LONGEST records c.args.bytes.now front keeps.kept is_one (g.met.G.Grammar.bounded c.args.bytes.now is_one) c.args.self.now.device c.write_at.new.self (g.D.DiskFile.seen start c.args.self.now.device) (c.args.self.now.gate + 1) (omega (arith, rest.gate)) (g.met.D.DiskFile.only_now start c.args.self.now.device) rest.file rest.durable (c.write_at.ensures.time start) (c.write_at.ensures.crash start record_there) in
@@ -34,10 +32,9 @@ returns-in_err-write_at-2-clause-any_moment g c = λ start records keeps.
 
 -- and brought to the disk
 pub returns-in_err-sync-clause-any_moment : goal.returns-in_err-sync-clause-any_moment
-returns-in_err-sync-clause-any_moment g c = λ start records keeps.
+returns-in_err-sync-clause-any_moment g c = λ start records is_one keeps.
     let front = keeps.front in
     let rest = keeps.at_rest in
-    let is_one = c.requires in
     let size : length (g.D.DiskFile.seen start c.args.self.now.device) ≡ c.args.self.now.gate + 1 = omega (arith, rest.gate, ap length rest.file, length-append front (closed_gate ∷ [])) in
     let record_there : c.args.self.now.gate + 1 ≤ length (g.D.DiskFile.seen start c.args.self.now.device) = omega arith in
     let first = wrote_record g.D.DiskFile.moment (g.D.DiskFile.left_since start) (g.D.DiskFile.may_leave start) g.G.Grammar.is_record g.G.Grammar.LONGEST records c.args.bytes.now front keeps.kept is_one (g.met.G.Grammar.bounded c.args.bytes.now is_one) c.args.self.now.device c.write_at.new.self (g.D.DiskFile.seen start c.args.self.now.device) (c.args.self.now.gate + 1) (omega (arith, rest.gate)) (g.met.D.DiskFile.only_now start c.args.self.now.device) rest.file rest.durable (c.write_at.ensures.time start) (c.write_at.ensures.crash start record_there) in
@@ -50,10 +47,9 @@ returns-in_err-sync-clause-any_moment g c = λ start records keeps.
 
 -- then the gate before them is being opened
 pub returns-in_err-write_at-3-clause-any_moment : goal.returns-in_err-write_at-3-clause-any_moment
-returns-in_err-write_at-3-clause-any_moment g c = λ start records keeps.
+returns-in_err-write_at-3-clause-any_moment g c = λ start records is_one keeps.
     let front = keeps.front in
     let rest = keeps.at_rest in
-    let is_one = c.requires in
     let size : length (g.D.DiskFile.seen start c.args.self.now.device) ≡ c.args.self.now.gate + 1 = omega (arith, rest.gate, ap length rest.file, length-append front (closed_gate ∷ [])) in
     let record_there : c.args.self.now.gate + 1 ≤ length (g.D.DiskFile.seen start c.args.self.now.device) = omega arith in
     let first = wrote_record g.D.DiskFile.moment (g.D.DiskFile.left_since start) (g.D.DiskFile.may_leave start) g.G.Grammar.is_record g.G.Grammar.LONGEST records c.args.bytes.now front keeps.kept is_one (g.met.G.Grammar.bounded c.args.bytes.now is_one) c.args.self.now.device c.write_at.new.self (g.D.DiskFile.seen start c.args.self.now.device) (c.args.self.now.gate + 1) (omega (arith, rest.gate)) (g.met.D.DiskFile.only_now start c.args.self.now.device) rest.file rest.durable (c.write_at.ensures.time start) (c.write_at.ensures.crash start record_there) in
@@ -71,10 +67,9 @@ returns-in_err-write_at-3-clause-any_moment g c = λ start records keeps.
 
 -- and brought to the disk
 pub returns-in_err-sync-2-clause-any_moment : goal.returns-in_err-sync-2-clause-any_moment
-returns-in_err-sync-2-clause-any_moment g c = λ start records keeps.
+returns-in_err-sync-2-clause-any_moment g c = λ start records is_one keeps.
     let front = keeps.front in
     let rest = keeps.at_rest in
-    let is_one = c.requires in
     let size : length (g.D.DiskFile.seen start c.args.self.now.device) ≡ c.args.self.now.gate + 1 = omega (arith, rest.gate, ap length rest.file, length-append front (closed_gate ∷ [])) in
     let record_there : c.args.self.now.gate + 1 ≤ length (g.D.DiskFile.seen start c.args.self.now.device) = omega arith in
     let first = wrote_record g.D.DiskFile.moment (g.D.DiskFile.left_since start) (g.D.DiskFile.may_leave start) g.G.Grammar.is_record g.G.Grammar.LONGEST records c.args.bytes.now front keeps.kept is_one (g.met.G.Grammar.bounded c.args.bytes.now is_one) c.args.self.now.device c.write_at.new.self (g.D.DiskFile.seen start c.args.self.now.device) (c.args.self.now.gate + 1) (omega (arith, rest.gate)) (g.met.D.DiskFile.only_now start c.args.self.now.device) rest.file rest.durable (c.write_at.ensures.time start) (c.write_at.ensures.crash start record_there) in
@@ -93,10 +88,9 @@ returns-in_err-sync-2-clause-any_moment g c = λ start records keeps.
 
 -- all is done
 pub returns-clause-any_moment : goal.returns-clause-any_moment
-returns-clause-any_moment g c = λ start records keeps.
+returns-clause-any_moment g c = λ start records is_one keeps.
     let front = keeps.front in
     let rest = keeps.at_rest in
-    let is_one = c.requires in
     let size : length (g.D.DiskFile.seen start c.args.self.now.device) ≡ c.args.self.now.gate + 1 = omega (arith, rest.gate, ap length rest.file, length-append front (closed_gate ∷ [])) in
     let record_there : c.args.self.now.gate + 1 ≤ length (g.D.DiskFile.seen start c.args.self.now.device) = omega arith in
     let first = wrote_record g.D.DiskFile.moment (g.D.DiskFile.left_since start) (g.D.DiskFile.may_leave start) g.G.Grammar.is_record g.G.Grammar.LONGEST records c.args.bytes.now front keeps.kept is_one (g.met.G.Grammar.bounded c.args.bytes.now is_one) c.args.self.now.device c.write_at.new.self (g.D.DiskFile.seen start c.args.self.now.device) (c.args.self.now.gate + 1) (omega (arith, rest.gate)) (g.met.D.DiskFile.only_now start c.args.self.now.device) rest.file rest.durable (c.write_at.ensures.time start) (c.write_at.ensures.crash start record_there) in
@@ -133,10 +127,9 @@ returns-clause-written g c = λ start front rest.
     record { file = file_is; gate = new_gate; durable = durable }
 
 pub returns-clause-acknowledged : goal.returns-clause-acknowledged
-returns-clause-acknowledged g c = λ start records keeps.
+returns-clause-acknowledged g c = λ start records is_one keeps.
     let front = keeps.front in
     let rest = keeps.at_rest in
-    let is_one = c.requires in
     let size : length (g.D.DiskFile.seen start c.args.self.now.device) ≡ c.args.self.now.gate + 1 = omega (arith, rest.gate, ap length rest.file, length-append front (closed_gate ∷ [])) in
     let record_there : c.args.self.now.gate + 1 ≤ length (g.D.DiskFile.seen start c.args.self.now.device) = omega arith in
     let one_is = written_behind (g.D.DiskFile.seen start c.args.self.now.device) (c.args.self.now.gate + 1) c.args.bytes.now (g.D.DiskFile.seen start c.write_at.new.self) (omega arith) (c.in_ok-write_at.ensures.written start record_there) in
