@@ -1,4 +1,10 @@
+pub mod Entries
+pub mod Json
 pub mod Logged
+pub mod Query
+pub mod Reading
 pub mod Runs
+pub mod Starts
+pub mod Times
 pub mod View
 pub mod private

@@ -23,3 +23,7 @@ pub record IsViewOf (bytes : List ℕ) (view : EntryView) : Type 0 where
   pub entry : IsLoggedAs (copy_said view.head view.text.now) (take view.len bytes)
   pub errors : view.head.errors ≡ errors_of view.text.now
   pub characters : view.head.characters ≡ length view.text.now
+
+-- some bytes begin with this entry
+abbrev pub IsSeen : EntryView → Type 0
+IsSeen view = (bytes : List ℕ) × IsViewOf bytes view

@@ -47,7 +47,7 @@ pub fn entry_at(bytes: &[u8]) -> Option<EntryView>
 }
 
 /// Whether each byte may stand in a text.
-fn is_text(text: &[u8]) -> bool
+pub(crate) fn is_text(text: &[u8]) -> bool
     ensures { IsTrue result ↔ All (λ byte. IsTrue (the_is_text_byte byte)) text.now }
 {
     text.iter().all(|byte| is_text_byte(*byte))
@@ -62,7 +62,7 @@ fn is_text_byte(byte: u8) -> bool
 }
 
 /// How many asterisks a text has.
-fn errors_in(text: &[u8]) -> usize
+pub(crate) fn errors_in(text: &[u8]) -> usize
     ensures { result ≡ errors_of text.now }
 {
     text.iter().filter(|byte| **byte == b'*').count()
@@ -71,7 +71,7 @@ fn errors_in(text: &[u8]) -> usize
 /// What stands behind the text of an entry: a newline where the text isn't empty and doesn't end with
 /// one, and a newline.
 #[tactic(auto, unfolding(nx_receiver::specs::Log::missing_newline, nx_receiver::specs::Log::is_of_lines))]
-fn end_of(text: &[u8]) -> &'static [u8]
+pub(crate) fn end_of(text: &[u8]) -> &'static [u8]
     ensures { result.now ≡ missing_newline text.now ++ newline ∷ [] }
 {
     match text.last() {

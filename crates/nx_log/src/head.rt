@@ -64,7 +64,7 @@ pub(crate) fn head_at(bytes: &[u8]) -> Option<(LoggedHead, &[u8])>
 }
 
 /// The bracket and the identity with which the bytes begin, and what stands behind.
-fn name_at(bytes: &[u8]) -> Option<(Identity, &[u8])>
+pub(crate) fn name_at(bytes: &[u8]) -> Option<(Identity, &[u8])>
     ensures found { IfSome result (λ found.
         bytes.now ≡ (91 ∷ identity_bytes found.0) ++ found.1.now) }
     ensures none { IfNone result ((identity : TheIdentity) (more : List ℕ)
@@ -81,7 +81,7 @@ fn name_at(bytes: &[u8]) -> Option<(Identity, &[u8])>
 }
 
 /// The mark of a channel and the space behind it with which the bytes begin, and what stands behind.
-fn mark_at(bytes: &[u8]) -> Option<(Channel, &[u8])>
+pub(crate) fn mark_at(bytes: &[u8]) -> Option<(Channel, &[u8])>
     ensures found { IfSome result (λ found.
         bytes.now ≡ channel_mark found.0 ++ (32 ∷ found.1.now)) }
     ensures none { IfNone result ((channel : TheChannel) (more : List ℕ)
@@ -97,7 +97,7 @@ fn mark_at(bytes: &[u8]) -> Option<(Channel, &[u8])>
 
 /// The civil time and the space behind it with which the bytes begin, as its moment, and what stands
 /// behind.
-fn time_at(bytes: &[u8]) -> Option<(u64, &[u8])>
+pub(crate) fn time_at(bytes: &[u8]) -> Option<(u64, &[u8])>
     ensures found { IfSome result (λ found. (civil : List ℕ) × IsShownAs found.0 civil
         × (bytes.now ≡ civil ++ (32 ∷ found.1.now))) }
     ensures in_range { IfSome result (λ found. found.0 ≤ last_moment) }
@@ -113,7 +113,7 @@ fn time_at(bytes: &[u8]) -> Option<(u64, &[u8])>
 }
 
 /// The name of an end and the space behind it with which the bytes begin, and what stands behind.
-fn how_at(bytes: &[u8]) -> Option<(How, &[u8])>
+pub(crate) fn how_at(bytes: &[u8]) -> Option<(How, &[u8])>
     ensures found { IfSome result (λ found. bytes.now ≡ how_name found.0 ++ (32 ∷ found.1.now)) }
     ensures none { IfNone result ((how : TheHow) (more : List ℕ)
         → bytes.now ≢ how_name how ++ (32 ∷ more)) }
@@ -128,7 +128,7 @@ fn how_at(bytes: &[u8]) -> Option<(How, &[u8])>
 
 /// The number to 4,100 with which the bytes begin, and the byte behind it, which is no digit; and
 /// what stands behind.
-fn count_at(bytes: &[u8], end: u8) -> Option<(u16, &[u8])>
+pub(crate) fn count_at(bytes: &[u8], end: u8) -> Option<(u16, &[u8])>
     requires { (end < 48) ⊎ (57 < end) }
     ensures found { IfSome result (λ found.
         bytes.now ≡ decimal found.0 ++ (end ∷ found.1.now)) }
@@ -149,7 +149,7 @@ fn place_of(bytes: &[u8], byte: u8) -> Option<usize>
 }
 
 /// What stands behind the newline with which the bytes begin.
-fn behind_newline(bytes: &[u8]) -> Option<&[u8]>
+pub(crate) fn behind_newline(bytes: &[u8]) -> Option<&[u8]>
     ensures found { IfSome result (λ rest. bytes.now ≡ newline ∷ rest.now) }
     ensures none { IfNone result ((more : List ℕ) → bytes.now ≢ newline ∷ more) }
 {

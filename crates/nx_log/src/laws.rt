@@ -21,6 +21,7 @@ ghost use Rattle.nx_receiver.specs.declared.listening.Report.{Report};
 ghost use Rattle.nx_receiver.specs.declared.resume_fault.ResumeFault.{ResumeFault};
 ghost use Rattle.nx_receiver.specs.declared.resume_fault.Want.TheVariants.{Log};
 ghost use Rattle.nx_log.specs.Logged.{IsLogged, IsLoggedAs, IsLogOfLogged, kept_entries, remembered_on};
+ghost use Rattle.nx_log.specs.Reading.{AreReadAs, HoldEntries, HoldEntriesToEnd, StopAtLine, StopAtLineToEnd};
 ghost use Rattle.nx_log.specs.Runs.{ResumedEntries, WroteEntries};
 
 /// A log is read in one way: its bytes are the log of one list of logged entries. No entry's bytes
@@ -35,6 +36,20 @@ pub fn a_log_is_read_in_one_way()
     ensures some { (one : MarkedCopy) (bytes : List ℕ) → IsLoggedAs one bytes → 1 ≤ length bytes }
     ensures short { (one : MarkedCopy) (bytes : List ℕ) → IsLoggedAs one bytes
         → length bytes ≤ 4146 }
+{}
+
+/// Bytes are read in one way: they have one list of whole entries, and behind these the same is left.
+/// Where they stop being a log, they do so at one line, and don't hold the entries of one.
+pub fn bytes_are_read_in_one_way()
+    ensures one_reading { (entries others : List MarkedCopy) (rest left bytes : List ℕ)
+        → AreReadAs entries rest bytes → AreReadAs others left bytes
+        → (entries ≡ others) × (rest ≡ left) }
+    ensures one_line { (entries others : List MarkedCopy) (bytes : List ℕ) (line other : ℕ)
+        → StopAtLine bytes entries line → StopAtLine bytes others other → line ≡ other }
+    ensures stopped { (entries others : List MarkedCopy) (bytes : List ℕ) (line : ℕ)
+        → StopAtLine bytes entries line → ¬ HoldEntries bytes others }
+    ensures ended { (entries others : List MarkedCopy) (bytes : List ℕ) (line : ℕ)
+        → StopAtLineToEnd bytes entries line → ¬ HoldEntriesToEnd bytes others }
 {}
 
 /// A civil time shows one moment.

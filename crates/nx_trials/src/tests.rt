@@ -1,5 +1,5 @@
 //! Signals, locks, texts, memories, what is sent and checked; entries as they are printed, a judge's
-//! answers, emissions through a receiver, through `listen` and through `locks`, states, and limits.
+//! answers, emissions through a receiver, through `listen` and through `locks`, states, limits, and a watch.
 
 mod air_files;
 mod entries;
@@ -9,12 +9,14 @@ mod laws;
 mod limits;
 mod listening;
 mod locking;
+mod logs;
 mod remembering;
 mod sending;
 mod signals;
 mod states;
 mod synchronising;
 mod texts;
+mod watching;
 
 use nx_envelope::{Finder, FinderStep, Found, Letter};
 use nx_fec::{Counting, read_bits};

@@ -17,7 +17,7 @@ use Rattle.nx_receiver.specs.InTurn.{HavePrinted, PrintAllToEnd}
 use Rattle.nx_receiver.specs.Listen.{AreTaken, events_on, given_by, given_of}
 use Rattle.nx_receiver.specs.Log.{printed_of}
 use Rattle.nx_receiver.specs.Printing.{entry_made, if_printed, is_number_00, is_printed, is_remembered, printed_copies}
-use Rattle.nx_receiver.specs.Shares.{MarkedCopy, Starts, copies_on, events_for, start_on}
+use Rattle.nx_receiver.specs.Shares.{Given, MarkedCopy, Starts, copies_on, events_for, share, start_on}
 use Rattle.nx_receiver.specs.private.Taken.{AreTakenAfter, IsTakenAfter}
 use Rattle.nx_receiver.proofs.Shares.{to_end-on}
 use Rattle.nx_receiver.proofs.listens.Taken.{taken-each}
@@ -27,7 +27,7 @@ use Rattle.nx_log.proofs.printed.Copies.{IsFoundText, IsGoodFound, ended_so_far_
 
 -- ---- the moments of events
 
-abbrev IsInRange : Event → Type 0
+abbrev pub IsInRange : Event → Type 0
 IsInRange (at_moment n) = n ≤ last_moment
 IsInRange (element bit) = ⊤
 IsInRange (command c) = ⊤
@@ -128,13 +128,17 @@ printed_are entries (copy ∷ copies) h =
     (if_is entries copy (All-head IsTagged copy copies h))
     (printed_are (entries ++ entry_made entries copy) copies (All-tail IsTagged copy copies h))
 
-on_channel : (starts : Starts) (channel : Channel) (lines : List Line) (copies : List FoundCopy)
-    → AreTaken starts lines → All IsGoodFound copies
-    → All IsPrinted (printed_of (start_on starts channel) (events_on channel lines) copies)
-on_channel starts channel lines copies taken good =
+-- the moments that each channel was given are in range
+abbrev pub AreInRange : List Given → Type 0
+AreInRange given = (channel : Channel) → All IsInRange (share channel given)
+
+on_channel : (starts : Starts) (channel : Channel) (given : List Given) (copies : List FoundCopy)
+    → starts.moment ≤ last_moment → AreInRange given → All IsGoodFound copies
+    → All IsPrinted (printed_of (start_on starts channel) (share channel given) copies)
+on_channel starts channel given copies first within good =
     printed_are (start_on starts channel).entries _
-    (tagged_are (first_setting (start_on starts channel)) (events_on channel lines) copies
-    taken.in_range (lines_are starts channel [] lines (taken-each starts lines taken)) good)
+    (tagged_are (first_setting (start_on starts channel)) (share channel given) copies first
+    (within channel) good)
 
 logged_one : (one : MarkedCopy) → IsPrinted one.copy → IsLogged one
 logged_one one h = record {
@@ -150,18 +154,33 @@ logged_all copies h =
     All-weaker (λ (one : MarkedCopy). IsPrinted one.copy) IsLogged logged_one copies
     (all-on IsPrinted copies h)
 
--- so what they print is logged, with the end and without it
+-- so what is printed of what was given is logged, without the end and with it
+pub given_logged : (starts : Starts) (given : List Given) (copies : List MarkedCopy)
+    → starts.moment ≤ last_moment → AreInRange given → HavePrinted starts given copies
+    → All IsLogged copies
+given_logged starts given copies first within h = logged_all copies (λ channel.
+    All-same IsPrinted (copies_on channel copies) _ (h channel).printed
+    (on_channel starts channel given _ first within
+    (ended_so_far_are (elements_among (share channel given)) (h channel).locks (h channel).now)))
+
+pub end_logged : (starts : Starts) (given : List Given) (copies : List MarkedCopy)
+    → starts.moment ≤ last_moment → AreInRange given → PrintAllToEnd starts given copies
+    → All IsLogged copies
+end_logged starts given copies first within h = logged_all copies (λ channel.
+    let p = to_end-on starts given copies channel h in
+    All-same IsPrinted (copies_on channel copies) _ p.printed
+    (on_channel starts channel given _ first within
+    (found_to_end_are (elements_among (share channel given)) p.locks p.now)))
+
+-- and what lines print that are taken
 pub open_logged : (starts : Starts) (lines : List Line) (copies : List MarkedCopy)
     → AreTaken starts lines → HavePrinted starts (given_by lines) copies → All IsLogged copies
-open_logged starts lines copies taken h = logged_all copies (λ channel.
-    All-same IsPrinted (copies_on channel copies) _ (h channel).printed
-    (on_channel starts channel lines _ taken
-    (ended_so_far_are (elements_among (events_on channel lines)) (h channel).locks (h channel).now)))
+open_logged starts lines copies taken h =
+    given_logged starts (given_by lines) copies taken.in_range
+    (λ channel. lines_are starts channel [] lines (taken-each starts lines taken)) h
 
 pub closed_logged : (starts : Starts) (lines : List Line) (copies : List MarkedCopy)
     → AreTaken starts lines → PrintAllToEnd starts (given_by lines) copies → All IsLogged copies
-closed_logged starts lines copies taken h = logged_all copies (λ channel.
-    let p = to_end-on starts (given_by lines) copies channel h in
-    All-same IsPrinted (copies_on channel copies) _ p.printed
-    (on_channel starts channel lines _ taken
-    (found_to_end_are (elements_among (events_on channel lines)) p.locks p.now)))
+closed_logged starts lines copies taken h =
+    end_logged starts (given_by lines) copies taken.in_range
+    (λ channel. lines_are starts channel [] lines (taken-each starts lines taken)) h

@@ -30,7 +30,7 @@ body_more : (text more : List ℕ) → body_and text more ≡ body_and text [] +
 body_more text more = simp append_assoc
 
 -- the bytes of the entry of a head and a text
-is_entry : (head : LoggedHead) (text bytes more : List ℕ)
+pub is_entry : (head : LoggedHead) (text bytes more : List ℕ)
     → (h : BeginsWithHead bytes head more) → head.errors ≡ errors_of text
     → head.characters ≡ length text
     → IsEntry (copy_said head text) (head_and head h.civil (body_and text []))

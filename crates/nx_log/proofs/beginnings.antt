@@ -1,0 +1,6 @@
+pub mod Dates
+pub mod Joins
+pub mod Lists
+pub mod Parts
+pub mod Stages
+pub mod Wholes

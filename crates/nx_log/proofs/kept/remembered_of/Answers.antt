@@ -1,0 +1,20 @@
+use Rattle.std.proofs.Common.{sym, ◌∙◌}
+use Rattle.nx_log.proofs.QueryTexts.{kept-none, kept-some}
+use Rattle.nx_log.proofs.kept.remembered_of.Goals as goal
+use Rattle.nx_log.specs.Logged.{is_kept}
+use Rattle.nx_log.specs.View.{copy_said}
+use Rattle.nx_receiver.specs.Printing.{entry_of}
+
+pub returns-then-is_kept : goal.returns-then-is_kept
+returns-then-is_kept c = λ bytes v.
+    let view = c.args.view.now in
+    let copy = (copy_said view.head view.text.now).copy in
+    kept-some (is_kept copy) (entry_of copy)
+    (sym (c.is_kept.ensures view.text.now v.errors v.characters) ∙ c.if-is_kept.true)
+
+pub returns-else-is_kept : goal.returns-else-is_kept
+returns-else-is_kept c = λ bytes v.
+    let view = c.args.view.now in
+    let copy = (copy_said view.head view.text.now).copy in
+    kept-none (is_kept copy) (entry_of copy)
+    (sym (c.is_kept.ensures view.text.now v.errors v.characters) ∙ c.if-is_kept.false)

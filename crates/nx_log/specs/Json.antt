@@ -1,0 +1,41 @@
+-- A logged entry as a line of JSON (RFC 8259; its keys are this profile's).
+use Rattle.std.specs.Prelude.{◌≡◌, ℕ, List, [], ◌∷◌, ◌++◌, codes, length}
+use Rattle.serde_json.specs.Data.{Data, member, no_members, number, object, string, unsigned}
+use Rattle.serde_json.specs.Written.{compact_text}
+use Rattle.nx_envelope.specs.Copies.{errors_of}
+use Rattle.nx_envelope.specs.Header.{newline}
+use Rattle.nx_envelope.specs.Moment.{IsShownAs}
+use Rattle.nx_fec.specs.Channels.{channel_number}
+use Rattle.nx_receiver.specs.Log.{how_name}
+use Rattle.nx_receiver.specs.Shares.{MarkedCopy}
+use Rattle.nx_log.specs.Times.{joined}
+
+-- a number, and a letter as a text
+abbrev pub count : ℕ → Data
+count n = number (unsigned n)
+
+abbrev pub letter : ℕ → Data
+letter byte = string (byte ∷ [])
+
+-- the object that an entry is as JSON, with the text of its time
+abbrev pub entry_data : MarkedCopy → List ℕ → Data
+entry_data one time =
+    object
+    (member (codes "channel") (count (channel_number one.channel))
+    (member (codes "characters") (count (length one.copy.text))
+    (member (codes "end") (string (how_name one.copy.how))
+    (member (codes "errors") (count (errors_of one.copy.text))
+    (member (codes "moment") (count one.copy.moment)
+    (member (codes "number") (count one.copy.identity.number)
+    (member (codes "station") (letter one.copy.identity.b1.byte)
+    (member (codes "subject") (letter one.copy.identity.b2.byte)
+    (member (codes "text") (string one.copy.text)
+    (member (codes "time") (string time)
+    no_members))))))))))
+
+-- JSON line: the object of an entry with no space in it, and a newline. Its time is the civil time of
+-- its moment as ISO 8601 writes it in UTC, with a `T` and a `Z`.
+pub record IsJsonLine (one : MarkedCopy) (line : List ℕ) : Type 0 where
+  pub civil : List ℕ
+  pub shown : IsShownAs one.copy.moment civil
+  pub spelled : line ≡ compact_text (entry_data one (joined civil ++ codes "Z")) ++ newline ∷ []

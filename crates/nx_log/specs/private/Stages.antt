@@ -1,0 +1,111 @@
+-- An entry piece by piece, from left to right, for bytes that end anywhere in one.
+use Rattle.std.specs.Prelude.{◌≡◌, ◌≢◌, ℕ, ◌≤◌, List, [], ◌∷◌, ◌++◌, length, All, IsTrue, decimal}
+use Rattle.nx_envelope.specs.Copies.{errors_of, most_found}
+use Rattle.nx_envelope.specs.Header.{newline}
+use Rattle.nx_envelope.specs.Identity.{identity_bytes}
+use Rattle.nx_envelope.specs.Moment.{IsShownAs, last_moment}
+use Rattle.nx_envelope.specs.declared.found.How.{How}
+use Rattle.nx_envelope.specs.declared.identity.Identity.{Identity}
+use Rattle.nx_fec.specs.declared.channel.Channel.{Channel}
+use Rattle.nx_receiver.specs.Log.{channel_mark, how_name, missing_newline}
+use Rattle.nx_log.specs.Logged.{is_text_byte}
+
+-- a piece of these spellings, and behind it what may stand behind that piece
+pub record Joined {A : Type 0} (piece_is : A → List ℕ → Type 0) (rest_is : A → List ℕ → Type 0)
+    (bytes : List ℕ) : Type 0 where
+  pub piece : A
+  pub spelled : List ℕ
+  pub rest : List ℕ
+  pub is_piece : piece_is piece spelled
+  pub is_rest : rest_is piece rest
+  pub split : bytes ≡ spelled ++ rest
+
+-- some bytes to come, or none, make the bytes such
+pub record CanBe (holds : List ℕ → Type 0) (bytes : List ℕ) : Type 0 where
+  pub more : List ℕ
+  pub whole : holds (bytes ++ more)
+
+-- the bytes are the beginning of such a piece, which lacks some at its end
+pub record IsPartOf {A : Type 0} (piece_is : A → List ℕ → Type 0) (bytes : List ℕ) : Type 0 where
+  pub piece : A
+  pub more : List ℕ
+  pub is_piece : piece_is piece (bytes ++ more)
+  pub lacks : more ≢ []
+
+-- the bracket (91) and the identity
+abbrev pub IsName : Identity → List ℕ → Type 0
+IsName identity spelled = spelled ≡ 91 ∷ identity_bytes identity
+
+-- the mark of the channel and a space (32)
+abbrev pub IsMark : Channel → List ℕ → Type 0
+IsMark channel spelled = spelled ≡ channel_mark channel ++ 32 ∷ []
+
+-- the text is the civil time of some moment in range
+pub record ShowsSome (text : List ℕ) : Type 0 where
+  pub moment : ℕ
+  pub in_range : moment ≤ last_moment
+  pub shown : IsShownAs moment text
+
+-- the civil time of a moment in range, and a space
+pub record IsTime (moment : ℕ) (spelled : List ℕ) : Type 0 where
+  pub civil : List ℕ
+  pub in_range : moment ≤ last_moment
+  pub shown : IsShownAs moment civil
+  pub is_spelled : spelled ≡ civil ++ 32 ∷ []
+
+-- the name of the end, and a space
+abbrev pub IsEnd : How → List ℕ → Type 0
+IsEnd how spelled = spelled ≡ how_name how ++ 32 ∷ []
+
+-- a number from `least` to 4,100, and the byte behind it
+pub record IsCount (least end number : ℕ) (spelled : List ℕ) : Type 0 where
+  pub enough : least ≤ number
+  pub few : number ≤ most_found
+  pub is_spelled : spelled ≡ decimal number ++ end ∷ []
+
+-- a text with so many errors and characters
+pub record IsTextOf (errors characters : ℕ) (text spelled : List ℕ) : Type 0 where
+  pub letters : All (λ byte. IsTrue (is_text_byte byte)) text
+  pub has_errors : errors_of text ≡ errors
+  pub has_characters : length text ≡ characters
+  pub is_spelled : spelled ≡ text
+
+-- what stands behind a text
+abbrev pub IsBehindText : List ℕ → List ℕ → Type 0
+IsBehindText text bytes = bytes ≡ missing_newline text ++ newline ∷ []
+
+-- the newline behind a head
+abbrev pub IsNewline : Unit {0} → List ℕ → Type 0
+IsNewline none spelled = spelled ≡ newline ∷ []
+
+-- an entry from its text on
+abbrev pub FromText : ℕ → ℕ → List ℕ → Type 0
+FromText errors characters = Joined (IsTextOf errors characters) IsBehindText
+
+-- from the newline behind its head on
+abbrev pub FromNewline : ℕ → ℕ → List ℕ → Type 0
+FromNewline errors characters = Joined IsNewline (λ none. FromText errors characters)
+
+-- from its characters on, which aren't fewer than its errors and stand before a bracket (93)
+abbrev pub FromCharacters : ℕ → List ℕ → Type 0
+FromCharacters errors = Joined (IsCount errors 93) (FromNewline errors)
+
+-- from its errors on, which stand before a slash (47)
+abbrev pub FromErrors : List ℕ → Type 0
+FromErrors = Joined (IsCount 0 47) FromCharacters
+
+-- from how it ended on
+abbrev pub FromEnd : List ℕ → Type 0
+FromEnd = Joined IsEnd (λ how. FromErrors)
+
+-- from its time on
+abbrev pub FromTime : List ℕ → Type 0
+FromTime = Joined IsTime (λ moment. FromEnd)
+
+-- from the mark of its channel on
+abbrev pub FromMark : List ℕ → Type 0
+FromMark = Joined IsMark (λ channel. FromTime)
+
+-- from its name on, which is all of it
+abbrev pub FromName : List ℕ → Type 0
+FromName = Joined IsName (λ identity. FromMark)
