@@ -3,7 +3,7 @@ use Rattle.std.proofs.Common.{◌≡◌, ℕ, ◌+◌, ◌-◌, ◌≤◌, ◌<�
 use Rattle.std.proofs.Common.{List, [], ◌∷◌, ◌++◌, length, take, get_or, Option, Some, None, max}
 use Rattle.std.proofs.Common.{nat_lt, nat_le, refl, sym, ap, ◌∙◌, subst, append_assoc, append-nil}
 use Rattle.std.proofs.Common.{arith, length-append, zero-add, add-zero, ◌⊎◌, inl, inr}
-use Rattle.std.specs.List.{count_by, flat_map, position_from}
+use Rattle.std.specs.List.{count_by, position_from}
 use Rattle.std.specs.Option.{is_some}
 use Rattle.std.proofs.Math.Seq.{get_or-append_seam}
 use Rattle.std.proofs.lemmas.Bool.{le-leb}
@@ -16,8 +16,8 @@ use Rattle.nx_fec.specs.AirFile.{Line, moment, elements, refuse_station, accept_
 use Rattle.nx_fec.specs.AirFile.{refuse_subject, accept_subject}
 use Rattle.nx_fec.specs.Scanner.{kind_of}
 use Rattle.nx_fec.specs.declared.air_file.LineKind.TheVariants.{Moment}
-use Rattle.nx_watch.specs.Acting.{acting_behind, acts, count_without, effects, ends_watch}
-use Rattle.nx_watch.specs.Acting.{first_without, goes_on_behind, in_force, is_far_back}
+use Rattle.nx_watch.specs.Acting.{acts, effects}
+use Rattle.nx_watch.specs.Acting.{in_force, is_far_back}
 use Rattle.nx_watch.specs.Acting.{moment_said, moments_said, went_far_back}
 use Rattle.nx_watch.specs.declared.line_effects.LineEffects.{LineEffects}
 use Rattle.nx_watch.specs.declared.line_effects.Effect.{Effect}

@@ -1,16 +1,15 @@
 -- The lines of bytes that come piece by piece.
 use Rattle.std.proofs.Common.{◌≡◌, ◌≢◌, ℕ, suc, zero, ◌+◌, ◌≤◌, ◌<◌, List, [], ◌∷◌, ◌++◌, length, map}
-use Rattle.std.proofs.Common.{take, drop, get_or, Option, Some, None, option_to_list, refl, sym, ap}
-use Rattle.std.proofs.Common.{◌∙◌, subst, append_assoc, append-nil, arith, length-append, ◌⊎◌, inl}
+use Rattle.std.proofs.Common.{take, drop, get_or, Option, Some, None, refl, sym, ap}
+use Rattle.std.proofs.Common.{◌∙◌, subst, append_assoc, append-nil, arith, length-append, inl}
 use Rattle.std.proofs.Common.{inr}
 use Rattle.std.specs.List.{AllByRecursion, AllZip, flat_map}
-use Rattle.std.proofs.ByRecursion.{All-append}
 use Rattle.std.proofs.lemmas.Bool.{cases_lt}
-use Rattle.std.proofs.lemmas.List.{append_cancel_left, get_or-take, length-take-le, map-append}
+use Rattle.std.proofs.lemmas.List.{append_cancel_left, get_or-take, length-take-le}
 use Rattle.std.proofs.lemmas.List.{drop_more}
 use Rattle.std.proofs.lemmas.List.Concat.{flat_map-append}
 use Rattle.nx_fec.specs.AirFile.{IsLine, IsNoLine, Line, spelling}
-use Rattle.nx_fec.specs.Lines.{IsCause, Scanning, Scans, StopsIn, file_of, line_bytes}
+use Rattle.nx_fec.specs.Lines.{IsCause, Scanning, Scans, StopsIn, file_of}
 use Rattle.nx_fec.specs.declared.fault.LineFault.{LineFault}
 use Rattle.nx_fec.specs.declared.fault.LineFault.TheVariants.{TooLong, LineLong, LineCut, BadLine}
 use Rattle.nx_fec.proofs.LineLaws.{spelling-IsBeginning}

@@ -6,3 +6,9 @@ pub mod RunLemmas
 pub mod ScanningLemmas
 pub mod StartLemmas
 pub mod TellingLemmas
+pub mod KeepingLemmas
+pub mod RememberingLemmas
+pub mod WatcherLemmas
+pub mod FinishLemmas
+pub mod OpeningLemmas
+pub mod HeardLemmas

@@ -1,6 +1,6 @@
 -- A run over the lines of any bytes.
-use Rattle.std.proofs.Common.{◌≡◌, ℕ, ◌+◌, ◌-◌, ◌≤◌, ◌<◌, Bool, true, false, not, cond, ◌&&◌, List}
-use Rattle.std.proofs.Common.{[], ◌∷◌, ◌++◌, length, map, take, drop, Option, Some, None, max}
+use Rattle.std.proofs.Common.{◌≡◌, ◌+◌, ℕ, ◌≤◌, ◌<◌, Bool, true, false, not, cond, ◌&&◌, List}
+use Rattle.std.proofs.Common.{[], ◌∷◌, ◌++◌, map, take, drop, Option, Some, None, max}
 use Rattle.std.proofs.Common.{option_to_list, nat_le, refl, sym, ap, ◌∙◌, subst, append_assoc}
 use Rattle.std.proofs.Common.{append-nil, arith, Err, inl}
 use Rattle.std.specs.Prelude.{IsSome, IsSomeAnd}
@@ -13,15 +13,18 @@ use Rattle.nx_fec.specs.AirFile.{IsLine, Line, moment, elements, refuse_station,
 use Rattle.nx_fec.specs.AirFile.{refuse_subject, accept_subject}
 use Rattle.nx_fec.specs.Scanner.{kind_kept, kind_of}
 use Rattle.nx_fec.specs.declared.air_file.LineKind.{LineKind}
+use Rattle.nx_memory.specs.Memory.{seconds_known}
 use Rattle.nx_memory.specs.Selection.{is_vital}
 use Rattle.nx_watch.specs.Acting.{acting_behind, acting_lines, acts, ends_watch, goes_on}
-use Rattle.nx_watch.specs.Acting.{goes_on_behind, in_force, moment_said, moments_said}
+use Rattle.nx_watch.specs.Acting.{goes_on_behind, in_force, is_far_back, moment_said, moments_said, went_far_back}
 use Rattle.nx_watch.specs.AnyLines.{AreLines, cut_line}
-use Rattle.nx_watch.specs.Watching.{AnswersWatch, AreCounted, Failing, HasTaken, HasTold, MayAct}
-use Rattle.nx_watch.specs.Watching.{Standing, first_told, told_of}
+use Rattle.nx_watch.specs.Watching.{AnswersWatch, AreCounted, HasTaken, HasTold, MayAct}
+use Rattle.nx_watch.specs.Watching.{Giving, Standing, StandsWith, first_told, told_of}
+use Rattle.nx_watch.specs.Watching.{with_writer}
+use Rattle.nx_fec.specs.Transfers.{CountedDevice}
 use Rattle.nx_watch.specs.declared.line_watch.LinesWatched.{LinesWatched}
 use Rattle.nx_watch.specs.declared.line_watch.WatchEnd.{WatchEnd}
-use Rattle.nx_watch.specs.declared.line_watch.WatchEnd.TheVariants.{Read, Back, Failed}
+use Rattle.nx_watch.specs.declared.line_watch.WatchEnd.TheVariants.{Read, Back, Write}
 use Rattle.nx_watch.specs.private.Effects.{IsKept}
 use Rattle.nx_watch.specs.declared.any_scanner.Ended.{Ended}
 use Rattle.nx_watch.specs.declared.line_watch.LineRun.{LineRun}
@@ -227,17 +230,28 @@ ends-input first bytes lines more old new failures counts rest are cut counted t
 }
 
 -- what is told at an end before that of the input
-pub answers-told : {T F : Type 0} (stands : Standing T) (fails : Failing T F) (start now : T)
-    (first : ℕ) (AtEnd : Type 0) (before after : List (Option Line) → Type 0) (end : WatchEnd F)
+pub answers-told : {T : Type 0} (stands : Standing T) (start now : T)
+    (first : ℕ) (AtEnd : Type 0) (before after : List (Option Line) → Type 0) (end : WatchEnd)
     (bytes : List ℕ) → ((lines : List (Option Line)) → before lines → after lines)
-    → AnswersWatch stands fails start now first ⊥ before (Err end) bytes
-    → AnswersWatch stands fails start now first AtEnd after (Err end) bytes
-answers-told stands fails start now first AtEnd before after Read bytes step h =
+    → AnswersWatch stands start now first ⊥ before (Err end) bytes
+    → AnswersWatch stands start now first AtEnd after (Err end) bytes
+answers-told stands start now first AtEnd before after Read bytes step h =
     (h.0, h.1, h.2, h.3, step h.0 h.4)
-answers-told stands fails start now first AtEnd before after (Back line last given) bytes step h =
+answers-told stands start now first AtEnd before after (Back line last given) bytes step h =
     (h.0, h.1, h.2, h.3, h.4, h.5, step (h.0 ++ Some (moment given) ∷ []) h.6)
-answers-told stands fails start now first AtEnd before after (Failed why) bytes step h =
-    (h.0, h.1, h.2, h.3, h.4, step (h.0 ++ Some h.1 ∷ []) h.5)
+answers-told stands start now first AtEnd before after Write bytes step h =
+    (h.0, h.1, h.2, h.3, step (h.0 ++ Some h.1 ∷ []) h.4)
+
+pub nothing : (contents : Option (List ℕ)) → Appends contents contents []
+nothing None = tt
+nothing (Some bytes) = sym (append-nil bytes)
+
+-- a taker and a writer before the first line
+pub stands-with : {T W : Type 0} (stands : Giving T) (contents : W → Option (List ℕ)) (start now : T)
+    (writer : CountedDevice W) → stands start now [] [] → writer.failures ≡ 0
+    → StandsWith stands contents (with_writer start writer) (with_writer now writer) []
+stands-with stands contents start now writer stood none =
+    ([], stood, record { written = inl (none, nothing (contents writer.inner)); uncalled = λ e. refl })
 
 -- a run before its first line
 pub run-starts : {T : Type 0} (stands : Standing T) (start now : T) (first : ℕ) (run : LineRun)
@@ -257,7 +271,42 @@ run-starts stands start now first run contents failures scans kept stood none = 
     );
   };
 }
+
+-- ---- the lines of a run, with a cut one and with the one that ends the watch
+
+pub acting-cut : (first : ℕ) (lines : List (Option Line)) (rest : List ℕ)
+    → acting_lines first (lines ++ cut_line rest) ≡ acting_lines first lines
+acting-cut first lines [] = ap (acting_lines first) (append-nil lines)
+acting-cut first lines (byte ∷ rest) =
+    acting-append first [] lines None ∙ append-nil (acting_lines first lines)
+
+pub acting-idle : (first : ℕ) (lines : List (Option Line)) (line : Line)
+    → acts first (moments_said lines) (Some line) ≡ false
+    → acting_lines first (lines ++ Some line ∷ []) ≡ acting_lines first lines
+acting-idle first lines line idle =
+    acting-append first [] lines (Some line)
+    ∙ ap (λ b. acting_lines first lines ++ cond b (line ∷ []) []) idle
+    ∙ append-nil (acting_lines first lines)
+
+-- the line that ends the watch doesn't act
+pub ends-idle : (first : ℕ) (moments : List ℕ) (n : ℕ)
+    → ends_watch first moments (Some (moment n)) ≡ true
+    → acts first moments (Some (moment n)) ≡ false
+ends-idle first moments n ends =
+    let far = (and_parts (nat_le n last_moment) (is_far_back first moments n)
+    (and_parts (nat_le n last_moment && is_far_back first moments n) (went_far_back first moments)
+    ends).0).1 in
+    let back : n + seconds_known ≤ in_force first moments =
+    leb-true (n + seconds_known) (in_force first moments) far in
+    idle (nat_le n last_moment) (nat_le (in_force first moments) n) refl back
   where
-    nothing : (contents : Option (List ℕ)) → Appends contents contents []
-    nothing None = tt
-    nothing (Some bytes) = sym (append-nil bytes)
+    none : (a : Bool) → (a && false) ≡ false
+    none true = refl
+    none false = refl
+
+    idle : (a b : Bool) → nat_le (in_force first moments) n ≡ b
+        → n + seconds_known ≤ in_force first moments → (a && b) ≡ false
+    idle a true e back =
+        let later : in_force first moments ≤ n = leb-true (in_force first moments) n e in
+        absurd (omega arith)
+    idle a false e back = none a

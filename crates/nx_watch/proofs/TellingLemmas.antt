@@ -1,8 +1,8 @@
 -- What is told of lines without effect.
-use Rattle.std.proofs.Common.{◌≡◌, ℕ, ◌+◌, ◌≤◌, ◌<◌, ◌==◌, true, false, List, [], ◌∷◌, ◌++◌, length}
-use Rattle.std.proofs.Common.{Bool, cond, take, Option, Some, None, Result, Ok, Err, ◌⊎◌, inl, inr, refl, sym, ap}
-use Rattle.std.proofs.Common.{◌∙◌, subst, arith, append_assoc, length-append, ◌↔◌}
-use Rattle.std.specs.Prelude.{IfErr, IsErr, OnOk, decimal, codes}
+use Rattle.std.proofs.Common.{◌≡◌, ℕ, ◌+◌, ◌≤◌, ◌<◌, ◌==◌, false, List, [], ◌++◌, length}
+use Rattle.std.proofs.Common.{Bool, cond, take, Option, Result, Ok, Err, inl, inr, refl, sym, ap}
+use Rattle.std.proofs.Common.{◌∙◌, subst, arith, append_assoc, length-append}
+use Rattle.std.specs.Prelude.{IfErr, OnOk, decimal, codes}
 use Rattle.std.specs.Io.KnownBytes.{Appends}
 use Rattle.std.proofs.KnownBytes.{Appends-trans}
 use Rattle.std.proofs.Math.Seq.{take-append-add}
@@ -10,7 +10,7 @@ use Rattle.std.proofs.lemmas.List.{take-append-le}
 use Rattle.std.proofs.lemmas.Bool.Decides.{nat_tests}
 use Rattle.nx_fec.specs.Transfers.{CountedDevice, FailsOnce, WroteSome}
 use Rattle.nx_fec.specs.declared.fault.WriteFault.{WriteFault}
-use Rattle.nx_watch.specs.Watching.{HasTold, first_told, number_told}
+use Rattle.nx_watch.specs.Watching.{HasTold, number_told}
 
 -- nothing more is told once a write failed
 pub told-stopped : (old new : Option (List ℕ)) (failures : ℕ) (text more : List ℕ)

@@ -5,21 +5,22 @@ use Rattle.std.specs.Io.KnownBytes.{Appends}
 use Rattle.nx_envelope.specs.Moment.{last_moment}
 use Rattle.nx_fec.specs.AirFile.{Line, moment, elements, refuse_station, accept_station}
 use Rattle.nx_fec.specs.AirFile.{refuse_subject, accept_subject}
+use Rattle.nx_fec.specs.Transfers.{CountedDevice}
 use Rattle.nx_memory.specs.Selection.{is_vital}
-use Rattle.nx_watch.specs.Acting.{acting_lines, acts, count_without, ends_watch, first_without}
+use Rattle.nx_watch.specs.Acting.{acting_lines, count_without, ends_watch, first_without}
 use Rattle.nx_watch.specs.Acting.{goes_on, in_force, moments_said}
 use Rattle.nx_watch.specs.AnyLines.{AreLines, cut_line}
 use Rattle.nx_watch.specs.declared.line_watch.LinesWatched.{LinesWatched}
 use Rattle.nx_watch.specs.declared.line_watch.WatchEnd.{WatchEnd}
-use Rattle.nx_watch.specs.declared.line_watch.WatchEnd.TheVariants.{Read, Back, Failed}
+use Rattle.nx_watch.specs.declared.line_watch.WatchEnd.TheVariants.{Read, Back, Write}
 
--- A taker of lines that act stood so at first and stands so now, after these lines; and why it ended
--- the run at the next line after these.
+-- A taker of lines that act stood so at first and stands so now, after these lines.
 abbrev pub Standing : Type 0 → Type 1
 Standing T = T → T → List Line → Type 0
 
-abbrev pub Failing : Type 0 → Type 0 → Type 1
-Failing T F = T → T → List Line → Line → F → Type 0
+-- the same of a taker that gave these bytes for the lines
+abbrev pub Giving : Type 0 → Type 1
+Giving T = T → T → List Line → List ℕ → Type 0
 
 -- the moment in force behind lines that act
 abbrev pub force_behind : ℕ → List Line → ℕ
@@ -57,6 +58,29 @@ HasTold old new failures text =
     ((failures ≡ 0) × Appends old new text)
     ⊎ ((0 < failures) × (taken : ℕ) × (taken ≤ length text) × Appends old new (take taken text))
 
+-- These bytes were given to a writer: they were written, or a first part of them, where a write
+-- failed. Where there are none, it wasn't called.
+pub record WereGiven {W : Type 0} (contents : W → Option (List ℕ)) (old new : CountedDevice W)
+    (bytes : List ℕ)
+    : Type 0 where
+  pub written : HasTold (contents old.inner) (contents new.inner) new.failures bytes
+  pub uncalled : bytes ≡ [] → new ≡ old
+
+-- a taker, and the writer that it gives its bytes to
+pub record WithWriter (T W : Type 0) : Type 0 where
+  pub taker : T
+  pub writer : CountedDevice W
+
+abbrev pub with_writer : {T W : Type 0} → T → CountedDevice W → WithWriter T W
+with_writer taker writer = record { taker = taker; writer = writer }
+
+-- a taker stands so after these lines, and its writer was given the bytes for them
+abbrev pub StandsWith : {T W : Type 0} → Giving T → (W → Option (List ℕ))
+    → Standing (WithWriter T W)
+StandsWith stands contents start now lines =
+    (given : List ℕ) × stands start.taker now.taker lines given
+    × WereGiven contents start.writer now.writer given
+
 -- None of these lines ended the watch, and those that act were taken.
 pub record HasTaken {T : Type 0} (stands : Standing T) (start now : T) (first : ℕ)
     (lines : List (Option Line)) : Type 0 where
@@ -82,22 +106,22 @@ pub record StopsBehind (first : ℕ) (bytes : List ℕ) (lines : List (Option Li
 -- What a run answers of these bytes, where the moment `first` was in force at first, and `tells`
 -- holds of the lines that it tells of. At the end of the input, or at the limit, all lines were
 -- taken, a cut one too; after a failed read, all lines with their ends; behind the line that ends the
--- watch, those before it; and a line that acts may have failed.
-abbrev pub AnswersWatch : {T F : Type 0} → Standing T → Failing T F → T → T → ℕ → Type 0
-    → (List (Option Line) → Type 0) → Result LinesWatched (WatchEnd F) → List ℕ → Type 0
-AnswersWatch stands fails start now first AtEnd tells (Ok counts) bytes =
+-- watch, those before it; and after a failed write the lines up to the one that gave the bytes.
+abbrev pub AnswersWatch : {T : Type 0} → Standing T → T → T → ℕ → Type 0
+    → (List (Option Line) → Type 0) → Result LinesWatched WatchEnd → List ℕ → Type 0
+AnswersWatch stands start now first AtEnd tells (Ok counts) bytes =
     AtEnd × (lines : List (Option Line)) × (rest : List ℕ) × AreLines bytes lines rest
     × HasTaken stands start now first lines × AreCounted first (lines ++ cut_line rest) counts
     × tells (lines ++ cut_line rest)
-AnswersWatch stands fails start now first AtEnd tells (Err Read) bytes =
+AnswersWatch stands start now first AtEnd tells (Err Read) bytes =
     (lines : List (Option Line)) × (rest : List ℕ) × AreLines bytes lines rest
     × HasTaken stands start now first lines × tells lines
-AnswersWatch stands fails start now first AtEnd tells (Err (Back line last given)) bytes =
+AnswersWatch stands start now first AtEnd tells (Err (Back line last given)) bytes =
     (lines : List (Option Line)) × StopsBehind first bytes lines (moment given)
     × (ends_watch first (moments_said lines) (Some (moment given)) ≡ true)
     × (line ≡ length lines + 1) × (last ≡ in_force first (moments_said lines))
     × stands start now (acting_lines first lines) × tells (lines ++ Some (moment given) ∷ [])
-AnswersWatch stands fails start now first AtEnd tells (Err (Failed why)) bytes =
+AnswersWatch stands start now first AtEnd tells (Err Write) bytes =
     (lines : List (Option Line)) × (line : Line) × StopsBehind first bytes lines line
-    × (acts first (moments_said lines) (Some line) ≡ true)
-    × fails start now (acting_lines first lines) line why × tells (lines ++ Some line ∷ [])
+    × HasTaken stands start now first (lines ++ Some line ∷ [])
+    × tells (lines ++ Some line ∷ [])

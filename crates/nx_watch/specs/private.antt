@@ -2,3 +2,8 @@
 pub mod Effects
 pub mod Running
 pub mod Scanning
+pub mod Keeping
+pub mod Remembering
+pub mod Entries
+pub mod Answering
+pub mod Watcher

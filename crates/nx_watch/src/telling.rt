@@ -36,7 +36,7 @@ pub(crate) fn tell_number<F: Write>(count: u64, faults: &mut Counting<F>)
     }
 }
 
-/// Tells a number between two texts. A failed write is passed over, and so is each text behind it.
+/// Tells a number between two texts.
 fn tell<F: Write>(before: &[u8], number: u64, behind: &[u8], faults: &mut Counting<F>)
     requires { length before.now + length behind.now ≤ 44 }
     ensures { (old : Option (List ℕ)) (text : List ℕ)
@@ -44,14 +44,25 @@ fn tell<F: Write>(before: &[u8], number: u64, behind: &[u8], faults: &mut Counti
         → HasTold old (F.contents faults.new.inner) faults.new.failures
         (text ++ (before.now ++ (decimal number ++ behind.now))) }
 {
-    if faults.failures() > 0 {
-        return;
-    }
     let mut text = ArrayVec::<u8, MOST_TOLD>::new();
     append(&mut text, before);
     append(&mut text, Buffer::new().format(number).as_bytes());
     append(&mut text, behind);
-    let _ = write_out(faults, &text);
+    write_more(&text, faults);
+}
+
+/// Writes bytes behind others, unless a write failed before. A failed write is passed over, and so
+/// are all bytes behind it.
+pub(crate) fn write_more<W: Write>(bytes: &[u8], writer: &mut Counting<W>)
+    ensures written { (old : Option (List ℕ)) (text : List ℕ)
+        → HasTold old (W.contents writer.old.inner) writer.old.failures text
+        → HasTold old (W.contents writer.new.inner) writer.new.failures (text ++ bytes.now) }
+    ensures once { writer.old.failures ≤ 1 → writer.new.failures ≤ 1 }
+{
+    if writer.failures() > 0 {
+        return;
+    }
+    let _ = write_out(writer, bytes);
 }
 
 /// Appends bytes, for which there is room.

@@ -2,33 +2,29 @@
 
 ghost use Rattle.std.specs.Prelude.{◌≤◌};
 
-use crate::{ActingTaker, LinesWatched, WatchEnd, watch_lines};
+use crate::{ActingTaker, LinesWatched, WatchEnd, WriteFailed, watch_lines};
 use nx_fec::{Counting, Scanner};
 use std::alloc::Global;
-use std::io::{Error, ErrorKind, Read, Result as IoResult};
+use std::io::{Error, ErrorKind, Read, Result as IoResult, Write};
 
-/// Counts the lines that act, up to one that it doesn't take.
+/// Counts the lines that act.
 #[derive(Drop)]
 struct Counter {
     taken: u64,
-    most: u64,
 }
 
 impl ActingTaker for Counter {
     ghost use Rattle.nx_fec.specs.AirFile.{Line};
 
-    type Fault = u64;
-
     ghost first_moment = { λ counter. 0 };
 
-    ghost stands = { λ start now lines. Unit {0} };
+    ghost stands = { λ start now lines given. Unit {0} };
 
-    ghost fails = { λ start now lines line why. Unit {0} };
-
-    fn take(&mut self, _scanner: &Scanner) -> Result<(), u64> {
-        if self.taken >= self.most {
-            return Err(self.taken);
-        }
+    fn take<W: Write>(
+        &mut self,
+        _scanner: &Scanner,
+        _writer: &mut Counting<W>,
+    ) -> Result<(), WriteFailed> {
         self.taken = self.taken.saturating_add(1);
         Ok(())
     }
@@ -58,14 +54,14 @@ impl Read for Source<'_> {
 /// What a run answered, how many lines acted, and what was told.
 #[derive(Drop)]
 struct Outcome {
-    answer: Result<LinesWatched, WatchEnd<u64>>,
+    answer: Result<LinesWatched, WatchEnd>,
     acted: u64,
     told: Vec<u8>,
 }
 
 impl Outcome {
     /// Whether the run answered this, and so many lines acted, and this was told.
-    fn is(&self, answer: Result<LinesWatched, WatchEnd<u64>>, acted: u64, told: &[u8]) -> bool {
+    fn is(&self, answer: Result<LinesWatched, WatchEnd>, acted: u64, told: &[u8]) -> bool {
         self.answer == answer && self.acted == acted && self.told.as_slice() == told
     }
 }
@@ -77,17 +73,25 @@ fn run_on(alloc: Global, first: u64, text: &[u8], piece: usize) -> Outcome {
         piece,
         fails: false,
     };
-    run_up_to(alloc, first, source, 9_223_372_036_854_775_807, u64::MAX)
+    run_up_to(alloc, first, source, 9_223_372_036_854_775_807)
 }
 
-/// A run over at most so many bytes, with a taker of so many lines.
-fn run_up_to(alloc: Global, first: u64, source: Source, limit: u64, most: u64) -> Outcome
+/// A run over at most so many bytes.
+fn run_up_to(alloc: Global, first: u64, source: Source, limit: u64) -> Outcome
     requires { limit ≤ 9223372036854775807 }
 {
     let mut reader = Counting::new(source);
     let mut faults = Counting::new(Vec::new(alloc));
-    let mut counter = Counter { taken: 0, most };
-    let answer = watch_lines(&mut reader, &mut faults, &mut counter, first, limit);
+    let mut writer = Counting::new(Vec::new(alloc));
+    let mut counter = Counter { taken: 0 };
+    let answer = watch_lines(
+        &mut reader,
+        &mut writer,
+        &mut faults,
+        &mut counter,
+        first,
+        limit,
+    );
     Outcome {
         answer,
         acted: counter.taken,
@@ -163,7 +167,7 @@ fn watch_clock_back(rt: HostRuntime) {
     }
 }
 
-/// The limit of the bytes is an end, a failed read isn't one, and the taker may end the run.
+/// The limit of the bytes is an end, and a failed read isn't one.
 #[test]
 fn watch_ends(rt: HostRuntime) {
     let alloc = rt.alloc();
@@ -175,7 +179,7 @@ fn watch_ends(rt: HostRuntime) {
             piece,
             fails: false,
         };
-        let run = run_up_to(alloc, 0, source, 10, u64::MAX);
+        let run = run_up_to(alloc, 0, source, 10);
         assert!(&rt;
             run.is(Ok(counts(3, 1, Some(3))), 2, cut),
             "limit, in pieces of {piece}"
@@ -185,20 +189,10 @@ fn watch_ends(rt: HostRuntime) {
             piece,
             fails: true,
         };
-        let run = run_up_to(alloc, 0, source, 1_000, u64::MAX);
+        let run = run_up_to(alloc, 0, source, 1_000);
         assert!(&rt;
             run.is(Err(WatchEnd::Read), 3, b""),
             "read, in pieces of {piece}"
-        );
-        let source = Source {
-            rest: text,
-            piece,
-            fails: false,
-        };
-        let run = run_up_to(alloc, 0, source, 1_000, 2);
-        assert!(&rt;
-            run.is(Err(WatchEnd::Failed(2)), 2, b""),
-            "taker, in pieces of {piece}"
         );
     }
 }

@@ -1,8 +1,8 @@
 -- How a run over the lines of any bytes stands.
-use Rattle.std.specs.Prelude.{◌≡◌, ℕ, List, ◌++◌, Option, Result, Err}
+use Rattle.std.specs.Prelude.{ℕ, List, ◌++◌, Option, Err}
 use Rattle.nx_fec.specs.AirFile.{Line}
 use Rattle.nx_watch.specs.AnyLines.{AreLines, cut_line}
-use Rattle.nx_watch.specs.Watching.{AnswersWatch, AreCounted, Failing, HasTaken, HasTold, Standing, first_told}
+use Rattle.nx_watch.specs.Watching.{AnswersWatch, AreCounted, HasTaken, HasTold, Standing, first_told}
 use Rattle.nx_watch.specs.Watching.{told_of}
 use Rattle.nx_watch.specs.declared.line_effects.LineEffects.{LineEffects}
 use Rattle.nx_watch.specs.declared.line_watch.LineRun.{LineRun}
@@ -27,10 +27,10 @@ pub record IsRunning {T : Type 0} (stands : Standing T) (start now : T) (first :
   pub tells : TellsFirst first run.effects old new failures lines
 
 -- the run is over with this end, in these bytes
-abbrev pub EndsRun : {T F : Type 0} → Standing T → Failing T F → T → T → ℕ → LineEffects
-    → Option (List ℕ) → Option (List ℕ) → ℕ → WatchEnd F → List ℕ → Type 0
-EndsRun stands fails start now first kept old new failures end bytes =
-    AnswersWatch stands fails start now first ⊥ (TellsFirst first kept old new failures) (Err end)
+abbrev pub EndsRun : {T : Type 0} → Standing T → T → T → ℕ → LineEffects
+    → Option (List ℕ) → Option (List ℕ) → ℕ → WatchEnd → List ℕ → Type 0
+EndsRun stands start now first kept old new failures end bytes =
+    AnswersWatch stands start now first ⊥ (TellsFirst first kept old new failures) (Err end)
     bytes
 
 -- the input ended: these are the counts of the lines, a cut one too, and all was told

@@ -1,17 +1,20 @@
 use Rattle.std.proofs.Common.{◌≡◌, ◌⊎◌, length}
 use Rattle.std.specs.Io.KnownBytes.{IsAtEnd}
-use Rattle.nx_watch.specs.Watching.{HasTold, told_of}
+use Rattle.nx_watch.specs.Watching.{HasTold, StandsWith, told_of, with_writer}
 use Rattle.nx_watch.specs.private.Running.{TellsFirst}
-use Rattle.nx_watch.proofs.RunLemmas.{answers-told, run-starts}
+use Rattle.nx_watch.proofs.RunLemmas.{answers-told, run-starts, stands-with}
 use Rattle.nx_watch.proofs.line_watch.watch_lines.Goals as goal
 
 pub returns-in-Ok-clause-watched : goal.returns-in-Ok-clause-watched
 returns-in-Ok-clause-watched g c = λ start force stood.
-    let t = g.T.ActingTaker in
+    let stands = (StandsWith g.T.ActingTaker.stands g.W.Write.contents) in
+    let before = with_writer start c.args.writer.now in
     let old = g.F.Write.contents c.args.faults.now.inner in
-    let r = c.in-Ok.ensures.read start c.args.first old force
-    (run-starts t.stands start c.args.taker.now c.args.first _ old c.args.faults.now.failures
-    c.new.ensures.stands c.new-2.ensures stood c.requires.faults) in
+    let r = c.in-Ok.ensures.read before c.args.first old force
+    (run-starts stands before (with_writer c.args.taker.now c.args.writer.now) c.args.first _ old c.args.faults.now.failures
+    c.new.ensures.stands c.new-2.ensures
+    (stands-with g.T.ActingTaker.stands g.W.Write.contents start c.args.taker.now
+    c.args.writer.now stood c.requires.writer) c.requires.faults) in
     let run = r.3.1 in
     let e = c.end.ensures c.args.first old r.0 run.lines run.scans run.tells in (
       r.0,
@@ -22,15 +25,19 @@ returns-in-Ok-clause-watched g c = λ start force stood.
 
 pub returns-in-Err-clause-watched : goal.returns-in-Err-clause-watched
 returns-in-Err-clause-watched g c = λ start force stood.
-    let t = g.T.ActingTaker in
+    let stands = (StandsWith g.T.ActingTaker.stands g.W.Write.contents) in
+    let before = with_writer start c.args.writer.now in
     let old = g.F.Write.contents c.args.faults.now.inner in
-    let r = c.in-Err.ensures.read start c.args.first old force
-    (run-starts t.stands start c.args.taker.now c.args.first _ old c.args.faults.now.failures
-    c.new.ensures.stands c.new-2.ensures stood c.requires.faults) in (
+    let r = c.in-Err.ensures.read before c.args.first old force
+    (run-starts stands before (with_writer c.args.taker.now c.args.writer.now) c.args.first _ old c.args.faults.now.failures
+    c.new.ensures.stands c.new-2.ensures
+    (stands-with g.T.ActingTaker.stands g.W.Write.contents start c.args.taker.now
+    c.args.writer.now stood c.requires.writer) c.requires.faults) in (
       r.0,
       r.1,
       r.2,
-      answers-told t.stands t.fails start c.read_lines.new.taker c.args.first
+      answers-told stands before
+          (with_writer c.read_lines.new.taker c.read_lines.new.writer) c.args.first
           (IsAtEnd (g.R.Read.remaining c.read_lines.new.reader.inner)
           ⊎ (length r.0 ≡ c.args.limit))
           (TellsFirst c.args.first c.read_lines.new.self.effects old

@@ -1,4 +1,4 @@
-use Rattle.std.proofs.Common.{◌∙◌, arith, take_all}
+use Rattle.std.proofs.Common.{◌∙◌}
 use Rattle.nx_memory.proofs.Loading.{held-more, newest-held, unknown-held}
 use Rattle.nx_watch.proofs.start.saved_of.Goals as goal
 

@@ -1,5 +1,5 @@
 use Rattle.std.proofs.Common.{◌++◌, ◌∙◌, ap, sym, subst, append-nil}
-use Rattle.nx_watch.specs.Watching.{HasTold, number_told}
+use Rattle.nx_watch.specs.Watching.{HasTold}
 use Rattle.nx_watch.proofs.TellingLemmas.{number-none, number-some}
 use Rattle.nx_watch.proofs.telling.tell_number.Goals as goal
 

@@ -1,4 +1,4 @@
-use Rattle.std.proofs.Common.{true, sym, subst, rules}
+use Rattle.std.proofs.Common.{sym, subst, rules}
 use Rattle.nx_watch.specs.private.Scanning.{CutsAs}
 use Rattle.nx_watch.proofs.ScanningLemmas.{cuts-end, cuts-passing}
 use Rattle.nx_watch.proofs.any_scanner.AnyScanner.is_open.Goals as goal

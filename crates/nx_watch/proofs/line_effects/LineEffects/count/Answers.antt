@@ -1,4 +1,4 @@
-use Rattle.std.proofs.Common.{◌≡◌, refl, sym, ◌∙◌, None, Option}
+use Rattle.std.proofs.Common.{refl, sym, ◌∙◌}
 use Rattle.nx_watch.proofs.ActingLemmas.{counts-acting, counts-idle, first-idle, keeps-on}
 use Rattle.nx_watch.proofs.ActingLemmas.{later-idle, none-is}
 use Rattle.nx_watch.proofs.line_effects.LineEffects.count.Goals as goal

@@ -1,8 +1,8 @@
-use Rattle.std.proofs.Common.{ℕ, ◌≡◌, ◌+◌, ◌≤◌, ◌<◌, inl, inr, ◌&&◌, true, false, max, nat_le, refl, sym, ap, ◌∙◌, arith}
+use Rattle.std.proofs.Common.{◌≡◌, ◌≤◌, ◌<◌, inl, inr, true, false, nat_le, refl, sym, ◌∙◌, arith}
 use Rattle.std.proofs.lemmas.Bool.{le-leb}
 use Rattle.std.proofs.lemmas.Bool.Decides.{nat_tests}
 use Rattle.nx_envelope.specs.Moment.{last_moment}
-use Rattle.nx_watch.specs.Acting.{in_force, is_far_back, went_far_back}
+use Rattle.nx_watch.specs.Acting.{in_force, is_far_back}
 use Rattle.nx_watch.proofs.ActingLemmas.{both, goes-back, next-moment, not_first, not_second}
 use Rattle.nx_watch.proofs.line_effects.LineEffects.effect_of_moment.Goals as goal
 use Rattle.nx_watch.proofs.line_effects.LineEffects.effect_of_moment.Goals.{else-is_far_back-via-then-is_far_back+else-went_far_back, else-is_far_back-via-else-is_far_back}

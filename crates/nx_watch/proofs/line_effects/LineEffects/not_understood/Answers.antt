@@ -1,4 +1,4 @@
-use Rattle.std.proofs.Common.{◌++◌, [], None, append-nil, refl, sym, subst}
+use Rattle.std.proofs.Common.{None, append-nil, refl, sym, subst}
 use Rattle.nx_watch.specs.Acting.{moments_said}
 use Rattle.nx_watch.specs.private.Effects.{KeepsMoments}
 use Rattle.nx_watch.proofs.line_effects.LineEffects.not_understood.Goals as goal

@@ -1,4 +1,4 @@
-use Rattle.std.proofs.Common.{◌∙◌, ◌++◌, ◌∷◌, [], true, false, None, ap, append-nil, subst, sym}
+use Rattle.std.proofs.Common.{◌++◌, ◌∷◌, [], None, append-nil, subst, sym}
 use Rattle.nx_watch.specs.Watching.{AreCounted, HasTold, told_of}
 use Rattle.nx_watch.specs.private.Scanning.{CutsAs}
 use Rattle.nx_watch.proofs.RunLemmas.{ends-input}

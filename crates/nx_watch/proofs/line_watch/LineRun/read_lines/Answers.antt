@@ -3,6 +3,7 @@ use Rattle.std.proofs.Common.{ap, sym, take, drop, subst, arith, append-nil}
 use Rattle.std.proofs.KnownBytes.{Consumes-kept, Consumes-trans}
 use Rattle.std.proofs.lemmas.List.{length-take-le, take-append-le}
 use Rattle.std.specs.Io.KnownBytes.{Consumes}
+use Rattle.nx_watch.specs.Watching.{StandsWith, with_writer}
 use Rattle.nx_watch.specs.private.Running.{EndsRun}
 use Rattle.nx_watch.proofs.ScanningLemmas.{Parts-lines, parts}
 use Rattle.nx_watch.proofs.line_watch.LineRun.read_lines.Goals as goal
@@ -60,8 +61,8 @@ returns-in-Err-clause-read g c = λ start first old force h.
         fits,
         c.min-most.ensures,
       ),
-      subst (λ l. EndsRun g.T.ActingTaker.stands g.T.ActingTaker.fails start
-          c.take_piece.new.taker first c.take_piece.new.self.effects old
+      subst (λ l. EndsRun (StandsWith g.T.ActingTaker.stands g.W.Write.contents) start
+          (with_writer c.take_piece.new.taker c.take_piece.new.writer) first c.take_piece.new.self.effects old
           (g.F.Write.contents c.take_piece.new.faults.inner) c.take_piece.new.faults.failures
           c.in-Err.end l) (append-nil (r.0 ++ piece))
           (c.in-Err.ensures.taken start first old r.0 force r.3 []),
@@ -86,6 +87,7 @@ loop-room-preserved g c =
     omega (arith, c.in-Bytes.ensures.1, fits, c.min-most.ensures) in
     record {
       reader = c.in-Bytes.ensures.3;
+      writer = c.in_default.ensures.open;
       chunk = omega (
         arith,
         length-append b behind,

@@ -1,9 +1,9 @@
 use Rattle.std.proofs.Common.{◌≡◌, ◌∙◌, ◌++◌, ◌∷◌, [], true, Option, Some, refl, sym, subst}
 use Rattle.std.proofs.Common.{length-append}
-use Rattle.nx_fec.specs.AirFile.{Line, moment}
+use Rattle.nx_fec.specs.AirFile.{Line}
 use Rattle.nx_watch.specs.Acting.{acting_lines, ends_watch, moments_said}
 use Rattle.nx_watch.specs.AnyLines.{AreLines}
-use Rattle.nx_watch.specs.Watching.{HasTold, MayAct, first_told}
+use Rattle.nx_watch.specs.Watching.{HasTold, MayAct, StandsWith, first_told}
 use Rattle.nx_watch.specs.private.Effects.{IsKept}
 use Rattle.nx_watch.proofs.RunLemmas.{kind-is, may-act, taken-acting, taken-idle, tell-step}
 use Rattle.nx_watch.proofs.line_watch.LineRun.take_known.Goals as goal
@@ -13,10 +13,10 @@ returns-in-Ok-clause-taken g c = λ start first old lines line force is taken te
     let kind = kind-is c.args.self.now.scanner.scanner.latest c.latest.result line c.in-Some.kind
     c.latest.ensures c.in-Some.is is in
     let e = c.in-Acts.ensures.kept first lines line kind tells.kept_so in
-    let stood = c.in-Ok.ensures start (acting_lines first lines) line is
+    let stood = c.take.ensures.taken start (acting_lines first lines) line is
     (subst (λ f. MayAct f (acting_lines first lines) line) (sym force)
     (may-act first lines line e.1.0)) taken.stood in (
-      taken-acting g.T.ActingTaker.stands start _ first lines line taken.on e.1.0 e.1.1 stood,
+      taken-acting (StandsWith g.T.ActingTaker.stands g.W.Write.contents) start _ first lines line taken.on e.1.0 e.1.1 stood,
       record {
         kept_so = e.0;
         told = subst (λ o. HasTold old (g.F.Write.contents c.args.faults.now.inner)
@@ -31,14 +31,13 @@ returns-in-Err-clause-taken g c = λ start first old lines line force is taken t
     let kind = kind-is c.args.self.now.scanner.scanner.latest c.latest.result line c.in-Some.kind
     c.latest.ensures c.in-Some.is is in
     let e = c.in-Acts.ensures.kept first lines line kind tells.kept_so in
-    let fails = c.in-Err.ensures start (acting_lines first lines) line is
+    let stood = c.take.ensures.taken start (acting_lines first lines) line is
     (subst (λ f. MayAct f (acting_lines first lines) line) (sym force)
     (may-act first lines line e.1.0)) taken.stood in (
       lines,
       line,
       record { front = front; more = more; whole = whole; are = are; on = taken.on },
-      e.1.0,
-      fails,
+      taken-acting (StandsWith g.T.ActingTaker.stands g.W.Write.contents) start _ first lines line taken.on e.1.0 e.1.1 stood,
       record {
         kept_so = e.0;
         told = subst (λ o. HasTold old (g.F.Write.contents c.args.faults.now.inner)
@@ -52,7 +51,7 @@ returns-in-Nothing-clause-taken g c = λ start first old lines line force is tak
     let kind = kind-is c.args.self.now.scanner.scanner.latest c.latest.result line c.in-Some.kind
     c.latest.ensures c.in-Some.is is in
     let e = c.in-Nothing.ensures.kept first lines line kind tells.kept_so in (
-      taken-idle g.T.ActingTaker.stands start _ first lines (Some line) taken e.1.0 e.1.1,
+      taken-idle (StandsWith g.T.ActingTaker.stands g.W.Write.contents) start _ first lines (Some line) taken e.1.0 e.1.1,
       record {
         kept_so = e.0;
         told = tell-step (λ o. HasTold old (g.F.Write.contents c.args.faults.now.inner)

@@ -2,6 +2,7 @@ use Rattle.std.proofs.Common.{◌∙◌, ◌++◌, ◌∷◌, [], Some, None, ap
 use Rattle.std.proofs.Common.{subst, take}
 use Rattle.std.specs.Prelude.{IsSomeAnd}
 use Rattle.nx_fec.specs.AirFile.{IsLine}
+use Rattle.nx_watch.specs.Watching.{StandsWith, with_writer}
 use Rattle.nx_watch.specs.private.Scanning.{IsScanning, OnLine, lines_ended}
 use Rattle.nx_watch.proofs.RunLemmas.{run-of, some-line, taken-idle, whole-behind}
 use Rattle.nx_watch.proofs.ScanningLemmas.{parts}
@@ -9,26 +10,26 @@ use Rattle.nx_watch.proofs.line_watch.LineRun.take_line.Goals as goal
 
 pub returns-in-Unknown-clause-taken : goal.returns-in-Unknown-clause-taken
 returns-in-Unknown-clause-taken g c = λ start first old bytes force r.
-    let t = g.T.ActingTaker in
+    let stands = (StandsWith g.T.ActingTaker.stands g.W.Write.contents) in
     let latest = c.take-count.new.self.scanner.latest in
     let scans = c.take-count.ensures.scans bytes r.lines r.scans in
-    run-of t.stands start c.args.taker.now first c.pass_line.new.self old
+    run-of stands start (with_writer c.args.taker.now c.args.writer.now) first c.pass_line.new.self old
     (g.F.Write.contents c.pass_line.new.faults.inner) c.pass_line.new.faults.failures _ r.lines
     (None ∷ []) c.take-count.result.1 latest (ap (λ e. lines_ended e latest) c.in-Unknown.is)
     (subst (λ s. IsScanning s (bytes ++ take c.take-count.result.0 c.args.piece.now)
     (r.lines ++ lines_ended c.take-count.result.1 latest)) (sym c.pass_line.ensures.scanner) scans)
-    (taken-idle t.stands start c.args.taker.now first r.lines None r.taken refl refl)
+    (taken-idle stands start (with_writer c.args.taker.now c.args.writer.now) first r.lines None r.taken refl refl)
     (c.pass_line.ensures.tells first old r.lines r.tells)
 
 pub returns-in-Ok-clause-taken : goal.returns-in-Ok-clause-taken
 returns-in-Ok-clause-taken g c = λ start first old bytes force r.
-    let t = g.T.ActingTaker in
+    let stands = (StandsWith g.T.ActingTaker.stands g.W.Write.contents) in
     let latest = c.take-count.new.self.scanner.latest in
     let scans = c.take-count.ensures.scans bytes r.lines r.scans in
     let one = some-line latest
     (subst (λ e. OnLine e (IsSomeAnd latest IsLine)) c.in-Line.is c.take-count.ensures.line) in
     let k = c.in-Ok.ensures.taken start first old r.lines one.0 force one.1 r.taken r.tells in
-    run-of t.stands start c.take_known.new.taker first c.take_known.new.self old
+    run-of stands start (with_writer c.take_known.new.taker c.take_known.new.writer) first c.take_known.new.self old
     (g.F.Write.contents c.take_known.new.faults.inner) c.take_known.new.faults.failures _ r.lines
     (Some one.0 ∷ []) c.take-count.result.1 latest
     (ap (λ e. lines_ended e latest) c.in-Line.is ∙ ap (λ o. map Some (option_to_list o)) one.1)

@@ -1,0 +1,16 @@
+pub mod Files
+pub mod Staying
+pub mod Remembering
+pub mod Climbing
+pub mod Acting
+pub mod Found
+pub mod Entering
+pub mod Judging
+pub mod Keeps
+pub mod Chains
+pub mod Keeping
+pub mod Links
+pub mod Later
+pub mod First
+pub mod Once
+pub mod Example

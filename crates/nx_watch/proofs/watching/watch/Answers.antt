@@ -1,0 +1,253 @@
+use Rattle.std.proofs.Common.{◌≡◌, ◌≤◌, ◌⊎◌, ◌∙◌, ◌++◌, ◌∷◌, [], List, ℕ, Result, Err, false, ap, refl, subst, sym}
+use Rattle.std.specs.Prelude.{unwrap_or}
+use Rattle.std.specs.List.{AllZip}
+use Rattle.nx_kept.specs.Kept.{closed_gate}
+use Rattle.nx_kept.specs.Log.{Keeps}
+use Rattle.nx_log.specs.Entries.{IsWholeEntry}
+use Rattle.nx_log.specs.Logged.{IsLoggedAs}
+use Rattle.nx_memory.specs.Saved.{SavedStates, newest_of_all}
+use Rattle.nx_envelope.specs.Moment.{last_moment}
+use Rattle.nx_receiver.specs.Listener.{HearsGiven, starts_of}
+use Rattle.nx_watch.specs.declared.watch_report.WatchReport.{WatchReport}
+use Rattle.nx_watch.specs.declared.watch_fault.WatchFault.{WatchFault}
+use Rattle.nx_watch.specs.declared.watch_fault.WatchFault.TheVariants.{Damaged, Memory}
+use Rattle.nx_receiver.specs.Shares.{Starts, starts_from}
+use Rattle.nx_watch.specs.Watch.{AnswersStarted, AnswersWatching, HasCause, HasOpened, starts_at, watch_devices}
+use Rattle.nx_watch.specs.private.Keeping.{HasKept, StandsForTexts, disk_of}
+use Rattle.nx_watch.proofs.KeepingLemmas.{fresh-keeper, keeps-stands, kept-none}
+use Rattle.nx_watch.proofs.OpeningLemmas.{answers-opening, answers-watching, cause-behind, cause-opening, damage-named, entries-of, has-opened, not-damaged, same-texts, started-before}
+use Rattle.nx_watch.proofs.RememberingLemmas.{took-all}
+use Rattle.nx_watch.proofs.watching.watch.Goals as goal
+
+abbrev err : WatchFault → Result WatchReport WatchFault
+err fault = Err fault
+
+apart : (line : ℕ) → err Memory ≡ err (Damaged line) → ⊥
+apart line e = cc
+
+same-fault : (fault : WatchFault) (line : ℕ) → err fault ≡ err (Damaged line) → fault ≡ Damaged line
+same-fault fault line e = cc
+
+-- ---- the log can't be opened
+
+pub returns-in-Err-clause-watched : goal.returns-in-Err-clause-watched
+returns-in-Err-clause-watched g c = λ start entries ex stands.
+    let d = g.D.DiskFile in
+    let disk = disk_of d.explains d.seen d.may_leave d.moment d.left_since d.faults
+    d.has_failed_to_write in
+    let fault = c.in-Err.fault in
+    let opened = has-opened disk start c.args.device c.in-Err.device g.R.Read.remaining
+    c.args.reader.now c.args.reader.now g.W.Write.contents c.args.writer.now c.args.writer.now
+    g.F.Write.contents c.args.faults.now c.args.faults.now entries stands.texts stands.each
+    (c.in-Err.ensures.any_moment_err start stands.texts ex stands.stands) refl refl refl in
+    subst (λ f. AnswersWatching (watch_devices (d.seen start) (d.may_leave start) d.moment
+    (d.left_since start) c.args.device c.in-Err.device g.R.Read.remaining c.args.reader.now
+    c.args.reader.now g.W.Write.contents c.args.writer.now c.args.writer.now g.F.Write.contents
+    c.args.faults.now c.args.faults.now) c.args.moment entries (Err f)) (sym c.fault_of.ensures)
+    (answers-opening _ c.args.moment entries fault opened
+    (λ line e. (c.in-Err.ensures.damaged start line ex e).1.not_as_they_are
+    (stands.texts, stands.stands)))
+
+pub returns-in-Err-clause-damaged : goal.returns-in-Err-clause-damaged
+returns-in-Err-clause-damaged g c = λ start line ex e.
+    c.in-Err.ensures.damaged start line ex
+    (damage-named c.in-Err.fault line (sym c.fault_of.ensures
+    ∙ same-fault c.fault_of.result line e))
+
+pub returns-in-Err-clause-foreign : goal.returns-in-Err-clause-foreign
+returns-in-Err-clause-foreign g c = λ start ex none.
+    (c.in-Err.ensures.only_read_err start ex none, refl, refl, refl)
+
+pub returns-in-Err-clause-cause : goal.returns-in-Err-clause-cause
+returns-in-Err-clause-cause g c =
+    let d = g.D.DiskFile in
+    subst (λ f. HasCause d.faults d.has_failed_to_read d.has_failed_to_write (Err f) c.args.device
+    c.in-Err.device) (sym c.fault_of.ensures)
+    (cause-opening d.faults d.has_failed_to_read d.has_failed_to_write c.in-Err.fault c.args.device
+    c.in-Err.device c.in-Err.ensures.cause)
+
+-- ---- memory ran out
+
+pub returns-in_default-clause-watched : goal.returns-in_default-clause-watched
+returns-in_default-clause-watched g c = λ start entries ex stands.
+    let d = g.D.DiskFile in
+    let disk = disk_of d.explains d.seen d.may_leave d.moment d.left_since d.faults
+    d.has_failed_to_write in
+    let log = c.in-Ok.log in
+    let explained = subst (d.explains start) c.answer.ensures.device ex in
+    let opened = has-opened disk start c.args.device log.device g.R.Read.remaining
+    c.args.reader.now c.args.reader.now g.W.Write.contents c.args.writer.now c.args.writer.now
+    g.F.Write.contents c.args.faults.now c.args.faults.now entries stands.texts stands.each
+    (c.in-Ok.ensures.any_moment start stands.texts explained stands.stands) refl refl refl in
+    subst (λ o. AnswersWatching (watch_devices (d.seen start) (d.may_leave start) d.moment
+    (d.left_since start) c.args.device c.answer.result.1 g.R.Read.remaining c.args.reader.now
+    c.args.reader.now g.W.Write.contents c.args.writer.now c.args.writer.now g.F.Write.contents
+    c.args.faults.now c.args.faults.now) c.args.moment entries o) (sym (c.answer.ensures.well refl))
+    (subst (λ dev. HasOpened (watch_devices (d.seen start) (d.may_leave start) d.moment
+    (d.left_since start) c.args.device dev g.R.Read.remaining c.args.reader.now
+    c.args.reader.now g.W.Write.contents c.args.writer.now c.args.writer.now g.F.Write.contents
+    c.args.faults.now c.args.faults.now) entries) (sym c.answer.ensures.device) opened)
+
+pub returns-in_default-clause-damaged : goal.returns-in_default-clause-damaged
+returns-in_default-clause-damaged g c = λ start line ex e.
+    absurd (apart line (sym (c.answer.ensures.well refl) ∙ e))
+
+pub returns-in_default-clause-foreign : goal.returns-in_default-clause-foreign
+returns-in_default-clause-foreign g c = λ start ex none.
+    let d = g.D.DiskFile in
+    let o = c.in-Ok.ensures.opened start (subst (d.explains start) c.answer.ensures.device ex) in
+    absurd (none (
+      o.records,
+      record {
+        front = o.front;
+        tail = o.tail;
+        kept = o.kept;
+        end = o.end;
+        split = o.split;
+      },
+    ))
+
+pub returns-in_default-clause-cause : goal.returns-in_default-clause-cause
+returns-in_default-clause-cause g c =
+    let d = g.D.DiskFile in
+    subst (λ o. HasCause d.faults d.has_failed_to_read d.has_failed_to_write o c.args.device
+    c.answer.result.1) (sym (c.answer.ensures.well refl))
+    (ap d.faults c.answer.ensures.device ∙ c.in-Ok.ensures.faults)
+
+pub returns-in_default-clause-explained : goal.returns-in_default-clause-explained
+returns-in_default-clause-explained g c = λ start ex.
+    let d = g.D.DiskFile in
+    c.in-Ok.ensures.explained start (subst (d.explains start) c.answer.ensures.device ex)
+
+-- ---- it was started
+
+pub returns-clause-watched : goal.returns-clause-watched
+returns-clause-watched g c = λ start entries ex stands.
+    let d = g.D.DiskFile in
+    let disk = disk_of d.explains d.seen d.may_leave d.moment d.left_since d.faults
+    d.has_failed_to_write in
+    let log = c.in-Ok.log in
+    let listener = c.in-Ok-starting.listener in
+    let keeper = fresh-keeper log in
+    let fresh = kept-none disk keeper refl refl
+    (λ content file left. g.met.D.DiskFile.only_now content log.device file left) in
+    let first = c.unwrap_or-first.ensures ∙ ap (λ o. unwrap_or o 0) c.newest.ensures
+    ∙ sym (ap (λ (s : Starts). s.moment) c.in-Ok-starting.ensures.start) in
+    let range = subst (λ (s : Starts). s.moment ≤ last_moment) (sym c.in-Ok-starting.ensures.start)
+    c.in-Ok-starting.ensures.range in
+    let heard = subst (λ (s : Starts). HearsGiven s listener [] []) (sym c.in-Ok-starting.ensures.start)
+    c.in-Ok-starting.ensures.heard in
+    let explained = c.run.ensures.explained first range heard fresh start ex in
+    let o = c.in-Ok.ensures.opened start explained in
+    let same = same-texts stands.texts o.records o.front o.tail (d.seen start c.args.device)
+    stands.stands o.kept o.end o.split in
+    let each = subst (AllZip IsLoggedAs entries) same stands.each in
+    let keeps : Keeps (d.seen start) (d.may_leave start) IsWholeEntry o.records log =
+    record { front = o.front; kept = o.kept; at_rest = o.at_rest } in
+    let saved = c.saved_at-saved.ensures entries
+    (took-all c.new-memory.result c.open.new.taker entries o.records c.new-memory.ensures each o.taken) in
+    let starts : starts_of listener ≡ starts_at c.args.moment entries =
+    c.in-Ok-starting.ensures.start ∙ ap starts_from saved in
+    let answer = c.run.ensures.answers first range heard fresh start entries o.records each keeps in
+    answers-watching _ entries c.args.moment c.run.result.0
+    (started-before disk start c.args.device log.device c.run.result.1 g.R.Read.remaining
+    c.args.reader.now c.run.new.reader g.W.Write.contents c.args.writer.now c.run.new.writer
+    g.F.Write.contents c.args.faults.now c.run.new.faults (starts_at c.args.moment entries) entries
+    o.records c.run.result.0 each
+    (c.in-Ok.ensures.any_moment start o.records explained (record {
+      front = o.front;
+      tail = o.tail;
+      kept = o.kept;
+      end = o.end;
+      split = o.split;
+    }))
+    (λ file left. keeps-stands disk start o.records keeper keeps file left)
+    (subst (λ s. AnswersStarted (watch_devices (d.seen start) (d.may_leave start) d.moment
+    (d.left_since start) log.device c.run.result.1 g.R.Read.remaining c.args.reader.now
+    c.run.new.reader g.W.Write.contents c.args.writer.now c.run.new.writer g.F.Write.contents
+    c.args.faults.now c.run.new.faults) s entries c.run.result.0) starts answer))
+
+pub returns-clause-cause : goal.returns-clause-cause
+returns-clause-cause g c =
+    let d = g.D.DiskFile in
+    let disk = disk_of d.explains d.seen d.may_leave d.moment d.left_since d.faults
+    d.has_failed_to_write in
+    let log = c.in-Ok.log in
+    let keeper = fresh-keeper log in
+    let fresh = kept-none disk keeper refl refl
+    (λ content file left. g.met.D.DiskFile.only_now content log.device file left) in
+    let first = c.unwrap_or-first.ensures ∙ ap (λ o. unwrap_or o 0) c.newest.ensures
+    ∙ sym (ap (λ (s : Starts). s.moment) c.in-Ok-starting.ensures.start) in
+    let range = subst (λ (s : Starts). s.moment ≤ last_moment) (sym c.in-Ok-starting.ensures.start)
+    c.in-Ok-starting.ensures.range in
+    let heard = subst (λ (s : Starts). HearsGiven s c.in-Ok-starting.listener [] [])
+    (sym c.in-Ok-starting.ensures.start) c.in-Ok-starting.ensures.heard in
+    cause-behind d.faults d.has_failed_to_read d.has_failed_to_write c.run.result.0 c.args.device
+    log.device c.run.result.1 c.in-Ok.ensures.faults (c.run.ensures.cause first range heard fresh)
+
+pub returns-clause-explained : goal.returns-clause-explained
+returns-clause-explained g c = λ start ex.
+    let d = g.D.DiskFile in
+    let disk = disk_of d.explains d.seen d.may_leave d.moment d.left_since d.faults
+    d.has_failed_to_write in
+    let log = c.in-Ok.log in
+    let keeper = fresh-keeper log in
+    let fresh = kept-none disk keeper refl refl
+    (λ content file left. g.met.D.DiskFile.only_now content log.device file left) in
+    let first = c.unwrap_or-first.ensures ∙ ap (λ o. unwrap_or o 0) c.newest.ensures
+    ∙ sym (ap (λ (s : Starts). s.moment) c.in-Ok-starting.ensures.start) in
+    let range = subst (λ (s : Starts). s.moment ≤ last_moment) (sym c.in-Ok-starting.ensures.start)
+    c.in-Ok-starting.ensures.range in
+    let heard = subst (λ (s : Starts). HearsGiven s c.in-Ok-starting.listener [] [])
+    (sym c.in-Ok-starting.ensures.start) c.in-Ok-starting.ensures.heard in
+    c.in-Ok.ensures.explained start (c.run.ensures.explained first range heard fresh start ex)
+
+pub returns-clause-damaged : goal.returns-clause-damaged
+returns-clause-damaged g c = λ start line ex e.
+    let d = g.D.DiskFile in
+    let disk = disk_of d.explains d.seen d.may_leave d.moment d.left_since d.faults
+    d.has_failed_to_write in
+    let log = c.in-Ok.log in
+    let keeper = fresh-keeper log in
+    let fresh = kept-none disk keeper refl refl
+    (λ content file left. g.met.D.DiskFile.only_now content log.device file left) in
+    let first = c.unwrap_or-first.ensures ∙ ap (λ o. unwrap_or o 0) c.newest.ensures
+    ∙ sym (ap (λ (s : Starts). s.moment) c.in-Ok-starting.ensures.start) in
+    let range = subst (λ (s : Starts). s.moment ≤ last_moment) (sym c.in-Ok-starting.ensures.start)
+    c.in-Ok-starting.ensures.range in
+    let heard = subst (λ (s : Starts). HearsGiven s c.in-Ok-starting.listener [] [])
+    (sym c.in-Ok-starting.ensures.start) c.in-Ok-starting.ensures.heard in
+    let o = c.in-Ok.ensures.opened start (c.run.ensures.explained first range heard fresh start ex) in
+    let found = entries-of o.records o.front o.kept in
+    let keeps : Keeps (d.seen start) (d.may_leave start) IsWholeEntry o.records log =
+    record { front = o.front; kept = o.kept; at_rest = o.at_rest } in
+    let answer = c.run.ensures.answers first range heard fresh start found.0 o.records found.1 keeps in
+    absurd (not-damaged _ found.0 (starts_of c.in-Ok-starting.listener) line
+    (subst (AnswersStarted _ (starts_of c.in-Ok-starting.listener) found.0) e answer))
+
+pub returns-clause-foreign : goal.returns-clause-foreign
+returns-clause-foreign g c = λ start ex none.
+    let d = g.D.DiskFile in
+    let disk = disk_of d.explains d.seen d.may_leave d.moment d.left_since d.faults
+    d.has_failed_to_write in
+    let log = c.in-Ok.log in
+    let keeper = fresh-keeper log in
+    let fresh = kept-none disk keeper refl refl
+    (λ content file left. g.met.D.DiskFile.only_now content log.device file left) in
+    let first = c.unwrap_or-first.ensures ∙ ap (λ o. unwrap_or o 0) c.newest.ensures
+    ∙ sym (ap (λ (s : Starts). s.moment) c.in-Ok-starting.ensures.start) in
+    let range = subst (λ (s : Starts). s.moment ≤ last_moment) (sym c.in-Ok-starting.ensures.start)
+    c.in-Ok-starting.ensures.range in
+    let heard = subst (λ (s : Starts). HearsGiven s c.in-Ok-starting.listener [] [])
+    (sym c.in-Ok-starting.ensures.start) c.in-Ok-starting.ensures.heard in
+    let o = c.in-Ok.ensures.opened start (c.run.ensures.explained first range heard fresh start ex) in
+    absurd (none (
+      o.records,
+      record {
+        front = o.front;
+        tail = o.tail;
+        kept = o.kept;
+        end = o.end;
+        split = o.split;
+      },
+    ))

@@ -1,0 +1,100 @@
+-- How entries are kept in a log, and given to a writer from a failed put on.
+use Rattle.std.specs.Prelude.{◌≡◌, ◌⊎◌, ℕ, ◌+◌, ◌<◌, ◌≤◌, Bool, true, false, List, [], ◌++◌, length}
+use Rattle.std.specs.Prelude.{Option, take, drop}
+use Rattle.std.specs.List.{concat}
+use Rattle.nx_fec.specs.Transfers.{CountedDevice}
+use Rattle.nx_kept.specs.Disk.{FailedOnce, LeavesOnly}
+use Rattle.nx_kept.specs.Kept.{StandsFor}
+use Rattle.nx_kept.specs.Log.{Keeps}
+use Rattle.nx_log.specs.Entries.{IsWholeEntry}
+use Rattle.nx_receiver.specs.Listener.{count_of}
+use Rattle.nx_watch.specs.Watch.{longest_entry}
+use Rattle.nx_watch.specs.Watching.{WereGiven}
+use Rattle.nx_watch.specs.declared.keeper.Keeper.{Keeper}
+
+-- the file of a log, by any first content, and its calls that failed
+pub record DiskOf (D : Type 0) : Type 1 where
+  pub explains : List ℕ → D → Type 0
+  pub seen : List ℕ → D → List ℕ
+  pub may_leave : List ℕ → D → List ℕ → Type 0
+  pub clock : D → ℕ
+  pub left_since : List ℕ → D → ℕ → List ℕ → Type 0
+  pub faults : D → ℕ
+  pub to_write : D → Type 0
+
+abbrev pub disk_of : {D : Type 0} → (List ℕ → D → Type 0) → (List ℕ → D → List ℕ) → (List ℕ → D → List ℕ → Type 0)
+    → (D → ℕ) → (List ℕ → D → ℕ → List ℕ → Type 0) → (D → ℕ) → (D → Type 0) → DiskOf D
+disk_of explains seen may_leave clock left_since faults to_write = record {
+  explains = explains;
+  seen = seen;
+  may_leave = may_leave;
+  clock = clock;
+  left_since = left_since;
+  faults = faults;
+  to_write = to_write;
+}
+
+-- the bytes of a file stand for these texts of entries
+abbrev pub StandsForTexts : List (List ℕ) → List ℕ → Type 0
+StandsForTexts texts file = StandsFor IsWholeEntry longest_entry texts file
+
+-- they stand for those before, and for the first of these
+abbrev pub StandsForFirst : List (List ℕ) → List (List ℕ) → List ℕ → Type 0
+StandsForFirst before texts file =
+    (count : ℕ) × (count ≤ length texts) × StandsForTexts (before ++ take count texts) file
+
+module _ {D : Type 0} (disk : DiskOf D) where
+  -- the log kept these texts at the start, where the file had this first content
+  abbrev pub KeepsTexts : List ℕ → List (List ℕ) → Keeper D → Type 0
+  KeepsTexts content texts keeper =
+      Keeps (disk.seen content) (disk.may_leave content) IsWholeEntry texts keeper.log
+
+  -- from start to now a crash leaves those before, and the first of these
+  abbrev pub LeavesFirst : List ℕ → List (List ℕ) → List (List ℕ) → Keeper D → Keeper D → Type 0
+  LeavesFirst content before texts start now =
+      LeavesOnly disk.clock (disk.left_since content) start.log.device now.log.device
+      (StandsForFirst before texts)
+
+  -- All these texts were put behind those that the log kept at the start, and none was given to a
+  -- writer.
+  pub record AllKept (start now : Keeper D) (texts : List (List ℕ)) (given : List ℕ) : Type 0 where
+    pub put : now.put ≡ count_of (length texts)
+    pub none : given ≡ []
+    pub well : disk.faults now.log.device ≡ disk.faults start.log.device
+    pub explained : (content : List ℕ) → disk.explains content now.log.device
+        → disk.explains content start.log.device
+    pub kept : (content : List ℕ) (before : List (List ℕ)) → KeepsTexts content before start
+        → KeepsTexts content (before ++ texts) now
+    pub any_moment : (content : List ℕ) (before : List (List ℕ))
+        → KeepsTexts content before start → LeavesFirst content before texts start now
+
+  -- The disk failed as the text behind so many of them was put. From it on they were given to a
+  -- writer.
+  pub record SomeKept (start now : Keeper D) (texts : List (List ℕ)) (given : List ℕ) : Type 0 where
+    pub count : ℕ
+    pub fewer : count < length texts
+    pub rest : given ≡ concat (drop count texts)
+    pub failed : FailedOnce (disk.faults start.log.device) (disk.faults now.log.device)
+        (disk.to_write now.log.device)
+    pub explained : (content : List ℕ) → disk.explains content now.log.device
+        → disk.explains content start.log.device
+    pub left : (content : List ℕ) (before : List (List ℕ)) → KeepsTexts content before start
+        → (file : List ℕ) → disk.may_leave content now.log.device file
+        → StandsForTexts (before ++ take count texts) file
+        ⊎ StandsForTexts (before ++ take (count + 1) texts) file
+    pub any_moment : (content : List ℕ) (before : List (List ℕ))
+        → KeepsTexts content before start → LeavesFirst content before texts start now
+
+  abbrev pub HasKeptSo : Bool → Keeper D → Keeper D → List (List ℕ) → List ℕ → Type 0
+  HasKeptSo false start now texts given = AllKept start now texts given
+  HasKeptSo true start now texts given = SomeKept start now texts given
+
+  -- since start the keeper was given these texts, and gave these bytes to a writer
+  abbrev pub HasKept : Keeper D → Keeper D → List (List ℕ) → List ℕ → Type 0
+  HasKept start now texts given = HasKeptSo now.has_failed start now texts given
+
+  -- and its writer was given them
+  abbrev pub KeepsWith : {W : Type 0} → (W → Option (List ℕ)) → Keeper D → Keeper D
+      → CountedDevice W → CountedDevice W → List (List ℕ) → Type 0
+  KeepsWith contents start now first writer texts =
+      (given : List ℕ) × HasKept start now texts given × WereGiven contents first writer given

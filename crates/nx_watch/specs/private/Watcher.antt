@@ -1,0 +1,57 @@
+-- How the receivers of a watch stand, and what is kept of what they print.
+use Rattle.std.specs.Prelude.{◌≡◌, ℕ, ◌≤◌, List, ⊤, Option}
+use Rattle.std.specs.List.{All, AllZip}
+use Rattle.nx_envelope.specs.Moment.{last_moment}
+use Rattle.nx_fec.specs.AirFile.{Line, moment}
+use Rattle.nx_fec.specs.Transfers.{CountedDevice}
+use Rattle.nx_log.specs.Logged.{IsLoggedAs}
+use Rattle.nx_receiver.specs.Listen.{given_by}
+use Rattle.nx_receiver.specs.Listener.{HearsGiven, starts_of}
+use Rattle.nx_receiver.specs.InTurn.{PrintAllToEnd}
+use Rattle.nx_receiver.specs.Shares.{Given, MarkedCopy, Starts}
+use Rattle.nx_watch.specs.declared.keeper.Keeper.{Keeper}
+use Rattle.nx_watch.specs.declared.watcher.Watcher.{Watcher}
+use Rattle.nx_watch.specs.private.Keeping.{DiskOf, HasKept, KeepsWith}
+
+-- the moment of a line, if it says one, is in range
+abbrev pub IsLineInRange : Line → Type 0
+IsLineInRange (moment n) = n ≤ last_moment
+IsLineInRange line = ⊤
+
+-- the moment of a copy is in range
+abbrev pub IsCopyInRange : MarkedCopy → Type 0
+IsCopyInRange one = one.copy.moment ≤ last_moment
+
+module _ {D : Type 0} (disk : DiskOf D) where
+  -- Since start the watcher took these lines: it printed copies of them, and kept their entries, and
+  -- gave these bytes to a writer.
+  pub record WatcherStands (start now : Watcher D) (lines : List Line) (given : List ℕ) : Type 0 where
+    pub first : (starts_of start.listener).moment ≤ last_moment
+    pub in_range : All IsLineInRange lines
+    pub copies : List MarkedCopy
+    pub heard : HearsGiven (starts_of start.listener) now.listener (given_by lines) copies
+    pub texts : List (List ℕ)
+    pub each : AllZip IsLoggedAs copies texts
+    pub kept : HasKept disk start.keeper now.keeper texts given
+
+  -- Since start the watcher was given this, and its writer bytes: it printed copies, and kept their
+  -- entries.
+  pub record KeepsHeard {W : Type 0} (contents : W → Option (List ℕ)) (start now : Watcher D)
+      (before after : CountedDevice W) (given : List Given)
+      : Type 0 where
+    pub copies : List MarkedCopy
+    pub heard : HearsGiven (starts_of start.listener) now.listener given copies
+    pub texts : List (List ℕ)
+    pub each : AllZip IsLoggedAs copies texts
+    pub kept : KeepsWith disk contents start.keeper now.keeper before after texts
+
+  -- Since the start the lines were taken, and the input ended: the copies that they print then were
+  -- kept.
+  pub record HasClosed {W : Type 0} (contents : W → Option (List ℕ)) (starts : Starts)
+      (start now : Keeper D) (before after : CountedDevice W) (lines : List Line)
+      : Type 0 where
+    pub copies : List MarkedCopy
+    pub printed : PrintAllToEnd starts (given_by lines) copies
+    pub texts : List (List ℕ)
+    pub each : AllZip IsLoggedAs copies texts
+    pub kept : KeepsWith disk contents start now before after texts
