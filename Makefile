@@ -10,7 +10,7 @@ help:
 	@echo 'make test                 run all tests that need no proof: some two minutes on two processors'
 	@echo 'make ci                   the merge gate: prove all from nothing, wrong bodies, tests, programs: hours'
 	@echo 'make bench                measure the built program'
-	@echo 'make install              put the built program, its man page and its completion below PREFIX ($(PREFIX))'
+	@echo 'make install              put the built program, its man page, its completion, the tools for sound and a service below PREFIX ($(PREFIX))'
 	@echo 'make uninstall            take them away'
 	@echo 'make deb                  a Debian package of a static program, out/navtex_VERSION_amd64.deb; it installs nothing'
 	@echo 'make clean                remove what rt keeps and makes in out/; the next check begins from nothing'
@@ -30,11 +30,18 @@ bench:
 	bench/listen
 
 install:
+	@[ -x $(PROGRAM) ] || { echo 'there is no $(PROGRAM): (cd crates/nx_cli && rt run -- code) proves and builds it' >&2; exit 1; }
 	install -D -m 755 $(PROGRAM) $(DESTDIR)$(PREFIX)/bin/navtex
 	install -D -m 644 man/navtex.1 $(DESTDIR)$(PREFIX)/share/man/man1/navtex.1
 	install -D -m 644 completion/navtex.bash $(DESTDIR)$(PREFIX)/share/bash-completion/completions/navtex
 	install -D -m 644 completion/_navtex $(DESTDIR)$(PREFIX)/share/zsh/site-functions/_navtex
 	install -D -m 644 completion/navtex.fish $(DESTDIR)$(PREFIX)/share/fish/vendor_completions.d/navtex.fish
+	install -D -m 755 -t $(DESTDIR)$(PREFIX)/lib/navtex examples/sound/watch examples/sound/elements examples/sound/tones
+	install -D -m 644 -t $(DESTDIR)$(PREFIX)/lib/navtex examples/sound/*.py
+	ln -sf ../lib/navtex/elements $(DESTDIR)$(PREFIX)/bin/navtex-elements
+	ln -sf ../lib/navtex/tones $(DESTDIR)$(PREFIX)/bin/navtex-tones
+	install -d $(DESTDIR)$(PREFIX)/lib/systemd/system
+	sed 's|@lib@|$(PREFIX)/lib|' package/navtex-watch.service > $(DESTDIR)$(PREFIX)/lib/systemd/system/navtex-watch.service
 
 uninstall:
 	rm -f $(DESTDIR)$(PREFIX)/bin/navtex
@@ -42,6 +49,9 @@ uninstall:
 	rm -f $(DESTDIR)$(PREFIX)/share/bash-completion/completions/navtex
 	rm -f $(DESTDIR)$(PREFIX)/share/zsh/site-functions/_navtex
 	rm -f $(DESTDIR)$(PREFIX)/share/fish/vendor_completions.d/navtex.fish
+	rm -rf $(DESTDIR)$(PREFIX)/lib/navtex
+	rm -f $(DESTDIR)$(PREFIX)/bin/navtex-elements $(DESTDIR)$(PREFIX)/bin/navtex-tones
+	rm -f $(DESTDIR)$(PREFIX)/lib/systemd/system/navtex-watch.service
 
 deb:
 	package/deb

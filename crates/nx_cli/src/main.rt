@@ -3,11 +3,13 @@
 
 #[cfg(test)]
 mod tests;
+mod watching;
 
 use nx_fec::Counting;
 use nx_program::answer;
 use std::process::ExitCode;
 use std::{env, io};
+use watching::{is_watch, run_watch};
 
 /// The words of the process, of which the first is the program's name.
 fn words_of(rt: &HostRuntime) -> io::Result<Vec<String>> {
@@ -15,9 +17,15 @@ fn words_of(rt: &HostRuntime) -> io::Result<Vec<String>> {
 }
 
 fn main(rt: HostRuntime) -> ExitCode {
+    let words = words_of(&rt);
+    if let Ok(words) = &words
+        && is_watch(words)
+    {
+        return ExitCode::from(run_watch(&rt, words));
+    }
     ExitCode::from(answer(
         rt.alloc(),
-        words_of(&rt),
+        words,
         &mut Counting::new(rt.stdin()),
         &mut Counting::new(rt.stdout()),
         &mut Counting::new(rt.stderr()),

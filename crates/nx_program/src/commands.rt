@@ -528,6 +528,9 @@ nothing. --help after a command says what it reads and writes. A fault is one
 line on standard error; where words are not understood, it may be a text of
 several lines.
 
+One more command is a receiver that is left on: navtex watch <FILE> <MOMENT>.
+navtex watch --help says more.
+
 Example:
   $ printf '#A01\\nTEST\\n;\\n' | navtex send E 1735689600 | navtex listen
   [EA01 2025-01-01 00:40:00 full 0/5]
