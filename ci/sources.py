@@ -164,7 +164,8 @@ class Sources:
         if not name:
             return self.rust_key(scope.home, chain.split(".")[0])
         _, crate, *rest = module.split(".")
-        if crate not in self.stands_on:
+        # a lemma of proofs/ that a definition names in a proof of its own is no definition
+        if crate not in self.stands_on or rest[0] == "proofs":
             return (None, f"{module}.{name}")
         home, one = (crate, *rest), name
         if rest[1:2] == ["declared"]:
@@ -202,6 +203,7 @@ class Sources:
                 goes_on = (path, name) in self.items
                 item = self.items.setdefault((path, name), Item(path, name, start + 1, end))
                 item.count(lines, start, end)
+                item.end = max(item.end, end)
                 head, *members = re.split(r"\n  (?:pub )?(?=[^\s-])", text)
                 names, bound = free_names("" if goes_on else head)
                 for first, _, rest in (member.partition(" :") for member in members):
@@ -259,8 +261,9 @@ class Sources:
         if kind == "fn":
             body = re.search(r"(?m)^(?:.*\bfn .*| *\).*)( \{\}?)$|^( *\{\}?)$", text)
             text = text[:body.start(body.lastindex)].rstrip() if body else text
-        start, item.end = item.start - 1, item.start + text.count("\n")
+        start, end = item.start - 1, item.start + text.count("\n")
         item = self.items.setdefault((item.path, item.name), item)
+        item.end = end
         item.count(lines, start, start + text.count("\n") + 1)
         plain, inside = without_antt(text)
         bound = {"result", "self", *re.findall(r"(\w+): ", plain)} if kind in ("fn", "trait") else ()
