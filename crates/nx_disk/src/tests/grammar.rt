@@ -4,7 +4,7 @@ ghost use Rattle.std.specs.Prelude.{◌↔◌, IsTrue};
 ghost use Rattle.std.proofs.Common.{arith};
 ghost use Rattle.nx_disk.specs.Trial as trial;
 
-use nx_kept::{DiskFile, Grammar, KeptLog, RecordStart, RecordTaker};
+use nx_kept::{Grammar, RecordStart, RecordTaker};
 
 /// Records of 42 bytes, of which the first is a bracket and none is 0.
 #[derive(Clone, Copy, Drop)]
@@ -42,14 +42,6 @@ fn fits_at(place: usize, byte: u8) -> bool
     ensures { IsTrue result ↔ trial.FitsAt place byte }
 {
     byte != 0 && (place > 0 || byte == b'[')
-}
-
-/// Puts a record; whether that was done.
-pub fn put<D: DiskFile>(log: &mut KeptLog<D, Trial>, bytes: &[u8]) -> bool {
-    match Trial.record_at(bytes) {
-        RecordStart::Whole(size) if size == bytes.len() => log.put(bytes).is_ok(),
-        _ => false,
-    }
 }
 
 /// How many records it has taken, and the first byte behind the bracket of the last.

@@ -1,6 +1,6 @@
 //! A file of the system.
 
-use super::grammar::{Count, Trial, put};
+use super::grammar::{Count, Trial};
 use crate::{FileFault, open};
 use nx_kept::KeptLog;
 use std::fs;
@@ -22,9 +22,9 @@ fn a_file_is_locked_and_found_by_its_name(rt: HostRuntime) -> Result<(), Fail> {
     assert!(rt; matches!(open(&rt, "."), Err(FileFault::Open)));
     match KeptLog::open(rt.alloc(), file, Trial, &mut count) {
         Ok(mut log) => {
-            assert!(rt; put(&mut log, ENTRY));
+            assert!(rt; log.put(ENTRY).is_ok());
             fs::rename(&rt, path, "nx_disk_test.old")?;
-            assert!(rt; !put(&mut log, ENTRY));
+            assert!(rt; log.put(ENTRY).is_err());
         }
         Err(_refused) => assert!(rt; false, "opens"),
     }

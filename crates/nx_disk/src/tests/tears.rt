@@ -1,6 +1,6 @@
 //! A file in memory whose disk fails, and tears what was written, in each call.
 
-use super::grammar::{Count, Trial, put};
+use super::grammar::{Count, Trial};
 use crate::{Noted, Tear, TornFile};
 use nx_kept::{KeptLog, OpenFault};
 use std::alloc::Global;
@@ -40,7 +40,7 @@ fn an_entry_is_put_behind_a_newline(rt: HostRuntime) -> Result<(), Fail> {
     let (mut log, count) = opened(alloc, b"")?;
     assert_eq!(rt; count.records, 0);
     assert_eq!(rt; log.device.file().bytes(), b" ".as_slice());
-    assert!(rt; put(&mut log, ENTRY));
+    assert!(rt; log.put(ENTRY).is_ok());
     assert_eq!(rt; log.device.file().bytes(), REST.as_slice());
     Ok(())
 }
@@ -125,9 +125,9 @@ fn crashes_in(rt: &impl Abort, alloc: Global, call: u64) -> Result<(), Fail> {
     let (opened, _count) = open(alloc, TornFile::new(alloc, REST)?.failing_in(call));
     if let Ok(mut log) = opened {
         let mut kept = 1;
-        if put(&mut log, NEXT) {
+        if log.put(NEXT).is_ok() {
             kept = 2;
-            if put(&mut log, ENTRY) {
+            if log.put(ENTRY).is_ok() {
                 kept = 3;
             }
         }
