@@ -212,6 +212,7 @@ impl Finder {
     pub fn ready_text(&self) -> &[u8]
         ensures text { (copy : Copy) → HasReady self.now copy → result.now ≡ copy.text }
         ensures none { is_ready self.now ≡ false → result.now ≡ [] }
+        ensures short { length result.now ≤ MAX_FOUND }
     {
         match self.copy {
             HeldCopy::Ready(_, _) => self.text.as_slice(),

@@ -296,8 +296,8 @@ impl<M: Recall> Receiver<M> {
     }
 
     /// Finishes what is over, and spells the entry that it brings on a channel, if it brings one, in
-    /// place of what `spelled` had: says whether it does.
-    // Not inlined, so that no loop over elements has a place for an entry.
+    /// place of what `spelled` had: says whether it does. The text goes from the finder to its place.
+    // Not inlined, so that no loop over elements has a place for the head of an entry.
     #[inline(never)]
     fn spell(&mut self, over: Over, channel: Channel, spelled: &mut ArrayVec<u8, MAX_ENTRY>) -> bool
         ensures stands { (copies : List TaggedCopy)
@@ -307,11 +307,14 @@ impl<M: Recall> Receiver<M> {
             → Stands M.content start self.new history (log ++ copies)) }
         ensures unchanged { result ≡ false → spelled.new ≡ spelled.old }
     {
-        let Some(entry) = self.finish(over) else {
-            return false;
-        };
-        spell_entry(&entry, channel, spelled);
-        true
+        let over = self.close_lock(over);
+        let judged = self.judge_ready(over);
+        if let Some(head) = &judged {
+            let text = self.watch.finder().ready_text();
+            spell_entry(head, text, self.watch.tag().moment, channel, spelled);
+        }
+        self.leave_lock(over);
+        judged.is_some()
     }
 
     /// Ends the elements, and hands out the entry that their end prints: that of the open copy,
@@ -424,10 +427,7 @@ impl<M: Recall> Receiver<M> {
             fault.written)) }
         ensures counts { FailsOnce writer.new result.1 }
     {
-        let over = match over {
-            Over::Lock => self.watch.close_text(),
-            Over::Nothing | Over::Copy | Over::CopyAndLock => over,
-        };
+        let over = self.close_lock(over);
         let judged = self.judge_ready(over);
         let given = match &judged {
             Some(head) => {
@@ -436,10 +436,37 @@ impl<M: Recall> Receiver<M> {
             }
             None => Ok(()),
         };
+        self.leave_lock(over);
+        (judged.is_some(), given)
+    }
+
+    /// Ends the text where the lock alone is over: the copy that stood open is over then. Answers
+    /// what is over.
+    #[inline(always)]
+    fn close_lock(&mut self, over: Over) -> Over
+        ensures stands { (start : Start) (history : List Event) (log : List TaggedCopy)
+            → Awaits M.content start self.old history log over
+            → Awaits M.content start self.new history log result }
+        ensures closed { result ≢ Lock }
+    {
+        match over {
+            Over::Lock => self.watch.close_text(),
+            Over::Nothing | Over::Copy | Over::CopyAndLock => over,
+        }
+    }
+
+    /// Leaves the lock where it was over with the copy, which was handed out.
+    #[inline(always)]
+    fn leave_lock(&mut self, over: Over)
+        ensures { (start : Start) (history : List Event) (log : List TaggedCopy)
+            → over ≢ Lock
+            → (over ≡ CopyAndLock → is_open self.old.watch.reader.finder.copy ≡ false)
+            → Awaits M.content start self.old history log (behind_copy over)
+            → Stands M.content start self.new history log }
+    {
         if over == Over::CopyAndLock {
             self.watch.restart();
         }
-        (judged.is_some(), given)
     }
 
     /// Finishes what is over, and says whether it brings an entry. The entry is let go.

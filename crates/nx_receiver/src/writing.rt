@@ -100,23 +100,31 @@ pub fn entry_bytes(entry: &Entry, channel: Channel) -> ArrayVec<u8, MAX_ENTRY>
     requires { entry.now.moment ≤ last_moment }
     ensures { IsEntry (marked channel (copy_of entry.now)) result.items }
 {
-    let mut bytes = ArrayVec::new();
-    spell_entry(entry, channel, &mut bytes);
-    bytes
-}
-
-/// Puts the bytes of an entry in place of those that were there. The moment is at most the last one.
-pub(crate) fn spell_entry(entry: &Entry, channel: Channel, bytes: &mut ArrayVec<u8, MAX_ENTRY>)
-    requires { entry.now.moment ≤ last_moment }
-    ensures { IsEntry (marked channel (copy_of entry.now)) bytes.new.items }
-{
     let head = FoundHead {
         identity: entry.identity,
         errors: entry.errors,
         how: entry.how,
     };
-    let text = entry.text.as_slice();
-    let line = head_line(&head, text, entry.moment, channel);
+    let mut bytes = ArrayVec::new();
+    spell_entry(&head, &entry.text, entry.moment, channel, &mut bytes);
+    bytes
+}
+
+/// Puts the bytes of the entry of a copy that is printed, by its head and its text, in place of those
+/// that were there. The moment is at most the last one.
+pub(crate) fn spell_entry(
+    head: &FoundHead,
+    text: &[u8],
+    moment: u64,
+    channel: Channel,
+    bytes: &mut ArrayVec<u8, MAX_ENTRY>,
+)
+    requires moment { moment ≤ last_moment }
+    requires errors { head.now.errors ≡ errors_of text.now }
+    requires short { length text.now ≤ MAX_FOUND }
+    ensures { IsEntry (marked channel (headed_copy head.now text.now moment true)) bytes.new.items }
+{
+    let line = head_line(head, text, moment, channel);
     bytes.clear();
     append(bytes, line.as_slice());
     append(bytes, text);

@@ -1,7 +1,7 @@
 -- A copy that is over is judged where it lies, and handed out.
 use Rattle.std.proofs.Common.{◌≡◌, ◌⊎◌, inl, inr, ℕ, Bool, true, false, cond, List, [], ◌∷◌, ◌++◌}
 use Rattle.std.proofs.Common.{Option}
-use Rattle.std.proofs.Common.{None, Some, IsNone, is_some, length, ◌≢◌, subst₂, refl, sym, ap, ◌∙◌}
+use Rattle.std.proofs.Common.{None, Some, IsNone, is_some, length, refl, sym, ap, ◌∙◌}
 use Rattle.std.proofs.Common.{subst, append-nil}
 use Rattle.std.specs.Prelude.{MatchOption, ◌↔◌}
 use Rattle.std.proofs.lemmas.Bool.{and_parts}
@@ -19,7 +19,7 @@ use Rattle.nx_receiver.specs.Events.{Setting, Start, first_setting}
 use Rattle.nx_receiver.specs.FoundCopies.{TaggedCopy}
 use Rattle.nx_receiver.specs.Printing.{entries_after, entries_made, entry_made, if_printed}
 use Rattle.nx_receiver.specs.Printing.{is_printed, printed_copies}
-use Rattle.nx_receiver.specs.Receiver.{Receiving, StandsOver}
+use Rattle.nx_receiver.specs.Receiver.{Receiving}
 use Rattle.nx_receiver.specs.Watching.{Watching, in_force}
 use Rattle.nx_receiver.specs.declared.over.CopyTag.{CopyTag}
 use Rattle.nx_receiver.specs.declared.over.Over.{Over}
@@ -27,8 +27,7 @@ use Rattle.nx_receiver.specs.declared.over.Over.TheVariants as over
 use Rattle.nx_receiver.specs.private.Awaiting.{AwaitsOver, behind_copy}
 use Rattle.nx_receiver.specs.private.Heads.{headed_copy, headed_list}
 use Rattle.nx_receiver.specs.private.LockReader.{is_open}
-use Rattle.nx_receiver.specs.private.Watch.{IsOver, LockIsOver, WatchStands, ready_copy}
-use Rattle.nx_receiver.proofs.receiving.Feeds.{nothing_awaited}
+use Rattle.nx_receiver.specs.private.Watch.{IsOver, ready_copy}
 use Rattle.nx_receiver.proofs.receiving.Logged.{printed_copies-append, entries_after-append}
 
 -- the copy that can be taken, with its head
@@ -210,80 +209,6 @@ pub over_not_open : {M : Type 0} (content : M → List MemoryEntry) (start : Sta
 over_not_open content start r h s now log is_over a is =
     let both = subst (λ o. AwaitsOver content start r h s now log o) is a in
     ap is_open both.watch.ready.held
-
--- Whatever awaits to be finished, some of it may be passed over: then this is left of what is over.
-abbrev pub PassesOver : {M : Type 0} → (M → List MemoryEntry) → Receiving M → Receiving M → Over
-    → Over → Type 0
-PassesOver content old new is_over left =
-    (start : Start) (h : List Bool) (s : List Setting) (now : Setting) (log : List TaggedCopy)
-    → AwaitsOver content start old h s now log is_over
-    → AwaitsOver content start new h s now log left
-
--- what is over stays where nothing is passed over
-pub none_passed : {M : Type 0} (content : M → List MemoryEntry) (old new : Receiving M)
-    (is_over left : Over) → new ≡ old → left ≡ is_over → PassesOver content old new is_over left
-none_passed content old new is_over left same is start h s now log a =
-    subst₂ (λ r o. AwaitsOver content start r h s now log o) (sym same) (sym is) a
-
--- the end of a lock leaves the copy that stood open
-pub lock_passed : {M : Type 0} (content : M → List MemoryEntry) (watch after : Watching)
-    (memory : M) (new : Receiving M) (is_over left answer : Over)
-    → ((first : Setting) (h : List Bool) (s : List Setting) (copies : List TaggedCopy)
-    → LockIsOver first watch h s copies → IsOver first after h s copies answer)
-    → in_force after ≡ in_force watch
-    → new ≡ record { watch = after; memory = memory } → left ≡ answer → is_over ≡ over.Lock
-    → PassesOver content (record { watch = watch; memory = memory }) new is_over left
-lock_passed content watch after memory new is_over left answer lock force same is over start h s
-    now log a =
-    let was = subst (λ o. AwaitsOver content start (record { watch = watch; memory = memory }) h s
-    now log o) over a in
-    subst₂ (λ r o. AwaitsOver content start r h s now log o) (sym same) (sym is) (record {
-      copies = was.copies;
-      watch = lock (first_setting start) h s was.copies was.watch;
-      force = force ∙ was.force;
-      printed = was.printed;
-      memory = was.memory;
-    })
-
--- Behind a copy the lock is ended where it is over too: nothing awaits to be finished then.
-abbrev pub EndsBehind : {M : Type 0} → (M → List MemoryEntry) → Receiving M → Receiving M → Over
-    → Type 0
-EndsBehind content old new is_over =
-    (start : Start) (h : List Bool) (s : List Setting) (now : Setting) (log : List TaggedCopy)
-    → AwaitsOver content start old h s now log (behind_copy is_over)
-    → StandsOver content start new h s now log
-
-pub lock_behind : {M : Type 0} (content : M → List MemoryEntry) (watch after : Watching)
-    (memory : M) (new : Receiving M) (is_over : Over)
-    → ((first : Setting) (h : List Bool) (s : List Setting) (copies : List TaggedCopy)
-    → LockIsOver first watch h s copies → WatchStands first after h s copies)
-    → in_force after ≡ in_force watch
-    → new ≡ record { watch = after; memory = memory } → is_over ≡ over.CopyAndLock
-    → EndsBehind content (record { watch = watch; memory = memory }) new is_over
-lock_behind content watch after memory new is_over lock force same over start h s now log a =
-    let was = subst (λ o. AwaitsOver content start (record { watch = watch; memory = memory }) h s
-    now log (behind_copy o)) over a in
-    subst (λ r. StandsOver content start r h s now log) (sym same) (record {
-      copies = was.copies;
-      watch = lock (first_setting start) h s was.copies was.watch;
-      force = force ∙ was.force;
-      printed = was.printed;
-      memory = was.memory;
-    })
-
-pub none_behind : {M : Type 0} (content : M → List MemoryEntry) (old new : Receiving M)
-    (is_over : Over) → new ≡ old → is_over ≢ over.Lock → is_over ≢ over.CopyAndLock
-    → EndsBehind content old new is_over
-none_behind content old new over.Nothing same not_lock not_both start h s now log a =
-    subst (λ r. StandsOver content start r h s now log) (sym same)
-    (nothing_awaited content start old h s now log over.Nothing refl a)
-none_behind content old new over.Copy same not_lock not_both start h s now log a =
-    subst (λ r. StandsOver content start r h s now log) (sym same)
-    (nothing_awaited content start old h s now log over.Nothing refl a)
-none_behind content old new over.Lock same not_lock not_both start h s now log a =
-    absurd (not_lock refl)
-none_behind content old new over.CopyAndLock same not_lock not_both start h s now log a =
-    absurd (not_both refl)
 
 -- how many copies of a head are handed out
 pub heads_counted : (head : Option FoundHead) (text : List ℕ) (moment : ℕ)
