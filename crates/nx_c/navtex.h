@@ -1,7 +1,7 @@
 /* The calls of the NAVTEX station and receiver for C, and for what calls C: libnx_c.a has them.
  *
- * Each works on bytes in memory alone: no file, no clock, nothing kept between two calls, and every
- * block of memory that it takes given back before it returns. What each answers is proved, in
+ * Each works on bytes in memory alone: no file and no clock. The calls over whole files keep nothing
+ * between two calls; a struct nx_receiver hears elements as they come. What each answers is proved, in
  * crates/nx_c/src; that this header says the same as the library is not: no compiler compares the two.
  *
  * What a caller owes, and nothing checks:
@@ -63,7 +63,13 @@ enum nx_status {
     NX_NO_STATION = 28,        /* the byte is no letter A to Z */
     NX_WRONG_WORD = 29,        /* at: the slot of a word of the wrong weight */
     NX_UNPAIRED = 30,          /* at: the position whose two words are no pair */
-    NX_BAD_ENVELOPE = 31       /* the words are no emission of this profile */
+    NX_BAD_ENVELOPE = 31,      /* the words are no emission of this profile */
+    NX_CLOSED = 32,            /* the receiver is closed, or its end has begun */
+    NX_ALREADY_OPEN = 33,      /* the receiver is open already */
+    NX_NO_CHANNEL = 34,        /* the number is not 0, 1 or 2 */
+    NX_NO_ELEMENT = 35,        /* a byte is not 0 or 1 */
+    NX_NO_SUBJECT = 36,        /* the byte is no letter A to Z */
+    NX_NO_ENTRY = 37           /* the bytes begin with no entry of a log */
 };
 
 /* Where a fault stands. What the fault doesn't have is 0. */
@@ -112,6 +118,82 @@ uint8_t nx_signal_of(uint8_t word);
 
 /* The moment at which the next slot of a station begins, from a moment on; UINT64_MAX: none. */
 uint64_t nx_slot(uint8_t station, uint64_t moment);
+
+/* ---- a receiver that is kept between calls ----
+ *
+ * It hears elements as they come, of three channels at once: each is a frequency with a receiver of
+ * its own. The log of a file through these calls is that of nx_listen. It takes all of its memory when
+ * it is opened, some 3.3 MB, and gives it back when it is closed; no call between takes any, but for
+ * nx_save, which gives it back before it returns.
+ *
+ * What a caller owes for it: it begins as {0}, and is never written or copied; each call on it has
+ * ended before the next begins, on one thread. It is closed or abandoned before it is forgotten.
+ */
+struct nx_receiver {
+    void *kept; /* NULL: it is closed */
+};
+
+/* Room for this many bytes holds each entry. */
+#define NX_MAX_ENTRY 4163
+
+/* Opens a closed receiver at a moment, in seconds since 1970-01-01 00:00:00 UTC. NX_ALREADY_OPEN,
+ * NX_MOMENT_RANGE or NX_MEMORY: it stays as it was. */
+uint32_t nx_open(struct nx_receiver *receiver, uint64_t moment);
+
+/* Opens a closed receiver from the text of a state, as nx_save writes it: it remembers the state's
+ * entries, has its selection, and the greatest moment of an entry. What lies behind the text isn't
+ * read. NX_ALREADY_OPEN, NX_STATE_LINE, NX_STATE_CUT or NX_MEMORY: it stays as it was. */
+uint32_t nx_open_from(struct nx_receiver *receiver, const uint8_t *state, size_t length);
+
+/* Hears elements of a channel, 0 to 2, each a byte, 1 for B and 0 for Y: up to and with the one that
+ * ends the first message that is printed. `heard` is how many it heard, and `written` the length of
+ * the entry; 0 where nothing is printed, and then it heard all. What is left is given to the next call.
+ * Ask with NX_MAX_ENTRY of room: with less the answer is NX_NO_ROOM. After it, NX_CLOSED, NX_NO_CHANNEL
+ * or NX_NO_ELEMENT nothing was heard, and heard and written are 0. */
+uint32_t nx_hear(struct nx_receiver *receiver, uint8_t channel, const uint8_t *elements, size_t count,
+                 size_t *heard, uint8_t *log, size_t capacity, size_t *written);
+
+/* Sets the moment from here on, of all channels. NX_MOMENT_RANGE, NX_MOMENT_BACK or NX_CLOSED: it
+ * stays as it was. */
+uint32_t nx_set_moment(struct nx_receiver *receiver, uint64_t moment);
+
+/* Refuse a station or a subject, 'A' to 'Z', on a channel from here on, and refuse it no longer. A, B,
+ * D and L can't be refused (NX_VITAL). NX_NO_CHANNEL, NX_NO_STATION, NX_NO_SUBJECT or NX_CLOSED: it
+ * stays as it was. */
+uint32_t nx_refuse_station(struct nx_receiver *receiver, uint8_t channel, uint8_t station);
+uint32_t nx_accept_station(struct nx_receiver *receiver, uint8_t channel, uint8_t station);
+uint32_t nx_refuse_subject(struct nx_receiver *receiver, uint8_t channel, uint8_t subject);
+uint32_t nx_accept_subject(struct nx_receiver *receiver, uint8_t channel, uint8_t subject);
+
+/* Writes the text of a state, with which nx_open_from goes on after a power cut: of each channel the
+ * last 200 entries, and what is selected. A message that stands open is no part of it. */
+uint32_t nx_save(struct nx_receiver *receiver, uint8_t *state, size_t capacity, size_t *written);
+
+/* Ends the elements of all channels, and hands out what their end prints, by channel: one entry a
+ * call, with `written` its length; 0 where none is left, and then the receiver is closed. From the
+ * first of these calls on it hears nothing more. Room as for nx_hear: NX_NO_ROOM or NX_CLOSED else. */
+uint32_t nx_close(struct nx_receiver *receiver, uint8_t *log, size_t capacity, size_t *written);
+
+/* Closes a receiver, and prints nothing. One that is closed stays so. */
+void nx_abandon(struct nx_receiver *receiver);
+
+/* What an entry of a log says. */
+struct nx_entry {
+    uint64_t moment;  /* of its header, in seconds since 1970-01-01 00:00:00 UTC */
+    size_t length;    /* how many bytes it has */
+    uint16_t errors;  /* the asterisks in its text */
+    uint8_t channel;  /* 0 to 2 */
+    uint8_t station;  /* 'A' to 'Z' */
+    uint8_t subject;  /* 'A' to 'Z' */
+    uint8_t number;   /* 0 to 99 */
+    uint8_t how;      /* how it ended: 0 full, 1 cut, 2 long */
+};
+
+/* Reads the entry of a log with which the bytes begin, whatever lies behind it, and writes its text: at
+ * most 4,100 bytes. NX_NO_ENTRY: they begin with none; the entry stays as it was, and no text is
+ * written. */
+uint32_t nx_log_entry(const uint8_t *bytes, size_t count, struct nx_entry *entry, uint8_t *text,
+                      size_t capacity, size_t *written);
 
 #ifdef __cplusplus
 }

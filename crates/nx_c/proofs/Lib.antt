@@ -1,2 +1,10 @@
+mod ClosingLemmas
+mod HandleValues
+mod HearingLemmas
+mod LifeLemmas
+mod LooseValues
+mod SavingLemmas
+mod SelectingLemmas
 mod SignalLemmas
 mod StateLemmas
+mod StatusLemmas

@@ -1,5 +1,5 @@
 -- The words of signals.
-use Rattle.std.proofs.Common.{ℕ, ◌<◌, refl, true, ltb, get_or}
+use Rattle.std.proofs.Common.{◌<◌, refl, true, ltb, get_or}
 use Rattle.std.proofs.lemmas.Bool.{agree_below_at, ltb-true}
 use Rattle.nx_code.specs.Table.{table, words}
 use Rattle.nx_code.specs.Signal.{number_of_signal, place}

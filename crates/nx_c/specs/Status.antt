@@ -9,6 +9,8 @@ use Rattle.nx_c.specs.declared.told.Status.TheVariants.{Ragged, NoSuchCharacter,
 use Rattle.nx_c.specs.declared.told.Status.TheVariants.{BadCharacter, Reserved, LongText, Open}
 use Rattle.nx_c.specs.declared.told.Status.TheVariants.{NoMessages, MixedStations, NoSlot, SlotFull}
 use Rattle.nx_c.specs.declared.told.Status.TheVariants.{NoStation, WrongWord, Unpaired, BadEnvelope}
+use Rattle.nx_c.specs.declared.told.Status.TheVariants.{Closed, AlreadyOpen, NoChannel, NoElement}
+use Rattle.nx_c.specs.declared.told.Status.TheVariants.{NoSubject, NoEntry}
 
 -- the number of a status
 abbrev pub number_of : Status → ℕ
@@ -44,3 +46,9 @@ number_of NoStation = 28
 number_of WrongWord = 29
 number_of Unpaired = 30
 number_of BadEnvelope = 31
+number_of Closed = 32
+number_of AlreadyOpen = 33
+number_of NoChannel = 34
+number_of NoElement = 35
+number_of NoSubject = 36
+number_of NoEntry = 37

@@ -1,6 +1,7 @@
 //! Putting a text into the room of a caller, and telling it how the call ended.
 
 ghost use Rattle.std.specs.Prelude.{◌≡◌, ◌≤◌, ◌++◌, length, take, min};
+ghost use Rattle.nx_c.specs.Status.{number_of};
 ghost use Rattle.nx_c.specs.Told.{IsPut, IsTold, after_putting, answer, room};
 ghost use Rattle.nx_c.specs.declared.told.Status.TheVariants.{Done};
 
@@ -24,6 +25,17 @@ fn after_putting(count: usize, capacity: usize, status: Status) -> Status
         return Status::NoRoom;
     }
     status
+}
+
+/// Puts a text into the caller's room as `put` does, and answers the number of `Done`, or of `NoRoom`
+/// where there is no room for all of it.
+pub(crate) fn put_whole(text: &[u8], space: &mut [u8], written: &mut usize) -> u32
+    ensures put { IsPut text.now (room space.old space.new written.new) }
+    ensures status { result ≡ number_of
+        (after_putting (length text.now) (length space.old) Done) }
+{
+    put(text, space, written);
+    after_putting(text.len(), space.len(), Status::Done).number()
 }
 
 /// Tells the caller how a run ended that wrote this text, and puts the text into the room for it.

@@ -160,7 +160,7 @@ fn go_on(alloc: Global, states: &SavedSet, air: &[u8]) -> Resumed
 }
 
 /// The text of a state.
-fn state_text(alloc: Global, states: &SavedSet) -> Result<Vec<u8>, WriteFault>
+pub(crate) fn state_text(alloc: Global, states: &SavedSet) -> Result<Vec<u8>, WriteFault>
     ensures text { IfOk result (λ text. text.items ≡ state_bytes states.now) }
     ensures sound { AreSavedStates states.now }
 {

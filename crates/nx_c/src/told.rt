@@ -70,6 +70,18 @@ pub enum Status {
     Unpaired = 30,
     /// The words are no emission of this profile.
     BadEnvelope = 31,
+    /// The receiver is closed, or its end has begun.
+    Closed = 32,
+    /// The receiver is open already.
+    AlreadyOpen = 33,
+    /// The number is that of no channel.
+    NoChannel = 34,
+    /// A byte is none of an element.
+    NoElement = 35,
+    /// The byte names no subject.
+    NoSubject = 36,
+    /// The bytes begin with no entry.
+    NoEntry = 37,
 }
 
 impl Status {

@@ -1,0 +1,316 @@
+/* The receiver that is kept between calls, on an air file on standard input, whose lines are given to it
+ * one by one:
+ *
+ *   stream hear PIECE                writes the log; elements are given in pieces of so many
+ *   stream resume STATE NEW          the same in pieces of 7, from the state in the file STATE; the new one goes to the file NEW
+ *   stream entries                   reads a log on standard input entry by entry, and writes each again by what it says
+ *   stream refusals                  what calls answer that are refused
+ *   stream days N                    hears three channels for so many days without a block of memory; how many entries
+ *   stream fail                      opens while each block of memory is refused in turn, and then hears without any
+ *   stream speed PIECE TIMES         hears all elements so often, and says how many nanoseconds of the processor one took
+ *
+ * The status is 0, or 2 with the status of a call on standard error. */
+#include "navtex.h"
+#include <inttypes.h>
+#include <stdio.h>
+#include <stdlib.h>
+#include <string.h>
+#include <time.h>
+
+static uint8_t room[NX_MAX_ENTRY];
+
+static void stop(const char *what, uint32_t status) {
+    fprintf(stderr, "stream: %s: status %" PRIu32 "\n", what, status);
+    exit(2);
+}
+
+static void done(const char *what, uint32_t status) {
+    if (status != NX_DONE)
+        stop(what, status);
+}
+
+/* The channel of a line, from the byte behind its letters; moves it to what stands behind the space. */
+static uint8_t channel_of(const char **at) {
+    uint8_t channel = **at == ' ' ? 0 : (uint8_t)(*(*at)++ - '0');
+    ++*at;
+    return channel;
+}
+
+/* Hears the digits of a line in pieces. */
+static void hear(struct nx_receiver *receiver, uint8_t channel, const char *digits, size_t count, size_t piece, int print) {
+    static uint8_t elements[1024];
+    for (size_t at = 0; at < count; at++)
+        elements[at] = (uint8_t)(digits[at] - '0');
+    for (size_t at = 0, heard, written; at < count; at += heard) {
+        size_t next = count - at < piece ? count - at : piece;
+        done("nx_hear", nx_hear(receiver, channel, elements + at, next, &heard, room, sizeof room, &written));
+        if (written == 0 && heard != next)
+            stop("nx_hear heard not all", 0);
+        if (print)
+            fwrite(room, 1, written, stdout);
+    }
+}
+
+/* A state that has no room changes nothing, and is measured. */
+static void is_without_room(struct nx_receiver *receiver) {
+    size_t written;
+    uint32_t status = nx_save(receiver, room, 1, &written);
+    if (status != NX_NO_ROOM || written < 2)
+        stop("nx_save without room", status);
+}
+
+/* Gives a line to the receiver. */
+static void give(struct nx_receiver *receiver, const char *line, size_t piece) {
+    const char *at = line + 1;
+    uint8_t channel;
+    switch (line[0]) {
+    case 'T':
+        done("nx_set_moment", nx_set_moment(receiver, strtoull(line + 2, NULL, 10)));
+        return;
+    case 'B':
+        channel = channel_of(&at);
+        hear(receiver, channel, at, strcspn(at, "\n"), piece, 1);
+        return;
+    default:
+        at = line + 2;
+        channel = channel_of(&at);
+        uint8_t letter = (uint8_t)*at;
+        done("a command", line[0] == 'R' ? line[1] == 'S' ? nx_refuse_station(receiver, channel, letter)
+                                                         : nx_refuse_subject(receiver, channel, letter)
+                          : line[1] == 'S' ? nx_accept_station(receiver, channel, letter)
+                                           : nx_accept_subject(receiver, channel, letter));
+    }
+}
+
+static void close_all(struct nx_receiver *receiver) {
+    size_t written;
+    do {
+        done("nx_close", nx_close(receiver, room, sizeof room, &written));
+        fwrite(room, 1, written, stdout);
+    } while (written > 0);
+    if (receiver->kept != NULL)
+        stop("nx_close left a receiver", 0);
+}
+
+static void give_file(struct nx_receiver *receiver, size_t piece) {
+    char line[1024];
+    while (fgets(line, sizeof line, stdin) != NULL)
+        give(receiver, line, piece);
+}
+
+static int hear_file(size_t piece) {
+    struct nx_receiver receiver = {0};
+    done("nx_open", nx_open(&receiver, 0));
+    give_file(&receiver, piece);
+    close_all(&receiver);
+    return 0;
+}
+
+static int resume(const char *state_name, const char *new_name, size_t piece) {
+    struct nx_receiver receiver = {0};
+    static uint8_t state[1 << 14];
+    size_t written;
+    FILE *from = fopen(state_name, "rb"), *to;
+    if (from == NULL)
+        stop("there is no such file", 0);
+    size_t length = fread(state, 1, sizeof state, from);
+    fclose(from);
+    done("nx_open_from", nx_open_from(&receiver, state, length));
+    give_file(&receiver, piece);
+    is_without_room(&receiver);
+    done("nx_save", nx_save(&receiver, state, sizeof state, &written));
+    to = fopen(new_name, "wb");
+    if (to == NULL || fwrite(state, 1, written, to) != written || fclose(to) != 0)
+        stop("a file was not written", 0);
+    close_all(&receiver);
+    return 0;
+}
+
+/* Reads a log entry by entry. */
+static int entries(void) {
+    static uint8_t log[1 << 20], text[4100];
+    size_t length = fread(log, 1, sizeof log, stdin), written;
+    for (size_t at = 0; at < length;) {
+        struct nx_entry entry;
+        done("nx_log_entry", nx_log_entry(log + at, length - at, &entry, text, sizeof text, &written));
+        fwrite(log + at, 1, entry.length, stdout);
+        fprintf(stderr, "%c%c%02u/%u %" PRIu64 " %u %u/%zu\n", entry.station, entry.subject, entry.number, entry.channel,
+                entry.moment, entry.how, entry.errors, written);
+        at += entry.length;
+    }
+    return 0;
+}
+
+static void is(const char *what, uint32_t status, uint32_t wanted) {
+    if (status != wanted) {
+        fprintf(stderr, "stream: %s: status %" PRIu32 ", not %" PRIu32 "\n", what, status, wanted);
+        exit(2);
+    }
+}
+
+/* No call on a closed receiver changes it; no call that is refused changes an open one. */
+static int refusals(void) {
+    struct nx_receiver receiver = {0};
+    uint8_t one[] = {1}, two[] = {2}, state[1 << 14];
+    size_t heard = 9, written = 9;
+    is("hear, closed", nx_hear(&receiver, 0, one, 1, &heard, room, sizeof room, &written), NX_CLOSED);
+    if (heard != 0 || written != 0)
+        stop("a closed receiver heard", 0);
+    is("moment, closed", nx_set_moment(&receiver, 0), NX_CLOSED);
+    is("station, closed", nx_refuse_station(&receiver, 0, 'E'), NX_CLOSED);
+    is("station, closed", nx_accept_station(&receiver, 0, 'E'), NX_CLOSED);
+    is("subject, closed", nx_refuse_subject(&receiver, 0, 'E'), NX_CLOSED);
+    is("subject, closed", nx_accept_subject(&receiver, 0, 'E'), NX_CLOSED);
+    is("close, closed", nx_close(&receiver, room, sizeof room, &written), NX_CLOSED);
+    is("save, closed", nx_save(&receiver, state, sizeof state, &written), NX_CLOSED);
+    is("open from no state", nx_open_from(&receiver, (const uint8_t *)"X\n", 2), NX_STATE_LINE);
+    is("open from a cut state", nx_open_from(&receiver, (const uint8_t *)"STATE 1\n", 8), NX_STATE_CUT);
+    nx_abandon(&receiver);
+    is("open past the year 2999", nx_open(&receiver, 32503680000), NX_MOMENT_RANGE);
+    if (receiver.kept != NULL)
+        stop("a receiver that wasn't opened is open", 0);
+    done("open", nx_open(&receiver, 100));
+    void *kept = receiver.kept;
+    is("open, open", nx_open(&receiver, 100), NX_ALREADY_OPEN);
+    if (receiver.kept != kept)
+        stop("an open receiver was opened again", 0);
+    is("moment back", nx_set_moment(&receiver, 99), NX_MOMENT_BACK);
+    is("moment range", nx_set_moment(&receiver, 32503680000), NX_MOMENT_RANGE);
+    is("channel", nx_hear(&receiver, 3, one, 1, &heard, room, sizeof room, &written), NX_NO_CHANNEL);
+    is("element", nx_hear(&receiver, 0, two, 1, &heard, room, sizeof room, &written), NX_NO_ELEMENT);
+    is("room", nx_hear(&receiver, 0, one, 1, &heard, room, sizeof room - 1, &written), NX_NO_ROOM);
+    is("station", nx_refuse_station(&receiver, 0, 'e'), NX_NO_STATION);
+    is("station", nx_refuse_station(&receiver, 3, 'E'), NX_NO_CHANNEL);
+    is("subject", nx_refuse_subject(&receiver, 0, '0'), NX_NO_SUBJECT);
+    is("vital", nx_refuse_subject(&receiver, 0, 'D'), NX_VITAL);
+    is("room to close", nx_close(&receiver, room, sizeof room - 1, &written), NX_NO_ROOM);
+    is("nothing to hear", nx_hear(&receiver, 0, one, 0, &heard, room, sizeof room, &written), NX_DONE);
+    is("close", nx_close(&receiver, room, sizeof room, &written), NX_DONE);
+    if (written != 0 || receiver.kept != NULL)
+        stop("a receiver that heard nothing printed", 0);
+    is("close again", nx_close(&receiver, room, sizeof room, &written), NX_CLOSED);
+    return 0;
+}
+
+/* Puts the elements of the file on standard input into a room; says how many there are. */
+static size_t elements_in(uint8_t *elements, size_t most) {
+    char line[1024];
+    size_t count = 0;
+    while (fgets(line, sizeof line, stdin) != NULL)
+        if (line[0] == 'B')
+            for (char *at = strchr(line, ' ') + 1; *at != '\n' && count < most; at++)
+                elements[count++] = (uint8_t)(*at - '0');
+    return count;
+}
+
+/* Elements of a file on channel 0, over and over; how long one takes. */
+static int speed(size_t piece, size_t times) {
+    static uint8_t elements[1 << 22];
+    struct nx_receiver receiver = {0};
+    size_t count = elements_in(elements, sizeof elements), heard, written;
+    done("nx_open", nx_open(&receiver, 0));
+    clock_t from = clock();
+    for (size_t time = 0; time < times; time++)
+        for (size_t at = 0; at < count; at += heard) {
+            size_t next = count - at < piece ? count - at : piece;
+            done("nx_hear", nx_hear(&receiver, 0, elements + at, next, &heard, room, sizeof room, &written));
+        }
+    double took = (double)(clock() - from) / CLOCKS_PER_SEC;
+    printf("%.1f\n", took * 1e9 / (double)(count * times));
+    nx_abandon(&receiver);
+    return 0;
+}
+
+#ifdef FAIL
+/* The blocks of memory that are asked for: the one with this number is refused. */
+static long left = -1;
+
+struct tried {
+    _Bool ok;
+    void *block;
+};
+
+struct tried rattle_alloc(size_t size, size_t align) {
+    if (left >= 0 && left-- == 0)
+        return (struct tried){0, NULL};
+    void *block = malloc(size > 0 ? size : align);
+    return (struct tried){block != NULL, block};
+}
+
+struct tried rattle_realloc(void *block, size_t kept, size_t size, size_t align) {
+    (void)kept;
+    if (left >= 0 && left-- == 0)
+        return (struct tried){0, NULL};
+    void *other = realloc(block, size > 0 ? size : align);
+    return (struct tried){other != NULL, other};
+}
+
+void rattle_dealloc(void *block) {
+    free(block);
+}
+
+/* So many days of three channels, of the elements of a file over and over; no block of memory is given. */
+static int days(size_t count) {
+    static uint8_t elements[1 << 22];
+    struct nx_receiver receiver = {0};
+    size_t length = elements_in(elements, sizeof elements), heard, written, entries = 0;
+    done("nx_open", nx_open(&receiver, 0));
+    left = 0;
+    for (size_t day = 0; day < count; day++) {
+        done("nx_set_moment", nx_set_moment(&receiver, day * 86400));
+        for (uint8_t channel = 0; channel < 3; channel++)
+            for (size_t second = 0; second < 86400; second += length / 100)
+                for (size_t at = 0; at < length; at += heard) {
+                    size_t next = length - at < 4096 ? length - at : 4096;
+                    done("nx_hear", nx_hear(&receiver, channel, elements + at, next, &heard, room, sizeof room, &written));
+                    entries += written > 0;
+                }
+    }
+    printf("%zu\n", entries);
+    nx_abandon(&receiver);
+    return 0;
+}
+
+/* Opens with each block refused in turn, until it is opened; then no block is given, and all is heard. */
+static int fail(void) {
+    for (long block = 0;; block++) {
+        struct nx_receiver receiver = {0};
+        left = block;
+        uint32_t status = nx_open(&receiver, 0);
+        if (status == NX_DONE) {
+            char line[1024];
+            left = 0;
+            while (fgets(line, sizeof line, stdin) != NULL)
+                give(&receiver, line, 7);
+            close_all(&receiver);
+            fprintf(stderr, "%ld\n", block);
+            return 0;
+        }
+        is("open without memory", status, NX_MEMORY);
+        if (receiver.kept != NULL)
+            stop("a receiver without memory is open", status);
+    }
+}
+#endif
+
+int main(int count, char **words) {
+    const char *name = count > 1 ? words[1] : "";
+    if (count == 3 && strcmp(name, "hear") == 0)
+        return hear_file(strtoul(words[2], NULL, 10));
+    if (count == 4 && strcmp(name, "resume") == 0)
+        return resume(words[2], words[3], 7);
+    if (count == 2 && strcmp(name, "entries") == 0)
+        return entries();
+    if (count == 2 && strcmp(name, "refusals") == 0)
+        return refusals();
+    if (count == 4 && strcmp(name, "speed") == 0)
+        return speed(strtoul(words[2], NULL, 10), strtoul(words[3], NULL, 10));
+#ifdef FAIL
+    if (count == 2 && strcmp(name, "fail") == 0)
+        return fail();
+    if (count == 3 && strcmp(name, "days") == 0)
+        return days(strtoul(words[2], NULL, 10));
+#endif
+    fprintf(stderr, "stream: which trial?\n");
+    return 64;
+}
