@@ -2,7 +2,7 @@
 _navtex() {
     local word=${COMP_WORDS[COMP_CWORD]} program=${COMP_WORDS[0]} choices=
     if ((COMP_CWORD == 1)); then
-        choices="$("$program" --help 2>/dev/null | sed -n 's/^  \([a-z][a-z]*\)   *[A-Z].*/\1/p') watch --help --version"
+        choices="$("$program" --help 2>/dev/null | sed -n 's/^  \([a-z][a-z]*\)   *[A-Z].*/\1/p') --help --version"
     else
         # the usage of `navtex send` is `navtex send <STATION> <MOMENT>`
         case $("$program" "${COMP_WORDS[1]}" -h 2>/dev/null | awk -v at=$((COMP_CWORD + 2)) '$1 == "Usage:" { print $at }') in

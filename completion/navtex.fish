@@ -18,7 +18,6 @@ complete -c navtex -f
 complete -c navtex -l help -d 'Say what the commands are, or what a command reads and writes'
 complete -c navtex -n __fish_use_subcommand -l version -d 'Write the version, and with which logic it was proved'
 complete -c navtex -n __fish_use_subcommand -a '(__navtex_commands)'
-complete -c navtex -n __fish_use_subcommand -a watch -d 'A receiver that is left on'
 complete -c navtex -F -n '__navtex_takes FILE'
 complete -c navtex -n '__navtex_takes STATION' -a 'A B C D E F G H I J K L M N O P Q R S T U V W X'
 complete -c navtex -n '__navtex_takes KIND' -a 'dx rx all'

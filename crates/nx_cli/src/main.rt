@@ -3,13 +3,11 @@
 
 #[cfg(test)]
 mod tests;
-mod watching;
 
 use nx_fec::Counting;
-use nx_program::answer;
+use nx_program::{SystemFiles, answer};
 use std::process::ExitCode;
 use std::{env, io};
-use watching::{is_watch, run_watch};
 
 /// The words of the process, of which the first is the program's name.
 fn words_of(rt: &HostRuntime) -> io::Result<Vec<String>> {
@@ -17,17 +15,13 @@ fn words_of(rt: &HostRuntime) -> io::Result<Vec<String>> {
 }
 
 fn main(rt: HostRuntime) -> ExitCode {
-    let words = words_of(&rt);
-    if let Ok(words) = &words
-        && is_watch(words)
-    {
-        return ExitCode::from(run_watch(&rt, words));
-    }
-    ExitCode::from(answer(
+    let ended = answer(
         rt.alloc(),
-        words,
+        words_of(&rt),
         &mut Counting::new(rt.stdin()),
         &mut Counting::new(rt.stdout()),
         &mut Counting::new(rt.stderr()),
-    ))
+        SystemFiles::new(rt.alloc(), &rt),
+    );
+    ExitCode::from(ended.status)
 }

@@ -18,6 +18,7 @@ mod repeats;
 mod resuming;
 mod shown_locks;
 mod station;
+mod watching;
 mod words;
 
 use devices::{Sink, Source};

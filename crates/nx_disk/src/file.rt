@@ -2,6 +2,7 @@
 
 use crate::noted::{Noted, RawFile};
 use nx_kept::DiskFailed;
+use std::alloc::{AllocError, Global};
 use std::fs::{self, File, Files, OpenOptions, TryLockError};
 use std::io;
 use std::os::fd::AsRawFd;
@@ -18,6 +19,15 @@ pub enum FileFault {
     /// Another open file has the lock.
     #[error("the file is in use")]
     Busy,
+    /// Memory for its name ran out.
+    #[error("out of memory")]
+    Memory,
+}
+
+impl From<AllocError> for FileFault {
+    fn from(_: AllocError) -> FileFault {
+        FileFault::Memory
+    }
 }
 
 impl From<io::Error> for FileFault {
@@ -40,17 +50,19 @@ impl From<TryLockError> for FileFault {
 pub struct LogFile<'a, R> {
     file: File,
     files: &'a R,
-    path: &'a str,
+    path: String,
 }
 
 /// Opens the regular file of that name, or makes it, and locks it. Its folder is brought to the
 /// disk, so that a crash doesn't lose a file that was made. Its own bytes are brought to the disk by
 /// the first call of a `KeptLog`. A link at the name is followed.
 pub fn open<'a, R: Files<File = File>>(
+    alloc: Global,
     files: &'a R,
-    path: &'a str,
+    path: &str,
 ) -> Result<Noted<LogFile<'a, R>>, FileFault> {
-    let mut file = open_or_make(files, path)?;
+    let path = String::from_str(alloc, path)?;
+    let mut file = open_or_make(files, path.as_str())?;
     // What is meant for a standard stream that was closed must not land in the log.
     if file.as_raw_fd() <= 2 {
         file = file.try_clone()?;
@@ -63,7 +75,7 @@ pub fn open<'a, R: Files<File = File>>(
     if !log.is_named() {
         return Err(FileFault::Open);
     }
-    sync_folder(files, path)?;
+    sync_folder(files, log.path.as_str())?;
     Ok(Noted::new(log))
 }
 
@@ -92,8 +104,10 @@ fn sync_folder<R: Files<File = File>>(files: &R, path: &str) -> io::Result<()> {
 impl<R: Files> LogFile<'_, R> {
     /// Whether the name still leads to the open file.
     fn is_named(&self) -> bool {
-        let (Ok(found), Ok(named)) = (self.file.metadata(), fs::metadata(self.files, self.path))
-        else {
+        let (Ok(found), Ok(named)) = (
+            self.file.metadata(),
+            fs::metadata(self.files, self.path.as_str()),
+        ) else {
             return false;
         };
         found.dev() == named.dev() && found.ino() == named.ino()

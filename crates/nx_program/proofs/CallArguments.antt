@@ -17,8 +17,8 @@ use Rattle.nx_envelope.proofs.LettersAndDigits.{same_letter}
 use Rattle.nx_program.specs.declared.words.Call.{Call}
 use Rattle.nx_station.specs.declared.damaging.DamageKind.{DamageKind}
 use Rattle.nx_station.specs.declared.damaging.DamageKind.TheVariants.{Dx, Rx, All}
-use Rattle.nx_program.specs.Words.{IsKind, IsNumber, IsStation, kind_name}
-use Rattle.nx_program.specs.private.Reading.{LacksRange, LacksSlot}
+use Rattle.nx_program.specs.Words.{IsFile, IsKind, IsNumber, IsStation, kind_name}
+use Rattle.nx_program.specs.private.Reading.{LacksRange, LacksSlot, LacksWatch}
 
 pub differ : (a b : Text) → bytes_eq a b ≡ false → a ≡ b → ⊥
 differ a b unlike e =
@@ -236,6 +236,51 @@ slot_call-absent make rows absent =
     go None m is_s is_m = refl
     go (Some s) None is_s is_m = refl
     go (Some s) (Some m) is_s is_m = absurd (absent s m is_s is_m)
+
+-- the call of a file and a moment
+abbrev pub file_call : (Text → ℕ → Call) → List Row → Option Call
+file_call make rows = option_and_then
+    (λ n. option_map (λ m. make n m) (number_in (codes "MOMENT") rows))
+    (first_of (codes "FILE") rows)
+
+pub file_call-only : (make : Text → ℕ → Call) (rows : List Row) (n : Text) (m : ℕ)
+    → IsFile rows n
+    → IsNumber (codes "MOMENT") rows m → file_call make rows ≡ Some (make n m)
+file_call-only make rows n m is_n is_m =
+    rw (is_n, (number-reads (codes "MOMENT") rows).only m is_m) refl
+
+itself : (o : Option Text) → IfSome o (λ n. o ≡ Some n)
+itself None = tt
+itself (Some n) = refl
+
+pub file_call-is : (make : Text → ℕ → Call) (rows : List Row) (P : Call → Type 0)
+    → ((n : Text) (m : ℕ)
+    → IsFile rows n → IsNumber (codes "MOMENT") rows m → P (make n m))
+    → IfSome (file_call make rows) P
+file_call-is make rows P has =
+    go (first_of (codes "FILE") rows) (number_in (codes "MOMENT") rows)
+    (itself (first_of (codes "FILE") rows)) (number-reads (codes "MOMENT") rows).is
+  where
+    go : (n : Option Text) (m : Option ℕ) → IfSome n (IsFile rows)
+        → IfSome m (IsNumber (codes "MOMENT") rows)
+        → IfSome (option_and_then (λ n. option_map (λ m. make n m) m) n) P
+    go None m is_n is_m = tt
+    go (Some n) None is_n is_m = tt
+    go (Some n) (Some m) is_n is_m = has n m is_n is_m
+
+-- where one of the two is absent, there is none
+pub file_call-absent : (make : Text → ℕ → Call) (rows : List Row) → LacksWatch rows
+    → file_call make rows ≡ None
+file_call-absent make rows absent =
+    go (first_of (codes "FILE") rows) (number_in (codes "MOMENT") rows)
+    (itself (first_of (codes "FILE") rows)) (number-reads (codes "MOMENT") rows).is
+  where
+    go : (n : Option Text) (m : Option ℕ) → IfSome n (IsFile rows)
+        → IfSome m (IsNumber (codes "MOMENT") rows)
+        → option_and_then (λ n. option_map (λ m. make n m) m) n ≡ None
+    go None m is_n is_m = refl
+    go (Some n) None is_n is_m = refl
+    go (Some n) (Some m) is_n is_m = absurd (absent n m is_n is_m)
 
 -- the call of a kind of damage, the first word and a count of words
 abbrev pub range_call : (DamageKind → ℕ → ℕ → Call) → List Row → Option Call

@@ -7,16 +7,18 @@ use Rattle.clap.specs.Words.{Row, Text}
 use Rattle.nx_envelope.specs.declared.letter.Letter.{Letter}
 use Rattle.nx_station.specs.declared.damaging.DamageKind.{DamageKind}
 use Rattle.nx_program.specs.declared.words.Call.{Call}
-use Rattle.nx_program.specs.declared.words.Call.TheVariants.{Damage, Send, Slots}
-use Rattle.nx_program.specs.Words.{Entry, HasArguments, IsKind, IsNumber, IsStation, Maker}
-use Rattle.nx_program.specs.Words.{command_name, entries, plain, range, slot}
-use Rattle.nx_program.proofs.CallArguments.{range_call, range_call-only, slot_call, slot_call-only}
+use Rattle.nx_program.specs.declared.words.Call.TheVariants.{Damage, Send, Slots, Watch}
+use Rattle.nx_program.specs.Words.{Entry, HasArguments, IsFile, IsKind, IsNumber, IsStation, Maker}
+use Rattle.nx_program.specs.Words.{command_name, entries, on_file, plain, range, slot}
+use Rattle.nx_program.proofs.CallArguments.{file_call, file_call-only, range_call, range_call-only}
+use Rattle.nx_program.proofs.CallArguments.{slot_call, slot_call-only}
 use Rattle.nx_program.proofs.EachFound.{Each}
 
 -- the call that an entry makes of the arguments, and the one that the entry under this name makes
 abbrev pub made : Maker → List Row → Option Call
 made (plain call) rows = Some call
 made (slot make) rows = slot_call make rows
+made (on_file make) rows = file_call make rows
 made (range make) rows = range_call make rows
 
 abbrev pub call_in : List Entry → Text → List Row → Option Call
@@ -38,6 +40,10 @@ Makes name (slot make) =
     IsSlotWord name × ((rows : List Row) (s : Letter) (m : ℕ) → IsStation rows s
     → IsNumber (codes "MOMENT") rows m
     → HasCall name rows (make s m))
+Makes name (on_file make) =
+    (name ≡ codes "watch") × ((rows : List Row) (n : Text) (m : ℕ) → IsFile rows n
+    → IsNumber (codes "MOMENT") rows m
+    → HasCall name rows (make n m))
 Makes name (range make) =
     (name ≡ codes "damage") × ((rows : List Row) (k : DamageKind) (f c : ℕ) → IsKind rows k
     → IsNumber (codes "FROM") rows f → IsNumber (codes "COUNT") rows c
@@ -55,6 +61,8 @@ pub call_in-only : (call : Call) (rows : List Row) → HasArguments call rows
 call_in-only (Send station moment) rows given = slot_call-only _ rows station moment given.0 given.1
 call_in-only (Slots station moment) rows given =
     slot_call-only _ rows station moment given.0 given.1
+call_in-only (Watch name moment) rows given =
+    file_call-only _ rows name moment given.0 given.1
 call_in-only (Damage kind from count) rows given =
     range_call-only _ rows kind from count given.0 given.1 given.2
 call_in-only call rows given = refl

@@ -14,14 +14,20 @@ use Rattle.nx_program.proofs.EachFound.{Each, each-map, found_is}
 use Rattle.nx_program.proofs.NumbersGiven.{GivesNumber, IsNumeric, gets, uses-other, uses-text}
 use Rattle.nx_program.proofs.NumbersGiven.{uses-wanted}
 use Rattle.nx_program.proofs.RowsKept.{UsesWell, or-first, or-second}
-use Rattle.nx_program.specs.Words.{Entry, Maker, entries, navtex, number_rule, plain, range, slot}
-use Rattle.nx_program.specs.Words.{text_rule, tree_of}
+use Rattle.nx_program.proofs.TextsGiven.{GivesText, IsTexted, gets-text, uses-other_number}
+use Rattle.nx_program.proofs.TextsGiven.{uses-wanted_text}
+use Rattle.nx_program.specs.Words.{Entry, Maker, entries, navtex, number_rule, on_file, plain, range}
+use Rattle.nx_program.specs.Words.{slot, text_rule, tree_of}
 
 -- the arguments of a command that wants a station and a moment, and of one that wants words, as
 -- they are built
 abbrev slot_rules : List Rule
 slot_rules = filled_from 1
     (text_rule (codes "STATION") ∷ number_rule (codes "MOMENT") 32503679999 ∷ help_rule ∷ [])
+
+abbrev file_rules : List Rule
+file_rules = filled_from 1
+    (text_rule (codes "FILE") ∷ number_rule (codes "MOMENT") 32503679999 ∷ help_rule ∷ [])
 
 abbrev damage_rules : List Rule
 damage_rules = filled_from 1
@@ -32,6 +38,18 @@ slot_rules-moment : Each (UsesWell (IsNumeric (codes "MOMENT") 32503679999)) slo
 slot_rules-moment = (
   uses-text _ _ 1 _ refl,
   (uses-wanted _ _ 2, ((λ again vs rows e good. good), tt)),
+)
+
+file_rules-moment : Each (UsesWell (IsNumeric (codes "MOMENT") 32503679999)) file_rules
+file_rules-moment = (
+  uses-text _ _ 1 _ refl,
+  (uses-wanted _ _ 2, ((λ again vs rows e good. good), tt)),
+)
+
+file_rules-file : Each (UsesWell (IsTexted (codes "FILE"))) file_rules
+file_rules-file = (
+  uses-wanted_text _ 1,
+  (uses-other_number _ 2 _ _ refl, ((λ again vs rows e good. good), tt)),
 )
 
 damage_rules-from : Each (UsesWell (IsNumeric (codes "FROM") 4294967295)) damage_rules
@@ -65,6 +83,13 @@ second_wanted true false e = absurd (cc)
 second_wanted false true e = absurd (cc)
 second_wanted false false e = absurd (cc)
 
+first_wanted : (a b : Bool) → check_kinds false false ((true && not a) || ((true && not b) ||
+    (false || false))) ≡ [] → a ≡ true
+first_wanted true true e = refl
+first_wanted true false e = absurd (cc)
+first_wanted false true e = absurd (cc)
+first_wanted false false e = absurd (cc)
+
 -- the second and the third of three arguments are given
 both_wanted : (a b c : Bool)
     → check_kinds false false ((true && not a) || ((true && not b) || ((true && not c) ||
@@ -78,10 +103,12 @@ both_wanted false true false e = absurd (cc)
 both_wanted false false true e = absurd (cc)
 both_wanted false false false e = absurd (cc)
 
--- the numbers that the command of an entry is given
+-- the text and the numbers that the command of an entry is given
 abbrev pub Gives : Maker → List Row → Type 0
 Gives (plain call) rows = Unit {0}
 Gives (slot make) rows = GivesNumber (codes "MOMENT") 32503679999 rows
+Gives (on_file make) rows =
+    GivesText (codes "FILE") rows × GivesNumber (codes "MOMENT") 32503679999 rows
 Gives (range make) rows =
     GivesNumber (codes "FROM") 4294967295 rows × GivesNumber (codes "COUNT") 4294967295 rows
 
@@ -107,6 +134,18 @@ leaf-is name (slot make) makes words e = record {
   gives = gets _ _ _ slot_rules-moment (refl, (refl, (refl, tt)))
       (λ rows checked. second_wanted (is_given (codes "STATION") rows)
       (is_given (codes "MOMENT") rows) checked) words e;
+}
+leaf-is name (on_file make) makes words e = record {
+  maker = on_file make;
+  makes = makes;
+  gives = (
+    gets-text _ _ file_rules-file (refl, (refl, (refl, tt)))
+        (λ rows checked. first_wanted (is_given (codes "FILE") rows)
+        (is_given (codes "MOMENT") rows) checked) words e,
+    gets _ _ _ file_rules-moment (refl, (refl, (refl, tt)))
+        (λ rows checked. second_wanted (is_given (codes "FILE") rows)
+        (is_given (codes "MOMENT") rows) checked) words e,
+  );
 }
 leaf-is name (range make) makes words e =
     let wanted : (rows : List Row) → check_fault (leaf (name, range make)) rows false ≡ []

@@ -5,6 +5,7 @@ pub mod EachFound
 pub mod GivenArguments
 pub mod RowsKept
 pub mod NumbersGiven
+pub mod TextsGiven
 pub mod CallArguments
 pub mod CommandTable
 pub mod CommandsTaken
@@ -12,3 +13,4 @@ pub mod OneCall
 pub mod WordsLemmas
 pub mod ProgramLemmas
 pub mod ReportLemmas
+pub mod WatchLines

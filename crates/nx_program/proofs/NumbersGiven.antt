@@ -77,7 +77,7 @@ no_default xs a none = elim (has_row a.id xs) as (λ b. (if b then xs else defau
       | false ↦ ap (λ (ds : List Text). default_rows a.id (reading_by a) ds xs) none
     ]
 
-no_defaults : (rules : List Rule) → Each (λ a. a.defaults ≡ []) rules → (xs : List Row)
+pub no_defaults : (rules : List Rule) → Each (λ a. a.defaults ≡ []) rules → (xs : List Row)
     → fold with_default xs rules ≡ xs
 no_defaults [] each xs = refl
 no_defaults (a ∷ rest) each xs =

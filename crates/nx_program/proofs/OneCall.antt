@@ -8,8 +8,8 @@ use Rattle.nx_envelope.specs.declared.letter.Letter.{Letter}
 use Rattle.nx_station.specs.declared.damaging.DamageKind.{DamageKind}
 use Rattle.nx_program.specs.declared.words.Call.{Call}
 use Rattle.nx_program.specs.Words.{Entry, HasArguments, IsKind, IsStation, Maker, command_name}
-use Rattle.nx_program.specs.Words.{entries, plain, range, slot}
-use Rattle.nx_program.proofs.CallArguments.{range_call-is, range_call-kind, slot_call-is}
+use Rattle.nx_program.specs.Words.{entries, on_file, plain, range, slot}
+use Rattle.nx_program.proofs.CallArguments.{file_call-is, range_call-is, range_call-kind, slot_call-is}
 use Rattle.nx_program.proofs.CallArguments.{slot_call-station}
 use Rattle.nx_program.proofs.CommandTable.{HasCall, IsSlotWord, IsSound, Makes, call_in}
 use Rattle.nx_program.proofs.CommandTable.{call_in-only, entries-sound, made}
@@ -19,6 +19,7 @@ made-is : (name : Text) (maker : Maker) → Makes name maker → (rows : List Ro
     → IfSome (made maker rows) (HasCall name rows)
 made-is name (plain call) makes rows = makes rows
 made-is name (slot make) makes rows = slot_call-is make rows (HasCall name rows) (makes.1 rows)
+made-is name (on_file make) makes rows = file_call-is make rows (HasCall name rows) (makes.1 rows)
 made-is name (range make) makes rows = range_call-is make rows (HasCall name rows) (makes.1 rows)
 
 call_in-is : (es : List Entry) → Each IsSound es → (name : Text) (rows : List Row)

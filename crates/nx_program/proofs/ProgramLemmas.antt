@@ -21,12 +21,22 @@ use Rattle.nx_station.specs.declared.fault.SendRunFault.TheVariants as send
 use Rattle.nx_program.specs.declared.words.Call.{Call}
 use Rattle.nx_fec.specs.declared.fault.RunFault.{RunFault}
 use Rattle.nx_fec.specs.declared.fault.RunFault.TheVariants as run
-use Rattle.nx_program.specs.Program.{EndsRun, Exits, IsUntouchedByWant, Performs, Succeeds, Tells}
-use Rattle.nx_program.specs.Program.{fresh_device}
+use Rattle.nx_kept.specs.declared.disk.DiskFile.{Ghosts as TellsOfDisk}
+use Rattle.nx_disk.specs.declared.file.FileFault.{FileFault}
+use Rattle.nx_disk.specs.declared.file.FileFault.TheVariants as file
+use Rattle.nx_watch.specs.declared.watch_fault.WatchFault.{WatchFault}
+use Rattle.nx_watch.specs.declared.watch_fault.WatchFault.TheVariants as watch
+use Rattle.nx_watch.specs.declared.watch_report.WatchReport.{WatchReport}
+use Rattle.nx_program.specs.declared.watching.WatchFailure.{WatchFailure}
+use Rattle.nx_program.specs.declared.watching.WatchFailure.TheVariants.{Ended, Unopened}
+use Rattle.nx_program.specs.Program.{EndsOnStreams, EndsRun, Exits, IsUntouchedByWant, Performs}
+use Rattle.nx_program.specs.Program.{PerformsOnStreams, Succeeds, Tells, fresh_device}
+use Rattle.nx_program.specs.Watching.{Beside, IsUnused, WatchesLog, beside, watch_outcome}
+use Rattle.nx_program.specs.declared.words.Call.TheVariants.{Watch}
 use Rattle.std.specs.declared.alloc.AllocError.{AllocError}
 use Rattle.nx_program.specs.Status.{IsStatus, call_status, check_status, damage_status}
 use Rattle.nx_program.specs.Status.{listen_status, fault_status, resume_status, run_status}
-use Rattle.nx_program.specs.Status.{send_status, status_of}
+use Rattle.nx_program.specs.Status.{send_status, status_of, watch_failure_status}
 use Rattle.nx_fec.specs.Transfers.{Devices, devices, CountedDevice}
 use Rattle.nx_program.specs.Words.{IsRefused, Names}
 use Rattle.nx_program.proofs.WordsLemmas.{help_not_refused, named_not_help, named_not_refused}
@@ -40,22 +50,33 @@ fresh-is {T} c device inner none =
     ap₂ make inner none
 
 -- how a run over devices that were wrapped ends, told of fresh ones
-pub exits-fresh : {R W : Type 0} (words : List Text) (remaining : R → Option (List ℕ))
+pub exits-fresh : {R W F D E : Type 0} (words : List Text) (remaining : R → Option (List ℕ))
     (contents : W → Option (List ℕ))
     (input : R) (reader reader_after : CountedDevice R) (output : W)
     (writer writer_after : CountedDevice W)
+    (files : F) (gives : F → List ℕ → Result D FileFault → Type 0) (disk_after : Option D)
+    (tells : TellsOfDisk D) (told : E → Option (List ℕ)) (errors : E)
+    (faults faults_after : CountedDevice E)
     (status : ℕ)
     → reader.inner ≡ input → reader.failures ≡ 0 → writer.inner ≡ output → writer.failures ≡ 0
-    → Exits words (devices remaining contents reader reader_after writer writer_after) status
+    → faults.inner ≡ errors → faults.failures ≡ 0
+    → Exits words (devices remaining contents reader reader_after writer writer_after)
+    (beside files gives disk_after tells told faults faults_after) status
     → Exits words (devices remaining contents (fresh_device input) reader_after
-    (fresh_device output) writer_after) status
-exits-fresh {R} {W} words remaining contents input reader reader_after output writer writer_after
-    status input_is unread output_is unwritten exits =
-    let P : Devices R W → Type 0 = λ d. Exits words d status in
+    (fresh_device output) writer_after)
+    (beside files gives disk_after tells told (fresh_device errors) faults_after) status
+exits-fresh {R} {W} {F} {D} {E} words remaining contents input reader reader_after output writer
+    writer_after files gives disk_after tells told errors faults faults_after
+    status input_is unread output_is unwritten errors_is untold exits =
+    let P : Devices R W → Type 0 = λ d. Exits words d
+    (beside files gives disk_after tells told (fresh_device errors) faults_after) status in
     let on : CountedDevice R → CountedDevice W
     → Devices R W = λ r w. devices remaining contents r reader_after w writer_after in
+    let Q : CountedDevice E → Type 0 = λ e. Exits words (on reader writer)
+    (beside files gives disk_after tells told e faults_after) status in
     subst P (ap₂ on (fresh-is reader input input_is unread)
-    (fresh-is writer output output_is unwritten)) exits
+    (fresh-is writer output output_is unwritten))
+    (subst Q (fresh-is faults errors errors_is untold) exits)
 
 -- a fault of a call has status 1 or 2
 run-status : (why : RunFault) → (run_status why ≡ 1) ⊎ (run_status why ≡ 2)
@@ -124,12 +145,26 @@ call-status (call.Resume why) = resume-status why
 call-status (call.Damage why) = damage-status why
 call-status call.NoSlot = inr refl
 
-fault-status : (why : Fault)
+watch-status : (why : WatchFailure)
+    → (watch_failure_status why ≡ 1) ⊎ (watch_failure_status why ≡ 2)
+watch-status (Unopened file.Open) = inl refl
+watch-status (Unopened file.Busy) = inr refl
+watch-status (Unopened file.Memory) = inl refl
+watch-status (Ended watch.Open) = inl refl
+watch-status (Ended (watch.Damaged line)) = inr refl
+watch-status (Ended watch.Disk) = inl refl
+watch-status (Ended watch.Memory) = inl refl
+watch-status (Ended watch.Read) = inl refl
+watch-status (Ended (watch.Back line last given)) = inr refl
+
+pub fault-status : (why : Fault)
     → (fault_status why ≡ 1) ⊎ ((fault_status why ≡ 2) ⊎ (fault_status why ≡ 64))
 fault-status (fault.Words answer) = inr (inr refl)
 fault-status fault.NoText = inr (inr refl)
 fault-status fault.Station = inr (inr refl)
 fault-status fault.Kind = inr (inr refl)
+fault-status (fault.Watch name why) =
+    elim (watch-status why) [ inl one ↦ inl one | inr two ↦ inr (inl two) ]
 fault-status (fault.Call why) =
     elim (call-status why) [ inl one ↦ inl one | inr two ↦ inr (inl two) ]
 
@@ -138,36 +173,55 @@ outcome-status (Ok done) = inl refl
 outcome-status (Err why) = inr (fault-status why)
 
 -- a run exits with one of the statuses
-pub status-exits : {R W : Type 0} (words : List Text) (d : Devices R W) (status : ℕ)
-    → Exits words d status
-    → IsStatus status
-status-exits words d status exits =
+pub status-exits : {R W F D E : Type 0} (words : List Text) (d : Devices R W) (b : Beside F D E)
+    (status : ℕ) → Exits words d b status → IsStatus status
+status-exits words d b status exits =
     let P : ℕ → Type 0 = λ n. IsStatus n in
     subst P (sym exits.status_is) (outcome-status exits.outcome)
 
-success-ends : {R W : Type 0} (words : List Text) (d : Devices R W)
+success-ends : {R W F D E : Type 0} (words : List Text) (d : Devices R W) (b : Beside F D E)
     (outcome : Result (Unit {0}) Fault)
-    → EndsRun words d outcome → status_of outcome ≡ 0 → Succeeds words d
-success-ends words d (Ok done) ends zero = ends
-success-ends words d (Err why) ends zero = elim (fault-status why) [
+    → EndsRun words d b outcome → status_of outcome ≡ 0 → Succeeds words d b
+success-ends words d b (Ok done) ends zero = ends
+success-ends words d b (Err why) ends zero = elim (fault-status why) [
   | inl one ↦ absurd (omega arith)
   | inr other ↦ elim other [ inl two ↦ absurd (omega arith) | inr words ↦ absurd (omega arith) ]
 ]
 
 -- status 0 is a success
-pub success-exits : {R W : Type 0} (words : List Text) (d : Devices R W) (status : ℕ)
-    → Exits words d status
-    → status ≡ 0 → Succeeds words d
-success-exits words d status exits zero =
-    success-ends words d exits.outcome exits.ends (sym exits.status_is ∙ zero)
+pub success-exits : {R W F D E : Type 0} (words : List Text) (d : Devices R W) (b : Beside F D E)
+    (status : ℕ) → Exits words d b status → status ≡ 0 → Succeeds words d b
+success-exits words d b status exits zero =
+    success-ends words d b exits.outcome exits.ends (sym exits.status_is ∙ zero)
+
+-- a watch doesn't end with the status of words
+watch-words : {R W F D E : Type 0} (d : Devices R W) (b : Beside F D E) (name : Text) (moment : ℕ)
+    (outcome : Result (Unit {0}) Fault) → WatchesLog d b name moment outcome
+    → status_of outcome ≡ 64 → ⊥
+watch-words d b name moment outcome (Err why, gives, opened) is =
+    elim (watch-status (Unopened why)) [
+      | inl one ↦ absurd (let e = sym (ap status_of opened.3) ∙ is in omega (arith, e, one))
+      | inr two ↦ absurd (let e = sym (ap status_of opened.3) ∙ is in omega (arith, e, two))
+    ]
+watch-words d b name moment outcome (Ok disk, gives, opened) is =
+    go opened.2 (sym (ap status_of opened.4) ∙ is)
+  where
+    go : (answer : Result WatchReport WatchFault)
+        → status_of (watch_outcome d b name answer) ≡ 64 → ⊥
+    go (Ok report) e = absurd (omega (arith, e))
+    go (Err why) e = elim (watch-status (Ended why)) [
+      | inl one ↦ absurd (omega (arith, e, one))
+      | inr two ↦ absurd (omega (arith, e, two))
+    ]
 
 words-end : {R W : Type 0} (words : List Text) (d : Devices R W) (outcome : Result (Unit {0}) Fault)
-    → EndsRun words d outcome → status_of outcome ≡ 64 → IsRefused words
+    → EndsOnStreams words d outcome → status_of outcome ≡ 64 → IsRefused words
 words-end words d (Ok done) ends is = absurd (omega arith)
 words-end words d (Err (fault.Words answer)) ends is = inl ends.0
 words-end words d (Err fault.NoText) ends is = absurd ends
 words-end words d (Err fault.Station) ends is = inr (inl ends.0)
 words-end words d (Err fault.Kind) ends is = inr (inr ends.0)
+words-end words d (Err (fault.Watch name why)) ends is = absurd ends
 words-end words d (Err (fault.Call why)) ends is = elim (call-status why) [
   | inl one ↦ absurd
       (omega arith)
@@ -175,15 +229,18 @@ words-end words d (Err (fault.Call why)) ends is = elim (call-status why) [
 ]
 
 -- status 64 is a refusal of the words
-pub words-exit : {R W : Type 0} (words : List Text) (d : Devices R W) (status : ℕ)
-    → Exits words d status
-    → status ≡ 64 → IsRefused words
-words-exit words d status exits is =
-    words-end words d exits.outcome exits.ends (sym exits.status_is ∙ is)
+pub words-exit : {R W F D E : Type 0} (words : List Text) (d : Devices R W) (b : Beside F D E)
+    (status : ℕ) → Exits words d b status → status ≡ 64 → IsRefused words
+words-exit words d b status exits is = elim exits.ends [
+  | inl runs ↦ absurd (watch-words d b runs.name runs.moment exits.outcome runs.watched
+      (sym exits.status_is ∙ is))
+  | inr ends ↦ words-end words d exits.outcome ends.1 (sym exits.status_is ∙ is)
+]
 
 refused-ends : {R W : Type 0} (words : List Text) (d : Devices R W)
     (outcome : Result (Unit {0}) Fault)
-    → EndsRun words d outcome → IsRefused words → (status_of outcome ≡ 64) ⊎ (status_of outcome ≡ 1)
+    → EndsOnStreams words d outcome → IsRefused words
+    → (status_of outcome ≡ 64) ⊎ (status_of outcome ≡ 1)
 refused-ends words d (Ok done) ends refused = elim ends [
   | inl runs ↦ absurd (named_not_refused words runs.call runs.named refused)
   | inr (inl help) ↦ absurd (help_not_refused words help.asked refused)
@@ -193,6 +250,7 @@ refused-ends words d (Err (fault.Words answer)) ends refused = inl refl
 refused-ends words d (Err fault.NoText) ends refused = absurd ends
 refused-ends words d (Err fault.Station) ends refused = inl refl
 refused-ends words d (Err fault.Kind) ends refused = inl refl
+refused-ends words d (Err (fault.Watch name why)) ends refused = absurd ends
 refused-ends words d (Err (fault.Call why)) ends refused = elim ends [
   | inl runs ↦ absurd (named_not_refused words runs.call runs.named refused)
   | inr (inl help) ↦ absurd (help_not_refused words help.asked refused)
@@ -201,24 +259,37 @@ refused-ends words d (Err (fault.Call why)) ends refused = elim ends [
 ]
 
 -- words that are refused end with status 64, or with 1 for want of memory
-pub refused-exits : {R W : Type 0} (words : List Text) (d : Devices R W) (status : ℕ)
-    → Exits words d status
+pub refused-exits : {R W F D E : Type 0} (words : List Text) (d : Devices R W) (b : Beside F D E)
+    (status : ℕ)
+    → Exits words d b status
     → IsRefused words → (status ≡ 64) ⊎ (status ≡ 1)
-refused-exits words d status exits refused =
-    elim (refused-ends words d exits.outcome exits.ends refused) [
-      | inl is ↦ inl (exits.status_is ∙ is)
-      | inr is ↦ inr (exits.status_is ∙ is)
-    ]
+refused-exits words d b status exits refused = elim exits.ends [
+  | inl runs ↦ absurd (named_not_refused words (Watch runs.name runs.moment) runs.named refused)
+  | inr ends ↦ elim (refused-ends words d exits.outcome ends.1 refused) [
+    | inl is ↦ inl (exits.status_is ∙ is)
+    | inr is ↦ inr (exits.status_is ∙ is)
+  ]
+]
+
+-- what a call did that is no watch
+performs-streams : {R W F D E : Type 0} (call : Call) (d : Devices R W) (b : Beside F D E)
+    → IsUnused b → PerformsOnStreams call d (Ok tt) → Performs call d b (Ok tt)
+performs-streams (Watch name moment) d b unused performed = absurd performed
+performs-streams call d b unused performed = (unused, performed)
 
 -- a success of words that name a call is the success of that call
-pub success-named : {R W : Type 0} (words : List Text) (d : Devices R W) (call : Call)
+pub success-named : {R W F D E : Type 0} (words : List Text) (d : Devices R W) (b : Beside F D E)
+    (call : Call)
     → Names words call
-    → Succeeds words d → Performs call d (Ok tt)
-success-named words d call named success = elim success [
-  | inl runs ↦ let P : Call → Type 0 = λ c. Performs c d (Ok tt) in
-      subst P (named_once words runs.call call runs.named named) runs.performed
-  | inr (inl help) ↦ absurd (named_not_help words call named help.asked)
-  | inr (inr version) ↦ absurd (named_not_version words call named version.asked)
+    → Succeeds words d b → Performs call d b (Ok tt)
+success-named words d b call named success = elim success [
+  | inl runs ↦ let P : Call → Type 0 = λ c. Performs c d b (Ok tt) in
+      subst P (named_once words (Watch runs.name runs.moment) call runs.named named) runs.watched
+  | inr (unused, inl runs) ↦ let P : Call → Type 0 = λ c. PerformsOnStreams c d (Ok tt) in
+      performs-streams call d b unused
+      (subst P (named_once words runs.call call runs.named named) runs.performed)
+  | inr (unused, inr (inl help)) ↦ absurd (named_not_help words call named help.asked)
+  | inr (unused, inr (inr version)) ↦ absurd (named_not_version words call named version.asked)
 ]
 
 -- what a run answered is told

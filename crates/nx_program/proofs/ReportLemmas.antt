@@ -1,14 +1,33 @@
 -- What the program's answer says of its outcome and of standard error.
-use Rattle.std.proofs.Common.{◌≡◌, ◌≢◌, ◌≤◌, ℕ, List, Result, Ok, Err, Option, length, refl, ◌∙◌}
+use Rattle.std.proofs.Common.{◌≡◌, ◌≢◌, ◌≤◌, ◌<◌, ◌+◌, ◌-◌, ◌^◌, ◌==◌, ◌++◌, ◌∷◌, ◌∙◌, ℕ, Bool, true, false, List, []}
+use Rattle.std.proofs.Common.{Result, Ok, Err, Option, Some, None, length, take, min, refl, sym, subst, ap, inl, inr}
+use Rattle.std.proofs.Common.{arith, append_assoc, length-append, if◌then◌else◌}
+use Rattle.std.specs.Prelude.{codes, decimal, string_bytes}
 use Rattle.std.specs.Fmt.Cut.{cut_to}
+use Rattle.std.specs.Io.KnownBytes.{Appends}
+use Rattle.std.proofs.KnownBytes.{Appends-nil, Appends-trans}
+use Rattle.std.proofs.Math.Seq.{take-append-add}
+use Rattle.std.proofs.lemmas.List.{take-append-le}
 use Rattle.std.proofs.lemmas.Bool.{le-leb}
 use Rattle.clap.specs.Words.{Text}
 use Rattle.nx_fec.specs.Transfers.{CountedDevice, Devices}
+use Rattle.nx_disk.specs.declared.file.FileFault.{FileFault}
+use Rattle.nx_disk.specs.declared.file.FileFault.TheVariants as file
+use Rattle.nx_watch.specs.declared.watch_fault.WatchFault.TheVariants as watch
+use Rattle.nx_program.specs.declared.watching.WatchFailure.{WatchFailure}
+use Rattle.nx_program.specs.declared.watching.WatchFailure.TheVariants.{Ended, Unopened}
+use Rattle.nx_watch.specs.Acting.{count_without, first_without}
+use Rattle.nx_watch.specs.Watching.{HasTold, TellsOfLines, first_told, number_told, told_of}
 use Rattle.nx_program.specs.declared.fault.Fault.{Fault}
 use Rattle.nx_program.specs.declared.fault.Fault.TheVariants as fault
-use Rattle.nx_program.specs.Program.{Exits}
-use Rattle.nx_program.specs.Report.{Answers, IsFaultLine, IsFaultText, Reports, WritesOne}
+use Rattle.nx_program.specs.Program.{EndsRun, Exits, NamesWatch, Performs}
+use Rattle.nx_program.specs.Report.{Answers, IsFaultLine, IsFaultText, Reports, WritesLast, WritesOne}
 use Rattle.nx_program.specs.Status.{fault_status, status_of}
+use Rattle.nx_program.specs.Watching.{Beside, IsUnused, WatchesLog, watch_fault_line}
+use Rattle.nx_program.specs.Watching.{with_faults}
+use Rattle.nx_program.specs.Words.{Names}
+use Rattle.nx_program.specs.declared.words.Call.{Call}
+use Rattle.nx_program.proofs.ProgramLemmas.{fault-status, success-exits, success-named}
 
 -- a text that has room is not cut
 pub cut_to-fits : (room : ℕ) (text : List ℕ) → length text ≤ room → cut_to room text ≡ text
@@ -16,15 +35,82 @@ unfolding cut_to
 cut_to-fits room text fits = rw (le-leb (length text) room fits) refl
 
 -- how the program ended is part of what it answers
-pub answers-exits : {R W E : Type 0} (words : List Text) (d : Devices R W)
-    (contents : E → Option (List ℕ))
-    (old new : CountedDevice E) (status : ℕ) → Answers words d contents old new status
-    → Exits words d status
-answers-exits words d contents old new status answers = record {
+pub answers-exits : {R W F D E : Type 0} (words : List Text) (d : Devices R W) (b : Beside F D E)
+    (status : ℕ) (answers : Answers words d b status)
+    → Exits words d (with_faults b answers.behind_call) status
+answers-exits words d b status answers = record {
   outcome = answers.outcome;
   ends = answers.ends;
   status_is = answers.status_is;
 }
+
+-- ---- standard error
+
+-- a fault doesn't have the status of a success
+failed : (why : Fault) → fault_status why ≡ 0 → ⊥
+failed why zero = elim (fault-status why) [
+  | inl one ↦ absurd (omega (arith, zero, one))
+  | inr (inl two) ↦ absurd (omega (arith, zero, two))
+  | inr (inr words) ↦ absurd (omega (arith, zero, words))
+]
+
+-- each fault has a text
+fault-text : (why : Fault) → (text : List ℕ) × IsFaultText why text
+fault-text (fault.Words answer) = (string_bytes answer, refl)
+fault-text fault.NoText = (_, refl)
+fault-text fault.Station = (_, refl)
+fault-text fault.Kind = (_, refl)
+fault-text (fault.Watch name why) = (watch_fault_line name why, refl)
+fault-text (fault.Call why) = (codes "navtex: " ++ 10 ∷ [], record { shown = []; whole = refl })
+
+-- the line of a failed watch is one
+record EndsLine (text : List ℕ) : Type 0 where
+  shown : List ℕ
+  whole : text ≡ shown ++ 10 ∷ []
+
+ends-behind : (front text : List ℕ) → EndsLine text → EndsLine (front ++ text)
+ends-behind front text ends = record {
+  shown = front ++ ends.shown;
+  whole = ap (λ (l : List ℕ). front ++ l) ends.whole
+      ∙ sym (append_assoc front ends.shown (10 ∷ []));
+}
+
+navtex-line : (text : List ℕ) → EndsLine text → IsFaultLine (codes "navtex: " ++ text)
+navtex-line text ends = record {
+  shown = ends.shown;
+  whole = ap (λ (l : List ℕ). codes "navtex: " ++ l) ends.whole;
+}
+
+line-of : (shown : List ℕ) → EndsLine (shown ++ 10 ∷ [])
+line-of shown = record { shown = shown; whole = refl }
+
+log-line : (name text : List ℕ) → EndsLine text
+    → IsFaultLine (codes "navtex: the log " ++ (name ++ text))
+log-line name text ends = navtex-line (codes "the log " ++ (name ++ text))
+    (ends-behind (codes "the log ") (name ++ text) (ends-behind name text ends))
+
+watch-line : (name : Text) (why : WatchFailure) → IsFaultLine (watch_fault_line name why)
+watch-line name (Unopened file.Open) = log-line name _ (line-of (codes " can't be opened"))
+watch-line name (Unopened file.Busy) =
+    navtex-line (codes "another watch has the log " ++ (name ++ codes "\n"))
+    (ends-behind (codes "another watch has the log ") (name ++ codes "\n") (ends-behind name (codes "\n") (line-of [])))
+watch-line name (Unopened file.Memory) = navtex-line (codes "out of memory\n") (line-of (codes "out of memory"))
+watch-line name (Ended watch.Open) = log-line name _ (line-of (codes " can't be opened"))
+watch-line name (Ended (watch.Damaged line)) =
+    log-line name (codes " is damaged at line " ++ (decimal line ++ codes "\n"))
+    (ends-behind (codes " is damaged at line ") (decimal line ++ codes "\n")
+    (ends-behind (decimal line) (codes "\n") (line-of [])))
+watch-line name (Ended watch.Disk) = log-line name _ (line-of (codes " can't be written"))
+watch-line name (Ended watch.Memory) = navtex-line (codes "out of memory\n") (line-of (codes "out of memory"))
+watch-line name (Ended watch.Read) = navtex-line (codes "read failed\n") (line-of (codes "read failed"))
+watch-line name (Ended (watch.Back line last given)) =
+    let end : List ℕ = decimal last ++ codes "\n" in
+    let third : List ℕ = codes " is before " ++ end in
+    let second : List ℕ = codes ": moment " ++ (decimal given ++ third) in
+    navtex-line (codes "line " ++ (decimal line ++ second))
+    (ends-behind (codes "line ") (decimal line ++ second) (ends-behind (decimal line) second
+    (ends-behind (codes ": moment ") (decimal given ++ third) (ends-behind (decimal given) third
+    (ends-behind (codes " is before ") end (ends-behind (decimal last) (codes "\n") (line-of [])))))))
 
 -- each fault but one of the words is reported by a line
 text-line : (why : Fault) (text : List ℕ) → fault_status why ≢ 64 → IsFaultText why text
@@ -33,15 +119,203 @@ text-line (fault.Words answer) text other is = absurd (other refl)
 text-line fault.NoText text other is = absurd (other refl)
 text-line fault.Station text other is = absurd (other refl)
 text-line fault.Kind text other is = absurd (other refl)
+text-line (fault.Watch name why) text other is = subst IsFaultLine (sym is) (watch-line name why)
 text-line (fault.Call why) text other is = is
 
-pub reported-line : {E : Type 0} (contents : E → Option (List ℕ)) (old new : CountedDevice E)
-    (outcome : Result (Unit {0}) Fault) (status : ℕ) → status ≡ status_of outcome
-    → Reports contents old new outcome → status ≢ 0
-    → WritesOne (λ text. status ≢ 64 → IsFaultLine text) contents old new
-reported-line contents old new (Ok done) status is reports failed = absurd (failed is)
-reported-line contents old new (Err why) status is reports failed = record {
-  text = reports.text;
-  is_text = λ other. text-line why reports.text (λ words. other (is ∙ words)) reports.is_text;
-  written = reports.written;
+-- a line behind another is still one text that begins and ends as a line does
+behind-another : (more text : List ℕ) → IsFaultLine text
+    → IsFaultLine ((codes "navtex: " ++ more) ++ text)
+behind-another more text line = record {
+  shown = more ++ (codes "navtex: " ++ line.shown);
+  whole = append_assoc (codes "navtex: ") more text
+      ∙ ap (λ (l : List ℕ). codes "navtex: " ++ l) (ap (λ (l : List ℕ). more ++ l) (line.whole
+      ∙ sym (append_assoc (codes "navtex: ") line.shown (10 ∷ [])))
+      ∙ sym (append_assoc more (codes "navtex: " ++ line.shown) (10 ∷ [])));
 }
+
+behind-first : (first : Option ℕ) (text : List ℕ) → IsFaultLine text
+    → IsFaultLine (first_told first ++ text)
+behind-first None text line = line
+behind-first (Some n) text line =
+    behind-another (codes "line " ++ (decimal n ++ codes " had no effect\n")) text line
+
+behind-number : (count : ℕ) (text : List ℕ) → IsFaultLine text
+    → IsFaultLine (number_told count ++ text)
+behind-number count text line =
+    elim (count == 0) as (λ b. IsFaultLine ((if b then [] else codes "navtex: "
+    ++ (decimal count ++ codes " lines had no effect\n")) ++ text)) [
+      | true ↦ line
+      | false ↦ behind-another (decimal count ++ codes " lines had no effect\n") text line
+    ]
+
+behind-told : (told text : List ℕ) (first : Option ℕ) (count : ℕ)
+    → told ≡ first_told first ++ number_told count → IsFaultLine text → IsFaultLine (told ++ text)
+behind-told told text first count is line =
+    subst IsFaultLine (sym (ap (λ (l : List ℕ). l ++ text) is
+    ∙ append_assoc (first_told first) (number_told count) text))
+    (behind-first first (number_told count ++ text) (behind-number count text line))
+
+-- a text behind what was told is one text with it
+module _ {E : Type 0} (contents : E → Option (List ℕ)) (told : List ℕ)
+    (IsText IsAll : List ℕ → Type 0)
+    (all : (text : List ℕ) → IsText text → IsAll (told ++ text)) where
+  behind-whole : (old mid new : CountedDevice E)
+      → Appends (contents old.inner) (contents mid.inner) told → WritesOne IsText contents mid new
+      → WritesOne IsAll contents old new
+  behind-whole old mid new told_so one = record {
+    text = told ++ one.text;
+    is_text = all one.text one.is_text;
+    written = elim one.written [
+      | inl whole ↦ inl (
+        Appends-trans (contents old.inner) (contents mid.inner) (contents new.inner) told one.text
+            told_so whole.0,
+        whole.1,
+      )
+      | inr some ↦ inr (
+        min (length told + some.1.taken) (2 ^ 64 - 1),
+        record {
+          taken = length told + some.1.taken;
+          fewer = omega (arith, some.1.fewer, length-append told one.text);
+          counted = refl;
+          appended = subst (Appends (contents old.inner) (contents new.inner))
+              (sym (take-append-add told one.text some.1.taken))
+              (Appends-trans (contents old.inner) (contents mid.inner) (contents new.inner) told
+              (take some.1.taken one.text) told_so some.1.appended);
+        },
+        some.2,
+      )
+    ];
+  }
+
+  behind-part : (old mid : CountedDevice E) (taken : ℕ) → mid.failures ≡ 1 → taken < length told
+      → Appends (contents old.inner) (contents mid.inner) (take taken told)
+      → (text : List ℕ) → IsText text → WritesOne IsAll contents old mid
+  behind-part old mid taken one fewer appended text is = record {
+    text = told ++ text;
+    is_text = all text is;
+    written = inr (
+      min taken (2 ^ 64 - 1),
+      record {
+        taken = taken;
+        fewer = omega (arith, fewer, length-append told text);
+        counted = refl;
+        appended = subst (Appends (contents old.inner) (contents mid.inner))
+            (sym (take-append-le taken told text (omega (arith, fewer)))) appended;
+      },
+      one,
+    );
+  }
+
+  behind : (old mid new : CountedDevice E) (text : List ℕ) → IsText text
+      → HasTold (contents old.inner) (contents mid.inner) mid.failures told
+      → WritesLast IsText contents mid new → WritesOne IsAll contents old new
+  behind old mid new text is (inl h) last = behind-whole old mid new h.1 (last.written h.0)
+  behind old mid new text is (inr h) last =
+      subst (λ (e : CountedDevice E). WritesOne IsAll contents old e)
+      (sym (last.stopped (omega (arith, h.0))))
+      (behind-part old mid h.1 h.0 h.2 h.3 text is)
+
+-- what was told on standard error before a fault was reported
+nothing-told : {F D E : Type 0} (b : Beside F D E) → b.faults.failures ≡ 0 → IsUnused b
+    → TellsOfLines (b.contents b.faults.inner) (b.contents b.faults_after.inner)
+    b.faults_after.failures
+nothing-told {F} {D} {E} b none unused =
+    subst (λ (e : CountedDevice E). TellsOfLines (b.contents b.faults.inner) (b.contents e.inner)
+    e.failures) (sym unused.untold)
+    (0, [], inl (none, Appends-nil (b.contents b.faults.inner)))
+
+watch-told : {R W F D E : Type 0} (d : Devices R W) (b : Beside F D E) (name : Text) (moment : ℕ)
+    (outcome : Result (Unit {0}) Fault) → b.faults.failures ≡ 0
+    → WatchesLog d b name moment outcome
+    → TellsOfLines (b.contents b.faults.inner) (b.contents b.faults_after.inner)
+    b.faults_after.failures
+watch-told d b name moment outcome none (Err why, gives, opened) = nothing-told b none opened.2
+watch-told d b name moment outcome none (Ok disk, gives, opened) = opened.3.told
+
+pub ends-told : {R W F D E : Type 0} (words : List Text) (d : Devices R W) (b : Beside F D E)
+    (outcome : Result (Unit {0}) Fault) → b.faults.failures ≡ 0 → EndsRun words d b outcome
+    → TellsOfLines (b.contents b.faults.inner) (b.contents b.faults_after.inner)
+    b.faults_after.failures
+ends-told words d b outcome none (inl runs) =
+    watch-told d b runs.name runs.moment outcome none runs.watched
+ends-told words d b outcome none (inr ends) = nothing-told b none ends.0
+
+-- a fault is one text on standard error, with what was told before
+pub reported-line : {E : Type 0} (contents : E → Option (List ℕ)) (old mid new : CountedDevice E)
+    (outcome : Result (Unit {0}) Fault) (status : ℕ) → status ≡ status_of outcome
+    → TellsOfLines (contents old.inner) (contents mid.inner) mid.failures
+    → Reports contents mid new outcome → status ≢ 0
+    → WritesOne (λ text. status ≢ 64 → IsFaultLine text) contents old new
+reported-line contents old mid new (Ok done) status is told reports not_zero = absurd (not_zero is)
+reported-line contents old mid new (Err why) status is told reports not_zero =
+    let line = fault-text why in
+    behind contents (told_of told.0 told.1) (IsFaultText why)
+    (λ text. status ≢ 64 → IsFaultLine text)
+    (λ text is_text other. behind-told (told_of told.0 told.1) text (first_without told.0 told.1)
+    (count_without told.0 told.1) refl
+    (text-line why text (λ words. other (is ∙ words)) is_text))
+    old mid new line.0 line.1 told.2 reports
+
+pub answers-reported : {R W F D E : Type 0} (words : List Text) (d : Devices R W) (b : Beside F D E)
+    (status : ℕ) → b.faults.failures ≡ 0 → Answers words d b status → status ≢ 0
+    → WritesOne (λ text. status ≢ 64 → IsFaultLine text) b.contents b.faults b.faults_after
+answers-reported words d b status none answers not_zero =
+    reported-line b.contents b.faults answers.behind_call b.faults_after answers.outcome status
+    answers.status_is
+    (ends-told words d (with_faults b answers.behind_call) answers.outcome none answers.ends)
+    answers.reported not_zero
+
+-- and a success nothing, but for a watch
+silent-outcome : {R W F D E : Type 0} (words : List Text) (d : Devices R W) (b : Beside F D E)
+    (behind_call : CountedDevice E) (outcome : Result (Unit {0}) Fault)
+    → EndsRun words d (with_faults b behind_call) outcome
+    → Reports b.contents behind_call b.faults_after outcome → status_of outcome ≡ 0
+    → (NamesWatch words → ⊥) → b.faults_after ≡ b.faults
+silent-outcome words d b behind_call (Err why) ends reports zero none = absurd (failed why zero)
+silent-outcome words d b behind_call (Ok done) (inl runs) reports zero none =
+    absurd (none (runs.name, runs.moment, runs.named))
+silent-outcome words d b behind_call (Ok done) (inr ends) reports zero none =
+    reports ∙ ends.0.untold
+
+pub answers-silent : {R W F D E : Type 0} (words : List Text) (d : Devices R W) (b : Beside F D E)
+    (status : ℕ) → Answers words d b status → (NamesWatch words → ⊥) → status ≡ 0
+    → b.faults_after ≡ b.faults
+answers-silent words d b status answers none zero =
+    silent-outcome words d b answers.behind_call answers.outcome answers.ends answers.reported
+    (sym answers.status_is ∙ zero) none
+
+-- ---- a success is the success of its call
+
+reported-nothing : {E : Type 0} (contents : E → Option (List ℕ)) (old new : CountedDevice E)
+    (outcome : Result (Unit {0}) Fault) → Reports contents old new outcome → status_of outcome ≡ 0
+    → new ≡ old
+reported-nothing contents old new (Ok done) reports zero = reports
+reported-nothing contents old new (Err why) reports zero = absurd (failed why zero)
+
+pub answers-called : {R W F D E : Type 0} (words : List Text) (d : Devices R W) (b : Beside F D E)
+    (status : ℕ) → Answers words d b status → (call : Call) → Names words call → status ≡ 0
+    → Performs call d b (Ok tt)
+answers-called {R} {W} {F} {D} {E} words d b status answers call named zero =
+    let exits = answers-exits words d b status answers in
+    let same = reported-nothing b.contents answers.behind_call b.faults_after answers.outcome
+    answers.reported (sym answers.status_is ∙ zero) in
+    subst (λ (e : CountedDevice E). Performs call d (with_faults b e) (Ok tt)) (sym same)
+    (success-named words d (with_faults b answers.behind_call) call named
+    (success-exits words d (with_faults b answers.behind_call) status exits zero))
+
+-- ---- where no log can be opened, no file is handed back
+
+watch-none : {R W F D E : Type 0} (d : Devices R W) (b : Beside F D E) (name : Text) (moment : ℕ)
+    (outcome : Result (Unit {0}) Fault)
+    → ((disk : D) → b.gives b.files name (Ok disk) → ⊥)
+    → WatchesLog d b name moment outcome → b.disk_after ≡ None
+watch-none d b name moment outcome never (Err why, gives, opened) = opened.2.unopened
+watch-none d b name moment outcome never (Ok disk, gives, opened) = absurd (never disk gives)
+
+pub ends-none : {R W F D E : Type 0} (words : List Text) (d : Devices R W) (b : Beside F D E)
+    (outcome : Result (Unit {0}) Fault)
+    → ((name : Text) (disk : D) → b.gives b.files name (Ok disk) → ⊥)
+    → EndsRun words d b outcome → b.disk_after ≡ None
+ends-none words d b outcome never (inl runs) =
+    watch-none d b runs.name runs.moment outcome (never runs.name) runs.watched
+ends-none words d b outcome never (inr ends) = ends.0.unopened

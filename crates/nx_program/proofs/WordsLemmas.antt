@@ -27,7 +27,8 @@ use Rattle.nx_program.specs.declared.words.WordsFault.TheVariants.{Memory, Versi
 use Rattle.nx_station.specs.declared.damaging.DamageKind.{DamageKind}
 use Rattle.nx_program.specs.Words.{AsksForHelp, AsksForVersion, HasArguments, IsKind, IsNumber}
 use Rattle.nx_program.specs.Words.{IsRefusal, IsRefused, IsStation, LacksKind, LacksStation, Maker}
-use Rattle.nx_program.specs.Words.{Names, command_name, entries, navtex, plain, range, slot}
+use Rattle.nx_program.specs.Words.{Names, command_name, entries, navtex, on_file, plain, range}
+use Rattle.nx_program.specs.Words.{slot}
 use Rattle.nx_program.specs.private.Reading.{ExplainsWords, IsSortedAs}
 use Rattle.nx_program.proofs.EachFound.{Each, each-map, found_is}
 use Rattle.nx_program.proofs.CallArguments.{differ, number_once}
@@ -36,7 +37,7 @@ use Rattle.nx_program.proofs.CommandsTaken.{Gives, leaf, taken-command}
 use Rattle.nx_program.proofs.NumbersGiven.{number-given}
 use Rattle.nx_program.proofs.OneCall.{IsNotCalled, call_or_none, has-kind, has-station, same_call}
 use Rattle.nx_envelope.specs.declared.letter.Letter.{Letter}
-use Rattle.nx_program.specs.declared.words.Call.TheVariants.{Damage, Send, Slots}
+use Rattle.nx_program.specs.declared.words.Call.TheVariants.{Damage, Send, Slots, Watch}
 use Rattle.nx_program.proofs.FaultKinds.{HasNoHelp, IsUniform, help-alone, help-no_version}
 use Rattle.nx_program.proofs.FaultKinds.{kinds_cases, level-nil, refusal_is, u-level, u-none}
 use Rattle.nx_program.proofs.FaultKinds.{u-option, version-alone}
@@ -107,6 +108,7 @@ none_among (x ∷ xs) k e among = absurd (cc)
 leaf-no_help : (name : Text) (maker : Maker) → HasNoHelp (leaf (name, maker))
 leaf-no_help name (plain call) = refl
 leaf-no_help name (slot make) = refl
+leaf-no_help name (on_file make) = refl
 leaf-no_help name (range make) = refl
 
 calls_without_help : Each HasNoHelp (built navtex).subs
@@ -231,6 +233,10 @@ lacks_argument words name arguments taken entered none =
                 none (make letter moment.0) has.0 has.1;
           },
         )
+    go (on_file make) makes gives =
+        let moment = number-given _ _ arguments gives.1 in
+        let has = makes.1 arguments gives.0.text moment.0 gives.0.given moment.1 in
+        absurd (none (make gives.0.text moment.0) has.0 has.1)
     go (range make) makes gives =
         let from = number-given _ _ arguments gives.0 in
         let count = number-given _ _ arguments gives.1 in
@@ -262,6 +268,10 @@ plain_no_number call other rows makes given name number gives =
     let P : Call → Type 0 = λ c. HasArguments c [] in
     no_numbers name number (gives [] (subst P same (makes []).1))
 
+not_watch : (name : Text) → IsSlotWord name → name ≡ codes "watch" → ⊥
+not_watch name (inl send) watch = differ _ _ refl (sym send ∙ watch)
+not_watch name (inr slots) watch = differ _ _ refl (sym slots ∙ watch)
+
 not_both : (name : Text) → IsSlotWord name → name ≡ codes "damage" → ⊥
 not_both name (inl send) damage = differ _ _ refl (sym send ∙ damage)
 not_both name (inr slots) damage = differ _ _ refl (sym slots ∙ damage)
@@ -285,6 +295,7 @@ moment-bound words call named moment wants gives =
         let P : ℕ → Type 0 = λ n. n ≤ 32503679999 in
         subst P (number_once (codes "MOMENT") named.arguments number.0 moment number.1
         (gives named.arguments named.given)) number.2
+    go (on_file make) makes given = absurd (not_watch _ wants makes.0)
     go (range make) makes given = absurd (not_both _ wants makes.0)
 
 pub send-bound : (words : List Text) (station : Letter) (moment : ℕ)
@@ -301,6 +312,27 @@ slots-bound words station moment named =
     moment-bound words (Slots station moment) named moment (inr refl)
     (λ rows given. given.1)
 
+-- and that of a watch
+pub watch-bound : (words : List Text) (name : Text) (moment : ℕ)
+    → Names words (Watch name moment)
+    → moment ≤ 32503679999
+watch-bound words name moment named =
+    let command = taken-command words (codes "watch") named.arguments named.taken named.command in
+    go command.maker command.makes command.gives
+  where
+    go : (maker : Maker) → Makes (codes "watch") maker → Gives maker named.arguments
+        → moment ≤ 32503679999
+    go (plain other) makes given = absurd
+        (plain_no_number (Watch name moment) other named.arguments makes named.given
+        (codes "MOMENT") moment (λ rows has. has.1))
+    go (slot make) makes given = absurd (not_watch _ makes.0 refl)
+    go (on_file make) makes given =
+        let number = number-given _ _ named.arguments given.1 in
+        let P : ℕ → Type 0 = λ n. n ≤ 32503679999 in
+        subst P (number_once (codes "MOMENT") named.arguments number.0 moment number.1
+        named.given.1) number.2
+    go (range make) makes given = absurd (differ _ _ refl makes.0)
+
 -- and so are the numbers of a call that damages
 pub damage-bounds : (words : List Text) (kind : DamageKind) (from count : ℕ)
     → Names words (Damage kind from count)
@@ -316,6 +348,7 @@ damage-bounds words kind from count named =
         (codes "FROM") from
         (λ rows has. has.1))
     go (slot make) makes given = absurd (not_both _ makes.0 refl)
+    go (on_file make) makes given = absurd (differ _ _ refl makes.0)
     go (range make) makes given =
         let first = number-given _ _ named.arguments given.0 in
         let second = number-given _ _ named.arguments given.1 in

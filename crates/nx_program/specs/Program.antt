@@ -30,12 +30,13 @@ use Rattle.nx_program.specs.declared.words.Call.{Call}
 use Rattle.nx_program.specs.declared.words.Call.TheVariants.{Check, Code, Decode, Encode, Listen}
 use Rattle.nx_program.specs.declared.words.Call.TheVariants.{Show}
 use Rattle.nx_program.specs.declared.words.Call.TheVariants.{Damage, Locks, Resume, Save, Send}
-use Rattle.nx_program.specs.declared.words.Call.TheVariants.{Slots}
+use Rattle.nx_program.specs.declared.words.Call.TheVariants.{Slots, Watch}
 use Rattle.nx_program.specs.declared.fault.CallFault.{CallFault}
 use Rattle.nx_program.specs.declared.fault.CallFault.TheVariants as call
 use Rattle.nx_program.specs.declared.fault.Fault.{Fault}
 use Rattle.nx_program.specs.declared.fault.Fault.TheVariants as fault
 use Rattle.nx_program.specs.Status.{status_of}
+use Rattle.nx_program.specs.Watching.{Beside, IsUnused, WatchesLog}
 use Rattle.nx_program.specs.Words.{AsksForHelp, AsksForVersion, IsRefusedByClap, LacksKind}
 use Rattle.nx_program.specs.Words.{LacksStation, Names}
 
@@ -109,39 +110,41 @@ ReadsStateBeforeWant d own =
     → (states : SavedStates) × ReadStateAlone d.remaining d.reader d.reader_after states
     × (d.writer_after ≡ d.writer)
 
--- The call did on the devices what its outcome says. What stands on the output behind what stood
--- there is what the call wrote, and nothing before it, nor behind it.
-abbrev pub Performs : {R W : Type 0} → Call → Devices R W → Result (Unit {0}) CallFault → Type 0
-Performs Decode d outcome = Tells (λ why. call.Run why) (Decodes d) outcome
-Performs Encode d outcome = Tells (λ why. call.Run why) (Encodes d) outcome
-Performs Code d outcome =
+-- The call did on its input and its output what its outcome says. What stands on the output behind
+-- what stood there is what the call wrote, and nothing before it, nor behind it. A watch has a file
+-- too, and is none of these calls.
+abbrev pub PerformsOnStreams : {R W : Type 0} → Call → Devices R W → Result (Unit {0}) CallFault → Type 0
+PerformsOnStreams Decode d outcome = Tells (λ why. call.Run why) (Decodes d) outcome
+PerformsOnStreams Encode d outcome = Tells (λ why. call.Run why) (Encodes d) outcome
+PerformsOnStreams Code d outcome =
     IsUnread d × Tells (λ why. call.Run why)
     (WritesText (λ text. text ≡ table_text) d.contents d.writer d.writer_after) outcome
-Performs Show d outcome = Tells (λ why. call.Run why) (Shows d) outcome
-Performs Check d outcome = Tells (λ why. call.Check why) (Checks d) outcome
-Performs Listen d outcome =
+PerformsOnStreams Show d outcome = Tells (λ why. call.Run why) (Shows d) outcome
+PerformsOnStreams Check d outcome = Tells (λ why. call.Check why) (Checks d) outcome
+PerformsOnStreams Listen d outcome =
     Tells (λ why. call.Listen why)
     (λ own. ListensOnce all_at_zero d own × IsUntouchedByWant d own) outcome
-Performs Resume d outcome =
+PerformsOnStreams Resume d outcome =
     Tells (λ why. call.Resume why) (λ own. Resumes Log d own × ReadsStateBeforeWant d own) outcome
-Performs Save d outcome =
+PerformsOnStreams Save d outcome =
     Tells (λ why. call.Resume why) (λ own. Resumes State d own × ReadsStateBeforeWant d own) outcome
-Performs Locks d outcome =
+PerformsOnStreams Locks d outcome =
     Tells (λ why. call.Listen why) (λ own. ShowsLocks d own × IsUntouchedByWant d own) outcome
-Performs (Send station moment) d outcome =
+PerformsOnStreams (Send station moment) d outcome =
     Tells (λ why. call.Send why) (Sends d station.byte moment) outcome
-Performs (Slots station moment) d outcome =
+PerformsOnStreams (Slots station moment) d outcome =
     IsUnread d × ShowsSlot station.byte moment d.contents d.writer d.writer_after outcome
-Performs (Damage kind from count) d outcome =
+PerformsOnStreams (Damage kind from count) d outcome =
     Tells (λ why. call.Damage why)
     (Damages (record { kind = kind; from = from; count = count }) d) outcome
+PerformsOnStreams (Watch name moment) d outcome = ⊥
 
 -- the words name a call, which had this outcome
 pub record RunsCall {R W : Type 0} (words : List Text) (d : Devices R W)
     (outcome : Result (Unit {0}) CallFault) : Type 0 where
   pub call : Call
   pub named : Names words call
-  pub performed : Performs call d outcome
+  pub performed : PerformsOnStreams call d outcome
 
 -- the words ask for help, and a text was written; which text that is, clap leaves open
 pub record GivesHelp {R W : Type 0} (words : List Text) (d : Devices R W)
@@ -170,25 +173,55 @@ pub record LacksMemory {R W : Type 0} (d : Devices R W) (why : CallFault) : Type
   pub untouched : IsUntouched d
   pub memory : why ≡ call.Run (run.Memory alloc_error)
 
--- how the program ends
-abbrev pub EndsRun : {R W : Type 0} → List Text → Devices R W → Result (Unit {0}) Fault → Type 0
-EndsRun words d (Ok done) =
+-- how the program ends where its words name no watch
+abbrev pub EndsOnStreams : {R W : Type 0} → List Text → Devices R W → Result (Unit {0}) Fault
+    → Type 0
+EndsOnStreams words d (Ok done) =
     RunsCall words d (Ok done)
     ⊎ (GivesHelp words d (Ok done) ⊎ GivesVersion words d (Ok done))
-EndsRun words d (Err (fault.Words answer)) = IsRefusedByClap words × IsUntouched d
-EndsRun words d (Err fault.NoText) = ⊥
-EndsRun words d (Err fault.Station) = LacksStation words × IsUntouched d
-EndsRun words d (Err fault.Kind) = LacksKind words × IsUntouched d
-EndsRun words d (Err (fault.Call why)) =
+EndsOnStreams words d (Err (fault.Words answer)) = IsRefusedByClap words × IsUntouched d
+EndsOnStreams words d (Err fault.NoText) = ⊥
+EndsOnStreams words d (Err fault.Station) = LacksStation words × IsUntouched d
+EndsOnStreams words d (Err fault.Kind) = LacksKind words × IsUntouched d
+EndsOnStreams words d (Err (fault.Watch name why)) = ⊥
+EndsOnStreams words d (Err (fault.Call why)) =
     RunsCall words d (Err why)
     ⊎ (GivesHelp words d (Err why) ⊎ (GivesVersion words d (Err why) ⊎ LacksMemory d why))
 
+-- the words name a watch, which had this outcome
+pub record RunsWatch {R W F D E : Type 0} (words : List Text) (d : Devices R W) (b : Beside F D E)
+    (outcome : Result (Unit {0}) Fault) : Type 0 where
+  pub name : Text
+  pub moment : ℕ
+  pub named : Names words (Watch name moment)
+  pub watched : WatchesLog d b name moment outcome
+
+-- how the program ends: as a watch, or with no file and nothing told on standard error
+abbrev pub EndsRun : {R W F D E : Type 0} → List Text → Devices R W → Beside F D E
+    → Result (Unit {0}) Fault → Type 0
+EndsRun words d b outcome =
+    RunsWatch words d b outcome ⊎ (IsUnused b × EndsOnStreams words d outcome)
+
+-- The call did what its outcome says: a watch on its file, its input, its output and standard error,
+-- and each other call on its input and its output alone.
+abbrev pub Performs : {R W F D E : Type 0} → Call → Devices R W → Beside F D E
+    → Result (Unit {0}) Fault → Type 0
+Performs (Watch name moment) d b outcome = WatchesLog d b name moment outcome
+Performs call d b (Ok done) = IsUnused b × PerformsOnStreams call d (Ok done)
+Performs call d b (Err (fault.Call why)) = IsUnused b × PerformsOnStreams call d (Err why)
+Performs call d b (Err _) = ⊥
+
 -- the program ends so on these devices, with this status
-pub record Exits {R W : Type 0} (words : List Text) (d : Devices R W) (status : ℕ) : Type 0 where
+pub record Exits {R W F D E : Type 0} (words : List Text) (d : Devices R W) (b : Beside F D E)
+    (status : ℕ) : Type 0 where
   pub outcome : Result (Unit {0}) Fault
-  pub ends : EndsRun words d outcome
+  pub ends : EndsRun words d b outcome
   pub status_is : status ≡ status_of outcome
 
 -- the call that the words name succeeded, or they ask for help or for the version, which was written
-abbrev pub Succeeds : {R W : Type 0} → List Text → Devices R W → Type 0
-Succeeds words d = EndsRun words d (Ok tt)
+abbrev pub Succeeds : {R W F D E : Type 0} → List Text → Devices R W → Beside F D E → Type 0
+Succeeds words d b = EndsRun words d b (Ok tt)
+
+-- the words name a watch
+abbrev pub NamesWatch : List Text → Type 0
+NamesWatch words = (name : Text) × (moment : ℕ) × Names words (Watch name moment)

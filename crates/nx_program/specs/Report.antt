@@ -1,5 +1,5 @@
 -- What the program leaves on standard error (this profile).
-use Rattle.std.specs.Prelude.{◌≡◌, ◌≢◌, ◌⊎◌, ◌∷◌, ◌++◌, ℕ, List, [], Option, Result, Ok, Err}
+use Rattle.std.specs.Prelude.{◌≡◌, ◌≢◌, ◌<◌, ◌⊎◌, ◌∷◌, ◌++◌, ℕ, List, [], Option, None, Result, Ok, Err}
 use Rattle.std.specs.Prelude.{alloc_error, codes, string_bytes}
 use Rattle.std.specs.Io.KnownBytes.{Appends}
 use Rattle.std.specs.IoError.{error_kind}
@@ -13,6 +13,7 @@ use Rattle.nx_program.specs.declared.fault.Fault.{Fault}
 use Rattle.nx_program.specs.declared.fault.Fault.TheVariants as fault
 use Rattle.nx_program.specs.Program.{EndsRun, IsUntouched}
 use Rattle.nx_program.specs.Status.{fault_status, status_of}
+use Rattle.nx_program.specs.Watching.{Beside, watch_fault_line, with_faults}
 
 -- a line that reports a fault: `navtex: `, what the fault is shown as, and a newline (10)
 pub record IsFaultLine (line : List ℕ) : Type 0 where
@@ -27,6 +28,7 @@ IsFaultText fault.NoText text =
 IsFaultText fault.Station text =
     text ≡ codes "navtex: station must be one letter A to Z" ++ 10 ∷ []
 IsFaultText fault.Kind text = text ≡ codes "navtex: kind must be dx, rx or all" ++ 10 ∷ []
+IsFaultText (fault.Watch name why) text = text ≡ watch_fault_line name why
 IsFaultText (fault.Call why) text = IsFaultLine text
 
 -- one text, of which this holds, was written whole, or up to a write that failed
@@ -39,18 +41,26 @@ pub record WritesOne {E : Type 0} (IsText : List ℕ → Type 0) (contents : E �
       ⊎ ((count : ℕ) × WroteSome (contents old.inner) (contents new.inner) text count
       × (new.failures ≡ 1))
 
+-- A text of which this holds was written as said; but where a write had failed before, nothing was.
+pub record WritesLast {E : Type 0} (IsText : List ℕ → Type 0) (contents : E → Option (List ℕ))
+    (old new : CountedDevice E) : Type 0 where
+  pub written : old.failures ≡ 0 → WritesOne IsText contents old new
+  pub stopped : 0 < old.failures → new ≡ old
+
 -- a success leaves nothing there, and a fault its text
 abbrev pub Reports : {E : Type 0} → (E → Option (List ℕ)) → CountedDevice E → CountedDevice E
     → Result (Unit {0}) Fault → Type 0
 Reports contents old new (Ok done) = new ≡ old
-Reports contents old new (Err why) = WritesOne (IsFaultText why) contents old new
+Reports contents old new (Err why) = WritesLast (IsFaultText why) contents old new
 
--- the program ends so on its devices and on standard error, with this status
-pub record Answers {R W E : Type 0} (words : List Text) (d : Devices R W)
-    (contents : E → Option (List ℕ)) (old new : CountedDevice E) (status : ℕ) : Type 0 where
+-- The program ends so on its devices and on standard error, with this status: standard error stood so
+-- behind the call, and then the fault was reported there.
+pub record Answers {R W F D E : Type 0} (words : List Text) (d : Devices R W) (b : Beside F D E)
+    (status : ℕ) : Type 0 where
   pub outcome : Result (Unit {0}) Fault
-  pub ends : EndsRun words d outcome
-  pub reported : Reports contents old new outcome
+  pub behind_call : CountedDevice E
+  pub ends : EndsRun words d (with_faults b behind_call) outcome
+  pub reported : Reports b.contents behind_call b.faults_after outcome
   pub status_is : status ≡ status_of outcome
 
 -- the fault of words that can't be had for this reason: want of memory, or one of them is no text
@@ -59,11 +69,13 @@ IsWantOfWords reason why =
     (error_kind reason ≡ OutOfMemory → why ≡ fault.Call (call.Run (run.Memory alloc_error)))
     × (error_kind reason ≢ OutOfMemory → why ≡ fault.NoText)
 
--- the words can't be had for this reason: neither device was called, and the fault was reported
-pub record LacksWords {R W E : Type 0} (reason : Error) (d : Devices R W)
-    (contents : E → Option (List ℕ)) (old new : CountedDevice E) (status : ℕ) : Type 0 where
+-- the words can't be had for this reason: no device was called, no file opened, and the fault was
+-- reported
+pub record LacksWords {R W F D E : Type 0} (reason : Error) (d : Devices R W) (b : Beside F D E)
+    (status : ℕ) : Type 0 where
   pub why : Fault
   pub want : IsWantOfWords reason why
   pub untouched : IsUntouched d
-  pub reported : Reports contents old new (Err why)
+  pub unopened : b.disk_after ≡ None
+  pub reported : Reports b.contents b.faults b.faults_after (Err why)
   pub status_is : status ≡ fault_status why

@@ -14,6 +14,10 @@ use Rattle.nx_station.specs.declared.fault.DamageFault.TheVariants as damage
 use Rattle.nx_station.specs.declared.fault.EmissionFault.TheVariants as emission
 use Rattle.nx_station.specs.declared.fault.SendRunFault.{SendRunFault}
 use Rattle.nx_station.specs.declared.fault.SendRunFault.TheVariants as send
+use Rattle.nx_disk.specs.declared.file.FileFault.TheVariants as file
+use Rattle.nx_watch.specs.declared.watch_fault.WatchFault.TheVariants as watch
+use Rattle.nx_program.specs.declared.watching.WatchFailure.{WatchFailure}
+use Rattle.nx_program.specs.declared.watching.WatchFailure.TheVariants.{Unopened, Ended}
 use Rattle.nx_program.specs.declared.fault.CallFault.{CallFault}
 use Rattle.nx_program.specs.declared.fault.CallFault.TheVariants as call
 use Rattle.nx_program.specs.declared.fault.Fault.{Fault}
@@ -54,6 +58,13 @@ damage_status damage.Read = 1
 damage_status (damage.Write written) = 1
 damage_status _ = 2
 
+abbrev pub watch_failure_status : WatchFailure → ℕ
+watch_failure_status (Unopened file.Busy) = 2
+watch_failure_status (Unopened _) = 1
+watch_failure_status (Ended (watch.Damaged line)) = 2
+watch_failure_status (Ended (watch.Back line last given)) = 2
+watch_failure_status (Ended _) = 1
+
 abbrev pub call_status : CallFault → ℕ
 call_status (call.Run why) = run_status why
 call_status (call.Send why) = send_status why
@@ -68,6 +79,7 @@ fault_status (fault.Words answer) = 64
 fault_status fault.NoText = 64
 fault_status fault.Station = 64
 fault_status fault.Kind = 64
+fault_status (fault.Watch name why) = watch_failure_status why
 fault_status (fault.Call why) = call_status why
 
 abbrev pub status_of : Result (Unit {0}) Fault → ℕ

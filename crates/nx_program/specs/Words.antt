@@ -13,7 +13,7 @@ use Rattle.nx_program.specs.declared.words.Call.{Call}
 use Rattle.nx_program.specs.declared.words.Call.TheVariants.{Check, Code, Decode, Encode, Listen}
 use Rattle.nx_program.specs.declared.words.Call.TheVariants.{Show}
 use Rattle.nx_program.specs.declared.words.Call.TheVariants.{Damage, Locks, Resume, Save, Send}
-use Rattle.nx_program.specs.declared.words.Call.TheVariants.{Slots}
+use Rattle.nx_program.specs.declared.words.Call.TheVariants.{Slots, Watch}
 use Rattle.nx_station.specs.declared.damaging.DamageKind.{DamageKind}
 use Rattle.nx_station.specs.declared.damaging.DamageKind.TheVariants.{Dx, Rx, All}
 
@@ -25,6 +25,7 @@ command_name Code = codes "code"
 command_name Show = codes "show"
 command_name Check = codes "check"
 command_name Listen = codes "listen"
+command_name (Watch name moment) = codes "watch"
 command_name Resume = codes "resume"
 command_name Save = codes "save"
 command_name Locks = codes "locks"
@@ -57,6 +58,12 @@ slot_tree word =
     let with_station = with_rule (new_app word) (text_rule (codes "STATION")) in
     with_rule with_station (number_rule (codes "MOMENT") 32503679999)
 
+-- a command that takes a file and a moment, which is at most the last moment
+abbrev pub file_tree : Text → App
+file_tree word =
+    let with_file = with_rule (new_app word) (text_rule (codes "FILE")) in
+    with_rule with_file (number_rule (codes "MOMENT") 32503679999)
+
 -- a command that takes a kind of damage, the first word and a count of words, each of 32 bits
 abbrev pub damage_tree : Text → App
 damage_tree word =
@@ -73,17 +80,19 @@ bare_tree = on_top (λ s. record s {
   has_version = true;
 }) (new_app (codes "navtex"))
 
--- what a command takes, and the call that it makes of it: nothing; a station and a moment; a kind
--- of damage and two numbers
+-- what a command takes, and the call that it makes of it: nothing; a station and a moment; a file
+-- and a moment; a kind of damage and two numbers
 pub data Maker : Type 0 where
   plain : Call → Maker
   slot : (Letter → ℕ → Call) → Maker
+  on_file : (Text → ℕ → Call) → Maker
   range : (DamageKind → ℕ → ℕ → Call) → Maker
 
 -- the command tree of a command of this name
 abbrev pub tree_of : Text → Maker → App
 tree_of name (plain call) = plain_tree name
 tree_of name (slot make) = slot_tree name
+tree_of name (on_file make) = file_tree name
 tree_of name (range make) = damage_tree name
 
 -- a command of the program: its name, and what it takes
@@ -93,8 +102,8 @@ Entry = Text × Maker
 -- the commands of the program, in the order in which help lists them
 abbrev pub entries : List Entry
 entries =
-    (codes "listen", plain Listen) ∷ (codes "send", slot Send) ∷ (codes "resume", plain Resume)
-    ∷ (codes "save", plain Save) ∷ (codes "locks", plain Locks) ∷ (codes "slots", slot Slots)
+    (codes "listen", plain Listen) ∷ (codes "watch", on_file Watch) ∷ (codes "send", slot Send)
+    ∷ (codes "resume", plain Resume) ∷ (codes "save", plain Save) ∷ (codes "locks", plain Locks) ∷ (codes "slots", slot Slots)
     ∷ (codes "check", plain Check) ∷ (codes "damage", range Damage)
     ∷ (codes "decode", plain Decode) ∷ (codes "encode", plain Encode) ∷ (codes "show", plain Show)
     ∷ (codes "code", plain Code) ∷ []
@@ -107,6 +116,10 @@ navtex =
 -- the argument STATION is this letter alone
 abbrev pub IsStation : List Row → Letter → Type 0
 IsStation arguments station = first_of (codes "STATION") arguments ≡ Some (station.byte ∷ [])
+
+-- the argument FILE is this name, which is any text
+abbrev pub IsFile : List Row → Text → Type 0
+IsFile arguments name = first_of (codes "FILE") arguments ≡ Some name
 
 -- the argument KIND names this kind of damage
 abbrev pub IsKind : List Row → DamageKind → Type 0
@@ -127,6 +140,8 @@ HasArguments (Send station moment) arguments =
     IsStation arguments station × IsNumber (codes "MOMENT") arguments moment
 HasArguments (Slots station moment) arguments =
     IsStation arguments station × IsNumber (codes "MOMENT") arguments moment
+HasArguments (Watch name moment) arguments =
+    IsFile arguments name × IsNumber (codes "MOMENT") arguments moment
 HasArguments (Damage kind from count) arguments =
     IsKind arguments kind × IsNumber (codes "FROM") arguments from
     × IsNumber (codes "COUNT") arguments count

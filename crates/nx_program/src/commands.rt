@@ -1,7 +1,7 @@
 //! The command tree of the program, and the texts of its help.
 
 ghost use Rattle.std.specs.Prelude.{IfOk};
-ghost use Rattle.nx_program.specs.Words.{bare_tree, damage_tree, navtex, number_rule, slot_tree};
+ghost use Rattle.nx_program.specs.Words.{bare_tree, damage_tree, file_tree, navtex, number_rule, slot_tree};
 ghost use Rattle.nx_program.specs.Words.{text_rule};
 ghost use Rattle.nx_program.specs.private.Reading.{AddsRow, AddsRule, IsBuiltAs, IsReadAs};
 ghost use Rattle.nx_program.specs.private.Reading.{row_tree, with_rows};
@@ -22,6 +22,8 @@ enum Takes {
     Nothing,
     /// A station and a moment.
     Slot,
+    /// A file and a moment.
+    File,
     /// A kind of damage and a range of words.
     Range,
 }
@@ -120,6 +122,46 @@ const LISTEN: Row = Row {
     short: Some(LISTEN_SHORT),
     long: LISTEN_HELP,
     example: LISTEN_EXAMPLE,
+};
+
+const WATCH_SHORT: &str =
+    "An air file is text: lines of B with the elements on the air, 1 or 0 each, and
+lines of T with the time. The log is the memory of the receiver too: whatever
+ends a watch, the next one goes on from it. --help says more.";
+
+const WATCH_HELP: &str = "Keep the log of a receiver that is left on.
+
+An air file is a text of what is on the air. A log is what a receiver prints of
+it: an entry for each message. The log of a watch is its memory too: whatever
+ends a watch, a power cut in the middle of a write too, the next one goes on from
+FILE, and prints no message again that stands there.
+
+Reads from standard input, to its end, the lines that listen --help lists, and
+any others: a line that isn't understood, a moment that goes back and elements
+before any moment have no effect. The first such line is told on standard error,
+and at the end their number. A moment that goes back by 66 hours or more, twice
+in a row, ends the watch.
+
+Puts each entry into FILE, and brings it to the disk, before it reads on. An
+empty line stands before each entry and a space behind the last. Nothing is
+written to standard output, but where an entry can't be put: then it and all
+later ones go there.
+
+FILE is a regular file on a local disk, which is made where it isn't there. A
+damaged one is refused at its line and stays as it is, and so is a log of listen.
+A second watch of the same file is refused. MOMENT is the time at which the watch
+starts; what is remembered of 66 hours later or more is left out.";
+
+const WATCH_EXAMPLE: &str = "Example, live from a demodulator:
+  $ examples/sound/elements < samples | navtex watch watch.log \"$(date +%s)\"";
+
+const WATCH: Row = Row {
+    name: "watch",
+    takes: Takes::File,
+    about: "Keep the log of a receiver that is left on",
+    short: Some(WATCH_SHORT),
+    long: WATCH_HELP,
+    example: WATCH_EXAMPLE,
 };
 
 const RESUME_SHORT: &str =
@@ -528,9 +570,6 @@ nothing. --help after a command says what it reads and writes. A fault is one
 line on standard error; where words are not understood, it may be a text of
 several lines.
 
-One more command is a receiver that is left on: navtex watch <FILE> <MOMENT>.
-navtex watch --help says more.
-
 Example:
   $ printf '#A01\\nTEST\\n;\\n' | navtex send E 1735689600 | navtex listen
   [EA01 2025-01-01 00:40:00 full 0/5]
@@ -543,8 +582,8 @@ Exit status:
   64  words that are not understood";
 
 /// The commands of the program, in the order in which help lists them.
-const COMMANDS: [Row; 12] = [
-    LISTEN, SEND, RESUME, SAVE, LOCKS, SLOTS, CHECK, DAMAGE, DECODE, ENCODE, SHOW, CODE,
+const COMMANDS: [Row; 13] = [
+    LISTEN, WATCH, SEND, RESUME, SAVE, LOCKS, SLOTS, CHECK, DAMAGE, DECODE, ENCODE, SHOW, CODE,
 ];
 
 /// The command with an argument that is any text.
@@ -596,6 +635,25 @@ fn slot_command<'a>(alloc: Global, word: &'a str) -> Result<Command<'a>, AllocEr
     )
 }
 
+/// A command that takes a file and a moment.
+fn file_command<'a>(alloc: Global, word: &'a str) -> Result<Command<'a>, AllocError>
+    ensures { IfOk result (IsBuiltAs (file_tree word.entry.now)) }
+{
+    let command = with_text(
+        alloc,
+        Command::new(alloc, word),
+        "FILE",
+        "The log: a regular file, which is made where it isn't there",
+    )?;
+    with_number(
+        alloc,
+        command,
+        "MOMENT",
+        LAST_MOMENT,
+        "When it starts: seconds since 1970-01-01 00:00:00 UTC, 0 to 32503679999",
+    )
+}
+
 /// A command that takes a kind of damage and a range of words.
 fn range_command<'a>(alloc: Global, word: &'a str) -> Result<Command<'a>, AllocError>
     ensures { IfOk result (IsBuiltAs (damage_tree word.entry.now)) }
@@ -630,6 +688,7 @@ impl Row {
         match self.takes {
             Takes::Nothing => Ok(Command::new(alloc, self.name)),
             Takes::Slot => slot_command(alloc, self.name),
+            Takes::File => file_command(alloc, self.name),
             Takes::Range => range_command(alloc, self.name),
         }
     }

@@ -2,13 +2,15 @@
 
 ghost use Rattle.std.specs.Fmt.InlineText.{inline_text};
 ghost use Rattle.std.specs.Prelude.{◌≡◌};
-ghost use Rattle.nx_program.specs.Report.{IsFaultLine, IsFaultText, WritesOne};
+ghost use Rattle.nx_program.specs.Report.{IsFaultLine, IsFaultText, WritesLast, WritesOne};
 ghost use Rattle.nx_program.specs.Status.{call_status, fault_status};
 ghost use Rattle.nx_program.specs.declared.fault.CallFault.TheVariants.{Check, Damage, Listen};
 ghost use Rattle.nx_program.specs.declared.fault.CallFault.TheVariants.{Resume, Run, Send};
 ghost use Rattle.nx_program.specs.declared.fault.Fault.TheVariants.{Call};
 ghost use Rattle.nx_fec.specs.declared.fault.RunFault.TheVariants.{Memory};
 
+use crate::file_name::FileName;
+use crate::watching::WatchFailure;
 use nx_fec::{Counting, RunFault, write_out};
 use nx_receiver::{ListenFault, ResumeFault, StateFault};
 use nx_station::{CheckFault, DamageFault, EmissionFault, SendRunFault};
@@ -111,7 +113,7 @@ impl CallFault {
 
 /// Why a run of the program failed.
 #[derive(Debug, Drop)]
-pub enum Fault {
+pub enum Fault<'a> {
     /// The words are not understood, as this text says.
     Words(String),
     /// A word of the command line is no text, so none of them was read.
@@ -120,16 +122,19 @@ pub enum Fault {
     Station,
     /// The kind of damage is none of those that there are.
     Kind,
+    /// The watch of the log of this name failed.
+    Watch(FileName<'a>, WatchFailure),
     /// The call that the words name failed, or the writing of help did.
     Call(CallFault),
 }
 
-impl Fault {
+impl<'a> Fault<'a> {
     fn status(&self) -> u8
         ensures { result ≡ fault_status self.now }
     {
         match self {
             Fault::Words(_) | Fault::NoText | Fault::Station | Fault::Kind => BAD_WORDS,
+            Fault::Watch(_, why) => why.status(),
             Fault::Call(why) => why.status(),
         }
     }
@@ -137,18 +142,28 @@ impl Fault {
     /// Reports the fault on standard error by one text, and answers its exit status, which stays the
     /// same where the text can't be written. The device isn't called again after it failed.
     pub fn report<E: Write>(&self, faults: &mut Counting<E>) -> u8
-        requires { faults.old.failures ≡ 0 }
         ensures status { result ≡ fault_status self.now }
-        ensures reported { WritesOne (IsFaultText self.now) E.contents faults.old faults.new }
+        ensures reported { WritesLast (IsFaultText self.now) E.contents faults.old faults.new }
+    {
+        if faults.failures() == 0 {
+            self.tell(faults);
+        }
+        self.status()
+    }
+
+    /// Tells of the fault by its text, as far as the device takes it.
+    fn tell<E: Write>(&self, faults: &mut Counting<E>)
+        requires { faults.old.failures ≡ 0 }
+        ensures { WritesOne (IsFaultText self.now) E.contents faults.old faults.new }
     {
         let _ = match self {
             Fault::Words(answer) => write_out(faults, answer.as_bytes()),
             Fault::NoText => write_out(faults, NO_TEXT.as_bytes()),
             Fault::Station => write_out(faults, STATION.as_bytes()),
             Fault::Kind => write_out(faults, KIND.as_bytes()),
+            Fault::Watch(log, why) => return why.tell(log, faults),
             Fault::Call(why) => write_out(faults, why.line().as_str().as_bytes()),
         };
-        self.status()
     }
 }
 
@@ -200,26 +215,26 @@ impl From<DamageFault> for CallFault {
     }
 }
 
-impl From<CallFault> for Fault {
+impl<'a> From<CallFault> for Fault<'a> {
     ghost from_gives = { λ why fault. fault ≡ Call why };
 
-    fn from(why: CallFault) -> Fault {
+    fn from(why: CallFault) -> Fault<'a> {
         Fault::Call(why)
     }
 }
 
-impl From<RunFault> for Fault {
+impl<'a> From<RunFault> for Fault<'a> {
     ghost from_gives = { λ why fault. fault ≡ Call (Run why) };
 
-    fn from(why: RunFault) -> Fault {
+    fn from(why: RunFault) -> Fault<'a> {
         Fault::Call(CallFault::Run(why))
     }
 }
 
-impl From<AllocError> for Fault {
+impl<'a> From<AllocError> for Fault<'a> {
     ghost from_gives = { λ want fault. fault ≡ Call (Run (Memory want)) };
 
-    fn from(want: AllocError) -> Fault {
+    fn from(want: AllocError) -> Fault<'a> {
         Fault::Call(CallFault::Run(RunFault::Memory(want)))
     }
 }

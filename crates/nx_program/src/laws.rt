@@ -7,7 +7,7 @@ ghost use Rattle.nx_program.specs.Words.{AsksForHelp, AsksForVersion, IsRefused,
 ghost use Rattle.nx_program.specs.Words.{LacksKind, LacksStation, Names};
 ghost use Rattle.nx_program.specs.declared.words.Call.{Call};
 ghost use Rattle.nx_program.specs.declared.words.Call.TheVariants.{Check, Code, Decode, Encode, Listen, Show};
-ghost use Rattle.nx_program.specs.declared.words.Call.TheVariants.{Damage, Locks, Resume, Save, Send, Slots};
+ghost use Rattle.nx_program.specs.declared.words.Call.TheVariants.{Damage, Locks, Resume, Save, Send, Slots, Watch};
 ghost use Rattle.nx_station.specs.declared.damaging.DamageKind.{DamageKind};
 ghost use Rattle.nx_station.specs.declared.damaging.DamageKind.TheVariants.{All, Dx};
 
@@ -63,6 +63,8 @@ pub fn numbers_are_in_range()
         → Names words (Send station moment) → moment ≤ 32503679999 }
     ensures slots { (words : List Text) (station : Letter) (moment : ℕ)
         → Names words (Slots station moment) → moment ≤ 32503679999 }
+    ensures watch { (words : List Text) (name : Text) (moment : ℕ)
+        → Names words (Watch name moment) → moment ≤ 32503679999 }
     ensures from { (words : List Text) (kind : DamageKind) (from count : ℕ)
         → Names words (Damage kind from count) → from ≤ 4294967295 }
     ensures count { (words : List Text) (kind : DamageKind) (from count : ℕ)
@@ -85,6 +87,19 @@ pub fn slots_in_examples()
     ensures no_moment { (program : Text) → IsRefused (program ∷ codes "send" ∷ codes "E" ∷ []) }
     ensures no_number { (program : Text)
         → IsRefused (program ∷ codes "slots" ∷ codes "E" ∷ codes "now" ∷ []) }
+{}
+
+/// What words with a file and a moment are read as, whatever the program's name.
+pub fn watch_in_examples()
+    ensures some { (program : Text)
+        → Names (program ∷ codes "watch" ∷ codes "x.log" ∷ codes "1735692000" ∷ [])
+        (Watch (codes "x.log") 1735692000) }
+    ensures too_late { (program : Text) → IsRefusedByClap
+        (program ∷ codes "watch" ∷ codes "x.log" ∷ codes "32503680000" ∷ []) }
+    ensures no_moment { (program : Text)
+        → IsRefused (program ∷ codes "watch" ∷ codes "x.log" ∷ []) }
+    ensures option_alone { (program : Text)
+        → IsRefused (program ∷ codes "watch" ∷ codes "--x" ∷ codes "0" ∷ []) }
 {}
 
 /// What words with a kind of damage and two numbers are read as, whatever the program's name.

@@ -3,11 +3,15 @@
 
 mod commands;
 mod fault;
+mod file_name;
 pub mod laws;
 mod program;
 mod slots;
+mod watching;
 mod words;
 
 pub use fault::CallFault;
-pub use program::{answer, run};
+pub use file_name::FileName;
+pub use program::{Answered, answer, run};
+pub use watching::{LogFiles, NoFile, NoFiles, SystemFiles, WatchFailure};
 pub use words::Call;

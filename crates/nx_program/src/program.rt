@@ -1,11 +1,14 @@
 //! The program without its process.
 
-ghost use Rattle.std.specs.Prelude.{◌≡◌, ◌≢◌, ◌⊎◌, IfOk, IfSome, MatchResult, map, string_bytes};
-ghost use Rattle.nx_program.specs.Program.{EndsRun, Exits, Performs, Succeeds, WritesText, fresh_device};
-ghost use Rattle.nx_program.specs.Program.{version_text};
+ghost use Rattle.std.specs.Prelude.{◌≡◌, ◌≢◌, ◌⊎◌, IfErr, IfOk, IfSome, List, MatchResult, None, Option, map, string_bytes, ℕ};
+ghost use Rattle.nx_program.specs.Program.{EndsOnStreams, EndsRun, Exits, NamesWatch, Performs, PerformsOnStreams};
+ghost use Rattle.nx_program.specs.Program.{Succeeds, WritesText, fresh_device, version_text};
 ghost use Rattle.nx_program.specs.Report.{Answers, IsFaultLine, IsWantOfWords, LacksWords, WritesOne};
 ghost use Rattle.nx_program.specs.Status.{IsStatus};
+ghost use Rattle.nx_program.specs.Watching.{beside};
 ghost use Rattle.nx_program.specs.Words.{IsRefused, Names};
+ghost use Rattle.nx_program.specs.private.Reading.{ExplainsWords, IsOnStreams};
+ghost use Rattle.clap.specs.Words.{Text};
 ghost use Rattle.nx_fec.specs.Transfers.{CountedDevice, devices};
 ghost use Rattle.nx_fec.specs.TableText.{table_text};
 ghost use Rattle.nx_program.specs.declared.words.Call.{Call};
@@ -13,8 +16,11 @@ ghost use Rattle.nx_program.specs.declared.words.Call.{Call};
 use crate::commands::VERSION;
 use crate::fault::{CallFault, Fault};
 use crate::slots::print_slot;
+use crate::watching::{LogFiles, NoFile, NoFiles, watch_log};
 use crate::words::{Call, WordsFault, call_of};
+use nx_disk::Noted;
 use nx_fec::{Counting, RunFault, decode_run, encode_run, show_run, write_out, write_table};
+use nx_kept::DiskFile;
 use nx_locks::locks;
 use nx_receiver::{Want, listen, resume};
 use nx_station::{check_run, damage, send};
@@ -36,7 +42,7 @@ fn print_code<W: Write>(writer: &mut Counting<W>) -> Result<(), RunFault>
     Ok(())
 }
 
-/// Does what the call says, from the reader to the writer.
+/// Does what the call says, from the reader to the writer. It is no watch.
 fn perform<R: Read, W: Write>(
     alloc: Global,
     call: Call,
@@ -45,7 +51,8 @@ fn perform<R: Read, W: Write>(
 ) -> Result<(), CallFault>
     requires reader { reader.old.failures ≡ 0 }
     requires writer { writer.old.failures ≡ 0 }
-    ensures { Performs call
+    requires streams { IsOnStreams call }
+    ensures { PerformsOnStreams call.entry
         (devices R.remaining W.contents reader.old reader.new writer.old writer.new)
         result }
 {
@@ -66,6 +73,7 @@ fn perform<R: Read, W: Write>(
         Call::Listen => {
             listen(alloc, reader, writer)?;
         }
+        Call::Watch { .. } => unreachable!(),
         Call::Resume => {
             resume(alloc, reader, writer, Want::Log)?;
         }
@@ -110,20 +118,22 @@ fn give_version<W: Write>(writer: &mut Counting<W>) -> Result<(), RunFault>
     Ok(())
 }
 
-/// Reads the words and does what they ask for.
-fn obey<S: AsStr, R: Read, W: Write>(
+/// Does what the words ask for that were read so, where they name no watch.
+fn obey_on_streams<R: Read, W: Write>(
     alloc: Global,
-    words: &[S],
+    read: Result<Call, WordsFault>,
     reader: &mut Counting<R>,
     writer: &mut Counting<W>,
-) -> Result<(), Fault>
+) -> Result<(), Fault<'static>>
     requires reader { reader.old.failures ≡ 0 }
     requires writer { writer.old.failures ≡ 0 }
-    ensures { EndsRun (map S.text words.now)
+    requires streams { IfOk read IsOnStreams }
+    ensures { (words : List Text) → IfOk read.entry (Names words)
+        → IfErr read.entry (ExplainsWords words) → EndsOnStreams words
         (devices R.remaining W.contents reader.old reader.new writer.old writer.new)
         result }
 {
-    match call_of(alloc, words) {
+    match read {
         Ok(call) => {
             perform(alloc, call, reader, writer)?;
             Ok(())
@@ -143,30 +153,71 @@ fn obey<S: AsStr, R: Read, W: Write>(
     }
 }
 
+/// Reads the words and does what they ask for. The log's file is handed back, if one was opened.
+fn obey<'a, S: AsStr, R: Read, W: Write, E: Write, F: LogFiles + Drop>(
+    alloc: Global,
+    words: &'a [S],
+    reader: &mut Counting<R>,
+    writer: &mut Counting<W>,
+    faults: &mut Counting<E>,
+    files: F,
+) -> (Result<(), Fault<'a>>, Option<F::Disk>)
+    requires reader { reader.old.failures ≡ 0 }
+    requires writer { writer.old.failures ≡ 0 }
+    requires faults { faults.old.failures ≡ 0 }
+    ensures { EndsRun (map S.text words.now)
+        (devices R.remaining W.contents reader.old reader.new writer.old writer.new)
+        (beside files F.gives result.1 F.Disk.DiskFile E.contents faults.old faults.new)
+        result.0 }
+{
+    match call_of(alloc, words) {
+        Ok(Call::Watch { file, moment }) => watch_log(
+            alloc, file, moment, files, reader, writer, faults,
+        ),
+        Ok(call) => (obey_on_streams(alloc, Ok(call), reader, writer), None),
+        Err(why) => (obey_on_streams(alloc, Err(why), reader, writer), None),
+    }
+}
+
+/// How the program ended, and the file of the log, if one was opened.
+#[derive(Drop)]
+pub struct Answered<D> {
+    /// The exit status.
+    pub status: u8,
+    /// The file of the log.
+    pub file: Option<D>,
+}
+
 /// Does what the words ask for, reports a fault, and answers the exit status. After the answer
 /// nothing more is read or written.
-fn exit_status<S: AsStr, R: Read, W: Write, E: Write>(
+fn exit_status<S: AsStr, R: Read, W: Write, E: Write, F: LogFiles + Drop>(
     alloc: Global,
     words: &[S],
     reader: &mut Counting<R>,
     writer: &mut Counting<W>,
     faults: &mut Counting<E>,
-) -> u8
+    files: F,
+) -> Answered<F::Disk>
     requires reader { reader.old.failures ≡ 0 }
     requires writer { writer.old.failures ≡ 0 }
     requires faults { faults.old.failures ≡ 0 }
     ensures { Answers (map S.text words.now)
         (devices R.remaining W.contents reader.old reader.new writer.old writer.new)
-        E.contents faults.old faults.new result }
+        (beside files F.gives result.file F.Disk.DiskFile E.contents faults.old faults.new)
+        result.status }
 {
-    match obey(alloc, words, reader, writer) {
-        Ok(()) => DONE,
-        Err(fault) => fault.report(faults),
+    let (outcome, file) = obey(alloc, words, reader, writer, faults, files);
+    match outcome {
+        Ok(()) => Answered { status: DONE, file },
+        Err(fault) => Answered {
+            status: fault.report(faults),
+            file,
+        },
     }
 }
 
 /// The fault of words that can't be had, for this reason: one of them is no text, or memory ran out.
-fn want_of_words(reason: &io::Error) -> Fault
+fn want_of_words(reason: &io::Error) -> Fault<'static>
     ensures { IsWantOfWords reason.now result }
 {
     match reason.kind() {
@@ -178,48 +229,58 @@ fn want_of_words(reason: &io::Error) -> Fault
 /// Runs the program from its input to its output, both as they stand: does what its words ask for,
 /// of which the first is the program's name, reports a fault on `faults`, and answers the exit
 /// status. Where the words can't be had, it reports why. After the answer nothing more is read or
-/// written.
-pub fn answer<R: Read, W: Write, E: Write>(
+/// written. A watch opens its log by `files`; the open file is handed back.
+pub fn answer<R: Read, W: Write, E: Write, F: LogFiles + Drop>(
     alloc: Global,
     words: io::Result<Vec<String>>,
     input: &mut Counting<R>,
     output: &mut Counting<W>,
     faults: &mut Counting<E>,
-) -> u8
+    files: F,
+) -> Answered<F::Disk>
     requires input { input.old.failures ≡ 0 }
     requires output { output.old.failures ≡ 0 }
     requires faults { faults.old.failures ≡ 0 }
 
-    // What was done with input and output and what was left on standard error, by the words; or why
-    // there were none.
+    // What was done with input, output and the log, and what was left on standard error, by the
+    // words; or why there were none.
     ensures exits { MatchResult words
         (λ given. Answers (map string_bytes given.items)
         (devices R.remaining W.contents input.old input.new output.old output.new)
-        E.contents faults.old faults.new result)
+        (beside files F.gives result.file F.Disk.DiskFile E.contents faults.old faults.new)
+        result.status)
         (λ reason. LacksWords reason
         (devices R.remaining W.contents input.old input.new output.old output.new)
-        E.contents faults.old faults.new result) }
-    ensures status { IsStatus result }
+        (beside files F.gives result.file F.Disk.DiskFile E.contents faults.old faults.new)
+        result.status) }
+    ensures status { IsStatus result.status }
 
     // A success of words that name a call is the success of that call.
     ensures called { IfOk words (λ given. (call : Call) → Names (map string_bytes given.items) call
-        → result ≡ 0 → Performs call
+        → result.status ≡ 0 → Performs call
         (devices R.remaining W.contents input.old input.new output.old output.new)
+        (beside files F.gives result.file F.Disk.DiskFile E.contents faults.old faults.new)
         (Ok tt)) }
 
-    // A success leaves nothing on standard error, and a fault one text: `navtex: `, the fault, and a
-    // newline, but for a text of clap on the words.
-    ensures silent { result ≡ 0 → faults.new ≡ faults.old }
-    ensures reported { result ≢ 0 → WritesOne (λ text. result ≢ 64 → IsFaultLine text)
+    // A success leaves nothing on standard error, but for a watch; and a fault one text, behind what
+    // a watch told there: `navtex: `, the fault, and a newline, but for a text of clap on the words.
+    ensures silent { IfOk words (λ given. (NamesWatch (map string_bytes given.items) → ⊥)
+        → result.status ≡ 0 → faults.new ≡ faults.old) }
+    ensures reported { result.status ≢ 0
+        → WritesOne (λ text. result.status ≢ 64 → IsFaultLine text)
         E.contents faults.old faults.new }
 {
     match words {
-        Ok(words) => exit_status(alloc, words.as_slice(), input, output, faults),
-        Err(reason) => want_of_words(&reason).report(faults),
+        Ok(words) => exit_status(alloc, words.as_slice(), input, output, faults, files),
+        Err(reason) => Answered {
+            status: want_of_words(&reason).report(faults),
+            file: None,
+        },
     }
 }
 
-/// Runs the program on its words, of which the first is its name, and answers its exit status.
+/// Runs the program on its words, of which the first is its name, and answers its exit status. It has
+/// no files, so a watch answers that its log can't be opened.
 pub fn run<S: AsStr, R: Read + Drop, W: Write + Drop, E: Write + Drop>(
     alloc: Global,
     words: &[S],
@@ -228,22 +289,29 @@ pub fn run<S: AsStr, R: Read + Drop, W: Write + Drop, E: Write + Drop>(
     faults: E,
 ) -> u8
     // How the program ended, by what its call ensures of the devices.
-    ensures exits { (reader : CountedDevice R) × (writer : CountedDevice W)
+    ensures exits { (reader : CountedDevice R) × (writer : CountedDevice W) × (told : CountedDevice E)
         × Exits (map S.text words.now)
         (devices R.remaining W.contents (fresh_device input) reader (fresh_device output) writer)
+        (beside (record {}) ⟦<NoFiles as LogFiles>⟧.gives None
+        ⟦<Noted<NoFile> as DiskFile>⟧ E.contents (fresh_device faults) told)
         result }
     ensures status { IsStatus result }
 
     // Success comes only from a call that succeeded, or from help or the version that was written.
     ensures success { result ≡ 0 → (reader : CountedDevice R) × (writer : CountedDevice W)
+        × (told : CountedDevice E)
         × Succeeds (map S.text words.now)
-        (devices R.remaining W.contents (fresh_device input) reader (fresh_device output) writer) }
+        (devices R.remaining W.contents (fresh_device input) reader (fresh_device output) writer)
+        (beside (record {}) ⟦<NoFiles as LogFiles>⟧.gives None
+        ⟦<Noted<NoFile> as DiskFile>⟧ E.contents (fresh_device faults) told) }
 
     // A success of words that name a call is the success of that call.
     ensures called { (call : Call) → Names (map S.text words.now) call → result ≡ 0
-        → (reader : CountedDevice R) × (writer : CountedDevice W)
+        → (reader : CountedDevice R) × (writer : CountedDevice W) × (told : CountedDevice E)
         × Performs call
         (devices R.remaining W.contents (fresh_device input) reader (fresh_device output) writer)
+        (beside (record {}) ⟦<NoFiles as LogFiles>⟧.gives None
+        ⟦<Noted<NoFile> as DiskFile>⟧ E.contents (fresh_device faults) told)
         (Ok tt) }
     ensures words { result ≡ 64 → IsRefused (map S.text words.now) }
     ensures refused { IsRefused (map S.text words.now)
@@ -252,5 +320,5 @@ pub fn run<S: AsStr, R: Read + Drop, W: Write + Drop, E: Write + Drop>(
     let mut reader = Counting::new(input);
     let mut writer = Counting::new(output);
     let mut lines = Counting::new(faults);
-    exit_status(alloc, words, &mut reader, &mut writer, &mut lines)
+    exit_status(alloc, words, &mut reader, &mut writer, &mut lines, NoFiles).status
 }

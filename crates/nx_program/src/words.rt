@@ -2,17 +2,18 @@
 
 ghost use Rattle.std.specs.Prelude.{◌≡◌, ◌≢◌, ℕ, List, [], ◌∷◌, IfErr, IfNone, IfOk, IfSome};
 ghost use Rattle.std.specs.Prelude.{codes, map};
-ghost use Rattle.clap.specs.Words.{Row, found_of, rows_of};
-ghost use Rattle.nx_program.specs.Words.{HasArguments, IsKind, IsNumber, IsStation, Names, command_name};
+ghost use Rattle.clap.specs.Words.{Row, Text, found_of, rows_of};
+ghost use Rattle.nx_program.specs.Words.{HasArguments, IsFile, IsKind, IsNumber, IsStation, Names, command_name};
 ghost use Rattle.nx_program.specs.Words.{kind_name};
 ghost use Rattle.nx_program.specs.private.Reading.{ExplainsWords, IsSortedAs, LacksRange, LacksSlot};
-ghost use Rattle.nx_program.specs.private.Reading.{WantsArguments};
+ghost use Rattle.nx_program.specs.private.Reading.{LacksWatch, WantsArguments};
 ghost use Rattle.nx_program.specs.declared.words.Call.{Call};
 ghost use Rattle.nx_station.specs.declared.damaging.DamageKind.{DamageKind};
 ghost use Rattle.nx_program.specs.declared.words.WordsFault.TheVariants.{Kind, Memory, Station};
 ghost use Rattle.nx_envelope.specs.declared.letter.Letter.{Letter};
 
 use crate::commands::navtex_command;
+use crate::file_name::FileName;
 use clap::ArgMatches;
 use clap::error::ErrorKind;
 use nx_envelope::Letter;
@@ -21,8 +22,8 @@ use std::alloc::{AllocError, Global};
 use std::convert::AsStr;
 
 /// A call of the program, which the words of the command line name.
-#[derive(Clone, Copy, Debug, PartialEq, Eq)]
-pub enum Call {
+#[derive(Debug, Drop)]
+pub enum Call<'a> {
     /// Print the text of an air file.
     Decode,
     /// Write a text as an air file.
@@ -35,6 +36,13 @@ pub enum Call {
     Check,
     /// Print the log of an air file.
     Listen,
+    /// Listen to the lines of any bytes, and put each entry into a log that is kept.
+    Watch {
+        /// The log.
+        file: FileName<'a>,
+        /// The moment, in seconds since 1970, at which the watch starts.
+        moment: u64,
+    },
     /// Print the log of the air file behind a state, from which it goes on.
     Resume,
     /// Print the state that listening to the air file behind a state leaves.
@@ -86,7 +94,7 @@ pub enum WordsFault {
 /// The call that the words name, of which the first is the program's name. `Help` and `Version` where
 /// they ask for these, `Refused` where clap doesn't understand them, `Station` and `Kind` where that
 /// argument is none, and `Memory` where it ran out.
-pub fn call_of<S: AsStr>(alloc: Global, words: &[S]) -> Result<Call, WordsFault>
+pub fn call_of<'a, S: AsStr>(alloc: Global, words: &'a [S]) -> Result<Call<'a>, WordsFault>
     ensures named { IfOk result (Names (map S.text words.now)) }
     ensures refused { IfErr result (ExplainsWords (map S.text words.now)) }
 {
@@ -108,9 +116,9 @@ fn unfit_argument(word: &str) -> WordsFault
     }
 }
 
-impl Call {
+impl<'a> Call<'a> {
     /// The call of a command that takes no argument, by its word.
-    fn without_arguments(word: &str) -> Option<Call>
+    fn without_arguments(word: &str) -> Option<Call<'a>>
         ensures some { IfSome result (λ call. (word.now ≡ command_name call)
             × ((rows : List Row) → HasArguments call rows)) }
         ensures none { IfNone result ((call : Call) → word.now ≡ command_name call
@@ -131,7 +139,7 @@ impl Call {
     }
 
     /// The call that the command line names by this word with these arguments.
-    fn of_command(word: &str, arguments: &ArgMatches) -> Option<Call>
+    fn of_command(word: &str, arguments: &ArgMatches<'a>) -> Option<Call<'a>>
         ensures some { IfSome result (λ call. (word.now ≡ command_name call)
             × HasArguments call (rows_of (found_of arguments.now))) }
         ensures none { IfNone result ((call : Call) → word.now ≡ command_name call
@@ -149,6 +157,10 @@ impl Call {
             "damage" => {
                 let (kind, from, count) = range_in(arguments)?;
                 Some(Call::Damage { kind, from, count })
+            }
+            "watch" => {
+                let (file, moment) = watch_in(arguments)?;
+                Some(Call::Watch { file, moment })
             }
             _ => Call::without_arguments(word),
         }
@@ -204,6 +216,24 @@ fn number_in(arguments: &ArgMatches, name: &str) -> Option<u64>
         → ¬ IsNumber name.now (rows_of (found_of arguments.now)) number) }
 {
     arguments.get_one(name)
+}
+
+/// The argument FILE.
+fn file_in<'a>(arguments: &ArgMatches<'a>) -> Option<FileName<'a>>
+    ensures some { IfSome result (IsFile (rows_of (found_of arguments.now))) }
+    ensures none { IfNone result ((name : Text) → ¬ IsFile (rows_of (found_of arguments.now)) name) }
+{
+    let name = arguments.get_str("FILE")?;
+    Some(FileName::new(name))
+}
+
+/// The arguments of a command that takes a file and a moment.
+fn watch_in<'a>(arguments: &ArgMatches<'a>) -> Option<(FileName<'a>, u64)>
+    ensures some { IfSome result (λ watch. IsFile (rows_of (found_of arguments.now)) watch.0
+        × IsNumber (codes "MOMENT") (rows_of (found_of arguments.now)) watch.1) }
+    ensures none { IfNone result (LacksWatch (rows_of (found_of arguments.now))) }
+{
+    Some((file_in(arguments)?, number_in(arguments, "MOMENT")?))
 }
 
 /// The arguments of a command that takes a station and a moment.

@@ -1,5 +1,5 @@
 -- A run over the lines of any bytes.
-use Rattle.std.proofs.Common.{◌≡◌, ◌+◌, ℕ, ◌≤◌, ◌<◌, Bool, true, false, not, cond, ◌&&◌, List}
+use Rattle.std.proofs.Common.{◌≡◌, ◌+◌, ℕ, ◌≤◌, ◌<◌, Bool, true, false, not, cond, ◌&&◌, List, Result, Ok}
 use Rattle.std.proofs.Common.{[], ◌∷◌, ◌++◌, map, take, drop, Option, Some, None, max}
 use Rattle.std.proofs.Common.{option_to_list, nat_le, refl, sym, ap, ◌∙◌, subst, append_assoc}
 use Rattle.std.proofs.Common.{append-nil, arith, Err, inl}
@@ -241,6 +241,19 @@ answers-told stands start now first AtEnd before after (Back line last given) by
     (h.0, h.1, h.2, h.3, h.4, h.5, step (h.0 ++ Some (moment given) ∷ []) h.6)
 answers-told stands start now first AtEnd before after Write bytes step h =
     (h.0, h.1, h.2, h.3, step (h.0 ++ Some h.1 ∷ []) h.4)
+
+-- whatever a run answers, some lines were told of
+pub tells-some : {T : Type 0} (stands : Standing T) (start now : T)
+    (first : ℕ) (AtEnd : Type 0) (tells : List (Option Line) → Type 0)
+    (answer : Result LinesWatched WatchEnd) (bytes : List ℕ)
+    → AnswersWatch stands start now first AtEnd tells answer bytes
+    → (lines : List (Option Line)) × tells lines
+tells-some stands start now first AtEnd tells (Ok counts) bytes h = (h.1 ++ cut_line h.2, h.6)
+tells-some stands start now first AtEnd tells (Err Read) bytes h = (h.0, h.4)
+tells-some stands start now first AtEnd tells (Err (Back line last given)) bytes h =
+    (h.0 ++ Some (moment given) ∷ [], h.6)
+tells-some stands start now first AtEnd tells (Err Write) bytes h =
+    (h.0 ++ Some h.1 ∷ [], h.4)
 
 pub nothing : (contents : Option (List ℕ)) → Appends contents contents []
 nothing None = tt

@@ -21,7 +21,7 @@ told-stopped old new failures text more some (inr h) =
       h.0,
       h.1,
       omega (arith, h.2, length-append text more),
-      subst (Appends old new) (sym (take-append-le h.1 text more h.2)) h.3,
+      subst (Appends old new) (sym (take-append-le h.1 text more (omega (arith, h.2)))) h.3,
     )
 
 -- and before that, what is written

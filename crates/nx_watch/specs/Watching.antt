@@ -52,11 +52,17 @@ abbrev pub told_of : ℕ → List (Option Line) → List ℕ
 told_of first lines =
     first_told (first_without first lines) ++ number_told (count_without first lines)
 
--- this text was told: it was written, or a first part of it, where a write failed
+-- this text was told: it was written, or a first part of it, but not all, where a write failed, after
+-- which none was tried
 abbrev pub HasTold : Option (List ℕ) → Option (List ℕ) → ℕ → List ℕ → Type 0
 HasTold old new failures text =
     ((failures ≡ 0) × Appends old new text)
-    ⊎ ((0 < failures) × (taken : ℕ) × (taken ≤ length text) × Appends old new (take taken text))
+    ⊎ ((failures ≡ 1) × (taken : ℕ) × (taken < length text) × Appends old new (take taken text))
+
+-- Some lines were told of.
+abbrev pub TellsOfLines : Option (List ℕ) → Option (List ℕ) → ℕ → Type 0
+TellsOfLines old new failures =
+    (first : ℕ) × (lines : List (Option Line)) × HasTold old new failures (told_of first lines)
 
 -- These bytes were given to a writer: they were written, or a first part of them, where a write
 -- failed. Where there are none, it wasn't called.

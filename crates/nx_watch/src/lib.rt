@@ -20,6 +20,7 @@ mod watching;
 
 pub use line_watch::{ActingTaker, LinesWatched, WatchEnd, WriteFailed, watch_lines};
 pub use start::remembered;
+pub use telling::{tell, write_more};
 pub use watch_fault::WatchFault;
 pub use watch_report::WatchReport;
 pub use watching::watch;

@@ -36,8 +36,9 @@ pub(crate) fn tell_number<F: Write>(count: u64, faults: &mut Counting<F>)
     }
 }
 
-/// Tells a number between two texts.
-fn tell<F: Write>(before: &[u8], number: u64, behind: &[u8], faults: &mut Counting<F>)
+/// Tells a number between two texts, behind what was told. A failed write is passed over, and nothing is
+/// told behind one.
+pub fn tell<F: Write>(before: &[u8], number: u64, behind: &[u8], faults: &mut Counting<F>)
     requires { length before.now + length behind.now ≤ 44 }
     ensures { (old : Option (List ℕ)) (text : List ℕ)
         → HasTold old (F.contents faults.old.inner) faults.old.failures text
@@ -53,7 +54,7 @@ fn tell<F: Write>(before: &[u8], number: u64, behind: &[u8], faults: &mut Counti
 
 /// Writes bytes behind others, unless a write failed before. A failed write is passed over, and so
 /// are all bytes behind it.
-pub(crate) fn write_more<W: Write>(bytes: &[u8], writer: &mut Counting<W>)
+pub fn write_more<W: Write>(bytes: &[u8], writer: &mut Counting<W>)
     ensures written { (old : Option (List ℕ)) (text : List ℕ)
         → HasTold old (W.contents writer.old.inner) writer.old.failures text
         → HasTold old (W.contents writer.new.inner) writer.new.failures (text ++ bytes.now) }

@@ -19,6 +19,7 @@ ghost use Rattle.nx_watch.specs.Watch.{AnswersStarted, HasCause, watch_devices};
 ghost use Rattle.nx_watch.specs.Watching.{StandsWith, WithWriter, with_writer};
 ghost use Rattle.nx_watch.specs.declared.keeper.Keeper.{Keeper as TheKeeper};
 ghost use Rattle.nx_watch.specs.declared.watcher.Watcher.{Watcher as TheWatcher};
+ghost use Rattle.nx_watch.specs.Watching.{TellsOfLines};
 ghost use Rattle.nx_watch.specs.private.Keeping.{HasKept, KeepsWith, disk_of};
 ghost use Rattle.nx_watch.specs.private.Watcher.{HasClosed, IsCopyInRange, IsLineInRange, KeepsHeard, WatcherStands};
 
@@ -201,6 +202,13 @@ impl<D: DiskFile + Drop> Watcher<D> {
             D.has_failed_to_write) self.keeper self.keeper [] []
             → (content : List ℕ) → D.explains content result.1
             → D.explains content self.keeper.log.device }
+        ensures told { first ≡ (starts_of self.listener).moment
+            → (starts_of self.listener).moment ≤ last_moment
+            → HearsGiven (starts_of self.listener) self.listener [] []
+            → HasKept (disk_of D.explains D.seen D.may_leave D.moment D.left_since D.faults
+            D.has_failed_to_write) self.keeper self.keeper [] []
+            → TellsOfLines (F.contents faults.old.inner) (F.contents faults.new.inner)
+            faults.new.failures }
     {
         match watch_lines(reader, writer, faults, &mut self, first, MOST_BYTES) {
             Ok(counts) => self.close(writer).answer(Ok(counts)),

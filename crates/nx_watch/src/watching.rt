@@ -6,6 +6,7 @@ ghost use Rattle.nx_kept.specs.Kept.{IsDamaged, IsKeptLog};
 ghost use Rattle.nx_log.specs.Entries.{IsWholeEntry};
 ghost use Rattle.nx_receiver.specs.Shares.{MarkedCopy};
 ghost use Rattle.nx_watch.specs.Watch.{AnswersWatching, HasCause, StandsForEntries, longest_entry, watch_devices};
+ghost use Rattle.nx_watch.specs.Watching.{TellsOfLines};
 ghost use Rattle.nx_watch.specs.private.Answering.{fault_answered};
 ghost use Rattle.nx_watch.specs.declared.watch_fault.WatchFault.TheVariants.{Damaged as DamagedAt};
 
@@ -72,6 +73,10 @@ pub fn watch<D: DiskFile + Drop, R: Read, W: Write, F: Write>(
     ensures cause { HasCause D.faults D.has_failed_to_read D.has_failed_to_write result.0 device
         result.1 }
     ensures explained { (start : List ℕ) → D.explains start result.1 → D.explains start device }
+
+    // Whatever the file is, some lines were told of on `faults`, and nothing else.
+    ensures told { TellsOfLines (F.contents faults.old.inner) (F.contents faults.new.inner)
+        faults.new.failures }
 {
     let mut memory = LogMemory::new();
     let log = match KeptLog::open(alloc, device, LogGrammar, &mut memory) {

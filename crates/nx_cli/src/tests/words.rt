@@ -3,11 +3,11 @@
 use super::devices::{Sink, Source};
 use super::{AIR_FILE_OF_A, expect_text, run_on, shown};
 use nx_fec::Counting;
-use nx_program::answer;
 use nx_program::laws::{
-    damage_in_examples, numbers_are_in_range, slots_in_examples, words_in_examples,
-    words_read_as_one,
+    damage_in_examples, numbers_are_in_range, slots_in_examples, watch_in_examples,
+    words_in_examples, words_read_as_one,
 };
+use nx_program::{NoFiles, answer};
 use std::alloc::Global;
 use std::io::{Error, ErrorKind};
 use std::process::Abort;
@@ -110,7 +110,7 @@ fn expect_end_without_words(
     let mut output = Counting::new(Sink::new(Vec::new(alloc)));
     let mut faults = Counting::new(Sink::new(Vec::new(alloc)));
     let words = Err(Error::from(kind));
-    let ended = answer(alloc, words, &mut input, &mut output, &mut faults);
+    let ended = answer(alloc, words, &mut input, &mut output, &mut faults, NoFiles).status;
     expect_text(rt, line, &faults.into_inner().taken, line.as_bytes());
     assert!(rt;
         ended == status,
@@ -138,5 +138,6 @@ fn states_its_laws() {
     words_in_examples();
     numbers_are_in_range();
     slots_in_examples();
+    watch_in_examples();
     damage_in_examples();
 }

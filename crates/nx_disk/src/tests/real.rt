@@ -17,9 +17,9 @@ fn a_file_is_locked_and_found_by_its_name(rt: HostRuntime) -> Result<(), Fail> {
         records: 0,
         last: 0,
     };
-    let file = open(&rt, path)?;
-    assert!(rt; matches!(open(&rt, path), Err(FileFault::Busy)));
-    assert!(rt; matches!(open(&rt, "."), Err(FileFault::Open)));
+    let file = open(rt.alloc(), &rt, path)?;
+    assert!(rt; matches!(open(rt.alloc(), &rt, path), Err(FileFault::Busy)));
+    assert!(rt; matches!(open(rt.alloc(), &rt, "."), Err(FileFault::Open)));
     match KeptLog::open(rt.alloc(), file, Trial, &mut count) {
         Ok(mut log) => {
             assert!(rt; log.put(ENTRY).is_ok());
@@ -30,7 +30,7 @@ fn a_file_is_locked_and_found_by_its_name(rt: HostRuntime) -> Result<(), Fail> {
     }
     let kept = fs::read(&rt, "nx_disk_test.old")?;
     assert!(rt; kept.len() > 44);
-    let again = open(&rt, "nx_disk_test.old")?;
+    let again = open(rt.alloc(), &rt, "nx_disk_test.old")?;
     assert!(rt; KeptLog::open(rt.alloc(), again, Trial, &mut count).is_ok());
     assert!(rt; count.records >= 1);
     fs::remove_file(&rt, "nx_disk_test.old")?;

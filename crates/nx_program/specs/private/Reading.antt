@@ -12,11 +12,11 @@ use Rattle.nx_envelope.specs.declared.letter.Letter.{Letter}
 use Rattle.nx_station.specs.declared.damaging.DamageKind.{DamageKind}
 use Rattle.nx_program.specs.declared.words.Call.{Call}
 use Rattle.nx_program.specs.declared.words.Call.TheVariants as call
-use Rattle.nx_program.specs.Words.{IsKind, IsNumber, IsStation, LacksKind, LacksStation}
-use Rattle.nx_program.specs.Words.{damage_tree, plain_tree, slot_tree}
+use Rattle.nx_program.specs.Words.{IsFile, IsKind, IsNumber, IsStation, LacksKind, LacksStation}
+use Rattle.nx_program.specs.Words.{damage_tree, file_tree, plain_tree, slot_tree}
 use Rattle.nx_program.specs.declared.commands.Row.{Row as TableRow}
 use Rattle.nx_program.specs.declared.commands.Takes.{Takes}
-use Rattle.nx_program.specs.declared.commands.Takes.TheVariants.{Nothing, Range, Slot}
+use Rattle.nx_program.specs.declared.commands.Takes.TheVariants.{File, Nothing, Range, Slot}
 use Rattle.nx_program.specs.declared.words.WordsFault.{WordsFault}
 use Rattle.nx_program.specs.declared.words.WordsFault.TheVariants.{Help, Kind, Memory, Refused}
 use Rattle.nx_program.specs.declared.words.WordsFault.TheVariants.{Station}
@@ -36,6 +36,7 @@ pub record IsReadAs (old new : Command) : Type 0 where
 abbrev pub taking_tree : Takes → Text → App
 taking_tree Nothing word = plain_tree word
 taking_tree Slot word = slot_tree word
+taking_tree File word = file_tree word
 taking_tree Range word = damage_tree word
 
 -- the command tree of a row of the program's own table
@@ -78,15 +79,25 @@ IsSortedAs error (Memory want) = kind_of error ≡ OutOfMemory
 abbrev pub LacksSlot : List Row → Type 0
 LacksSlot rows = (s : Letter) (m : ℕ) → IsStation rows s → IsNumber (codes "MOMENT") rows m → ⊥
 
+-- the arguments are not both a file and a moment
+abbrev pub LacksWatch : List Row → Type 0
+LacksWatch rows = (n : Text) (m : ℕ) → IsFile rows n → IsNumber (codes "MOMENT") rows m → ⊥
+
 -- the arguments are not all of a kind of damage, the first word and a count of words
 abbrev pub LacksRange : List Row → Type 0
 LacksRange rows =
     (k : DamageKind) (f c : ℕ) → IsKind rows k → IsNumber (codes "FROM") rows f
     → IsNumber (codes "COUNT") rows c → ⊥
 
+-- the call is no watch
+abbrev pub IsOnStreams : Call → Type 0
+IsOnStreams (call.Watch name moment) = ⊥
+IsOnStreams _ = ⊤
+
 -- the call is one that takes arguments
 abbrev pub WantsArguments : Call → Type 0
 WantsArguments (call.Send station moment) = ⊤
+WantsArguments (call.Watch name moment) = ⊤
 WantsArguments (call.Slots station moment) = ⊤
 WantsArguments (call.Damage kind from count) = ⊤
 WantsArguments _ = ⊥

@@ -8,7 +8,7 @@ use Rattle.nx_receiver.specs.ListenOnce.{ListensOnce}
 use Rattle.nx_receiver.specs.Resume.{Resumes}
 use Rattle.nx_receiver.specs.Shares.{all_at_zero}
 use Rattle.nx_receiver.specs.declared.resume_fault.Want.TheVariants.{Log, State}
-use Rattle.nx_program.specs.Program.{IsUntouchedByWant, Performs, ReadsStateBeforeWant}
+use Rattle.nx_program.specs.Program.{IsUntouchedByWant, PerformsOnStreams, ReadsStateBeforeWant}
 use Rattle.nx_program.specs.declared.fault.CallFault.TheVariants as call
 use Rattle.nx_program.specs.declared.words.Call.{Call}
 use Rattle.nx_program.proofs.ProgramLemmas.{tells-err, tells-ok, untouched}
@@ -20,7 +20,7 @@ returns-in_err-send-in-Send g c =
     c.args.writer.now c.send.new.writer in
     let outcome = c.from_residual-in_err-send-in-Send.result in
     let p = err_from_is_err_and outcome c.from_residual-in_err-send-in-Send.ensures.1 in
-    let P : Call → Type 0 = λ call. Performs call d outcome in
+    let P : Call → Type 0 = λ call. PerformsOnStreams call d outcome in
     subst P (sym c.in-Send.is)
     (tells-err (λ why. call.Send why)
     (Sends d c.in-Send.station.byte c.in-Send.moment) outcome c.in_err-send-in-Send.field-0.0 p.0
@@ -30,7 +30,7 @@ pub returns-in_ok-send-in-Send : goal.returns-in_ok-send-in-Send
 returns-in_ok-send-in-Send g c =
     let d = devices g.R.Read.remaining g.W.Write.contents c.args.reader.now c.send.new.reader
     c.args.writer.now c.send.new.writer in
-    let P : Call → Type 0 = λ call. Performs call d (Ok tt) in
+    let P : Call → Type 0 = λ call. PerformsOnStreams call d (Ok tt) in
     subst P (sym c.in-Send.is)
     (tells-ok (λ why. call.Send why)
     (Sends d c.in-Send.station.byte c.in-Send.moment) c.in_ok-send-in-Send.field-0
@@ -43,7 +43,7 @@ returns-in_err-damage-in-Damage g c =
     c.damage.new.writer in
     let outcome = c.from_residual-in_err-damage-in-Damage.result in
     let p = err_from_is_err_and outcome c.from_residual-in_err-damage-in-Damage.ensures.1 in
-    let P : Call → Type 0 = λ call. Performs call d outcome in
+    let P : Call → Type 0 = λ call. PerformsOnStreams call d outcome in
     subst P (sym c.in-Damage.is)
     (tells-err (λ why. call.Damage why)
     (Damages (record {
@@ -59,7 +59,7 @@ returns-in_ok-damage-in-Damage g c =
     let d = devices g.R.Read.remaining g.W.Write.contents c.args.reader.now c.damage.new.reader
     c.args.writer.now
     c.damage.new.writer in
-    let P : Call → Type 0 = λ call. Performs call d (Ok tt) in
+    let P : Call → Type 0 = λ call. PerformsOnStreams call d (Ok tt) in
     subst P (sym c.in-Damage.is)
     (tells-ok (λ why. call.Damage why)
     (Damages (record {
@@ -75,7 +75,7 @@ returns-in_ok-listen-in-Listen g c =
     let own = c.in_ok-listen-in-Listen in
     let d = devices g.R.Read.remaining g.W.Write.contents c.args.reader.now c.listen.new.reader
     c.args.writer.now c.listen.new.writer in
-    let P : Call → Type 0 = λ call. Performs call d (Ok tt) in
+    let P : Call → Type 0 = λ call. PerformsOnStreams call d (Ok tt) in
     subst P (sym c.in-Listen.is)
     (tells-ok (λ why. call.Listen why) (λ own. ListensOnce all_at_zero d own × IsUntouchedByWant d own)
     own.field-0
@@ -88,7 +88,7 @@ returns-in_err-listen-in-Listen g c =
     c.args.writer.now c.listen.new.writer in
     let outcome = c.from_residual-in_err-listen-in-Listen.result in
     let p = err_from_is_err_and outcome c.from_residual-in_err-listen-in-Listen.ensures.1 in
-    let P : Call → Type 0 = λ call. Performs call d outcome in
+    let P : Call → Type 0 = λ call. PerformsOnStreams call d outcome in
     subst P (sym c.in-Listen.is)
     (tells-err (λ why. call.Listen why) (λ own. ListensOnce all_at_zero d own × IsUntouchedByWant d own)
     outcome own.field-0.0 p.0
@@ -99,7 +99,7 @@ returns-in_ok-locks-in-Locks g c =
     let own = c.in_ok-locks-in-Locks in
     let d = devices g.R.Read.remaining g.W.Write.contents c.args.reader.now c.locks.new.reader
     c.args.writer.now c.locks.new.writer in
-    let P : Call → Type 0 = λ call. Performs call d (Ok tt) in
+    let P : Call → Type 0 = λ call. PerformsOnStreams call d (Ok tt) in
     subst P (sym c.in-Locks.is)
     (tells-ok (λ why. call.Listen why) (λ own. ShowsLocks d own × IsUntouchedByWant d own)
     own.field-0
@@ -112,7 +112,7 @@ returns-in_err-locks-in-Locks g c =
     c.args.writer.now c.locks.new.writer in
     let outcome = c.from_residual-in_err-locks-in-Locks.result in
     let p = err_from_is_err_and outcome c.from_residual-in_err-locks-in-Locks.ensures.1 in
-    let P : Call → Type 0 = λ call. Performs call d outcome in
+    let P : Call → Type 0 = λ call. PerformsOnStreams call d outcome in
     subst P (sym c.in-Locks.is)
     (tells-err (λ why. call.Listen why) (λ own. ShowsLocks d own × IsUntouchedByWant d own)
     outcome own.field-0.0 p.0
@@ -123,7 +123,7 @@ returns-in_ok-resume-in-Resume g c =
     let own = c.in_ok-resume-in-Resume in
     let d = devices g.R.Read.remaining g.W.Write.contents c.args.reader.now c.resume.new.reader
     c.args.writer.now c.resume.new.writer in
-    let P : Call → Type 0 = λ call. Performs call d (Ok tt) in
+    let P : Call → Type 0 = λ call. PerformsOnStreams call d (Ok tt) in
     subst P (sym c.in-Resume.is)
     (tells-ok (λ why. call.Resume why) (λ own. Resumes Log d own × ReadsStateBeforeWant d own)
     own.field-0
@@ -136,7 +136,7 @@ returns-in_err-resume-in-Resume g c =
     c.args.writer.now c.resume.new.writer in
     let outcome = c.from_residual-in_err-resume-in-Resume.result in
     let p = err_from_is_err_and outcome c.from_residual-in_err-resume-in-Resume.ensures.1 in
-    let P : Call → Type 0 = λ call. Performs call d outcome in
+    let P : Call → Type 0 = λ call. PerformsOnStreams call d outcome in
     subst P (sym c.in-Resume.is)
     (tells-err (λ why. call.Resume why) (λ own. Resumes Log d own × ReadsStateBeforeWant d own)
     outcome own.field-0.0 p.0
@@ -147,7 +147,7 @@ returns-in_ok-resume-in-Save g c =
     let own = c.in_ok-resume-in-Save in
     let d = devices g.R.Read.remaining g.W.Write.contents c.args.reader.now
     c.resume-in-Save.new.reader c.args.writer.now c.resume-in-Save.new.writer in
-    let P : Call → Type 0 = λ call. Performs call d (Ok tt) in
+    let P : Call → Type 0 = λ call. PerformsOnStreams call d (Ok tt) in
     subst P (sym c.in-Save.is)
     (tells-ok (λ why. call.Resume why) (λ own. Resumes State d own × ReadsStateBeforeWant d own)
     own.field-0
@@ -160,7 +160,7 @@ returns-in_err-resume-in-Save g c =
     c.resume-in-Save.new.reader c.args.writer.now c.resume-in-Save.new.writer in
     let outcome = c.from_residual-in_err-resume-in-Save.result in
     let p = err_from_is_err_and outcome c.from_residual-in_err-resume-in-Save.ensures.1 in
-    let P : Call → Type 0 = λ call. Performs call d outcome in
+    let P : Call → Type 0 = λ call. PerformsOnStreams call d outcome in
     subst P (sym c.in-Save.is)
     (tells-err (λ why. call.Resume why) (λ own. Resumes State d own × ReadsStateBeforeWant d own)
     outcome own.field-0.0 p.0

@@ -1,43 +1,46 @@
-use Rattle.std.proofs.Common.{map}
+use Rattle.std.proofs.Common.{◌≡◌, None, Option, map, subst}
 use Rattle.nx_program.proofs.ProgramLemmas.{exits-fresh, refused-exits, status-exits, success-exits}
 use Rattle.nx_program.proofs.ProgramLemmas.{success-named, words-exit}
-use Rattle.nx_program.proofs.ReportLemmas.{answers-exits}
-use Rattle.nx_program.specs.Program.{Exits, fresh_device}
+use Rattle.nx_program.proofs.ReportLemmas.{answers-exits, ends-none}
+use Rattle.nx_program.specs.Program.{fresh_device}
+use Rattle.nx_program.specs.Watching.{with_faults}
 use Rattle.nx_fec.specs.Transfers.{devices}
 use Rattle.nx_program.proofs.program.run.Goals as goal
 
 pub returns : goal.returns
 returns g c =
     let words = map g.S.AsStr.text c.args.words.now in
+    let answers = c.exit_status.ensures in
+    let left = devices g.R.Read.remaining g.W.Write.contents c.new-reader.result
+    c.exit_status.new.reader c.new-writer.result c.exit_status.new.writer in
     let d = devices g.R.Read.remaining g.W.Write.contents (fresh_device c.args.input)
     c.exit_status.new.reader
     (fresh_device c.args.output) c.exit_status.new.writer in
-    let exits : Exits words d c.exit_status.result =
+    let status = c.exit_status.result.status in
+    let none : c.exit_status.result.file ≡ None =
+    ends-none words left _ answers.outcome (λ name disk gives. absurd (cc)) answers.ends in
+    let exits =
     exits-fresh words g.R.Read.remaining g.W.Write.contents c.args.input c.new-reader.result
     c.exit_status.new.reader c.args.output c.new-writer.result c.exit_status.new.writer
-    c.exit_status.result
+    _ _ c.exit_status.result.file _ g.E.Write.contents c.args.faults c.new-lines.result
+    answers.behind_call status
     c.new-reader.ensures.inner c.new-reader.ensures.none c.new-writer.ensures.inner
-    c.new-writer.ensures.none
-    (answers-exits words (devices g.R.Read.remaining g.W.Write.contents c.new-reader.result
-    c.exit_status.new.reader
-    c.new-writer.result c.exit_status.new.writer) g.E.Write.contents c.new-lines.result
-    c.exit_status.new.faults
-    c.exit_status.result c.exit_status.ensures) in
+    c.new-writer.ensures.none c.new-lines.ensures.inner c.new-lines.ensures.none
+    (answers-exits words left _ status answers) in
+    let ended = rw none at exits in
+    let reader = c.exit_status.new.reader in
+    let writer = c.exit_status.new.writer in
     record {
-      exits = (c.exit_status.new.reader, c.exit_status.new.writer, exits);
-      status = status-exits words d c.exit_status.result exits;
-      success = λ is. (
-        c.exit_status.new.reader,
-        c.exit_status.new.writer,
-        success-exits words d
-            c.exit_status.result exits is,
-      );
+      exits = (reader, writer, answers.behind_call, ended);
+      status = status-exits words d _ status ended;
+      success = λ is.
+          (reader, writer, answers.behind_call, success-exits words d _ status ended is);
       called = λ call named is. (
-        c.exit_status.new.reader,
-        c.exit_status.new.writer,
-        success-named words d call named
-            (success-exits words d c.exit_status.result exits is),
+        reader,
+        writer,
+        answers.behind_call,
+        success-named words d _ call named (success-exits words d _ status ended is),
       );
-      words = λ is. words-exit words d c.exit_status.result exits is;
-      refused = λ refused. refused-exits words d c.exit_status.result exits refused;
+      words = λ is. words-exit words d _ status ended is;
+      refused = λ refused. refused-exits words d _ status ended refused;
     }

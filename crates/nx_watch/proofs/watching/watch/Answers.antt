@@ -1,4 +1,4 @@
-use Rattle.std.proofs.Common.{◌≡◌, ◌≤◌, ◌⊎◌, ◌∙◌, ◌++◌, ◌∷◌, [], List, ℕ, Result, Err, false, ap, refl, subst, sym}
+use Rattle.std.proofs.Common.{◌≡◌, ◌≤◌, ◌⊎◌, ◌∙◌, ◌++◌, ◌∷◌, [], List, ℕ, Result, Err, false, ap, inl, refl, subst, sym}
 use Rattle.std.specs.Prelude.{unwrap_or}
 use Rattle.std.specs.List.{AllZip}
 use Rattle.nx_kept.specs.Kept.{closed_gate}
@@ -17,6 +17,7 @@ use Rattle.nx_watch.specs.private.Keeping.{HasKept, StandsForTexts, disk_of}
 use Rattle.nx_watch.proofs.KeepingLemmas.{fresh-keeper, keeps-stands, kept-none}
 use Rattle.nx_watch.proofs.OpeningLemmas.{answers-opening, answers-watching, cause-behind, cause-opening, damage-named, entries-of, has-opened, not-damaged, same-texts, started-before}
 use Rattle.nx_watch.proofs.RememberingLemmas.{took-all}
+use Rattle.nx_watch.proofs.RunLemmas.{nothing}
 use Rattle.nx_watch.proofs.watching.watch.Goals as goal
 
 abbrev err : WatchFault → Result WatchReport WatchFault
@@ -251,3 +252,30 @@ returns-clause-foreign g c = λ start ex none.
         split = o.split;
       },
     ))
+
+-- ---- what was told
+
+pub returns-in-Err-clause-told : goal.returns-in-Err-clause-told
+returns-in-Err-clause-told g c =
+    (0, [], inl (c.requires.faults, nothing (g.F.Write.contents c.args.faults.now.inner)))
+
+pub returns-in_default-clause-told : goal.returns-in_default-clause-told
+returns-in_default-clause-told g c =
+    (0, [], inl (c.requires.faults, nothing (g.F.Write.contents c.args.faults.now.inner)))
+
+pub returns-clause-told : goal.returns-clause-told
+returns-clause-told g c =
+    let d = g.D.DiskFile in
+    let disk = disk_of d.explains d.seen d.may_leave d.moment d.left_since d.faults
+    d.has_failed_to_write in
+    let log = c.in-Ok.log in
+    let keeper = fresh-keeper log in
+    let fresh = kept-none disk keeper refl refl
+    (λ content file left. g.met.D.DiskFile.only_now content log.device file left) in
+    let first = c.unwrap_or-first.ensures ∙ ap (λ o. unwrap_or o 0) c.newest.ensures
+    ∙ sym (ap (λ (s : Starts). s.moment) c.in-Ok-starting.ensures.start) in
+    let range = subst (λ (s : Starts). s.moment ≤ last_moment) (sym c.in-Ok-starting.ensures.start)
+    c.in-Ok-starting.ensures.range in
+    let heard = subst (λ (s : Starts). HearsGiven s c.in-Ok-starting.listener [] [])
+    (sym c.in-Ok-starting.ensures.start) c.in-Ok-starting.ensures.heard in
+    c.run.ensures.told first range heard fresh

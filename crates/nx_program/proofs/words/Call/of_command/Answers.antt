@@ -1,8 +1,8 @@
 use Rattle.std.proofs.Common.{codes}
 use Rattle.clap.specs.Words.{found_of, rows_of}
 use Rattle.nx_program.proofs.ArgumentsRead.{if_none}
-use Rattle.nx_program.specs.declared.words.Call.TheVariants.{Damage, Send, Slots}
-use Rattle.nx_program.proofs.CallArguments.{range_call-absent, slot_call-absent}
+use Rattle.nx_program.specs.declared.words.Call.TheVariants.{Damage, Send, Slots, Watch}
+use Rattle.nx_program.proofs.CallArguments.{file_call-absent, range_call-absent, slot_call-absent}
 use Rattle.nx_program.proofs.OneCall.{at_word}
 use Rattle.nx_program.proofs.words.Call.of_command.Goals as goal
 
@@ -25,3 +25,9 @@ returns-in_err-kind-in-damage-clause-none c =
     (at_word (codes "damage") c.args.word.now (rows_of (found_of c.args.arguments.now))
     c.in-damage.is
     (range_call-absent (λ k f c. Damage k f c) _ c.in_err-kind-in-damage.ensures.none))
+
+pub returns-in_err-file-in-watch-clause-none : goal.returns-in_err-file-in-watch-clause-none
+returns-in_err-file-in-watch-clause-none c =
+    if_none c.from_residual-in_err-file-in-watch.result _
+    (at_word (codes "watch") c.args.word.now (rows_of (found_of c.args.arguments.now)) c.in-watch.is
+    (file_call-absent (λ n m. Watch n m) _ c.in_err-file-in-watch.ensures.none))

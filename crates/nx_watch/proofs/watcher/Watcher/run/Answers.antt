@@ -14,7 +14,7 @@ use Rattle.nx_watch.specs.declared.line_watch.WatchEnd.{WatchEnd}
 use Rattle.nx_watch.specs.declared.line_watch.WatchEnd.TheVariants.{Read, Back, Write}
 use Rattle.nx_watch.specs.private.Keeping.{HasKept, disk_of}
 use Rattle.nx_watch.proofs.FinishLemmas.{back-apart, back-written, cause-of, end-apart, end-written, ended, explained-of, stands-first, unread-written, unwritten-apart, wrote-some, zip-length}
-use Rattle.nx_watch.proofs.RunLemmas.{acting-cut, acting-idle, ends-idle}
+use Rattle.nx_watch.proofs.RunLemmas.{acting-cut, acting-idle, ends-idle, tells-some}
 use Rattle.nx_watch.proofs.watcher.Watcher.run.Goals as goal
 
 abbrev ok : LinesWatched → Result LinesWatched WatchEnd
@@ -348,3 +348,67 @@ returns-in-Write-clause-explained g c = λ is range heard kept content e.
     (sym c.into_keeper-in-Write.ensures) stood.1.kept in
     explained-of disk d.has_failed_to_read self.keeper keeper stood.1.texts stood.0 still content
     (subst (d.explains content) c.answer-in-Write.ensures.device e)
+
+pub returns-in-Ok-clause-told : goal.returns-in-Ok-clause-told
+returns-in-Ok-clause-told g c = λ is range heard kept.
+    let d = g.D.DiskFile in
+    let disk = disk_of d.explains d.seen d.may_leave d.moment d.left_since d.faults
+    d.has_failed_to_write in
+    let lines-read = c.watch_lines.new in
+    let w = c.watch_lines.ensures.watched c.args.self (sym is)
+    (stands-first disk c.args.self range heard kept) in
+    let told = tells-some (StandsWith (WatcherStands disk) g.W.Write.contents)
+    (with_writer c.args.self c.args.writer.now) (with_writer lines-read.taker lines-read.writer)
+    c.args.first (IsAtEnd (g.R.Read.remaining lines-read.reader.inner) ⊎ (length w.0 ≡ most_bytes))
+    (λ lines. HasTold (g.F.Write.contents c.args.faults.now.inner)
+    (g.F.Write.contents lines-read.faults.inner) lines-read.faults.failures
+    (told_of c.args.first lines)) c.watch_lines.result w.0 w.3 in
+    (c.args.first, told.0, told.1)
+
+pub returns-in-Back-clause-told : goal.returns-in-Back-clause-told
+returns-in-Back-clause-told g c = λ is range heard kept.
+    let d = g.D.DiskFile in
+    let disk = disk_of d.explains d.seen d.may_leave d.moment d.left_since d.faults
+    d.has_failed_to_write in
+    let lines-read = c.watch_lines.new in
+    let w = c.watch_lines.ensures.watched c.args.self (sym is)
+    (stands-first disk c.args.self range heard kept) in
+    let told = tells-some (StandsWith (WatcherStands disk) g.W.Write.contents)
+    (with_writer c.args.self c.args.writer.now) (with_writer lines-read.taker lines-read.writer)
+    c.args.first (IsAtEnd (g.R.Read.remaining lines-read.reader.inner) ⊎ (length w.0 ≡ most_bytes))
+    (λ lines. HasTold (g.F.Write.contents c.args.faults.now.inner)
+    (g.F.Write.contents lines-read.faults.inner) lines-read.faults.failures
+    (told_of c.args.first lines)) c.watch_lines.result w.0 w.3 in
+    (c.args.first, told.0, told.1)
+
+pub returns-in-Read-clause-told : goal.returns-in-Read-clause-told
+returns-in-Read-clause-told g c = λ is range heard kept.
+    let d = g.D.DiskFile in
+    let disk = disk_of d.explains d.seen d.may_leave d.moment d.left_since d.faults
+    d.has_failed_to_write in
+    let lines-read = c.watch_lines.new in
+    let w = c.watch_lines.ensures.watched c.args.self (sym is)
+    (stands-first disk c.args.self range heard kept) in
+    let told = tells-some (StandsWith (WatcherStands disk) g.W.Write.contents)
+    (with_writer c.args.self c.args.writer.now) (with_writer lines-read.taker lines-read.writer)
+    c.args.first (IsAtEnd (g.R.Read.remaining lines-read.reader.inner) ⊎ (length w.0 ≡ most_bytes))
+    (λ lines. HasTold (g.F.Write.contents c.args.faults.now.inner)
+    (g.F.Write.contents lines-read.faults.inner) lines-read.faults.failures
+    (told_of c.args.first lines)) c.watch_lines.result w.0 w.3 in
+    (c.args.first, told.0, told.1)
+
+pub returns-in-Write-clause-told : goal.returns-in-Write-clause-told
+returns-in-Write-clause-told g c = λ is range heard kept.
+    let d = g.D.DiskFile in
+    let disk = disk_of d.explains d.seen d.may_leave d.moment d.left_since d.faults
+    d.has_failed_to_write in
+    let lines-read = c.watch_lines.new in
+    let w = c.watch_lines.ensures.watched c.args.self (sym is)
+    (stands-first disk c.args.self range heard kept) in
+    let told = tells-some (StandsWith (WatcherStands disk) g.W.Write.contents)
+    (with_writer c.args.self c.args.writer.now) (with_writer lines-read.taker lines-read.writer)
+    c.args.first (IsAtEnd (g.R.Read.remaining lines-read.reader.inner) ⊎ (length w.0 ≡ most_bytes))
+    (λ lines. HasTold (g.F.Write.contents c.args.faults.now.inner)
+    (g.F.Write.contents lines-read.faults.inner) lines-read.faults.failures
+    (told_of c.args.first lines)) c.watch_lines.result w.0 w.3 in
+    (c.args.first, told.0, told.1)

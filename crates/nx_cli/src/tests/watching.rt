@@ -1,0 +1,204 @@
+//! `watch` over a file in memory: what it leaves there, its exit statuses and the lines of its faults.
+
+use super::air::{MOMENT_OF_EA01, join};
+use super::devices::{Sink, Source};
+use super::expect_text;
+use super::station::AIR_FILE_OF_EA01;
+use nx_disk::{FileFault, Noted, TornFile};
+use nx_fec::Counting;
+use nx_program::{LogFiles, answer};
+use std::alloc::Global;
+use std::process::Abort;
+
+// The kept log of the one entry of EA01, at rest.
+const KEPT: &[u8] = b"\n[EA01 2025-01-01 00:40:00 full 0/5]\nTEST\n\n ";
+
+// Gives this when a log is opened, whatever its name.
+#[derive(Drop)]
+struct Given {
+    opened: Result<Noted<TornFile>, FileFault>,
+}
+
+impl LogFiles for Given {
+    ghost use Rattle.std.specs.Prelude.{◌≡◌};
+
+    type Disk = Noted<TornFile>;
+
+    ghost gives = { λ given name opened. opened ≡ given.opened };
+
+    fn open(self, _name: &str) -> Result<Noted<TornFile>, FileFault> {
+        self.opened
+    }
+}
+
+// A file in memory with these bytes, in whose call of that number the disk fails; 0 is none.
+fn file_of(rt: &impl Abort, alloc: Global, bytes: &[u8], failing: u64) -> Given {
+    let file = TornFile::new(alloc, bytes).expect(rt, "memory");
+    Given {
+        opened: Ok(Noted::new(file.failing_in(failing))),
+    }
+}
+
+// The words of a watch of `x.log` from 2025-01-01 00:40:00 on.
+fn words_of_watch(rt: &impl Abort, alloc: Global) -> Vec<String> {
+    let mut words = Vec::new(alloc);
+    for word in ["navtex", "watch", "x.log", "1735692000"] {
+        let word = String::from_str(alloc, word).expect(rt, "memory");
+        words.push(word).expect(rt, "memory");
+    }
+    words
+}
+
+// How a watch ends: the status, what stands on standard error, and on standard output.
+type End<'a> = (u8, &'a str, &'a [u8]);
+
+// Expects that a watch ends so, and gives its file back.
+fn expect_watch(
+    rt: &impl Abort,
+    alloc: Global,
+    row: &str,
+    files: Given,
+    source: &mut Source,
+    end: End,
+) -> Option<TornFile> {
+    let mut output = Counting::new(Sink::new(Vec::new(alloc)));
+    let mut faults = Counting::new(Sink::new(Vec::new(alloc)));
+    let words = Ok(words_of_watch(rt, alloc));
+    let mut input = Counting::new(source);
+    let ended = answer(alloc, words, &mut input, &mut output, &mut faults, files);
+    expect_text(rt, row, &faults.into_inner().taken, end.1.as_bytes());
+    expect_text(rt, row, &output.into_inner().taken, end.2);
+    assert!(rt;
+        ended.status == end.0,
+        "{row}: status {} in place of {}",
+        ended.status,
+        end.0
+    );
+    match ended.file {
+        Some(file) => Some(file.into_file()),
+        None => None,
+    }
+}
+
+// Expects that a watch over these bytes ends so, and leaves these.
+fn expect_kept(
+    rt: &impl Abort,
+    alloc: Global,
+    row: &str,
+    before: &[u8],
+    input: &[u8],
+    end: End,
+    after: &[u8],
+) -> u64 {
+    let files = file_of(rt, alloc, before, 0);
+    let file = expect_watch(rt, alloc, row, files, &mut Source::of(input), end);
+    let file = file.expect(rt, "a file");
+    expect_text(rt, row, file.bytes(), after);
+    file.calls()
+}
+
+const SILENT: End<'static> = (0, "", b"");
+
+// The air file of EA01 at another moment, and with lines behind it.
+fn air_file_at(rt: &impl Abort, alloc: Global, moment: &[u8], behind: &[u8]) -> Vec<u8> {
+    let lines = AIR_FILE_OF_EA01.strip_prefix(MOMENT_OF_EA01);
+    join(rt, alloc, &[moment, lines.expect(rt, "a moment"), behind])
+}
+
+#[test]
+fn kept_x(rt: HostRuntime) {
+    let input = AIR_FILE_OF_EA01;
+    expect_kept(&rt, rt.alloc(), "kept-x", b"", input, SILENT, KEPT);
+}
+
+// A sync, and a read at each gate: it isn't written.
+#[test]
+fn kept_repeat(rt: HostRuntime) {
+    let input = air_file_at(&rt, rt.alloc(), b"T 1735706400\n", b"");
+    let calls = expect_kept(&rt, rt.alloc(), "kept-repeat", KEPT, &input, SILENT, KEPT);
+    assert!(rt; calls == 3, "{calls} calls");
+}
+
+#[test]
+fn kept_damaged(rt: HostRuntime) {
+    let damaged = b"\n[EA01 2025-01-01 00:40:00 full 0/5]\n\0EST\n\n ";
+    let end: End = (2, "navtex: the log x.log is damaged at line 3\n", b"");
+    let input = AIR_FILE_OF_EA01;
+    expect_kept(
+        &rt,
+        rt.alloc(),
+        "kept-damaged",
+        damaged,
+        input,
+        end,
+        damaged,
+    );
+}
+
+#[test]
+fn watch_clock_back(rt: HostRuntime) {
+    let input = air_file_at(&rt, rt.alloc(), MOMENT_OF_EA01, b"T 5\nT 6\n");
+    let told = "navtex: line 5 had no effect\nnavtex: 2 lines had no effect\n\
+        navtex: line 6: moment 6 is before 1735692000\n";
+    expect_kept(
+        &rt,
+        rt.alloc(),
+        "watch-clock-back",
+        b"",
+        &input,
+        (2, told, b""),
+        KEPT,
+    );
+}
+
+#[test]
+fn its_log_cannot_be_had(rt: HostRuntime) {
+    for (fault, status, line) in [
+        (
+            FileFault::Open,
+            1,
+            "navtex: the log x.log can't be opened\n",
+        ),
+        (
+            FileFault::Busy,
+            2,
+            "navtex: another watch has the log x.log\n",
+        ),
+        (FileFault::Memory, 1, "navtex: out of memory\n"),
+    ] {
+        let files = Given { opened: Err(fault) };
+        let mut source = Source::of(AIR_FILE_OF_EA01);
+        let file = expect_watch(
+            &rt,
+            rt.alloc(),
+            line,
+            files,
+            &mut source,
+            (status, line, b""),
+        );
+        assert!(rt; file.is_none(), "{line}");
+        assert!(rt; source.calls == 0, "{line}");
+    }
+}
+
+// Its first call is a sync, and the second a read.
+#[test]
+fn its_disk_fails(rt: HostRuntime) {
+    for (call, line) in [
+        (1, "navtex: the log x.log can't be written\n"),
+        (2, "navtex: the log x.log can't be opened\n"),
+    ] {
+        let files = file_of(&rt, rt.alloc(), KEPT, call);
+        let mut source = Source::of(AIR_FILE_OF_EA01);
+        expect_watch(&rt, rt.alloc(), line, files, &mut source, (1, line, b""));
+    }
+}
+
+#[test]
+fn its_input_fails(rt: HostRuntime) {
+    let files = file_of(&rt, rt.alloc(), b"", 0);
+    let mut source = Source::of(AIR_FILE_OF_EA01);
+    source.fails_at = Some(1);
+    let end: End = (1, "navtex: read failed\n", b"");
+    expect_watch(&rt, rt.alloc(), "read", files, &mut source, end);
+}
