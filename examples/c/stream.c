@@ -6,7 +6,8 @@
  *   stream entries                   reads a log on standard input entry by entry, and writes each again by what it says
  *   stream refusals                  what calls answer that are refused
  *   stream days N                    hears three channels for so many days without a block of memory; how many entries
- *   stream fail                      opens while each block of memory is refused in turn, and then hears without any
+ *   stream fail                      opens while each block of memory is refused in turn, hears without any, and saves and
+ *                                    opens from the state while each is refused
  *   stream speed PIECE TIMES         hears all elements so often, and says how many nanoseconds of the processor one took
  *
  * The status is 0, or 2 with the status of a call on standard error. */
@@ -271,6 +272,35 @@ static int days(size_t count) {
     return 0;
 }
 
+/* Saves with each block refused in turn, until it is saved, and opens another receiver from that state so. */
+static void fail_saving(struct nx_receiver *receiver) {
+    static uint8_t state[1 << 14];
+    size_t written;
+    uint32_t status;
+    long block = 0;
+    do {
+        left = block++;
+        status = nx_save(receiver, state, sizeof state, &written);
+        if (status != NX_DONE) {
+            is("save without memory", status, NX_WRITE);
+            if (written != 0)
+                stop("something is saved without memory", status);
+        }
+    } while (status != NX_DONE);
+    struct nx_receiver other = {0};
+    block = 0;
+    do {
+        left = block++;
+        status = nx_open_from(&other, state, written);
+        if (status != NX_DONE) {
+            is("open from a state without memory", status, NX_MEMORY);
+            if (other.kept != NULL)
+                stop("a receiver without memory is open", status);
+        }
+    } while (status != NX_DONE);
+    nx_abandon(&other);
+}
+
 /* Opens with each block refused in turn, until it is opened; then no block is given, and all is heard. */
 static int fail(void) {
     for (long block = 0;; block++) {
@@ -282,6 +312,8 @@ static int fail(void) {
             left = 0;
             while (fgets(line, sizeof line, stdin) != NULL)
                 give(&receiver, line, 7);
+            fail_saving(&receiver);
+            left = 0;
             close_all(&receiver);
             fprintf(stderr, "%ld\n", block);
             return 0;
