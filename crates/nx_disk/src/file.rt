@@ -51,6 +51,9 @@ pub struct LogFile<'a, R> {
     file: File,
     files: &'a R,
     path: String,
+    /// Its file system, and its number there, by which a name leads to it.
+    device: u64,
+    inode: u64,
 }
 
 /// Opens the regular file of that name, or makes it, and locks it. Its folder is brought to the
@@ -67,11 +70,18 @@ pub fn open<'a, R: Files<File = File>>(
     if file.as_raw_fd() <= 2 {
         file = file.try_clone()?;
     }
-    if !file.metadata()?.is_file() {
+    let found = file.metadata()?;
+    if !found.is_file() {
         return Err(FileFault::Open);
     }
     file.try_lock()?;
-    let log = LogFile { file, files, path };
+    let log = LogFile {
+        file,
+        files,
+        path,
+        device: found.dev(),
+        inode: found.ino(),
+    };
     if !log.is_named() {
         return Err(FileFault::Open);
     }
@@ -104,13 +114,8 @@ fn sync_folder<R: Files<File = File>>(files: &R, path: &str) -> io::Result<()> {
 impl<R: Files> LogFile<'_, R> {
     /// Whether the name still leads to the open file.
     fn is_named(&self) -> bool {
-        let (Ok(found), Ok(named)) = (
-            self.file.metadata(),
-            fs::metadata(self.files, self.path.as_str()),
-        ) else {
-            return false;
-        };
-        found.dev() == named.dev() && found.ino() == named.ino()
+        fs::metadata(self.files, self.path.as_str()).is_ok_and(|named| named.dev() == self.device
+            && named.ino() == self.inode)
     }
 }
 
