@@ -52,7 +52,8 @@ fn save_kept(alloc: Global, kept: &Kept, state: &mut [u8], written: &mut usize) 
         put(&[], state, written);
         return Status::Closed.number();
     };
-    let Ok(text) = state_text(alloc, &listener.saved()) else {
+    let left = listener.saved();
+    let Ok(text) = state_text(alloc, &left) else {
         put(&[], state, written);
         return Status::Write.number();
     };

@@ -15,9 +15,9 @@ returns c =
       saves = subst (λ s. SavesBy (hearing_at s) text (length c.args.state.now) c.put_whole.result)
           (sym c.in-Hearing.is) (inl (
             record {
-              left = c.saved.result;
+              left = c.saved-left.result;
               sound = c.state_text.ensures.sound;
-              leaves = c.saved.ensures;
+              leaves = c.saved-left.ensures;
               spelled = c.in-Ok.ensures.text;
             },
             subst (λ bytes. c.put_whole.result
