@@ -6,3 +6,4 @@ pub mod beginnings
 pub mod logs
 pub mod printed
 pub mod reading
+pub mod standing

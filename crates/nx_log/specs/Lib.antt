@@ -1,5 +1,6 @@
 pub mod Entries
 pub mod Json
+pub mod LogReader
 pub mod Logged
 pub mod Query
 pub mod Reading

@@ -3,6 +3,7 @@
 
 mod beginning;
 mod entry;
+mod gap;
 mod head;
 mod json;
 mod kept;
@@ -10,6 +11,7 @@ pub mod laws;
 mod letters;
 mod moment;
 mod query;
+mod reader;
 mod start;
 mod time;
 
@@ -20,5 +22,6 @@ pub use kept::remembered_of;
 pub use letters::Letters;
 pub use moment::moment_of;
 pub use query::Query;
+pub use reader::{BadLine, LogReader, Pushed};
 pub use start::{EntryStart, entry_start};
 pub use time::{since_of, until_of};

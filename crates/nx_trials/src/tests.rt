@@ -10,6 +10,7 @@ mod limits;
 mod listening;
 mod locking;
 mod logs;
+mod reading_logs;
 mod remembering;
 mod sending;
 mod signals;
