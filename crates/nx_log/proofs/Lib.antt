@@ -1,4 +1,6 @@
 pub mod Moments
+pub mod JsonTexts
+pub mod LogRuns
 pub mod QueryTexts
 pub mod Remembering
 pub mod TimeTexts

@@ -75,7 +75,7 @@ either_low byte true e t = in_code-low byte e
 either_low byte false e t =
     let same = (Decides-eqb byte asterisk).0 t in omega (arith, same)
 
-text_low : (byte : ℕ) → IsTrue (is_text_byte byte) → byte < 128
+pub text_low : (byte : ℕ) → IsTrue (is_text_byte byte) → byte < 128
 unfolding is_text_byte
 text_low byte t = either_low byte (is_in_code byte) refl t
 

@@ -5,6 +5,7 @@ ghost use Rattle.nx_envelope.specs.Copies.{errors_of};
 ghost use Rattle.nx_envelope.specs.Header.{newline};
 ghost use Rattle.nx_receiver.specs.Log.{missing_newline};
 ghost use Rattle.nx_receiver.specs.Shares.{MarkedCopy};
+ghost use Rattle.nx_log.specs.Entries.{IsWholeEntry};
 ghost use Rattle.nx_log.specs.Logged.{IsLoggedAs, is_text_byte as the_is_text_byte};
 ghost use Rattle.nx_log.specs.View.{IsViewOf};
 
@@ -44,6 +45,21 @@ pub fn entry_at(bytes: &[u8]) -> Option<EntryView>
         text,
         len: bytes.len() - rest.len(),
     })
+}
+
+/// The logged entry that these bytes are, all of them. Its text isn't judged again.
+pub(crate) fn whole_entry(bytes: &[u8]) -> EntryView
+    requires { IsWholeEntry bytes.now }
+    ensures { IsViewOf bytes.now result }
+{
+    let Some((head, rest)) = head_at(bytes) else {
+        unreachable!()
+    };
+    EntryView {
+        head,
+        text: &rest[..usize::from(head.characters)],
+        len: bytes.len(),
+    }
 }
 
 /// Whether each byte may stand in a text.

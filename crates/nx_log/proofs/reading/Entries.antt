@@ -78,7 +78,7 @@ made channel identity how text moment selected = record {
       { identity = identity; how = how; text = text; moment = moment; selected = selected };
 }
 
-same_copy : (a b : MarkedCopy) → a.channel ≡ b.channel → a.copy.identity ≡ b.copy.identity
+pub same_copy : (a b : MarkedCopy) → a.channel ≡ b.channel → a.copy.identity ≡ b.copy.identity
     → a.copy.how ≡ b.copy.how → a.copy.text ≡ b.copy.text → a.copy.moment ≡ b.copy.moment
     → a.copy.selected ≡ b.copy.selected → a ≡ b
 same_copy a b channel identity how text moment selected =

@@ -15,7 +15,7 @@ use std::alloc::{AllocError, Global};
 use std::str;
 
 /// The bytes of a time in UTC, `2025-01-01T00:40:00Z`.
-const UTC_LEN: usize = CIVIL_LEN + 1;
+pub(crate) const UTC_LEN: usize = CIVIL_LEN + 1;
 
 /// The place between a date and a time of day.
 const BETWEEN: usize = 10;
@@ -60,7 +60,7 @@ fn json_object(alloc: Global, view: &EntryView) -> Result<Value, AllocError>
 }
 
 /// The civil time of a moment, as ISO 8601 writes it in UTC.
-fn utc_time(moment: u64) -> [u8; UTC_LEN]
+pub(crate) fn utc_time(moment: u64) -> [u8; UTC_LEN]
     requires { moment ≤ last_moment }
     ensures shown { (civil : List ℕ) × IsShownAs moment civil
         × (result ≡ joined civil ++ codes "Z") }
@@ -76,7 +76,7 @@ fn utc_time(moment: u64) -> [u8; UTC_LEN]
 }
 
 /// How a copy ended, as it is printed.
-fn how_name(how: How) -> &'static str
+pub(crate) fn how_name(how: How) -> &'static str
     ensures { result.now ≡ the_how_name how }
 {
     match how {

@@ -1,7 +1,7 @@
 use Rattle.std.proofs.Common.{rules, ◌∷◌, ◌++◌, [], codes, ap, refl, ◌∙◌, ℕ}
 use Rattle.serde_json.specs.declared.value.Value.{the_lemmas}
 use Rattle.nx_log.proofs.QueryTexts.{as-data, text_ascii}
-use Rattle.nx_log.proofs.json.json_object.Goals as goal
+use Rattle.nx_log.proofs.json_value.json_object.Goals as goal
 use Rattle.nx_log.specs.Times.{joined}
 use Rattle.nx_log.specs.View.{copy_said}
 

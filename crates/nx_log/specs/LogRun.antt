@@ -1,0 +1,97 @@
+-- A run over a log: what it reads, what it writes of it, and what it answers (this profile).
+use Rattle.std.specs.Prelude.{◌≡◌, ◌⊎◌, ◌↔◌, ℕ, ◌-◌, ◌^◌, ◌≤◌, List, [], ◌++◌, length, Option}
+use Rattle.std.specs.Prelude.{Result, Ok, Err, IsErrOf}
+use Rattle.std.specs.List.{AllZip, concat}
+use Rattle.std.specs.Io.KnownBytes.{Appends, Consumes}
+use Rattle.nx_fec.specs.Transfers.{Devices, IsReadOut, WroteSome}
+use Rattle.nx_receiver.specs.Shares.{MarkedCopy}
+use Rattle.nx_log.specs.Json.{IsJsonLine}
+use Rattle.nx_log.specs.Logged.{IsLoggedAs}
+use Rattle.nx_log.specs.Query.{admitted}
+use Rattle.nx_log.specs.Reading.{HoldEntries, HoldEntriesToEnd, StopAtLine, StopAtLineToEnd}
+use Rattle.nx_log.specs.declared.form.Form.{Form}
+use Rattle.nx_log.specs.declared.form.Form.TheVariants.{Log, Json}
+use Rattle.nx_log.specs.declared.log_fault.LogFault.{LogFault}
+use Rattle.nx_log.specs.declared.log_fault.LogFault.TheVariants.{Read, Write, BadLog, Memory}
+use Rattle.nx_log.specs.declared.query.Query.{Query}
+
+-- the most bytes that are read; a reader that gives more is stopped there, as at an end
+abbrev pub most_read : ℕ
+most_read = 2 ^ 63 - 1
+
+-- the text of an entry in this form: its bytes in a log, or its line of JSON
+abbrev pub IsInForm : Form → MarkedCopy → List ℕ → Type 0
+IsInForm Log one text = IsLoggedAs one text
+IsInForm Json one text = IsJsonLine one text
+
+-- Output of entries: the texts of those that the query admits, in order, and nothing between.
+pub record IsOutput (query : Query) (form : Form) (entries : List MarkedCopy) (output : List ℕ)
+    : Type 0 where
+  pub texts : List (List ℕ)
+  pub each : AllZip (IsInForm form) (admitted query entries) texts
+  pub joined : output ≡ concat texts
+
+-- the bytes begin with these entries, whole, whatever stands behind them
+pub record BeginWithEntries (bytes : List ℕ) (entries : List MarkedCopy) : Type 0 where
+  pub front : List ℕ
+  pub more : List ℕ
+  pub split : bytes ≡ front ++ more
+  pub hold : HoldEntries front entries
+
+-- the output of these entries was written
+pub record WroteOutput (query : Query) (form : Form) (old new : Option (List ℕ))
+    (entries : List MarkedCopy) : Type 0 where
+  pub output : List ℕ
+  pub is_output : IsOutput query form entries output
+  pub written : Appends old new output
+
+-- a write failed, before which the writer took the first `written` bytes of their output
+pub record WrotePart (query : Query) (form : Form) (old new : Option (List ℕ))
+    (entries : List MarkedCopy) (written : ℕ) : Type 0 where
+  pub output : List ℕ
+  pub is_output : IsOutput query form entries output
+  pub part : WroteSome old new output written
+
+-- What a run over a log answers of the bytes that it read. At their end, how many of their entries
+-- the query admits, and the output of all was written. After a failed read the output of all whole
+-- entries of the bytes was written, so it is written before each further read. At the line at which
+-- they stop being a log, the output of the entries before it was written. After a failed write the
+-- first bytes were written of the output of entries with which they begin. Memory runs out before
+-- anything is read or written.
+module _ {R W : Type 0} (query : Query) (form : Form) (d : Devices R W) where
+  -- these bytes are all: none is left, or there are as many as are read
+  abbrev pub AreAll : List ℕ → Type 0
+  AreAll bytes = IsReadOut d ⊎ (length bytes ≡ most_read)
+
+  abbrev pub AnswersLogRun : Result ℕ LogFault → List ℕ → Type 0
+  AnswersLogRun (Ok count) bytes =
+      AreAll bytes × (entries : List MarkedCopy) × HoldEntriesToEnd bytes entries
+      × WroteOutput query form (d.contents d.writer.inner) (d.contents d.writer_after.inner) entries
+      × (count ≡ length (admitted query entries))
+  AnswersLogRun (Err Read) bytes =
+      (entries : List MarkedCopy) × HoldEntries bytes entries
+      × WroteOutput query form (d.contents d.writer.inner) (d.contents d.writer_after.inner) entries
+  AnswersLogRun (Err (BadLog line)) bytes =
+      (entries : List MarkedCopy)
+      × (StopAtLine bytes entries line ⊎ (AreAll bytes × StopAtLineToEnd bytes entries line))
+      × WroteOutput query form (d.contents d.writer.inner) (d.contents d.writer_after.inner) entries
+  AnswersLogRun (Err (Write written)) bytes =
+      (entries : List MarkedCopy) × BeginWithEntries bytes entries
+      × WrotePart query form (d.contents d.writer.inner) (d.contents d.writer_after.inner) entries
+      written
+  AnswersLogRun (Err (Memory error)) bytes =
+      (bytes ≡ []) × (d.reader_after ≡ d.reader) × (d.writer_after ≡ d.writer)
+
+-- A run over a log. It answers so to the bytes that it read, at most 2^63 - 1, however they came. A
+-- read failed, at most one, exactly where the outcome is `Read`, and a write where it is `Write`.
+pub record RunsOverLog {R W : Type 0} (query : Query) (form : Form) (d : Devices R W)
+    (outcome : Result ℕ LogFault) : Type 0 where
+  pub bytes : List ℕ
+  pub consumed : Consumes (d.remaining d.reader.inner) (d.remaining d.reader_after.inner) bytes
+  pub within : length bytes ≤ most_read
+  pub answer : AnswersLogRun query form d outcome bytes
+  pub unread : IsErrOf outcome Read ↔ (d.reader_after.failures ≡ 1)
+  pub read_once : d.reader_after.failures ≤ 1
+  pub unwritten : ((written : ℕ) × (outcome ≡ Err (Write written)))
+      ↔ (d.writer_after.failures ≡ 1)
+  pub write_once : d.writer_after.failures ≤ 1
