@@ -119,7 +119,7 @@ fn a_torn_end_is_as_long_as_an_entry_and_its_gate(rt: HostRuntime) {
     log[1..43].copy_from_slice(LOG_OF_EA01);
     log[43] = b' ';
     log[4190] = b'\n';
-    let short = log.get(..4191).expect(rt, "4,191 bytes");
+    let short = log.get(..4191).expect(&rt, "4,191 bytes");
     assert_eq!(rt; misread(short, 1, 0), None);
     assert_eq!(rt; misread(&log, 1, 6), None);
     log[43] = b'\n';
