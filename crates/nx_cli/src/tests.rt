@@ -13,6 +13,7 @@ mod files;
 mod interrupted;
 mod listening;
 mod locking;
+mod logging;
 mod reading;
 mod repeats;
 mod resuming;

@@ -5,13 +5,17 @@ use Rattle.std.proofs.Common.{refl, rules}
 use Rattle.std.specs.Str.{bytes_eq}
 use Rattle.clap.specs.Words.{Row, Text}
 use Rattle.nx_envelope.specs.declared.letter.Letter.{Letter}
+use Rattle.nx_log.specs.declared.form.Form.{Form}
+use Rattle.nx_log.specs.declared.query.Query.{Query}
+use Rattle.nx_program.specs.LogWords.{IsForm, IsQuery}
 use Rattle.nx_station.specs.declared.damaging.DamageKind.{DamageKind}
 use Rattle.nx_program.specs.declared.words.Call.{Call}
-use Rattle.nx_program.specs.declared.words.Call.TheVariants.{Damage, Send, Slots, Watch}
+use Rattle.nx_program.specs.declared.words.Call.TheVariants.{Damage, Log, Send, Slots, Watch}
 use Rattle.nx_program.specs.Words.{Entry, HasArguments, IsFile, IsKind, IsNumber, IsStation, Maker}
-use Rattle.nx_program.specs.Words.{command_name, entries, on_file, plain, range, slot}
+use Rattle.nx_program.specs.Words.{command_name, entries, on_file, options, plain, range, slot}
 use Rattle.nx_program.proofs.CallArguments.{file_call, file_call-only, range_call, range_call-only}
 use Rattle.nx_program.proofs.CallArguments.{slot_call, slot_call-only}
+use Rattle.nx_program.proofs.QueryAsked.{query_call, query_call-only}
 use Rattle.nx_program.proofs.EachFound.{Each}
 
 -- the call that an entry makes of the arguments, and the one that the entry under this name makes
@@ -20,6 +24,7 @@ made (plain call) rows = Some call
 made (slot make) rows = slot_call make rows
 made (on_file make) rows = file_call make rows
 made (range make) rows = range_call make rows
+made (options make) rows = query_call make rows
 
 abbrev pub call_in : List Entry → Text → List Row → Option Call
 call_in [] name rows = None
@@ -48,6 +53,9 @@ Makes name (range make) =
     (name ≡ codes "damage") × ((rows : List Row) (k : DamageKind) (f c : ℕ) → IsKind rows k
     → IsNumber (codes "FROM") rows f → IsNumber (codes "COUNT") rows c
     → HasCall name rows (make k f c))
+Makes name (options make) =
+    (name ≡ codes "log") × ((rows : List Row) (q : Query) (f : Form) → IsQuery rows q
+    → IsForm rows f → HasCall name rows (make q f))
 
 abbrev pub IsSound : Entry → Type 0
 IsSound e = Makes e.0 e.1
@@ -65,4 +73,6 @@ call_in-only (Watch name moment) rows given =
     file_call-only _ rows name moment given.0 given.1
 call_in-only (Damage kind from count) rows given =
     range_call-only _ rows kind from count given.0 given.1 given.2
+call_in-only (Log query form) rows given =
+    query_call-only (λ q f. Log q f) rows query form given.0 given.1
 call_in-only call rows given = refl

@@ -16,8 +16,8 @@ use Rattle.nx_program.proofs.NumbersGiven.{uses-wanted}
 use Rattle.nx_program.proofs.RowsKept.{UsesWell, or-first, or-second}
 use Rattle.nx_program.proofs.TextsGiven.{GivesText, IsTexted, gets-text, uses-other_number}
 use Rattle.nx_program.proofs.TextsGiven.{uses-wanted_text}
-use Rattle.nx_program.specs.Words.{Entry, Maker, entries, navtex, number_rule, on_file, plain, range}
-use Rattle.nx_program.specs.Words.{slot, text_rule, tree_of}
+use Rattle.nx_program.specs.Words.{Entry, Maker, entries, navtex, number_rule, on_file, options}
+use Rattle.nx_program.specs.Words.{plain, range, slot, text_rule, tree_of}
 
 -- the arguments of a command that wants a station and a moment, and of one that wants words, as
 -- they are built
@@ -111,6 +111,7 @@ Gives (on_file make) rows =
     GivesText (codes "FILE") rows × GivesNumber (codes "MOMENT") 32503679999 rows
 Gives (range make) rows =
     GivesNumber (codes "FROM") 4294967295 rows × GivesNumber (codes "COUNT") 4294967295 rows
+Gives (options make) rows = Unit {0}
 
 -- the name of a command that was entered, and the numbers that its arguments hold
 pub record IsCommand (name : Text) (rows : List Row) : Type 0 where
@@ -128,6 +129,7 @@ leaf e = built_leaf (tree_of e.0 e.1).top
 
 leaf-is : (name : Text) (maker : Maker) → Makes name maker → IsCommandOf (leaf (name, maker))
 leaf-is name (plain call) makes words e = record { maker = plain call; makes = makes; gives = tt }
+leaf-is name (options make) makes words e = record { maker = options make; makes = makes; gives = tt }
 leaf-is name (slot make) makes words e = record {
   maker = slot make;
   makes = makes;

@@ -5,8 +5,11 @@ pub mod EachFound
 pub mod GivenArguments
 pub mod RowsKept
 pub mod NumbersGiven
+pub mod Known
+pub mod TimesNamed
 pub mod TextsGiven
 pub mod CallArguments
+pub mod QueryAsked
 pub mod CommandTable
 pub mod CommandsTaken
 pub mod OneCall

@@ -7,10 +7,14 @@ use Rattle.clap.specs.Words.{Row, Text}
 use Rattle.nx_envelope.specs.declared.letter.Letter.{Letter}
 use Rattle.nx_station.specs.declared.damaging.DamageKind.{DamageKind}
 use Rattle.nx_program.specs.declared.words.Call.{Call}
+use Rattle.nx_program.specs.declared.words.Call.TheVariants.{Log}
 use Rattle.nx_program.specs.Words.{Entry, HasArguments, IsKind, IsStation, Maker, command_name}
-use Rattle.nx_program.specs.Words.{entries, on_file, plain, range, slot}
+use Rattle.nx_program.specs.Words.{entries, on_file, options, plain, range, slot}
 use Rattle.nx_program.proofs.CallArguments.{file_call-is, range_call-is, range_call-kind, slot_call-is}
 use Rattle.nx_program.proofs.CallArguments.{slot_call-station}
+use Rattle.nx_log.specs.declared.query.Query.{Query}
+use Rattle.nx_program.specs.LogWords.{IsQuery}
+use Rattle.nx_program.proofs.QueryAsked.{query_call-is, query_call-query}
 use Rattle.nx_program.proofs.CommandTable.{HasCall, IsSlotWord, IsSound, Makes, call_in}
 use Rattle.nx_program.proofs.CommandTable.{call_in-only, entries-sound, made}
 use Rattle.nx_program.proofs.EachFound.{Each}
@@ -21,6 +25,7 @@ made-is name (plain call) makes rows = makes rows
 made-is name (slot make) makes rows = slot_call-is make rows (HasCall name rows) (makes.1 rows)
 made-is name (on_file make) makes rows = file_call-is make rows (HasCall name rows) (makes.1 rows)
 made-is name (range make) makes rows = range_call-is make rows (HasCall name rows) (makes.1 rows)
+made-is name (options make) makes rows = query_call-is make rows (HasCall name rows) (makes.1 rows)
 
 call_in-is : (es : List Entry) → Each IsSound es → (name : Text) (rows : List Row)
     → IfSome (call_in es name rows) (HasCall name rows)
@@ -96,3 +101,10 @@ pub has-kind : (call : Call) (rows : List Row) → command_name call ≡ codes "
     → (kind : DamageKind) × IsKind rows kind
 has-kind call rows is given =
     range_call-kind _ rows call (made_at (codes "damage") call rows is given)
+
+-- and one of the word of a log has a query
+pub has-query : (call : Call) (rows : List Row) → command_name call ≡ codes "log"
+    → HasArguments call rows
+    → (query : Query) × IsQuery rows query
+has-query call rows is given =
+    query_call-query (λ q f. Log q f) rows call (made_at (codes "log") call rows is given)

@@ -6,6 +6,8 @@ use Rattle.nx_program.specs.declared.fault.CallFault.{CallFault}
 use Rattle.nx_program.specs.declared.fault.CallFault.TheVariants as call
 use Rattle.nx_program.specs.declared.fault.Fault.{Fault}
 use Rattle.nx_program.specs.declared.fault.Fault.TheVariants as fault
+use Rattle.nx_log.specs.declared.log_fault.LogFault.{LogFault}
+use Rattle.nx_log.specs.declared.log_fault.LogFault.TheVariants as log
 use Rattle.nx_receiver.specs.declared.listen_fault.ListenFault.{ListenFault}
 use Rattle.nx_receiver.specs.declared.listen_fault.ListenFault.TheVariants as listen
 use Rattle.nx_receiver.specs.declared.resume_fault.ResumeFault.{ResumeFault}
@@ -35,8 +37,8 @@ use Rattle.nx_program.specs.Watching.{Beside, IsUnused, WatchesLog, beside, watc
 use Rattle.nx_program.specs.declared.words.Call.TheVariants.{Watch}
 use Rattle.std.specs.declared.alloc.AllocError.{AllocError}
 use Rattle.nx_program.specs.Status.{IsStatus, call_status, check_status, damage_status}
-use Rattle.nx_program.specs.Status.{listen_status, fault_status, resume_status, run_status}
-use Rattle.nx_program.specs.Status.{send_status, status_of, watch_failure_status}
+use Rattle.nx_program.specs.Status.{fault_status, listen_status, log_status, resume_status}
+use Rattle.nx_program.specs.Status.{run_status, send_status, status_of, watch_failure_status}
 use Rattle.nx_fec.specs.Transfers.{Devices, devices, CountedDevice}
 use Rattle.nx_program.specs.Words.{IsRefused, Names}
 use Rattle.nx_program.proofs.WordsLemmas.{help_not_refused, named_not_help, named_not_refused}
@@ -136,6 +138,12 @@ damage-status (damage.LineCut line) = inr refl
 damage-status (damage.BadLine line) = inr refl
 damage-status (damage.Write written) = inl refl
 
+log-status : (why : LogFault) → (log_status why ≡ 1) ⊎ (log_status why ≡ 2)
+log-status log.Read = inl refl
+log-status (log.Write written) = inl refl
+log-status (log.BadLog line) = inr refl
+log-status (log.Memory want) = inl refl
+
 call-status : (why : CallFault) → (call_status why ≡ 1) ⊎ (call_status why ≡ 2)
 call-status (call.Run why) = run-status why
 call-status (call.Send why) = send-status why
@@ -143,6 +151,7 @@ call-status (call.Check why) = check-status why
 call-status (call.Listen why) = listen-status why
 call-status (call.Resume why) = resume-status why
 call-status (call.Damage why) = damage-status why
+call-status (call.Log why) = log-status why
 call-status call.NoSlot = inr refl
 
 watch-status : (why : WatchFailure)
@@ -163,6 +172,7 @@ fault-status (fault.Words answer) = inr (inr refl)
 fault-status fault.NoText = inr (inr refl)
 fault-status fault.Station = inr (inr refl)
 fault-status fault.Kind = inr (inr refl)
+fault-status (fault.Value report) = inr (inr refl)
 fault-status (fault.Watch name why) =
     elim (watch-status why) [ inl one ↦ inl one | inr two ↦ inr (inl two) ]
 fault-status (fault.Call why) =
@@ -220,7 +230,8 @@ words-end words d (Ok done) ends is = absurd (omega arith)
 words-end words d (Err (fault.Words answer)) ends is = inl ends.0
 words-end words d (Err fault.NoText) ends is = absurd ends
 words-end words d (Err fault.Station) ends is = inr (inl ends.0)
-words-end words d (Err fault.Kind) ends is = inr (inr ends.0)
+words-end words d (Err fault.Kind) ends is = inr (inr (inl ends.0))
+words-end words d (Err (fault.Value report)) ends is = inr (inr (inr (_, ends.0)))
 words-end words d (Err (fault.Watch name why)) ends is = absurd ends
 words-end words d (Err (fault.Call why)) ends is = elim (call-status why) [
   | inl one ↦ absurd
@@ -250,6 +261,7 @@ refused-ends words d (Err (fault.Words answer)) ends refused = inl refl
 refused-ends words d (Err fault.NoText) ends refused = absurd ends
 refused-ends words d (Err fault.Station) ends refused = inl refl
 refused-ends words d (Err fault.Kind) ends refused = inl refl
+refused-ends words d (Err (fault.Value report)) ends refused = inl refl
 refused-ends words d (Err (fault.Watch name why)) ends refused = absurd ends
 refused-ends words d (Err (fault.Call why)) ends refused = elim ends [
   | inl runs ↦ absurd (named_not_refused words runs.call runs.named refused)

@@ -1,5 +1,5 @@
 -- What the program's answer says of its outcome and of standard error.
-use Rattle.std.proofs.Common.{◌≡◌, ◌≢◌, ◌≤◌, ◌<◌, ◌+◌, ◌-◌, ◌^◌, ◌==◌, ◌++◌, ◌∷◌, ◌∙◌, ℕ, Bool, true, false, List, []}
+use Rattle.std.proofs.Common.{◌≡◌, ◌≢◌, ◌≤◌, ◌<◌, ◌+◌, ◌-◌, ◌^◌, ◌==◌, ◌++◌, ◌∷◌, ◌∙◌, ℕ, true, false, List, []}
 use Rattle.std.proofs.Common.{Result, Ok, Err, Option, Some, None, length, take, min, refl, sym, subst, ap, inl, inr}
 use Rattle.std.proofs.Common.{arith, append_assoc, length-append, if◌then◌else◌}
 use Rattle.std.specs.Prelude.{codes, decimal, string_bytes}
@@ -11,7 +11,6 @@ use Rattle.std.proofs.lemmas.List.{take-append-le}
 use Rattle.std.proofs.lemmas.Bool.{le-leb}
 use Rattle.clap.specs.Words.{Text}
 use Rattle.nx_fec.specs.Transfers.{CountedDevice, Devices}
-use Rattle.nx_disk.specs.declared.file.FileFault.{FileFault}
 use Rattle.nx_disk.specs.declared.file.FileFault.TheVariants as file
 use Rattle.nx_watch.specs.declared.watch_fault.WatchFault.TheVariants as watch
 use Rattle.nx_program.specs.declared.watching.WatchFailure.{WatchFailure}
@@ -60,6 +59,7 @@ fault-text (fault.Words answer) = (string_bytes answer, refl)
 fault-text fault.NoText = (_, refl)
 fault-text fault.Station = (_, refl)
 fault-text fault.Kind = (_, refl)
+fault-text (fault.Value report) = (string_bytes report, refl)
 fault-text (fault.Watch name why) = (watch_fault_line name why, refl)
 fault-text (fault.Call why) = (codes "navtex: " ++ 10 ∷ [], record { shown = []; whole = refl })
 
@@ -119,6 +119,7 @@ text-line (fault.Words answer) text other is = absurd (other refl)
 text-line fault.NoText text other is = absurd (other refl)
 text-line fault.Station text other is = absurd (other refl)
 text-line fault.Kind text other is = absurd (other refl)
+text-line (fault.Value report) text other is = absurd (other refl)
 text-line (fault.Watch name why) text other is = subst IsFaultLine (sym is) (watch-line name why)
 text-line (fault.Call why) text other is = is
 

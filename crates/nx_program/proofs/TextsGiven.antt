@@ -6,7 +6,7 @@ use Rattle.std.specs.Option.{option_map_or}
 use Rattle.std.specs.Str.{bytes_eq}
 use Rattle.clap.specs.Facts.{explicit_source}
 use Rattle.clap.specs.Takes.{is_given}
-use Rattle.clap.specs.Words.{Row, Rule, Shape, Text, first_of}
+use Rattle.clap.specs.Words.{Row, Shape, Text, first_of}
 use Rattle.clap.specs.Walk.{more_values, nothing_held, rows_after, settled, values_or_missing, walk}
 use Rattle.clap.specs.Walk.{with_values}
 use Rattle.clap.specs.Faults.{check_fault, level_fault, use_fault}

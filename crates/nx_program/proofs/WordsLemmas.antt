@@ -1,7 +1,7 @@
 -- Clap's reading of the program's words: the command tree is one of those that clap's clauses
 -- speak of exactly, and a command that it enters is the command of a call.
 use Rattle.std.proofs.Common.{ℕ, codes, ◌≤◌, ◌≡◌, ◌≢◌, ◌∙◌, true, false, List, [], ◌∷◌, Option}
-use Rattle.std.proofs.Common.{Some, None, is_some, ◌⊎◌, IfNone, IfSome, IfOk, IfErr, Result}
+use Rattle.std.proofs.Common.{Some, None, is_some, ◌⊎◌, IfNone, IfSome, IfOk, IfErr, Result, Ok, Err}
 use Rattle.std.proofs.Common.{option_map, refl, ap, ap₂, inl, inr, sym, subst, Box, Global}
 use Rattle.std.specs.Box.{box_value}
 use Rattle.std.specs.Option.{ok_or}
@@ -23,19 +23,23 @@ use Rattle.clap.specs.declared.parser.matches.SubCommand.{SubCommand}
 use Rattle.nx_program.specs.declared.words.Call.{Call}
 use Rattle.nx_program.specs.declared.words.WordsFault.{WordsFault}
 use Rattle.nx_program.specs.declared.words.WordsFault.TheVariants.{Help, Refused, Station, Kind}
-use Rattle.nx_program.specs.declared.words.WordsFault.TheVariants.{Memory, Version}
+use Rattle.nx_program.specs.declared.words.WordsFault.TheVariants.{Memory, Value, Version}
 use Rattle.nx_station.specs.declared.damaging.DamageKind.{DamageKind}
 use Rattle.nx_program.specs.Words.{AsksForHelp, AsksForVersion, HasArguments, IsKind, IsNumber}
-use Rattle.nx_program.specs.Words.{IsRefusal, IsRefused, IsStation, LacksKind, LacksStation, Maker}
-use Rattle.nx_program.specs.Words.{Names, command_name, entries, navtex, on_file, plain, range}
-use Rattle.nx_program.specs.Words.{slot}
+use Rattle.nx_program.specs.Words.{IsRefusal, IsRefused, IsStation, LacksKind, LacksStation, LacksValue}
+use Rattle.nx_program.specs.Words.{Maker, Names, command_name, entries, navtex, on_file, options}
+use Rattle.nx_program.specs.Words.{plain, range, slot}
+use Rattle.nx_program.specs.LogWords.{IsQuery, value_report}
+use Rattle.nx_program.proofs.QueryAsked.{query_not_unfit, query_or_unfit}
+use Rattle.nx_program.specs.private.LogReading.{ExplainsOptions}
 use Rattle.nx_program.specs.private.Reading.{ExplainsWords, IsSortedAs}
 use Rattle.nx_program.proofs.EachFound.{Each, each-map, found_is}
 use Rattle.nx_program.proofs.CallArguments.{differ, number_once}
 use Rattle.nx_program.proofs.CommandTable.{HasCall, IsSlotWord, IsSound, Makes, entries-sound}
 use Rattle.nx_program.proofs.CommandsTaken.{Gives, leaf, taken-command}
 use Rattle.nx_program.proofs.NumbersGiven.{number-given}
-use Rattle.nx_program.proofs.OneCall.{IsNotCalled, call_or_none, has-kind, has-station, same_call}
+use Rattle.nx_program.proofs.OneCall.{IsNotCalled, call_or_none, has-kind, has-query, has-station}
+use Rattle.nx_program.proofs.OneCall.{same_call}
 use Rattle.nx_envelope.specs.declared.letter.Letter.{Letter}
 use Rattle.nx_program.specs.declared.words.Call.TheVariants.{Damage, Send, Slots, Watch}
 use Rattle.nx_program.proofs.FaultKinds.{HasNoHelp, IsUniform, help-alone, help-no_version}
@@ -69,6 +73,7 @@ explained words error (Refused answer) kinds sorts = elim kinds [
 ]
 explained words error Station kinds sorts = absurd sorts
 explained words error Kind kinds sorts = absurd sorts
+explained words error (Value report) kinds sorts = absurd sorts
 explained words error (Memory want) kinds sorts = tt
 
 name_at : (b : Option (Box SubCommand Global))
@@ -110,6 +115,7 @@ leaf-no_help name (plain call) = refl
 leaf-no_help name (slot make) = refl
 leaf-no_help name (on_file make) = refl
 leaf-no_help name (range make) = refl
+leaf-no_help name (options make) = refl
 
 calls_without_help : Each HasNoHelp (built navtex).subs
 calls_without_help = each-map IsSound HasNoHelp leaf (λ e sound. leaf-no_help e.0 e.1) entries
@@ -147,8 +153,10 @@ help_not_refused words help (inl refused) =
     (refusal_is refused.0 refused.1)
 help_not_refused words help (inr (inl lacks)) =
     none_among (fault_of navtex words) DisplayHelp lacks.taken help
-help_not_refused words help (inr (inr lacks)) =
+help_not_refused words help (inr (inr (inl lacks))) =
     none_among (fault_of navtex words) DisplayHelp lacks.taken help
+help_not_refused words help (inr (inr (inr lacks))) =
+    none_among (fault_of navtex words) DisplayHelp lacks.1.taken help
 
 pub version_not_refused : (words : List Text) → AsksForVersion words → IsRefused words → ⊥
 version_not_refused words version (inl refused) =
@@ -156,8 +164,10 @@ version_not_refused words version (inl refused) =
     (refusal_is refused.0 refused.1)
 version_not_refused words version (inr (inl lacks)) =
     none_among (fault_of navtex words) DisplayVersion lacks.taken version
-version_not_refused words version (inr (inr lacks)) =
+version_not_refused words version (inr (inr (inl lacks))) =
     none_among (fault_of navtex words) DisplayVersion lacks.taken version
+version_not_refused words version (inr (inr (inr lacks))) =
+    none_among (fault_of navtex words) DisplayVersion lacks.1.taken version
 
 pub named_not_help : (words : List Text) (call : Call) → Names words call → AsksForHelp words → ⊥
 named_not_help words call named help =
@@ -198,41 +208,58 @@ named-lacks_kind words call named lacks =
     let Q : List Row → Type 0 = λ rows. IsKind rows kind.0 in
     lacks.no_kind kind.0 (subst Q same.1 kind.1)
 
+named-lacks_value : (words : List Text) (call : Call) (report : Text) → Names words call
+    → LacksValue words report → ⊥
+named-lacks_value words call report named lacks =
+    let same = entered_once words _ _ _ _ named.command lacks.entered in
+    let query = has-query call named.arguments same.0 named.given in
+    let unfit = lacks.reported.unfit in
+    let P : List Row → Type 0 = λ rows. IsQuery rows query.0 in
+    query_not_unfit lacks.arguments query.0 lacks.reported.option lacks.reported.text
+    (subst P same.1 query.1) unfit
+
 pub named_not_refused : (words : List Text) (call : Call) → Names words call → IsRefused words → ⊥
 named_not_refused words call named (inl refused) =
     none_among (fault_of navtex words) refused.0 named.taken refused.2
 named_not_refused words call named (inr (inl lacks)) = named-lacks_station words call named lacks
-named_not_refused words call named (inr (inr lacks)) = named-lacks_kind words call named lacks
+named_not_refused words call named (inr (inr (inl lacks))) =
+    named-lacks_kind words call named lacks
+named_not_refused words call named (inr (inr (inr lacks))) =
+    named-lacks_value words call lacks.0 named lacks.1
 
--- words with no call, which clap takes, lack a station or a kind of damage
+-- what words with no call lack, which clap takes: a station, a kind of damage, or a value that names
+-- something
+pub data Lacks (words : List Text) (name : Text) (arguments : List Row) : Type 0 where
+  a_station : IsSlotWord name → LacksStation words → Lacks words name arguments
+  a_kind : name ≡ codes "damage" → LacksKind words → Lacks words name arguments
+  a_value : name ≡ codes "log" → (report : Text) → LacksValue words report
+      → Lacks words name arguments
+
 lacks_argument : (words : List Text) (name : Text) (arguments : List Row)
     → fault_of navtex words ≡ []
     → subcommand_of navtex words ≡ Some (name, arguments)
     → IsNotCalled name arguments
-    → (IsSlotWord name × LacksStation words) ⊎ ((name ≡ codes "damage") × LacksKind words)
+    → Lacks words name arguments
 lacks_argument words name arguments taken entered none =
     let command = taken-command words name arguments taken entered in
     go command.maker command.makes command.gives
   where
     go : (maker : Maker) → Makes name maker → Gives maker arguments
-        → (IsSlotWord name × LacksStation words) ⊎ ((name ≡ codes "damage") × LacksKind words)
+        → Lacks words name arguments
     go (plain call) makes gives = absurd (let has = makes arguments in none call has.0 has.1)
     go (slot make) makes gives =
         let moment = number-given _ _ arguments gives in
-        inl (
-          makes.0,
-          record {
-            taken = taken;
-            arguments = arguments;
-            entered = elim makes.0 [
-              | inl send ↦ inl (entered ∙ ap (λ (t : Text). Some (t, arguments)) send)
-              | inr slots ↦ inr (entered ∙ ap (λ (t : Text). Some (t, arguments)) slots)
-            ];
-            no_letter = λ letter found.
-                let has = makes.1 arguments letter moment.0 found moment.1 in
-                none (make letter moment.0) has.0 has.1;
-          },
-        )
+        a_station makes.0 (record {
+          taken = taken;
+          arguments = arguments;
+          entered = elim makes.0 [
+            | inl send ↦ inl (entered ∙ ap (λ (t : Text). Some (t, arguments)) send)
+            | inr slots ↦ inr (entered ∙ ap (λ (t : Text). Some (t, arguments)) slots)
+          ];
+          no_letter = λ letter found.
+              let has = makes.1 arguments letter moment.0 found moment.1 in
+              none (make letter moment.0) has.0 has.1;
+        })
     go (on_file make) makes gives =
         let moment = number-given _ _ arguments gives.1 in
         let has = makes.1 arguments gives.0.text moment.0 gives.0.given moment.1 in
@@ -240,17 +267,29 @@ lacks_argument words name arguments taken entered none =
     go (range make) makes gives =
         let from = number-given _ _ arguments gives.0 in
         let count = number-given _ _ arguments gives.1 in
-        inr (
-          makes.0,
-          record {
-            taken = taken;
-            arguments = arguments;
-            entered = entered ∙ ap (λ (t : Text). Some (t, arguments)) makes.0;
-            no_kind = λ kind found.
-                let has = makes.1 arguments kind from.0 count.0 found from.1 count.1 in
-                none (make kind from.0 count.0) has.0 has.1;
-          },
-        )
+        a_kind makes.0 (record {
+          taken = taken;
+          arguments = arguments;
+          entered = entered ∙ ap (λ (t : Text). Some (t, arguments)) makes.0;
+          no_kind = λ kind found.
+              let has = makes.1 arguments kind from.0 count.0 found from.1 count.1 in
+              none (make kind from.0 count.0) has.0 has.1;
+        })
+    go (options make) makes gives = elim (query_or_unfit arguments) [
+      | inl is ↦ absurd (let has = makes.1 arguments is.0 _ is.1 refl in
+          none (make is.0 _) has.0 has.1)
+      | inr unfit ↦ a_value makes.0 (value_report unfit.0 unfit.1) (record {
+        taken = taken;
+        arguments = arguments;
+        entered = entered ∙ ap (λ (t : Text). Some (t, arguments)) makes.0;
+        reported = record {
+          option = unfit.0;
+          text = unfit.1;
+          unfit = unfit.2;
+          told = refl;
+        };
+      })
+    ]
 
 -- a call without arguments has no number among them
 no_numbers : (name : Text) (number : ℕ) → IsNumber name [] number → ⊥
@@ -276,6 +315,11 @@ not_both : (name : Text) → IsSlotWord name → name ≡ codes "damage" → ⊥
 not_both name (inl send) damage = differ _ _ refl (sym send ∙ damage)
 not_both name (inr slots) damage = differ _ _ refl (sym slots ∙ damage)
 
+-- nor is it the word of a log
+not_log : (name : Text) → IsSlotWord name → name ≡ codes "log" → ⊥
+not_log name (inl send) log = differ _ _ refl (sym send ∙ log)
+not_log name (inr slots) log = differ _ _ refl (sym slots ∙ log)
+
 -- the moment of a call of a slot is in its range
 moment-bound : (words : List Text) (call : Call) (named : Names words call) (moment : ℕ)
     → IsSlotWord (command_name call)
@@ -297,6 +341,7 @@ moment-bound words call named moment wants gives =
         (gives named.arguments named.given)) number.2
     go (on_file make) makes given = absurd (not_watch _ wants makes.0)
     go (range make) makes given = absurd (not_both _ wants makes.0)
+    go (options make) makes given = absurd (not_log _ wants makes.0)
 
 pub send-bound : (words : List Text) (station : Letter) (moment : ℕ)
     → Names words (Send station moment)
@@ -332,6 +377,7 @@ watch-bound words name moment named =
         subst P (number_once (codes "MOMENT") named.arguments number.0 moment number.1
         named.given.1) number.2
     go (range make) makes given = absurd (differ _ _ refl makes.0)
+    go (options make) makes given = absurd (differ _ _ refl makes.0)
 
 -- and so are the numbers of a call that damages
 pub damage-bounds : (words : List Text) (kind : DamageKind) (from count : ℕ)
@@ -348,6 +394,7 @@ damage-bounds words kind from count named =
         (codes "FROM") from
         (λ rows has. has.1))
     go (slot make) makes given = absurd (not_both _ makes.0 refl)
+    go (options make) makes given = absurd (differ _ _ refl makes.0)
     go (on_file make) makes given = absurd (differ _ _ refl makes.0)
     go (range make) makes given =
         let first = number-given _ _ named.arguments given.0 in
@@ -366,9 +413,15 @@ taken_enters words taken =
     level-nil (built navtex).top (names_of (built navtex)) nothing_held
     (argument_words navtex words) _ _ refl taken
 
+refused_by : (words : List Text) (name : Text) (arguments : List Row) → Lacks words name arguments
+    → IsRefused words
+refused_by words name arguments (a_station is lacks) = inr (inl lacks)
+refused_by words name arguments (a_kind is lacks) = inr (inr (inl lacks))
+refused_by words name arguments (a_value is report lacks) = inr (inr (inr (report, lacks)))
+
 named_by : (words : List Text) → fault_of navtex words ≡ [] → (e : Option (Text × List Row))
     → subcommand_of navtex words ≡ e → is_some e ≡ true
-    → ((call : Call) × Names words call) ⊎ (LacksStation words ⊎ LacksKind words)
+    → ((call : Call) × Names words call) ⊎ IsRefused words
 named_by words taken None entered some = absurd (cc)
 named_by words taken (Some p) entered some = elim (call_or_none p.0 p.1) [
   | inl call ↦ inl (
@@ -380,11 +433,7 @@ named_by words taken (Some p) entered some = elim (call_or_none p.0 p.1) [
       given = call.1.1;
     },
   )
-  | inr none ↦ inr (elim (lacks_argument words p.0 p.1 taken entered none) [
-    | inl station ↦
-        inl station.1
-    | inr kind ↦ inr kind.1
-  ])
+  | inr none ↦ inr (refused_by words p.0 p.1 (lacks_argument words p.0 p.1 taken entered none))
 ]
 
 -- each list of words names a call, asks for help, asks for the version or is refused
@@ -395,7 +444,7 @@ read_as_one words = elim (kinds_cases (fault_of navtex words)) [
   | inl taken ↦ elim (named_by words taken (subcommand_of navtex words) refl
       (taken_enters words taken)) [
         | inl named ↦ inl named
-        | inr lacks ↦ inr (inr (inr (inr lacks)))
+        | inr refused ↦ inr (inr (inr refused))
       ]
   | inr (inl help) ↦ inr (inl help)
   | inr (inr (inl version)) ↦ inr (inr (inl version))
@@ -432,16 +481,50 @@ outcome-named words name arguments (Some call) unfit outcome taken entered some 
 pub outcome-refused : (words : List Text) (name : Text) (arguments : List Row) (found : Option Call)
     (unfit : WordsFault) (outcome : Result Call WordsFault)
     → fault_of navtex words ≡ [] → subcommand_of navtex words ≡ Some (name, arguments)
-    → IfNone found (IsNotCalled name arguments)
+    → name ≢ codes "log"
+    → IfNone found ((call : Call) → name ≢ codes "log" → name ≡ command_name call
+    → HasArguments call arguments → ⊥)
     → (name ≡ codes "damage" → unfit ≡ Kind) → (name ≢ codes "damage" → unfit ≡ Station)
     → outcome ≡ ok_or found unfit → IfErr outcome (ExplainsWords words)
-outcome-refused words name arguments (Some call) unfit outcome taken entered none kind station is =
+outcome-refused words name arguments (Some call) unfit outcome taken entered other none kind station is =
     rw is tt
-outcome-refused words name arguments None unfit outcome taken entered none kind station is = elim
-    (lacks_argument words name arguments taken entered none) [
-      | inl lacks ↦ rw (is, station (not_both name lacks.0)) lacks.1
-      | inr lacks ↦ rw (is, kind lacks.0) lacks.1
-    ]
+outcome-refused words name arguments None unfit outcome taken entered other none kind station is =
+    go (lacks_argument words name arguments taken entered (λ call. none call other))
+  where
+    go : Lacks words name arguments → IfErr outcome (ExplainsWords words)
+    go (a_station send lacks) = rw (is, station (not_both name send)) lacks
+    go (a_kind damage lacks) = rw (is, kind damage) lacks
+    go (a_value log report lacks) = absurd (other log)
+
+-- the same of the call of the options of `log`
+pub options-named : (words : List Text) (arguments : List Row) (outcome : Result Call WordsFault)
+    → fault_of navtex words ≡ [] → subcommand_of navtex words ≡ Some (codes "log", arguments)
+    → IfOk outcome (λ call. (command_name call ≡ codes "log") × HasArguments call arguments)
+    → IfOk outcome (Names words)
+options-named words arguments (Ok call) taken entered ok = record {
+  taken = taken;
+  arguments = arguments;
+  command = entered ∙ ap (λ (t : Text). Some (t, arguments)) (sym ok.0);
+  given = ok.1;
+}
+options-named words arguments (Err why) taken entered ok = tt
+
+pub options-refused : (words : List Text) (arguments : List Row) (outcome : Result Call WordsFault)
+    → fault_of navtex words ≡ [] → subcommand_of navtex words ≡ Some (codes "log", arguments)
+    → IfErr outcome (ExplainsOptions arguments) → IfErr outcome (ExplainsWords words)
+options-refused words arguments (Ok call) taken entered err = tt
+options-refused words arguments (Err (Value report)) taken entered err = record {
+  taken = taken;
+  arguments = arguments;
+  entered = entered;
+  reported = err;
+}
+options-refused words arguments (Err (Memory want)) taken entered err = tt
+options-refused words arguments (Err (Help answer)) taken entered err = absurd err
+options-refused words arguments (Err Version) taken entered err = absurd err
+options-refused words arguments (Err (Refused answer)) taken entered err = absurd err
+options-refused words arguments (Err Station) taken entered err = absurd err
+options-refused words arguments (Err Kind) taken entered err = absurd err
 
 pub unknown_is_refusal : IsRefusal kind.UnknownArgument
 unknown_is_refusal = (λ e. absurd (cc), λ e. absurd (cc))
@@ -454,3 +537,6 @@ missing_argument_is_refusal = (λ e. absurd (cc), λ e. absurd (cc))
 
 pub invalid_is_refusal : IsRefusal kind.ValueValidation
 invalid_is_refusal = (λ e. absurd (cc), λ e. absurd (cc))
+
+pub conflict_is_refusal : IsRefusal kind.ArgumentConflict
+conflict_is_refusal = (λ e. absurd (cc), λ e. absurd (cc))

@@ -1,4 +1,5 @@
 pub mod Status
+pub mod LogWords
 pub mod Program
 pub mod Report
 pub mod Watching

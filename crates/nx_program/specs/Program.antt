@@ -1,7 +1,7 @@
 -- How a run of the program ends: what it leaves on its devices, by the contracts of the calls, and
 -- the status with which it exits (this profile).
 use Rattle.std.specs.Prelude.{◌≡◌, ◌⊎◌, ◌∷◌, ◌++◌, ⊤, ℕ, List, [], Option, Result, Ok, Err}
-use Rattle.std.specs.Prelude.{alloc_error, codes}
+use Rattle.std.specs.Prelude.{alloc_error, codes, string_bytes}
 use Rattle.std.specs.Io.KnownBytes.{Appends}
 use Rattle.std.specs.declared.alloc.AllocError.{AllocError}
 use Rattle.clap.specs.Words.{Text}
@@ -12,6 +12,7 @@ use Rattle.nx_fec.specs.Runs.{Decodes, Encodes, Shows}
 use Rattle.nx_fec.specs.TableText.{table_text}
 use Rattle.nx_locks.specs.Run.{ShowsLocks}
 use Rattle.nx_memory.specs.Saved.{SavedStates}
+use Rattle.nx_log.specs.LogRun.{RunsOverLog}
 use Rattle.nx_receiver.specs.Shares.{all_at_zero}
 use Rattle.nx_receiver.specs.ListenOnce.{ListensOnce}
 use Rattle.nx_receiver.specs.Resume.{ReadStateAlone, Resumes}
@@ -28,7 +29,7 @@ use Rattle.nx_fec.specs.declared.fault.RunFault.TheVariants as run
 use Rattle.nx_station.specs.Slots.{HasNoSlot, IsNextSlot}
 use Rattle.nx_program.specs.declared.words.Call.{Call}
 use Rattle.nx_program.specs.declared.words.Call.TheVariants.{Check, Code, Decode, Encode, Listen}
-use Rattle.nx_program.specs.declared.words.Call.TheVariants.{Show}
+use Rattle.nx_program.specs.declared.words.Call.TheVariants.{Log as LogCall, Show}
 use Rattle.nx_program.specs.declared.words.Call.TheVariants.{Damage, Locks, Resume, Save, Send}
 use Rattle.nx_program.specs.declared.words.Call.TheVariants.{Slots, Watch}
 use Rattle.nx_program.specs.declared.fault.CallFault.{CallFault}
@@ -38,7 +39,7 @@ use Rattle.nx_program.specs.declared.fault.Fault.TheVariants as fault
 use Rattle.nx_program.specs.Status.{status_of}
 use Rattle.nx_program.specs.Watching.{Beside, IsUnused, WatchesLog}
 use Rattle.nx_program.specs.Words.{AsksForHelp, AsksForVersion, IsRefusedByClap, LacksKind}
-use Rattle.nx_program.specs.Words.{LacksStation, Names}
+use Rattle.nx_program.specs.Words.{LacksStation, LacksValue, Names}
 
 -- a device on which no call has failed
 abbrev pub fresh_device : {T : Type 0} → T → CountedDevice T
@@ -137,6 +138,8 @@ PerformsOnStreams (Slots station moment) d outcome =
 PerformsOnStreams (Damage kind from count) d outcome =
     Tells (λ why. call.Damage why)
     (Damages (record { kind = kind; from = from; count = count }) d) outcome
+PerformsOnStreams (LogCall query form) d outcome =
+    Tells (λ why. call.Log why) (RunsOverLog query form d) outcome
 PerformsOnStreams (Watch name moment) d outcome = ⊥
 
 -- the words name a call, which had this outcome
@@ -183,6 +186,8 @@ EndsOnStreams words d (Err (fault.Words answer)) = IsRefusedByClap words × IsUn
 EndsOnStreams words d (Err fault.NoText) = ⊥
 EndsOnStreams words d (Err fault.Station) = LacksStation words × IsUntouched d
 EndsOnStreams words d (Err fault.Kind) = LacksKind words × IsUntouched d
+EndsOnStreams words d (Err (fault.Value report)) =
+    LacksValue words (string_bytes report) × IsUntouched d
 EndsOnStreams words d (Err (fault.Watch name why)) = ⊥
 EndsOnStreams words d (Err (fault.Call why)) =
     RunsCall words d (Err why)

@@ -20,7 +20,7 @@ pub record IsFaultLine (line : List ℕ) : Type 0 where
   pub shown : List ℕ
   pub whole : line ≡ codes "navtex: " ++ shown ++ 10 ∷ []
 
--- the text that reports a fault: clap's own answer to the words, or a line
+-- the text that reports a fault: clap's own answer to the words, the report of a value, or a line
 abbrev pub IsFaultText : Fault → List ℕ → Type 0
 IsFaultText (fault.Words answer) text = text ≡ string_bytes answer
 IsFaultText fault.NoText text =
@@ -28,6 +28,7 @@ IsFaultText fault.NoText text =
 IsFaultText fault.Station text =
     text ≡ codes "navtex: station must be one letter A to Z" ++ 10 ∷ []
 IsFaultText fault.Kind text = text ≡ codes "navtex: kind must be dx, rx or all" ++ 10 ∷ []
+IsFaultText (fault.Value report) text = text ≡ string_bytes report
 IsFaultText (fault.Watch name why) text = text ≡ watch_fault_line name why
 IsFaultText (fault.Call why) text = IsFaultLine text
 

@@ -2,6 +2,8 @@
 use Rattle.std.specs.Prelude.{◌≡◌, ◌⊎◌, ℕ, Result, Ok, Err}
 use Rattle.nx_fec.specs.declared.fault.RunFault.{RunFault}
 use Rattle.nx_fec.specs.declared.fault.RunFault.TheVariants as run
+use Rattle.nx_log.specs.declared.log_fault.LogFault.{LogFault}
+use Rattle.nx_log.specs.declared.log_fault.LogFault.TheVariants as log
 use Rattle.nx_receiver.specs.declared.listen_fault.ListenFault.{ListenFault}
 use Rattle.nx_receiver.specs.declared.listen_fault.ListenFault.TheVariants as listen
 use Rattle.nx_receiver.specs.declared.resume_fault.ResumeFault.{ResumeFault}
@@ -58,6 +60,12 @@ damage_status damage.Read = 1
 damage_status (damage.Write written) = 1
 damage_status _ = 2
 
+abbrev pub log_status : LogFault → ℕ
+log_status log.Read = 1
+log_status (log.Write written) = 1
+log_status (log.Memory want) = 1
+log_status _ = 2
+
 abbrev pub watch_failure_status : WatchFailure → ℕ
 watch_failure_status (Unopened file.Busy) = 2
 watch_failure_status (Unopened _) = 1
@@ -72,6 +80,7 @@ call_status (call.Check why) = check_status why
 call_status (call.Listen why) = listen_status why
 call_status (call.Resume why) = resume_status why
 call_status (call.Damage why) = damage_status why
+call_status (call.Log why) = log_status why
 call_status call.NoSlot = 2
 
 abbrev pub fault_status : Fault → ℕ
@@ -79,6 +88,7 @@ fault_status (fault.Words answer) = 64
 fault_status fault.NoText = 64
 fault_status fault.Station = 64
 fault_status fault.Kind = 64
+fault_status (fault.Value report) = 64
 fault_status (fault.Watch name why) = watch_failure_status why
 fault_status (fault.Call why) = call_status why
 

@@ -1,5 +1,5 @@
 -- What `navtex watch FILE MOMENT` does: the log is opened, watched, and handed back (this profile).
-use Rattle.std.specs.Prelude.{◌≡◌, ◌++◌, ◌∷◌, ℕ, List, [], Option, Some, None, Result, Ok, Err}
+use Rattle.std.specs.Prelude.{◌≡◌, ◌++◌, ℕ, List, Option, Some, None, Result, Ok, Err}
 use Rattle.std.specs.Prelude.{codes, decimal}
 use Rattle.clap.specs.Words.{Text}
 use Rattle.nx_fec.specs.Transfers.{CountedDevice, Devices}

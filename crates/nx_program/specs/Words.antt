@@ -9,9 +9,12 @@ use Rattle.clap.specs.declared.builder.value_parser.ValueParser.TheVariants as p
 use Rattle.clap.specs.declared.error.kind.ErrorKind.{ErrorKind}
 use Rattle.clap.specs.declared.error.kind.ErrorKind.TheVariants.{DisplayHelp, DisplayVersion}
 use Rattle.nx_envelope.specs.declared.letter.Letter.{Letter}
+use Rattle.nx_log.specs.declared.form.Form.{Form}
+use Rattle.nx_log.specs.declared.query.Query.{Query}
+use Rattle.nx_program.specs.LogWords.{IsForm, IsQuery, IsReported, log_tree}
 use Rattle.nx_program.specs.declared.words.Call.{Call}
 use Rattle.nx_program.specs.declared.words.Call.TheVariants.{Check, Code, Decode, Encode, Listen}
-use Rattle.nx_program.specs.declared.words.Call.TheVariants.{Show}
+use Rattle.nx_program.specs.declared.words.Call.TheVariants.{Log, Show}
 use Rattle.nx_program.specs.declared.words.Call.TheVariants.{Damage, Locks, Resume, Save, Send}
 use Rattle.nx_program.specs.declared.words.Call.TheVariants.{Slots, Watch}
 use Rattle.nx_station.specs.declared.damaging.DamageKind.{DamageKind}
@@ -32,6 +35,7 @@ command_name Locks = codes "locks"
 command_name (Send station moment) = codes "send"
 command_name (Slots station moment) = codes "slots"
 command_name (Damage kind from count) = codes "damage"
+command_name (Log query form) = codes "log"
 
 -- the word by which the command line names a kind of damage
 abbrev pub kind_name : DamageKind → Text
@@ -81,12 +85,13 @@ bare_tree = on_top (λ s. record s {
 }) (new_app (codes "navtex"))
 
 -- what a command takes, and the call that it makes of it: nothing; a station and a moment; a file
--- and a moment; a kind of damage and two numbers
+-- and a moment; a kind of damage and two numbers; the options of a query and of a form
 pub data Maker : Type 0 where
   plain : Call → Maker
   slot : (Letter → ℕ → Call) → Maker
   on_file : (Text → ℕ → Call) → Maker
   range : (DamageKind → ℕ → ℕ → Call) → Maker
+  options : (Query → Form → Call) → Maker
 
 -- the command tree of a command of this name
 abbrev pub tree_of : Text → Maker → App
@@ -94,6 +99,7 @@ tree_of name (plain call) = plain_tree name
 tree_of name (slot make) = slot_tree name
 tree_of name (on_file make) = file_tree name
 tree_of name (range make) = damage_tree name
+tree_of name (options make) = log_tree name
 
 -- a command of the program: its name, and what it takes
 abbrev pub Entry : Type 0
@@ -102,8 +108,9 @@ Entry = Text × Maker
 -- the commands of the program, in the order in which help lists them
 abbrev pub entries : List Entry
 entries =
-    (codes "listen", plain Listen) ∷ (codes "watch", on_file Watch) ∷ (codes "send", slot Send)
-    ∷ (codes "resume", plain Resume) ∷ (codes "save", plain Save) ∷ (codes "locks", plain Locks) ∷ (codes "slots", slot Slots)
+    (codes "listen", plain Listen) ∷ (codes "watch", on_file Watch) ∷ (codes "log", options Log)
+    ∷ (codes "send", slot Send) ∷ (codes "resume", plain Resume) ∷ (codes "save", plain Save)
+    ∷ (codes "locks", plain Locks) ∷ (codes "slots", slot Slots)
     ∷ (codes "check", plain Check) ∷ (codes "damage", range Damage)
     ∷ (codes "decode", plain Decode) ∷ (codes "encode", plain Encode) ∷ (codes "show", plain Show)
     ∷ (codes "code", plain Code) ∷ []
@@ -145,6 +152,7 @@ HasArguments (Watch name moment) arguments =
 HasArguments (Damage kind from count) arguments =
     IsKind arguments kind × IsNumber (codes "FROM") arguments from
     × IsNumber (codes "COUNT") arguments count
+HasArguments (Log query form) arguments = IsQuery arguments query × IsForm arguments form
 HasArguments _ arguments = ⊤
 
 -- the words, of which the first is the program's name, name the call: clap finds no fault in them
@@ -188,6 +196,17 @@ pub record LacksKind (words : List Text) : Type 0 where
   pub entered : subcommand_of navtex words ≡ Some (codes "damage", arguments)
   pub no_kind : (kind : DamageKind) → ¬ IsKind arguments kind
 
--- the words are refused, by clap, for their station or for their kind of damage
+-- clap takes the words, which enter the command `log`, and an option was given a text that names
+-- nothing, as this report says
+pub record LacksValue (words : List Text) (report : Text) : Type 0 where
+  pub taken : fault_of navtex words ≡ []
+  pub arguments : List Row
+  pub entered : subcommand_of navtex words ≡ Some (codes "log", arguments)
+  pub reported : IsReported arguments report
+
+-- the words are refused, by clap, for their station, for their kind of damage, or for the value of an
+-- option
 abbrev pub IsRefused : List Text → Type 0
-IsRefused words = IsRefusedByClap words ⊎ (LacksStation words ⊎ LacksKind words)
+IsRefused words =
+    IsRefusedByClap words
+    ⊎ (LacksStation words ⊎ (LacksKind words ⊎ ((report : Text) × LacksValue words report)))

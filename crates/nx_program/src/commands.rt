@@ -6,6 +6,7 @@ ghost use Rattle.nx_program.specs.Words.{text_rule};
 ghost use Rattle.nx_program.specs.private.Reading.{AddsRow, AddsRule, IsBuiltAs, IsReadAs};
 ghost use Rattle.nx_program.specs.private.Reading.{row_tree, with_rows};
 
+use crate::log_command::{LOG_ABOUT, LOG_EXAMPLE, LOG_HELP, LOG_SHORT, log_command};
 use clap::builder::ValueParser;
 use clap::{Arg, Command};
 use nx_envelope::LAST_MOMENT;
@@ -26,6 +27,8 @@ enum Takes {
     File,
     /// A kind of damage and a range of words.
     Range,
+    /// The options of a query and of a form.
+    Query,
 }
 
 /// A row of the table of commands: a command's name, what it takes, and what help says of it.
@@ -162,6 +165,15 @@ const WATCH: Row = Row {
     short: Some(WATCH_SHORT),
     long: WATCH_HELP,
     example: WATCH_EXAMPLE,
+};
+
+const LOG: Row = Row {
+    name: "log",
+    takes: Takes::Query,
+    about: LOG_ABOUT,
+    short: Some(LOG_SHORT),
+    long: LOG_HELP,
+    example: LOG_EXAMPLE,
 };
 
 const RESUME_SHORT: &str =
@@ -582,8 +594,8 @@ Exit status:
   64  words that are not understood";
 
 /// The commands of the program, in the order in which help lists them.
-const COMMANDS: [Row; 13] = [
-    LISTEN, WATCH, SEND, RESUME, SAVE, LOCKS, SLOTS, CHECK, DAMAGE, DECODE, ENCODE, SHOW, CODE,
+const COMMANDS: [Row; 14] = [
+    LISTEN, WATCH, LOG, SEND, RESUME, SAVE, LOCKS, SLOTS, CHECK, DAMAGE, DECODE, ENCODE, SHOW, CODE,
 ];
 
 /// The command with an argument that is any text.
@@ -690,6 +702,7 @@ impl Row {
             Takes::Slot => slot_command(alloc, self.name),
             Takes::File => file_command(alloc, self.name),
             Takes::Range => range_command(alloc, self.name),
+            Takes::Query => log_command(alloc, self.name),
         }
     }
 

@@ -4,7 +4,7 @@ ghost use Rattle.std.specs.Fmt.InlineText.{inline_text};
 ghost use Rattle.std.specs.Prelude.{◌≡◌};
 ghost use Rattle.nx_program.specs.Report.{IsFaultLine, IsFaultText, WritesLast, WritesOne};
 ghost use Rattle.nx_program.specs.Status.{call_status, fault_status};
-ghost use Rattle.nx_program.specs.declared.fault.CallFault.TheVariants.{Check, Damage, Listen};
+ghost use Rattle.nx_program.specs.declared.fault.CallFault.TheVariants.{Check, Damage, Listen, Log};
 ghost use Rattle.nx_program.specs.declared.fault.CallFault.TheVariants.{Resume, Run, Send};
 ghost use Rattle.nx_program.specs.declared.fault.Fault.TheVariants.{Call};
 ghost use Rattle.nx_fec.specs.declared.fault.RunFault.TheVariants.{Memory};
@@ -12,6 +12,7 @@ ghost use Rattle.nx_fec.specs.declared.fault.RunFault.TheVariants.{Memory};
 use crate::file_name::FileName;
 use crate::watching::WatchFailure;
 use nx_fec::{Counting, RunFault, write_out};
+use nx_log::LogFault;
 use nx_receiver::{ListenFault, ResumeFault, StateFault};
 use nx_station::{CheckFault, DamageFault, EmissionFault, SendRunFault};
 use std::alloc::AllocError;
@@ -62,6 +63,9 @@ pub enum CallFault {
     /// An air file was not copied whole.
     #[error(transparent)]
     Damage(DamageFault),
+    /// A log was not read, or not to its end.
+    #[error(transparent)]
+    Log(LogFault),
     /// The station has no slot from that moment on.
     #[error("no slot")]
     NoSlot,
@@ -95,6 +99,8 @@ impl CallFault {
             ) => DEVICE_OR_MEMORY,
             CallFault::Damage(DamageFault::Read | DamageFault::Write { written: _ }) =>
                 DEVICE_OR_MEMORY,
+            CallFault::Log(LogFault::Read | LogFault::Write { written: _ } | LogFault::Memory(_)) =>
+                DEVICE_OR_MEMORY,
             _ => BAD_INPUT,
         }
     }
@@ -122,6 +128,8 @@ pub enum Fault<'a> {
     Station,
     /// The kind of damage is none of those that there are.
     Kind,
+    /// The value of an option names nothing, as this text says.
+    Value(String),
     /// The watch of the log of this name failed.
     Watch(FileName<'a>, WatchFailure),
     /// The call that the words name failed, or the writing of help did.
@@ -133,7 +141,8 @@ impl<'a> Fault<'a> {
         ensures { result ≡ fault_status self.now }
     {
         match self {
-            Fault::Words(_) | Fault::NoText | Fault::Station | Fault::Kind => BAD_WORDS,
+            Fault::Words(_) | Fault::NoText | Fault::Station | Fault::Kind | Fault::Value(_) =>
+                BAD_WORDS,
             Fault::Watch(_, why) => why.status(),
             Fault::Call(why) => why.status(),
         }
@@ -161,6 +170,7 @@ impl<'a> Fault<'a> {
             Fault::NoText => write_out(faults, NO_TEXT.as_bytes()),
             Fault::Station => write_out(faults, STATION.as_bytes()),
             Fault::Kind => write_out(faults, KIND.as_bytes()),
+            Fault::Value(report) => write_out(faults, report.as_bytes()),
             Fault::Watch(log, why) => return why.tell(log, faults),
             Fault::Call(why) => write_out(faults, why.line().as_str().as_bytes()),
         };
@@ -212,6 +222,14 @@ impl From<DamageFault> for CallFault {
 
     fn from(why: DamageFault) -> CallFault {
         CallFault::Damage(why)
+    }
+}
+
+impl From<LogFault> for CallFault {
+    ghost from_gives = { λ why fault. fault ≡ Log why };
+
+    fn from(why: LogFault) -> CallFault {
+        CallFault::Log(why)
     }
 }
 

@@ -22,6 +22,7 @@ use nx_disk::Noted;
 use nx_fec::{Counting, RunFault, decode_run, encode_run, show_run, write_out, write_table};
 use nx_kept::DiskFile;
 use nx_locks::locks;
+use nx_log::log_run;
 use nx_receiver::{Want, listen, resume};
 use nx_station::{check_run, damage, send};
 use std::alloc::{AllocError, Global};
@@ -90,6 +91,9 @@ fn perform<R: Read, W: Write>(
         Call::Damage { kind, from, count } => {
             damage(reader, writer, kind, from, count)?;
         }
+        Call::Log { query, form } => {
+            log_run(alloc, reader, writer, &query, form)?;
+        }
     }
     Ok(())
 }
@@ -149,6 +153,7 @@ fn obey_on_streams<R: Read, W: Write>(
         Err(WordsFault::Refused(answer)) => Err(Fault::Words(answer.to_string(alloc)?)),
         Err(WordsFault::Station) => Err(Fault::Station),
         Err(WordsFault::Kind) => Err(Fault::Kind),
+        Err(WordsFault::Value(report)) => Err(Fault::Value(report)),
         Err(WordsFault::Memory(want)) => Err(Fault::from(want)),
     }
 }

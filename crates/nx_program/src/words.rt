@@ -6,6 +6,7 @@ ghost use Rattle.clap.specs.Words.{Row, Text, found_of, rows_of};
 ghost use Rattle.nx_program.specs.Words.{HasArguments, IsFile, IsKind, IsNumber, IsStation, Names, command_name};
 ghost use Rattle.nx_program.specs.Words.{kind_name};
 ghost use Rattle.nx_program.specs.private.Reading.{ExplainsWords, IsSortedAs, LacksRange, LacksSlot};
+ghost use Rattle.nx_program.specs.private.LogReading.{ExplainsOptions};
 ghost use Rattle.nx_program.specs.private.Reading.{LacksWatch, WantsArguments};
 ghost use Rattle.nx_program.specs.declared.words.Call.{Call};
 ghost use Rattle.nx_station.specs.declared.damaging.DamageKind.{DamageKind};
@@ -14,9 +15,11 @@ ghost use Rattle.nx_envelope.specs.declared.letter.Letter.{Letter};
 
 use crate::commands::navtex_command;
 use crate::file_name::FileName;
+use crate::log_words::{form_in, query_in, unfit_report};
 use clap::ArgMatches;
 use clap::error::ErrorKind;
 use nx_envelope::Letter;
+use nx_log::{Form, Query};
 use nx_station::DamageKind;
 use std::alloc::{AllocError, Global};
 use std::convert::AsStr;
@@ -72,6 +75,13 @@ pub enum Call<'a> {
         /// How many words the range has from there on.
         count: u64,
     },
+    /// Print the entries of a log that a query admits.
+    Log {
+        /// Which entries are asked for.
+        query: Query,
+        /// How they are printed.
+        form: Form,
+    },
 }
 
 /// Why the words name no call.
@@ -87,13 +97,15 @@ pub enum WordsFault {
     Station,
     /// The kind of damage is none of those that there are.
     Kind,
+    /// The value of an option names nothing, as this text says.
+    Value(String),
     /// Memory ran out while the words were read.
     Memory(AllocError),
 }
 
 /// The call that the words name, of which the first is the program's name. `Help` and `Version` where
 /// they ask for these, `Refused` where clap doesn't understand them, `Station` and `Kind` where that
-/// argument is none, and `Memory` where it ran out.
+/// argument is none, `Value` where an option's value names nothing, and `Memory` where it ran out.
 pub fn call_of<'a, S: AsStr>(alloc: Global, words: &'a [S]) -> Result<Call<'a>, WordsFault>
     ensures named { IfOk result (Names (map S.text words.now)) }
     ensures refused { IfErr result (ExplainsWords (map S.text words.now)) }
@@ -101,6 +113,9 @@ pub fn call_of<'a, S: AsStr>(alloc: Global, words: &'a [S]) -> Result<Call<'a>, 
     let command = navtex_command(alloc)?;
     let matches = command.try_get_matches_from(words)?;
     let (word, arguments) = matches.subcommand().unwrap();
+    if word == "log" {
+        return log_call(alloc, arguments);
+    }
     Call::of_command(word, arguments).ok_or(unfit_argument(word))
 }
 
@@ -113,6 +128,21 @@ fn unfit_argument(word: &str) -> WordsFault
     match word {
         "damage" => WordsFault::Kind,
         _ => WordsFault::Station,
+    }
+}
+
+/// The call of the options of `log`. `Value` where the value of one of them names nothing.
+fn log_call<'a>(alloc: Global, arguments: &ArgMatches) -> Result<Call<'a>, WordsFault>
+    ensures named { IfOk result (λ call. (command_name call ≡ codes "log")
+        × HasArguments call (rows_of (found_of arguments.now))) }
+    ensures refused { IfErr result (ExplainsOptions (rows_of (found_of arguments.now))) }
+{
+    match query_in(arguments) {
+        Ok(query) => Ok(Call::Log {
+            query,
+            form: form_in(arguments),
+        }),
+        Err(option) => Err(WordsFault::Value(unfit_report(alloc, arguments, option)?)),
     }
 }
 
@@ -138,11 +168,12 @@ impl<'a> Call<'a> {
         })
     }
 
-    /// The call that the command line names by this word with these arguments.
+    /// The call that the command line names by this word with these arguments, but for `log`.
     fn of_command(word: &str, arguments: &ArgMatches<'a>) -> Option<Call<'a>>
         ensures some { IfSome result (λ call. (word.now ≡ command_name call)
             × HasArguments call (rows_of (found_of arguments.now))) }
-        ensures none { IfNone result ((call : Call) → word.now ≡ command_name call
+        ensures none { IfNone result ((call : Call) → word.now ≢ codes "log"
+            → word.now ≡ command_name call
             → ¬ HasArguments call (rows_of (found_of arguments.now))) }
     {
         match word {

@@ -7,6 +7,7 @@ use nx_program::laws::{
     damage_in_examples, numbers_are_in_range, slots_in_examples, watch_in_examples,
     words_in_examples, words_read_as_one,
 };
+use nx_program::log_laws::log_in_examples;
 use nx_program::{NoFiles, answer};
 use std::alloc::Global;
 use std::io::{Error, ErrorKind};
@@ -38,7 +39,7 @@ const MISSING: &str = "error: 'navtex' requires a subcommand but one was not pro
 
 #[test]
 fn reads_its_words(rt: HostRuntime) {
-    static ROWS: [(&[&str], u8, &str); 12] = [
+    static ROWS: [(&[&str], u8, &str); 15] = [
         (
             &["navtex", "frob"],
             64,
@@ -91,6 +92,21 @@ fn reads_its_words(rt: HostRuntime) {
             64,
             "error: invalid value '4294967296' for '<COUNT>'",
         ),
+        (
+            &["navtex", "log", "-h"],
+            0,
+            "Print the entries of a log that are asked for\n\nUsage: navtex log [OPTIONS]\n",
+        ),
+        (
+            &["navtex", "log", "--good", "--good"],
+            64,
+            "error: the argument '--good' cannot be used multiple times\n",
+        ),
+        (
+            &["navtex", "log", "--since", "0", "--since", "0"],
+            64,
+            "error: the argument '--since <TIME>' cannot be used multiple times\n",
+        ),
     ];
     for &(words, status, text) in &ROWS {
         expect_answer(&rt, rt.alloc(), words, status, text);
@@ -140,4 +156,5 @@ fn states_its_laws() {
     slots_in_examples();
     watch_in_examples();
     damage_in_examples();
+    log_in_examples();
 }

@@ -1,6 +1,6 @@
 -- How the program reads its words by clap: the command that it builds, and what it makes of clap's
 -- answer (this profile).
-use Rattle.std.specs.Prelude.{◌≡◌, ◌≢◌, ⊤, ℕ, List, false, fold, codes}
+use Rattle.std.specs.Prelude.{◌≡◌, ◌≢◌, ⊤, ℕ, List, false, fold, codes, string_bytes}
 use Rattle.clap.specs.Words.{App, Row, Rule, Text, app_of, kind_of, with_rule, with_subcommand}
 use Rattle.clap.specs.declared.builder.command.Command.{Command}
 use Rattle.clap.specs.declared.builder.command.Command.TheViews.{out-Command}
@@ -13,14 +13,15 @@ use Rattle.nx_station.specs.declared.damaging.DamageKind.{DamageKind}
 use Rattle.nx_program.specs.declared.words.Call.{Call}
 use Rattle.nx_program.specs.declared.words.Call.TheVariants as call
 use Rattle.nx_program.specs.Words.{IsFile, IsKind, IsNumber, IsStation, LacksKind, LacksStation}
-use Rattle.nx_program.specs.Words.{damage_tree, file_tree, plain_tree, slot_tree}
+use Rattle.nx_program.specs.LogWords.{log_tree}
+use Rattle.nx_program.specs.Words.{LacksValue, damage_tree, file_tree, plain_tree, slot_tree}
 use Rattle.nx_program.specs.declared.commands.Row.{Row as TableRow}
 use Rattle.nx_program.specs.declared.commands.Takes.{Takes}
-use Rattle.nx_program.specs.declared.commands.Takes.TheVariants.{File, Nothing, Range, Slot}
+use Rattle.nx_program.specs.declared.commands.Takes.TheVariants.{File, Nothing, Query, Range, Slot}
 use Rattle.nx_program.specs.declared.words.WordsFault.{WordsFault}
 use Rattle.nx_program.specs.declared.words.WordsFault.TheVariants.{Help, Kind, Memory, Refused}
 use Rattle.nx_program.specs.declared.words.WordsFault.TheVariants.{Station}
-use Rattle.nx_program.specs.declared.words.WordsFault.TheVariants.{Version}
+use Rattle.nx_program.specs.declared.words.WordsFault.TheVariants.{Value, Version}
 
 -- the command is built as this tree says
 pub record IsBuiltAs (app : App) (command : Command) : Type 0 where
@@ -38,6 +39,7 @@ taking_tree Nothing word = plain_tree word
 taking_tree Slot word = slot_tree word
 taking_tree File word = file_tree word
 taking_tree Range word = damage_tree word
+taking_tree Query word = log_tree word
 
 -- the command tree of a row of the program's own table
 abbrev pub row_tree : TableRow → App
@@ -63,6 +65,7 @@ ExplainsWords words Version = AsksForVersion words
 ExplainsWords words (Refused answer) = IsRefusedByClap words
 ExplainsWords words Station = LacksStation words
 ExplainsWords words Kind = LacksKind words
+ExplainsWords words (Value report) = LacksValue words (string_bytes report)
 ExplainsWords words (Memory want) = ⊤
 
 -- an answer of clap is help, the version, want of memory, or a refusal
@@ -73,6 +76,7 @@ IsSortedAs error (Refused answer) =
     (answer ≡ error) × IsRefusal (kind_of error) × (kind_of error ≢ OutOfMemory)
 IsSortedAs error Station = ⊥
 IsSortedAs error Kind = ⊥
+IsSortedAs error (Value report) = ⊥
 IsSortedAs error (Memory want) = kind_of error ≡ OutOfMemory
 
 -- the arguments are not both a station and a moment
@@ -100,4 +104,5 @@ WantsArguments (call.Send station moment) = ⊤
 WantsArguments (call.Watch name moment) = ⊤
 WantsArguments (call.Slots station moment) = ⊤
 WantsArguments (call.Damage kind from count) = ⊤
+WantsArguments (call.Log query form) = ⊤
 WantsArguments _ = ⊥

@@ -1,10 +1,13 @@
-use Rattle.std.proofs.Common.{◌∙◌, List, map, ap, sym, subst, Bor, Option, option_map}
+use Rattle.std.proofs.lemmas.Slice.Eq.{bytes_eq-Decides}
+use Rattle.nx_program.proofs.CallArguments.{differ}
+use Rattle.std.proofs.Common.{◌≡◌, ◌∙◌, List, Some, codes, map, ap, sym, subst, Bor, Option, option_map}
 use Rattle.std.proofs.lemmas.Result.{err_from_is_err_and}
 use Rattle.clap.specs.Words.{App, HasKind, Row, Text, fault_of, found_of, is_simple}
 use Rattle.clap.specs.Words.{is_simple_and_free, rows_of, subcommand_of}
 use Rattle.clap.specs.declared.parser.matches.ArgMatches.{ArgMatches}
 use Rattle.nx_program.proofs.WordsLemmas.{navtex-is_simple, navtex-is_simple_and_free, entered_pair}
-use Rattle.nx_program.proofs.WordsLemmas.{explained, outcome-named, outcome-refused}
+use Rattle.nx_program.proofs.WordsLemmas.{explained, options-named, options-refused}
+use Rattle.nx_program.proofs.WordsLemmas.{outcome-named, outcome-refused}
 use Rattle.nx_program.proofs.words.call_of.Goals as goal
 
 pub returns-in_err-matches-clause-refused : goal.returns-in_err-matches-clause-refused
@@ -56,5 +59,48 @@ returns-clause-refused g c =
     ∙ c.in_ok-matches.ensures.kinds (ap is_simple_and_free tree ∙ navtex-is_simple_and_free) in
     outcome-refused words c.unwrap.result.0.now (rows_of
     (found_of c.unwrap.result.1.now)) c.of_command.result c.unfit_argument.result c.ok_or.result
-    taken entered c.of_command.ensures.none
+    taken entered (differ c.unwrap.result.0.now (codes "log") (sym c.eq.ensures ∙ c.if-eq.false))
+    c.of_command.ensures.none
     c.unfit_argument.ensures.kind c.unfit_argument.ensures.station c.ok_or.ensures.value
+
+pub returns-then-eq-clause-named : goal.returns-then-eq-clause-named
+returns-then-eq-clause-named g c =
+    let words = map g.S.AsStr.text c.args.words.now in
+    let tree = c.in_ok-command.ensures.tree in
+    let rows = (c.in_ok-matches.ensures.matches (ap is_simple tree ∙ navtex-is_simple)).1
+    ∙ ap (λ (a : App). subcommand_of a words) tree in
+    let word : Bor Text × Bor ArgMatches → Text = λ p. p.0.now in
+    let arguments : Bor Text × Bor ArgMatches → List Row = λ p. rows_of (found_of p.1.now) in
+    let given = rows_of (found_of c.unwrap.result.1.now) in
+    let entered = entered_pair words c.in_ok-matches.matches c.unwrap.result.0.now given rows
+    (sym c.subcommand.ensures.name
+    ∙ ap (λ (o : Option (Bor Text × Bor ArgMatches)). option_map word o) c.unwrap.ensures)
+    (sym c.subcommand.ensures.rows
+    ∙ ap (λ (o : Option (Bor Text × Bor ArgMatches)). option_map arguments o) c.unwrap.ensures) in
+    let taken = ap (λ (a : App). fault_of a words) (sym tree)
+    ∙ c.in_ok-matches.ensures.kinds (ap is_simple_and_free tree ∙ navtex-is_simple_and_free) in
+    let is : c.unwrap.result.0.now ≡ codes "log" =
+    (bytes_eq-Decides c.unwrap.result.0.now (codes "log")).0 (sym c.eq.ensures ∙ c.if-eq.true) in
+    options-named words given c.log_call.result taken
+    (entered ∙ ap (λ (t : Text). Some (t, given)) is) c.log_call.ensures.named
+
+pub returns-then-eq-clause-refused : goal.returns-then-eq-clause-refused
+returns-then-eq-clause-refused g c =
+    let words = map g.S.AsStr.text c.args.words.now in
+    let tree = c.in_ok-command.ensures.tree in
+    let rows = (c.in_ok-matches.ensures.matches (ap is_simple tree ∙ navtex-is_simple)).1
+    ∙ ap (λ (a : App). subcommand_of a words) tree in
+    let word : Bor Text × Bor ArgMatches → Text = λ p. p.0.now in
+    let arguments : Bor Text × Bor ArgMatches → List Row = λ p. rows_of (found_of p.1.now) in
+    let given = rows_of (found_of c.unwrap.result.1.now) in
+    let entered = entered_pair words c.in_ok-matches.matches c.unwrap.result.0.now given rows
+    (sym c.subcommand.ensures.name
+    ∙ ap (λ (o : Option (Bor Text × Bor ArgMatches)). option_map word o) c.unwrap.ensures)
+    (sym c.subcommand.ensures.rows
+    ∙ ap (λ (o : Option (Bor Text × Bor ArgMatches)). option_map arguments o) c.unwrap.ensures) in
+    let taken = ap (λ (a : App). fault_of a words) (sym tree)
+    ∙ c.in_ok-matches.ensures.kinds (ap is_simple_and_free tree ∙ navtex-is_simple_and_free) in
+    let is : c.unwrap.result.0.now ≡ codes "log" =
+    (bytes_eq-Decides c.unwrap.result.0.now (codes "log")).0 (sym c.eq.ensures ∙ c.if-eq.true) in
+    options-refused words given c.log_call.result taken
+    (entered ∙ ap (λ (t : Text). Some (t, given)) is) c.log_call.ensures.refused

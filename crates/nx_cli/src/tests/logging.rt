@@ -1,0 +1,76 @@
+//! `navtex log` on words and bytes: which entries are asked for, in which form, and what it refuses.
+
+use super::{expect_fault, expect_output};
+
+const FIRST: &[u8] = b"[EA01 2025-01-01 00:40:00 full 0/5]\nTEST\n\n";
+
+const SECOND: &[u8] = b"[FB02/1 2025-01-01 00:50:00 cut 1/3]\nA*B\n\n";
+
+const BOTH: &[u8] =
+    b"[EA01 2025-01-01 00:40:00 full 0/5]\nTEST\n\n[FB02/1 2025-01-01 00:50:00 cut 1/3]\nA*B\n\n";
+
+#[test]
+fn selects_entries(rt: HostRuntime) {
+    static ROWS: [(&[&str], &[u8]); 11] = [
+        (&["navtex", "log"], BOTH),
+        (&["navtex", "log", "--station", "ZEE"], FIRST),
+        (&["navtex", "log", "--subject=B"], SECOND),
+        (&["navtex", "log", "--channel", "1"], SECOND),
+        (&["navtex", "log", "--channel", "2"], b""),
+        (&["navtex", "log", "--since", "1735692001"], SECOND),
+        (
+            &["navtex", "log", "--since", "2025-01-01T00:50:00Z"],
+            SECOND,
+        ),
+        (&["navtex", "log", "--until", "2025-01-01T00:40:00"], FIRST),
+        (
+            &[
+                "navtex",
+                "log",
+                "--since",
+                "2025-01-01",
+                "--until",
+                "2025-01-01",
+            ],
+            BOTH,
+        ),
+        (&["navtex", "log", "--good"], FIRST),
+        (
+            &["navtex", "log", "--json", "--subject", "AC"],
+            b"{\"channel\":0,\"characters\":5,\"end\":\"full\",\"errors\":0,\"moment\":1735692000,\"number\":1,\"station\":\"E\",\"subject\":\"A\",\"text\":\"TEST\\n\",\"time\":\"2025-01-01T00:40:00Z\"}\n",
+        ),
+    ];
+    for &(words, output) in &ROWS {
+        expect_output(&rt, rt.alloc(), words[words.len() - 1], words, BOTH, output);
+    }
+}
+
+#[test]
+fn refuses_values_and_bytes(rt: HostRuntime) {
+    static ROWS: [(&[&str], u8, &str); 5] = [
+        (
+            &["navtex", "log", "--since", "now"],
+            64,
+            "error: invalid value 'now' for '--since <TIME>'\n\nFor more information, try '--help'.\n",
+        ),
+        (
+            &["navtex", "log", "--channel", "3"],
+            64,
+            "error: invalid value '3' for '--channel <N>'\n\nFor more information, try '--help'.\n",
+        ),
+        (
+            &["navtex", "log", "--subject="],
+            64,
+            "error: invalid value '' for '--subject <LETTERS>'\n\nFor more information, try '--help'.\n",
+        ),
+        (&["navtex", "log"], 2, "navtex: line 1 is not of a log\n"),
+        (
+            &["navtex", "log", "--json"],
+            2,
+            "navtex: line 1 is not of a log\n",
+        ),
+    ];
+    for &(words, status, line) in &ROWS {
+        expect_fault(&rt, rt.alloc(), line, words, b"TEST\n", (status, line));
+    }
+}

@@ -1,0 +1,166 @@
+use Rattle.std.proofs.Common.{◌≡◌, ◌≤◌, ◌<◌, ℕ, pos, List, [], ◌∷◌, Some, None, codes, refl, inl, inr}
+use Rattle.std.proofs.Common.{arith, rules}
+use Rattle.std.proofs.lemmas.List.Elements.{All-head}
+use Rattle.std.specs.FinSet as set
+use Rattle.std.specs.Ordering.{nat_cmp}
+use Rattle.clap.proofs.OnLiterals.{clap_on_literals}
+use Rattle.clap.specs.Words.{Row, Text}
+use Rattle.clap.specs.declared.builder.value_parser.Reading.TheVariants.{AsWritten}
+use Rattle.clap.specs.declared.error.kind.ErrorKind.TheVariants as kind
+use Rattle.clap.specs.declared.parser.matches.ValueSource.TheVariants.{DefaultValue}
+use Rattle.jiff_core.proofs.CalendarLemmas.{days_from_civil-day_count}
+use Rattle.jiff_core.proofs.MarchLemmas.{day_count-early}
+use Rattle.jiff_core.proofs.SignedLemmas.{signed_arith}
+use Rattle.nx_code.specs.Reading.{IsCapital}
+use Rattle.nx_envelope.specs.Moment.{IsShownAs}
+use Rattle.nx_log.proofs.TimeTexts.{second-long, shown-length}
+use Rattle.nx_log.specs.Times.{IsSince}
+use Rattle.nx_program.specs.LogWords.{NamesLetters}
+use Rattle.nx_program.specs.declared.log_words.LogOption.TheVariants.{Since, Station}
+use Rattle.nx_program.proofs.GivenArguments.{given}
+use Rattle.nx_program.proofs.WordsLemmas.{conflict_is_refusal}
+use Rattle.nx_program.proofs.log_laws.log_in_examples.Goals as goal
+
+-- a flag that was not given, and the rows of both
+abbrev off : Text → Row
+off name = record {
+  id = name;
+  values = codes "false" ∷ [];
+  count = None;
+  source = Some DefaultValue;
+  reading = AsWritten;
+}
+
+abbrev both_off : List Row
+both_off = off (codes "good") ∷ off (codes "json") ∷ []
+
+first_second : IsShownAs 1735689600 (codes "2025-01-01 00:00:00")
+first_second = record {
+  year = 2025;
+  month = 1;
+  day = 1;
+  date = (search rules, search rules, search rules);
+  is_day = omega (
+    arith,
+    signed_arith,
+    days_from_civil-day_count (pos 2025) 1 1,
+    day_count-early (pos 2025) 12024 1 1 refl (search rules) (search rules) (search rules),
+  );
+  is_text = refl;
+}
+
+last_second : IsShownAs 1735775999 (codes "2025-01-01 23:59:59")
+last_second = record {
+  year = 2025;
+  month = 1;
+  day = 1;
+  date = (search rules, search rules, search rules);
+  is_day = omega (
+    arith,
+    signed_arith,
+    days_from_civil-day_count (pos 2025) 1 1,
+    day_count-early (pos 2025) 12024 1 1 refl (search rules) (search rules) (search rules),
+  );
+  is_text = refl;
+}
+
+now_is_none : (moment : ℕ) → IsSince (codes "now") moment → ⊥
+now_is_none moment named = elim named.1 [
+  | inl written ↦ let digit : 23 < 10 = written.digits.1.0 in absurd (omega (arith, digit))
+  | inr (inl w) ↦ let long : 19 ≤ 3 = second-long (codes "now") moment w in absurd (omega (arith, long))
+  | inr (inr s) ↦ let long : 12 ≡ 19 = shown-length moment _ s in absurd (omega (arith, long))
+]
+
+small_e_is_none : (letters : set.FinSet nat_cmp) → NamesLetters (codes "e") letters → ⊥
+small_e_is_none letters named =
+    let capital = All-head IsCapital 101 [] named.0.capitals in
+    let most = capital.1 in
+    absurd (omega arith)
+
+pub returns : goal.returns
+unfolding clap_on_literals
+returns c = record {
+  all = λ program. record {
+    taken = refl;
+    arguments = both_off;
+    command = refl;
+    given = (
+      record { stations = tt; subjects = tt; channel = tt; since = tt; until = tt; good = refl },
+      refl,
+    );
+  };
+  flags = λ program. record {
+    taken = refl;
+    arguments = given (codes "json") (codes "true") ∷ given (codes "good") (codes "true") ∷ [];
+    command = refl;
+    given = (
+      record { stations = tt; subjects = tt; channel = tt; since = tt; until = tt; good = refl },
+      refl,
+    );
+  };
+  channel = λ program. record {
+    taken = refl;
+    arguments = given (codes "channel") (codes "1") ∷ both_off;
+    command = refl;
+    given = (
+      record { stations = tt; subjects = tt; channel = refl; since = tt; until = tt; good = refl },
+      refl,
+    );
+  };
+  since = λ program. record {
+    taken = refl;
+    arguments = given (codes "since") (codes "2025-01-01") ∷ both_off;
+    command = refl;
+    given = (
+      record {
+        stations = tt;
+        subjects = tt;
+        channel = tt;
+        since = (search rules, inr (inr first_second));
+        until = tt;
+        good = refl;
+      },
+      refl,
+    );
+  };
+  until = λ program. record {
+    taken = refl;
+    arguments = given (codes "until") (codes "2025-01-01") ∷ both_off;
+    command = refl;
+    given = (
+      record {
+        stations = tt;
+        subjects = tt;
+        channel = tt;
+        since = tt;
+        until = (search rules, inr (inr last_second));
+        good = refl;
+      },
+      refl,
+    );
+  };
+  no_time = λ program. record {
+    taken = refl;
+    arguments = given (codes "since") (codes "now") ∷ both_off;
+    entered = refl;
+    reported = record {
+      option = Since;
+      text = codes "now";
+      unfit = record { given = refl; nothing = now_is_none };
+      told = refl;
+    };
+  };
+  small_letter = λ program. record {
+    taken = refl;
+    arguments = given (codes "station") (codes "e") ∷ both_off;
+    entered = refl;
+    reported = record {
+      option = Station;
+      text = codes "e";
+      unfit = record { given = refl; nothing = small_e_is_none };
+      told = refl;
+    };
+  };
+  flag_twice = λ program. (kind.ArgumentConflict, conflict_is_refusal, inl refl);
+  option_twice = λ program. (kind.ArgumentConflict, conflict_is_refusal, inl refl);
+}

@@ -1,0 +1,103 @@
+//! The command `log` of the command tree, and the texts of its help.
+
+ghost use Rattle.std.specs.Prelude.{IfOk};
+ghost use Rattle.nx_program.specs.LogWords.{flag_rule, log_tree, option_rule};
+ghost use Rattle.nx_program.specs.private.Reading.{AddsRule, IsBuiltAs};
+
+use crate::log_words::LogOption;
+use clap::{Arg, ArgAction, Command};
+use std::alloc::{AllocError, Global};
+
+/// What the program's help says of the command, and short help first of all.
+pub const LOG_ABOUT: &str = "Print the entries of a log that are asked for";
+
+/// What stands at the end of short help.
+pub const LOG_SHORT: &str =
+    "A log is what listen prints: an entry for each message. With no option all
+entries are printed. --help says more.";
+
+/// What long help says first of all.
+pub const LOG_HELP: &str = "Print the entries of a log that are asked for.
+
+A log is what a receiver prints of an air file: an entry for each message, with
+a head, the text, and an empty line.
+
+Reads a log from standard input, to its end: what listen and resume write, the
+log file of watch, several of them one behind the other, or what tail -F shows
+of one that grows. Newlines and spaces between entries are passed over, or one
+other byte, and behind the last space an entry that lacks its end.
+
+Writes those entries to standard output of which all options are true, in the
+order in which they stand, each before it reads on. With no option that is every
+entry. LETTERS are one letter A to Z or more, in any order. An entry is good
+where it is full, with less than 4 per cent of errors. A TIME is one of these:
+  2025-01-01            a date in UTC: its first second for --since, its last
+                        one for --until
+  2025-01-01T00:40:00   a second of a date, in UTC; a Z may stand behind it
+  1735692000            seconds since 1970-01-01 00:00:00 UTC
+With --json each entry is one line, an object with the keys channel, characters,
+end (full, cut or long), errors, moment, number, station, subject, text and
+time.
+
+Where the bytes stop being a log, the entries before were written, and the line
+is told.";
+
+/// What stands at the end of long help.
+pub const LOG_EXAMPLE: &str = "Example:
+  $ printf '#A01\\nTEST\\n;\\n' | navtex send E 1735689600 | navtex listen > ea.log
+  $ navtex log --station E --since 2025-01-01 < ea.log
+  [EA01 2025-01-01 00:40:00 full 0/5]
+  TEST
+
+  $ navtex log --until 2024-12-31 < ea.log
+  $ navtex log --json < ea.log | cut -c1-40
+  {\"channel\":0,\"characters\":5,\"end\":\"full\",";
+
+/// The command with an option that has a value.
+fn with_option<'a>(
+    alloc: Global,
+    command: Command<'a>,
+    option: LogOption,
+) -> Result<Command<'a>, AllocError>
+    ensures { IfOk result (AddsRule (option_rule option) command.entry) }
+{
+    let name: &'a str = option.name();
+    let value_name: &'a str = option.value_name();
+    let help: &'a str = option.help();
+    command.arg(
+        Arg::new(alloc, name)
+            .long(name)
+            .value_name(value_name)
+            .help(help),
+    )
+}
+
+/// The command with a flag.
+fn with_flag<'a>(
+    alloc: Global,
+    command: Command<'a>,
+    name: &'a str,
+    help: &'a str,
+) -> Result<Command<'a>, AllocError>
+    ensures { IfOk result (AddsRule (flag_rule name.entry.now) command.entry) }
+{
+    command.arg(
+        Arg::new(alloc, name)
+            .long(name)
+            .action(ArgAction::SetTrue)
+            .help(help),
+    )
+}
+
+/// The command `log` with its options, by its word.
+pub fn log_command<'a>(alloc: Global, word: &'a str) -> Result<Command<'a>, AllocError>
+    ensures { IfOk result (IsBuiltAs (log_tree word.entry.now)) }
+{
+    let with_station = with_option(alloc, Command::new(alloc, word), LogOption::Station)?;
+    let with_subject = with_option(alloc, with_station, LogOption::Subject)?;
+    let with_channel = with_option(alloc, with_subject, LogOption::Channel)?;
+    let with_since = with_option(alloc, with_channel, LogOption::Since)?;
+    let with_until = with_option(alloc, with_since, LogOption::Until)?;
+    let with_good = with_flag(alloc, with_until, "good", "Good entries alone")?;
+    with_flag(alloc, with_good, "json", "Each entry as a line of JSON")
+}

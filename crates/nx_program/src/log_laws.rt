@@ -1,0 +1,36 @@
+//! What words of `log` are read as.
+
+ghost use Rattle.std.specs.Prelude.{List, [], ◌∷◌, codes, Some, true};
+ghost use Rattle.clap.specs.Words.{Text};
+ghost use Rattle.nx_fec.specs.declared.channel.Channel.TheVariants.{One};
+ghost use Rattle.nx_log.specs.declared.form.Form.TheVariants as form;
+ghost use Rattle.nx_program.specs.LogWords.{all_entries, value_report};
+ghost use Rattle.nx_program.specs.Words.{IsRefusedByClap, LacksValue, Names};
+ghost use Rattle.nx_program.specs.declared.log_words.LogOption.TheVariants.{Since, Station};
+ghost use Rattle.nx_program.specs.declared.words.Call.TheVariants.{Log};
+
+/// What some words of `log` are read as, whatever the program's name.
+pub fn log_in_examples()
+    ensures all { (program : Text) → Names (program ∷ codes "log" ∷ []) (Log all_entries form.Log) }
+    ensures flags { (program : Text)
+        → Names (program ∷ codes "log" ∷ codes "--json" ∷ codes "--good" ∷ [])
+        (Log (record all_entries { good = true }) form.Json) }
+    ensures channel { (program : Text) → Names (program ∷ codes "log" ∷ codes "--channel=1" ∷ [])
+        (Log (record all_entries { channel = Some One }) form.Log) }
+    ensures since { (program : Text)
+        → Names (program ∷ codes "log" ∷ codes "--since" ∷ codes "2025-01-01" ∷ [])
+        (Log (record all_entries { since = Some 1735689600 }) form.Log) }
+    ensures until { (program : Text)
+        → Names (program ∷ codes "log" ∷ codes "--until" ∷ codes "2025-01-01" ∷ [])
+        (Log (record all_entries { until = Some 1735775999 }) form.Log) }
+    ensures no_time { (program : Text)
+        → LacksValue (program ∷ codes "log" ∷ codes "--since" ∷ codes "now" ∷ [])
+        (value_report Since (codes "now")) }
+    ensures small_letter { (program : Text)
+        → LacksValue (program ∷ codes "log" ∷ codes "--station" ∷ codes "e" ∷ [])
+        (value_report Station (codes "e")) }
+    ensures flag_twice { (program : Text)
+        → IsRefusedByClap (program ∷ codes "log" ∷ codes "--good" ∷ codes "--good" ∷ []) }
+    ensures option_twice { (program : Text) → IsRefusedByClap
+        (program ∷ codes "log" ∷ codes "--channel=1" ∷ codes "--channel=1" ∷ []) }
+{}
