@@ -136,8 +136,8 @@ const WATCH_HELP: &str = "Keep the log of a receiver that is left on.
 
 An air file is a text of what is on the air. A log is what a receiver prints of
 it: an entry for each message. The log of a watch is its memory too: whatever
-ends a watch, a power cut in the middle of a write too, the next one goes on from
-FILE, and prints no message again that stands there.
+ends a watch, also a power cut in the middle of a write, the next one goes on
+from FILE, and prints no message again that stands there.
 
 Reads from standard input, to its end, the lines that listen --help lists, and
 any others: a line that isn't understood, a moment that goes back and elements
@@ -151,9 +151,9 @@ written to standard output, but where an entry can't be put: then it and all
 later ones go there.
 
 FILE is a regular file on a local disk, which is made where it isn't there. A
-damaged one is refused at its line and stays as it is, and so is a log of listen.
-A second watch of the same file is refused. MOMENT is the time at which the watch
-starts; what is remembered of 66 hours later or more is left out.";
+damaged one is refused at its line and stays as it is, and so is a log of
+listen. A second watch of the same file is refused. MOMENT is the time at which
+the watch starts; what is remembered of 66 hours later or more is left out.";
 
 const WATCH_EXAMPLE: &str = "Example, live from a demodulator:
   $ examples/sound/elements < samples | navtex watch watch.log \"$(date +%s)\"";
@@ -662,7 +662,7 @@ fn file_command<'a>(alloc: Global, word: &'a str) -> Result<Command<'a>, AllocEr
         command,
         "MOMENT",
         LAST_MOMENT,
-        "When it starts: seconds since 1970-01-01 00:00:00 UTC, 0 to 32503679999",
+        "Its start: seconds since 1970-01-01 00:00:00 UTC, 0 to 32503679999",
     )
 }
 
