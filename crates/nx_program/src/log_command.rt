@@ -50,7 +50,7 @@ pub const LOG_EXAMPLE: &str = "Example:
   TEST
 
   $ navtex log --until 2024-12-31 < ea.log
-  $ navtex log --json < ea.log | cut -c1-40
+  $ navtex log --json < ea.log | cut -c1-41
   {\"channel\":0,\"characters\":5,\"end\":\"full\",";
 
 /// The command with an option that has a value.
